@@ -1,0 +1,42 @@
+-- Which kinds of refusal come from where.
+use Rattle.std.specs.Prelude.{◌≡◌, ◌≢◌, Bool, true, false}
+use Rattle.aa_words.specs.declared.fault.PolicyFault.{PolicyFault}
+use Rattle.aa_words.specs.declared.fault.PolicyKind.{PolicyKind}
+use Rattle.aa_words.specs.declared.fault.PolicyKind.TheVariants.{NoMemory, Syntax, Unsupported, UnknownWord, BadMode, WriteWithAppend, RelativePath, DuplicateProfile, TooLarge}
+
+-- the kinds of a word at which reading can't go on
+abbrev pub is_word_fault : PolicyKind → Bool
+is_word_fault Syntax = true
+is_word_fault Unsupported = true
+is_word_fault UnknownWord = true
+is_word_fault BadMode = true
+is_word_fault WriteWithAppend = true
+is_word_fault _ = false
+
+-- the kinds of a path that doesn't expand
+abbrev pub is_path_fault : PolicyKind → Bool
+is_path_fault Unsupported = true
+is_path_fault RelativePath = true
+is_path_fault TooLarge = true
+is_path_fault _ = false
+
+-- the kinds of every refusal of a policy's words
+abbrev pub is_parse_fault : PolicyKind → Bool
+is_parse_fault NoMemory = true
+is_parse_fault Syntax = true
+is_parse_fault Unsupported = true
+is_parse_fault UnknownWord = true
+is_parse_fault BadMode = true
+is_parse_fault WriteWithAppend = true
+is_parse_fault RelativePath = true
+is_parse_fault DuplicateProfile = true
+is_parse_fault TooLarge = true
+is_parse_fault _ = false
+
+-- want of memory, or a word at which reading can't go on
+abbrev pub IsWordRefusal : PolicyFault → Type 0
+IsWordRefusal e = e.kind ≢ NoMemory → is_word_fault e.kind ≡ true
+
+-- want of memory, or a path that doesn't expand
+abbrev pub IsPathRefusal : PolicyFault → Type 0
+IsPathRefusal e = e.kind ≢ NoMemory → is_path_fault e.kind ≡ true

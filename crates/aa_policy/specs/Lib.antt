@@ -1,0 +1,9 @@
+pub mod Expansion
+pub mod Faults
+pub mod Grammar
+pub mod Lawful
+pub mod Matching
+pub mod Modes
+pub mod Names
+pub mod Reading
+pub mod Spelling

@@ -1,0 +1,6 @@
+pub mod Extents
+pub mod Pieces
+pub mod Named
+pub mod Forms
+pub mod Order
+pub mod Cuts

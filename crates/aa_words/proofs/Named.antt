@@ -1,0 +1,52 @@
+-- Names of sources.
+use Rattle.std.proofs.Common.{◌≡◌, ℕ, List, [], ◌∷◌, ◌++◌, Bool, true, false, Some, is_some, cond, ◌||◌, IsTrue, Result, Ok, Err, IsErrAnd, ◌<◌, length, arith, refl, sym, ap, subst, ◌∙◌}
+use Rattle.std.proofs.lemmas.List.{length-map}
+use Rattle.std.specs.Map.{lookup}
+use Rattle.std.specs.Global.{Vec}
+use Rattle.std.specs.Str.{bytes_eq}
+use Rattle.indexmap.specs.IndexMap.{insert_entry}
+use Rattle.aa_words.specs.declared.fault.PolicyFault.{PolicyFault}
+use Rattle.aa_words.specs.declared.fault.PolicyKind.TheVariants.{NoMemory, Syntax}
+use Rattle.aa_words.specs.Kinds.{at_start, no_memory}
+use Rattle.aa_words.specs.Sources.{has_name, entries}
+
+-- a look-up by name finds what the list of names has
+found : (name : List ℕ) (es : List (Vec ℕ × Vec ℕ)) → is_some (lookup (λ k. bytes_eq name k.items) es) ≡ has_name name (entries es)
+found name [] = refl
+found name (e ∷ es) =
+    elim (bytes_eq name e.0.items) as (λ v. is_some (cond v (Some e.1) (lookup (λ k. bytes_eq name k.items) es)) ≡ v || has_name name (entries es)) [ true ↦ refl | false ↦ found name es ]
+
+-- the same, as the code names it
+pub named : (name : List ℕ) (es : List (Vec ℕ × Vec ℕ)) (self : List (List ℕ × List ℕ)) (r b : Bool) → r ≡ is_some (lookup (λ k. bytes_eq name k.items) es) → entries es ≡ self → r ≡ b → has_name name self ≡ b
+named name es self r b e view b-is = ap (has_name name) (sym view) ∙ sym (found name es) ∙ sym e ∙ b-is
+
+-- a new name goes last
+inserted : (k v : Vec ℕ) (es : List (Vec ℕ × Vec ℕ)) → has_name k.items (entries es) ≡ false
+    → entries (insert_entry (λ a b. bytes_eq a.items b.items) es k v) ≡ entries es ++ (k.items, v.items) ∷ []
+inserted k v [] h = refl
+inserted k v (e ∷ es) h =
+    elim (bytes_eq k.items e.0.items) as (λ b. b || has_name k.items (entries es) ≡ false
+    → entries (cond b ((e.0, v) ∷ es) (e ∷ insert_entry (λ x y. bytes_eq x.items y.items) es k v)) ≡ (e.0.items, e.1.items) ∷ (entries es ++ (k.items, v.items) ∷ []))
+    [ true ↦ λ t. absurd cc | false ↦ λ f. ap (λ (r : List (List ℕ × List ℕ)). (e.0.items, e.1.items) ∷ r) (inserted k v es f) ] h
+
+pub added : (name text : List ℕ) (k v : Vec ℕ) (es new : List (Vec ℕ × Vec ℕ)) (self : List (List ℕ × List ℕ)) → k.items ≡ name → v.items ≡ text → entries es ≡ self
+    → has_name name self ≡ false → new ≡ insert_entry (λ a b. bytes_eq a.items b.items) es k v → entries new ≡ self ++ (name, text) ∷ []
+added name text k v es new self k-is v-is view absent e =
+    let none : has_name k.items (entries es) ≡ false = ap (λ (n : List ℕ). has_name n (entries es)) k-is ∙ ap (has_name name) view ∙ absent in
+    ap entries e ∙ inserted k v es none ∙ ap (λ (l : List (List ℕ × List ℕ)). l ++ (k.items, v.items) ∷ []) view
+    ∙ ap (λ (n : List ℕ). self ++ (n, v.items) ∷ []) k-is ∙ ap (λ (t : List ℕ). self ++ (name, t) ∷ []) v-is
+
+pub not_taken : (b : Bool) → b ≡ false → IsTrue b → ⊥
+not_taken b e h = let t : IsTrue false = subst IsTrue e h in cc
+
+-- want of memory is another cause
+no_memory_differs : no_memory ≡ at_start Syntax → ⊥
+no_memory_differs e = let k : NoMemory ≡ Syntax = ap (λ (f : PolicyFault). f.kind) e in cc
+
+pub other_cause : {T : Type 0} (r : Result T PolicyFault) → IsErrAnd r (λ e. e ≡ no_memory) → r ≡ Err (at_start Syntax) → ⊥
+other_cause (Ok x) h e = cc
+other_cause (Err f) h e = let same : f ≡ at_start Syntax = cc in no_memory_differs (sym h ∙ same)
+
+-- as many names are there as entries
+pub room : (es : List (Vec ℕ × Vec ℕ)) (self : List (List ℕ × List ℕ)) (n : ℕ) → n ≡ length es → entries es ≡ self → n < 4095 → length self < 4095
+room es self n e view h = let same : length (entries es) ≡ length self = ap length view in omega (arith, simp length-map at same)

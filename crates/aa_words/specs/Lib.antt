@@ -1,0 +1,7 @@
+pub mod Kinds
+pub mod Runs
+pub mod Includes
+pub mod Splits
+pub mod Stops
+pub mod Sources
+pub mod WordLists

@@ -1,0 +1,188 @@
+//! How long the runs of a text are.
+
+ghost use Rattle.std.specs.Prelude.{◌≡◌, ◌+◌, ◌^◌, ◌<◌, ◌≤◌, nat_le, length};
+ghost use Rattle.aa_words.specs.Runs.{is_white, ends_name, ends_comment, ends_after_comma, name_len, comment_len, path_len, path_start, path_next, ends_path, is_letter, ends_variable, variable_len, assigned_len, closes_before_sign, begins_with_letter};
+
+pub(crate) fn is_white_space(b: u8) -> bool
+    ensures { result ≡ is_white b }
+{
+    b == b' ' || b == b'\t' || b == b'\r' || b == b'\n'
+}
+
+/// Whether a Name ends before the byte `b`, which `rest` follows.
+pub(crate) fn name_ends(b: u8, rest: &[u8]) -> bool
+    ensures { result ≡ ends_name b rest.now }
+{
+    is_white_space(b)
+        || b == 0
+        || b == b','
+        || b == b'"'
+        || b == b'('
+        || b == b')'
+        || b == b'='
+        || b == b'{'
+        || b == b'}'
+        || (b == b'-' && matches!(rest, [b'>', ..]))
+}
+
+/// How long the run is that a Name would have.
+pub(crate) fn name_length(text: &[u8]) -> usize
+    ensures { result ≡ name_len text.now }
+{
+    for (i, b) in text.iter().enumerate() {
+        let rest = &text[i + 1..];
+        if name_ends(*b, rest) {
+            return i;
+        }
+    }
+    text.len()
+}
+
+fn comment_ends(b: u8) -> bool
+    ensures { result ≡ ends_comment b }
+{
+    b == b'\n' || b == 0
+}
+
+/// How long a comment goes on.
+pub(crate) fn comment_length(text: &[u8]) -> usize
+    ensures { result ≡ comment_len text.now }
+{
+    for (i, b) in text.iter().enumerate() {
+        if comment_ends(*b) {
+            return i;
+        }
+    }
+    text.len()
+}
+
+/// A place in a path: how deep in `{}`, whether in `[]`, whether a backslash keeps the byte.
+#[derive(Clone, Copy)]
+pub(crate) struct PathPlace {
+    depth: usize,
+    in_class: bool,
+    kept: bool,
+}
+
+fn comma_ends(rest: &[u8]) -> bool
+    ensures { result ≡ ends_after_comma rest.now }
+{
+    match rest {
+        [] => true,
+        [b, ..] => is_white_space(*b) || *b == b'#' || *b == b'}',
+    }
+}
+
+fn path_ends(place: PathPlace, b: u8, rest: &[u8]) -> bool
+    ensures { result ≡ ends_path place b rest.now }
+{
+    b == 0
+        || (!place.kept
+            && (is_white_space(b)
+                || b == b'"'
+                || (b == b',' && place.depth == 0 && !place.in_class && comma_ends(rest))))
+}
+
+fn path_after(place: PathPlace, b: u8) -> PathPlace
+    requires { place.depth + 1 < 2 ^ 64 }
+    ensures next { result ≡ path_next place b }
+    ensures depth { result.depth ≤ place.depth + 1 }
+{
+    if place.kept {
+        return PathPlace {
+            kept: false,
+            ..place
+        };
+    }
+    if b == b'\\' {
+        return PathPlace {
+            kept: true,
+            ..place
+        };
+    }
+    if place.in_class {
+        return PathPlace {
+            in_class: b != b']',
+            ..place
+        };
+    }
+    match b {
+        b'[' => PathPlace {
+            in_class: true,
+            ..place
+        },
+        b'{' => PathPlace {
+            depth: place.depth + 1,
+            ..place
+        },
+        b'}' => PathPlace {
+            depth: place.depth.saturating_sub(1),
+            ..place
+        },
+        _ => place,
+    }
+}
+
+/// How long a path goes on behind its first byte.
+pub(crate) fn path_length(text: &[u8]) -> usize
+    ensures { result ≡ path_len path_start text.now }
+{
+    let mut place = PathPlace {
+        depth: 0,
+        in_class: false,
+        kept: false,
+    };
+    for (i, b) in text.iter().enumerate() {
+        let rest = &text[i + 1..];
+        if path_ends(place, *b, rest) {
+            return i;
+        }
+        place = path_after(place, *b);
+    }
+    text.len()
+}
+
+fn is_ascii_letter(b: u8) -> bool
+    ensures { result ≡ is_letter b }
+{
+    (b'a' <= b && b <= b'z') || (b'A' <= b && b <= b'Z')
+}
+
+fn variable_ends(b: u8) -> bool
+    ensures { result ≡ ends_variable b }
+{
+    !(is_ascii_letter(b) || (b'0' <= b && b <= b'9') || b == b'_')
+}
+
+fn variable_length(text: &[u8]) -> usize
+    ensures { result ≡ variable_len text.now }
+{
+    for (i, b) in text.iter().enumerate() {
+        if variable_ends(*b) {
+            return i;
+        }
+    }
+    text.len()
+}
+
+/// How long `{NAME}` is, where it stands first and `=` or `+=` follows.
+#[tactic(auto, using(crate::proofs::Extents::variable_le), unfolding(crate::specs::Runs::assigned_len))]
+pub(crate) fn assigned_length(text: &[u8]) -> Option<usize>
+    ensures { result ≡ assigned_len text.now }
+{
+    let [b'{', rest @ ..] = text else {
+        return None;
+    };
+    let [first, ..] = rest else {
+        return None;
+    };
+    if !is_ascii_letter(*first) {
+        return None;
+    }
+    let len = variable_length(rest);
+    let (_, behind) = rest.split_at(len);
+    match behind {
+        [b'}', b'=', ..] | [b'}', b'+', b'=', ..] => Some(len + 2),
+        _ => None,
+    }
+}

@@ -1,0 +1,11 @@
+use Rattle.std.proofs.Common.{List, subst}
+use Rattle.aa_words.specs.Splits.{WordData}
+use Rattle.aa_policy.specs.Spelling.{Spells}
+use Rattle.aamediate.proofs.Gathering.{of_fault}
+use Rattle.aamediate.proofs.engine.policy_of.Goals as goal
+
+pub returns-clause-cause : goal.returns-clause-cause
+returns-clause-cause c =
+    of_fault c.in-Err-parse.fault _ _ c.policy_fault-in-Err-parse.ensures (λ other policy p.
+    c.in-Err-parse.ensures.refused other policy (subst (λ (ws : List WordData). Spells ws policy)
+    (c.in-Ok.ensures.one p.words (rw c.as_slice-2.ensures p.split)) p.spelled))

@@ -1,0 +1,33 @@
+-- How names and sets of permissions are written in a line.
+use Rattle.std.specs.Prelude.{ℕ, ◌+◌, ◌-◌, ◌/◌, ◌%◌, List, [], ◌∷◌, ◌++◌, Bool, not, ◌==◌, ◌&&◌, nat_le, nat_lt, if◌then◌else◌, flat_map, bit_and}
+use Rattle.std.specs.List.{list_all}
+
+-- a byte that stands for itself between quotes: ! to ~ without the quote
+abbrev pub is_shown : ℕ → Bool
+is_shown b = nat_le 33 b && nat_le b 126 && not (b == 34)
+
+-- 0 to 9, A to F
+abbrev pub hex_digit : ℕ → ℕ
+hex_digit n = if nat_lt n 10 then 48 + n else 65 + (n - 10)
+
+-- a byte as two hexadecimal digits
+abbrev pub hex_pair : ℕ → List ℕ
+hex_pair b = hex_digit (b / 16) ∷ hex_digit (b % 16) ∷ []
+
+-- bytes between quotes where all stand for themselves, else in hexadecimal
+unfoldable pub value : List ℕ → List ℕ
+value bytes = if list_all is_shown bytes then (34 ∷ bytes) ++ 34 ∷ [] else flat_map hex_pair bytes
+
+-- the letter of a permission that a set has
+abbrev pub letter : ℕ → ℕ → ℕ → List ℕ
+letter bits bit c = if bit_and bits bit == bit then c ∷ [] else []
+
+-- the letters of a set, in the order rwalkmx
+unfoldable pub letters : ℕ → List ℕ
+letters bits =
+    letter bits 1 114 ++ letter bits 2 119 ++ letter bits 4 97 ++ letter bits 8 108 ++ letter bits 16 107
+    ++ letter bits 32 109 ++ letter bits 64 120
+
+-- the letters between quotes
+unfoldable pub mask : ℕ → List ℕ
+mask bits = (34 ∷ letters bits) ++ 34 ∷ []

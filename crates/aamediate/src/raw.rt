@@ -1,0 +1,60 @@
+//! What stands in a job, with texts borrowed from its value.
+
+/// An item of a task's list.
+#[derive(Drop)]
+pub enum RawItem<'v> {
+    Exit,
+    File {
+        path: &'v str,
+        letters: &'v str,
+        owned: bool,
+    },
+    Link {
+        path: &'v str,
+        target: &'v str,
+        owned: bool,
+    },
+    Exec {
+        path: &'v str,
+        owned: bool,
+    },
+    Cap {
+        name: &'v str,
+    },
+    Net {
+        family: &'v str,
+        kind: &'v str,
+    },
+}
+
+/// A task's label and the items of its list.
+#[derive(Drop)]
+pub struct RawTask<'v> {
+    pub label: &'v str,
+    pub items: Vec<RawItem<'v>>,
+}
+
+/// An event's task and name.
+#[derive(Drop)]
+pub struct RawEvent<'v> {
+    pub task: u64,
+    pub name: &'v str,
+}
+
+/// A name and the text that is included by it.
+#[derive(Drop)]
+pub struct RawInclude<'v> {
+    pub name: &'v str,
+    pub text: &'v str,
+}
+
+/// All that stands in a job.
+#[derive(Drop)]
+pub struct RawJob<'v> {
+    pub policy: &'v str,
+    pub includes: Vec<RawInclude<'v>>,
+    pub tasks: Vec<RawTask<'v>>,
+    pub states: u64,
+    pub capacity: u64,
+    pub events: Vec<RawEvent<'v>>,
+}

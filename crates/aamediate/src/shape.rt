@@ -1,0 +1,378 @@
+//! The shape of a job: what stands in its JSON value, or `BadShape`.
+
+ghost use Rattle.std.specs.Prelude.{◌≡◌, Option, None, Some, ⊤, option_map, is_some, string_bytes, codes, List, ℕ, ◌∷◌, [], map};
+ghost use Rattle.std.specs.List.{list_any, list_all};
+ghost use Rattle.std.specs.Str.{bytes_eq};
+ghost use Rattle.std.specs.BTreeMap.{keys};
+ghost use Rattle.serde_json.specs.Data.{Data};
+ghost use Rattle.serde_json.specs.View.{view, members_view};
+ghost use Rattle.serde_json.specs.Find.{get};
+ghost use Rattle.aamediate.specs.declared.job_fault.JobFault.TheVariants.{BadShape};
+ghost use Rattle.aamediate.specs.Steps.{Gives, only_if, each};
+ghost use Rattle.aamediate.specs.Shape.{is_key, has_only, fits, text_in, number_in, list_in, text_at, list_at, flag_from, number_from, has, file_shape, link_shape, exec_shape, cap_shape, net_shape, request_shape, item_shape, task_shape, pair_shape, event_shape, include_shape, events_from, includes_in, includes_from, job_shape};
+ghost use Rattle.aamediate.specs.Raw.{raw_item, raw_task, raw_event, raw_include, raw_job, entry_view};
+
+use crate::job_fault::JobFault;
+use crate::raw::{RawEvent, RawInclude, RawItem, RawJob, RawTask};
+use serde_json::{Map, Value};
+use std::alloc::Global;
+
+/// How many states an automaton may have where the job doesn't say.
+const DEFAULT_STATES: u64 = 4096;
+
+/// How many requests a lane holds where the job doesn't say.
+const DEFAULT_CAPACITY: u64 = 1;
+
+/// The objects of a job.
+#[derive(Clone, Copy)]
+enum Part {
+    Whole,
+    OfTask,
+    OfFile,
+    OfLink,
+    OfExec,
+    OfCap,
+    OfNet,
+}
+
+fn is_whole_key(key: &str) -> bool
+    ensures { result ≡ is_key Part.Whole key.now }
+{
+    key == "policy"
+        || key == "includes"
+        || key == "tasks"
+        || key == "states"
+        || key == "capacity"
+        || key == "events"
+}
+
+fn is_known(part: Part, key: &str) -> bool
+    ensures { result ≡ is_key part key.now }
+{
+    match part {
+        Part::Whole => is_whole_key(key),
+        Part::OfTask => key == "label" || key == "requests",
+        Part::OfFile => key == "file" || key == "mask" || key == "owned",
+        Part::OfLink => key == "link" || key == "to" || key == "owned",
+        Part::OfExec => key == "exec" || key == "owned",
+        Part::OfCap => key == "cap",
+        Part::OfNet => key == "net" || key == "type",
+    }
+}
+
+fn only_known(part: Part, map: &Map<String, Value>) -> bool
+    ensures { result ≡ list_all (λ k. is_key part (string_bytes k)) (keys map.now) }
+{
+    map.keys().all(|key| is_known(part, key.as_str()))
+}
+
+fn map_fits(part: Part, map: &Map<String, Value>) -> bool
+    ensures { result ≡ has_only part (members_view map.now.entries) }
+{
+    only_known(part, map)
+}
+
+fn is_fit(part: Part, value: &Value) -> bool
+    ensures { result ≡ fits part (view value.now) }
+{
+    match value.as_object() {
+        Some(map) => map_fits(part, map),
+        None => false,
+    }
+}
+
+/// The value is an object whose keys are all known.
+fn expect(part: Part, value: &Value) -> Result<(), JobFault>
+    ensures { Gives (λ u. u) result (only_if (fits part (view value.now)) BadShape) }
+{
+    if is_fit(part, value) {
+        Ok(())
+    } else {
+        Err(JobFault::BadShape)
+    }
+}
+
+fn text(value: &Value) -> Result<&str, JobFault>
+    ensures { Gives (λ s. s.now) result (text_in (view value.now)) }
+{
+    value.as_str().ok_or(JobFault::BadShape)
+}
+
+fn number(value: &Value) -> Result<u64, JobFault>
+    ensures { Gives (λ n. n) result (number_in (view value.now)) }
+{
+    value.as_u64().ok_or(JobFault::BadShape)
+}
+
+fn list(value: &Value) -> Result<&[Value], JobFault>
+    ensures { Gives (λ s. map view s.now) result (list_in (view value.now)) }
+{
+    match value.as_array() {
+        Some(list) => Ok(list.as_slice()),
+        None => Err(JobFault::BadShape),
+    }
+}
+
+fn text_of<'v>(value: &'v Value, key: &str) -> Result<&'v str, JobFault>
+    ensures { Gives (λ s. s.now) result (text_at key.now (view value.now)) }
+{
+    match value.get(key) {
+        Some(member) => text(member),
+        None => Err(JobFault::BadShape),
+    }
+}
+
+fn list_of<'v>(value: &'v Value, key: &str) -> Result<&'v [Value], JobFault>
+    ensures { Gives (λ s. map view s.now) result (list_at key.now (view value.now)) }
+{
+    match value.get(key) {
+        Some(member) => list(member),
+        None => Err(JobFault::BadShape),
+    }
+}
+
+fn flag_of(value: &Value, key: &str) -> Result<bool, JobFault>
+    ensures { Gives (λ b. b) result (flag_from (get key.now (view value.now))) }
+{
+    match value.get(key) {
+        None => Ok(false),
+        Some(member) => member.as_bool().ok_or(JobFault::BadShape),
+    }
+}
+
+fn number_of(value: &Value, key: &str, default: u64) -> Result<u64, JobFault>
+    ensures { Gives (λ n. n) result (number_from default (get key.now (view value.now))) }
+{
+    match value.get(key) {
+        None => Ok(default),
+        Some(member) => number(member),
+    }
+}
+
+fn has_key(value: &Value, key: &str) -> bool
+    ensures { result ≡ has key.now (view value.now) }
+{
+    value.get(key).is_some()
+}
+
+#[tactic(auto, unfolding(crate::specs::Shape::file_shape))]
+fn file_item(value: &Value) -> Result<RawItem<'_>, JobFault>
+    ensures { Gives raw_item result (file_shape (view value.now)) }
+{
+    expect(Part::OfFile, value)?;
+    let path = text_of(value, "file")?;
+    let letters = text_of(value, "mask")?;
+    let owned = flag_of(value, "owned")?;
+    Ok(RawItem::File {
+        path,
+        letters,
+        owned,
+    })
+}
+
+#[tactic(auto, unfolding(crate::specs::Shape::link_shape))]
+fn link_item(value: &Value) -> Result<RawItem<'_>, JobFault>
+    ensures { Gives raw_item result (link_shape (view value.now)) }
+{
+    expect(Part::OfLink, value)?;
+    let path = text_of(value, "link")?;
+    let target = text_of(value, "to")?;
+    let owned = flag_of(value, "owned")?;
+    Ok(RawItem::Link {
+        path,
+        target,
+        owned,
+    })
+}
+
+#[tactic(auto, unfolding(crate::specs::Shape::exec_shape))]
+fn exec_item(value: &Value) -> Result<RawItem<'_>, JobFault>
+    ensures { Gives raw_item result (exec_shape (view value.now)) }
+{
+    expect(Part::OfExec, value)?;
+    let path = text_of(value, "exec")?;
+    let owned = flag_of(value, "owned")?;
+    Ok(RawItem::Exec { path, owned })
+}
+
+#[tactic(auto, unfolding(crate::specs::Shape::cap_shape))]
+fn cap_item(value: &Value) -> Result<RawItem<'_>, JobFault>
+    ensures { Gives raw_item result (cap_shape (view value.now)) }
+{
+    expect(Part::OfCap, value)?;
+    let name = text_of(value, "cap")?;
+    Ok(RawItem::Cap { name })
+}
+
+#[tactic(auto, unfolding(crate::specs::Shape::net_shape))]
+fn net_item(value: &Value) -> Result<RawItem<'_>, JobFault>
+    ensures { Gives raw_item result (net_shape (view value.now)) }
+{
+    expect(Part::OfNet, value)?;
+    let family = text_of(value, "net")?;
+    let kind = text_of(value, "type")?;
+    Ok(RawItem::Net { family, kind })
+}
+
+/// What an object asks for, by the key that tells its kind.
+#[tactic(auto, unfolding(crate::specs::Shape::request_shape))]
+fn request_item(value: &Value) -> Result<RawItem<'_>, JobFault>
+    ensures { Gives raw_item result (request_shape (view value.now)) }
+{
+    if has_key(value, "file") {
+        file_item(value)
+    } else if has_key(value, "link") {
+        link_item(value)
+    } else if has_key(value, "exec") {
+        exec_item(value)
+    } else if has_key(value, "cap") {
+        cap_item(value)
+    } else if has_key(value, "net") {
+        net_item(value)
+    } else {
+        Err(JobFault::BadShape)
+    }
+}
+
+fn item(value: &Value) -> Result<RawItem<'_>, JobFault>
+    ensures { Gives raw_item result (item_shape (view value.now)) }
+{
+    match value.as_str() {
+        None => request_item(value),
+        Some(word) => {
+            if word == "exit" {
+                Ok(RawItem::Exit)
+            } else {
+                Err(JobFault::BadShape)
+            }
+        }
+    }
+}
+
+fn items(alloc: Global, list: &[Value]) -> Result<Vec<RawItem<'_>>, JobFault>
+    ensures { Gives (λ v. map raw_item v.items) result (each item_shape (map view list.now)) }
+{
+    let mut items = Vec::new(alloc);
+    for value in list {
+        items.push(item(value)?)?;
+    }
+    Ok(items)
+}
+
+#[tactic(auto, unfolding(crate::specs::Shape::task_shape))]
+fn task(alloc: Global, value: &Value) -> Result<RawTask<'_>, JobFault>
+    ensures { Gives raw_task result (task_shape (view value.now)) }
+{
+    expect(Part::OfTask, value)?;
+    let label = text_of(value, "label")?;
+    let requests = list_of(value, "requests")?;
+    let items = items(alloc, requests)?;
+    Ok(RawTask { label, items })
+}
+
+fn tasks(alloc: Global, list: &[Value]) -> Result<Vec<RawTask<'_>>, JobFault>
+    ensures { Gives (λ v. map raw_task v.items) result (each task_shape (map view list.now)) }
+{
+    let mut tasks = Vec::new(alloc);
+    for value in list {
+        tasks.push(task(alloc, value)?)?;
+    }
+    Ok(tasks)
+}
+
+fn pair(list: &[Value]) -> Result<RawEvent<'_>, JobFault>
+    ensures { Gives raw_event result (pair_shape (map view list.now)) }
+{
+    match list {
+        [task, name] => Ok(RawEvent {
+            task: number(task)?,
+            name: text(name)?,
+        }),
+        _ => Err(JobFault::BadShape),
+    }
+}
+
+#[tactic(auto, unfolding(crate::specs::Shape::event_shape))]
+fn event(value: &Value) -> Result<RawEvent<'_>, JobFault>
+    ensures { Gives raw_event result (event_shape (view value.now)) }
+{
+    pair(list(value)?)
+}
+
+fn events(alloc: Global, list: &[Value]) -> Result<Vec<RawEvent<'_>>, JobFault>
+    ensures { Gives (λ v. map raw_event v.items) result (each event_shape (map view list.now)) }
+{
+    let mut events = Vec::new(alloc);
+    for value in list {
+        events.push(event(value)?)?;
+    }
+    Ok(events)
+}
+
+fn events_of(alloc: Global, value: &Value) -> Result<Vec<RawEvent<'_>>, JobFault>
+    ensures { Gives (λ v. map raw_event v.items) result (events_from (get (codes "events") (view value.now))) }
+{
+    match value.get("events") {
+        None => Ok(Vec::new(alloc)),
+        Some(member) => events(alloc, list(member)?),
+    }
+}
+
+#[tactic(auto, unfolding(crate::specs::Shape::include_shape))]
+fn include<'v>(name: &'v str, value: &'v Value) -> Result<RawInclude<'v>, JobFault>
+    ensures { Gives raw_include result (include_shape (name.now, view value.now)) }
+{
+    let text = text(value)?;
+    Ok(RawInclude { name, text })
+}
+
+/// The included texts, in byte order of their names, as a map keeps its keys.
+fn includes(alloc: Global, found: &Map<String, Value>) -> Result<Vec<RawInclude<'_>>, JobFault>
+    ensures { Gives (λ v. map raw_include v.items) result (each include_shape (map entry_view found.now.entries)) }
+{
+    let mut includes = Vec::new(alloc);
+    for (name, value) in found {
+        includes.push(include(name.as_str(), value)?)?;
+    }
+    Ok(includes)
+}
+
+fn includes_in(alloc: Global, value: &Value) -> Result<Vec<RawInclude<'_>>, JobFault>
+    ensures { Gives (λ v. map raw_include v.items) result (includes_in (view value.now)) }
+{
+    match value.as_object() {
+        None => Err(JobFault::BadShape),
+        Some(map) => includes(alloc, map),
+    }
+}
+
+fn includes_of(alloc: Global, value: &Value) -> Result<Vec<RawInclude<'_>>, JobFault>
+    ensures { Gives (λ v. map raw_include v.items) result (includes_from (get (codes "includes") (view value.now))) }
+{
+    match value.get("includes") {
+        None => Ok(Vec::new(alloc)),
+        Some(member) => includes_in(alloc, member),
+    }
+}
+
+/// All that stands in a job.
+#[tactic(auto, unfolding(crate::specs::Shape::job_shape))]
+pub fn job(alloc: Global, value: &Value) -> Result<RawJob<'_>, JobFault>
+    ensures { Gives raw_job result (job_shape (view value.now)) }
+{
+    expect(Part::Whole, value)?;
+    let policy = text_of(value, "policy")?;
+    let includes = includes_of(alloc, value)?;
+    let tasks = tasks(alloc, list_of(value, "tasks")?)?;
+    let states = number_of(value, "states", DEFAULT_STATES)?;
+    let capacity = number_of(value, "capacity", DEFAULT_CAPACITY)?;
+    let events = events_of(alloc, value)?;
+    Ok(RawJob {
+        policy,
+        includes,
+        tasks,
+        states,
+        capacity,
+        events,
+    })
+}
