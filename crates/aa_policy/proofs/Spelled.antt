@@ -179,10 +179,7 @@ no_attachments parent tree =
 
 -- the counts are all there is to count
 pub within_limits : (tree : List ProfileData) → IsWithinCounts (profiles_of tree) → IsWithinLimits (profiles_of tree)
-within_limits tree c = record { few = c.few; short_names = c.short_names; few_patterns = c.few_patterns; few_attachments = λ parent. no_attachments parent tree }
-
-pub within_counts : (profiles : List Profile) → IsWithinLimits profiles → IsWithinCounts profiles
-within_counts profiles l = record { few = l.few; short_names = l.short_names; few_patterns = l.few_patterns }
+within_limits tree c = record { counts = c; few_attachments = λ parent. no_attachments parent tree }
 
 -- what is written is lawful within the limits and with distinct names
 pub lawful : (ws : List WordData) (tree : List ProfileData) → IsPolicy ws tree → IsDistinct bytes_eq (names_of (profiles_of tree)) → IsWithinLimits (profiles_of tree) → IsLawful (profiles_of tree)

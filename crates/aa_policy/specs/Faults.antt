@@ -1,8 +1,9 @@
 -- Which kinds of refusal come from where.
-use Rattle.std.specs.Prelude.{◌≡◌, ◌≢◌, Bool, true, false}
+use Rattle.std.specs.Prelude.{◌≡◌, ◌⊎◌, Bool, true, false}
 use Rattle.aa_words.specs.declared.fault.PolicyFault.{PolicyFault}
+use Rattle.aa_words.specs.Kinds.{no_memory}
 use Rattle.aa_words.specs.declared.fault.PolicyKind.{PolicyKind}
-use Rattle.aa_words.specs.declared.fault.PolicyKind.TheVariants.{NoMemory, Syntax, Unsupported, UnknownWord, BadMode, WriteWithAppend, RelativePath, DuplicateProfile, TooLarge}
+use Rattle.aa_words.specs.declared.fault.PolicyKind.TheVariants.{Syntax, Unsupported, UnknownWord, BadMode, WriteWithAppend, RelativePath, DuplicateProfile, TooLarge}
 
 -- the kinds of a word at which reading can't go on
 abbrev pub is_word_fault : PolicyKind → Bool
@@ -22,7 +23,6 @@ is_path_fault _ = false
 
 -- the kinds of every refusal of a policy's words
 abbrev pub is_parse_fault : PolicyKind → Bool
-is_parse_fault NoMemory = true
 is_parse_fault Syntax = true
 is_parse_fault Unsupported = true
 is_parse_fault UnknownWord = true
@@ -35,8 +35,12 @@ is_parse_fault _ = false
 
 -- want of memory, or a word at which reading can't go on
 abbrev pub IsWordRefusal : PolicyFault → Type 0
-IsWordRefusal e = e.kind ≢ NoMemory → is_word_fault e.kind ≡ true
+IsWordRefusal e = (e ≡ no_memory) ⊎ (is_word_fault e.kind ≡ true)
 
 -- want of memory, or a path that doesn't expand
 abbrev pub IsPathRefusal : PolicyFault → Type 0
-IsPathRefusal e = e.kind ≢ NoMemory → is_path_fault e.kind ≡ true
+IsPathRefusal e = (e ≡ no_memory) ⊎ (is_path_fault e.kind ≡ true)
+
+-- want of memory, or one of the kinds that a policy's words are refused with
+abbrev pub IsParseRefusal : PolicyFault → Type 0
+IsParseRefusal e = (e ≡ no_memory) ⊎ (is_parse_fault e.kind ≡ true)

@@ -29,18 +29,16 @@ file_patterns p = sum_by (λ r. length r.patterns) p.files
 abbrev pub attachment_patterns : Option ℕ → List Profile → ℕ
 attachment_patterns parent profiles = sum_by (λ p. length p.attachments) (filter (λ p. option_eq nat_eq p.parent parent) profiles)
 
--- the counts and lengths that no policy goes past
-pub record IsWithinLimits (profiles : List Profile) : Type 0 where
-  pub few : length profiles ≤ 4096
-  pub short_names : All (λ p. length p.name ≤ 1024) profiles
-  pub few_patterns : All (λ p. file_patterns p ≤ 65535) profiles
-  pub few_attachments : (parent : Option ℕ) → attachment_patterns parent profiles ≤ 65535
-
--- the same without the attachments
+-- the counts and lengths that no policy goes past, but for its attachments
 pub record IsWithinCounts (profiles : List Profile) : Type 0 where
   pub few : length profiles ≤ 4096
   pub short_names : All (λ p. length p.name ≤ 1024) profiles
   pub few_patterns : All (λ p. file_patterns p ≤ 65535) profiles
+
+-- the same, and how many attachments there are
+pub record IsWithinLimits (profiles : List Profile) : Type 0 where
+  pub counts : IsWithinCounts profiles
+  pub few_attachments : (parent : Option ℕ) → attachment_patterns parent profiles ≤ 65535
 
 -- a parent is an earlier top-level profile
 abbrev pub ParentsComeFirst : List Profile → Type 0

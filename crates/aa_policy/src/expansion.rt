@@ -20,6 +20,7 @@ use std::alloc::Global;
 /// The most bytes of a path.
 const MAX_PATH: usize = 16384;
 
+/// Whether no byte has a meaning of its own in a pattern.
 fn has_plain_bytes(path: &[u8]) -> bool
     ensures { result ≡ list_all is_plain path.now }
 {
@@ -31,6 +32,7 @@ fn has_plain_bytes(path: &[u8]) -> bool
         || *b == b'\\'))
 }
 
+/// Whether a path stands for itself: by its bytes, and since no slash follows another.
 fn is_plain_path(path: &[u8]) -> bool
     ensures { result ≡ is_plain_path path.now }
 {
@@ -65,7 +67,7 @@ fn file_rule(alloc: Global, file: &FileTree) -> Result<FileRule, PolicyFault>
     if let Some(kind) = path_fault(file.path) {
         return Err(PolicyFault { kind, at: file.at });
     }
-    let mut patterns = Vec::new(alloc);
+    let mut patterns = Vec::with_capacity(alloc, 1)?;
     patterns.push(Pattern::literal(alloc, file.path)?)?;
     Ok(FileRule {
         audit: false,

@@ -29,6 +29,7 @@ pub fn fault(kind: PolicyKind, words: &[Word], at: usize, end: Spot) -> PolicyFa
     PolicyFault { kind, at }
 }
 
+/// Whether a word of this kind stands at a place.
 fn is_kind_at(words: &[Word], at: usize, kind: WordKind) -> bool {
     match words.get(at) {
         Some(word) => word.kind == kind,

@@ -23,3 +23,6 @@ pub use perms::Perms;
 pub use policy::{PassedOver, Policy, Profile};
 pub use rule::{CapRule, Exec, ExecKind, Fallback, FileRule, NetRule};
 pub use seq::{Seq, Text};
+
+#[cfg(test)]
+mod tests;

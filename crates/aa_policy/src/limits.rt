@@ -1,8 +1,9 @@
 //! The third pass: what holds of the profiles together.
 
-ghost use Rattle.std.specs.Prelude.{◌≡◌, ◌≢◌, ◌≤◌, ◌↔◌, IsTrue, length, IfErr, OnOk};
+ghost use Rattle.std.specs.Prelude.{◌≡◌, ◌⊎◌, ◌≤◌, ◌↔◌, IsTrue, length, IfErr, OnOk};
 ghost use Rattle.std.specs.List.{IsDistinct, sum_by};
 ghost use Rattle.std.specs.Str.{bytes_eq};
+ghost use Rattle.aa_words.specs.Kinds.{no_memory};
 ghost use Rattle.aa_policy.specs.Lawful.{names_of, file_patterns, IsWithinCounts};
 ghost use Rattle.aa_policy.specs.Spelling.{IsRepeated};
 
@@ -24,7 +25,7 @@ const MAX_PATTERNS: usize = 65535;
 /// Refuses the first profile whose name an earlier one has.
 pub fn check_names(alloc: Global, profiles: &[Profile]) -> Result<(), PolicyFault>
     ensures distinct { OnOk result (IsDistinct bytes_eq (names_of profiles.now)) }
-    ensures repeated { IfErr result (λ e. e.kind ≢ PolicyKind.NoMemory → (e.kind ≡ PolicyKind.DuplicateProfile) × IsRepeated profiles.now e.at) }
+    ensures repeated { IfErr result (λ e. (e ≡ no_memory) ⊎ ((e.kind ≡ PolicyKind.DuplicateProfile) × IsRepeated profiles.now e.at)) }
 {
     let mut names = HashSet::new(alloc);
     for profile in profiles {

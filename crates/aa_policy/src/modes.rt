@@ -1,6 +1,6 @@
 //! Modes of file rules (apparmor.d(5), "Access Modes" and "Execute Mode").
 
-ghost use Rattle.std.specs.Prelude.{◌≡◌, ◌<◌, IfSome, option_map};
+ghost use Rattle.std.specs.Prelude.{◌≡◌, ◌<◌, ◌&&◌, IfSome, option_map};
 ghost use Rattle.aa_policy.specs.Faults.{is_word_fault};
 ghost use Rattle.aa_policy.specs.Modes.{letter_bits, letters_bits, has_letter, mode_bits};
 ghost use Rattle.std.specs.Prelude.{true};
@@ -40,10 +40,18 @@ fn letters_of(text: &[u8]) -> Option<Perms>
     Some(perms)
 }
 
+/// Whether a letter is among those of a mode.
 fn contains(text: &[u8], c: u8) -> bool
     ensures { result ≡ has_letter c text.now }
 {
     text.iter().any(|b| *b == c)
+}
+
+/// Whether a mode has `w` beside `a`.
+fn writes_and_appends(mode: &[u8]) -> bool
+    ensures { result ≡ (has_letter 119 mode.now && has_letter 97 mode.now) }
+{
+    contains(mode, b'w') && contains(mode, b'a')
 }
 
 /// What a mode grants that has access letters alone, and not both `w` and `a`.
@@ -52,7 +60,7 @@ pub fn access_of(mode: &[u8]) -> Option<Perms>
     ensures bits { option_map (λ p. p.0) result ≡ mode_bits mode.now }
     ensures access { IfSome result (λ p. p.0 < 64) }
 {
-    if contains(mode, b'w') && contains(mode, b'a') {
+    if writes_and_appends(mode) {
         return None;
     }
     letters_of(mode)
@@ -69,6 +77,7 @@ enum ExecPart {
     Wrong,
 }
 
+/// Which exec part the letters are, the `x` at their end included.
 fn exec_part(part: &[u8]) -> ExecPart {
     match part {
         b"ix" | b"ux" | b"Ux" | b"px" | b"Px" | b"cx" | b"Cx" => ExecPart::Right,
@@ -82,12 +91,16 @@ fn exec_part(part: &[u8]) -> ExecPart {
 /// What has been seen of a mode's letters.
 #[derive(Clone, Copy, Debug)]
 struct Seen {
+    /// An exec part.
     exec: bool,
+    /// One of mixed case.
     mixed: bool,
+    /// A letter, a run or a second exec part that no mode has.
     wrong: bool,
 }
 
 impl Seen {
+    /// With an exec part more.
     fn with_part(self, part: &[u8]) -> Seen {
         let part = exec_part(part);
         Seen {
@@ -97,6 +110,7 @@ impl Seen {
         }
     }
 
+    /// With a letter of no exec part more; `alone`, if no exec letters stand before it.
     fn with_letter(self, b: u8, alone: bool) -> Seen {
         Seen {
             wrong: self.wrong || !alone || letter(b).is_none(),
@@ -144,7 +158,7 @@ pub fn mode_fault(mode: &[u8]) -> Option<PolicyKind>
     if seen.wrong {
         return Some(PolicyKind::BadMode);
     }
-    if contains(mode, b'w') && contains(mode, b'a') {
+    if writes_and_appends(mode) {
         return Some(PolicyKind::WriteWithAppend);
     }
     None

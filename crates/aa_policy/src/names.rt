@@ -16,6 +16,7 @@ pub fn begins_with(text: &[u8], b: u8) -> bool
     }
 }
 
+/// Whether a text begins with two bytes, of which the first is given apart.
 fn begins_pair(first: u8, rest: &[u8], a: u8, b: u8) -> bool
     ensures { result ≡ (first == a && begins_with b rest.now) }
 {

@@ -1,9 +1,9 @@
 //! Gives the policy that a text's words spell.
 
-ghost use Rattle.std.specs.Prelude.{◌≡◌, ◌⊎◌, List, IfOk, IfErr, true};
+ghost use Rattle.std.specs.Prelude.{◌≡◌, ◌⊎◌, List, IfOk, IfErr};
 ghost use Rattle.aa_words.specs.Kinds.{IsRefusal};
 ghost use Rattle.aa_words.specs.Splits.{WordData, words_data};
-ghost use Rattle.aa_policy.specs.Faults.{is_parse_fault};
+ghost use Rattle.aa_policy.specs.Faults.{IsParseRefusal};
 ghost use Rattle.aa_policy.specs.Spelling.{Spells, IsPathFault, IsDuplicate, IsOverLimits, start};
 ghost use Rattle.aa_policy.specs.declared.policy.Policy.{Policy};
 
@@ -36,7 +36,7 @@ pub fn parse(alloc: Global, words: &WordList) -> Result<Policy, PolicyFault>
     ensures duplicate { IfErr result (λ e. e.kind ≡ PolicyKind.DuplicateProfile → IsDuplicate (words_data words.now.list.items) e.at) }
     ensures too_large { IfErr result (λ e. e.kind ≡ PolicyKind.TooLarge
         → IsPathFault (words_data words.now.list.items) e ⊎ ((e.at ≡ start) × IsOverLimits (words_data words.now.list.items))) }
-    ensures kinds { IfErr result (λ e. is_parse_fault e.kind ≡ true) }
+    ensures kinds { IfErr result IsParseRefusal }
 {
     let tree = tree_of(alloc, words.list.as_slice(), words.end)?;
     let profiles = profiles(alloc, tree.as_slice())?;

@@ -50,6 +50,7 @@ impl Item {
     }
 }
 
+/// An item for each byte of a text.
 fn bytes_of(alloc: Global, text: &[u8]) -> Result<Vec<Item>, AllocError>
     ensures { IfOk result (λ v. v.items ≡ map (λ b. Item.Byte b) text.now) }
 {
@@ -58,6 +59,7 @@ fn bytes_of(alloc: Global, text: &[u8]) -> Result<Vec<Item>, AllocError>
         .collect::<Vec<Item>>(alloc)
 }
 
+/// Whether a path matches item by item.
 fn all_allow(items: &[Item], path: &[u8]) -> bool
     ensures { result ≡ is_match items.now path.now }
 {
@@ -72,7 +74,7 @@ fn all_allow(items: &[Item], path: &[u8]) -> bool
     true
 }
 
-/// To decide whether a pattern matches is to decide whether the text can be cut so.
+/// To decide whether a pattern matches is to decide whether the text can be cut so. It does nothing: its contract is a law.
 pub fn matching_is_decided()
     ensures { (p : Pattern) (text : List ℕ) → IsTrue (is_match p.items text) ↔ Matches p text }
 {}

@@ -1,5 +1,5 @@
 -- Answering a task's requests one after another.
-use Rattle.std.proofs.Common.{Bool, true, false, cond, suc, zero, ◌-◌, ◌≡◌, ℕ, ◌+◌, ◌<◌, ◌≤◌, List, [], ◌∷◌, ◌++◌, length, drop, get_or, map, Option, Some, None, refl, ap, sym, ◌∙◌, arith, append_assoc}
+use Rattle.std.proofs.Common.{Bool, true, false, cond, suc, zero, ◌≡◌, ℕ, ◌+◌, ◌<◌, ◌≤◌, List, [], ◌∷◌, ◌++◌, length, drop, get_or, Option, Some, None, refl, ap, sym, ◌∙◌, arith, append_assoc}
 use Rattle.std.specs.Prelude.{option_map, option_and_then, is_none}
 use Rattle.std.specs.List.{position_from}
 use Rattle.std.proofs.lemmas.Iterator.Adapters.{position_from-zero}
@@ -47,13 +47,13 @@ answering_more policy label after found more works i n r r' a all lt item n-is r
     let tail = answered policy (reply policy label r).label (length found + 1) (asked rest) in
     record {
       goes_on =
-      ap (λ (f : List Answered). f ++ answered policy after (length more) (asked rest)) whole
-      ∙ ap (λ (m : ℕ). (found ++ x ∷ []) ++ answered policy after m (asked rest)) long
-      ∙ ap (λ (l : Label). (found ++ x ∷ []) ++ answered policy l (length found + 1) (asked rest)) label-is
-      ∙ append_assoc found (x ∷ []) tail
-      ∙ ap (λ (f : List Answered). found ++ f) (sym (answered_step policy label (length found) r (asked rest)))
-      ∙ ap (λ (ws : List Work). found ++ answered policy label (length found) (asked ws)) (sym here)
-      ∙ so_far.goes_on;
+          ap (λ (f : List Answered). f ++ answered policy after (length more) (asked rest)) whole
+          ∙ ap (λ (m : ℕ). (found ++ x ∷ []) ++ answered policy after m (asked rest)) long
+          ∙ ap (λ (l : Label). (found ++ x ∷ []) ++ answered policy l (length found + 1) (asked rest)) label-is
+          ∙ append_assoc found (x ∷ []) tail
+          ∙ ap (λ (f : List Answered). found ++ f) (sym (answered_step policy label (length found) r (asked rest)))
+          ∙ ap (λ (ws : List Work). found ++ answered policy label (length found) (asked ws)) (sym here)
+          ∙ so_far.goes_on;
     }
 
 pub answering_exit : (policy : Policy) (label : Label) (found : List Answered) (works : List Work) (i : ℕ) (all : List Answered)
@@ -109,11 +109,11 @@ meaning_more policy found tasks i task label row lt item named row-is so_far =
     let step = meaning_step policy task rest label named in
     record {
       goes_on =
-      row_behind found row (job_answers policy rest)
-      ∙ ap (λ (r : List Answered). option_map (λ (more : List (List Answered)). found ++ more) (option_map (λ (more : List (List Answered)). r ∷ more) (job_answers policy rest))) row-is
-      ∙ ap (option_map (λ (more : List (List Answered)). found ++ more)) (sym step)
-      ∙ ap (λ (ts : List Task). option_map (λ (more : List (List Answered)). found ++ more) (job_answers policy ts)) (sym here)
-      ∙ so_far.goes_on;
+          row_behind found row (job_answers policy rest)
+          ∙ ap (λ (r : List Answered). option_map (λ (more : List (List Answered)). found ++ more) (option_map (λ (more : List (List Answered)). r ∷ more) (job_answers policy rest))) row-is
+          ∙ ap (option_map (λ (more : List (List Answered)). found ++ more)) (sym step)
+          ∙ ap (λ (ts : List Task). option_map (λ (more : List (List Answered)). found ++ more) (job_answers policy ts)) (sym here)
+          ∙ so_far.goes_on;
     }
 
 pub meaning_end : (policy : Policy) (found : List (List Answered)) (tasks : List Task) (i : ℕ) → length tasks ≤ i → Meaning policy found (drop i tasks) tasks → job_answers policy tasks ≡ Some found

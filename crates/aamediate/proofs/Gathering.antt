@@ -1,5 +1,5 @@
 -- Gathering a job's sources, and what a refusal on the way says.
-use Rattle.std.proofs.Common.{◌≡◌, ℕ, ◌+◌, ◌<◌, ◌≤◌, ◌⊎◌, inl, inr, List, [], ◌∷◌, ◌++◌, length, drop, get_or, Bool, true, false, IsTrue, Result, Ok, Err, refl, ap, sym, subst, ◌∙◌, arith, append_assoc, ◌↔◌}
+use Rattle.std.proofs.Common.{◌≡◌, ℕ, ◌+◌, ◌<◌, ◌≤◌, ◌⊎◌, inl, inr, List, [], ◌∷◌, ◌++◌, length, drop, get_or, Bool, true, false, IsTrue, Ok, Err, refl, ap, sym, subst, ◌∙◌, arith, append_assoc}
 use Rattle.std.specs.Prelude.{◌≢◌}
 use Rattle.std.proofs.lemmas.Bool.{cases_lt}
 use Rattle.std.proofs.lemmas.List.{drop_more, at_drop_all, append-nil}
@@ -50,10 +50,10 @@ gathering_end includes i found le so_far =
 -- ---- what an accepted source says
 
 has_room : (n : ℕ) → (4095 ≤ n → ⊥) → n < 4095
-has_room n h = elim (cases_lt n 4095) [ | inl lt ↦ lt | inr le ↦ absurd (h le) ]
+has_room n h = elim (cases_lt n 4095) [ inl lt ↦ lt | inr le ↦ absurd (h le) ]
 
 not_long : (n m : ℕ) → (m < n → ⊥) → n ≤ m
-not_long n m h = elim (cases_lt m n) [ | inl lt ↦ absurd (h lt) | inr le ↦ le ]
+not_long n m h = elim (cases_lt m n) [ inl lt ↦ absurd (h lt) | inr le ↦ le ]
 
 pub is_short : (text : List ℕ) (found : List Source) → ((1048576 < length text) ⊎ (4095 ≤ length found) → ⊥) → (length text ≤ 1048576) × (length found < 4095)
 is_short text found h = (not_long (length text) 1048576 (λ lt. h (inl lt)), has_room (length found) (λ le. h (inr le)))
@@ -87,7 +87,7 @@ explained fault cause include found rest e kinds large twice =
       | inl memory ↦ subst (λ (x : RunFault). IsPolicyCause x R) (sym (e ∙ ap policy_cause memory)) tt
       | inr other ↦ elim other [
         | inl is_large ↦ subst (λ (x : RunFault). IsPolicyCause x R) (sym (e ∙ ap policy_cause is_large))
-            (λ can. elim (large is_large) [ | inl long ↦ absurd (omega (arith, can.0)) | inr full ↦ absurd (omega (arith, can.1)) ])
+            (λ can. elim (large is_large) [ inl long ↦ absurd (omega (arith, can.0)) | inr full ↦ absurd (omega (arith, can.1)) ])
         | inr is_twice ↦ subst (λ (x : RunFault). IsPolicyCause x R) (sym (e ∙ ap policy_cause is_twice))
             (λ can. true_false (sym (twice is_twice).2 ∙ can.2))
       ]

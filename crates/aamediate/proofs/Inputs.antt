@@ -1,5 +1,5 @@
 -- An input is kept as far as it decides what it is.
-use Rattle.std.proofs.Common.{◌≡◌, ℕ, ◌<◌, ◌≤◌, inl, inr, List, [], ◌∷◌, length, take, Option, Some, None, Result, Ok, Err, refl, ap, sym, subst, ◌∙◌, arith, min}
+use Rattle.std.proofs.Common.{◌≡◌, ℕ, ◌<◌, ◌≤◌, inl, inr, List, length, take, Option, Some, None, Result, Ok, Err, refl, ap, sym, subst, ◌∙◌, arith}
 use Rattle.std.specs.Prelude.{nat_le, false, IfSome, IfErr, OnOk, OnErr, IsErrOf}
 use Rattle.std.specs.Io.KnownBytes.{Appends}
 use Rattle.std.proofs.lemmas.Bool.{cases_lt, lt-leb}
@@ -15,7 +15,7 @@ use Rattle.aamediate.specs.Jobs.{job_of}
 use Rattle.aa_policy.specs.declared.policy.Policy.{Policy}
 use Rattle.aamediate.specs.declared.job.Job.{Job}
 use Rattle.aamediate.specs.Policies.{IsPolicyOf}
-use Rattle.aamediate.specs.Engines.{IsPolicyCause, IsAsked, IsCheckOutput, IsRunOutput, HasNoPolicy, HasUnknownTask, Explains}
+use Rattle.aamediate.specs.Engines.{IsPolicyCause, IsAsked, IsCheckOutput, IsRunOutput, Explains}
 
 -- more bytes than a job may have
 too_long : (input : List ℕ) → 16777216 < length input → job_of input ≡ Err TooLarge

@@ -36,12 +36,12 @@ writing_task_more policy task out middle more before a answers i all lt item fir
     let tail = task_lines policy task a.answer.label rest in
     record {
       goes_on =
-      ap (λ (x : List ℕ). x ++ tail) (second ∙ ap (λ (x : List ℕ). x ++ l) first)
-      ∙ append_assoc (out ++ v) l tail
-      ∙ append_assoc out v (l ++ tail)
-      ∙ ap (λ (x : List ℕ). out ++ x) (sym (task_lines_step policy task before a rest))
-      ∙ ap (λ (x : List Answered). out ++ task_lines policy task before x) (sym here)
-      ∙ so_far.goes_on;
+          ap (λ (x : List ℕ). x ++ tail) (second ∙ ap (λ (x : List ℕ). x ++ l) first)
+          ∙ append_assoc (out ++ v) l tail
+          ∙ append_assoc out v (l ++ tail)
+          ∙ ap (λ (x : List ℕ). out ++ x) (sym (task_lines_step policy task before a rest))
+          ∙ ap (λ (x : List Answered). out ++ task_lines policy task before x) (sym here)
+          ∙ so_far.goes_on;
     }
 
 pub writing_task_end : (policy : Policy) (task : ℕ) (out : List ℕ) (before : Label) (answers : List Answered) (i : ℕ) (all : List ℕ)
@@ -145,11 +145,11 @@ writing_more policy tasks rows n task label row out more in_rows row-is in_tasks
     let whole : more ≡ out ++ text = more-is ∙ ap (λ (x : List ℕ). out ++ x) text-is in
     record {
       goes_on =
-      ap (λ (o : List ℕ). option_map (λ (x : List ℕ). o ++ x) (lines_from policy (n + 1) rest)) whole
-      ∙ written_behind out text (lines_from policy (n + 1) rest)
-      ∙ ap (option_map (λ (x : List ℕ). out ++ x)) (sym (lines_step policy n task rest label named))
-      ∙ ap (λ (ts : List Task). option_map (λ (x : List ℕ). out ++ x) (lines_from policy n ts)) (sym t)
-      ∙ so_far.goes_on;
+          ap (λ (o : List ℕ). option_map (λ (x : List ℕ). o ++ x) (lines_from policy (n + 1) rest)) whole
+          ∙ written_behind out text (lines_from policy (n + 1) rest)
+          ∙ ap (option_map (λ (x : List ℕ). out ++ x)) (sym (lines_step policy n task rest label named))
+          ∙ ap (λ (ts : List Task). option_map (λ (x : List ℕ). out ++ x) (lines_from policy n ts)) (sym t)
+          ∙ so_far.goes_on;
       left = h.behind;
     }
 

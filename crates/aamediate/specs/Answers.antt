@@ -1,5 +1,5 @@
 -- What a job asks for and means: each task's requests before its first exit, answered from its label on.
-use Rattle.std.specs.Prelude.{ℕ, ◌+◌, List, [], ◌∷◌, codes, Option, Some, None, option_map, option_and_then, is_none, position, if◌then◌else◌}
+use Rattle.std.specs.Prelude.{ℕ, ◌+◌, List, [], ◌∷◌, codes, Option, Some, option_map, option_and_then, is_none, position, if◌then◌else◌}
 use Rattle.std.specs.Str.{bytes_eq}
 use Rattle.aa_policy.specs.declared.policy.Policy.{Policy}
 use Rattle.aamediate.specs.declared.label.Label.{Label}

@@ -1,9 +1,7 @@
 -- What the engines write for a job's bytes, and why they don't.
 use Rattle.std.specs.Prelude.{ℕ, ◌≡◌, List, Some, Ok, Err}
-use Rattle.aa_words.specs.declared.fault.PolicyFault.{PolicyFault}
 use Rattle.aa_policy.specs.declared.policy.Policy.{Policy}
 use Rattle.aamediate.specs.declared.job.Job.{Job}
-use Rattle.aamediate.specs.declared.job_fault.JobFault.{JobFault}
 use Rattle.aamediate.specs.declared.fault.RunFault.{RunFault}
 use Rattle.aamediate.specs.declared.fault.RunFault.TheVariants as causes
 use Rattle.aamediate.specs.Answers.{first_unknown}

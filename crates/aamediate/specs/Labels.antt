@@ -1,5 +1,5 @@
 -- Labels and the profiles that they name.
-use Rattle.std.specs.Prelude.{ℕ, ◌<◌, List, [], length, codes, Option, position}
+use Rattle.std.specs.Prelude.{ℕ, List, [], codes, Option, position}
 use Rattle.std.specs.Option.{option_map_or}
 use Rattle.std.specs.List.{slice_get}
 use Rattle.std.specs.Str.{bytes_eq}

@@ -71,7 +71,7 @@ abbrev pub if_true : {A : Type 0} (b : Bool) → (b ≡ true → A) → A → A
 if_true true f other = f refl
 if_true false f other = other
 
--- the job of these parts, which keeps the limits
+-- the job of these parts, which keeps the limits: they are looked at before, so the other case doesn't come up
 unfoldable pub sealed : List ℕ → List Include → List Task → ℕ → ℕ → List Event → Result Job JobFault
 sealed policy includes tasks states capacity events =
     if_true (keeps_limits policy includes tasks states capacity events)

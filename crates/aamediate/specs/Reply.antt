@@ -1,5 +1,5 @@
 -- What a request is answered.
-use Rattle.std.specs.Prelude.{ℕ, List, [], ◌∷◌, Bool, true, false, ◌==◌, if◌then◌else◌, Option, Some, None, bit_and}
+use Rattle.std.specs.Prelude.{ℕ, List, Bool, true, false, ◌==◌, if◌then◌else◌, Option, Some, None, bit_and}
 use Rattle.std.specs.List.{slice_get}
 use Rattle.aa_policy.specs.declared.policy.Policy.{Policy}
 use Rattle.aa_policy.specs.declared.policy.Profile.{Profile}
@@ -18,8 +18,8 @@ use Rattle.aamediate.specs.declared.answer.NoteWord.TheVariants.{Denied, Allowed
 use Rattle.aamediate.specs.Permissions.{minus, granted, deny, loud, audited}
 
 -- a set of permissions by its bits
-abbrev pub set : ℕ → Perms
-set bits = record { 0 = bits }
+abbrev pub perms_of : ℕ → Perms
+perms_of bits = record { 0 = bits }
 
 -- the bits of a request for a file
 abbrev pub file_bits : List FileRule → FileRequest → RequestBits
@@ -28,10 +28,10 @@ file_bits rules r =
     let denied = bit_and missing (deny rules r.path r.owned) in
     record {
       requested = r.mask;
-      missing = set missing;
-      denied = set denied;
-      quiet = set (minus denied (loud rules r.path r.owned));
-      audited = set (bit_and r.mask.0 (audited rules r.path r.owned));
+      missing = perms_of missing;
+      denied = perms_of denied;
+      quiet = perms_of (minus denied (loud rules r.path r.owned));
+      audited = perms_of (bit_and r.mask.0 (audited rules r.path r.owned));
     }
 
 -- the bits for which a request is refused: those not granted, in complain mode those of them that a rule denies
@@ -40,7 +40,7 @@ blocked profile bits = if profile.complain then bits.denied.0 else bits.missing.
 
 -- a note, unless it were about nothing
 abbrev pub note_of : NoteWord → ℕ → Option Note
-note_of word bits = if bits == 0 then None else Some (record { word = word; perms = set bits })
+note_of word bits = if bits == 0 then None else Some (record { word = word; perms = perms_of bits })
 
 -- a refusal reports the blocked bits without the quiet ones, under the profile's audit flag all of them
 abbrev pub refusal_note : Profile → RequestBits → Option Note
@@ -74,11 +74,3 @@ reply_at (Some profile) label request = reply_in profile label request
 unfoldable pub reply : Policy → Label → Request → Answer
 reply policy Unconfined request = stay true Unconfined None
 reply policy (Confined n) request = reply_at (slice_get policy.profiles n) (Confined n) request
-
--- what a task's requests are answered, from the first on, and the label that it then has
-abbrev pub run : Policy → Label → List Request → List Answer × Label
-run policy label [] = ([], label)
-run policy label (r ∷ rs) =
-    let answer = reply policy label r in
-    let rest = run policy answer.label rs in
-    (answer ∷ rest.0, rest.1)

@@ -14,7 +14,9 @@ pub enum Engine {
 }
 
 fn command_line<'a>(alloc: Global) -> Result<Command<'a>, AllocError> {
-    let check = Command::new(alloc, "check").about("Reads the policy of a job and counts its rules");
+    let check = Command::new(alloc, "check").about(
+        "Reads the policy of a job and counts its rules",
+    );
     let run = Command::new(alloc, "run").about("Decides the requests of a job's tasks");
     Command::new(alloc, "aamediate")
         .about("Decides what AppArmor profiles permit: reads a job from standard input")

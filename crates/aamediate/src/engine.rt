@@ -97,7 +97,12 @@ fn run_text_of(alloc: Global, bytes: &[u8], workers: u32) -> Result<String, RunF
         Ok(rows) => rows,
         Err(fault) => return Err(mediate_fault(fault)),
     };
-    Ok(run_output(alloc, asked.job.tasks.as_slice(), &asked.compiled, rows.as_slice())?)
+    Ok(run_output(
+        alloc,
+        asked.job.tasks.as_slice(),
+        &asked.compiled,
+        rows.as_slice(),
+    )?)
 }
 
 /// Reads a job, and writes how many profiles and rules its policy has.

@@ -1,6 +1,6 @@
 //! How large a job may be.
 
-ghost use Rattle.std.specs.Prelude.{◌≡◌, ◌&&◌, length, map, nat_le};
+ghost use Rattle.std.specs.Prelude.{◌≡◌, length, map, nat_le};
 ghost use Rattle.std.specs.List.{list_all};
 ghost use Rattle.aamediate.specs.Limits.{include_sizes, texts_fit, lists_fit, numbers_fit, within_limits};
 ghost use Rattle.aamediate.specs.Meaning.{written_sizes};

@@ -8,6 +8,8 @@ mod engine;
 mod fault;
 mod job;
 mod job_fault;
+#[cfg(test)]
+mod job_tests;
 mod label;
 mod limits;
 mod meaning;
@@ -22,14 +24,17 @@ mod reply;
 mod request;
 mod shape;
 mod stream;
+#[cfg(test)]
+mod tests;
 mod values;
+#[cfg(test)]
+mod verdict_tests;
 
 use command::{Engine, engine_named, status_of};
 use engine::{check_job, run_job};
 use fault::RunFault;
-use std::env;
-use std::io;
 use std::process::ExitCode;
+use std::{env, io};
 
 /// The exit status of a command line whose words can't be had.
 fn unread_status(error: &io::Error) -> u8 {

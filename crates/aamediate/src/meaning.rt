@@ -1,6 +1,6 @@
 //! What stands in a job means these tasks and events, or `BadRequest`.
 
-ghost use Rattle.std.specs.Prelude.{◌≡◌, ◌==◌, length, map, true, IfOk};
+ghost use Rattle.std.specs.Prelude.{◌≡◌, ◌==◌, map, true, IfOk};
 ghost use Rattle.std.specs.List.{list_any, list_all};
 ghost use Rattle.aamediate.specs.Steps.{Gives, each};
 ghost use Rattle.aamediate.specs.Limits.{within_limits};

@@ -102,7 +102,8 @@ fn decide(profile: &Profile, label: Label, bits: &RequestBits) -> Answer
     staying(false, label, note_of_refusal(profile, bits))
 }
 
-fn answer_in(profile: &Profile, label: Label, request: &Request) -> Answer
+/// The answer to a request of a task in a profile, whose label is kept.
+pub fn answer_in(profile: &Profile, label: Label, request: &Request) -> Answer
     ensures { result ≡ reply_in profile.now label request.now }
 {
     match request {

@@ -1,10 +1,8 @@
 //! The shape of a job: what stands in its JSON value, or `BadShape`.
 
-ghost use Rattle.std.specs.Prelude.{◌≡◌, Option, None, Some, ⊤, option_map, is_some, string_bytes, codes, List, ℕ, ◌∷◌, [], map};
-ghost use Rattle.std.specs.List.{list_any, list_all};
-ghost use Rattle.std.specs.Str.{bytes_eq};
+ghost use Rattle.std.specs.Prelude.{◌≡◌, string_bytes, codes, map};
+ghost use Rattle.std.specs.List.{list_all};
 ghost use Rattle.std.specs.BTreeMap.{keys};
-ghost use Rattle.serde_json.specs.Data.{Data};
 ghost use Rattle.serde_json.specs.View.{view, members_view};
 ghost use Rattle.serde_json.specs.Find.{get};
 ghost use Rattle.aamediate.specs.declared.job_fault.JobFault.TheVariants.{BadShape};

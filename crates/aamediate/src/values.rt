@@ -12,7 +12,7 @@ use std::alloc::AllocError;
 fn is_plain(bytes: &[u8]) -> bool
     ensures { result ≡ list_all is_shown bytes.now }
 {
-    bytes.iter().all(|b| 33 <= *b && *b <= 126 && !(*b == b'"'))
+    bytes.iter().all(|b| b'!' <= *b && *b <= b'~' && *b != b'"')
 }
 
 /// The bytes as text, where each is visible in ASCII and no quote.
@@ -77,10 +77,8 @@ fn push_letter(out: &mut String, mask: Perms, perm: Perms, c: char) -> Result<()
     Ok(())
 }
 
-/// Appends the letters of a set of permissions, in the order `rwalkmx`. After an error `out` has a
-/// part of them, and is to be thrown away.
 #[tactic(auto, unfolding(crate::specs::Values::letters))]
-pub fn push_letters(out: &mut String, mask: Perms) -> Result<(), AllocError>
+fn push_letters(out: &mut String, mask: Perms) -> Result<(), AllocError>
     ensures { OnOk result (string_bytes out.new ≡ string_bytes out.old ++ letters mask.0) }
 {
     push_letter(out, mask, Perms::READ, 'r')?;
@@ -92,8 +90,8 @@ pub fn push_letters(out: &mut String, mask: Perms) -> Result<(), AllocError>
     push_letter(out, mask, Perms::EXEC, 'x')
 }
 
-/// Appends the letters of a set of permissions between quotes. After an error `out` has a part of
-/// them, and is to be thrown away.
+/// Appends the letters of a set of permissions between quotes, in the order `rwalkmx`. After an error
+/// `out` has a part of them, and is to be thrown away.
 #[tactic(auto, unfolding(crate::specs::Values::mask))]
 pub fn push_mask(out: &mut String, perms: Perms) -> Result<(), AllocError>
     ensures { OnOk result (string_bytes out.new ≡ string_bytes out.old ++ mask perms.0) }

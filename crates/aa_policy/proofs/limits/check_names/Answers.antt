@@ -1,4 +1,4 @@
-use Rattle.std.proofs.Common.{◌∙◌, ap, sym, List, Bor, rules, refl}
+use Rattle.std.proofs.Common.{inr, ◌∙◌, ap, sym, List, Bor, rules, refl}
 use Rattle.std.specs.Prelude.{ℕ}
 use Rattle.std.specs.List.{list_any}
 use Rattle.std.specs.Str.{bytes_eq}
@@ -12,7 +12,7 @@ loop-profile-init c = record {
 }
 
 pub returns-then-not-added-clause-repeated : goal.returns-then-not-added-clause-repeated
-returns-then-not-added-clause-repeated c = λ _. (
+returns-then-not-added-clause-repeated c = inr (
   refl,
   repeated_at c.args.profiles.now c.loop-profile.profile-index c.profile-item.result c.as_slice.result.now c.loop-profile-test.true c.profile-item.is c.as_slice.ensures
       (sym (c.loop-profile.invariant.known c.as_slice.result.now) ∙ present _ c.in_ok-added.added c.in_ok-added.ensures.added (search rules)) c.loop-profile.invariant.distinct,

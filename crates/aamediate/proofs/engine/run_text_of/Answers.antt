@@ -1,6 +1,5 @@
 use Rattle.std.proofs.Common.{ap, Err}
 use Rattle.aamediate.specs.declared.mediate.MediateFault.{MediateFault}
-use Rattle.aamediate.specs.Engines.{Explains}
 use Rattle.aamediate.proofs.Inputs.{unknown_explained}
 use Rattle.aamediate.proofs.engine.run_text_of.Goals as goal
 

@@ -1,4 +1,4 @@
-use Rattle.std.proofs.Common.{◌≡◌, sym, ◌∙◌, ap, rules, length}
+use Rattle.std.proofs.Common.{◌≡◌, rules, length}
 use Rattle.aamediate.proofs.Answering.{answering_start, answering_more, answering_exit, answering_end}
 use Rattle.aamediate.proofs.mediate.answers_of.Goals as goal
 

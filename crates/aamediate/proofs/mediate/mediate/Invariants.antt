@@ -1,6 +1,4 @@
 use Rattle.std.proofs.Common.{drop, map}
-use Rattle.std.specs.Prelude.{List}
-use Rattle.aamediate.specs.declared.mediate.Answered.{Answered}
 use Rattle.aamediate.proofs.Answering.{Meaning}
 use Rattle.aamediate.proofs.mediate.mediate.Given as goal
 

@@ -1,5 +1,4 @@
-use Rattle.std.proofs.Common.{ap, ◌∙◌}
-use Rattle.aamediate.specs.Output.{passed_over_line, keyword_text}
+use Rattle.aamediate.specs.Output.{passed_over_line}
 use Rattle.aamediate.proofs.Writing.{five}
 use Rattle.aamediate.proofs.output.push_passed_over.Goals as goal
 

@@ -1,4 +1,4 @@
-use Rattle.std.proofs.Common.{◌≡◌, ◌<◌, ◌≤◌, sym, ◌∙◌, ap, arith, length, get_or}
+use Rattle.std.proofs.Common.{◌<◌, ◌≤◌, sym, length}
 use Rattle.std.proofs.lemmas.Bool.{ltb-true, ltb-false}
 use Rattle.aamediate.proofs.Writing.{writing_start, writing_more, writing_end, no_task, no_label, row_at, row_within, rows_end}
 use Rattle.aamediate.proofs.output.run_output.Goals as goal
