@@ -1,14 +1,11 @@
 -- Which words name a top-level profile.
 use Rattle.std.specs.Prelude.{ℕ, List, [], ◌∷◌, Bool, true, false, not, ◌&&◌, ◌||◌, ◌==◌, codes}
 use Rattle.std.specs.Str.{bytes_eq}
+pub use Rattle.aa_words.specs.Runs.{begins_with}
 
 abbrev pub is_empty : List ℕ → Bool
 is_empty [] = true
 is_empty (b ∷ bs) = false
-
-abbrev pub begins_with : ℕ → List ℕ → Bool
-begins_with c [] = false
-begins_with c (b ∷ bs) = b == c
 
 -- the two bytes stand side by side somewhere
 unfoldable pub holds_pair : ℕ → ℕ → List ℕ → Bool

@@ -1,4 +1,4 @@
-//! Modes of file rules (apparmor.d(5), "Access Modes" and "Execute Mode").
+//! Modes of file rules (apparmor.d(5), "Access Modes").
 
 ghost use Rattle.std.specs.Prelude.{◌≡◌, ◌<◌, ◌&&◌, IfSome, option_map};
 ghost use Rattle.aa_policy.specs.Faults.{is_word_fault};
@@ -15,12 +15,12 @@ fn letter(b: u8) -> Option<Perms>
     ensures access { IfSome result (λ p. p.0 < 64) }
 {
     match b {
-        b'r' => Some(Perms(1)),
-        b'w' => Some(Perms(6)),
-        b'a' => Some(Perms(4)),
-        b'l' => Some(Perms(8)),
-        b'k' => Some(Perms(16)),
-        b'm' => Some(Perms(32)),
+        b'r' => Some(Perms::READ),
+        b'w' => Some(Perms::WRITE.union(Perms::APPEND)),
+        b'a' => Some(Perms::APPEND),
+        b'l' => Some(Perms::LINK),
+        b'k' => Some(Perms::LOCK),
+        b'm' => Some(Perms::MMAP),
         _ => None,
     }
 }

@@ -1,4 +1,4 @@
-//! Names of profiles (apparmor.d(5), "Profile Syntax").
+//! Names of profiles (apparmor.d(5), "Profile Head").
 
 ghost use Rattle.std.specs.Prelude.{◌≡◌, ◌==◌, ◌&&◌, true};
 ghost use Rattle.aa_policy.specs.Faults.{is_word_fault};

@@ -15,7 +15,7 @@ use crate::seq::Seq;
 use aa_words::{PolicyFault, PolicyKind, WordList};
 use std::alloc::Global;
 
-/// The policy that the words spell (apparmor.d(5), "Profile Syntax" and "Access Modes").
+/// The policy that the words spell (apparmor.d(5), "Profile Head" and "Access Modes").
 ///
 /// It reads in three passes, and answers the first refusal. The first pass goes word by word:
 /// `Syntax`, `Unsupported`, `UnknownWord`, `BadMode` and `WriteWithAppend`, at the word at which

@@ -5,7 +5,7 @@ use crate::pattern::Pattern;
 use crate::perms::Perms;
 use crate::seq::{Seq, Text};
 
-/// Under which profile a program runs on (apparmor.d(5), "Execute Mode").
+/// Under which profile a program runs on (apparmor.d(5), "Access Modes").
 #[derive(Clone, Copy, Debug, PartialEq, Eq)]
 pub enum ExecKind {
     /// The profile of the task that executes it.

@@ -159,3 +159,25 @@ impl<T: Drop> From<AllocFailed<T>> for PolicyFault {
         PolicyFault::NO_MEMORY
     }
 }
+
+impl From<AllocError> for PolicyKind {
+    ghost use Rattle.std.specs.Prelude.{◌≡◌};
+    ghost use Rattle.aa_words.specs.declared.fault.PolicyKind.TheVariants.{NoMemory};
+
+    ghost from_gives = { λ _ e. e ≡ NoMemory };
+
+    fn from(_e: AllocError) -> PolicyKind {
+        PolicyKind::NoMemory
+    }
+}
+
+impl<T: Drop> From<AllocFailed<T>> for PolicyKind {
+    ghost use Rattle.std.specs.Prelude.{◌≡◌};
+    ghost use Rattle.aa_words.specs.declared.fault.PolicyKind.TheVariants.{NoMemory};
+
+    ghost from_gives = { λ _ e. e ≡ NoMemory };
+
+    fn from(_e: AllocFailed<T>) -> PolicyKind {
+        PolicyKind::NoMemory
+    }
+}

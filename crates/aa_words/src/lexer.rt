@@ -181,8 +181,7 @@ fn fault_of(text: &[u8], place: Place, at: u32) -> PolicyFault
 /// signs are refused as Unsupported for now, so the sources are not read yet (apparmor.d(5), sections Format and
 /// `#include` mechanism). Refused as TooLarge at 0:0 where the text has over 1,048,576 bytes, else with the first fault
 /// in reading order: Syntax at a zero byte, at a quote straight behind a word that is a run, and at an include of
-/// another form; Unsupported at the first byte of whatever else is no word of this language. Takes time linear in the
-/// text.
+/// another form; Unsupported at the first byte of whatever else is no word of this language.
 pub fn words<'s>(
     alloc: Global,
     sources: &'s Sources,

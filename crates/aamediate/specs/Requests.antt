@@ -1,10 +1,7 @@
 -- What a task may ask.
 use Rattle.std.specs.Prelude.{ℕ, List, [], ◌∷◌, length, Bool, false, not, ◌==◌, ◌&&◌, nat_le, bit_and}
 use Rattle.std.specs.List.{list_any}
-
-abbrev pub begins_with : ℕ → List ℕ → Bool
-begins_with c [] = false
-begins_with c (b ∷ bs) = b == c
+pub use Rattle.aa_words.specs.Runs.{begins_with}
 
 -- a path begins with /, holds no zero byte, and has at most 4,095 bytes
 abbrev pub is_path : List ℕ → Bool

@@ -7,7 +7,7 @@ use std::alloc::{AllocError, AllocFailed};
 use thiserror::Error;
 
 /// Why a job can't be read. Of several faults the first counts: too many bytes, then `NotJson`, `BadShape`, the other
-/// limits, `BadRequest`; want of memory may come before any of them.
+/// limits, `BadRequest`; want of memory may come before any of them but the first.
 #[derive(Clone, Copy, Debug, PartialEq, Eq, Error)]
 pub enum JobFault {
     #[error("job 1 NoMemory")]

@@ -6,7 +6,7 @@ ghost use Rattle.aamediate.specs.Permissions.{some_match, applies, minus, allow,
 use aa_policy::{FileRule, Pattern, Perms};
 use bitflags::Flags;
 
-/// The permissions that the applying rules of a profile name (apparmor.d(5), "Qualifiers").
+/// The permissions that the applying rules of a profile name (apparmor.d(5), "Rule Qualifiers").
 #[derive(Clone, Copy, Debug, PartialEq, Eq)]
 pub struct RuleSets {
     /// Those of the rules without `deny`.

@@ -1,0 +1,118 @@
+-- The sets that were found make an automaton.
+use Rattle.std.proofs.Common.{◌≡◌, ℕ, ◌+◌, ◌*◌, ◌<◌, List, [], ◌∷◌, ◌++◌, length, get_or, drop, drop-cons, suc, refl, sym, ap, ◌∙◌, subst, arith, append_assoc}
+use Rattle.std.proofs.lemmas.List.{append-nil, get_or_default}
+use Rattle.std.proofs.lemmas.List.Elements.{All-head, All-tail, All-push}
+use Rattle.aa_glob.specs.declared.item.Pattern.{Pattern}
+use Rattle.aa_auto.specs.Classes.{IsSame}
+use Rattle.aa_auto.specs.Division.{AreClassesOf}
+use Rattle.aa_auto.specs.Spots.{IsSpotsOf}
+use Rattle.aa_auto.specs.Tables.{Table, IsTable, IsText, IsAutomaton, HasClasses, PlacesStay, row_after, place_of, rows_of}
+use Rattle.aa_auto.specs.Explored.{IsExplored, Goes}
+use Rattle.aa_auto.proofs.CellLemmas.{cell_below}
+use Rattle.aa_auto.proofs.LawLemmas.{same_bytes}
+use Rattle.aa_auto.proofs.ExploredLemmas.{same_sets, same_places, spots_same}
+
+row_after-append : (t : Table) (row : ℕ) (s u : List ℕ) → row_after t row (s ++ u) ≡ row_after t (row_after t row s) u
+row_after-append t row [] u = refl
+row_after-append t row (b ∷ s) u = row_after-append t (get_or t.cells (t.width * row + get_or t.classes b 0) 0) s u
+
+module _ (ps : List Pattern) (sets : List (List ℕ)) (of bytes cells : List ℕ) (lists : List (List ℕ)) (classes : AreClassesOf ps of bytes) (all : IsExplored ps sets bytes cells lists) where
+  abbrev made : Table
+  made = record { classes = of; width = length bytes; cells = cells; lists = lists }
+
+  cell : (row b : ℕ) → row < length sets → b < 256 → Goes ps sets row (get_or bytes (get_or of b 0) 0) (get_or cells (length bytes * row + get_or of b 0) 0)
+  cell row b lt few =
+      let class = classes.division.within b few in
+      all.filled row (get_or of b 0) class
+      (subst (λ n. length bytes * row + get_or of b 0 < n) (sym all.whole) (cell_below (length bytes) row (length sets) (get_or of b 0) lt class))
+
+  step : (row b : ℕ) (front : List ℕ) → row < length sets → b < 256 → IsSpotsOf ps (get_or sets row []) front →
+      IsSpotsOf ps (get_or sets (get_or cells (length bytes * row + get_or of b 0) 0) []) (front ++ b ∷ [])
+  step row b front lt few set =
+      let named = classes.division.named (get_or of b 0) (classes.division.within b few) in
+      let same : IsSame ps (get_or bytes (get_or of b 0) 0) b = (classes.same (get_or bytes (get_or of b 0) 0) b named.0 few).0 named.1 in
+      spots_same ps (get_or sets (get_or cells (length bytes * row + get_or of b 0) 0) []) (front ++ get_or bytes (get_or of b 0) 0 ∷ []) (front ++ b ∷ [])
+      ((cell row b lt few).step front set) (same_bytes ps (get_or bytes (get_or of b 0) 0) b same front)
+
+  leads : (s : List ℕ) → IsText s → (row : ℕ) (front : List ℕ) → row < length sets → IsSpotsOf ps (get_or sets row []) front →
+      (row_after made row s < length sets) × IsSpotsOf ps (get_or sets (row_after made row s) []) (front ++ s)
+  leads [] text row front lt set = (lt, subst (IsSpotsOf ps (get_or sets row [])) (sym (append-nil front)) set)
+  leads (b ∷ s) text row front lt set =
+      let few : b < 256 = All-head (λ b. b < 256) b s text in
+      let rest = leads s (All-tail (λ b. b < 256) b s text) (get_or cells (length bytes * row + get_or of b 0) 0) (front ++ b ∷ []) (cell row b lt few).within (step row b front lt few set) in
+      (rest.0, subst (IsSpotsOf ps (get_or sets (row_after made row (b ∷ s)) [])) (append_assoc front (b ∷ []) s) rest.1)
+
+  at : (s : List ℕ) → IsText s → (row_after made 0 s < length sets) × IsSpotsOf ps (get_or sets (row_after made 0 s) []) s
+  at s text = leads s text 0 [] all.reached.some all.reached.start
+
+  appended : (s u : List ℕ) (b : ℕ) → place_of made s ≡ place_of made u → place_of made (s ++ b ∷ []) ≡ place_of made (u ++ b ∷ [])
+  appended s u b e = row_after-append made 0 s (b ∷ []) ∙ ap (λ r. row_after made r (b ∷ [])) e ∙ sym (row_after-append made 0 u (b ∷ []))
+
+  has_classes : HasClasses ps (length bytes)
+  has_classes = record {
+    bytes = bytes;
+    many = refl;
+    within = λ c lt. (classes.division.named c lt).0;
+    apart = λ c d lc ld same.
+        let p = classes.division.named c lc in
+        let q = classes.division.named d ld in
+        sym p.1 ∙ (classes.same (get_or bytes c 0) (get_or bytes d 0) p.0 q.0).1 same ∙ q.1;
+    each = λ b few.
+        let lt = classes.division.within b few in
+        let p = classes.division.named (get_or of b 0) lt in
+        (get_or of b 0, lt, (classes.same b (get_or bytes (get_or of b 0) 0) few p.0).0 (sym p.1));
+  }
+
+  pub automaton : IsAutomaton ps (record { classes = of; width = length bytes; cells = cells; lists = lists })
+  automaton = record {
+    matching = λ s text. all.listed.exact (row_after made 0 s) s (at s text).0 (at s text).1;
+    places = λ s u st ut. (
+      λ e. same_places ps (get_or sets (row_after made 0 s) []) s u (at s st).1 (subst (λ k. IsSpotsOf ps (get_or sets k []) u) (sym e) (at u ut).1),
+      λ same. all.reached.apart (row_after made 0 s) (row_after made 0 u) (at s st).0 (at u ut).0 (same_sets ps (get_or sets (row_after made 0 s) []) (get_or sets (row_after made 0 u) []) s u (at s st).1 (at u ut).1 same),
+    );
+    reached = λ row lt.
+        let w = all.reached.reached row (omega (arith, all.listed.many)) in (
+          w.0,
+          w.1,
+          all.reached.apart (row_after made 0 w.0) row (at w.0 w.1).0 (omega (arith, all.listed.many))
+              (same_sets ps (get_or sets (row_after made 0 w.0) []) (get_or sets row []) w.0 w.0 (at w.0 w.1).1 w.2 (λ n q. (λ p. p, λ p. p))),
+        );
+    within = λ s text. omega (arith, (at s text).0, all.listed.many);
+    appended = λ s u b st ut few e. appended s u b e;
+    classes = has_classes;
+  }
+
+  -- what a run of the automaton needs
+  pub table : IsTable (record { classes = of; width = length bytes; cells = cells; lists = lists })
+  table = record {
+    some = omega (arith, all.reached.some, all.listed.many);
+    wide = omega (arith, classes.division.within 0 (omega arith));
+    few = classes.division.few;
+    bytes = classes.division.many;
+    classed = classes.division.within;
+    whole = all.whole ∙ ap (λ n. length bytes * n) (sym all.listed.many);
+    within = λ row class lt few.
+        let lt' : row < length sets = omega (arith, lt, all.listed.many) in
+        omega (arith, (all.filled row class few (subst (λ n. length bytes * row + class < n) (sym all.whole) (cell_below (length bytes) row (length sets) class lt' few))).within, all.listed.many);
+  }
+
+pub places_stay : (ps : List Pattern) (t : Table) → IsAutomaton ps t → PlacesStay ps
+places_stay ps t auto s u b st ut few same =
+    (auto.places (s ++ b ∷ []) (u ++ b ∷ []) (All-push (λ c. c < 256) s b st few) (All-push (λ c. c < 256) u b ut few)).0
+    (auto.appended s u b st ut few ((auto.places s u st ut).1 same))
+
+-- one more byte of the text
+pub row_on : (t : Table) (text : List ℕ) (k row class next : ℕ) → IsTable t → k < length text → get_or text k 0 < 256 → row < rows_of t →
+    class ≡ get_or t.classes (get_or text k 0) class → next ≡ get_or t.cells (t.width * row + class) next → row_after t row (drop k text) ≡ row_after t 0 text →
+    (row_after t next (drop (k + 1) text) ≡ row_after t 0 text) × (next < rows_of t)
+row_on t text k row class next is lt few within of_byte of_cell before =
+    let byte = get_or text k 0 in
+    let class_is : class ≡ get_or t.classes byte 0 = of_byte ∙ get_or_default t.classes byte class 0 (omega (arith, is.bytes, few)) in
+    let small : class < t.width = subst (λ n. n < t.width) (sym class_is) (is.classed byte few) in
+    let inside : t.width * row + class < length t.cells = subst (λ n. t.width * row + class < n) (sym is.whole) (cell_below t.width row (rows_of t) class within small) in
+    let next_is : next ≡ get_or t.cells (t.width * row + class) 0 = of_cell ∙ get_or_default t.cells (t.width * row + class) next 0 inside in
+    let e : suc k ≡ k + 1 = omega arith in
+    let cut : drop k text ≡ byte ∷ drop (k + 1) text = drop-cons text k 0 lt ∙ ap (λ n. byte ∷ drop n text) e in
+    let step : row_after t next (drop (k + 1) text) ≡ row_after t row (drop k text) =
+    ap (λ n. row_after t n (drop (k + 1) text)) (next_is ∙ ap (λ c. get_or t.cells (t.width * row + c) 0) class_is) ∙ sym (ap (row_after t row) cut) in
+    (step ∙ before, subst (λ n. n < rows_of t) (sym next_is) (is.within row class within small))

@@ -1,0 +1,161 @@
+-- Bytes that are divided into classes, one more byte or item at a time.
+use Rattle.std.proofs.Common.{◌≡◌, ◌≢◌, ℕ, ◌+◌, ◌<◌, ◌≤◌, ◌↔◌, Bool, true, false, cond, Result, Ok, Err, IfOk, List, [], ◌∷◌, ◌++◌, length, get_or, take, IsTrue, refl, sym, ap, ◌∙◌, subst, ⊎_elim, arith, true≢false}
+use Rattle.std.proofs.lemmas.List.{get_or_append_left, get_or_push, length_push, take_more}
+use Rattle.std.proofs.lemmas.Bool.{cases_lt}
+use Rattle.aa_glob.specs.declared.item.Item.{Item}
+use Rattle.aa_auto.specs.declared.nodes.Node.{Node}
+use Rattle.aa_auto.specs.Division.{GivesClass, Divides, IsDivision, IsSameItem, IsKey, AreKeys, Refines, RefinesBy, AreClasses}
+use Rattle.aa_auto.proofs.SameLemmas.{AreSameNodes-append}
+
+module _ (keys : List ℕ) (n : ℕ) (of bytes : List ℕ) (class : ℕ) (all : Divides keys n of bytes) where
+  o_old : (a : ℕ) → a < n → get_or (of ++ class ∷ []) a 0 ≡ get_or of a 0
+  o_old a lt = get_or_append_left of (class ∷ []) 0 a (omega (arith, all.many))
+
+  o_new : (a : ℕ) → a ≡ n → get_or (of ++ class ∷ []) a 0 ≡ class
+  o_new a e = get_or_push of class 0 a (all.many ∙ sym e)
+
+  divides_same : class < length bytes → get_or keys (get_or bytes class 0) 0 ≡ get_or keys n 0 → Divides keys (n + 1) (of ++ class ∷ []) bytes
+  divides_same lt same = record {
+    many = omega (arith, length_push of class, all.many);
+    few = omega (arith, all.few);
+    classed = λ a l. ⊎_elim
+        (λ (o : a < n). subst (λ z. (z < length bytes) × (get_or keys (get_or bytes z 0) 0 ≡ get_or keys a 0)) (sym (o_old a o)) (all.classed a o))
+        (λ (g : n ≤ a). let e : a ≡ n = omega arith in
+        subst (λ z. (z < length bytes) × (get_or keys (get_or bytes z 0) 0 ≡ get_or keys a 0)) (sym (o_new a e)) (lt, same ∙ ap (λ z. get_or keys z 0) (sym e)))
+        (cases_lt a n);
+    named = λ c l. let q = all.named c l in (omega (arith, q.0), o_old (get_or bytes c 0) q.0 ∙ q.1);
+    apart = all.apart;
+  }
+
+  divides_new : class ≡ length bytes → ((k : ℕ) → k < length bytes → get_or keys (get_or bytes k 0) 0 ≢ get_or keys n 0) → Divides keys (n + 1) (of ++ class ∷ []) (bytes ++ n ∷ [])
+  divides_new is none = record {
+    many = omega (arith, length_push of class, all.many);
+    few = omega (arith, all.few, long);
+    classed = λ a l. ⊎_elim
+        (λ (o : a < n). let q = all.classed a o in
+        subst (λ z. (z < length (bytes ++ n ∷ [])) × (get_or keys (get_or (bytes ++ n ∷ []) z 0) 0 ≡ get_or keys a 0)) (sym (o_old a o))
+        (omega (arith, q.0, long), ap (λ z. get_or keys z 0) (b_old (get_or of a 0) q.0) ∙ q.1))
+        (λ (g : n ≤ a). let e : a ≡ n = omega arith in
+        subst (λ z. (z < length (bytes ++ n ∷ [])) × (get_or keys (get_or (bytes ++ n ∷ []) z 0) 0 ≡ get_or keys a 0)) (sym (o_new a e))
+        (omega (arith, is, long), ap (λ z. get_or keys z 0) (b_new class is ∙ sym e)))
+        (cases_lt a n);
+    named = λ c l. ⊎_elim
+        (λ (o : c < length bytes). let q = all.named c o in
+        subst (λ z. (z < n + 1) × (get_or (of ++ class ∷ []) z 0 ≡ c)) (sym (b_old c o)) (omega (arith, q.0), o_old (get_or bytes c 0) q.0 ∙ q.1))
+        (λ (g : length bytes ≤ c). let e : c ≡ length bytes = omega (arith, l, long) in
+        subst (λ z. (z < n + 1) × (get_or (of ++ class ∷ []) z 0 ≡ c)) (sym (b_new c e)) (omega arith, o_new n refl ∙ is ∙ sym e))
+        (cases_lt c (length bytes));
+    apart = apart;
+  }
+    where
+      long : length (bytes ++ n ∷ []) ≡ length bytes + 1
+      long = length_push bytes n
+
+      b_old : (c : ℕ) → c < length bytes → get_or (bytes ++ n ∷ []) c 0 ≡ get_or bytes c 0
+      b_old c lt = get_or_append_left bytes (n ∷ []) 0 c lt
+
+      b_new : (c : ℕ) → c ≡ length bytes → get_or (bytes ++ n ∷ []) c 0 ≡ n
+      b_new c e = get_or_push bytes n 0 c (sym e)
+
+      apart : (c d : ℕ) → c < length (bytes ++ n ∷ []) → d < length (bytes ++ n ∷ []) → get_or keys (get_or (bytes ++ n ∷ []) c 0) 0 ≡ get_or keys (get_or (bytes ++ n ∷ []) d 0) 0 → c ≡ d
+      apart c d lc ld e =
+          ⊎_elim
+          (λ (oc : c < length bytes). ⊎_elim
+          (λ (od : d < length bytes). all.apart c d oc od (ap (λ z. get_or keys z 0) (sym (b_old c oc)) ∙ e ∙ ap (λ z. get_or keys z 0) (b_old d od)))
+          (λ (gd : length bytes ≤ d). let q : d ≡ length bytes = omega (arith, ld, long) in
+          absurd (none c oc (ap (λ z. get_or keys z 0) (sym (b_old c oc)) ∙ e ∙ ap (λ z. get_or keys z 0) (b_new d q))))
+          (cases_lt d (length bytes)))
+          (λ (gc : length bytes ≤ c). let p : c ≡ length bytes = omega (arith, lc, long) in ⊎_elim
+          (λ (od : d < length bytes). absurd (none d od (ap (λ z. get_or keys z 0) (sym (b_old d od)) ∙ sym e ∙ ap (λ z. get_or keys z 0) (b_new c p))))
+          (λ (gd : length bytes ≤ d). omega (arith, lc, ld, long, gc, gd))
+          (cases_lt d (length bytes)))
+          (cases_lt c (length bytes))
+
+  pub divides_more : (new : List ℕ) → GivesClass keys bytes new n class → Divides keys (n + 1) (of ++ class ∷ []) new
+  divides_more new gives = ⊎_elim
+      (λ (p : (new ≡ bytes) × (class < length bytes) × (get_or keys (get_or bytes class 0) 0 ≡ get_or keys n 0)).
+      subst (λ z. Divides keys (n + 1) (of ++ class ∷ []) z) (sym p.0) (divides_same p.1 p.2))
+      (λ (p : (new ≡ bytes ++ n ∷ []) × (class ≡ length bytes) × ((k : ℕ) → k < length bytes → get_or keys (get_or bytes k 0) 0 ≢ get_or keys n 0)).
+      subst (λ z. Divides keys (n + 1) (of ++ class ∷ []) z) (sym p.0) (divides_new p.1 p.2))
+      gives
+
+pub division : (keys of bytes : List ℕ) → Divides keys 256 of bytes → IsDivision of bytes
+division keys of bytes all = record { many = all.many; few = all.few; within = λ a lt. (all.classed a lt).0; named = all.named }
+
+divided : (keys of bytes : List ℕ) → Divides keys 256 of bytes → (a b : ℕ) → a < 256 → b < 256 → (get_or of a 0 ≡ get_or of b 0) ↔ (get_or keys a 0 ≡ get_or keys b 0)
+divided keys of bytes all a b la lb = (
+  λ e. sym (all.classed a la).1 ∙ ap (λ z. get_or keys (get_or bytes z 0) 0) e ∙ (all.classed b lb).1,
+  λ e. all.apart (get_or of a 0) (get_or of b 0) (all.classed a la).0 (all.classed b lb).0 ((all.classed a la).1 ∙ e ∙ sym (all.classed b lb).1),
+)
+
+abbrev digit : Bool → ℕ
+digit x = cond x 1 0
+
+digit_small : (x : Bool) → digit x ≤ 1
+digit_small true = omega arith
+digit_small false = omega arith
+
+digit_same : (x y : Bool) → digit x ≡ digit y → x ≡ y
+digit_same true true e = refl
+digit_same false false e = refl
+digit_same true false e = absurd (omega arith)
+digit_same false true e = absurd (omega arith)
+
+same_flag : (a b : Bool) {P Q : Type 0} → (IsTrue a ↔ P) → (IsTrue b ↔ Q) → (P ↔ Q) → a ≡ b
+same_flag true true f g same = refl
+same_flag false false f g same = refl
+same_flag true false f g same = absurd (true≢false (sym (g.1 (same.0 (f.0 refl)))))
+same_flag false true f g same = absurd (true≢false (sym (f.1 (same.1 (g.0 refl)))))
+
+iff_by : (a b : Bool) {P Q : Type 0} → (IsTrue a ↔ P) → (IsTrue b ↔ Q) → a ≡ b → P ↔ Q
+iff_by a b f g e = (λ p. g.0 (subst IsTrue e (f.1 p)), λ q. f.0 (subst IsTrue (sym e) (g.1 q)))
+
+keys_same : (of : List ℕ) (item : Item) (a b k l : ℕ) → IsKey of item a k → IsKey of item b l → (k ≡ l) ↔ ((get_or of a 0 ≡ get_or of b 0) × IsSameItem item a b)
+keys_same of item a b k l p q = (
+  λ e. (
+    omega (arith, e, p.4, q.4, digit_small p.0, digit_small p.1, digit_small q.0, digit_small q.1),
+    (
+      iff_by p.0 q.0 p.2 q.2 (digit_same p.0 q.0 (omega (arith, e, p.4, q.4, digit_small p.0, digit_small p.1, digit_small q.0, digit_small q.1))),
+      iff_by p.1 q.1 p.3 q.3 (digit_same p.1 q.1 (omega (arith, e, p.4, q.4, digit_small p.0, digit_small p.1, digit_small q.0, digit_small q.1))),
+    ),
+  ),
+  λ s. omega (arith, p.4, q.4, s.0, ap digit (same_flag p.0 q.0 p.2 q.2 s.1.0), ap digit (same_flag p.1 q.1 p.3 q.3 s.1.1)),
+)
+
+pub keys_more : (of : List ℕ) (item : Item) (keys : List ℕ) (n k : ℕ) → AreKeys of item keys n → IsKey of item n k → AreKeys of item (keys ++ k ∷ []) (n + 1)
+keys_more of item keys n k all key = record {
+  many = omega (arith, length_push keys k, all.many);
+  keyed = λ b lt. ⊎_elim
+      (λ (l : b < n). subst (λ z. IsKey of item b z) (sym (get_or_append_left keys (k ∷ []) 0 b (omega (arith, all.many)))) (all.keyed b l))
+      (λ (g : n ≤ b). let e : n ≡ b = omega arith in
+      subst (λ z. IsKey of item b z) (sym (get_or_push keys k 0 b (all.many ∙ e))) (subst (λ z. IsKey of item z k) e key))
+      (cases_lt b n);
+}
+
+refines_at : (old : List ℕ) (item : Item) (keys of bytes : List ℕ) → AreKeys old item keys 256 → Divides keys 256 of bytes → Refines old of bytes item
+refines_at old item keys of bytes keyed all = record {
+  division = division keys of bytes all;
+  same = λ a b la lb.
+      let d = divided keys of bytes all a b la lb in
+      let k = keys_same old item a b (get_or keys a 0) (get_or keys b 0) (keyed.keyed a la) (keyed.keyed b lb) in
+      (λ e. k.0 (d.0 e), λ s. d.1 (k.1 s));
+}
+
+pub refines : (old : List ℕ) (item : Item) (keys slice of bytes : List ℕ) → slice ≡ keys → AreKeys old item keys 256 → Divides slice 256 of bytes → Refines old of bytes item
+refines old item keys slice of bytes same keyed all = refines_at old item keys of bytes keyed (subst (λ z. Divides z 256 of bytes) same all)
+
+pub classes_more : (nodes : List Node) (k : ℕ) (node : Node) (old olds of bytes : List ℕ) → k < length nodes → node ≡ get_or nodes k node → AreClasses (take k nodes) old olds → RefinesBy old of bytes node →
+    AreClasses (take (k + 1) nodes) of bytes
+classes_more nodes k node old olds of bytes lt is front one =
+    subst (λ z. AreClasses z of bytes) (sym (take_more nodes k node lt ∙ ap (λ z. take k nodes ++ z ∷ []) (sym is))) (record {
+      division = one.division;
+      same = λ a b la lb.
+          let q = AreSameNodes-append a b (take k nodes) (node ∷ []) in
+          let o = one.same a b la lb in
+          let f = front.same a b la lb in
+          (λ e. let s = o.0 e in q.1 (f.0 s.0, (s.1, tt)), λ s. let u = q.0 s in o.1 (f.1 u.0, u.1.0));
+    })
+
+pub if_ok : {T E : Type 0} (r : Result T E) {P Q : T → Type 0} → ((x : T) → P x → Q x) → IfOk r P → IfOk r Q
+if_ok (Ok x) f p = f x p
+if_ok (Err e) f p = tt

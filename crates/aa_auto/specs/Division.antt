@@ -1,0 +1,63 @@
+-- Bytes that are divided into classes.
+use Rattle.std.specs.Prelude.{◌≡◌, ◌≢◌, ◌↔◌, ◌⊎◌, ℕ, ◌+◌, ◌*◌, ◌<◌, ◌≤◌, Bool, IsTrue, if◌then◌else◌, List, [], ◌∷◌, ◌++◌, length, slice_index}
+use Rattle.aa_glob.specs.declared.item.Item.{Item}
+use Rattle.aa_glob.specs.declared.item.Pattern.{Pattern}
+use Rattle.aa_auto.specs.declared.nodes.Node.{Node}
+use Rattle.aa_auto.specs.Steps.{Begins, Continues}
+use Rattle.aa_auto.specs.Classes.{IsSame}
+use Rattle.aa_auto.specs.Nodes.{IsSameNode, AreSameNodes}
+
+-- the class is that of an earlier byte with the same key, or a new one
+abbrev pub GivesClass : List ℕ → List ℕ → List ℕ → ℕ → ℕ → Type 0
+GivesClass keys old new byte class =
+    ((new ≡ old) × (class < length old) × (slice_index keys (slice_index old class) ≡ slice_index keys byte))
+    ⊎ ((new ≡ old ++ byte ∷ []) × (class ≡ length old) × ((k : ℕ) → k < length old → slice_index keys (slice_index old k) ≢ slice_index keys byte))
+
+-- of the first n bytes, those with one key are of one class; `bytes` has a byte of each class
+pub record Divides (keys : List ℕ) (n : ℕ) (of bytes : List ℕ) : Type 0 where
+  pub many : length of ≡ n
+  pub few : length bytes ≤ n
+  pub classed : (a : ℕ) → a < n → (slice_index of a < length bytes) × (slice_index keys (slice_index bytes (slice_index of a)) ≡ slice_index keys a)
+  pub named : (c : ℕ) → c < length bytes → (slice_index bytes c < n) × (slice_index of (slice_index bytes c) ≡ c)
+  pub apart : (c d : ℕ) → c < length bytes → d < length bytes → slice_index keys (slice_index bytes c) ≡ slice_index keys (slice_index bytes d) → c ≡ d
+
+-- each byte is of a class, and each class has its byte
+pub record IsDivision (of bytes : List ℕ) : Type 0 where
+  pub many : length of ≡ 256
+  pub few : length bytes ≤ 256
+  pub within : (a : ℕ) → a < 256 → slice_index of a < length bytes
+  pub named : (c : ℕ) → c < length bytes → (slice_index bytes c < 256) × (slice_index of (slice_index bytes c) ≡ c)
+
+abbrev pub IsSameItem : Item → ℕ → ℕ → Type 0
+IsSameItem item a b = (Begins item a ↔ Begins item b) × (Continues item a ↔ Continues item b)
+
+-- equal keys are of bytes of one class that the item doesn't tell apart
+abbrev pub IsKey : List ℕ → Item → ℕ → ℕ → Type 0
+IsKey of item byte key =
+    (x : Bool) × (y : Bool) × (IsTrue x ↔ Begins item byte) × (IsTrue y ↔ Continues item byte)
+    × (key ≡ 4 * slice_index of byte + 2 * (if x then 1 else 0) + (if y then 1 else 0))
+
+-- of the first n bytes
+pub record AreKeys (of : List ℕ) (item : Item) (keys : List ℕ) (n : ℕ) : Type 0 where
+  pub many : length keys ≡ n
+  pub keyed : (b : ℕ) → b < n → IsKey of item b (slice_index keys b)
+
+-- two bytes are of one class where they were before and the item doesn't tell them apart
+pub record Refines (old of bytes : List ℕ) (item : Item) : Type 0 where
+  pub division : IsDivision of bytes
+  pub same : (a b : ℕ) → a < 256 → b < 256 → (slice_index of a ≡ slice_index of b) ↔ ((slice_index old a ≡ slice_index old b) × IsSameItem item a b)
+
+-- the same of the item before a position
+pub record RefinesBy (old of bytes : List ℕ) (node : Node) : Type 0 where
+  pub division : IsDivision of bytes
+  pub same : (a b : ℕ) → a < 256 → b < 256 → (slice_index of a ≡ slice_index of b) ↔ ((slice_index old a ≡ slice_index old b) × IsSameNode node a b)
+
+-- two bytes are of one class where no item before a position tells them apart
+pub record AreClasses (nodes : List Node) (of bytes : List ℕ) : Type 0 where
+  pub division : IsDivision of bytes
+  pub same : (a b : ℕ) → a < 256 → b < 256 → (slice_index of a ≡ slice_index of b) ↔ AreSameNodes nodes a b
+
+-- two bytes are of one class where no item of the patterns tells them apart
+pub record AreClassesOf (ps : List Pattern) (of bytes : List ℕ) : Type 0 where
+  pub division : IsDivision of bytes
+  pub same : (a b : ℕ) → a < 256 → b < 256 → (slice_index of a ≡ slice_index of b) ↔ IsSame ps a b

@@ -1,0 +1,14 @@
+pub mod Apart
+pub mod Classes
+pub mod Closed
+pub mod Division
+pub mod Explored
+pub mod Finals
+pub mod Found
+pub mod Heads
+pub mod Nets
+pub mod Nodes
+pub mod Sorted
+pub mod Spots
+pub mod Steps
+pub mod Tables

@@ -1,0 +1,106 @@
+ghost use Rattle.std.specs.Prelude.{◌≡◌, ◌+◌, ◌<◌, ◌≤◌, IfOk, Err, length};
+ghost use Rattle.aa_auto.specs.Tables.{IsAutomaton, PlacesStay, BytesLeadAlike, HasPlaces, rows_of, classes_of, place_of, list_at};
+
+use crate::build::{BuildFault, Found, explore};
+use crate::classes::Classes;
+use crate::net::net_of;
+use aa_glob::Pattern;
+use std::alloc::Global;
+use std::marker::Model;
+
+/// A deterministic automaton that says which patterns match a text.
+#[derive(Drop)]
+pub struct Automaton {
+    /// The class of each byte.
+    classes: Vec<u8>,
+    /// How many classes there are.
+    width: usize,
+    /// The row after a byte of each class, row by row.
+    cells: Vec<u32>,
+    /// The patterns that match where a text leads to the row.
+    lists: Vec<Vec<u16>>,
+}
+
+impl Model for Automaton {
+    ghost use Rattle.std.specs.Prelude.{map};
+    ghost use Rattle.aa_auto.specs.Tables.{Table, IsTable};
+
+    ghost Value = { Table };
+
+    ghost view = { λ a. record { classes = a.classes.items; width = a.width; cells = a.cells.items; lists = map (λ v. v.items) a.lists.items } };
+
+    ghost invariant = { λ a. IsTable (record { classes = a.classes.items; width = a.width; cells = a.cells.items; lists = map (λ v. v.items) a.lists.items }) };
+}
+
+impl Automaton {
+    /// The automaton of the patterns, by subset construction, with at most `limit` rows. The errors are `TooManyStates`
+    /// where the patterns need more rows, and `NoMemory`.
+    pub fn build(alloc: Global, patterns: &[Pattern], limit: usize) -> Result<Automaton, BuildFault>
+        requires patterns { length patterns.now ≤ 65535 }
+        requires some { 0 < limit }
+        requires limit { limit ≤ 1000000 }
+        ensures automaton { IfOk result (IsAutomaton patterns.now) }
+        ensures within { IfOk result (λ a. rows_of a ≤ limit) }
+        ensures too_many { result ≡ Err BuildFault.TooManyStates → HasPlaces patterns.now (limit + 1) }
+
+        // Laws of the patterns.
+        ensures places_stay { IfOk result (λ a. PlacesStay patterns.now) }
+        ensures bytes_lead_alike { BytesLeadAlike patterns.now }
+    {
+        let net = net_of(alloc, patterns)?;
+        let classes = net.classes(alloc)?;
+        let (found, cells) = explore(alloc, &net, classes.bytes.as_slice(), limit)?;
+        let Found { lists, .. } = found;
+        let Classes { of, bytes } = classes;
+        Ok(Automaton {
+            classes: of,
+            width: bytes.len(),
+            cells,
+            lists,
+        })
+    }
+
+    /// The numbers of the patterns that match, rising.
+    pub fn matching(&self, text: &[u8]) -> &[u16]
+        ensures { result.now ≡ list_at self.now (place_of self.now text.now) }
+    {
+        self.at_row(self.place(text))
+    }
+
+    /// The row of the text.
+    pub fn place(&self, text: &[u8]) -> usize
+        ensures place { result ≡ place_of self.now text.now }
+        ensures within { result < rows_of self.now }
+    {
+        let mut row = 0;
+        for byte in text {
+            let class = self.classes[*byte as usize] as usize;
+            row = self.cells[self.width * row + class] as usize;
+        }
+        row
+    }
+
+    /// What `matching` gives for the texts of the row.
+    pub fn at_row(&self, row: usize) -> &[u16]
+        requires { row < rows_of self.now }
+        ensures { result.now ≡ list_at self.now row }
+    {
+        self.lists[row].as_slice()
+    }
+
+    /// How many rows there are: one for each set of places that a text has, also for the empty one.
+    pub fn rows(&self) -> usize
+        ensures { result ≡ rows_of self.now }
+    {
+        self.lists.len()
+    }
+
+    /// How many classes of bytes the patterns tell apart.
+    pub fn classes(&self) -> usize
+        ensures count { result ≡ classes_of self.now }
+        ensures some { 0 < result }
+        ensures few { result ≤ 256 }
+    {
+        self.width
+    }
+}

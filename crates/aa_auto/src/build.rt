@@ -1,0 +1,169 @@
+ghost use Rattle.std.specs.Prelude.{◌≡◌, ◌+◌, ◌*◌, ◌<◌, ◌≤◌, ◌++◌, ℕ, Contains, IfOk, IfErr, OnOk, Err, length, slice_get, Some};
+ghost use Rattle.aa_auto.specs.Apart.{IsApart};
+ghost use Rattle.aa_auto.specs.Explored.{AreReached, AreFilled, AreListed, Goes, Extends, IsExplored, TakesSet};
+ghost use Rattle.aa_auto.specs.Found.{numbers_of};
+ghost use Rattle.aa_auto.specs.Nets.{IsNetOf};
+ghost use Rattle.aa_auto.specs.Tables.{HasPlaces};
+
+use crate::net::Net;
+use crate::sets::Sets;
+use std::alloc::{AllocError, AllocFailed, Global};
+use thiserror::Error;
+
+/// Why there is no automaton.
+#[derive(Clone, Copy, Debug, PartialEq, Eq, Drop, Error)]
+pub enum BuildFault {
+    /// Memory was refused.
+    #[error("no memory")]
+    NoMemory,
+    /// The patterns need more rows than the limit.
+    #[error("too many states")]
+    TooManyStates,
+}
+
+impl From<AllocError> for BuildFault {
+    ghost use Rattle.std.specs.Prelude.{◌≡◌};
+    ghost use Rattle.aa_auto.specs.declared.build.BuildFault.TheVariants.{NoMemory};
+
+    ghost from_gives = { λ _ e. e ≡ NoMemory };
+
+    fn from(_: AllocError) -> Self {
+        BuildFault::NoMemory
+    }
+}
+
+impl<T: Drop> From<AllocFailed<T>> for BuildFault {
+    ghost use Rattle.std.specs.Prelude.{◌≡◌};
+    ghost use Rattle.aa_auto.specs.declared.build.BuildFault.TheVariants.{NoMemory};
+
+    ghost from_gives = { λ _ e. e ≡ NoMemory };
+
+    fn from(_: AllocFailed<T>) -> Self {
+        BuildFault::NoMemory
+    }
+}
+
+/// The sets of positions that were found, with the patterns that match where a text stands at them.
+#[derive(Drop)]
+pub(crate) struct Found {
+    pub(crate) sets: Sets,
+    pub(crate) lists: Vec<Vec<u16>>,
+}
+
+impl Found {
+    /// Takes a set. The answer is its number.
+    fn add(&mut self, alloc: Global, net: &Net, set: Vec<u32>) -> Result<usize, BuildFault>
+        requires net { IsNetOf net.now }
+        requires set { (n : ℕ) → Contains set.items n → n < length net.now.nodes.items }
+        ensures found { IfOk result (λ next. slice_get self.new.sets next ≡ Some set.items) }
+        ensures grows { OnOk result (TakesSet net.now.patterns.now set.items self.old.sets self.new.sets (numbers_of self.old) (numbers_of self.new)) }
+        ensures apart { OnOk result (IsApart self.new.sets) }
+        ensures err { IfErr result (λ e. e ≡ BuildFault.NoMemory) }
+    {
+        let (next, is_new) = self.sets.add(set)?;
+        if !is_new {
+            return Ok(next);
+        }
+        let Some(added) = self.sets.get(next) else {
+            unreachable!()
+        };
+        let numbers = net.numbers(alloc, added)?;
+        self.lists.push(numbers)?;
+        Ok(next)
+    }
+}
+
+/// The number of the set that the byte leads to, which is added where it isn't there.
+fn next_row(
+    alloc: Global,
+    net: &Net,
+    limit: usize,
+    row: usize,
+    byte: u8,
+    found: &mut Found,
+) -> Result<usize, BuildFault>
+    requires net { IsNetOf net.now }
+    requires reached { AreReached net.now.patterns.now found.old.sets }
+    requires listed { AreListed net.now.patterns.now found.old.sets (numbers_of found.old) }
+    requires row { row < length found.old.sets }
+    requires few { length found.old.sets ≤ limit }
+    ensures reached { OnOk result (AreReached net.now.patterns.now found.new.sets) }
+    ensures listed { OnOk result (AreListed net.now.patterns.now found.new.sets (numbers_of found.new)) }
+    ensures goes { IfOk result (λ next. Goes net.now.patterns.now found.new.sets row byte next) }
+    ensures extends { OnOk result (Extends found.old.sets found.new.sets) }
+    ensures few { OnOk result (length found.new.sets ≤ limit) }
+    ensures too_many { result ≡ Err BuildFault.TooManyStates → HasPlaces net.now.patterns.now (limit + 1) }
+{
+    let Some(old) = found.sets.get(row) else {
+        unreachable!()
+    };
+    let new = net.next(alloc, byte, old)?;
+    let next = found.add(alloc, net, new)?;
+    if found.sets.len() > limit {
+        return Err(BuildFault::TooManyStates);
+    }
+    Ok(next)
+}
+
+/// Adds the cells of a row, one for each class of bytes.
+fn fill_row(
+    alloc: Global,
+    net: &Net,
+    bytes: &[u8],
+    limit: usize,
+    row: usize,
+    found: &mut Found,
+    cells: &mut Vec<u32>,
+) -> Result<(), BuildFault>
+    requires net { IsNetOf net.now }
+    requires reached { AreReached net.now.patterns.now found.old.sets }
+    requires listed { AreListed net.now.patterns.now found.old.sets (numbers_of found.old) }
+    requires row { row < length found.old.sets }
+    requires few { length found.old.sets ≤ limit }
+    requires limit { limit ≤ 1000000 }
+    requires filled { AreFilled net.now.patterns.now found.old.sets bytes.now cells.old.items }
+    requires cells { length cells.old.items ≡ length bytes.now * row }
+    ensures reached { OnOk result (AreReached net.now.patterns.now found.new.sets) }
+    ensures listed { OnOk result (AreListed net.now.patterns.now found.new.sets (numbers_of found.new)) }
+    ensures filled { OnOk result (AreFilled net.now.patterns.now found.new.sets bytes.now cells.new.items) }
+    ensures cells { OnOk result (length cells.new.items ≡ length bytes.now * (row + 1)) }
+    ensures row { OnOk result (row < length found.new.sets) }
+    ensures few { OnOk result (length found.new.sets ≤ limit) }
+    ensures too_many { result ≡ Err BuildFault.TooManyStates → HasPlaces net.now.patterns.now (limit + 1) }
+{
+    for byte in bytes {
+        let next = next_row(alloc, net, limit, row, *byte, found)?;
+        cells.push(next as u32)?;
+    }
+    Ok(())
+}
+
+/// All sets of positions that some text stands at, with their cells for the bytes.
+pub(crate) fn explore(
+    alloc: Global,
+    net: &Net,
+    bytes: &[u8],
+    limit: usize,
+) -> Result<(Found, Vec<u32>), BuildFault>
+    requires net { IsNetOf net.now }
+    requires some { 0 < limit }
+    requires limit { limit ≤ 1000000 }
+    ensures explored { IfOk result (λ r. IsExplored net.now.patterns.now r.0.sets bytes.now r.1.items (numbers_of r.0)) }
+    ensures few { IfOk result (λ r. length r.0.sets ≤ limit) }
+    ensures too_many { result ≡ Err BuildFault.TooManyStates → HasPlaces net.now.patterns.now (limit + 1) }
+{
+    let mut found = Found {
+        sets: Sets::new(alloc),
+        lists: Vec::new(alloc),
+    };
+    let mut cells = Vec::new(alloc);
+    let start = net.start(alloc)?;
+    found.add(alloc, net, start)?;
+    for row in 0..limit {
+        if row == found.sets.len() {
+            return Ok((found, cells));
+        }
+        fill_row(alloc, net, bytes, limit, row, &mut found, &mut cells)?;
+    }
+    Ok((found, cells))
+}

@@ -1,0 +1,182 @@
+ghost use Rattle.std.specs.Prelude.{◌≡◌, ◌≢◌, ◌↔◌, ◌+◌, ◌<◌, ◌≤◌, ℕ, All, IsTrue, IfOk, length, slice_index, if◌then◌else◌};
+ghost use Rattle.aa_auto.specs.Division.{GivesClass, Divides, IsKey, AreKeys, IsSameItem, IsDivision, Refines, RefinesBy, AreClasses};
+
+use crate::nodes::Node;
+use crate::steps::{begins, continues};
+use aa_glob::Item;
+use std::alloc::{AllocError, Global};
+
+/// Classes of bytes.
+#[derive(Drop)]
+pub(crate) struct Classes {
+    /// The class of each byte.
+    pub(crate) of: Vec<u8>,
+    /// A byte of each class.
+    pub(crate) bytes: Vec<u8>,
+}
+
+/// The class whose byte has the key, or how many classes there are.
+fn find_class(keys: &[u32], bytes: &[u8], key: u32) -> usize
+    requires { All (λ b. b < length keys.now) bytes.now }
+    ensures within { result ≤ length bytes.now }
+    ensures found { result < length bytes.now → slice_index keys.now (slice_index bytes.now result) ≡ key }
+    ensures none { result ≡ length bytes.now → (k : ℕ) → k < length bytes.now → slice_index keys.now (slice_index bytes.now k) ≢ key }
+{
+    for (class, byte) in bytes.iter().enumerate() {
+        if keys[*byte as usize] == key {
+            return class;
+        }
+    }
+    bytes.len()
+}
+
+/// The class of a byte, which is a new one where no byte so far has its key.
+fn class_for(keys: &[u32], bytes: &mut Vec<u8>, byte: u8) -> Result<u8, AllocError>
+    requires byte { byte < length keys.now }
+    requires bytes { All (λ b. b < length keys.now) bytes.old.items }
+    requires few { length bytes.old.items ≤ byte }
+    ensures { IfOk result (λ class. GivesClass keys.now bytes.old.items bytes.new.items byte class) }
+{
+    let class = find_class(keys, bytes.as_slice(), keys[byte as usize]);
+    if class < bytes.len() {
+        return Ok(class as u8);
+    }
+    bytes.push(byte)?;
+    Ok(class as u8)
+}
+
+/// Bytes are of one class where they have one key.
+fn divide(alloc: Global, keys: &[u32]) -> Result<Classes, AllocError>
+    requires { length keys.now ≡ 256 }
+    ensures { IfOk result (λ c. Divides keys.now 256 c.of.items c.bytes.items) }
+{
+    let mut of = Vec::new(alloc);
+    let mut bytes = Vec::new(alloc);
+    for byte in 0..256u16 {
+        let class = class_for(keys, &mut bytes, byte as u8)?;
+        of.push(class)?;
+    }
+    Ok(Classes { of, bytes })
+}
+
+/// 256 equal keys.
+fn equal_keys(alloc: Global) -> Result<Vec<u32>, AllocError>
+    ensures many { IfOk result (λ keys. length keys.items ≡ 256) }
+    ensures equal { IfOk result (λ keys. All (λ k. k ≡ 0) keys.items) }
+{
+    let mut keys = Vec::new(alloc);
+    for _byte in 0..256u16 {
+        keys.push(0)?;
+    }
+    Ok(keys)
+}
+
+fn digit(flag: bool) -> u32
+    ensures { result ≡ (if flag then 1 else 0) }
+{
+    if flag { 1 } else { 0 }
+}
+
+/// What tells the byte from those of other classes, and from those that the item tells it from.
+fn key_of(of: &[u8], item: &Item, byte: u8) -> u32
+    requires { length of.now ≡ 256 }
+    ensures { IsKey of.now item.now byte result }
+{
+    let begins = digit(begins(item, byte));
+    let continues = digit(continues(item, byte));
+    4 * of[byte as usize] as u32 + 2 * begins + continues
+}
+
+fn keys_of(alloc: Global, of: &[u8], item: &Item) -> Result<Vec<u32>, AllocError>
+    requires { length of.now ≡ 256 }
+    ensures { IfOk result (λ keys. AreKeys of.now item.now keys.items 256) }
+{
+    let mut keys = Vec::new(alloc);
+    for byte in 0..256u16 {
+        keys.push(key_of(of, item, byte as u8))?;
+    }
+    Ok(keys)
+}
+
+/// The classes, each divided by what the item tells apart.
+fn refine(alloc: Global, of: &[u8], item: &Item) -> Result<Classes, AllocError>
+    requires { length of.now ≡ 256 }
+    ensures { IfOk result (λ new. Refines of.now new.of.items new.bytes.items item.now) }
+{
+    let keys = keys_of(alloc, of, item)?;
+    divide(alloc, keys.as_slice())
+}
+
+/// Whether no other byte is of the byte's class.
+fn is_alone(of: &[u8], byte: u8) -> bool
+    requires { length of.now ≡ 256 }
+    ensures { IsTrue result → (b : ℕ) → b < 256 → slice_index of.now b ≡ slice_index of.now byte → b ≡ byte }
+{
+    let class = of[byte as usize];
+    for (other, own) in of.iter().enumerate() {
+        if *own == class && other != byte as usize {
+            return false;
+        }
+    }
+    true
+}
+
+/// Whether the item accepts both bytes or neither.
+fn agrees(item: &Item, a: u8, b: u8) -> bool
+    ensures { IsTrue result ↔ IsSameItem item.now a b }
+{
+    begins(item, a) == begins(item, b) && continues(item, a) == continues(item, b)
+}
+
+/// Whether the item accepts each byte as it does that of its class.
+fn agrees_on_all(of: &[u8], bytes: &[u8], item: &Item) -> bool
+    requires { IsDivision of.now bytes.now }
+    ensures { IsTrue result → (b : ℕ) → b < 256 → IsSameItem item.now b (slice_index bytes.now (slice_index of.now b)) }
+{
+    for byte in 0..256u16 {
+        let class = of[byte as usize];
+        if !agrees(item, byte as u8, bytes[class as usize]) {
+            return false;
+        }
+    }
+    true
+}
+
+/// Whether the item tells no bytes of one class apart.
+fn is_refined(of: &[u8], bytes: &[u8], item: &Item) -> bool
+    requires { IsDivision of.now bytes.now }
+    ensures { IsTrue result → (a b : ℕ) → a < 256 → b < 256 → slice_index of.now a ≡ slice_index of.now b → IsSameItem item.now a b }
+{
+    if let Item::Byte(byte) = item {
+        if is_alone(of, *byte) {
+            return true;
+        }
+    }
+    agrees_on_all(of, bytes, item)
+}
+
+/// The classes, each divided by what the item before the position tells apart.
+fn refined(alloc: Global, classes: Classes, node: &Node) -> Result<Classes, AllocError>
+    requires { IsDivision classes.of.items classes.bytes.items }
+    ensures { IfOk result (λ new. RefinesBy classes.of.items new.of.items new.bytes.items node.now) }
+{
+    let Node::After(item) = node else {
+        return Ok(classes);
+    };
+    if is_refined(classes.of.as_slice(), classes.bytes.as_slice(), item) {
+        return Ok(classes);
+    }
+    refine(alloc, classes.of.as_slice(), item)
+}
+
+/// The classes of the bytes that no item of the nodes tells apart.
+pub(crate) fn classes_of(alloc: Global, nodes: &[Node]) -> Result<Classes, AllocError>
+    ensures { IfOk result (λ c. AreClasses nodes.now c.of.items c.bytes.items) }
+{
+    let keys = equal_keys(alloc)?;
+    let mut classes = divide(alloc, keys.as_slice())?;
+    for node in nodes {
+        classes = refined(alloc, classes, node)?;
+    }
+    Ok(classes)
+}

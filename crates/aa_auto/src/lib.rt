@@ -1,0 +1,21 @@
+//! Deterministic automata that say which patterns match a text.
+#![tactic(auto)]
+
+mod automaton;
+mod build;
+mod classes;
+mod closing;
+mod finals;
+mod jumps;
+mod moves;
+mod net;
+mod nodes;
+mod sets;
+mod sorted;
+mod steps;
+
+pub use automaton::Automaton;
+pub use build::BuildFault;
+
+#[cfg(test)]
+mod tests;

@@ -1,0 +1,95 @@
+ghost use Rattle.std.specs.Prelude.{◌↔◌, ◌<◌, ℕ, IsTrue, IfOk, OnOk, Contains, None, [], length};
+ghost use Rattle.std.specs.List.Sorted.{IsStrictlyIncreasing};
+ghost use Rattle.aa_auto.specs.Sorted.{InsertsIf};
+ghost use Rattle.aa_auto.specs.Spots.{AddsMoves, AreSeeds, MovesFrom, BeginsAt, ContinuesAt, IsStart};
+
+use crate::nodes::Node;
+use crate::sorted::insert;
+use crate::steps::{begins, continues};
+use std::alloc::{AllocError, Global};
+
+/// Whether the item before the position may begin with the byte.
+fn begins_at(nodes: &[Node], position: usize, byte: u8) -> bool
+    ensures { IsTrue result ↔ BeginsAt nodes.now position byte }
+{
+    match nodes.get(position) {
+        Some(Node::After(item)) => begins(item, byte),
+        _ => false,
+    }
+}
+
+/// Whether the item before the position may go on with the byte.
+fn continues_at(nodes: &[Node], position: usize, byte: u8) -> bool
+    ensures { IsTrue result ↔ ContinuesAt nodes.now position byte }
+{
+    match nodes.get(position) {
+        Some(Node::After(item)) => continues(item, byte),
+        _ => false,
+    }
+}
+
+/// Whether nothing stands before the position.
+fn is_start(node: &Node) -> bool
+    ensures { IsTrue result ↔ IsStart node.now }
+{
+    match node {
+        Node::Start => true,
+        _ => false,
+    }
+}
+
+/// Adds the value to rising numbers, where it is wanted and isn't there.
+fn insert_if(set: &mut Vec<u32>, value: u32, wanted: bool) -> Result<(), AllocError>
+    requires { IsStrictlyIncreasing set.old.items }
+    ensures { OnOk result (InsertsIf set.old.items set.new.items value wanted) }
+{
+    if wanted {
+        return insert(set, value);
+    }
+    Ok(())
+}
+
+/// Adds the positions that the byte leads to from this one.
+fn move_from(nodes: &[Node], byte: u8, start: u32, set: &mut Vec<u32>) -> Result<(), AllocError>
+    requires start { start < length nodes.now }
+    requires few { length nodes.now < 4294967296 }
+    requires rising { IsStrictlyIncreasing set.old.items }
+    ensures { OnOk result (AddsMoves nodes.now byte start set.old.items set.new.items) }
+{
+    let stays = continues_at(nodes, start as usize, byte);
+    insert_if(set, start, stays)?;
+    let next = start + 1;
+    let goes = begins_at(nodes, next as usize, byte);
+    insert_if(set, next, goes)?;
+    Ok(())
+}
+
+/// The positions that the byte leads to from those of the set.
+pub(crate) fn moved(
+    alloc: Global,
+    nodes: &[Node],
+    byte: u8,
+    old: &[u32],
+) -> Result<Vec<u32>, AllocError>
+    requires within { (n : ℕ) → Contains old.now n → n < length nodes.now }
+    requires few { length nodes.now < 4294967296 }
+    ensures { IfOk result (λ new. MovesFrom nodes.now byte old.now new.items) }
+{
+    let mut new = Vec::new(alloc);
+    for start in old {
+        move_from(nodes, byte, *start, &mut new)?;
+    }
+    Ok(new)
+}
+
+/// The positions that nothing stands before.
+pub(crate) fn beginnings(alloc: Global, nodes: &[Node]) -> Result<Vec<u32>, AllocError>
+    requires { length nodes.now < 4294967296 }
+    ensures { IfOk result (λ new. AreSeeds nodes.now None [] new.items) }
+{
+    let mut new = Vec::new(alloc);
+    for (position, node) in nodes.iter().enumerate() {
+        insert_if(&mut new, position as u32, is_start(node))?;
+    }
+    Ok(new)
+}

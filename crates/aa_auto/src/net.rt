@@ -1,0 +1,90 @@
+ghost use Rattle.std.specs.Prelude.{◌≡◌, ◌≤◌, IfOk, length};
+ghost use Rattle.aa_auto.specs.Nets.{IsNetOf};
+
+use crate::classes::{Classes, classes_of};
+use crate::closing::closed;
+use crate::finals::{finals_of, numbers_at};
+use crate::jumps::jumps_of;
+use crate::moves::{beginnings, moved};
+use crate::nodes::{Node, nodes_of};
+use aa_glob::Pattern;
+use std::alloc::{AllocError, Global};
+
+/// Patterns, compiled position by position.
+#[derive(Drop)]
+pub(crate) struct Net<'a> {
+    /// The patterns that it is of.
+    pub(crate) patterns: &'a [Pattern],
+    /// What stands before each position.
+    pub(crate) nodes: Vec<Node<'a>>,
+    /// The positions that each one leads to without a byte.
+    pub(crate) jumps: Vec<Vec<u32>>,
+    /// The number of the pattern that ends at each position.
+    pub(crate) finals: Vec<Option<u16>>,
+}
+
+/// The most positions that there can be.
+const POSITIONS: usize = 4294967295;
+
+/// Compiles the patterns.
+pub(crate) fn net_of<'a>(alloc: Global, patterns: &'a [Pattern]) -> Result<Net<'a>, AllocError>
+    requires { length patterns.now ≤ 65535 }
+    ensures net { IfOk result IsNetOf }
+    ensures patterns { IfOk result (λ net. net.patterns.now ≡ patterns.now) }
+{
+    let (nodes, ends) = nodes_of(alloc, patterns)?;
+    if nodes.len() > POSITIONS {
+        return Err(AllocError);
+    }
+    let jumps = jumps_of(alloc, nodes.as_slice())?;
+    let finals = finals_of(alloc, ends.as_slice(), nodes.len())?;
+    Ok(Net {
+        patterns,
+        nodes,
+        jumps,
+        finals,
+    })
+}
+
+impl Net<'_> {
+    ghost use Rattle.std.specs.Prelude.{ℕ, ◌<◌, IfOk, Some, None, [], Contains, length};
+    ghost use Rattle.aa_auto.specs.Nets.{IsNetOf};
+    ghost use Rattle.aa_auto.specs.Explored.{Follows, Lists};
+    ghost use Rattle.aa_auto.specs.Division.{AreClassesOf};
+
+    /// The classes of the bytes that no item of the patterns tells apart.
+    pub(crate) fn classes(&self, alloc: Global) -> Result<Classes, AllocError>
+        requires { IsNetOf self.now }
+        ensures { IfOk result (λ c. AreClassesOf self.now.patterns.now c.of.items c.bytes.items) }
+    {
+        classes_of(alloc, self.nodes.as_slice())
+    }
+
+    /// The positions where the empty text stands.
+    pub(crate) fn start(&self, alloc: Global) -> Result<Vec<u32>, AllocError>
+        requires { IsNetOf self.now }
+        ensures { IfOk result (λ new. Follows self.now.patterns.now None [] new.items) }
+    {
+        let seeds = beginnings(alloc, self.nodes.as_slice())?;
+        closed(alloc, self.jumps.as_slice(), seeds.as_slice())
+    }
+
+    /// The positions where a text stands that ends in the byte, where `old` is where it stands without.
+    pub(crate) fn next(&self, alloc: Global, byte: u8, old: &[u32]) -> Result<Vec<u32>, AllocError>
+        requires net { IsNetOf self.now }
+        requires old { (n : ℕ) → Contains old.now n → n < length self.now.nodes.items }
+        ensures { IfOk result (λ new. Follows self.now.patterns.now (Some byte) old.now new.items) }
+    {
+        let seeds = moved(alloc, self.nodes.as_slice(), byte, old)?;
+        closed(alloc, self.jumps.as_slice(), seeds.as_slice())
+    }
+
+    /// The numbers of the patterns that match a text that stands at the positions, rising.
+    pub(crate) fn numbers(&self, alloc: Global, set: &[u32]) -> Result<Vec<u16>, AllocError>
+        requires net { IsNetOf self.now }
+        requires set { (n : ℕ) → Contains set.now n → n < length self.now.nodes.items }
+        ensures { IfOk result (λ numbers. Lists self.now.patterns.now set.now numbers.items) }
+    {
+        numbers_at(alloc, self.finals.as_slice(), set)
+    }
+}

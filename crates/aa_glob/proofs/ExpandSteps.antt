@@ -1,0 +1,121 @@
+-- Expansions, one byte and one text on.
+use Rattle.std.proofs.Common.{◌≡◌, ◌≢◌, ℕ, ◌+◌, ◌<◌, ◌≤◌, ◌⊎◌, ◌↔◌, Bool, true, false, ◌&&◌, ◌==◌, cond, List, [], ◌∷◌, ◌++◌, drop, get_or, length, Result, Ok, Err, IfOk, IfErr, refl, sym, ap, ◌∙◌, subst, ⊎_elim, arith, append_assoc, lt-ltb, IsTrue, true≢false}
+use Rattle.std.proofs.lemmas.Bool.{cases_lt}
+use Rattle.std.proofs.lemmas.List.{append-nil, at_drop_more, at_drop_all}
+use Rattle.aa_words.specs.declared.fault.PolicyKind.{PolicyKind}
+use Rattle.aa_words.specs.declared.fault.PolicyKind.TheVariants.{NoMemory, TooLarge, TooManyExpansions}
+use Rattle.aa_glob.specs.declared.sign.Token.{Token}
+use Rattle.aa_glob.specs.declared.summary.Summary.{Summary}
+use Rattle.aa_glob.specs.declared.building.Rest.{Rest}
+use Rattle.aa_glob.specs.Variables.{Variable}
+use Rattle.aa_glob.specs.Reading.{tokens, Gives}
+use Rattle.aa_glob.specs.Expansions.{Texts, outcome_of, squeezed, pattern_text, expansion, of_path, expansions, and_more, Expands, in_walk, in_circle, too_many, as_texts, joined, outcome}
+use Rattle.aa_glob.specs.Pieces.{pieces_from}
+use Rattle.aa_glob.specs.Settled.{Settled}
+use Rattle.aa_glob.specs.Ways.{IsWalkFault}
+use Rattle.aa_glob.specs.Built.{IsBuilt, Stands}
+
+pub squeezed_step : (after : Bool) (s : List ℕ) (i d : ℕ) → i < length s →
+    squeezed after (drop i s) ≡ cond (after && (get_or s i d == 47)) (squeezed true (drop (i + 1) s)) (get_or s i d ∷ squeezed (get_or s i d == 47) (drop (i + 1) s))
+unfolding squeezed
+squeezed_step after s i d h = at_drop_more (squeezed after) s i d h
+
+and_right : (a b : Bool) → (a && b) ≡ true → b ≡ true
+and_right true b e = e
+and_right false b e = absurd (true≢false (sym e))
+
+pub squeeze_left_out : (front all : List ℕ) (after : Bool) (s : List ℕ) (i d : ℕ) → i < length s → (after && (get_or s i d == 47)) ≡ true → front ++ squeezed after (drop i s) ≡ all →
+    front ++ squeezed (get_or s i d == 47) (drop (i + 1) s) ≡ all
+squeeze_left_out front all after s i d h e so_far =
+    ap (λ b. front ++ squeezed b (drop (i + 1) s)) (and_right after (get_or s i d == 47) e)
+    ∙ ap (λ r. front ++ r) (sym (squeezed_step after s i d h ∙ ap (λ b. cond b (squeezed true (drop (i + 1) s)) (get_or s i d ∷ squeezed (get_or s i d == 47) (drop (i + 1) s))) e)) ∙ so_far
+
+pub squeeze_kept : (front new all : List ℕ) (after : Bool) (s : List ℕ) (i d : ℕ) → i < length s → (after && (get_or s i d == 47)) ≡ false → new ≡ front ++ get_or s i d ∷ [] → front ++ squeezed after (drop i s) ≡ all →
+    new ++ squeezed (get_or s i d == 47) (drop (i + 1) s) ≡ all
+squeeze_kept front new all after s i d h e pushed so_far =
+    ap (λ r. r ++ squeezed (get_or s i d == 47) (drop (i + 1) s)) pushed ∙ append_assoc front (get_or s i d ∷ []) (squeezed (get_or s i d == 47) (drop (i + 1) s))
+    ∙ ap (λ r. front ++ r) (sym (squeezed_step after s i d h ∙ ap (λ b. cond b (squeezed true (drop (i + 1) s)) (get_or s i d ∷ squeezed (get_or s i d == 47) (drop (i + 1) s))) e)) ∙ so_far
+
+pub squeeze_end : (front all : List ℕ) (after : Bool) (s : List ℕ) (i : ℕ) → length s ≤ i → front ++ squeezed after (drop i s) ≡ all → front ≡ all
+unfolding squeezed
+squeeze_end front all after s i le so_far = sym (append-nil front) ∙ sym (at_drop_all (λ t. front ++ squeezed after t) s i le) ∙ so_far
+
+-- what is too long is so however much of it was built
+too_long : (t : List ℕ) → 16384 < length t → expansion t ≡ Err TooLarge
+unfolding expansion
+too_long t h = ap (λ b. cond b (Err TooLarge) (of_path (pattern_text t) (tokens (pattern_text t)))) (lt-ltb 16384 (length t) h)
+
+pub built_same : (text t : List ℕ) → IsBuilt text t → expansion text ≡ expansion t
+built_same text t b = ⊎_elim (λ e. ap expansion e) (λ h. too_long text h.0 ∙ sym (too_long t h.1)) b
+
+-- behind those that were read
+abbrev pub behind_read : List (List Token) → Result (List (List Token)) PolicyKind → Result (List (List Token)) PolicyKind
+behind_read ps (Ok qs) = Ok (ps ++ qs)
+behind_read ps (Err e) = Err e
+
+behind_more : (ps : List (List Token)) (p : List Token) (r : Result (List (List Token)) PolicyKind) → behind_read ps (and_more (Ok p) r) ≡ behind_read (ps ++ p ∷ []) r
+behind_more ps p (Ok qs) = ap Ok (sym (append_assoc ps (p ∷ []) qs))
+behind_more ps p (Err e) = refl
+
+expansions_step : (ts : List (List ℕ)) (i : ℕ) → i < length ts → expansions (drop i ts) ≡ and_more (expansion (get_or ts i [])) (expansions (drop (i + 1) ts))
+unfolding expansions
+expansions_step ts i h = at_drop_more expansions ts i [] h
+
+pub read_more : (ts : List (List ℕ)) (i : ℕ) (ps new : List (List Token)) (p : List Token) → i < length ts → expansion (get_or ts i []) ≡ Ok p → new ≡ ps ++ p ∷ [] →
+    behind_read ps (expansions (drop i ts)) ≡ expansions ts → behind_read new (expansions (drop (i + 1) ts)) ≡ expansions ts
+read_more ts i ps new p h e pushed so_far =
+    ap (λ r. behind_read r (expansions (drop (i + 1) ts))) pushed ∙ sym (behind_more ps p (expansions (drop (i + 1) ts)))
+    ∙ ap (behind_read ps) (sym (expansions_step ts i h ∙ ap (λ r. and_more r (expansions (drop (i + 1) ts))) e)) ∙ so_far
+
+pub read_refused : (ts : List (List ℕ)) (i : ℕ) (ps : List (List Token)) (fault : PolicyKind) → i < length ts → expansion (get_or ts i []) ≡ Err fault →
+    behind_read ps (expansions (drop i ts)) ≡ expansions ts → expansions ts ≡ Err fault
+read_refused ts i ps fault h e so_far = sym so_far ∙ ap (behind_read ps) (expansions_step ts i h ∙ ap (λ r. and_more r (expansions (drop (i + 1) ts))) e)
+
+pub read_end : (ts : List (List ℕ)) (i : ℕ) (ps : List (List Token)) → length ts ≤ i → behind_read ps (expansions (drop i ts)) ≡ expansions ts → expansions ts ≡ Ok ps
+unfolding expansions
+read_end ts i ps h so_far = sym so_far ∙ at_drop_all (λ t. behind_read ps (expansions t)) ts i h ∙ ap Ok (append-nil ps)
+
+pub read_start : (ts : List (List ℕ)) (r : Result (List (List Token)) PolicyKind) → behind_read [] r ≡ r
+read_start ts (Ok qs) = refl
+read_start ts (Err e) = refl
+
+pub stands_start : (depth : ℕ) (vars : List Variable) (raw : List ℕ) (f : Rest) (most : ℕ) (ts : List (List ℕ)) → f.text.now ≡ raw → f.kept ≡ false → outcome_of depth vars raw ≡ Texts most ts → most ≤ 1024 →
+    length ts ≡ f.count → f.number < f.count → Stands depth vars f (get_or ts f.number [])
+stands_start depth vars raw f most ts text kept e few count within = record {
+  most = most;
+  ts = ts;
+  texts = ap (λ k. joined (outcome depth vars) (pieces_from k 0 f.text.now)) kept ∙ ap (λ t. joined (outcome depth vars) (pieces_from false 0 t)) text ∙ e;
+  few = few;
+  count = count;
+  within = within;
+  is = refl;
+}
+
+-- the whole
+pub fault_expands : (vars : List Variable) (raw : List ℕ) (e : PolicyKind) → IsWalkFault vars raw e → Expands vars raw (Err e)
+fault_expands vars raw e f =
+    ⊎_elim (λ h. in_walk h.0 e h.1)
+    (λ h. subst (λ x. Expands vars raw (Err x)) (sym h.0) (in_circle h.1)) f
+
+pub many_expands : (vars : List Variable) (raw : List ℕ) (s : Summary) → Settled (λ d. outcome_of d vars raw) s → (IsTrue s.many ⊎ (1024 < s.count)) → Expands vars raw (Err TooManyExpansions)
+many_expands vars raw s k h =
+    too_many k.settles.from k.most k.ts (k.settles.texts k.settles.from (omega arith))
+    (⊎_elim (λ m. let x = k.sums.many.0 m in omega arith) (λ c. omega (arith, k.sums.count, c)) h)
+
+pub few_most : (m : ℕ) (many : Bool) → (IsTrue many ↔ (1024 < m)) → many ≡ false → m ≤ 1024
+few_most m many same e = ⊎_elim (λ (lt : 1024 < m). absurd (true≢false (sym (same.1 lt) ∙ e))) (λ ge. ge) (cases_lt 1024 m)
+
+pub texts_expand : (vars : List Variable) (raw : List ℕ) (s : Summary) (r : Result (List (List Token)) PolicyKind) → (k : Settled (λ d. outcome_of d vars raw) s) → s.many ≡ false → s.count ≤ 1024 → expansions k.ts ≡ r → Expands vars raw r
+texts_expand vars raw s r k few short e =
+    let most : k.most ≤ 1024 = few_most k.most s.many k.sums.many few in
+    subst (Expands vars raw) e (as_texts k.settles.from k.most k.ts (k.settles.texts k.settles.from (omega arith)) (omega (arith, k.sums.count, short, most)))
+
+-- what reading gives, at Ok and where it is refused
+pub gives_ok : {X Y : Type 0} (view : X → Y) (P : Result Y PolicyKind → Type 0) (r : Result X PolicyKind) (read : Result Y PolicyKind) → Gives view r read → ((x : Result Y PolicyKind) → read ≡ x → P x) → IfOk r (λ v. P (Ok (view v)))
+gives_ok view P (Ok v) read g each = each (Ok (view v)) g
+gives_ok view P (Err e) read g each = tt
+
+pub gives_err : {X Y : Type 0} (view : X → Y) (P : Result Y PolicyKind → Type 0) (r : Result X PolicyKind) (read : Result Y PolicyKind) → Gives view r read → ((x : Result Y PolicyKind) → read ≡ x → P x) →
+    IfErr r (λ e. e ≢ NoMemory → P (Err e))
+gives_err view P (Ok v) read g each = tt
+gives_err view P (Err e) read g each = λ other. each (Err e) (g other)

@@ -1,0 +1,22 @@
+-- Flags over the places of a text.
+use Rattle.std.specs.Prelude.{ℕ, ◌≤◌, ◌↔◌, ◌⊎◌, Bool, false, List, [], ◌∷◌, ◌++◌, length, take, IsTrue, slice_index_or, Vec}
+use Rattle.std.specs.Global.{Global}
+use Rattle.aa_glob.specs.declared.item.Item.{Item}
+use Rattle.aa_glob.specs.Globs.{Matches}
+
+-- the flag at a place says whether the items match the text before it
+pub record Shows (flags : List Bool) (items : List Item) (text : List ℕ) : Type 0 where
+  pub at : (k : ℕ) → k ≤ length text → IsTrue (slice_index_or flags k false) ↔ Matches items (take k text)
+
+-- what showed any items shows them with these behind
+pub record Follows (items : List Item) (text : List ℕ) (old new : List Bool) : Type 0 where
+  pub follow : (h : List Item) → Shows old h text → Shows new (h ++ items) text
+
+-- some sequence of the choice behind h matches
+abbrev pub SomeEnds : List Item → List (Vec Item Global) → List ℕ → Type 0
+SomeEnds h [] t = ⊥
+SomeEnds h (branch ∷ rest) t = Matches (h ++ branch.items) t ⊎ SomeEnds h rest t
+
+-- what showed any items shows where some sequence behind them ends
+pub record FollowsSome (branches : List (Vec Item Global)) (text : List ℕ) (old new : List Bool) : Type 0 where
+  pub follow : (h : List Item) → Shows old h text → (k : ℕ) → k ≤ length text → IsTrue (slice_index_or new k false) ↔ SomeEnds h branches (take k text)

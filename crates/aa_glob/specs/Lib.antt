@@ -1,0 +1,17 @@
+pub mod Globs
+pub mod Places
+pub mod Heads
+pub mod Weights
+pub mod Steps
+pub mod Flags
+pub mod Signs
+pub mod Classes
+pub mod Reading
+pub mod Stack
+pub mod Variables
+pub mod Pieces
+pub mod Expansions
+pub mod Parts
+pub mod Settled
+pub mod Ways
+pub mod Built

@@ -1,0 +1,99 @@
+//! What a pattern matches.
+
+ghost use Rattle.std.specs.Prelude.{◌≡◌, ◌↔◌, ◌≤◌, IsTrue, length, drop, take_while};
+ghost use Rattle.std.specs.List.{list_all};
+ghost use Rattle.aa_glob.specs.Globs.{Matches, is_byte};
+ghost use Rattle.aa_glob.specs.Steps.{Begins, IsOneByte};
+
+use crate::flags::{MAX_PLACES, matches_by_flags};
+use crate::halves::matches_by_halves;
+use crate::item::{Item, Pattern};
+use crate::step::{begins, is_one_byte};
+
+/// Whether the item's parts are one byte, and this one may be.
+fn takes(item: &Item, byte: u8) -> bool
+    ensures { IsTrue result ↔ (IsOneByte item.now × Begins item.now byte) }
+{
+    is_one_byte(item) && begins(item, byte)
+}
+
+/// How many items at the front have parts of one byte that the text begins with.
+fn front_length(items: &[Item], text: &[u8]) -> usize
+    ensures items { result ≤ length items.now }
+    ensures text { result ≤ length text.now }
+    ensures same { Matches items.now text.now ↔ Matches (drop result items.now) (drop result text.now) }
+{
+    let mut at = 0;
+    while at < items.len() && at < text.len() {
+        if !takes(&items[at], text[at]) {
+            return at;
+        }
+        at += 1;
+    }
+    at
+}
+
+/// Whether the first item alone shows that the text isn't matched.
+fn fails_at_once(items: &[Item], text: &[u8]) -> bool
+    ensures { IsTrue result → Matches items.now text.now → ⊥ }
+{
+    match (items, text) {
+        ([], text) => !text.is_empty(),
+        ([item, ..], []) => is_one_byte(item),
+        ([item, ..], [byte, ..]) => is_one_byte(item) && !begins(item, *byte),
+    }
+}
+
+fn matches_items(items: &[Item], text: &[u8]) -> bool
+    ensures { IsTrue result ↔ Matches items.now text.now }
+{
+    if fails_at_once(items, text) {
+        false
+    } else if text.len() < 256 {
+        matches_by_flags::<256>(items, text)
+    } else if text.len() < MAX_PLACES {
+        matches_by_flags::<MAX_PLACES>(items, text)
+    } else {
+        matches_by_halves(items, text)
+    }
+}
+
+fn is_byte_item(item: &Item) -> bool
+    ensures { result ≡ is_byte item.now }
+{
+    match item {
+        Item::Byte(_) => true,
+        _ => false,
+    }
+}
+
+impl Pattern {
+    /// Whether the whole path matches (apparmor.d(5), "Globbing"). It takes no memory and, for a path of at most
+    /// 4,095 bytes, at most one step for each item and byte; the machine's stack grows only with choices inside choices.
+    pub fn matches(&self, path: &[u8]) -> bool
+        ensures { IsTrue result ↔ Matches self.now.items.items path.now }
+    {
+        let items = self.items.as_slice();
+        let front = front_length(items, path);
+        let (_, others) = items.split_at(front);
+        let (_, rest) = path.split_at(front);
+        matches_items(others, rest)
+    }
+
+    /// Whether every item is a byte.
+    pub fn is_literal(&self) -> bool
+        ensures { result ≡ list_all is_byte self.now.items.items }
+    {
+        self.items.iter().all(is_byte_item)
+    }
+
+    /// How many items at the front are bytes.
+    pub fn literal_front(&self) -> usize
+        ensures { result ≡ length (take_while is_byte self.now.items.items) }
+    {
+        self.items
+            .iter()
+            .take_while(|item| is_byte_item(item))
+            .count()
+    }
+}

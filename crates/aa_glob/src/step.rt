@@ -1,0 +1,73 @@
+//! One byte of a part that an item allows.
+
+ghost use Rattle.std.specs.Prelude.{◌↔◌, IsTrue};
+ghost use Rattle.aa_glob.specs.Globs.{IsNonzeroByte, IsNameByte};
+ghost use Rattle.aa_glob.specs.Steps.{Begins, Continues, IsSkippable, IsOneByte, Grows};
+
+use crate::item::Item;
+
+fn is_nonzero(byte: u8) -> bool
+    ensures { IsTrue result ↔ IsNonzeroByte byte }
+{
+    byte != 0
+}
+
+fn is_name(byte: u8) -> bool
+    ensures { IsTrue result ↔ IsNameByte byte }
+{
+    byte != 0 && byte != b'/'
+}
+
+/// Whether a part may begin with the byte.
+pub(crate) fn begins(item: &Item, byte: u8) -> bool
+    ensures { IsTrue result ↔ Begins item.now byte }
+{
+    match item {
+        Item::Byte(own) => byte == *own && byte != 0,
+        Item::One | Item::Run | Item::RunOne | Item::DeepOne => is_name(byte),
+        Item::Deep => is_nonzero(byte),
+        Item::Class(set) => byte != 0 && set.has(byte),
+        Item::Choice(_) => false,
+    }
+}
+
+/// Whether a part may go on with the byte.
+pub(crate) fn continues(item: &Item, byte: u8) -> bool
+    ensures { IsTrue result ↔ Continues item.now byte }
+{
+    match item {
+        Item::Run | Item::RunOne => is_name(byte),
+        Item::Deep | Item::DeepOne => is_nonzero(byte),
+        _ => false,
+    }
+}
+
+/// Whether a part may be empty.
+pub(crate) fn is_skippable(item: &Item) -> bool
+    ensures { IsTrue result ↔ IsSkippable item.now }
+{
+    match item {
+        Item::Run | Item::Deep => true,
+        _ => false,
+    }
+}
+
+/// Whether each part has one byte.
+pub(crate) fn is_one_byte(item: &Item) -> bool
+    ensures { IsTrue result ↔ IsOneByte item.now }
+{
+    match item {
+        Item::Byte(_) | Item::One | Item::Class(_) => true,
+        _ => false,
+    }
+}
+
+/// Whether a text stands behind a simple item, one byte on: `here` and `was_here` say whether it stands before the item now
+/// and whether it did before the byte, `was_next` whether it stood behind the item then.
+pub(crate) fn goes(item: &Item, byte: u8, here: bool, was_here: bool, was_next: bool) -> bool
+    ensures { IsTrue result ↔ Grows item.now byte (IsTrue here) (IsTrue was_here) (IsTrue was_next) }
+{
+    (here && is_skippable(item))
+        || (was_here && begins(item, byte))
+        || (was_next && continues(item, byte))
+}

@@ -1,0 +1,88 @@
+-- Each step keeps the rule.
+use Rattle.std.proofs.Common.{◌≡◌, ℕ, true, false, is_some, cond, List, [], ◌∷◌, ◌++◌, refl, sym, ap, ◌∙◌, subst, slice_set, slice_index, Some}
+use Rattle.std.proofs.lemmas.List.{set-get_or}
+use mathlib.Core.Option.{Option, some}
+use lib.ListN.{get_elem?}
+use Rattle.atomic_table.specs.Table.{State, keeps, stepped}
+use Rattle.aa_lane.specs.WorldState.{WorldState, after, answer_to}
+use Rattle.aa_lane.specs.Log.{Who, ByOwner, ByShutter, same, Entry, by, leaves}
+use Rattle.aa_lane.specs.Shows.{Shows, HasLog, Seats, Fits, role, made}
+use Rattle.aa_lane.specs.declared.event.Event.{Event}
+use Rattle.aa_lane.specs.declared.event.Reply.{Reply}
+use Rattle.aa_lane.specs.declared.cells.Cell.{Cell}
+use Rattle.aa_lane.specs.declared.cells.View.{View}
+use Rattle.aa_lane.specs.declared.cells.Key.{Key}
+use Rattle.aa_lane.proofs.Rows.{each_set}
+use Rattle.aa_lane.proofs.ShutBy.{step_shut_by}
+use Rattle.aa_lane.proofs.Logs.{same_eq, by_snoc, leaves_snoc, told_snoc}
+
+module _ {M S Q A : Type 0} where
+  -- the seat that steps has a role that no other seat has
+  pub keep_seats : (views : List (View M S Q A)) (seat : Who → ℕ) (hs hs' : List (Option (Cell M S Q A))) (w w' : WorldState M S Q A) (who : Who) (id : ℕ) (v v' : View M S Q A)
+      → Seats views seat hs w → get_elem? views id ≡ some v → role who v ≡ true → ((a : Who) → role a v' ≡ true → role a v ≡ true)
+      → v'.terms ≡ v.terms → w'.machine ≡ w.machine → w'.start ≡ w.start
+      → ((a : Who) → Fits a hs w v → Fits a hs' w' v') → ((a : Who) (u : View M S Q A) → same a who ≡ false → Fits a hs w u → Fits a hs' w' u)
+      → Seats (slice_set views id v') seat hs' w'
+  keep_seats views seat hs hs' w w' who id v v' old at is roles terms m t here others a =
+      let at_terms : Some (w.machine, w.start) ≡ Some (w'.machine, w'.start) = rw (m, t) refl in
+      let R : ℕ → View M S Q A → Type 0 = λ j u. role a u ≡ true → (j ≡ seat a) × (u.terms ≡ Some (w'.machine, w'.start)) × Fits a hs' w' u in
+      each_set R views id v'
+      (λ r. let f = old a id v at (roles a r) in (f.0, terms ∙ f.1 ∙ at_terms, here a f.2))
+      (λ j u ne there r. let f = old a j u there r in (
+        f.0,
+        f.1 ∙ at_terms,
+        elim (same a who) as (λ b. same a who ≡ b → Fits a hs' w' u) [
+          | true ↦ λ e. absurd (ne (f.0 ∙ ap seat (same_eq a who e) ∙ sym (old who id v at is).0))
+          | false ↦ λ e. others a u e f.2
+        ] refl,
+      ))
+
+module _ {M S Q A : Type 0} (next : M → S → Q → S) (reply : M → S → Q → A) where
+  -- a step at which the world stays, as does every slot and word, and the seat knows something more
+  pub stays : (s : State (Cell M S Q A) (View M S Q A)) (w : WorldState M S Q A) (h : Shows next reply s w) (i x id : ℕ) (held : List (ℕ × Cell M S Q A)) (who : Who) (v v' : View M S Q A)
+      → x ≡ slice_index s.words i → get_elem? s.views id ≡ some v → role who v ≡ true → ((a : Who) → role a v' ≡ true → role a v ≡ true) → v'.terms ≡ v.terms
+      → (v.owner.left ≡ true → v'.owner.left ≡ true) → (is_some v.shutter.count ≡ true → is_some v'.shutter.count ≡ true)
+      → ((a : Who) → Fits a s.homes w v → Fits a s.homes w v')
+      → Shows next reply (stepped s i x id held v' keeps) w
+  stays s w h i x id held who v v' is at may roles terms left count here =
+      let words : slice_set s.words i x ≡ s.words = rw is (set-get_or s.words i 0) in
+      record {
+        lawful = h.lawful;
+        capacity = h.capacity;
+        roomy = h.roomy;
+        wide = rw words h.wide;
+        gate = rw words h.gate;
+        done = rw words h.done;
+        waiting = h.waiting;
+        answered = h.answered;
+        seat = h.seat;
+        seats = keep_seats s.views h.seat s.homes s.homes w w who id v v' h.seats at may roles terms refl refl here (λ a u e f. f);
+        shut_by = step_shut_by s.views id v v' w.shut at (roles ByOwner) (roles ByShutter) left count h.shut_by;
+      }
+
+module _ {M S Q A : Type 0} (next : M → S → Q → S) (reply : M → S → Q → A) (k : Key M S Q A) where
+  abbrev pub world : (s : State (Cell M S Q A) (View M S Q A)) → HasLog next reply k s → WorldState M S Q A
+  world s h = leaves next reply k.machine.now k.start k.capacity h.log
+
+  -- a step that is an event of the world
+  pub logged : (s : State (Cell M S Q A) (View M S Q A)) (h : HasLog next reply k s) (ws : List ℕ) (hs : List (Option (Cell M S Q A))) (id : ℕ) (v v' : View M S Q A) (who : Who) (e : Event M S Q A) (r : Reply M S Q A)
+      (w' : WorldState M S Q A) → get_elem? s.views id ≡ some v → role who v ≡ true → ((a : Who) → role a v' ≡ true → role a v ≡ true)
+      → ((a : Who) → made a v' ≡ cond (same a who) (made a v ++ (e, r) ∷ []) (made a v))
+      → w' ≡ after next reply (world s h) e → r ≡ answer_to next reply (world s h) e
+      → Shows next reply record { words = ws; homes = hs; views = slice_set s.views id v' } w'
+      → HasLog next reply k record { words = ws; homes = hs; views = slice_set s.views id v' }
+  logged s h ws hs id v v' who e r w' at is roles lists left told shows =
+      let x : Entry M S Q A = record { who = who; event = e; reply = r } in
+      record {
+        log = h.log ++ x ∷ [];
+        told = told_snoc next reply k.machine.now k.start k.capacity h.log x h.told told;
+        shows = subst (Shows next reply record { words = ws; homes = hs; views = slice_set s.views id v' }) (left ∙ sym (leaves_snoc next reply k.machine.now k.start k.capacity h.log x)) shows;
+        makes = λ a. each_set (λ j u. role a u ≡ true → made a u ≡ by a (h.log ++ x ∷ [])) s.views id v'
+            (λ o. lists a ∙ ap (λ (l : List (Event M S Q A × Reply M S Q A)). cond (same a who) (l ++ (e, r) ∷ []) l) (h.makes a id v at (roles a o)) ∙ sym (by_snoc a h.log x))
+            (λ j u ne there o.
+            let old : made a u ≡ by a h.log = h.makes a j u there o in
+            elim (same a who) as (λ b. same a who ≡ b → made a u ≡ by a (h.log ++ x ∷ [])) [
+              | true ↦ λ b. absurd (ne ((h.shows.seats a j u there o).0 ∙ ap h.shows.seat (same_eq a who b) ∙ sym (h.shows.seats who id v at is).0))
+              | false ↦ λ b. old ∙ sym (by_snoc a h.log x ∙ rw b refl)
+            ] refl);
+      }

@@ -1,0 +1,18 @@
+use Rattle.std.proofs.Common.{◌≡◌, ◌∙◌, arith, refl, true}
+use Rattle.aa_lane.proofs.Opens.{splits_server, splits_shutter}
+use Rattle.aa_lane.proofs.lane.Lane.new.Goals as goal
+
+pub split_seat-second-requires : goal.split_seat-second-requires
+split_seat-second-requires g c =
+    let made = c.in-Ok.ensures in
+    let r = c.ready.ensures in
+    let serves : c.ready.new.seat.me.0.serves ≡ true = rw r.ready (rw made.seat.1 refl) in
+    (r.table.0 ∙ made.seat.0, rw made.table.0 (omega arith), splits_server g.M.Machine.next g.M.Machine.reply _ c.ready.new.seat.id c.ready.new.seat.me.0 serves)
+
+pub split_seat-third-requires : goal.split_seat-third-requires
+split_seat-third-requires g c =
+    let made = c.in-Ok.ensures in
+    let r = c.ready.ensures in
+    let one = c.split_seat-second.ensures in
+    let shuts : c.split_seat-second.new.seat.me.0.shuts ≡ true = rw (one.2, r.ready) (rw made.seat.1 refl) in
+    (one.0 ∙ r.table.0 ∙ made.seat.0, rw made.table.0 (omega arith), splits_shutter g.M.Machine.next g.M.Machine.reply _ c.split_seat-second.new.seat.id c.split_seat-second.new.seat.me.0 shuts)

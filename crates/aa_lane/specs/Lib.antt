@@ -1,0 +1,11 @@
+pub mod Run
+pub mod WorldState
+pub mod WorldLaws
+pub mod Log
+pub mod Shows
+pub mod Ends
+pub mod Plays
+pub mod Steps
+pub mod Answers
+pub mod Totals
+pub mod Law

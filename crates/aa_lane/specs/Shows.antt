@@ -1,0 +1,104 @@
+-- The rule of a lane's table. Its words, views and slots show a world, which the events of a log leave, and each seat knows which events are its own.
+-- Word 0 is the gate: twice the number of accepted requests, and 1 more once the lane is shut. Word 1 is the number of answers.
+-- Request n uses the slot n modulo the capacity.
+use Rattle.std.specs.Prelude.{◌≡◌, ℕ, ◌+◌, ◌*◌, ◌%◌, ◌<◌, ◌≤◌, Bool, true, false, ◌||◌, is_some, cond, List, [], length, take, slice_index, slice_get, Some, None}
+use mathlib.Core.Option.{Option, some}
+use lib.ListN.{get_elem?}
+use Rattle.atomic_table.specs.Table.{State}
+use Rattle.aa_lane.specs.WorldState.{WorldState, IsLawful, IsSettled}
+use Rattle.aa_lane.specs.Log.{Who, ByOwner, ByServer, ByShutter, Entry, by, leaves, Told}
+use Rattle.aa_lane.specs.declared.event.Event.{Event}
+use Rattle.aa_lane.specs.declared.event.Reply.{Reply}
+use Rattle.aa_lane.specs.declared.cells.Cell.{Cell}
+use Rattle.aa_lane.specs.declared.cells.Cell.TheVariants.{Vacant, Asked, Answered}
+use Rattle.aa_lane.specs.declared.cells.OwnerNotes.{OwnerNotes}
+use Rattle.aa_lane.specs.declared.cells.ServerNotes.{ServerNotes}
+use Rattle.aa_lane.specs.declared.cells.ShutterNotes.{ShutterNotes}
+use Rattle.aa_lane.specs.declared.cells.View.{View}
+use Rattle.aa_lane.specs.declared.cells.Key.{Key}
+
+abbrev pub bit : Bool → ℕ
+bit b = cond b 1 0
+
+module _ {M S Q A : Type 0} where
+  abbrev pub no_owner : OwnerNotes M S Q A
+  no_owner = record { ready = false; sent = []; got = 0; found = 0; closed = false; left = false; made = [] }
+
+  abbrev pub no_server : ServerNotes M S Q A
+  no_server = record { taken = []; done = 0; seen = 0; settled = false; made = [] }
+
+  abbrev pub no_shutter : ShutterNotes M S Q A
+  no_shutter = record { count = None; made = [] }
+
+  -- the first seat is owner, server and shutter
+  abbrev pub first_view : Key M S Q A → View M S Q A
+  first_view k = record { terms = Some (k.machine.now, k.start); owns = true; owner = no_owner; serves = true; server = no_server; shuts = true; shutter = no_shutter }
+
+  -- a seat that was joined to another one
+  abbrev pub spent_view : View M S Q A
+  spent_view = record { terms = None; owns = false; owner = no_owner; serves = false; server = no_server; shuts = false; shutter = no_shutter }
+
+  abbrev pub role : Who → View M S Q A → Bool
+  role ByOwner v = v.owns
+  role ByServer v = v.serves
+  role ByShutter v = v.shuts
+
+  abbrev pub made : Who → View M S Q A → List (Event M S Q A × Reply M S Q A)
+  made ByOwner v = v.owner.made
+  made ByServer v = v.server.made
+  made ByShutter v = v.shutter.made
+
+  -- the owner knows what was accepted and collected
+  pub record OwnerFits (homes : List (Option (Cell M S Q A))) (w : WorldState M S Q A) (n : OwnerNotes M S Q A) : Type 0 where
+    pub sent : n.sent ≡ w.accepted
+    pub got : n.got ≡ w.collected
+    pub found : n.found ≤ length w.answers
+    pub closed : n.closed ≡ true → w.shut ≡ true
+    pub left : n.left ≡ true → w.shut ≡ true
+    pub fresh : n.ready ≡ false → (length w.accepted ≡ 0) × ((i : ℕ) → i < length homes → get_elem? homes i ≡ some (some Vacant))
+
+  -- the server knows what was taken and answered
+  pub record ServerFits (w : WorldState M S Q A) (n : ServerNotes M S Q A) : Type 0 where
+    pub taken : n.taken ≡ take w.taken w.accepted
+    pub done : n.done ≡ length w.answers
+    pub seen : n.seen ≤ length w.accepted
+    pub settled : n.settled ≡ true → IsSettled w
+
+  -- the count that the shutter was given is that of all accepted requests
+  pub record ShutterFits (w : WorldState M S Q A) (n : ShutterNotes M S Q A) : Type 0 where
+    pub count : (c : ℕ) → n.count ≡ Some c → (w.shut ≡ true) × (c ≡ length w.accepted)
+
+  abbrev pub Fits : Who → List (Option (Cell M S Q A)) → WorldState M S Q A → View M S Q A → Type 0
+  Fits ByOwner homes w v = OwnerFits homes w v.owner
+  Fits ByServer homes w v = ServerFits w v.server
+  Fits ByShutter homes w v = ShutterFits w v.shutter
+
+  -- one seat at most has each role, and its view fits the world
+  abbrev pub Seats : List (View M S Q A) → (Who → ℕ) → List (Option (Cell M S Q A)) → WorldState M S Q A → Type 0
+  Seats views seat homes w = (a : Who) (j : ℕ) (v : View M S Q A) → get_elem? views j ≡ some v → role a v ≡ true → (j ≡ seat a) × (v.terms ≡ Some (w.machine, w.start)) × Fits a homes w v
+
+  -- where the lane is shut, its owner has left or its shutter has a count
+  abbrev pub ShutBy : List (View M S Q A) → Bool → Type 0
+  ShutBy views shut = shut ≡ true → (j k : ℕ) (o u : View M S Q A) → get_elem? views j ≡ some o → o.owns ≡ true → get_elem? views k ≡ some u → u.shuts ≡ true → (o.owner.left || is_some u.shutter.count) ≡ true
+
+module _ {M S Q A : Type 0} (next : M → S → Q → S) (reply : M → S → Q → A) where
+  -- words, slots and views show the world
+  pub record Shows (s : State (Cell M S Q A) (View M S Q A)) (w : WorldState M S Q A) : Type 0 where
+    pub lawful : IsLawful next reply w
+    pub capacity : w.capacity ≡ length s.homes
+    pub roomy : 0 < length s.homes
+    pub wide : length s.words ≡ 2
+    pub gate : slice_index s.words 0 ≡ 2 * length w.accepted + bit w.shut
+    pub done : slice_index s.words 1 ≡ length w.answers
+    pub waiting : (n : ℕ) (q : Q) → w.taken ≤ n → slice_get w.accepted n ≡ Some q → get_elem? s.homes (n % length s.homes) ≡ some (some (Asked q))
+    pub answered : (n : ℕ) (q : Q) (a : A) → w.collected ≤ n → slice_get w.accepted n ≡ Some q → slice_get w.answers n ≡ Some a → get_elem? s.homes (n % length s.homes) ≡ some (some (Answered q a))
+    pub seat : Who → ℕ
+    pub seats : Seats s.views seat s.homes w
+    pub shut_by : ShutBy s.views w.shut
+
+  -- some log leaves the world that is shown, with the world's replies, and each seat knows what it made
+  pub record HasLog (k : Key M S Q A) (s : State (Cell M S Q A) (View M S Q A)) : Type 0 where
+    pub log : List (Entry M S Q A)
+    pub told : Told next reply k.machine.now k.start k.capacity log
+    pub shows : Shows s (leaves next reply k.machine.now k.start k.capacity log)
+    pub makes : (a : Who) (j : ℕ) (v : View M S Q A) → get_elem? s.views j ≡ some v → role a v ≡ true → made a v ≡ by a log

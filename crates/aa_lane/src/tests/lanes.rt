@@ -1,0 +1,562 @@
+// Running lanes, on one thread.
+ghost use Rattle.std.specs.Prelude.{◌≡◌, ◌<◌};
+ghost use Rattle.aa_lane.specs.Ends.{known};
+
+use super::worlds::apply;
+use super::{Happening, Said, Sum};
+use crate::SendFault::{Closed, Full};
+use crate::{
+    Ends, Lane, LaneFault, Leaver, Owner, SendFault, Served, Server, Shutter, Taken, Totals, World,
+};
+use std::alloc::Global;
+use std::process::Abort;
+use std::test::Fail;
+
+/// What is done at a lane of `Sum`.
+#[derive(Clone, Copy, PartialEq, Eq, Debug)]
+pub enum Step {
+    Send(u64),
+    Serve,
+    Collect,
+    Shut,
+}
+
+/// What came of it: for an answer its number, its request and itself.
+#[derive(Clone, Copy, PartialEq, Eq, Debug)]
+pub enum Outcome {
+    Sent(u64),
+    Unsent(SendFault, u64),
+    Did,
+    Idle,
+    Settled,
+    Got(u64, u64, u64),
+    Nothing,
+    Count(u64),
+    NoMemory,
+}
+
+/// The ends of a lane beside it.
+#[derive(Drop)]
+pub struct Bench<'l, 'm> {
+    lane: &'l Lane<'m, Sum>,
+    owner: Owner<Sum>,
+    server: Server<Sum>,
+    shutter: Shutter<Sum>,
+    ghost owner_of: { owner.lane ≡ known lane.now },
+    ghost server_of: { server.lane ≡ known lane.now },
+    ghost shutter_of: { shutter.lane ≡ known lane.now },
+}
+
+impl<'l, 'm> Bench<'l, 'm> {
+    fn of(
+        lane: &'l Lane<'m, Sum>,
+        owner: Owner<Sum>,
+        server: Server<Sum>,
+        shutter: Shutter<Sum>,
+    ) -> Bench<'l, 'm>
+        requires owner { owner.lane ≡ known lane.now }
+        requires server { server.lane ≡ known lane.now }
+        requires shutter { shutter.lane ≡ known lane.now }
+        ensures { result.lane ≡ lane.entry }
+    {
+        Bench {
+            lane,
+            owner,
+            server,
+            shutter,
+        }
+    }
+
+    fn does(self, step: Step) -> (Bench<'l, 'm>, Outcome)
+        ensures { result.0.lane ≡ self.entry.lane }
+    {
+        let Bench {
+            lane,
+            mut owner,
+            server,
+            mut shutter,
+        } = self;
+        match step {
+            Step::Send(request) => {
+                let outcome = match owner.send(lane, request) {
+                    Ok(number) => Outcome::Sent(number),
+                    Err(unsent) => Outcome::Unsent(unsent.fault, unsent.request),
+                };
+                (Bench::of(lane, owner, server, shutter), outcome)
+            }
+            Step::Serve => {
+                let (server, outcome) = match server.serve(lane) {
+                    Served::Did(server) => (server, Outcome::Did),
+                    Served::Idle(server) => (server, Outcome::Idle),
+                    Served::Settled(server) => (server, Outcome::Settled),
+                };
+                (Bench::of(lane, owner, server, shutter), outcome)
+            }
+            Step::Collect => {
+                let outcome = match owner.collect(lane) {
+                    Some(given) => Outcome::Got(given.number, given.request, given.answer),
+                    None => Outcome::Nothing,
+                };
+                (Bench::of(lane, owner, server, shutter), outcome)
+            }
+            Step::Shut => {
+                let count = shutter.shut(lane);
+                (
+                    Bench::of(lane, owner, server, shutter),
+                    Outcome::Count(count),
+                )
+            }
+        }
+    }
+
+    fn plays(self, rt: &impl Abort, rows: &[(Step, Outcome)]) -> Bench<'l, 'm>
+        ensures { result.lane ≡ self.entry.lane }
+    {
+        let mut bench = self;
+        for row in rows {
+            let (next, outcome) = bench.does(row.0);
+            bench = next;
+            assert_eq!(rt; outcome, row.1);
+        }
+        bench
+    }
+
+    // Takes the request in hand, which is this one, and answers it.
+    fn takes_and_finishes(self, rt: &impl Abort, request: u64) -> Bench<'l, 'm>
+        ensures { result.lane ≡ self.entry.lane }
+    {
+        let Bench {
+            lane,
+            owner,
+            server,
+            shutter,
+        } = self;
+        let Taken::Job(busy) = server.take(lane) else {
+            panic!(rt; "no job")
+        };
+        assert_eq!(rt; *busy.request(), request);
+        Bench::of(lane, owner, busy.finish(lane), shutter)
+    }
+
+    fn leaves(self) -> Ends<Sum>
+        ensures { (result.owner.lane ≡ known self.entry.lane.now) × (result.server.lane ≡ known self.entry.lane.now) × (result.shutter.lane ≡ known self.entry.lane.now) }
+    {
+        let Bench {
+            lane,
+            owner,
+            server,
+            shutter,
+        } = self;
+        Ends {
+            owner: owner.exit(lane),
+            server,
+            shutter,
+        }
+    }
+}
+
+// A lane, its ends at a bench, the rows, and what `close` tells.
+fn run(
+    rt: &impl Abort,
+    lane: Lane<Sum>,
+    owner: Owner<Sum>,
+    server: Server<Sum>,
+    shutter: Shutter<Sum>,
+    rows: &[(Step, Outcome)],
+) -> Totals<Sum>
+    requires owner { owner.lane ≡ known lane }
+    requires server { server.lane ≡ known lane }
+    requires shutter { shutter.lane ≡ known lane }
+{
+    let ends = Bench::of(&lane, owner, server, shutter)
+        .plays(rt, rows)
+        .leaves();
+    lane.close(ends)
+}
+
+fn check_totals(rt: &impl Abort, totals: Totals<Sum>, counts: [u64; 3], state: u64) {
+    assert_eq!(rt;
+        [totals.accepted, totals.answered, totals.collected],
+        counts
+    );
+    assert_eq!(rt; totals.state, state);
+}
+
+#[test]
+fn one_place_and_all_refusals(rt: HostRuntime) -> Result<(), Fail> {
+    let sum = Sum;
+    let (lane, owner, server, shutter) = Lane::new(rt.alloc(), &sum, 7, 1, 0)?;
+    let rows = [
+        (Step::Send(4), Outcome::Sent(0)),
+        (Step::Send(5), Outcome::Unsent(Full, 5)),
+        (Step::Serve, Outcome::Did),
+        (Step::Collect, Outcome::Got(0, 4, 4)),
+        (Step::Send(5), Outcome::Sent(1)),
+        (Step::Shut, Outcome::Count(2)),
+        (Step::Serve, Outcome::Did),
+        (Step::Send(6), Outcome::Unsent(Full, 6)),
+        (Step::Collect, Outcome::Got(1, 5, 9)),
+        (Step::Send(6), Outcome::Unsent(Closed, 6)),
+        (Step::Serve, Outcome::Settled),
+        (Step::Collect, Outcome::Nothing),
+    ];
+    let totals = run(&rt, lane, owner, server, shutter, &rows);
+    check_totals(&rt, totals, [2, 2, 2], 9);
+    Ok(())
+}
+
+#[test]
+fn capacities_of_a_lane(rt: HostRuntime) -> Result<(), Fail> {
+    let sum = Sum;
+    for capacity in [0, 1025, u32::MAX] {
+        assert!(rt;
+            matches!(
+                Lane::new(rt.alloc(), &sum, 7, capacity, 0),
+                Err(LaneFault::BadCapacity)
+            )
+        );
+    }
+    for capacity in [1, 1024] {
+        assert!(rt; Lane::new(rt.alloc(), &sum, 7, capacity, 0).is_ok());
+    }
+    Ok(())
+}
+
+#[test]
+fn tags(rt: HostRuntime) -> Result<(), Fail> {
+    let sum = Sum;
+    let (lane, owner, server, shutter) = Lane::new(rt.alloc(), &sum, 7, 1, 0)?;
+    let mut owner = owner;
+    assert!(rt; owner.send(&lane, 3).is_ok());
+    assert_eq!(rt;
+        [lane.tag(), owner.tag(), server.tag(), shutter.tag()],
+        [7, 7, 7, 7]
+    );
+    let Taken::Job(busy) = server.take(&lane) else {
+        panic!(rt; "no job")
+    };
+    assert_eq!(rt; busy.tag(), 7);
+    assert_eq!(rt; owner.exit(&lane).tag(), 7);
+    Ok(())
+}
+
+#[test]
+fn the_sum_from_five_with_one_place(rt: HostRuntime) -> Result<(), Fail> {
+    let sum = Sum;
+    let (lane, owner, server, shutter) = Lane::new(rt.alloc(), &sum, 7, 1, 5)?;
+    let bench = Bench::of(&lane, owner, server, shutter).plays(
+        &rt,
+        &[
+            (Step::Send(3), Outcome::Sent(0)),
+            (Step::Send(4), Outcome::Unsent(Full, 4)),
+            (Step::Collect, Outcome::Nothing),
+            (Step::Serve, Outcome::Did),
+            (Step::Serve, Outcome::Idle),
+            (Step::Collect, Outcome::Got(0, 3, 8)),
+            (Step::Send(4), Outcome::Sent(1)),
+        ],
+    );
+    let bench = bench.takes_and_finishes(&rt, 4);
+    drop(bench.plays(
+        &rt,
+        &[
+            (Step::Collect, Outcome::Got(1, 4, 12)),
+            (Step::Collect, Outcome::Nothing),
+        ],
+    ));
+    Ok(())
+}
+
+#[test]
+fn a_ring_of_three(rt: HostRuntime) -> Result<(), Fail> {
+    let sum = Sum;
+    let (lane, owner, server, shutter) = Lane::new(rt.alloc(), &sum, 7, 3, 0)?;
+    let rows = [
+        (Step::Send(1), Outcome::Sent(0)),
+        (Step::Send(2), Outcome::Sent(1)),
+        (Step::Send(3), Outcome::Sent(2)),
+        (Step::Send(4), Outcome::Unsent(Full, 4)),
+        (Step::Serve, Outcome::Did),
+        (Step::Send(4), Outcome::Unsent(Full, 4)),
+        (Step::Collect, Outcome::Got(0, 1, 1)),
+        (Step::Send(4), Outcome::Sent(3)),
+        (Step::Serve, Outcome::Did),
+        (Step::Serve, Outcome::Did),
+        (Step::Serve, Outcome::Did),
+        (Step::Serve, Outcome::Idle),
+        (Step::Collect, Outcome::Got(1, 2, 3)),
+        (Step::Collect, Outcome::Got(2, 3, 6)),
+        (Step::Collect, Outcome::Got(3, 4, 10)),
+        (Step::Collect, Outcome::Nothing),
+    ];
+    let totals = run(&rt, lane, owner, server, shutter, &rows);
+    check_totals(&rt, totals, [4, 4, 4], 10);
+    Ok(())
+}
+
+#[test]
+fn exit_at_once(rt: HostRuntime) -> Result<(), Fail> {
+    let sum = Sum;
+    let (lane, owner, server, shutter) = Lane::new(rt.alloc(), &sum, 7, 2, 5)?;
+    let mut leaver = owner.exit(&lane);
+    assert_eq!(rt; leaver.accepted(), 0);
+    let Taken::Settled(server) = server.take(&lane) else {
+        panic!(rt; "not settled")
+    };
+    assert!(rt; leaver.collect(&lane).is_none());
+    let totals = lane.close(Ends {
+        owner: leaver,
+        server,
+        shutter,
+    });
+    check_totals(&rt, totals, [0, 0, 0], 5);
+    Ok(())
+}
+
+#[test]
+fn a_leaver_collects_what_is_left(rt: HostRuntime) -> Result<(), Fail> {
+    let sum = Sum;
+    let (lane, owner, server, shutter) = Lane::new(rt.alloc(), &sum, 7, 2, 5)?;
+    let bench = Bench::of(&lane, owner, server, shutter).plays(
+        &rt,
+        &[
+            (Step::Send(3), Outcome::Sent(0)),
+            (Step::Send(4), Outcome::Sent(1)),
+            (Step::Serve, Outcome::Did),
+        ],
+    );
+    let mut ends = bench.leaves();
+    assert_eq!(rt; ends.owner.accepted(), 2);
+    assert_eq!(rt; given(&lane, &mut ends.owner), Outcome::Got(0, 3, 8));
+    assert_eq!(rt; given(&lane, &mut ends.owner), Outcome::Nothing);
+    let totals = lane.close(ends);
+    check_totals(&rt, totals, [2, 1, 1], 8);
+    Ok(())
+}
+
+fn given(lane: &Lane<Sum>, leaver: &mut Leaver<Sum>) -> Outcome
+    requires { leaver.old.lane ≡ known lane.now }
+    ensures { leaver.new.lane ≡ leaver.old.lane }
+{
+    match leaver.collect(lane) {
+        Some(given) => Outcome::Got(given.number, given.request, given.answer),
+        None => Outcome::Nothing,
+    }
+}
+
+const SMALL: [Step; 6] = [
+    Step::Send(1),
+    Step::Send(2),
+    Step::Serve,
+    Step::Collect,
+    Step::Serve,
+    Step::Collect,
+];
+
+// The same step at a world: a service is a Take and then a Finish.
+fn world_does(world: &mut World<Sum>, step: Step) -> Outcome {
+    let said = match step {
+        Step::Send(request) => apply(world, Happening::Send(request)),
+        Step::Serve => match apply(world, Happening::Take) {
+            Said::Taken(_) => apply(world, Happening::Finish),
+            said => said,
+        },
+        Step::Collect => apply(world, Happening::Collect),
+        Step::Shut => apply(world, Happening::Shut),
+    };
+    outcome_of(world, said)
+}
+
+fn outcome_of(world: &World<Sum>, said: Said) -> Outcome {
+    match said {
+        Said::Accepted(number) => Outcome::Sent(number),
+        Said::Unsent(fault, request) => Outcome::Unsent(fault, request),
+        Said::Finished(_) => Outcome::Did,
+        Said::Idle => Outcome::Idle,
+        Said::Settled => Outcome::Settled,
+        Said::Given(number) => match (world.request(number), world.answer(number)) {
+            (Some(request), Some(answer)) => Outcome::Got(number, *request, *answer),
+            _ => Outcome::NoMemory,
+        },
+        Said::Nothing => Outcome::Nothing,
+        Said::Count(count) => Outcome::Count(count),
+        Said::Taken(_) | Said::Held | Said::NoJob | Said::NoMemory => Outcome::NoMemory,
+    }
+}
+
+// The step at both, with one outcome.
+fn both_do<'l, 'm>(
+    rt: &impl Abort,
+    bench: Bench<'l, 'm>,
+    world: &mut World<Sum>,
+    step: Step,
+) -> Bench<'l, 'm>
+    ensures { result.lane ≡ bench.entry.lane }
+{
+    let (bench, outcome) = bench.does(step);
+    assert_eq!(rt; outcome, world_does(world, step));
+    bench
+}
+
+// The small schedule with a shut after its first `place` steps, beside a world.
+fn shut_after(rt: &impl Abort, bench: Bench, world: &mut World<Sum>, place: usize) -> Ends<Sum>
+    ensures { (result.owner.lane ≡ known bench.entry.lane.now) × (result.server.lane ≡ known bench.entry.lane.now) × (result.shutter.lane ≡ known bench.entry.lane.now) }
+{
+    let mut bench = bench;
+    for i in 0..SMALL.len() {
+        if i == place {
+            bench = both_do(rt, bench, world, Step::Shut);
+        }
+        bench = both_do(rt, bench, world, SMALL[i]);
+    }
+    if place >= SMALL.len() {
+        bench = both_do(rt, bench, world, Step::Shut);
+    }
+    bench.leaves()
+}
+
+const COUNTS: [u64; 7] = [0, 1, 2, 2, 2, 2, 2];
+
+const STATES: [u64; 7] = [0, 1, 3, 3, 3, 3, 3];
+
+fn shut_at(rt: &impl Abort, alloc: Global, place: usize) -> Result<(), LaneFault>
+    requires { place < 7 }
+{
+    let sum = Sum;
+    let mut world = World::new(alloc, &sum, 2, 0)?;
+    let (lane, owner, server, shutter) = Lane::new(alloc, &sum, 7, 2, 0)?;
+    let mut ends = shut_after(
+        rt,
+        Bench::of(&lane, owner, server, shutter),
+        &mut world,
+        place,
+    );
+    let count = COUNTS[place];
+    assert_eq!(rt; ends.shutter.shut(&lane), count);
+    let totals = lane.close(ends);
+    check_totals(rt, totals, [count, count, count], STATES[place]);
+    assert_eq!(rt; world.label(), STATES[place]);
+    Ok(())
+}
+
+#[test]
+fn a_shut_at_each_place_of_a_small_schedule(rt: HostRuntime) -> Result<(), Fail> {
+    for place in 0..7 {
+        shut_at(&rt, rt.alloc(), place)?;
+    }
+    Ok(())
+}
+
+// The numbers from `from` on are sent.
+fn sends<'l, 'm>(
+    rt: &impl Abort,
+    bench: Bench<'l, 'm>,
+    world: &mut World<Sum>,
+    from: u64,
+    count: u64,
+) -> Bench<'l, 'm>
+    ensures { result.lane ≡ bench.entry.lane }
+{
+    let mut bench = bench;
+    for i in 0..count {
+        bench = both_do(rt, bench, world, Step::Send(from.wrapping_add(i)));
+    }
+    bench
+}
+
+fn repeats<'l, 'm>(
+    rt: &impl Abort,
+    bench: Bench<'l, 'm>,
+    world: &mut World<Sum>,
+    step: Step,
+    count: u64,
+) -> Bench<'l, 'm>
+    ensures { result.lane ≡ bench.entry.lane }
+{
+    let mut bench = bench;
+    for _ in 0..count {
+        bench = both_do(rt, bench, world, step);
+    }
+    bench
+}
+
+// So many requests go round, and one try more of each kind is refused or finds nothing.
+fn rounds(rt: &impl Abort, bench: Bench, world: &mut World<Sum>, counts: &[u64]) -> Ends<Sum>
+    ensures { (result.owner.lane ≡ known bench.entry.lane.now) × (result.server.lane ≡ known bench.entry.lane.now) × (result.shutter.lane ≡ known bench.entry.lane.now) }
+{
+    let mut bench = bench;
+    let mut from: u64 = 0;
+    for count in counts {
+        bench = sends(rt, bench, world, from, *count);
+        bench = repeats(rt, bench, world, Step::Serve, count.wrapping_add(1));
+        bench = repeats(rt, bench, world, Step::Collect, count.wrapping_add(1));
+        from = from.wrapping_add(*count);
+    }
+    bench.leaves()
+}
+
+#[test]
+fn five_thousand_requests_through_the_largest_lane(rt: HostRuntime) -> Result<(), Fail> {
+    let sum = Sum;
+    let mut world = World::new(rt.alloc(), &sum, 1024, 0)?;
+    let (lane, owner, server, shutter) = Lane::new(rt.alloc(), &sum, 7, 1024, 0)?;
+    let bench = Bench::of(&lane, owner, server, shutter);
+    let ends = rounds(&rt, bench, &mut world, &[1024, 1024, 1024, 1024, 904]);
+    let totals = lane.close(ends);
+    check_totals(&rt, totals, [5000, 5000, 5000], 500);
+    assert_eq!(rt; world.label(), 500);
+    Ok(())
+}
+
+// A step for a number drawn at random.
+fn step_of(draw: u64) -> Step {
+    match draw % 8 {
+        0..=2 => Step::Send(draw / 8 % 1000),
+        3..=5 => Step::Serve,
+        _ => Step::Collect,
+    }
+}
+
+// Two thousand steps drawn at random, with a shut after the first fifteen hundred.
+fn wanders(rt: &impl Abort, bench: Bench, world: &mut World<Sum>, seed: u64) -> Ends<Sum>
+    ensures { (result.owner.lane ≡ known bench.entry.lane.now) × (result.server.lane ≡ known bench.entry.lane.now) × (result.shutter.lane ≡ known bench.entry.lane.now) }
+{
+    let mut bench = bench;
+    let mut draw = seed;
+    for i in 0..2000 {
+        draw = draw
+            .wrapping_mul(6364136223846793005)
+            .wrapping_add(1442695040888963407);
+        let step = if i == 1500 {
+            Step::Shut
+        } else {
+            step_of(draw >> 33)
+        };
+        bench = both_do(rt, bench, world, step);
+    }
+    bench.leaves()
+}
+
+fn wanders_at(rt: &impl Abort, alloc: Global, capacity: u32, seed: u64) -> Result<(), LaneFault> {
+    let sum = Sum;
+    let mut world = World::new(alloc, &sum, capacity, 5)?;
+    let (lane, owner, server, shutter) = Lane::new(alloc, &sum, 7, capacity, 5)?;
+    let ends = wanders(
+        rt,
+        Bench::of(&lane, owner, server, shutter),
+        &mut world,
+        seed,
+    );
+    let totals = lane.close(ends);
+    assert_eq!(rt; totals.state, world.label());
+    assert!(rt; totals.answered > 100);
+    Ok(())
+}
+
+#[test]
+fn a_lane_beside_its_world_over_random_schedules(rt: HostRuntime) -> Result<(), Fail> {
+    for row in [(1, 1), (1, 2), (2, 3), (3, 4), (7, 5), (1024, 6)] {
+        wanders_at(&rt, rt.alloc(), row.0, row.1)?;
+    }
+    Ok(())
+}
