@@ -1,0 +1,87 @@
+#!/usr/bin/env python3
+"""Times the building of automata beside apparmor_parser on the same patterns.
+
+usage: workloads.py PROGRAM [WORD..]
+
+PROGRAM is the built program `aa_auto_bench` (bench/automaton/run builds it), which reads patterns from standard input, one
+a line. With words, only the workloads that have one of them in their names are run. Each figure is the median of five runs
+of the whole process, its start included, in seconds of the processor, so that other work on the machine doesn't show; the
+ratio is PROGRAM's time over the parser's.
+"""
+import os
+import resource
+import statistics
+import subprocess
+import sys
+import tempfile
+
+FEATURES = "/usr/share/apparmor-features/features"
+RUNS = 5
+
+
+def mixed(count):
+    """Rules with a variable and choices, and the patterns that they stand for."""
+    homes = ["/home/*/", "/root/"]
+    rules, patterns = [], []
+    for i in range(count):
+        if i % 4 == 0:
+            rest = f".config/app{i}/{{cache,data}}/**"
+            rules.append("@{HOME}" + rest)
+            patterns += [home + rest for home in homes]
+            continue
+        text = [None, f"/usr/{{lib,lib64,share}}/pkg{i}/*.so", f"/etc/conf{i}.d/*", f"/var/log/svc{i}/**.log"][i % 4]
+        rules.append(text)
+        patterns.append(text)
+    return "@{HOME}=" + " ".join(homes) + "\n", rules, patterns
+
+
+def workloads():
+    """Name, lines before the profile, the rules' paths, and the patterns."""
+    for n in (100, 1000, 10000):
+        paths = [f"/usr/lib/x/{i}/file" for i in range(n)]
+        yield f"{n} literals", "", paths, paths
+    for n in (100, 1000, 10000):
+        paths = [f"/dir{i}/**" for i in range(n)]
+        yield f"{n} trees", "", paths, paths
+    paths = [f"/**/lib{i}.so" for i in range(300)]
+    yield "300 libraries", "", paths, paths
+    for k in range(8, 15):
+        paths = ["/**a" + "?" * k]
+        yield f"free bytes {k}", "", paths, paths
+    before, rules, patterns = mixed(1000)
+    yield "1000 mixed", before, rules, patterns
+
+
+def timed(command, data):
+    """The processor's seconds, the exit status and standard output."""
+    before = resource.getrusage(resource.RUSAGE_CHILDREN)
+    done = subprocess.run(command, input=data, stdout=subprocess.PIPE, stderr=subprocess.PIPE)
+    after = resource.getrusage(resource.RUSAGE_CHILDREN)
+    seconds = after.ru_utime + after.ru_stime - before.ru_utime - before.ru_stime
+    return seconds, done.returncode, done.stdout
+
+
+def median(command, data=b""):
+    results = [timed(command, data) for _ in range(RUNS)]
+    return statistics.median(r[0] for r in results), results[-1]
+
+
+def main():
+    program = os.path.abspath(sys.argv[1])
+    words = sys.argv[2:]
+    print(f"{'workload':16} {'patterns':>8} {'ours s':>9} {'parser s':>9} {'ratio':>7}  rows and classes")
+    for name, before, paths, patterns in workloads():
+        if words and not any(w in name for w in words):
+            continue
+        with tempfile.NamedTemporaryFile("w", suffix=".profile") as profile:
+            profile.write(before + "profile p {\n" + "".join(f"  {p} r,\n" for p in paths) + "}\n")
+            profile.flush()
+            ours, last = median([program], "".join(p + "\n" for p in patterns).encode())
+            theirs, other = median(["apparmor_parser", "-QKS", "--features-file", FEATURES, profile.name])
+        note = "" if other[1] == 0 else f"  (the parser ended with {other[1]})"
+        print(f"{name:16} {len(patterns):8} {ours:9.4f} {theirs:9.4f} {ours / theirs:7.2f}  {last[2].decode().strip()}{note}", flush=True)
+    peak = resource.getrusage(resource.RUSAGE_CHILDREN).ru_maxrss
+    print(f"most memory of a run: {peak // 1024} MiB")
+
+
+main()
