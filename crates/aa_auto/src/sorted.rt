@@ -11,10 +11,24 @@ pub(crate) fn count_below(set: &[u32], value: u32) -> usize
     ensures below { (k : ℕ) → k < result → slice_index set.now k < value }
     ensures above { (k : ℕ) → result ≤ k → k < length set.now → value ≤ slice_index set.now k }
 {
+    let many = set.len();
+    if many > 0 && set[many - 1] < value {
+        return many;
+    }
+    search_below(set, value)
+}
+
+/// The same, by halves.
+fn search_below(set: &[u32], value: u32) -> usize
+    requires { IsStrictlyIncreasing set.now }
+    ensures bound { result ≤ length set.now }
+    ensures below { (k : ℕ) → k < result → slice_index set.now k < value }
+    ensures above { (k : ℕ) → result ≤ k → k < length set.now → value ≤ slice_index set.now k }
+{
     let mut low = 0;
     let mut high = set.len();
     while low < high {
-        let middle = high - 1 - (high - low) / 4;
+        let middle = low + (high - low) / 2;
         if set[middle] < value {
             low = middle + 1;
         } else {

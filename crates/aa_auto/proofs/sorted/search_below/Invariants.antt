@@ -1,5 +1,5 @@
 use Rattle.std.proofs.Common.{ℕ, ◌-◌, ◌<◌, ◌≤◌, get_or, length}
-use Rattle.aa_auto.proofs.sorted.count_below.Given as goal
+use Rattle.aa_auto.proofs.sorted.search_below.Given as goal
 
 abbrev pub invariant-loop-low : goal.invariant-loop-low
 invariant-loop-low l = record {
