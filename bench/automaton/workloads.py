@@ -19,6 +19,11 @@ FEATURES = "/usr/share/apparmor-features/features"
 RUNS = 5
 
 
+def free(count):
+    """A letter anywhere and that many free bytes behind it: about 2 to the power of one more rows."""
+    return "/**a" + "?" * count
+
+
 def mixed(count):
     """Rules with a variable and choices, and the patterns that they stand for."""
     homes = ["/home/*/", "/root/"]
@@ -46,7 +51,7 @@ def workloads():
     paths = [f"/**/lib{i}.so" for i in range(300)]
     yield "300 libraries", "", paths, paths
     for k in range(8, 15):
-        paths = ["/**a" + "?" * k]
+        paths = [free(k)]
         yield f"free bytes {k}", "", paths, paths
     before, rules, patterns = mixed(1000)
     yield "1000 mixed", before, rules, patterns
@@ -66,6 +71,17 @@ def median(command, data=b""):
     return statistics.median(r[0] for r in results), results[-1]
 
 
+def large(program):
+    """The rows of an automaton of nearly a million, and the most memory that building it took, in bytes."""
+    patterns = "".join(f"/{k}{free(k)[1:]}\n" for k in (18, 17, 16, 15))
+    child = subprocess.Popen([program], stdin=subprocess.PIPE, stdout=subprocess.PIPE)
+    child.stdin.write(patterns.encode())
+    child.stdin.close()
+    said = child.stdout.read().decode().strip()
+    _, _, used = os.wait4(child.pid, 0)
+    return said, used.ru_maxrss * 1024, used.ru_utime + used.ru_stime
+
+
 def main():
     program = os.path.abspath(sys.argv[1])
     words = sys.argv[2:]
@@ -80,8 +96,8 @@ def main():
             theirs, other = median(["apparmor_parser", "-QKS", "--features-file", FEATURES, profile.name])
         note = "" if other[1] == 0 else f"  (the parser ended with {other[1]})"
         print(f"{name:16} {len(patterns):8} {ours:9.4f} {theirs:9.4f} {ours / theirs:7.2f}  {last[2].decode().strip()}{note}", flush=True)
-    peak = resource.getrusage(resource.RUSAGE_CHILDREN).ru_maxrss
-    print(f"most memory of a run: {peak // 1024} MiB")
+    said, peak, seconds = large(program)
+    print(f"a large automaton: {said}, {peak // 1024 // 1024} MiB at most, {seconds:.2f} s")
 
 
 main()

@@ -24,4 +24,6 @@ pub use reader::read_pattern;
 pub use vars::Vars;
 
 #[cfg(test)]
+mod hostile_tests;
+#[cfg(test)]
 mod tests;
