@@ -1,12 +1,12 @@
 -- The sets that were found make an automaton.
 use Rattle.std.proofs.Common.{◌≡◌, ℕ, ◌+◌, ◌*◌, ◌<◌, List, [], ◌∷◌, ◌++◌, length, get_or, drop, drop-cons, suc, refl, sym, ap, ◌∙◌, subst, arith, append_assoc}
 use Rattle.std.proofs.lemmas.List.{append-nil, get_or_default}
-use Rattle.std.proofs.lemmas.List.Elements.{All-head, All-tail, All-push}
+use Rattle.std.proofs.lemmas.List.Elements.{All-head, All-tail}
 use Rattle.aa_glob.specs.declared.item.Pattern.{Pattern}
 use Rattle.aa_auto.specs.Classes.{IsSame}
 use Rattle.aa_auto.specs.Division.{AreClassesOf}
 use Rattle.aa_auto.specs.Spots.{IsSpotsOf}
-use Rattle.aa_auto.specs.Tables.{Table, IsTable, IsText, IsAutomaton, HasClasses, PlacesStay, row_after, place_of, rows_of}
+use Rattle.aa_auto.specs.Tables.{Table, IsTable, IsText, IsAutomaton, HasClasses, row_after, place_of, rows_of}
 use Rattle.aa_auto.specs.Explored.{IsExplored, Goes}
 use Rattle.aa_auto.proofs.CellLemmas.{cell_below}
 use Rattle.aa_auto.proofs.LawLemmas.{same_bytes}
@@ -95,11 +95,6 @@ module _ (ps : List Pattern) (sets : List (List ℕ)) (of bytes cells : List ℕ
         let lt' : row < length sets = omega (arith, lt, all.listed.many) in
         omega (arith, (all.filled row class few (subst (λ n. length bytes * row + class < n) (sym all.whole) (cell_below (length bytes) row (length sets) class lt' few))).within, all.listed.many);
   }
-
-pub places_stay : (ps : List Pattern) (t : Table) → IsAutomaton ps t → PlacesStay ps
-places_stay ps t auto s u b st ut few same =
-    (auto.places (s ++ b ∷ []) (u ++ b ∷ []) (All-push (λ c. c < 256) s b st few) (All-push (λ c. c < 256) u b ut few)).0
-    (auto.appended s u b st ut few ((auto.places s u st ut).1 same))
 
 -- one more byte of the text
 pub row_on : (t : Table) (text : List ℕ) (k row class next : ℕ) → IsTable t → k < length text → get_or text k 0 < 256 → row < rows_of t →

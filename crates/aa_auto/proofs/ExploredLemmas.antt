@@ -8,13 +8,13 @@ use Rattle.aa_glob.specs.declared.item.Pattern.{Pattern}
 use Rattle.aa_glob.specs.Globs.{Matches}
 use Rattle.aa_glob.specs.Places.{SamePlaces}
 use Rattle.aa_auto.specs.Apart.{IsApart}
-use Rattle.aa_auto.specs.Heads.{heads_of_patterns}
+use Rattle.aa_glob.specs.Heads.{heads_of_patterns}
 use Rattle.aa_auto.specs.Spots.{IsSpotsOf}
 use Rattle.aa_auto.specs.Tables.{IsText, HasPlaces, ListsMatching}
 use Rattle.aa_auto.specs.Explored.{Follows, Lists, TakesSet, AreReached, AreListed, Goes}
 use Rattle.aa_auto.proofs.SortedLemmas.{same_rising}
 use Rattle.aa_auto.proofs.SpotsLemmas.{same_spots}
-use Rattle.aa_auto.proofs.PlacesLemmas.{In, heads_from_places, places_from_heads}
+use Rattle.aa_glob.proofs.PlaceHeads.{In, heads_from_places, places_from_heads}
 
 pub got : {X : Type 0} (xs : List X) (i : ℕ) (x d : X) → slice_get xs i ≡ Some x → (i < length xs) × (get_or xs i d ≡ x)
 got [] i x d e = absurd (cc e)

@@ -1,13 +1,12 @@
 -- Heads and weights, one more item at a time.
-use Rattle.std.proofs.Common.{slice_get, ◌≡◌, ℕ, ◌≤◌, ◌<◌, ◌↔◌, ◌⊎◌, Some, List, [], ◌∷◌, ◌++◌, length, get_or, suc, zero, Vec, Global, refl, sym, ap, ◌∙◌, inl, inr, ⊎_elim, arith, append_assoc}
+use Rattle.std.proofs.Common.{slice_get, ◌≡◌, ℕ, ◌≤◌, ◌<◌, ◌⊎◌, Some, List, [], ◌∷◌, ◌++◌, length, get_or, suc, zero, Vec, Global, refl, sym, ap, ◌∙◌, inl, inr, ⊎_elim, arith, append_assoc}
 use Rattle.std.proofs.lemmas.List.{append-nil}
 use Rattle.aa_glob.specs.declared.item.Item.{Item, Byte, One, Run, RunOne, Deep, DeepOne, Class, Choice, Choice', roll-Item, roll-out-Item}
 use Rattle.aa_glob.specs.declared.item.Item.TheVariants.{outs-Choice', rolls-Choice}
 use Rattle.aa_glob.specs.declared.item.Pattern.{Pattern}
-use Rattle.aa_glob.specs.Globs.{Matches}
 use Rattle.aa_glob.specs.Weights.{weight, weight_of_items, weight_of_lists}
-use Rattle.aa_auto.specs.Steps.{IsSimple}
-use Rattle.aa_auto.specs.Heads.{heads_within, heads_after, heads_of_choice, heads_of_patterns, SomeEnds}
+use Rattle.aa_glob.specs.Steps.{IsSimple}
+use Rattle.aa_glob.specs.Heads.{heads_within, heads_after, heads_of_choice, heads_of_patterns}
 
 pub weight_at : (items : List Item) (k : ℕ) (d : Item) → k < length items → weight (get_or items k d) ≤ weight_of_items items
 weight_at [] k d h = absurd (omega arith)
@@ -56,13 +55,6 @@ heads_of_patterns-push (q ∷ ps) p =
 pub heads_of_choice-push : (h : List Item) (cs : List (Vec Item Global)) (b : Vec Item Global) → heads_of_choice h (cs ++ b ∷ []) ≡ heads_of_choice h cs ++ (h ∷ heads_after h b.items)
 heads_of_choice-push h [] b = append-nil (h ∷ heads_after h b.items)
 heads_of_choice-push h (c ∷ cs) b = ap (λ z. (h ∷ heads_after h c.items) ++ z) (heads_of_choice-push h cs b) ∙ sym (append_assoc (h ∷ heads_after h c.items) (heads_of_choice h cs) (h ∷ heads_after h b.items))
-
-pub SomeEnds-push : (h : List Item) (t : List ℕ) (b : Vec Item Global) (cs : List (Vec Item Global)) → (SomeEnds h cs t ⊎ Matches (h ++ b.items) t) ↔ SomeEnds h (cs ++ b ∷ []) t
-SomeEnds-push h t b [] = (λ e. ⊎_elim (λ z. absurd z) (λ m. inl m) e, λ e. ⊎_elim (λ m. inr m) (λ z. absurd z) e)
-SomeEnds-push h t b (c ∷ cs) = (
-  λ e. ⊎_elim (λ (f : Matches (h ++ c.items) t ⊎ SomeEnds h cs t). ⊎_elim (λ m. inl m) (λ g. inr ((SomeEnds-push h t b cs).0 (inl g))) f) (λ m. inr ((SomeEnds-push h t b cs).0 (inr m))) e,
-  λ e. ⊎_elim (λ m. inl (inl m)) (λ (f : SomeEnds h (cs ++ b ∷ []) t). ⊎_elim (λ g. inl (inr g)) (λ m. inr m) ((SomeEnds-push h t b cs).1 f)) e,
-)
 
 pub pattern_either : (p : Pattern) (qs : List Pattern) (n : ℕ) (q : Pattern) → slice_get (qs ++ p ∷ []) n ≡ Some q → (slice_get qs n ≡ Some q) ⊎ ((length qs ≡ n) × (p ≡ q))
 pattern_either p [] zero q e = inr (refl, cc e)

@@ -7,8 +7,8 @@ use Rattle.std.proofs.lemmas.Bool.{cases_lt}
 use Rattle.aa_glob.specs.declared.item.Pattern.{Pattern}
 use Rattle.aa_auto.specs.declared.nodes.Node.{Node}
 use Rattle.aa_auto.specs.declared.nodes.Node.TheVariants.{Start, After, Same, Join}
-use Rattle.aa_auto.specs.Steps.{IsSkippable}
-use Rattle.aa_auto.specs.Heads.{heads_of_patterns}
+use Rattle.aa_glob.specs.Steps.{IsSkippable}
+use Rattle.aa_glob.specs.Heads.{heads_of_patterns}
 use Rattle.aa_auto.specs.Nodes.{IsRight, HasSources, HaveSources, AreNodes}
 use Rattle.aa_auto.specs.Closed.{IsUpward}
 use Rattle.aa_auto.specs.Spots.{Jumps, AreJumps, AreJumpsSoFar, AddsToRows, AddsJumps, AreEmpty}

@@ -6,9 +6,10 @@ use Rattle.aa_glob.specs.declared.item.Item.{Item, Byte, One, Run, RunOne, Deep,
 use Rattle.aa_glob.specs.declared.item.Pattern.{Pattern}
 use Rattle.aa_glob.specs.Globs.{Allows, SomeAllows, AllAllow, Matches, sequences, branches_of}
 use Rattle.aa_glob.specs.Places.{Position, Gap, Within, IsHead, IsPlace, SamePlaces}
-use Rattle.aa_auto.specs.Steps.{Begins, Continues, IsSimple}
+use Rattle.aa_glob.specs.Steps.{Begins, Continues, IsSimple}
 use Rattle.aa_auto.specs.Classes.{IsSameFor, IsSameForBranches, IsSameForRow, IsSameForItems, IsSame}
-use Rattle.aa_auto.proofs.Texts.{IsPart, allows_part}
+use Rattle.aa_glob.proofs.Cuts.{↔_sym}
+use Rattle.aa_glob.proofs.Texts.{IsPart, allows_part}
 use Rattle.aa_auto.proofs.SameLemmas.{same_simple, same_row}
 
 -- a text that ends in a byte, cut in two
@@ -135,11 +136,8 @@ module _ (a b : ℕ) where
   same_place ps same s n q place =
       (place.0, place.1, place.2, place.3, same_matches place.1 (same_head q place.0.items.items place.1 place.3 (same_pattern ps n place.0 place.2 same)) s place.4)
 
-iff_back : {P Q : Type 0} → P ↔ Q → Q ↔ P
-iff_back h = (h.1, h.0)
-
 pub same_back_items : (a b : ℕ) (i : Item) → ((Begins i a ↔ Begins i b) × (Continues i a ↔ Continues i b)) → ((Begins i b ↔ Begins i a) × (Continues i b ↔ Continues i a))
-same_back_items a b i s = (iff_back s.0, iff_back s.1)
+same_back_items a b i s = (↔_sym s.0, ↔_sym s.1)
 
 module _ (a b : ℕ) where
   mutual

@@ -1,4 +1,3 @@
-pub mod Texts
 pub mod Choices
 pub mod HeadLemmas
 pub mod SameLemmas
@@ -13,7 +12,6 @@ pub mod JumpLemmas
 pub mod FinalLemmas
 pub mod NetLemmas
 pub mod SetsLemmas
-pub mod PlacesLemmas
 pub mod ExploredLemmas
 pub mod CellLemmas
 pub mod AutomatonLemmas

@@ -6,7 +6,7 @@ use Rattle.aa_glob.specs.declared.item.Item.{Item}
 use Rattle.aa_glob.specs.declared.item.Pattern.{Pattern}
 use Rattle.aa_glob.specs.Globs.{Matches}
 use Rattle.aa_auto.specs.declared.nodes.Node.{Node}
-use Rattle.aa_auto.specs.Heads.{heads_of_patterns}
+use Rattle.aa_glob.specs.Heads.{heads_of_patterns}
 use Rattle.aa_auto.specs.Closed.{IsUpward, IsClosure}
 use Rattle.aa_auto.specs.Spots.{IsSpotsOf, AreSeeds}
 use Rattle.aa_auto.specs.Finals.{AreFinals, ListsFinals}

@@ -10,14 +10,14 @@ use Rattle.aa_auto.specs.declared.nodes.Node.{Node}
 use Rattle.aa_auto.specs.declared.nodes.Node.TheVariants.{Start, After, Same, Join}
 use Rattle.std.specs.Borrow.{Bor}
 use Rattle.std.specs.List.Sorted.{IsStrictlyIncreasing}
-use Rattle.aa_auto.specs.Steps.{IsSimple}
+use Rattle.aa_glob.specs.Steps.{IsSimple}
 use Rattle.aa_auto.specs.Classes.{IsSameForItems, IsSameForLists, IsSame}
 use Rattle.aa_auto.proofs.SortedLemmas.{rising_push}
 use Rattle.aa_auto.proofs.SameLemmas.{AreSameNodes-append, IsSameForItems-push, IsSameForLists-push, IsSame-push, IsSameFor-Choice, same_simple}
-use Rattle.aa_auto.specs.Heads.{heads_within, heads_after, heads_of_choice, heads_of_patterns, SomeEnds}
-use Rattle.aa_auto.specs.Nodes.{Fits, SomeOf, IsRight, AllRight, AddsItems, AddsItem, AddsBranches, AreNodes, AreSameNodes}
-use Rattle.aa_auto.proofs.HeadLemmas.{heads_after-push, within_none, not_choice, heads_of_choice-push, SomeEnds-push, heads_of_patterns-push, pattern_either}
-use Rattle.aa_auto.proofs.Choices.{Matches-choice, heads_within-Choice}
+use Rattle.aa_glob.specs.Heads.{heads_within, heads_after, heads_of_choice, heads_of_patterns}
+use Rattle.aa_auto.specs.Nodes.{Fits, SomeOf, SomeEnds, IsRight, AllRight, AddsItems, AddsItem, AddsBranches, AreNodes, AreSameNodes}
+use Rattle.aa_auto.proofs.HeadLemmas.{heads_after-push, within_none, not_choice, heads_of_choice-push, heads_of_patterns-push, pattern_either}
+use Rattle.aa_auto.proofs.Choices.{Matches-choice, SomeEnds-push, heads_within-Choice}
 
 abbrev Heads : Type 0
 Heads = List (List Item)
@@ -145,7 +145,7 @@ branches_none from before ends e = subst (λ z. AddsBranches from before before 
   whole = sym (append-nil before);
   many = λ h. refl;
   below = All-nil (λ e. e < length before);
-  right = λ hs h at f. (tt, λ t. (λ s. absurd (omega (arith, s.1.1)), λ z. absurd z));
+  right = λ hs h at f. (tt, λ t. (λ s. absurd (omega (arith, s.1.1)), λ z. absurd z.4));
   same = λ a b. (λ _. tt, λ _. tt);
 }
 

@@ -1,16 +1,12 @@
 -- Bytes that no item tells apart, one more item at a time.
 use Rattle.std.proofs.Common.{ℕ, ◌↔◌, List, [], ◌∷◌, ◌++◌, Vec, Global, sym, subst}
-use mathlib.Core.Former.{Count}
 use Rattle.aa_glob.specs.declared.item.Item.{Item, Byte, One, Run, RunOne, Deep, DeepOne, Class, Choice, Choice', Row_of-Item, end_of-Item, more_of-Item, items-the_row-Item, items_shown-the_row-Item-0, Row_of-Item-Choice-0-1, end_of-Item-Choice-0-1, more_of-Item-Choice-0-1, items-the_row-Item-Choice-0-1, items_hidden-the_row-Item-Choice-0-1-1}
 use Rattle.aa_glob.specs.declared.item.Pattern.{Pattern}
 use Rattle.aa_auto.specs.declared.nodes.Node.{Node}
-use Rattle.aa_auto.specs.Steps.{IsSimple, Begins, Continues}
+use Rattle.aa_glob.specs.Steps.{IsSimple, Begins, Continues}
+use Rattle.aa_glob.proofs.Rows.{rows_of}
 use Rattle.aa_auto.specs.Classes.{IsSameFor, IsSameForBranches, IsSameForRow, IsSameForItems, IsSameForLists, IsSame}
 use Rattle.aa_auto.specs.Nodes.{AreSameNodes}
-
-abbrev rows_of : Item → (n : Count) × Row_of-Item-Choice-0-1 n
-rows_of (Choice' _ rows) = (_, rows)
-rows_of _ = (_, end_of-Item-Choice-0-1)
 
 module _ (a b : ℕ) where
   pub AreSameNodes-append : (xs ys : List Node) → AreSameNodes (xs ++ ys) a b ↔ (AreSameNodes xs a b × AreSameNodes ys a b)

@@ -5,12 +5,12 @@ use Rattle.aa_glob.specs.declared.item.Pattern.{Pattern}
 use Rattle.aa_glob.specs.Globs.{Matches}
 use Rattle.aa_auto.specs.declared.nodes.Node.{Node}
 use Rattle.aa_auto.specs.declared.nodes.Node.TheVariants.{Start, After, Same, Join}
-use Rattle.aa_auto.specs.Steps.{Begins, Continues, IsSkippable}
-use Rattle.aa_auto.specs.Heads.{Leads, heads_of_patterns}
+use Rattle.aa_glob.specs.Steps.{Begins, Continues, IsSkippable}
+use Rattle.aa_glob.specs.Heads.{heads_of_patterns}
 use Rattle.aa_auto.specs.Nodes.{Fits, IsRight, AllRight, AreNodes}
 use Rattle.aa_auto.specs.Closed.{IsClosure}
-use Rattle.aa_auto.specs.Spots.{Stands, IsSpotsOf, Jumps, AreJumps, Seeds, AreSeeds, Stood}
-use Rattle.aa_auto.proofs.Texts.{Matches-skip, Matches-grow}
+use Rattle.aa_auto.specs.Spots.{Stands, IsSpotsOf, Jumps, AreJumps, Seeds, AreSeeds, Leads, Stood}
+use Rattle.aa_glob.proofs.Texts.{Matches-skip, Matches-grow}
 
 -- each list fits in itself
 fits_behind : (front xs : List (List Item)) → Fits (front ++ xs) (length front) xs

@@ -3,7 +3,7 @@ use Rattle.std.specs.Prelude.{◌≡◌, ◌≢◌, ◌↔◌, ◌⊎◌, ℕ, �
 use Rattle.aa_glob.specs.declared.item.Item.{Item}
 use Rattle.aa_glob.specs.declared.item.Pattern.{Pattern}
 use Rattle.aa_auto.specs.declared.nodes.Node.{Node}
-use Rattle.aa_auto.specs.Steps.{Begins, Continues}
+use Rattle.aa_glob.specs.Steps.{Begins, Continues}
 use Rattle.aa_auto.specs.Classes.{IsSame}
 use Rattle.aa_auto.specs.Nodes.{IsSameNode, AreSameNodes}
 

@@ -2,8 +2,8 @@
 use Rattle.std.specs.Prelude.{◌≡◌, ℕ, ◌+◌, ◌*◌, ◌<◌, ◌⊎◌, Option, List, [], ◌∷◌, ◌++◌, length, slice_index, slice_index_or}
 use Rattle.aa_glob.specs.declared.item.Pattern.{Pattern}
 use Rattle.aa_auto.specs.Apart.{IsApart}
-use Rattle.aa_auto.specs.Heads.{Leads, heads_of_patterns}
-use Rattle.aa_auto.specs.Spots.{IsSpotsOf, Stood}
+use Rattle.aa_glob.specs.Heads.{heads_of_patterns}
+use Rattle.aa_auto.specs.Spots.{IsSpotsOf, Leads, Stood}
 use Rattle.aa_auto.specs.Tables.{IsText, ListsMatching}
 
 -- the new set is that of each text that the byte leads to from one that the old set is of; with no byte, of the empty text

@@ -1,3 +1,6 @@
+pub use Rattle.aa_glob.specs.Globs
+pub use Rattle.aa_glob.specs.Places
+pub use Rattle.aa_glob.specs.Steps
 pub mod Apart
 pub mod Classes
 pub mod Closed
@@ -5,10 +8,8 @@ pub mod Division
 pub mod Explored
 pub mod Finals
 pub mod Found
-pub mod Heads
 pub mod Nets
 pub mod Nodes
 pub mod Sorted
 pub mod Spots
-pub mod Steps
 pub mod Tables

@@ -4,12 +4,12 @@ use Rattle.std.specs.Global.{Global}
 use Rattle.std.specs.List.Sorted.{IsStrictlyIncreasing}
 use Rattle.aa_glob.specs.declared.item.Item.{Item}
 use Rattle.aa_glob.specs.declared.item.Pattern.{Pattern}
-use Rattle.aa_glob.specs.Globs.{Matches}
+use Rattle.aa_glob.specs.Globs.{Matches, SomeMatches}
 use Rattle.aa_auto.specs.declared.nodes.Node.{Node}
 use Rattle.aa_auto.specs.declared.nodes.Node.TheVariants.{Start, After, Same, Join}
-use Rattle.aa_auto.specs.Steps.{IsSimple, Begins, Continues}
+use Rattle.aa_glob.specs.Steps.{IsSimple, Begins, Continues}
 use Rattle.aa_auto.specs.Classes.{IsSameFor, IsSameForItems, IsSameForLists, IsSame}
-use Rattle.aa_auto.specs.Heads.{heads_within, heads_after, heads_of_choice, heads_of_patterns, SomeEnds}
+use Rattle.aa_glob.specs.Heads.{heads_within, heads_after, heads_of_choice, heads_of_patterns}
 
 -- the head of the position
 abbrev pub head_at : List (List Item) → ℕ → List Item
@@ -23,6 +23,10 @@ Fits hs k (x ∷ xs) = (head_at hs k ≡ x) × Fits hs (k + 1) xs
 -- the head of one of the positions matches
 abbrev pub SomeOf : List (List Item) → List ℕ → List ℕ → Type 0
 SomeOf hs positions t = (p : ℕ) × Contains positions p × Matches (head_at hs p) t
+
+-- h and one of the sequences behind it match
+abbrev pub SomeEnds : List Item → List (Vec Item Global) → List ℕ → Type 0
+SomeEnds h branches t = (a : List ℕ) × (b : List ℕ) × (t ≡ a ++ b) × Matches h a × SomeMatches branches b
 
 -- the node says which head the position n has
 abbrev pub IsRight : List (List Item) → ℕ → Node → Type 0

@@ -1,13 +1,13 @@
 -- Sets of positions, as rising numbers, and what one byte does to them.
-use Rattle.std.specs.Prelude.{◌≡◌, ℕ, ◌+◌, ◌<◌, ◌↔◌, ◌⊎◌, Option, Some, None, List, [], length, Contains, slice_index_or}
+use Rattle.std.specs.Prelude.{◌≡◌, ℕ, ◌+◌, ◌<◌, ◌↔◌, ◌⊎◌, Option, Some, None, List, [], ◌∷◌, ◌++◌, length, Contains, slice_index_or}
 use Rattle.std.specs.List.Sorted.{IsStrictlyIncreasing}
 use Rattle.aa_glob.specs.declared.item.Item.{Item}
 use Rattle.aa_glob.specs.declared.item.Pattern.{Pattern}
 use Rattle.aa_glob.specs.Globs.{Matches}
 use Rattle.aa_auto.specs.declared.nodes.Node.{Node}
 use Rattle.aa_auto.specs.declared.nodes.Node.TheVariants.{Start, After, Same, Join}
-use Rattle.aa_auto.specs.Steps.{Begins, Continues, IsSkippable}
-use Rattle.aa_auto.specs.Heads.{heads_of_patterns}
+use Rattle.aa_glob.specs.Steps.{Begins, Continues, IsSkippable}
+use Rattle.aa_glob.specs.Heads.{heads_of_patterns}
 use Rattle.aa_auto.specs.Nodes.{head_at}
 
 -- the positions whose head the text matches
@@ -54,6 +54,11 @@ Seeds (Some b) old _ n = ⊥
 pub record AreSeeds (nodes : List Node) (byte : Option ℕ) (old seeds : List ℕ) : Type 0 where
   pub rising : IsStrictlyIncreasing seeds
   pub exact : (n : ℕ) → Contains seeds n ↔ ((n < length nodes) × Seeds byte old (slice_index_or nodes n Start) n)
+
+-- t is the empty text, or s and one more byte
+abbrev pub Leads : Option ℕ → List ℕ → List ℕ → Type 0
+Leads None s t = t ≡ []
+Leads (Some b) s t = t ≡ s ++ b ∷ []
 
 -- where there was a set, it is that of s
 abbrev pub Stood : Option ℕ → List (List Item) → List ℕ → List ℕ → Type 0

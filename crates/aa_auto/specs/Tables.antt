@@ -62,10 +62,6 @@ pub record IsAutomaton (ps : List Pattern) (t : Table) : Type 0 where
   -- as many classes as the items tell apart
   pub classes : HasClasses ps (classes_of t)
 
--- texts that may stand at the same places still may with the same byte behind both
-abbrev pub PlacesStay : List Pattern → Type 0
-PlacesStay ps = (s u : List ℕ) (b : ℕ) → All (λ c. c < 256) s → All (λ c. c < 256) u → b < 256 → SamePlaces ps s u → SamePlaces ps (s ++ b ∷ []) (u ++ b ∷ [])
-
 -- bytes that no item tells apart lead from each text to the same places
 abbrev pub BytesLeadAlike : List Pattern → Type 0
 BytesLeadAlike ps = (a b : ℕ) → IsSame ps a b → (s : List ℕ) → SamePlaces ps (s ++ a ∷ []) (s ++ b ∷ [])

@@ -1,10 +1,11 @@
 ghost use Rattle.std.specs.Prelude.{◌≡◌, ◌+◌, ◌<◌, ◌≤◌, IfOk, Err, length};
-ghost use Rattle.aa_auto.specs.Tables.{IsAutomaton, PlacesStay, BytesLeadAlike, HasPlaces, rows_of, classes_of, place_of, list_at};
+ghost use Rattle.aa_glob.specs.Places.{DecideNext};
+ghost use Rattle.aa_auto.specs.Tables.{IsAutomaton, BytesLeadAlike, HasPlaces, rows_of, classes_of, place_of, list_at};
 
 use crate::build::{BuildFault, Found, explore};
 use crate::classes::Classes;
 use crate::net::net_of;
-use aa_glob::Pattern;
+use aa_glob::{Pattern, places_decide_next};
 use std::alloc::Global;
 use std::marker::Model;
 
@@ -44,9 +45,10 @@ impl Automaton {
         ensures too_many { result ≡ Err BuildFault.TooManyStates → HasPlaces patterns.now (limit + 1) }
 
         // Laws of the patterns.
-        ensures places_stay { IfOk result (λ a. PlacesStay patterns.now) }
+        ensures places_stay { DecideNext patterns.now }
         ensures bytes_lead_alike { BytesLeadAlike patterns.now }
     {
+        places_decide_next(patterns);
         let net = net_of(alloc, patterns)?;
         let classes = net.classes(alloc)?;
         let (found, cells) = explore(alloc, &net, classes.bytes.as_slice(), limit)?;

@@ -12,7 +12,6 @@ mod net;
 mod nodes;
 mod sets;
 mod sorted;
-mod steps;
 
 pub use automaton::Automaton;
 pub use build::BuildFault;

@@ -3,6 +3,7 @@ ghost use Rattle.std.specs.Prelude.{◌≡◌, IfOk, length};
 use crate::{Automaton, BuildFault};
 use aa_glob::{Item, Pattern};
 use std::alloc::{AllocError, Global};
+use std::process::Abort;
 use std::test::Fail;
 
 // a pattern of plain bytes, '?' and '*', with '+' for a `**` that may be empty and '#' for one that may not
@@ -201,4 +202,65 @@ fn as_many_patterns_as_there_may_be(rt: HostRuntime) -> Result<(), Fail> {
     assert_eq!(rt; automaton.matching(b"/fffe"), [65534].as_slice());
     assert_eq!(rt; automaton.matching(b"/ffff"), [].as_slice());
     Ok(())
+}
+
+// `/a*`, `/ab`, `/` and a last `**`, and `/{a,b*,}.`
+fn four(alloc: Global) -> Result<Vec<Pattern>, AllocError>
+    ensures { IfOk result (λ v. length v.items ≡ 4) }
+{
+    let mut branches = Vec::new(alloc);
+    branches.push(pattern(alloc, b"a")?.items)?;
+    branches.push(pattern(alloc, b"b*")?.items)?;
+    branches.push(pattern(alloc, b"")?.items)?;
+    let mut choice = pattern(alloc, b"/")?;
+    choice.items.push(Item::Choice(branches))?;
+    choice.items.push(Item::Byte(b'.'))?;
+    let mut patterns = one(alloc, b"/a*")?;
+    patterns.push(pattern(alloc, b"/ab")?)?;
+    patterns.push(pattern(alloc, b"/#")?)?;
+    patterns.push(choice)?;
+    Ok(patterns)
+}
+
+fn build_four(alloc: Global) -> Result<Automaton, BuildFault> {
+    Automaton::build(alloc, four(alloc)?.as_slice(), 100)
+}
+
+// Tries again where a growth is refused.
+fn four_at_last(rt: &impl Abort, alloc: Global) -> Automaton {
+    for _ in 0..3 {
+        match build_four(alloc) {
+            Ok(automaton) => return automaton,
+            Err(fault) => assert_eq!(rt; fault, BuildFault::NoMemory),
+        }
+    }
+    panic!(rt; "refused each time")
+}
+
+#[test]
+fn a_growth_refused_to_build_is_no_memory(rt: HostRuntime) -> Result<(), Fail> {
+    let automaton = four_at_last(&rt, rt.alloc());
+    assert_eq!(rt; automaton.matching(b"/ab"), [0, 1, 2].as_slice());
+    assert_eq!(rt; automaton.matching(b"/a"), [0, 2].as_slice());
+    assert_eq!(rt; automaton.matching(b"/a."), [0, 2, 3].as_slice());
+    assert_eq!(rt; automaton.matching(b"/."), [2, 3].as_slice());
+    assert_eq!(rt; automaton.matching(b"/b/."), [2].as_slice());
+    assert_eq!(rt; automaton.matching(b"/"), [].as_slice());
+    Ok(())
+}
+
+fn build_within_12(alloc: Global) -> Result<Automaton, BuildFault> {
+    Automaton::build(alloc, one(alloc, b"/etc/passwd")?.as_slice(), 12)
+}
+
+#[test]
+fn a_growth_refused_is_not_too_many_states(rt: HostRuntime) -> Result<(), Fail> {
+    for _ in 0..3 {
+        match build_within_12(rt.alloc()) {
+            Ok(_) => panic!(rt; "13 rows are within 12"),
+            Err(BuildFault::NoMemory) => {}
+            Err(BuildFault::TooManyStates) => return Ok(()),
+        }
+    }
+    panic!(rt; "refused each time")
 }

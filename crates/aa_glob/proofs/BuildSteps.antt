@@ -1,5 +1,5 @@
 -- The texts that are built from their numbers, one part on.
-use Rattle.std.proofs.Common.{◌≡◌, ℕ, zero, suc, ◌+◌, ◌*◌, ◌-◌, ◌/◌, ◌%◌, ◌<◌, ◌≤◌, ◌⊎◌, max, Bool, true, false, cond, List, [], ◌∷◌, ◌++◌, map, flat_map, get_or, length, All, IsTrue, Option, Some, None, refl, sym, ap, ◌∙◌, subst, inl, inr, ⊎_elim, arith, append_assoc, length-append}
+use Rattle.std.proofs.Common.{◌≡◌, ℕ, zero, suc, ◌+◌, ◌*◌, ◌-◌, ◌/◌, ◌%◌, ◌<◌, ◌≤◌, ◌⊎◌, max, Bool, true, false, cond, List, [], ◌∷◌, ◌++◌, map, flat_map, get_or, length, All, Contains, IsTrue, Option, Some, None, refl, sym, ap, ◌∙◌, subst, inl, inr, ⊎_elim, arith, append_assoc, length-append}
 use Rattle.std.proofs.lemmas.Bool.{cases_lt}
 use Rattle.std.proofs.Math.Nat.{mul-div_cancel_left}
 use Rattle.std.proofs.lemmas.Nat.{div-add-mod'}
@@ -7,16 +7,18 @@ use Rattle.std.proofs.lemmas.List.{append-nil, get_or_append_left, get_or-append
 use Rattle.std.proofs.lemmas.List.Elements.{All-head, All-tail}
 use Rattle.aa_glob.specs.declared.summary.Summary.{Summary}
 use Rattle.aa_glob.specs.declared.building.Rest.{Rest}
+use Rattle.aa_words.specs.declared.fault.PolicyKind.{PolicyKind}
 use Rattle.aa_words.specs.declared.fault.PolicyKind.TheVariants.{Unsupported}
 use Rattle.aa_glob.specs.Variables.{Variable, values_of}
 use Rattle.aa_glob.specs.Pieces.{Piece, Plain, Use, Broken, pieces, pieces_from}
 use Rattle.aa_glob.specs.Expansions.{Outcome, Texts, Stops, Deeper, followed, and_then, alone, joined, in_turn, outcome, outcome_of, of_values, counted, is_reserved}
-use Rattle.aa_glob.specs.Settled.{Settles, Settled, IsEmptyText}
-use Rattle.aa_glob.specs.Built.{IsBuilt, Stands, Waits, Named}
+use Rattle.aa_glob.specs.Settled.{Settles, Settled, AreSingle, IsEmptyText}
+use Rattle.aa_glob.specs.Known.{Table, AreKnown, AreTextsKnown}
+use Rattle.aa_glob.specs.Built.{IsBuilt, Stands, Waits, Named, IsReady, AreReady}
 use Rattle.aa_glob.proofs.SettleSteps.{length_product}
 
 -- deeper, an outcome is the same or was none
-abbrev Below : Outcome → Outcome → Type 0
+abbrev pub Below : Outcome → Outcome → Type 0
 Below x y = (x ≡ Deeper) ⊎ (x ≡ y)
 
 followed_none : (x y : Outcome) → Below (followed x Deeper) (followed x y)
@@ -50,7 +52,7 @@ module _ (of other : List ℕ → Outcome) (each : (n : List ℕ) → Below (of 
   alone_below (Use name) = each name
   alone_below Broken = inr refl
 
-  joined_below : (ps : List Piece) → Below (joined of ps) (joined other ps)
+  pub joined_below : (ps : List Piece) → Below (joined of ps) (joined other ps)
   unfolding joined
   joined_below [] = inr refl
   joined_below (p ∷ ps) = below_followed (alone of p) (alone other p) (joined of ps) (joined other ps) (alone_below p) (joined_below ps)
@@ -68,7 +70,7 @@ cond_below : (b : Bool) (s x y : Outcome) → Below x y → Below (cond b s x) (
 cond_below true s x y h = inr refl
 cond_below false s x y h = h
 
-outcome_below : (d : ℕ) (vars : List Variable) (name : List ℕ) → Below (outcome d vars name) (outcome (suc d) vars name)
+pub outcome_below : (d : ℕ) (vars : List Variable) (name : List ℕ) → Below (outcome d vars name) (outcome (suc d) vars name)
 unfolding outcome
 outcome_below zero vars name = inl refl
 outcome_below (suc d) vars name =
@@ -78,6 +80,19 @@ outcome_below (suc d) vars name =
 texts_up : (d : ℕ) (vars : List Variable) (ps : List Piece) (m : ℕ) (ts : List (List ℕ)) → joined (outcome d vars) ps ≡ Texts m ts → joined (outcome (suc d) vars) ps ≡ Texts m ts
 texts_up d vars ps m ts e =
     ⊎_elim (λ h. absurd (cc (sym h ∙ e))) (λ h. sym h ∙ e) (joined_below (outcome d vars) (outcome (suc d) vars) (outcome_below d vars) ps)
+
+texts_higher : (k d : ℕ) (vars : List Variable) (ps : List Piece) (m : ℕ) (ts : List (List ℕ)) → joined (outcome d vars) ps ≡ Texts m ts → joined (outcome (k + d) vars) ps ≡ Texts m ts
+texts_higher zero d vars ps m ts e = let level : 0 + d ≡ d = omega arith in ap (λ n. joined (outcome n vars) ps) level ∙ e
+texts_higher (suc k) d vars ps m ts e = let level : suc k + d ≡ suc (k + d) = omega arith in ap (λ n. joined (outcome n vars) ps) level ∙ texts_up (k + d) vars ps m ts (texts_higher k d vars ps m ts e)
+
+texts_same : (d e : ℕ) (vars : List Variable) (ps : List Piece) (m n : ℕ) (ts us : List (List ℕ)) → joined (outcome d vars) ps ≡ Texts m ts → joined (outcome e vars) ps ≡ Texts n us → ts ≡ us
+texts_same d e vars ps m n ts us a b =
+    let swap : e + d ≡ d + e = omega arith in
+    let same : Texts m ts ≡ Texts n us = sym (texts_higher e d vars ps m ts a) ∙ ap (λ k. joined (outcome k vars) ps) swap ∙ texts_higher d e vars ps n us b in cc same
+
+-- the text of a number is one, however deep it is looked for
+pub stands_same : (d e : ℕ) (vars : List Variable) (f : Rest) (t u : List ℕ) → Stands d vars f t → Stands e vars f u → t ≡ u
+stands_same d e vars f t u a b = sym a.is ∙ ap (λ xs. get_or xs f.number []) (texts_same d e vars (pieces_from f.kept 0 f.text.now) a.most b.most a.ts b.ts a.texts b.texts) ∙ b.is
 
 -- what two outcomes that make texts are
 record Both (x y : Outcome) (m : ℕ) : Type 0 where
@@ -231,35 +246,74 @@ stands_use depth vars f g t name s q e known some left count number_q number_g s
     quotient : (q r a l : ℕ) → q * l + r < a * l → q < a
     quotient q r a l h = ⊎_elim (λ lt. lt) (λ (ge : a ≤ q). let x : a * l ≤ q * l = grind arith in absurd (omega arith)) (cases_lt q a)
 
+-- a variable's texts are no more than those of the whole
+pub stands_counts : (depth : ℕ) (vars : List Variable) (f : Rest) (t name : List ℕ) (s : Summary) (behind : List Piece) → pieces_from f.kept 0 f.text.now ≡ Use name ∷ behind → Settled (λ d. outcome d vars name) s → Stands depth vars f t →
+    (0 < s.count) × (s.count ≤ f.count)
+stands_counts depth vars f t name s behind e known st =
+    let p = followed_texts (outcome depth vars name) (joined (outcome depth vars) behind) st.most st.ts (sym (joined_more (outcome depth vars) (Use name) _ _ e) ∙ st.texts) in
+    let same = at_depth (λ d. outcome d vars name) known.most p.0.most_first known.ts p.0.first depth known.settles p.0.is_first in
+    let own = own_few depth vars name p.0.most_first p.0.first p.0.is_first in
+    let many : s.count ≡ length p.0.first = omega (arith, known.sums.count, ap length same.1, own, p.0.most, st.few) in
+    let long : f.count ≡ length p.0.first * length p.0.second = sym st.count ∙ ap length p.1 ∙ length_product p.0.first p.0.second in
+    let r = factor (length p.0.first) (length p.0.second) f.number (omega (arith, long, st.within)) in (omega (arith, r.0, many), omega (arith, r.1, many, long))
+  where
+    factor : (a b n : ℕ) → n < a * b → (0 < a) × (a ≤ a * b)
+    factor zero b n h = absurd (omega arith)
+    factor (suc a) zero n h = absurd (omega arith)
+    factor (suc a) (suc b) n h = (omega arith, omega arith)
+
+named_deep : (d : ℕ) (vars : List Variable) (name : List ℕ) (q : ℕ) (t : List ℕ) → Named d vars name q t → (e : ℕ) × (d ≡ suc e)
+unfolding outcome
+named_deep zero vars name q t n = absurd (cc n.texts)
+named_deep (suc e) vars name q t n = (e, refl)
+
 -- the stack
 pub waits_split : (depth : ℕ) (vars : List Variable) (stack : List Rest) (top : Rest) (u : List ℕ) → Waits depth vars (stack ++ top ∷ []) u →
-    (a : List ℕ) × (b : List ℕ) × Stands depth vars top a × Waits depth vars stack b × (u ≡ a ++ b)
-waits_split depth vars [] top u w = (w.0, [], w.2, refl, w.4 ∙ ap (λ x. x ++ w.0) w.3 ∙ sym (append-nil w.0))
+    (a : List ℕ) × (b : List ℕ) × Stands (depth - length stack) vars top a × Waits depth vars stack b × (u ≡ a ++ b)
+waits_split depth vars [] top u w = let level : depth ≡ depth - 0 = omega arith in (w.0, [], subst (λ d. Stands d vars top w.0) level w.2, refl, w.4 ∙ ap (λ x. x ++ w.0) w.3 ∙ sym (append-nil w.0))
 waits_split depth vars (f ∷ fs) top u w =
-    let r = waits_split depth vars fs top w.1 w.3 in
-    (r.0, r.1 ++ w.0, r.2, (w.0, r.1, w.2, r.3, refl), w.4 ∙ ap (λ x. x ++ w.0) r.4 ∙ append_assoc r.0 r.1 w.0)
+    let r = waits_split (depth - 1) vars fs top w.1 w.3 in
+    let level : depth - 1 - length fs ≡ depth - suc (length fs) = omega arith in
+    (r.0, r.1 ++ w.0, subst (λ d. Stands d vars top r.0) level r.2, (w.0, r.1, w.2, r.3, refl), w.4 ∙ ap (λ x. x ++ w.0) r.4 ∙ append_assoc r.0 r.1 w.0)
 
-pub waits_join : (depth : ℕ) (vars : List Variable) (stack : List Rest) (top : Rest) (a b : List ℕ) → Stands depth vars top a → Waits depth vars stack b → Waits depth vars (stack ++ top ∷ []) (a ++ b)
-waits_join depth vars [] top a b s w = (a, [], s, refl, ap (λ x. a ++ x) w ∙ append-nil a)
+pub waits_join : (depth : ℕ) (vars : List Variable) (stack : List Rest) (top : Rest) (a b : List ℕ) → Stands (depth - length stack) vars top a → Waits depth vars stack b → Waits depth vars (stack ++ top ∷ []) (a ++ b)
+waits_join depth vars [] top a b s w = let level : depth - 0 ≡ depth = omega arith in (a, [], subst (λ d. Stands d vars top a) level s, refl, ap (λ x. a ++ x) w ∙ append-nil a)
 waits_join depth vars (f ∷ fs) top a b s w =
-    (w.0, a ++ w.1, w.2, waits_join depth vars fs top a w.1 s w.3, ap (λ x. a ++ x) w.4 ∙ sym (append_assoc a w.1 w.0))
+    let level : depth - suc (length fs) ≡ depth - 1 - length fs = omega arith in
+    (w.0, a ++ w.1, w.2, waits_join (depth - 1) vars fs top a w.1 (subst (λ d. Stands d vars top a) level s) w.3, ap (λ x. a ++ x) w.4 ∙ sym (append_assoc a w.1 w.0))
 
--- What is built so far and what the stack stands for make the text.
-pub record IsBuilding (depth : ℕ) (vars : List Variable) (text : List ℕ) (stack : List Rest) (top : Rest) (t : List ℕ) : Type 0 where
+ready_push : (done : Table) (stack : List Rest) (top : Rest) → IsReady done top → AreReady done stack → AreReady done (stack ++ top ∷ [])
+ready_push done [] top r all = (r, tt)
+ready_push done (f ∷ fs) top r all = (all.0, ready_push done fs top r all.1)
+
+ready_split : (done : Table) (stack : List Rest) (top : Rest) → AreReady done (stack ++ top ∷ []) → IsReady done top × AreReady done stack
+ready_split done [] top all = (all.0, tt)
+ready_split done (f ∷ fs) top all = let r = ready_split done fs top all.1 in (r.0, (all.0, r.1))
+
+-- What is built so far and what the stack stands for make the text; each text is a level deeper than the one below it.
+pub record IsBuilding (depth : ℕ) (vars : List Variable) (done : Table) (text : List ℕ) (stack : List Rest) (top : Rest) (t : List ℕ) : Type 0 where
   pub now : List ℕ
   pub later : List ℕ
-  pub stands : Stands depth vars top now
+  pub stands : Stands (depth - length stack) vars top now
   pub waits : Waits depth vars stack later
   pub is : t ≡ text ++ (now ++ later)
+  pub ready : IsReady done top
+  pub all_ready : AreReady done stack
 
-pub build_start : (depth : ℕ) (vars : List Variable) (text : List ℕ) (stack : List Rest) (top : Rest) (t : List ℕ) → text ≡ [] → stack ≡ [] → Stands depth vars top t → IsBuilding depth vars text stack top t
-build_start depth vars text stack top t e g s = record {
+pub build_start : (depth : ℕ) (vars : List Variable) (done : Table) (text : List ℕ) (stack : List Rest) (top : Rest) (t : List ℕ) → text ≡ [] → stack ≡ [] → IsReady done top → Stands depth vars top t →
+    IsBuilding depth vars done text stack top t
+build_start depth vars done text stack top t e g ready s = record {
   now = t;
   later = [];
-  stands = s;
+  stands = subst (λ d. Stands d vars top t) (level (length stack) (ap length g)) s;
   waits = subst (λ st. Waits depth vars st []) (sym g) refl;
   is = sym (append-nil t) ∙ ap (λ x. x ++ (t ++ [])) (sym e);
+  ready = ready;
+  all_ready = subst (AreReady done) (sym g) tt;
 }
+  where
+    level : (n : ℕ) → n ≡ 0 → depth ≡ depth - n
+    level n h = omega (arith, h)
 
 no_piece : (depth : ℕ) (vars : List Variable) (top : Rest) (t : List ℕ) → pieces_from top.kept 0 top.text.now ≡ [] → Stands depth vars top t → t ≡ []
 unfolding joined
@@ -272,58 +326,104 @@ no_piece depth vars top t none s =
     one zero = refl
     one (suc n) = refl
 
-pub build_end : (depth : ℕ) (vars : List Variable) (text : List ℕ) (stack : List Rest) (top : Rest) (t : List ℕ) → pieces_from top.kept 0 top.text.now ≡ [] → stack ≡ [] → IsBuilding depth vars text stack top t → IsBuilt text t
-build_end depth vars text stack top t none last b =
-    let now : b.now ≡ [] = no_piece depth vars top b.now none b.stands in
+pub build_end : (depth : ℕ) (vars : List Variable) (done : Table) (text : List ℕ) (stack : List Rest) (top : Rest) (t : List ℕ) → pieces_from top.kept 0 top.text.now ≡ [] → stack ≡ [] → IsBuilding depth vars done text stack top t →
+    IsBuilt text t
+build_end depth vars done text stack top t none last b =
+    let now : b.now ≡ [] = no_piece (depth - length stack) vars top b.now none b.stands in
     let later : b.later ≡ [] = subst (λ st. Waits depth vars st b.later) last b.waits in
     inl (sym (b.is ∙ ap (λ x. text ++ (x ++ b.later)) now ∙ ap (λ x. text ++ x) later ∙ append-nil text))
 
-pub build_long : (depth : ℕ) (vars : List Variable) (text : List ℕ) (stack : List Rest) (top : Rest) (t : List ℕ) → 16384 < length text → IsBuilding depth vars text stack top t → IsBuilt text t
-build_long depth vars text stack top t long b = inr (long, omega (arith, long, ap length b.is, length-append text (b.now ++ b.later)))
+pub build_long : (depth : ℕ) (vars : List Variable) (done : Table) (text : List ℕ) (stack : List Rest) (top : Rest) (t : List ℕ) → 16384 < length text → IsBuilding depth vars done text stack top t → IsBuilt text t
+build_long depth vars done text stack top t long b = inr (long, omega (arith, long, ap length b.is, length-append text (b.now ++ b.later)))
 
-pub build_back : (depth : ℕ) (vars : List Variable) (text : List ℕ) (stack below_stack : List Rest) (below top : Rest) (t : List ℕ) → pieces_from top.kept 0 top.text.now ≡ [] → stack ≡ below_stack ++ below ∷ [] →
-    IsBuilding depth vars text stack top t → IsBuilding depth vars text below_stack below t
-build_back depth vars text stack below_stack below top t none popped b =
-    let now : b.now ≡ [] = no_piece depth vars top b.now none b.stands in
+pub build_back : (depth : ℕ) (vars : List Variable) (done : Table) (text : List ℕ) (stack below_stack : List Rest) (below top : Rest) (t : List ℕ) → pieces_from top.kept 0 top.text.now ≡ [] → stack ≡ below_stack ++ below ∷ [] →
+    IsBuilding depth vars done text stack top t → IsBuilding depth vars done text below_stack below t
+build_back depth vars done text stack below_stack below top t none popped b =
+    let now : b.now ≡ [] = no_piece (depth - length stack) vars top b.now none b.stands in
     let r = waits_split depth vars below_stack below b.later (subst (λ st. Waits depth vars st b.later) popped b.waits) in
-    record { now = r.0; later = r.1; stands = r.2; waits = r.3; is = b.is ∙ ap (λ x. text ++ (x ++ b.later)) now ∙ ap (λ x. text ++ x) r.4 }
+    let s = ready_split done below_stack below (subst (AreReady done) popped b.all_ready) in
+    record { now = r.0; later = r.1; stands = r.2; waits = r.3; is = b.is ∙ ap (λ x. text ++ (x ++ b.later)) now ∙ ap (λ x. text ++ x) r.4; ready = s.0; all_ready = s.1 }
 
-pub build_plain : (depth : ℕ) (vars : List Variable) (text new : List ℕ) (stack : List Rest) (f g : Rest) (t : List ℕ) (b : ℕ) → pieces_from f.kept 0 f.text.now ≡ Plain b ∷ pieces_from g.kept 0 g.text.now →
-    g.number ≡ f.number → g.count ≡ f.count → new ≡ text ++ b ∷ [] → IsBuilding depth vars text stack f t → IsBuilding depth vars new stack g t
-build_plain depth vars text new stack f g t b e number count pushed w =
-    let r = stands_plain depth vars f g w.now b e number count w.stands in
+pub build_plain : (depth : ℕ) (vars : List Variable) (done : Table) (text new : List ℕ) (stack : List Rest) (f g : Rest) (t : List ℕ) (b : ℕ) → pieces_from f.kept 0 f.text.now ≡ Plain b ∷ pieces_from g.kept 0 g.text.now →
+    g.number ≡ f.number → g.count ≡ f.count → new ≡ text ++ b ∷ [] → IsBuilding depth vars done text stack f t → IsBuilding depth vars done new stack g t
+build_plain depth vars done text new stack f g t b e number count pushed w =
+    let r = stands_plain (depth - length stack) vars f g w.now b e number count w.stands in
     record {
       now = r.0;
       later = w.later;
       stands = r.2;
       waits = w.waits;
       is = w.is ∙ ap (λ x. text ++ (x ++ w.later)) r.1 ∙ sym (append_assoc text (b ∷ []) (r.0 ++ w.later)) ∙ ap (λ x. x ++ (r.0 ++ w.later)) (sym pushed);
+      ready = (subst (AreKnown done) e w.ready).1;
+      all_ready = w.all_ready;
     }
 
-pub build_blank : (depth : ℕ) (vars : List Variable) (text : List ℕ) (stack : List Rest) (f g : Rest) (t name : List ℕ) (s : Summary) (q : ℕ) → pieces_from f.kept 0 f.text.now ≡ Use name ∷ pieces_from g.kept 0 g.text.now →
-    Settled (λ d. outcome d vars name) s → 0 < s.count → 0 < g.count → g.count ≡ f.count / s.count → q ≡ f.number / g.count → g.number ≡ f.number % g.count → IsTrue s.blank →
-    IsBuilding depth vars text stack f t → IsBuilding depth vars text stack g t
-build_blank depth vars text stack f g t name s q e known some left count nq ng blank w =
-    let r = stands_use depth vars f g w.now name s q e known some left count nq ng w.stands in
-    record { now = r.behind; later = w.later; stands = r.stands; waits = w.waits; is = w.is ∙ ap (λ x. text ++ (x ++ w.later)) (r.is ∙ ap (λ x. x ++ r.behind) (r.blank blank)) }
+-- what is known of the variable that comes next
+pub build_counts : (depth : ℕ) (vars : List Variable) (done : Table) (text : List ℕ) (stack : List Rest) (f : Rest) (t name : List ℕ) (s : Summary) (behind : List Piece) → pieces_from f.kept 0 f.text.now ≡ Use name ∷ behind →
+    Settled (λ d. outcome d vars name) s → IsBuilding depth vars done text stack f t → (0 < s.count) × (s.count ≤ f.count)
+build_counts depth vars done text stack f t name s behind e known w = stands_counts (depth - length stack) vars f w.now name s behind e known w.stands
 
-pub build_into : (depth : ℕ) (vars : List Variable) (text : List ℕ) (stack new_stack : List Rest) (f g value : Rest) (t name : List ℕ) (s : Summary) (q : ℕ) → pieces_from f.kept 0 f.text.now ≡ Use name ∷ pieces_from g.kept 0 g.text.now →
+pub record Enters (depth : ℕ) (vars : List Variable) (stack : List Rest) (name : List ℕ) (q : ℕ) : Type 0 where
+  pub level : ℕ
+  pub is : depth - length stack ≡ suc level
+  pub text : List ℕ
+  pub named : Named (suc level) vars name q text
+
+pub build_enters : (depth : ℕ) (vars : List Variable) (done : Table) (text : List ℕ) (stack : List Rest) (f g : Rest) (t name : List ℕ) (s : Summary) (q : ℕ) → pieces_from f.kept 0 f.text.now ≡ Use name ∷ pieces_from g.kept 0 g.text.now →
+    Settled (λ d. outcome d vars name) s → 0 < s.count → 0 < g.count → g.count ≡ f.count / s.count → q ≡ f.number / g.count → g.number ≡ f.number % g.count → IsBuilding depth vars done text stack f t →
+    Enters depth vars stack name q
+build_enters depth vars done text stack f g t name s q e known some left count nq ng w =
+    let r = stands_use (depth - length stack) vars f g w.now name s q e known some left count nq ng w.stands in
+    let d = named_deep (depth - length stack) vars name q r.text r.named in
+    record { level = d.0; is = d.1; text = r.text; named = subst (λ k. Named k vars name q r.text) d.1 r.named }
+
+pub enters_defined : (depth : ℕ) (vars : List Variable) (stack : List Rest) (name : List ℕ) (q : ℕ) (e : PolicyKind) → Enters depth vars stack name q → ((d : ℕ) → outcome (suc d) vars name ≡ Stops e) → ⊥
+enters_defined depth vars stack name q e inside stops = cc (sym inside.named.texts ∙ stops inside.level)
+
+pub build_blank : (depth : ℕ) (vars : List Variable) (done : Table) (text : List ℕ) (stack : List Rest) (f g : Rest) (t name : List ℕ) (s : Summary) (q : ℕ) → pieces_from f.kept 0 f.text.now ≡ Use name ∷ pieces_from g.kept 0 g.text.now →
+    Settled (λ d. outcome d vars name) s → 0 < s.count → 0 < g.count → g.count ≡ f.count / s.count → q ≡ f.number / g.count → g.number ≡ f.number % g.count → IsTrue s.blank →
+    IsBuilding depth vars done text stack f t → IsBuilding depth vars done text stack g t
+build_blank depth vars done text stack f g t name s q e known some left count nq ng blank w =
+    let r = stands_use (depth - length stack) vars f g w.now name s q e known some left count nq ng w.stands in
+    record {
+      now = r.behind;
+      later = w.later;
+      stands = r.stands;
+      waits = w.waits;
+      is = w.is ∙ ap (λ x. text ++ (x ++ w.later)) (r.is ∙ ap (λ x. x ++ r.behind) (r.blank blank));
+      ready = (subst (AreKnown done) e w.ready).1;
+      all_ready = w.all_ready;
+    }
+
+pub build_into : (depth : ℕ) (vars : List Variable) (done : Table) (text : List ℕ) (stack new_stack : List Rest) (f g value : Rest) (t name : List ℕ) (s : Summary) (q : ℕ) → pieces_from f.kept 0 f.text.now ≡ Use name ∷ pieces_from g.kept 0 g.text.now →
     Settled (λ d. outcome d vars name) s → 0 < s.count → 0 < g.count → g.count ≡ f.count / s.count → q ≡ f.number / g.count → g.number ≡ f.number % g.count → new_stack ≡ stack ++ g ∷ [] →
-    ((u : List ℕ) → Named depth vars name q u → Stands depth vars value u) → IsBuilding depth vars text stack f t → IsBuilding depth vars text new_stack value t
-build_into depth vars text stack new_stack f g value t name s q e known some left count nq ng pushed at w =
-    let r = stands_use depth vars f g w.now name s q e known some left count nq ng w.stands in
+    ((level : ℕ) (u : List ℕ) → Named (suc level) vars name q u → Stands level vars value u) → IsReady done value → IsBuilding depth vars done text stack f t → IsBuilding depth vars done text new_stack value t
+build_into depth vars done text stack new_stack f g value t name s q e known some left count nq ng pushed at ready w =
+    let r = stands_use (depth - length stack) vars f g w.now name s q e known some left count nq ng w.stands in
+    let d = named_deep (depth - length stack) vars name q r.text r.named in
+    let high : length new_stack ≡ length stack + 1 = ap length pushed ∙ length-append stack (g ∷ []) in
+    let level : d.0 ≡ depth - length new_stack = omega (arith, d.1, high) in
     record {
       now = r.text;
       later = r.behind ++ w.later;
-      stands = at r.text r.named;
+      stands = subst (λ k. Stands k vars value r.text) level (at d.0 r.text (subst (λ k. Named k vars name q r.text) d.1 r.named));
       waits = subst (λ st. Waits depth vars st (r.behind ++ w.later)) (sym pushed) (waits_join depth vars stack g r.behind w.later r.stands w.waits);
       is = w.is ∙ ap (λ x. text ++ (x ++ w.later)) r.is ∙ ap (λ x. text ++ x) (append_assoc r.text r.behind w.later);
+      ready = ready;
+      all_ready = subst (AreReady done) (sym pushed) (ready_push done stack g (subst (AreKnown done) e w.ready).1 w.all_ready);
     }
 
+-- one of the texts that are known
+pub known_at : (done : Table) (texts : List (List ℕ)) (text : List ℕ) → AreTextsKnown done texts → Contains texts text → AreKnown done (pieces text)
+known_at done texts text all c = at texts c.0 c.1 c.2 all
+  where
+    at : (ts : List (List ℕ)) (k : ℕ) → k < length ts → get_or ts k text ≡ text → AreTextsKnown done ts → AreKnown done (pieces text)
+    at [] k h e all = absurd (omega arith)
+    at (t ∷ ts) zero h e all = subst (λ x. AreKnown done (pieces x)) e all.0
+    at (t ∷ ts) (suc k) h e all = at ts k (omega arith) e all.1
+
 -- The value that a variable's text is of: `left` is the number among the texts of the values that are left.
-pub record IsLeft (depth : ℕ) (vars : List Variable) (values : List (List ℕ)) (left : ℕ) (t : List ℕ) : Type 0 where
-  pub below : ℕ
-  pub deep : depth ≡ suc below
+pub record IsLeft (below : ℕ) (vars : List Variable) (values : List (List ℕ)) (left : ℕ) (t : List ℕ) : Type 0 where
   pub most : ℕ
   pub ts : List (List ℕ)
   pub texts : in_turn (outcome below vars) values ≡ Texts most ts
@@ -337,17 +437,16 @@ unfolding in_turn
 in_turn_more of v vs all e = ap (in_turn of) e
 
 pub left_start : (depth : ℕ) (vars : List Variable) (name : List ℕ) (values : List (List ℕ)) (number : ℕ) (t : List ℕ) → is_reserved name ≡ false → values_of vars name ≡ Some values →
-    Named depth vars name number t → IsLeft depth vars values number t
+    Named (suc depth) vars name number t → IsLeft depth vars values number t
 unfolding outcome
-left_start zero vars name values number t plain defined n = absurd (cc n.texts)
-left_start (suc d) vars name values number t plain defined n =
+left_start d vars name values number t plain defined n =
     open_up (in_turn (outcome d vars) values) refl
     (sym (ap (λ b. cond b (Stops Unsupported) (of_values (outcome d vars) (values_of vars name))) plain ∙ ap (of_values (outcome d vars)) defined) ∙ n.texts)
   where
-    open_up : (x : Outcome) → in_turn (outcome d vars) values ≡ x → counted x ≡ Texts n.most n.ts → IsLeft (suc d) vars values number t
+    open_up : (x : Outcome) → in_turn (outcome d vars) values ≡ x → counted x ≡ Texts n.most n.ts → IsLeft d vars values number t
     open_up (Texts k us) e c =
         let g : max k (length us) ≡ n.most = cc c in let h : us ≡ n.ts = cc c in
-        record { below = d; deep = refl; most = k; ts = us; texts = e; few = omega (arith, n.few); short = omega (arith, n.few); within = omega (arith, n.within, ap length h); is = ap (λ xs. get_or xs number []) h ∙ n.is }
+        record { most = k; ts = us; texts = e; few = omega (arith, n.few); short = omega (arith, n.few); within = omega (arith, n.within, ap length h); is = ap (λ xs. get_or xs number []) h ∙ n.is }
     open_up (Stops f) e c = absurd (cc c)
     open_up Deeper e c = absurd (cc c)
 
@@ -358,24 +457,21 @@ pub record IsNext (depth : ℕ) (vars : List Variable) (v : List ℕ) (vs : List
 pub left_next : (depth : ℕ) (vars : List Variable) (v : List ℕ) (vs all : List (List ℕ)) (s : Summary) (left : ℕ) (t : List ℕ) → all ≡ v ∷ vs → Settled (λ d. outcome_of d vars v) s → IsLeft depth vars all left t →
     IsNext depth vars v vs s left t
 left_next depth vars v vs all s left t e known l =
-    let p = then_texts (joined (outcome l.below vars) (pieces v)) (in_turn (outcome l.below vars) vs) l.most l.ts (sym (in_turn_more (outcome l.below vars) v vs all e) ∙ l.texts) in
-    let same = at_depth (λ d. outcome_of d vars v) known.most p.0.most_first known.ts p.0.first l.below known.settles p.0.is_first in
+    let p = then_texts (joined (outcome depth vars) (pieces v)) (in_turn (outcome depth vars) vs) l.most l.ts (sym (in_turn_more (outcome depth vars) v vs all e) ∙ l.texts) in
+    let same = at_depth (λ d. outcome_of d vars v) known.most p.0.most_first known.ts p.0.first depth known.settles p.0.is_first in
     let long : length l.ts ≡ length p.0.first + length p.0.second = ap length p.1 ∙ length-append p.0.first p.0.second in
     let count : s.count ≡ length p.0.first = omega (arith, known.sums.count, ap length same.1, long, l.short) in
     record {
       here = λ lt f text kept number many. record {
         most = p.0.most_first;
         ts = p.0.first;
-        texts = ap (λ k. joined (outcome depth vars) (pieces_from k 0 f.text.now)) kept ∙ ap (λ x. joined (outcome depth vars) (pieces_from false 0 x)) text ∙ ap (λ d. joined (outcome d vars) (pieces v)) l.deep
-            ∙ texts_up l.below vars (pieces v) p.0.most_first p.0.first p.0.is_first;
+        texts = ap (λ k. joined (outcome depth vars) (pieces_from k 0 f.text.now)) kept ∙ ap (λ x. joined (outcome depth vars) (pieces_from false 0 x)) text ∙ p.0.is_first;
         few = omega (arith, p.0.most, l.few);
         count = sym count ∙ sym many;
         within = omega (arith, lt, number, many);
         is = ap (λ k. get_or p.0.first k []) number ∙ sym (get_or_append_left p.0.first p.0.second [] left (omega (arith, lt, count))) ∙ ap (λ xs. get_or xs left []) (sym p.1) ∙ l.is;
       };
       later = λ ge. let cut : left ≡ length p.0.first + (left - s.count) = omega (arith, ge, count) in record {
-        below = l.below;
-        deep = l.deep;
         most = p.0.most_second;
         ts = p.0.second;
         texts = p.0.is_second;
@@ -386,6 +482,21 @@ left_next depth vars v vs all s left t e known l =
       };
     }
 
-pub none_left : (xs : List Rest) → length xs ≡ 0 → xs ≡ []
-none_left [] h = refl
-none_left (x ∷ xs) h = absurd (omega arith)
+pub left_none : (depth : ℕ) (vars : List Variable) (all : List (List ℕ)) (left : ℕ) (t : List ℕ) → all ≡ [] → IsLeft depth vars all left t → ⊥
+unfolding in_turn
+left_none depth vars all left t none l =
+    let e : Texts 0 [] ≡ Texts l.most l.ts = sym (ap (in_turn (outcome depth vars)) none) ∙ l.texts in
+    let h : [] ≡ l.ts = cc e in omega (arith, l.within, ap length h)
+
+-- where each value has exactly one text, the number is the value's
+pub left_single : (depth : ℕ) (vars : List Variable) (values : List (List ℕ)) (number : ℕ) (t : List ℕ) → AreSingle vars values → IsLeft depth vars values number t →
+    (number < length values) × ((f : Rest) → f.text.now ≡ get_or values number [] → f.kept ≡ false → f.number ≡ 0 → f.count ≡ 1 → Stands depth vars f t)
+left_single depth vars [] number t one l = absurd (left_none depth vars [] number t refl l)
+left_single depth vars (v ∷ vs) zero t one l =
+    let s = one.0 in
+    let next = left_next depth vars v vs (v ∷ vs) s.0 0 t refl s.1 l in (omega arith, λ f text kept number count. next.here (omega (arith, s.2)) f text kept number (count ∙ sym s.2))
+left_single depth vars (v ∷ vs) (suc n) t one l =
+    let s = one.0 in
+    let next = left_next depth vars v vs (v ∷ vs) s.0 (suc n) t refl s.1 l in
+    let less : suc n - s.0.count ≡ n = omega (arith, s.2) in
+    let r = left_single depth vars vs n t one.1 (subst (λ k. IsLeft depth vars vs k t) less (next.later (omega (arith, s.2)))) in (omega (arith, r.0), r.1)

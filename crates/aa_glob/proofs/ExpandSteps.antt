@@ -9,9 +9,9 @@ use Rattle.aa_glob.specs.declared.summary.Summary.{Summary}
 use Rattle.aa_glob.specs.declared.building.Rest.{Rest}
 use Rattle.aa_glob.specs.Variables.{Variable}
 use Rattle.aa_glob.specs.Reading.{tokens, Gives}
-use Rattle.aa_glob.specs.Expansions.{Texts, outcome_of, squeezed, pattern_text, expansion, of_path, expansions, and_more, Expands, in_walk, in_circle, too_many, as_texts, joined, outcome}
+use Rattle.aa_glob.specs.Expansions.{Outcome, Deeper, Texts, outcome_of, squeezed, pattern_text, expansion, of_path, expansions, and_more, Expands, in_walk, in_circle, too_many, as_texts, joined, outcome}
 use Rattle.aa_glob.specs.Pieces.{pieces_from}
-use Rattle.aa_glob.specs.Settled.{Settled}
+use Rattle.aa_glob.specs.Settled.{Settles, Settled}
 use Rattle.aa_glob.specs.Ways.{IsWalkFault}
 use Rattle.aa_glob.specs.Built.{IsBuilt, Stands}
 
@@ -90,6 +90,10 @@ stands_start depth vars raw f most ts text kept e few count within = record {
   within = within;
   is = refl;
 }
+
+-- what settles and goes no deeper than it may is settled
+pub settled_texts : (of : ℕ → Outcome) (most : ℕ) (ts : List (List ℕ)) (depth : ℕ) → Settles of most ts → of depth ≢ Deeper → of depth ≡ Texts most ts
+settled_texts of most ts depth s reached = ⊎_elim (λ e. e) (λ e. absurd (reached e)) (s.other depth)
 
 -- the whole
 pub fault_expands : (vars : List Variable) (raw : List ℕ) (e : PolicyKind) → IsWalkFault vars raw e → Expands vars raw (Err e)

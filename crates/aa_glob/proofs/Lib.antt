@@ -6,6 +6,7 @@ pub mod ClassSteps
 pub mod Texts
 pub mod Choices
 pub mod FlagSteps
+pub mod GapSteps
 pub mod Fronts
 pub mod HalfSteps
 pub mod PlaceHeads
@@ -14,5 +15,12 @@ pub mod VarSteps
 pub mod PieceSteps
 pub mod SettleSteps
 pub mod WaySteps
+pub mod KnownSteps
+pub mod WalkSteps
+pub mod WalkEnds
 pub mod BuildSteps
+pub mod BuildEnds
 pub mod ExpandSteps
+pub mod Spellings
+pub mod Sameness
+pub mod Depths

@@ -83,7 +83,7 @@ items_in h items g i = ⊎_elim (λ e. begun h items g e) (λ a. after h items a
         ((In-append g (heads_within h item) ((h ++ item ∷ []) ∷ heads_after (h ++ item ∷ []) items)).0 i)
 
 -- and the other way round
-along : {n : _} (h : List Item) (row : Row_of-Item n) → heads_along h row ≡ heads_after h (items-the_row-Item _ row)
+pub along : {n : _} (h : List Item) (row : Row_of-Item n) → heads_along h row ≡ heads_after h (items-the_row-Item _ row)
 along h end_of-Item = refl
 along h (more_of-Item item rest) = ap (λ z. heads_within h item ++ (h ++ item ∷ []) ∷ z) (along (h ++ item ∷ []) rest)
 

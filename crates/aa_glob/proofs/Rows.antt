@@ -34,7 +34,7 @@ sequences_listed end_of-Item-Choice-0-1 = refl
 sequences_listed (more_of-Item-Choice-0-1 shape branch rest) =
     cc (items_shown-the_row-Item-0 shape branch, sequences_listed rest)
 
-abbrev rows_of : Item → (n : Count) × Row_of-Item-Choice-0-1 n
+abbrev pub rows_of : Item → (n : Count) × Row_of-Item-Choice-0-1 n
 rows_of (Choice' _ rows) = (_, rows)
 rows_of _ = (_, end_of-Item-Choice-0-1)
 

@@ -27,7 +27,7 @@ Matches-push h i s = (
 )
 
 -- a text that begins as a part of the item may, and goes on so
-abbrev IsPart : Item → List ℕ → Type 0
+abbrev pub IsPart : Item → List ℕ → Type 0
 IsPart i [] = IsSkippable i
 IsPart i (b ∷ s) = Begins i b × All (Continues i) s
 

@@ -10,7 +10,7 @@ use Rattle.aa_glob.specs.declared.item.Item.{Item, Choice, Choice', Row_of-Item,
 use Rattle.aa_glob.specs.declared.sign.Sign.{Sign}
 use Rattle.aa_glob.specs.declared.sign.Token.{Token}
 use Rattle.aa_glob.specs.declared.sign.Token.TheVariants.{Open, Comma, Close, Single}
-use Rattle.aa_glob.specs.Reading.{token_at, tokens_from, depth_after, is_slash, spelled, spelled_item, spelled_row, spelled_branches, spelled_lists}
+use Rattle.aa_glob.specs.Reading.{token_at, tokens_from, depth_after, is_slash, spelled, spelled_item, spelled_row, spelled_choice, spelled_rest}
 use Rattle.aa_glob.specs.declared.reader.OpenChoice.{OpenChoice}
 use Rattle.aa_glob.specs.Stack.{begun, begun_choice, so_far, IsFit}
 
@@ -87,11 +87,28 @@ begun-push t (c ∷ bs) b =
     ap (λ r. t ∷ (spelled c.items ++ r)) (begun-push Comma bs b)
     ∙ ap (λ r. t ∷ r) (sym (append_assoc (spelled c.items) (begun Comma bs ++ spelled b.items) (Comma ∷ [])) ∙ ap (λ r. r ++ Comma ∷ []) (sym (append_assoc (spelled c.items) (begun Comma bs) (spelled b.items))))
 
-pub lists-push : (t : Token) (bs : List (Vec Item Global)) (b : Vec Item Global) → spelled_lists t (bs ++ b ∷ []) ≡ (begun t bs ++ spelled b.items) ++ Close ∷ []
-lists-push t [] b = refl
-lists-push t (c ∷ bs) b =
-    ap (λ r. t ∷ (spelled c.items ++ r)) (lists-push Comma bs b)
-    ∙ ap (λ r. t ∷ r) (sym (append_assoc (spelled c.items) (begun Comma bs ++ spelled b.items) (Close ∷ [])) ∙ ap (λ r. r ++ Close ∷ []) (sym (append_assoc (spelled c.items) (begun Comma bs) (spelled b.items))))
+-- `spelled_rest`, of lists
+abbrev rest_of_lists : List (Vec Item Global) → List Token
+rest_of_lists [] = Close ∷ []
+rest_of_lists (branch ∷ rest) = Comma ∷ (spelled branch.items ++ rest_of_lists rest)
+
+-- `spelled_choice`, of lists
+abbrev pub choice_of_lists : Item → List (Vec Item Global) → List Token
+choice_of_lists choice [] = Single choice ∷ []
+choice_of_lists choice (branch ∷ rest) = Open ∷ (spelled branch.items ++ rest_of_lists rest)
+
+behind : (t : Token) (front xs ys zs : List Token) → xs ≡ (ys ++ zs) ++ Close ∷ [] → t ∷ (front ++ xs) ≡ (t ∷ (front ++ ys) ++ zs) ++ Close ∷ []
+behind t front xs ys zs e =
+    ap (λ r. t ∷ (front ++ r)) e
+    ∙ ap (λ r. t ∷ r) (sym (append_assoc front (ys ++ zs) (Close ∷ [])) ∙ ap (λ r. r ++ Close ∷ []) (sym (append_assoc front ys zs)))
+
+rest-push : (bs : List (Vec Item Global)) (b : Vec Item Global) → rest_of_lists (bs ++ b ∷ []) ≡ (begun Comma bs ++ spelled b.items) ++ Close ∷ []
+rest-push [] b = refl
+rest-push (c ∷ bs) b = behind Comma (spelled c.items) _ (begun Comma bs) (spelled b.items) (rest-push bs b)
+
+pub choice-push : (choice : Item) (bs : List (Vec Item Global)) (b : Vec Item Global) → choice_of_lists choice (bs ++ b ∷ []) ≡ (begun Open bs ++ spelled b.items) ++ Close ∷ []
+choice-push choice [] b = refl
+choice-push choice (c ∷ bs) b = behind Open (spelled c.items) _ (begun Comma bs) (spelled b.items) (rest-push bs b)
 
 row_spelled : {n : _} (row : Row_of-Item n) → spelled_row row ≡ spelled (items-the_row-Item _ row)
 row_spelled end_of-Item = refl
@@ -100,17 +117,22 @@ row_spelled (more_of-Item item rest) = ap (λ r. spelled_item item ++ r) (row_sp
 joined : (t : Token) {a b c d : List Token} → a ≡ b → c ≡ d → t ∷ (a ++ c) ≡ t ∷ (b ++ d)
 joined t p q = cc (p, q)
 
-rows_spelled : {n : _} (t : Token) (rows : Row_of-Item-Choice-0-1 n) → spelled_branches t rows ≡ spelled_lists t (items-the_row-Item-Choice-0-1 _ rows)
-rows_spelled t end_of-Item-Choice-0-1 = refl
-rows_spelled t (more_of-Item-Choice-0-1 shape branch rest) =
-    joined t (row_spelled branch ∙ sym (ap spelled (items_shown-the_row-Item-0 shape branch))) (rows_spelled Comma rest)
+rest_spelled : {n : _} (rows : Row_of-Item-Choice-0-1 n) → spelled_rest rows ≡ rest_of_lists (items-the_row-Item-Choice-0-1 _ rows)
+rest_spelled end_of-Item-Choice-0-1 = refl
+rest_spelled (more_of-Item-Choice-0-1 shape branch rest) =
+    joined Comma (row_spelled branch ∙ sym (ap spelled (items_shown-the_row-Item-0 shape branch))) (rest_spelled rest)
+
+choice_spelled : {n : _} (choice : Item) (rows : Row_of-Item-Choice-0-1 n) → spelled_choice choice rows ≡ choice_of_lists choice (items-the_row-Item-Choice-0-1 _ rows)
+choice_spelled choice end_of-Item-Choice-0-1 = refl
+choice_spelled choice (more_of-Item-Choice-0-1 shape branch rest) =
+    joined Open (row_spelled branch ∙ sym (ap spelled (items_shown-the_row-Item-0 shape branch))) (rest_spelled rest)
 
 abbrev rows_of : Item → (n : Count) × Row_of-Item-Choice-0-1 n
 rows_of (Choice' _ rows) = (_, rows)
 rows_of _ = (_, end_of-Item-Choice-0-1)
 
-pub spelled-Choice : (v : Vec (Vec Item Global) Global) → spelled_item (Choice v) ≡ spelled_lists Open v.items
-spelled-Choice v = rows_spelled Open (rows_of (Choice v)).1 ∙ ap (spelled_lists Open) (items_hidden-the_row-Item-Choice-0-1-1 v)
+pub spelled-Choice : (v : Vec (Vec Item Global) Global) → spelled_item (Choice v) ≡ choice_of_lists (Choice v) v.items
+spelled-Choice v = choice_spelled (Choice v) (rows_of (Choice v)).1 ∙ ap (choice_of_lists (Choice v)) (items_hidden-the_row-Item-Choice-0-1-1 v)
 
 -- One token behind those so far.
 
@@ -149,7 +171,7 @@ put_close stack rest f items v new token is was branches now =
     let a = flat_map begun_choice rest in let b = spelled f.before.items in
     let long : length stack ≡ length rest + 1 = ap length was ∙ length-append rest (f ∷ []) in
     let less : length rest ≡ length stack - 1 = omega (arith, long) in (
-      ap (λ xs. a ++ spelled xs) now ∙ ap (λ r. a ++ r) (spelled-push f.before.items (Choice v) ∙ ap (λ r. b ++ r) (spelled-Choice v ∙ ap (spelled_lists Open) branches ∙ lists-push Open f.branches.items items))
+      ap (λ xs. a ++ spelled xs) now ∙ ap (λ r. a ++ r) (spelled-push f.before.items (Choice v) ∙ ap (λ r. b ++ r) (spelled-Choice v ∙ ap (choice_of_lists (Choice v)) branches ∙ choice-push (Choice v) f.branches.items items))
           ∙ regroup_close a b (begun Open f.branches.items) (spelled items.items) (Close ∷ [])
           ∙ sym (ap (λ s. (s ++ spelled items.items) ++ token ∷ []) (ap (flat_map begun_choice) was ∙ flat_map-append begun_choice rest (f ∷ [])) ∙ ap (λ t. ((a ++ (begun_choice f ++ [])) ++ spelled items.items) ++ t ∷ []) is),
       less ∙ sym (ap (depth_after (length stack)) is),

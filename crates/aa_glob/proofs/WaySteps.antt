@@ -1,17 +1,17 @@
 -- The steps on the way of a walk.
-use Rattle.std.proofs.Common.{◌≡◌, ℕ, zero, suc, ◌+◌, ◌<◌, ◌≤◌, ◌⊎◌, max, Bool, true, false, cond, List, [], ◌∷◌, ◌++◌, drop, Option, Some, None, Bor, Vec, Global, refl, sym, ap, ◌∙◌, subst, inl, inr, ⊎_elim, arith, true≢false}
+use Rattle.std.proofs.Common.{◌≡◌, ℕ, zero, suc, ◌+◌, ◌<◌, ◌≤◌, ◌⊎◌, max, Bool, true, false, cond, List, [], ◌∷◌, ◌++◌, drop, IsTrue, Option, Some, None, Bor, Vec, Global, refl, sym, ap, ◌∙◌, subst, inl, inr, ⊎_elim, arith, true≢false}
 use Rattle.std.specs.Str.{bytes_eq}
 use Rattle.std.proofs.lemmas.Slice.Eq.{bytes_eq-Decides}
 use Rattle.indexmap.specs.IndexMap.{insert_entry}
 use Rattle.aa_words.specs.declared.fault.PolicyKind.{PolicyKind}
-use Rattle.aa_words.specs.declared.fault.PolicyKind.TheVariants.{Unsupported, UndefinedVariable, VariableCircle}
+use Rattle.aa_words.specs.declared.fault.PolicyKind.TheVariants.{Unsupported, UndefinedVariable}
 use Rattle.aa_glob.specs.declared.summary.Summary.{Summary}
 use Rattle.aa_glob.specs.declared.walk.Step.{Step}
 use Rattle.aa_glob.specs.Variables.{Variable, values_of}
 use Rattle.aa_glob.specs.Pieces.{Piece, Use, pieces, pieces_from}
 use Rattle.aa_glob.specs.Expansions.{Outcome, Texts, Stops, Deeper, followed, and_then, alone, joined, in_turn, outcome, outcome_of, of_values, counted, is_reserved}
-use Rattle.aa_glob.specs.Settled.{Settles, Settled, AreRight, found}
-use Rattle.aa_glob.specs.Ways.{IsWalkFault, Faults, Passes, items_of, rest_of, Calls, CallsAll, OnWay, IsAmong, IsWalking}
+use Rattle.aa_glob.specs.Settled.{Settles, Settled, AreSingle, AreRight, found}
+use Rattle.aa_glob.specs.Ways.{Faults, Passes, items_of, rest_of, Calls, CallsAll, OnWay, IsAmong}
 
 -- what stops or goes deeper behind texts does so as a whole
 then_stops : (J K : Outcome) (m : ℕ) (ts : List (List ℕ)) (e : PolicyKind) → and_then J K ≡ Stops e → and_then (followed (Texts m ts) J) K ≡ Stops e
@@ -138,7 +138,7 @@ passes_variable vars g none all =
     }
 
 -- a variable is one deeper than its values
-variable_is : (vars : List Variable) (name : List ℕ) (values : List (List ℕ)) (d : ℕ) → is_reserved name ≡ false → values_of vars name ≡ Some values → outcome (suc d) vars name ≡ counted (in_turn (outcome d vars) values)
+pub variable_is : (vars : List Variable) (name : List ℕ) (values : List (List ℕ)) (d : ℕ) → is_reserved name ≡ false → values_of vars name ≡ Some values → outcome (suc d) vars name ≡ counted (in_turn (outcome d vars) values)
 unfolding outcome
 variable_is vars name values d plain defined =
     ap (λ b. cond b (Stops Unsupported) (of_values (outcome d vars) (values_of vars name))) plain ∙ ap (of_values (outcome d vars)) defined
@@ -307,10 +307,10 @@ way_last vars whole [] below g w = w.1.0
 way_last vars whole (f ∷ fs) below g w = calls_last vars f fs below g w.1
 
 -- what a table has after an entry is put in
-abbrev Table : Type 0
+abbrev pub Table : Type 0
 Table = List (Bor (List ℕ) × Option Summary)
 
-same_bytes : (a b : List ℕ) → bytes_eq a b ≡ true → a ≡ b
+pub same_bytes : (a b : List ℕ) → bytes_eq a b ≡ true → a ≡ b
 same_bytes a b e = (bytes_eq-Decides a b).0 e
 
 module _ (name : List ℕ) (key : Bor (List ℕ)) (v : Option Summary) where
@@ -336,13 +336,22 @@ module _ (name : List ℕ) (key : Bor (List ℕ)) (v : Option Summary) where
       by false q ih =
           ap (cond (bytes_eq name e.0.now) (Some e.1)) ih ∙ swapped e.0.now q (bytes_eq name e.0.now) refl (bytes_eq name key.now) refl (Some e.1) (found name es)
 
-abbrev put_in : Table → Bor (List ℕ) → Option Summary → Table
+abbrev pub put_in : Table → Bor (List ℕ) → Option Summary → Table
 put_in es key v = insert_entry (λ (x y : Bor (List ℕ)). bytes_eq x.now y.now) es key v
 
 -- with a right summary the table stays right, and one that isn't known yet is none
-pub right_done : (vars : List Variable) (es new : Table) (key : Bor (List ℕ)) (s : Summary) → new ≡ put_in es key (Some s) → Settled (λ d. outcome d vars key.now) s → AreRight vars es → AreRight vars new
-right_done vars es new key s e one r = record { right = λ name t h. by name t (bytes_eq name key.now) refl (sym (found_after name key (Some s) es) ∙ ap (found name) (sym e) ∙ h) }
+pub right_done : (vars : List Variable) (es new : Table) (key : Bor (List ℕ)) (s : Summary) → new ≡ put_in es key (Some s) → Settled (λ d. outcome d vars key.now) s →
+    ((values : List (List ℕ)) → values_of vars key.now ≡ Some values → IsTrue s.single → AreSingle vars values) → AreRight vars es → AreRight vars new
+right_done vars es new key s e one single r = record {
+  right = λ name t h. by name t (bytes_eq name key.now) refl (sym (found_after name key (Some s) es) ∙ ap (found name) (sym e) ∙ h);
+  single = λ name t values h. singles name t values (bytes_eq name key.now) refl (sym (found_after name key (Some s) es) ∙ ap (found name) (sym e) ∙ h);
+}
   where
+    singles : (name : List ℕ) (t : Summary) (values : List (List ℕ)) (b : Bool) → bytes_eq name key.now ≡ b → cond b (Some (Some s)) (found name es) ≡ Some (Some t) → values_of vars name ≡ Some values → IsTrue t.single → AreSingle vars values
+    singles name t values true q h d x =
+        let same : s ≡ t = cc h in single values (ap (values_of vars) (sym (same_bytes name key.now q)) ∙ d) (subst (λ (u : Summary). IsTrue u.single) (sym same) x)
+    singles name t values false q h d x = r.single name t values h d x
+
     by : (name : List ℕ) (t : Summary) (b : Bool) → bytes_eq name key.now ≡ b → cond b (Some (Some s)) (found name es) ≡ Some (Some t) → Settled (λ d. outcome d vars name) t
     by name t true q h =
         let same : s ≡ t = cc h in
@@ -350,8 +359,15 @@ right_done vars es new key s e one r = record { right = λ name t h. by name t (
     by name t false q h = r.right name t h
 
 pub right_open : (vars : List Variable) (es new : Table) (key : Bor (List ℕ)) → new ≡ put_in es key None → AreRight vars es → AreRight vars new
-right_open vars es new key e r = record { right = λ name t h. by name t (bytes_eq name key.now) (sym (found_after name key None es) ∙ ap (found name) (sym e) ∙ h) }
+right_open vars es new key e r = record {
+  right = λ name t h. by name t (bytes_eq name key.now) (sym (found_after name key None es) ∙ ap (found name) (sym e) ∙ h);
+  single = λ name t values h. singles name t values (bytes_eq name key.now) (sym (found_after name key None es) ∙ ap (found name) (sym e) ∙ h);
+}
   where
+    singles : (name : List ℕ) (t : Summary) (values : List (List ℕ)) (b : Bool) → cond b (Some None) (found name es) ≡ Some (Some t) → values_of vars name ≡ Some values → IsTrue t.single → AreSingle vars values
+    singles name t values true h d x = absurd (cc h)
+    singles name t values false h d x = r.single name t values h d x
+
     by : (name : List ℕ) (t : Summary) (b : Bool) → cond b (Some None) (found name es) ≡ Some (Some t) → Settled (λ d. outcome d vars name) t
     by name t true h = absurd (cc h)
     by name t false h = r.right name t h
@@ -370,63 +386,3 @@ open_new es new key name e h = by (bytes_eq name key.now) refl (sym (found_after
     by : (b : Bool) → bytes_eq name key.now ≡ b → cond b (Some None) (found name es) ≡ Some None → (key.now ≡ name) ⊎ (found name es ≡ Some None)
     by true q x = inl (sym (same_bytes name key.now q))
     by false q x = inr x
-
--- the walk at its start, and one step on
-pub walk_start : (vars : List Variable) (raw : List ℕ) (top : Step) (none : Table) → none ≡ [] → top.kept ≡ false → top.rest.now ≡ raw → top.later.now ≡ [] → IsWalking vars raw [] top none
-walk_start vars raw top none e kept text later = record {
-  way = (passes_raw vars top raw kept text later, tt);
-  right = record { right = λ name s h. absurd (cc (ap (found name) (sym e) ∙ h)) };
-  open_names = λ name h. absurd (cc (ap (found name) (sym e) ∙ h));
-}
-
-pub walk_on : (vars : List Variable) (raw : List ℕ) (stack : List Step) (f g : Step) (done : Table) → g.name.now ≡ f.name.now → g.all.now ≡ f.all.now → ((w : ℕ → Outcome) → Passes (rest_of vars f) w → Passes (rest_of vars g) w) →
-    IsWalking vars raw stack f done → IsWalking vars raw stack g done
-walk_on vars raw stack f g done name all on w = record {
-  way = way_same vars _ stack f g name all on w.way;
-  right = w.right;
-  open_names = λ n h. among_top n stack f g name (w.open_names n h);
-}
-
-pub walk_into : (vars : List Variable) (raw : List ℕ) (stack new_stack : List Step) (f g : Step) (done new : Table) (key : Bor (List ℕ)) (behind : List Piece) →
-    new_stack ≡ stack ++ f ∷ [] → new ≡ put_in done key None → key.now ≡ g.name.now → pieces_from f.kept 0 f.rest.now ≡ Use g.name.now ∷ behind →
-    is_reserved g.name.now ≡ false → values_of vars g.name.now ≡ Some (items_of g.all.now) → g.rest.now ≡ [] → g.later.now ≡ g.all.now → IsWalking vars raw stack f done → IsWalking vars raw new_stack g new
-walk_into vars raw stack new_stack f g done new key behind pushed put same next plain defined none all w =
-    let c : Calls vars f g = record { behind = behind; next = next; plain = plain; defined = defined; passes = passes_variable vars g none all } in record {
-      way = subst (λ st. OnWay vars (λ d. outcome_of d vars raw) (st ++ g ∷ [])) (sym pushed) (way_push vars _ stack f g c w.way);
-      right = right_open vars done new key put w.right;
-      open_names = λ n h. subst (λ st. IsAmong n (drop 1 (st ++ g ∷ []))) (sym pushed)
-          (⊎_elim (λ e. among_new n stack f g (sym same ∙ e)) (λ old. among_behind n (stack ++ f ∷ []) g (w.open_names n old)) (open_new done new key n put h));
-    }
-
-pub walk_back : (vars : List Variable) (raw : List ℕ) (stack below_stack : List Step) (below g : Step) (done new : Table) → stack ≡ below_stack ++ below ∷ [] →
-    ((other : List ℕ) → found other new ≡ Some None → (g.name.now ≡ other → ⊥) × (found other done ≡ Some None)) → AreRight vars new → IsWalking vars raw stack g done → IsWalking vars raw below_stack below new
-walk_back vars raw stack below_stack below g done new popped opens right w = record {
-  way = way_pop vars _ (below_stack ++ below ∷ []) g (subst (λ st. OnWay vars (λ d. outcome_of d vars raw) (st ++ g ∷ [])) popped w.way);
-  right = right;
-  open_names = λ n h.
-      let old = opens n h in
-      among_below n below_stack below g old.0 (subst (λ st. IsAmong n (drop 1 (st ++ g ∷ []))) popped (w.open_names n old.1));
-}
-
-pub walk_called : (vars : List Variable) (raw : List ℕ) (stack below_stack : List Step) (below g : Step) (done : Table) → stack ≡ below_stack ++ below ∷ [] → IsWalking vars raw stack g done →
-    (is_reserved g.name.now ≡ false) × (values_of vars g.name.now ≡ Some (items_of g.all.now))
-walk_called vars raw stack below_stack below g done popped w =
-    let c = way_last vars _ below_stack below g (subst (λ st. OnWay vars (λ d. outcome_of d vars raw) (st ++ g ∷ [])) popped w.way) in (c.plain, c.defined)
-
-pub walk_stops : (vars : List Variable) (raw : List ℕ) (stack : List Step) (top : Step) (done : Table) (p : Piece) (behind : List Piece) (e : PolicyKind) (from : ℕ) →
-    pieces_from top.kept 0 top.rest.now ≡ p ∷ behind → ((d : ℕ) → from ≤ d → alone (outcome d vars) p ≡ Stops e) → IsWalking vars raw stack top done → IsWalkFault vars raw e
-walk_stops vars raw stack top done p behind e from next stops w =
-    let f = way_stops vars _ stack top e w.way (next_stops vars top p behind e from next stops) in inl (f.from, f.stops f.from (omega arith))
-
-pub walk_circle : (vars : List Variable) (raw : List ℕ) (stack : List Step) (top : Step) (done : Table) (name : List ℕ) (behind : List Piece) →
-    pieces_from top.kept 0 top.rest.now ≡ Use name ∷ behind → found name done ≡ Some None → IsWalking vars raw stack top done → IsWalkFault vars raw VariableCircle
-walk_circle vars raw stack top done name behind next open_name w =
-    inr (refl, way_circle vars _ stack top name behind w.way (w.open_names name open_name) next)
-
-pub walk_refused : (vars : List Variable) (raw : List ℕ) (stack : List Step) (top : Step) (done : Table) (name : List ℕ) (behind : List Piece) (e : PolicyKind) →
-    pieces_from top.kept 0 top.rest.now ≡ Use name ∷ behind → ((d : ℕ) → outcome (suc d) vars name ≡ Stops e) → IsWalking vars raw stack top done → IsWalkFault vars raw e
-walk_refused vars raw stack top done name behind e next stops w = walk_stops vars raw stack top done (Use name) behind e 1 next at w
-  where
-    at : (d : ℕ) → 1 ≤ d → outcome d vars name ≡ Stops e
-    at zero h = absurd (omega arith)
-    at (suc d) h = stops d

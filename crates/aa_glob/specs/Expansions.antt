@@ -101,3 +101,7 @@ pub data Expands (vars : List Variable) (raw : List ℕ) : Result (List (List To
   in_circle : ((depth : ℕ) → outcome_of depth vars raw ≡ Deeper) → Expands vars raw (Err VariableCircle)
   too_many : (depth most : ℕ) (ts : List (List ℕ)) → outcome_of depth vars raw ≡ Texts most ts → 1024 < max most (length ts) → Expands vars raw (Err TooManyExpansions)
   as_texts : (depth most : ℕ) (ts : List (List ℕ)) → outcome_of depth vars raw ≡ Texts most ts → max most (length ts) ≤ 1024 → Expands vars raw (expansions ts)
+
+-- it expands to one thing alone
+abbrev pub ExpandsOnce : Type 0
+ExpandsOnce = (vars : List Variable) (raw : List ℕ) (one other : Result (List (List Token)) PolicyKind) → Expands vars raw one → Expands vars raw other → one ≡ other

@@ -8,10 +8,12 @@ pub mod Signs
 pub mod Classes
 pub mod Reading
 pub mod Stack
+pub mod Sameness
 pub mod Variables
 pub mod Pieces
 pub mod Expansions
 pub mod Parts
 pub mod Settled
+pub mod Known
 pub mod Ways
 pub mod Built

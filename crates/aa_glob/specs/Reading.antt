@@ -1,6 +1,5 @@
 -- How a text is read as a pattern: its tokens, and how a list of items is spelled by tokens.
-use Rattle.std.specs.Prelude.{ℕ, suc, zero, ◌+◌, ◌-◌, ◌==◌, ◌&&◌, ◌≡◌, ◌≢◌, Bool, true, false, List, [], ◌∷◌, ◌++◌, take, drop, length, if◌then◌else◌, nat_lt, Option, Some, None, option_and_then, option_map, Result, Ok, Err, Vec}
-use Rattle.std.specs.Global.{Global}
+use Rattle.std.specs.Prelude.{ℕ, suc, zero, ◌+◌, ◌-◌, ◌==◌, ◌&&◌, ◌≡◌, ◌≢◌, Bool, true, false, List, [], ◌∷◌, ◌++◌, take, drop, length, if◌then◌else◌, nat_lt, Option, Some, None, option_and_then, option_map, Result, Ok, Err}
 use Rattle.aa_words.specs.declared.fault.PolicyKind.{PolicyKind}
 use Rattle.aa_words.specs.declared.fault.PolicyKind.TheVariants.{NoMemory, Unsupported, BadPattern}
 use Rattle.aa_glob.specs.declared.sign.Sign.{Sign}
@@ -77,15 +76,20 @@ unfoldable pub tokens : List ℕ → Result (List Token) PolicyKind
 tokens text = if is_unsupported text then Err Unsupported else or_bad (tokens_from 0 false 0 (signs text))
 
 abbrev mutual
-  -- the tokens that spell an item
+  -- the tokens that spell an item: a choice is spelled by its branches between { and }, any other item by itself
   pub spelled_item : Item → List Token
-  spelled_item (Choice' _ branches) = spelled_branches Open branches
+  spelled_item (Choice' shape branches) = spelled_choice (Choice' shape branches) branches
   spelled_item item = Single item ∷ []
 
-  -- each branch stands behind { or a comma
-  pub spelled_branches : {n : _} → Token → Row_of-Item-Choice-0-1 n → List Token
-  spelled_branches before end_of-Item-Choice-0-1 = Close ∷ []
-  spelled_branches before (more_of-Item-Choice-0-1 _ branch rest) = before ∷ (spelled_row branch ++ spelled_branches Comma rest)
+  -- no text has the token of a choice without branches
+  pub spelled_choice : {n : _} → Item → Row_of-Item-Choice-0-1 n → List Token
+  spelled_choice choice end_of-Item-Choice-0-1 = Single choice ∷ []
+  spelled_choice choice (more_of-Item-Choice-0-1 _ branch rest) = Open ∷ (spelled_row branch ++ spelled_rest rest)
+
+  -- each further branch stands behind a comma
+  pub spelled_rest : {n : _} → Row_of-Item-Choice-0-1 n → List Token
+  spelled_rest end_of-Item-Choice-0-1 = Close ∷ []
+  spelled_rest (more_of-Item-Choice-0-1 _ branch rest) = Comma ∷ (spelled_row branch ++ spelled_rest rest)
 
   pub spelled_row : {n : _} → Row_of-Item n → List Token
   spelled_row end_of-Item = []
@@ -95,11 +99,6 @@ abbrev mutual
 abbrev pub spelled : List Item → List Token
 spelled [] = []
 spelled (item ∷ items) = spelled_item item ++ spelled items
-
--- `spelled_branches`, of lists
-abbrev pub spelled_lists : Token → List (Vec Item Global) → List Token
-spelled_lists before [] = Close ∷ []
-spelled_lists before (branch ∷ rest) = before ∷ (spelled branch.items ++ spelled_lists Comma rest)
 
 -- What a function returned, seen by view, is what reading gives; refused for another cause than memory, its fault.
 abbrev pub Gives : {X Y : Type 0} → (X → Y) → Result X PolicyKind → Result Y PolicyKind → Type 0

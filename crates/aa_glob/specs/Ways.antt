@@ -1,7 +1,6 @@
 -- The texts on the way of a walk.
-use Rattle.std.specs.Prelude.{ℕ, ◌≤◌, ◌≡◌, ◌⊎◌, false, List, [], ◌∷◌, ◌++◌, map, drop, Option, Some, None, Vec}
+use Rattle.std.specs.Prelude.{ℕ, ◌+◌, ◌≤◌, ◌≡◌, ◌≢◌, length, ◌⊎◌, false, List, [], ◌∷◌, ◌++◌, map, drop, Some, None, Vec}
 use Rattle.std.specs.Global.{Global}
-use Rattle.std.specs.Borrow.{Bor}
 use Rattle.aa_words.specs.declared.fault.PolicyKind.{PolicyKind}
 use Rattle.aa_words.specs.declared.fault.PolicyKind.TheVariants.{VariableCircle}
 use Rattle.aa_glob.specs.declared.summary.Summary.{Summary}
@@ -10,6 +9,7 @@ use Rattle.aa_glob.specs.Variables.{Variable, values_of}
 use Rattle.aa_glob.specs.Pieces.{Piece, Use, pieces_from}
 use Rattle.aa_glob.specs.Expansions.{Outcome, Stops, Deeper, and_then, joined, in_turn, outcome, outcome_of, is_reserved}
 use Rattle.aa_glob.specs.Settled.{AreRight, found}
+use Rattle.aa_glob.specs.Known.{Table, AreKnown, AreTextsKnown, IsClosed}
 
 -- the walk stops at the fault, or it has no end
 abbrev pub IsWalkFault : List Variable → List ℕ → PolicyKind → Type 0
@@ -55,8 +55,29 @@ abbrev pub IsAmong : List ℕ → List Step → Type 0
 IsAmong name [] = ⊥
 IsAmong name (f ∷ fs) = (f.name.now ≡ name) ⊎ IsAmong name fs
 
+-- the second table has all summaries' names that the first has
+abbrev pub Grows : Table → Table → Type 0
+Grows done more = (name : List ℕ) (s : Summary) → found name done ≡ Some (Some s) → (t : Summary) × (found name more ≡ Some (Some t))
+
+-- once what is left of a step is known, all of the texts is
+abbrev pub Reads : Table → List (List ℕ) → Step → Type 0
+Reads done texts f =
+    (more : Table) → Grows done more → AreKnown more (pieces_from f.kept 0 f.rest.now) → AreTextsKnown more (items_of f.later.now) → AreTextsKnown more texts
+
+abbrev pub ReadsAll : Table → List Step → Type 0
+ReadsAll done [] = Unit {0}
+ReadsAll done (g ∷ gs) = Reads done (items_of g.all.now) g × ReadsAll done gs
+
+abbrev pub ReadsWay : Table → List ℕ → List Step → Type 0
+ReadsWay done raw [] = Unit {0}
+ReadsWay done raw (f ∷ fs) = Reads done (raw ∷ []) f × ReadsAll done fs
+
 -- the stack and the top of a walk, and its table: a variable without a summary is one on the way
-pub record IsWalking (vars : List Variable) (raw : List ℕ) (stack : List Step) (top : Step) (done : List (Bor (List ℕ) × Option Summary)) : Type 0 where
+pub record IsWalking (vars : List Variable) (raw : List ℕ) (stack : List Step) (top : Step) (done : Table) : Type 0 where
   pub way : OnWay vars (λ depth. outcome_of depth vars raw) (stack ++ top ∷ [])
   pub right : AreRight vars done
   pub open_names : (name : List ℕ) → found name done ≡ Some None → IsAmong name (drop 1 (stack ++ top ∷ []))
+  pub closed : IsClosed vars done
+  pub reads : ReadsWay done raw (stack ++ top ∷ [])
+  pub room : length stack ≤ length done
+  pub reached : (name : List ℕ) (s : Summary) (d : ℕ) → found name done ≡ Some (Some s) → length done ≤ d + length stack → outcome d vars name ≢ Deeper

@@ -2,6 +2,7 @@
 
 ghost use Rattle.std.specs.Prelude.{◌≡◌, ◌≢◌, ◌≤◌, ◌==◌, ◌&&◌, ℕ, List, length, map, IfOk, IfErr, Ok, Err};
 ghost use Rattle.aa_glob.specs.Settled.{AreRight};
+ghost use Rattle.aa_glob.specs.Known.{IsWalked};
 ghost use Rattle.aa_glob.specs.Reading.{Gives, spelled};
 ghost use Rattle.aa_glob.specs.Expansions.{pattern_text, expansion, expansions, outcome_of, Texts, Expands};
 
@@ -67,6 +68,8 @@ fn read_all<'t>(
     raw: &'t [u8],
     count: usize,
 ) -> Result<Vec<Pattern>, PolicyKind>
+    requires walked { IsWalked vars.now raw.now done.now.entries }
+    requires texts { (most : ℕ) × (ts : List (List ℕ)) × (outcome_of (length done.now.entries) vars.now raw.now ≡ Texts most ts) × (most ≤ 1024) × (length ts ≡ count) }
     ensures { (depth most : ℕ) (ts : List (List ℕ)) → AreRight vars.now done.now.entries → outcome_of depth vars.now raw.now ≡ Texts most ts → most ≤ 1024 → length ts ≡ count
         → Gives (λ v. map (λ p. spelled p.items.items) v.items) result (expansions ts) }
 {
@@ -101,9 +104,7 @@ pub fn expand(alloc: Global, vars: &Vars, raw: &[u8]) -> Result<Vec<Pattern>, Po
         Ok(done) => done,
         Err(fault) => return Err(fault),
     };
-    let Some(summary) = text_summary(raw, &done) else {
-        return Err(PolicyKind::NoMemory);
-    };
+    let summary = text_summary(raw, &done);
     if summary.many {
         return Err(PolicyKind::TooManyExpansions);
     }

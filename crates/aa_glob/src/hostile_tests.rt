@@ -19,11 +19,9 @@ fn read(alloc: Global, text: &[u8]) -> Result<Pattern, PolicyKind> {
     read_pattern(alloc, text)
 }
 
-fn is_refused(read: Result<Pattern, PolicyKind>, kind: PolicyKind) -> bool {
-    match read {
-        Ok(_) => false,
-        Err(fault) => fault == kind,
-    }
+/// Why the text is no pattern.
+fn refusal(alloc: Global, text: &[u8]) -> Option<PolicyKind> {
+    read(alloc, text).err()
 }
 
 #[test]
@@ -31,14 +29,20 @@ fn texts_of_one_byte_over_and_over(rt: HostRuntime) -> Result<(), Fail> {
     let alloc = rt.alloc();
     for byte in [b'[', b'{'] {
         let text = repeated(alloc, byte, TEXT)?;
-        assert!(rt; is_refused(read(alloc, text.as_slice()), PolicyKind::BadPattern));
+        assert_eq!(rt;
+            refusal(alloc, text.as_slice()),
+            Some(PolicyKind::BadPattern)
+        );
     }
     let backslashes = repeated(alloc, b'\\', TEXT)?;
     let kept = read(alloc, backslashes.as_slice())?;
     assert_eq!(rt; kept.literal_front(), TEXT / 2);
     assert!(rt; kept.matches(repeated(alloc, b'\\', TEXT / 2)?.as_slice()));
     let one_less = repeated(alloc, b'\\', TEXT - 1)?;
-    assert!(rt; is_refused(read(alloc, one_less.as_slice()), PolicyKind::BadPattern));
+    assert_eq!(rt;
+        refusal(alloc, one_less.as_slice()),
+        Some(PolicyKind::BadPattern)
+    );
     Ok(())
 }
 
@@ -95,6 +99,18 @@ fn texts_longer_than_any_path_are_matched_too(rt: HostRuntime) -> Result<(), Fai
     assert!(rt; pattern.matches(path.as_slice()));
     path.push(0)?;
     assert!(rt; !pattern.matches(path.as_slice()));
+    Ok(())
+}
+
+#[test]
+fn a_choice_in_a_text_longer_than_any_path(rt: HostRuntime) -> Result<(), Fail> {
+    let alloc = rt.alloc();
+    let pattern = read(alloc, b"/**{a,b*}x")?;
+    let mut path = repeated(alloc, b'/', 10000)?;
+    assert!(rt; !pattern.matches(path.as_slice()));
+    path.push(b'b')?;
+    path.push(b'x')?;
+    assert!(rt; pattern.matches(path.as_slice()));
     Ok(())
 }
 

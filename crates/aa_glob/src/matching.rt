@@ -5,7 +5,8 @@ ghost use Rattle.std.specs.List.{list_all};
 ghost use Rattle.aa_glob.specs.Globs.{Matches, is_byte};
 ghost use Rattle.aa_glob.specs.Steps.{Begins, IsOneByte};
 
-use crate::flags::{MAX_PLACES, matches_by_flags};
+use crate::flags::{MAX_PLACES, PATH_PLACES, SHORT_PLACES, matches_by_flags};
+use crate::gaps::{MAX_GAPS, are_simple, matches_by_gaps};
 use crate::halves::matches_by_halves;
 use crate::item::{Item, Pattern};
 use crate::step::{begins, is_one_byte};
@@ -49,8 +50,14 @@ fn matches_items(items: &[Item], text: &[u8]) -> bool
 {
     if fails_at_once(items, text) {
         false
+    } else if text.len() < SHORT_PLACES {
+        matches_by_flags::<SHORT_PLACES>(items, text)
     } else if text.len() < 256 {
         matches_by_flags::<256>(items, text)
+    } else if text.len() < PATH_PLACES {
+        matches_by_flags::<PATH_PLACES>(items, text)
+    } else if items.len() < MAX_GAPS && are_simple(items) {
+        matches_by_gaps(items, text)
     } else if text.len() < MAX_PLACES {
         matches_by_flags::<MAX_PLACES>(items, text)
     } else {
@@ -68,8 +75,9 @@ fn is_byte_item(item: &Item) -> bool
 }
 
 impl Pattern {
-    /// Whether the whole path matches (apparmor.d(5), "Globbing"). It takes no memory and, for a path of at most
-    /// 4,095 bytes, at most one step for each item and byte; the machine's stack grows only with choices inside choices.
+    /// Whether the whole path matches (apparmor.d(5), "Globbing"). It takes no memory; the machine's stack grows only with
+    /// choices inside choices. For a path of at most 16,383 bytes, and for one of any length where no item of at most 16,384
+    /// is a choice, it takes at most one step for each item and byte.
     pub fn matches(&self, path: &[u8]) -> bool
         ensures { IsTrue result ↔ Matches self.now.items.items path.now }
     {

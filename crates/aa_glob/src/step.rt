@@ -18,8 +18,8 @@ fn is_name(byte: u8) -> bool
     byte != 0 && byte != b'/'
 }
 
-/// Whether a part may begin with the byte.
-pub(crate) fn begins(item: &Item, byte: u8) -> bool
+/// Whether a text that the item matches may begin with the byte. A choice is asked item by item: it gives false here.
+pub fn begins(item: &Item, byte: u8) -> bool
     ensures { IsTrue result ↔ Begins item.now byte }
 {
     match item {
@@ -31,8 +31,8 @@ pub(crate) fn begins(item: &Item, byte: u8) -> bool
     }
 }
 
-/// Whether a part may go on with the byte.
-pub(crate) fn continues(item: &Item, byte: u8) -> bool
+/// Whether a text that the item matches may go on with the byte behind its first. A choice gives false.
+pub fn continues(item: &Item, byte: u8) -> bool
     ensures { IsTrue result ↔ Continues item.now byte }
 {
     match item {
@@ -42,8 +42,8 @@ pub(crate) fn continues(item: &Item, byte: u8) -> bool
     }
 }
 
-/// Whether a part may be empty.
-pub(crate) fn is_skippable(item: &Item) -> bool
+/// Whether the item matches the empty text. A choice gives false.
+pub fn is_skippable(item: &Item) -> bool
     ensures { IsTrue result ↔ IsSkippable item.now }
 {
     match item {

@@ -1,10 +1,8 @@
 //! The walk of a text, left to right and into the values of its variables depth first. It visits each variable once, and keeps
 //! its own stack.
 
-ghost use Rattle.std.specs.Prelude.{◌≡◌, ◌≢◌, ℕ, None, List, IfOk, IfErr, OnOk, OnErr, Some, map, false};
-ghost use Rattle.aa_glob.specs.Variables.{Variable, values_of};
-ghost use Rattle.aa_glob.specs.Expansions.{is_reserved};
-ghost use Rattle.aa_glob.specs.Settled.{AreRight, found};
+ghost use Rattle.std.specs.Prelude.{◌≡◌, ◌≢◌, IfOk, IfErr};
+ghost use Rattle.aa_glob.specs.Known.{IsWalked};
 ghost use Rattle.aa_glob.specs.Ways.{IsWalkFault};
 
 use crate::pieces::{Part, next_part};
@@ -28,25 +26,9 @@ pub(crate) struct Step<'t> {
     pub later: &'t [Vec<u8>],
 }
 
-/// Notes the summary of a variable whose variables are all done.
-fn finish<'t>(done: &mut Done<'t>, name: &'t [u8], values: &[Vec<u8>]) -> Result<(), PolicyKind>
-    ensures right { (vars : List Variable) → AreRight vars done.old.entries → is_reserved name.now ≡ false → values_of vars name.now ≡ Some (map (λ v. v.items) values.now)
-        → OnOk result (AreRight vars done.new.entries) }
-    ensures opens { (other : List ℕ) → OnOk result (found other done.new.entries ≡ Some None → (name.now ≡ other → ⊥) × (found other done.old.entries ≡ Some None)) }
-    ensures err { IfErr result (λ e. e ≡ PolicyKind.NoMemory) }
-{
-    match variable_summary(values, done) {
-        Some(summary) => {
-            done.insert(name, Some(summary))?;
-            Ok(())
-        }
-        None => Err(PolicyKind::NoMemory),
-    }
-}
-
 /// Walks a text, and gives the summary of each variable on the way.
 pub(crate) fn walk<'t>(alloc: Global, vars: &'t Vars, raw: &'t [u8]) -> Result<Done<'t>, PolicyKind>
-    ensures ok { IfOk result (λ done. AreRight vars.now done.entries) }
+    ensures ok { IfOk result (λ done. IsWalked vars.now raw.now done.entries) }
     ensures err { IfErr result (λ e. e ≢ PolicyKind.NoMemory → IsWalkFault vars.now raw.now e) }
 {
     let mut done: Done<'t> = IndexMap::new(alloc);
@@ -58,7 +40,7 @@ pub(crate) fn walk<'t>(alloc: Global, vars: &'t Vars, raw: &'t [u8]) -> Result<D
         kept: false,
         later: &[],
     };
-    for _ in 0..u64::MAX {
+    loop {
         let Some((part, behind, keep)) = next_part(top.rest, top.kept) else {
             if let Some((value, others)) = top.later.split_first() {
                 top = Step {
@@ -72,7 +54,8 @@ pub(crate) fn walk<'t>(alloc: Global, vars: &'t Vars, raw: &'t [u8]) -> Result<D
             let Some(below) = stack.pop() else {
                 return Ok(done);
             };
-            finish(&mut done, top.name, top.all)?;
+            let summary = variable_summary(top.all, &done);
+            done.insert(top.name, Some(summary))?;
             top = below;
             continue;
         };
@@ -112,5 +95,4 @@ pub(crate) fn walk<'t>(alloc: Global, vars: &'t Vars, raw: &'t [u8]) -> Result<D
             },
         }
     }
-    Err(PolicyKind::NoMemory)
 }

@@ -1,4 +1,5 @@
 pub mod Letters
+pub mod Growth
 pub mod Places
 pub mod Productions
 pub mod Repetition
@@ -7,3 +8,4 @@ pub mod Matching
 pub mod Pairs
 pub mod Distinct
 pub mod Spelled
+mod Entries

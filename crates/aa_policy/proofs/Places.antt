@@ -1,10 +1,10 @@
 -- The word at a place, and those behind it.
-use Rattle.std.proofs.Common.{◌≡◌, ℕ, ◌+◌, ◌<◌, ◌≤◌, List, [], ◌∷◌, length, drop, get_or, ap, ◌∙◌, sym, arith}
+use Rattle.std.proofs.Common.{◌≡◌, ℕ, ◌+◌, ◌<◌, ◌≤◌, List, [], ◌∷◌, length, drop, get_or, Bool, true, false, ap, ◌∙◌, sym, arith}
 use Rattle.std.proofs.lemmas.List.{drop_more, drop_all, length-drop, length-map}
 use Rattle.aa_words.specs.declared.word.Word.{Word}
 use Rattle.aa_words.specs.declared.word.WordKind.{WordKind}
 use Rattle.aa_words.specs.Splits.{WordData, word_data, words_data}
-use Rattle.aa_policy.specs.Grammar.{Starts, Lacks}
+use Rattle.aa_policy.specs.Grammar.{Starts, Lacks, StartsAs, LacksAll}
 use Rattle.aa_policy.specs.Reading.{rest_of}
 
 pub here : (words : List Word) (at : ℕ) (w : Word) → at < length words → w ≡ get_or words at w → rest_of words at ≡ word_data w ∷ rest_of words (at + 1)
@@ -29,6 +29,22 @@ no_cons v vs e = cc
 
 pub lacks_past : (kind : WordKind) (words : List Word) (at : ℕ) → length words ≤ at → Lacks kind (rest_of words at)
 lacks_past kind words at h = λ v rest s. no_cons v rest (sym (nothing_here words at h) ∙ s.words)
+
+-- the same for several kinds
+pub fits_here : (fits : WordKind → Bool) (words : List Word) (at : ℕ) (w : Word) → at < length words → w ≡ get_or words at w → true ≡ fits w.kind → StartsAs fits (rest_of words at) (word_data w) (rest_of words (at + 1))
+fits_here fits words at w h e k = record { words = here words at w h e; kind_fits = sym k }
+
+not_both : (b : Bool) → false ≡ b → b ≡ true → ⊥
+not_both true e f = cc
+not_both false e f = cc
+
+pub lacks_here : (fits : WordKind → Bool) (words : List Word) (at : ℕ) (w : Word) → at < length words → w ≡ get_or words at w → false ≡ fits w.kind → LacksAll fits (rest_of words at)
+lacks_here fits words at w h e k = λ v rest s.
+    let same : word_data w ≡ v = head_is (word_data w) v (rest_of words (at + 1)) rest (sym (here words at w h e) ∙ s.words) in
+    not_both (fits w.kind) k (ap (λ (x : WordData). fits x.kind) same ∙ s.kind_fits)
+
+pub lacks_all_past : (fits : WordKind → Bool) (words : List Word) (at : ℕ) → length words ≤ at → LacksAll fits (rest_of words at)
+lacks_all_past fits words at h = λ v rest s. no_cons v rest (sym (nothing_here words at h) ∙ s.words)
 
 pub rest_long : (words : List Word) (at : ℕ) → at < length words → 0 < length (rest_of words at)
 rest_long words at h = omega (arith, length-map (drop at words) word_data, length-drop at words)

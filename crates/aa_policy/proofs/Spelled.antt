@@ -6,6 +6,9 @@ use Rattle.std.specs.List.{All, AllByRecursion, IsDistinct, list_any, slice_get,
 use Rattle.std.specs.Option.{option_map, option_eq}
 use Rattle.std.specs.Bool.{nat_eq}
 use Rattle.std.proofs.lemmas.Option.{slice_get-map, option_and_then_some, same_Some}
+use Rattle.std.specs.Prelude.{flat_map}
+use Rattle.std.proofs.lemmas.List.Concat.{flat_map-cons}
+use Rattle.aa_policy.specs.declared.rule.FileRule.{FileRule}
 use Rattle.std.proofs.lemmas.List.{map-append}
 use Rattle.std.proofs.lemmas.List.Elements.{All-from_recursion, All-map, All-filter}
 use Rattle.std.proofs.lemmas.List.Sums.{sum_by-le}
@@ -23,9 +26,9 @@ use Rattle.aa_policy.specs.declared.policy.Policy.{Policy}
 use Rattle.aa_policy.specs.Modes.{letter_bits, letters_bits, mode_bits, has_letter}
 use Rattle.aa_policy.specs.Names.{is_profile_name}
 use Rattle.aa_policy.specs.Grammar.{Production, Ending, Many, IsRule, Closes, IsProfile, IsEnd, IsPolicy}
-use Rattle.aa_policy.specs.Reading.{FileData, ProfileData}
+use Rattle.aa_policy.specs.Reading.{RuleData, OnFile, Listed, ProfileData}
 use Rattle.aa_policy.specs.Lawful.{IsLawful, IsLawfulRule, IsWithinLimits, IsWithinCounts, ParentsComeFirst, attachment_patterns, has_exec, names_of}
-use Rattle.aa_policy.specs.Spelling.{Spells, IsRepeated, profile_of, profiles_of, file_rule_of, paths_fault}
+use Rattle.aa_policy.specs.Spelling.{Spells, IsRepeated, profile_of, profiles_of, file_rule_of, file_rules_of, passed_over_from, paths_fault}
 use Rattle.aa_policy.proofs.Repetition.{many_once}
 use Rattle.aa_policy.proofs.Productions.{profile_reads}
 
@@ -134,18 +137,28 @@ mode_low text b e = low_if (has_letter 119 text && has_letter 97 text) None (let
 no_exec : (p : Perms) → p.0 < 64 → has_exec p ≡ false
 no_exec p h = ap (λ (x : ℕ). x == 64) (and_pow p.0 6 ∙ ap (λ (x : ℕ). x * 64) (bit_at_above p.0 6 6 h (lit≤ tt)))
 
-abbrev Lawful : FileData → Type 0
-Lawful f = IsLawfulRule (file_rule_of f)
+abbrev Lawful : RuleData → Type 0
+Lawful (OnFile f) = IsLawfulRule (file_rule_of f)
+Lawful (Listed keyword) = Unit {0}
 
-rule_lawful : (ws : List WordData) (f : FileData) (rest : List WordData) → IsRule ws f rest → Lawful f
-rule_lawful ws f rest i = record { allowed = λ _. no_exec f.perms (mode_low i.rule.mode.text (f.perms.0) i.rule.access); denied = λ _. refl }
+rule_lawful : (ws : List WordData) (r : RuleData) (rest : List WordData) → IsRule ws r rest → Lawful r
+rule_lawful ws (OnFile f) rest i = record { allowed = λ _. no_exec f.perms (mode_low i.says.mode.text (f.perms.0) i.says.access); denied = λ _. refl }
+rule_lawful ws (Listed keyword) rest i = tt
+
+lawful_more : (r : RuleData) (fs : List FileRule) → Lawful r → AllByRecursion IsLawfulRule fs → AllByRecursion IsLawfulRule (file_rules_of r ++ fs)
+lawful_more (OnFile f) fs a b = (a, b)
+lawful_more (Listed keyword) fs a b = b
+
+lawful_rules : (rs : List RuleData) → AllByRecursion Lawful rs → AllByRecursion IsLawfulRule (flat_map file_rules_of rs)
+lawful_rules [] a = tt
+lawful_rules (r ∷ rs) a = subst (λ (fs : List FileRule). AllByRecursion IsLawfulRule fs) (sym (flat_map-cons file_rules_of r rs)) (lawful_more r (flat_map file_rules_of rs) a.0 (lawful_rules rs a.1))
 
 abbrev AllLawful : ProfileData → Type 0
 AllLawful p = All IsLawfulRule (profile_of p).files
 
 profile_lawful : (ws : List WordData) (p : ProfileData) (rest : List WordData) → IsProfile ws p rest → AllLawful p
 profile_lawful ws p rest i =
-    All-map IsLawfulRule file_rule_of p.files (All-from_recursion Lawful p.files (many_all IsRule Closes Lawful rule_lawful i.after p.files rest i.files))
+    All-from_recursion IsLawfulRule (flat_map file_rules_of p.rules) (lawful_rules p.rules (many_all IsRule Closes Lawful rule_lawful i.after p.rules rest i.rules))
 
 rules_lawful : (ws : List WordData) (tree : List ProfileData) → IsPolicy ws tree → All (λ (p : Profile). All IsLawfulRule p.files) (profiles_of tree)
 rules_lawful ws tree w =
@@ -200,4 +213,4 @@ policy_same p q e f =
 pub spells_once : (ws : List WordData) (p q : Policy) → Spells ws p → Spells ws q → p ≡ q
 spells_once ws p q a b =
     let t = tree_once ws a.tree b.tree a.written b.written in
-    policy_same p q (a.profiles ∙ ap profiles_of t ∙ sym b.profiles) (a.passed_over ∙ sym b.passed_over)
+    policy_same p q (a.profiles ∙ ap profiles_of t ∙ sym b.profiles) (a.passed_over ∙ ap (passed_over_from 0) t ∙ sym b.passed_over)

@@ -7,3 +7,4 @@ pub mod Modes
 pub mod Names
 pub mod Reading
 pub mod Spelling
+pub mod Tables

@@ -1,19 +1,19 @@
 //! The second pass: gives what is written its meaning, path by path.
 
-ghost use Rattle.std.specs.Prelude.{◌≡◌, ◌≢◌, true, map, None, Some, IfSome, IfOk, IfErr, OnOk, length};
+ghost use Rattle.std.specs.Prelude.{◌≡◌, ◌≢◌, ◌++◌, flat_map, true, map, None, Some, IfSome, IfOk, IfErr, OnOk, length};
 ghost use Rattle.std.specs.List.{list_all};
 ghost use Rattle.aa_words.specs.Kinds.{IsRefusal};
 ghost use Rattle.aa_policy.specs.Expansion.{is_plain, is_plain_path, expansion_fault, literal};
 ghost use Rattle.aa_policy.specs.Faults.{is_path_fault, IsPathRefusal};
-ghost use Rattle.aa_policy.specs.Reading.{file_data, profile_data, tree_data};
-ghost use Rattle.aa_policy.specs.Spelling.{file_rule_of, profile_of, profiles_of, file_fault, files_fault, paths_fault};
+ghost use Rattle.aa_policy.specs.Reading.{file_data, rule_data, profile_data, tree_data};
+ghost use Rattle.aa_policy.specs.Spelling.{file_rule_of, file_rules_of, profile_of, profiles_of, file_fault, rule_fault, rules_fault, paths_fault};
 
 use crate::names::{begins_with, holds_pair};
 use crate::pattern::Pattern;
 use crate::policy::Profile;
 use crate::rule::FileRule;
 use crate::seq::{Seq, Text};
-use crate::tree::{FileTree, ProfileTree};
+use crate::tree::{FileTree, ProfileTree, RuleTree};
 use aa_words::{PolicyFault, PolicyKind};
 use std::alloc::Global;
 
@@ -70,37 +70,57 @@ fn file_rule(alloc: Global, file: &FileTree) -> Result<FileRule, PolicyFault>
     let mut patterns = Vec::with_capacity(alloc, 1)?;
     patterns.push(Pattern::literal(alloc, file.path)?)?;
     Ok(FileRule {
-        audit: false,
-        deny: false,
-        owner: false,
+        audit: file.qualifiers.audit,
+        deny: file.qualifiers.deny,
+        owner: file.owner,
         perms: file.perms,
         exec: None,
         patterns: Seq::from_vec(patterns),
     })
 }
 
-/// What the file rules of a profile say.
-fn file_rules(alloc: Global, files: &[FileTree]) -> Result<Vec<FileRule>, PolicyFault>
-    ensures rules { IfOk result (λ rs. rs.items ≡ map file_rule_of (map file_data files.now)) }
-    ensures expands { OnOk result (files_fault (map file_data files.now) ≡ None) }
-    ensures refused { IfErr result (λ e. e.kind ≢ PolicyKind.NoMemory → files_fault (map file_data files.now) ≡ Some e) }
+/// Adds what a rule says to the file rules before it, if it is one.
+fn push_file_rule(
+    alloc: Global,
+    rule: &RuleTree,
+    found: &mut Vec<FileRule>,
+) -> Result<(), PolicyFault>
+    ensures rule { OnOk result (found.new.items ≡ found.old.items ++ file_rules_of (rule_data rule.now)) }
+    ensures expands { OnOk result (rule_fault (rule_data rule.now) ≡ None) }
+    ensures refused { IfErr result (λ e. e.kind ≢ PolicyKind.NoMemory → rule_fault (rule_data rule.now) ≡ Some e) }
     ensures cause { IfErr result IsPathRefusal }
 {
-    let mut rules = Vec::new(alloc);
-    for file in files {
-        rules.push(file_rule(alloc, file)?)?;
+    match rule {
+        RuleTree::File(file) => {
+            found.push(file_rule(alloc, file)?)?;
+            Ok(())
+        }
+        RuleTree::PassedOver(_) => Ok(()),
     }
-    Ok(rules)
+}
+
+/// What the file rules of a profile say.
+fn file_rules(alloc: Global, rules: &[RuleTree]) -> Result<Vec<FileRule>, PolicyFault>
+    ensures rules { IfOk result (λ rs. rs.items ≡ flat_map file_rules_of (map rule_data rules.now)) }
+    ensures expands { OnOk result (rules_fault (map rule_data rules.now) ≡ None) }
+    ensures refused { IfErr result (λ e. e.kind ≢ PolicyKind.NoMemory → rules_fault (map rule_data rules.now) ≡ Some e) }
+    ensures cause { IfErr result IsPathRefusal }
+{
+    let mut found = Vec::new(alloc);
+    for rule in rules {
+        push_file_rule(alloc, rule, &mut found)?;
+    }
+    Ok(found)
 }
 
 /// What a profile says.
 fn profile(alloc: Global, tree: &ProfileTree) -> Result<Profile, PolicyFault>
     ensures profile { IfOk result (λ p. p ≡ profile_of (profile_data tree.now)) }
-    ensures expands { OnOk result (files_fault (map file_data tree.now.files.items) ≡ None) }
-    ensures refused { IfErr result (λ e. e.kind ≢ PolicyKind.NoMemory → files_fault (map file_data tree.now.files.items) ≡ Some e) }
+    ensures expands { OnOk result (rules_fault (map rule_data tree.now.rules.items) ≡ None) }
+    ensures refused { IfErr result (λ e. e.kind ≢ PolicyKind.NoMemory → rules_fault (map rule_data tree.now.rules.items) ≡ Some e) }
     ensures cause { IfErr result IsPathRefusal }
 {
-    let files = file_rules(alloc, tree.files.as_slice())?;
+    let files = file_rules(alloc, tree.rules.as_slice())?;
     Ok(Profile {
         at: tree.at,
         name: Text::copy_of(alloc, tree.name)?,

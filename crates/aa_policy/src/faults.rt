@@ -37,6 +37,11 @@ fn is_kind_at(words: &[Word], at: usize, kind: WordKind) -> bool {
     }
 }
 
+/// Whether a word that can be a path stands at a place.
+fn is_path_at(words: &[Word], at: usize) -> bool {
+    is_kind_at(words, at, WordKind::Path) || is_kind_at(words, at, WordKind::Quoted)
+}
+
 /// A word of the language that the rules of this crate leave out where a rule begins.
 fn is_left_out(name: &[u8]) -> bool {
     matches!(name, [b'$' | b'^', ..])
@@ -53,17 +58,69 @@ fn is_left_out(name: &[u8]) -> bool {
         || name == "all".as_bytes()
 }
 
-/// A word with which a production of a body begins that isn't read yet.
-fn begins_production(name: &[u8]) -> bool {
-    name == "audit".as_bytes()
-        || name == "allow".as_bytes()
-        || name == "deny".as_bytes()
-        || name == "owner".as_bytes()
-        || name == "file".as_bytes()
-        || name == "capability".as_bytes()
-        || name == "network".as_bytes()
-        || name == "profile".as_bytes()
-        || name == "abi".as_bytes()
+/// What stands before a word at which no rule goes on.
+#[derive(Clone, Copy, Debug, PartialEq, Eq)]
+pub struct RulePlace {
+    /// `audit`, `allow` or `deny`.
+    qualified: bool,
+    /// `deny`.
+    deny: bool,
+    /// `owner`.
+    owner: bool,
+}
+
+impl RulePlace {
+    /// Where a rule's qualifiers end, if it has any.
+    pub fn behind_qualifiers(deny: bool, qualified: bool) -> RulePlace {
+        RulePlace {
+            qualified,
+            deny,
+            owner: false,
+        }
+    }
+
+    /// Behind `owner`, if it stands there.
+    pub fn behind_owner(self, owner: bool) -> RulePlace {
+        RulePlace { owner, ..self }
+    }
+
+    /// Whether a production that isn't read yet begins with a name here.
+    fn begins_production(self, name: &[u8]) -> bool {
+        let is_rule = name == "capability".as_bytes() || name == "network".as_bytes();
+        let is_item = name == "profile".as_bytes() || name == "abi".as_bytes();
+        name == "file".as_bytes()
+            || (is_rule && !self.owner)
+            || (is_item && !self.owner && !self.qualified)
+    }
+
+    /// Why no rule goes on with a name here.
+    fn name_fault(self, name: &[u8], path_follows: bool) -> PolicyKind
+        ensures { is_word_fault result ≡ true }
+    {
+        if self.begins_production(name) || is_left_out(name) {
+            return PolicyKind::Unsupported;
+        }
+        if self.owner && name == "change_profile".as_bytes() {
+            return PolicyKind::Syntax;
+        }
+        if !path_follows {
+            return PolicyKind::UnknownWord;
+        }
+        match mode_fault(name, self.deny) {
+            Some(kind) => kind,
+            None => PolicyKind::Unsupported,
+        }
+    }
+
+    /// Why no rule goes on with a word here that is no name.
+    fn word_fault(self, kind: WordKind) -> PolicyKind
+        ensures { is_word_fault result ≡ true }
+    {
+        match kind {
+            WordKind::Open if self.qualified && !self.owner => PolicyKind::Unsupported,
+            _ => PolicyKind::Syntax,
+        }
+    }
 }
 
 /// Why no item of the top level begins with this name.
@@ -76,9 +133,21 @@ fn top_name_fault(name: &[u8], path_follows: bool) -> PolicyKind
     if !path_follows {
         return PolicyKind::UnknownWord;
     }
-    match mode_fault(name) {
+    match mode_fault(name, false) {
         Some(kind) => kind,
         None => PolicyKind::Syntax,
+    }
+}
+
+/// Why a path that names a profile and is its attachment isn't read: it isn't read yet, and one
+/// without a byte is none.
+fn attachment_fault(path: &[u8]) -> PolicyKind
+    ensures { is_word_fault result ≡ true }
+{
+    if path.is_empty() {
+        PolicyKind::Syntax
+    } else {
+        PolicyKind::Unsupported
     }
 }
 
@@ -92,8 +161,8 @@ pub fn item_fault(words: &[Word], at: usize, end: Spot) -> PolicyFault
     }
     let word = &words[at];
     let kind = match word.kind {
-        WordKind::Path => PolicyKind::Unsupported,
-        WordKind::Name => top_name_fault(word.text, is_kind_at(words, at + 1, WordKind::Path)),
+        WordKind::Path | WordKind::Quoted => attachment_fault(word.text),
+        WordKind::Name => top_name_fault(word.text, is_path_at(words, at + 1)),
         _ => PolicyKind::Syntax,
     };
     fault(kind, words, at, end)
@@ -118,7 +187,7 @@ pub fn no_brace_fault(words: &[Word], at: usize, end: Spot) -> PolicyFault
 {
     let kind = match words.get(at) {
         Some(word) => match word.kind {
-            WordKind::Path => PolicyKind::Unsupported,
+            WordKind::Path | WordKind::Quoted | WordKind::LeftParen => PolicyKind::Unsupported,
             WordKind::Name if word.text == "flags".as_bytes() => PolicyKind::Unsupported,
             WordKind::Name if word.text == "xattrs".as_bytes() => PolicyKind::Unsupported,
             _ => PolicyKind::Syntax,
@@ -128,24 +197,8 @@ pub fn no_brace_fault(words: &[Word], at: usize, end: Spot) -> PolicyFault
     fault(kind, words, at, end)
 }
 
-/// Why no rule of a body begins with this name.
-fn body_name_fault(name: &[u8], path_follows: bool) -> PolicyKind
-    ensures { is_word_fault result ≡ true }
-{
-    if begins_production(name) || is_left_out(name) {
-        return PolicyKind::Unsupported;
-    }
-    if !path_follows {
-        return PolicyKind::UnknownWord;
-    }
-    match mode_fault(name) {
-        Some(kind) => kind,
-        None => PolicyKind::Unsupported,
-    }
-}
-
-/// Why no rule begins at a word of a body.
-pub fn no_rule_fault(words: &[Word], at: usize, end: Spot) -> PolicyFault
+/// Why no rule begins or goes on at a word of a body.
+pub fn no_rule_fault(words: &[Word], at: usize, place: RulePlace, end: Spot) -> PolicyFault
     ensures { is_word_fault result.kind ≡ true }
 {
     if at >= words.len() {
@@ -153,35 +206,57 @@ pub fn no_rule_fault(words: &[Word], at: usize, end: Spot) -> PolicyFault
     }
     let word = &words[at];
     let kind = match word.kind {
-        WordKind::Name => body_name_fault(word.text, is_kind_at(words, at + 1, WordKind::Path)),
-        _ => PolicyKind::Syntax,
+        WordKind::Name => place.name_fault(word.text, is_path_at(words, at + 1)),
+        other => place.word_fault(other),
     };
     fault(kind, words, at, end)
 }
 
-/// Why no mode stands behind a path, at the word `next`: with a brace the path begins a child
-/// profile.
-pub fn no_mode_fault(words: &[Word], path: usize, next: usize, end: Spot) -> PolicyFault
+/// Why no comma stands behind a mode: a target isn't read yet.
+pub fn no_comma_fault(words: &[Word], at: usize, end: Spot) -> PolicyFault
     ensures { is_word_fault result.kind ≡ true }
 {
-    if is_kind_at(words, next, WordKind::Open) {
-        return fault(PolicyKind::Unsupported, words, path, end);
+    let kind = if is_kind_at(words, at, WordKind::Arrow) {
+        PolicyKind::Unsupported
+    } else {
+        PolicyKind::Syntax
+    };
+    fault(kind, words, at, end)
+}
+
+/// Why no mode stands behind a path, at the word `next`: with a brace or a parenthesis the path
+/// begins a child profile.
+pub fn no_mode_fault(words: &[Word], path: &Word, next: usize, end: Spot) -> PolicyFault
+    ensures { is_word_fault result.kind ≡ true }
+{
+    if is_kind_at(words, next, WordKind::Open) || is_kind_at(words, next, WordKind::LeftParen) {
+        return child_fault(path);
     }
     fault(PolicyKind::Syntax, words, next, end)
 }
 
+/// Why a path that begins a child profile isn't read.
+fn child_fault(path: &Word) -> PolicyFault
+    ensures { is_word_fault result.kind ≡ true }
+{
+    PolicyFault {
+        kind: attachment_fault(path.text),
+        at: spot_of(path),
+    }
+}
+
 /// Where the name behind a path is no mode of access letters, and why: it may be a word of a
 /// child profile, a mode with an exec part, which isn't read yet, or a faulty mode.
-pub fn no_access_fault(words: &[Word], path: usize, mode: &Word, end: Spot) -> PolicyFault
+pub fn no_access_fault(path: &Word, mode: &Word, deny: bool) -> PolicyFault
     ensures { is_word_fault result.kind ≡ true }
 {
     if mode.text == "flags".as_bytes() {
-        return fault(PolicyKind::Unsupported, words, path, end);
+        return child_fault(path);
     }
     let kind = if mode.text == "xattrs".as_bytes() {
         PolicyKind::Unsupported
     } else {
-        match mode_fault(mode.text) {
+        match mode_fault(mode.text, deny) {
             Some(kind) => kind,
             None => PolicyKind::Unsupported,
         }

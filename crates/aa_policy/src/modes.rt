@@ -77,13 +77,15 @@ enum ExecPart {
     Wrong,
 }
 
-/// Which exec part the letters are, the `x` at their end included.
-fn exec_part(part: &[u8]) -> ExecPart {
+/// Which exec part the letters are, the `x` at their end included. Under `deny` it is `x` alone.
+fn exec_part(part: &[u8], deny: bool) -> ExecPart {
     match part {
+        b"pUx" | b"Pux" | b"cUx" | b"Cux" => ExecPart::Mixed,
+        b"x" if deny => ExecPart::Right,
+        _ if deny => ExecPart::Wrong,
         b"ix" | b"ux" | b"Ux" | b"px" | b"Px" | b"cx" | b"Cx" => ExecPart::Right,
         b"pix" | b"Pix" | b"cix" | b"Cix" => ExecPart::Right,
         b"pux" | b"PUx" | b"cux" | b"CUx" => ExecPart::Right,
-        b"pUx" | b"Pux" | b"cUx" | b"Cux" => ExecPart::Mixed,
         _ => ExecPart::Wrong,
     }
 }
@@ -101,8 +103,8 @@ struct Seen {
 
 impl Seen {
     /// With an exec part more.
-    fn with_part(self, part: &[u8]) -> Seen {
-        let part = exec_part(part);
+    fn with_part(self, part: &[u8], deny: bool) -> Seen {
+        let part = exec_part(part, deny);
         Seen {
             exec: true,
             mixed: self.mixed || part == ExecPart::Mixed,
@@ -120,7 +122,7 @@ impl Seen {
 }
 
 /// The exec parts and the wrong letters of a mode.
-fn seen_in(mode: &[u8]) -> Seen {
+fn seen_in(mode: &[u8], deny: bool) -> Seen {
     let mut seen = Seen {
         exec: false,
         mixed: false,
@@ -131,7 +133,7 @@ fn seen_in(mode: &[u8]) -> Seen {
         match *b {
             b'i' | b'u' | b'U' | b'p' | b'P' | b'c' | b'C' => {}
             b'x' => {
-                seen = seen.with_part(&mode[start..i + 1]);
+                seen = seen.with_part(&mode[start..i + 1], deny);
                 start = i + 1;
             }
             other => {
@@ -146,12 +148,12 @@ fn seen_in(mode: &[u8]) -> Seen {
     }
 }
 
-/// What is wrong with a mode under an allow rule, if anything is. A mixed-case exec part comes
+/// What is wrong with a mode, if anything is, in a rule with `deny` or without it. A mixed-case exec part comes
 /// first, then any other fault, then `w` beside `a`.
-pub fn mode_fault(mode: &[u8]) -> Option<PolicyKind>
+pub fn mode_fault(mode: &[u8], deny: bool) -> Option<PolicyKind>
     ensures { IfSome result (λ k. is_word_fault k ≡ true) }
 {
-    let seen = seen_in(mode);
+    let seen = seen_in(mode, deny);
     if seen.mixed {
         return Some(PolicyKind::Unsupported);
     }

@@ -9,6 +9,7 @@ ghost use Rattle.aa_policy.specs.declared.policy.Policy.{Policy};
 
 use crate::expansion::profiles;
 use crate::limits::{check_names, is_within_limits};
+use crate::listing::passed_over;
 use crate::policy::Policy;
 use crate::reading::tree_of;
 use crate::seq::Seq;
@@ -44,9 +45,10 @@ pub fn parse(alloc: Global, words: &WordList) -> Result<Policy, PolicyFault>
     if !is_within_limits(profiles.as_slice()) {
         return Err(PolicyFault::at_start(PolicyKind::TooLarge));
     }
+    let listed = passed_over(alloc, tree.as_slice())?;
     Ok(Policy {
         profiles: Seq::from_vec(profiles),
-        passed_over: Seq::from_vec(Vec::new(alloc)),
+        passed_over: Seq::from_vec(listed),
     })
 }
 

@@ -5,16 +5,16 @@ ghost use Rattle.std.specs.Bool.{OnTrue, OnFalse};
 ghost use Rattle.aa_words.specs.Kinds.{IsRefusal};
 ghost use Rattle.aa_words.specs.Splits.{WordData, word_data, words_data};
 ghost use Rattle.aa_policy.specs.Faults.{is_word_fault, IsWordRefusal};
-ghost use Rattle.aa_policy.specs.Grammar.{Starts, Lacks, IsFile, IsRule, Closes, IsHead, IsProfile, IsPolicy, Many};
-ghost use Rattle.aa_policy.specs.Reading.{FileData, ProfileData, file_data, profile_data, tree_data, rest_of};
+ghost use Rattle.aa_policy.specs.Grammar.{Starts, StartsAs, Lacks, LacksAll, is_path_kind, is_name_kind, Keyword, LacksKeyword, Optional, IsPermission, IsQualified, IsFile, Says, is_keyword_byte, keyword_of, IsRule, Closes, IsHead, IsProfile, IsPolicy, Many};
+ghost use Rattle.aa_policy.specs.Reading.{FileData, RuleData, ProfileData, file_data, rule_data, profile_data, tree_data, rest_of};
 
 use crate::faults::{
-    fault, item_fault, no_access_fault, no_brace_fault, no_mode_fault, no_name_fault,
-    no_rule_fault, spot_of,
+    RulePlace, fault, item_fault, no_access_fault, no_brace_fault, no_comma_fault, no_mode_fault,
+    no_name_fault, no_rule_fault, spot_of,
 };
 use crate::modes::access_of;
 use crate::names::{is_profile_name, name_fault};
-use crate::tree::{FileTree, ProfileTree};
+use crate::tree::{FileTree, ProfileTree, Qualifiers, RuleTree};
 use aa_words::{PolicyFault, PolicyKind, Spot, Word, WordKind};
 use std::alloc::Global;
 
@@ -35,28 +35,126 @@ fn word_at<'w, 's>(words: &'w [Word<'s>], at: usize, kind: WordKind) -> Option<&
     Some(word)
 }
 
-/// A path with its mode, and the place behind them.
+/// Whether a word of this kind can be a path.
+fn is_path_kind(kind: WordKind) -> bool
+    ensures { result ≡ is_path_kind kind }
+{
+    matches!(kind, WordKind::Path | WordKind::Quoted)
+}
+
+/// Whether a word of this kind can be a name.
+fn is_name_kind(kind: WordKind) -> bool
+    ensures { result ≡ is_name_kind kind }
+{
+    matches!(kind, WordKind::Name | WordKind::Quoted)
+}
+
+/// The path at a place, by itself or in quotes.
+#[tactic(auto, using(crate::proofs::Places::fits_here, crate::proofs::Places::lacks_here, crate::proofs::Places::lacks_all_past))]
+fn path_at<'w, 's>(words: &'w [Word<'s>], at: usize) -> Option<&'w Word<'s>>
+    ensures found { IfSome result (λ w. StartsAs is_path_kind (rest_of words.now at) (word_data w.now) (rest_of words.now (at + 1))) }
+    ensures missing { IfNone result (LacksAll is_path_kind (rest_of words.now at)) }
+    ensures within { OnSome result (at < length words.now) }
+{
+    if at >= words.len() {
+        return None;
+    }
+    let word = &words[at];
+    if !is_path_kind(word.kind) {
+        return None;
+    }
+    Some(word)
+}
+
+/// The name at a place, by itself or in quotes.
+#[tactic(auto, using(crate::proofs::Places::fits_here, crate::proofs::Places::lacks_here, crate::proofs::Places::lacks_all_past))]
+fn name_at<'w, 's>(words: &'w [Word<'s>], at: usize) -> Option<&'w Word<'s>>
+    ensures found { IfSome result (λ w. StartsAs is_name_kind (rest_of words.now at) (word_data w.now) (rest_of words.now (at + 1))) }
+    ensures missing { IfNone result (LacksAll is_name_kind (rest_of words.now at)) }
+    ensures within { OnSome result (at < length words.now) }
+{
+    if at >= words.len() {
+        return None;
+    }
+    let word = &words[at];
+    if !is_name_kind(word.kind) {
+        return None;
+    }
+    Some(word)
+}
+
+/// Whether a keyword stands at a place.
+fn is_keyword(words: &[Word], at: usize, text: &[u8]) -> bool
+    ensures yes { OnTrue result (Keyword text.now (rest_of words.now at) (rest_of words.now (at + 1))) }
+    ensures no { OnFalse result (LacksKeyword text.now (rest_of words.now at)) }
+    ensures within { OnTrue result (at < length words.now) }
+{
+    let Some(word) = word_at(words, at, WordKind::Name) else {
+        return false;
+    };
+    word.text == text
+}
+
+/// Whether a keyword that may be left out stands at a place, and the place behind it.
+fn optional(words: &[Word], at: usize, text: &[u8]) -> (bool, usize)
+    ensures read { Optional text.now (rest_of words.now at) result.0 (rest_of words.now result.1) }
+    ensures onward { at ≤ result.1 }
+{
+    if is_keyword(words, at, text) {
+        return (true, at + 1);
+    }
+    (false, at)
+}
+
+/// Whether `deny` stands at a place, and the place behind it or behind `allow`.
+fn permission_of(words: &[Word], at: usize) -> (bool, usize)
+    ensures read { IsPermission (rest_of words.now at) result.0 (rest_of words.now result.1) }
+    ensures onward { at ≤ result.1 }
+{
+    if is_keyword(words, at, "deny".as_bytes()) {
+        return (true, at + 1);
+    }
+    let (_, next) = optional(words, at, "allow".as_bytes());
+    (false, next)
+}
+
+/// The qualifiers of a rule, and the place behind them.
+fn qualifiers_of(words: &[Word], at: usize) -> (Qualifiers, usize)
+    ensures read { IsQualified (rest_of words.now at) result.0 (rest_of words.now result.1) }
+    ensures onward { at ≤ result.1 }
+{
+    let (audit, behind) = optional(words, at, "audit".as_bytes());
+    let (deny, next) = permission_of(words, behind);
+    (Qualifiers { audit, deny }, next)
+}
+
+/// A file rule behind its qualifiers, and the place behind it.
 fn file_of<'s>(
     words: &[Word<'s>],
     at: usize,
+    qualifiers: Qualifiers,
+    place: RulePlace,
     end: Spot,
 ) -> Result<(FileTree<'s>, usize), PolicyFault>
-    ensures found { IfOk result (λ r. IsFile (rest_of words.now at) (file_data r.0) (rest_of words.now r.1)) }
-    ensures refused { OnErr result ((f : FileData) (rest : List WordData) → IsFile (rest_of words.now at) f rest → ⊥) }
+    ensures found { IfOk result (λ r. IsFile qualifiers (rest_of words.now at) (file_data r.0) (rest_of words.now r.1)) }
+    ensures refused { OnErr result ((f : FileData) (rest : List WordData) → IsFile qualifiers (rest_of words.now at) f rest → ⊥) }
     ensures cause { IfErr result (λ e. is_word_fault e.kind ≡ true) }
     ensures within { IfOk result (λ r. (at < r.1) × (r.1 ≤ length words.now)) }
 {
-    let Some(path) = word_at(words, at, WordKind::Path) else {
-        return Err(no_rule_fault(words, at, end));
+    let (owner, bare) = optional(words, at, "owner".as_bytes());
+    let Some(path) = path_at(words, bare) else {
+        return Err(no_rule_fault(words, bare, place.behind_owner(owner), end));
     };
-    let next = at + 1;
+    let next = bare + 1;
     let Some(mode) = word_at(words, next, WordKind::Name) else {
-        return Err(no_mode_fault(words, at, next, end));
+        return Err(no_mode_fault(words, path, next, end));
     };
     let Some(perms) = access_of(mode.text) else {
-        return Err(no_access_fault(words, at, mode, end));
+        return Err(no_access_fault(path, mode, qualifiers.deny));
     };
     let file = FileTree {
+        qualifiers,
+        owner,
         at: spot_of(path),
         path: path.text,
         perms,
@@ -64,22 +162,63 @@ fn file_of<'s>(
     Ok((file, next + 1))
 }
 
+/// Whether a byte may stand in the keyword of a rule that is passed over.
+fn is_keyword_byte(b: u8) -> bool
+    ensures { result ≡ is_keyword_byte b }
+{
+    (b > 96 && b < 123) || b == b'_'
+}
+
+/// The keyword of a rule that is passed over.
+fn keyword_of<'s>(text: &'s [u8]) -> &'s [u8]
+    ensures { result.now ≡ keyword_of text.now }
+{
+    for (i, b) in text.iter().enumerate() {
+        if !is_keyword_byte(*b) {
+            return &text[..i];
+        }
+    }
+    text
+}
+
+/// A rule behind its qualifiers and without its comma, and the place behind it.
+fn unqualified_of<'s>(
+    words: &[Word<'s>],
+    at: usize,
+    qualifiers: Qualifiers,
+    place: RulePlace,
+    end: Spot,
+) -> Result<(RuleTree<'s>, usize), PolicyFault>
+    ensures found { IfOk result (λ r. Says qualifiers (rest_of words.now at) (rule_data r.0) (rest_of words.now r.1)) }
+    ensures refused { OnErr result ((r : RuleData) (rest : List WordData) → Says qualifiers (rest_of words.now at) r rest → ⊥) }
+    ensures cause { IfErr result (λ e. is_word_fault e.kind ≡ true) }
+    ensures within { IfOk result (λ r. (at < r.1) × (r.1 ≤ length words.now)) }
+{
+    if let Some(skipped) = word_at(words, at, WordKind::Skipped) {
+        return Ok((RuleTree::PassedOver(keyword_of(skipped.text)), at + 1));
+    }
+    let (file, next) = file_of(words, at, qualifiers, place, end)?;
+    Ok((RuleTree::File(file), next))
+}
+
 /// A rule with its comma, and the place behind it.
 fn rule_of<'s>(
     words: &[Word<'s>],
     at: usize,
     end: Spot,
-) -> Result<(FileTree<'s>, usize), PolicyFault>
-    ensures found { IfOk result (λ r. IsRule (rest_of words.now at) (file_data r.0) (rest_of words.now r.1)) }
-    ensures refused { OnErr result ((f : FileData) (rest : List WordData) → IsRule (rest_of words.now at) f rest → ⊥) }
+) -> Result<(RuleTree<'s>, usize), PolicyFault>
+    ensures found { IfOk result (λ r. IsRule (rest_of words.now at) (rule_data r.0) (rest_of words.now r.1)) }
+    ensures refused { OnErr result ((r : RuleData) (rest : List WordData) → IsRule (rest_of words.now at) r rest → ⊥) }
     ensures cause { IfErr result (λ e. is_word_fault e.kind ≡ true) }
     ensures within { IfOk result (λ r. (at < r.1) × (r.1 ≤ length words.now)) }
 {
-    let (file, next) = file_of(words, at, end)?;
+    let (qualifiers, unqualified) = qualifiers_of(words, at);
+    let place = RulePlace::behind_qualifiers(qualifiers.deny, at < unqualified);
+    let (rule, next) = unqualified_of(words, unqualified, qualifiers, place, end)?;
     let Some(_) = word_at(words, next, WordKind::Comma) else {
-        return Err(fault(PolicyKind::Syntax, words, next, end));
+        return Err(no_comma_fault(words, next, end));
     };
-    Ok((file, next + 1))
+    Ok((rule, next + 1))
 }
 
 /// Whether a closing brace stands at a place.
@@ -97,20 +236,20 @@ fn body_of<'s>(
     words: &[Word<'s>],
     start: usize,
     end: Spot,
-) -> Result<(Vec<FileTree<'s>>, usize), PolicyFault>
-    ensures found { IfOk result (λ r. Many IsRule Closes (rest_of words.now start) (map file_data r.0.items) (rest_of words.now r.1)) }
-    ensures refused { IsRefusal result → (fs : List FileData) (rest : List WordData) → Many IsRule Closes (rest_of words.now start) fs rest → ⊥ }
+) -> Result<(Vec<RuleTree<'s>>, usize), PolicyFault>
+    ensures found { IfOk result (λ r. Many IsRule Closes (rest_of words.now start) (map rule_data r.0.items) (rest_of words.now r.1)) }
+    ensures refused { IsRefusal result → (rs : List RuleData) (rest : List WordData) → Many IsRule Closes (rest_of words.now start) rs rest → ⊥ }
     ensures cause { IfErr result (λ e. IsWordRefusal e) }
     ensures within { IfOk result (λ r. (start < r.1) × (r.1 ≤ length words.now)) }
 {
-    let mut files = Vec::new(alloc);
+    let mut rules = Vec::new(alloc);
     let mut at = start;
     'rules: while !closes(words, at) {
-        let (file, next) = rule_of(words, at, end)?;
-        files.push(file)?;
+        let (rule, next) = rule_of(words, at, end)?;
+        rules.push(rule)?;
         at = next;
     }
-    Ok((files, at + 1))
+    Ok((rules, at + 1))
 }
 
 /// The word that names a profile, and the place behind the profile's opening brace.
@@ -131,7 +270,7 @@ fn head_of<'w, 's>(
         return Err(item_fault(words, at, end));
     }
     let next = at + 1;
-    let Some(name) = word_at(words, next, WordKind::Name) else {
+    let Some(name) = name_at(words, next) else {
         return Err(no_name_fault(words, next, end));
     };
     if !is_profile_name(name.text) {
@@ -157,11 +296,11 @@ fn profile_of<'s>(
     ensures within { IfOk result (λ r. (at < r.1) × (r.1 ≤ length words.now)) }
 {
     let (name, body) = head_of(words, at, end)?;
-    let (files, next) = body_of(alloc, words, body, end)?;
+    let (rules, next) = body_of(alloc, words, body, end)?;
     let profile = ProfileTree {
         at: spot_of(name),
         name: name.text,
-        files,
+        rules,
     };
     Ok((profile, next))
 }

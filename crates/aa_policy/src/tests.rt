@@ -4,6 +4,7 @@ use crate::{Item, Pattern, Perms, Policy, Seq, Text, parse, spelled_once};
 use aa_words::{PolicyFault, Sources, Span, Spot, Word, WordKind, WordList, words};
 use bitflags::Flags;
 use std::alloc::Global;
+use std::process::Abort;
 use std::test::Fail;
 
 fn read(alloc: Global, text: &[u8]) -> Result<Policy, PolicyFault> {
@@ -84,6 +85,224 @@ fn a_rule_that_reads_one_file(rt: HostRuntime) -> Result<(), Fail> {
         }
     }
     Ok(())
+}
+
+#[test]
+fn names_and_paths_may_stand_in_quotes(rt: HostRuntime) -> Result<(), Fail> {
+    let policy = read(rt.alloc(), b"profile \"p, q\" { \"/a b\" r, }")?;
+    assert_eq!(rt; policy.profiles.as_slice().len(), 1);
+    for profile in policy.profiles.as_slice() {
+        assert_eq!(rt; profile.name.as_slice(), b"p, q".as_slice());
+        assert_eq!(rt; profile.at, Spot { file: 0, byte: 9 });
+        assert_eq!(rt; profile.files.as_slice().len(), 1);
+        for rule in profile.files.as_slice() {
+            for pattern in rule.patterns.as_slice() {
+                assert!(rt; pattern.matches(b"/a b"));
+                assert!(rt; !pattern.matches(b"\"/a b\""));
+            }
+        }
+    }
+    Ok(())
+}
+
+#[test]
+fn words_in_quotes_are_refused_behind_their_quote(rt: HostRuntime) {
+    let alloc = rt.alloc();
+    for (text, number, byte) in [
+        ("profile \"\" { }", 4, 9),
+        ("profile \"/p\" { }", 5, 9),
+        ("profile \"a//b\" { }", 5, 9),
+        ("profile \"unconfined\" { }", 5, 9),
+        ("profile p { \"/x", 4, 12),
+        ("profile p { \"\" r, }", 14, 13),
+        ("profile p { \"x\" r, }", 14, 13),
+        ("profile p { \"/a*\" r, }", 5, 13),
+        ("profile p { \"/a\\\"b\" r, }", 5, 13),
+        ("profile p { \"/x\" wa, }", 8, 17),
+        // A path with a brace behind it is a profile, which isn't read yet; none is without a byte.
+        ("profile p { \"/x\" { } }", 5, 13),
+        ("profile p { \"\" { } }", 4, 13),
+        ("profile p { \"\" flags=(audit) { } }", 4, 13),
+        ("\"/bin/x\" { }", 5, 1),
+        ("\"\" { }", 4, 1),
+    ] {
+        assert_eq!(rt;
+            refusal(alloc, text.as_bytes()),
+            Some((number, 0, byte)),
+            "{text}"
+        );
+    }
+}
+
+#[test]
+fn qualifiers_and_owner_are_kept(rt: HostRuntime) -> Result<(), Fail> {
+    let text =
+        b"profile p { /a r, audit /a r, allow /a r, deny /a r, owner /a r, audit allow /a r, audit deny owner /a r, }";
+    let policy = read(rt.alloc(), text)?;
+    let mut seen = Vec::new(rt.alloc());
+    for profile in policy.profiles.as_slice() {
+        for rule in profile.files.as_slice() {
+            assert_eq!(rt; rule.perms, Perms::READ);
+            assert_eq!(rt; rule.patterns.as_slice().len(), 1);
+            seen.push((rule.audit, rule.deny, rule.owner))?;
+        }
+    }
+    let expected = [
+        (false, false, false),
+        (true, false, false),
+        (false, false, false),
+        (false, true, false),
+        (false, false, true),
+        (true, false, false),
+        (true, true, true),
+    ];
+    assert_eq!(rt; seen.as_slice(), expected.as_slice());
+    Ok(())
+}
+
+#[test]
+fn words_out_of_their_order_before_a_rule_are_refused(rt: HostRuntime) {
+    let alloc = rt.alloc();
+    for (text, number, byte) in [
+        ("profile p { audit audit /x r, }", 7, 18),
+        ("profile p { deny audit /x r, }", 7, 17),
+        ("profile p { deny allow \"/x\" r, }", 7, 17),
+        ("profile p { allow deny, }", 6, 18),
+        ("profile p { owner deny /x r, }", 7, 18),
+        ("profile p { owner owner /x r, }", 7, 18),
+        ("profile p { owner capability chown, }", 6, 18),
+        ("profile p { owner mount, }", 6, 18),
+        ("profile p { owner change_profile, }", 4, 18),
+        ("profile p { audit abi <abi/3.0>, }", 6, 18),
+        ("profile p { audit profile q { } }", 6, 18),
+        ("profile p { owner { } }", 4, 18),
+        ("profile p { deny owner { } }", 4, 23),
+        ("profile p { audit { } }", 5, 18),
+        ("profile p { deny { } }", 5, 17),
+        ("profile p { audit }", 4, 18),
+        ("profile p { audit", 4, 17),
+        ("profile p { owner", 4, 17),
+        ("profile p { deny foo, }", 6, 17),
+        // What isn't read yet, and what is left out.
+        ("profile p { audit capability chown, }", 5, 18),
+        ("profile p { deny network, }", 5, 17),
+        ("profile p { deny file, }", 5, 17),
+        ("profile p { owner file, }", 5, 18),
+        ("profile p { audit link /a, }", 5, 18),
+        // At the top level no rule begins.
+        ("audit /x r,", 7, 0),
+        ("deny mount,", 6, 0),
+    ] {
+        assert_eq!(rt;
+            refusal(alloc, text.as_bytes()),
+            Some((number, 0, byte)),
+            "{text}"
+        );
+    }
+}
+
+#[test]
+fn a_rule_with_deny_says_x_alone(rt: HostRuntime) {
+    let alloc = rt.alloc();
+    for (text, number, byte) in [
+        ("profile p { deny /x ix, }", 7, 20),
+        ("profile p { deny /x xx, }", 7, 20),
+        ("profile p { deny /x pUx, }", 5, 20),
+        ("profile p { deny /x wax, }", 8, 20),
+        ("profile p { deny ix /x, }", 7, 17),
+        // Execution isn't read yet.
+        ("profile p { deny /x x, }", 5, 20),
+        ("profile p { audit deny owner /x rx, }", 5, 32),
+        ("profile p { allow /x x, }", 7, 21),
+        ("profile p { audit /x ix, }", 5, 21),
+    ] {
+        assert_eq!(rt;
+            refusal(alloc, text.as_bytes()),
+            Some((number, 0, byte)),
+            "{text}"
+        );
+    }
+}
+
+/// The numbers of file rules and of rules that are passed over, these by profile and keyword.
+fn expect_passed_over(
+    rt: &impl Abort,
+    alloc: Global,
+    text: &[u8],
+    files: usize,
+    expected: &[(u16, &[u8])],
+) -> Result<(), Fail> {
+    let policy = read(alloc, text)?;
+    let mut rules: usize = 0;
+    for profile in policy.profiles.as_slice() {
+        rules = rules.saturating_add(profile.files.as_slice().len());
+    }
+    assert_eq!(rt; rules, files);
+    let listed = policy.passed_over.as_slice();
+    assert_eq!(rt; listed.len(), expected.len());
+    for (i, rule) in listed.iter().enumerate() {
+        let (profile, kind) = expected[i];
+        assert_eq!(rt; rule.profile, profile);
+        assert_eq!(rt; rule.kind.as_slice(), kind);
+    }
+    Ok(())
+}
+
+#[test]
+fn rules_that_are_passed_over_are_listed(rt: HostRuntime) -> Result<(), Fail> {
+    expect_passed_over(
+        &rt,
+        rt.alloc(),
+        b"profile p { signal (send, receive) peer=\"a,b\", /x r, }",
+        1,
+        &[(0, b"signal")],
+    )?;
+    expect_passed_over(
+        &rt,
+        rt.alloc(),
+        b"profile p { audit deny mount options=(rw, bind), }",
+        0,
+        &[(0, b"mount")],
+    )?;
+    expect_passed_over(
+        &rt,
+        rt.alloc(),
+        b"profile p { /a r, change_profile -> q, ptrace, } profile q { } profile r { allow io_uring, deny /b r, dbus, }",
+        2,
+        &[
+            (0, b"change_profile"),
+            (0, b"ptrace"),
+            (2, b"io_uring"),
+            (2, b"dbus"),
+        ],
+    )?;
+    expect_passed_over(
+        &rt,
+        rt.alloc(),
+        b"profile p { set rlimit nofile <= 4, userns, mqueue, umount{a,b}, }",
+        0,
+        &[(0, b"set"), (0, b"userns"), (0, b"mqueue"), (0, b"umount")],
+    )?;
+    expect_passed_over(&rt, rt.alloc(), b"profile p { }", 0, &[])
+}
+
+#[test]
+fn no_rule_is_passed_over_elsewhere(rt: HostRuntime) {
+    let alloc = rt.alloc();
+    for (text, number, byte) in [
+        ("signal,", 4, 0),
+        ("profile p { } mount,", 4, 14),
+        ("profile p { mount }", 4, 12),
+        ("profile p { deny mount", 4, 17),
+        ("profile p { signal,, }", 4, 19),
+        ("profile p { signal, foo, }", 6, 20),
+    ] {
+        assert_eq!(rt;
+            refusal(alloc, text.as_bytes()),
+            Some((number, 0, byte)),
+            "{text}"
+        );
+    }
 }
 
 #[test]
@@ -200,6 +419,16 @@ fn words_out_of_place_are_refused_at_the_word(rt: HostRuntime) {
         ("profile p { /x r }", 4, 17),
         ("profile p { /x r /y r, }", 4, 17),
         ("profile p { /x r,, }", 4, 17),
+        ("= { }", 4, 0),
+        ("signal,", 4, 0),
+        ("profile = { }", 4, 8),
+        ("profile p = { }", 4, 10),
+        ("profile p { ( }", 4, 12),
+        ("profile p { -> /x r, }", 4, 12),
+        ("profile p { /x = r, }", 4, 15),
+        ("profile p { /x \"r\", }", 4, 16),
+        ("profile p { /x r = , }", 4, 17),
+        ("profile p { /x r \"q\", }", 4, 18),
     ] {
         assert_eq!(rt;
             refusal(alloc, text.as_bytes()),
@@ -219,10 +448,6 @@ fn productions_that_are_not_read_yet_are_refused_where_they_begin(rt: HostRuntim
         ("profile p /bin/x { }", 5, 10),
         ("profile p flags { }", 5, 10),
         ("profile p xattrs { }", 5, 10),
-        ("profile p { audit /x r, }", 5, 12),
-        ("profile p { allow /x r, }", 5, 12),
-        ("profile p { deny /x r, }", 5, 12),
-        ("profile p { owner /x r, }", 5, 12),
         ("profile p { file, }", 5, 12),
         ("profile p { capability chown, }", 5, 12),
         ("profile p { network inet, }", 5, 12),
@@ -232,6 +457,14 @@ fn productions_that_are_not_read_yet_are_refused_where_they_begin(rt: HostRuntim
         ("profile p { /q flags { } }", 5, 12),
         ("profile p { /q xattrs { } }", 5, 15),
         ("profile p { r /x, }", 5, 12),
+        ("\"/bin/x\" { }", 5, 1),
+        ("@{A}=x", 5, 0),
+        ("profile p \"/x\" { }", 5, 11),
+        ("profile p (complain) { }", 5, 10),
+        ("profile p flags=(complain) { }", 5, 10),
+        ("profile p { r \"/x\", }", 5, 12),
+        ("profile p { /x r -> q, }", 5, 17),
+        ("profile p { /q (complain) { } }", 5, 12),
     ] {
         assert_eq!(rt;
             refusal(alloc, text.as_bytes()),

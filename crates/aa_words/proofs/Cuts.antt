@@ -1,19 +1,13 @@
--- How far a text is cut.
-use Rattle.std.proofs.Common.{◌≡◌, ℕ, ◌+◌, ◌-◌, ◌&&◌, codes, ◌<◌, ◌≤◌, true, false, List, [], ◌∷◌, ◌++◌, length, take, drop, cond, Option, Some, None, Result, Ok, Err, refl, sym, ap, subst, ◌∙◌, arith, append_assoc}
+-- How far a text is read.
+use Rattle.std.proofs.Common.{◌≡◌, ℕ, ◌+◌, ◌<◌, ◌≤◌, List, [], ◌∷◌, ◌++◌, length, take, drop, Some, refl, sym, ap, subst, ◌∙◌, arith, append_assoc}
 use Rattle.std.proofs.lemmas.List.{take-append-drop, length-take-le, append-nil, length-append}
-use Rattle.aa_words.specs.declared.fault.PolicyKind.TheVariants.{TooLarge}
-use Rattle.aa_words.specs.declared.fault.PolicyFault.{PolicyFault}
 use Rattle.aa_words.specs.declared.piece.Piece.{Piece}
 use Rattle.aa_words.specs.declared.piece.Place.{Place}
-use Rattle.aa_words.specs.Runs.{begins_with}
-use Rattle.aa_words.specs.Includes.{include_form, behind_word}
-use Rattle.aa_words.specs.Kinds.{at_start}
-use Rattle.aa_words.specs.Splits.{start, extent, piece_at, place_after, is_beginning, Part, spelled, IsPart}
-use Rattle.aa_words.specs.Stops.{syntax, unsupported, include_stop, other_stop, keyword_stop, stop_at, fault_at, LeadTo, CutTo}
+use Rattle.aa_words.specs.declared.reading.Reading.{Reading}
+use Rattle.aa_words.specs.declared.reading.Count.{Count}
+use Rattle.aa_words.specs.Splits.{start, extent, WordData, Part, spelled, IsPart, AreParts, piece_at, place_after, Setting, PartGives, Gives, ReadsBy}
+use Rattle.aa_words.specs.Stops.{LeadTo, ReadTo}
 use Rattle.aa_words.proofs.Pieces.{extent_le}
-
-pub cut_start : (main : List ℕ) → CutTo main start 0 main
-cut_start main = record { parts = []; whole = refl; leads = refl; place_is = refl }
 
 -- one piece more
 spelled_more : (ps : List Part) (p : Part) (rest : List ℕ) → spelled (ps ++ p ∷ []) ++ rest ≡ spelled ps ++ (p.text ++ rest)
@@ -28,46 +22,53 @@ lead_more from place [] p rest e part = (subst (λ (q : Place). IsPart q p rest)
 lead_more from place (q ∷ qs) p rest leads part =
     (subst (λ (t : List ℕ). IsPart from q t) (sym (spelled_more qs p rest)) leads.0, lead_more (place_after from q.kind q.text) place qs p rest leads.1 part)
 
-cut_more : (main : List ℕ) (place : Place) (at : ℕ) (p : Part) (rest after : List ℕ) → rest ≡ p.text ++ after → IsPart place p after → CutTo main place at rest → CutTo main (place_after place p.kind p.text) (at + length p.text) after
-cut_more main place at p rest after e part cut = record {
-  parts = cut.parts ++ p ∷ [];
-  whole = cut.whole ∙ ap (λ (t : List ℕ). spelled cut.parts ++ t) e ∙ sym (spelled_more cut.parts p after);
-  leads = lead_more start place cut.parts p after (subst (λ (t : List ℕ). LeadTo start cut.parts t place) e cut.leads) part;
-  place_is = omega (arith, cut.place_is, length_more cut.parts p);
-}
+lead_parts : (from place : Place) (ps : List Part) → LeadTo from ps [] place → AreParts from ps
+lead_parts from place [] leads = tt
+lead_parts from place (p ∷ ps) leads = (subst (λ (t : List ℕ). IsPart from p t) (append-nil (spelled ps)) leads.0, lead_parts (place_after from p.kind p.text) place ps leads.1)
 
--- the same, as the code names the parts
-pub cut_step : (main : List ℕ) (place : Place) (at : ℕ) (rest : List ℕ) (k : Piece) (n : ℕ) (text after : List ℕ) (place' : Place)
-    → piece_at place rest ≡ Some k → n ≡ extent k rest → 0 < length rest → text ≡ take n rest → after ≡ drop n rest → place' ≡ place_after place k text
-    → CutTo main place at rest → CutTo main place' (at + n) after
-cut_step main place at rest k n text after place' e n-is h text-is after-is place-is cut =
-    let p : Part = record { kind = k; text = text } in
-    let whole : rest ≡ text ++ after = sym (take-append-drop n rest) ∙ ap (λ (t : List ℕ). t ++ drop n rest) (sym text-is) ∙ ap (λ (t : List ℕ). text ++ t) (sym after-is) in
-    let le : n ≤ length rest = omega (arith, extent_le k rest h) in
-    let long : length text ≡ n = ap length text-is ∙ length-take-le n rest le in
-    let part : IsPart place p after = record { stands = ap (piece_at place) (sym whole) ∙ e; long = long ∙ n-is ∙ ap (extent k) whole } in
-    let more : CutTo main (place_after place k text) (at + length text) after = cut_more main place at p rest after whole part cut in
-    subst (λ (q : Place). CutTo main q (at + n) after) (sym place-is) (subst (λ (m : ℕ). CutTo main (place_after place k text) (at + m) after) long more)
+module _ (deeper : Reading → List ℕ → Count → List WordData → Count → Type 0) (s : Setting) where
+  gives_more : (at : ℕ) (ps : List Part) (p : Part) (n k m : Count) (ws first : List WordData) → Gives deeper s at ps n ws k → PartGives deeper s (at + length (spelled ps)) p k first m → Gives deeper s at (ps ++ p ∷ []) n (ws ++ first) m
+  gives_more at [] p n k m ws first g part =
+      let here : at + length (spelled []) ≡ at = omega arith in
+      let placed : PartGives deeper s at p k first m = subst (λ (i : ℕ). PartGives deeper s i p k first m) here part in
+      let counted : PartGives deeper s at p n first m = subst (λ (c : Count). PartGives deeper s at p c first m) g.1 placed in
+      (first, m, [], counted, (refl, refl), ap (λ (w : List WordData). w ++ first) g.0 ∙ sym (append-nil first))
+  gives_more at (q ∷ qs) p n k m ws first g part =
+      let behind : at + length (spelled (q ∷ qs)) ≡ at + length q.text + length (spelled qs) = omega (arith, length-append q.text (spelled qs)) in
+      let placed : PartGives deeper s (at + length q.text + length (spelled qs)) p k first m = subst (λ (i : ℕ). PartGives deeper s i p k first m) behind part in
+      (g.0, g.1, g.2 ++ first, g.3, gives_more (at + length q.text) qs p g.1 k m g.2 first g.4 placed, ap (λ (w : List WordData). w ++ first) g.5 ∙ append_assoc g.0 g.2 first)
 
--- no stop is TooLarge
+  pub read_start : (text : List ℕ) (n : Count) → ReadTo deeper s text n start 0 text [] n
+  read_start text n = record { parts = []; whole = refl; leads = refl; place_is = refl; gives = (refl, refl) }
 
-include_kind : (bytes : List ℕ) (form : Result (List ℕ) (List ℕ)) → (include_stop bytes form).kind ≡ TooLarge → ⊥
-include_kind bytes (Ok rest) e = cc
-include_kind bytes (Err broken) e = elim (begins_with 0 broken) as (λ v. (cond v (syntax (length bytes - length broken)) (syntax 0)).kind ≡ TooLarge → ⊥) [ true ↦ λ k. cc | false ↦ λ k. cc ] e
+  read_more : (text : List ℕ) (n : Count) (place : Place) (at : ℕ) (p : Part) (rest after : List ℕ) (found first : List WordData) (k m : Count) → rest ≡ p.text ++ after → IsPart place p after → PartGives deeper s at p k first m
+      → ReadTo deeper s text n place at rest found k → ReadTo deeper s text n (place_after place p.kind p.text) (at + length p.text) after (found ++ first) m
+  read_more text n place at p rest after found first k m e part gives read =
+      let placed : PartGives deeper s (0 + length (spelled read.parts)) p k first m = subst (λ (i : ℕ). PartGives deeper s i p k first m) (omega (arith, read.place_is)) gives in
+      record {
+        parts = read.parts ++ p ∷ [];
+        whole = read.whole ∙ ap (λ (t : List ℕ). spelled read.parts ++ t) e ∙ sym (spelled_more read.parts p after);
+        leads = lead_more start place read.parts p after (subst (λ (t : List ℕ). LeadTo start read.parts t place) e read.leads) part;
+        place_is = omega (arith, read.place_is, length_more read.parts p);
+        gives = gives_more 0 read.parts p n k m found first read.gives placed;
+      }
 
-other_kind : (place : Place) (bytes : List ℕ) → (other_stop place bytes).kind ≡ TooLarge → ⊥
-other_kind place bytes e = elim (place.behind_run && begins_with 34 bytes) as (λ v. (cond v (syntax 0) unsupported).kind ≡ TooLarge → ⊥) [ true ↦ λ k. cc | false ↦ λ k. cc ] e
+  -- the same, as the code names the parts
+  pub read_step : (source : List ℕ) (n : Count) (place : Place) (at : ℕ) (rest : List ℕ) (kind : Piece) (len : ℕ) (text after : List ℕ) (found first found' : List WordData) (k m : Count) (place' : Place)
+      → piece_at place rest ≡ Some kind → len ≡ extent kind rest → 0 < length rest → text ≡ take len rest → after ≡ drop len rest → found' ≡ found ++ first → place' ≡ place_after place kind text
+      → PartGives deeper s at (record { kind = kind; text = text }) k first m
+      → ReadTo deeper s source n place at rest found k → ReadTo deeper s source n place' (at + len) after found' m
+  read_step source n place at rest kind len text after found first found' k m place' e len-is h text-is after-is found-is place-is gives read =
+      let p : Part = record { kind = kind; text = text } in
+      let whole : rest ≡ text ++ after = sym (take-append-drop len rest) ∙ ap (λ (t : List ℕ). t ++ drop len rest) (sym text-is) ∙ ap (λ (t : List ℕ). text ++ t) (sym after-is) in
+      let le : len ≤ length rest = omega (arith, extent_le kind rest h) in
+      let long : length text ≡ len = ap length text-is ∙ length-take-le len rest le in
+      let part : IsPart place p after = record { stands = ap (piece_at place) (sym whole) ∙ e; long = long ∙ len-is ∙ ap (extent kind) whole } in
+      let more : ReadTo deeper s source n (place_after place kind text) (at + length text) after (found ++ first) m = read_more source n place at p rest after found first k m whole part gives read in
+      let placed : ReadTo deeper s source n place' (at + length text) after (found ++ first) m = subst (λ (q : Place). ReadTo deeper s source n q (at + length text) after (found ++ first) m) (sym place-is) more in
+      let counted : ReadTo deeper s source n place' (at + len) after (found ++ first) m = subst (λ (i : ℕ). ReadTo deeper s source n place' (at + i) after (found ++ first) m) long placed in
+      subst (λ (w : List WordData). ReadTo deeper s source n place' (at + len) after w m) (sym found-is) counted
 
-keyword_kind : (place : Place) (bytes : List ℕ) (found : Option (List ℕ)) → (keyword_stop place bytes found).kind ≡ TooLarge → ⊥
-keyword_kind place bytes None e = other_kind place bytes e
-keyword_kind place bytes (Some rest) e =
-    elim (is_beginning place.rule) as (λ v. (cond v (include_stop bytes (include_form rest)) (other_stop place bytes)).kind ≡ TooLarge → ⊥) [ true ↦ include_kind bytes (include_form rest) | false ↦ other_kind place bytes ] e
-
-stop_kind : (place : Place) (bytes : List ℕ) → (stop_at place bytes).kind ≡ TooLarge → ⊥
-unfolding stop_at
-stop_kind place bytes e =
-    elim (begins_with 0 bytes) as (λ v. (cond v (syntax 0) (keyword_stop place bytes (behind_word (codes "include") bytes))).kind ≡ TooLarge → ⊥) [ true ↦ λ k. cc | false ↦ keyword_kind place bytes (behind_word (codes "include") bytes) ] e
-
--- the fault where the cut stops is no TooLarge, and neither is want of memory
-pub stop_not_large : (place : Place) (at : ℕ) (rest : List ℕ) (fault : PolicyFault) → fault ≡ fault_at place at rest → fault ≡ at_start TooLarge → ⊥
-stop_not_large place at rest fault e large = stop_kind place rest (ap (λ (f : PolicyFault). f.kind) (sym e ∙ large))
+  pub read_end : (text : List ℕ) (n : Count) (place : Place) (at : ℕ) (rest : List ℕ) (found : List WordData) (k : Count) → length rest < 1 → ReadTo deeper s text n place at rest found k → ReadsBy deeper s text n found k
+  read_end text n place at [] found k h read = (read.parts, read.whole ∙ append-nil (spelled read.parts), lead_parts start place read.parts read.leads, read.gives)
+  read_end text n place at (b ∷ bs) found k h read = absurd (omega arith)

@@ -2,11 +2,8 @@
 use Rattle.std.proofs.Common.{◌≡◌, ℕ, suc, ◌+◌, ◌<◌, ◌≤◌, Bool, true, false, List, [], ◌∷◌, length, take, drop, ◌-◌, get_or, cond, refl, arith, unwrap_or, ◌&&◌, ◌==◌, Some, None, if◌then◌else◌}
 use Rattle.std.proofs.lemmas.List.{at_drop_more, at_drop_all, length-drop, take_all}
 use Rattle.aa_words.specs.declared.runs.PathPlace.{PathPlace}
-use Rattle.aa_words.specs.declared.word.WordKind.TheVariants.{Open, Close, Comma, Path, Name}
-use Rattle.aa_words.specs.declared.piece.Piece.{Piece}
-use Rattle.aa_words.specs.declared.piece.Piece.TheVariants.{Blank, Comment, Variable, Token}
-use Rattle.aa_words.specs.Runs.{ends_name, ends_comment, ends_path, path_next, path_start, name_len, comment_len, path_len, ends_variable, variable_len, begins_with_letter, closes_before_sign, assigned_len}
-use Rattle.aa_words.specs.Splits.{run_after}
+use Rattle.aa_words.specs.declared.skips.SkipPlace.{SkipPlace}
+use Rattle.aa_words.specs.Runs.{begins_with, ends_value, value_len, ends_quote, quote_next, quote_len, quoted_len, ends_skip, skip_next, skip_start, skip_len, skipped_len, ends_name, ends_comment, ends_path, path_next, name_len, comment_len, path_len, ends_variable, variable_len, begins_with_letter, closes_before_sign, assigned_len}
 
 -- A run that goes on while a test fails, of n bytes in all: where it stops, goes on, and meets the end of the text.
 pub stops_at : (n i here there : ℕ) (b : Bool) → here ≡ cond b 0 (suc there) → b ≡ true → n ≡ i + here → i ≡ n
@@ -54,12 +51,12 @@ unfolding name_len
 name_le [] = omega arith
 name_le (b ∷ bs) = elim (ends_name b bs) as (λ v. cond v 0 (suc (name_len bs)) ≤ suc (length bs)) [ true ↦ omega arith | false ↦ omega (arith, name_le bs) ]
 
-comment_le : (s : List ℕ) → comment_len s ≤ length s
+pub comment_le : (s : List ℕ) → comment_len s ≤ length s
 unfolding comment_len
 comment_le [] = omega arith
 comment_le (b ∷ bs) = elim (ends_comment b) as (λ v. cond v 0 (suc (comment_len bs)) ≤ suc (length bs)) [ true ↦ omega arith | false ↦ omega (arith, comment_le bs) ]
 
-path_le : (p : PathPlace) (s : List ℕ) → path_len p s ≤ length s
+pub path_le : (p : PathPlace) (s : List ℕ) → path_len p s ≤ length s
 unfolding path_len
 path_le p [] = omega arith
 path_le p (b ∷ bs) = elim (ends_path p b bs) as (λ v. cond v 0 (suc (path_len (path_next p b) bs)) ≤ suc (length bs)) [ true ↦ omega arith | false ↦ omega (arith, path_le (path_next p b) bs) ]
@@ -90,18 +87,63 @@ closed_after : (a : Bool) (bs : List ℕ) → unwrap_or (if a && closes_before_s
 closed_after true bs = closed_le bs _ refl
 closed_after false bs = omega arith
 
-assigned_le : (s : List ℕ) → unwrap_or (assigned_len s) 0 ≤ length s
+pub assigned_le : (s : List ℕ) → unwrap_or (assigned_len s) 0 ≤ length s
 unfolding assigned_len
 assigned_le [] = omega arith
 assigned_le (b ∷ bs) = closed_after (b == 123 && begins_with_letter bs) bs
 
-pub run_le : (k : Piece) (s : List ℕ) → run_after k s ≤ length s
-unfolding run_after
-run_le Blank s = omega arith
-run_le Comment s = comment_le s
-run_le Variable s = assigned_le s
-run_le (Token Open) s = omega arith
-run_le (Token Close) s = omega arith
-run_le (Token Comma) s = omega arith
-run_le (Token Path) s = path_le path_start s
-run_le (Token Name) s = name_le s
+pub value_step : (s : List ℕ) (i : ℕ) → i < length s → value_len (drop i s) ≡ cond (ends_value (get_or s i 0) (take (length s - (i + 1)) (drop (i + 1) s))) 0 (suc (value_len (drop (i + 1) s)))
+unfolding value_len
+value_step s i h = rw to_end (at_drop_more value_len s i 0 h)
+
+pub value_nil : value_len [] ≡ 0
+unfolding value_len
+value_nil = refl
+
+pub value_le : (s : List ℕ) → value_len s ≤ length s
+unfolding value_len
+value_le [] = omega arith
+value_le (b ∷ bs) = elim (ends_value b bs) as (λ v. cond v 0 (suc (value_len bs)) ≤ suc (length bs)) [ true ↦ omega arith | false ↦ omega (arith, value_le bs) ]
+
+pub quote_step : (kept : Bool) (s : List ℕ) (i : ℕ) → i < length s → quote_len kept (drop i s) ≡ cond (ends_quote kept (get_or s i 0)) 0 (suc (quote_len (quote_next kept (get_or s i 0)) (drop (i + 1) s)))
+unfolding quote_len
+quote_step kept s i h = at_drop_more (quote_len kept) s i 0 h
+
+pub quote_nil : (kept : Bool) → quote_len kept [] ≡ 0
+unfolding quote_len
+quote_nil kept = refl
+
+pub quote_le : (kept : Bool) (s : List ℕ) → quote_len kept s ≤ length s
+unfolding quote_len
+quote_le kept [] = omega arith
+quote_le kept (b ∷ bs) = elim (ends_quote kept b) as (λ v. cond v 0 (suc (quote_len (quote_next kept b) bs)) ≤ suc (length bs)) [ true ↦ omega arith | false ↦ omega (arith, quote_le (quote_next kept b) bs) ]
+
+-- where a quote follows, a text in quotes is no longer than the text
+closed_short : (s : List ℕ) → begins_with 34 s ≡ true → 0 < length s
+closed_short [] h = absurd cc
+closed_short (b ∷ bs) h = omega arith
+
+closing_le : (s : List ℕ) (b : Bool) → begins_with 34 (drop (quote_len false s) s) ≡ b → unwrap_or (if b then Some (suc (quote_len false s)) else None) 0 ≤ length s
+closing_le s true h = omega (arith, closed_short (drop (quote_len false s) s) h, length-drop (quote_len false s) s)
+closing_le s false h = omega arith
+
+pub quoted_le : (s : List ℕ) → unwrap_or (quoted_len s) 0 ≤ length s
+unfolding quoted_len
+quoted_le s = closing_le s _ refl
+
+pub skip_step : (p : SkipPlace) (s : List ℕ) (i : ℕ) → i < length s → skip_len p (drop i s) ≡ cond (ends_skip p (get_or s i 0)) 0 (suc (skip_len (skip_next p (get_or s i 0)) (drop (i + 1) s)))
+unfolding skip_len
+skip_step p s i h = at_drop_more (skip_len p) s i 0 h
+
+pub skip_nil : (p : SkipPlace) → skip_len p [] ≡ 0
+unfolding skip_len
+skip_nil p = refl
+
+pub skip_le : (p : SkipPlace) (s : List ℕ) → skip_len p s ≤ length s
+unfolding skip_len
+skip_le p [] = omega arith
+skip_le p (b ∷ bs) = elim (ends_skip p b) as (λ v. cond v 0 (suc (skip_len (skip_next p b) bs)) ≤ suc (length bs)) [ true ↦ omega arith | false ↦ omega (arith, skip_le (skip_next p b) bs) ]
+
+pub skipped_le : (s : List ℕ) → skipped_len s ≤ length s
+unfolding skipped_len
+skipped_le s = omega (arith, name_le s, skip_le skip_start (drop (name_len s) s), length-drop (name_len s) s)

@@ -1,9 +1,9 @@
 -- What is skipped in the form of an include.
-use Rattle.std.proofs.Common.{◌≡◌, ℕ, suc, ◌-◌, ◌<◌, ◌≤◌, ◌==◌, Bool, true, false, List, [], ◌∷◌, length, take, drop, get_or, Result, Ok, Err, Option, Some, None, option_and_then, cond, if◌then◌else◌, codes, refl, sym, ◌∙◌, arith}
+use Rattle.std.proofs.Common.{◌≡◌, ℕ, suc, ◌+◌, ◌-◌, ap, ◌<◌, ◌≤◌, ◌==◌, Bool, true, false, List, [], ◌∷◌, length, take, drop, get_or, Result, Ok, Err, Option, Some, None, option_and_then, cond, if◌then◌else◌, codes, refl, sym, ◌∙◌, arith}
 use Rattle.std.proofs.lemmas.List.{length-drop}
 use Rattle.std.specs.Str.{bytes_eq}
 use Rattle.aa_words.specs.Runs.{is_white, name_len}
-use Rattle.aa_words.specs.Includes.{behind_white, behind_word, or_else_white, from_sign, ends_include_name, behind_name, behind_sign, named_form, include_form}
+use Rattle.aa_words.specs.Includes.{behind_white, behind_word, or_else_white, from_sign, ends_include_name, behind_name, behind_sign, named_form, include_form, include_end, include_len, include_name}
 use Rattle.aa_words.proofs.Extents.{to_end}
 
 -- white space
@@ -47,7 +47,7 @@ unfolding behind_white
 white_le [] = omega arith
 white_le (b ∷ bs) = elim (is_white b) as (λ v. length (cond v (behind_white bs) (b ∷ bs)) ≤ length (b ∷ bs)) [ true ↦ omega (arith, white_le bs) | false ↦ omega arith ]
 
-named_le : (sign : ℕ) (s : List ℕ) → length (behind_name sign s) ≤ length s
+pub named_le : (sign : ℕ) (s : List ℕ) → length (behind_name sign s) ≤ length s
 unfolding behind_name
 named_le sign [] = omega arith
 named_le sign (b ∷ bs) = elim (ends_include_name sign b) as (λ v. length (cond v (b ∷ bs) (behind_name sign bs)) ≤ length (b ∷ bs)) [ true ↦ omega arith | false ↦ omega (arith, named_le sign bs) ]
@@ -109,3 +109,35 @@ broken_le s broken e =
     let le : length (left (include_form s)) ≤ length (from_sign s) = form_le (from_sign s) in
     let broken_short : length broken ≤ length (from_sign s) = rw e at le in
     omega (arith, sign_le s)
+
+pub form_rest_le : (s rest : List ℕ) → include_form s ≡ Ok rest → length rest ≤ length s
+unfolding include_form
+form_rest_le s rest e =
+    let le : length (left (include_form s)) ≤ length (from_sign s) = form_le (from_sign s) in
+    let short : length rest ≤ length (from_sign s) = rw e at le in
+    omega (arith, sign_le s)
+
+include_end_le : (s : List ℕ) (form : Result (List ℕ) (List ℕ)) → length (left form) ≤ length s → include_end s form ≤ length s
+include_end_le s (Ok []) h = omega arith
+include_end_le s (Ok (b ∷ bs)) h = elim (b == 44) as (λ v. (length s - length (b ∷ bs)) + (cond v 1 0) ≤ length s) [ true ↦ omega arith | false ↦ omega arith ]
+include_end_le s (Err broken) h = omega arith
+
+-- an include is no longer than the text
+pub include_len_le : (s : List ℕ) → include_len s ≤ length s
+unfolding include_len include_form
+include_len_le s =
+    let behind = drop (name_len s) s in
+    let le : length (left (include_form behind)) ≤ length (from_sign behind) = form_le (from_sign behind) in
+    include_end_le s (include_form behind) (omega (arith, sign_le behind, length-drop (name_len s) s))
+
+name_shorter : (sign b : ℕ) (bs : List ℕ) → length (b ∷ bs) - length (behind_name sign bs) ≡ suc (length bs - length (behind_name sign bs))
+name_shorter sign b bs = omega (arith, named_le sign bs)
+
+-- an include's name, as the code takes it
+pub name_taken : (sign : ℕ) (s : List ℕ) → take (length s - length (behind_name sign s)) s ≡ include_name sign s
+unfolding behind_name include_name
+name_taken sign [] = refl
+name_taken sign (b ∷ bs) = elim (ends_include_name sign b) as (λ v. take (length (b ∷ bs) - length (cond v (b ∷ bs) (behind_name sign bs))) (b ∷ bs) ≡ cond v [] (b ∷ include_name sign bs)) [
+  | true ↦ let none : length (b ∷ bs) - length (b ∷ bs) ≡ 0 = omega arith in ap (λ (n : ℕ). take n (b ∷ bs)) none
+  | false ↦ ap (λ (n : ℕ). take n (b ∷ bs)) (name_shorter sign b bs) ∙ ap (λ (t : List ℕ). b ∷ t) (name_taken sign bs)
+]

@@ -4,3 +4,4 @@ pub mod Named
 pub mod Forms
 pub mod Order
 pub mod Cuts
+pub mod Once

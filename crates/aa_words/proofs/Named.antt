@@ -1,7 +1,10 @@
 -- Names of sources.
-use Rattle.std.proofs.Common.{◌≡◌, ℕ, List, [], ◌∷◌, ◌++◌, Bool, true, false, Some, is_some, cond, ◌||◌, IsTrue, Result, Ok, Err, IsErrAnd, ◌<◌, length, arith, refl, sym, ap, subst, ◌∙◌}
+use Rattle.std.proofs.Common.{◌≡◌, ℕ, ◌+◌, map, Option, None, List, [], ◌∷◌, ◌++◌, Bool, true, false, Some, is_some, cond, ◌||◌, IsTrue, Result, Ok, Err, IsErrAnd, ◌<◌, length, arith, refl, sym, ap, subst, ◌∙◌}
 use Rattle.std.proofs.lemmas.List.{length-map}
 use Rattle.std.specs.Map.{lookup}
+use Rattle.std.specs.List.{position, position_from}
+use Rattle.std.proofs.lemmas.Iterator.Adapters.{position_from-zero}
+use Rattle.aa_words.specs.Splits.{source_from}
 use Rattle.std.specs.Global.{Vec}
 use Rattle.std.specs.Str.{bytes_eq}
 use Rattle.indexmap.specs.IndexMap.{insert_entry}
@@ -50,3 +53,23 @@ other_cause (Err f) h e = let same : f ≡ at_start Syntax = cc in no_memory_dif
 -- as many names are there as entries
 pub room : (es : List (Vec ℕ × Vec ℕ)) (self : List (List ℕ × List ℕ)) (n : ℕ) → n ≡ length es → entries es ≡ self → n < 4095 → length self < 4095
 room es self n e view h = let same : length (entries es) ≡ length self = ap length view in omega (arith, simp length-map at same)
+
+-- a source's number and text, from the place of its key and from what stands under it
+abbrev pub numbered : Option ℕ → Option (Vec ℕ) → Option (ℕ × List ℕ)
+numbered (Some i) (Some text) = Some (i + 1, text.items)
+numbered (Some i) None = None
+numbered None text = None
+
+found_from : (i : ℕ) (name : List ℕ) (es : List (Vec ℕ × Vec ℕ)) → source_from (i + 1) name (entries es) ≡ numbered (position_from (λ k. bytes_eq name k.items) i (map (λ e. e.0) es)) (lookup (λ k. bytes_eq name k.items) es)
+unfolding source_from
+found_from i name [] = refl
+found_from i name (e ∷ es) =
+    elim (bytes_eq name e.0.items) as (λ v. cond v (Some (i + 1, e.1.items)) (source_from (i + 1 + 1) name (entries es))
+    ≡ numbered (cond v (Some i) (position_from (λ k. bytes_eq name k.items) (i + 1) (map (λ x. x.0) es))) (cond v (Some e.1) (lookup (λ k. bytes_eq name k.items) es))) [ true ↦ refl | false ↦ found_from (i + 1) name es ]
+
+-- the source of a name stands at the place of its key
+pub source_numbered : (name : List ℕ) (es : List (Vec ℕ × Vec ℕ)) (self : List (List ℕ × List ℕ)) (i : Option ℕ) (text : Option (Vec ℕ)) → i ≡ position (λ k. bytes_eq name k.items) (map (λ e. e.0) es) → text ≡ lookup (λ k. bytes_eq name k.items) es → entries es ≡ self
+    → source_from 1 name self ≡ numbered i text
+source_numbered name es self i text at found view =
+    let from : i ≡ position_from (λ k. bytes_eq name k.items) 0 (map (λ e. e.0) es) = at ∙ position_from-zero (λ k. bytes_eq name k.items) (map (λ e. e.0) es) in
+    ap (source_from 1 name) (sym view) ∙ found_from 0 name es ∙ ap (λ (x : Option ℕ). numbered x (lookup (λ k. bytes_eq name k.items) es)) (sym from) ∙ ap (numbered i) (sym found)

@@ -1,7 +1,7 @@
 -- The form of an include: a keyword, then `if exists` or not, then a name between signs.
-use Rattle.std.specs.Prelude.{ℕ, List, [], ◌∷◌, take, drop, ◌==◌, ◌||◌, if◌then◌else◌, Option, Some, None, Result, Ok, Err, codes, option_and_then, Bool, true, false}
+use Rattle.std.specs.Prelude.{ℕ, ◌+◌, ◌-◌, length, is_some, List, [], ◌∷◌, take, drop, ◌==◌, ◌||◌, if◌then◌else◌, Option, Some, None, Result, Ok, Err, codes, option_and_then, Bool, true, false}
 use Rattle.std.specs.Str.{bytes_eq}
-use Rattle.aa_words.specs.Runs.{is_white, name_len}
+use Rattle.aa_words.specs.Runs.{is_white, begins_with, name_len}
 
 -- the bytes behind white space, line ends too
 unfoldable pub behind_white : List ℕ → List ℕ
@@ -61,3 +61,28 @@ has_include_form (Some rest) = has_form (include_form rest)
 -- #include and an include's form: with another form it is a comment
 unfoldable pub is_hash_include : List ℕ → Bool
 is_hash_include bytes = has_include_form (behind_word (codes "#include") bytes)
+
+-- the name between the signs
+unfoldable pub include_name : ℕ → List ℕ → List ℕ
+include_name sign [] = []
+include_name sign (b ∷ bs) = if ends_include_name sign b then [] else b ∷ include_name sign bs
+
+abbrev pub name_in_signs : List ℕ → List ℕ
+name_in_signs [] = []
+name_in_signs (b ∷ bs) = if b == 60 then include_name 62 bs else include_name 34 bs
+
+-- the name in an include's text
+unfoldable pub included_name : List ℕ → List ℕ
+included_name text = name_in_signs (from_sign (drop (name_len text) text))
+
+-- `if exists` stands in an include's text
+unfoldable pub is_optional : List ℕ → Bool
+is_optional text = is_some (behind_if_exists (behind_white (drop (name_len text) text)))
+
+abbrev pub include_end : List ℕ → Result (List ℕ) (List ℕ) → ℕ
+include_end bytes (Ok rest) = (length bytes - length rest) + (if begins_with 44 rest then 1 else 0)
+include_end bytes (Err broken) = 0
+
+-- how long an include is behind its first byte, with a comma that stands straight behind it
+unfoldable pub include_len : List ℕ → ℕ
+include_len bytes = include_end bytes (include_form (drop (name_len bytes) bytes))

@@ -5,3 +5,4 @@ pub mod Splits
 pub mod Stops
 pub mod Sources
 pub mod WordLists
+pub mod Openings

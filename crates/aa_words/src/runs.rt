@@ -1,7 +1,7 @@
 //! How long the runs of a text are.
 
-ghost use Rattle.std.specs.Prelude.{◌≡◌, ◌+◌, ◌^◌, ◌<◌, ◌≤◌, nat_le, length};
-ghost use Rattle.aa_words.specs.Runs.{is_white, ends_name, ends_comment, ends_after_comma, name_len, comment_len, path_len, path_start, path_next, ends_path, is_letter, ends_variable, variable_len, assigned_len, closes_before_sign, begins_with_letter};
+ghost use Rattle.std.specs.Prelude.{◌≡◌, ◌+◌, ◌^◌, ◌<◌, ◌≤◌, nat_le, length, false};
+ghost use Rattle.aa_words.specs.Runs.{is_white, ends_name, ends_comment, ends_after_comma, name_len, comment_len, path_len, path_start, path_next, ends_path, is_letter, ends_variable, variable_len, assigned_len, closes_before_sign, begins_with_letter, ends_value, value_len, ends_quote, quote_next, quote_len, quoted_len, is_variable};
 
 pub(crate) fn is_white_space(b: u8) -> bool
     ensures { result ≡ is_white b }
@@ -183,6 +183,81 @@ pub(crate) fn assigned_length(text: &[u8]) -> Option<usize>
     let (_, behind) = rest.split_at(len);
     match behind {
         [b'}', b'=', ..] | [b'}', b'+', b'=', ..] => Some(len + 2),
+        _ => None,
+    }
+}
+
+/// Whether a text is `@{NAME}`.
+#[tactic(auto, using(crate::proofs::Extents::variable_le), unfolding(crate::specs::Runs::is_variable))]
+pub(crate) fn is_whole_variable(text: &[u8]) -> bool
+    ensures { result ≡ is_variable text.now }
+{
+    let [b'@', b'{', name @ ..] = text else {
+        return false;
+    };
+    let [first, ..] = name else {
+        return false;
+    };
+    let (_, end) = name.split_at(variable_length(name));
+    is_ascii_letter(*first) && end == "}".as_bytes()
+}
+
+/// Whether a Value ends before the byte `b`, which `rest` follows.
+fn value_ends(b: u8, rest: &[u8]) -> bool
+    ensures { result ≡ ends_value b rest.now }
+{
+    is_white_space(b) || b == 0 || (b == b'\\' && matches!(rest, [b'\n', ..]))
+}
+
+/// How long the run is that a Value would have.
+pub(crate) fn value_length(text: &[u8]) -> usize
+    ensures { result ≡ value_len text.now }
+{
+    for (i, b) in text.iter().enumerate() {
+        let rest = &text[i + 1..];
+        if value_ends(*b, rest) {
+            return i;
+        }
+    }
+    text.len()
+}
+
+fn quote_ends(kept: bool, b: u8) -> bool
+    ensures { result ≡ ends_quote kept b }
+{
+    b == 0 || (!kept && b == b'"')
+}
+
+/// Whether the byte behind `b` is kept in quotes.
+fn keeps_next(kept: bool, b: u8) -> bool
+    ensures { result ≡ quote_next kept b }
+{
+    !kept && b == b'\\'
+}
+
+/// How long a quoted text is, behind its opening quote and up to the one that closes it.
+pub(crate) fn quote_length(text: &[u8]) -> usize
+    ensures { result ≡ quote_len false text.now }
+{
+    let mut kept = false;
+    for (i, b) in text.iter().enumerate() {
+        if quote_ends(kept, *b) {
+            return i;
+        }
+        kept = keeps_next(kept, *b);
+    }
+    text.len()
+}
+
+/// How long a quoted text is behind its opening quote, with the quote that closes it.
+#[tactic(auto, using(crate::proofs::Extents::quote_le), unfolding(crate::specs::Runs::quoted_len))]
+pub(crate) fn quoted_length(text: &[u8]) -> Option<usize>
+    ensures { result ≡ quoted_len text.now }
+{
+    let len = quote_length(text);
+    let (_, behind) = text.split_at(len);
+    match behind {
+        [b'"', ..] => Some(len + 1),
         _ => None,
     }
 }

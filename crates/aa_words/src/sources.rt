@@ -1,8 +1,9 @@
 //! Named texts that a policy may include.
 
-ghost use Rattle.std.specs.Prelude.{◌≡◌, ◌+◌, ◌<◌, ◌≤◌, ◌↔◌, ◌⊎◌, [], ◌∷◌, ◌++◌, length, OnOk, OnErr, IfErr, IsErrOf, IsTrue};
+ghost use Rattle.std.specs.Prelude.{◌≡◌, ◌+◌, ◌<◌, ◌≤◌, ◌↔◌, ◌⊎◌, [], ◌∷◌, ◌++◌, length, OnOk, OnErr, IfErr, IsErrOf, IsTrue, IfSome, IfNone, Some, None};
 ghost use Rattle.aa_words.specs.Kinds.{at_start, no_memory};
 ghost use Rattle.aa_words.specs.Sources.{has_name};
+ghost use Rattle.aa_words.specs.Splits.{source_from};
 
 use crate::fault::{PolicyFault, PolicyKind};
 use indexmap::IndexMap;
@@ -17,13 +18,15 @@ pub struct Sources {
 }
 
 impl Model for Sources {
-    ghost use Rattle.std.specs.Prelude.{List, ℕ};
+    ghost use Rattle.std.specs.Prelude.{List, ℕ, length, ◌≤◌};
 
     ghost Value = { List (List ℕ × List ℕ) };
 
     ghost use Rattle.aa_words.specs.Sources.{entries};
 
     ghost view = { λ s. entries s.texts.entries };
+
+    ghost invariant = { λ s. length s.texts.entries ≤ 4095 };
 }
 
 /// The most bytes that a text may have.
@@ -64,5 +67,14 @@ impl Sources {
         let text = Vec::from_slice(alloc, text)?;
         let _ = self.texts.insert(name, text)?;
         Ok(())
+    }
+
+    /// The source of a name: its number and its text.
+    pub(crate) fn find(&self, name: &[u8]) -> Option<(u16, &[u8])>
+        ensures some { IfSome result (λ p. source_from 1 name.now self.now ≡ Some (p.0, p.1.now)) }
+        ensures none { IfNone result (source_from 1 name.now self.now ≡ None) }
+    {
+        let (index, _, text) = self.texts.get_full(name)?;
+        Some((index as u16 + 1, text.as_slice()))
     }
 }

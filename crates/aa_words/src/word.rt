@@ -24,8 +24,24 @@ pub enum WordKind {
     Close,
     /// `,` outside a path's braces and brackets
     Comma,
+    /// `=`
+    Equals,
+    /// `+=`
+    PlusEquals,
+    /// `->`
+    Arrow,
+    /// `(`
+    LeftParen,
+    /// `)`
+    RightParen,
     /// A run that begins with `/` or `@{`.
     Path,
+    /// A text in quotes.
+    Quoted,
+    /// A value of a variable's assignment, a run or in quotes.
+    Value,
+    /// A rule of a kind that is passed over, without the comma that ends it.
+    Skipped,
     /// Any other run.
     Name,
 }
@@ -35,7 +51,7 @@ pub enum WordKind {
 pub struct Word<'s> {
     /// What kind of word it is.
     pub kind: WordKind,
-    /// Its bytes, as they stand in the source.
+    /// Its bytes, as they stand in the source, without the quotes that it stands in.
     pub text: &'s [u8],
     /// Where it stands.
     pub span: Span,

@@ -15,5 +15,6 @@ pub mod Reply
 pub mod Requests
 pub mod Shape
 pub mod Steps
+pub mod Trees
 pub mod Values
 pub mod Written

@@ -1,9 +1,5 @@
 -- What the code holds while it reads, as what stands in the job.
-use Rattle.std.specs.Prelude.{ℕ, List, map, String, string_bytes}
-use Rattle.std.specs.declared.alloc.Global.{Global}
-use Rattle.serde_json.specs.Data.{Data}
-use Rattle.serde_json.specs.View.{view}
-use Rattle.serde_json.specs.declared.value.Value.{Value}
+use Rattle.std.specs.Prelude.{map}
 use Rattle.aamediate.specs.declared.job.Include.{Include}
 use Rattle.aamediate.specs.declared.raw.RawItem.{RawItem}
 use Rattle.aamediate.specs.declared.raw.RawItem.TheVariants as raw
@@ -32,7 +28,3 @@ raw_include i = record { name = i.name.now; text = i.text.now }
 
 abbrev pub raw_job : RawJob → WrittenJob
 raw_job j = record { policy = j.policy.now; includes = map raw_include j.includes.items; tasks = map raw_task j.tasks.items; states = j.states; capacity = j.capacity; events = map raw_event j.events.items }
-
--- a member of an object: its key's bytes, and its value's data
-abbrev pub entry_view : String Global × Value → List ℕ × Data
-entry_view e = (string_bytes e.0, view e.1)

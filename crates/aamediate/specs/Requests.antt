@@ -1,5 +1,5 @@
 -- What a task may ask.
-use Rattle.std.specs.Prelude.{ℕ, List, [], ◌∷◌, length, Bool, false, not, ◌==◌, ◌&&◌, nat_le, bit_and}
+use Rattle.std.specs.Prelude.{ℕ, List, length, Bool, not, ◌==◌, ◌&&◌, nat_le, bit_and}
 use Rattle.std.specs.List.{list_any}
 pub use Rattle.aa_words.specs.Runs.{begins_with}
 

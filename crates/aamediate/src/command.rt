@@ -35,12 +35,11 @@ pub fn engine_named(alloc: Global, words: &[String]) -> Result<Engine, Error> {
     }
 }
 
-/// The exit status of a command line that names no engine: 0 for a request for help, 3 for want of memory, 2 where
-/// it is refused.
+/// The exit status of a command line that names no engine: 0 for a request for help, 2 where it is refused for another
+/// cause than memory.
 pub fn status_of(error: &Error) -> u8 {
     match error.kind() {
         ErrorKind::DisplayHelp => 0,
-        ErrorKind::OutOfMemory => 3,
         _ => 2,
     }
 }

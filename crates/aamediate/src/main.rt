@@ -26,46 +26,58 @@ mod shape;
 mod stream;
 #[cfg(test)]
 mod tests;
+mod tree;
 mod values;
 #[cfg(test)]
 mod verdict_tests;
 
+use clap::Error;
+use clap::error::ErrorKind;
 use command::{Engine, engine_named, status_of};
 use engine::{check_job, run_job};
 use fault::RunFault;
 use std::process::ExitCode;
 use std::{env, io};
 
-/// The exit status of a command line whose words can't be had.
-fn unread_status(error: &io::Error) -> u8 {
+/// Says the fault on standard error, and gives its exit status.
+fn refuse(rt: &HostRuntime, fault: RunFault) -> u8 {
+    let _ = eprintln!(rt; "{fault}");
+    fault.status()
+}
+
+/// Says why the words of the command line can't be had, and gives the exit status.
+fn refuse_words(rt: &HostRuntime, error: &io::Error) -> u8 {
     if error.kind() == io::ErrorKind::OutOfMemory {
-        3
-    } else {
-        2
+        return refuse(rt, RunFault::NoMemory);
     }
+    let _ = eprintln!(rt; "error: the arguments can't be read as text");
+    2
+}
+
+/// Says what the command line is refused for, or the help that it asks for, and gives the exit status.
+fn refuse_command(rt: &HostRuntime, error: &Error) -> u8 {
+    if error.kind() == ErrorKind::OutOfMemory {
+        return refuse(rt, RunFault::NoMemory);
+    }
+    let _ = error.print(rt);
+    status_of(error)
 }
 
 /// Does what the command line asks, and gives the exit status.
 fn answer_command(rt: &HostRuntime) -> u8 {
     let alloc = rt.alloc();
     let words: Vec<String> = match env::args(rt) {
-        Err(error) => return unread_status(&error),
+        Err(error) => return refuse_words(rt, &error),
         Ok(args) => match args.collect(alloc) {
-            Err(_) => return 3,
+            Err(_) => return refuse(rt, RunFault::NoMemory),
             Ok(words) => words,
         },
     };
     match engine_named(alloc, words.as_slice()) {
-        Err(error) => {
-            let _ = error.print(rt);
-            status_of(&error)
-        }
+        Err(error) => refuse_command(rt, &error),
         Ok(engine) => match answer_job(rt, engine) {
             Ok(()) => 0,
-            Err(fault) => {
-                let _ = eprintln!(rt; "{fault}");
-                fault.status()
-            }
+            Err(fault) => refuse(rt, fault),
         },
     }
 }

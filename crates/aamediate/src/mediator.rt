@@ -1,6 +1,6 @@
 //! A policy that is ready to decide requests.
 
-ghost use Rattle.std.specs.Prelude.{◌≡◌, ◌≤◌, ◌==◌, length, position, IfOk, IfErr};
+ghost use Rattle.std.specs.Prelude.{◌≡◌, ◌≤◌, ◌==◌, position, IfOk, IfErr};
 ghost use Rattle.aamediate.specs.Labels.{profile_number};
 ghost use Rattle.aa_words.specs.Kinds.{no_memory};
 ghost use Rattle.aamediate.specs.Reply.{reply};
@@ -46,7 +46,6 @@ impl Model for Compiled {
 
 /// Makes a policy ready. An automaton of it may have at most `limit` states.
 pub fn compile(alloc: Global, policy: Policy, limit: u32) -> Result<Compiled, CompileRefusal>
-    requires few { length policy.profiles ≤ 65536 }
     requires some { 1 ≤ limit }
     requires bounded { limit ≤ 65535 }
     ensures ok { IfOk result (λ c. c ≡ policy) }

@@ -1,19 +1,19 @@
 //! The shape of a job: what stands in its JSON value, or `BadShape`.
 
-ghost use Rattle.std.specs.Prelude.{◌≡◌, string_bytes, codes, map};
+ghost use Rattle.std.specs.Prelude.{◌≡◌, codes, map};
 ghost use Rattle.std.specs.List.{list_all};
-ghost use Rattle.std.specs.BTreeMap.{keys};
-ghost use Rattle.serde_json.specs.View.{view, members_view};
 ghost use Rattle.serde_json.specs.Find.{get};
 ghost use Rattle.aamediate.specs.declared.job_fault.JobFault.TheVariants.{BadShape};
 ghost use Rattle.aamediate.specs.Steps.{Gives, only_if, each};
 ghost use Rattle.aamediate.specs.Shape.{is_key, has_only, fits, text_in, number_in, list_in, text_at, list_at, flag_from, number_from, has, file_shape, link_shape, exec_shape, cap_shape, net_shape, request_shape, item_shape, task_shape, pair_shape, event_shape, include_shape, events_from, includes_in, includes_from, job_shape};
-ghost use Rattle.aamediate.specs.Raw.{raw_item, raw_task, raw_event, raw_include, raw_job, entry_view};
+ghost use Rattle.aamediate.specs.Raw.{raw_item, raw_task, raw_event, raw_include, raw_job};
+ghost use Rattle.aamediate.specs.Trees.{tree_data, object_data, entry_data};
 
 use crate::job_fault::JobFault;
 use crate::raw::{RawEvent, RawInclude, RawItem, RawJob, RawTask};
-use serde_json::{Map, Value};
+use crate::tree::{self, Member, Tree};
 use std::alloc::Global;
+use std::collections::BTreeMap;
 
 /// How many states an automaton may have where the job doesn't say.
 const DEFAULT_STATES: u64 = 4096;
@@ -58,30 +58,30 @@ fn is_known(part: Part, key: &str) -> bool
     }
 }
 
-fn only_known(part: Part, map: &Map<String, Value>) -> bool
-    ensures { result ≡ list_all (λ k. is_key part (string_bytes k)) (keys map.now) }
+fn only_known(part: Part, members: &[Member]) -> bool
+    ensures { result ≡ list_all (λ m. is_key part m.0.now) members.now }
 {
-    map.keys().all(|key| is_known(part, key.as_str()))
+    members.iter().all(|member| is_known(part, member.0))
 }
 
-fn map_fits(part: Part, map: &Map<String, Value>) -> bool
-    ensures { result ≡ has_only part (members_view map.now.entries) }
+fn members_fit(part: Part, members: &[Member]) -> bool
+    ensures { result ≡ has_only part (object_data members.now) }
 {
-    only_known(part, map)
+    only_known(part, members)
 }
 
-fn is_fit(part: Part, value: &Value) -> bool
-    ensures { result ≡ fits part (view value.now) }
+fn is_fit(part: Part, value: &Tree) -> bool
+    ensures { result ≡ fits part (tree_data value.now) }
 {
-    match value.as_object() {
-        Some(map) => map_fits(part, map),
+    match tree::members(value) {
+        Some(members) => members_fit(part, members),
         None => false,
     }
 }
 
 /// The value is an object whose keys are all known.
-fn expect(part: Part, value: &Value) -> Result<(), JobFault>
-    ensures { Gives (λ u. u) result (only_if (fits part (view value.now)) BadShape) }
+fn expect(part: Part, value: &Tree) -> Result<(), JobFault>
+    ensures { Gives (λ u. u) result (only_if (fits part (tree_data value.now)) BadShape) }
 {
     if is_fit(part, value) {
         Ok(())
@@ -90,72 +90,69 @@ fn expect(part: Part, value: &Value) -> Result<(), JobFault>
     }
 }
 
-fn text(value: &Value) -> Result<&str, JobFault>
-    ensures { Gives (λ s. s.now) result (text_in (view value.now)) }
+fn text<'t>(value: &Tree<'t>) -> Result<&'t str, JobFault>
+    ensures { Gives (λ s. s.now) result (text_in (tree_data value.now)) }
 {
-    value.as_str().ok_or(JobFault::BadShape)
+    tree::text(value).ok_or(JobFault::BadShape)
 }
 
-fn number(value: &Value) -> Result<u64, JobFault>
-    ensures { Gives (λ n. n) result (number_in (view value.now)) }
+fn number(value: &Tree) -> Result<u64, JobFault>
+    ensures { Gives (λ n. n) result (number_in (tree_data value.now)) }
 {
-    value.as_u64().ok_or(JobFault::BadShape)
+    tree::unsigned(value).ok_or(JobFault::BadShape)
 }
 
-fn list(value: &Value) -> Result<&[Value], JobFault>
-    ensures { Gives (λ s. map view s.now) result (list_in (view value.now)) }
+fn list<'v, 't>(value: &'v Tree<'t>) -> Result<&'v [Tree<'t>], JobFault>
+    ensures { Gives (λ s. map tree_data s.now) result (list_in (tree_data value.now)) }
 {
-    match value.as_array() {
-        Some(list) => Ok(list.as_slice()),
-        None => Err(JobFault::BadShape),
-    }
+    tree::items(value).ok_or(JobFault::BadShape)
 }
 
-fn text_of<'v>(value: &'v Value, key: &str) -> Result<&'v str, JobFault>
-    ensures { Gives (λ s. s.now) result (text_at key.now (view value.now)) }
+fn text_of<'t>(value: &Tree<'t>, key: &str) -> Result<&'t str, JobFault>
+    ensures { Gives (λ s. s.now) result (text_at key.now (tree_data value.now)) }
 {
-    match value.get(key) {
+    match tree::member(value, key) {
         Some(member) => text(member),
         None => Err(JobFault::BadShape),
     }
 }
 
-fn list_of<'v>(value: &'v Value, key: &str) -> Result<&'v [Value], JobFault>
-    ensures { Gives (λ s. map view s.now) result (list_at key.now (view value.now)) }
+fn list_of<'v, 't>(value: &'v Tree<'t>, key: &str) -> Result<&'v [Tree<'t>], JobFault>
+    ensures { Gives (λ s. map tree_data s.now) result (list_at key.now (tree_data value.now)) }
 {
-    match value.get(key) {
+    match tree::member(value, key) {
         Some(member) => list(member),
         None => Err(JobFault::BadShape),
     }
 }
 
-fn flag_of(value: &Value, key: &str) -> Result<bool, JobFault>
-    ensures { Gives (λ b. b) result (flag_from (get key.now (view value.now))) }
+fn flag_of(value: &Tree, key: &str) -> Result<bool, JobFault>
+    ensures { Gives (λ b. b) result (flag_from (get key.now (tree_data value.now))) }
 {
-    match value.get(key) {
+    match tree::member(value, key) {
         None => Ok(false),
-        Some(member) => member.as_bool().ok_or(JobFault::BadShape),
+        Some(member) => tree::flag(member).ok_or(JobFault::BadShape),
     }
 }
 
-fn number_of(value: &Value, key: &str, default: u64) -> Result<u64, JobFault>
-    ensures { Gives (λ n. n) result (number_from default (get key.now (view value.now))) }
+fn number_of(value: &Tree, key: &str, default: u64) -> Result<u64, JobFault>
+    ensures { Gives (λ n. n) result (number_from default (get key.now (tree_data value.now))) }
 {
-    match value.get(key) {
+    match tree::member(value, key) {
         None => Ok(default),
         Some(member) => number(member),
     }
 }
 
-fn has_key(value: &Value, key: &str) -> bool
-    ensures { result ≡ has key.now (view value.now) }
+fn has_key(value: &Tree, key: &str) -> bool
+    ensures { result ≡ has key.now (tree_data value.now) }
 {
-    value.get(key).is_some()
+    tree::member(value, key).is_some()
 }
 
 #[tactic(auto, unfolding(crate::specs::Shape::file_shape))]
-fn file_item(value: &Value) -> Result<RawItem<'_>, JobFault>
-    ensures { Gives raw_item result (file_shape (view value.now)) }
+fn file_item<'t>(value: &Tree<'t>) -> Result<RawItem<'t>, JobFault>
+    ensures { Gives raw_item result (file_shape (tree_data value.now)) }
 {
     expect(Part::OfFile, value)?;
     let path = text_of(value, "file")?;
@@ -169,8 +166,8 @@ fn file_item(value: &Value) -> Result<RawItem<'_>, JobFault>
 }
 
 #[tactic(auto, unfolding(crate::specs::Shape::link_shape))]
-fn link_item(value: &Value) -> Result<RawItem<'_>, JobFault>
-    ensures { Gives raw_item result (link_shape (view value.now)) }
+fn link_item<'t>(value: &Tree<'t>) -> Result<RawItem<'t>, JobFault>
+    ensures { Gives raw_item result (link_shape (tree_data value.now)) }
 {
     expect(Part::OfLink, value)?;
     let path = text_of(value, "link")?;
@@ -184,8 +181,8 @@ fn link_item(value: &Value) -> Result<RawItem<'_>, JobFault>
 }
 
 #[tactic(auto, unfolding(crate::specs::Shape::exec_shape))]
-fn exec_item(value: &Value) -> Result<RawItem<'_>, JobFault>
-    ensures { Gives raw_item result (exec_shape (view value.now)) }
+fn exec_item<'t>(value: &Tree<'t>) -> Result<RawItem<'t>, JobFault>
+    ensures { Gives raw_item result (exec_shape (tree_data value.now)) }
 {
     expect(Part::OfExec, value)?;
     let path = text_of(value, "exec")?;
@@ -194,8 +191,8 @@ fn exec_item(value: &Value) -> Result<RawItem<'_>, JobFault>
 }
 
 #[tactic(auto, unfolding(crate::specs::Shape::cap_shape))]
-fn cap_item(value: &Value) -> Result<RawItem<'_>, JobFault>
-    ensures { Gives raw_item result (cap_shape (view value.now)) }
+fn cap_item<'t>(value: &Tree<'t>) -> Result<RawItem<'t>, JobFault>
+    ensures { Gives raw_item result (cap_shape (tree_data value.now)) }
 {
     expect(Part::OfCap, value)?;
     let name = text_of(value, "cap")?;
@@ -203,8 +200,8 @@ fn cap_item(value: &Value) -> Result<RawItem<'_>, JobFault>
 }
 
 #[tactic(auto, unfolding(crate::specs::Shape::net_shape))]
-fn net_item(value: &Value) -> Result<RawItem<'_>, JobFault>
-    ensures { Gives raw_item result (net_shape (view value.now)) }
+fn net_item<'t>(value: &Tree<'t>) -> Result<RawItem<'t>, JobFault>
+    ensures { Gives raw_item result (net_shape (tree_data value.now)) }
 {
     expect(Part::OfNet, value)?;
     let family = text_of(value, "net")?;
@@ -214,8 +211,8 @@ fn net_item(value: &Value) -> Result<RawItem<'_>, JobFault>
 
 /// What an object asks for, by the key that tells its kind.
 #[tactic(auto, unfolding(crate::specs::Shape::request_shape))]
-fn request_item(value: &Value) -> Result<RawItem<'_>, JobFault>
-    ensures { Gives raw_item result (request_shape (view value.now)) }
+fn request_item<'t>(value: &Tree<'t>) -> Result<RawItem<'t>, JobFault>
+    ensures { Gives raw_item result (request_shape (tree_data value.now)) }
 {
     if has_key(value, "file") {
         file_item(value)
@@ -232,10 +229,10 @@ fn request_item(value: &Value) -> Result<RawItem<'_>, JobFault>
     }
 }
 
-fn item(value: &Value) -> Result<RawItem<'_>, JobFault>
-    ensures { Gives raw_item result (item_shape (view value.now)) }
+fn item<'t>(value: &Tree<'t>) -> Result<RawItem<'t>, JobFault>
+    ensures { Gives raw_item result (item_shape (tree_data value.now)) }
 {
-    match value.as_str() {
+    match tree::text(value) {
         None => request_item(value),
         Some(word) => {
             if word == "exit" {
@@ -247,8 +244,8 @@ fn item(value: &Value) -> Result<RawItem<'_>, JobFault>
     }
 }
 
-fn items(alloc: Global, list: &[Value]) -> Result<Vec<RawItem<'_>>, JobFault>
-    ensures { Gives (λ v. map raw_item v.items) result (each item_shape (map view list.now)) }
+fn items<'t>(alloc: Global, list: &[Tree<'t>]) -> Result<Vec<RawItem<'t>>, JobFault>
+    ensures { Gives (λ v. map raw_item v.items) result (each item_shape (map tree_data list.now)) }
 {
     let mut items = Vec::new(alloc);
     for value in list {
@@ -258,8 +255,8 @@ fn items(alloc: Global, list: &[Value]) -> Result<Vec<RawItem<'_>>, JobFault>
 }
 
 #[tactic(auto, unfolding(crate::specs::Shape::task_shape))]
-fn task(alloc: Global, value: &Value) -> Result<RawTask<'_>, JobFault>
-    ensures { Gives raw_task result (task_shape (view value.now)) }
+fn task<'t>(alloc: Global, value: &Tree<'t>) -> Result<RawTask<'t>, JobFault>
+    ensures { Gives raw_task result (task_shape (tree_data value.now)) }
 {
     expect(Part::OfTask, value)?;
     let label = text_of(value, "label")?;
@@ -268,8 +265,8 @@ fn task(alloc: Global, value: &Value) -> Result<RawTask<'_>, JobFault>
     Ok(RawTask { label, items })
 }
 
-fn tasks(alloc: Global, list: &[Value]) -> Result<Vec<RawTask<'_>>, JobFault>
-    ensures { Gives (λ v. map raw_task v.items) result (each task_shape (map view list.now)) }
+fn tasks<'t>(alloc: Global, list: &[Tree<'t>]) -> Result<Vec<RawTask<'t>>, JobFault>
+    ensures { Gives (λ v. map raw_task v.items) result (each task_shape (map tree_data list.now)) }
 {
     let mut tasks = Vec::new(alloc);
     for value in list {
@@ -278,8 +275,8 @@ fn tasks(alloc: Global, list: &[Value]) -> Result<Vec<RawTask<'_>>, JobFault>
     Ok(tasks)
 }
 
-fn pair(list: &[Value]) -> Result<RawEvent<'_>, JobFault>
-    ensures { Gives raw_event result (pair_shape (map view list.now)) }
+fn pair<'t>(list: &[Tree<'t>]) -> Result<RawEvent<'t>, JobFault>
+    ensures { Gives raw_event result (pair_shape (map tree_data list.now)) }
 {
     match list {
         [task, name] => Ok(RawEvent {
@@ -291,14 +288,14 @@ fn pair(list: &[Value]) -> Result<RawEvent<'_>, JobFault>
 }
 
 #[tactic(auto, unfolding(crate::specs::Shape::event_shape))]
-fn event(value: &Value) -> Result<RawEvent<'_>, JobFault>
-    ensures { Gives raw_event result (event_shape (view value.now)) }
+fn event<'t>(value: &Tree<'t>) -> Result<RawEvent<'t>, JobFault>
+    ensures { Gives raw_event result (event_shape (tree_data value.now)) }
 {
     pair(list(value)?)
 }
 
-fn events(alloc: Global, list: &[Value]) -> Result<Vec<RawEvent<'_>>, JobFault>
-    ensures { Gives (λ v. map raw_event v.items) result (each event_shape (map view list.now)) }
+fn events<'t>(alloc: Global, list: &[Tree<'t>]) -> Result<Vec<RawEvent<'t>>, JobFault>
+    ensures { Gives (λ v. map raw_event v.items) result (each event_shape (map tree_data list.now)) }
 {
     let mut events = Vec::new(alloc);
     for value in list {
@@ -307,47 +304,50 @@ fn events(alloc: Global, list: &[Value]) -> Result<Vec<RawEvent<'_>>, JobFault>
     Ok(events)
 }
 
-fn events_of(alloc: Global, value: &Value) -> Result<Vec<RawEvent<'_>>, JobFault>
-    ensures { Gives (λ v. map raw_event v.items) result (events_from (get (codes "events") (view value.now))) }
+fn events_of<'t>(alloc: Global, value: &Tree<'t>) -> Result<Vec<RawEvent<'t>>, JobFault>
+    ensures { Gives (λ v. map raw_event v.items) result (events_from (get (codes "events") (tree_data value.now))) }
 {
-    match value.get("events") {
+    match tree::member(value, "events") {
         None => Ok(Vec::new(alloc)),
         Some(member) => events(alloc, list(member)?),
     }
 }
 
 #[tactic(auto, unfolding(crate::specs::Shape::include_shape))]
-fn include<'v>(name: &'v str, value: &'v Value) -> Result<RawInclude<'v>, JobFault>
-    ensures { Gives raw_include result (include_shape (name.now, view value.now)) }
+fn include<'t>(name: &'t str, value: &Tree<'t>) -> Result<RawInclude<'t>, JobFault>
+    ensures { Gives raw_include result (include_shape (name.now, tree_data value.now)) }
 {
     let text = text(value)?;
     Ok(RawInclude { name, text })
 }
 
-/// The included texts, in byte order of their names, as a map keeps its keys.
-fn includes(alloc: Global, found: &Map<String, Value>) -> Result<Vec<RawInclude<'_>>, JobFault>
-    ensures { Gives (λ v. map raw_include v.items) result (each include_shape (map entry_view found.now.entries)) }
+/// The included texts, in byte order of their names.
+fn includes<'t>(
+    alloc: Global,
+    found: &BTreeMap<&'t str, &Tree<'t>>,
+) -> Result<Vec<RawInclude<'t>>, JobFault>
+    ensures { Gives (λ v. map raw_include v.items) result (each include_shape (map entry_data found.now.entries)) }
 {
     let mut includes = Vec::new(alloc);
     for (name, value) in found {
-        includes.push(include(name.as_str(), value)?)?;
+        includes.push(include(name, value)?)?;
     }
     Ok(includes)
 }
 
-fn includes_in(alloc: Global, value: &Value) -> Result<Vec<RawInclude<'_>>, JobFault>
-    ensures { Gives (λ v. map raw_include v.items) result (includes_in (view value.now)) }
+fn includes_in<'t>(alloc: Global, value: &Tree<'t>) -> Result<Vec<RawInclude<'t>>, JobFault>
+    ensures { Gives (λ v. map raw_include v.items) result (includes_in (tree_data value.now)) }
 {
-    match value.as_object() {
+    match tree::members(value) {
         None => Err(JobFault::BadShape),
-        Some(map) => includes(alloc, map),
+        Some(members) => includes(alloc, &tree::sorted(alloc, members)?),
     }
 }
 
-fn includes_of(alloc: Global, value: &Value) -> Result<Vec<RawInclude<'_>>, JobFault>
-    ensures { Gives (λ v. map raw_include v.items) result (includes_from (get (codes "includes") (view value.now))) }
+fn includes_of<'t>(alloc: Global, value: &Tree<'t>) -> Result<Vec<RawInclude<'t>>, JobFault>
+    ensures { Gives (λ v. map raw_include v.items) result (includes_from (get (codes "includes") (tree_data value.now))) }
 {
-    match value.get("includes") {
+    match tree::member(value, "includes") {
         None => Ok(Vec::new(alloc)),
         Some(member) => includes_in(alloc, member),
     }
@@ -355,8 +355,8 @@ fn includes_of(alloc: Global, value: &Value) -> Result<Vec<RawInclude<'_>>, JobF
 
 /// All that stands in a job.
 #[tactic(auto, unfolding(crate::specs::Shape::job_shape))]
-pub fn job(alloc: Global, value: &Value) -> Result<RawJob<'_>, JobFault>
-    ensures { Gives raw_job result (job_shape (view value.now)) }
+pub fn job<'t>(alloc: Global, value: &Tree<'t>) -> Result<RawJob<'t>, JobFault>
+    ensures { Gives raw_job result (job_shape (tree_data value.now)) }
 {
     expect(Part::Whole, value)?;
     let policy = text_of(value, "policy")?;

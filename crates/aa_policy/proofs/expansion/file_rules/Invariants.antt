@@ -1,10 +1,11 @@
-use Rattle.std.proofs.Common.{◌≡◌, take, drop, map}
-use Rattle.aa_policy.specs.Reading.{file_data}
-use Rattle.aa_policy.specs.Spelling.{file_rule_of, files_fault}
+use Rattle.std.proofs.Common.{◌≡◌, ◌++◌, drop, map}
+use Rattle.std.specs.Prelude.{flat_map}
+use Rattle.aa_policy.specs.Reading.{rule_data}
+use Rattle.aa_policy.specs.Spelling.{file_rules_of, rules_fault}
 use Rattle.aa_policy.proofs.expansion.file_rules.Given as goal
 
-abbrev pub invariant-loop-file : goal.invariant-loop-file
-invariant-loop-file l = record {
-  rules : l.rules.items ≡ map file_rule_of (map file_data (take l.file-index l.files));
-  left : files_fault (map file_data l.files) ≡ files_fault (map file_data (drop l.file-index l.files));
+abbrev pub invariant-loop-rule : goal.invariant-loop-rule
+invariant-loop-rule l = record {
+  rules : l.found.items ++ flat_map file_rules_of (map rule_data (drop l.rule-index l.rules)) ≡ flat_map file_rules_of (map rule_data l.rules);
+  left : rules_fault (map rule_data l.rules) ≡ rules_fault (map rule_data (drop l.rule-index l.rules));
 }

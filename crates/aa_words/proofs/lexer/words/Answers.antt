@@ -1,45 +1,32 @@
-use Rattle.std.proofs.Common.{◌<◌, length, arith, rules, tests, inr}
-use Rattle.aa_words.proofs.Pieces.{reaches_step, reaches_none, reaches_end, reaches_once}
-use Rattle.aa_words.proofs.Order.{words_stand, words_rise}
-use Rattle.aa_words.proofs.Cuts.{cut_step, stop_not_large}
+use Rattle.std.proofs.Common.{◌++◌, List, sym, ap, subst, ◌∙◌}
+use Rattle.std.specs.List.{All}
+use Rattle.std.proofs.lemmas.Result.{err_from_is_err_and}
+use Rattle.aa_words.specs.declared.word.Word.{Word}
+use Rattle.aa_words.specs.Splits.{WordData, words_data}
+use Rattle.aa_words.specs.WordLists.{StandsIn, Rise}
+use Rattle.aa_words.proofs.Once.{reads_once, refused_none}
+use Rattle.aa_words.proofs.Order.{words_ordered_in}
 use Rattle.aa_words.proofs.lexer.words.Goals as goal
 
-pub returns-in_default-clause-refused : goal.returns-in_default-clause-refused
-returns-in_default-clause-refused c = λ h ws s. let long : 0 < length c.loop-rest.rest.now = search (rules, tests) in reaches_none _ _ _ _ _ ws c.in_default.ensures.none long c.loop-rest.invariant.cut s.1
-
-pub loop-rest-preserved : goal.loop-rest-preserved
-loop-rest-preserved c = record {
-  cut = let long : 0 < length c.loop-rest.rest.now = search (rules, tests) in
-      reaches_step _ _ _ _ c.loop-rest.rest.now c.in-Some.piece c.in-Some.len c.split_at.result.0.now _ _ _ c.in-Some.ensures.some.0 c.in-Some.ensures.some.1 long c.split_at.ensures.front c.split_at.ensures.back c.in_ok-push_word.ensures.ok c.place_behind-place.ensures c.loop-rest.invariant.cut;
-  before = let long : 0 < length c.loop-rest.rest.now = search (rules, tests) in
-      cut_step _ _ _ c.loop-rest.rest.now c.in-Some.piece c.in-Some.len c.split_at.result.0.now _ _ c.in-Some.ensures.some.0 c.in-Some.ensures.some.1 long c.split_at.ensures.front c.split_at.ensures.back c.place_behind-place.ensures c.loop-rest.invariant.before;
-  left = omega arith;
-  small = omega arith;
-}
-
-pub returns-clause-split : goal.returns-clause-split
-returns-clause-split c = let done : length c.loop-rest.rest.now < 1 = search (rules, tests) in (c.loop-rest.invariant.small, reaches_end _ _ _ _ _ done c.loop-rest.invariant.cut)
-
-pub returns-clause-slices : goal.returns-clause-slices
-returns-clause-slices c = let done : length c.loop-rest.rest.now < 1 = search (rules, tests) in words_stand _ _ (reaches_end _ _ _ _ _ done c.loop-rest.invariant.cut)
-
-pub returns-clause-rising : goal.returns-clause-rising
-returns-clause-rising c = let done : length c.loop-rest.rest.now < 1 = search (rules, tests) in words_rise _ _ (reaches_end _ _ _ _ _ done c.loop-rest.invariant.cut)
-
-pub returns-in_default-clause-fault : goal.returns-in_default-clause-fault
-returns-in_default-clause-fault c = let long : 0 < length c.loop-rest.rest.now = search (rules, tests) in
-    inr (inr (record {
-      place = c.loop-rest.place;
-      at = c.loop-rest.at;
-      rest = c.loop-rest.rest.now;
-      cut = c.loop-rest.invariant.before;
-      more = long;
-      nothing = c.in_default.ensures.none;
-      fault_is = c.fault_of.ensures;
-    }))
-
-pub returns-in_default-clause-too_large : goal.returns-in_default-clause-too_large
-returns-in_default-clause-too_large c = (λ e. absurd (stop_not_large c.loop-rest.place c.loop-rest.at c.loop-rest.rest.now c.fault_of.result c.fault_of.ensures cc), λ h. absurd (omega arith))
+pub returns-in_err-read_source-clause-refused : goal.returns-in_err-read_source-clause-refused
+returns-in_err-read_source-clause-refused c = λ h ws s.
+    let q = err_from_is_err_and c.from_residual.result c.from_residual.ensures.1 in
+    refused_none c.from_residual.result _ _ 17 _ _ _ _ ws s.1 q.1 q.2 h c.in_err-read_source.ensures.err s.2
 
 pub returns-clause-one : goal.returns-clause-one
-returns-clause-one c = λ ws s. let done : length c.loop-rest.rest.now < 1 = search (rules, tests) in reaches_once _ _ _ _ _ ws done c.loop-rest.invariant.cut s.1
+returns-clause-one c = λ ws s.
+    let given = c.in_ok-read_source.ensures.ok in
+    let listed = given.1 ∙ ap (λ (l : List Word). words_data l ++ given.0) c.new-list.ensures.items in
+    (reads_once 17 c.args.sources.now _ _ _ ws given.0 s.1 _ s.2 given.2).words ∙ sym listed
+
+pub returns-clause-slices : goal.returns-clause-slices
+returns-clause-slices c =
+    let given = c.in_ok-read_source.ensures.ok in
+    let listed = given.1 ∙ ap (λ (l : List Word). words_data l ++ given.0) c.new-list.ensures.items in
+    subst (λ (ws : List WordData). All (StandsIn c.args.sources.now c.args.main.now) ws) (sym listed) (words_ordered_in c.args.sources.now c.args.main.now 17 given.0 _ given.2).stand
+
+pub returns-clause-rising : goal.returns-clause-rising
+returns-clause-rising c =
+    let given = c.in_ok-read_source.ensures.ok in
+    let listed = given.1 ∙ ap (λ (l : List Word). words_data l ++ given.0) c.new-list.ensures.items in
+    subst (λ (ws : List WordData). Rise ws) (sym listed) (words_ordered_in c.args.sources.now c.args.main.now 17 given.0 _ given.2).rise

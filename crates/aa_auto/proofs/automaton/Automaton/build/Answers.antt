@@ -1,9 +1,9 @@
 use Rattle.std.proofs.Common.{length, ◌≡◌, subst, arith}
 use Rattle.aa_auto.specs.Found.{numbers_of}
 use Rattle.aa_auto.specs.Explored.{IsExplored}
-use Rattle.aa_auto.specs.Tables.{IsTable, IsAutomaton, PlacesStay}
+use Rattle.aa_auto.specs.Tables.{IsTable, IsAutomaton}
 use Rattle.aa_auto.proofs.LawLemmas.{same_bytes}
-use Rattle.aa_auto.proofs.AutomatonLemmas.{automaton, table, places_stay}
+use Rattle.aa_auto.proofs.AutomatonLemmas.{automaton, table}
 use Rattle.aa_auto.proofs.automaton.Automaton.build.Goals as goal
 
 pub returns-in_err-net-clause-bytes_lead_alike : goal.returns-in_err-net-clause-bytes_lead_alike
@@ -31,11 +31,4 @@ returns-clause-automaton c =
     let explored = subst (λ bs. IsExplored c.in_ok-net.net.patterns.now c.in_ok-found.found.sets bs c.in_ok-found.cells.items (numbers_of c.in_ok-found.found)) c.as_slice.ensures.value c.in_ok-found.ensures.explored in
     subst (λ n. IsAutomaton c.args.patterns.now (record { classes = c.in_ok-classes.classes.of.items; width = n; cells = c.in_ok-found.cells.items; lists = numbers_of c.in_ok-found.found })) wide
     (subst (λ ps. IsAutomaton ps (record { classes = c.in_ok-classes.classes.of.items; width = length c.in_ok-classes.classes.bytes.items; cells = c.in_ok-found.cells.items; lists = numbers_of c.in_ok-found.found })) c.in_ok-net.ensures.patterns
-    (automaton c.in_ok-net.net.patterns.now c.in_ok-found.found.sets c.in_ok-classes.classes.of.items c.in_ok-classes.classes.bytes.items c.in_ok-found.cells.items (numbers_of c.in_ok-found.found) c.in_ok-classes.ensures explored))
-
-pub returns-clause-places_stay : goal.returns-clause-places_stay
-returns-clause-places_stay c =
-    let explored = subst (λ bs. IsExplored c.in_ok-net.net.patterns.now c.in_ok-found.found.sets bs c.in_ok-found.cells.items (numbers_of c.in_ok-found.found)) c.as_slice.ensures.value c.in_ok-found.ensures.explored in
-    subst PlacesStay c.in_ok-net.ensures.patterns
-    (places_stay c.in_ok-net.net.patterns.now (record { classes = c.in_ok-classes.classes.of.items; width = length c.in_ok-classes.classes.bytes.items; cells = c.in_ok-found.cells.items; lists = numbers_of c.in_ok-found.found })
     (automaton c.in_ok-net.net.patterns.now c.in_ok-found.found.sets c.in_ok-classes.classes.of.items c.in_ok-classes.classes.bytes.items c.in_ok-found.cells.items (numbers_of c.in_ok-found.found) c.in_ok-classes.ensures explored))
