@@ -1,6 +1,6 @@
 /* Refuses one growth of a program that is started with this library before all others: the one whose number, counted
-   from 1, REFUSE names, or from there on all of them where REFUSE_ALL is set. At its end the program writes how many
-   growths it asked for to the descriptor that COUNT names, where there is one. */
+   from 1, REFUSE names, or from there on all of them where REFUSE_ALL is set. Where COUNT names a descriptor, the number of
+   growths so far stands in its file: it is written at each, since not every program runs what is to be run at its end. */
 typedef unsigned long size;
 
 extern void *__libc_malloc(size bytes);
@@ -9,11 +9,11 @@ extern void *__libc_realloc(void *block, size bytes);
 extern void *__libc_memalign(size alignment, size bytes);
 extern int *__errno_location(void);
 extern char *getenv(const char *name);
-extern int dprintf(int descriptor, const char *format, ...);
+extern long pwrite(int descriptor, const void *bytes, size count, long offset);
 
-enum { OUT_OF_MEMORY = 12 };
+enum { OUT_OF_MEMORY = 12, LONGEST = 20 };
 
-static unsigned long asked, refused, refuses_all;
+static unsigned long asked, refused, refuses_all, count_file;
 
 static unsigned long number(const char *name) {
     const char *text = getenv(name);
@@ -25,17 +25,23 @@ static unsigned long number(const char *name) {
 __attribute__((constructor)) static void begin(void) {
     refuses_all = number("REFUSE_ALL");
     refused = number("REFUSE");
+    count_file = number("COUNT");
     asked = 0;
 }
 
-__attribute__((destructor)) static void end(void) {
-    unsigned long counted = asked;
-    refused = 0;
-    if (number("COUNT")) dprintf((int)number("COUNT"), "%lu\n", counted);
+static void tell(void) {
+    char text[LONGEST + 1];
+    int at = LONGEST;
+    unsigned long left = asked;
+    text[at] = '\n';
+    do text[--at] = (char)('0' + left % 10);
+    while (left /= 10);
+    if (pwrite((int)count_file, text + at, (size)(LONGEST + 1 - at), 0) < 0) count_file = 0;
 }
 
 static int is_refused(void) {
     asked = asked + 1;
+    if (count_file) tell();
     int now = refused && (asked == refused || (refuses_all && asked > refused));
     if (now) *__errno_location() = OUT_OF_MEMORY;
     return now;

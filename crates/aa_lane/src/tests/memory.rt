@@ -275,7 +275,10 @@ fn growths_refused_to_replay(rt: HostRuntime) -> Result<(), Fail> {
     let mut world = World::new(rt.alloc(), &sum, 2, 5)?;
     let mut events: VecDeque<Event<Sum>> = VecDeque::new(rt.alloc());
     for row in ROWS {
-        events.push_back(row.0.event()).map_err(|_| "memory")?;
+        // A growth that is refused here is asked for again.
+        if events.push_back(row.0.event()).is_err() {
+            events.push_back(row.0.event()).map_err(|_| "memory")?;
+        }
     }
     let mut replies: Vec<Reply<Sum>> = Vec::new(rt.alloc());
     assert!(rt; replays(&rt, &mut world, &mut events, &mut replies));
