@@ -10,7 +10,7 @@ ghost use Rattle.aa_glob.specs.Reading.{Finds, spelled_item};
 use crate::item::{ByteSet, Item};
 use crate::sign::{Range, Sign};
 use aa_words::PolicyKind;
-use std::alloc::Global;
+use std::alloc::{AllocError, Global};
 
 /// Whether the sign is that byte, not kept by a backslash.
 pub(crate) fn is_plain(sign: Sign, byte: u8) -> bool
@@ -80,14 +80,20 @@ fn lists(negated: bool, ranges: &[Range], byte: u8) -> bool
     }
 }
 
-fn set_of(negated: bool, ranges: &[Range]) -> ByteSet
+fn flags_of(negated: bool, ranges: &[Range]) -> [bool; 256]
     ensures { result ≡ flags_below negated ranges.now 256 }
 {
     let mut flags = [false; 256];
     for byte in 0..256usize {
         flags[byte] = lists(negated, ranges, byte as u8);
     }
-    ByteSet::from_flags(flags)
+    flags
+}
+
+fn set_of(alloc: Global, negated: bool, ranges: &[Range]) -> Result<ByteSet, AllocError>
+    ensures { IfOk result (λ s. s ≡ flags_below negated ranges.now 256) }
+{
+    ByteSet::from_flags(alloc, &flags_of(negated, ranges))
 }
 
 fn all_rise(ranges: &[Range]) -> bool
@@ -103,7 +109,8 @@ pub(crate) fn class_with(alloc: Global, negated: bool, body: &[Sign]) -> Result<
 {
     let found = ranges_of(alloc, body)?;
     if 0 < body.len() && all_rise(found.as_slice()) {
-        Ok(Item::Class(set_of(negated, found.as_slice())))
+        let set = set_of(alloc, negated, found.as_slice())?;
+        Ok(Item::Class(set))
     } else {
         Err(PolicyKind::BadPattern)
     }

@@ -1,13 +1,14 @@
 //! Patterns as sequences of items.
 
-ghost use Rattle.std.specs.Prelude.{◌≡◌, ◌↔◌, IsTrue, slice_index_or, false};
+ghost use Rattle.std.specs.Prelude.{◌≡◌, IfOk, slice_index_or, false};
 
+use std::alloc::{AllocError, Global};
 use std::marker::Model;
 
-/// A set of bytes.
+/// A set of bytes. Its flags stand apart, so that an item is small: nearly all items are bytes.
 #[derive(Drop)]
 pub struct ByteSet {
-    flags: [bool; 256],
+    flags: Vec<bool>,
 }
 
 impl Model for ByteSet {
@@ -15,21 +16,26 @@ impl Model for ByteSet {
 
     ghost Value = { List Bool };
 
-    ghost view = { λ s. s.flags };
+    ghost view = { λ s. s.flags.items };
 }
 
 impl ByteSet {
-    pub(crate) fn from_flags(flags: [bool; 256]) -> ByteSet
-        ensures { result ≡ flags }
+    pub(crate) fn from_flags(alloc: Global, flags: &[bool]) -> Result<ByteSet, AllocError>
+        ensures { IfOk result (λ s. s ≡ flags.now) }
     {
-        ByteSet { flags }
+        Ok(ByteSet {
+            flags: Vec::from_slice(alloc, flags)?,
+        })
     }
 
     /// Whether the byte is in the set. It takes no memory.
     pub fn has(&self, byte: u8) -> bool
         ensures { result ≡ slice_index_or self.now byte false }
     {
-        self.flags[byte as usize]
+        match self.flags.get(byte as usize) {
+            Some(flag) => *flag,
+            None => false,
+        }
     }
 }
 

@@ -1,15 +1,13 @@
 -- Lists that grow rule by rule.
-use Rattle.std.proofs.Common.{◌≡◌, ℕ, ◌+◌, ◌<◌, ◌≤◌, List, ◌++◌, map, length, drop, get_or, None, ap, sym, ◌∙◌, append_assoc, Option}
+use Rattle.std.proofs.Common.{◌≡◌, ℕ, ◌+◌, ◌<◌, ◌≤◌, List, ◌++◌, map, length, drop, get_or, ap, sym, ◌∙◌, append_assoc}
 use Rattle.std.specs.Prelude.{flat_map}
-use Rattle.std.specs.Option.{option_or}
 use Rattle.std.proofs.lemmas.List.{drop_more, drop_all, append-nil}
 use Rattle.std.proofs.lemmas.List.Concat.{flat_map-cons}
-use Rattle.aa_words.specs.declared.fault.PolicyFault.{PolicyFault}
-use Rattle.aa_policy.specs.declared.tree.RuleTree.{RuleTree}
 use Rattle.aa_policy.specs.declared.tree.ProfileTree.{ProfileTree}
 use Rattle.aa_policy.specs.declared.policy.PassedOver.{PassedOver}
-use Rattle.aa_policy.specs.Reading.{rule_data, tree_data}
-use Rattle.aa_policy.specs.Spelling.{rule_fault, rules_fault, listed_at, passed_over_from}
+use Rattle.aa_policy.specs.Bodies.{tree_data}
+use Rattle.aa_policy.specs.Reading.{rule_data}
+use Rattle.aa_policy.specs.Spelling.{listed_at, passed_over_from}
 
 -- what is found so far, and then what the rest gives, is the whole
 pub added : {Z : Type 0} (found new more rest here whole : List Z) → new ≡ found ++ more → here ≡ more ++ rest → found ++ here ≡ whole → new ++ rest ≡ whole
@@ -21,13 +19,6 @@ rest_step {X} f g xs i d h = ap (λ (ys : List X). flat_map f (map g ys)) (drop_
 
 pub rest_end : {X Y Z : Type 0} (f : Y → List Z) (g : X → Y) (xs : List X) (i : ℕ) (found whole : List Z) → length xs ≤ i → found ++ flat_map f (map g (drop i xs)) ≡ whole → found ≡ whole
 rest_end {X} f g xs i found whole h w = sym (append-nil found) ∙ ap (λ (ys : List X). found ++ flat_map f (map g ys)) (sym (drop_all i xs h)) ∙ w
-
--- a rule without a fault is passed
-pub fault_step : (xs : List RuleTree) (i : ℕ) (d : RuleTree) → i < length xs → rule_fault (rule_data (get_or xs i d)) ≡ None
-    → rules_fault (map rule_data (drop i xs)) ≡ rules_fault (map rule_data (drop (i + 1) xs))
-fault_step xs i d h n =
-    ap (λ (ys : List RuleTree). rules_fault (map rule_data ys)) (drop_more xs i d h)
-    ∙ ap (λ (o : Option PolicyFault). option_or o (rules_fault (map rule_data (drop (i + 1) xs)))) n
 
 -- the profiles from one on
 pub profile_step : (ps : List ProfileTree) (n : ℕ) (p d : ProfileTree) → n < length ps → p ≡ get_or ps n d

@@ -1,38 +1,23 @@
 -- Each production reads in one way alone.
-use Rattle.std.proofs.Common.{◌≡◌, ℕ, List, [], ◌∷◌, refl, sym, ap, subst, ◌∙◌, Some, Bool, true, false}
-use Rattle.aa_words.specs.declared.fault.Spot.{Spot}
+use Rattle.std.proofs.Common.{◌≡◌, ℕ, List, ◌∷◌, refl, sym, ap, subst, ◌∙◌, Bool, true, false}
 use Rattle.aa_words.specs.declared.word.WordKind.TheVariants.{Comma, Close, Name, Skipped}
 use Rattle.aa_words.specs.Splits.{WordData}
-use Rattle.aa_policy.specs.declared.perms.Perms.{Perms}
 use Rattle.aa_policy.specs.declared.tree.Qualifiers.{Qualifiers}
 use Rattle.std.specs.Prelude.{codes}
-use Rattle.aa_policy.specs.Modes.{mode_bits}
-use Rattle.aa_policy.specs.Grammar.{Starts, Many, Keyword, Optional, IsPermission, IsQualified, IsPassedOver, Says, keyword_of, IsFile, IsRule, Closes, IsHead, IsProfile, IsEnd, spot_of, is_path_kind}
-use Rattle.aa_policy.specs.Reading.{FileData, RuleData, OnFile, Listed, ProfileData}
-use Rattle.aa_policy.proofs.Repetition.{Reads, many_once}
-
-first_same : (v w : WordData) (vs rest : List WordData) → v ∷ vs ≡ w ∷ rest → v ≡ w
-first_same v w vs rest e = cc
-
-rest_same : (v w : WordData) (vs rest : List WordData) → v ∷ vs ≡ w ∷ rest → vs ≡ rest
-rest_same v w vs rest e = cc
-
--- what stands first is one word
-pub starts_same : (ws : List WordData) (v w : WordData) (vs rest : List WordData) → ws ≡ v ∷ vs → ws ≡ w ∷ rest → (v ≡ w) × (vs ≡ rest)
-starts_same ws v w vs rest p q = (first_same v w vs rest (sym p ∙ q), rest_same v w vs rest (sym p ∙ q))
-
--- and of one kind
-pub starts_kind : (ws : List WordData) (v w : WordData) (vs rest : List WordData) → ws ≡ v ∷ vs → ws ≡ w ∷ rest → v.kind ≡ w.kind
-starts_kind ws v w vs rest p q = ap (λ (x : WordData). x.kind) (starts_same ws v w vs rest p q).0
-
-keyword_once : (text : List ℕ) (ws r s : List WordData) → Keyword text ws r → Keyword text ws s → r ≡ s
-keyword_once text ws r s a b = (starts_same ws a.word b.word r s a.stands.words b.stands.words).1
-
-optional_once : (text : List ℕ) (ws : List WordData) (b c : Bool) (r s : List WordData) → Optional text ws b r → Optional text ws c s → (b ≡ c) × (r ≡ s)
-optional_once text ws true true r s a b = (refl, keyword_once text ws r s a b)
-optional_once text ws true false r s a b = absurd (b.1 r a)
-optional_once text ws false true r s a b = absurd (a.1 s b)
-optional_once text ws false false r s a b = (refl, a.0 ∙ sym b.0)
+use Rattle.aa_policy.specs.Grammar.{IsPermission, IsQualified, IsPassedOver, Says, keyword_of, IsRule, Closes, IsEnd}
+use Rattle.aa_policy.specs.FileRules.{IsFile}
+use Rattle.aa_policy.specs.Phrases.{Starts, Keyword, LacksKeyword, is_path_kind}
+use Rattle.aa_policy.specs.CapRules.{IsCaps}
+use Rattle.aa_policy.specs.NetRules.{IsNets}
+use Rattle.aa_policy.specs.declared.rule.CapRule.{CapRule}
+use Rattle.aa_policy.specs.declared.rule.NetRule.{NetRule}
+use Rattle.aa_policy.specs.Reading.{FileData, RuleData, OnFile, OnCap, OnNet, Listed}
+use Rattle.aa_policy.proofs.Phrases.{starts_same, starts_kind, keyword_once, keyword_apart, optional_once, false_true, no_keyword, left_out}
+use Rattle.aa_policy.proofs.CapRules.{cap_once}
+use Rattle.aa_policy.proofs.NetRules.{net_once}
+use Rattle.aa_policy.proofs.FileRules.{file_once, file_begins}
+use Rattle.aa_policy.proofs.FileWords.{file_or_keyword, capability_begins_none, network_begins_none}
+use Rattle.aa_policy.proofs.Repetition.{Reads}
 
 permission_once : (ws : List WordData) (b c : Bool) (r s : List WordData) → IsPermission ws b r → IsPermission ws c s → (b ≡ c) × (r ≡ s)
 permission_once ws true true r s a b = (refl, keyword_once (codes "deny") ws r s a b)
@@ -49,60 +34,19 @@ qualified_once ws p q r s a b =
     let d = permission_once b.after p.deny q.deny r s (subst (λ (z : List WordData). IsPermission z p.deny r) o.1 a.permission_stands) b.permission_stands in
     (ap (λ (x : Bool). qualifiers x p.deny) o.0 ∙ ap (qualifiers q.audit) d.0, d.1)
 
-some_same : (m n : ℕ) → Some m ≡ Some n → m ≡ n
-some_same m n e = cc
-
-abbrev perms : ℕ → Perms
-perms n = record { 0 = n }
-
-abbrev file : Qualifiers → Bool → Spot → List ℕ → Perms → FileData
-file q owner at path p = record { qualifiers = q; owner = owner; at = at; path = path; perms = p }
-
-pub file_once : (q : Qualifiers) (ws : List WordData) (f g : FileData) (r s : List WordData) → IsFile q ws f r → IsFile q ws g s → (f ≡ g) × (r ≡ s)
-file_once q ws f g r s a b =
-    let o = optional_once (codes "owner") ws f.owner g.owner a.bare b.bare a.owner_stands b.owner_stands in
-    let p = starts_same b.bare a.path b.path a.after b.after (sym o.1 ∙ a.path_stands.words) b.path_stands.words in
-    let m = starts_same b.after a.mode b.mode r s (sym p.1 ∙ a.mode_stands.words) b.mode_stands.words in
-    let bits : f.perms.0 ≡ g.perms.0 = some_same _ _ (sym a.access ∙ ap (λ (w : WordData). mode_bits w.text) m.0 ∙ b.access) in
-    let at : f.at ≡ g.at = a.at_is ∙ ap spot_of p.0 ∙ sym b.at_is in
-    let path : f.path ≡ g.path = a.path_is ∙ ap (λ (w : WordData). w.text) p.0 ∙ sym b.path_is in
-    let says : f.qualifiers ≡ g.qualifiers = a.qualifiers_are ∙ sym b.qualifiers_are in
-    let same : f ≡ g =
-    ap (λ (x : Qualifiers). file x f.owner f.at f.path f.perms) says ∙ ap (λ (x : Bool). file g.qualifiers x f.at f.path f.perms) o.0
-    ∙ ap (λ (x : Spot). file g.qualifiers g.owner x f.path f.perms) at ∙ ap (λ (x : List ℕ). file g.qualifiers g.owner g.at x f.perms) path
-    ∙ ap (λ (n : ℕ). file g.qualifiers g.owner g.at g.path (perms n)) bits in
-    (same, m.1)
-
-false_true : false ≡ true → ⊥
-false_true e = cc
-
 passed_once : (ws : List WordData) (k l : List ℕ) (r s : List WordData) → IsPassedOver ws k r → IsPassedOver ws l s → (k ≡ l) × (r ≡ s)
 passed_once ws k l r s a b =
     let w = starts_same ws a.skipped b.skipped r s a.stands.words b.stands.words in
     (a.keyword_is ∙ ap (λ (x : WordData). keyword_of x.text) w.0 ∙ sym b.keyword_is, w.1)
 
--- where the words begin with one that is no name, nothing that may be left out stands there
-no_keyword : (text : List ℕ) (ws : List WordData) (w : WordData) (rest r : List WordData) → ws ≡ w ∷ rest → (w.kind ≡ Name → ⊥) → Keyword text ws r → ⊥
-no_keyword text ws w rest r e h a = h (starts_kind ws w a.word rest r e a.stands.words ∙ a.stands.kind_is)
-
-left_out : (text : List ℕ) (ws : List WordData) (w : WordData) (rest : List WordData) (b : Bool) (r : List WordData) → ws ≡ w ∷ rest → (w.kind ≡ Name → ⊥) → Optional text ws b r → r ≡ ws
-left_out text ws w rest true r e h a = absurd (no_keyword text ws w rest r e h a)
-left_out text ws w rest false r e h a = a.0
-
 permission_left_out : (ws : List WordData) (w : WordData) (rest : List WordData) (b : Bool) (r : List WordData) → ws ≡ w ∷ rest → (w.kind ≡ Name → ⊥) → IsPermission ws b r → r ≡ ws
 permission_left_out ws w rest true r e h a = absurd (no_keyword (codes "deny") ws w rest r e h a)
 permission_left_out ws w rest false r e h a = left_out (codes "allow") ws w rest a.1.0 r e h a.1.1
 
-unqualified : (ws : List WordData) (w : WordData) (rest : List WordData) (q : Qualifiers) (r : List WordData) → ws ≡ w ∷ rest → (w.kind ≡ Name → ⊥) → IsQualified ws q r → r ≡ ws
+pub unqualified : (ws : List WordData) (w : WordData) (rest : List WordData) (q : Qualifiers) (r : List WordData) → ws ≡ w ∷ rest → (w.kind ≡ Name → ⊥) → IsQualified ws q r → r ≡ ws
 unqualified ws w rest q r e h a =
     let o = left_out (codes "audit") ws w rest q.audit a.after e h a.audit_stands in
     permission_left_out a.after w rest q.deny r (o ∙ e) h a.permission_stands ∙ o
-
--- a file rule doesn't begin with a sign
-file_begins : (q : Qualifiers) (ws : List WordData) (w : WordData) (rest : List WordData) (f : FileData) (r : List WordData) → ws ≡ w ∷ rest → (w.kind ≡ Name → ⊥) → IsFile q ws f r → is_path_kind w.kind ≡ true
-file_begins q ws w rest f r e h a =
-    let o = left_out (codes "owner") ws w rest f.owner a.bare e h a.owner_stands in
-    ap is_path_kind (starts_kind ws w a.path rest a.after e (sym o ∙ a.path_stands.words)) ∙ a.path_stands.kind_fits
 
 skipped_name : Skipped ≡ Name → ⊥
 skipped_name e = cc
@@ -113,37 +57,70 @@ close_name e = cc
 close_skipped : Close ≡ Skipped → ⊥
 close_skipped e = cc
 
--- nor with one that is passed over
-pub file_or_passed : (q : Qualifiers) (ws : List WordData) (f : FileData) (k : List ℕ) (r s : List WordData) → IsFile q ws f r → IsPassedOver ws k s → ⊥
+-- a file rule doesn't begin with one that is passed over
+file_or_passed : (q : Qualifiers) (ws : List WordData) (f : FileData) (k : List ℕ) (r s : List WordData) → IsFile q ws f r → IsPassedOver ws k s → ⊥
 file_or_passed q ws f k r s a b =
     let no : b.skipped.kind ≡ Name → ⊥ = λ e. skipped_name (sym b.stands.kind_is ∙ e) in
     false_true (sym (ap is_path_kind b.stands.kind_is) ∙ file_begins q ws b.skipped s f r b.stands.words no a)
 
+file_or_cap : (q : Qualifiers) (ws : List WordData) (f : FileData) (r s : List WordData) → IsFile q ws f r → Keyword (codes "capability") ws s → ⊥
+file_or_cap q ws f r s a k = file_or_keyword (codes "capability") ws s q f r capability_begins_none k a
+
+file_or_net : (q : Qualifiers) (ws : List WordData) (f : FileData) (r s : List WordData) → IsFile q ws f r → Keyword (codes "network") ws s → ⊥
+file_or_net q ws f r s a k = file_or_keyword (codes "network") ws s q f r network_begins_none k a
+
+cap_or_net : (ws r s : List WordData) → Keyword (codes "capability") ws r → Keyword (codes "network") ws s → ⊥
+cap_or_net ws r s a b = keyword_apart (codes "capability") (codes "network") ws r s refl a b
+
+-- a keyword is neither passed over nor a sign
+keyword_kind : (text : List ℕ) (ws : List WordData) (r : List WordData) (w : WordData) (s : List WordData) → ws ≡ w ∷ s → (w.kind ≡ Name → ⊥) → Keyword text ws r → ⊥
+keyword_kind text ws r w s e h k = h (starts_kind ws w k.word s r e k.stands.words ∙ k.stands.kind_is)
+
+pub keyword_or_passed : (text : List ℕ) (ws r s : List WordData) (k : List ℕ) → Keyword text ws r → IsPassedOver ws k s → ⊥
+keyword_or_passed text ws r s k a b = keyword_kind text ws r b.skipped s b.stands.words (λ e. skipped_name (sym b.stands.kind_is ∙ e)) a
+
+pub keyword_or_close : (text : List ℕ) (ws r : List WordData) (w : WordData) (s : List WordData) → Keyword text ws r → Starts Close ws w s → ⊥
+keyword_or_close text ws r w s a b = keyword_kind text ws r w s b.words (λ e. close_name (sym b.kind_is ∙ e)) a
+
 says_once : (q : Qualifiers) (ws : List WordData) (x y : RuleData) (r s : List WordData) → Says q ws x r → Says q ws y s → (x ≡ y) × (r ≡ s)
 says_once q ws (OnFile f) (OnFile g) r s a b = let p = file_once q ws f g r s a b in (ap OnFile p.0, p.1)
+says_once q ws (OnFile f) (OnCap c) r s a b = absurd (file_or_cap q ws f r b.0 a b.1)
+says_once q ws (OnFile f) (OnNet n) r s a b = absurd (file_or_net q ws f r b.0 a b.1)
 says_once q ws (OnFile f) (Listed k) r s a b = absurd (file_or_passed q ws f k r s a b)
+says_once q ws (OnCap c) (OnFile f) r s a b = absurd (file_or_cap q ws f s a.0 b a.1)
+says_once q ws (OnCap c) (OnCap d) r s a b = let p = cap_once q ws c d r s a b in (ap OnCap p.0, p.1)
+says_once q ws (OnCap c) (OnNet n) r s a b = absurd (cap_or_net ws a.0 b.0 a.1 b.1)
+says_once q ws (OnCap c) (Listed k) r s a b = absurd (keyword_or_passed _ ws a.0 s k a.1 b)
+says_once q ws (OnNet n) (OnFile f) r s a b = absurd (file_or_net q ws f s a.0 b a.1)
+says_once q ws (OnNet n) (OnCap c) r s a b = absurd (cap_or_net ws b.0 a.0 b.1 a.1)
+says_once q ws (OnNet n) (OnNet m) r s a b = let p = net_once q ws n m r s a b in (ap OnNet p.0, p.1)
+says_once q ws (OnNet n) (Listed k) r s a b = absurd (keyword_or_passed _ ws a.0 s k a.1 b)
 says_once q ws (Listed k) (OnFile f) r s a b = absurd (file_or_passed q ws f k s r b a)
+says_once q ws (Listed k) (OnCap c) r s a b = absurd (keyword_or_passed _ ws b.0 r k b.1 a)
+says_once q ws (Listed k) (OnNet n) r s a b = absurd (keyword_or_passed _ ws b.0 r k b.1 a)
 says_once q ws (Listed k) (Listed l) r s a b = let p = passed_once ws k l r s a b in (ap Listed p.0, p.1)
 
 -- the same behind equal qualifiers
 says_moved : (p q : Qualifiers) (ws vs : List WordData) (x : RuleData) (rest : List WordData) → p ≡ q → ws ≡ vs → Says p ws x rest → Says q vs x rest
 says_moved p q ws vs x rest e h a = subst (λ (y : Qualifiers). Says y vs x rest) e (subst (λ (z : List WordData). Says p z x rest) h a)
 
-rule_once : (ws : List WordData) (x y : RuleData) (r s : List WordData) → IsRule ws x r → IsRule ws y s → (x ≡ y) × (r ≡ s)
+pub rule_once : (ws : List WordData) (x y : RuleData) (r s : List WordData) → IsRule ws x r → IsRule ws y s → (x ≡ y) × (r ≡ s)
 rule_once ws x y r s a b =
     let q = qualified_once ws a.qualifiers b.qualifiers a.unqualified b.unqualified a.qualified b.qualified in
     let p = says_once b.qualifiers b.unqualified x y a.after b.after (says_moved _ _ _ _ x a.after q.0 q.1 a.says) b.says in
     let m = starts_same b.after a.comma b.comma r s (sym p.1 ∙ a.comma_stands.words) b.comma_stands.words in
     (p.0, m.1)
 
-closes_once : (ws r s : List WordData) → Closes ws r → Closes ws s → r ≡ s
+pub closes_once : (ws r s : List WordData) → Closes ws r → Closes ws s → r ≡ s
 closes_once ws r s a b = (starts_same ws a.0 b.0 r s a.1.words b.1.words).1
 
 says_apart : (q : Qualifiers) (ws : List WordData) (x : RuleData) (r : List WordData) (w : WordData) (s : List WordData) → Starts Close ws w s → Says q ws x r → ⊥
 says_apart q ws (OnFile f) r w s b a = false_true (sym (ap is_path_kind b.kind_is) ∙ file_begins q ws w s f r b.words (λ e. close_name (sym b.kind_is ∙ e)) a)
+says_apart q ws (OnCap c) r w s b a = keyword_or_close _ ws a.0 w s a.1 b
+says_apart q ws (OnNet n) r w s b a = keyword_or_close _ ws a.0 w s a.1 b
 says_apart q ws (Listed k) r w s b a = close_skipped (sym b.kind_is ∙ starts_kind ws w a.skipped s r b.words a.stands.words ∙ a.stands.kind_is)
 
-rule_apart : (ws : List WordData) (x : RuleData) (r s : List WordData) → IsRule ws x r → Closes ws s → ⊥
+pub rule_apart : (ws : List WordData) (x : RuleData) (r s : List WordData) → IsRule ws x r → Closes ws s → ⊥
 rule_apart ws x r s a b =
     let u = unqualified ws b.0 s a.qualifiers a.unqualified b.1.words (λ e. close_name (sym b.1.kind_is ∙ e)) a.qualified in
     says_apart a.qualifiers a.unqualified x a.after b.0 s (subst (λ (z : List WordData). Starts Close z b.0 s) (sym u) b.1) a.says
@@ -152,47 +129,8 @@ rule_apart ws x r s a b =
 pub rule_reads : Reads IsRule Closes
 rule_reads = record { once = rule_once; ends_once = closes_once; apart = rule_apart }
 
-head_once : (ws : List WordData) (v w : WordData) (r s : List WordData) → IsHead ws v r → IsHead ws w s → (v ≡ w) × (r ≡ s)
-head_once ws v w r s a b =
-    let k = starts_same ws a.keyword b.keyword a.after_keyword b.after_keyword a.keyword_stands.words b.keyword_stands.words in
-    let n = starts_same b.after_keyword v w a.after_name b.after_name (sym k.1 ∙ a.name_stands.words) b.name_stands.words in
-    let o = starts_same b.after_name a.brace b.brace r s (sym n.1 ∙ a.brace_stands.words) b.brace_stands.words in
-    (n.0, o.1)
-
-abbrev profile : Spot → List ℕ → List RuleData → ProfileData
-profile at name rules = record { at = at; name = name; rules = rules }
-
-profile_once : (ws : List WordData) (p q : ProfileData) (r s : List WordData) → IsProfile ws p r → IsProfile ws q s → (p ≡ q) × (r ≡ s)
-profile_once ws p q r s a b =
-    let h = head_once ws a.name b.name a.after b.after a.head b.head in
-    let i = many_once IsRule Closes rule_reads b.after p.rules q.rules r s (subst (λ (z : List WordData). Many IsRule Closes z p.rules r) h.1 a.rules) b.rules in
-    let at : p.at ≡ q.at = a.at_is ∙ ap spot_of h.0 ∙ sym b.at_is in
-    let name : p.name ≡ q.name = a.name_is ∙ ap (λ (w : WordData). w.text) h.0 ∙ sym b.name_is in
-    let same : p ≡ q = ap (λ (x : Spot). profile x p.name p.rules) at ∙ ap (λ (x : List ℕ). profile q.at x p.rules) name ∙ ap (λ (x : List RuleData). profile q.at q.name x) i.0 in
-    (same, i.1)
-
-end_once : (ws r s : List WordData) → IsEnd ws r → IsEnd ws s → r ≡ s
+pub end_once : (ws r s : List WordData) → IsEnd ws r → IsEnd ws s → r ≡ s
 end_once ws r s a b = a.1 ∙ sym b.1
-
-no_word : (w : WordData) (rest : List WordData) → [] ≡ w ∷ rest → ⊥
-no_word w rest e = cc
-
-profile_apart : (ws : List WordData) (p : ProfileData) (r s : List WordData) → IsProfile ws p r → IsEnd ws s → ⊥
-profile_apart ws p r s a b = no_word a.head.keyword a.head.after_keyword (sym b.0 ∙ a.head.keyword_stands.words)
-
--- the profiles of a policy
-pub profile_reads : Reads IsProfile IsEnd
-profile_reads = record { once = profile_once; ends_once = end_once; apart = profile_apart }
-
--- a profile without a head, and one without a body
-pub no_head : (ws : List WordData) (p : ProfileData) (rest : List WordData) → ((name : WordData) (r : List WordData) → IsHead ws name r → ⊥) → IsProfile ws p rest → ⊥
-no_head ws p rest h a = h a.name a.after a.head
-
-pub no_body : (ws : List WordData) (name : WordData) (after : List WordData) (p : ProfileData) (rest : List WordData) → IsHead ws name after
-    → ((fs : List RuleData) (r : List WordData) → Many IsRule Closes after fs r → ⊥) → IsProfile ws p rest → ⊥
-no_body ws name after p rest h none a =
-    let q = head_once ws a.name name a.after after a.head h in
-    none p.rules rest (subst (λ (z : List WordData). Many IsRule Closes z p.rules rest) q.1 a.rules)
 
 -- a rule without what its qualifiers are for, and one without a comma
 pub no_meaning : (ws : List WordData) (q : Qualifiers) (bare : List WordData) (x : RuleData) (rest : List WordData) → IsQualified ws q bare
@@ -208,8 +146,25 @@ no_comma ws q bare y after x rest h i none a =
     let m = says_once q bare x y a.after after (says_moved _ _ _ _ x a.after p.0 p.1 a.says) i in
     none a.comma rest (subst (λ (z : List WordData). Starts Comma z a.comma rest) m.1 a.comma_stands)
 
--- neither a file rule nor one that is passed over
-pub says_none : (q : Qualifiers) (ws : List WordData) → ((f : FileData) (r : List WordData) → IsFile q ws f r → ⊥) → ((w : WordData) (r : List WordData) → Starts Skipped ws w r → ⊥)
+-- behind the keyword of a rule on capabilities, and of one on sockets, no such rule goes on
+pub says_no_cap : (q : Qualifiers) (ws behind : List WordData) → Keyword (codes "capability") ws behind → ((c : CapRule) (r : List WordData) → IsCaps q behind c r → ⊥)
     → (x : RuleData) (rest : List WordData) → Says q ws x rest → ⊥
-says_none q ws h g (OnFile f) rest a = h f rest a
-says_none q ws h g (Listed k) rest a = g a.skipped rest a.stands
+says_no_cap q ws behind k h (OnFile f) rest a = file_or_cap q ws f rest behind a k
+says_no_cap q ws behind k h (OnCap c) rest a = h c rest (subst (λ (z : List WordData). IsCaps q z c rest) (keyword_once (codes "capability") ws a.0 behind a.1 k) a.2)
+says_no_cap q ws behind k h (OnNet n) rest a = cap_or_net ws behind a.0 k a.1
+says_no_cap q ws behind k h (Listed l) rest a = keyword_or_passed _ ws behind rest l k a
+
+pub says_no_net : (q : Qualifiers) (ws behind : List WordData) → Keyword (codes "network") ws behind → ((n : NetRule) (r : List WordData) → IsNets q behind n r → ⊥)
+    → (x : RuleData) (rest : List WordData) → Says q ws x rest → ⊥
+says_no_net q ws behind k h (OnFile f) rest a = file_or_net q ws f rest behind a k
+says_no_net q ws behind k h (OnCap c) rest a = cap_or_net ws a.0 behind a.1 k
+says_no_net q ws behind k h (OnNet n) rest a = h n rest (subst (λ (z : List WordData). IsNets q z n rest) (keyword_once (codes "network") ws a.0 behind a.1 k) a.2)
+says_no_net q ws behind k h (Listed l) rest a = keyword_or_passed _ ws behind rest l k a
+
+-- no rule at all
+pub says_none : (q : Qualifiers) (ws : List WordData) → ((f : FileData) (r : List WordData) → IsFile q ws f r → ⊥) → LacksKeyword (codes "capability") ws → LacksKeyword (codes "network") ws
+    → ((w : WordData) (r : List WordData) → Starts Skipped ws w r → ⊥) → (x : RuleData) (rest : List WordData) → Says q ws x rest → ⊥
+says_none q ws h c n g (OnFile f) rest a = h f rest a
+says_none q ws h c n g (OnCap x) rest a = c a.0 a.1
+says_none q ws h c n g (OnNet x) rest a = n a.0 a.1
+says_none q ws h c n g (Listed k) rest a = g a.skipped rest a.stands

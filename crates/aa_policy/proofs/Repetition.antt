@@ -18,7 +18,8 @@ pub record Reaches {X : Type 0} (Is : Production X) (Ends : Ending) (ws : List W
 pub reaches_start : {X : Type 0} (Is : Production X) (Ends : Ending) (ws : List WordData) → Reaches Is Ends ws [] ws
 reaches_start Is Ends ws = record { goes_on = λ xs end b. b; only = λ xs end b. (xs, refl, b) }
 
-step : {X : Type 0} (Is : Production X) (Ends : Ending) → Reads Is Ends → (rest : List WordData) (xs : List X) (end : List WordData) (x : X) (after : List WordData) → Is rest x after → Many Is Ends rest xs end
+-- an element that is read is the first of all readings
+pub step : {X : Type 0} (Is : Production X) (Ends : Ending) → Reads Is Ends → (rest : List WordData) (xs : List X) (end : List WordData) (x : X) (after : List WordData) → Is rest x after → Many Is Ends rest xs end
     → (others : List X) × (xs ≡ x ∷ others) × Many Is Ends after others end
 step Is Ends reads rest [] end x after h b = absurd (reads.apart rest x after end h b)
 step {X} Is Ends reads rest (y ∷ ys) end x after h b =

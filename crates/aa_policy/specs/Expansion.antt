@@ -1,32 +1,36 @@
--- The patterns that a path stands for, and why it stands for none. Variables and globs are not read yet, so a path is its own one expansion.
-use Rattle.std.specs.Prelude.{ℕ, List, map, Bool, ◌&&◌, ◌||◌, ◌==◌, not, nat_lt, if◌then◌else◌, Option, Some, None}
-use Rattle.std.specs.Prelude.{[], ◌∷◌, length}
-use Rattle.std.specs.List.{list_all}
-use Rattle.aa_words.specs.declared.fault.PolicyKind.{PolicyKind}
-use Rattle.aa_words.specs.declared.fault.PolicyKind.TheVariants.{Unsupported, RelativePath, TooLarge}
-use Rattle.aa_policy.specs.declared.pattern.Item.TheVariants.{Byte}
-use Rattle.aa_policy.specs.declared.pattern.Pattern.{Pattern}
-use Rattle.aa_policy.specs.Names.{begins_with, holds_pair}
+-- The patterns that the paths of a policy stand for, and the first path that stands for none.
+use Rattle.std.specs.Prelude.{ℕ, ◌≡◌, ◌⊎◌, List, [], ◌∷◌, map, Ok, Err}
+use Rattle.aa_words.specs.declared.fault.Spot.{Spot}
+use Rattle.aa_words.specs.declared.fault.PolicyFault.{PolicyFault}
+use Rattle.aa_glob.specs.declared.item.Pattern.{Pattern}
+use Rattle.aa_glob.specs.declared.sign.Token.{Token}
+use Rattle.aa_glob.specs.Variables.{Variable}
+use Rattle.aa_glob.specs.Reading.{spelled}
+use Rattle.aa_glob.specs.Expansions.{Expands}
 
--- a byte that stands for itself in a pattern: none of ? * [ { } and the backslash
-abbrev pub is_plain : ℕ → Bool
-is_plain b = not (b == 63 || b == 42 || b == 91 || b == 123 || b == 125 || b == 92)
+-- the tokens that spell each pattern, in order
+abbrev pub tokens_of : List Pattern → List (List Token)
+tokens_of patterns = map (λ p. spelled p.items.items) patterns
 
--- each byte stands for itself, and no slash follows another
-abbrev pub is_plain_path : List ℕ → Bool
-is_plain_path path = list_all is_plain path && not (holds_pair 47 47 path)
+-- the path's expansions are read as these patterns
+abbrev pub StandsFor : List Variable → List ℕ → List Pattern → Type 0
+StandsFor vars path patterns = Expands vars path (Ok (tokens_of patterns))
 
--- the pattern that matches the text alone
-abbrev pub literal : List ℕ → Pattern
-literal text = record { items = map (λ b. Byte b) text }
+-- a path as it is written, and where
+pub record PathData : Type 0 where
+  pub at : Spot
+  pub text : List ℕ
 
--- the first refusal of the path's expansion, if there is one: its length, its reading, its first byte
-unfoldable pub expansion_fault : List ℕ → Option PolicyKind
-expansion_fault path =
-    if nat_lt 16384 (length path) then Some TooLarge
-    else (if not (is_plain_path path) then Some Unsupported
-    else (if not (begins_with 47 path) then Some RelativePath else None))
+-- its expansions are all read
+abbrev pub IsExpanding : List Variable → PathData → Type 0
+IsExpanding vars path = (patterns : List (List Token)) × Expands vars path.text (Ok patterns)
 
--- the patterns of a path whose expansion is not refused
-abbrev pub expansions : List ℕ → List Pattern
-expansions path = literal path ∷ []
+-- it is refused for its expansions, at its word
+pub record IsRefused (vars : List Variable) (path : PathData) (fault : PolicyFault) : Type 0 where
+  pub kind : Expands vars path.text (Err fault.kind)
+  pub at_is : fault.at ≡ path.at
+
+-- the first of the paths that is refused, or those before it expand
+abbrev pub IsFirstRefused : List Variable → List PathData → PolicyFault → Type 0
+IsFirstRefused vars [] fault = ⊥
+IsFirstRefused vars (path ∷ paths) fault = IsRefused vars path fault ⊎ (IsExpanding vars path × IsFirstRefused vars paths fault)

@@ -1,6 +1,6 @@
 -- What every policy keeps.
-use Rattle.std.specs.Prelude.{ℕ, ◌≡◌, ◌<◌, ◌≤◌, ◌==◌, List, map, length, codes, Bool, true, false, Option, Some, None, is_some, option_and_then, bit_and}
-use Rattle.std.specs.List.{All, IsDistinct, sum_by, filter, slice_get}
+use Rattle.std.specs.Prelude.{ℕ, ◌≡◌, ◌<◌, ◌≤◌, ◌==◌, List, map, length, codes, Bool, true, false, Option, Some, None, is_some, option_and_then, bit_and, if◌then◌else◌}
+use Rattle.std.specs.List.{All, IsDistinct, sum_by, slice_get}
 use Rattle.std.specs.Option.{option_eq}
 use Rattle.std.specs.Bool.{nat_eq}
 use Rattle.std.specs.Str.{bytes_eq}
@@ -25,9 +25,13 @@ names_of profiles = map (λ p. p.name) profiles
 abbrev pub file_patterns : Profile → ℕ
 file_patterns p = sum_by (λ r. length r.patterns) p.files
 
+-- the attachment patterns of a profile, if that is its parent, or if it has none where none is given
+abbrev pub attachments_with : Option ℕ → Profile → ℕ
+attachments_with parent p = if option_eq nat_eq p.parent parent then length p.attachments else 0
+
 -- how many attachment patterns the profiles below a parent have, or the top-level profiles
 abbrev pub attachment_patterns : Option ℕ → List Profile → ℕ
-attachment_patterns parent profiles = sum_by (λ p. length p.attachments) (filter (λ p. option_eq nat_eq p.parent parent) profiles)
+attachment_patterns parent profiles = sum_by (attachments_with parent) profiles
 
 -- the counts and lengths that no policy goes past, but for its attachments
 pub record IsWithinCounts (profiles : List Profile) : Type 0 where

@@ -1,41 +1,90 @@
 -- Which policy the words spell: what is written, then what it means, then what a policy keeps.
-use Rattle.std.specs.Prelude.{ℕ, ◌+◌, ◌≡◌, flat_map, List, [], ◌∷◌, ◌++◌, map, Option, Some, None, option_map, false, true}
-use Rattle.std.specs.Option.{option_or}
-use Rattle.std.specs.List.{list_any, IsDistinct}
+use Rattle.std.specs.Prelude.{ℕ, ◌+◌, ◌≡◌, flat_map, List, [], ◌∷◌, ◌++◌, Option, Some, None, option_map, false, true}
+use Rattle.std.specs.List.{list_any, AllZip, IsDistinct}
 use Rattle.std.specs.Str.{bytes_eq}
 use Rattle.aa_words.specs.declared.fault.Spot.{Spot}
 use Rattle.aa_words.specs.declared.fault.PolicyFault.{PolicyFault}
 use Rattle.aa_words.specs.Splits.{WordData}
+use Rattle.aa_glob.specs.declared.item.Pattern.{Pattern}
+use Rattle.aa_glob.specs.Variables.{Variable}
+use Rattle.aa_policy.specs.declared.rule.CapRule.{CapRule}
+use Rattle.aa_policy.specs.declared.rule.Exec.{Exec}
 use Rattle.aa_policy.specs.declared.rule.FileRule.{FileRule}
+use Rattle.aa_policy.specs.declared.rule.NetRule.{NetRule}
 use Rattle.aa_policy.specs.declared.policy.Profile.{Profile}
 use Rattle.aa_policy.specs.declared.policy.PassedOver.{PassedOver}
 use Rattle.aa_policy.specs.declared.policy.Policy.{Policy}
-use Rattle.aa_policy.specs.Expansion.{expansion_fault, expansions}
-use Rattle.aa_policy.specs.Grammar.{IsPolicy}
+use Rattle.aa_policy.specs.Expansion.{PathData, StandsFor, IsFirstRefused}
+use Rattle.aa_policy.specs.Bodies.{ProfileData, IsPolicy}
+use Rattle.aa_policy.specs.Heads.{AttachmentData}
 use Rattle.aa_policy.specs.Lawful.{IsWithinLimits, names_of}
-use Rattle.aa_policy.specs.Reading.{FileData, RuleData, OnFile, Listed, ProfileData}
+use Rattle.aa_policy.specs.Reading.{ExecData, FileData, RuleData, OnFile, OnCap, OnNet, Listed}
 
 -- ---- what is written, and what it means
 
--- a file rule: allow says what is so without it
-abbrev pub file_rule_of : FileData → FileRule
-file_rule_of f = record { audit = f.qualifiers.audit; deny = f.qualifiers.deny; owner = f.owner; perms = f.perms; exec = None; patterns = expansions f.path }
+-- the rule, if it is on files; one that is passed over decides nothing
+abbrev pub on_file : RuleData → List FileData
+on_file (OnFile f) = f ∷ []
+on_file (OnCap rule) = []
+on_file (OnNet rule) = []
+on_file (Listed keyword) = []
 
--- a rule that is passed over decides nothing
-abbrev pub file_rules_of : RuleData → List FileRule
-file_rules_of (OnFile f) = file_rule_of f ∷ []
-file_rules_of (Listed keyword) = []
+-- the rule, if it is on capabilities
+abbrev pub cap_rules_of : RuleData → List CapRule
+cap_rules_of (OnFile f) = []
+cap_rules_of (OnCap rule) = rule ∷ []
+cap_rules_of (OnNet rule) = []
+cap_rules_of (Listed keyword) = []
 
--- a top-level profile without attachment and flags
-abbrev pub profile_of : ProfileData → Profile
-profile_of p = record { at = p.at; name = p.name; parent = None; attachments = []; complain = false; audit = false; files = flat_map file_rules_of p.rules; caps = []; nets = [] }
+-- the rule, if it is on sockets
+abbrev pub net_rules_of : RuleData → List NetRule
+net_rules_of (OnFile f) = []
+net_rules_of (OnCap rule) = []
+net_rules_of (OnNet rule) = rule ∷ []
+net_rules_of (Listed keyword) = []
 
-abbrev pub profiles_of : List ProfileData → List Profile
-profiles_of tree = map profile_of tree
+-- how a program may be executed
+abbrev pub exec_of : ExecData → Exec
+exec_of e = record { kind = e.mode.kind; scrub = e.mode.scrub; fallback = e.mode.fallback; target = e.target }
+
+abbrev pub files_of : List RuleData → List FileData
+files_of rules = flat_map on_file rules
+
+-- the file rule says what is written, of the paths that the patterns of its path match; allow says what is so without it
+pub record MeansRule (vars : List Variable) (f : FileData) (r : FileRule) : Type 0 where
+  pub audit_is : r.audit ≡ f.qualifiers.audit
+  pub deny_is : r.deny ≡ f.qualifiers.deny
+  pub owner_is : r.owner ≡ f.owner
+  pub perms_are : r.perms ≡ f.perms
+  pub exec_is : r.exec ≡ option_map exec_of f.exec
+  pub stands : StandsFor vars f.path r.patterns
+
+-- the patterns are what an attachment's path stands for; without one there are none
+abbrev pub AttachesTo : List Variable → Option AttachmentData → List Pattern → Type 0
+AttachesTo vars None patterns = patterns ≡ []
+AttachesTo vars (Some attachment) patterns = StandsFor vars attachment.path patterns
+
+-- a profile without flags, with the rules that are written
+pub record MeansProfile (vars : List Variable) (p : ProfileData) (q : Profile) : Type 0 where
+  pub at_is : q.at ≡ p.at
+  pub name_is : q.name ≡ p.name
+  pub parent_is : q.parent ≡ p.parent
+  pub attaches : AttachesTo vars p.attachment q.attachments
+  pub enforces : q.complain ≡ false
+  pub quiet : q.audit ≡ false
+  pub files_are : AllZip (MeansRule vars) (files_of p.rules) q.files
+  pub caps_are : q.caps ≡ flat_map cap_rules_of p.rules
+  pub nets_are : q.nets ≡ flat_map net_rules_of p.rules
+
+-- the profiles that are written, in their order
+abbrev pub MeansProfiles : List Variable → List ProfileData → List Profile → Type 0
+MeansProfiles vars tree profiles = AllZip (MeansProfile vars) tree profiles
 
 -- the rule, if it is passed over, under the number of its profile
 abbrev pub listed_at : ℕ → RuleData → List PassedOver
 listed_at number (OnFile f) = []
+listed_at number (OnCap rule) = []
+listed_at number (OnNet rule) = []
 listed_at number (Listed keyword) = record { profile = number; kind = keyword } ∷ []
 
 -- the rules that are passed over in the profiles, of which the first has this number
@@ -45,34 +94,35 @@ passed_over_from number (p ∷ ps) = flat_map (listed_at number) p.rules ++ pass
 
 -- ---- why what is written has no meaning
 
--- the refusal of a rule's path, at that path
-abbrev pub file_fault : FileData → Option PolicyFault
-file_fault f = option_map (λ k. record { kind = k; at = f.at }) (expansion_fault f.path)
+-- the path of a rule, at its place
+abbrev pub rule_paths : RuleData → List PathData
+rule_paths (OnFile f) = record { at = f.at; text = f.path } ∷ []
+rule_paths (OnCap rule) = []
+rule_paths (OnNet rule) = []
+rule_paths (Listed keyword) = []
 
-abbrev pub rule_fault : RuleData → Option PolicyFault
-rule_fault (OnFile f) = file_fault f
-rule_fault (Listed keyword) = None
+-- the path that a profile attaches to, if it attaches
+abbrev pub attachment_paths : Option AttachmentData → List PathData
+attachment_paths None = []
+attachment_paths (Some a) = record { at = a.at; text = a.path } ∷ []
 
--- the first of them in a profile
-abbrev pub rules_fault : List RuleData → Option PolicyFault
-rules_fault [] = None
-rules_fault (r ∷ rs) = option_or (rule_fault r) (rules_fault rs)
+-- the paths of a profile in the order in which they are expanded: its attachment, and then its file rules
+abbrev pub profile_paths : ProfileData → List PathData
+profile_paths p = attachment_paths p.attachment ++ flat_map rule_paths p.rules
 
--- the first of them in a policy
-abbrev pub paths_fault : List ProfileData → Option PolicyFault
-paths_fault [] = None
-paths_fault (p ∷ ps) = option_or (rules_fault p.rules) (paths_fault ps)
+abbrev pub paths_of : List ProfileData → List PathData
+paths_of tree = flat_map profile_paths tree
 
 -- ---- the relation
 
 -- the words spell the policy
 pub record Spells (ws : List WordData) (policy : Policy) : Type 0 where
+  pub vars : List Variable
   pub tree : List ProfileData
-  pub written : IsPolicy ws tree
-  pub expands : paths_fault tree ≡ None
-  pub distinct : IsDistinct bytes_eq (names_of (profiles_of tree))
-  pub limits : IsWithinLimits (profiles_of tree)
-  pub profiles : policy.profiles ≡ profiles_of tree
+  pub written : IsPolicy ws vars tree
+  pub means : MeansProfiles vars tree policy.profiles
+  pub distinct : IsDistinct bytes_eq (names_of policy.profiles)
+  pub limits : IsWithinLimits policy.profiles
   pub passed_over : policy.passed_over ≡ passed_over_from 0 tree
 
 -- ---- what a refusal behind the first pass says
@@ -83,9 +133,10 @@ start = record { file = 0; byte = 0 }
 
 -- the words are written right, and this is the first refusal of a path
 pub record IsPathFault (ws : List WordData) (fault : PolicyFault) : Type 0 where
+  pub vars : List Variable
   pub tree : List ProfileData
-  pub written : IsPolicy ws tree
-  pub first : paths_fault tree ≡ Some fault
+  pub written : IsPolicy ws vars tree
+  pub first : IsFirstRefused vars (paths_of tree) fault
 
 -- an earlier profile has the name of the one whose name stands there; before it the names are distinct
 pub record IsRepeated (profiles : List Profile) (at : Spot) : Type 0 where
@@ -99,15 +150,19 @@ pub record IsRepeated (profiles : List Profile) (at : Spot) : Type 0 where
 
 -- the words are written right, each path expands, and the name there is an earlier profile's
 pub record IsDuplicate (ws : List WordData) (at : Spot) : Type 0 where
+  pub vars : List Variable
   pub tree : List ProfileData
-  pub written : IsPolicy ws tree
-  pub expands : paths_fault tree ≡ None
-  pub repeated : IsRepeated (profiles_of tree) at
+  pub written : IsPolicy ws vars tree
+  pub profiles : List Profile
+  pub means : MeansProfiles vars tree profiles
+  pub repeated : IsRepeated profiles at
 
 -- the words are written right, each path expands, names are distinct, and a limit is passed
 pub record IsOverLimits (ws : List WordData) : Type 0 where
+  pub vars : List Variable
   pub tree : List ProfileData
-  pub written : IsPolicy ws tree
-  pub expands : paths_fault tree ≡ None
-  pub distinct : IsDistinct bytes_eq (names_of (profiles_of tree))
-  pub over : IsWithinLimits (profiles_of tree) → ⊥
+  pub written : IsPolicy ws vars tree
+  pub profiles : List Profile
+  pub means : MeansProfiles vars tree profiles
+  pub distinct : IsDistinct bytes_eq (names_of profiles)
+  pub over : IsWithinLimits profiles → ⊥

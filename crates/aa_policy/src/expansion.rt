@@ -1,149 +1,195 @@
 //! The second pass: gives what is written its meaning, path by path.
 
-ghost use Rattle.std.specs.Prelude.{◌≡◌, ◌≢◌, ◌++◌, flat_map, true, map, None, Some, IfSome, IfOk, IfErr, OnOk, length};
-ghost use Rattle.std.specs.List.{list_all};
-ghost use Rattle.aa_words.specs.Kinds.{IsRefusal};
-ghost use Rattle.aa_policy.specs.Expansion.{is_plain, is_plain_path, expansion_fault, literal};
-ghost use Rattle.aa_policy.specs.Faults.{is_path_fault, IsPathRefusal};
-ghost use Rattle.aa_policy.specs.Reading.{file_data, rule_data, profile_data, tree_data};
-ghost use Rattle.aa_policy.specs.Spelling.{file_rule_of, file_rules_of, profile_of, profiles_of, file_fault, rule_fault, rules_fault, paths_fault};
+ghost use Rattle.std.specs.Prelude.{◌≡◌, ◌≢◌, ◌++◌, List, flat_map, map, option_map, IfOk, IfErr, OnOk};
+ghost use Rattle.std.specs.List.{AllZip};
+ghost use Rattle.aa_words.specs.Kinds.{no_memory};
+ghost use Rattle.aa_policy.specs.declared.rule.FileRule.{FileRule};
+ghost use Rattle.aa_policy.specs.Expansion.{StandsFor, IsRefused, IsFirstRefused};
+ghost use Rattle.aa_policy.specs.Faults.{IsPathRefusal};
+ghost use Rattle.aa_policy.specs.Bodies.{full_name, profile_data, tree_data};
+ghost use Rattle.aa_policy.specs.Heads.{attachment_data};
+ghost use Rattle.aa_policy.specs.Reading.{target_data, exec_data, file_data, rule_data};
+ghost use Rattle.aa_policy.specs.Spelling.{AttachesTo, MeansRule, MeansProfile, MeansProfiles, exec_of, on_file, files_of, attachment_paths, rule_paths, profile_paths, paths_of};
 
-use crate::names::{begins_with, holds_pair};
-use crate::pattern::Pattern;
+use crate::access::{cap_rules, net_rules};
+use crate::heads::AttachmentTree;
 use crate::policy::Profile;
-use crate::rule::FileRule;
+use crate::rule::{Exec, FileRule};
 use crate::seq::{Seq, Text};
-use crate::tree::{FileTree, ProfileTree, RuleTree};
-use aa_words::{PolicyFault, PolicyKind};
-use std::alloc::Global;
+use crate::tree::{ExecTree, FileTree, ProfileTree, RuleTree};
+use aa_glob::{Pattern, Vars, expand};
+use aa_words::{PolicyFault, PolicyKind, Spot};
+use std::alloc::{AllocError, Global};
 
-/// The most bytes of a path.
-const MAX_PATH: usize = 16384;
-
-/// Whether no byte has a meaning of its own in a pattern.
-fn has_plain_bytes(path: &[u8]) -> bool
-    ensures { result ≡ list_all is_plain path.now }
+/// A refusal at a path's word; want of memory points at no word.
+fn refusal_at(kind: PolicyKind, at: Spot) -> PolicyFault
+    ensures kind { result.kind ≡ kind }
+    ensures at { kind ≢ PolicyKind.NoMemory → result.at ≡ at }
+    ensures memory { kind ≡ PolicyKind.NoMemory → result ≡ no_memory }
 {
-    path.iter().all(|b| !(*b == b'?'
-        || *b == b'*'
-        || *b == b'['
-        || *b == b'{'
-        || *b == b'}'
-        || *b == b'\\'))
+    match kind {
+        PolicyKind::NoMemory => PolicyFault::at_start(kind),
+        _ => PolicyFault { kind, at },
+    }
 }
 
-/// Whether a path stands for itself: by its bytes, and since no slash follows another.
-fn is_plain_path(path: &[u8]) -> bool
-    ensures { result ≡ is_plain_path path.now }
+/// The patterns that a path stands for.
+fn patterns_of(
+    alloc: Global,
+    vars: &Vars,
+    path: &[u8],
+    at: Spot,
+) -> Result<Seq<Pattern>, PolicyFault>
+    ensures stands { IfOk result (λ ps. StandsFor vars.now path.now ps) }
+    ensures refused { IfErr result (λ e. e.kind ≢ PolicyKind.NoMemory → IsRefused vars.now (record { at = at; text = path.now }) e) }
+    ensures cause { IfErr result IsPathRefusal }
 {
-    has_plain_bytes(path) && !holds_pair(path, b'/', b'/')
+    match expand(alloc, vars, path) {
+        Ok(patterns) => Ok(Seq::from_vec(patterns)),
+        Err(kind) => Err(refusal_at(kind, at)),
+    }
 }
 
-/// Why a path stands for no pattern: its length, then its bytes, then its beginning.
-#[tactic(auto, unfolding(crate::specs::Expansion::expansion_fault))]
-fn path_fault(path: &[u8]) -> Option<PolicyKind>
-    ensures value { result ≡ expansion_fault path.now }
-    ensures kind { IfSome result (λ k. is_path_fault k ≡ true) }
+/// The name behind an arrow.
+fn target_of(alloc: Global, target: Option<&[u8]>) -> Result<Option<Text>, AllocError>
+    ensures { IfOk result (λ t. t ≡ target_data target.entry) }
 {
-    if path.len() > MAX_PATH {
-        return Some(PolicyKind::TooLarge);
+    match target {
+        Some(name) => Ok(Some(Text::copy_of(alloc, name)?)),
+        None => Ok(None),
     }
-    if !is_plain_path(path) {
-        return Some(PolicyKind::Unsupported);
-    }
-    if !begins_with(path, b'/') {
-        return Some(PolicyKind::RelativePath);
-    }
-    None
+}
+
+/// How a rule lets a program be executed.
+fn exec_of(alloc: Global, exec: Option<ExecTree>) -> Result<Option<Exec>, AllocError>
+    ensures { IfOk result (λ e. e ≡ option_map exec_of (option_map exec_data exec.entry)) }
+{
+    let Some(exec) = exec else {
+        return Ok(None);
+    };
+    Ok(Some(Exec {
+        kind: exec.mode.kind,
+        scrub: exec.mode.scrub,
+        fallback: exec.mode.fallback,
+        target: target_of(alloc, exec.target)?,
+    }))
 }
 
 /// What a file rule says.
-fn file_rule(alloc: Global, file: &FileTree) -> Result<FileRule, PolicyFault>
-    ensures rule { IfOk result (λ r. r ≡ file_rule_of (file_data file.now)) }
-    ensures expands { OnOk result (file_fault (file_data file.now) ≡ None) }
-    ensures refused { IfErr result (λ e. e.kind ≢ PolicyKind.NoMemory → file_fault (file_data file.now) ≡ Some e) }
+fn file_rule(alloc: Global, vars: &Vars, file: &FileTree) -> Result<FileRule, PolicyFault>
+    ensures rule { IfOk result (λ r. MeansRule vars.now (file_data file.now) r) }
+    ensures refused { IfErr result (λ e. e.kind ≢ PolicyKind.NoMemory → IsRefused vars.now (record { at = file.now.at; text = file.now.path.now }) e) }
     ensures cause { IfErr result IsPathRefusal }
 {
-    if let Some(kind) = path_fault(file.path) {
-        return Err(PolicyFault { kind, at: file.at });
-    }
-    let mut patterns = Vec::with_capacity(alloc, 1)?;
-    patterns.push(Pattern::literal(alloc, file.path)?)?;
+    let patterns = patterns_of(alloc, vars, file.path, file.at)?;
     Ok(FileRule {
         audit: file.qualifiers.audit,
         deny: file.qualifiers.deny,
         owner: file.owner,
         perms: file.perms,
-        exec: None,
-        patterns: Seq::from_vec(patterns),
+        exec: exec_of(alloc, file.exec)?,
+        patterns,
     })
 }
 
 /// Adds what a rule says to the file rules before it, if it is one.
 fn push_file_rule(
     alloc: Global,
+    vars: &Vars,
     rule: &RuleTree,
     found: &mut Vec<FileRule>,
 ) -> Result<(), PolicyFault>
-    ensures rule { OnOk result (found.new.items ≡ found.old.items ++ file_rules_of (rule_data rule.now)) }
-    ensures expands { OnOk result (rule_fault (rule_data rule.now) ≡ None) }
-    ensures refused { IfErr result (λ e. e.kind ≢ PolicyKind.NoMemory → rule_fault (rule_data rule.now) ≡ Some e) }
+    ensures rule { OnOk result ((rs : List FileRule) × (found.new.items ≡ found.old.items ++ rs) × AllZip (MeansRule vars.now) (on_file (rule_data rule.now)) rs) }
+    ensures refused { IfErr result (λ e. e.kind ≢ PolicyKind.NoMemory → IsFirstRefused vars.now (rule_paths (rule_data rule.now)) e) }
     ensures cause { IfErr result IsPathRefusal }
 {
     match rule {
         RuleTree::File(file) => {
-            found.push(file_rule(alloc, file)?)?;
+            found.push(file_rule(alloc, vars, file)?)?;
             Ok(())
         }
-        RuleTree::PassedOver(_) => Ok(()),
+        RuleTree::Cap(_) | RuleTree::Net(_) | RuleTree::PassedOver(_) => Ok(()),
     }
 }
 
 /// What the file rules of a profile say.
-fn file_rules(alloc: Global, rules: &[RuleTree]) -> Result<Vec<FileRule>, PolicyFault>
-    ensures rules { IfOk result (λ rs. rs.items ≡ flat_map file_rules_of (map rule_data rules.now)) }
-    ensures expands { OnOk result (rules_fault (map rule_data rules.now) ≡ None) }
-    ensures refused { IfErr result (λ e. e.kind ≢ PolicyKind.NoMemory → rules_fault (map rule_data rules.now) ≡ Some e) }
+fn file_rules(alloc: Global, vars: &Vars, rules: &[RuleTree]) -> Result<Vec<FileRule>, PolicyFault>
+    ensures rules { IfOk result (λ rs. AllZip (MeansRule vars.now) (files_of (map rule_data rules.now)) rs.items) }
+    ensures refused { IfErr result (λ e. e.kind ≢ PolicyKind.NoMemory → IsFirstRefused vars.now (flat_map rule_paths (map rule_data rules.now)) e) }
     ensures cause { IfErr result IsPathRefusal }
 {
     let mut found = Vec::new(alloc);
     for rule in rules {
-        push_file_rule(alloc, rule, &mut found)?;
+        push_file_rule(alloc, vars, rule, &mut found)?;
     }
     Ok(found)
 }
 
-/// What a profile says.
-fn profile(alloc: Global, tree: &ProfileTree) -> Result<Profile, PolicyFault>
-    ensures profile { IfOk result (λ p. p ≡ profile_of (profile_data tree.now)) }
-    ensures expands { OnOk result (rules_fault (map rule_data tree.now.rules.items) ≡ None) }
-    ensures refused { IfErr result (λ e. e.kind ≢ PolicyKind.NoMemory → rules_fault (map rule_data tree.now.rules.items) ≡ Some e) }
+/// The patterns that a profile attaches to.
+fn attachments_of(
+    alloc: Global,
+    vars: &Vars,
+    attachment: Option<AttachmentTree>,
+) -> Result<Seq<Pattern>, PolicyFault>
+    ensures attaches { IfOk result (λ ps. AttachesTo vars.now (option_map attachment_data attachment.entry) ps) }
+    ensures refused { IfErr result (λ e. e.kind ≢ PolicyKind.NoMemory → IsFirstRefused vars.now (attachment_paths (option_map attachment_data attachment.entry)) e) }
     ensures cause { IfErr result IsPathRefusal }
 {
-    let files = file_rules(alloc, tree.rules.as_slice())?;
+    match attachment {
+        Some(attachment) => patterns_of(alloc, vars, attachment.path, attachment.at),
+        None => Ok(Seq::from_vec(Vec::new(alloc))),
+    }
+}
+
+/// The full name of a profile: that of a child is its parent's, `//` and its own.
+fn full_name(alloc: Global, tree: &ProfileTree) -> Result<Text, AllocError>
+    ensures { IfOk result (λ t. t ≡ full_name tree.now.parent tree.now.head.name.now) }
+{
+    let Some(parent) = tree.parent else {
+        return Text::copy_of(alloc, tree.head.name);
+    };
+    let mut name = Vec::from_slice(alloc, parent.name)?;
+    name.extend_from_slice("//".as_bytes())?;
+    name.extend_from_slice(tree.head.name)?;
+    Ok(Text::from_vec(name))
+}
+
+/// What a profile says.
+fn profile(alloc: Global, vars: &Vars, tree: &ProfileTree) -> Result<Profile, PolicyFault>
+    ensures profile { IfOk result (λ p. MeansProfile vars.now (profile_data tree.now) p) }
+    ensures refused { IfErr result (λ e. e.kind ≢ PolicyKind.NoMemory → IsFirstRefused vars.now (profile_paths (profile_data tree.now)) e) }
+    ensures cause { IfErr result IsPathRefusal }
+{
+    let attachments = attachments_of(alloc, vars, tree.head.attachment)?;
+    let files = file_rules(alloc, vars, tree.rules.as_slice())?;
+    let caps = cap_rules(alloc, tree.rules.as_slice())?;
+    let nets = net_rules(alloc, tree.rules.as_slice())?;
     Ok(Profile {
-        at: tree.at,
-        name: Text::copy_of(alloc, tree.name)?,
-        parent: None,
-        attachments: Seq::from_vec(Vec::new(alloc)),
+        at: tree.head.at,
+        name: full_name(alloc, tree)?,
+        parent: tree.parent.and_then(|parent| parent.number),
+        attachments,
         complain: false,
         audit: false,
         files: Seq::from_vec(files),
-        caps: Seq::from_vec(Vec::new(alloc)),
-        nets: Seq::from_vec(Vec::new(alloc)),
+        caps: Seq::from_vec(caps),
+        nets: Seq::from_vec(nets),
     })
 }
 
 /// What the profiles say.
-pub fn profiles(alloc: Global, tree: &[ProfileTree]) -> Result<Vec<Profile>, PolicyFault>
-    ensures profiles { IfOk result (λ ps. ps.items ≡ profiles_of (tree_data tree.now)) }
-    ensures expands { OnOk result (paths_fault (tree_data tree.now) ≡ None) }
-    ensures refused { IfErr result (λ e. e.kind ≢ PolicyKind.NoMemory → paths_fault (tree_data tree.now) ≡ Some e) }
+pub fn profiles(
+    alloc: Global,
+    vars: &Vars,
+    tree: &[ProfileTree],
+) -> Result<Vec<Profile>, PolicyFault>
+    ensures profiles { IfOk result (λ ps. MeansProfiles vars.now (tree_data tree.now) ps.items) }
+    ensures refused { IfErr result (λ e. e.kind ≢ PolicyKind.NoMemory → IsFirstRefused vars.now (paths_of (tree_data tree.now)) e) }
     ensures cause { IfErr result IsPathRefusal }
 {
     let mut found = Vec::new(alloc);
     for one in tree {
-        found.push(profile(alloc, one)?)?;
+        found.push(profile(alloc, vars, one)?)?;
     }
     Ok(found)
 }

@@ -5,8 +5,13 @@ ghost use Rattle.aa_words.specs.Splits.{word_data};
 ghost use Rattle.aa_policy.specs.Grammar.{spot_of};
 ghost use Rattle.aa_policy.specs.Faults.{is_word_fault};
 
-use crate::modes::mode_fault;
+use crate::file_rules::{is_target_kind, takes_target};
+use crate::modes::{Mode, mode_fault};
+use crate::names::name_fault;
+use crate::perms::Perms;
+use crate::tree::RuleTree;
 use aa_words::{PolicyFault, PolicyKind, Spot, Word, WordKind};
+use bitflags::Flags;
 
 /// Where a word stands.
 pub fn spot_of(word: &Word) -> Spot
@@ -58,6 +63,16 @@ fn is_left_out(name: &[u8]) -> bool {
         || name == "all".as_bytes()
 }
 
+/// What is wrong with a name that is no mode.
+fn wrong_mode(name: &[u8], deny: bool) -> PolicyKind
+    ensures { is_word_fault result ≡ true }
+{
+    match mode_fault(name, deny) {
+        Some(kind) => kind,
+        None => PolicyKind::BadMode,
+    }
+}
+
 /// What stands before a word at which no rule goes on.
 #[derive(Clone, Copy, Debug, PartialEq, Eq)]
 pub struct RulePlace {
@@ -84,20 +99,11 @@ impl RulePlace {
         RulePlace { owner, ..self }
     }
 
-    /// Whether a production that isn't read yet begins with a name here.
-    fn begins_production(self, name: &[u8]) -> bool {
-        let is_rule = name == "capability".as_bytes() || name == "network".as_bytes();
-        let is_item = name == "profile".as_bytes() || name == "abi".as_bytes();
-        name == "file".as_bytes()
-            || (is_rule && !self.owner)
-            || (is_item && !self.owner && !self.qualified)
-    }
-
     /// Why no rule goes on with a name here.
     fn name_fault(self, name: &[u8], path_follows: bool) -> PolicyKind
         ensures { is_word_fault result ≡ true }
     {
-        if self.begins_production(name) || is_left_out(name) {
+        if is_left_out(name) {
             return PolicyKind::Unsupported;
         }
         if self.owner && name == "change_profile".as_bytes() {
@@ -106,10 +112,7 @@ impl RulePlace {
         if !path_follows {
             return PolicyKind::UnknownWord;
         }
-        match mode_fault(name, self.deny) {
-            Some(kind) => kind,
-            None => PolicyKind::Unsupported,
-        }
+        wrong_mode(name, self.deny)
     }
 
     /// Why no rule goes on with a word here that is no name.
@@ -127,7 +130,7 @@ impl RulePlace {
 fn top_name_fault(name: &[u8], path_follows: bool) -> PolicyKind
     ensures { is_word_fault result ≡ true }
 {
-    if name == "abi".as_bytes() || is_left_out(name) {
+    if is_left_out(name) {
         return PolicyKind::Unsupported;
     }
     if !path_follows {
@@ -139,20 +142,8 @@ fn top_name_fault(name: &[u8], path_follows: bool) -> PolicyKind
     }
 }
 
-/// Why a path that names a profile and is its attachment isn't read: it isn't read yet, and one
-/// without a byte is none.
-fn attachment_fault(path: &[u8]) -> PolicyKind
-    ensures { is_word_fault result ≡ true }
-{
-    if path.is_empty() {
-        PolicyKind::Syntax
-    } else {
-        PolicyKind::Unsupported
-    }
-}
-
-/// Why no profile begins at a word of the top level: a path would name one, a name that isn't
-/// a production's first word is read as a mode where a path follows.
+/// Why no item begins at a word of the top level: a name that isn't an item's first word is read
+/// as a mode where a path follows.
 pub fn item_fault(words: &[Word], at: usize, end: Spot) -> PolicyFault
     ensures { is_word_fault result.kind ≡ true }
 {
@@ -161,108 +152,96 @@ pub fn item_fault(words: &[Word], at: usize, end: Spot) -> PolicyFault
     }
     let word = &words[at];
     let kind = match word.kind {
-        WordKind::Path | WordKind::Quoted => attachment_fault(word.text),
         WordKind::Name => top_name_fault(word.text, is_path_at(words, at + 1)),
         _ => PolicyKind::Syntax,
     };
     fault(kind, words, at, end)
 }
 
-/// Why a word isn't the name of a profile that is written out.
-pub fn no_name_fault(words: &[Word], at: usize, end: Spot) -> PolicyFault
+/// Why no comma stands behind a rule: the conditions of a rule on sockets are left out.
+pub fn no_comma_fault(words: &[Word], at: usize, rule: &RuleTree, end: Spot) -> PolicyFault
     ensures { is_word_fault result.kind ≡ true }
 {
-    let kind = if is_kind_at(words, at, WordKind::Path) {
-        PolicyKind::Unsupported
-    } else {
-        PolicyKind::Syntax
+    let is_condition = is_kind_at(words, at, WordKind::LeftParen)
+        || is_kind_at(words, at, WordKind::Equals);
+    let kind = match rule {
+        RuleTree::Net(_) if is_condition => PolicyKind::Unsupported,
+        _ => PolicyKind::Syntax,
     };
     fault(kind, words, at, end)
 }
 
-/// Why a word behind a profile's name isn't its opening brace: an attachment and flags aren't
-/// read yet.
-pub fn no_brace_fault(words: &[Word], at: usize, end: Spot) -> PolicyFault
-    ensures { is_word_fault result.kind ≡ true }
-{
-    let kind = match words.get(at) {
-        Some(word) => match word.kind {
-            WordKind::Path | WordKind::Quoted | WordKind::LeftParen => PolicyKind::Unsupported,
-            WordKind::Name if word.text == "flags".as_bytes() => PolicyKind::Unsupported,
-            WordKind::Name if word.text == "xattrs".as_bytes() => PolicyKind::Unsupported,
-            _ => PolicyKind::Syntax,
-        },
-        None => PolicyKind::Syntax,
-    };
-    fault(kind, words, at, end)
-}
-
-/// Why no rule begins or goes on at a word of a body.
-pub fn no_rule_fault(words: &[Word], at: usize, place: RulePlace, end: Spot) -> PolicyFault
+/// Why a word of a body is no file rule's first: neither a path, nor `file`, nor a mode before a
+/// path that is a right one.
+pub fn no_entry_fault(words: &[Word], at: usize, place: RulePlace, end: Spot) -> PolicyFault
     ensures { is_word_fault result.kind ≡ true }
 {
     if at >= words.len() {
         return fault(PolicyKind::Syntax, words, at, end);
     }
     let word = &words[at];
-    let kind = match word.kind {
-        WordKind::Name => place.name_fault(word.text, is_path_at(words, at + 1)),
-        other => place.word_fault(other),
-    };
-    fault(kind, words, at, end)
-}
-
-/// Why no comma stands behind a mode: a target isn't read yet.
-pub fn no_comma_fault(words: &[Word], at: usize, end: Spot) -> PolicyFault
-    ensures { is_word_fault result.kind ≡ true }
-{
-    let kind = if is_kind_at(words, at, WordKind::Arrow) {
-        PolicyKind::Unsupported
-    } else {
-        PolicyKind::Syntax
-    };
-    fault(kind, words, at, end)
-}
-
-/// Why no mode stands behind a path, at the word `next`: with a brace or a parenthesis the path
-/// begins a child profile.
-pub fn no_mode_fault(words: &[Word], path: &Word, next: usize, end: Spot) -> PolicyFault
-    ensures { is_word_fault result.kind ≡ true }
-{
-    if is_kind_at(words, next, WordKind::Open) || is_kind_at(words, next, WordKind::LeftParen) {
-        return child_fault(path);
-    }
-    fault(PolicyKind::Syntax, words, next, end)
-}
-
-/// Why a path that begins a child profile isn't read.
-fn child_fault(path: &Word) -> PolicyFault
-    ensures { is_word_fault result.kind ≡ true }
-{
-    PolicyFault {
-        kind: attachment_fault(path.text),
-        at: spot_of(path),
-    }
-}
-
-/// Where the name behind a path is no mode of access letters, and why: it may be a word of a
-/// child profile, a mode with an exec part, which isn't read yet, or a faulty mode.
-pub fn no_access_fault(path: &Word, mode: &Word, deny: bool) -> PolicyFault
-    ensures { is_word_fault result.kind ≡ true }
-{
-    if mode.text == "flags".as_bytes() {
-        return child_fault(path);
-    }
-    let kind = if mode.text == "xattrs".as_bytes() {
-        PolicyKind::Unsupported
-    } else {
-        match mode_fault(mode.text, deny) {
-            Some(kind) => kind,
-            None => PolicyKind::Unsupported,
+    let next = at + 1;
+    match word.kind {
+        WordKind::Path | WordKind::Quoted => wrong_mode_fault(words, next, place.deny, end),
+        WordKind::Name if word.text == "file".as_bytes() => {
+            behind_file_fault(words, next, place.deny, end)
         }
-    };
-    PolicyFault {
-        kind,
-        at: spot_of(mode),
+        WordKind::Name => PolicyFault {
+            kind: place.name_fault(word.text, is_path_at(words, next)),
+            at: spot_of(word),
+        },
+        other => fault(place.word_fault(other), words, at, end),
     }
+}
+
+/// Why the words behind `file` are no path and mode, in whichever order.
+fn behind_file_fault(words: &[Word], at: usize, deny: bool, end: Spot) -> PolicyFault
+    ensures { is_word_fault result.kind ≡ true }
+{
+    if at >= words.len() {
+        return fault(PolicyKind::Syntax, words, at, end);
+    }
+    let word = &words[at];
+    let next = at + 1;
+    match word.kind {
+        WordKind::Path | WordKind::Quoted => wrong_mode_fault(words, next, deny, end),
+        WordKind::Name => match mode_fault(word.text, deny) {
+            Some(kind) => fault(kind, words, at, end),
+            None => fault(PolicyKind::Syntax, words, next, end),
+        },
+        _ => fault(PolicyKind::Syntax, words, at, end),
+    }
+}
+
+/// Why a word isn't the mode that has to stand there.
+fn wrong_mode_fault(words: &[Word], at: usize, deny: bool, end: Spot) -> PolicyFault
+    ensures { is_word_fault result.kind ≡ true }
+{
+    let kind = match words.get(at) {
+        Some(word) if word.kind == WordKind::Name => wrong_mode(word.text, deny),
+        _ => PolicyKind::Syntax,
+    };
+    fault(kind, words, at, end)
+}
+
+/// Why no profile is named by the arrow that stands behind a mode: the mode goes on under none
+/// of the policy, or what stands behind the arrow is no profile's name.
+pub fn no_target_fault(words: &[Word], at: usize, mode: Mode, end: Spot) -> PolicyFault
+    ensures { is_word_fault result.kind ≡ true }
+{
+    if !mode.perms.contains(Perms::EXEC) {
+        return fault(PolicyKind::Unsupported, words, at, end);
+    }
+    if !takes_target(mode.exec) {
+        return fault(PolicyKind::BadMode, words, at, end);
+    }
+    if at >= words.len() {
+        return fault(PolicyKind::Syntax, words, at, end);
+    }
+    let next = at + 1;
+    let kind = match words.get(next) {
+        Some(word) if is_target_kind(word.kind) => name_fault(word.text),
+        _ => PolicyKind::Syntax,
+    };
+    fault(kind, words, next, end)
 }

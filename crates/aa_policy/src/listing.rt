@@ -1,7 +1,8 @@
 //! The rules that are read and never decide.
 
 ghost use Rattle.std.specs.Prelude.{◌≡◌, ◌≤◌, ◌++◌, OnOk, IfOk, length, map, flat_map};
-ghost use Rattle.aa_policy.specs.Reading.{rule_data, tree_data};
+ghost use Rattle.aa_policy.specs.Bodies.{tree_data};
+ghost use Rattle.aa_policy.specs.Reading.{rule_data};
 ghost use Rattle.aa_policy.specs.Spelling.{listed_at, passed_over_from};
 
 use crate::policy::PassedOver;
@@ -19,7 +20,7 @@ fn push_listed(
     ensures { OnOk result (found.new.items ≡ found.old.items ++ listed_at number (rule_data rule.now)) }
 {
     match rule {
-        RuleTree::File(_) => Ok(()),
+        RuleTree::File(_) | RuleTree::Cap(_) | RuleTree::Net(_) => Ok(()),
         RuleTree::PassedOver(keyword) => {
             let kind = Text::copy_of(alloc, keyword)?;
             found.push(PassedOver {

@@ -1,8 +1,10 @@
 //! Names of profiles (apparmor.d(5), "Profile Head").
 
 ghost use Rattle.std.specs.Prelude.{◌≡◌, ◌==◌, ◌&&◌, true};
+ghost use Rattle.std.specs.Bool.{nat_eq};
+ghost use Rattle.std.specs.List.{starts_with};
 ghost use Rattle.aa_policy.specs.Faults.{is_word_fault};
-ghost use Rattle.aa_policy.specs.Names.{begins_with, holds_pair, is_profile_name};
+ghost use Rattle.aa_policy.specs.Names.{begins_with, holds_pair, holds, is_single_name, is_full_name, is_right_name, is_plain_name, is_target_name};
 
 use aa_words::PolicyKind;
 
@@ -36,18 +38,66 @@ pub fn holds_pair(text: &[u8], a: u8, b: u8) -> bool
     false
 }
 
-/// Whether a word names a top-level profile that has no attachment.
-#[tactic(auto, unfolding(crate::specs::Names::is_profile_name))]
-pub fn is_profile_name(name: &[u8]) -> bool
-    ensures { result ≡ is_profile_name name.now }
+/// Whether a text begins with these bytes.
+fn begins_with_all(text: &[u8], part: &[u8]) -> bool
+    ensures { result ≡ starts_with nat_eq text.now part.now }
+{
+    text.starts_with(part)
+}
+
+/// Whether bytes stand somewhere in a text, side by side.
+pub fn holds(text: &[u8], part: &[u8]) -> bool
+    ensures { result ≡ holds part.now text.now }
+{
+    for i in 0..text.len() {
+        if begins_with_all(&text[i..], part) {
+            return true;
+        }
+    }
+    false
+}
+
+/// Whether a name is written without a namespace or a stack.
+#[tactic(auto, unfolding(crate::specs::Names::is_single_name))]
+fn is_single_name(name: &[u8]) -> bool
+    ensures { result ≡ is_single_name name.now }
 {
     !name.is_empty()
-        && !begins_with(name, b'/')
         && !begins_with(name, b':')
         && !begins_with(name, b'&')
-        && !holds_pair(name, b'@', b'{')
-        && !holds_pair(name, b'/', b'/')
-        && name != "unconfined".as_bytes()
+        && !holds(name, "//&".as_bytes())
+}
+
+/// Whether a word names a profile behind an arrow.
+#[tactic(auto, unfolding(crate::specs::Names::is_target_name))]
+pub fn is_target_name(name: &[u8]) -> bool
+    ensures { result ≡ is_target_name name.now }
+{
+    is_single_name(name) && !holds_pair(name, b'@', b'{')
+}
+
+/// Whether a name can be a full one.
+#[tactic(auto, unfolding(crate::specs::Names::is_full_name))]
+fn is_full_name(name: &[u8]) -> bool
+    ensures { result ≡ is_full_name name.now }
+{
+    name != "unconfined".as_bytes() && !holds_pair(name, b'/', b'/')
+}
+
+/// Whether a word names a profile, of the top level or a child.
+#[tactic(auto, unfolding(crate::specs::Names::is_right_name))]
+pub fn is_right_name(name: &[u8], top: bool) -> bool
+    ensures { result ≡ is_right_name top name.now }
+{
+    is_single_name(name) && (!top || is_full_name(name))
+}
+
+/// Whether a word names a profile behind the keyword: a variable isn't put in there.
+#[tactic(auto, unfolding(crate::specs::Names::is_plain_name))]
+pub fn is_plain_name(name: &[u8], top: bool) -> bool
+    ensures { result ≡ is_plain_name top name.now }
+{
+    is_right_name(name, top) && !holds_pair(name, b'@', b'{')
 }
 
 /// Why a word names no profile.

@@ -1,17 +1,19 @@
 //! Gives the policy that a text's words spell.
 
-ghost use Rattle.std.specs.Prelude.{◌≡◌, ◌⊎◌, List, IfOk, IfErr};
+ghost use Rattle.std.specs.Prelude.{◌≡◌, ◌⊎◌, List, true, IfOk, IfErr};
 ghost use Rattle.aa_words.specs.Kinds.{IsRefusal};
 ghost use Rattle.aa_words.specs.Splits.{WordData, words_data};
-ghost use Rattle.aa_policy.specs.Faults.{IsParseRefusal};
+ghost use Rattle.aa_policy.specs.Faults.{IsParseRefusal, is_path_only};
+ghost use Rattle.aa_policy.specs.Preamble.{IsTwice, IsUndefined};
+ghost use Rattle.aa_policy.specs.Sameness.{SamePolicy};
 ghost use Rattle.aa_policy.specs.Spelling.{Spells, IsPathFault, IsDuplicate, IsOverLimits, start};
 ghost use Rattle.aa_policy.specs.declared.policy.Policy.{Policy};
 
 use crate::expansion::profiles;
+use crate::items::tree_of;
 use crate::limits::{check_names, is_within_limits};
 use crate::listing::passed_over;
 use crate::policy::Policy;
-use crate::reading::tree_of;
 use crate::seq::Seq;
 use aa_words::{PolicyFault, PolicyKind, WordList};
 use std::alloc::Global;
@@ -20,32 +22,38 @@ use std::alloc::Global;
 ///
 /// It reads in three passes, and answers the first refusal. The first pass goes word by word:
 /// `Syntax`, `Unsupported`, `UnknownWord`, `BadMode` and `WriteWithAppend`, at the word at which
-/// reading can't go on, or behind the text where it ends too early. The second goes from path to
-/// path: `TooLarge` for more than 16,384 bytes, `Unsupported` for one that doesn't stand for
-/// itself, `RelativePath`, each at the path. The third looks at the profiles together:
-/// `DuplicateProfile` at the later name, then `TooLarge` at the start of the main text, for more
-/// than 4,096 profiles, a name of more than 1,024 bytes, or more than 65,535 patterns of a
-/// profile's rules. `NoMemory` can come at any point.
+/// reading can't go on, or behind the text where it ends too early; `VariableTwice` and
+/// `UndefinedVariable` at an assignment's variable. The second goes profile by profile from path to
+/// path, its attachment first, and expands each: `BadPattern`, `Unsupported`, `UndefinedVariable`,
+/// `VariableCircle`, `TooManyExpansions`, `TooLarge` for an expansion of more than 16,384 bytes,
+/// `RelativePath`, each at the path. The third looks at the profiles together: `DuplicateProfile` at
+/// the later name, then `TooLarge` at the start of the main text, for more than 4,096 profiles, a
+/// full name of more than 1,024 bytes, or more than 65,535 patterns of a profile's rules, of the
+/// top-level profiles' attachments, or of those of one parent's children. `NoMemory` can come at any
+/// point.
 pub fn parse(alloc: Global, words: &WordList) -> Result<Policy, PolicyFault>
     // The policy that is given is spelled by the words.
     ensures spelled { IfOk result (λ p. Spells (words_data words.now.list.items) p) }
     // Words that are refused for another cause than memory spell no policy.
     ensures refused { IsRefusal result → (p : Policy) → Spells (words_data words.now.list.items) p → ⊥ }
 
-    // What a refusal behind the first pass says.
-    ensures relative { IfErr result (λ e. e.kind ≡ PolicyKind.RelativePath → IsPathFault (words_data words.now.list.items) e) }
+    // What a refusal says that isn't one of a word.
+    ensures twice { IfErr result (λ e. e.kind ≡ PolicyKind.VariableTwice → IsTwice (words_data words.now.list.items) e.at) }
+    ensures undefined { IfErr result (λ e. e.kind ≡ PolicyKind.UndefinedVariable
+        → IsUndefined (words_data words.now.list.items) e.at ⊎ IsPathFault (words_data words.now.list.items) e) }
+    ensures at_path { IfErr result (λ e. is_path_only e.kind ≡ true → IsPathFault (words_data words.now.list.items) e) }
     ensures duplicate { IfErr result (λ e. e.kind ≡ PolicyKind.DuplicateProfile → IsDuplicate (words_data words.now.list.items) e.at) }
     ensures too_large { IfErr result (λ e. e.kind ≡ PolicyKind.TooLarge
         → IsPathFault (words_data words.now.list.items) e ⊎ ((e.at ≡ start) × IsOverLimits (words_data words.now.list.items))) }
     ensures kinds { IfErr result IsParseRefusal }
 {
     let tree = tree_of(alloc, words.list.as_slice(), words.end)?;
-    let profiles = profiles(alloc, tree.as_slice())?;
+    let profiles = profiles(alloc, &tree.vars, tree.profiles.as_slice())?;
     check_names(alloc, profiles.as_slice())?;
     if !is_within_limits(profiles.as_slice()) {
         return Err(PolicyFault::at_start(PolicyKind::TooLarge));
     }
-    let listed = passed_over(alloc, tree.as_slice())?;
+    let listed = passed_over(alloc, tree.profiles.as_slice())?;
     Ok(Policy {
         profiles: Seq::from_vec(profiles),
         passed_over: Seq::from_vec(listed),
@@ -54,5 +62,5 @@ pub fn parse(alloc: Global, words: &WordList) -> Result<Policy, PolicyFault>
 
 /// Words spell at most one policy. It does nothing: its contract is a law of the language.
 pub fn spelled_once()
-    ensures { (words : List WordData) (p q : Policy) → Spells words p → Spells words q → p ≡ q }
+    ensures { (words : List WordData) (p q : Policy) → Spells words p → Spells words q → SamePolicy p q }
 {}

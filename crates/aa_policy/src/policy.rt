@@ -3,9 +3,9 @@
 ghost use Rattle.aa_policy.specs.Lawful.{IsLawful};
 ghost use Rattle.std.proofs.Props.{props};
 
-use crate::pattern::Pattern;
 use crate::rule::{CapRule, FileRule, NetRule};
 use crate::seq::{Seq, Text};
+use aa_glob::Pattern;
 use aa_words::Spot;
 
 /// A profile with its rules.

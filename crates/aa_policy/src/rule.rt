@@ -1,9 +1,9 @@
 //! What one rule of a profile says.
 
 use crate::caps::Caps;
-use crate::pattern::Pattern;
 use crate::perms::Perms;
 use crate::seq::{Seq, Text};
+use aa_glob::Pattern;
 
 /// Under which profile a program runs on (apparmor.d(5), "Access Modes").
 #[derive(Clone, Copy, Debug, PartialEq, Eq)]

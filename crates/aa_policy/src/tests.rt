@@ -1,6 +1,6 @@
 //! What the contracts leave to tests: which refusal comes first, and texts end to end.
 
-use crate::{Item, Pattern, Perms, Policy, Seq, Text, parse, spelled_once};
+use crate::{Perms, Policy, Seq, Text, matching_is_decided, parse, spelled_once};
 use aa_words::{PolicyFault, Sources, Span, Spot, Word, WordKind, WordList, words};
 use bitflags::Flags;
 use std::alloc::Global;
@@ -110,20 +110,16 @@ fn words_in_quotes_are_refused_behind_their_quote(rt: HostRuntime) {
     let alloc = rt.alloc();
     for (text, number, byte) in [
         ("profile \"\" { }", 4, 9),
-        ("profile \"/p\" { }", 5, 9),
         ("profile \"a//b\" { }", 5, 9),
         ("profile \"unconfined\" { }", 5, 9),
         ("profile p { \"/x", 4, 12),
         ("profile p { \"\" r, }", 14, 13),
         ("profile p { \"x\" r, }", 14, 13),
-        ("profile p { \"/a*\" r, }", 5, 13),
-        ("profile p { \"/a\\\"b\" r, }", 5, 13),
+        ("profile p { \"/a\\b\" r, }", 5, 13),
+        ("profile p { \"/a[\" r, }", 9, 13),
         ("profile p { \"/x\" wa, }", 8, 17),
-        // A path with a brace behind it is a profile, which isn't read yet; none is without a byte.
-        ("profile p { \"/x\" { } }", 5, 13),
         ("profile p { \"\" { } }", 4, 13),
         ("profile p { \"\" flags=(audit) { } }", 4, 13),
-        ("\"/bin/x\" { }", 5, 1),
         ("\"\" { }", 4, 1),
     ] {
         assert_eq!(rt;
@@ -184,10 +180,6 @@ fn words_out_of_their_order_before_a_rule_are_refused(rt: HostRuntime) {
         ("profile p { owner", 4, 17),
         ("profile p { deny foo, }", 6, 17),
         // What isn't read yet, and what is left out.
-        ("profile p { audit capability chown, }", 5, 18),
-        ("profile p { deny network, }", 5, 17),
-        ("profile p { deny file, }", 5, 17),
-        ("profile p { owner file, }", 5, 18),
         ("profile p { audit link /a, }", 5, 18),
         // At the top level no rule begins.
         ("audit /x r,", 7, 0),
@@ -210,11 +202,8 @@ fn a_rule_with_deny_says_x_alone(rt: HostRuntime) {
         ("profile p { deny /x pUx, }", 5, 20),
         ("profile p { deny /x wax, }", 8, 20),
         ("profile p { deny ix /x, }", 7, 17),
-        // Execution isn't read yet.
-        ("profile p { deny /x x, }", 5, 20),
-        ("profile p { audit deny owner /x rx, }", 5, 32),
         ("profile p { allow /x x, }", 7, 21),
-        ("profile p { audit /x ix, }", 5, 21),
+        ("profile p { audit x /x, }", 7, 18),
     ] {
         assert_eq!(rt;
             refusal(alloc, text.as_bytes()),
@@ -362,14 +351,11 @@ fn modes_are_refused_at_the_mode(rt: HostRuntime) {
 }
 
 #[test]
-fn exec_parts_are_left_out(rt: HostRuntime) {
+fn exec_letters_of_both_cases_are_left_out(rt: HostRuntime) {
     let alloc = rt.alloc();
     for (text, number, byte) in [
-        ("profile p { /x ix, }", 5, 15),
-        ("profile p { /x rPUx, }", 5, 15),
-        ("profile p { /x cixr, }", 5, 15),
-        // Two letters of different case are left out for good, whatever else is wrong.
         ("profile p { /x pUx, }", 5, 15),
+        // Whatever else is wrong.
         ("profile p { /x Cuxz, }", 5, 15),
         ("profile p { /x waPux, }", 5, 15),
         // A right exec part doesn't hide that `w` stands beside `a`.
@@ -429,42 +415,6 @@ fn words_out_of_place_are_refused_at_the_word(rt: HostRuntime) {
         ("profile p { /x \"r\", }", 4, 16),
         ("profile p { /x r = , }", 4, 17),
         ("profile p { /x r \"q\", }", 4, 18),
-    ] {
-        assert_eq!(rt;
-            refusal(alloc, text.as_bytes()),
-            Some((number, 0, byte)),
-            "{text}"
-        );
-    }
-}
-
-#[test]
-fn productions_that_are_not_read_yet_are_refused_where_they_begin(rt: HostRuntime) {
-    let alloc = rt.alloc();
-    for (text, number, byte) in [
-        ("/bin/x { }", 5, 0),
-        ("abi x,", 5, 0),
-        ("profile /bin/x { }", 5, 8),
-        ("profile p /bin/x { }", 5, 10),
-        ("profile p flags { }", 5, 10),
-        ("profile p xattrs { }", 5, 10),
-        ("profile p { file, }", 5, 12),
-        ("profile p { capability chown, }", 5, 12),
-        ("profile p { network inet, }", 5, 12),
-        ("profile p { abi x, }", 5, 12),
-        ("profile p { profile q { } }", 5, 12),
-        ("profile p { /q { } }", 5, 12),
-        ("profile p { /q flags { } }", 5, 12),
-        ("profile p { /q xattrs { } }", 5, 15),
-        ("profile p { r /x, }", 5, 12),
-        ("\"/bin/x\" { }", 5, 1),
-        ("@{A}=x", 5, 0),
-        ("profile p \"/x\" { }", 5, 11),
-        ("profile p (complain) { }", 5, 10),
-        ("profile p flags=(complain) { }", 5, 10),
-        ("profile p { r \"/x\", }", 5, 12),
-        ("profile p { /x r -> q, }", 5, 17),
-        ("profile p { /q (complain) { } }", 5, 12),
     ] {
         assert_eq!(rt;
             refusal(alloc, text.as_bytes()),
@@ -546,23 +496,84 @@ fn names_that_mean_more_are_left_out(rt: HostRuntime) -> Result<(), Fail> {
     assert_eq!(rt; refusal(alloc, b"profile a/b { }"), None);
     assert_eq!(rt; refusal(alloc, b"profile unconfined2 { }"), None);
     assert_eq!(rt; refusal_by_hand(alloc, b"a@{b", b"/x")?, (5, 1));
-    assert_eq!(rt; refusal_by_hand(alloc, b"/a", b"/x")?, (5, 1));
+    assert_eq!(rt; refusal_by_hand(alloc, b"/a", b"/x")?, (0, 0));
     assert_eq!(rt; refusal_by_hand(alloc, b"", b"/x")?, (4, 1));
     assert_eq!(rt; refusal_by_hand(alloc, b"a", b"/x")?, (0, 0));
     Ok(())
 }
 
+/// The number of patterns of each rule, and of the items of the first.
+fn sizes_of(alloc: Global, text: &[u8]) -> Result<Vec<(usize, usize)>, PolicyFault> {
+    let policy = read(alloc, text)?;
+    let mut sizes = Vec::new(alloc);
+    for profile in policy.profiles.as_slice() {
+        for rule in profile.files.as_slice() {
+            let patterns = rule.patterns.as_slice();
+            let items = match patterns.first() {
+                Some(pattern) => pattern.items.len(),
+                None => 0,
+            };
+            sizes.push((patterns.len(), items))?;
+        }
+    }
+    Ok(sizes)
+}
+
 #[test]
-fn paths_that_do_not_stand_for_themselves_are_refused(rt: HostRuntime) -> Result<(), Fail> {
+fn paths_are_patterns(rt: HostRuntime) -> Result<(), Fail> {
+    let text =
+        b"profile p { /tmp/* r, /tmp/** r, /{**,} r, /a//b r, ///a r, /[a-c]x r, /a\\* r, \"/a b?\" r, /] r, /{a,{b,c}}d r, }";
+    let sizes = sizes_of(rt.alloc(), text)?;
+    assert_eq!(rt;
+        sizes.as_slice(),
+        [
+            (1, 6),
+            (1, 6),
+            (1, 2),
+            (1, 4),
+            (1, 2),
+            (1, 3),
+            (1, 3),
+            (1, 5),
+            (1, 2),
+            (1, 3)
+        ]
+        .as_slice()
+    );
+    Ok(())
+}
+
+#[test]
+fn paths_match_as_globs(rt: HostRuntime) -> Result<(), Fail> {
+    let policy = read(rt.alloc(), b"profile p { /tmp/* r, }")?;
+    for profile in policy.profiles.as_slice() {
+        for rule in profile.files.as_slice() {
+            for pattern in rule.patterns.as_slice() {
+                assert!(rt; pattern.matches(b"/tmp/a"));
+                assert!(rt; !pattern.matches(b"/tmp/"));
+                assert!(rt; !pattern.matches(b"/tmp/a/"));
+            }
+        }
+    }
+    Ok(())
+}
+
+#[test]
+fn paths_that_do_not_expand_are_refused_at_the_path(rt: HostRuntime) -> Result<(), Fail> {
     let alloc = rt.alloc();
     for (text, number, byte) in [
-        ("profile p { /a? r, }", 5, 12),
-        ("profile p { /a* r, }", 5, 12),
-        ("profile p { /[a] r, }", 5, 12),
-        ("profile p { /{a,b} r, }", 5, 12),
-        ("profile p { /a} r, }", 5, 12),
-        ("profile p { /a\\* r, }", 5, 12),
-        ("profile p { /a//b r, }", 5, 12),
+        ("profile p { /a\\b r, }", 5, 12),
+        ("profile p { /[] r, }", 9, 12),
+        ("profile p { /[c-a] r, }", 9, 12),
+        ("profile p { /{a r, }", 9, 12),
+        ("profile p { /a} r, }", 9, 12),
+        ("profile p { @{} r, }", 9, 12),
+        ("profile p { @{X}/a r, }", 10, 12),
+        ("profile p { /a@{X} r, }", 10, 12),
+        ("profile p { @{exec_path} r, }", 5, 12),
+        ("profile p { /a r, @{X} r, /[] r, }", 10, 18),
+        ("profile p { /[] r, @{X} r, }", 9, 12),
+        ("profile p { /a r, } profile q { /b r, \"a\" r, }", 14, 39),
     ] {
         assert_eq!(rt;
             refusal(alloc, text.as_bytes()),
@@ -570,9 +581,7 @@ fn paths_that_do_not_stand_for_themselves_are_refused(rt: HostRuntime) -> Result
             "{text}"
         );
     }
-    assert_eq!(rt; refusal(alloc, b"profile p { /a/b/ r, }"), None);
-    assert_eq!(rt; refusal(alloc, b"profile p { /] r, }"), None);
-    assert_eq!(rt; refusal_by_hand(alloc, b"p", b"@{HOME}/x")?, (5, 3));
+    assert_eq!(rt; refusal_by_hand(alloc, b"p", b"@{HOME}/x")?, (10, 3));
     assert_eq!(rt; refusal_by_hand(alloc, b"p", b"x")?, (14, 3));
     assert_eq!(rt; refusal_by_hand(alloc, b"p", b"")?, (14, 3));
     Ok(())
@@ -582,10 +591,10 @@ fn paths_that_do_not_stand_for_themselves_are_refused(rt: HostRuntime) -> Result
 fn all_words_are_read_before_any_path(rt: HostRuntime) {
     let alloc = rt.alloc();
     for (text, number, byte) in [
-        ("profile p { /a* r, /b rz, }", 7, 22),
-        ("profile p { /a* r, } foo", 6, 21),
+        ("profile p { /[] r, /b rz, }", 7, 22),
+        ("profile p { /[] r, } foo", 6, 21),
         // And every path before the names are compared.
-        ("profile p { } profile p { /a* r, }", 5, 26),
+        ("profile p { } profile p { /[] r, }", 9, 26),
     ] {
         assert_eq!(rt;
             refusal(alloc, text.as_bytes()),
@@ -702,25 +711,6 @@ fn no_front_of_a_policy_is_one(rt: HostRuntime) {
 }
 
 #[test]
-fn a_pattern_of_bytes_matches_its_text_alone(rt: HostRuntime) -> Result<(), Fail> {
-    let pattern = Pattern::literal(rt.alloc(), b"/a\xff")?;
-    assert_eq!(rt;
-        pattern.items.as_slice(),
-        [Item::Byte(b'/'), Item::Byte(b'a'), Item::Byte(255)].as_slice()
-    );
-    assert!(rt; pattern.matches(b"/a\xff"));
-    assert!(rt; !pattern.matches(b"/a\xfe"));
-    assert!(rt; !pattern.matches(b"/a"));
-    assert!(rt; !pattern.matches(b""));
-    let none = Pattern::literal(rt.alloc(), b"")?;
-    assert!(rt; none.matches(b""));
-    assert!(rt; !none.matches(b"/"));
-    // Nothing matches a zero byte.
-    assert!(rt; !Pattern::literal(rt.alloc(), b"/\0")?.matches(b"/\0"));
-    Ok(())
-}
-
-#[test]
 fn lists_and_texts_give_back_what_they_hold(rt: HostRuntime) -> Result<(), Fail> {
     let text = Text::copy_of(rt.alloc(), b"ab")?;
     assert_eq!(rt; text.as_slice(), b"ab".as_slice());
@@ -730,5 +720,6 @@ fn lists_and_texts_give_back_what_they_hold(rt: HostRuntime) -> Result<(), Fail>
     assert_eq!(rt; row.as_slice(), [1, 2].as_slice());
     assert_eq!(rt; row.into_vec().as_slice(), [1, 2].as_slice());
     spelled_once();
+    matching_is_decided();
     Ok(())
 }

@@ -1,6 +1,10 @@
 //! What a text's words say as they are written, before any of it is given a meaning.
 
+use crate::heads::HeadTree;
+use crate::modes::{ExecMode, Mode};
 use crate::perms::Perms;
+use crate::rule::{CapRule, NetRule};
+use aa_glob::Vars;
 use aa_words::Spot;
 
 /// What stands before a rule (apparmor.d(5), "Qualifiers"). `allow` says what holds without it.
@@ -10,18 +14,37 @@ pub struct Qualifiers {
     pub deny: bool,
 }
 
+/// How a rule lets a program be executed, as it is written.
+#[derive(Clone, Copy, Debug)]
+pub struct ExecTree<'s> {
+    pub mode: ExecMode,
+    /// The name behind the arrow, as its raw bytes.
+    pub target: Option<&'s [u8]>,
+}
+
+/// What a file rule grants, and where, as it is written.
+#[derive(Clone, Copy, Debug)]
+pub struct EntryTree<'s> {
+    /// Where the word stands that says the path.
+    pub at: Spot,
+    pub path: &'s [u8],
+    pub mode: Mode,
+}
+
 /// A file rule as it is written.
 #[derive(Drop)]
 pub struct FileTree<'s> {
     pub qualifiers: Qualifiers,
     /// Whether `owner` stands before its path.
     pub owner: bool,
-    /// Where its path stands.
+    /// Where its path stands, or `file` by itself.
     pub at: Spot,
     /// The path, as its raw bytes.
     pub path: &'s [u8],
-    /// What its letters grant.
+    /// What its mode grants.
     pub perms: Perms,
+    /// How its mode lets a program be executed, if it says how.
+    pub exec: Option<ExecTree<'s>>,
 }
 
 /// A rule of a body as it is written.
@@ -29,17 +52,56 @@ pub struct FileTree<'s> {
 pub enum RuleTree<'s> {
     /// On files.
     File(FileTree<'s>),
+    /// On capabilities.
+    Cap(CapRule),
+    /// On sockets.
+    Net(NetRule),
     /// One that is passed over, by its keyword.
     PassedOver(&'s [u8]),
 }
 
-/// A profile as it is written.
+/// A child profile as it is written.
 #[derive(Drop)]
-pub struct ProfileTree<'s> {
-    /// Where its name stands.
-    pub at: Spot,
-    /// The name, as its raw bytes.
-    pub name: &'s [u8],
+pub struct ChildTree<'s> {
+    pub head: HeadTree<'s>,
     /// Its rules, in their order.
     pub rules: Vec<RuleTree<'s>>,
+}
+
+/// A top-level profile with its children as it is written.
+#[derive(Drop)]
+pub struct FamilyTree<'s> {
+    pub head: HeadTree<'s>,
+    /// Its rules, in their order.
+    pub rules: Vec<RuleTree<'s>>,
+    /// Its children, in their order.
+    pub children: Vec<ChildTree<'s>>,
+}
+
+/// The profile that holds a child.
+#[derive(Clone, Copy, Debug)]
+pub struct ParentTree<'s> {
+    /// Its number, where it has one that a policy may have.
+    pub number: Option<u16>,
+    /// Its name, as its raw bytes.
+    pub name: &'s [u8],
+}
+
+/// A profile in the row of all.
+#[derive(Drop)]
+pub struct ProfileTree<'s> {
+    pub head: HeadTree<'s>,
+    /// The profile that holds it, if it is a child.
+    pub parent: Option<ParentTree<'s>>,
+    /// Its rules, in their order.
+    pub rules: Vec<RuleTree<'s>>,
+}
+
+/// A policy as it is written.
+#[derive(Drop)]
+pub struct PolicyTree<'s> {
+    /// The variables of its preamble.
+    pub vars: Vars,
+    /// All profiles, a parent before its children.
+    pub profiles: Vec<ProfileTree<'s>>,
 }

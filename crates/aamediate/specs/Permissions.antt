@@ -1,13 +1,13 @@
 -- What the rules of a profile say of an object: a path, and whether the task's user owns it.
 use Rattle.std.specs.Prelude.{ℕ, ◌-◌, List, [], ◌∷◌, Bool, not, ◌&&◌, ◌||◌, if◌then◌else◌, filter, bit_and, bit_or}
 use Rattle.std.specs.List.{list_any}
-use Rattle.aa_policy.specs.declared.pattern.Pattern.{Pattern}
+use Rattle.aa_glob.specs.declared.item.Pattern.{Pattern}
 use Rattle.aa_policy.specs.declared.rule.FileRule.{FileRule}
 use Rattle.aa_policy.specs.Matching.{is_match}
 
 -- some pattern matches the path
 abbrev pub some_match : List Pattern → List ℕ → Bool
-some_match patterns path = list_any (λ p. is_match p.items path) patterns
+some_match patterns path = list_any (λ p. is_match p.items.items path) patterns
 
 -- a rule applies, an owner rule to owned objects alone, where one of its patterns matches
 abbrev pub applies : FileRule → List ℕ → Bool → Bool

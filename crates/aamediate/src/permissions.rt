@@ -1,9 +1,11 @@
 //! What the rules of a profile say of an object.
 
 ghost use Rattle.std.specs.Prelude.{◌≡◌, ◌&&◌, not, if◌then◌else◌, bit_or};
+ghost use Rattle.aa_policy.specs.Matching.{is_match};
 ghost use Rattle.aamediate.specs.Permissions.{some_match, applies, minus, allow, deny, loud, audited};
 
-use aa_policy::{FileRule, Pattern, Perms};
+use aa_glob::Pattern;
+use aa_policy::{FileRule, Perms};
 use bitflags::Flags;
 
 /// The permissions that the applying rules of a profile name (apparmor.d(5), "Rule Qualifiers").
@@ -19,10 +21,17 @@ pub struct RuleSets {
     pub audited: Perms,
 }
 
+/// Whether the pattern matches the path.
+fn is_matched(pattern: &Pattern, path: &[u8]) -> bool
+    ensures { result ≡ is_match pattern.now.items.items path.now }
+{
+    pattern.matches(path)
+}
+
 fn matches_some(patterns: &[Pattern], path: &[u8]) -> bool
     ensures { result ≡ some_match patterns.now path.now }
 {
-    patterns.iter().any(|pattern| pattern.matches(path))
+    patterns.iter().any(|pattern| is_matched(pattern, path))
 }
 
 fn applies_to(rule: &FileRule, path: &[u8], owned: bool) -> bool

@@ -112,6 +112,26 @@ fn the_first_unknown_label_is_named(rt: HostRuntime) {
     );
 }
 
+#[test]
+fn a_child_decides_and_lists_under_its_full_name(rt: HostRuntime) {
+    let job =
+        b"{\"policy\":\"profile p { /a r, profile c { /b r, signal, } }\",\"tasks\":[{\"label\":\"p//c\",\"requests\":[{\"file\":\"/b\",\"mask\":\"r\"},{\"file\":\"/a\",\"mask\":\"r\"}]}]}";
+    run_gives(
+        &rt,
+        rt.alloc(),
+        job,
+        Ok(()),
+        b"0 0 granted label=\"p//c\"\n0 1 denied label=\"p//c\"\napparmor=\"DENIED\" operation=\"file\" profile=\"p//c\" name=\"/a\" requested_mask=\"r\" denied_mask=\"r\"\n",
+    );
+    check_gives(
+        &rt,
+        rt.alloc(),
+        job,
+        Ok(()),
+        b"ok 2 profiles 2 file rules 1 passed over\npassed over \"p//c\" signal\n",
+    );
+}
+
 /// Gives the bytes of a text one by one, and fails at a call.
 #[derive(Drop)]
 struct FailingReader<'a> {

@@ -7,7 +7,8 @@ use crate::mediator::{Compiled, Mediator, compile};
 use crate::reply::answer_in;
 use crate::request::Request;
 use crate::values::{push_mask, push_value};
-use aa_policy::{FileRule, Item, Pattern, Perms, Profile, Seq, Text, parse};
+use aa_glob::{Item, Pattern};
+use aa_policy::{FileRule, Perms, Profile, Seq, Text, parse};
 use aa_words::{Sources, Spot, words};
 use bitflags::Flags;
 use std::alloc::{AllocError, Global};
@@ -42,9 +43,7 @@ fn pattern_of(alloc: Global, path: &str) -> Result<Pattern, AllocError> {
     for byte in path.as_bytes() {
         items.push(Item::Byte(*byte))?;
     }
-    Ok(Pattern {
-        items: Seq::from_vec(items),
-    })
+    Ok(Pattern { items })
 }
 
 fn rule_of(alloc: Global, written: &Written) -> Result<FileRule, AllocError> {
@@ -448,13 +447,19 @@ fn a_line_has_the_bits_of_its_note(rt: HostRuntime) -> Result<(), Fail> {
 #[test]
 fn profiles_are_found_by_their_full_names(rt: HostRuntime) -> Result<(), Fail> {
     let alloc = rt.alloc();
-    let compiled = compiled_from(alloc, b"profile p { } profile helper { } profile q { }")?;
-    assert!(rt; compiled.policy().profiles.as_slice().len() == 3);
-    let rows: [(&[u8], Option<u16>); 6] = [
+    let compiled = compiled_from(
+        alloc,
+        b"profile p { profile helper { } /x { } } profile helper { } /x { }",
+    )?;
+    assert!(rt; compiled.policy().profiles.as_slice().len() == 5);
+    let rows: [(&[u8], Option<u16>); 9] = [
         (b"p", Some(0)),
-        (b"helper", Some(1)),
-        (b"q", Some(2)),
-        (b"p//helper", None),
+        (b"p//helper", Some(1)),
+        (b"p///x", Some(2)),
+        (b"helper", Some(3)),
+        (b"/x", Some(4)),
+        (b"p//p", None),
+        (b"helper//x", None),
         (b"unconfined", None),
         (b"", None),
     ];

@@ -6,8 +6,8 @@ use Rattle.aa_glob.proofs.classes.class_with.Goals.{else-body-gt0-via-then-body-
 
 pub returns-then-all_rise-clause-finds : goal.returns-then-all_rise-clause-finds
 returns-then-all_rise-clause-finds c =
-    class_same c.args.negated c.args.body.now c.in_ok-found.found.items c.set_of.result (omega arith) (cc (c.all_rise.ensures, c.if-all_rise.true, c.as_slice.ensures.value))
-    (same_Some _ _ c.in_ok-found.ensures) (cc (c.set_of.ensures, c.as_slice-then-all_rise.ensures.value))
+    class_same c.args.negated c.args.body.now c.in_ok-found.found.items c.in_ok-set.set (omega arith) (cc (c.all_rise.ensures, c.if-all_rise.true, c.as_slice.ensures.value))
+    (same_Some _ _ c.in_ok-found.ensures) (cc (c.in_ok-set.ensures, c.as_slice-then-all_rise.ensures.value))
 
 pub returns-clause-finds : goal.returns-clause-finds
 returns-clause-finds c = λ ne. (

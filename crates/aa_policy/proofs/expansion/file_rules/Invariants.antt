@@ -1,11 +1,14 @@
-use Rattle.std.proofs.Common.{◌≡◌, ◌++◌, drop, map}
+use Rattle.std.proofs.Common.{take, drop, map}
 use Rattle.std.specs.Prelude.{flat_map}
+use Rattle.std.specs.List.{AllZip}
+use Rattle.aa_words.specs.declared.fault.PolicyFault.{PolicyFault}
+use Rattle.aa_policy.specs.Expansion.{IsFirstRefused}
 use Rattle.aa_policy.specs.Reading.{rule_data}
-use Rattle.aa_policy.specs.Spelling.{file_rules_of, rules_fault}
+use Rattle.aa_policy.specs.Spelling.{MeansRule, files_of, rule_paths}
 use Rattle.aa_policy.proofs.expansion.file_rules.Given as goal
 
 abbrev pub invariant-loop-rule : goal.invariant-loop-rule
 invariant-loop-rule l = record {
-  rules : l.found.items ++ flat_map file_rules_of (map rule_data (drop l.rule-index l.rules)) ≡ flat_map file_rules_of (map rule_data l.rules);
-  left : rules_fault (map rule_data l.rules) ≡ rules_fault (map rule_data (drop l.rule-index l.rules));
+  rules : AllZip (MeansRule l.vars) (files_of (map rule_data (take l.rule-index l.rules))) l.found.items;
+  left : (e : PolicyFault) → IsFirstRefused l.vars (flat_map rule_paths (map rule_data (drop l.rule-index l.rules))) e → IsFirstRefused l.vars (flat_map rule_paths (map rule_data l.rules)) e;
 }

@@ -1,5 +1,5 @@
 use Rattle.std.proofs.Common.{◌≡◌, ◌++◌, drop}
-use Rattle.aa_policy.specs.Reading.{tree_data}
+use Rattle.aa_policy.specs.Bodies.{tree_data}
 use Rattle.aa_policy.specs.Spelling.{passed_over_from}
 use Rattle.aa_policy.proofs.listing.passed_over.Given as goal
 

@@ -1,0 +1,8 @@
+use Rattle.std.proofs.Common.{◌≡◌, ◌++◌, drop, map}
+use Rattle.std.specs.Prelude.{flat_map}
+use Rattle.aa_policy.specs.Reading.{rule_data}
+use Rattle.aa_policy.specs.Spelling.{cap_rules_of}
+use Rattle.aa_policy.proofs.access.cap_rules.Given as goal
+
+abbrev pub invariant-loop-rule : goal.invariant-loop-rule
+invariant-loop-rule l = l.found.items ++ flat_map cap_rules_of (map rule_data (drop l.rule-index l.rules)) ≡ flat_map cap_rules_of (map rule_data l.rules)

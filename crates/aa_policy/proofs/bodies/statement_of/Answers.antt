@@ -1,0 +1,19 @@
+use Rattle.std.proofs.Common.{rules, ◌+◌}
+use Rattle.std.specs.Prelude.{codes}
+use Rattle.std.proofs.lemmas.Result.{err_from_is_err_and}
+use Rattle.aa_policy.specs.Grammar.{Keyword, LacksKeyword}
+use Rattle.aa_policy.specs.Reading.{rest_of}
+use Rattle.aa_policy.proofs.Profiles.{no_statement, no_abi_statement}
+use Rattle.aa_policy.proofs.bodies.statement_of.Goals as goal
+
+pub returns-in_err-next-clause-refused : goal.returns-in_err-next-clause-refused
+returns-in_err-next-clause-refused c =
+    let q = err_from_is_err_and c.from_residual.result c.from_residual.ensures.1 in
+    let stands : Keyword (codes "abi") (rest_of c.args.words.now c.args.at) (rest_of c.args.words.now (c.args.at + 1)) = search rules in
+    rw (q.1) (no_abi_statement _ _ stands c.in_err-next.ensures.refused)
+
+pub returns-in_err-rule-clause-refused : goal.returns-in_err-rule-clause-refused
+returns-in_err-rule-clause-refused c =
+    let q = err_from_is_err_and c.from_residual-in_err-rule.result c.from_residual-in_err-rule.ensures.1 in
+    let none : LacksKeyword (codes "abi") (rest_of c.args.words.now c.args.at) = search rules in
+    rw (q.1) (no_statement _ c.in_err-rule.ensures.refused none)

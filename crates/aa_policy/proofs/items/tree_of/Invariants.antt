@@ -1,0 +1,18 @@
+use Rattle.std.proofs.Common.{◌≡◌, ◌≤◌, List, Option, length, ◌-◌}
+use Rattle.std.specs.Prelude.{flat_map}
+use Rattle.aa_policy.specs.Bodies.{FamilyData, IsItem, if_any, row_from, tree_data}
+use Rattle.aa_policy.specs.Grammar.{IsEnd}
+use Rattle.aa_policy.specs.Reading.{rest_of}
+use Rattle.aa_policy.proofs.Repetition.{Reaches}
+use Rattle.aa_policy.proofs.items.tree_of.Given as goal
+
+abbrev pub invariant-items : goal.invariant-items
+invariant-items l = record {
+  found : List (Option FamilyData);
+  reach : Reaches IsItem IsEnd (rest_of l.words l.start) found (rest_of l.words l.at);
+  profiles : tree_data l.profiles.items ≡ row_from 0 (flat_map if_any found);
+  within : l.at ≤ length l.words;
+}
+
+abbrev pub decreases-items : goal.decreases-items
+decreases-items l = length l.words - l.at
