@@ -1,6 +1,6 @@
 //! Matching by a row of flags, one for each place of the text: whether the items so far match what stands before it.
 
-ghost use Rattle.std.specs.Prelude.{◌≡◌, ◌≤◌, ◌<◌, ◌+◌, ◌↔◌, ◌||◌, ℕ, IsTrue, length, min, max, false, slice_index_or, [], ◌∷◌};
+ghost use Rattle.std.specs.Prelude.{◌≡◌, ◌≤◌, ◌<◌, ◌+◌, ◌↔◌, ◌||◌, ◌⊎◌, ℕ, IsTrue, All, length, min, max, false, slice_index_or, [], ◌∷◌};
 ghost use Rattle.aa_glob.specs.Globs.{Matches};
 ghost use Rattle.aa_glob.specs.Steps.{IsSimple, IsOneByte, Continues};
 ghost use Rattle.aa_glob.specs.Flags.{AreUnset, AreWithin, Changes, Follows, FollowsSome};
@@ -153,14 +153,17 @@ pub(crate) const SHORT_PLACES: usize = 64;
 /// The same of a text as long as a path may be.
 pub(crate) const PATH_PLACES: usize = 4096;
 
-/// How many places a text has at most that is matched by flags.
-pub(crate) const MAX_PLACES: usize = 16384;
+/// The same of a text that is matched by flags where there are choices: each takes two rows.
+pub(crate) const CHOICE_PLACES: usize = 16384;
+
+/// The same of any text that is matched by flags.
+pub(crate) const MAX_PLACES: usize = 1_048_576;
 
 /// Takes the flags from before the items to behind them.
 #[cycle(follow)]
 fn follow_items(items: &[Item], text: &[u8], flags: &mut [bool], span: Span) -> Span
     requires long { length text.now < length flags.old }
-    requires small { length text.now < MAX_PLACES }
+    requires small { All IsSimple items.now ⊎ (length text.now < CHOICE_PLACES) }
     requires within { AreWithin flags.old text.now span.first span.end }
     ensures follows { Follows items.now text.now flags.old flags.new }
     ensures within { AreWithin flags.new text.now result.first result.end }
@@ -182,7 +185,7 @@ fn follow_items(items: &[Item], text: &[u8], flags: &mut [bool], span: Span) -> 
 #[cycle(follow)]
 fn follow_choice(branches: &[Vec<Item>], text: &[u8], flags: &mut [bool], span: Span) -> Span
     requires long { length text.now < length flags.old }
-    requires small { length text.now < MAX_PLACES }
+    requires small { length text.now < CHOICE_PLACES }
     requires within { AreWithin flags.old text.now span.first span.end }
     ensures follows { FollowsSome branches.now text.now flags.old flags.new }
     ensures within { AreWithin flags.new text.now result.first result.end }
@@ -224,17 +227,17 @@ fn follow_path(branches: &[Vec<Item>], text: &[u8], flags: &mut [bool], span: Sp
     follow_branches(branches, text, flags, span, &mut ends, &mut all)
 }
 
-/// The same for any text that is matched by flags.
+/// The same for any other text.
 #[cycle(follow)]
 fn follow_long(branches: &[Vec<Item>], text: &[u8], flags: &mut [bool], span: Span) -> Span
     requires long { length text.now < length flags.old }
-    requires small { length text.now < MAX_PLACES }
+    requires small { length text.now < CHOICE_PLACES }
     requires within { AreWithin flags.old text.now span.first span.end }
     ensures follows { FollowsSome branches.now text.now flags.old flags.new }
     ensures within { AreWithin flags.new text.now result.first result.end }
 {
-    let mut ends = [false; MAX_PLACES];
-    let mut all = [false; MAX_PLACES];
+    let mut ends = [false; CHOICE_PLACES];
+    let mut all = [false; CHOICE_PLACES];
     follow_branches(branches, text, flags, span, &mut ends, &mut all)
 }
 
@@ -249,7 +252,7 @@ fn follow_branches(
     all: &mut [bool],
 ) -> Span
     requires long { length text.now < length flags.old }
-    requires small { length text.now < MAX_PLACES }
+    requires small { length text.now < CHOICE_PLACES }
     requires long_ends { length text.now < length ends.old }
     requires long_all { length text.now < length all.old }
     requires within { AreWithin flags.old text.now span.first span.end }
@@ -275,9 +278,11 @@ fn follow_branches(
 }
 
 /// Whether the items match the text, which has fewer than N bytes.
+#[inline(never)]
 pub(crate) fn matches_by_flags<const N: usize>(items: &[Item], text: &[u8]) -> bool
     requires room { length text.now < N }
     requires small { N ≤ MAX_PLACES }
+    requires simple { All IsSimple items.now ⊎ (N ≤ CHOICE_PLACES) }
     ensures { IsTrue result ↔ Matches items.now text.now }
 {
     let mut flags = [false; N];

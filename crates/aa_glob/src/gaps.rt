@@ -1,6 +1,6 @@
 //! Matching by a row of flags, one for each gap between items: for items without a choice, and texts of any length.
 
-ghost use Rattle.std.specs.Prelude.{◌≡◌, ◌↔◌, ◌<◌, ℕ, IsTrue, All, length, List, [], ◌∷◌, ◌++◌};
+ghost use Rattle.std.specs.Prelude.{◌≡◌, ◌↔◌, ◌<◌, ◌≤◌, ℕ, IsTrue, All, length, List, [], ◌∷◌, ◌++◌};
 ghost use Rattle.aa_glob.specs.Globs.{Matches};
 ghost use Rattle.aa_glob.specs.Steps.{IsSimple};
 ghost use Rattle.aa_glob.specs.Flags.{StandsIn};
@@ -8,8 +8,11 @@ ghost use Rattle.aa_glob.specs.Flags.{StandsIn};
 use crate::item::Item;
 use crate::step::{goes, is_skippable};
 
-/// How many gaps the items have at most.
-pub(crate) const MAX_GAPS: usize = 16385;
+/// How many gaps there are at most in a pattern without a choice that `read_pattern` or `expand` gives.
+pub(crate) const READ_GAPS: usize = 16385;
+
+/// How many gaps there are at most between items that are matched by flags.
+pub(crate) const MAX_GAPS: usize = 1_048_577;
 
 /// Whether the item is no choice.
 fn is_simple(item: &Item) -> bool
@@ -56,13 +59,15 @@ fn follow_byte(items: &[Item], byte: u8, gaps: &mut [bool])
     }
 }
 
-/// Whether the items match the text.
-pub(crate) fn matches_by_gaps(items: &[Item], text: &[u8]) -> bool
+/// Whether the items, which have at most N gaps, match the text.
+#[inline(never)]
+pub(crate) fn matches_by_gaps<const N: usize>(items: &[Item], text: &[u8]) -> bool
     requires simple { All IsSimple items.now }
-    requires few { length items.now < MAX_GAPS }
+    requires few { length items.now < N }
+    requires small { N ≤ MAX_GAPS }
     ensures { IsTrue result ↔ Matches items.now text.now }
 {
-    let mut gaps = [false; MAX_GAPS];
+    let mut gaps = [false; N];
     begin(items, &mut gaps);
     for byte in text {
         follow_byte(items, *byte, &mut gaps);

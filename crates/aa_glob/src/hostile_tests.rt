@@ -1,6 +1,6 @@
 //! Patterns and variables that are as large or as deep as their limits let them be, and just over.
 
-use crate::{Pattern, Vars, expand, read_pattern};
+use crate::{Item, Pattern, Vars, expand, read_pattern};
 use aa_words::PolicyKind;
 use std::alloc::{AllocError, Global};
 use std::test::Fail;
@@ -110,6 +110,42 @@ fn a_choice_in_a_text_longer_than_any_path(rt: HostRuntime) -> Result<(), Fail> 
     assert!(rt; !pattern.matches(path.as_slice()));
     path.push(b'b')?;
     path.push(b'x')?;
+    assert!(rt; pattern.matches(path.as_slice()));
+    Ok(())
+}
+
+#[test]
+fn more_items_than_any_text_spells_on_a_text_longer_than_any_path(
+    rt: HostRuntime,
+) -> Result<(), Fail> {
+    let alloc = rt.alloc();
+    let mut items = Vec::new(alloc);
+    let mut path = Vec::new(alloc);
+    for _ in 0..TEXT {
+        items.push(Item::Byte(b'/'))?;
+        items.push(Item::Run)?;
+        path.extend_from_slice(b"/a")?;
+    }
+    let pattern = Pattern { items };
+    assert!(rt; pattern.matches(path.as_slice()));
+    path.push(b'/')?;
+    assert!(rt; !pattern.matches(path.as_slice()));
+    Ok(())
+}
+
+#[test]
+fn more_than_a_million_items_on_a_text_longer_than_any_path(rt: HostRuntime) -> Result<(), Fail> {
+    let alloc = rt.alloc();
+    let mut items = Vec::new(alloc);
+    for _ in 0..1_100_000usize {
+        items.push(Item::Run)?;
+    }
+    items.push(Item::Deep)?;
+    items.push(Item::One)?;
+    let pattern = Pattern { items };
+    let mut path = repeated(alloc, b'/', 2 * TEXT)?;
+    assert!(rt; !pattern.matches(path.as_slice()));
+    path.push(b'a')?;
     assert!(rt; pattern.matches(path.as_slice()));
     Ok(())
 }

@@ -1,12 +1,12 @@
 //! What a pattern matches.
 
-ghost use Rattle.std.specs.Prelude.{◌≡◌, ◌↔◌, ◌≤◌, IsTrue, length, drop, take_while};
+ghost use Rattle.std.specs.Prelude.{◌≡◌, ◌↔◌, ◌≤◌, IsTrue, All, length, drop, take_while};
 ghost use Rattle.std.specs.List.{list_all};
 ghost use Rattle.aa_glob.specs.Globs.{Matches, is_byte};
-ghost use Rattle.aa_glob.specs.Steps.{Begins, IsOneByte};
+ghost use Rattle.aa_glob.specs.Steps.{Begins, IsOneByte, IsSimple};
 
-use crate::flags::{MAX_PLACES, PATH_PLACES, SHORT_PLACES, matches_by_flags};
-use crate::gaps::{MAX_GAPS, are_simple, matches_by_gaps};
+use crate::flags::{CHOICE_PLACES, MAX_PLACES, PATH_PLACES, SHORT_PLACES, matches_by_flags};
+use crate::gaps::{MAX_GAPS, READ_GAPS, are_simple, matches_by_gaps};
 use crate::halves::matches_by_halves;
 use crate::item::{Item, Pattern};
 use crate::step::{begins, is_one_byte};
@@ -45,6 +45,22 @@ fn fails_at_once(items: &[Item], text: &[u8]) -> bool
     }
 }
 
+/// The same for items without a choice and a text of any length: the row has room for the fewer of gaps and places.
+fn matches_simple(items: &[Item], text: &[u8]) -> bool
+    requires { All IsSimple items.now }
+    ensures { IsTrue result ↔ Matches items.now text.now }
+{
+    if items.len() < READ_GAPS {
+        matches_by_gaps::<READ_GAPS>(items, text)
+    } else if text.len() < MAX_PLACES {
+        matches_by_flags::<MAX_PLACES>(items, text)
+    } else if items.len() < MAX_GAPS {
+        matches_by_gaps::<MAX_GAPS>(items, text)
+    } else {
+        matches_by_halves(items, text)
+    }
+}
+
 fn matches_items(items: &[Item], text: &[u8]) -> bool
     ensures { IsTrue result ↔ Matches items.now text.now }
 {
@@ -56,10 +72,10 @@ fn matches_items(items: &[Item], text: &[u8]) -> bool
         matches_by_flags::<256>(items, text)
     } else if text.len() < PATH_PLACES {
         matches_by_flags::<PATH_PLACES>(items, text)
-    } else if items.len() < MAX_GAPS && are_simple(items) {
-        matches_by_gaps(items, text)
-    } else if text.len() < MAX_PLACES {
-        matches_by_flags::<MAX_PLACES>(items, text)
+    } else if are_simple(items) {
+        matches_simple(items, text)
+    } else if text.len() < CHOICE_PLACES {
+        matches_by_flags::<CHOICE_PLACES>(items, text)
     } else {
         matches_by_halves(items, text)
     }
@@ -76,8 +92,8 @@ fn is_byte_item(item: &Item) -> bool
 
 impl Pattern {
     /// Whether the whole path matches (apparmor.d(5), "Globbing"). It takes no memory; the machine's stack grows only with
-    /// choices inside choices. For a path of at most 16,383 bytes, and for one of any length where no item of at most 16,384
-    /// is a choice, it takes at most one step for each item and byte.
+    /// choices inside choices. It takes at most one step for each item and byte: with choices for a path of at most 16,383
+    /// bytes, without them wherever the items or the bytes are fewer than 1,048,576.
     pub fn matches(&self, path: &[u8]) -> bool
         ensures { IsTrue result ↔ Matches self.now.items.items path.now }
     {

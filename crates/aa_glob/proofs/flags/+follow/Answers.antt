@@ -1,7 +1,9 @@
-use Rattle.std.proofs.Common.{◌≡◌, ◌∷◌, [], ℕ, false, sym, ap, ◌∙◌, subst, arith, get_or}
+use Rattle.std.proofs.Common.{◌≡◌, ◌<◌, ◌∷◌, [], ℕ, All, length, false, sym, ap, ◌∙◌, subst, inr, ⊎_elim, arith, get_or}
+use Rattle.std.proofs.lemmas.List.Elements.{All-get_or}
 use Rattle.aa_glob.specs.declared.item.Item.{Item}
 use Rattle.aa_glob.specs.declared.flags.Span.{Span}
 use Rattle.aa_glob.specs.Weights.{weight, weight_of_items, weight_of_lists}
+use Rattle.aa_glob.specs.Steps.{IsSimple}
 use Rattle.aa_glob.specs.Flags.{AreWithin, Follows}
 use Rattle.aa_glob.proofs.Rows.{weight-Choice}
 use Rattle.aa_glob.proofs.FlagSteps.{weight_at, weight_of_at, follows_more, follows_choice, follows_nothing, follows_same, some_more, within_none, within_both, within_same, copied, added, cleared, none_at, many_none}
@@ -20,7 +22,7 @@ follow_branches-follow_items-more-requires t c = (
   (
     omega (arith, c.requires.long_ends, c.copy_flags.auto.flags, c.loop-branch.auto.ends),
     (
-      c.requires.small,
+      inr c.requires.small,
       within_same c.args.flags.now c.copy_flags.new.flags c.args.text.now c.args.span.first c.args.span.end
           (copied c.loop-branch.ends c.copy_flags.new.flags c.args.flags.now c.args.text.now c.args.span.first c.args.span.end c.requires.within c.copy_flags.ensures c.loop-branch.invariant.no_ends) c.requires.within,
     ),
@@ -57,8 +59,13 @@ follow_items-follow_choice-reached-requires t c = (
     ap weight_of_lists c.as_slice.ensures.value,
     ap weight c.in-Choice.is,
   ),
-  (omega (arith, c.requires.long, c.loop-item.auto.flags), (c.requires.small, c.loop-item.invariant.within)),
+  (omega (arith, c.requires.long, c.loop-item.auto.flags), (short, c.loop-item.invariant.within)),
 )
+  where
+    short : length c.args.text.now < 16384
+    short =
+        ⊎_elim (λ (all : All IsSimple c.args.items.now). absurd (subst IsSimple (sym c.item-item.is ∙ c.in-Choice.is) (All-get_or IsSimple c.args.items.now c.loop-item.item-index c.item-item.result c.loop-item-test.true all)))
+        (λ (lt : length c.args.text.now < 16384). lt) c.requires.small
 
 pub follow_items-loop-item-preserved : goal.follow_items-loop-item-preserved
 follow_items-loop-item-preserved t c = record {

@@ -1,4 +1,5 @@
-use Rattle.std.proofs.Common.{◌≡◌, ◌<◌, ℕ, true, false, arith, replicate, get_or, set, length-set, get_or-set_same, get_or-set_other, Bool, ◌∙◌}
+use Rattle.std.proofs.Common.{◌≡◌, ◌<◌, ◌≤◌, ℕ, All, true, false, inl, inr, ⊎_elim, arith, replicate, get_or, set, length-set, get_or-set_same, get_or-set_other, Bool, ◌∙◌}
+use Rattle.aa_glob.specs.Steps.{IsSimple}
 use Rattle.aa_glob.proofs.FlagSteps.{shows_start, shows_whole, within_start, none_at, many_none}
 use Rattle.aa_glob.proofs.flags.matches_by_flags.Goals as goal
 
@@ -8,7 +9,7 @@ no_other n k h = get_or-set_other (replicate n false) 0 k true false (omega arit
 pub follow_items-requires : goal.follow_items-requires
 follow_items-requires g c = record {
   long = omega (arith, c.requires.room, length-set {A = Bool}, many_none g.row.N);
-  small = omega (arith, c.requires.room, c.requires.small);
+  small = ⊎_elim (λ (all : All IsSimple c.args.items.now). inl all) (λ (few : g.row.N ≤ 16384). inr (omega (arith, c.requires.room, few))) c.requires.simple;
   within = within_start c.args.text.now _ (no_other g.row.N);
 }
 
