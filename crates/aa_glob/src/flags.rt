@@ -278,7 +278,6 @@ fn follow_branches(
 }
 
 /// Whether the items match the text, which has fewer than N bytes.
-#[inline(never)]
 pub(crate) fn matches_by_flags<const N: usize>(items: &[Item], text: &[u8]) -> bool
     requires room { length text.now < N }
     requires small { N ≤ MAX_PLACES }

@@ -45,14 +45,13 @@ fn fails_at_once(items: &[Item], text: &[u8]) -> bool
     }
 }
 
-/// The same for items without a choice and a text of any length: the row has room for the fewer of gaps and places.
-fn matches_simple(items: &[Item], text: &[u8]) -> bool
+/// Whether items without a choice match the text, where both may be many: the row has room for the fewer of gaps and places.
+#[inline(never)]
+fn matches_large(items: &[Item], text: &[u8]) -> bool
     requires { All IsSimple items.now }
     ensures { IsTrue result ↔ Matches items.now text.now }
 {
-    if items.len() < READ_GAPS {
-        matches_by_gaps::<READ_GAPS>(items, text)
-    } else if text.len() < MAX_PLACES {
+    if text.len() < MAX_PLACES {
         matches_by_flags::<MAX_PLACES>(items, text)
     } else if items.len() < MAX_GAPS {
         matches_by_gaps::<MAX_GAPS>(items, text)
@@ -73,7 +72,11 @@ fn matches_items(items: &[Item], text: &[u8]) -> bool
     } else if text.len() < PATH_PLACES {
         matches_by_flags::<PATH_PLACES>(items, text)
     } else if are_simple(items) {
-        matches_simple(items, text)
+        if items.len() < READ_GAPS {
+            matches_by_gaps::<READ_GAPS>(items, text)
+        } else {
+            matches_large(items, text)
+        }
     } else if text.len() < CHOICE_PLACES {
         matches_by_flags::<CHOICE_PLACES>(items, text)
     } else {
