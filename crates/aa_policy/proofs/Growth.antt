@@ -6,7 +6,7 @@ use Rattle.std.proofs.lemmas.List.Concat.{flat_map-cons}
 use Rattle.aa_policy.specs.declared.tree.ProfileTree.{ProfileTree}
 use Rattle.aa_policy.specs.declared.policy.PassedOver.{PassedOver}
 use Rattle.aa_policy.specs.Bodies.{tree_data}
-use Rattle.aa_policy.specs.Reading.{rule_data}
+use Rattle.aa_rules.specs.Reading.{rule_data}
 use Rattle.aa_policy.specs.Spelling.{listed_at, passed_over_from}
 
 -- what is found so far, and then what the rest gives, is the whole

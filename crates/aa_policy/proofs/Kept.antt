@@ -9,10 +9,10 @@ use Rattle.std.proofs.lemmas.Slice.Eq.{bytes_eq-Decides}
 use Rattle.aa_words.specs.Splits.{WordData}
 use Rattle.aa_glob.specs.Variables.{Variable}
 use Rattle.aa_policy.specs.Bodies.{ChildData, FamilyData, ProfileData, PartData, Stated, Held, IsStatement, IsChild, IsPart, IsProfile, IsItem, IsPolicy, if_any, rules_in, children_in, child_name, child_profile, family, row_from}
-use Rattle.aa_policy.specs.Grammar.{Production, Ending, Many, IsRule, Closes, IsEnd}
-use Rattle.aa_policy.specs.Heads.{HeadData, IsTitle}
-use Rattle.aa_policy.specs.Names.{is_full_name, is_right_name, is_plain_name}
-use Rattle.aa_policy.specs.Reading.{RuleData, OnFile, OnCap, OnNet, Listed}
+use Rattle.aa_rules.specs.Grammar.{Production, Ending, Many, IsRule, Closes, IsEnd}
+use Rattle.aa_heads.specs.Heads.{HeadData, IsTitle}
+use Rattle.aa_rules.specs.Names.{is_full_name, is_right_name, is_plain_name}
+use Rattle.aa_rules.specs.Reading.{RuleData, OnFile, OnCap, OnNet, Listed}
 use Rattle.aa_policy.specs.Spelling.{on_file, files_of}
 use Rattle.aa_policy.proofs.LawfulModes.{IsLawfulFile, file_lawful}
 use Rattle.aa_policy.proofs.Meaning.{all_append}

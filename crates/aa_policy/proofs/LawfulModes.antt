@@ -7,12 +7,12 @@ use Rattle.std.proofs.lemmas.Option.{option_and_then_some, same_Some}
 use Rattle.std.proofs.lemmas.Nat.{or_lt, and_or_self}
 use Rattle.std.proofs.lemmas.Nat.Bits.{and_pow, bit_at_above}
 use Rattle.aa_words.specs.Splits.{WordData}
-use Rattle.aa_policy.specs.declared.modes.ExecMode.{ExecMode}
-use Rattle.aa_policy.specs.declared.modes.Mode.{Mode}
-use Rattle.aa_policy.specs.declared.tree.Qualifiers.{Qualifiers}
-use Rattle.aa_policy.specs.Modes.{letter_bits, letters_bits, has_letter, exec_of, mode, with_part, part_of, front_of, back_of, mode_of}
-use Rattle.aa_policy.specs.FileRules.{IsPair, IsEntry, IsFile, exec_with}
-use Rattle.aa_policy.specs.Reading.{EntryData, ExecData, FileData}
+use Rattle.aa_rules.specs.declared.modes.ExecMode.{ExecMode}
+use Rattle.aa_rules.specs.declared.modes.Mode.{Mode}
+use Rattle.aa_rules.specs.declared.tree.Qualifiers.{Qualifiers}
+use Rattle.aa_rules.specs.Modes.{letter_bits, letters_bits, has_letter, exec_of, mode, with_part, part_of, front_of, back_of, mode_of}
+use Rattle.aa_rules.specs.FileRules.{IsPair, IsEntry, IsFile, exec_with}
+use Rattle.aa_rules.specs.Reading.{EntryData, ExecData, FileData}
 use Rattle.aa_policy.specs.Lawful.{has_exec}
 use Rattle.aa_policy.specs.Spelling as spelling
 

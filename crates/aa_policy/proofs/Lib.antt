@@ -1,25 +1,11 @@
-pub mod Letters
 pub mod Growth
-pub mod Places
-pub mod Phrases
-pub mod FileRules
-pub mod Productions
-pub mod Preambles
-pub mod Repetition
-pub mod Refusals
-pub mod HeadProductions
 pub mod LawfulModes
 pub mod Decided
-pub mod Pairs
 pub mod Distinct
 pub mod Expanded
 pub mod Meaning
 pub mod Kept
 pub mod Spelled
-mod Entries
-pub mod CapRules
-pub mod NetRules
-pub mod FileWords
 pub mod RuleWords
 pub mod Profiles
 pub mod Parents

@@ -9,12 +9,12 @@ use Rattle.aa_glob.specs.declared.item.Pattern.{Pattern}
 use Rattle.aa_glob.specs.Variables.{Variable}
 use Rattle.aa_policy.specs.declared.rule.FileRule.{FileRule}
 use Rattle.aa_policy.specs.declared.policy.Profile.{Profile}
-use Rattle.aa_policy.specs.declared.tree.RuleTree.{RuleTree}
+use Rattle.aa_rules.specs.declared.tree.RuleTree.{RuleTree}
 use Rattle.aa_policy.specs.declared.tree.ProfileTree.{ProfileTree}
 use Rattle.aa_policy.specs.Expansion.{IsExpanding, tokens_of}
 use Rattle.aa_policy.specs.Bodies.{ProfileData, profile_data, tree_data}
-use Rattle.aa_policy.specs.Heads.{AttachmentData}
-use Rattle.aa_policy.specs.Reading.{FileData, RuleData, OnFile, OnCap, OnNet, Listed, rule_data}
+use Rattle.aa_heads.specs.Heads.{AttachmentData}
+use Rattle.aa_rules.specs.Reading.{FileData, RuleData, OnFile, OnCap, OnNet, Listed, rule_data}
 use Rattle.aa_policy.specs.Spelling.{AttachesTo, MeansRule, MeansProfile, MeansProfiles, on_file, files_of, rule_paths, attachment_paths, profile_paths, paths_of}
 
 -- ---- lists that are related element by element

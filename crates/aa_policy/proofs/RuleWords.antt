@@ -6,17 +6,17 @@ use Rattle.std.proofs.lemmas.Slice.Eq.{bytes_eq-Decides}
 use Rattle.aa_words.specs.declared.word.WordKind.{WordKind}
 use Rattle.aa_words.specs.declared.word.WordKind.TheVariants.{Name}
 use Rattle.aa_words.specs.Splits.{WordData, is_one_of}
-use Rattle.aa_policy.specs.declared.tree.Qualifiers.{Qualifiers}
-use Rattle.aa_policy.specs.Grammar.{IsPermission, IsQualified, Says, IsRule}
-use Rattle.aa_policy.specs.declared.modes.Mode.{Mode}
-use Rattle.aa_policy.specs.FileRules.{IsMode, IsPair, IsEntry, IsFile}
-use Rattle.aa_policy.specs.Modes.{mode_of, letters_bits}
-use Rattle.aa_policy.specs.Heads.{Fits, goes_on, BeginsPathNamed, BeginsProfile}
-use Rattle.aa_policy.specs.Phrases.{Keyword, is_path_kind}
-use Rattle.aa_policy.specs.Reading.{EntryData, FileData, RuleData, OnFile, OnCap, OnNet, Listed}
-use Rattle.aa_policy.proofs.Phrases.{starts_same, starts_kind, keyword_apart, other_left_out, keyword_or_path, left_out, false_true}
-use Rattle.aa_policy.proofs.FileWords.{BeginsNoFile, file_or_keyword, abi_begins_none, profile_begins_none}
-use Rattle.aa_policy.proofs.Productions.{unqualified, keyword_or_passed}
+use Rattle.aa_rules.specs.declared.tree.Qualifiers.{Qualifiers}
+use Rattle.aa_rules.specs.Grammar.{IsPermission, IsQualified, Says, IsRule}
+use Rattle.aa_rules.specs.declared.modes.Mode.{Mode}
+use Rattle.aa_rules.specs.FileRules.{IsMode, IsPair, IsEntry, IsFile}
+use Rattle.aa_rules.specs.Modes.{mode_of, letters_bits}
+use Rattle.aa_heads.specs.Heads.{Fits, goes_on, BeginsPathNamed, BeginsProfile}
+use Rattle.aa_rules.specs.Phrases.{Keyword, is_path_kind}
+use Rattle.aa_rules.specs.Reading.{EntryData, FileData, RuleData, OnFile, OnCap, OnNet, Listed}
+use Rattle.aa_rules.proofs.Phrases.{starts_same, starts_kind, keyword_apart, other_left_out, keyword_or_path, left_out, false_true}
+use Rattle.aa_rules.proofs.FileWords.{BeginsNoFile, file_or_keyword, abi_begins_none, profile_begins_none}
+use Rattle.aa_rules.proofs.Productions.{unqualified, keyword_or_passed}
 
 permission_left_out : (text : List ℕ) (ws r : List WordData) (b : Bool) (bare : List WordData) → BeginsNoFile text → Keyword text ws r → IsPermission ws b bare → bare ≡ ws
 permission_left_out text ws r true bare h k a = absurd (keyword_apart text (codes "deny") ws r bare h.deny k a)

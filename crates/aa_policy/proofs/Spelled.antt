@@ -22,8 +22,8 @@ use Rattle.aa_policy.specs.declared.policy.Profile.{Profile}
 use Rattle.aa_policy.specs.declared.policy.Policy.{Policy}
 use Rattle.aa_policy.specs.Expansion.{tokens_of, IsFirstRefused}
 use Rattle.aa_policy.specs.Bodies.{ProfileData, IsPolicy, if_any}
-use Rattle.aa_policy.specs.Heads.{AttachmentData}
-use Rattle.aa_policy.specs.Reading.{FileData}
+use Rattle.aa_heads.specs.Heads.{AttachmentData}
+use Rattle.aa_rules.specs.Reading.{FileData}
 use Rattle.aa_policy.specs.Lawful.{IsLawful, IsLawfulRule, IsWithinLimits, IsWithinCounts, file_patterns, has_exec, names_of}
 use Rattle.aa_policy.specs.Sameness.{SamePatterns, SameRule, SameProfile, SamePolicy}
 use Rattle.aa_policy.specs.Spelling.{Spells, IsRepeated, AttachesTo, MeansRule, MeansProfile, MeansProfiles, exec_of, files_of, paths_of, passed_over_from}

@@ -9,10 +9,10 @@ use Rattle.aa_policy.specs.declared.tree.ParentTree.{ParentTree}
 use Rattle.aa_policy.specs.declared.tree.ProfileTree.{ProfileTree}
 use Rattle.aa_policy.specs.declared.bodies.PartTree.{PartTree}
 use Rattle.aa_policy.specs.declared.bodies.PartTree.TheVariants.{States, Holds}
-use Rattle.aa_policy.specs.Grammar.{Production, Many, IsRule, Closes, IsEnd}
-use Rattle.aa_policy.specs.Heads.{AttachmentData, attachment_data, HeadData, head_data, IsHead}
-use Rattle.aa_policy.specs.Preamble.{PreambleData, IsAbi, IsPreamble, variables_of}
-use Rattle.aa_policy.specs.Reading.{RuleData, rule_data}
+use Rattle.aa_rules.specs.Grammar.{Production, Many, IsRule, Closes, IsEnd}
+use Rattle.aa_heads.specs.Heads.{AttachmentData, attachment_data, HeadData, head_data, IsHead}
+use Rattle.aa_heads.specs.Preamble.{PreambleData, IsAbi, IsPreamble, variables_of}
+use Rattle.aa_rules.specs.Reading.{RuleData, rule_data}
 
 -- ---- what is written
 

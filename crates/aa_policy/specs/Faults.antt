@@ -5,15 +5,6 @@ use Rattle.aa_words.specs.Kinds.{no_memory}
 use Rattle.aa_words.specs.declared.fault.PolicyKind.{PolicyKind}
 use Rattle.aa_words.specs.declared.fault.PolicyKind.TheVariants.{Syntax, Unsupported, UnknownWord, BadMode, WriteWithAppend, BadPattern, UndefinedVariable, VariableTwice, VariableCircle, TooManyExpansions, RelativePath, DuplicateProfile, TooLarge}
 
--- the kinds of a word at which reading can't go on
-abbrev pub is_word_fault : PolicyKind → Bool
-is_word_fault Syntax = true
-is_word_fault Unsupported = true
-is_word_fault UnknownWord = true
-is_word_fault BadMode = true
-is_word_fault WriteWithAppend = true
-is_word_fault _ = false
-
 -- the kinds of a path that doesn't expand
 abbrev pub is_path_fault : PolicyKind → Bool
 is_path_fault Unsupported = true
@@ -49,10 +40,6 @@ is_parse_fault RelativePath = true
 is_parse_fault DuplicateProfile = true
 is_parse_fault TooLarge = true
 is_parse_fault _ = false
-
--- want of memory, or a word at which reading can't go on
-abbrev pub IsWordRefusal : PolicyFault → Type 0
-IsWordRefusal e = (e ≡ no_memory) ⊎ (is_word_fault e.kind ≡ true)
 
 -- want of memory, or a path that doesn't expand
 abbrev pub IsPathRefusal : PolicyFault → Type 0

@@ -4,7 +4,7 @@ use Rattle.std.specs.List.{All, IsDistinct, sum_by, slice_get}
 use Rattle.std.specs.Option.{option_eq}
 use Rattle.std.specs.Bool.{nat_eq}
 use Rattle.std.specs.Str.{bytes_eq}
-use Rattle.aa_policy.specs.declared.perms.Perms.{Perms}
+use Rattle.aa_tables.specs.declared.perms.Perms.{Perms}
 use Rattle.aa_policy.specs.declared.rule.FileRule.{FileRule}
 use Rattle.aa_policy.specs.declared.policy.Profile.{Profile}
 

@@ -7,18 +7,18 @@ use Rattle.aa_words.specs.declared.fault.PolicyFault.{PolicyFault}
 use Rattle.aa_words.specs.Splits.{WordData}
 use Rattle.aa_glob.specs.declared.item.Pattern.{Pattern}
 use Rattle.aa_glob.specs.Variables.{Variable}
-use Rattle.aa_policy.specs.declared.rule.CapRule.{CapRule}
+use Rattle.aa_rules.specs.declared.rule.CapRule.{CapRule}
 use Rattle.aa_policy.specs.declared.rule.Exec.{Exec}
 use Rattle.aa_policy.specs.declared.rule.FileRule.{FileRule}
-use Rattle.aa_policy.specs.declared.rule.NetRule.{NetRule}
+use Rattle.aa_rules.specs.declared.rule.NetRule.{NetRule}
 use Rattle.aa_policy.specs.declared.policy.Profile.{Profile}
 use Rattle.aa_policy.specs.declared.policy.PassedOver.{PassedOver}
 use Rattle.aa_policy.specs.declared.policy.Policy.{Policy}
 use Rattle.aa_policy.specs.Expansion.{PathData, StandsFor, IsFirstRefused}
 use Rattle.aa_policy.specs.Bodies.{ProfileData, IsPolicy}
-use Rattle.aa_policy.specs.Heads.{AttachmentData}
+use Rattle.aa_heads.specs.Heads.{AttachmentData}
 use Rattle.aa_policy.specs.Lawful.{IsWithinLimits, names_of}
-use Rattle.aa_policy.specs.Reading.{ExecData, FileData, RuleData, OnFile, OnCap, OnNet, Listed}
+use Rattle.aa_rules.specs.Reading.{ExecData, FileData, RuleData, OnFile, OnCap, OnNet, Listed}
 
 -- ---- what is written, and what it means
 

@@ -1,11 +1,10 @@
 //! The rules of a profile on capabilities and on sockets.
 
 ghost use Rattle.std.specs.Prelude.{◌≡◌, ◌++◌, OnOk, IfOk, map, flat_map};
-ghost use Rattle.aa_policy.specs.Reading.{rule_data};
+ghost use Rattle.aa_rules.specs.Reading.{rule_data};
 ghost use Rattle.aa_policy.specs.Spelling.{cap_rules_of, net_rules_of};
 
-use crate::rule::{CapRule, NetRule};
-use crate::tree::RuleTree;
+use aa_rules::{CapRule, NetRule, RuleTree};
 use std::alloc::{AllocError, Global};
 
 /// Adds a rule to those before it, if it is on capabilities.

@@ -3,16 +3,14 @@
 ghost use Rattle.std.specs.Prelude.{◌≡◌, ◌<◌, ◌≤◌, ◌+◌, ◌++◌, true, List, Option, map, flat_map, length, option_map, OnOk, OnErr, IfOk, IfErr};
 ghost use Rattle.aa_words.specs.Kinds.{IsRefusal};
 ghost use Rattle.aa_words.specs.Splits.{WordData};
-ghost use Rattle.aa_policy.specs.Faults.{is_word_fault, IsWordRefusal};
-ghost use Rattle.aa_policy.specs.Grammar.{Closes, Many};
+ghost use Rattle.aa_rules.specs.Faults.{is_word_fault, IsWordRefusal};
+ghost use Rattle.aa_rules.specs.Grammar.{Closes, Many};
 ghost use Rattle.aa_policy.specs.Bodies.{ChildData, FamilyData, PartData, IsStatement, IsChild, IsPart, IsProfile, if_any, rules_in, children_in, child_data, family_data, part_data};
-ghost use Rattle.aa_policy.specs.Reading.{RuleData, rest_of, rule_data};
+ghost use Rattle.aa_rules.specs.Reading.{RuleData, rest_of, rule_data};
 
-use crate::faults::fault;
-use crate::heads::{begins_profile, head_of};
-use crate::preamble::abi_of;
-use crate::reading::{closes, is_keyword, rule_of};
-use crate::tree::{ChildTree, FamilyTree, RuleTree};
+use crate::tree::{ChildTree, FamilyTree};
+use aa_heads::{abi_of, begins_profile, head_of};
+use aa_rules::{RuleTree, closes, fault, is_keyword, rule_of};
 use aa_words::{PolicyFault, PolicyKind, Spot, Word};
 use std::alloc::{AllocError, Global};
 

@@ -7,17 +7,18 @@ ghost use Rattle.aa_policy.specs.declared.rule.FileRule.{FileRule};
 ghost use Rattle.aa_policy.specs.Expansion.{StandsFor, IsRefused, IsFirstRefused};
 ghost use Rattle.aa_policy.specs.Faults.{IsPathRefusal};
 ghost use Rattle.aa_policy.specs.Bodies.{full_name, profile_data, tree_data};
-ghost use Rattle.aa_policy.specs.Heads.{attachment_data};
-ghost use Rattle.aa_policy.specs.Reading.{target_data, exec_data, file_data, rule_data};
+ghost use Rattle.aa_heads.specs.Heads.{attachment_data};
+ghost use Rattle.aa_rules.specs.Reading.{target_data, exec_data, file_data, rule_data};
 ghost use Rattle.aa_policy.specs.Spelling.{AttachesTo, MeansRule, MeansProfile, MeansProfiles, exec_of, on_file, files_of, attachment_paths, rule_paths, profile_paths, paths_of};
 
 use crate::access::{cap_rules, net_rules};
-use crate::heads::AttachmentTree;
 use crate::policy::Profile;
 use crate::rule::{Exec, FileRule};
 use crate::seq::{Seq, Text};
-use crate::tree::{ExecTree, FileTree, ProfileTree, RuleTree};
+use crate::tree::ProfileTree;
 use aa_glob::{Pattern, Vars, expand};
+use aa_heads::AttachmentTree;
+use aa_rules::{ExecTree, FileTree, RuleTree};
 use aa_words::{PolicyFault, PolicyKind, Spot};
 use std::alloc::{AllocError, Global};
 

@@ -3,19 +3,17 @@
 ghost use Rattle.std.specs.Prelude.{◌≡◌, ◌<◌, ◌≤◌, ◌++◌, true, List, Option, map, length, option_map, OnOk, OnErr, IfOk, IfErr};
 ghost use Rattle.aa_words.specs.Kinds.{IsRefusal};
 ghost use Rattle.aa_words.specs.Splits.{WordData, words_data};
-ghost use Rattle.aa_policy.specs.Faults.{IsWordRefusal};
+ghost use Rattle.aa_rules.specs.Faults.{IsWordRefusal};
 ghost use Rattle.aa_policy.specs.Bodies.{FamilyData, ProfileData, IsItem, IsPolicy, row_of, family_data, profile_data, tree_data};
 ghost use Rattle.aa_glob.specs.Variables.{Variable};
-ghost use Rattle.aa_policy.specs.Preamble.{IsTwice, IsUndefined, IsPreambleRefusal};
-ghost use Rattle.aa_policy.specs.Reading.{rest_of};
+ghost use Rattle.aa_heads.specs.Preamble.{IsTwice, IsUndefined, IsPreambleRefusal};
+ghost use Rattle.aa_rules.specs.Reading.{rest_of};
 
-use crate::assignments::begins_assignment;
 use crate::bodies::profile_of;
 use crate::families::push_family;
-use crate::faults::{fault, item_fault};
-use crate::preamble::{abi_of, preamble_of};
-use crate::reading::{is_keyword, path_at};
 use crate::tree::{FamilyTree, PolicyTree, ProfileTree};
+use aa_heads::{abi_of, begins_assignment, preamble_of};
+use aa_rules::{fault, is_keyword, item_fault, path_at};
 use aa_words::{PolicyFault, PolicyKind, Spot, Word};
 use std::alloc::{AllocError, Global};
 

@@ -2,12 +2,13 @@
 
 ghost use Rattle.std.specs.Prelude.{◌≡◌, ◌≤◌, ◌++◌, OnOk, IfOk, length, map, flat_map};
 ghost use Rattle.aa_policy.specs.Bodies.{tree_data};
-ghost use Rattle.aa_policy.specs.Reading.{rule_data};
+ghost use Rattle.aa_rules.specs.Reading.{rule_data};
 ghost use Rattle.aa_policy.specs.Spelling.{listed_at, passed_over_from};
 
 use crate::policy::PassedOver;
 use crate::seq::Text;
-use crate::tree::{ProfileTree, RuleTree};
+use crate::tree::ProfileTree;
+use aa_rules::RuleTree;
 use std::alloc::{AllocError, Global};
 
 /// Adds a rule to those before it, if it is one that is passed over.

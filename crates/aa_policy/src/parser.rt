@@ -4,7 +4,7 @@ ghost use Rattle.std.specs.Prelude.{◌≡◌, ◌⊎◌, List, true, IfOk, IfEr
 ghost use Rattle.aa_words.specs.Kinds.{IsRefusal};
 ghost use Rattle.aa_words.specs.Splits.{WordData, words_data};
 ghost use Rattle.aa_policy.specs.Faults.{IsParseRefusal, is_path_only};
-ghost use Rattle.aa_policy.specs.Preamble.{IsTwice, IsUndefined};
+ghost use Rattle.aa_heads.specs.Preamble.{IsTwice, IsUndefined};
 ghost use Rattle.aa_policy.specs.Sameness.{SamePolicy};
 ghost use Rattle.aa_policy.specs.Spelling.{Spells, IsPathFault, IsDuplicate, IsOverLimits, start};
 ghost use Rattle.aa_policy.specs.declared.policy.Policy.{Policy};

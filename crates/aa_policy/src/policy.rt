@@ -3,9 +3,10 @@
 ghost use Rattle.aa_policy.specs.Lawful.{IsLawful};
 ghost use Rattle.std.proofs.Props.{props};
 
-use crate::rule::{CapRule, FileRule, NetRule};
+use crate::rule::FileRule;
 use crate::seq::{Seq, Text};
 use aa_glob::Pattern;
+use aa_rules::{CapRule, NetRule};
 use aa_words::Spot;
 
 /// A profile with its rules.

@@ -1,33 +1,9 @@
-//! What one rule of a profile says.
+//! What a rule on files says.
 
-use crate::caps::Caps;
-use crate::perms::Perms;
 use crate::seq::{Seq, Text};
 use aa_glob::Pattern;
-
-/// Under which profile a program runs on (apparmor.d(5), "Access Modes").
-#[derive(Clone, Copy, Debug, PartialEq, Eq)]
-pub enum ExecKind {
-    /// The profile of the task that executes it.
-    Inherit,
-    /// None.
-    Unconfined,
-    /// A profile of the policy.
-    Profile,
-    /// A child profile.
-    Child,
-}
-
-/// What an execution does where its profile isn't found.
-#[derive(Clone, Copy, Debug, PartialEq, Eq)]
-pub enum Fallback {
-    /// It is refused.
-    Refuse,
-    /// It stays in its profile.
-    Inherit,
-    /// It leaves all profiles.
-    Unconfined,
-}
+use aa_rules::{ExecKind, Fallback};
+use aa_tables::Perms;
 
 /// How a program may be executed.
 #[derive(Drop)]
@@ -51,23 +27,4 @@ pub struct FileRule {
     pub exec: Option<Exec>,
     /// The rule applies to a path that one of these matches.
     pub patterns: Seq<Pattern>,
-}
-
-/// A rule on capabilities.
-#[derive(Clone, Copy, Debug, PartialEq, Eq)]
-pub struct CapRule {
-    pub audit: bool,
-    pub deny: bool,
-    pub caps: Caps,
-}
-
-/// A rule on sockets.
-#[derive(Clone, Copy, Debug, PartialEq, Eq)]
-pub struct NetRule {
-    pub audit: bool,
-    pub deny: bool,
-    /// Bit n stands for entry n of the table of families.
-    pub families: u64,
-    /// Bit n stands for entry n of the table of socket types.
-    pub kinds: u8,
 }

@@ -1,64 +1,8 @@
 //! What a text's words say as they are written, before any of it is given a meaning.
 
-use crate::heads::HeadTree;
-use crate::modes::{ExecMode, Mode};
-use crate::perms::Perms;
-use crate::rule::{CapRule, NetRule};
 use aa_glob::Vars;
-use aa_words::Spot;
-
-/// What stands before a rule (apparmor.d(5), "Qualifiers"). `allow` says what holds without it.
-#[derive(Clone, Copy, Debug, PartialEq, Eq)]
-pub struct Qualifiers {
-    pub audit: bool,
-    pub deny: bool,
-}
-
-/// How a rule lets a program be executed, as it is written.
-#[derive(Clone, Copy, Debug)]
-pub struct ExecTree<'s> {
-    pub mode: ExecMode,
-    /// The name behind the arrow, as its raw bytes.
-    pub target: Option<&'s [u8]>,
-}
-
-/// What a file rule grants, and where, as it is written.
-#[derive(Clone, Copy, Debug)]
-pub struct EntryTree<'s> {
-    /// Where the word stands that says the path.
-    pub at: Spot,
-    pub path: &'s [u8],
-    pub mode: Mode,
-}
-
-/// A file rule as it is written.
-#[derive(Drop)]
-pub struct FileTree<'s> {
-    pub qualifiers: Qualifiers,
-    /// Whether `owner` stands before its path.
-    pub owner: bool,
-    /// Where its path stands, or `file` by itself.
-    pub at: Spot,
-    /// The path, as its raw bytes.
-    pub path: &'s [u8],
-    /// What its mode grants.
-    pub perms: Perms,
-    /// How its mode lets a program be executed, if it says how.
-    pub exec: Option<ExecTree<'s>>,
-}
-
-/// A rule of a body as it is written.
-#[derive(Drop)]
-pub enum RuleTree<'s> {
-    /// On files.
-    File(FileTree<'s>),
-    /// On capabilities.
-    Cap(CapRule),
-    /// On sockets.
-    Net(NetRule),
-    /// One that is passed over, by its keyword.
-    PassedOver(&'s [u8]),
-}
+use aa_heads::HeadTree;
+use aa_rules::RuleTree;
 
 /// A child profile as it is written.
 #[derive(Drop)]

@@ -4,7 +4,7 @@ use Rattle.std.specs.List.{slice_get}
 use Rattle.aa_policy.specs.declared.policy.Policy.{Policy}
 use Rattle.aa_policy.specs.declared.policy.Profile.{Profile}
 use Rattle.aa_policy.specs.declared.rule.FileRule.{FileRule}
-use Rattle.aa_policy.specs.declared.perms.Perms.{Perms}
+use Rattle.aa_tables.specs.declared.perms.Perms.{Perms}
 use Rattle.aamediate.specs.declared.reply.RequestBits.{RequestBits}
 use Rattle.aamediate.specs.declared.label.Label.{Label}
 use Rattle.aamediate.specs.declared.label.Label.TheVariants.{Unconfined, Confined}

@@ -1,4 +1,4 @@
-use Rattle.aa_policy.specs.Reading.{rule_data}
+use Rattle.aa_rules.specs.Reading.{rule_data}
 use Rattle.aa_policy.specs.Spelling.{cap_rules_of}
 use Rattle.aa_policy.proofs.Growth.{added, rest_step, rest_end}
 use Rattle.aa_policy.proofs.access.cap_rules.Goals as goal

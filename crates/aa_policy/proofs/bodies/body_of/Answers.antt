@@ -2,11 +2,11 @@ use Rattle.std.proofs.Common.{◌+◌, List, [], ◌∷◌, ◌++◌, rules, ari
 use Rattle.std.proofs.lemmas.Result.{err_from_is_err_and}
 use Rattle.aa_words.specs.Splits.{WordData}
 use Rattle.aa_policy.specs.Bodies.{IsPart, rules_in, children_in, part_data}
-use Rattle.aa_policy.specs.Grammar.{Closes}
-use Rattle.aa_policy.specs.Reading.{rest_of}
+use Rattle.aa_rules.specs.Grammar.{Closes}
+use Rattle.aa_rules.specs.Reading.{rest_of}
 use Rattle.aa_policy.proofs.Profiles.{part_reads, more_given}
-use Rattle.aa_policy.proofs.Refusals.{refused_by}
-use Rattle.aa_policy.proofs.Repetition.{reaches_next, reaches_end, reaches_none}
+use Rattle.aa_heads.proofs.Refusals.{refused_by}
+use Rattle.aa_rules.proofs.Repetition.{reaches_next, reaches_end, reaches_none}
 use Rattle.aa_policy.proofs.bodies.body_of.Goals as goal
 
 pub returns-in_err-part-clause-refused : goal.returns-in_err-part-clause-refused

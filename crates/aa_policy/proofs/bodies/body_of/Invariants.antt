@@ -1,9 +1,9 @@
 use Rattle.std.proofs.Common.{◌≡◌, ◌≤◌, List, length, ◌-◌, map}
 use Rattle.std.specs.Prelude.{flat_map}
 use Rattle.aa_policy.specs.Bodies.{PartData, IsPart, rules_in, children_in, child_data}
-use Rattle.aa_policy.specs.Grammar.{Closes}
-use Rattle.aa_policy.specs.Reading.{rest_of, rule_data}
-use Rattle.aa_policy.proofs.Repetition.{Reaches}
+use Rattle.aa_rules.specs.Grammar.{Closes}
+use Rattle.aa_rules.specs.Reading.{rest_of, rule_data}
+use Rattle.aa_rules.proofs.Repetition.{Reaches}
 use Rattle.aa_policy.proofs.bodies.body_of.Given as goal
 
 abbrev pub invariant-parts : goal.invariant-parts

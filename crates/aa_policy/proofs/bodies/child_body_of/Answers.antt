@@ -2,10 +2,10 @@ use Rattle.std.proofs.Common.{◌+◌, List, [], ◌∷◌, ◌++◌, rules, ari
 use Rattle.std.specs.Prelude.{option_map}
 use Rattle.aa_words.specs.Splits.{WordData}
 use Rattle.aa_policy.specs.Bodies.{IsStatement, if_any}
-use Rattle.aa_policy.specs.Grammar.{Closes}
-use Rattle.aa_policy.specs.Reading.{rest_of, rule_data}
+use Rattle.aa_rules.specs.Grammar.{Closes}
+use Rattle.aa_rules.specs.Reading.{rest_of, rule_data}
 use Rattle.aa_policy.proofs.Profiles.{statement_reads, more_given}
-use Rattle.aa_policy.proofs.Repetition.{reaches_next, reaches_end, reaches_none}
+use Rattle.aa_rules.proofs.Repetition.{reaches_next, reaches_end, reaches_none}
 use Rattle.aa_policy.proofs.bodies.child_body_of.Goals as goal
 
 pub returns-in_err-statement-clause-refused : goal.returns-in_err-statement-clause-refused

@@ -1,9 +1,9 @@
 use Rattle.std.proofs.Common.{◌≡◌, ◌≤◌, List, Option, length, ◌-◌, map}
 use Rattle.std.specs.Prelude.{flat_map}
 use Rattle.aa_policy.specs.Bodies.{IsStatement, if_any}
-use Rattle.aa_policy.specs.Grammar.{Closes}
-use Rattle.aa_policy.specs.Reading.{RuleData, rest_of, rule_data}
-use Rattle.aa_policy.proofs.Repetition.{Reaches}
+use Rattle.aa_rules.specs.Grammar.{Closes}
+use Rattle.aa_rules.specs.Reading.{RuleData, rest_of, rule_data}
+use Rattle.aa_rules.proofs.Repetition.{Reaches}
 use Rattle.aa_policy.proofs.bodies.child_body_of.Given as goal
 
 abbrev pub invariant-statements : goal.invariant-statements

@@ -1,8 +1,8 @@
 use Rattle.std.proofs.Common.{rules, ◌+◌}
 use Rattle.std.specs.Prelude.{codes}
 use Rattle.std.proofs.lemmas.Result.{err_from_is_err_and}
-use Rattle.aa_policy.specs.Grammar.{Keyword, LacksKeyword}
-use Rattle.aa_policy.specs.Reading.{rest_of}
+use Rattle.aa_rules.specs.Grammar.{Keyword, LacksKeyword}
+use Rattle.aa_rules.specs.Reading.{rest_of}
 use Rattle.aa_policy.proofs.Profiles.{no_statement, no_abi_statement}
 use Rattle.aa_policy.proofs.bodies.statement_of.Goals as goal
 

@@ -1,9 +1,9 @@
 use Rattle.std.proofs.lemmas.Result.{err_from_is_err_and}
-use Rattle.aa_policy.specs.Reading.{rule_data}
+use Rattle.aa_rules.specs.Reading.{rule_data}
 use Rattle.aa_policy.specs.Spelling.{rule_paths}
 use Rattle.aa_policy.proofs.Expanded.{refused_at, passed_at}
 use Rattle.aa_policy.proofs.Meaning.{rules_more, rule_expands}
-use Rattle.aa_policy.proofs.Refusals.{handed_on}
+use Rattle.aa_heads.proofs.Refusals.{handed_on}
 use Rattle.aa_policy.proofs.expansion.file_rules.Goals as goal
 
 pub returns-in_err-push_file_rule-clause-refused : goal.returns-in_err-push_file_rule-clause-refused

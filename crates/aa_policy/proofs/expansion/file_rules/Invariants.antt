@@ -3,7 +3,7 @@ use Rattle.std.specs.Prelude.{flat_map}
 use Rattle.std.specs.List.{AllZip}
 use Rattle.aa_words.specs.declared.fault.PolicyFault.{PolicyFault}
 use Rattle.aa_policy.specs.Expansion.{IsFirstRefused}
-use Rattle.aa_policy.specs.Reading.{rule_data}
+use Rattle.aa_rules.specs.Reading.{rule_data}
 use Rattle.aa_policy.specs.Spelling.{MeansRule, files_of, rule_paths}
 use Rattle.aa_policy.proofs.expansion.file_rules.Given as goal
 

@@ -3,12 +3,12 @@ use Rattle.std.specs.Prelude.{option_map}
 use Rattle.std.proofs.lemmas.List.{length-map}
 use Rattle.std.proofs.lemmas.Result.{err_from_is_err_and}
 use Rattle.aa_policy.specs.Bodies.{IsItem, family_data, profile_data}
-use Rattle.aa_policy.specs.Grammar.{IsEnd}
-use Rattle.aa_policy.specs.Reading.{rest_of}
-use Rattle.aa_policy.proofs.Places.{nothing_here, something_here}
+use Rattle.aa_rules.specs.Grammar.{IsEnd}
+use Rattle.aa_rules.specs.Reading.{rest_of}
+use Rattle.aa_rules.proofs.Places.{nothing_here, something_here}
 use Rattle.aa_policy.proofs.Profiles.{item_reads, no_preamble, no_items, row_next}
-use Rattle.aa_policy.proofs.Refusals.{refused_by}
-use Rattle.aa_policy.proofs.Repetition.{reaches_next, reaches_end, reaches_none}
+use Rattle.aa_heads.proofs.Refusals.{refused_by}
+use Rattle.aa_rules.proofs.Repetition.{reaches_next, reaches_end, reaches_none}
 use Rattle.aa_policy.proofs.items.tree_of.Goals as goal
 
 pub returns-in_err-vars-clause-refused : goal.returns-in_err-vars-clause-refused

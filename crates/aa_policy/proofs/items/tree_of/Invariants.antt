@@ -1,9 +1,9 @@
 use Rattle.std.proofs.Common.{◌≡◌, ◌≤◌, List, Option, length, ◌-◌}
 use Rattle.std.specs.Prelude.{flat_map}
 use Rattle.aa_policy.specs.Bodies.{FamilyData, IsItem, if_any, row_from, tree_data}
-use Rattle.aa_policy.specs.Grammar.{IsEnd}
-use Rattle.aa_policy.specs.Reading.{rest_of}
-use Rattle.aa_policy.proofs.Repetition.{Reaches}
+use Rattle.aa_rules.specs.Grammar.{IsEnd}
+use Rattle.aa_rules.specs.Reading.{rest_of}
+use Rattle.aa_rules.proofs.Repetition.{Reaches}
 use Rattle.aa_policy.proofs.items.tree_of.Given as goal
 
 abbrev pub invariant-items : goal.invariant-items

@@ -1,7 +1,7 @@
 use Rattle.std.proofs.Common.{◌∙◌, ◌++◌, List, ap}
 use Rattle.std.specs.Prelude.{map, flat_map}
-use Rattle.aa_policy.specs.declared.tree.RuleTree.{RuleTree}
-use Rattle.aa_policy.specs.Reading.{rule_data}
+use Rattle.aa_rules.specs.declared.tree.RuleTree.{RuleTree}
+use Rattle.aa_rules.specs.Reading.{rule_data}
 use Rattle.aa_policy.specs.Spelling.{listed_at}
 use Rattle.aa_policy.proofs.Growth.{added, profile_step, profile_end}
 use Rattle.aa_policy.proofs.listing.passed_over.Goals as goal

@@ -1,4 +1,4 @@
-use Rattle.aa_policy.specs.Reading.{rule_data}
+use Rattle.aa_rules.specs.Reading.{rule_data}
 use Rattle.aa_policy.specs.Spelling.{listed_at}
 use Rattle.aa_policy.proofs.Growth.{added, rest_step, rest_end}
 use Rattle.aa_policy.proofs.listing.push_all_listed.Goals as goal

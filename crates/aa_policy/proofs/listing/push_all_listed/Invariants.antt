@@ -1,6 +1,6 @@
 use Rattle.std.proofs.Common.{◌≡◌, ◌++◌, drop, map}
 use Rattle.std.specs.Prelude.{flat_map}
-use Rattle.aa_policy.specs.Reading.{rule_data}
+use Rattle.aa_rules.specs.Reading.{rule_data}
 use Rattle.aa_policy.specs.Spelling.{listed_at}
 use Rattle.aa_policy.proofs.listing.push_all_listed.Given as goal
 

@@ -10,7 +10,7 @@ use Rattle.aa_policy.specs.Bodies.{IsPolicy, tree_data}
 use Rattle.aa_policy.specs.Lawful.{IsLawful, IsWithinLimits, names_of}
 use Rattle.aa_policy.specs.Spelling.{IsRepeated, MeansProfiles}
 use Rattle.aa_policy.proofs.Meaning.{few_trees}
-use Rattle.aa_policy.proofs.Refusals.{refused_by, unless_memory}
+use Rattle.aa_heads.proofs.Refusals.{refused_by, unless_memory}
 use Rattle.aa_policy.proofs.Spelled.{no_policy, no_paths, no_names, no_limits, lawful}
 use Rattle.aa_policy.proofs.parser.parse.Goals as goal
 

@@ -1,0 +1,3 @@
+pub mod HeadProductions
+pub mod Preambles
+pub mod Refusals

@@ -1,0 +1,32 @@
+use Rattle.std.proofs.Common.{◌≡◌, ◌+◌, [], map, length, None, rules}
+use Rattle.std.proofs.lemmas.Result.{err_from_is_err_and}
+use Rattle.aa_heads.specs.Preamble.{assignment, assigned}
+use Rattle.aa_rules.specs.Reading.{rest_of}
+use Rattle.aa_heads.proofs.Preambles.{assignment_is, no_variables, no_values, none_of}
+use Rattle.aa_heads.proofs.Refusals.{refused_by}
+use Rattle.aa_heads.proofs.assignments.assignment_of.Goals as goal
+
+pub returns-in_default-clause-refused : goal.returns-in_default-clause-refused
+returns-in_default-clause-refused c = λ h x more rest a g. c.in_default.ensures.missing x.at x.name x.adds a.after a.head
+
+pub returns-in_err-assign-clause-refused : goal.returns-in_err-assign-clause-refused
+returns-in_err-assign-clause-refused c = λ h x more rest a g.
+    let q = err_from_is_err_and c.from_residual-in_err-assign.result c.from_residual-in_err-assign.ensures.1 in
+    let head = c.in-Some.head in
+    let values = map (λ v. v.now) c.in_ok-values.values.items in
+    let same : x ≡ assignment head.at head.name.now head.adds values =
+    assignment_is (rest_of c.args.words.now c.args.at) head.at head.name.now head.adds (rest_of c.args.words.now (c.args.at + 2)) values (rest_of c.args.words.now c.in_ok-values.next) x rest
+    c.in-Some.ensures.found c.in_ok-values.ensures.found a in
+    let none : assigned c.args.vars.now (assignment head.at head.name.now head.adds values) ≡ None = rw (← c.as_slice.ensures.value) (c.in_err-assign.ensures.refused (refused_by c.from_residual-in_err-assign.result _ _ q.1 q.2 h)) in
+    no_variables c.args.vars.now x (assignment head.at head.name.now head.adds values) more same none g
+
+pub returns-then-is_empty-clause-refused : goal.returns-then-is_empty-clause-refused
+returns-then-is_empty-clause-refused c = λ h x more rest a g.
+    let head = c.in-Some.head in
+    let values = map (λ v. v.now) c.in_ok-values.values.items in
+    let same : x ≡ assignment head.at head.name.now head.adds values =
+    assignment_is (rest_of c.args.words.now c.args.at) head.at head.name.now head.adds (rest_of c.args.words.now (c.args.at + 2)) values (rest_of c.args.words.now c.in_ok-values.next) x rest
+    c.in-Some.ensures.found c.in_ok-values.ensures.found a in
+    let zero : length c.in_ok-values.values.items ≡ 0 = search rules in
+    let none : values ≡ [] = none_of (λ v. v.now) c.in_ok-values.values.items zero in
+    no_values (rest_of c.args.words.now c.args.at) x rest (assignment head.at head.name.now head.adds values) same none a

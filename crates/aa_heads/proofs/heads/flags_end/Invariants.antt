@@ -1,0 +1,16 @@
+use Rattle.std.proofs.Common.{◌≤◌, List, length, ◌-◌}
+use Rattle.aa_words.specs.declared.word.WordKind.TheVariants.{RightParen}
+use Rattle.aa_words.specs.Splits.{WordData}
+use Rattle.aa_heads.specs.Heads.{Stands, Fits, is_flag}
+use Rattle.aa_rules.specs.Reading.{rest_of}
+use Rattle.aa_rules.proofs.Repetition.{Reaches}
+use Rattle.aa_heads.proofs.heads.flags_end.Given as goal
+
+abbrev pub invariant-flags : goal.invariant-flags
+invariant-flags l = record {
+  reach : (found : List WordData) × Reaches (Fits is_flag) (Stands RightParen) (rest_of l.words l.start) found (rest_of l.words l.at);
+  behind : l.start ≤ l.at;
+}
+
+abbrev pub decreases-flags : goal.decreases-flags
+decreases-flags l = length l.words - l.at

@@ -1,0 +1,17 @@
+use Rattle.std.proofs.Common.{rules}
+use Rattle.std.specs.Prelude.{codes}
+use Rattle.std.proofs.lemmas.Result.{on_err_weaker}
+use Rattle.aa_rules.specs.Grammar.{Keyword, LacksKeyword}
+use Rattle.aa_rules.specs.Reading.{rest_of}
+use Rattle.aa_heads.proofs.HeadProductions.{no_named, no_title}
+use Rattle.aa_heads.proofs.heads.title_of.Goals as goal
+
+pub returns-then-is_keyword-clause-refused : goal.returns-then-is_keyword-clause-refused
+returns-then-is_keyword-clause-refused c =
+    let yes : Keyword (codes "profile") (rest_of c.args.words.now c.args.at) _ = search rules in
+    on_err_weaker c.named_of.result (no_named _ _ _ yes) c.named_of.ensures.refused
+
+pub returns-clause-refused : goal.returns-clause-refused
+returns-clause-refused c =
+    let no : LacksKeyword (codes "profile") (rest_of c.args.words.now c.args.at) = search rules in
+    on_err_weaker c.path_named_of.result (no_title _ _ no) c.path_named_of.ensures.refused

@@ -1,0 +1,6 @@
+use Rattle.aa_rules.specs.Reading.{rest_of}
+use Rattle.aa_heads.proofs.Preambles.{as_item}
+use Rattle.aa_heads.proofs.preamble.item_of.Goals as goal
+
+pub returns-clause-found : goal.returns-clause-found
+returns-clause-found c = as_item c.assignment_of.result c.args.words.now (rest_of c.args.words.now c.args.at) c.args.vars.now c.assignment_of.new.vars c.assignment_of.ensures.found

@@ -1,0 +1,14 @@
+use Rattle.std.proofs.Common.{◌≤◌, length, ◌-◌}
+use Rattle.aa_rules.specs.Reading.{rest_of}
+use Rattle.aa_heads.proofs.Preambles.{Stands}
+use Rattle.aa_heads.proofs.preamble.preamble_of.Given as goal
+
+abbrev pub invariant-items : goal.invariant-items
+invariant-items l = record {
+  stands : Stands (rest_of l.words l.start) (rest_of l.words l.at) l.vars;
+  behind : l.start ≤ l.at;
+  within : l.at ≤ length l.words;
+}
+
+abbrev pub decreases-items : goal.decreases-items
+decreases-items l = length l.words - l.at

@@ -1,0 +1,3 @@
+pub use Rattle.aa_glob.specs.Variables
+pub mod Heads
+pub mod Preamble

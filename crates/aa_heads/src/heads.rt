@@ -1,0 +1,364 @@
+//! The head of a profile: how it is named, where it attaches, its flags (apparmor.d(5), "Profile Head").
+
+ghost use Rattle.std.specs.Prelude.{ℕ, ◌≡◌, ◌<◌, ◌≤◌, ◌+◌, true, List, Option, length, option_map, IfSome, IfNone, OnSome, OnErr, IfOk, IfErr};
+ghost use Rattle.std.specs.Bool.{OnTrue, OnFalse};
+ghost use Rattle.aa_words.specs.Splits.{WordData, word_data, is_one_of};
+ghost use Rattle.aa_rules.specs.Faults.{is_word_fault};
+ghost use Rattle.aa_rules.specs.Grammar.{StartsAs, LacksAll};
+ghost use Rattle.aa_heads.specs.Heads.{HeadData, AttachmentData, head_data, attachment_data, Stands, Fits, LacksFitting, OptionalPath, attached, attachment_of, IsNamed, IsPathNamed, IsTitle, known_flags, is_flag, AreFlags, OpensFlags, IsFlags, IsOpening, IsHead, goes_on, BeginsPathNamed, BeginsProfile};
+ghost use Rattle.aa_rules.specs.Reading.{rest_of};
+
+use aa_rules::{
+    begins_with, fault, is_keyword, is_plain_name, is_right_name, name_at, name_fault, path_at,
+    spot_of, word_at,
+};
+use aa_words::{PolicyFault, PolicyKind, Spot, Word, WordKind};
+
+/// What a profile attaches to, as it is written.
+#[derive(Clone, Copy, Debug)]
+pub struct AttachmentTree<'s> {
+    /// Where its path stands.
+    pub at: Spot,
+    /// The path, as its raw bytes.
+    pub path: &'s [u8],
+}
+
+/// The head of a profile as it is written.
+#[derive(Clone, Copy, Debug)]
+pub struct HeadTree<'s> {
+    /// Where its name stands.
+    pub at: Spot,
+    /// The name, as its raw bytes.
+    pub name: &'s [u8],
+    /// What it attaches to, if it attaches.
+    pub attachment: Option<AttachmentTree<'s>>,
+}
+
+/// The path at a place, if one stands there, and the place behind it.
+fn optional_path<'w, 's>(words: &'w [Word<'s>], at: usize) -> (Option<&'w Word<'s>>, usize)
+    ensures read { OptionalPath (rest_of words.now at) (option_map (λ w. word_data w.now) result.0) (rest_of words.now result.1) }
+    ensures onward { at ≤ result.1 }
+    ensures within { at ≤ length words.now → result.1 ≤ length words.now }
+{
+    match path_at(words, at) {
+        Some(path) => (Some(path), at + 1),
+        None => (None, at),
+    }
+}
+
+/// A word as an attachment.
+fn attached<'s>(word: &Word<'s>) -> AttachmentTree<'s>
+    ensures { attachment_data result ≡ attached (word_data word.now) }
+{
+    AttachmentTree {
+        at: spot_of(word),
+        path: word.text,
+    }
+}
+
+/// What a profile attaches to that is named behind the keyword: the path that is written, else
+/// its name, if it is a path.
+fn attachment_of<'s>(name: &Word<'s>, path: Option<&Word<'s>>) -> Option<AttachmentTree<'s>>
+    ensures { option_map attachment_data result ≡ attachment_of (word_data name.now) (option_map (λ w. word_data w.now) path.entry) }
+{
+    match path {
+        Some(path) => Some(attached(path)),
+        None if begins_with(name.text, b'/') => Some(attached(name)),
+        None => None,
+    }
+}
+
+/// Why a head can't go on at a word behind its name: extended attributes are left out.
+fn head_fault(words: &[Word], at: usize, end: Spot) -> PolicyFault
+    ensures { is_word_fault result.kind ≡ true }
+{
+    let kind = if is_keyword(words, at, "xattrs".as_bytes()) {
+        PolicyKind::Unsupported
+    } else {
+        PolicyKind::Syntax
+    };
+    fault(kind, words, at, end)
+}
+
+/// A name and an attachment, where the keyword stands before them, and the place behind them.
+fn named_of<'s>(
+    words: &[Word<'s>],
+    at: usize,
+    top: bool,
+    end: Spot,
+) -> Result<(HeadTree<'s>, usize), PolicyFault>
+    ensures found { IfOk result (λ r. IsNamed top (rest_of words.now at) (head_data r.0) (rest_of words.now r.1)) }
+    ensures refused { OnErr result ((h : HeadData) (rest : List WordData) → IsNamed top (rest_of words.now at) h rest → ⊥) }
+    ensures cause { IfErr result (λ e. is_word_fault e.kind ≡ true) }
+    ensures within { IfOk result (λ r. (at < r.1) × (r.1 ≤ length words.now)) }
+{
+    let Some(name) = name_at(words, at) else {
+        return Err(fault(PolicyKind::Syntax, words, at, end));
+    };
+    if !is_plain_name(name.text, top) {
+        return Err(fault(name_fault(name.text), words, at, end));
+    }
+    let (path, next) = optional_path(words, at + 1);
+    let head = HeadTree {
+        at: spot_of(name),
+        name: name.text,
+        attachment: attachment_of(name, path),
+    };
+    Ok((head, next))
+}
+
+/// A path that is name and attachment, and the place behind it.
+fn path_named_of<'s>(
+    words: &[Word<'s>],
+    at: usize,
+    top: bool,
+    end: Spot,
+) -> Result<(HeadTree<'s>, usize), PolicyFault>
+    ensures found { IfOk result (λ r. IsPathNamed top (rest_of words.now at) (head_data r.0) (rest_of words.now r.1)) }
+    ensures refused { OnErr result ((h : HeadData) (rest : List WordData) → IsPathNamed top (rest_of words.now at) h rest → ⊥) }
+    ensures cause { IfErr result (λ e. is_word_fault e.kind ≡ true) }
+    ensures within { IfOk result (λ r. (at < r.1) × (r.1 ≤ length words.now)) }
+{
+    let Some(path) = path_at(words, at) else {
+        return Err(fault(PolicyKind::Syntax, words, at, end));
+    };
+    if !is_right_name(path.text, top) {
+        return Err(fault(name_fault(path.text), words, at, end));
+    }
+    let head = HeadTree {
+        at: spot_of(path),
+        name: path.text,
+        attachment: Some(attached(path)),
+    };
+    Ok((head, at + 1))
+}
+
+/// How a profile is named and where it attaches, and the place behind that.
+fn title_of<'s>(
+    words: &[Word<'s>],
+    at: usize,
+    top: bool,
+    end: Spot,
+) -> Result<(HeadTree<'s>, usize), PolicyFault>
+    ensures found { IfOk result (λ r. IsTitle top (rest_of words.now at) (head_data r.0) (rest_of words.now r.1)) }
+    ensures refused { OnErr result ((h : HeadData) (rest : List WordData) → IsTitle top (rest_of words.now at) h rest → ⊥) }
+    ensures cause { IfErr result (λ e. is_word_fault e.kind ≡ true) }
+    ensures within { IfOk result (λ r. (at < r.1) × (r.1 ≤ length words.now)) }
+{
+    if is_keyword(words, at, "profile".as_bytes()) {
+        return named_of(words, at + 1, top, end);
+    }
+    path_named_of(words, at, top, end)
+}
+
+/// Whether a flag has no effect.
+fn is_known_flag(name: &[u8]) -> bool
+    ensures { result ≡ is_one_of known_flags name.now }
+{
+    name == "enforce".as_bytes()
+        || name == "attach_disconnected".as_bytes()
+        || name == "mediate_deleted".as_bytes()
+}
+
+/// Whether a word is a flag that is read, or a comma.
+fn is_flag(kind: WordKind, text: &[u8]) -> bool
+    ensures { result ≡ is_flag kind text.now }
+{
+    match kind {
+        WordKind::Comma => true,
+        WordKind::Name => is_known_flag(text),
+        _ => false,
+    }
+}
+
+/// The flag or the comma at a place.
+#[tactic(auto, using(crate::proofs::HeadProductions::fits_word, crate::proofs::HeadProductions::lacks_word, crate::proofs::HeadProductions::lacks_past))]
+fn flag_at<'w, 's>(words: &'w [Word<'s>], at: usize) -> Option<&'w Word<'s>>
+    ensures found { IfSome result (λ w. Fits is_flag (rest_of words.now at) (word_data w.now) (rest_of words.now (at + 1))) }
+    ensures missing { IfNone result (LacksFitting is_flag (rest_of words.now at)) }
+    ensures within { OnSome result (at < length words.now) }
+{
+    if at >= words.len() {
+        return None;
+    }
+    let word = &words[at];
+    if !is_flag(word.kind, word.text) {
+        return None;
+    }
+    Some(word)
+}
+
+/// Whether a word is a flag that the rules of this crate leave out.
+fn is_left_out_flag(name: &[u8]) -> bool {
+    name == "complain".as_bytes()
+        || name == "audit".as_bytes()
+        || name == "kill".as_bytes()
+        || name == "unconfined".as_bytes()
+        || name == "prompt".as_bytes()
+        || name == "default_allow".as_bytes()
+        || name == "xattrs".as_bytes()
+}
+
+/// Whether a word is `enforce`.
+fn is_enforce(word: &Word) -> bool {
+    word.kind == WordKind::Name && word.text == "enforce".as_bytes()
+}
+
+/// Why a name isn't read as a flag: one that is left out is refused where it stands, so of
+/// `complain` and `enforce` the contradiction is met only where `complain` is the later one.
+fn flag_name_fault(name: &[u8], enforced: bool) -> PolicyKind
+    ensures { is_word_fault result ≡ true }
+{
+    if enforced && name == "complain".as_bytes() {
+        PolicyKind::Syntax
+    } else if is_left_out_flag(name) {
+        PolicyKind::Unsupported
+    } else {
+        PolicyKind::UnknownWord
+    }
+}
+
+/// Why a word among the flags, of which the first stands at `start`, isn't one: a flag with a
+/// value is left out.
+fn flag_fault(words: &[Word], start: usize, at: usize, end: Spot) -> PolicyFault
+    ensures { is_word_fault result.kind ≡ true }
+{
+    if at >= words.len() || at < start {
+        return fault(PolicyKind::Syntax, words, at, end);
+    }
+    let before = &words[start..at];
+    let word = &words[at];
+    let kind = match (word.kind, before) {
+        (WordKind::Name, _) => flag_name_fault(word.text, before.iter().any(is_enforce)),
+        (WordKind::Equals, [.., flag]) if flag.kind == WordKind::Name => PolicyKind::Unsupported,
+        _ => PolicyKind::Syntax,
+    };
+    fault(kind, words, at, end)
+}
+
+/// The place behind the parenthesis that closes the flags, of which the first stands at `start`.
+fn flags_end(words: &[Word], start: usize, end: Spot) -> Result<usize, PolicyFault>
+    ensures found { IfOk result (λ r. (between : List WordData) × AreFlags (rest_of words.now start) between (rest_of words.now r)) }
+    ensures refused { OnErr result ((between : List WordData) (rest : List WordData) → AreFlags (rest_of words.now start) between rest → ⊥) }
+    ensures cause { IfErr result (λ e. is_word_fault e.kind ≡ true) }
+    ensures within { IfOk result (λ r. (start < r) × (r ≤ length words.now)) }
+{
+    let mut at = start;
+    'flags: while word_at(words, at, WordKind::RightParen).is_none() {
+        let Some(_) = flag_at(words, at) else {
+            return Err(flag_fault(words, start, at, end));
+        };
+        at += 1;
+    }
+    Ok(at + 1)
+}
+
+/// The place behind the parenthesis that opens the flags.
+fn flags_start(words: &[Word], at: usize, end: Spot) -> Result<usize, PolicyFault>
+    ensures found { IfOk result (λ r. OpensFlags (rest_of words.now at) (rest_of words.now r)) }
+    ensures refused { OnErr result ((rest : List WordData) → OpensFlags (rest_of words.now at) rest → ⊥) }
+    ensures cause { IfErr result (λ e. is_word_fault e.kind ≡ true) }
+    ensures within { IfOk result (λ r. (at < r) × (r ≤ length words.now)) }
+{
+    if word_at(words, at, WordKind::LeftParen).is_some() {
+        return Ok(at + 1);
+    }
+    if !is_keyword(words, at, "flags".as_bytes()) {
+        return Err(head_fault(words, at, end));
+    }
+    let equals = at + 1;
+    let Some(_) = word_at(words, equals, WordKind::Equals) else {
+        return Err(head_fault(words, equals, end));
+    };
+    let paren = equals + 1;
+    let Some(_) = word_at(words, paren, WordKind::LeftParen) else {
+        return Err(head_fault(words, paren, end));
+    };
+    Ok(paren + 1)
+}
+
+/// The place behind the flags, which stand there.
+fn flags_of(words: &[Word], at: usize, end: Spot) -> Result<usize, PolicyFault>
+    ensures found { IfOk result (λ r. (flags : List (List ℕ)) × IsFlags (rest_of words.now at) flags (rest_of words.now r)) }
+    ensures refused { OnErr result ((flags : List (List ℕ)) (rest : List WordData) → IsFlags (rest_of words.now at) flags rest → ⊥) }
+    ensures cause { IfErr result (λ e. is_word_fault e.kind ≡ true) }
+    ensures within { IfOk result (λ r. (at < r) × (r ≤ length words.now)) }
+{
+    let inside = flags_start(words, at, end)?;
+    flags_end(words, inside, end)
+}
+
+/// The place behind the brace that opens a body, before which flags may stand.
+fn opening_of(words: &[Word], at: usize, end: Spot) -> Result<usize, PolicyFault>
+    ensures found { IfOk result (λ r. (flags : Option (List (List ℕ))) × IsOpening (rest_of words.now at) flags (rest_of words.now r)) }
+    ensures refused { OnErr result ((flags : Option (List (List ℕ))) (rest : List WordData) → IsOpening (rest_of words.now at) flags rest → ⊥) }
+    ensures cause { IfErr result (λ e. is_word_fault e.kind ≡ true) }
+    ensures within { IfOk result (λ r. (at < r) × (r ≤ length words.now)) }
+{
+    if word_at(words, at, WordKind::Open).is_some() {
+        return Ok(at + 1);
+    }
+    let brace = flags_of(words, at, end)?;
+    let Some(_) = word_at(words, brace, WordKind::Open) else {
+        return Err(head_fault(words, brace, end));
+    };
+    Ok(brace + 1)
+}
+
+/// The head of a profile, of the top level or of a child, and the place behind its opening brace.
+pub fn head_of<'s>(
+    words: &[Word<'s>],
+    at: usize,
+    top: bool,
+    end: Spot,
+) -> Result<(HeadTree<'s>, usize), PolicyFault>
+    ensures found { IfOk result (λ r. IsHead top (rest_of words.now at) (head_data r.0) (rest_of words.now r.1)) }
+    ensures refused { OnErr result ((h : HeadData) (rest : List WordData) → IsHead top (rest_of words.now at) h rest → ⊥) }
+    ensures cause { IfErr result (λ e. is_word_fault e.kind ≡ true) }
+    ensures within { IfOk result (λ r. (at < r.1) × (r.1 ≤ length words.now)) }
+{
+    let (head, after) = title_of(words, at, top, end)?;
+    let body = opening_of(words, after, end)?;
+    Ok((head, body))
+}
+
+/// Whether a word behind a path makes it the name of a profile.
+fn goes_on(kind: WordKind, text: &[u8]) -> bool
+    ensures { result ≡ goes_on kind text.now }
+{
+    match kind {
+        WordKind::Open | WordKind::LeftParen => true,
+        WordKind::Name => text == "flags".as_bytes() || text == "xattrs".as_bytes(),
+        _ => false,
+    }
+}
+
+/// The word at a place, if it makes a path before it the name of a profile.
+#[tactic(auto, using(crate::proofs::HeadProductions::fits_word, crate::proofs::HeadProductions::lacks_word, crate::proofs::HeadProductions::lacks_past))]
+fn going_on_at<'w, 's>(words: &'w [Word<'s>], at: usize) -> Option<&'w Word<'s>>
+    ensures found { IfSome result (λ w. Fits goes_on (rest_of words.now at) (word_data w.now) (rest_of words.now (at + 1))) }
+    ensures missing { IfNone result (LacksFitting goes_on (rest_of words.now at)) }
+{
+    if at >= words.len() {
+        return None;
+    }
+    let word = &words[at];
+    if !goes_on(word.kind, word.text) {
+        return None;
+    }
+    Some(word)
+}
+
+/// Whether a profile begins at a word of a body: at its keyword, or at a path that names it.
+pub fn begins_profile(words: &[Word], at: usize) -> bool
+    ensures yes { OnTrue result (BeginsProfile (rest_of words.now at)) }
+    ensures no { OnFalse result (BeginsProfile (rest_of words.now at) → ⊥) }
+{
+    if is_keyword(words, at, "profile".as_bytes()) {
+        return true;
+    }
+    if path_at(words, at).is_none() {
+        return false;
+    }
+    going_on_at(words, at + 1).is_some()
+}

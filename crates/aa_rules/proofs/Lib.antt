@@ -1,0 +1,10 @@
+pub mod CapRules
+pub mod FileRules
+pub mod FileWords
+pub mod Letters
+pub mod NetRules
+pub mod Pairs
+pub mod Phrases
+pub mod Places
+pub mod Productions
+pub mod Repetition

@@ -1,0 +1,10 @@
+pub use Rattle.aa_tables.specs.Tables
+pub mod CapRules
+pub mod Faults
+pub mod FileRules
+pub mod Grammar
+pub mod Modes
+pub mod Names
+pub mod NetRules
+pub mod Phrases
+pub mod Reading

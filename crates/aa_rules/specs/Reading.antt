@@ -1,0 +1,67 @@
+-- What a text's rules are as they are written, before any of it is given a meaning.
+use Rattle.std.specs.Prelude.{ℕ, Bool, List, Option, option_map, drop}
+use Rattle.std.specs.Borrow.{Bor}
+use Rattle.aa_words.specs.declared.fault.Spot.{Spot}
+use Rattle.aa_words.specs.declared.word.Word.{Word}
+use Rattle.aa_words.specs.Splits.{WordData, words_data}
+use Rattle.aa_tables.specs.declared.perms.Perms.{Perms}
+use Rattle.aa_rules.specs.declared.modes.ExecMode.{ExecMode}
+use Rattle.aa_rules.specs.declared.modes.Mode.{Mode}
+use Rattle.aa_rules.specs.declared.tree.EntryTree.{EntryTree}
+use Rattle.aa_rules.specs.declared.tree.ExecTree.{ExecTree}
+use Rattle.aa_rules.specs.declared.rule.CapRule.{CapRule}
+use Rattle.aa_rules.specs.declared.rule.NetRule.{NetRule}
+use Rattle.aa_rules.specs.declared.tree.FileTree.{FileTree}
+use Rattle.aa_rules.specs.declared.tree.Qualifiers.{Qualifiers}
+use Rattle.aa_rules.specs.declared.tree.RuleTree.{RuleTree}
+use Rattle.aa_rules.specs.declared.tree.RuleTree.TheVariants.{File, Cap, Net, PassedOver}
+
+-- how a mode lets a program be executed, and the profile behind its arrow
+pub record ExecData : Type 0 where
+  pub mode : ExecMode
+  pub target : Option (List ℕ)
+
+-- what a file rule grants, and where: the place of the word that says the path, the path, the mode
+pub record EntryData : Type 0 where
+  pub at : Spot
+  pub path : List ℕ
+  pub mode : Mode
+
+-- a file rule as written: what stands before it, where its path stands, the path, what its mode says
+pub record FileData : Type 0 where
+  pub qualifiers : Qualifiers
+  pub owner : Bool
+  pub at : Spot
+  pub path : List ℕ
+  pub perms : Perms
+  pub exec : Option ExecData
+
+-- a rule of a body as written: a file rule, one on capabilities or on sockets, or the keyword of one that is passed over
+pub data RuleData : Type 0 where
+  OnFile : FileData → RuleData
+  OnCap : CapRule → RuleData
+  OnNet : NetRule → RuleData
+  Listed : List ℕ → RuleData
+
+-- a rule without where its text lies in memory
+abbrev pub target_data : Option (Bor (List ℕ)) → Option (List ℕ)
+target_data target = option_map (λ name. name.now) target
+
+abbrev pub exec_data : ExecTree → ExecData
+exec_data t = record { mode = t.mode; target = target_data t.target }
+
+abbrev pub entry_data : EntryTree → EntryData
+entry_data t = record { at = t.at; path = t.path.now; mode = t.mode }
+
+abbrev pub file_data : FileTree → FileData
+file_data t = record { qualifiers = t.qualifiers; owner = t.owner; at = t.at; path = t.path.now; perms = t.perms; exec = option_map exec_data t.exec }
+
+abbrev pub rule_data : RuleTree → RuleData
+rule_data (File t) = OnFile (file_data t)
+rule_data (Cap rule) = OnCap rule
+rule_data (Net rule) = OnNet rule
+rule_data (PassedOver keyword) = Listed keyword.now
+
+-- the words from a place on
+abbrev pub rest_of : List Word → ℕ → List WordData
+rest_of words at = words_data (drop at words)

@@ -1,0 +1,251 @@
+//! Why reading can't go on at a word.
+
+ghost use Rattle.std.specs.Prelude.{◌≡◌, true};
+ghost use Rattle.aa_words.specs.Splits.{word_data};
+ghost use Rattle.aa_rules.specs.Grammar.{spot_of, place_of};
+ghost use Rattle.aa_rules.specs.Reading.{rest_of};
+ghost use Rattle.aa_rules.specs.Faults.{is_word_fault};
+
+use crate::file_rules::takes_target;
+use crate::modes::{Mode, mode_fault};
+use crate::names::name_fault;
+use crate::reading::is_name_kind;
+use crate::tree::RuleTree;
+use aa_tables::Perms;
+use aa_words::{PolicyFault, PolicyKind, Spot, Word, WordKind};
+use bitflags::Flags;
+
+/// Where a word stands.
+pub fn spot_of(word: &Word) -> Spot
+    ensures { result ≡ spot_of (word_data word.now) }
+{
+    Spot {
+        file: word.span.file,
+        byte: word.span.start,
+    }
+}
+
+/// A refusal at a word, or behind the text where no word is left.
+#[tactic(auto, using(crate::proofs::Places::here, crate::proofs::Places::nothing_here))]
+pub fn fault(kind: PolicyKind, words: &[Word], at: usize, end: Spot) -> PolicyFault
+    ensures kind { result.kind ≡ kind }
+    ensures place { result.at ≡ place_of (rest_of words.now at) end }
+{
+    let at = match words.get(at) {
+        Some(word) => spot_of(word),
+        None => end,
+    };
+    PolicyFault { kind, at }
+}
+
+/// Whether a word of this kind stands at a place.
+fn is_kind_at(words: &[Word], at: usize, kind: WordKind) -> bool {
+    match words.get(at) {
+        Some(word) => word.kind == kind,
+        None => false,
+    }
+}
+
+/// Whether a word that can be a path stands at a place.
+fn is_path_at(words: &[Word], at: usize) -> bool {
+    is_kind_at(words, at, WordKind::Path) || is_kind_at(words, at, WordKind::Quoted)
+}
+
+/// A word of the language that the rules of this crate leave out where a rule begins.
+fn is_left_out(name: &[u8]) -> bool {
+    matches!(name, [b'$' | b'^', ..])
+        || name == "alias".as_bytes()
+        || name == "link".as_bytes()
+        || name == "hat".as_bytes()
+        || name == "change_hat".as_bytes()
+        || name == "if".as_bytes()
+        || name == "else".as_bytes()
+        || name == "priority".as_bytes()
+        || name == "quiet".as_bytes()
+        || name == "prompt".as_bytes()
+        || name == "other".as_bytes()
+        || name == "all".as_bytes()
+}
+
+/// What is wrong with a name that is no mode.
+fn wrong_mode(name: &[u8], deny: bool) -> PolicyKind
+    ensures { is_word_fault result ≡ true }
+{
+    match mode_fault(name, deny) {
+        Some(kind) => kind,
+        None => PolicyKind::BadMode,
+    }
+}
+
+/// What stands before a word at which no rule goes on.
+#[derive(Clone, Copy, Debug, PartialEq, Eq)]
+pub struct RulePlace {
+    /// `audit`, `allow` or `deny`.
+    qualified: bool,
+    /// `deny`.
+    deny: bool,
+    /// `owner`.
+    owner: bool,
+}
+
+impl RulePlace {
+    /// Where a rule's qualifiers end, if it has any.
+    pub fn behind_qualifiers(deny: bool, qualified: bool) -> RulePlace {
+        RulePlace {
+            qualified,
+            deny,
+            owner: false,
+        }
+    }
+
+    /// Behind `owner`, if it stands there.
+    pub fn behind_owner(self, owner: bool) -> RulePlace {
+        RulePlace { owner, ..self }
+    }
+
+    /// Why no rule goes on with a name here.
+    fn name_fault(self, name: &[u8], path_follows: bool) -> PolicyKind
+        ensures { is_word_fault result ≡ true }
+    {
+        if is_left_out(name) {
+            return PolicyKind::Unsupported;
+        }
+        if self.owner && name == "change_profile".as_bytes() {
+            return PolicyKind::Syntax;
+        }
+        if !path_follows {
+            return PolicyKind::UnknownWord;
+        }
+        wrong_mode(name, self.deny)
+    }
+
+    /// Why no rule goes on with a word here that is no name.
+    fn word_fault(self, kind: WordKind) -> PolicyKind
+        ensures { is_word_fault result ≡ true }
+    {
+        match kind {
+            WordKind::Open if self.qualified && !self.owner => PolicyKind::Unsupported,
+            _ => PolicyKind::Syntax,
+        }
+    }
+}
+
+/// Why no item of the top level begins with this name.
+fn top_name_fault(name: &[u8], path_follows: bool) -> PolicyKind
+    ensures { is_word_fault result ≡ true }
+{
+    if is_left_out(name) {
+        return PolicyKind::Unsupported;
+    }
+    if !path_follows {
+        return PolicyKind::UnknownWord;
+    }
+    match mode_fault(name, false) {
+        Some(kind) => kind,
+        None => PolicyKind::Syntax,
+    }
+}
+
+/// Why no item begins at a word of the top level: a name that isn't an item's first word is read
+/// as a mode where a path follows.
+pub fn item_fault(words: &[Word], at: usize, end: Spot) -> PolicyFault
+    ensures { is_word_fault result.kind ≡ true }
+{
+    if at >= words.len() {
+        return fault(PolicyKind::Syntax, words, at, end);
+    }
+    let word = &words[at];
+    let kind = match word.kind {
+        WordKind::Name => top_name_fault(word.text, is_path_at(words, at + 1)),
+        _ => PolicyKind::Syntax,
+    };
+    fault(kind, words, at, end)
+}
+
+/// Why no comma stands behind a rule: the conditions of a rule on sockets are left out.
+pub fn no_comma_fault(words: &[Word], at: usize, rule: &RuleTree, end: Spot) -> PolicyFault
+    ensures { is_word_fault result.kind ≡ true }
+{
+    let is_condition = is_kind_at(words, at, WordKind::LeftParen)
+        || is_kind_at(words, at, WordKind::Equals);
+    let kind = match rule {
+        RuleTree::Net(_) if is_condition => PolicyKind::Unsupported,
+        _ => PolicyKind::Syntax,
+    };
+    fault(kind, words, at, end)
+}
+
+/// Why a word of a body is no file rule's first: neither a path, nor `file`, nor a mode before a
+/// path that is a right one.
+pub fn no_entry_fault(words: &[Word], at: usize, place: RulePlace, end: Spot) -> PolicyFault
+    ensures { is_word_fault result.kind ≡ true }
+{
+    if at >= words.len() {
+        return fault(PolicyKind::Syntax, words, at, end);
+    }
+    let word = &words[at];
+    let next = at + 1;
+    match word.kind {
+        WordKind::Path | WordKind::Quoted => wrong_mode_fault(words, next, place.deny, end),
+        WordKind::Name if word.text == "file".as_bytes() => {
+            behind_file_fault(words, next, place.deny, end)
+        }
+        WordKind::Name => PolicyFault {
+            kind: place.name_fault(word.text, is_path_at(words, next)),
+            at: spot_of(word),
+        },
+        other => fault(place.word_fault(other), words, at, end),
+    }
+}
+
+/// Why the words behind `file` are no path and mode, in whichever order.
+fn behind_file_fault(words: &[Word], at: usize, deny: bool, end: Spot) -> PolicyFault
+    ensures { is_word_fault result.kind ≡ true }
+{
+    if at >= words.len() {
+        return fault(PolicyKind::Syntax, words, at, end);
+    }
+    let word = &words[at];
+    let next = at + 1;
+    match word.kind {
+        WordKind::Path | WordKind::Quoted => wrong_mode_fault(words, next, deny, end),
+        WordKind::Name => match mode_fault(word.text, deny) {
+            Some(kind) => fault(kind, words, at, end),
+            None => fault(PolicyKind::Syntax, words, next, end),
+        },
+        _ => fault(PolicyKind::Syntax, words, at, end),
+    }
+}
+
+/// Why a word isn't the mode that has to stand there.
+fn wrong_mode_fault(words: &[Word], at: usize, deny: bool, end: Spot) -> PolicyFault
+    ensures { is_word_fault result.kind ≡ true }
+{
+    let kind = match words.get(at) {
+        Some(word) if word.kind == WordKind::Name => wrong_mode(word.text, deny),
+        _ => PolicyKind::Syntax,
+    };
+    fault(kind, words, at, end)
+}
+
+/// Why no profile is named by the arrow that stands behind a mode: the mode goes on under none
+/// of the policy, or what stands behind the arrow is no profile's name.
+pub fn no_target_fault(words: &[Word], at: usize, mode: Mode, end: Spot) -> PolicyFault
+    ensures { is_word_fault result.kind ≡ true }
+{
+    if !mode.perms.contains(Perms::EXEC) {
+        return fault(PolicyKind::Unsupported, words, at, end);
+    }
+    if !takes_target(mode.exec) {
+        return fault(PolicyKind::BadMode, words, at, end);
+    }
+    if at >= words.len() {
+        return fault(PolicyKind::Syntax, words, at, end);
+    }
+    let next = at + 1;
+    let kind = match words.get(next) {
+        Some(word) if is_name_kind(word.kind) => name_fault(word.text),
+        _ => PolicyKind::Syntax,
+    };
+    fault(kind, words, next, end)
+}

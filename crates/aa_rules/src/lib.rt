@@ -1,0 +1,22 @@
+//! Reads the rules of a body, each by itself.
+#![tactic(auto)]
+
+mod cap_rules;
+mod faults;
+mod file_rules;
+mod modes;
+mod names;
+mod net_rules;
+mod reading;
+mod rule;
+mod tree;
+
+pub use faults::{fault, item_fault, spot_of};
+pub use modes::ExecMode;
+pub use names::{begins_with, is_plain_name, is_right_name, name_fault};
+pub use reading::{closes, is_keyword, name_at, path_at, rule_of, word_at};
+pub use rule::{CapRule, ExecKind, Fallback, NetRule};
+pub use tree::{ExecTree, FileTree, Qualifiers, RuleTree};
+
+#[cfg(test)]
+mod mode_tests;

@@ -1,0 +1,298 @@
+//! Modes of file rules (apparmor.d(5), "Access Modes").
+
+ghost use Rattle.std.specs.Prelude.{◌≡◌, ◌≤◌, ◌&&◌, ◌++◌, true, length, IfSome, option_map};
+ghost use Rattle.std.specs.List.{prefix_len};
+ghost use Rattle.aa_rules.specs.Faults.{is_word_fault};
+ghost use Rattle.aa_rules.specs.Modes.{letter_bits, letters_bits, has_letter, is_access_letter, is_exec_letter, how, exec_of, with_part, mode_of};
+
+use crate::rule::{ExecKind, Fallback};
+use aa_tables::Perms;
+use aa_words::PolicyKind;
+use bitflags::Flags;
+
+/// How a mode lets a program be executed.
+#[derive(Clone, Copy, Debug, PartialEq, Eq)]
+pub struct ExecMode {
+    pub kind: ExecKind,
+    pub scrub: bool,
+    pub fallback: Fallback,
+}
+
+/// What a mode says.
+#[derive(Clone, Copy, Debug, PartialEq, Eq)]
+pub struct Mode {
+    pub perms: Perms,
+    /// How the program may be executed, if a rule that allows lets it be.
+    pub exec: Option<ExecMode>,
+}
+
+/// What one access letter grants.
+fn letter(b: u8) -> Option<Perms>
+    ensures { option_map (λ p. p.0) result ≡ letter_bits b }
+{
+    match b {
+        b'r' => Some(Perms::READ),
+        b'w' => Some(Perms::WRITE.union(Perms::APPEND)),
+        b'a' => Some(Perms::APPEND),
+        b'l' => Some(Perms::LINK),
+        b'k' => Some(Perms::LOCK),
+        b'm' => Some(Perms::MMAP),
+        _ => None,
+    }
+}
+
+/// What access letters grant beside these permissions.
+fn letters_of(before: Perms, text: &[u8]) -> Option<Perms>
+    ensures { option_map (λ p. p.0) result ≡ letters_bits (before.0) text.now }
+{
+    let mut perms = before;
+    for b in text {
+        let Some(bits) = letter(*b) else {
+            return None;
+        };
+        perms.insert(bits);
+    }
+    Some(perms)
+}
+
+/// What the access letters before an exec part and those behind it grant together.
+#[tactic(auto, using(crate::proofs::Letters::joined_none, crate::proofs::Letters::joined_some))]
+fn access_of(front: &[u8], back: &[u8]) -> Option<Perms>
+    ensures { option_map (λ p. p.0) result ≡ letters_bits 0 (front.now ++ back.now) }
+{
+    let Some(access) = letters_of(Perms(0), front) else {
+        return None;
+    };
+    letters_of(access, back)
+}
+
+/// Whether a letter is among those of a mode.
+fn contains(text: &[u8], c: u8) -> bool
+    ensures { result ≡ has_letter c text.now }
+{
+    text.iter().any(|b| *b == c)
+}
+
+/// Whether a mode has `w` beside `a`.
+fn writes_and_appends(mode: &[u8]) -> bool
+    ensures { result ≡ (has_letter 119 mode.now && has_letter 97 mode.now) }
+{
+    contains(mode, b'w') && contains(mode, b'a')
+}
+
+/// Whether a letter grants access.
+fn is_access_letter(b: u8) -> bool
+    ensures { result ≡ is_access_letter b }
+{
+    letter(b).is_some()
+}
+
+/// Whether a letter may stand in an exec part.
+fn is_exec_letter(b: u8) -> bool
+    ensures { result ≡ is_exec_letter b }
+{
+    matches!(b, b'i' | b'u' | b'U' | b'p' | b'P' | b'c' | b'C' | b'x')
+}
+
+/// How many access letters stand first.
+fn access_letters(text: &[u8]) -> usize
+    ensures count { result ≡ prefix_len is_access_letter text.now }
+    ensures within { result ≤ length text.now }
+{
+    for (i, b) in text.iter().enumerate() {
+        if !is_access_letter(*b) {
+            return i;
+        }
+    }
+    text.len()
+}
+
+/// How many exec letters stand first.
+fn exec_letters(text: &[u8]) -> usize
+    ensures count { result ≡ prefix_len is_exec_letter text.now }
+    ensures within { result ≤ length text.now }
+{
+    for (i, b) in text.iter().enumerate() {
+        if !is_exec_letter(*b) {
+            return i;
+        }
+    }
+    text.len()
+}
+
+/// How an exec part lets a program be executed.
+fn how(kind: ExecKind, scrub: bool, fallback: Fallback) -> Option<ExecMode>
+    ensures { result ≡ how kind scrub fallback }
+{
+    Some(ExecMode {
+        kind,
+        scrub,
+        fallback,
+    })
+}
+
+/// Which exec part of a rule that allows the letters are.
+#[tactic(auto, unfolding(crate::specs::Modes::exec_of))]
+fn exec_of(part: &[u8]) -> Option<ExecMode>
+    ensures { result ≡ exec_of part.now }
+{
+    match part {
+        b"ix" => how(ExecKind::Inherit, false, Fallback::Refuse),
+        b"ux" => how(ExecKind::Unconfined, false, Fallback::Refuse),
+        b"Ux" => how(ExecKind::Unconfined, true, Fallback::Refuse),
+        b"px" => how(ExecKind::Profile, false, Fallback::Refuse),
+        b"Px" => how(ExecKind::Profile, true, Fallback::Refuse),
+        b"cx" => how(ExecKind::Child, false, Fallback::Refuse),
+        b"Cx" => how(ExecKind::Child, true, Fallback::Refuse),
+        b"pix" => how(ExecKind::Profile, false, Fallback::Inherit),
+        b"Pix" => how(ExecKind::Profile, true, Fallback::Inherit),
+        b"cix" => how(ExecKind::Child, false, Fallback::Inherit),
+        b"Cix" => how(ExecKind::Child, true, Fallback::Inherit),
+        b"pux" => how(ExecKind::Profile, false, Fallback::Unconfined),
+        b"PUx" => how(ExecKind::Profile, true, Fallback::Unconfined),
+        b"cux" => how(ExecKind::Child, false, Fallback::Unconfined),
+        b"CUx" => how(ExecKind::Child, true, Fallback::Unconfined),
+        _ => None,
+    }
+}
+
+/// The mode of these permissions with an exec part, if it has one. Under `deny` that is `x`.
+#[tactic(auto, unfolding(crate::specs::Modes::with_part))]
+fn with_part(access: Perms, part: &[u8], deny: bool) -> Option<Mode>
+    ensures { result ≡ with_part deny part.now (access.0) }
+{
+    if part.is_empty() {
+        return Some(Mode {
+            perms: access,
+            exec: None,
+        });
+    }
+    let perms = access.union(Perms::EXEC);
+    if deny {
+        if part != "x".as_bytes() {
+            return None;
+        }
+        return Some(Mode { perms, exec: None });
+    }
+    let exec = exec_of(part)?;
+    Some(Mode {
+        perms,
+        exec: Some(exec),
+    })
+}
+
+/// What a mode says in a rule with `deny` or without it.
+#[tactic(auto, unfolding(crate::specs::Modes::mode_of))]
+pub fn mode_of(mode: &[u8], deny: bool) -> Option<Mode>
+    ensures { result ≡ mode_of deny mode.now }
+{
+    if writes_and_appends(mode) {
+        return None;
+    }
+    let (front, rest) = mode.split_at(access_letters(mode));
+    let (part, back) = rest.split_at(exec_letters(rest));
+    let Some(access) = access_of(front, back) else {
+        return None;
+    };
+    with_part(access, part, deny)
+}
+
+/// What a run of exec letters with its `x` is.
+#[derive(Clone, Copy, Debug, PartialEq, Eq)]
+enum ExecPart {
+    /// One of the exec parts of the language.
+    Right,
+    /// One that scrubs in one half alone.
+    Mixed,
+    /// None.
+    Wrong,
+}
+
+/// Which exec part the letters are, the `x` at their end included. Under `deny` it is `x` alone.
+fn exec_part(part: &[u8], deny: bool) -> ExecPart {
+    match part {
+        b"pUx" | b"Pux" | b"cUx" | b"Cux" => ExecPart::Mixed,
+        b"x" if deny => ExecPart::Right,
+        _ if deny => ExecPart::Wrong,
+        b"ix" | b"ux" | b"Ux" | b"px" | b"Px" | b"cx" | b"Cx" => ExecPart::Right,
+        b"pix" | b"Pix" | b"cix" | b"Cix" => ExecPart::Right,
+        b"pux" | b"PUx" | b"cux" | b"CUx" => ExecPart::Right,
+        _ => ExecPart::Wrong,
+    }
+}
+
+/// What has been seen of a mode's letters.
+#[derive(Clone, Copy, Debug)]
+struct Seen {
+    /// An exec part.
+    exec: bool,
+    /// One of mixed case.
+    mixed: bool,
+    /// A letter, a run or a second exec part that no mode has.
+    wrong: bool,
+}
+
+impl Seen {
+    /// With an exec part more.
+    fn with_part(self, part: &[u8], deny: bool) -> Seen {
+        let part = exec_part(part, deny);
+        Seen {
+            exec: true,
+            mixed: self.mixed || part == ExecPart::Mixed,
+            wrong: self.wrong || self.exec || part == ExecPart::Wrong,
+        }
+    }
+
+    /// With a letter of no exec part more; `alone`, if no exec letters stand before it.
+    fn with_letter(self, b: u8, alone: bool) -> Seen {
+        Seen {
+            wrong: self.wrong || !alone || letter(b).is_none(),
+            ..self
+        }
+    }
+}
+
+/// The exec parts and the wrong letters of a mode.
+fn seen_in(mode: &[u8], deny: bool) -> Seen {
+    let mut seen = Seen {
+        exec: false,
+        mixed: false,
+        wrong: false,
+    };
+    let mut start = 0;
+    for (i, b) in mode.iter().enumerate() {
+        match *b {
+            b'i' | b'u' | b'U' | b'p' | b'P' | b'c' | b'C' => {}
+            b'x' => {
+                seen = seen.with_part(&mode[start..i + 1], deny);
+                start = i + 1;
+            }
+            other => {
+                seen = seen.with_letter(other, start == i);
+                start = i + 1;
+            }
+        }
+    }
+    Seen {
+        wrong: seen.wrong || start < mode.len(),
+        ..seen
+    }
+}
+
+/// What is wrong with a mode, if anything is, in a rule with `deny` or without it. A mixed-case exec part comes
+/// first, then any other fault, then `w` beside `a`.
+pub fn mode_fault(mode: &[u8], deny: bool) -> Option<PolicyKind>
+    ensures { IfSome result (λ k. is_word_fault k ≡ true) }
+{
+    let seen = seen_in(mode, deny);
+    if seen.mixed {
+        return Some(PolicyKind::Unsupported);
+    }
+    if seen.wrong {
+        return Some(PolicyKind::BadMode);
+    }
+    if writes_and_appends(mode) {
+        return Some(PolicyKind::WriteWithAppend);
+    }
+    None
+}

@@ -1,0 +1,196 @@
+//! Rules on sockets (apparmor.d(5), "Network rules").
+
+ghost use Rattle.std.specs.Prelude.{◌≡◌, ◌≤◌, ◌<◌, true, List, length, OnErr, IfOk, IfErr};
+ghost use Rattle.aa_words.specs.Splits.{WordData};
+ghost use Rattle.aa_rules.specs.Faults.{is_word_fault};
+ghost use Rattle.aa_rules.specs.NetRules.{transport_kinds, one_in, one_name, is_internet, kinds_in, two_names, IsSockets, IsNets};
+ghost use Rattle.aa_rules.specs.Reading.{rest_of};
+ghost use Rattle.aa_tables.specs.Tables.{family_names, sock_type_names};
+
+use crate::faults::fault;
+use crate::reading::word_at;
+use crate::rule::NetRule;
+use crate::tree::Qualifiers;
+use aa_tables::{Family, SockType};
+use aa_words::{PolicyFault, PolicyKind, Spot, Word, WordKind};
+
+/// Families and types together: bit n stands for entry n of the table of each.
+#[derive(Clone, Copy, Debug, PartialEq, Eq)]
+pub struct Sockets {
+    pub families: u64,
+    pub kinds: u8,
+}
+
+/// All families.
+const ALL_FAMILIES: u64 = 17592186044415;
+
+/// All types.
+const ALL_KINDS: u8 = 63;
+
+/// `inet` and `inet6`.
+const INTERNET: u64 = 514;
+
+/// The set of the one family with that name, if there is one.
+fn family_in(name: &[u8]) -> Option<u64>
+    ensures { result ≡ one_in family_names name.now }
+{
+    let family = Family::from_name(name)?;
+    Some(1 << family.number())
+}
+
+/// The set of the one type with that name, if there is one.
+fn kind_in(name: &[u8]) -> Option<u8>
+    ensures { result ≡ one_in sock_type_names name.now }
+{
+    let kind = SockType::from_name(name)?;
+    Some(1 << kind.number())
+}
+
+/// The type that a name stands for in the internet's families.
+#[tactic(auto, unfolding(crate::specs::NetRules::transport_kinds))]
+fn transport_kinds(name: &[u8]) -> Option<u8>
+    ensures { result ≡ transport_kinds name.now }
+{
+    if name == "tcp".as_bytes() {
+        return Some(1);
+    }
+    if name == "udp".as_bytes() {
+        return Some(2);
+    }
+    None
+}
+
+/// What one name stands for.
+#[tactic(auto, unfolding(crate::specs::NetRules::one_name))]
+fn one_name(name: &[u8]) -> Option<Sockets>
+    ensures { result ≡ one_name name.now }
+{
+    if let Some(families) = family_in(name) {
+        return Some(Sockets {
+            families,
+            kinds: ALL_KINDS,
+        });
+    }
+    if let Some(kinds) = kind_in(name) {
+        return Some(Sockets {
+            families: ALL_FAMILIES,
+            kinds,
+        });
+    }
+    let kinds = transport_kinds(name)?;
+    Some(Sockets {
+        families: INTERNET,
+        kinds,
+    })
+}
+
+/// Whether a set is `inet` alone or `inet6` alone.
+fn is_internet(families: u64) -> bool
+    ensures { result ≡ is_internet families }
+{
+    families == 2 || families == 512
+}
+
+/// The type that a name stands for behind a family.
+#[tactic(auto, unfolding(crate::specs::NetRules::kinds_in))]
+fn kinds_in(families: u64, name: &[u8]) -> Option<u8>
+    ensures { result ≡ kinds_in families name.now }
+{
+    if let Some(kind) = kind_in(name) {
+        return Some(kind);
+    }
+    if is_internet(families) {
+        return transport_kinds(name);
+    }
+    None
+}
+
+/// What two names stand for.
+#[tactic(auto, unfolding(crate::specs::NetRules::two_names))]
+fn two_names(first: &[u8], second: &[u8]) -> Option<Sockets>
+    ensures { result ≡ two_names first.now second.now }
+{
+    let families = family_in(first)?;
+    let kinds = kinds_in(families, second)?;
+    Some(Sockets { families, kinds })
+}
+
+/// Why a name can't stand where it stands: it is of a condition, or a family or type out of its
+/// place, or none of these.
+fn name_fault(name: &[u8]) -> PolicyKind
+    ensures { is_word_fault result ≡ true }
+{
+    if matches!(name, b"icmp" | b"ip" | b"port" | b"peer") {
+        return PolicyKind::Unsupported;
+    }
+    match one_name(name) {
+        Some(_) => PolicyKind::Syntax,
+        None => PolicyKind::UnknownWord,
+    }
+}
+
+/// Why two names at a place stand for nothing: the first stands for something by itself, or not.
+fn names_fault(words: &[Word], at: usize, first: &[u8], second: &[u8], end: Spot) -> PolicyFault
+    requires within { at < length words.now }
+    ensures { is_word_fault result.kind ≡ true }
+{
+    if one_name(first).is_none() {
+        return fault(name_fault(first), words, at, end);
+    }
+    fault(name_fault(second), words, at + 1, end)
+}
+
+/// The sockets that are named from a place on, and the place behind them.
+fn sockets_of(words: &[Word], at: usize, end: Spot) -> Result<(Sockets, usize), PolicyFault>
+    requires behind { at ≤ length words.now }
+    ensures found { IfOk result (λ r. IsSockets (rest_of words.now at) r.0 (rest_of words.now r.1)) }
+    ensures refused { OnErr result ((named : Sockets) (rest : List WordData) → IsSockets (rest_of words.now at) named rest → ⊥) }
+    ensures cause { IfErr result (λ e. is_word_fault e.kind ≡ true) }
+    ensures within { IfOk result (λ r. (at ≤ r.1) × (r.1 ≤ length words.now)) }
+{
+    let Some(first) = word_at(words, at, WordKind::Name) else {
+        let all = Sockets {
+            families: ALL_FAMILIES,
+            kinds: ALL_KINDS,
+        };
+        return Ok((all, at));
+    };
+    let next = at + 1;
+    let Some(second) = word_at(words, next, WordKind::Name) else {
+        let Some(sockets) = one_name(first.text) else {
+            return Err(fault(name_fault(first.text), words, at, end));
+        };
+        return Ok((sockets, next));
+    };
+    let Some(sockets) = two_names(first.text, second.text) else {
+        return Err(names_fault(words, at, first.text, second.text, end));
+    };
+    let behind = next + 1;
+    if let Some(third) = word_at(words, behind, WordKind::Name) {
+        return Err(fault(name_fault(third.text), words, behind, end));
+    }
+    Ok((sockets, behind))
+}
+
+/// A rule on sockets behind its keyword, and the place behind it.
+pub fn net_rule_of(
+    words: &[Word],
+    at: usize,
+    qualifiers: Qualifiers,
+    end: Spot,
+) -> Result<(NetRule, usize), PolicyFault>
+    requires behind { at ≤ length words.now }
+    ensures found { IfOk result (λ r. IsNets qualifiers (rest_of words.now at) r.0 (rest_of words.now r.1)) }
+    ensures refused { OnErr result ((rule : NetRule) (rest : List WordData) → IsNets qualifiers (rest_of words.now at) rule rest → ⊥) }
+    ensures cause { IfErr result (λ e. is_word_fault e.kind ≡ true) }
+    ensures within { IfOk result (λ r. (at ≤ r.1) × (r.1 ≤ length words.now)) }
+{
+    let (sockets, next) = sockets_of(words, at, end)?;
+    let rule = NetRule {
+        audit: qualifiers.audit,
+        deny: qualifiers.deny,
+        families: sockets.families,
+        kinds: sockets.kinds,
+    };
+    Ok((rule, next))
+}

@@ -1,0 +1,16 @@
+use Rattle.std.proofs.Common.{sym, ◌∙◌}
+use Rattle.aa_tables.specs.Tables.{capability_names}
+use Rattle.aa_tables.proofs.Entries.{number_below}
+use Rattle.aa_tables.proofs.cap.Cap.from_name.Goals as goal
+
+pub returns-in_err-number : goal.returns-in_err-number
+unfolding capability_names
+returns-in_err-number c = c.from_residual.ensures ∙ sym c.in_err-number.was ∙ c.number_in.ensures
+
+pub invariant_of-result : goal.invariant_of-result
+unfolding capability_names
+invariant_of-result c = number_below capability_names c.args.name.now c.in_ok-number.number (sym c.number_in.ensures ∙ c.in_ok-number.was)
+
+pub returns : goal.returns
+unfolding capability_names
+returns c = sym c.in_ok-number.was ∙ c.number_in.ensures
