@@ -1,10 +1,7 @@
 pub use Rattle.aa_glob.specs.Expansions
 pub use Rattle.aa_glob.specs.Globs
 pub use Rattle.aa_glob.specs.Variables
-pub use Rattle.aa_heads.specs.Heads
 pub use Rattle.aa_heads.specs.Preamble
-pub use Rattle.aa_rules.specs.Grammar
-pub use Rattle.aa_rules.specs.Reading
 pub mod Bodies
 pub mod Expansion
 pub mod Faults
