@@ -5,14 +5,14 @@ use Rattle.std.specs.List.{position_from}
 use Rattle.std.proofs.lemmas.Iterator.Adapters.{position_from-zero}
 use Rattle.std.proofs.lemmas.List.{drop_more, at_drop_all, append-nil, length-append}
 use Rattle.aa_policy.specs.declared.policy.Policy.{Policy}
-use Rattle.aamediate.specs.declared.label.Label.{Label}
-use Rattle.aamediate.specs.declared.request.Request.{Request}
-use Rattle.aamediate.specs.declared.answer.Answer.{Answer}
-use Rattle.aamediate.specs.declared.job.Work.{Work}
-use Rattle.aamediate.specs.declared.job.Work.TheVariants.{Ask, Exit}
-use Rattle.aamediate.specs.declared.job.Task.{Task}
+use Rattle.aa_mediate.specs.declared.label.Label.{Label}
+use Rattle.aa_mediate.specs.declared.request.Request.{Request}
+use Rattle.aa_mediate.specs.declared.answer.Answer.{Answer}
+use Rattle.aa_jobs.specs.declared.job.Work.{Work}
+use Rattle.aa_jobs.specs.declared.job.Work.TheVariants.{Ask, Exit}
+use Rattle.aa_jobs.specs.declared.job.Task.{Task}
 use Rattle.aamediate.specs.declared.mediate.Answered.{Answered}
-use Rattle.aamediate.specs.Reply.{reply}
+use Rattle.aa_mediate.specs.Reply.{reply}
 use Rattle.aamediate.specs.Answers.{asked, answered, answers_from, label_named, job_answers, first_unknown}
 
 -- these answers, and then those to the works from that place on, are all

@@ -8,7 +8,7 @@ use Rattle.aa_words.specs.declared.fault.PolicyKind.{PolicyKind}
 use Rattle.aa_words.specs.declared.fault.PolicyKind.TheVariants.{NoMemory, Syntax, TooLarge}
 use Rattle.aa_words.specs.Kinds.{at_start, no_memory}
 use Rattle.aa_words.specs.Sources.{has_name}
-use Rattle.aamediate.specs.declared.job.Include.{Include}
+use Rattle.aa_jobs.specs.declared.job.Include.{Include}
 use Rattle.aamediate.specs.declared.fault.RunFault.{RunFault}
 use Rattle.aamediate.specs.declared.fault.RunFault.TheVariants as causes
 use Rattle.aamediate.specs.Faults.{policy_cause, cause_by_kind}

@@ -4,16 +4,16 @@ use Rattle.std.specs.Prelude.{nat_le, false, IfSome, IfErr, OnOk, OnErr, IsErrOf
 use Rattle.std.specs.Io.KnownBytes.{Appends}
 use Rattle.std.proofs.lemmas.Bool.{cases_lt, lt-leb}
 use Rattle.std.proofs.lemmas.List.{take_all, length-take}
-use Rattle.aamediate.specs.declared.job_fault.JobFault.TheVariants.{TooLarge}
+use Rattle.aa_jobs.specs.declared.job_fault.JobFault.TheVariants.{TooLarge}
 use Rattle.aamediate.specs.declared.fault.RunFault.{RunFault}
 use Rattle.aamediate.specs.declared.fault.RunFault.TheVariants as causes
 use Rattle.aamediate.specs.declared.mediate.MediateFault.{MediateFault}
 use Rattle.aamediate.specs.declared.mediate.MediateFault.TheVariants as mediates
 use Rattle.aamediate.specs.Answers.{first_unknown}
 use Rattle.aamediate.specs.Faults.{IsReadCause, mediate_cause}
-use Rattle.aamediate.specs.Jobs.{job_of}
+use Rattle.aa_jobs.specs.Jobs.{job_of}
 use Rattle.aa_policy.specs.declared.policy.Policy.{Policy}
-use Rattle.aamediate.specs.declared.job.Job.{Job}
+use Rattle.aa_jobs.specs.declared.job.Job.{Job}
 use Rattle.aamediate.specs.Policies.{IsPolicyOf}
 use Rattle.aamediate.specs.Engines.{IsPolicyCause, IsAsked, IsCheckOutput, IsRunOutput, Explains}
 

@@ -1,15 +1,5 @@
 pub mod Answering
 pub mod Gathering
 pub mod Inputs
-pub mod Json
-pub mod Kept
-pub mod Keys
-pub mod Named
-pub mod Numbers
-pub mod Pieces
-pub mod Rows
-pub mod Shown
 pub mod Streams
-pub mod Trees
-pub mod Unions
 pub mod Writing

@@ -4,8 +4,8 @@ use Rattle.std.specs.Prelude.{option_map, option_and_then}
 use Rattle.std.proofs.lemmas.List.{drop_more, at_drop_all, append-nil, length-map}
 use Rattle.std.specs.Global.{Global}
 use Rattle.aa_policy.specs.declared.policy.Policy.{Policy}
-use Rattle.aamediate.specs.declared.label.Label.{Label}
-use Rattle.aamediate.specs.declared.job.Task.{Task}
+use Rattle.aa_mediate.specs.declared.label.Label.{Label}
+use Rattle.aa_jobs.specs.declared.job.Task.{Task}
 use Rattle.aamediate.specs.declared.mediate.Answered.{Answered}
 use Rattle.aamediate.specs.Answers.{answers_from, label_named, job_answers}
 use Rattle.aamediate.specs.Output.{verdict_line, audit_lines, task_lines, lines_from}

@@ -2,15 +2,15 @@
 use Rattle.std.specs.Prelude.{ℕ, ◌+◌, List, [], ◌∷◌, codes, Option, Some, option_map, option_and_then, is_none, position, if◌then◌else◌}
 use Rattle.std.specs.Str.{bytes_eq}
 use Rattle.aa_policy.specs.declared.policy.Policy.{Policy}
-use Rattle.aamediate.specs.declared.label.Label.{Label}
-use Rattle.aamediate.specs.declared.label.Label.TheVariants.{Unconfined, Confined}
-use Rattle.aamediate.specs.declared.request.Request.{Request}
-use Rattle.aamediate.specs.declared.job.Work.{Work}
-use Rattle.aamediate.specs.declared.job.Work.TheVariants.{Ask, Exit}
-use Rattle.aamediate.specs.declared.job.Task.{Task}
+use Rattle.aa_mediate.specs.declared.label.Label.{Label}
+use Rattle.aa_mediate.specs.declared.label.Label.TheVariants.{Unconfined, Confined}
+use Rattle.aa_mediate.specs.declared.request.Request.{Request}
+use Rattle.aa_jobs.specs.declared.job.Work.{Work}
+use Rattle.aa_jobs.specs.declared.job.Work.TheVariants.{Ask, Exit}
+use Rattle.aa_jobs.specs.declared.job.Task.{Task}
 use Rattle.aamediate.specs.declared.mediate.Answered.{Answered}
-use Rattle.aamediate.specs.Labels.{profile_number}
-use Rattle.aamediate.specs.Reply.{reply}
+use Rattle.aa_mediate.specs.Labels.{profile_number}
+use Rattle.aa_mediate.specs.Reply.{reply}
 
 infixl 10 ◌>>=◌
 abbrev pub ◌>>=◌ : {A B : Type 0} → Option A → (A → Option B) → Option B

@@ -1,11 +1,11 @@
 -- What the engines write for a job's bytes, and why they don't.
 use Rattle.std.specs.Prelude.{ℕ, ◌≡◌, List, Some, Ok, Err}
 use Rattle.aa_policy.specs.declared.policy.Policy.{Policy}
-use Rattle.aamediate.specs.declared.job.Job.{Job}
+use Rattle.aa_jobs.specs.declared.job.Job.{Job}
 use Rattle.aamediate.specs.declared.fault.RunFault.{RunFault}
 use Rattle.aamediate.specs.declared.fault.RunFault.TheVariants as causes
 use Rattle.aamediate.specs.Answers.{first_unknown}
-use Rattle.aamediate.specs.Jobs.{job_of}
+use Rattle.aa_jobs.specs.Jobs.{job_of}
 use Rattle.aamediate.specs.Output.{run_text, check_text}
 use Rattle.aamediate.specs.Policies.{IsPolicyOf}
 

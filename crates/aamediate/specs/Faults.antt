@@ -3,8 +3,8 @@ use Rattle.std.specs.Prelude.{ℕ}
 use Rattle.aa_words.specs.declared.fault.PolicyFault.{PolicyFault}
 use Rattle.aa_words.specs.declared.fault.PolicyKind.{PolicyKind}
 use Rattle.aa_words.specs.declared.fault.PolicyKind.TheVariants as kinds
-use Rattle.aamediate.specs.declared.job_fault.JobFault.{JobFault}
-use Rattle.aamediate.specs.declared.job_fault.JobFault.TheVariants as faults
+use Rattle.aa_jobs.specs.declared.job_fault.JobFault.{JobFault}
+use Rattle.aa_jobs.specs.declared.job_fault.JobFault.TheVariants as faults
 use Rattle.aamediate.specs.declared.mediate.MediateFault.{MediateFault}
 use Rattle.aamediate.specs.declared.mediate.MediateFault.TheVariants as mediates
 use Rattle.aamediate.specs.declared.fault.RunFault.{RunFault}

@@ -5,13 +5,13 @@ use Rattle.std.specs.List.{list_all}
 use Rattle.aa_policy.specs.declared.policy.Policy.{Policy}
 use Rattle.aa_policy.specs.declared.policy.Profile.{Profile}
 use Rattle.aa_policy.specs.declared.policy.PassedOver.{PassedOver}
-use Rattle.aamediate.specs.declared.label.Label.{Label}
-use Rattle.aamediate.specs.declared.label.Label.TheVariants.{Confined}
-use Rattle.aamediate.specs.declared.job.Task.{Task}
+use Rattle.aa_mediate.specs.declared.label.Label.{Label}
+use Rattle.aa_mediate.specs.declared.label.Label.TheVariants.{Confined}
+use Rattle.aa_jobs.specs.declared.job.Task.{Task}
 use Rattle.aamediate.specs.declared.mediate.Answered.{Answered}
-use Rattle.aamediate.specs.Values.{is_shown, value}
-use Rattle.aamediate.specs.Labels.{label_name}
-use Rattle.aamediate.specs.Lines.{line}
+use Rattle.aa_audit.specs.Values.{is_shown, value}
+use Rattle.aa_mediate.specs.Labels.{label_name}
+use Rattle.aa_audit.specs.Lines.{line}
 use Rattle.aamediate.specs.Answers.{label_named, answers_from, ◌>>=◌}
 
 abbrev pub verdict_word : Bool → List ℕ

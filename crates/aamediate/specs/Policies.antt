@@ -4,8 +4,8 @@ use Rattle.aa_words.specs.Splits.{WordData, Splits}
 use Rattle.aa_words.specs.Sources.{has_name}
 use Rattle.aa_policy.specs.declared.policy.Policy.{Policy}
 use Rattle.aa_policy.specs.Spelling.{Spells}
-use Rattle.aamediate.specs.declared.job.Include.{Include}
-use Rattle.aamediate.specs.declared.job.Job.{Job}
+use Rattle.aa_jobs.specs.declared.job.Include.{Include}
+use Rattle.aa_jobs.specs.declared.job.Job.{Job}
 
 -- a named text
 abbrev pub Source : Type 0

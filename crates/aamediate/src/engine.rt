@@ -8,12 +8,11 @@ ghost use Rattle.aamediate.specs.Policies.{sources_of, CanFollow, IsPolicyOf};
 ghost use Rattle.aamediate.specs.Engines.{IsAsked, IsPolicyCause, IsCheckOutput, IsRunOutput, Explains};
 
 use crate::fault::{RunFault, job_fault, mediate_fault, policy_fault};
-use crate::job::{Include, Job};
 use crate::mediate::mediate;
-use crate::mediator::{Compiled, compile};
 use crate::output::{check_output, run_output};
-use crate::reading::read_job;
 use crate::stream::{read_input, write_text};
+use aa_jobs::{Include, Job, read_job};
+use aa_mediate::{Compiled, compile};
 use aa_policy::{Policy, parse};
 use aa_words::{Sources, words};
 use std::alloc::Global;

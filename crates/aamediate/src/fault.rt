@@ -3,8 +3,8 @@
 ghost use Rattle.std.specs.Prelude.{◌≡◌};
 ghost use Rattle.aamediate.specs.Faults.{job_cause, policy_cause, mediate_cause, exit_status};
 
-use crate::job_fault::JobFault;
 use crate::mediate::MediateFault;
+use aa_jobs::JobFault;
 use aa_words::{PolicyFault, PolicyKind};
 use std::alloc::{AllocError, AllocFailed};
 use thiserror::Error;

@@ -1,35 +1,14 @@
 //! Reads a job, decides its requests, and writes the verdicts.
 #![tactic(auto)]
 
-mod answer;
-mod audit;
 mod command;
 mod engine;
 mod fault;
-mod job;
-mod job_fault;
-#[cfg(test)]
-mod job_tests;
-mod label;
-mod limits;
-mod meaning;
 mod mediate;
-mod mediator;
-mod numbering;
 mod output;
-mod permissions;
-mod raw;
-mod reading;
-mod reply;
-mod request;
-mod shape;
 mod stream;
 #[cfg(test)]
 mod tests;
-mod tree;
-mod values;
-#[cfg(test)]
-mod verdict_tests;
 
 use clap::Error;
 use clap::error::ErrorKind;

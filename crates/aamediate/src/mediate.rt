@@ -4,11 +4,8 @@ ghost use Rattle.std.specs.Prelude.{◌≡◌, ◌↔◌, ◌<◌, ◌≤◌, �
 ghost use Rattle.aamediate.specs.Answers.{asked, answered, label_named, job_answers, first_unknown};
 ghost use Rattle.aamediate.specs.declared.mediate.Answered.{Answered};
 
-use crate::answer::Answer;
-use crate::job::{Job, Task, Work};
-use crate::label::Label;
-use crate::mediator::{Compiled, Mediator};
-use crate::request::Request;
+use aa_jobs::{Job, Task, Work};
+use aa_mediate::{Answer, Compiled, Label, Mediator, Request};
 use std::alloc::{AllocError, AllocFailed, Global};
 
 /// A request that was answered.

@@ -2,17 +2,15 @@
 
 ghost use Rattle.std.specs.Prelude.{◌≡◌, ◌++◌, ◌^◌, ◌<◌, ◌*◌, OnOk, IfOk, Some, decimal, flat_map, length, map, option_map, sum_by};
 ghost use Rattle.std.specs.String.{string_bytes};
-ghost use Rattle.aamediate.specs.Labels.{label_name};
+ghost use Rattle.aa_mediate.specs.Labels.{label_name};
 ghost use Rattle.aamediate.specs.Answers.{job_answers};
 ghost use Rattle.aamediate.specs.Output.{verdict_word, verdict_line, audit_lines, task_lines, lines_from, run_text, keyword_text, passed_over_line, counts_line, rules_of, check_text};
 ghost use Rattle.aamediate.specs.declared.mediate.Answered.{Answered};
 
-use crate::audit::{audit_line, name_of_label};
-use crate::job::{Job, Task};
-use crate::label::Label;
 use crate::mediate::{Answered, opening_label};
-use crate::mediator::Compiled;
-use crate::values::{plain_text, push_value};
+use aa_audit::{audit_line, plain_text, push_value};
+use aa_jobs::{Job, Task};
+use aa_mediate::{Compiled, Label, name_of_label};
 use aa_policy::{PassedOver, Policy, Profile};
 use itoa::{Buffer, Integer};
 use std::alloc::{AllocError, Global};

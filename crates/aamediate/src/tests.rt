@@ -2,11 +2,11 @@
 
 use crate::engine::{check_job, run_job};
 use crate::fault::RunFault;
-use crate::job_fault::JobFault;
+use aa_jobs::JobFault;
 use aa_words::{PolicyFault, PolicyKind, Spot};
 use std::alloc::Global;
-use std::io;
 use std::io::{ErrorKind, Read, Write};
+use std::io;
 use std::process::Abort;
 
 const FIRST_JOB: &[u8] =

@@ -1,0 +1,11 @@
+//! Writes audit lines, and the names and sets of permissions in them.
+#![tactic(auto)]
+
+mod audit;
+mod values;
+
+pub use audit::audit_line;
+pub use values::{plain_text, push_value};
+
+#[cfg(test)]
+mod tests;

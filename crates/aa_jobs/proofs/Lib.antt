@@ -1,0 +1,6 @@
+pub mod Json
+pub mod Kept
+pub mod Keys
+pub mod Numbers
+pub mod Rows
+pub mod Trees

@@ -1,0 +1,9 @@
+use Rattle.std.proofs.Common.{◌≡◌, map, drop}
+use Rattle.aa_jobs.specs.Steps.{each}
+use Rattle.aa_jobs.specs.Meaning.{task_of}
+use Rattle.aa_jobs.specs.Raw.{raw_task}
+use Rattle.aa_jobs.proofs.Rows.{with_front}
+use Rattle.aa_jobs.proofs.meaning.tasks.Given as goal
+
+abbrev pub invariant-loop-raw : goal.invariant-loop-raw
+invariant-loop-raw l = with_front l.tasks.items (each task_of (map raw_task (drop l.raw-index l.list))) ≡ each task_of (map raw_task l.list)

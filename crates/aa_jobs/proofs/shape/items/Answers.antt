@@ -1,0 +1,25 @@
+use Rattle.std.proofs.Common.{◌≡◌, ◌+◌, ◌++◌, ◌∷◌, [], map, drop}
+use Rattle.std.proofs.lemmas.Result.{err_from_is_err_and}
+use Rattle.std.proofs.lemmas.List.{map_push, drop_all}
+use Rattle.aa_jobs.specs.Steps.{each}
+use Rattle.aa_jobs.specs.Trees.{tree_data}
+use Rattle.aa_jobs.specs.Shape.{item_shape}
+use Rattle.aa_jobs.specs.Raw.{raw_item}
+use Rattle.aa_jobs.proofs.Rows.{nothing_before, next_is, step_on, step_ends, step_done}
+use Rattle.aa_jobs.proofs.shape.items.Goals as goal
+
+pub loop-value-init : goal.loop-value-init
+loop-value-init c = rw c.new-items.ensures.items (nothing_before (each item_shape (map tree_data c.args.list.now)))
+
+pub returns-in_err-item : goal.returns-in_err-item
+returns-in_err-item c =
+    let p = err_from_is_err_and c.from_residual.result c.from_residual.ensures.1 in
+    rw (p.1, p.2) (step_ends c.in_err-item.field-0.0 item_shape tree_data (map raw_item c.loop-value.items.items) (drop c.loop-value.value-index c.args.list.now) (drop (c.loop-value.value-index + 1) c.args.list.now) c.value-item.result (each item_shape (map tree_data c.args.list.now)) (next_is c.args.list.now c.loop-value.value-index c.value-item.result c.loop-value-test.true c.value-item.is) c.in_err-item.ensures c.loop-value.invariant)
+
+pub loop-value-preserved : goal.loop-value-preserved
+loop-value-preserved c =
+    let e : map raw_item c.push.new.self.items ≡ map raw_item c.loop-value.items.items ++ raw_item c.in_ok-item.field-0 ∷ [] = rw c.in_ok-push.ensures.items (map_push raw_item c.loop-value.items.items c.in_ok-item.field-0) in
+    rw e (step_on item_shape tree_data (map raw_item c.loop-value.items.items) (drop c.loop-value.value-index c.args.list.now) (drop (c.loop-value.value-index + 1) c.args.list.now) c.value-item.result (raw_item c.in_ok-item.field-0) (each item_shape (map tree_data c.args.list.now)) (next_is c.args.list.now c.loop-value.value-index c.value-item.result c.loop-value-test.true c.value-item.is) c.in_ok-item.ensures c.loop-value.invariant)
+
+pub returns : goal.returns
+returns c = step_done item_shape tree_data (map raw_item c.loop-value.items.items) (drop c.loop-value.value-index c.args.list.now) (each item_shape (map tree_data c.args.list.now)) (drop_all c.loop-value.value-index c.args.list.now c.loop-value-test.false) c.loop-value.invariant

@@ -1,0 +1,25 @@
+use Rattle.std.proofs.Common.{◌≡◌, ◌+◌, ◌++◌, ◌∷◌, [], map, drop}
+use Rattle.std.proofs.lemmas.Result.{err_from_is_err_and}
+use Rattle.std.proofs.lemmas.List.{map_push, drop_all}
+use Rattle.aa_jobs.specs.Steps.{each}
+use Rattle.aa_jobs.specs.Trees.{tree_data}
+use Rattle.aa_jobs.specs.Shape.{task_shape}
+use Rattle.aa_jobs.specs.Raw.{raw_task}
+use Rattle.aa_jobs.proofs.Rows.{nothing_before, next_is, step_on, step_ends, step_done}
+use Rattle.aa_jobs.proofs.shape.tasks.Goals as goal
+
+pub loop-value-init : goal.loop-value-init
+loop-value-init c = rw c.new-tasks.ensures.items (nothing_before (each task_shape (map tree_data c.args.list.now)))
+
+pub returns-in_err-task : goal.returns-in_err-task
+returns-in_err-task c =
+    let p = err_from_is_err_and c.from_residual.result c.from_residual.ensures.1 in
+    rw (p.1, p.2) (step_ends c.in_err-task.field-0.0 task_shape tree_data (map raw_task c.loop-value.tasks.items) (drop c.loop-value.value-index c.args.list.now) (drop (c.loop-value.value-index + 1) c.args.list.now) c.value-item.result (each task_shape (map tree_data c.args.list.now)) (next_is c.args.list.now c.loop-value.value-index c.value-item.result c.loop-value-test.true c.value-item.is) c.in_err-task.ensures c.loop-value.invariant)
+
+pub loop-value-preserved : goal.loop-value-preserved
+loop-value-preserved c =
+    let e : map raw_task c.push.new.self.items ≡ map raw_task c.loop-value.tasks.items ++ raw_task c.in_ok-task.field-0 ∷ [] = rw c.in_ok-push.ensures.items (map_push raw_task c.loop-value.tasks.items c.in_ok-task.field-0) in
+    rw e (step_on task_shape tree_data (map raw_task c.loop-value.tasks.items) (drop c.loop-value.value-index c.args.list.now) (drop (c.loop-value.value-index + 1) c.args.list.now) c.value-item.result (raw_task c.in_ok-task.field-0) (each task_shape (map tree_data c.args.list.now)) (next_is c.args.list.now c.loop-value.value-index c.value-item.result c.loop-value-test.true c.value-item.is) c.in_ok-task.ensures c.loop-value.invariant)
+
+pub returns : goal.returns
+returns c = step_done task_shape tree_data (map raw_task c.loop-value.tasks.items) (drop c.loop-value.value-index c.args.list.now) (each task_shape (map tree_data c.args.list.now)) (drop_all c.loop-value.value-index c.args.list.now c.loop-value-test.false) c.loop-value.invariant

@@ -1,0 +1,10 @@
+use Rattle.std.proofs.Common.{◌≡◌, map, drop}
+use Rattle.aa_jobs.specs.Steps.{each}
+use Rattle.aa_jobs.specs.Trees.{tree_data}
+use Rattle.aa_jobs.specs.Shape.{task_shape}
+use Rattle.aa_jobs.specs.Raw.{raw_task}
+use Rattle.aa_jobs.proofs.Rows.{with_front}
+use Rattle.aa_jobs.proofs.shape.tasks.Given as goal
+
+abbrev pub invariant-loop-value : goal.invariant-loop-value
+invariant-loop-value l = with_front (map raw_task l.tasks.items) (each task_shape (map tree_data (drop l.value-index l.list))) ≡ each task_shape (map tree_data l.list)

@@ -1,0 +1,28 @@
+-- What stands in a job: texts, numbers and lists.
+use Rattle.std.specs.Prelude.{ℕ, List, Bool}
+use Rattle.aa_jobs.specs.declared.job.Include.{Include}
+
+-- an item of a task's list
+pub data WrittenItem : Type 0 where
+  exit_item : WrittenItem
+  file_item : (path letters : List ℕ) (owned : Bool) → WrittenItem
+  link_item : (path target : List ℕ) (owned : Bool) → WrittenItem
+  exec_item : (path : List ℕ) (owned : Bool) → WrittenItem
+  cap_item : (name : List ℕ) → WrittenItem
+  net_item : (family kind : List ℕ) → WrittenItem
+
+pub record WrittenTask : Type 0 where
+  pub label : List ℕ
+  pub items : List WrittenItem
+
+pub record WrittenEvent : Type 0 where
+  pub task : ℕ
+  pub name : List ℕ
+
+pub record WrittenJob : Type 0 where
+  pub policy : List ℕ
+  pub includes : List Include
+  pub tasks : List WrittenTask
+  pub states : ℕ
+  pub capacity : ℕ
+  pub events : List WrittenEvent

@@ -1,0 +1,18 @@
+//! Reads jobs.
+#![tactic(auto)]
+
+mod job;
+mod job_fault;
+mod limits;
+mod meaning;
+mod raw;
+mod reading;
+mod shape;
+mod tree;
+
+pub use job::{Event, EventName, Include, Job, Task, Work};
+pub use job_fault::JobFault;
+pub use reading::read_job;
+
+#[cfg(test)]
+mod tests;

@@ -1,0 +1,47 @@
+//! Reads a job.
+
+ghost use Rattle.std.specs.Prelude.{◌≡◌, ◌≢◌, IfOk, IfErr, Ok, Err};
+ghost use Rattle.aa_jobs.specs.declared.job_fault.JobFault.{JobFault};
+ghost use Rattle.aa_jobs.specs.Steps.{Gives};
+ghost use Rattle.aa_jobs.specs.Jobs.{job_of};
+
+use crate::job::Job;
+use crate::job_fault::JobFault;
+use crate::limits::is_within_limits;
+use crate::meaning::job_from;
+use crate::shape;
+use crate::tree::read_tree;
+use json::Scratch;
+use std::alloc::Global;
+
+/// How many bytes a job may have.
+const MAX_BYTES: usize = 16_777_216;
+
+#[tactic(auto, unfolding(crate::specs::Jobs::job_of))]
+fn read(alloc: Global, bytes: &[u8]) -> Result<Job, JobFault>
+    ensures { Gives (λ j. j) result (job_of bytes.now) }
+{
+    if bytes.len() > MAX_BYTES {
+        return Err(JobFault::TooLarge);
+    }
+    let mut scratch = Scratch::new(alloc);
+    let tree = read_tree(alloc, bytes, &mut scratch)?;
+    let raw = shape::job(alloc, &tree)?;
+    drop(tree);
+    if is_within_limits(&raw) {
+        job_from(alloc, &raw)
+    } else {
+        Err(JobFault::TooLarge)
+    }
+}
+
+/// The job that the bytes are.
+///
+/// Refused in this order: `TooLarge` for more than 16,777,216 bytes; `NotJson`; `BadShape`; `TooLarge` for a number, a list or
+/// a text over its limit; `BadRequest`. Want of memory (`NoMemory`) may be met before any of them but the first.
+pub fn read_job(alloc: Global, bytes: &[u8]) -> Result<Job, JobFault>
+    ensures read { IfOk result (λ j. job_of bytes.now ≡ Ok j) }
+    ensures refused { IfErr result (λ e. e ≢ JobFault.NoMemory → job_of bytes.now ≡ Err e) }
+{
+    read(alloc, bytes)
+}

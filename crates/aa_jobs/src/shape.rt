@@ -1,0 +1,376 @@
+//! The shape of a job: what stands in its JSON value, or `BadShape`.
+
+ghost use Rattle.std.specs.Prelude.{◌≡◌, codes, map};
+ghost use Rattle.std.specs.List.{list_all};
+ghost use Rattle.serde_json.specs.Find.{get};
+ghost use Rattle.aa_jobs.specs.declared.job_fault.JobFault.TheVariants.{BadShape};
+ghost use Rattle.aa_jobs.specs.Steps.{Gives, only_if, each};
+ghost use Rattle.aa_jobs.specs.Shape.{is_key, has_only, fits, text_in, number_in, list_in, text_at, list_at, flag_from, number_from, has, file_shape, link_shape, exec_shape, cap_shape, net_shape, request_shape, item_shape, task_shape, pair_shape, event_shape, include_shape, events_from, includes_in, includes_from, job_shape};
+ghost use Rattle.aa_jobs.specs.Raw.{raw_item, raw_task, raw_event, raw_include, raw_job};
+ghost use Rattle.aa_jobs.specs.Trees.{tree_data, object_data, entry_data};
+
+use crate::job_fault::JobFault;
+use crate::raw::{RawEvent, RawInclude, RawItem, RawJob, RawTask};
+use crate::tree::{self, Member, Tree};
+use std::alloc::Global;
+use std::collections::BTreeMap;
+
+/// How many states an automaton may have where the job doesn't say.
+const DEFAULT_STATES: u64 = 4096;
+
+/// How many requests a lane holds where the job doesn't say.
+const DEFAULT_CAPACITY: u64 = 1;
+
+/// The objects of a job.
+#[derive(Clone, Copy)]
+enum Part {
+    Whole,
+    OfTask,
+    OfFile,
+    OfLink,
+    OfExec,
+    OfCap,
+    OfNet,
+}
+
+fn is_whole_key(key: &str) -> bool
+    ensures { result ≡ is_key Part.Whole key.now }
+{
+    key == "policy"
+        || key == "includes"
+        || key == "tasks"
+        || key == "states"
+        || key == "capacity"
+        || key == "events"
+}
+
+fn is_known(part: Part, key: &str) -> bool
+    ensures { result ≡ is_key part key.now }
+{
+    match part {
+        Part::Whole => is_whole_key(key),
+        Part::OfTask => key == "label" || key == "requests",
+        Part::OfFile => key == "file" || key == "mask" || key == "owned",
+        Part::OfLink => key == "link" || key == "to" || key == "owned",
+        Part::OfExec => key == "exec" || key == "owned",
+        Part::OfCap => key == "cap",
+        Part::OfNet => key == "net" || key == "type",
+    }
+}
+
+fn only_known(part: Part, members: &[Member]) -> bool
+    ensures { result ≡ list_all (λ m. is_key part m.0.now) members.now }
+{
+    members.iter().all(|member| is_known(part, member.0))
+}
+
+fn members_fit(part: Part, members: &[Member]) -> bool
+    ensures { result ≡ has_only part (object_data members.now) }
+{
+    only_known(part, members)
+}
+
+fn is_fit(part: Part, value: &Tree) -> bool
+    ensures { result ≡ fits part (tree_data value.now) }
+{
+    match tree::members(value) {
+        Some(members) => members_fit(part, members),
+        None => false,
+    }
+}
+
+/// The value is an object whose keys are all known.
+fn expect(part: Part, value: &Tree) -> Result<(), JobFault>
+    ensures { Gives (λ u. u) result (only_if (fits part (tree_data value.now)) BadShape) }
+{
+    if is_fit(part, value) {
+        Ok(())
+    } else {
+        Err(JobFault::BadShape)
+    }
+}
+
+fn text<'t>(value: &Tree<'t>) -> Result<&'t str, JobFault>
+    ensures { Gives (λ s. s.now) result (text_in (tree_data value.now)) }
+{
+    tree::text(value).ok_or(JobFault::BadShape)
+}
+
+fn number(value: &Tree) -> Result<u64, JobFault>
+    ensures { Gives (λ n. n) result (number_in (tree_data value.now)) }
+{
+    tree::unsigned(value).ok_or(JobFault::BadShape)
+}
+
+fn list<'v, 't>(value: &'v Tree<'t>) -> Result<&'v [Tree<'t>], JobFault>
+    ensures { Gives (λ s. map tree_data s.now) result (list_in (tree_data value.now)) }
+{
+    tree::items(value).ok_or(JobFault::BadShape)
+}
+
+fn text_of<'t>(value: &Tree<'t>, key: &str) -> Result<&'t str, JobFault>
+    ensures { Gives (λ s. s.now) result (text_at key.now (tree_data value.now)) }
+{
+    match tree::member(value, key) {
+        Some(member) => text(member),
+        None => Err(JobFault::BadShape),
+    }
+}
+
+fn list_of<'v, 't>(value: &'v Tree<'t>, key: &str) -> Result<&'v [Tree<'t>], JobFault>
+    ensures { Gives (λ s. map tree_data s.now) result (list_at key.now (tree_data value.now)) }
+{
+    match tree::member(value, key) {
+        Some(member) => list(member),
+        None => Err(JobFault::BadShape),
+    }
+}
+
+fn flag_of(value: &Tree, key: &str) -> Result<bool, JobFault>
+    ensures { Gives (λ b. b) result (flag_from (get key.now (tree_data value.now))) }
+{
+    match tree::member(value, key) {
+        None => Ok(false),
+        Some(member) => tree::flag(member).ok_or(JobFault::BadShape),
+    }
+}
+
+fn number_of(value: &Tree, key: &str, default: u64) -> Result<u64, JobFault>
+    ensures { Gives (λ n. n) result (number_from default (get key.now (tree_data value.now))) }
+{
+    match tree::member(value, key) {
+        None => Ok(default),
+        Some(member) => number(member),
+    }
+}
+
+fn has_key(value: &Tree, key: &str) -> bool
+    ensures { result ≡ has key.now (tree_data value.now) }
+{
+    tree::member(value, key).is_some()
+}
+
+#[tactic(auto, unfolding(crate::specs::Shape::file_shape))]
+fn file_item<'t>(value: &Tree<'t>) -> Result<RawItem<'t>, JobFault>
+    ensures { Gives raw_item result (file_shape (tree_data value.now)) }
+{
+    expect(Part::OfFile, value)?;
+    let path = text_of(value, "file")?;
+    let letters = text_of(value, "mask")?;
+    let owned = flag_of(value, "owned")?;
+    Ok(RawItem::File {
+        path,
+        letters,
+        owned,
+    })
+}
+
+#[tactic(auto, unfolding(crate::specs::Shape::link_shape))]
+fn link_item<'t>(value: &Tree<'t>) -> Result<RawItem<'t>, JobFault>
+    ensures { Gives raw_item result (link_shape (tree_data value.now)) }
+{
+    expect(Part::OfLink, value)?;
+    let path = text_of(value, "link")?;
+    let target = text_of(value, "to")?;
+    let owned = flag_of(value, "owned")?;
+    Ok(RawItem::Link {
+        path,
+        target,
+        owned,
+    })
+}
+
+#[tactic(auto, unfolding(crate::specs::Shape::exec_shape))]
+fn exec_item<'t>(value: &Tree<'t>) -> Result<RawItem<'t>, JobFault>
+    ensures { Gives raw_item result (exec_shape (tree_data value.now)) }
+{
+    expect(Part::OfExec, value)?;
+    let path = text_of(value, "exec")?;
+    let owned = flag_of(value, "owned")?;
+    Ok(RawItem::Exec { path, owned })
+}
+
+#[tactic(auto, unfolding(crate::specs::Shape::cap_shape))]
+fn cap_item<'t>(value: &Tree<'t>) -> Result<RawItem<'t>, JobFault>
+    ensures { Gives raw_item result (cap_shape (tree_data value.now)) }
+{
+    expect(Part::OfCap, value)?;
+    let name = text_of(value, "cap")?;
+    Ok(RawItem::Cap { name })
+}
+
+#[tactic(auto, unfolding(crate::specs::Shape::net_shape))]
+fn net_item<'t>(value: &Tree<'t>) -> Result<RawItem<'t>, JobFault>
+    ensures { Gives raw_item result (net_shape (tree_data value.now)) }
+{
+    expect(Part::OfNet, value)?;
+    let family = text_of(value, "net")?;
+    let kind = text_of(value, "type")?;
+    Ok(RawItem::Net { family, kind })
+}
+
+/// What an object asks for, by the key that tells its kind.
+#[tactic(auto, unfolding(crate::specs::Shape::request_shape))]
+fn request_item<'t>(value: &Tree<'t>) -> Result<RawItem<'t>, JobFault>
+    ensures { Gives raw_item result (request_shape (tree_data value.now)) }
+{
+    if has_key(value, "file") {
+        file_item(value)
+    } else if has_key(value, "link") {
+        link_item(value)
+    } else if has_key(value, "exec") {
+        exec_item(value)
+    } else if has_key(value, "cap") {
+        cap_item(value)
+    } else if has_key(value, "net") {
+        net_item(value)
+    } else {
+        Err(JobFault::BadShape)
+    }
+}
+
+fn item<'t>(value: &Tree<'t>) -> Result<RawItem<'t>, JobFault>
+    ensures { Gives raw_item result (item_shape (tree_data value.now)) }
+{
+    match tree::text(value) {
+        None => request_item(value),
+        Some(word) => {
+            if word == "exit" {
+                Ok(RawItem::Exit)
+            } else {
+                Err(JobFault::BadShape)
+            }
+        }
+    }
+}
+
+fn items<'t>(alloc: Global, list: &[Tree<'t>]) -> Result<Vec<RawItem<'t>>, JobFault>
+    ensures { Gives (λ v. map raw_item v.items) result (each item_shape (map tree_data list.now)) }
+{
+    let mut items = Vec::new(alloc);
+    for value in list {
+        items.push(item(value)?)?;
+    }
+    Ok(items)
+}
+
+#[tactic(auto, unfolding(crate::specs::Shape::task_shape))]
+fn task<'t>(alloc: Global, value: &Tree<'t>) -> Result<RawTask<'t>, JobFault>
+    ensures { Gives raw_task result (task_shape (tree_data value.now)) }
+{
+    expect(Part::OfTask, value)?;
+    let label = text_of(value, "label")?;
+    let requests = list_of(value, "requests")?;
+    let items = items(alloc, requests)?;
+    Ok(RawTask { label, items })
+}
+
+fn tasks<'t>(alloc: Global, list: &[Tree<'t>]) -> Result<Vec<RawTask<'t>>, JobFault>
+    ensures { Gives (λ v. map raw_task v.items) result (each task_shape (map tree_data list.now)) }
+{
+    let mut tasks = Vec::new(alloc);
+    for value in list {
+        tasks.push(task(alloc, value)?)?;
+    }
+    Ok(tasks)
+}
+
+fn pair<'t>(list: &[Tree<'t>]) -> Result<RawEvent<'t>, JobFault>
+    ensures { Gives raw_event result (pair_shape (map tree_data list.now)) }
+{
+    match list {
+        [task, name] => Ok(RawEvent {
+            task: number(task)?,
+            name: text(name)?,
+        }),
+        _ => Err(JobFault::BadShape),
+    }
+}
+
+#[tactic(auto, unfolding(crate::specs::Shape::event_shape))]
+fn event<'t>(value: &Tree<'t>) -> Result<RawEvent<'t>, JobFault>
+    ensures { Gives raw_event result (event_shape (tree_data value.now)) }
+{
+    pair(list(value)?)
+}
+
+fn events<'t>(alloc: Global, list: &[Tree<'t>]) -> Result<Vec<RawEvent<'t>>, JobFault>
+    ensures { Gives (λ v. map raw_event v.items) result (each event_shape (map tree_data list.now)) }
+{
+    let mut events = Vec::new(alloc);
+    for value in list {
+        events.push(event(value)?)?;
+    }
+    Ok(events)
+}
+
+fn events_of<'t>(alloc: Global, value: &Tree<'t>) -> Result<Vec<RawEvent<'t>>, JobFault>
+    ensures { Gives (λ v. map raw_event v.items) result (events_from (get (codes "events") (tree_data value.now))) }
+{
+    match tree::member(value, "events") {
+        None => Ok(Vec::new(alloc)),
+        Some(member) => events(alloc, list(member)?),
+    }
+}
+
+#[tactic(auto, unfolding(crate::specs::Shape::include_shape))]
+fn include<'t>(name: &'t str, value: &Tree<'t>) -> Result<RawInclude<'t>, JobFault>
+    ensures { Gives raw_include result (include_shape (name.now, tree_data value.now)) }
+{
+    let text = text(value)?;
+    Ok(RawInclude { name, text })
+}
+
+/// The included texts, in byte order of their names.
+fn includes<'t>(
+    alloc: Global,
+    found: &BTreeMap<&'t str, &Tree<'t>>,
+) -> Result<Vec<RawInclude<'t>>, JobFault>
+    ensures { Gives (λ v. map raw_include v.items) result (each include_shape (map entry_data found.now.entries)) }
+{
+    let mut includes = Vec::new(alloc);
+    for (name, value) in found {
+        includes.push(include(name, value)?)?;
+    }
+    Ok(includes)
+}
+
+fn includes_in<'t>(alloc: Global, value: &Tree<'t>) -> Result<Vec<RawInclude<'t>>, JobFault>
+    ensures { Gives (λ v. map raw_include v.items) result (includes_in (tree_data value.now)) }
+{
+    match tree::members(value) {
+        None => Err(JobFault::BadShape),
+        Some(members) => includes(alloc, &tree::sorted(alloc, members)?),
+    }
+}
+
+fn includes_of<'t>(alloc: Global, value: &Tree<'t>) -> Result<Vec<RawInclude<'t>>, JobFault>
+    ensures { Gives (λ v. map raw_include v.items) result (includes_from (get (codes "includes") (tree_data value.now))) }
+{
+    match tree::member(value, "includes") {
+        None => Ok(Vec::new(alloc)),
+        Some(member) => includes_in(alloc, member),
+    }
+}
+
+/// All that stands in a job.
+#[tactic(auto, unfolding(crate::specs::Shape::job_shape))]
+pub fn job<'t>(alloc: Global, value: &Tree<'t>) -> Result<RawJob<'t>, JobFault>
+    ensures { Gives raw_job result (job_shape (tree_data value.now)) }
+{
+    expect(Part::Whole, value)?;
+    let policy = text_of(value, "policy")?;
+    let includes = includes_of(alloc, value)?;
+    let tasks = tasks(alloc, list_of(value, "tasks")?)?;
+    let states = number_of(value, "states", DEFAULT_STATES)?;
+    let capacity = number_of(value, "capacity", DEFAULT_CAPACITY)?;
+    let events = events_of(alloc, value)?;
+    Ok(RawJob {
+        policy,
+        includes,
+        tasks,
+        states,
+        capacity,
+        events,
+    })
+}

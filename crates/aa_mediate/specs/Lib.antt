@@ -1,0 +1,6 @@
+pub use Rattle.aa_words.specs.Kinds
+pub mod Labels
+pub mod Numbering
+pub mod Permissions
+pub mod Reply
+pub mod Requests

@@ -1,5 +1,0 @@
-use Rattle.std.proofs.lemmas.List.Folds.{list_all-map}
-use Rattle.aamediate.proofs.limits.each_text_fits.Goals as goal
-
-pub returns : goal.returns
-returns c = simp list_all-map c.all_texts_fit.ensures

@@ -1,6 +1,0 @@
-use Rattle.std.proofs.Common.{◌∙◌}
-use Rattle.aamediate.proofs.Keys.{only_is}
-use Rattle.aamediate.proofs.shape.members_fit.Goals as goal
-
-pub returns : goal.returns
-returns c = c.only_known.ensures ∙ only_is c.args.part c.args.members.now
