@@ -79,7 +79,7 @@ pub(crate) fn build<'t>(
     ensures built { (depth : ℕ) (t : List ℕ) → Stands depth vars.now start.entry t → IfOk result (λ v. IsBuilt v.items t) }
     ensures err { IfErr result (λ e. e ≡ PolicyKind.NoMemory) }
 {
-    let mut text: Vec<u8> = Vec::new(alloc);
+    let mut text: Vec<u8> = Vec::with_capacity(alloc, start.text.len())?;
     let mut stack: Vec<Rest<'t>> = Vec::new(alloc);
     let mut top = start;
     loop {

@@ -28,7 +28,7 @@ fn squeeze(alloc: Global, text: &[u8]) -> Result<Vec<u8>, PolicyKind>
     ensures ok { IfOk result (λ v. v.items ≡ pattern_text text.now) }
     ensures err { IfErr result (λ e. e ≡ PolicyKind.NoMemory) }
 {
-    let mut found: Vec<u8> = Vec::new(alloc);
+    let mut found: Vec<u8> = Vec::with_capacity(alloc, text.len())?;
     let mut after = false;
     for byte in text {
         if !repeats(after, *byte) {
@@ -73,7 +73,7 @@ fn read_all<'t>(
     ensures { (depth most : ℕ) (ts : List (List ℕ)) → AreRight vars.now done.now.entries → outcome_of depth vars.now raw.now ≡ Texts most ts → most ≤ 1024 → length ts ≡ count
         → Gives (λ v. map (λ p. spelled p.items.items) v.items) result (expansions ts) }
 {
-    let mut patterns: Vec<Pattern> = Vec::new(alloc);
+    let mut patterns: Vec<Pattern> = Vec::with_capacity(alloc, count)?;
     for number in 0..count {
         let start = Rest {
             text: raw,

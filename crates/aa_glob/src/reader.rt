@@ -23,7 +23,7 @@ fn signs_of(alloc: Global, text: &[u8]) -> Result<Vec<Sign>, PolicyKind>
     ensures ok { IfOk result (λ v. v.items ≡ signs text.now) }
     ensures cause { IfErr result (λ e. e ≡ PolicyKind.NoMemory) }
 {
-    let mut found: Vec<Sign> = Vec::new(alloc);
+    let mut found: Vec<Sign> = Vec::with_capacity(alloc, text.len())?;
     let mut kept = false;
     for byte in text {
         if kept {
@@ -250,7 +250,7 @@ fn items_of(alloc: Global, list: &[Sign]) -> Result<Pattern, PolicyKind>
     ensures { Finds (λ p. spelled p.items.items) result (tokens_from 0 false 0 list.now) }
 {
     let mut stack: Vec<OpenChoice> = Vec::new(alloc);
-    let mut items: Vec<Item> = Vec::new(alloc);
+    let mut items: Vec<Item> = Vec::with_capacity(alloc, list.len())?;
     let mut slash = false;
     let mut at = 0;
     while at < list.len() {

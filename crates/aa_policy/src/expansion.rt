@@ -119,7 +119,7 @@ fn file_rules(alloc: Global, vars: &Vars, rules: &[RuleTree]) -> Result<Vec<File
     ensures refused { IfErr result (λ e. e.kind ≢ PolicyKind.NoMemory → IsFirstRefused vars.now (flat_map rule_paths (map rule_data rules.now)) e) }
     ensures cause { IfErr result IsPathRefusal }
 {
-    let mut found = Vec::new(alloc);
+    let mut found = Vec::with_capacity(alloc, rules.len())?;
     for rule in rules {
         push_file_rule(alloc, vars, rule, &mut found)?;
     }
@@ -188,7 +188,7 @@ pub fn profiles(
     ensures refused { IfErr result (λ e. e.kind ≢ PolicyKind.NoMemory → IsFirstRefused vars.now (paths_of (tree_data tree.now)) e) }
     ensures cause { IfErr result IsPathRefusal }
 {
-    let mut found = Vec::new(alloc);
+    let mut found = Vec::with_capacity(alloc, tree.len())?;
     for one in tree {
         found.push(profile(alloc, vars, one)?)?;
     }

@@ -11,7 +11,7 @@ use Rattle.aa_glob.proofs.BuildEnds.{steps_next, steps_back, steps_into}
 use Rattle.aa_glob.proofs.building.build.Goals as goal
 
 pub loop-top-init : goal.loop-top-init
-loop-top-init c = (c.requires.stands.0, c.requires.stands.1, build_start (length c.args.done.now.entries) c.args.vars.now c.args.done.now.entries _ _ c.args.start c.requires.stands.0 c.new-text.ensures.items c.new-stack.ensures.items c.requires.known c.requires.stands.1)
+loop-top-init c = (c.requires.stands.0, c.requires.stands.1, build_start (length c.args.done.now.entries) c.args.vars.now c.args.done.now.entries _ _ c.args.start c.requires.stands.0 c.in_ok-text.ensures.items c.new-stack.ensures.items c.requires.known c.requires.stands.1)
 
 pub returns-then-len-gt-MAX_BYTES-clause-built : goal.returns-then-len-gt-MAX_BYTES-clause-built
 returns-then-len-gt-MAX_BYTES-clause-built c = λ depth t s.

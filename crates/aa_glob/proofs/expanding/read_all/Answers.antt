@@ -8,7 +8,7 @@ use Rattle.aa_glob.proofs.expanding.read_all.Goals as goal
 
 pub loop-number-init : goal.loop-number-init
 loop-number-init c = λ depth most ts right e few count.
-    ap (λ (ps : List Pattern). behind_read (map (λ (p : Pattern). spelled p.items.items) ps) (expansions ts)) c.new-patterns.ensures.items ∙ read_start ts (expansions ts)
+    ap (λ (ps : List Pattern). behind_read (map (λ (p : Pattern). spelled p.items.items) ps) (expansions ts)) c.in_ok-patterns.ensures.items ∙ read_start ts (expansions ts)
 
 pub returns-in-Err : goal.returns-in-Err
 returns-in-Err c = λ depth most ts right e few count other.

@@ -8,7 +8,7 @@ use Rattle.aa_policy.proofs.expansion.file_rules.Goals as goal
 
 pub returns-in_err-push_file_rule-clause-refused : goal.returns-in_err-push_file_rule-clause-refused
 returns-in_err-push_file_rule-clause-refused c =
-    let r = c.from_residual in
+    let r = c.from_residual-in_err-push_file_rule in
     let q = err_from_is_err_and r.result r.ensures.1 in
     handed_on r.result _ _ _ q.1 q.2 (λ h. c.loop-rule.invariant.left _ (refused_at c.args.vars.now rule_paths rule_data c.args.rules.now c.loop-rule.rule-index _ _ c.loop-rule-test.true (c.in_err-push_file_rule.ensures.refused h)))
 

@@ -11,7 +11,7 @@ use Rattle.aa_policy.proofs.expansion.profiles.Goals as goal
 
 pub returns-in_err-profile-clause-refused : goal.returns-in_err-profile-clause-refused
 returns-in_err-profile-clause-refused c =
-    let r = c.from_residual in
+    let r = c.from_residual-in_err-profile in
     let q = err_from_is_err_and r.result r.ensures.1 in
     handed_on r.result _ _ _ q.1 q.2 (λ h. c.loop-one.invariant.left _ (refused_at c.args.vars.now profile_paths profile_data c.args.tree.now c.loop-one.one-index c.one-item.result _ c.loop-one-test.true
     (subst (λ (t : ProfileTree). IsFirstRefused c.args.vars.now (profile_paths (profile_data t)) c.in_err-profile.field-0.0) c.one-item.is (c.in_err-profile.ensures.refused h))))

@@ -1,0 +1,78 @@
+"""What the benches of the program share: its jobs, times, and tables of growth.
+
+Times are the processor's, so that other work on the machine doesn't show. The runs that a table compares take turns, and the
+median of each counts: a slow moment of the machine meets all of them alike. (The least of a few doesn't do: a short run is
+sometimes left alone by the machine, a long one hardly ever.)
+"""
+
+import json
+import math
+import os
+import statistics
+import subprocess
+import sys
+import tempfile
+
+TOP = os.path.dirname(os.path.dirname(os.path.abspath(__file__)))
+PROGRAM = os.path.join(TOP, "crates", "aamediate", "out", "aamediate")
+
+
+def introduce(repeats):
+    """Says what is measured where; ends if the program isn't built."""
+    if not os.access(PROGRAM, os.X_OK):
+        sys.exit("build it first: ./aamediate --help")
+    version = subprocess.run(["rt", "version"], capture_output=True, text=True).stdout.strip()
+    print(f"{version}; {os.cpu_count()} processors; medians of {repeats} runs, which take turns")
+
+
+def job_of(policy, includes=None):
+    job = {"policy": policy, "tasks": []}
+    if includes:
+        job["includes"] = includes
+    return json.dumps(job)
+
+
+def seconds_of(command, given):
+    """What a command takes of the processor with that standard input."""
+    child = subprocess.Popen(command, stdin=given, stdout=subprocess.DEVNULL, stderr=subprocess.DEVNULL)
+    _, status, used = os.wait4(child.pid, 0)
+    child.returncode = status
+    if status:
+        sys.exit(f"{command} ended with {status}")
+    return used.ru_utime + used.ru_stime
+
+
+def median_seconds(runs, repeats):
+    """The median time of each of these pairs of a command and its input."""
+    times = [[] for _ in runs]
+    with tempfile.TemporaryDirectory() as folder:
+        names = []
+        for number, (_, text) in enumerate(runs):
+            names.append(os.path.join(folder, str(number)))
+            with open(names[-1], "w") as file:
+                file.write(text)
+        for _ in range(repeats):
+            for number, (command, _) in enumerate(runs):
+                with open(names[number]) as given:
+                    times[number].append(seconds_of(command, given))
+    return [statistics.median(each) for each in times]
+
+
+def net_seconds(command, texts, repeats):
+    """The median time of the command on each text, without the program's start."""
+    start, *times = median_seconds([([PROGRAM, "check"], job_of(""))] + [([PROGRAM, command], text) for text in texts], repeats)
+    return [max(time - start, 1e-6) for time in times]
+
+
+def table(title, command, cases, repeats, more=lambda text: ""):
+    """Prints how the time grows from case to case. A case is a name, a text and a size."""
+    print(f"\n{title}")
+    print(f"{'input':>28} {'bytes of job':>13} {'time':>10} {'growth':>7} {'a fourfold':>10}")
+    before = None
+    for (name, text, size), time in zip(cases, net_seconds(command, [text for _, text, _ in cases], repeats)):
+        growth = fourfold = ""
+        if before:
+            growth = f"{time / before[0]:.2f}"
+            fourfold = f"{(time / before[0]) ** (math.log(4) / math.log(size / before[1])):.2f}"
+        print(f"{name:>28} {len(text):>13} {time * 1000:>8.1f}ms {growth:>7} {fourfold:>10}{more(text)}", flush=True)
+        before = (time, size)
