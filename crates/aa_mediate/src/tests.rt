@@ -288,12 +288,7 @@ fn an_audit_rule_reports_what_it_grants(rt: HostRuntime) -> Result<(), Fail> {
         &profile,
         &[
             asks("/x", Perms::READ, true, None),
-            asks(
-                "/x",
-                READING_AND_WRITING,
-                true,
-                audited(READING_AND_WRITING),
-            ),
+            asks("/x", READING_AND_WRITING, true, audited(Perms::WRITE)),
         ],
     )
 }

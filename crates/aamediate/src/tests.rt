@@ -5,8 +5,8 @@ use crate::fault::RunFault;
 use aa_jobs::JobFault;
 use aa_words::{PolicyFault, PolicyKind, Spot};
 use std::alloc::Global;
-use std::io::{ErrorKind, Read, Write};
 use std::io;
+use std::io::{ErrorKind, Read, Write};
 use std::process::Abort;
 
 const FIRST_JOB: &[u8] =
