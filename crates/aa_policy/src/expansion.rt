@@ -14,10 +14,10 @@ ghost use Rattle.aa_policy.specs.Spelling.{AttachesTo, MeansRule, MeansProfile, 
 use crate::access::{cap_rules, net_rules};
 use crate::policy::Profile;
 use crate::rule::{Exec, FileRule};
-use crate::seq::{Seq, Text};
 use crate::tree::ProfileTree;
 use aa_glob::{Pattern, Vars, expand};
 use aa_heads::AttachmentTree;
+use aa_lists::{Seq, Text};
 use aa_rules::{ExecTree, FileTree, RuleTree};
 use aa_words::{PolicyFault, PolicyKind, Spot};
 use std::alloc::{AllocError, Global};

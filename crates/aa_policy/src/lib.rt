@@ -12,16 +12,15 @@ mod matching;
 mod parser;
 mod policy;
 mod rule;
-mod seq;
 mod tree;
 
+pub use aa_lists::{Seq, Text};
 pub use aa_rules::{CapRule, ExecKind, Fallback, NetRule};
 pub use aa_tables::{Cap, Caps, Family, Perms, SockType};
 pub use matching::matching_is_decided;
 pub use parser::{parse, spelled_once};
 pub use policy::{PassedOver, Policy, Profile};
 pub use rule::{Exec, FileRule};
-pub use seq::{Seq, Text};
 
 #[cfg(test)]
 mod access_tests;

@@ -6,8 +6,8 @@ ghost use Rattle.aa_rules.specs.Reading.{rule_data};
 ghost use Rattle.aa_policy.specs.Spelling.{listed_at, passed_over_from};
 
 use crate::policy::PassedOver;
-use crate::seq::Text;
 use crate::tree::ProfileTree;
+use aa_lists::Text;
 use aa_rules::RuleTree;
 use std::alloc::{AllocError, Global};
 

@@ -14,7 +14,7 @@ use crate::items::tree_of;
 use crate::limits::{check_names, is_within_limits};
 use crate::listing::passed_over;
 use crate::policy::Policy;
-use crate::seq::Seq;
+use aa_lists::Seq;
 use aa_words::{PolicyFault, PolicyKind, WordList};
 use std::alloc::Global;
 

@@ -4,8 +4,8 @@ ghost use Rattle.aa_policy.specs.Lawful.{IsLawful};
 ghost use Rattle.std.proofs.Props.{props};
 
 use crate::rule::FileRule;
-use crate::seq::{Seq, Text};
 use aa_glob::Pattern;
+use aa_lists::{Seq, Text};
 use aa_rules::{CapRule, NetRule};
 use aa_words::Spot;
 

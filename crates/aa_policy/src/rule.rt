@@ -1,7 +1,7 @@
 //! What a rule on files says.
 
-use crate::seq::{Seq, Text};
 use aa_glob::Pattern;
+use aa_lists::{Seq, Text};
 use aa_rules::{ExecKind, Fallback};
 use aa_tables::Perms;
 

@@ -1,6 +1,6 @@
-//! Lists and texts that contracts compare.
+//! Bytes that contracts compare.
 
-ghost use Rattle.std.specs.Prelude.{◌≡◌, [], ◌∷◌, ◌++◌, OnOk, OnErr, length, IfOk};
+ghost use Rattle.std.specs.Prelude.{◌≡◌, IfOk};
 
 use std::alloc::{AllocError, Global};
 use std::marker::Model;
@@ -52,41 +52,5 @@ impl Text {
         ensures { IfOk result (λ t. t ≡ self.now) }
     {
         Text::copy_of(*self.bytes.allocator(), self.bytes.as_slice())
-    }
-}
-
-/// A row of values, seen as their list.
-#[derive(Drop)]
-pub struct Seq<T> {
-    items: Vec<T>,
-}
-
-impl<T> Model for Seq<T> {
-    ghost use Rattle.std.specs.Prelude.{List};
-    ghost use Rattle.std.specs.Coded.{coded_list};
-
-    ghost Value = { List T };
-
-    ghost view = { λ s. s.items.items };
-}
-
-impl<T> Seq<T> {
-    pub fn from_vec(items: Vec<T>) -> Seq<T>
-        ensures { result ≡ items.items }
-    {
-        Seq { items }
-    }
-
-    pub fn into_vec(self) -> Vec<T>
-        ensures { result.items ≡ self }
-    {
-        let Seq { items } = self;
-        items
-    }
-
-    pub fn as_slice(&self) -> &[T]
-        ensures { result.now ≡ self.now }
-    {
-        self.items.as_slice()
     }
 }
