@@ -2,8 +2,8 @@
 use Rattle.std.proofs.Common.{◌≡◌, ◌≢◌, ℕ, ◌+◌, ◌<◌, ◌≤◌, ◌⊎◌, ◌↔◌, Bool, true, false, ◌&&◌, ◌==◌, cond, List, [], ◌∷◌, ◌++◌, drop, get_or, length, Result, Ok, Err, IfOk, IfErr, refl, sym, ap, ◌∙◌, subst, ⊎_elim, arith, append_assoc, lt-ltb, IsTrue, true≢false}
 use Rattle.std.proofs.lemmas.Bool.{cases_lt}
 use Rattle.std.proofs.lemmas.List.{append-nil, at_drop_more, at_drop_all}
-use Rattle.aa_words.specs.declared.fault.PolicyKind.{PolicyKind}
-use Rattle.aa_words.specs.declared.fault.PolicyKind.TheVariants.{NoMemory, TooLarge, TooManyExpansions}
+use Rattle.aa_faults.specs.declared.fault.PolicyKind.{PolicyKind}
+use Rattle.aa_faults.specs.declared.fault.PolicyKind.TheVariants.{NoMemory, TooLarge, TooManyExpansions}
 use Rattle.aa_glob.specs.declared.sign.Token.{Token}
 use Rattle.aa_glob.specs.declared.summary.Summary.{Summary}
 use Rattle.aa_glob.specs.declared.building.Rest.{Rest}

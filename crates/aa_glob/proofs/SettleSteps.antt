@@ -2,7 +2,7 @@
 use Rattle.std.proofs.Common.{◌≡◌, ℕ, zero, suc, ◌+◌, ◌*◌, ◌<◌, ◌≤◌, ◌↔◌, ◌⊎◌, min, max, Bool, true, false, ◌||◌, ◌&&◌, cond, List, [], ◌∷◌, ◌++◌, map, flat_map, length, All, IsTrue, Option, Some, None, IfSome, Bor, refl, sym, ap, ◌∙◌, subst, inl, inr, ⊎_elim, arith, length-append, true≢false}
 use Rattle.std.proofs.lemmas.Bool.{cases_lt}
 use Rattle.std.proofs.lemmas.List.Elements.{All-nil, All-cons, All-head, All-tail}
-use Rattle.aa_words.specs.declared.fault.PolicyKind.TheVariants.{Unsupported}
+use Rattle.aa_faults.specs.declared.fault.PolicyKind.TheVariants.{Unsupported}
 use Rattle.aa_glob.specs.declared.summary.Summary.{Summary}
 use Rattle.aa_glob.specs.Variables.{Variable, values_of}
 use Rattle.aa_glob.specs.Pieces.{Piece, pieces}

@@ -1,7 +1,7 @@
 -- Tokens, one after the other.
 use Rattle.std.proofs.Common.{◌≡◌, ℕ, zero, suc, ◌+◌, ◌<◌, ◌≤◌, Bool, List, [], ◌∷◌, ◌++◌, length, drop, ◌-◌, get_or, refl, arith, sym, ap, ◌∙◌, append_assoc, flat_map, length-append, Vec, Global, Option, Some, None, subst, Result, Ok, Err}
 use Rattle.std.specs.Result.{IfOk}
-use Rattle.aa_words.specs.declared.fault.PolicyKind.{PolicyKind}
+use Rattle.aa_faults.specs.declared.fault.PolicyKind.{PolicyKind}
 use Rattle.std.specs.Option.{option_map, option_and_then}
 use Rattle.std.proofs.lemmas.List.{at_drop_more, at_drop_all, drop-drop, append-nil}
 use Rattle.std.proofs.lemmas.List.Concat.{flat_map-append}

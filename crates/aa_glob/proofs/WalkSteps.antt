@@ -1,8 +1,8 @@
 -- The walk at its start, one step on, and at its end.
 use Rattle.std.proofs.Common.{IsTrue, ◌≡◌, ◌≢◌, ℕ, zero, suc, ◌+◌, ◌≤◌, Bool, true, false, cond, List, [], ◌∷◌, ◌++◌, drop, length, Some, None, Bor, refl, sym, ap, ◌∙◌, subst, inl, inr, ⊎_elim, arith, length-append}
 use Rattle.std.specs.Str.{bytes_eq}
-use Rattle.aa_words.specs.declared.fault.PolicyKind.{PolicyKind}
-use Rattle.aa_words.specs.declared.fault.PolicyKind.TheVariants.{VariableCircle}
+use Rattle.aa_faults.specs.declared.fault.PolicyKind.{PolicyKind}
+use Rattle.aa_faults.specs.declared.fault.PolicyKind.TheVariants.{VariableCircle}
 use Rattle.aa_glob.specs.declared.summary.Summary.{Summary}
 use Rattle.aa_glob.specs.declared.walk.Step.{Step}
 use Rattle.aa_glob.specs.Variables.{Variable, values_of}

@@ -1,8 +1,8 @@
 -- The texts on the way of a walk.
 use Rattle.std.specs.Prelude.{ℕ, ◌+◌, ◌≤◌, ◌≡◌, ◌≢◌, length, ◌⊎◌, false, List, [], ◌∷◌, ◌++◌, map, drop, Some, None, Vec}
 use Rattle.std.specs.Global.{Global}
-use Rattle.aa_words.specs.declared.fault.PolicyKind.{PolicyKind}
-use Rattle.aa_words.specs.declared.fault.PolicyKind.TheVariants.{VariableCircle}
+use Rattle.aa_faults.specs.declared.fault.PolicyKind.{PolicyKind}
+use Rattle.aa_faults.specs.declared.fault.PolicyKind.TheVariants.{VariableCircle}
 use Rattle.aa_glob.specs.declared.summary.Summary.{Summary}
 use Rattle.aa_glob.specs.declared.walk.Step.{Step}
 use Rattle.aa_glob.specs.Variables.{Variable, values_of}

@@ -11,7 +11,7 @@ ghost use Rattle.aa_glob.specs.Built.{IsBuilt, Stands, Named};
 use crate::pieces::{Part, next_part};
 use crate::summary::{Done, known_summary, text_summary};
 use crate::vars::Vars;
-use aa_words::PolicyKind;
+use aa_faults::PolicyKind;
 use std::alloc::Global;
 
 /// How many bytes an expanded text may have.

@@ -9,7 +9,7 @@ ghost use Rattle.aa_glob.specs.Reading.{Finds, spelled_item};
 
 use crate::item::{ByteSet, Item};
 use crate::sign::{Range, Sign};
-use aa_words::PolicyKind;
+use aa_faults::PolicyKind;
 use std::alloc::{AllocError, Global};
 
 /// Whether the sign is that byte, not kept by a backslash.

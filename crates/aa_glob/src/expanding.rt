@@ -13,7 +13,7 @@ use crate::reader::read_pattern;
 use crate::summary::{Done, MAX_TEXTS, text_summary};
 use crate::vars::Vars;
 use crate::walk::walk;
-use aa_words::PolicyKind;
+use aa_faults::PolicyKind;
 use std::alloc::Global;
 
 /// Whether the byte is a `/` behind another.

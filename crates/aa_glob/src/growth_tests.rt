@@ -2,7 +2,7 @@
 //! want of memory has changed nothing.
 
 use crate::{Pattern, Vars, expand, read_pattern};
-use aa_words::PolicyKind;
+use aa_faults::PolicyKind;
 use std::alloc::Global;
 use std::process::Abort;
 

@@ -1,7 +1,7 @@
 //! Patterns and variables that are as large or as deep as their limits let them be, and just over.
 
 use crate::{Item, Pattern, Vars, expand, read_pattern};
-use aa_words::PolicyKind;
+use aa_faults::PolicyKind;
 use std::alloc::{AllocError, Global};
 use std::test::Fail;
 

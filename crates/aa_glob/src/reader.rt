@@ -10,7 +10,7 @@ ghost use Rattle.aa_glob.specs.Stack.{so_far, IsFit};
 use crate::classes::{class_length, class_with, is_plain};
 use crate::item::{Item, Pattern};
 use crate::sign::{Sign, Token};
-use aa_words::PolicyKind;
+use aa_faults::PolicyKind;
 use std::alloc::Global;
 
 fn is_left_out_sign(sign: Sign) -> bool

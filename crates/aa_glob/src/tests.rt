@@ -1,5 +1,5 @@
 use crate::{Pattern, Vars, expand, read_pattern};
-use aa_words::PolicyKind;
+use aa_faults::PolicyKind;
 use std::alloc::Global;
 use std::process::Abort;
 

@@ -5,7 +5,7 @@ ghost use Rattle.std.specs.Prelude.{ℕ, suc, MatchOption, Some, None};
 ghost use Rattle.aa_glob.specs.Variables.{Variable, variable, has_name, with_more, values_of};
 ghost use Rattle.aa_glob.specs.Expansions.{is_reserved, outcome, Stops};
 
-use aa_words::PolicyKind;
+use aa_faults::PolicyKind;
 use indexmap::IndexMap;
 use std::alloc::{AllocError, Global};
 use std::marker::Model;

@@ -8,7 +8,7 @@ ghost use Rattle.aa_glob.specs.Ways.{IsWalkFault};
 use crate::pieces::{Part, next_part};
 use crate::summary::{Done, Summary, variable_summary};
 use crate::vars::Vars;
-use aa_words::PolicyKind;
+use aa_faults::PolicyKind;
 use indexmap::IndexMap;
 use std::alloc::Global;
 

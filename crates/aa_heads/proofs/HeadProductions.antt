@@ -1,7 +1,7 @@
 -- A head reads in one way alone.
 use Rattle.std.proofs.Common.{◌≡◌, ℕ, ◌+◌, ◌<◌, ◌≤◌, List, [], ◌∷◌, length, get_or, Bool, true, false, Option, Some, None, refl, sym, ap, subst, ◌∙◌, inl, inr}
 use Rattle.std.specs.Prelude.{codes}
-use Rattle.aa_words.specs.declared.fault.Spot.{Spot}
+use Rattle.aa_faults.specs.declared.fault.Spot.{Spot}
 use Rattle.aa_words.specs.declared.word.Word.{Word}
 use Rattle.aa_words.specs.declared.word.WordKind.{WordKind}
 use Rattle.aa_words.specs.declared.word.WordKind.TheVariants.{Open, Equals, LeftParen, RightParen, Path, Name, Quoted}

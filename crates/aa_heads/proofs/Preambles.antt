@@ -3,8 +3,8 @@ use Rattle.std.proofs.Common.{◌≡◌, ℕ, ◌+◌, ◌<◌, ◌≤◌, List,
 use Rattle.std.proofs.lemmas.List.{append_cancel_left, append_cancel_right}
 use Rattle.std.specs.Prelude.{codes, Option, option_and_then, Result, Ok, Err, IfOk}
 use Rattle.std.specs.Bool.{OnTrue, OnFalse}
-use Rattle.aa_words.specs.declared.fault.Spot.{Spot}
-use Rattle.aa_words.specs.declared.fault.PolicyFault.{PolicyFault}
+use Rattle.aa_faults.specs.declared.fault.Spot.{Spot}
+use Rattle.aa_faults.specs.declared.fault.PolicyFault.{PolicyFault}
 use Rattle.aa_words.specs.declared.word.Word.{Word}
 use Rattle.aa_words.specs.declared.word.WordKind.TheVariants.{Equals, PlusEquals, Path, Name}
 use Rattle.aa_words.specs.Splits.{WordData, word_data}

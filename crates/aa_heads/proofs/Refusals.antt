@@ -1,10 +1,10 @@
 -- What a `?` returns.
 use Rattle.std.proofs.Common.{◌≡◌, Bool, true, refl, sym, ◌∙◌, subst, ap, ◌⊎◌, inl, inr}
 use Rattle.std.specs.Prelude.{Result, Err, ◌≢◌, IfErr}
-use Rattle.aa_words.specs.declared.fault.PolicyFault.{PolicyFault}
-use Rattle.aa_words.specs.declared.fault.PolicyKind.{PolicyKind}
-use Rattle.aa_words.specs.declared.fault.PolicyKind.TheVariants.{NoMemory}
-use Rattle.aa_words.specs.Kinds.{IsRefusal, no_memory}
+use Rattle.aa_faults.specs.declared.fault.PolicyFault.{PolicyFault}
+use Rattle.aa_faults.specs.declared.fault.PolicyKind.{PolicyKind}
+use Rattle.aa_faults.specs.declared.fault.PolicyKind.TheVariants.{NoMemory}
+use Rattle.aa_faults.specs.Kinds.{IsRefusal, no_memory}
 
 pub refused_by : {T : Type 0} (r : Result T PolicyFault) (e f : PolicyFault) → r ≡ Err e → e ≡ f → IsRefusal r → f.kind ≢ NoMemory
 refused_by {T} r e f eq same h =

@@ -1,6 +1,6 @@
 -- The head of a profile (apparmor.d(5), "Profile Head"): how it is named, where it attaches, its flags.
 use Rattle.std.specs.Prelude.{ℕ, ◌≡◌, ◌⊎◌, List, [], ◌∷◌, codes, Option, Some, None, option_map, Bool, true, false, if◌then◌else◌}
-use Rattle.aa_words.specs.declared.fault.Spot.{Spot}
+use Rattle.aa_faults.specs.declared.fault.Spot.{Spot}
 use Rattle.aa_words.specs.declared.word.WordKind.{WordKind}
 use Rattle.aa_words.specs.declared.word.WordKind.TheVariants.{Open, Comma, Equals, LeftParen, RightParen, Name}
 use Rattle.aa_words.specs.Splits.{WordData, is_one_of}

@@ -1,11 +1,11 @@
 -- What may stand before a policy's profiles: assignments to variables, and abi rules.
 use Rattle.std.specs.Prelude.{⊤, ◌⊎◌, ℕ, ◌≡◌, ◌≢◌, List, [], ◌∷◌, ◌++◌, Bool, true, false, not, ◌&&◌, ◌||◌, ◌==◌, if◌then◌else◌, Option, Some, None, option_and_then, codes}
 use Rattle.std.specs.List.{list_all}
-use Rattle.aa_words.specs.declared.fault.Spot.{Spot}
-use Rattle.aa_words.specs.declared.fault.PolicyFault.{PolicyFault}
-use Rattle.aa_words.specs.declared.fault.PolicyKind.{PolicyKind}
-use Rattle.aa_words.specs.declared.fault.PolicyKind.TheVariants.{VariableTwice, UndefinedVariable}
-use Rattle.aa_words.specs.Kinds.{no_memory}
+use Rattle.aa_faults.specs.declared.fault.Spot.{Spot}
+use Rattle.aa_faults.specs.declared.fault.PolicyFault.{PolicyFault}
+use Rattle.aa_faults.specs.declared.fault.PolicyKind.{PolicyKind}
+use Rattle.aa_faults.specs.declared.fault.PolicyKind.TheVariants.{VariableTwice, UndefinedVariable}
+use Rattle.aa_faults.specs.Kinds.{no_memory}
 use Rattle.aa_words.specs.declared.word.WordKind.{WordKind}
 use Rattle.aa_words.specs.declared.word.WordKind.TheVariants.{Comma, Equals, PlusEquals, Path, Name, Quoted, Value}
 use Rattle.aa_words.specs.Splits.{WordData}

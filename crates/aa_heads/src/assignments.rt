@@ -3,10 +3,10 @@
 ghost use Rattle.std.specs.Prelude.{◌≡◌, ◌≢◌, ◌≤◌, ◌<◌, ◌+◌, true, false, List, ℕ, Bool, map, length, Some, None, IfSome, IfNone, OnSome, OnOk, IfOk, IfErr};
 ghost use Rattle.std.specs.Bool.{OnTrue, OnFalse};
 ghost use Rattle.std.specs.List.{list_all};
-ghost use Rattle.aa_words.specs.declared.fault.Spot.{Spot};
+ghost use Rattle.aa_faults.specs.declared.fault.Spot.{Spot};
 ghost use Rattle.aa_glob.specs.Expansions.{is_reserved};
 ghost use Rattle.aa_glob.specs.Variables.{Variable};
-ghost use Rattle.aa_words.specs.Kinds.{no_memory, IsRefusal};
+ghost use Rattle.aa_faults.specs.Kinds.{no_memory, IsRefusal};
 ghost use Rattle.aa_words.specs.Splits.{WordData};
 ghost use Rattle.aa_rules.specs.Grammar.{Starts, Lacks, Many};
 ghost use Rattle.aa_heads.specs.Preamble.{is_name_byte, is_variable_name, Names, sign_of, Assigning, LacksAssignment, IsValue, NoValue, AssignmentData, assignment, IsAssignment, assigned, Misfits, Misnames, IsPreambleRefusal};

@@ -3,7 +3,7 @@
 ghost use Rattle.std.specs.Prelude.{◌≡◌, ◌≤◌, ◌<◌, ◌+◌, true, false, ◌∷◌, List, length, Some, IfSome, IfNone, OnSome, IfOk, IfErr, OnErr};
 ghost use Rattle.std.specs.Bool.{OnTrue, OnFalse};
 ghost use Rattle.aa_glob.specs.Variables.{Variable};
-ghost use Rattle.aa_words.specs.Kinds.{IsRefusal};
+ghost use Rattle.aa_faults.specs.Kinds.{IsRefusal};
 ghost use Rattle.aa_words.specs.Splits.{WordData, word_data};
 ghost use Rattle.aa_rules.specs.Faults.{is_word_fault};
 ghost use Rattle.aa_heads.specs.Preamble.{IsAngled, CanNameAbi, NamesAbi, LacksAbiName, IsAbi, PreambleData, IsPreambleItem, PreambleEnds, IsPreamble, given, variables_of, Misnames, IsTwice, IsUndefined, IsPreambleRefusal};

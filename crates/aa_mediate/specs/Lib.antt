@@ -1,4 +1,4 @@
-pub use Rattle.aa_words.specs.Kinds
+pub use Rattle.aa_faults.specs.Kinds
 pub mod Labels
 pub mod Numbering
 pub mod Permissions

@@ -2,7 +2,7 @@
 
 ghost use Rattle.std.specs.Prelude.{◌≡◌, ◌≤◌, ◌==◌, position, IfOk, IfErr};
 ghost use Rattle.aa_mediate.specs.Labels.{profile_number};
-ghost use Rattle.aa_words.specs.Kinds.{no_memory};
+ghost use Rattle.aa_faults.specs.Kinds.{no_memory};
 ghost use Rattle.aa_mediate.specs.Reply.{reply};
 
 use crate::answer::Answer;

@@ -6,9 +6,9 @@ use Rattle.std.specs.List.{All, AllByRecursion, AllZip, IsDistinct, list_any}
 use Rattle.std.proofs.lemmas.List.{map-append}
 use Rattle.std.proofs.lemmas.List.Elements.{All-from_recursion, recursion_from_All, length_all_zip}
 use Rattle.std.specs.Cmp.Lexicographic.{nat_list_eq_equiv}
-use Rattle.aa_words.specs.declared.fault.Spot.{Spot}
-use Rattle.aa_words.specs.declared.fault.PolicyFault.{PolicyFault}
-use Rattle.aa_words.specs.declared.fault.PolicyKind.{PolicyKind}
+use Rattle.aa_faults.specs.declared.fault.Spot.{Spot}
+use Rattle.aa_faults.specs.declared.fault.PolicyFault.{PolicyFault}
+use Rattle.aa_faults.specs.declared.fault.PolicyKind.{PolicyKind}
 use Rattle.aa_words.specs.Splits.{WordData}
 use Rattle.aa_glob.specs.declared.item.Pattern.{Pattern}
 use Rattle.aa_glob.specs.declared.sign.Token.{Token}

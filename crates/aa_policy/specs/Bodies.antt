@@ -1,6 +1,6 @@
 -- The bodies of profiles, profiles, and a policy as a whole.
 use Rattle.std.specs.Prelude.{ℕ, ◌+◌, ◌≡◌, List, [], ◌∷◌, ◌++◌, map, flat_map, length, codes, nat_lt, if◌then◌else◌, Option, Some, None, option_map, option_and_then, true, false}
-use Rattle.aa_words.specs.declared.fault.Spot.{Spot}
+use Rattle.aa_faults.specs.declared.fault.Spot.{Spot}
 use Rattle.aa_words.specs.Splits.{WordData}
 use Rattle.aa_glob.specs.Variables.{Variable}
 use Rattle.aa_policy.specs.declared.tree.ChildTree.{ChildTree}

@@ -1,7 +1,7 @@
 -- The patterns that the paths of a policy stand for, and the first path that stands for none.
 use Rattle.std.specs.Prelude.{ℕ, ◌≡◌, ◌⊎◌, List, [], ◌∷◌, map, Ok, Err}
-use Rattle.aa_words.specs.declared.fault.Spot.{Spot}
-use Rattle.aa_words.specs.declared.fault.PolicyFault.{PolicyFault}
+use Rattle.aa_faults.specs.declared.fault.Spot.{Spot}
+use Rattle.aa_faults.specs.declared.fault.PolicyFault.{PolicyFault}
 use Rattle.aa_glob.specs.declared.item.Pattern.{Pattern}
 use Rattle.aa_glob.specs.declared.sign.Token.{Token}
 use Rattle.aa_glob.specs.Variables.{Variable}

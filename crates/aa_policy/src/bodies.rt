@@ -1,7 +1,7 @@
 //! Bodies of profiles, and the profiles themselves (apparmor.d(5), "Profiles").
 
 ghost use Rattle.std.specs.Prelude.{◌≡◌, ◌<◌, ◌≤◌, ◌+◌, ◌++◌, true, List, Option, map, flat_map, length, option_map, OnOk, OnErr, IfOk, IfErr};
-ghost use Rattle.aa_words.specs.Kinds.{IsRefusal};
+ghost use Rattle.aa_faults.specs.Kinds.{IsRefusal};
 ghost use Rattle.aa_words.specs.Splits.{WordData};
 ghost use Rattle.aa_rules.specs.Faults.{is_word_fault, IsWordRefusal};
 ghost use Rattle.aa_rules.specs.Grammar.{Closes, Many};

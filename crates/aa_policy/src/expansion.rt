@@ -2,7 +2,7 @@
 
 ghost use Rattle.std.specs.Prelude.{◌≡◌, ◌≢◌, ◌++◌, List, flat_map, map, option_map, IfOk, IfErr, OnOk};
 ghost use Rattle.std.specs.List.{AllZip};
-ghost use Rattle.aa_words.specs.Kinds.{no_memory};
+ghost use Rattle.aa_faults.specs.Kinds.{no_memory};
 ghost use Rattle.aa_policy.specs.declared.rule.FileRule.{FileRule};
 ghost use Rattle.aa_policy.specs.Expansion.{StandsFor, IsRefused, IsFirstRefused};
 ghost use Rattle.aa_policy.specs.Faults.{IsPathRefusal};

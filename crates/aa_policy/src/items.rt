@@ -1,7 +1,7 @@
 //! The first pass: reads what is written, word by word.
 
 ghost use Rattle.std.specs.Prelude.{◌≡◌, ◌<◌, ◌≤◌, ◌++◌, true, List, Option, map, length, option_map, OnOk, OnErr, IfOk, IfErr};
-ghost use Rattle.aa_words.specs.Kinds.{IsRefusal};
+ghost use Rattle.aa_faults.specs.Kinds.{IsRefusal};
 ghost use Rattle.aa_words.specs.Splits.{WordData, words_data};
 ghost use Rattle.aa_rules.specs.Faults.{IsWordRefusal};
 ghost use Rattle.aa_policy.specs.Bodies.{FamilyData, ProfileData, IsItem, IsPolicy, row_of, family_data, profile_data, tree_data};

@@ -3,7 +3,7 @@
 ghost use Rattle.std.specs.Prelude.{ℕ, Option, ◌≡◌, ◌⊎◌, ◌≤◌, ◌↔◌, IsTrue, length, IfErr, OnOk};
 ghost use Rattle.std.specs.List.{All, IsDistinct, sum_by};
 ghost use Rattle.std.specs.Str.{bytes_eq};
-ghost use Rattle.aa_words.specs.Kinds.{no_memory};
+ghost use Rattle.aa_faults.specs.Kinds.{no_memory};
 ghost use Rattle.aa_policy.specs.Lawful.{names_of, file_patterns, attachments_with, attachment_patterns, IsWithinLimits};
 ghost use Rattle.aa_policy.specs.Spelling.{IsRepeated};
 

@@ -1,7 +1,7 @@
 //! Gives the policy that a text's words spell.
 
 ghost use Rattle.std.specs.Prelude.{◌≡◌, ◌⊎◌, List, true, IfOk, IfErr};
-ghost use Rattle.aa_words.specs.Kinds.{IsRefusal};
+ghost use Rattle.aa_faults.specs.Kinds.{IsRefusal};
 ghost use Rattle.aa_words.specs.Splits.{WordData, words_data};
 ghost use Rattle.aa_policy.specs.Faults.{IsParseRefusal, is_path_only};
 ghost use Rattle.aa_heads.specs.Preamble.{IsTwice, IsUndefined};

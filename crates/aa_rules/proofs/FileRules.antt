@@ -3,7 +3,7 @@ use Rattle.std.proofs.Common.{◌≡◌, ◌⊎◌, inl, inr, ℕ, List, ◌∷�
 use Rattle.std.specs.Prelude.{codes}
 use Rattle.std.specs.Option.{IfNone}
 use Rattle.std.proofs.lemmas.Option.{same_Some}
-use Rattle.aa_words.specs.declared.fault.Spot.{Spot}
+use Rattle.aa_faults.specs.declared.fault.Spot.{Spot}
 use Rattle.aa_words.specs.declared.word.WordKind.{WordKind}
 use Rattle.aa_words.specs.declared.word.WordKind.TheVariants.{Arrow, Comma, Name}
 use Rattle.aa_words.specs.Splits.{WordData}

@@ -1,9 +1,9 @@
 -- Which kinds of refusal come from a word at which reading can't go on.
 use Rattle.std.specs.Prelude.{◌≡◌, ◌⊎◌, Bool, true, false}
-use Rattle.aa_words.specs.declared.fault.PolicyFault.{PolicyFault}
-use Rattle.aa_words.specs.Kinds.{no_memory}
-use Rattle.aa_words.specs.declared.fault.PolicyKind.{PolicyKind}
-use Rattle.aa_words.specs.declared.fault.PolicyKind.TheVariants.{Syntax, Unsupported, UnknownWord, BadMode, WriteWithAppend}
+use Rattle.aa_faults.specs.declared.fault.PolicyFault.{PolicyFault}
+use Rattle.aa_faults.specs.Kinds.{no_memory}
+use Rattle.aa_faults.specs.declared.fault.PolicyKind.{PolicyKind}
+use Rattle.aa_faults.specs.declared.fault.PolicyKind.TheVariants.{Syntax, Unsupported, UnknownWord, BadMode, WriteWithAppend}
 
 -- the kinds of a word at which reading can't go on
 abbrev pub is_word_fault : PolicyKind → Bool

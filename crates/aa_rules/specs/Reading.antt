@@ -1,7 +1,7 @@
 -- What a text's rules are as they are written, before any of it is given a meaning.
 use Rattle.std.specs.Prelude.{ℕ, Bool, List, Option, option_map, drop}
 use Rattle.std.specs.Borrow.{Bor}
-use Rattle.aa_words.specs.declared.fault.Spot.{Spot}
+use Rattle.aa_faults.specs.declared.fault.Spot.{Spot}
 use Rattle.aa_words.specs.declared.word.Word.{Word}
 use Rattle.aa_words.specs.Splits.{WordData, words_data}
 use Rattle.aa_tables.specs.declared.perms.Perms.{Perms}

@@ -1,4 +1,4 @@
-pub mod Kinds
+pub use Rattle.aa_faults.specs.Kinds
 pub mod Runs
 pub mod Includes
 pub mod Splits

@@ -1,15 +1,15 @@
 -- Where and why a text can't be cut further: at the first place where no piece stands, or at an include that is refused.
 use Rattle.std.specs.Prelude.{ℕ, zero, suc, false, drop, ◌==◌, ◌+◌, ◌-◌, ◌<◌, ◌≤◌, ◌≡◌, ◌⊎◌, List, [], ◌∷◌, ◌++◌, length, take, if◌then◌else◌, Option, Some, None, Result, Ok, Err, codes, Bool, ◌&&◌}
 use Rattle.std.specs.Str.{bytes_eq}
-use Rattle.aa_words.specs.declared.fault.PolicyKind.TheVariants.{Syntax, TooLarge}
-use Rattle.aa_words.specs.declared.fault.PolicyFault.{PolicyFault}
+use Rattle.aa_faults.specs.declared.fault.PolicyKind.TheVariants.{Syntax, TooLarge}
+use Rattle.aa_faults.specs.declared.fault.PolicyFault.{PolicyFault}
 use Rattle.aa_words.specs.declared.piece.Piece.TheVariants.{Include}
 use Rattle.aa_words.specs.declared.piece.Place.{Place}
 use Rattle.aa_words.specs.declared.reading.Reading.{Reading}
 use Rattle.aa_words.specs.declared.reading.Count.{Count}
 use Rattle.aa_words.specs.Runs.{begins_with, name_len, quote_len, skipped_len}
 use Rattle.aa_words.specs.Includes.{include_form}
-use Rattle.aa_words.specs.Kinds.{at_start, no_memory}
+use Rattle.aa_faults.specs.Kinds.{at_start, no_memory}
 use Rattle.aa_words.specs.Splits.{WordData, start, is_beginning, Part, spelled, IsPart, place_after, piece_at, extent, Opening, Setting, include_opens, fault_of_kind, Gives, Reads, main_reading, main_count}
 
 -- how far the form of an include goes before it breaks off

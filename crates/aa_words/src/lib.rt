@@ -1,8 +1,7 @@
-//! The words of a policy text, the sources that it may include, and the kinds of fault for which a policy is refused.
+//! The words of a policy text, and the sources that it may include. A refusal is one of `aa_faults`.
 #![tactic(auto)]
 
 mod cut;
-mod fault;
 mod includes;
 mod lexer;
 mod piece;
@@ -13,7 +12,7 @@ mod sources;
 mod stops;
 mod word;
 
-pub use fault::{PolicyFault, PolicyKind, Spot};
+pub use aa_faults::{PolicyFault, PolicyKind, Spot};
 pub use lexer::words;
 pub use sources::Sources;
 pub use word::{Span, Word, WordKind, WordList};

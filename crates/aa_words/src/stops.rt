@@ -4,12 +4,12 @@ ghost use Rattle.std.specs.Prelude.{◌≡◌, ◌+◌, ◌^◌, ◌<◌, ◌≤
 ghost use Rattle.aa_words.specs.Includes.{include_form};
 ghost use Rattle.aa_words.specs.Stops.{reach, form_reach, ahead, fault_at};
 
-use crate::fault::{PolicyFault, PolicyKind, Spot};
 use crate::includes::{behind_keyword, form_of_include};
 use crate::piece::{Place, begins_rule};
 use crate::reading::Reading;
 use crate::runs::quote_length;
 use crate::skips::skipped_length;
+use aa_faults::{PolicyFault, PolicyKind, Spot};
 
 /// How far the form of an include goes before it breaks off, where `rest` stands behind its keyword.
 #[tactic(auto, using(crate::proofs::Forms::broken_le))]

@@ -62,17 +62,6 @@ fn expect_refused(rt: &impl Abort, alloc: Global, text: &str, expected: &str) ->
 }
 
 #[test]
-fn a_fault_is_printed_with_number_kind_and_place(rt: HostRuntime) -> Result<(), Fail> {
-    let fault = PolicyFault {
-        kind: PolicyKind::WriteWithAppend,
-        at: Spot { file: 0, byte: 15 },
-    };
-    let line = format!(in rt.alloc(); "{fault}")?;
-    assert_eq!(rt; line.as_str(), "refused 8 WriteWithAppend 0:15");
-    Ok(())
-}
-
-#[test]
 fn a_text_that_ends_too_early_gives_its_words(rt: HostRuntime) -> Result<(), Fail> {
     let alloc = rt.alloc();
     let text = "profile p { /x r,";

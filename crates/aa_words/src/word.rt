@@ -1,6 +1,6 @@
 //! Words, and where they stand.
 
-use crate::fault::Spot;
+use aa_faults::Spot;
 
 /// Where a word stands in its source.
 #[derive(Clone, Copy, Debug, PartialEq, Eq)]

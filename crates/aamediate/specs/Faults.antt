@@ -1,8 +1,8 @@
 -- Why an engine gives up, and with which exit status.
 use Rattle.std.specs.Prelude.{ℕ}
-use Rattle.aa_words.specs.declared.fault.PolicyFault.{PolicyFault}
-use Rattle.aa_words.specs.declared.fault.PolicyKind.{PolicyKind}
-use Rattle.aa_words.specs.declared.fault.PolicyKind.TheVariants as kinds
+use Rattle.aa_faults.specs.declared.fault.PolicyFault.{PolicyFault}
+use Rattle.aa_faults.specs.declared.fault.PolicyKind.{PolicyKind}
+use Rattle.aa_faults.specs.declared.fault.PolicyKind.TheVariants as kinds
 use Rattle.aa_jobs.specs.declared.job_fault.JobFault.{JobFault}
 use Rattle.aa_jobs.specs.declared.job_fault.JobFault.TheVariants as faults
 use Rattle.aamediate.specs.declared.mediate.MediateFault.{MediateFault}

@@ -1,5 +1,5 @@
 use Rattle.std.proofs.Common.{take, drop}
-use Rattle.aa_words.specs.declared.fault.PolicyFault.{PolicyFault}
+use Rattle.aa_faults.specs.declared.fault.PolicyFault.{PolicyFault}
 use Rattle.aa_policy.specs.Expansion.{IsFirstRefused}
 use Rattle.aa_policy.specs.Bodies.{tree_data}
 use Rattle.aa_policy.specs.Spelling.{MeansProfiles, paths_of}

@@ -1,5 +1,5 @@
 use Rattle.std.proofs.Common.{ap, Err}
-use Rattle.aa_words.specs.declared.fault.PolicyFault.{PolicyFault}
+use Rattle.aa_faults.specs.declared.fault.PolicyFault.{PolicyFault}
 use Rattle.aamediate.proofs.Gathering.{gathering_start, gathering_more, gathering_end, is_short, is_fresh, refused_here, ok_err}
 use Rattle.aamediate.proofs.engine.gather_sources.Goals as goal
 

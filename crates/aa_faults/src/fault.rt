@@ -1,7 +1,7 @@
 //! Why a policy is refused.
 
 ghost use Rattle.std.specs.Prelude.{◌≡◌};
-ghost use Rattle.aa_words.specs.Kinds.{kind_number, kind_name, at_start};
+ghost use Rattle.aa_faults.specs.Kinds.{kind_number, kind_name, at_start};
 
 use std::alloc::{AllocError, AllocFailed};
 use thiserror::Error;
@@ -140,7 +140,7 @@ impl PolicyFault {
 
 impl From<AllocError> for PolicyFault {
     ghost use Rattle.std.specs.Prelude.{◌≡◌};
-    ghost use Rattle.aa_words.specs.Kinds.{no_memory};
+    ghost use Rattle.aa_faults.specs.Kinds.{no_memory};
 
     ghost from_gives = { λ _ e. e ≡ no_memory };
 
@@ -151,7 +151,7 @@ impl From<AllocError> for PolicyFault {
 
 impl<T: Drop> From<AllocFailed<T>> for PolicyFault {
     ghost use Rattle.std.specs.Prelude.{◌≡◌};
-    ghost use Rattle.aa_words.specs.Kinds.{no_memory};
+    ghost use Rattle.aa_faults.specs.Kinds.{no_memory};
 
     ghost from_gives = { λ _ e. e ≡ no_memory };
 
@@ -162,7 +162,7 @@ impl<T: Drop> From<AllocFailed<T>> for PolicyFault {
 
 impl From<AllocError> for PolicyKind {
     ghost use Rattle.std.specs.Prelude.{◌≡◌};
-    ghost use Rattle.aa_words.specs.declared.fault.PolicyKind.TheVariants.{NoMemory};
+    ghost use Rattle.aa_faults.specs.declared.fault.PolicyKind.TheVariants.{NoMemory};
 
     ghost from_gives = { λ _ e. e ≡ NoMemory };
 
@@ -173,7 +173,7 @@ impl From<AllocError> for PolicyKind {
 
 impl<T: Drop> From<AllocFailed<T>> for PolicyKind {
     ghost use Rattle.std.specs.Prelude.{◌≡◌};
-    ghost use Rattle.aa_words.specs.declared.fault.PolicyKind.TheVariants.{NoMemory};
+    ghost use Rattle.aa_faults.specs.declared.fault.PolicyKind.TheVariants.{NoMemory};
 
     ghost from_gives = { λ _ e. e ≡ NoMemory };
 
