@@ -2,7 +2,7 @@
 use Rattle.std.proofs.Common.{◌≡◌, ◌≢◌, ℕ, ◌+◌, ◌<◌, ◌≤◌, ◌↔◌, Bool, true, false, cond, Result, Ok, Err, IfOk, List, [], ◌∷◌, ◌++◌, length, get_or, take, IsTrue, refl, sym, ap, ◌∙◌, subst, ⊎_elim, arith, true≢false}
 use Rattle.std.proofs.lemmas.List.{get_or_append_left, get_or_push, length_push, take_more}
 use Rattle.std.proofs.lemmas.Bool.{cases_lt}
-use Rattle.aa_glob.specs.declared.item.Item.{Item}
+use Rattle.aa_items.specs.declared.item.Item.{Item}
 use Rattle.aa_auto.specs.declared.nodes.Node.{Node}
 use Rattle.aa_auto.specs.Division.{GivesClass, Divides, IsDivision, IsSameItem, IsKey, AreKeys, Refines, RefinesBy, AreClasses}
 use Rattle.aa_auto.proofs.SameLemmas.{AreSameNodes-append}

@@ -3,18 +3,18 @@ use Rattle.std.proofs.Common.{◌≡◌, ℕ, ◌+◌, ◌<◌, ◌≤◌, ◌�
 use Rattle.std.proofs.lemmas.List.{get_or_append_left, get_or_push}
 use Rattle.std.proofs.lemmas.List.Elements.{All-nil, All-push}
 use Rattle.std.proofs.lemmas.Bool.{cases_lt}
-use Rattle.aa_glob.specs.declared.item.Item.{Item}
-use Rattle.aa_glob.specs.declared.item.Pattern.{Pattern}
-use Rattle.aa_glob.specs.Globs.{Matches}
-use Rattle.aa_glob.specs.Places.{SamePlaces}
+use Rattle.aa_items.specs.declared.item.Item.{Item}
+use Rattle.aa_patterns.specs.declared.pattern.Pattern.{Pattern}
+use Rattle.aa_items.specs.Globs.{Matches}
+use Rattle.aa_patterns.specs.Places.{SamePlaces}
 use Rattle.aa_auto.specs.Apart.{IsApart}
-use Rattle.aa_glob.specs.Heads.{heads_of_patterns}
+use Rattle.aa_patterns.specs.Heads.{heads_of_patterns}
 use Rattle.aa_auto.specs.Spots.{IsSpotsOf}
 use Rattle.aa_auto.specs.Tables.{IsText, HasPlaces, ListsMatching}
 use Rattle.aa_auto.specs.Explored.{Follows, Lists, TakesSet, AreReached, AreListed, Goes}
 use Rattle.aa_auto.proofs.SortedLemmas.{same_rising}
 use Rattle.aa_auto.proofs.SpotsLemmas.{same_spots}
-use Rattle.aa_glob.proofs.PlaceHeads.{In, heads_from_places, places_from_heads}
+use Rattle.aa_patterns.proofs.PlaceHeads.{In, heads_from_places, places_from_heads}
 
 pub got : {X : Type 0} (xs : List X) (i : ℕ) (x d : X) → slice_get xs i ≡ Some x → (i < length xs) × (get_or xs i d ≡ x)
 got [] i x d e = absurd (cc e)

@@ -2,11 +2,11 @@
 use Rattle.std.proofs.Common.{Contains, ◌≡◌, ℕ, ◌<◌, Option, Some, List, [], ◌∷◌, length, get_or, suc, zero, slice_get, refl, sym, subst, arith}
 use Rattle.std.specs.List.Sorted.{IsStrictlyIncreasing}
 use Rattle.std.proofs.lemmas.Option.{slice_get_within}
-use Rattle.aa_glob.specs.declared.item.Item.{Item}
-use Rattle.aa_glob.specs.declared.item.Pattern.{Pattern}
-use Rattle.aa_glob.specs.Globs.{Matches}
+use Rattle.aa_items.specs.declared.item.Item.{Item}
+use Rattle.aa_patterns.specs.declared.pattern.Pattern.{Pattern}
+use Rattle.aa_items.specs.Globs.{Matches}
 use Rattle.aa_auto.specs.declared.nodes.Node.{Node}
-use Rattle.aa_glob.specs.Heads.{heads_of_patterns}
+use Rattle.aa_patterns.specs.Heads.{heads_of_patterns}
 use Rattle.aa_auto.specs.Closed.{IsUpward, IsClosure}
 use Rattle.aa_auto.specs.Spots.{IsSpotsOf, AreSeeds}
 use Rattle.aa_auto.specs.Finals.{AreFinals, ListsFinals}

@@ -1,9 +1,9 @@
 -- Bytes that are divided into classes.
 use Rattle.std.specs.Prelude.{◌≡◌, ◌≢◌, ◌↔◌, ◌⊎◌, ℕ, ◌+◌, ◌*◌, ◌<◌, ◌≤◌, Bool, IsTrue, if◌then◌else◌, List, [], ◌∷◌, ◌++◌, length, slice_index}
-use Rattle.aa_glob.specs.declared.item.Item.{Item}
-use Rattle.aa_glob.specs.declared.item.Pattern.{Pattern}
+use Rattle.aa_items.specs.declared.item.Item.{Item}
+use Rattle.aa_patterns.specs.declared.pattern.Pattern.{Pattern}
 use Rattle.aa_auto.specs.declared.nodes.Node.{Node}
-use Rattle.aa_glob.specs.Steps.{Begins, Continues}
+use Rattle.aa_items.specs.Steps.{Begins, Continues}
 use Rattle.aa_auto.specs.Classes.{IsSame}
 use Rattle.aa_auto.specs.Nodes.{IsSameNode, AreSameNodes}
 

@@ -1,8 +1,8 @@
 -- The sets of positions that were found so far.
 use Rattle.std.specs.Prelude.{◌≡◌, ℕ, ◌+◌, ◌*◌, ◌<◌, ◌⊎◌, Option, List, [], ◌∷◌, ◌++◌, length, slice_index, slice_index_or}
-use Rattle.aa_glob.specs.declared.item.Pattern.{Pattern}
+use Rattle.aa_patterns.specs.declared.pattern.Pattern.{Pattern}
 use Rattle.aa_auto.specs.Apart.{IsApart}
-use Rattle.aa_glob.specs.Heads.{heads_of_patterns}
+use Rattle.aa_patterns.specs.Heads.{heads_of_patterns}
 use Rattle.aa_auto.specs.Spots.{IsSpotsOf, Leads, Stood}
 use Rattle.aa_auto.specs.Tables.{IsText, ListsMatching}
 

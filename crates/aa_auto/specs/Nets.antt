@@ -1,6 +1,6 @@
 -- What patterns are compiled to.
 use Rattle.std.specs.Prelude.{◌≡◌, ℕ, ◌<◌, Option, List, length, map}
-use Rattle.aa_glob.specs.declared.item.Pattern.{Pattern}
+use Rattle.aa_patterns.specs.declared.pattern.Pattern.{Pattern}
 use Rattle.aa_auto.specs.declared.nodes.Node.{Node}
 use Rattle.aa_auto.specs.declared.net.Net.{Net}
 use Rattle.aa_auto.specs.Nodes.{AreNodes}

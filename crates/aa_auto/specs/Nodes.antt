@@ -2,14 +2,14 @@
 use Rattle.std.specs.Prelude.{◌≡◌, ℕ, ◌+◌, ◌-◌, ◌<◌, ◌↔◌, List, [], ◌∷◌, ◌++◌, length, Contains, Vec, Some, All, slice_get, slice_index_or}
 use Rattle.std.specs.Global.{Global}
 use Rattle.std.specs.List.Sorted.{IsStrictlyIncreasing}
-use Rattle.aa_glob.specs.declared.item.Item.{Item}
-use Rattle.aa_glob.specs.declared.item.Pattern.{Pattern}
-use Rattle.aa_glob.specs.Globs.{Matches, SomeMatches}
+use Rattle.aa_items.specs.declared.item.Item.{Item}
+use Rattle.aa_patterns.specs.declared.pattern.Pattern.{Pattern}
+use Rattle.aa_items.specs.Globs.{Matches, SomeMatches}
 use Rattle.aa_auto.specs.declared.nodes.Node.{Node}
 use Rattle.aa_auto.specs.declared.nodes.Node.TheVariants.{Start, After, Same, Join}
-use Rattle.aa_glob.specs.Steps.{IsSimple, Begins, Continues}
+use Rattle.aa_items.specs.Steps.{IsSimple, Begins, Continues}
 use Rattle.aa_auto.specs.Classes.{IsSameFor, IsSameForItems, IsSameForLists, IsSame}
-use Rattle.aa_glob.specs.Heads.{heads_within, heads_after, heads_of_choice, heads_of_patterns}
+use Rattle.aa_patterns.specs.Heads.{heads_within, heads_after, heads_of_choice, heads_of_patterns}
 
 -- the head of the position
 abbrev pub head_at : List (List Item) → ℕ → List Item

@@ -1,9 +1,9 @@
 -- What an automaton is, and what it has to do with its patterns.
 use Rattle.std.specs.Prelude.{◌≡◌, ℕ, ◌+◌, ◌*◌, ◌<◌, ◌≤◌, ◌↔◌, Some, List, [], ◌∷◌, ◌++◌, length, All, Contains, slice_get, slice_index, slice_index_or}
 use Rattle.std.specs.List.Sorted.{IsStrictlyIncreasing}
-use Rattle.aa_glob.specs.declared.item.Pattern.{Pattern}
-use Rattle.aa_glob.specs.Globs.{Matches}
-use Rattle.aa_glob.specs.Places.{SamePlaces}
+use Rattle.aa_patterns.specs.declared.pattern.Pattern.{Pattern}
+use Rattle.aa_items.specs.Globs.{Matches}
+use Rattle.aa_patterns.specs.Places.{SamePlaces}
 use Rattle.aa_auto.specs.Classes.{IsSame}
 
 -- the class of each byte; `width` cells a row, the row after the bytes of each class; and of each row, the numbers of the patterns that match

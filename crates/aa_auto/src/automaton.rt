@@ -1,11 +1,11 @@
 ghost use Rattle.std.specs.Prelude.{◌≡◌, ◌+◌, ◌<◌, ◌≤◌, IfOk, Err, length};
-ghost use Rattle.aa_glob.specs.Places.{DecideNext};
+ghost use Rattle.aa_patterns.specs.Places.{DecideNext};
 ghost use Rattle.aa_auto.specs.Tables.{IsAutomaton, BytesLeadAlike, HasPlaces, rows_of, classes_of, place_of, list_at};
 
 use crate::build::{BuildFault, Found, explore};
 use crate::classes::Classes;
 use crate::net::net_of;
-use aa_glob::{Pattern, places_decide_next};
+use aa_patterns::{Pattern, places_decide_next};
 use std::alloc::Global;
 use std::marker::Model;
 

@@ -2,7 +2,7 @@ ghost use Rattle.std.specs.Prelude.{◌≡◌, ◌≢◌, ◌↔◌, ◌+◌, �
 ghost use Rattle.aa_auto.specs.Division.{GivesClass, Divides, IsKey, AreKeys, IsSameItem, IsDivision, Refines, RefinesBy, AreClasses};
 
 use crate::nodes::Node;
-use aa_glob::{Item, begins, continues};
+use aa_items::{Item, begins, continues};
 use std::alloc::{AllocError, Global};
 
 /// Classes of bytes.

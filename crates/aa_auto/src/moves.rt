@@ -5,7 +5,7 @@ ghost use Rattle.aa_auto.specs.Spots.{AddsMoves, AreSeeds, MovesFrom, BeginsAt, 
 
 use crate::nodes::Node;
 use crate::sorted::insert;
-use aa_glob::{begins, continues};
+use aa_items::{begins, continues};
 use std::alloc::{AllocError, Global};
 
 /// Whether the item before the position may begin with the byte.

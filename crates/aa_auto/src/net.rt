@@ -7,7 +7,7 @@ use crate::finals::{finals_of, numbers_at};
 use crate::jumps::jumps_of;
 use crate::moves::{beginnings, moved};
 use crate::nodes::{Node, nodes_of};
-use aa_glob::Pattern;
+use aa_patterns::Pattern;
 use std::alloc::{AllocError, Global};
 
 /// Patterns, compiled position by position.

@@ -1,7 +1,8 @@
 ghost use Rattle.std.specs.Prelude.{◌<◌, IfOk, OnOk, vec_len, length};
 ghost use Rattle.aa_auto.specs.Nodes.{AddsItem, AddsItems, AddsBranches, AreNodes};
 
-use aa_glob::{Item, Pattern};
+use aa_items::Item;
+use aa_patterns::Pattern;
 use std::alloc::{AllocError, Global};
 
 /// What stands before a position.

@@ -1,7 +1,8 @@
 ghost use Rattle.std.specs.Prelude.{◌≡◌, IfOk, length};
 
 use crate::{Automaton, BuildFault};
-use aa_glob::{Item, Pattern};
+use aa_items::Item;
+use aa_patterns::Pattern;
 use std::alloc::{AllocError, Global};
 use std::process::Abort;
 use std::test::Fail;

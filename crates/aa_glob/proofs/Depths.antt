@@ -4,7 +4,7 @@ use Rattle.std.specs.Prelude.{nat_lt, if◌then◌else◌}
 use Rattle.std.proofs.lemmas.Bool.{cases_lt, le-ltb}
 use Rattle.aa_faults.specs.declared.fault.PolicyKind.{PolicyKind}
 use Rattle.aa_faults.specs.declared.fault.PolicyKind.TheVariants.{VariableCircle, TooManyExpansions}
-use Rattle.aa_glob.specs.declared.sign.Token.{Token}
+use Rattle.aa_reader.specs.declared.sign.Token.{Token}
 use Rattle.aa_glob.specs.Pieces.{pieces}
 use Rattle.aa_glob.specs.Variables.{Variable}
 use Rattle.aa_glob.specs.Expansions.{Outcome, Texts, Stops, Deeper, outcome, outcome_of, expansions, Expands, in_walk, in_circle, too_many, as_texts, ExpandsOnce}

@@ -4,11 +4,11 @@ use Rattle.std.proofs.lemmas.Bool.{cases_lt}
 use Rattle.std.proofs.lemmas.List.{append-nil, at_drop_more, at_drop_all}
 use Rattle.aa_faults.specs.declared.fault.PolicyKind.{PolicyKind}
 use Rattle.aa_faults.specs.declared.fault.PolicyKind.TheVariants.{NoMemory, TooLarge, TooManyExpansions}
-use Rattle.aa_glob.specs.declared.sign.Token.{Token}
+use Rattle.aa_reader.specs.declared.sign.Token.{Token}
 use Rattle.aa_glob.specs.declared.summary.Summary.{Summary}
 use Rattle.aa_glob.specs.declared.building.Rest.{Rest}
 use Rattle.aa_glob.specs.Variables.{Variable}
-use Rattle.aa_glob.specs.Reading.{tokens, Gives}
+use Rattle.aa_reader.specs.Reading.{tokens, Gives}
 use Rattle.aa_glob.specs.Expansions.{Outcome, Deeper, Texts, outcome_of, squeezed, pattern_text, expansion, of_path, expansions, and_more, Expands, in_walk, in_circle, too_many, as_texts, joined, outcome}
 use Rattle.aa_glob.specs.Pieces.{pieces_from}
 use Rattle.aa_glob.specs.Settled.{Settles, Settled}

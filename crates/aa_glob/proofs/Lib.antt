@@ -1,16 +1,3 @@
-pub mod Rows
-pub mod Cuts
-pub mod Runs
-pub mod Tokens
-pub mod ClassSteps
-pub mod Texts
-pub mod Choices
-pub mod FlagSteps
-pub mod GapSteps
-pub mod Fronts
-pub mod HalfSteps
-pub mod PlaceHeads
-pub mod PlaceLaws
 pub mod VarSteps
 pub mod PieceSteps
 pub mod SettleSteps
@@ -21,6 +8,4 @@ pub mod WalkEnds
 pub mod BuildSteps
 pub mod BuildEnds
 pub mod ExpandSteps
-pub mod Spellings
-pub mod Sameness
 pub mod Depths

@@ -1,35 +1,18 @@
-//! Patterns over paths: what they match, how they are read, and how words with variables expand to them.
+//! Words with variables, and how they expand to patterns over paths. What patterns are, what they match and how they are
+//! read is passed on from the crates below.
 #![tactic(auto)]
 
 mod building;
-mod classes;
 mod expanding;
-mod flags;
-mod gaps;
-mod halves;
-mod item;
 mod laws;
-mod matching;
 mod pieces;
-mod places;
-mod reader;
-mod sign;
-mod step;
 mod summary;
 mod vars;
 mod walk;
 
+pub use aa_items::{ByteSet, Item, begins, continues, is_one_byte, is_skippable, same_items_match};
+pub use aa_patterns::{Pattern, matching_is_decided, places_decide_matching, places_decide_next};
+pub use aa_reader::{read_pattern, tokens_decide_items};
 pub use expanding::expand;
-pub use item::{ByteSet, Item, Pattern};
-pub use laws::{expands_once, tokens_decide_items};
-pub use places::{places_decide_matching, places_decide_next};
-pub use reader::read_pattern;
-pub use step::{begins, continues, is_skippable};
+pub use laws::expands_once;
 pub use vars::Vars;
-
-#[cfg(test)]
-mod growth_tests;
-#[cfg(test)]
-mod hostile_tests;
-#[cfg(test)]
-mod tests;

@@ -9,7 +9,7 @@ use Rattle.aa_faults.specs.Kinds.{no_memory}
 use Rattle.aa_words.specs.declared.word.WordKind.{WordKind}
 use Rattle.aa_words.specs.declared.word.WordKind.TheVariants.{Comma, Equals, PlusEquals, Path, Name, Quoted, Value}
 use Rattle.aa_words.specs.Splits.{WordData}
-use Rattle.aa_glob.specs.Signs.{is_letter, is_letter_or_digit}
+use Rattle.aa_reader.specs.Signs.{is_letter, is_letter_or_digit}
 use Rattle.aa_glob.specs.Variables.{Variable, has_name, with_more}
 use Rattle.aa_glob.specs.Expansions.{is_reserved}
 use Rattle.aa_rules.specs.Faults.{is_word_fault}

@@ -1,9 +1,9 @@
 -- What the rules of a profile say of an object: a path, and whether the task's user owns it.
 use Rattle.std.specs.Prelude.{ℕ, ◌-◌, List, [], ◌∷◌, Bool, not, ◌&&◌, ◌||◌, if◌then◌else◌, filter, bit_and, bit_or}
 use Rattle.std.specs.List.{list_any}
-use Rattle.aa_glob.specs.declared.item.Pattern.{Pattern}
+use Rattle.aa_patterns.specs.declared.pattern.Pattern.{Pattern}
 use Rattle.aa_policy.specs.declared.rule.FileRule.{FileRule}
-use Rattle.aa_policy.specs.Matching.{is_match}
+use Rattle.aa_patterns.specs.Matching.{is_match}
 
 -- some pattern matches the path
 abbrev pub some_match : List Pattern → List ℕ → Bool

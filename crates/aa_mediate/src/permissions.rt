@@ -1,7 +1,7 @@
 //! What the rules of a profile say of an object.
 
 ghost use Rattle.std.specs.Prelude.{◌≡◌, ◌&&◌, not, if◌then◌else◌, bit_or};
-ghost use Rattle.aa_policy.specs.Matching.{is_match};
+ghost use Rattle.aa_patterns.specs.Matching.{is_match};
 ghost use Rattle.aa_mediate.specs.Permissions.{some_match, applies, minus, allow, deny, loud, audited};
 
 use aa_glob::Pattern;

@@ -1,6 +1,5 @@
 pub mod Growth
 pub mod LawfulModes
-pub mod Decided
 pub mod Distinct
 pub mod Expanded
 pub mod Meaning

@@ -10,12 +10,12 @@ use Rattle.aa_faults.specs.declared.fault.Spot.{Spot}
 use Rattle.aa_faults.specs.declared.fault.PolicyFault.{PolicyFault}
 use Rattle.aa_faults.specs.declared.fault.PolicyKind.{PolicyKind}
 use Rattle.aa_words.specs.Splits.{WordData}
-use Rattle.aa_glob.specs.declared.item.Pattern.{Pattern}
-use Rattle.aa_glob.specs.declared.sign.Token.{Token}
-use Rattle.aa_glob.specs.Reading.{spelled}
+use Rattle.aa_patterns.specs.declared.pattern.Pattern.{Pattern}
+use Rattle.aa_reader.specs.declared.sign.Token.{Token}
+use Rattle.aa_reader.specs.Reading.{spelled}
 use Rattle.aa_glob.specs.Variables.{Variable}
 use Rattle.aa_glob.proofs.Depths.{expands_once}
-use Rattle.aa_glob.proofs.Spellings.{tokens_decide_items}
+use Rattle.aa_reader.proofs.Spellings.{tokens_decide_items}
 use Rattle.aa_policy.specs.declared.rule.Exec.{Exec}
 use Rattle.aa_policy.specs.declared.rule.FileRule.{FileRule}
 use Rattle.aa_policy.specs.declared.policy.Profile.{Profile}

@@ -2,10 +2,10 @@
 use Rattle.std.specs.Prelude.{ℕ, ◌≡◌, ◌⊎◌, List, [], ◌∷◌, map, Ok, Err}
 use Rattle.aa_faults.specs.declared.fault.Spot.{Spot}
 use Rattle.aa_faults.specs.declared.fault.PolicyFault.{PolicyFault}
-use Rattle.aa_glob.specs.declared.item.Pattern.{Pattern}
-use Rattle.aa_glob.specs.declared.sign.Token.{Token}
+use Rattle.aa_patterns.specs.declared.pattern.Pattern.{Pattern}
+use Rattle.aa_reader.specs.declared.sign.Token.{Token}
 use Rattle.aa_glob.specs.Variables.{Variable}
-use Rattle.aa_glob.specs.Reading.{spelled}
+use Rattle.aa_reader.specs.Reading.{spelled}
 use Rattle.aa_glob.specs.Expansions.{Expands}
 
 -- the tokens that spell each pattern, in order

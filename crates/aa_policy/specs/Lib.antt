@@ -1,11 +1,10 @@
 pub use Rattle.aa_glob.specs.Expansions
-pub use Rattle.aa_glob.specs.Globs
+pub use Rattle.aa_items.specs.Globs
 pub use Rattle.aa_glob.specs.Variables
 pub use Rattle.aa_heads.specs.Preamble
 pub mod Bodies
 pub mod Expansion
 pub mod Faults
 pub mod Lawful
-pub mod Matching
 pub mod Sameness
 pub mod Spelling

@@ -5,7 +5,7 @@ use Rattle.std.specs.Str.{bytes_eq}
 use Rattle.aa_faults.specs.declared.fault.Spot.{Spot}
 use Rattle.aa_faults.specs.declared.fault.PolicyFault.{PolicyFault}
 use Rattle.aa_words.specs.Splits.{WordData}
-use Rattle.aa_glob.specs.declared.item.Pattern.{Pattern}
+use Rattle.aa_patterns.specs.declared.pattern.Pattern.{Pattern}
 use Rattle.aa_glob.specs.Variables.{Variable}
 use Rattle.aa_rules.specs.declared.rule.CapRule.{CapRule}
 use Rattle.aa_policy.specs.declared.rule.Exec.{Exec}

@@ -8,16 +8,15 @@ mod families;
 mod items;
 mod limits;
 mod listing;
-mod matching;
 mod parser;
 mod policy;
 mod rule;
 mod tree;
 
+pub use aa_glob::matching_is_decided;
 pub use aa_lists::{Seq, Text};
 pub use aa_rules::{CapRule, ExecKind, Fallback, NetRule};
 pub use aa_tables::{Cap, Caps, Family, Perms, SockType};
-pub use matching::matching_is_decided;
 pub use parser::{parse, spelled_once};
 pub use policy::{PassedOver, Policy, Profile};
 pub use rule::{Exec, FileRule};

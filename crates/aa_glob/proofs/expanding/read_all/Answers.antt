@@ -1,7 +1,7 @@
 use Rattle.std.proofs.Common.{◌∙◌, ◌∷◌, [], map, get_or, refl, sym, ap, arith, List}
 use Rattle.std.proofs.lemmas.List.{map-append}
-use Rattle.aa_glob.specs.declared.item.Pattern.{Pattern}
-use Rattle.aa_glob.specs.Reading.{spelled}
+use Rattle.aa_patterns.specs.declared.pattern.Pattern.{Pattern}
+use Rattle.aa_reader.specs.Reading.{spelled}
 use Rattle.aa_glob.specs.Expansions.{expansion, expansions}
 use Rattle.aa_glob.proofs.ExpandSteps.{behind_read, built_same, read_more, read_refused, read_end, read_start, stands_start}
 use Rattle.aa_glob.proofs.expanding.read_all.Goals as goal

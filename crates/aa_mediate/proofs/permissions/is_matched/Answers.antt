@@ -1,6 +1,6 @@
 use Rattle.std.proofs.lemmas.Bool.Decides.{same_from_decides}
-use Rattle.aa_glob.specs.Globs.{Matches}
-use Rattle.aa_policy.proofs.Decided.{decided}
+use Rattle.aa_items.specs.Globs.{Matches}
+use Rattle.aa_patterns.proofs.Decided.{decided}
 use Rattle.aa_mediate.proofs.permissions.is_matched.Goals as goal
 
 pub returns : goal.returns

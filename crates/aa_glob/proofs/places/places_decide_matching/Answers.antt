@@ -1,5 +1,0 @@
-use Rattle.aa_glob.proofs.PlaceLaws.{decide_matching}
-use Rattle.aa_glob.proofs.places.places_decide_matching.Goals as goal
-
-pub returns : goal.returns
-returns c = decide_matching c.args.patterns.now

@@ -1,5 +1,0 @@
-use Rattle.aa_glob.proofs.PlaceLaws.{decide_next}
-use Rattle.aa_glob.proofs.places.places_decide_next.Goals as goal
-
-pub returns : goal.returns
-returns c = decide_next c.args.patterns.now

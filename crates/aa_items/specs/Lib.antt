@@ -1,0 +1,3 @@
+pub mod Globs
+pub mod Steps
+pub mod Sameness

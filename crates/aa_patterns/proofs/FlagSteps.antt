@@ -1,0 +1,334 @@
+-- Flags, one item, one byte and one sequence on.
+use Rattle.std.proofs.Common.{◌≡◌, ◌≢◌, ℕ, zero, suc, ◌+◌, ◌-◌, min, max, ◌<◌, ◌≤◌, ◌↔◌, ◌⊎◌, ◌||◌, Bool, true, false, List, [], ◌∷◌, ◌++◌, length, length-append, length-set, take, drop, set, get_or, replicate, IsTrue, Vec, Global, refl, sym, ap, ◌∙◌, subst, inl, inr, ⊎_elim, arith, append_assoc, get_or-set_other, get_or-set_same, true≢false}
+use Rattle.std.proofs.lemmas.Bool.{cases_lt}
+use Rattle.std.proofs.lemmas.List.{take_more, take_all, take_at, append-nil, length-take-le, take-append-drop}
+use Rattle.aa_items.specs.declared.item.Item.{Item, Byte, One, Run, RunOne, Deep, DeepOne, Class, Choice, Choice'}
+use Rattle.aa_items.specs.Globs.{Matches, Allows}
+use Rattle.aa_items.specs.Steps.{IsSimple, IsOneByte, IsSkippable, Begins, Continues}
+use Rattle.aa_patterns.specs.Flags.{Shows, AreUnset, AreWithin, Changes, Follows, FollowsSome, SomeEnds, Grows}
+use Rattle.aa_patterns.specs.Weights.{weight, weight_of_items, weight_of_lists}
+use Rattle.aa_patterns.proofs.Cuts.{↔_trans, ↔_sym}
+use Rattle.aa_patterns.proofs.Texts.{Matches-append, Matches-push, Matches-grow, allows_part}
+use Rattle.aa_patterns.proofs.Choices.{Matches-choice, SomeEnds-more}
+
+pub weight_at : (items : List Item) (k : ℕ) (d : Item) → k < length items → weight (get_or items k d) ≤ weight_of_items items
+weight_at [] k d h = absurd (omega arith)
+weight_at (i ∷ items) zero d h = omega arith
+weight_at (i ∷ items) (suc k) d h = omega (arith, weight_at items k d (omega arith))
+
+pub weight_of_at : (branches : List (Vec Item Global)) (k : ℕ) (d : Vec Item Global) → k < length branches →
+    weight_of_items (get_or branches k d).items < weight_of_lists branches
+weight_of_at [] k d h = absurd (omega arith)
+weight_of_at (b ∷ branches) zero d h = omega arith
+weight_of_at (b ∷ branches) (suc k) d h = omega (arith, weight_of_at branches k d (omega arith))
+
+take_take : (i j : ℕ) (text : List ℕ) → i ≤ j → take i (take j text) ≡ take i text
+take_take zero j text le = refl
+take_take (suc i) zero text le = absurd (omega arith)
+take_take (suc i) (suc j) [] le = refl
+take_take (suc i) (suc j) (b ∷ text) le = ap (λ t. b ∷ t) (take_take i j text (omega arith))
+
+-- a text before a place is cut only where a flag is set
+cut_set : (h : List Item) (a b text : List ℕ) (old : List Bool) (j : ℕ) → Shows old h text → j ≤ length text → take j text ≡ a ++ b → Matches h a →
+    (length a + length b ≡ j) × IsTrue (get_or old (length a) false)
+cut_set h a b text old j shows le e m =
+    let long : length a + length b ≡ j = sym (length-append a b) ∙ sym (ap length e) ∙ length-take-le j text le in
+    let short : length a ≤ j = omega arith in
+    let same : take (length a) text ≡ a = sym (take_take (length a) j text short) ∙ ap (take (length a)) e ∙ take_at a b (length a) refl in
+    (long, (shows.at (length a) (omega arith)).1 (subst (Matches h) (sym same) m))
+
+-- where no flag is set, nothing behind is reached
+none_yet : (h items : List Item) (text : List ℕ) (old : List Bool) (j : ℕ) → Shows old h text → j ≤ length text →
+    ((k : ℕ) → k ≤ j → get_or old k false ≡ false) → Matches (h ++ items) (take j text) → ⊥
+none_yet h items text old j shows le none m =
+    let p = (Matches-append h items (take j text)).0 m in
+    let s = cut_set h p.0 p.1 text old j shows le p.2 p.3 in
+    let short : length p.0 ≤ j = omega (arith, s.0) in
+    true≢false (sym s.1 ∙ none (length p.0) short)
+
+-- at the first flag the item's part is empty
+skips_at : (h : List Item) (item : Item) (text : List ℕ) (old : List Bool) (first : ℕ) → IsSimple item → Shows old h text → first ≤ length text →
+    ((k : ℕ) → k < first → get_or old k false ≡ false) → Matches (h ++ item ∷ []) (take first text) ↔ (IsSkippable item × Matches h (take first text))
+skips_at h item text old first simple shows le none = (
+  λ m. let p = (Matches-push h item (take first text)).0 m in at_end p.0 p.1 p.2 p.3 p.4,
+  λ q. (Matches-push h item (take first text)).1 (take first text, [], sym (append-nil (take first text)), q.1, (allows_part item [] simple).1 q.0),
+)
+  where
+    at_end : (a b : List ℕ) → take first text ≡ a ++ b → Matches h a → Allows item b → IsSkippable item × Matches h (take first text)
+    at_end a [] e m part = ((allows_part item [] simple).0 part, subst (Matches h) (sym (e ∙ append-nil a)) m)
+    at_end a (x ∷ b) e m part = let s = cut_set h a (x ∷ b) text old first shows le e m in absurd (true≢false (sym s.1 ∙ none (length a) (omega (arith, s.0))))
+
+-- the flags up to i are those behind the item, the later ones still those before it
+pub record IsAt (item : Item) (text : List ℕ) (old new : List Bool) (before : Bool) (i : ℕ) : Type 0 where
+  pub before_is : before ≡ get_or old i false
+  pub later : (j : ℕ) → i < j → get_or new j false ≡ get_or old j false
+  pub done : (h : List Item) → Shows old h text → (j : ℕ) → j ≤ i → IsTrue (get_or new j false) ↔ Matches (h ++ item ∷ []) (take j text)
+
+pub begins_at : (item : Item) (text : List ℕ) (old : List Bool) (before v : Bool) (first : ℕ) → IsSimple item → first ≤ length text → length text < length old →
+    ((k : ℕ) → k < first → get_or old k false ≡ false) → before ≡ get_or old first false → (IsTrue v ↔ (IsTrue before × IsSkippable item)) →
+    IsAt item text old (set old first v) before first
+begins_at item text old before v first simple le long none e same = record {
+  before_is = e;
+  later = λ j lt. get_or-set_other old first j v false (omega arith);
+  done = λ h shows j lj. ⊎_elim
+      (λ (less : j < first). (
+        λ t. absurd (true≢false (sym t ∙ get_or-set_other old first j v false (omega arith) ∙ none j less)),
+        λ m. absurd (none_yet h (item ∷ []) text old j shows (omega arith) (λ k lk. none k (omega arith)) m),
+      ))
+      (λ (more : first ≤ j).
+      let j_is : j ≡ first = omega arith in
+      let skips = skips_at h item text old first simple shows le none in
+      let here : IsTrue before ↔ Matches h (take first text) = subst (λ b. IsTrue b ↔ Matches h (take first text)) (sym e) (shows.at first le) in
+      let now : IsTrue v ↔ Matches (h ++ item ∷ []) (take first text) = (
+        λ t. let p = same.0 t in skips.1 (p.1, here.0 p.0),
+        λ m. let p = skips.0 m in same.1 (here.1 p.1, p.0),
+      ) in
+      subst (λ k. IsTrue (get_or (set old first v) k false) ↔ Matches (h ++ item ∷ []) (take k text)) (sym j_is)
+      (subst (λ b. IsTrue b ↔ Matches (h ++ item ∷ []) (take first text)) (sym (get_or-set_same old first v false (omega arith))) now))
+      (cases_lt j first);
+}
+
+pub grows_same : (i : Item) (b : ℕ) {P Q R P' Q' R' : Type 0} → (P ↔ P') → (Q ↔ Q') → (R ↔ R') → Grows i b P Q R ↔ Grows i b P' Q' R'
+grows_same i b p q r = (
+  λ g. ⊎_elim (λ x. inl (x.0, p.0 x.1)) (λ y. inr (⊎_elim (λ x. inl (q.0 x.0, x.1)) (λ x. inr (r.0 x.0, x.1)) y)) g,
+  λ g. ⊎_elim (λ x. inl (x.0, p.1 x.1)) (λ y. inr (⊎_elim (λ x. inl (q.1 x.0, x.1)) (λ x. inr (r.1 x.0, x.1)) y)) g,
+)
+
+pub goes_at : (item : Item) (text : List ℕ) (old new : List Bool) (before here v : Bool) (i : ℕ) → IsSimple item → i < length text → length text < length new →
+    here ≡ get_or new (i + 1) false → (IsTrue v ↔ Grows item (get_or text i 0) (IsTrue here) (IsTrue before) (IsTrue (get_or new i false))) →
+    IsAt item text old new before i → IsAt item text old (set new (i + 1) v) here (i + 1)
+goes_at item text old new before here v i simple lt long e same at = record {
+  before_is = e ∙ at.later (i + 1) (omega arith);
+  later = λ j h. get_or-set_other new (i + 1) j v false (omega arith) ∙ at.later j (omega arith);
+  done = λ h shows j le. ⊎_elim
+      (λ (less : j < i + 1). subst (λ b. IsTrue b ↔ Matches (h ++ item ∷ []) (take j text)) (sym (get_or-set_other new (i + 1) j v false (omega arith))) (at.done h shows j (omega arith)))
+      (λ (more : i + 1 ≤ j).
+      let j_is : j ≡ i + 1 = omega arith in
+      let now : IsTrue here ↔ Matches h (take i text ++ get_or text i 0 ∷ []) =
+      subst (λ s. IsTrue here ↔ Matches h s) (take_more text i 0 lt) (subst (λ b. IsTrue b ↔ Matches h (take (i + 1) text)) (sym (e ∙ at.later (i + 1) (omega arith))) (shows.at (i + 1) (omega arith))) in
+      let was : IsTrue before ↔ Matches h (take i text) = subst (λ b. IsTrue b ↔ Matches h (take i text)) (sym at.before_is) (shows.at i (omega arith)) in
+      let step : IsTrue v ↔ Matches (h ++ item ∷ []) (take (i + 1) text) =
+      subst (λ s. IsTrue v ↔ Matches (h ++ item ∷ []) s) (sym (take_more text i 0 lt))
+      (↔_trans same (↔_trans (grows_same item (get_or text i 0) now was (at.done h shows i (omega arith))) (↔_sym (Matches-grow h item (take i text) (get_or text i 0) simple)))) in
+      subst (λ k. IsTrue (get_or (set new (i + 1) v) k false) ↔ Matches (h ++ item ∷ []) (take k text)) (sym j_is)
+      (subst (λ b. IsTrue b ↔ Matches (h ++ item ∷ []) (take (i + 1) text)) (sym (get_or-set_same new (i + 1) v false (omega arith))) step))
+      (cases_lt j (i + 1));
+}
+
+pub follows_at : (item : Item) (text : List ℕ) (old new : List Bool) (before : Bool) (i : ℕ) → length text ≤ i → IsAt item text old new before i → Follows (item ∷ []) text old new
+follows_at item text old new before i le at = record { follow = λ h shows. record { at = λ k lk. at.done h shows k (omega arith) } }
+
+module _ (item : Item) (text : List ℕ) (old new : List Bool) (before : Bool) (i : ℕ) (simple : IsSimple item) (none : (k : ℕ) → i ≤ k → get_or old k false ≡ false)
+    (ends : IsTrue (get_or new i false) → (b : ℕ) → Continues item b → ⊥) (at : IsAt item text old new before i) where
+  module _ (h : List Item) (shows : Shows old h text) where
+    none_next : (j : ℕ) → i ≤ j → j < length text → (Matches (h ++ item ∷ []) (take j text) → Continues item (get_or text j 0) → ⊥) →
+        Matches (h ++ item ∷ []) (take (j + 1) text) → ⊥
+    none_next j le lt goes m =
+        ⊎_elim
+        (λ (x : IsSkippable item × Matches h (take j text ++ get_or text j 0 ∷ [])).
+        true≢false (sym ((shows.at (j + 1) (omega arith)).1 (subst (Matches h) (sym (take_more text j 0 lt)) x.1)) ∙ none (j + 1) (omega arith)))
+        (λ (y : (Matches h (take j text) × Begins item (get_or text j 0)) ⊎ (Matches (h ++ item ∷ []) (take j text) × Continues item (get_or text j 0))).
+        ⊎_elim
+        (λ (x : Matches h (take j text) × Begins item (get_or text j 0)). true≢false (sym ((shows.at j (omega arith)).1 x.0) ∙ none j le))
+        (λ (x : Matches (h ++ item ∷ []) (take j text) × Continues item (get_or text j 0)). goes x.0 x.1)
+        y)
+        ((Matches-grow h item (take j text) (get_or text j 0) simple).0 (subst (Matches (h ++ item ∷ [])) (take_more text j 0 lt) m))
+
+    none_later : (n j : ℕ) → j ≡ i + n → j < length text → Matches (h ++ item ∷ []) (take (j + 1) text) → ⊥
+    none_later zero j e lt =
+        let j_is : j ≡ i = omega arith in
+        none_next j (omega arith) lt (λ m c. ends (subst (λ k. IsTrue (get_or new k false)) j_is ((at.done h shows j (omega arith)).1 m)) (get_or text j 0) c)
+    none_later (suc n) j e lt =
+        let j_is : j ≡ (j - 1) + 1 = omega arith in
+        none_next j (omega arith) lt (λ m c. none_later n (j - 1) (omega arith) (omega arith) (subst (λ k. Matches (h ++ item ∷ []) (take k text)) j_is m))
+
+    at_place : (k : ℕ) → k ≤ length text → IsTrue (get_or new k false) ↔ Matches (h ++ item ∷ []) (take k text)
+    at_place k le = ⊎_elim
+        (λ (less : k < i + 1). at.done h shows k (omega arith))
+        (λ (more : i + 1 ≤ k).
+        let k_is : k ≡ (k - 1) + 1 = omega arith in (
+          λ t. absurd (true≢false (sym t ∙ at.later k (omega arith) ∙ none k (omega arith))),
+          λ m. absurd (none_later ((k - 1) - i) (k - 1) (omega arith) (omega arith) (subst (λ n. Matches (h ++ item ∷ []) (take n text)) k_is m)),
+        ))
+        (cases_lt k (i + 1))
+
+  -- where no flag is set before the item any more, and it can't go on, no later place is reached
+  pub follows_before : Follows (item ∷ []) text old new
+  follows_before = record { follow = λ h shows. record { at = at_place h shows } }
+
+-- an item of one byte, where one flag may be set
+never_empty : (item : Item) → IsOneByte item → IsSkippable item → ⊥
+never_empty (Byte c) o s = s
+never_empty One o s = s
+never_empty (Class set) o s = s
+never_empty Run o s = o
+never_empty RunOne o s = o
+never_empty Deep o s = o
+never_empty DeepOne o s = o
+never_empty (Choice' _ _) o s = o
+
+never_on : (item : Item) (b : ℕ) → IsOneByte item → Continues item b → ⊥
+never_on (Byte c) b o s = s
+never_on One b o s = s
+never_on (Class set) b o s = s
+never_on Run b o s = o
+never_on RunOne b o s = o
+never_on Deep b o s = o
+never_on DeepOne b o s = o
+never_on (Choice' _ _) b o s = o
+
+one_simple : (item : Item) → IsOneByte item → IsSimple item
+one_simple (Byte c) o = tt
+one_simple One o = tt
+one_simple (Class set) o = tt
+one_simple Run o = tt
+one_simple RunOne o = tt
+one_simple Deep o = tt
+one_simple DeepOne o = tt
+one_simple (Choice' _ _) o = o
+
+module _ (item : Item) (text : List ℕ) (old : List Bool) (place : ℕ) (one : IsOneByte item) (long : length text < length old) (within : AreWithin old text place (place + 1)) where
+  byte_at : IsAt item text old (set old place false) (get_or old place false) place
+  byte_at =
+      begins_at item text old (get_or old place false) false place (one_simple item one) (omega (arith, within.fits)) long within.before refl
+      (λ t. absurd (true≢false (sym t)), λ p. absurd (never_empty item one p.1))
+
+  pub byte_last : place ≡ length text → Follows (item ∷ []) text old (set old place false)
+  byte_last e = follows_at item text old (set old place false) (get_or old place false) place (omega arith) byte_at
+
+  pub byte_next : (v : Bool) → place ≢ length text → (IsTrue v ↔ (IsTrue (get_or old place false) × Begins item (get_or text place 0))) →
+      Follows (item ∷ []) text old (set (set old place false) (place + 1) v)
+  byte_next v ne same =
+      follows_before item text old (set (set old place false) (place + 1) v) (get_or (set old place false) (place + 1) false) (place + 1) (one_simple item one) within.behind (λ _ b c. never_on item b one c)
+      (goes_at item text old (set old place false) (get_or old place false) (get_or (set old place false) (place + 1) false) v place (one_simple item one) (omega (arith, within.fits))
+      (omega (arith, length-set {A = Bool})) refl
+      (λ t. inr (inl (same.0 t)), λ g. ⊎_elim (λ x. absurd (never_empty item one x.0)) (λ y. ⊎_elim (λ x. same.1 x) (λ x. absurd (never_on item (get_or text place 0) one x.1)) y) g)
+      byte_at)
+
+-- no item, and one more
+pub follows_more : (items : List Item) (k : ℕ) (d : Item) (text : List ℕ) (a b c : List Bool) → k < length items →
+    Follows (take k items) text a b → Follows (get_or items k d ∷ []) text b c → Follows (take (k + 1) items) text a c
+follows_more items k d text a b c lt f g = record {
+  follow = λ h shows.
+      subst (λ xs. Shows c xs text) (append_assoc h (take k items) (get_or items k d ∷ []) ∙ ap (λ xs. h ++ xs) (sym (take_more items k d lt)))
+      (g.follow (h ++ take k items) (f.follow h shows));
+}
+
+-- no flag is set any more
+pub follows_nothing : (items : List Item) (k : ℕ) (text : List ℕ) (old new : List Bool) → ((j : ℕ) → get_or new j false ≡ false) →
+    Follows (take k items) text old new → Follows items text old new
+follows_nothing items k text old new none f = record {
+  follow = λ h shows. record {
+    at = λ j le. (
+      λ t. absurd (true≢false (sym t ∙ none j)),
+      λ m. absurd (none_yet (h ++ take k items) (drop k items) text new j (f.follow h shows) le (λ n _. none n) (subst (λ xs. Matches xs (take j text)) (ap (λ xs. h ++ xs) (sym (take-append-drop k items)) ∙ sym (append_assoc h (take k items) (drop k items))) m)),
+    );
+  };
+}
+
+pub follows_same : (items : List Item) (text : List ℕ) (a b c : List Bool) → ((k : ℕ) → get_or b k false ≡ get_or a k false) → Follows items text b c → Follows items text a c
+follows_same items text a b c same f = record { follow = λ h shows. f.follow h (record { at = λ k le. subst (λ x. IsTrue x ↔ Matches h (take k text)) (sym (same k)) (shows.at k le) }) }
+
+pub follows_choice : (item : Item) (v : Vec (Vec Item Global) Global) (bs : List (Vec Item Global)) (text : List ℕ) (a b : List Bool) → item ≡ Choice v → bs ≡ v.items →
+    FollowsSome bs text a b → Follows (item ∷ []) text a b
+follows_choice item v bs text a b e same f = record {
+  follow = λ h shows. record {
+    at = λ k le. subst (λ (i : Item). IsTrue (get_or b k false) ↔ Matches (h ++ i ∷ []) (take k text)) (sym e)
+        (↔_trans (subst (λ xs. IsTrue (get_or b k false) ↔ SomeEnds h xs (take k text)) same (f.follow h shows k le)) (↔_sym (Matches-choice h v (take k text))));
+  };
+}
+
+-- no sequence, and one more
+or_both : (a b : Bool) {P Q : Type 0} → (IsTrue a ↔ P) → (IsTrue b ↔ Q) → IsTrue (a || b) ↔ (P ⊎ Q)
+or_both true b p q = (λ t. inl (p.0 t), λ s. refl)
+or_both false b p q = (λ t. inr (q.0 t), λ s. ⊎_elim (λ x. absurd (true≢false (sym (p.1 x)))) (λ y. q.1 y) s)
+
+pub some_more : (bs : List (Vec Item Global)) (k : ℕ) (d : Vec Item Global) (text : List ℕ) (old a b c : List Bool) → k < length bs →
+    ((j : ℕ) → get_or c j false ≡ (get_or a j false || get_or b j false)) →
+    FollowsSome (take k bs) text old a → Follows (get_or bs k d).items text old b → FollowsSome (take (k + 1) bs) text old c
+some_more bs k d text old a b c lt each f g = record {
+  follow = λ h shows j le.
+      subst (λ x. IsTrue x ↔ SomeEnds h (take (k + 1) bs) (take j text)) (sym (each j))
+      (↔_trans (or_both (get_or a j false) (get_or b j false) (f.follow h shows j le) ((g.follow h shows).at j le)) (↔_sym (SomeEnds-more h bs k d (take j text) lt)));
+}
+
+pub many_none : (n : ℕ) → length (replicate n false) ≡ n
+many_none zero = refl
+many_none (suc n) = ap suc (many_none n)
+
+pub none_at : (n k : ℕ) → get_or (replicate n false) k false ≡ false
+none_at zero k = refl
+none_at (suc n) zero = refl
+none_at (suc n) (suc k) = none_at n k
+
+-- changes of rows
+or_none : (x y : Bool) → y ≡ false → x ≡ (x || y)
+or_none true y e = refl
+or_none false y e = sym e
+
+neither : (x y : Bool) → x ≡ false → y ≡ false → (x || y) ≡ false
+neither true y e f = absurd (true≢false e)
+neither false y e f = f
+
+changed : (old new : List Bool) (first end : ℕ) (flag : ℕ → Bool) → Changes old new first end flag → ((k : ℕ) → k < first → get_or old k false ≡ flag k) →
+    ((k : ℕ) → end ≤ k → get_or old k false ≡ flag k) → (k : ℕ) → get_or new k false ≡ flag k
+changed old new first end flag ch before behind k =
+    ⊎_elim (λ lt. ch.before k lt ∙ before k lt) (λ ge. ⊎_elim (λ lt. ch.within k ge lt) (λ past. ch.behind k past ∙ behind k past) (cases_lt k end)) (cases_lt k first)
+
+module _ (old new from : List Bool) (text : List ℕ) (first end : ℕ) (within : AreWithin from text first end) where
+  pub copied : Changes old new first end (λ k. get_or from k false) → AreUnset old → (k : ℕ) → get_or new k false ≡ get_or from k false
+  copied ch none = changed old new first end (λ k. get_or from k false) ch (λ k lt. none k ∙ sym (within.before k lt)) (λ k le. none k ∙ sym (within.behind k le))
+
+  pub added : Changes old new first end (λ k. get_or old k false || get_or from k false) → (k : ℕ) → get_or new k false ≡ (get_or old k false || get_or from k false)
+  added ch =
+      changed old new first end (λ k. get_or old k false || get_or from k false) ch
+      (λ k lt. or_none (get_or old k false) (get_or from k false) (within.before k lt)) (λ k le. or_none (get_or old k false) (get_or from k false) (within.behind k le))
+
+pub cleared : (old new : List Bool) (text : List ℕ) (first end : ℕ) → AreWithin old text first end → Changes old new first end (λ k. false) → AreUnset new
+cleared old new text first end within ch = changed old new first end (λ k. false) ch within.before within.behind
+
+pub within_same : (a b : List Bool) (text : List ℕ) (first end : ℕ) → ((k : ℕ) → get_or b k false ≡ get_or a k false) → AreWithin a text first end → AreWithin b text first end
+within_same a b text first end same w = record { before = λ k lt. same k ∙ w.before k lt; behind = λ k le. same k ∙ w.behind k le; fits = w.fits }
+
+pub within_none : (flags : List Bool) (text : List ℕ) (first end : ℕ) → end ≤ first → AreWithin flags text first end → AreUnset flags
+within_none flags text first end le w k = ⊎_elim (λ lt. w.before k lt) (λ ge. w.behind k (omega arith)) (cases_lt k first)
+
+pub within_both : (text : List ℕ) (a b c : List Bool) (first end first' end' first'' end'' : ℕ) → ((j : ℕ) → get_or c j false ≡ (get_or a j false || get_or b j false)) →
+    AreWithin a text first end → AreWithin b text first' end' → (end' ≤ first' → (first'' ≡ first) × (end'' ≡ end)) → (first' < end' → (first'' ≡ min first first') × (end'' ≡ max end end')) →
+    AreWithin c text first'' end''
+within_both text a b c first end first' end' first'' end'' each p q none some =
+    ⊎_elim
+    (λ (lt : first' < end').
+    let e = some lt in record {
+      before = λ k h. each k ∙ neither (get_or a k false) (get_or b k false) (p.before k (omega (arith, e.0))) (q.before k (omega (arith, e.0)));
+      behind = λ k h. each k ∙ neither (get_or a k false) (get_or b k false) (p.behind k (omega (arith, e.1))) (q.behind k (omega (arith, e.1)));
+      fits = omega (arith, e.1, p.fits, q.fits);
+    })
+    (λ (le : end' ≤ first').
+    let e = none le in record {
+      before = λ k h. each k ∙ neither (get_or a k false) (get_or b k false) (p.before k (omega (arith, e.0))) (within_none b text first' end' le q k);
+      behind = λ k h. each k ∙ neither (get_or a k false) (get_or b k false) (p.behind k (omega (arith, e.1))) (within_none b text first' end' le q k);
+      fits = omega (arith, e.1, p.fits);
+    })
+    (cases_lt first' end')
+
+pub within_start : (text : List ℕ) (flags : List Bool) → ((k : ℕ) → 0 < k → get_or flags k false ≡ false) → AreWithin flags text 0 1
+within_start text flags others = record { before = λ k h. absurd (omega arith); behind = λ k h. others k (omega arith); fits = omega arith }
+
+-- the empty text, and the whole
+pub shows_start : (text : List ℕ) (flags : List Bool) → IsTrue (get_or flags 0 false) → ((k : ℕ) → 0 < k → get_or flags k false ≡ false) → Shows flags [] text
+shows_start text flags first others = record { at = λ k le. at k le }
+  where
+    some : (k : ℕ) (t : List ℕ) → 0 < k → k ≤ length t → take k t ≡ [] → ⊥
+    some zero t lt le e = omega arith
+    some (suc k) [] lt le e = omega arith
+    some (suc k) (x ∷ t) lt le e = cc e
+
+    at : (k : ℕ) → k ≤ length text → IsTrue (get_or flags k false) ↔ (take k text ≡ [])
+    at zero le = (λ t. refl, λ e. first)
+    at (suc k) le = (λ t. absurd (true≢false (sym t ∙ others (suc k) (omega arith))), λ e. absurd (some (suc k) text (omega arith) le e))
+
+pub shows_whole : (items : List Item) (text : List ℕ) (start end : List Bool) → Shows start [] text → Follows items text start end →
+    IsTrue (get_or end (length text) false) ↔ Matches items text
+shows_whole items text start end s f =
+    subst (λ t. IsTrue (get_or end (length text) false) ↔ Matches items t) (take_all (length text) text (omega arith)) ((f.follow [] s).at (length text) (omega arith))

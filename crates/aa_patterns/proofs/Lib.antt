@@ -1,0 +1,11 @@
+pub mod Rows
+pub mod Cuts
+pub mod Texts
+pub mod Choices
+pub mod FlagSteps
+pub mod GapSteps
+pub mod Fronts
+pub mod HalfSteps
+pub mod PlaceHeads
+pub mod PlaceLaws
+pub mod Decided

@@ -1,0 +1,79 @@
+use Rattle.std.proofs.Common.{◌≡◌, ℕ, ◌/◌, ◌≤◌, length, take, drop, refl, sym, ap, ◌∙◌, subst, arith, ⊎_elim, true≢false}
+use Rattle.std.proofs.lemmas.Bool.{cases_lt}
+use Rattle.std.proofs.lemmas.List.{take_rest}
+use Rattle.aa_items.specs.Globs.{Matches}
+use Rattle.aa_patterns.specs.Weights.{weight, weight_of_items, weight_of_lists}
+use Rattle.aa_patterns.proofs.Rows.{Allows-Choice, weight-Choice}
+use Rattle.aa_patterns.proofs.Cuts.{not_true, ↔_trans, ↔_sym}
+use Rattle.aa_patterns.proofs.FlagSteps.{weight_of_at}
+use Rattle.aa_patterns.proofs.HalfSteps.{weight_front, weight_back, some_cut, no_cut, one_item, some_push, some_at}
+use Rattle.aa_patterns.proofs.halves.+halves.Goals as goal
+use Rattle.aa_patterns.proofs.halves.+halves.Goals.{matches_by_halves-else-matches_by_halves-via-then-matches_by_halves+else-matches_by_halves-2, matches_by_halves-else-matches_by_halves-via-else-matches_by_halves}
+
+pub allows-some_matches-requires : goal.allows-some_matches-requires
+allows-some_matches-requires t c =
+    (omega (arith, weight-Choice c.in-Choice.branches, ap weight_of_lists c.as_slice.ensures.value, ap weight c.in-Choice.is, c.decreases), tt)
+
+pub allows-returns-in-Choice : goal.allows-returns-in-Choice
+allows-returns-in-Choice t c =
+    rw c.in-Choice.is (↔_trans (rw c.as_slice.ensures.value at c.some_matches.ensures) (↔_sym (Allows-Choice c.in-Choice.branches _)))
+
+pub some_matches-matches_by_halves-requires : goal.some_matches-matches_by_halves-requires
+some_matches-matches_by_halves-requires t c = (
+  omega (
+    arith,
+    c.decreases,
+    weight_of_at c.args.branches.now c.loop-branch.branch-index c.branch-item.result c.loop-branch-test.true,
+    ap weight_of_items c.as_slice.ensures.value,
+    ap (λ v. weight_of_items v.items) c.branch-item.is,
+  ),
+  tt,
+)
+
+pub some_matches-returns-then-matches_by_halves : goal.some_matches-returns-then-matches_by_halves
+some_matches-returns-then-matches_by_halves t c = (
+  λ _. some_at c.args.branches.now c.loop-branch.branch-index c.branch-item.result c.args.text.now c.loop-branch-test.true
+      (subst (λ xs. Matches xs c.args.text.now) (c.as_slice.ensures.value ∙ ap (λ v. v.items) c.branch-item.is) (c.matches_by_halves.ensures.0 c.if-matches_by_halves.true)),
+  λ _. refl,
+)
+
+pub some_matches-loop-branch-preserved : goal.some_matches-loop-branch-preserved
+some_matches-loop-branch-preserved t c = λ s.
+    ⊎_elim c.loop-branch.invariant
+    (λ m. not_true c.matches_by_halves.result c.matches_by_halves.ensures c.if-matches_by_halves.false
+    (subst (λ xs. Matches xs c.args.text.now) (sym (c.as_slice.ensures.value ∙ ap (λ v. v.items) c.branch-item.is)) m))
+    ((some_push c.args.branches.now c.loop-branch.branch-index c.branch-item.result c.args.text.now c.loop-branch-test.true).0 s)
+
+pub matches_by_halves-returns-in-Some : goal.matches_by_halves-returns-in-Some
+matches_by_halves-returns-in-Some t c =
+    ↔_trans c.allows.ensures (↔_sym (one_item c.args.items.now c.in-Some.field-0-1.now c.in-Some.item.now c.args.text.now c.in-Some.ensures.cases.0 c.if-items-lt2.true))
+
+pub matches_by_halves-matches_by_halves-requires : goal.matches_by_halves-matches_by_halves-requires
+matches_by_halves-matches_by_halves-requires t c =
+    (omega (arith, c.decreases, ap weight_of_items c.split_at.ensures.front, weight_front c.args.items.now (length c.args.items.now / 2) (omega arith)), tt)
+
+pub matches_by_halves-matches_by_halves-requires-then-matches_by_halves : goal.matches_by_halves-matches_by_halves-requires-then-matches_by_halves
+matches_by_halves-matches_by_halves-requires-then-matches_by_halves t c =
+    (omega (arith, c.decreases, ap weight_of_items c.split_at.ensures.back, weight_back c.args.items.now (length c.args.items.now / 2) (omega arith) (omega arith)), tt)
+
+pub matches_by_halves-returns-then-matches_by_halves-2 : goal.matches_by_halves-returns-then-matches_by_halves-2
+matches_by_halves-returns-then-matches_by_halves-2 t c = (
+  λ _. some_cut c.args.items.now (length c.args.items.now / 2) c.args.text.now c.loop-cut.cut
+      (subst (λ xs. Matches xs (take c.loop-cut.cut c.args.text.now)) c.split_at.ensures.front (c.matches_by_halves.ensures.0 c.if-matches_by_halves.true))
+      (subst (λ xs. Matches xs (drop c.loop-cut.cut c.args.text.now)) c.split_at.ensures.back (rw take_rest at (c.matches_by_halves-then-matches_by_halves.ensures.0 c.if-matches_by_halves-2.true))),
+  λ _. refl,
+)
+
+pub matches_by_halves-returns-else-matches_by_halves : goal.matches_by_halves-returns-else-matches_by_halves
+matches_by_halves-returns-else-matches_by_halves t c =
+    let last : Matches c.split_at.result.0.now (take c.loop-cut.cut c.args.text.now) → Matches c.split_at.result.1.now (drop c.loop-cut.cut c.args.text.now) → ⊥ =
+    λ a m. elim c.else-matches_by_halves.branch [
+      | matches_by_halves-else-matches_by_halves-via-then-matches_by_halves+else-matches_by_halves-2 w ↦ not_true w.matches_by_halves-then-matches_by_halves.result w.matches_by_halves-then-matches_by_halves.ensures w.if-matches_by_halves-2.false (rw take_rest m)
+      | matches_by_halves-else-matches_by_halves-via-else-matches_by_halves w ↦ not_true c.matches_by_halves.result c.matches_by_halves.ensures w.if-matches_by_halves.false a
+    ] in
+    let none : (k : ℕ) → k ≤ length c.args.text.now → Matches (take (length c.args.items.now / 2) c.args.items.now) (take k c.args.text.now) → Matches (drop (length c.args.items.now / 2) c.args.items.now) (drop k c.args.text.now) → ⊥ =
+    λ k le a m.
+    let a' = subst (λ xs. Matches xs (take k c.args.text.now)) (sym c.split_at.ensures.front) a in
+    let m' = subst (λ xs. Matches xs (drop k c.args.text.now)) (sym c.split_at.ensures.back) m in
+    ⊎_elim (λ lt. c.loop-cut.invariant k lt a' m') (λ ge. let e : k ≡ c.loop-cut.cut = omega arith in last (subst (λ n. Matches c.split_at.result.0.now (take n c.args.text.now)) e a') (subst (λ n. Matches c.split_at.result.1.now (drop n c.args.text.now)) e m')) (cases_lt k c.loop-cut.cut) in
+    (λ f. absurd (true≢false (sym f)), λ m. absurd (no_cut c.args.items.now (length c.args.items.now / 2) c.args.text.now none m))
