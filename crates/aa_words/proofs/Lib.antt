@@ -1,7 +1,5 @@
-pub mod Extents
 pub mod Pieces
 pub mod Named
-pub mod Forms
 pub mod Order
 pub mod Cuts
 pub mod Once

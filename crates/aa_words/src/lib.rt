@@ -2,12 +2,9 @@
 #![tactic(auto)]
 
 mod cut;
-mod includes;
 mod lexer;
 mod piece;
 mod reading;
-mod runs;
-mod skips;
 mod sources;
 mod stops;
 mod word;
