@@ -8,7 +8,7 @@ use Rattle.aa_items.specs.Globs.{Allows, SomeAllows, AllAllow, Matches, sequence
 use Rattle.aa_patterns.specs.Places.{Position, Gap, Within, IsHead, IsPlace, SamePlaces}
 use Rattle.aa_items.specs.Steps.{Begins, Continues, IsSimple}
 use Rattle.aa_auto.specs.Classes.{IsSameFor, IsSameForBranches, IsSameForRow, IsSameForItems, IsSame}
-use Rattle.aa_patterns.proofs.Cuts.{↔_sym}
+use Rattle.aa_patterns.proofs.Equivalences.{↔_sym}
 use Rattle.aa_patterns.proofs.Texts.{IsPart, allows_part}
 use Rattle.aa_auto.proofs.SameLemmas.{same_simple, same_row}
 

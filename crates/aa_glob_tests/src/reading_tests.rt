@@ -100,14 +100,13 @@ fn choices_and_classes(rt: HostRuntime) {
 
 #[test]
 fn nothing_matches_a_zero_byte(rt: HostRuntime) {
-    let zero: &[&[u8]] = &[b"/\x00"];
     let rows: [Row<'_>; 8] = [
-        (b"/**", &[], zero),
-        (b"/?", &[], zero),
-        (b"/[^a]", &[], zero),
-        (b"/\x00", &[], zero),
-        (b"/*", &[], zero),
-        (b"/[\x00-\xff]", &[], zero),
+        (b"/**", &[], &[b"/\x00"]),
+        (b"/?", &[], &[b"/\x00"]),
+        (b"/[^a]", &[], &[b"/\x00"]),
+        (b"/\x00", &[], &[b"/\x00"]),
+        (b"/*", &[], &[b"/\x00"]),
+        (b"/[\x00-\xff]", &[], &[b"/\x00"]),
         (b"/\xff", &[b"/\xff"], &[b"/\xfe"]),
         (
             b"/[\x00-\xff]",

@@ -57,6 +57,7 @@ pub enum Item {
     DeepOne,
     /// One byte of the set.
     Class(ByteSet),
-    /// What one of the sequences matches.
+    /// What one of the sequences matches. A pattern that is read nests at most 16 of them, one that is made by hand any number:
+    /// matching then takes as much of the machine's stack.
     Choice(Vec<Vec<Item>>),
 }

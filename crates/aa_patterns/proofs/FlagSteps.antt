@@ -2,12 +2,12 @@
 use Rattle.std.proofs.Common.{◌≡◌, ◌≢◌, ℕ, zero, suc, ◌+◌, ◌-◌, min, max, ◌<◌, ◌≤◌, ◌↔◌, ◌⊎◌, ◌||◌, Bool, true, false, List, [], ◌∷◌, ◌++◌, length, length-append, length-set, take, drop, set, get_or, replicate, IsTrue, Vec, Global, refl, sym, ap, ◌∙◌, subst, inl, inr, ⊎_elim, arith, append_assoc, get_or-set_other, get_or-set_same, true≢false}
 use Rattle.std.proofs.lemmas.Bool.{cases_lt}
 use Rattle.std.proofs.lemmas.List.{take_more, take_all, take_at, append-nil, length-take-le, take-append-drop}
-use Rattle.aa_items.specs.declared.item.Item.{Item, Byte, One, Run, RunOne, Deep, DeepOne, Class, Choice, Choice'}
+use Rattle.aa_items.specs.declared.item.Item.{Item, Byte, One, Class, Choice, Choice'}
 use Rattle.aa_items.specs.Globs.{Matches, Allows}
 use Rattle.aa_items.specs.Steps.{IsSimple, IsOneByte, IsSkippable, Begins, Continues}
 use Rattle.aa_patterns.specs.Flags.{Shows, AreUnset, AreWithin, Changes, Follows, FollowsSome, SomeEnds, Grows}
 use Rattle.aa_patterns.specs.Weights.{weight, weight_of_items, weight_of_lists}
-use Rattle.aa_patterns.proofs.Cuts.{↔_trans, ↔_sym}
+use Rattle.aa_patterns.proofs.Equivalences.{↔_trans, ↔_sym}
 use Rattle.aa_patterns.proofs.Texts.{Matches-append, Matches-push, Matches-grow, allows_part}
 use Rattle.aa_patterns.proofs.Choices.{Matches-choice, SomeEnds-more}
 
@@ -161,31 +161,17 @@ never_empty : (item : Item) → IsOneByte item → IsSkippable item → ⊥
 never_empty (Byte c) o s = s
 never_empty One o s = s
 never_empty (Class set) o s = s
-never_empty Run o s = o
-never_empty RunOne o s = o
-never_empty Deep o s = o
-never_empty DeepOne o s = o
-never_empty (Choice' _ _) o s = o
+never_empty _ o s = o
 
 never_on : (item : Item) (b : ℕ) → IsOneByte item → Continues item b → ⊥
 never_on (Byte c) b o s = s
 never_on One b o s = s
 never_on (Class set) b o s = s
-never_on Run b o s = o
-never_on RunOne b o s = o
-never_on Deep b o s = o
-never_on DeepOne b o s = o
-never_on (Choice' _ _) b o s = o
+never_on _ b o s = o
 
 one_simple : (item : Item) → IsOneByte item → IsSimple item
-one_simple (Byte c) o = tt
-one_simple One o = tt
-one_simple (Class set) o = tt
-one_simple Run o = tt
-one_simple RunOne o = tt
-one_simple Deep o = tt
-one_simple DeepOne o = tt
 one_simple (Choice' _ _) o = o
+one_simple _ o = tt
 
 module _ (item : Item) (text : List ℕ) (old : List Bool) (place : ℕ) (one : IsOneByte item) (long : length text < length old) (within : AreWithin old text place (place + 1)) where
   byte_at : IsAt item text old (set old place false) (get_or old place false) place
@@ -221,7 +207,9 @@ follows_nothing items k text old new none f = record {
   follow = λ h shows. record {
     at = λ j le. (
       λ t. absurd (true≢false (sym t ∙ none j)),
-      λ m. absurd (none_yet (h ++ take k items) (drop k items) text new j (f.follow h shows) le (λ n _. none n) (subst (λ xs. Matches xs (take j text)) (ap (λ xs. h ++ xs) (sym (take-append-drop k items)) ∙ sym (append_assoc h (take k items) (drop k items))) m)),
+      λ m.
+          let cut : h ++ items ≡ (h ++ take k items) ++ drop k items = ap (λ xs. h ++ xs) (sym (take-append-drop k items)) ∙ sym (append_assoc h (take k items) (drop k items)) in
+          absurd (none_yet (h ++ take k items) (drop k items) text new j (f.follow h shows) le (λ n _. none n) (subst (λ xs. Matches xs (take j text)) cut m)),
     );
   };
 }
@@ -251,10 +239,6 @@ some_more bs k d text old a b c lt each f g = record {
       subst (λ x. IsTrue x ↔ SomeEnds h (take (k + 1) bs) (take j text)) (sym (each j))
       (↔_trans (or_both (get_or a j false) (get_or b j false) (f.follow h shows j le) ((g.follow h shows).at j le)) (↔_sym (SomeEnds-more h bs k d (take j text) lt)));
 }
-
-pub many_none : (n : ℕ) → length (replicate n false) ≡ n
-many_none zero = refl
-many_none (suc n) = ap suc (many_none n)
 
 pub none_at : (n k : ℕ) → get_or (replicate n false) k false ≡ false
 none_at zero k = refl

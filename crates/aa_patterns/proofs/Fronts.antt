@@ -1,30 +1,22 @@
 -- Items of one byte at the front.
 use Rattle.std.proofs.Common.{◌≡◌, ℕ, ◌+◌, ◌<◌, ◌↔◌, List, [], ◌∷◌, ◌++◌, length, drop, get_or, refl, sym, ap, ◌∙◌, subst}
 use Rattle.std.proofs.lemmas.List.{drop_more}
-use Rattle.aa_items.specs.declared.item.Item.{Item, Byte, One, Run, RunOne, Deep, DeepOne, Class, Choice'}
+use Rattle.aa_items.specs.declared.item.Item.{Item, Byte, One, Class}
 use Rattle.aa_items.specs.Globs.{Allows, Matches, IsNonzeroByte}
 use Rattle.aa_items.specs.Steps.{Begins, IsOneByte}
-use Rattle.aa_patterns.proofs.Cuts.{↔_trans}
+use Rattle.aa_patterns.proofs.Equivalences.{↔_trans}
 
 one_byte : (i : Item) (s : List ℕ) → IsOneByte i → Allows i s → (b : ℕ) × (s ≡ b ∷ []) × Begins i b
 one_byte (Byte c) s o a = (c, a.0, (refl, a.1))
 one_byte One s o a = (a.0, a.1, a.2)
 one_byte (Class set) s o a = (a.0, a.1, a.2)
-one_byte Run s o a = absurd o
-one_byte RunOne s o a = absurd o
-one_byte Deep s o a = absurd o
-one_byte DeepOne s o a = absurd o
-one_byte (Choice' _ _) s o a = absurd o
+one_byte _ s o a = absurd o
 
 that_byte : (i : Item) (b : ℕ) → IsOneByte i → Begins i b → Allows i (b ∷ [])
 that_byte (Byte c) b o h = (ap (λ x. x ∷ []) h.0, subst IsNonzeroByte h.0 h.1)
 that_byte One b o h = (b, refl, h)
 that_byte (Class set) b o h = (b, refl, h)
-that_byte Run b o h = absurd o
-that_byte RunOne b o h = absurd o
-that_byte Deep b o h = absurd o
-that_byte DeepOne b o h = absurd o
-that_byte (Choice' _ _) b o h = absurd o
+that_byte _ b o h = absurd o
 
 pub front_match : (i : Item) (items : List Item) (b : ℕ) (s : List ℕ) → IsOneByte i → Begins i b → Matches (i ∷ items) (b ∷ s) ↔ Matches items s
 front_match i items b s o h = (
@@ -33,10 +25,6 @@ front_match i items b s o h = (
       let same : s ≡ m.1 = cc e in subst (Matches items) (sym same) m.4,
   λ m. (b ∷ [], s, refl, that_byte i b o h, m),
 )
-
--- what the first item of one byte needs
-pub front_needs : (i : Item) (items : List Item) (s : List ℕ) → IsOneByte i → Matches (i ∷ items) s → (b : ℕ) × (rest : List ℕ) × (s ≡ b ∷ rest) × Begins i b
-front_needs i items s o m = let p = one_byte i m.0 o m.3 in (p.0, m.1, m.2 ∙ ap (λ z. z ++ m.1) p.1, p.2)
 
 pub front_more : (items : List Item) (s : List ℕ) (k : ℕ) (d : Item) → k < length items → k < length s → IsOneByte (get_or items k d) → Begins (get_or items k d) (get_or s k 0) →
     (Matches items s ↔ Matches (drop k items) (drop k s)) → Matches items s ↔ Matches (drop (k + 1) items) (drop (k + 1) s)

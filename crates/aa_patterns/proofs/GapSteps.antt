@@ -7,7 +7,7 @@ use Rattle.aa_items.specs.declared.item.Item.{Item}
 use Rattle.aa_items.specs.Globs.{Matches}
 use Rattle.aa_items.specs.Steps.{IsSimple, IsSkippable}
 use Rattle.aa_patterns.specs.Flags.{StandsIn, Grows}
-use Rattle.aa_patterns.proofs.Cuts.{↔_trans, ↔_sym}
+use Rattle.aa_patterns.proofs.Equivalences.{↔_trans, ↔_sym}
 use Rattle.aa_patterns.proofs.Texts.{Matches-skip, Matches-grow}
 use Rattle.aa_patterns.proofs.FlagSteps.{grows_same}
 

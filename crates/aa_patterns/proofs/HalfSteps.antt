@@ -1,6 +1,6 @@
 -- Items and texts that are cut in two.
-use Rattle.std.proofs.Common.{◌≡◌, ℕ, zero, suc, ◌+◌, ◌<◌, ◌≤◌, ◌↔◌, ◌⊎◌, List, [], ◌∷◌, ◌++◌, length, take, drop, get_or, Vec, Global, refl, sym, ap, ◌∙◌, subst, inl, inr, ⊎_elim, arith}
-use Rattle.std.proofs.lemmas.List.{take_at, drop_at, append-nil, take_more}
+use Rattle.std.proofs.Common.{◌≡◌, ℕ, zero, suc, ◌+◌, ◌<◌, ◌≤◌, ◌↔◌, ◌⊎◌, List, [], ◌∷◌, ◌++◌, length, take, drop, get_or, Vec, Global, refl, sym, ap, ◌∙◌, subst, length-append, inl, inr, ⊎_elim, arith}
+use Rattle.std.proofs.lemmas.List.{take_at, drop_at, append-nil, take_more, take-append-drop}
 use Rattle.aa_items.specs.declared.item.Item.{Item}
 use Rattle.aa_items.specs.Globs.{Allows, Matches, SomeMatches}
 use Rattle.aa_patterns.specs.Weights.{weight_of_items}
@@ -22,36 +22,19 @@ weight_back items zero p h = absurd (omega arith)
 weight_back [] (suc k) p h = absurd (omega arith)
 weight_back (i ∷ items) (suc k) p h = omega (arith, weight_pos i, weight_drop items k)
 
-halves : (items : List Item) (k : ℕ) → take k items ++ drop k items ≡ items
-halves items zero = refl
-halves [] (suc k) = refl
-halves (i ∷ items) (suc k) = ap (λ xs. i ∷ xs) (halves items k)
-
-text_halves : (text : List ℕ) (k : ℕ) → take k text ++ drop k text ≡ text
-text_halves text zero = refl
-text_halves [] (suc k) = refl
-text_halves (b ∷ text) (suc k) = ap (λ xs. b ∷ xs) (text_halves text k)
-
 -- where some cut of the text serves, the items match
 pub some_cut : (items : List Item) (n : ℕ) (text : List ℕ) (k : ℕ) → Matches (take n items) (take k text) → Matches (drop n items) (drop k text) → Matches items text
 some_cut items n text k a b =
-    subst (λ xs. Matches xs text) (halves items n) ((Matches-append (take n items) (drop n items) text).1 (take k text, drop k text, sym (text_halves text k), a, b))
+    subst (λ xs. Matches xs text) (take-append-drop n items) ((Matches-append (take n items) (drop n items) text).1 (take k text, drop k text, sym (take-append-drop k text), a, b))
 
 -- where none does, they don't
 pub no_cut : (items : List Item) (n : ℕ) (text : List ℕ) →
     ((k : ℕ) → k ≤ length text → Matches (take n items) (take k text) → Matches (drop n items) (drop k text) → ⊥) → Matches items text → ⊥
 no_cut items n text none m =
-    let p = (Matches-append (take n items) (drop n items) text).0 (subst (λ xs. Matches xs text) (sym (halves items n)) m) in
+    let p = (Matches-append (take n items) (drop n items) text).0 (subst (λ xs. Matches xs text) (sym (take-append-drop n items)) m) in
     let front : take (length p.0) text ≡ p.0 = ap (take (length p.0)) p.2 ∙ take_at p.0 p.1 (length p.0) refl in
     let back : drop (length p.0) text ≡ p.1 = ap (drop (length p.0)) p.2 ∙ drop_at p.0 p.1 (length p.0) refl in
-    none (length p.0) (simp_le p.0 p.1 text p.2) (subst (Matches (take n items)) (sym front) p.3) (subst (Matches (drop n items)) (sym back) p.4)
-  where
-    simp_le : (a b s : List ℕ) → s ≡ a ++ b → length a ≤ length s
-    simp_le a b s e = subst (λ t. length a ≤ length t) (sym e) (longer a b)
-      where
-        longer : (a b : List ℕ) → length a ≤ length (a ++ b)
-        longer [] b = omega arith
-        longer (x ∷ a) b = omega (arith, longer a b)
+    none (length p.0) (omega (arith, ap length p.2, length-append p.0 p.1)) (subst (Matches (take n items)) (sym front) p.3) (subst (Matches (drop n items)) (sym back) p.4)
 
 pub one_item : (items others : List Item) (item : Item) (s : List ℕ) → items ≡ item ∷ others → length items < 2 → Matches items s ↔ Allows item s
 one_item items [] item s e h =

@@ -1,5 +1,5 @@
 pub mod Rows
-pub mod Cuts
+pub mod Equivalences
 pub mod Texts
 pub mod Choices
 pub mod FlagSteps

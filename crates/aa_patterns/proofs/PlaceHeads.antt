@@ -1,7 +1,7 @@
 -- The heads of the positions are those that the flags are of.
 use Rattle.std.proofs.Common.{◌≡◌, ℕ, ◌≤◌, ◌↔◌, ◌⊎◌, List, [], ◌∷◌, ◌++◌, length, take, suc, zero, slice_get, Some, refl, sym, ap, ◌∙◌, subst, inl, inr, ⊎_elim, arith, append_assoc, zero-le}
 use Rattle.std.proofs.lemmas.List.{append-nil}
-use Rattle.aa_items.specs.declared.item.Item.{Item, Byte, One, Run, RunOne, Deep, DeepOne, Class, Choice', Row_of-Item, end_of-Item, more_of-Item, items-the_row-Item, Row_of-Item-Choice-0-1, end_of-Item-Choice-0-1, more_of-Item-Choice-0-1}
+use Rattle.aa_items.specs.declared.item.Item.{Item, Choice', Row_of-Item, end_of-Item, more_of-Item, items-the_row-Item, Row_of-Item-Choice-0-1, end_of-Item-Choice-0-1, more_of-Item-Choice-0-1}
 use Rattle.aa_patterns.specs.declared.pattern.Pattern.{Pattern}
 use Rattle.aa_items.specs.Globs.{Matches, sequences, branches_of}
 use Rattle.aa_patterns.specs.Places.{Position, Gap, Within, IsHead, IsPlace, SamePlaces}
@@ -45,13 +45,7 @@ behind h item items g p = (later p.0, item ∷ p.1, later_head item items p.0 p.
 mutual
   within_in : (h : List Item) (item : Item) (g : List Item) → In g (heads_within h item) → HasWithin h (branches_of item) g
   within_in h (Choice' _ rows) g i = rows_in h rows g i
-  within_in h (Byte c) g z = absurd z
-  within_in h One g z = absurd z
-  within_in h Run g z = absurd z
-  within_in h RunOne g z = absurd z
-  within_in h Deep g z = absurd z
-  within_in h DeepOne g z = absurd z
-  within_in h (Class set) g z = absurd z
+  within_in h _ g z = absurd z
 
   rows_in : {n : _} (h : List Item) (rows : Row_of-Item-Choice-0-1 n) (g : List Item) → In g (heads_of_branches h rows) → HasWithin h (sequences rows) g
   rows_in h end_of-Item-Choice-0-1 g z = absurd z
@@ -97,13 +91,7 @@ in_sequences h (more_of-Item-Choice-0-1 shape row rest) = cc (along h row, in_se
 
 in_within : (h : List Item) (item : Item) → heads_within h item ≡ of_sequences h (branches_of item)
 in_within h (Choice' _ rows) = in_sequences h rows
-in_within h (Byte c) = refl
-in_within h One = refl
-in_within h Run = refl
-in_within h RunOne = refl
-in_within h Deep = refl
-in_within h DeepOne = refl
-in_within h (Class set) = refl
+in_within h _ = refl
 
 in_branch : (h g branch : List Item) (bs : List (List Item)) (j : ℕ) → slice_get bs j ≡ Some branch → In g (h ∷ heads_after h branch) → In g (of_sequences h bs)
 in_branch h g branch [] j e i = absurd (cc e)

@@ -1,14 +1,14 @@
 -- The places of a text decide which patterns match, and what one more byte does.
 use Rattle.std.proofs.Common.{◌≡◌, ℕ, ◌↔◌, ◌⊎◌, List, [], ◌∷◌, ◌++◌, length, take, refl, sym, ap, ◌∙◌, subst, inl, inr, ⊎_elim, arith, append_assoc}
 use Rattle.std.proofs.lemmas.List.{append-nil, take_all}
-use Rattle.aa_items.specs.declared.item.Item.{Item, Byte, One, Run, RunOne, Deep, DeepOne, Class, Choice', Row_of-Item, end_of-Item, more_of-Item, items-the_row-Item, Row_of-Item-Choice-0-1, end_of-Item-Choice-0-1, more_of-Item-Choice-0-1}
+use Rattle.aa_items.specs.declared.item.Item.{Item, Choice', Row_of-Item, end_of-Item, more_of-Item, items-the_row-Item, Row_of-Item-Choice-0-1, end_of-Item-Choice-0-1, more_of-Item-Choice-0-1}
 use Rattle.aa_patterns.specs.declared.pattern.Pattern.{Pattern}
 use Rattle.aa_items.specs.Globs.{Matches, SomeAllows}
 use Rattle.aa_patterns.specs.Places.{Gap, IsPlace, DecideMatching, DecideNext}
 use Rattle.aa_patterns.specs.Heads.{heads_within, heads_of_branches, heads_along, heads_after, heads_of_patterns}
 use Rattle.aa_items.specs.Steps.{IsSimple}
 use Rattle.aa_patterns.proofs.Rows.{row_matches}
-use Rattle.aa_patterns.proofs.Cuts.{↔_trans, ↔_sym}
+use Rattle.aa_patterns.proofs.Equivalences.{↔_trans, ↔_sym}
 use Rattle.aa_patterns.proofs.FlagSteps.{grows_same}
 use Rattle.aa_patterns.proofs.Texts.{Matches-append, Matches-push, Matches-grow}
 use Rattle.aa_patterns.proofs.PlaceHeads.{SameHeads, heads_from_places, places_from_heads}
@@ -76,13 +76,7 @@ module _ (s t : List ℕ) (b : ℕ) where
         let r = rows_next h rows a now in
         let step = λ (u : List ℕ). Matches-push h (Choice' m rows) u in
         (r.0, ↔_trans (step (s ++ b ∷ [])) (↔_trans (row_ends h rows (s ++ b ∷ [])) (↔_trans r.1 (↔_trans (↔_sym (row_ends h rows (t ++ b ∷ []))) (↔_sym (step (t ++ b ∷ [])))))))
-    item_next h (Byte c) a was was_next now = (tt, simple_next h (Byte c) tt was was_next now)
-    item_next h One a was was_next now = (tt, simple_next h One tt was was_next now)
-    item_next h Run a was was_next now = (tt, simple_next h Run tt was was_next now)
-    item_next h RunOne a was was_next now = (tt, simple_next h RunOne tt was was_next now)
-    item_next h Deep a was was_next now = (tt, simple_next h Deep tt was was_next now)
-    item_next h DeepOne a was was_next now = (tt, simple_next h DeepOne tt was was_next now)
-    item_next h (Class set) a was was_next now = (tt, simple_next h (Class set) tt was was_next now)
+    item_next h i a was was_next now = (tt, simple_next h i tt was was_next now)
 
     rows_next : {n : _} (h : List Item) (rows : Row_of-Item-Choice-0-1 n) → Agree s t (heads_of_branches h rows) → Next h →
         Nexts (heads_of_branches h rows) × (RowEnds h rows (s ++ b ∷ []) ↔ RowEnds h rows (t ++ b ∷ []))

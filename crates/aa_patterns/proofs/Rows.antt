@@ -1,8 +1,8 @@
 -- A choice by the lists of its branches.
-use Rattle.std.proofs.Common.{◌≡◌, ℕ, ◌+◌, ◌≤◌, ◌↔◌, List, map, Vec, Global, refl, sym, ap, ◌∙◌, subst, inl, inr, ⊎_elim, arith}
+use Rattle.std.proofs.Common.{◌≡◌, ℕ, ◌+◌, ◌≤◌, ◌↔◌, List, Vec, Global, refl, sym, ap, ◌∙◌, subst, inl, inr, ⊎_elim, arith}
 use mathlib.Core.Former.{Count}
-use Rattle.aa_items.specs.declared.item.Item.{Item, Byte, One, Run, RunOne, Deep, DeepOne, Class, Choice, Choice', Row_of-Item, end_of-Item, more_of-Item, items-the_row-Item, items_shown-the_row-Item-0, Row_of-Item-Choice-0-1, end_of-Item-Choice-0-1, more_of-Item-Choice-0-1, items-the_row-Item-Choice-0-1, items_hidden-the_row-Item-Choice-0-1-1}
-use Rattle.aa_items.specs.Globs.{Allows, SomeAllows, AllAllow, Matches, SomeMatches, sequences, branches_of}
+use Rattle.aa_items.specs.declared.item.Item.{Item, Choice, Choice', Row_of-Item, end_of-Item, more_of-Item, items-the_row-Item, items_shown-the_row-Item-0, Row_of-Item-Choice-0-1, end_of-Item-Choice-0-1, more_of-Item-Choice-0-1, items-the_row-Item-Choice-0-1, items_hidden-the_row-Item-Choice-0-1-1}
+use Rattle.aa_items.specs.Globs.{Allows, SomeAllows, AllAllow, Matches, SomeMatches}
 use Rattle.aa_patterns.specs.Weights.{weight, weight_of_branches, weight_of_row, weight_of_items, weight_of_lists}
 
 pub row_matches : {n : _} (row : Row_of-Item n) (s : List ℕ) → AllAllow row s ↔ Matches (items-the_row-Item _ row) s
@@ -28,20 +28,11 @@ rows_weight end_of-Item-Choice-0-1 = refl
 rows_weight (more_of-Item-Choice-0-1 shape branch rest) =
     omega (arith, row_weight branch, ap weight_of_items (items_shown-the_row-Item-0 shape branch), rows_weight rest)
 
-sequences_listed : {n : _} (rows : Row_of-Item-Choice-0-1 n) →
-    sequences rows ≡ map (λ (b : Vec Item Global). b.items) (items-the_row-Item-Choice-0-1 _ rows)
-sequences_listed end_of-Item-Choice-0-1 = refl
-sequences_listed (more_of-Item-Choice-0-1 shape branch rest) =
-    cc (items_shown-the_row-Item-0 shape branch, sequences_listed rest)
-
 abbrev pub rows_of : Item → (n : Count) × Row_of-Item-Choice-0-1 n
 rows_of (Choice' _ rows) = (_, rows)
 rows_of _ = (_, end_of-Item-Choice-0-1)
 
 module _ (v : Vec (Vec Item Global) Global) where
-  pub branches_of-Choice : branches_of (Choice v) ≡ map (λ (b : Vec Item Global). b.items) v.items
-  branches_of-Choice = sequences_listed (rows_of (Choice v)).1 ∙ ap (map (λ (b : Vec Item Global). b.items)) (items_hidden-the_row-Item-Choice-0-1-1 v)
-
   pub Allows-Choice : (s : List ℕ) → Allows (Choice v) s ↔ SomeMatches v.items s
   Allows-Choice s = subst (λ bs. Allows (Choice v) s ↔ SomeMatches bs s) (items_hidden-the_row-Item-Choice-0-1-1 v) (some_matches (rows_of (Choice v)).1 s)
 
@@ -49,11 +40,5 @@ module _ (v : Vec (Vec Item Global) Global) where
   weight-Choice = ap (λ n. 1 + n) (rows_weight (rows_of (Choice v)).1 ∙ ap weight_of_lists (items_hidden-the_row-Item-Choice-0-1-1 v))
 
 pub weight_pos : (item : Item) → 1 ≤ weight item
-weight_pos (Byte c) = omega arith
-weight_pos One = omega arith
-weight_pos Run = omega arith
-weight_pos RunOne = omega arith
-weight_pos Deep = omega arith
-weight_pos DeepOne = omega arith
-weight_pos (Class set) = omega arith
 weight_pos (Choice' _ branches) = omega arith
+weight_pos _ = omega arith

@@ -73,12 +73,7 @@ allows_part (Choice' _ _) s z = absurd z
 pub begins_as_on : (i : Item) (b : ℕ) → IsSkippable i → Continues i b → Begins i b
 begins_as_on Run b _ h = h
 begins_as_on Deep b _ h = h
-begins_as_on (Byte c) b z h = absurd z
-begins_as_on One b z h = absurd z
-begins_as_on (Class set) b z h = absurd z
-begins_as_on RunOne b z h = absurd z
-begins_as_on DeepOne b z h = absurd z
-begins_as_on (Choice' _ _) b z h = absurd z
+begins_as_on _ b z h = absurd z
 
 -- a text is empty, or has a last byte
 last_byte : (c : List ℕ) → (c ≡ []) ⊎ ((d : List ℕ) × (b : ℕ) × (c ≡ d ++ b ∷ []))

@@ -63,11 +63,6 @@ pub flags_same : (negated : Bool) (rs : List Range) (n : ℕ) (xs : List Bool) �
     ((k : ℕ) → k < n → get_or xs k false ≡ is_listed negated rs k) → xs ≡ flags_below negated rs n
 flags_same negated rs n xs long each = sym (take_all n xs (omega arith)) ∙ flags_taken negated rs n xs (omega arith) each
 
-ranges_one : (x : Sign) (rest : List Sign) → ((y z : Sign) (more : List Sign) → rest ≡ y ∷ z ∷ more → is_range x y z ≡ false) → ranges (x ∷ rest) ≡ only x ∷ ranges rest
-ranges_one x [] none = ranges_short x [] (omega arith)
-ranges_one x (y ∷ []) none = ranges_short x (y ∷ []) (omega arith)
-ranges_one x (y ∷ z ∷ rest) none = ranges_two x y z rest (none y z rest refl)
-
 -- a sign that stands for itself comes next
 pub one_next : (front all : List Range) (s : List Sign) (i : ℕ) (d : Sign) → i < length s →
     (i + 2 < length s → is_range (get_or s i d) (get_or s (i + 1) d) (get_or s (i + 2) d) ≡ false) → front ++ ranges (drop i s) ≡ all →

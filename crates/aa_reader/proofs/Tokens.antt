@@ -5,14 +5,14 @@ use Rattle.aa_faults.specs.declared.fault.PolicyKind.{PolicyKind}
 use Rattle.std.specs.Option.{option_map, option_and_then}
 use Rattle.std.proofs.lemmas.List.{at_drop_more, at_drop_all, drop-drop, append-nil}
 use Rattle.std.proofs.lemmas.List.Concat.{flat_map-append}
-use mathlib.Core.Former.{Count}
-use Rattle.aa_items.specs.declared.item.Item.{Item, Choice, Choice', Row_of-Item, end_of-Item, more_of-Item, items-the_row-Item, items_shown-the_row-Item-0, Row_of-Item-Choice-0-1, end_of-Item-Choice-0-1, more_of-Item-Choice-0-1, items-the_row-Item-Choice-0-1, items_hidden-the_row-Item-Choice-0-1-1}
+use Rattle.aa_items.specs.declared.item.Item.{Item, Choice, Row_of-Item, end_of-Item, more_of-Item, items-the_row-Item, items_shown-the_row-Item-0, Row_of-Item-Choice-0-1, end_of-Item-Choice-0-1, more_of-Item-Choice-0-1, items-the_row-Item-Choice-0-1, items_hidden-the_row-Item-Choice-0-1-1}
 use Rattle.aa_reader.specs.declared.sign.Sign.{Sign}
 use Rattle.aa_reader.specs.declared.sign.Token.{Token}
 use Rattle.aa_reader.specs.declared.sign.Token.TheVariants.{Open, Comma, Close, Single}
 use Rattle.aa_reader.specs.Reading.{token_at, tokens_from, depth_after, is_slash, spelled, spelled_item, spelled_row, spelled_choice, spelled_rest}
 use Rattle.aa_reader.specs.declared.reader.OpenChoice.{OpenChoice}
 use Rattle.aa_reader.specs.Stack.{begun, begun_choice, so_far, IsFit}
+use Rattle.aa_patterns.proofs.Rows.{rows_of}
 
 pub tokens_skip : (d : ℕ) (b : Bool) (n : ℕ) (s : List Sign) → tokens_from d b n s ≡ tokens_from d b 0 (drop n s)
 unfolding tokens_from
@@ -23,10 +23,6 @@ tokens_skip d b (suc n) (s ∷ ss) = tokens_skip d b n ss
 
 abbrev pub with_front : List Token → Option (List Token) → Option (List Token)
 with_front front o = option_map (λ ts. front ++ ts) o
-
-pub front_none : (o : Option (List Token)) → with_front [] o ≡ o
-front_none None = refl
-front_none (Some ts) = refl
 
 pub front_more : (front : List Token) (t : Token) (o : Option (List Token)) → with_front front (option_map (λ ts. t ∷ ts) o) ≡ with_front (front ++ t ∷ []) o
 front_more front t None = refl
@@ -127,10 +123,6 @@ choice_spelled choice end_of-Item-Choice-0-1 = refl
 choice_spelled choice (more_of-Item-Choice-0-1 shape branch rest) =
     joined Open (row_spelled branch ∙ sym (ap spelled (items_shown-the_row-Item-0 shape branch))) (rest_spelled rest)
 
-abbrev rows_of : Item → (n : Count) × Row_of-Item-Choice-0-1 n
-rows_of (Choice' _ rows) = (_, rows)
-rows_of _ = (_, end_of-Item-Choice-0-1)
-
 pub spelled-Choice : (v : Vec (Vec Item Global) Global) → spelled_item (Choice v) ≡ choice_of_lists (Choice v) v.items
 spelled-Choice v = choice_spelled (Choice v) (rows_of (Choice v)).1 ∙ ap (choice_of_lists (Choice v)) (items_hidden-the_row-Item-Choice-0-1-1 v)
 
@@ -151,6 +143,13 @@ regroup_comma a b c d e = simp (append_assoc, append-nil) refl
 regroup_close : (a b c d e : List Token) → a ++ (b ++ ((c ++ d) ++ e)) ≡ ((a ++ ((b ++ c) ++ [])) ++ d) ++ e
 regroup_close a b c d e = simp (append_assoc, append-nil) refl
 
+-- the stack so far, and its last choice
+so_far_last : (stack rest : List OpenChoice) (f : OpenChoice) (items : List Item) (token t : Token) → stack ≡ rest ++ f ∷ [] → token ≡ t →
+    so_far stack items ++ token ∷ [] ≡ ((flat_map begun_choice rest ++ (begun_choice f ++ [])) ++ spelled items) ++ t ∷ []
+so_far_last stack rest f items token t was is =
+    ap (λ s. (s ++ spelled items) ++ token ∷ []) (ap (flat_map begun_choice) was ∙ flat_map-append begun_choice rest (f ∷ []))
+    ∙ ap (λ t. ((flat_map begun_choice rest ++ (begun_choice f ++ [])) ++ spelled items) ++ t ∷ []) is
+
 pub put_comma : (stack rest new : List OpenChoice) (f g : OpenChoice) (items : Vec Item Global) (token : Token) → token ≡ Comma →
     stack ≡ rest ++ f ∷ [] → new ≡ rest ++ g ∷ [] → g.before ≡ f.before → g.branches.items ≡ f.branches.items ++ items ∷ [] →
     (so_far new [] ≡ so_far stack items.items ++ token ∷ []) × (length new ≡ depth_after (length stack) token)
@@ -160,7 +159,7 @@ put_comma stack rest new f g items token is was now before branches =
     ap (λ v. spelled v.items ++ begun Open g.branches.items) before ∙ ap (λ r. b ++ r) (ap (begun Open) branches ∙ begun-push Open f.branches.items items) in (
       ap (λ s. flat_map begun_choice s ++ []) now ∙ ap (λ r. r ++ []) (flat_map-append begun_choice rest (g ∷ []) ∙ ap (λ r. a ++ (r ++ [])) made)
           ∙ regroup_comma a b (begun Open f.branches.items) (spelled items.items) (Comma ∷ [])
-          ∙ sym (ap (λ s. (s ++ spelled items.items) ++ token ∷ []) (ap (flat_map begun_choice) was ∙ flat_map-append begun_choice rest (f ∷ [])) ∙ ap (λ t. ((a ++ (begun_choice f ++ [])) ++ spelled items.items) ++ t ∷ []) is),
+          ∙ sym (so_far_last stack rest f items.items token _ was is),
       ap length now ∙ length-append rest (g ∷ []) ∙ sym (ap length was ∙ length-append rest (f ∷ [])) ∙ sym (ap (depth_after (length stack)) is),
     )
 
@@ -171,9 +170,11 @@ put_close stack rest f items v new token is was branches now =
     let a = flat_map begun_choice rest in let b = spelled f.before.items in
     let long : length stack ≡ length rest + 1 = ap length was ∙ length-append rest (f ∷ []) in
     let less : length rest ≡ length stack - 1 = omega (arith, long) in (
-      ap (λ xs. a ++ spelled xs) now ∙ ap (λ r. a ++ r) (spelled-push f.before.items (Choice v) ∙ ap (λ r. b ++ r) (spelled-Choice v ∙ ap (choice_of_lists (Choice v)) branches ∙ choice-push (Choice v) f.branches.items items))
+      ap (λ xs. a ++ spelled xs) now
+          ∙ ap (λ r. a ++ r) (spelled-push f.before.items (Choice v)
+          ∙ ap (λ r. b ++ r) (spelled-Choice v ∙ ap (choice_of_lists (Choice v)) branches ∙ choice-push (Choice v) f.branches.items items))
           ∙ regroup_close a b (begun Open f.branches.items) (spelled items.items) (Close ∷ [])
-          ∙ sym (ap (λ s. (s ++ spelled items.items) ++ token ∷ []) (ap (flat_map begun_choice) was ∙ flat_map-append begun_choice rest (f ∷ [])) ∙ ap (λ t. ((a ++ (begun_choice f ++ [])) ++ spelled items.items) ++ t ∷ []) is),
+          ∙ sym (so_far_last stack rest f items.items token _ was is),
       less ∙ sym (ap (depth_after (length stack)) is),
     )
 

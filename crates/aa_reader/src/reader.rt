@@ -214,7 +214,7 @@ fn put(
                 stack.push(OpenChoice { before, branches })?;
                 Ok((stack, Vec::new(alloc)))
             }
-            None => Err(PolicyKind::NoMemory),
+            None => unreachable!(),
         },
         Token::Close => match stack.pop() {
             Some(open) => {
@@ -226,7 +226,7 @@ fn put(
                 before.push(Item::Choice(branches))?;
                 Ok((stack, before))
             }
-            None => Err(PolicyKind::NoMemory),
+            None => unreachable!(),
         },
     }
 }

@@ -1,4 +1,5 @@
 use Rattle.std.proofs.Common.{◌≡◌, ◌<◌, ◌∷◌, [], ℕ, All, length, false, sym, ap, ◌∙◌, subst, inr, ⊎_elim, arith, get_or}
+use Rattle.std.proofs.lemmas.List.{length-replicate}
 use Rattle.std.proofs.lemmas.List.Elements.{All-get_or}
 use Rattle.aa_items.specs.declared.item.Item.{Item}
 use Rattle.aa_patterns.specs.declared.flags.Span.{Span}
@@ -6,7 +7,7 @@ use Rattle.aa_patterns.specs.Weights.{weight, weight_of_items, weight_of_lists}
 use Rattle.aa_items.specs.Steps.{IsSimple}
 use Rattle.aa_patterns.specs.Flags.{AreWithin, Follows}
 use Rattle.aa_patterns.proofs.Rows.{weight-Choice}
-use Rattle.aa_patterns.proofs.FlagSteps.{weight_at, weight_of_at, follows_more, follows_choice, follows_nothing, follows_same, some_more, within_none, within_both, within_same, copied, added, cleared, none_at, many_none}
+use Rattle.aa_patterns.proofs.FlagSteps.{weight_at, weight_of_at, follows_more, follows_choice, follows_nothing, follows_same, some_more, within_none, within_both, within_same, copied, added, cleared, none_at}
 use Rattle.aa_patterns.proofs.flags.+follow.Goals as goal
 use Rattle.aa_patterns.proofs.flags.+follow.Goals.{follow_items-in-Choice, follow_items-in_default}
 
@@ -88,17 +89,17 @@ follow_items-loop-item-preserved t c = record {
 pub follow_short-follow_branches-requires : goal.follow_short-follow_branches-requires
 follow_short-follow_branches-requires t c = (
   omega (arith, c.decreases),
-  (c.requires.long, (omega arith, (omega (arith, many_none 64), (omega (arith, many_none 64), (c.requires.within, (none_at 64, none_at 64)))))),
+  (c.requires.long, (omega arith, (omega (arith, length-replicate 64 false), (omega (arith, length-replicate 64 false), (c.requires.within, (none_at 64, none_at 64)))))),
 )
 
 pub follow_path-follow_branches-requires : goal.follow_path-follow_branches-requires
 follow_path-follow_branches-requires t c = (
   omega (arith, c.decreases),
-  (c.requires.long, (omega arith, (omega (arith, many_none 4096), (omega (arith, many_none 4096), (c.requires.within, (none_at 4096, none_at 4096)))))),
+  (c.requires.long, (omega arith, (omega (arith, length-replicate 4096 false), (omega (arith, length-replicate 4096 false), (c.requires.within, (none_at 4096, none_at 4096)))))),
 )
 
 pub follow_long-follow_branches-requires : goal.follow_long-follow_branches-requires
 follow_long-follow_branches-requires t c = (
   omega (arith, c.decreases),
-  (c.requires.long, (c.requires.small, (omega (arith, many_none 16384), (omega (arith, many_none 16384), (c.requires.within, (none_at 16384, none_at 16384)))))),
+  (c.requires.long, (c.requires.small, (omega (arith, length-replicate 16384 false), (omega (arith, length-replicate 16384 false), (c.requires.within, (none_at 16384, none_at 16384)))))),
 )

@@ -6,7 +6,8 @@ use Rattle.aa_patterns.proofs.flags.follow_from.Goals.{then-before, else-before,
 
 pub loop-i-init : goal.loop-i-init
 loop-i-init c = record {
-  at = begins_at c.args.item.now c.args.text.now c.args.flags.now (get_or c.args.flags.now c.args.span.first false) c.if-before.flags c.args.span.first c.requires.simple (omega (arith, c.requires.within.fits)) c.requires.long c.requires.within.before refl
+  at = begins_at c.args.item.now c.args.text.now c.args.flags.now (get_or c.args.flags.now c.args.span.first false) c.if-before.flags c.args.span.first c.requires.simple
+      (omega (arith, c.requires.within.fits)) c.requires.long c.requires.within.before refl
       (elim c.if-before.branch [
         | then-before w ↦ (λ t. (w.if-before.true, w.is_skippable.ensures.0 (sym w.flags-is ∙ t)), λ p. w.flags-is ∙ w.is_skippable.ensures.1 p.1)
         | else-before w ↦ (λ t. absurd (true≢false (sym t ∙ w.flags-is ∙ w.if-before.false)), λ p. absurd (true≢false (sym p.0 ∙ w.if-before.false)))

@@ -4,7 +4,7 @@ use Rattle.std.proofs.lemmas.List.{take_rest}
 use Rattle.aa_items.specs.Globs.{Matches}
 use Rattle.aa_patterns.specs.Weights.{weight, weight_of_items, weight_of_lists}
 use Rattle.aa_patterns.proofs.Rows.{Allows-Choice, weight-Choice}
-use Rattle.aa_patterns.proofs.Cuts.{not_true, ↔_trans, ↔_sym}
+use Rattle.aa_patterns.proofs.Equivalences.{not_true, ↔_trans, ↔_sym}
 use Rattle.aa_patterns.proofs.FlagSteps.{weight_of_at}
 use Rattle.aa_patterns.proofs.HalfSteps.{weight_front, weight_back, some_cut, no_cut, one_item, some_push, some_at}
 use Rattle.aa_patterns.proofs.halves.+halves.Goals as goal
@@ -66,14 +66,20 @@ matches_by_halves-returns-then-matches_by_halves-2 t c = (
 
 pub matches_by_halves-returns-else-matches_by_halves : goal.matches_by_halves-returns-else-matches_by_halves
 matches_by_halves-returns-else-matches_by_halves t c =
-    let last : Matches c.split_at.result.0.now (take c.loop-cut.cut c.args.text.now) → Matches c.split_at.result.1.now (drop c.loop-cut.cut c.args.text.now) → ⊥ =
+    let items = c.args.items.now in let text = c.args.text.now in let half = length c.args.items.now / 2 in let cut = c.loop-cut.cut in
+    let last : Matches c.split_at.result.0.now (take cut text) → Matches c.split_at.result.1.now (drop cut text) → ⊥ =
     λ a m. elim c.else-matches_by_halves.branch [
-      | matches_by_halves-else-matches_by_halves-via-then-matches_by_halves+else-matches_by_halves-2 w ↦ not_true w.matches_by_halves-then-matches_by_halves.result w.matches_by_halves-then-matches_by_halves.ensures w.if-matches_by_halves-2.false (rw take_rest m)
+      | matches_by_halves-else-matches_by_halves-via-then-matches_by_halves+else-matches_by_halves-2 w ↦ not_true w.matches_by_halves-then-matches_by_halves.result
+          w.matches_by_halves-then-matches_by_halves.ensures w.if-matches_by_halves-2.false (rw take_rest m)
       | matches_by_halves-else-matches_by_halves-via-else-matches_by_halves w ↦ not_true c.matches_by_halves.result c.matches_by_halves.ensures w.if-matches_by_halves.false a
     ] in
-    let none : (k : ℕ) → k ≤ length c.args.text.now → Matches (take (length c.args.items.now / 2) c.args.items.now) (take k c.args.text.now) → Matches (drop (length c.args.items.now / 2) c.args.items.now) (drop k c.args.text.now) → ⊥ =
+    let none : (k : ℕ) → k ≤ length text → Matches (take half items) (take k text) → Matches (drop half items) (drop k text) → ⊥ =
     λ k le a m.
-    let a' = subst (λ xs. Matches xs (take k c.args.text.now)) (sym c.split_at.ensures.front) a in
-    let m' = subst (λ xs. Matches xs (drop k c.args.text.now)) (sym c.split_at.ensures.back) m in
-    ⊎_elim (λ lt. c.loop-cut.invariant k lt a' m') (λ ge. let e : k ≡ c.loop-cut.cut = omega arith in last (subst (λ n. Matches c.split_at.result.0.now (take n c.args.text.now)) e a') (subst (λ n. Matches c.split_at.result.1.now (drop n c.args.text.now)) e m')) (cases_lt k c.loop-cut.cut) in
-    (λ f. absurd (true≢false (sym f)), λ m. absurd (no_cut c.args.items.now (length c.args.items.now / 2) c.args.text.now none m))
+    let a' = subst (λ xs. Matches xs (take k text)) (sym c.split_at.ensures.front) a in
+    let m' = subst (λ xs. Matches xs (drop k text)) (sym c.split_at.ensures.back) m in
+    ⊎_elim (λ lt. c.loop-cut.invariant k lt a' m')
+    (λ ge.
+    let e : k ≡ cut = omega arith in
+    last (subst (λ n. Matches c.split_at.result.0.now (take n text)) e a') (subst (λ n. Matches c.split_at.result.1.now (drop n text)) e m'))
+    (cases_lt k cut) in
+    (λ f. absurd (true≢false (sym f)), λ m. absurd (no_cut items half text none m))

@@ -5,15 +5,18 @@ use Rattle.aa_reader.proofs.reader.signs_of.Goals.{then-kept+in_ok-push, else-ke
 
 pub loop-byte-preserved : goal.loop-byte-preserved
 loop-byte-preserved c =
+    let front = c.loop-byte.found.items in let i = c.loop-byte.byte-index in let lt = c.loop-byte-test.true in let inv = c.loop-byte.invariant in
     elim c.if-kept.branch [
-      | then-kept+in_ok-push w ↦ signs_kept _ _ c.loop-byte.found.items _ _ c.args.text.now c.loop-byte.byte-index c.loop-byte-test.true w.if-kept.true w.kept-is (ap (λ v. v.items) w.found-is ∙ w.in_ok-push.ensures.items) c.loop-byte.invariant
-      | else-kept+then-byte-eq92 w ↦ signs_slash _ _ c.loop-byte.found.items _ _ c.args.text.now c.loop-byte.byte-index c.loop-byte-test.true w.if-kept.false w.kept-is w.if-byte-eq92.true (ap (λ v. v.items) w.found-is) c.loop-byte.invariant
-      | else-kept+else-byte-eq92+in_ok-push-2 w ↦ signs_plain _ _ c.loop-byte.found.items _ _ c.args.text.now c.loop-byte.byte-index c.loop-byte-test.true w.if-kept.false (w.kept-is ∙ w.if-kept.false) w.if-byte-eq92.false (ap (λ v. v.items) w.found-is ∙ w.in_ok-push-2.ensures.items) c.loop-byte.invariant
+      | then-kept+in_ok-push w ↦ signs_kept _ _ front _ _ c.args.text.now i lt w.if-kept.true w.kept-is (ap (λ v. v.items) w.found-is ∙ w.in_ok-push.ensures.items) inv
+      | else-kept+then-byte-eq92 w ↦ signs_slash _ _ front _ _ c.args.text.now i lt w.if-kept.false w.kept-is w.if-byte-eq92.true (ap (λ v. v.items) w.found-is) inv
+      | else-kept+else-byte-eq92+in_ok-push-2 w ↦ signs_plain _ _ front _ _ c.args.text.now i lt w.if-kept.false (w.kept-is ∙ w.if-kept.false) w.if-byte-eq92.false
+          (ap (λ v. v.items) w.found-is ∙ w.in_ok-push-2.ensures.items) inv
     ]
 
 pub returns-clause-ok : goal.returns-clause-ok
 returns-clause-ok c =
+    let front = c.loop-byte.found.items in let i = c.loop-byte.byte-index in let ge = c.loop-byte-test.false in let inv = c.loop-byte.invariant in
     elim c.if-kept-2.branch [
-      | then-kept-2+in_ok-push-3 w ↦ signs_end_kept _ c.loop-byte.found.items _ _ c.args.text.now c.loop-byte.byte-index c.loop-byte-test.false w.if-kept-2.true (ap (λ v. v.items) w.found-is ∙ w.in_ok-push-3.ensures.items) c.loop-byte.invariant
-      | else-kept-2 w ↦ signs_end _ c.loop-byte.found.items _ _ c.args.text.now c.loop-byte.byte-index c.loop-byte-test.false w.if-kept-2.false (ap (λ v. v.items) w.found-is) c.loop-byte.invariant
+      | then-kept-2+in_ok-push-3 w ↦ signs_end_kept _ front _ _ c.args.text.now i ge w.if-kept-2.true (ap (λ v. v.items) w.found-is ∙ w.in_ok-push-3.ensures.items) inv
+      | else-kept-2 w ↦ signs_end _ front _ _ c.args.text.now i ge w.if-kept-2.false (ap (λ v. v.items) w.found-is) inv
     ]
