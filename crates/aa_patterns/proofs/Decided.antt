@@ -3,6 +3,7 @@ use Rattle.std.proofs.Common.{◌≡◌, ◌≢◌, ℕ, List, [], ◌∷◌, �
 use Rattle.std.specs.Prelude.{◌==◌, ◌&&◌, ◌||◌, nat_lt, not, ◌↔◌, IsTrue, slice_index_or}
 use Rattle.std.specs.Bool.{Decides}
 use Rattle.std.specs.List.{All, list_all, list_any}
+use Rattle.std.proofs.Math.Bool.{or-false}
 use Rattle.std.proofs.lemmas.Bool.Decides.{Decides-at, Decides-like, Decides-not, Decides-and, Decides-or, Decides-ltb, Decides-eqb, Decides-by_and}
 use Rattle.std.proofs.lemmas.List.Elements.{All-cons, All-head, All-tail}
 use Rattle.aa_items.specs.declared.item.Item.{Item, Byte, One, Run, RunOne, Deep, DeepOne, Class, Choice', Row_of-Item, end_of-Item, more_of-Item, Row_of-Item-Choice-0-1, end_of-Item-Choice-0-1, more_of-Item-Choice-0-1}
@@ -32,15 +33,11 @@ no_cut : (P Q : List ℕ → Type 0) (x y : List ℕ) → [] ≡ x ++ y → P x 
 no_cut P Q [] y e p q = (p, subst Q (sym e) q)
 no_cut P Q (c ∷ x) y e p q = absurd cc
 
-or_false : (b : Bool) → (b || false) ≡ b
-or_false true = refl
-or_false false = refl
-
 -- to look at all cuts is to look for one
 cuts_decide : (p q : List ℕ → Bool) (P Q : List ℕ → Type 0) → ((a : List ℕ) → Decides (p a) (P a)) → ((a : List ℕ) → Decides (q a) (Q a))
     → (s : List ℕ) → Decides (list_any (λ c. p c.0 && q c.1) (cuts s)) (IsCut P Q s)
 cuts_decide p q P Q h k [] =
-    Decides-at _ (p [] && q []) (or_false (p [] && q []))
+    Decides-at _ (p [] && q []) (or-false (p [] && q []))
     (Decides-like (p [] && q []) (λ x. ([], [], refl, x.0, x.1)) (λ c. no_cut P Q c.0 c.1 c.2 c.3 c.4) (Decides-and (p []) (q []) (h []) (k [])))
 cuts_decide p q P Q h k (b ∷ bs) =
     Decides-at _ ((p [] && q (b ∷ bs)) || list_any (λ c. p (b ∷ c.0) && q c.1) (cuts bs))

@@ -1,7 +1,7 @@
 -- Flags, one item, one byte and one sequence on.
 use Rattle.std.proofs.Common.{◌≡◌, ◌≢◌, ℕ, zero, suc, ◌+◌, ◌-◌, min, max, ◌<◌, ◌≤◌, ◌↔◌, ◌⊎◌, ◌||◌, Bool, true, false, List, [], ◌∷◌, ◌++◌, length, length-append, length-set, take, drop, set, get_or, replicate, IsTrue, Vec, Global, refl, sym, ap, ◌∙◌, subst, inl, inr, ⊎_elim, arith, append_assoc, get_or-set_other, get_or-set_same, true≢false}
-use Rattle.std.proofs.lemmas.Bool.{cases_lt}
-use Rattle.std.proofs.lemmas.List.{take_more, take_all, take_at, append-nil, length-take-le, take-append-drop}
+use Rattle.std.proofs.lemmas.Bool.{cases_lt, or_from}
+use Rattle.std.proofs.lemmas.List.{take-take, take_more, take_all, take_at, append-nil, length-take-le, take-append-drop}
 use Rattle.aa_items.specs.declared.item.Item.{Item, Byte, One, Class, Choice, Choice'}
 use Rattle.aa_items.specs.Globs.{Matches, Allows}
 use Rattle.aa_items.specs.Steps.{IsSimple, IsOneByte, IsSkippable, Begins, Continues}
@@ -22,19 +22,13 @@ weight_of_at [] k d h = absurd (omega arith)
 weight_of_at (b ∷ branches) zero d h = omega arith
 weight_of_at (b ∷ branches) (suc k) d h = omega (arith, weight_of_at branches k d (omega arith))
 
-take_take : (i j : ℕ) (text : List ℕ) → i ≤ j → take i (take j text) ≡ take i text
-take_take zero j text le = refl
-take_take (suc i) zero text le = absurd (omega arith)
-take_take (suc i) (suc j) [] le = refl
-take_take (suc i) (suc j) (b ∷ text) le = ap (λ t. b ∷ t) (take_take i j text (omega arith))
-
 -- a text before a place is cut only where a flag is set
 cut_set : (h : List Item) (a b text : List ℕ) (old : List Bool) (j : ℕ) → Shows old h text → j ≤ length text → take j text ≡ a ++ b → Matches h a →
     (length a + length b ≡ j) × IsTrue (get_or old (length a) false)
 cut_set h a b text old j shows le e m =
     let long : length a + length b ≡ j = sym (length-append a b) ∙ sym (ap length e) ∙ length-take-le j text le in
     let short : length a ≤ j = omega arith in
-    let same : take (length a) text ≡ a = sym (take_take (length a) j text short) ∙ ap (take (length a)) e ∙ take_at a b (length a) refl in
+    let same : take (length a) text ≡ a = sym (take-take (length a) j text short) ∙ ap (take (length a)) e ∙ take_at a b (length a) refl in
     (long, (shows.at (length a) (omega arith)).1 (subst (Matches h) (sym same) m))
 
 -- where no flag is set, nothing behind is reached
@@ -250,10 +244,6 @@ or_none : (x y : Bool) → y ≡ false → x ≡ (x || y)
 or_none true y e = refl
 or_none false y e = sym e
 
-neither : (x y : Bool) → x ≡ false → y ≡ false → (x || y) ≡ false
-neither true y e f = absurd (true≢false e)
-neither false y e f = f
-
 changed : (old new : List Bool) (first end : ℕ) (flag : ℕ → Bool) → Changes old new first end flag → ((k : ℕ) → k < first → get_or old k false ≡ flag k) →
     ((k : ℕ) → end ≤ k → get_or old k false ≡ flag k) → (k : ℕ) → get_or new k false ≡ flag k
 changed old new first end flag ch before behind k =
@@ -284,14 +274,14 @@ within_both text a b c first end first' end' first'' end'' each p q none some =
     ⊎_elim
     (λ (lt : first' < end').
     let e = some lt in record {
-      before = λ k h. each k ∙ neither (get_or a k false) (get_or b k false) (p.before k (omega (arith, e.0))) (q.before k (omega (arith, e.0)));
-      behind = λ k h. each k ∙ neither (get_or a k false) (get_or b k false) (p.behind k (omega (arith, e.1))) (q.behind k (omega (arith, e.1)));
+      before = λ k h. each k ∙ or_from (get_or a k false) (get_or b k false) (p.before k (omega (arith, e.0))) (q.before k (omega (arith, e.0)));
+      behind = λ k h. each k ∙ or_from (get_or a k false) (get_or b k false) (p.behind k (omega (arith, e.1))) (q.behind k (omega (arith, e.1)));
       fits = omega (arith, e.1, p.fits, q.fits);
     })
     (λ (le : end' ≤ first').
     let e = none le in record {
-      before = λ k h. each k ∙ neither (get_or a k false) (get_or b k false) (p.before k (omega (arith, e.0))) (within_none b text first' end' le q k);
-      behind = λ k h. each k ∙ neither (get_or a k false) (get_or b k false) (p.behind k (omega (arith, e.1))) (within_none b text first' end' le q k);
+      before = λ k h. each k ∙ or_from (get_or a k false) (get_or b k false) (p.before k (omega (arith, e.0))) (within_none b text first' end' le q k);
+      behind = λ k h. each k ∙ or_from (get_or a k false) (get_or b k false) (p.behind k (omega (arith, e.1))) (within_none b text first' end' le q k);
       fits = omega (arith, e.1, p.fits);
     })
     (cases_lt first' end')

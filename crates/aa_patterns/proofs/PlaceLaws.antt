@@ -10,7 +10,7 @@ use Rattle.aa_items.specs.Steps.{IsSimple}
 use Rattle.aa_patterns.proofs.Rows.{row_matches}
 use Rattle.aa_patterns.proofs.Equivalences.{↔_trans, ↔_sym}
 use Rattle.aa_patterns.proofs.FlagSteps.{grows_same}
-use Rattle.aa_patterns.proofs.Texts.{Matches-append, Matches-push, Matches-grow}
+use Rattle.aa_patterns.proofs.Texts.{Matches-append, Matches-push, Matches-grow, not_empty}
 use Rattle.aa_patterns.proofs.PlaceHeads.{SameHeads, heads_from_places, places_from_heads}
 
 -- both texts match the items or neither does
@@ -106,15 +106,11 @@ module _ (s t : List ℕ) (b : ℕ) where
       agree_join (s ++ b ∷ []) (t ++ b ∷ []) (heads_within h i) ((h ++ i ∷ []) ∷ heads_after (h ++ i ∷ []) items) first.0
       (first.1, items_next (h ++ i ∷ []) items p.1.0 p.1.1 first.1)
 
-  not_empty : (u : List ℕ) → u ++ b ∷ [] ≡ [] → ⊥
-  not_empty [] e = cc e
-  not_empty (x ∷ u) e = cc e
-
   patterns_next : (ps : List Pattern) → Agree s t (heads_of_patterns ps) → Nexts (heads_of_patterns ps)
   patterns_next [] a = tt
   patterns_next (p ∷ ps) a =
       let r = agree_split s t ([] ∷ heads_after [] p.items.items) (heads_of_patterns ps) a in
-      let start : Next [] = (λ e. absurd (not_empty s e), λ e. absurd (not_empty t e)) in
+      let start : Next [] = (λ e. absurd (not_empty b s e), λ e. absurd (not_empty b t e)) in
       agree_join (s ++ b ∷ []) (t ++ b ∷ []) ([] ∷ heads_after [] p.items.items) (heads_of_patterns ps)
       (start, items_next [] p.items.items r.0.0 r.0.1 start) (patterns_next ps r.1)
 

@@ -80,6 +80,10 @@ last_byte : (c : List ℕ) → (c ≡ []) ⊎ ((d : List ℕ) × (b : ℕ) × (c
 last_byte [] = inl refl
 last_byte (x ∷ c) = ⊎_elim (λ e. inr ([], x, ap (λ z. x ∷ z) e)) (λ p. inr (x ∷ p.0, p.1, ap (λ z. x ∷ z) p.2)) (last_byte c)
 
+pub not_empty : (b : ℕ) (c : List ℕ) → c ++ b ∷ [] ≡ [] → ⊥
+not_empty b [] e = cc e
+not_empty b (x ∷ c) e = cc e
+
 -- what a part becomes by one more byte
 part-push : (i : Item) (c : List ℕ) (b : ℕ) → IsPart i (c ++ b ∷ []) ↔ (((c ≡ []) × Begins i b) ⊎ (IsPart i c × (c ≢ []) × Continues i b))
 part-push i [] b = (λ p. inl (refl, p.0), λ q. ⊎_elim (λ h. (h.1, All-nil (Continues i))) (λ h. absurd (h.1 refl)) q)
@@ -149,7 +153,7 @@ Matches-grow h i s b simple = (to, from)
         ⊎_elim
         (λ (e : p.1 ≡ []). begin (subst (Matches h) (sym (p.2 ∙ ap (λ z. p.0 ++ z) e ∙ append-nil p.0)) p.3) (begins_as_on i b (subst (IsPart i) e part) x.1))
         (λ (d : (c : List ℕ) × (z : ℕ) × (p.1 ≡ c ++ z ∷ [])).
-        let some : p.1 ≢ [] = λ e. push_some d.0 d.1 (sym d.2 ∙ e) in
+        let some : p.1 ≢ [] = λ e. not_empty d.1 d.0 (sym d.2 ∙ e) in
         (Matches-push h i (s ++ b ∷ [])).1 (
           p.0,
           p.1 ++ b ∷ [],
@@ -160,7 +164,3 @@ Matches-grow h i s b simple = (to, from)
         (last_byte p.1))
         y)
         q
-      where
-        push_some : (c : List ℕ) (z : ℕ) → c ++ z ∷ [] ≡ [] → ⊥
-        push_some [] z e = cc e
-        push_some (y ∷ c) z e = cc e
