@@ -13,6 +13,3 @@ pub use aa_faults::{PolicyFault, PolicyKind, Spot};
 pub use lexer::words;
 pub use sources::Sources;
 pub use word::{Span, Word, WordKind, WordList};
-
-#[cfg(test)]
-mod tests;

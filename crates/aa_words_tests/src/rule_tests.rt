@@ -1,0 +1,187 @@
+//! Rules that are passed over, and where rules begin.
+
+use crate::reading::{expect_kinds, expect_refused, expect_same_refusal, expect_words};
+use aa_words::WordKind;
+use std::alloc::Global;
+use std::process::Abort;
+use std::test::Fail;
+
+#[test]
+fn rules_that_are_passed_over_are_words(rt: HostRuntime) -> Result<(), Fail> {
+    let alloc = rt.alloc();
+    let keywords = [
+        "signal",
+        "ptrace",
+        "dbus",
+        "unix",
+        "mount",
+        "remount",
+        "umount",
+        "pivot_root",
+        "set",
+        "userns",
+        "mqueue",
+        "io_uring",
+        "change_profile",
+    ];
+    let skipped = [WordKind::Skipped, WordKind::Comma];
+    let behind = [
+        WordKind::Name,
+        WordKind::Name,
+        WordKind::Skipped,
+        WordKind::Comma,
+    ];
+    let names = [WordKind::Name, WordKind::Name];
+    expect_same_refusal(&rt, alloc, keywords.as_slice(), "refused 4 Syntax 0:0")?;
+    for keyword in keywords {
+        expect_kinds_around(&rt, alloc, ["", keyword, ","], skipped.as_slice())?;
+        expect_kinds_around(
+            &rt,
+            alloc,
+            ["audit deny ", keyword, " a,"],
+            behind.as_slice(),
+        )?;
+        expect_kinds_around(&rt, alloc, ["owner ", keyword, ""], names.as_slice())?;
+        expect_kinds_longer(&rt, alloc, keyword, names.as_slice())?;
+    }
+    let expected = [
+        (WordKind::Name, "profile", 0, 7),
+        (WordKind::Name, "p", 8, 9),
+        (WordKind::Open, "{", 10, 11),
+        (
+            WordKind::Skipped,
+            "signal (send, receive) peer=\"a,b\"",
+            12,
+            45,
+        ),
+        (WordKind::Comma, ",", 45, 46),
+        (WordKind::Path, "/x", 47, 49),
+        (WordKind::Name, "r", 50, 51),
+        (WordKind::Comma, ",", 51, 52),
+        (WordKind::Close, "}", 53, 54),
+    ];
+    expect_words(
+        &rt,
+        alloc,
+        "profile p { signal (send, receive) peer=\"a,b\", /x r, }",
+        expected.as_slice(),
+    )?;
+    let mount = [
+        (WordKind::Name, "audit", 0, 5),
+        (WordKind::Name, "deny", 6, 10),
+        (WordKind::Skipped, "mount options=(rw, bind)", 11, 35),
+        (WordKind::Comma, ",", 35, 36),
+    ];
+    expect_words(
+        &rt,
+        alloc,
+        "audit deny mount options=(rw, bind),",
+        mount.as_slice(),
+    )
+}
+
+/// The parts of a text, one behind the other, give words of these kinds.
+fn expect_kinds_around(
+    rt: &impl Abort,
+    alloc: Global,
+    [front, keyword, behind]: [&str; 3],
+    kinds: &[WordKind],
+) -> Result<(), Fail> {
+    let text = format!(in alloc; "{front}{keyword}{behind}")?;
+    expect_kinds(rt, alloc, [text.as_str()].as_slice(), kinds)
+}
+
+/// The keyword with a letter behind it, and then itself, give words of these kinds.
+fn expect_kinds_longer(
+    rt: &impl Abort,
+    alloc: Global,
+    keyword: &str,
+    kinds: &[WordKind],
+) -> Result<(), Fail> {
+    let text = format!(in alloc; "{keyword}s {keyword}")?;
+    expect_kinds(rt, alloc, [text.as_str()].as_slice(), kinds)
+}
+
+/// One rule that is passed over, and the comma that ends it at the text's end.
+fn expect_skipped(rt: &impl Abort, alloc: Global, rule: &str) -> Result<(), Fail> {
+    let text = format!(in alloc; "{rule},")?;
+    let end = u32::try_from(rule.len()).unwrap_or(0);
+    let expected = [
+        (WordKind::Skipped, rule, 0, end),
+        (WordKind::Comma, ",", end, end.wrapping_add(1)),
+    ];
+    expect_words(rt, alloc, text.as_str(), expected.as_slice())
+}
+
+#[test]
+fn passed_over_rules_end_at_the_first_comma_outside(rt: HostRuntime) -> Result<(), Fail> {
+    let alloc = rt.alloc();
+    let rules = [
+        "mount {a,b} -> /c",
+        "dbus [a,(b],)",
+        "ptrace ))(, ) }",
+        "dbus \"a\\\",b\"",
+        "dbus a\\\",b\"",
+        "set rlimit # a, \"b {\n nofile <= 8",
+        "mount a#b",
+        "mount \"a\"# b,\n",
+        "mount (#b, )\n)",
+        "change_profile -># a,\n b",
+        "change_profile a>#b",
+        "unix->\"/a,b\"",
+        "signal {[(\")]},\")]}",
+    ];
+    for rule in rules {
+        expect_skipped(&rt, alloc, rule)?;
+    }
+    let rows = [
+        ("signal (send,", "refused 4 Syntax 0:0"),
+        ("signal [,) }", "refused 4 Syntax 0:0"),
+        ("deny signal \"a,", "refused 4 Syntax 0:5"),
+        ("a, signal # ,", "refused 4 Syntax 0:3"),
+        ("} allow set", "refused 4 Syntax 0:8"),
+    ];
+    expect_refused(&rt, alloc, rows.as_slice())
+}
+
+#[test]
+fn a_comma_in_parentheses_begins_no_rule(rt: HostRuntime) -> Result<(), Fail> {
+    let alloc = rt.alloc();
+    let expected = [
+        WordKind::Name,
+        WordKind::LeftParen,
+        WordKind::Name,
+        WordKind::Comma,
+        WordKind::Name,
+        WordKind::RightParen,
+        WordKind::Comma,
+        WordKind::Skipped,
+        WordKind::Comma,
+    ];
+    expect_kinds(
+        &rt,
+        alloc,
+        ["a (b, signal), signal d,"].as_slice(),
+        expected.as_slice(),
+    )?;
+    let below = [
+        WordKind::RightParen,
+        WordKind::RightParen,
+        WordKind::LeftParen,
+        WordKind::Comma,
+        WordKind::Name,
+        WordKind::RightParen,
+        WordKind::Comma,
+        WordKind::Skipped,
+        WordKind::Comma,
+    ];
+    expect_kinds(&rt, alloc, ["))(,set),set,"].as_slice(), below.as_slice())?;
+    let braces = [
+        WordKind::LeftParen,
+        WordKind::Open,
+        WordKind::Skipped,
+        WordKind::Comma,
+        WordKind::Name,
+    ];
+    expect_kinds(&rt, alloc, ["({set,set"].as_slice(), braces.as_slice())
+}
