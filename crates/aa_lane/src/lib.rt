@@ -11,8 +11,6 @@ mod machine;
 mod plays;
 mod rule;
 mod steps;
-#[cfg(test)]
-mod tests;
 mod world;
 
 pub use event::{Event, LaneFault, NoMemory, Reply, SendFault, Unapplied};

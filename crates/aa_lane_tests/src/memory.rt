@@ -1,102 +1,34 @@
-// Requests and answers that own memory, ends that are dropped, and growths that are refused.
-ghost use Rattle.std.specs.Prelude.{◌≡◌, ◌+◌, ◌%◌, ℕ};
+//! Requests and answers that own memory, ends that are dropped, and growths that are refused.
+ghost use Rattle.std.specs.Prelude.{◌≡◌};
 ghost use Rattle.aa_lane.specs.Ends.{known};
 
-use super::worlds::apply;
-use super::{Happening, Said, Sum};
-use crate::SendFault::Full;
-use crate::{
-    Ends, Event, Lane, LaneFault, Machine, NoMemory, Reply, Served, Taken, Unapplied, World, replay,
+use crate::bench::{Bench, Outcome, Step, closed, served};
+use crate::scales::{Held, Scales, a_parcel, a_thing, collected, owners, plays, sent};
+use crate::sum::{Happening, Said, Sum};
+use crate::worlds::apply;
+use aa_lane::SendFault::Full;
+use aa_lane::{
+    Event, Lane, LaneFault, NoMemory, Reply, Server, Shutter, Taken, Unapplied, World, replay,
 };
 use std::alloc::Global;
 use std::collections::VecDeque;
-use std::marker::Model;
 use std::process::Abort;
-use std::rc::Rc;
 use std::test::Fail;
-
-/// A weight, and a part of something on the heap, which the weight's contracts don't see.
-#[derive(Drop)]
-struct Parcel {
-    weight: u64,
-    held: Option<Rc<u64, Global>>,
-}
-
-impl Model for Parcel {
-    ghost Value = { ℕ };
-
-    ghost view = { λ p. p.weight };
-}
-
-/// Adds up weights modulo 1,000, and answers with a part of what the request holds.
-#[derive(Drop)]
-struct Scales;
-
-impl Machine for Scales {
-    type State = u64;
-
-    type Request = Parcel;
-
-    type Answer = Parcel;
-
-    ghost next = { λ _ s q. (s % 1000 + q % 1000) % 1000 };
-
-    ghost reply = { λ _ s q. (s % 1000 + q % 1000) % 1000 };
-
-    fn step(&self, state: &mut u64, request: &Parcel) -> Parcel {
-        *state = (*state % 1000 + request.weight % 1000) % 1000;
-        a_parcel(*state, &request.held)
-    }
-}
-
-fn a_parcel(weight: u64, held: &Option<Rc<u64, Global>>) -> Parcel
-    ensures { result ≡ weight }
-{
-    let held = match held {
-        Some(held) => held.clone().ok(),
-        None => None,
-    };
-    Parcel { weight, held }
-}
-
-fn owners(held: &Option<Rc<u64, Global>>) -> usize {
-    match held {
-        Some(held) => Rc::strong_count(held),
-        None => 0,
-    }
-}
-
-fn a_thing(alloc: Global) -> Option<Rc<u64, Global>> {
-    Rc::new(alloc, 5).ok()
-}
 
 #[test]
 fn each_request_and_answer_is_dropped_once(rt: HostRuntime) -> Result<(), Fail> {
     let scales = Scales;
     let held = a_thing(rt.alloc());
     let (lane, owner, server, shutter) = Lane::new(rt.alloc(), &scales, 0, 2, 0)?;
-    let mut owner = owner;
-    assert!(rt; owner.send(&lane, a_parcel(1, &held)).is_ok());
-    assert!(rt; owner.send(&lane, a_parcel(2, &held)).is_ok());
-    let Err(unsent) = owner.send(&lane, a_parcel(4, &held)) else {
-        panic!(rt; "accepted")
-    };
-    assert_eq!(rt;
-        (unsent.fault == Full, unsent.request.weight, owners(&held)),
-        (true, 4, 4)
-    );
-    drop(unsent);
-    let Served::Did(server) = server.serve(&lane) else {
-        panic!(rt; "no request")
-    };
-    assert_eq!(rt; owners(&held), 4);
-    let Some(given) = owner.collect(&lane) else {
-        panic!(rt; "no answer")
-    };
-    assert_eq!(rt; given.answer.weight, 1);
-    drop(given);
-    assert_eq!(rt; owners(&held), 2);
-    drop((lane, owner, server, shutter));
+    let rows = [
+        (Step::Send(1), Outcome::Sent(0), [2, 2]),
+        (Step::Send(2), Outcome::Sent(1), [3, 3]),
+        (Step::Send(4), Outcome::Unsent(Full, 4), [4, 3]),
+        (Step::Serve, Outcome::Did, [4, 4]),
+        (Step::Collect, Outcome::Got(0, 1, 1), [4, 2]),
+    ];
+    drop(plays(&rt, Bench::of(&lane, owner, server, shutter), &held, &rows));
+    drop(lane);
     assert_eq!(rt; owners(&held), 1);
     Ok(())
 }
@@ -106,27 +38,22 @@ fn a_close_drops_what_is_left(rt: HostRuntime) -> Result<(), Fail> {
     let scales = Scales;
     let held = a_thing(rt.alloc());
     let (lane, owner, server, shutter) = Lane::new(rt.alloc(), &scales, 0, 2, 0)?;
-    let mut owner = owner;
-    assert!(rt; owner.send(&lane, a_parcel(7, &held)).is_ok());
-    assert_eq!(rt; owners(&held), 2);
-    let owner = owner.exit(&lane);
-    let ends = Ends {
-        owner,
-        server,
-        shutter,
-    };
-    let totals = lane.close(ends);
-    assert_eq!(rt;
-        [
-            totals.accepted,
-            totals.answered,
-            totals.collected,
-            totals.state
-        ],
-        [1, 0, 0, 0]
-    );
+    let rows = [(Step::Send(7), Outcome::Sent(0), [2, 2])];
+    let bench = plays(&rt, Bench::of(&lane, owner, server, shutter), &held, &rows);
+    let ends = bench.leaves();
+    assert_eq!(rt; closed(lane, ends), [1, 0, 0, 0]);
     assert_eq!(rt; owners(&held), 1);
     Ok(())
+}
+
+// The request that the server takes, and is dropped with.
+fn taken_and_dropped(rt: &impl Abort, lane: &Lane<Scales>, server: Server<Scales>) -> u64
+    requires { server.lane ≡ known lane.now }
+{
+    match server.take(lane) {
+        Taken::Job(busy) => busy.request().weight,
+        _ => panic!(rt; "no request"),
+    }
 }
 
 #[test]
@@ -135,20 +62,33 @@ fn a_server_dropped_with_a_request_in_hand(rt: HostRuntime) -> Result<(), Fail> 
     let held = a_thing(rt.alloc());
     let (lane, owner, server, shutter) = Lane::new(rt.alloc(), &scales, 0, 2, 0)?;
     let mut owner = owner;
-    assert!(rt; owner.send(&lane, a_parcel(7, &held)).is_ok());
-    let Taken::Job(busy) = server.take(&lane) else {
-        panic!(rt; "no request")
-    };
-    assert_eq!(rt; busy.request().weight, 7);
-    drop(busy);
+    assert_eq!(rt; sent(&lane, &mut owner, 7, &held), Outcome::Sent(0));
+    assert_eq!(rt; taken_and_dropped(&rt, &lane, server), 7);
     assert_eq!(rt; owners(&held), 1);
-    assert!(rt; owner.send(&lane, a_parcel(8, &held)).is_ok());
-    assert!(rt; owner.collect(&lane).is_none());
-    assert!(rt; owner.send(&lane, a_parcel(9, &held)).is_err());
+    assert_eq!(rt; sent(&lane, &mut owner, 8, &held), Outcome::Sent(1));
+    assert_eq!(rt; collected(&lane, &mut owner), Outcome::Nothing);
+    assert_eq!(rt; sent(&lane, &mut owner, 9, &held), Outcome::Unsent(Full, 9));
     assert_eq!(rt; owners(&held), 2);
     drop((lane, owner, shutter));
     assert_eq!(rt; owners(&held), 1);
     Ok(())
+}
+
+// What the shut counts, and what two services come to.
+fn shut_and_served(
+    lane: &Lane<Scales>,
+    shutter: Shutter<Scales>,
+    server: Server<Scales>,
+    held: &Held,
+) -> (u64, [Outcome; 2], usize)
+    requires shutter { shutter.lane ≡ known lane.now }
+    requires server { server.lane ≡ known lane.now }
+{
+    let mut shutter = shutter;
+    let count = shutter.shut(lane);
+    let (server, first) = served(lane, server);
+    let (_server, second) = served(lane, server);
+    (count, [first, second], owners(held))
 }
 
 #[test]
@@ -157,21 +97,20 @@ fn an_owner_dropped_with_requests_on_their_way(rt: HostRuntime) -> Result<(), Fa
     let held = a_thing(rt.alloc());
     let (lane, owner, server, shutter) = Lane::new(rt.alloc(), &scales, 0, 2, 0)?;
     let mut owner = owner;
-    let mut shutter = shutter;
-    assert!(rt; owner.send(&lane, a_parcel(7, &held)).is_ok());
+    assert_eq!(rt; sent(&lane, &mut owner, 7, &held), Outcome::Sent(0));
     drop(owner);
-    assert_eq!(rt; shutter.shut(&lane), 1);
-    let Served::Did(server) = server.serve(&lane) else {
-        panic!(rt; "no request")
-    };
-    let Served::Settled(server) = server.serve(&lane) else {
-        panic!(rt; "not settled")
-    };
-    assert_eq!(rt; owners(&held), 3);
-    drop((server, shutter));
+    assert_eq!(rt;
+        shut_and_served(&lane, shutter, server, &held),
+        (1, [Outcome::Did, Outcome::Settled], 3)
+    );
     drop(lane);
     assert_eq!(rt; owners(&held), 1);
     Ok(())
+}
+
+// Whether no growth was refused; the reply is dropped.
+fn happens(world: &mut World<Scales>, event: Event<Scales>) -> bool {
+    world.apply(event).is_ok()
 }
 
 #[test]
@@ -179,12 +118,12 @@ fn a_world_owns_its_requests_and_answers(rt: HostRuntime) -> Result<(), Fail> {
     let scales = Scales;
     let held = a_thing(rt.alloc());
     let mut world = World::new(rt.alloc(), &scales, 2, 0)?;
-    assert!(rt; world.apply(Event::Send(a_parcel(7, &held))).is_ok());
-    assert!(rt; world.apply(Event::Take).is_ok());
-    assert!(rt; world.apply(Event::Finish).is_ok());
-    assert!(rt; world.apply(Event::Send(a_parcel(8, &held))).is_ok());
+    assert!(rt; happens(&mut world, Event::Send(a_parcel(7, &held))));
+    assert!(rt; happens(&mut world, Event::Take));
+    assert!(rt; happens(&mut world, Event::Finish));
+    assert!(rt; happens(&mut world, Event::Send(a_parcel(8, &held))));
     assert_eq!(rt; owners(&held), 4);
-    assert!(rt; world.apply(Event::Send(a_parcel(9, &held))).is_ok());
+    assert!(rt; happens(&mut world, Event::Send(a_parcel(9, &held))));
     assert_eq!(rt; owners(&held), 4);
     drop(world);
     assert_eq!(rt; owners(&held), 1);

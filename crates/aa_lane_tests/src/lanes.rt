@@ -1,191 +1,95 @@
-// Running lanes, on one thread.
+//! Running lanes, on one thread.
 ghost use Rattle.std.specs.Prelude.{◌≡◌, ◌<◌};
 ghost use Rattle.aa_lane.specs.Ends.{known};
 
-use super::worlds::apply;
-use super::{Happening, Said, Sum};
-use crate::SendFault::{Closed, Full};
-use crate::{
-    Ends, Lane, LaneFault, Leaver, Owner, SendFault, Served, Server, Shutter, Taken, Totals, World,
-};
+use crate::bench::{Bench, Outcome, Step, closed};
+use crate::sum::{Happening, Said, Sum};
+use crate::worlds::apply;
+use aa_lane::SendFault::{Closed, Full};
+use aa_lane::{Ends, Lane, LaneFault, Leaver, Owner, Server, Shutter, Taken, World};
 use std::alloc::Global;
 use std::process::Abort;
 use std::test::Fail;
 
-/// What is done at a lane of `Sum`.
-#[derive(Clone, Copy, PartialEq, Eq, Debug)]
-pub enum Step {
-    Send(u64),
-    Serve,
-    Collect,
-    Shut,
-}
-
-/// What came of it: for an answer its number, its request and itself.
-#[derive(Clone, Copy, PartialEq, Eq, Debug)]
-pub enum Outcome {
-    Sent(u64),
-    Unsent(SendFault, u64),
-    Did,
-    Idle,
-    Settled,
-    Got(u64, u64, u64),
-    Nothing,
-    Count(u64),
-    NoMemory,
-}
-
-/// The ends of a lane beside it.
-#[derive(Drop)]
-pub struct Bench<'l, 'm> {
-    lane: &'l Lane<'m, Sum>,
-    owner: Owner<Sum>,
-    server: Server<Sum>,
-    shutter: Shutter<Sum>,
-    ghost owner_of: { owner.lane ≡ known lane.now },
-    ghost server_of: { server.lane ≡ known lane.now },
-    ghost shutter_of: { shutter.lane ≡ known lane.now },
-}
-
-impl<'l, 'm> Bench<'l, 'm> {
-    fn of(
-        lane: &'l Lane<'m, Sum>,
-        owner: Owner<Sum>,
-        server: Server<Sum>,
-        shutter: Shutter<Sum>,
-    ) -> Bench<'l, 'm>
-        requires owner { owner.lane ≡ known lane.now }
-        requires server { server.lane ≡ known lane.now }
-        requires shutter { shutter.lane ≡ known lane.now }
-        ensures { result.lane ≡ lane.entry }
-    {
-        Bench {
-            lane,
-            owner,
-            server,
-            shutter,
-        }
-    }
-
-    fn does(self, step: Step) -> (Bench<'l, 'm>, Outcome)
-        ensures { result.0.lane ≡ self.entry.lane }
-    {
-        let Bench {
-            lane,
-            mut owner,
-            server,
-            mut shutter,
-        } = self;
-        match step {
-            Step::Send(request) => {
-                let outcome = match owner.send(lane, request) {
-                    Ok(number) => Outcome::Sent(number),
-                    Err(unsent) => Outcome::Unsent(unsent.fault, unsent.request),
-                };
-                (Bench::of(lane, owner, server, shutter), outcome)
-            }
-            Step::Serve => {
-                let (server, outcome) = match server.serve(lane) {
-                    Served::Did(server) => (server, Outcome::Did),
-                    Served::Idle(server) => (server, Outcome::Idle),
-                    Served::Settled(server) => (server, Outcome::Settled),
-                };
-                (Bench::of(lane, owner, server, shutter), outcome)
-            }
-            Step::Collect => {
-                let outcome = match owner.collect(lane) {
-                    Some(given) => Outcome::Got(given.number, given.request, given.answer),
-                    None => Outcome::Nothing,
-                };
-                (Bench::of(lane, owner, server, shutter), outcome)
-            }
-            Step::Shut => {
-                let count = shutter.shut(lane);
-                (
-                    Bench::of(lane, owner, server, shutter),
-                    Outcome::Count(count),
-                )
-            }
-        }
-    }
-
-    fn plays(self, rt: &impl Abort, rows: &[(Step, Outcome)]) -> Bench<'l, 'm>
-        ensures { result.lane ≡ self.entry.lane }
-    {
-        let mut bench = self;
-        for row in rows {
-            let (next, outcome) = bench.does(row.0);
-            bench = next;
-            assert_eq!(rt; outcome, row.1);
-        }
-        bench
-    }
-
-    // Takes the request in hand, which is this one, and answers it.
-    fn takes_and_finishes(self, rt: &impl Abort, request: u64) -> Bench<'l, 'm>
-        ensures { result.lane ≡ self.entry.lane }
-    {
-        let Bench {
-            lane,
-            owner,
-            server,
-            shutter,
-        } = self;
-        let Taken::Job(busy) = server.take(lane) else {
-            panic!(rt; "no job")
-        };
-        assert_eq!(rt; *busy.request(), request);
-        Bench::of(lane, owner, busy.finish(lane), shutter)
-    }
-
-    fn leaves(self) -> Ends<Sum>
-        ensures { (result.owner.lane ≡ known self.entry.lane.now) × (result.server.lane ≡ known self.entry.lane.now) × (result.shutter.lane ≡ known self.entry.lane.now) }
-    {
-        let Bench {
-            lane,
-            owner,
-            server,
-            shutter,
-        } = self;
-        Ends {
-            owner: owner.exit(lane),
-            server,
-            shutter,
-        }
-    }
-}
-
-// A lane, its ends at a bench, the rows, and what `close` tells.
-fn run(
-    rt: &impl Abort,
-    lane: Lane<Sum>,
-    owner: Owner<Sum>,
-    server: Server<Sum>,
-    shutter: Shutter<Sum>,
-    rows: &[(Step, Outcome)],
-) -> Totals<Sum>
-    requires owner { owner.lane ≡ known lane }
-    requires server { server.lane ≡ known lane }
-    requires shutter { shutter.lane ≡ known lane }
+fn does<'l, 'm>(bench: Bench<'l, 'm, Sum>, step: Step) -> (Bench<'l, 'm, Sum>, Outcome)
+    ensures { result.0.lane ≡ bench.entry.lane }
 {
-    let ends = Bench::of(&lane, owner, server, shutter)
-        .plays(rt, rows)
-        .leaves();
-    lane.close(ends)
+    match step {
+        Step::Send(request) => {
+            let (bench, sent) = bench.sends(request);
+            let outcome = match sent {
+                Ok(number) => Outcome::Sent(number),
+                Err(unsent) => Outcome::Unsent(unsent.fault, unsent.request),
+            };
+            (bench, outcome)
+        }
+        Step::Serve => bench.serves(),
+        Step::Collect => {
+            let (bench, given) = bench.collects();
+            let outcome = match given {
+                Some(given) => Outcome::Got(given.number, given.request, given.answer),
+                None => Outcome::Nothing,
+            };
+            (bench, outcome)
+        }
+        Step::Shut => bench.shuts(),
+    }
 }
 
-fn check_totals(rt: &impl Abort, totals: Totals<Sum>, counts: [u64; 3], state: u64) {
-    assert_eq!(rt;
-        [totals.accepted, totals.answered, totals.collected],
-        counts
-    );
-    assert_eq!(rt; totals.state, state);
+fn plays<'l, 'm>(
+    rt: &impl Abort,
+    bench: Bench<'l, 'm, Sum>,
+    rows: &[(Step, Outcome)],
+) -> Bench<'l, 'm, Sum>
+    ensures { result.lane ≡ bench.entry.lane }
+{
+    let mut bench = bench;
+    for row in rows {
+        let (next, outcome) = does(bench, row.0);
+        bench = next;
+        assert_eq!(rt; outcome, row.1);
+    }
+    bench
+}
+
+// Takes the request in hand, which is this one, and answers it.
+fn takes_and_finishes<'l, 'm>(
+    rt: &impl Abort,
+    bench: Bench<'l, 'm, Sum>,
+    request: u64,
+) -> Bench<'l, 'm, Sum>
+    ensures { result.lane ≡ bench.entry.lane }
+{
+    let Bench {
+        lane,
+        owner,
+        server,
+        shutter,
+    } = bench;
+    let Taken::Job(busy) = server.take(lane) else {
+        panic!(rt; "no job")
+    };
+    assert_eq!(rt; *busy.request(), request);
+    Bench::of(lane, owner, busy.finish(lane), shutter)
+}
+
+// What `close` tells of a lane from this state on, at which the rows happen before its owner leaves.
+fn totals(
+    rt: &impl Abort,
+    alloc: Global,
+    capacity: u32,
+    start: u64,
+    rows: &[(Step, Outcome)],
+) -> Result<[u64; 4], LaneFault> {
+    let sum = Sum;
+    let (lane, owner, server, shutter) = Lane::new(alloc, &sum, 7, capacity, start)?;
+    let bench = plays(rt, Bench::of(&lane, owner, server, shutter), rows);
+    let ends = bench.leaves();
+    Ok(closed(lane, ends))
 }
 
 #[test]
 fn one_place_and_all_refusals(rt: HostRuntime) -> Result<(), Fail> {
-    let sum = Sum;
-    let (lane, owner, server, shutter) = Lane::new(rt.alloc(), &sum, 7, 1, 0)?;
     let rows = [
         (Step::Send(4), Outcome::Sent(0)),
         (Step::Send(5), Outcome::Unsent(Full, 5)),
@@ -200,43 +104,64 @@ fn one_place_and_all_refusals(rt: HostRuntime) -> Result<(), Fail> {
         (Step::Serve, Outcome::Settled),
         (Step::Collect, Outcome::Nothing),
     ];
-    let totals = run(&rt, lane, owner, server, shutter, &rows);
-    check_totals(&rt, totals, [2, 2, 2], 9);
+    assert_eq!(rt; totals(&rt, rt.alloc(), 1, 0, &rows)?, [2, 2, 2, 9]);
     Ok(())
+}
+
+// Why a lane isn't made.
+fn refused(alloc: Global, capacity: u32) -> Option<LaneFault> {
+    let sum = Sum;
+    match Lane::new(alloc, &sum, 7, capacity, 0) {
+        Ok(_) => None,
+        Err(fault) => Some(fault),
+    }
 }
 
 #[test]
 fn capacities_of_a_lane(rt: HostRuntime) -> Result<(), Fail> {
-    let sum = Sum;
     for capacity in [0, 1025, u32::MAX] {
-        assert!(rt;
-            matches!(
-                Lane::new(rt.alloc(), &sum, 7, capacity, 0),
-                Err(LaneFault::BadCapacity)
-            )
-        );
+        assert_eq!(rt; refused(rt.alloc(), capacity), Some(LaneFault::BadCapacity));
     }
     for capacity in [1, 1024] {
-        assert!(rt; Lane::new(rt.alloc(), &sum, 7, capacity, 0).is_ok());
+        assert_eq!(rt; refused(rt.alloc(), capacity), None);
     }
     Ok(())
+}
+
+// The tag of a server that has a request in hand.
+fn tag_of_busy(rt: &impl Abort, lane: &Lane<Sum>, server: Server<Sum>) -> u32
+    requires { server.lane ≡ known lane.now }
+{
+    match server.take(lane) {
+        Taken::Job(busy) => busy.tag(),
+        _ => panic!(rt; "no job"),
+    }
+}
+
+fn tag_of_leaver(lane: &Lane<Sum>, owner: Owner<Sum>) -> u32
+    requires { owner.lane ≡ known lane.now }
+{
+    owner.exit(lane).tag()
+}
+
+fn tags_of(owner: &Owner<Sum>, server: &Server<Sum>, shutter: &Shutter<Sum>) -> [u32; 3] {
+    [owner.tag(), server.tag(), shutter.tag()]
 }
 
 #[test]
 fn tags(rt: HostRuntime) -> Result<(), Fail> {
     let sum = Sum;
     let (lane, owner, server, shutter) = Lane::new(rt.alloc(), &sum, 7, 1, 0)?;
-    let mut owner = owner;
-    assert!(rt; owner.send(&lane, 3).is_ok());
+    let (bench, outcome) = does(Bench::of(&lane, owner, server, shutter), Step::Send(3));
+    assert_eq!(rt; outcome, Outcome::Sent(0));
+    assert_eq!(rt; lane.tag(), 7);
     assert_eq!(rt;
-        [lane.tag(), owner.tag(), server.tag(), shutter.tag()],
-        [7, 7, 7, 7]
+        tags_of(&bench.owner, &bench.server, &bench.shutter),
+        [7, 7, 7]
     );
-    let Taken::Job(busy) = server.take(&lane) else {
-        panic!(rt; "no job")
-    };
-    assert_eq!(rt; busy.tag(), 7);
-    assert_eq!(rt; owner.exit(&lane).tag(), 7);
+    let Bench { owner, server, .. } = bench;
+    assert_eq!(rt; tag_of_busy(&rt, &lane, server), 7);
+    assert_eq!(rt; tag_of_leaver(&lane, owner), 7);
     Ok(())
 }
 
@@ -244,8 +169,9 @@ fn tags(rt: HostRuntime) -> Result<(), Fail> {
 fn the_sum_from_five_with_one_place(rt: HostRuntime) -> Result<(), Fail> {
     let sum = Sum;
     let (lane, owner, server, shutter) = Lane::new(rt.alloc(), &sum, 7, 1, 5)?;
-    let bench = Bench::of(&lane, owner, server, shutter).plays(
+    let bench = plays(
         &rt,
+        Bench::of(&lane, owner, server, shutter),
         &[
             (Step::Send(3), Outcome::Sent(0)),
             (Step::Send(4), Outcome::Unsent(Full, 4)),
@@ -256,9 +182,10 @@ fn the_sum_from_five_with_one_place(rt: HostRuntime) -> Result<(), Fail> {
             (Step::Send(4), Outcome::Sent(1)),
         ],
     );
-    let bench = bench.takes_and_finishes(&rt, 4);
-    drop(bench.plays(
+    let bench = takes_and_finishes(&rt, bench, 4);
+    drop(plays(
         &rt,
+        bench,
         &[
             (Step::Collect, Outcome::Got(1, 4, 12)),
             (Step::Collect, Outcome::Nothing),
@@ -269,8 +196,6 @@ fn the_sum_from_five_with_one_place(rt: HostRuntime) -> Result<(), Fail> {
 
 #[test]
 fn a_ring_of_three(rt: HostRuntime) -> Result<(), Fail> {
-    let sum = Sum;
-    let (lane, owner, server, shutter) = Lane::new(rt.alloc(), &sum, 7, 3, 0)?;
     let rows = [
         (Step::Send(1), Outcome::Sent(0)),
         (Step::Send(2), Outcome::Sent(1)),
@@ -289,48 +214,7 @@ fn a_ring_of_three(rt: HostRuntime) -> Result<(), Fail> {
         (Step::Collect, Outcome::Got(3, 4, 10)),
         (Step::Collect, Outcome::Nothing),
     ];
-    let totals = run(&rt, lane, owner, server, shutter, &rows);
-    check_totals(&rt, totals, [4, 4, 4], 10);
-    Ok(())
-}
-
-#[test]
-fn exit_at_once(rt: HostRuntime) -> Result<(), Fail> {
-    let sum = Sum;
-    let (lane, owner, server, shutter) = Lane::new(rt.alloc(), &sum, 7, 2, 5)?;
-    let mut leaver = owner.exit(&lane);
-    assert_eq!(rt; leaver.accepted(), 0);
-    let Taken::Settled(server) = server.take(&lane) else {
-        panic!(rt; "not settled")
-    };
-    assert!(rt; leaver.collect(&lane).is_none());
-    let totals = lane.close(Ends {
-        owner: leaver,
-        server,
-        shutter,
-    });
-    check_totals(&rt, totals, [0, 0, 0], 5);
-    Ok(())
-}
-
-#[test]
-fn a_leaver_collects_what_is_left(rt: HostRuntime) -> Result<(), Fail> {
-    let sum = Sum;
-    let (lane, owner, server, shutter) = Lane::new(rt.alloc(), &sum, 7, 2, 5)?;
-    let bench = Bench::of(&lane, owner, server, shutter).plays(
-        &rt,
-        &[
-            (Step::Send(3), Outcome::Sent(0)),
-            (Step::Send(4), Outcome::Sent(1)),
-            (Step::Serve, Outcome::Did),
-        ],
-    );
-    let mut ends = bench.leaves();
-    assert_eq!(rt; ends.owner.accepted(), 2);
-    assert_eq!(rt; given(&lane, &mut ends.owner), Outcome::Got(0, 3, 8));
-    assert_eq!(rt; given(&lane, &mut ends.owner), Outcome::Nothing);
-    let totals = lane.close(ends);
-    check_totals(&rt, totals, [2, 1, 1], 8);
+    assert_eq!(rt; totals(&rt, rt.alloc(), 3, 0, &rows)?, [4, 4, 4, 10]);
     Ok(())
 }
 
@@ -342,6 +226,42 @@ fn given(lane: &Lane<Sum>, leaver: &mut Leaver<Sum>) -> Outcome
         Some(given) => Outcome::Got(given.number, given.request, given.answer),
         None => Outcome::Nothing,
     }
+}
+
+#[test]
+fn exit_at_once(rt: HostRuntime) -> Result<(), Fail> {
+    let sum = Sum;
+    let (lane, owner, server, shutter) = Lane::new(rt.alloc(), &sum, 7, 2, 5)?;
+    let mut ends = Bench::of(&lane, owner, server, shutter).leaves();
+    assert_eq!(rt; ends.owner.accepted(), 0);
+    let Taken::Settled(server) = ends.server.take(&lane) else {
+        panic!(rt; "not settled")
+    };
+    ends.server = server;
+    assert_eq!(rt; given(&lane, &mut ends.owner), Outcome::Nothing);
+    assert_eq!(rt; closed(lane, ends), [0, 0, 0, 5]);
+    Ok(())
+}
+
+#[test]
+fn a_leaver_collects_what_is_left(rt: HostRuntime) -> Result<(), Fail> {
+    let sum = Sum;
+    let (lane, owner, server, shutter) = Lane::new(rt.alloc(), &sum, 7, 2, 5)?;
+    let bench = plays(
+        &rt,
+        Bench::of(&lane, owner, server, shutter),
+        &[
+            (Step::Send(3), Outcome::Sent(0)),
+            (Step::Send(4), Outcome::Sent(1)),
+            (Step::Serve, Outcome::Did),
+        ],
+    );
+    let mut ends = bench.leaves();
+    assert_eq!(rt; ends.owner.accepted(), 2);
+    assert_eq!(rt; given(&lane, &mut ends.owner), Outcome::Got(0, 3, 8));
+    assert_eq!(rt; given(&lane, &mut ends.owner), Outcome::Nothing);
+    assert_eq!(rt; closed(lane, ends), [2, 1, 1, 8]);
+    Ok(())
 }
 
 const SMALL: [Step; 6] = [
@@ -387,19 +307,19 @@ fn outcome_of(world: &World<Sum>, said: Said) -> Outcome {
 // The step at both, with one outcome.
 fn both_do<'l, 'm>(
     rt: &impl Abort,
-    bench: Bench<'l, 'm>,
+    bench: Bench<'l, 'm, Sum>,
     world: &mut World<Sum>,
     step: Step,
-) -> Bench<'l, 'm>
+) -> Bench<'l, 'm, Sum>
     ensures { result.lane ≡ bench.entry.lane }
 {
-    let (bench, outcome) = bench.does(step);
+    let (bench, outcome) = does(bench, step);
     assert_eq!(rt; outcome, world_does(world, step));
     bench
 }
 
 // The small schedule with a shut after its first `place` steps, beside a world.
-fn shut_after(rt: &impl Abort, bench: Bench, world: &mut World<Sum>, place: usize) -> Ends<Sum>
+fn shut_after(rt: &impl Abort, bench: Bench<Sum>, world: &mut World<Sum>, place: usize) -> Ends<Sum>
     ensures { (result.owner.lane ≡ known bench.entry.lane.now) × (result.server.lane ≡ known bench.entry.lane.now) × (result.shutter.lane ≡ known bench.entry.lane.now) }
 {
     let mut bench = bench;
@@ -433,8 +353,7 @@ fn shut_at(rt: &impl Abort, alloc: Global, place: usize) -> Result<(), LaneFault
     );
     let count = COUNTS[place];
     assert_eq!(rt; ends.shutter.shut(&lane), count);
-    let totals = lane.close(ends);
-    check_totals(rt, totals, [count, count, count], STATES[place]);
+    assert_eq!(rt; closed(lane, ends), [count, count, count, STATES[place]]);
     assert_eq!(rt; world.label(), STATES[place]);
     Ok(())
 }
@@ -450,11 +369,11 @@ fn a_shut_at_each_place_of_a_small_schedule(rt: HostRuntime) -> Result<(), Fail>
 // The numbers from `from` on are sent.
 fn sends<'l, 'm>(
     rt: &impl Abort,
-    bench: Bench<'l, 'm>,
+    bench: Bench<'l, 'm, Sum>,
     world: &mut World<Sum>,
     from: u64,
     count: u64,
-) -> Bench<'l, 'm>
+) -> Bench<'l, 'm, Sum>
     ensures { result.lane ≡ bench.entry.lane }
 {
     let mut bench = bench;
@@ -466,11 +385,11 @@ fn sends<'l, 'm>(
 
 fn repeats<'l, 'm>(
     rt: &impl Abort,
-    bench: Bench<'l, 'm>,
+    bench: Bench<'l, 'm, Sum>,
     world: &mut World<Sum>,
     step: Step,
     count: u64,
-) -> Bench<'l, 'm>
+) -> Bench<'l, 'm, Sum>
     ensures { result.lane ≡ bench.entry.lane }
 {
     let mut bench = bench;
@@ -481,7 +400,7 @@ fn repeats<'l, 'm>(
 }
 
 // So many requests go round, and one try more of each kind is refused or finds nothing.
-fn rounds(rt: &impl Abort, bench: Bench, world: &mut World<Sum>, counts: &[u64]) -> Ends<Sum>
+fn rounds(rt: &impl Abort, bench: Bench<Sum>, world: &mut World<Sum>, counts: &[u64]) -> Ends<Sum>
     ensures { (result.owner.lane ≡ known bench.entry.lane.now) × (result.server.lane ≡ known bench.entry.lane.now) × (result.shutter.lane ≡ known bench.entry.lane.now) }
 {
     let mut bench = bench;
@@ -502,8 +421,7 @@ fn five_thousand_requests_through_the_largest_lane(rt: HostRuntime) -> Result<()
     let (lane, owner, server, shutter) = Lane::new(rt.alloc(), &sum, 7, 1024, 0)?;
     let bench = Bench::of(&lane, owner, server, shutter);
     let ends = rounds(&rt, bench, &mut world, &[1024, 1024, 1024, 1024, 904]);
-    let totals = lane.close(ends);
-    check_totals(&rt, totals, [5000, 5000, 5000], 500);
+    assert_eq!(rt; closed(lane, ends), [5000, 5000, 5000, 500]);
     assert_eq!(rt; world.label(), 500);
     Ok(())
 }
@@ -518,7 +436,7 @@ fn step_of(draw: u64) -> Step {
 }
 
 // Two thousand steps drawn at random, with a shut after the first fifteen hundred.
-fn wanders(rt: &impl Abort, bench: Bench, world: &mut World<Sum>, seed: u64) -> Ends<Sum>
+fn wanders(rt: &impl Abort, bench: Bench<Sum>, world: &mut World<Sum>, seed: u64) -> Ends<Sum>
     ensures { (result.owner.lane ≡ known bench.entry.lane.now) × (result.server.lane ≡ known bench.entry.lane.now) × (result.shutter.lane ≡ known bench.entry.lane.now) }
 {
     let mut bench = bench;
@@ -547,9 +465,9 @@ fn wanders_at(rt: &impl Abort, alloc: Global, capacity: u32, seed: u64) -> Resul
         &mut world,
         seed,
     );
-    let totals = lane.close(ends);
-    assert_eq!(rt; totals.state, world.label());
-    assert!(rt; totals.answered > 100);
+    let totals = closed(lane, ends);
+    assert_eq!(rt; totals[3], world.label());
+    assert!(rt; totals[1] > 100);
     Ok(())
 }
 

@@ -1,7 +1,7 @@
-// The lane as plain data.
-use super::{Happening, Said, Sum};
-use crate::SendFault::{Closed, Full};
-use crate::{Event, LaneFault, Reply, World, replay};
+//! The lane as plain data.
+use crate::sum::{Happening, Said, Sum};
+use aa_lane::SendFault::{Closed, Full};
+use aa_lane::{Event, LaneFault, Reply, World, replay};
 use std::collections::VecDeque;
 use std::process::Abort;
 use std::test::Fail;

@@ -1,12 +1,7 @@
-// Worked rows, schedules and threads, over machines as small as can be.
+//! A machine that adds numbers, and what happens at its lanes as plain data.
 ghost use Rattle.std.specs.Prelude.{◌+◌, ◌%◌};
 
-mod lanes;
-mod memory;
-mod threads;
-mod worlds;
-
-use crate::{Event, Machine, Reply, SendFault};
+use aa_lane::{Event, Machine, Reply, SendFault};
 
 /// Adds the request to the state, modulo 1,000, and answers the new state.
 #[derive(Drop)]

@@ -1,11 +1,11 @@
-// Running lanes whose ends are on threads of their own.
+//! Running lanes whose ends are on threads of their own.
 ghost use Rattle.aa_lane.specs.Ends.{LaneId, known};
-ghost use Rattle.aa_lane.specs.declared.tests.Sum.{Sum};
+ghost use Rattle.aa_lane_tests.specs.declared.sum.Sum.{Sum};
 ghost use Rattle.std.specs.Prelude.{◌≡◌, ℕ};
 
-use super::Sum;
-use crate::SendFault::Closed;
-use crate::{Ends, Lane, Owner, Served, Server, Shutter, Totals};
+use crate::sum::Sum;
+use aa_lane::SendFault::Closed;
+use aa_lane::{Ends, Lane, Owner, Served, Server, Shutter, Totals};
 use std::process::Abort;
 use std::sync::Wait;
 use std::test::Fail;
