@@ -1,3 +1,5 @@
+//! The automaton: a table of rows over classes of bytes, and what it answers of a text.
+
 ghost use Rattle.std.specs.Prelude.{◌≡◌, ◌+◌, ◌<◌, ◌≤◌, IfOk, Err, length};
 ghost use Rattle.aa_patterns.specs.Places.{DecideNext};
 ghost use Rattle.aa_auto.specs.Tables.{IsAutomaton, BytesLeadAlike, HasPlaces, rows_of, classes_of, place_of, list_at};

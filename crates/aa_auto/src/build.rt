@@ -1,3 +1,5 @@
+//! How all sets of positions that some text stands at are found, row by row.
+
 ghost use Rattle.std.specs.Prelude.{◌≡◌, ◌+◌, ◌*◌, ◌<◌, ◌≤◌, ◌++◌, ℕ, Contains, IfOk, IfErr, OnOk, Err, length, slice_get, Some};
 ghost use Rattle.aa_auto.specs.Apart.{IsApart};
 ghost use Rattle.aa_auto.specs.Explored.{AreReached, AreFilled, AreListed, Goes, Extends, IsExplored, TakesSet};

@@ -1,3 +1,5 @@
+//! Bytes that no item of the patterns tells apart.
+
 ghost use Rattle.std.specs.Prelude.{◌≡◌, ◌≢◌, ◌↔◌, ◌+◌, ◌<◌, ◌≤◌, ℕ, All, IsTrue, IfOk, length, slice_index, if◌then◌else◌};
 ghost use Rattle.aa_auto.specs.Division.{GivesClass, Divides, IsKey, AreKeys, IsSameItem, IsDivision, Refines, RefinesBy, AreClasses};
 

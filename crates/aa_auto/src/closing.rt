@@ -1,3 +1,5 @@
+//! Sets of positions with those that are reached from them without a byte.
+
 ghost use Rattle.std.specs.Prelude.{◌<◌, ◌≤◌, ◌++◌, ◌∷◌, [], OnOk, IfOk, ℕ, List, length, map, Contains};
 ghost use Rattle.std.specs.List.Sorted.{IsStrictlyIncreasing};
 ghost use Rattle.aa_auto.specs.Sorted.{InsertsAll};

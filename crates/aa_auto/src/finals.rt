@@ -1,3 +1,5 @@
+//! Which pattern ends at a position.
+
 ghost use Rattle.std.specs.Prelude.{◌≡◌, ◌++◌, ◌<◌, ◌≤◌, ℕ, All, Option, Some, None, Contains, IfOk, List, OnOk, length};
 ghost use Rattle.std.specs.Option.{option_to_list};
 ghost use Rattle.std.specs.List.Sorted.{IsStrictlyIncreasing};

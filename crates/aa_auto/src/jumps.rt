@@ -1,3 +1,5 @@
+//! Positions that are reached from others without a byte.
+
 ghost use Rattle.std.specs.Prelude.{◌<◌, ◌≤◌, All, IfOk, OnOk, length, map};
 ghost use Rattle.aa_auto.specs.Spots.{AddsToRows, AddsJumps, AreEmpty, AreJumps};
 ghost use Rattle.aa_auto.specs.Nodes.{HasSources, HaveSources};

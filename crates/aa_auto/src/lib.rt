@@ -15,6 +15,3 @@ mod sorted;
 
 pub use automaton::Automaton;
 pub use build::BuildFault;
-
-#[cfg(test)]
-mod tests;

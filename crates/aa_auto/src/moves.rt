@@ -1,3 +1,5 @@
+//! Where a byte leads from a position, and from a set of them.
+
 ghost use Rattle.std.specs.Prelude.{◌↔◌, ◌<◌, ℕ, IsTrue, IfOk, OnOk, Contains, None, [], length};
 ghost use Rattle.std.specs.List.Sorted.{IsStrictlyIncreasing};
 ghost use Rattle.aa_auto.specs.Sorted.{InsertsIf};

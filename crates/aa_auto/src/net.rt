@@ -1,3 +1,5 @@
+//! Patterns, compiled position by position, and the set of positions after one more byte.
+
 ghost use Rattle.std.specs.Prelude.{◌≡◌, ◌≤◌, IfOk, length};
 ghost use Rattle.aa_auto.specs.Nets.{IsNetOf};
 

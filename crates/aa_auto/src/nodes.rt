@@ -1,3 +1,5 @@
+//! What stands before each position of the patterns.
+
 ghost use Rattle.std.specs.Prelude.{◌<◌, IfOk, OnOk, vec_len, length};
 ghost use Rattle.aa_auto.specs.Nodes.{AddsItem, AddsItems, AddsBranches, AreNodes};
 

@@ -1,3 +1,5 @@
+//! Sets of positions by their numbers.
+
 ghost use Rattle.std.specs.Prelude.{◌≡◌, ◌++◌, ◌∷◌, [], if◌then◌else◌, length, Some, IfOk, OnOk, OnErr, slice_get};
 ghost use Rattle.std.specs.Option.{option_copied};
 ghost use Rattle.aa_auto.specs.Apart.{IsApart};

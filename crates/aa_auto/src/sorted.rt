@@ -1,3 +1,5 @@
+//! Rising numbers, as sets are kept.
+
 ghost use Rattle.std.specs.Prelude.{◌≡◌, ◌↔◌, ◌<◌, ◌≤◌, IsTrue, OnOk, length, slice_index, ℕ};
 ghost use Rattle.std.specs.List.Sorted.{IsStrictlyIncreasing};
 ghost use Rattle.aa_auto.specs.Sorted.{Inserts};
