@@ -8,6 +8,7 @@ sometimes left alone by the machine, a long one hardly ever.)
 import json
 import math
 import os
+import shutil
 import statistics
 import subprocess
 import sys
@@ -15,6 +16,7 @@ import tempfile
 
 TOP = os.path.dirname(os.path.dirname(os.path.abspath(__file__)))
 PROGRAM = os.path.join(TOP, "crates", "aamediate", "out", "aamediate")
+FEATURES = "/usr/share/apparmor-features/features"
 
 
 def introduce(repeats):
@@ -23,6 +25,14 @@ def introduce(repeats):
         sys.exit("build it first: ./aamediate --help")
     version = subprocess.run(["rt", "version"], capture_output=True, text=True).stdout.strip()
     print(f"{version}; {os.cpu_count()} processors; medians of {repeats} runs, which take turns")
+
+
+def has_parser():
+    """Whether apparmor_parser is there with its features file; says so where it isn't."""
+    if shutil.which("apparmor_parser") and os.path.isfile(FEATURES):
+        return True
+    print(f"apparmor_parser or {FEATURES} isn't there (Debian's package apparmor), so its times are left out")
+    return False
 
 
 def job_of(policy, includes=None):

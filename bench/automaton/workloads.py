@@ -15,7 +15,9 @@ import subprocess
 import sys
 import tempfile
 
-FEATURES = "/usr/share/apparmor-features/features"
+sys.path.insert(0, os.path.dirname(os.path.dirname(os.path.abspath(__file__))))
+from measuring import FEATURES, has_parser
+
 RUNS = 5
 
 
@@ -84,7 +86,7 @@ def large(program):
 
 def main():
     program = os.path.abspath(sys.argv[1])
-    words = sys.argv[2:]
+    words, is_compared = sys.argv[2:], has_parser()
     print(f"{'workload':16} {'patterns':>8} {'ours s':>9} {'parser s':>9} {'ratio':>7}  rows and classes")
     for name, before, paths, patterns in workloads():
         if words and not any(w in name for w in words):
@@ -93,9 +95,11 @@ def main():
             profile.write(before + "profile p {\n" + "".join(f"  {p} r,\n" for p in paths) + "}\n")
             profile.flush()
             ours, last = median([program], "".join(p + "\n" for p in patterns).encode())
-            theirs, other = median(["apparmor_parser", "-QKS", "--features-file", FEATURES, profile.name])
-        note = "" if other[1] == 0 else f"  (the parser ended with {other[1]})"
-        print(f"{name:16} {len(patterns):8} {ours:9.4f} {theirs:9.4f} {ours / theirs:7.2f}  {last[2].decode().strip()}{note}", flush=True)
+            beside = f"{'':9} {'':7}"
+            if is_compared:
+                theirs, other = median(["apparmor_parser", "-QKS", "--features-file", FEATURES, profile.name])
+                beside = f"{theirs:9.4f} {ours / theirs:7.2f}" if other[1] == 0 else f"the parser ended with {other[1]}"
+        print(f"{name:16} {len(patterns):8} {ours:9.4f} {beside}  {last[2].decode().strip()}", flush=True)
     said, peak, seconds = large(program)
     print(f"a large automaton: {said}, {peak // 1024 // 1024} MiB at most, {seconds:.2f} s")
 
