@@ -10,7 +10,7 @@ use Rattle.aa_lane.specs.declared.cells.Cell.TheVariants.{Asked, Answered}
 use Rattle.aa_lane.specs.declared.cells.View.{View}
 use Rattle.aa_lane.specs.declared.cells.Key.{Key}
 use Rattle.aa_lane.specs.Plays.{readied, took, is_taken, finished, collected, is_collected}
-use Rattle.aa_lane.specs.Run.{state_after}
+use Rattle.aa_machine.specs.Run.{state_after}
 use Rattle.aa_lane.specs.Steps.{CanReady, CanTake, CanFinish, CanCollect}
 use Rattle.aa_lane.proofs.Opens.{readies_step}
 use Rattle.aa_lane.proofs.Takes.{takes_step}

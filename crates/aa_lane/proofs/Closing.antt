@@ -5,7 +5,7 @@ use lib.ListN.{get_elem?}
 use Rattle.atomic_table.specs.Table.{Final, Seen}
 use Rattle.aa_lane.specs.declared.cells.Cell.{Cell}
 use Rattle.atomic_table.specs.Seated.{TableId}
-use Rattle.aa_lane.specs.Run.{state_after}
+use Rattle.aa_machine.specs.Run.{state_after}
 use Rattle.aa_lane.specs.WorldState.{WorldState}
 use Rattle.aa_lane.specs.Log.{ByOwner, ByServer, ByShutter, leaves}
 use Rattle.aa_lane.specs.Shows.{HasLog, OwnerFits, ServerFits, ShutterFits}

@@ -17,7 +17,7 @@ use Rattle.aa_lane.specs.declared.cells.View.{View}
 use Rattle.aa_lane.specs.declared.cells.Key.{Key}
 use Rattle.aa_lane.proofs.ShutBy.{step_shut_by}
 use Rattle.aa_lane.proofs.Stays.{keep_seats, logged, world}
-use Rattle.aa_lane.specs.Run.{state_after}
+use Rattle.aa_machine.specs.Run.{state_after}
 use Rattle.aa_lane.specs.Plays.{finished, finished_view}
 use Rattle.aa_lane.proofs.Rows.{snoc_cases, get_take, take_take}
 use Rattle.aa_lane.proofs.WorldStates.{answering, answering_lawful, finishes}

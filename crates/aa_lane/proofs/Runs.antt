@@ -1,7 +1,7 @@
 -- What one request more adds to a run.
 use Rattle.std.proofs.Common.{◌≡◌, ℕ, zero, suc, slice_get, Some, ◌+◌, ◌<◌, List, [], ◌∷◌, ◌++◌, length, get_or, take, refl, sym, ap, ◌∙◌}
 use Rattle.std.proofs.lemmas.List.{take_more}
-use Rattle.aa_lane.specs.Run.{state_after, replies}
+use Rattle.aa_machine.specs.Run.{state_after, replies}
 
 module _ {S Q A : Type 0} (next : S → Q → S) (reply : S → Q → A) where
   pub state_after-snoc : (s : S) (qs : List Q) (q : Q) → state_after next reply s (qs ++ q ∷ []) ≡ next (state_after next reply s qs) q

@@ -1,6 +1,6 @@
 -- What the calls on a lane's ends answer, and what the end is afterwards.
 use Rattle.std.specs.Prelude.{◌≡◌, ℕ, ◌+◌, ◌<◌, ◌≤◌, true, Option, Some, None, [], ◌∷◌, ◌++◌, length, slice_get}
-use Rattle.aa_lane.specs.Run.{replies}
+use Rattle.aa_machine.specs.Run.{replies}
 use Rattle.aa_lane.specs.Ends.{LaneSeen, OwnerSeen, ServerSeen, ShutterSeen}
 use Rattle.aa_lane.specs.declared.event.Event.TheVariants.{Send, Take, Finish, Collect, Shut}
 use Rattle.aa_lane.specs.declared.event.Reply.TheVariants as reply

@@ -2,7 +2,7 @@
 use Rattle.std.specs.Prelude.{◌≡◌, ℕ, ◌+◌, ◌-◌, ◌%◌, ◌<◌, ◌≤◌, ◌^◌, ◌⊎◌, zero, suc, Bool, true, false, Option, None, List, [], ◌∷◌, ◌++◌, length}
 use Rattle.std.specs.Prelude.{take, slice_get, Some}
 use Rattle.atomic_table.specs.Seated.{TableId}
-use Rattle.aa_lane.specs.Run.{state_after}
+use Rattle.aa_machine.specs.Run.{state_after}
 use Rattle.aa_lane.specs.WorldState.{most_accepted}
 use Rattle.aa_lane.specs.declared.cells.Cell.{Cell}
 use Rattle.aa_lane.specs.declared.cells.Cell.TheVariants.{Vacant}

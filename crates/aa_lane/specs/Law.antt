@@ -4,7 +4,7 @@ use mathlib.Core.Option.{some}
 use lib.ListN.{get_elem?}
 use Rattle.atomic_table.specs.Table.{State, keeps, takes, gives, stepped, Valid, opening as table_opening}
 use Rattle.aa_lane.specs.WorldState.{WorldState, most_accepted, opening, after, answer_to}
-use Rattle.aa_lane.specs.Run.{state_after}
+use Rattle.aa_machine.specs.Run.{state_after}
 use Rattle.aa_lane.specs.Shows.{Shows, HasLog, first_view, spent_view}
 use Rattle.aa_lane.specs.Plays.{ready_view, take_slots, without_server, only_server, with_server, without_shutter, only_shutter, with_shutter, sent_view, unsent_view, taken_view, idle_view, finished_view, collected_view, uncollected_view, shut_view, left_view}
 use Rattle.aa_lane.specs.declared.event.SendFault.TheVariants.{Closed}

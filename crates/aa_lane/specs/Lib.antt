@@ -1,4 +1,4 @@
-pub mod Run
+pub use Rattle.aa_machine.specs.Run
 pub mod WorldState
 pub mod WorldLaws
 pub mod Log

@@ -1,7 +1,7 @@
 -- What each step of a lane tells the seat that makes it.
 use Rattle.std.specs.Prelude.{◌≡◌, ℕ, zero, suc, ◌+◌, ◌/◌, ◌%◌, ◌≤◌, ◌==◌, nat_lt, Bool, true, false, ◌||◌, cond, List, [], ◌∷◌, ◌++◌, length, MatchBool, slice_get, Some}
 use Rattle.atomic_table.specs.Table.{Me, Step, Act, keeps, takes, chain, rest}
-use Rattle.aa_lane.specs.Run.{replies}
+use Rattle.aa_machine.specs.Run.{replies}
 use Rattle.aa_lane.specs.Ends.{vacant}
 use Rattle.aa_lane.specs.declared.event.SendFault.TheVariants.{Closed}
 use Rattle.aa_lane.specs.declared.event.Event.TheVariants.{Send, Take, Finish, Collect, Shut}

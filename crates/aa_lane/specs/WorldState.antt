@@ -1,6 +1,6 @@
 -- The world of a lane as plain lists, and what each event makes of it.
 use Rattle.std.specs.Prelude.{◌≡◌, ℕ, ◌+◌, ◌-◌, ◌^◌, ◌<◌, ◌≤◌, ◌==◌, nat_lt, Bool, true, false, cond, List, [], ◌∷◌, ◌++◌, length, take, Option, None, Some, slice_get}
-use Rattle.aa_lane.specs.Run.{state_after, replies}
+use Rattle.aa_machine.specs.Run.{state_after, replies}
 use Rattle.aa_lane.specs.declared.event.SendFault.TheVariants.{Spent, Full, Closed}
 use Rattle.aa_lane.specs.declared.event.Event.{Event}
 use Rattle.aa_lane.specs.declared.event.Event.TheVariants.{Send, Take, Finish, Collect, Shut}

@@ -1,5 +1,6 @@
-// What can happen at a lane, and what it answers.
-use crate::machine::Machine;
+//! What can happen at a lane, and what it answers.
+
+use aa_machine::Machine;
 
 // How many requests a lane accepts in all.
 pub(crate) const MOST_ACCEPTED: u64 = (1 << 62) - 1;

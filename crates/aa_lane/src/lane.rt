@@ -1,4 +1,5 @@
-// A lane that runs: one owner sends requests, one server answers them, and neither waits.
+//! A lane that runs: one owner sends requests, one server answers them, and neither waits.
+
 ghost use Rattle.std.specs.Prelude.{◌≡◌, ◌≢◌, ℕ, ◌<◌, [], true, IfOk, IfErr, OnOk, MatchResult, Some, length, replicate};
 ghost use Rattle.aa_lane.specs.Shows.{first_view};
 ghost use Rattle.aa_lane.specs.Ends.{known, IsCapacity, Denies, MaySend, Refuses, new_owner, new_server, new_shutter};
@@ -7,10 +8,10 @@ ghost use Rattle.aa_lane.specs.Totals.{IsLinearized};
 
 use crate::cells::{Cell, Key, View};
 use crate::event::{LaneFault, MOST_ACCEPTED, MOST_SLOTS, SendFault};
-use crate::machine::Machine;
 use crate::plays::{Serves, Shutting};
 use crate::rule::LaneRule;
 use crate::steps;
+use aa_machine::Machine;
 use atomic_table::{Seat, Table};
 use std::alloc::{AllocError, Global};
 use std::marker::Model;

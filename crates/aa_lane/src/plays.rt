@@ -1,9 +1,10 @@
-// What each step tells. These types are for the proofs alone.
+//! What each step tells. These types are for the proofs alone.
+
 ghost use Rattle.aa_lane.specs.Plays.{readied, sent, took, finished, collected, shut_told, exited, without_server, only_server, with_server, without_shutter, only_shutter, with_shutter};
 ghost use Rattle.aa_lane.specs.Shows.{spent_view};
 
 use crate::cells::{Cell, View};
-use crate::machine::Machine;
+use aa_machine::Machine;
 use atomic_table::{Join, Play, Split};
 
 pub struct Readies;

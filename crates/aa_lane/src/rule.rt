@@ -1,8 +1,9 @@
-// The rule of a lane's table.
+//! The rule of a lane's table.
+
 ghost use Rattle.aa_lane.specs.Shows.{HasLog, first_view};
 
 use crate::cells::{Cell, Key, View};
-use crate::machine::Machine;
+use aa_machine::Machine;
 use atomic_table::TableRule;
 use std::marker::PhantomData;
 

@@ -1,4 +1,5 @@
-// The steps of a seat at a lane's table.
+//! The steps of a seat at a lane's table.
+
 ghost use Rattle.std.specs.Prelude.{◌≡◌, ◌≢◌, OnOk, ◌+◌, ◌^◌, ◌/◌, ◌%◌, ◌<◌, ◌≤◌, ◌==◌, ◌||◌, ◌∷◌, ◌++◌, ℕ, MatchResult, MatchOption, true, false, [], slice_get, Some};
 ghost use Rattle.atomic_table.specs.Table.{rest, turned};
 ghost use Rattle.aa_lane.specs.Ends.{vacant};
@@ -10,9 +11,9 @@ ghost use Rattle.aa_lane.specs.Steps.{CanReady, CanSend, CanTake, CanFinish, Can
 ghost use Rattle.aa_lane.specs.declared.cells.Cell.TheVariants.{Vacant};
 
 use crate::cells::{Cell, Key, View};
-use crate::machine::Machine;
 use crate::plays::{Collects, Exits, Finishes, Readies, Sends, Serves, Shuts, Shutting, Takes};
 use crate::rule::LaneRule;
+use aa_machine::Machine;
 use atomic_table::{Closed, Seat, Shared, Table};
 use std::alloc::{Allocator, Global};
 

@@ -1,4 +1,5 @@
-// A lane as plain lists, for one thread: what each event does, and nothing else.
+//! A lane as plain lists, for one thread: what each event does, and nothing else.
+
 ghost use Rattle.std.specs.Prelude.{◌≡◌, ◌≢◌, ◌≤◌, ◌<◌, ◌⊎◌, IfOk, IfErr, OnErr, OnOk, MatchResult, slice_get, option_map, ℕ, List, []};
 ghost use Rattle.aa_lane.specs.WorldState.{WorldState, IsLawful, opening, after, answer_to, after_all, Grows, Replayed};
 ghost use Rattle.aa_lane.specs.WorldLaws.{WorldLaws};
@@ -7,7 +8,7 @@ ghost use Rattle.aa_lane.specs.Ends.{IsCapacity, Denies};
 use crate::event::{
     Event, LaneFault, MOST_ACCEPTED, MOST_SLOTS, NoMemory, Reply, SendFault, Unapplied,
 };
-use crate::machine::Machine;
+use aa_machine::Machine;
 use std::alloc::Global;
 use std::collections::VecDeque;
 use std::marker::Model;

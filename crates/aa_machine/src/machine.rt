@@ -1,4 +1,4 @@
-// What decides requests.
+//! What decides requests.
 ghost use Rattle.std.specs.Prelude.{◌≡◌};
 
 /// Decides requests one after another, from a state that each request may change.
