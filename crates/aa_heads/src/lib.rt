@@ -8,8 +8,3 @@ mod preamble;
 pub use assignments::begins_assignment;
 pub use heads::{AttachmentTree, HeadTree, begins_profile, head_of};
 pub use preamble::{abi_of, preamble_of};
-
-#[cfg(test)]
-mod head_tests;
-#[cfg(test)]
-mod preamble_tests;

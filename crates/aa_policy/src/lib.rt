@@ -20,14 +20,3 @@ pub use aa_tables::{Cap, Caps, Family, Perms, SockType};
 pub use parser::{parse, spelled_once};
 pub use policy::{PassedOver, Policy, Profile};
 pub use rule::{Exec, FileRule};
-
-#[cfg(test)]
-mod access_tests;
-#[cfg(test)]
-mod file_rule_tests;
-#[cfg(test)]
-mod hostile_tests;
-#[cfg(test)]
-mod profile_tests;
-#[cfg(test)]
-mod tests;

@@ -17,6 +17,3 @@ pub use names::{begins_with, is_plain_name, is_right_name, name_fault};
 pub use reading::{closes, is_keyword, name_at, path_at, rule_of, word_at};
 pub use rule::{CapRule, ExecKind, Fallback, NetRule};
 pub use tree::{ExecTree, FileTree, Qualifiers, RuleTree};
-
-#[cfg(test)]
-mod mode_tests;

@@ -13,6 +13,3 @@ pub use caps::Caps;
 pub use family::Family;
 pub use perms::Perms;
 pub use sock_type::SockType;
-
-#[cfg(test)]
-mod table_tests;

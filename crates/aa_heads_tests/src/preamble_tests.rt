@@ -1,7 +1,7 @@
 //! What stands before the profiles, end to end: values in their order, where it ends, and which fault comes first.
 
-use crate::preamble::preamble_of;
 use aa_glob::{Pattern, Vars, expand};
+use aa_heads::preamble_of;
 use aa_words::{PolicyFault, Sources, words};
 use std::alloc::Global;
 use std::process::Abort;

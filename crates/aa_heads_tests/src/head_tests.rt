@@ -1,6 +1,6 @@
 //! What the contracts of a head leave to tests: which refusal comes first, and texts from their bytes on.
 
-use crate::heads::{begins_profile, head_of};
+use aa_heads::{begins_profile, head_of};
 use aa_words::{PolicyFault, Sources, words};
 use std::alloc::Global;
 use std::test::Fail;

@@ -1,8 +1,57 @@
 //! Modes: letters, exec parts, and whether anything is wrong with them.
 
-use crate::modes::{ExecMode, mode_fault, mode_of};
-use crate::rule::{ExecKind, Fallback};
+use aa_rules::{ExecKind, ExecMode, Fallback, RuleTree, rule_of};
+use aa_words::{Span, Spot, Word, WordKind};
 use bitflags::Flags;
+
+/// A word that stands at its number.
+fn word(kind: WordKind, text: &[u8], number: u32) -> Word<'_> {
+    let span = Span {
+        reading: 0,
+        file: 0,
+        start: number,
+        end: number,
+    };
+    Word { kind, text, span }
+}
+
+/// The qualifier of a rule with `deny`, and of one without it.
+fn qualifier(deny: bool) -> &'static [u8] {
+    if deny { b"deny" } else { b"allow" }
+}
+
+/// What a rule with that mode grants, and how it lets a program be executed, if the rule is read.
+fn mode_of(mode: &[u8], deny: bool) -> Option<(u8, Option<ExecMode>)> {
+    let words = [
+        word(WordKind::Name, qualifier(deny), 0),
+        word(WordKind::Path, b"/x", 1),
+        word(WordKind::Name, mode, 2),
+        word(WordKind::Comma, b",", 3),
+    ];
+    match rule_of(&words, 0, Spot { file: 0, byte: 4 }) {
+        Ok((RuleTree::File(file), _)) => {
+            let exec = match file.exec {
+                Some(exec) => Some(exec.mode),
+                None => None,
+            };
+            Some((file.perms.bits(), exec))
+        }
+        _ => None,
+    }
+}
+
+/// Whether anything is wrong with a mode: if so, a rule that ends there is refused at it, and else behind it.
+fn is_faulty(mode: &[u8], deny: bool) -> bool {
+    let words = [
+        word(WordKind::Name, qualifier(deny), 0),
+        word(WordKind::Name, b"file", 1),
+        word(WordKind::Name, mode, 2),
+    ];
+    match rule_of(&words, 0, Spot { file: 0, byte: 3 }) {
+        Ok(_) => false,
+        Err(fault) => fault.at.byte == 2,
+    }
+}
 
 #[test]
 fn exec_parts_say_how(rt: HostRuntime) {
@@ -29,14 +78,10 @@ fn exec_parts_say_how(rt: HostRuntime) {
             fallback,
         };
         let mode = mode_of(part.as_bytes(), false);
-        assert_eq!(rt;
-            mode.map(|m| (m.perms.bits(), m.exec)),
-            Some((64, Some(exec))),
-            "{part}"
-        );
+        assert_eq!(rt; mode, Some((64, Some(exec))), "{part}");
         assert_eq!(rt; mode_of(part.as_bytes(), true), None, "{part}");
-        assert_eq!(rt; mode_fault(part.as_bytes(), false), None, "{part}");
-        assert!(rt; mode_fault(part.as_bytes(), true).is_some(), "{part}");
+        assert!(rt; !is_faulty(part.as_bytes(), false), "{part}");
+        assert!(rt; is_faulty(part.as_bytes(), true), "{part}");
     }
 }
 
@@ -63,11 +108,7 @@ fn modes_grant_their_letters_and_one_exec_part(rt: HostRuntime) {
         ("z", false, None),
     ] {
         let mode = mode_of(text.as_bytes(), deny);
-        assert_eq!(rt; mode.map(|m| m.perms.bits()), bits, "{text}");
-        assert_eq!(rt;
-            mode_fault(text.as_bytes(), deny).is_some(),
-            bits.is_none(),
-            "{text}"
-        );
+        assert_eq!(rt; mode.map(|m| m.0), bits, "{text}");
+        assert_eq!(rt; is_faulty(text.as_bytes(), deny), bits.is_none(), "{text}");
     }
 }

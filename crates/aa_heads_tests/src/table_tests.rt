@@ -1,0 +1,168 @@
+//! Tests of the tables of names.
+
+use aa_tables::{Cap, Caps, Family, SockType};
+use bitflags::Flags;
+use std::alloc::{AllocError, Global};
+use std::test::Fail;
+
+const FAMILIES: &str = "unix inet ax25 ipx appletalk netrom bridge atmpvc x25 inet6 rose netbeui \
+    security key netlink packet ash econet atmsvc rds sna irda pppox wanpipe llc ib mpls can tipc \
+    bluetooth iucv rxrpc isdn phonet ieee802154 caif alg nfc vsock kcm qipcrtr smc xdp mctp";
+
+/// The number and the name of the capability with that name.
+fn cap_of(name: &[u8]) -> Option<(usize, &'static str)> {
+    let cap = Cap::from_name(name)?;
+    Some((cap.number() as usize, cap.name()))
+}
+
+/// The number and the name of the family with that name.
+fn family_of(name: &[u8]) -> Option<(usize, &'static str)> {
+    let family = Family::from_name(name)?;
+    Some((family.number() as usize, family.name()))
+}
+
+/// The number and the name of the type of sockets with that name.
+fn sock_type_of(name: &[u8]) -> Option<(usize, &'static str)> {
+    let kind = SockType::from_name(name)?;
+    Some((kind.number() as usize, kind.name()))
+}
+
+#[test]
+fn capabilities_have_their_numbers(rt: HostRuntime) {
+    for (name, number) in [
+        ("chown", 0),
+        ("dac_override", 1),
+        ("kill", 5),
+        ("net_admin", 12),
+        ("sys_admin", 21),
+        ("mac_admin", 33),
+        ("bpf", 39),
+        ("checkpoint_restore", 40),
+    ] {
+        assert_eq!(rt; cap_of(name.as_bytes()), Some((number, name)));
+    }
+}
+
+#[test]
+fn families_have_their_numbers(rt: HostRuntime) {
+    for (name, number) in [
+        ("unix", 0),
+        ("inet", 1),
+        ("inet6", 9),
+        ("netlink", 14),
+        ("packet", 15),
+        ("bluetooth", 29),
+        ("xdp", 42),
+        ("mctp", 43),
+    ] {
+        assert_eq!(rt; family_of(name.as_bytes()), Some((number, name)));
+    }
+}
+
+#[test]
+fn types_of_sockets_have_their_numbers(rt: HostRuntime) {
+    for (name, number) in [
+        ("stream", 0),
+        ("dgram", 1),
+        ("seqpacket", 2),
+        ("rdm", 3),
+        ("raw", 4),
+        ("packet", 5),
+    ] {
+        assert_eq!(rt; sock_type_of(name.as_bytes()), Some((number, name)));
+    }
+}
+
+/// The bit of the capability with that name.
+fn bit_of(name: &[u8]) -> Option<u64> {
+    let cap = Cap::from_name(name)?;
+    1u64.checked_shl(cap.number() as u32)
+}
+
+/// Whether a constant's name in lower case is the capability with that number, and its bits are that one's.
+fn is_at_its_bit(alloc: Global, number: usize, name: &str, bits: u64) -> Result<bool, AllocError> {
+    let lower = name.to_ascii_lowercase(alloc)?;
+    Ok(
+        cap_of(lower.as_bytes()) == Some((number, lower.as_str()))
+            && bit_of(lower.as_bytes()) == Some(bits),
+    )
+}
+
+#[test]
+fn every_capability_stands_at_its_bit(rt: HostRuntime) -> Result<(), Fail> {
+    for (n, flag) in Caps::FLAGS.iter().enumerate() {
+        assert!(rt;
+            is_at_its_bit(rt.alloc(), n, flag.name(), flag.value().bits())?,
+            "{n}"
+        );
+    }
+    assert_eq!(rt; Caps::FLAGS.len(), 41);
+    Ok(())
+}
+
+#[test]
+fn every_family_stands_at_its_place(rt: HostRuntime) {
+    let mut count = 0;
+    for (n, name) in FAMILIES.split(' ').enumerate() {
+        assert_eq!(rt; family_of(name.as_bytes()), Some((n, name)));
+        count = n + 1;
+    }
+    assert_eq!(rt; count, 44);
+}
+
+/// The numbers of a name in each table.
+fn numbers_of(name: &[u8]) -> (Option<usize>, Option<usize>, Option<usize>) {
+    (
+        cap_of(name).map(|entry| entry.0),
+        family_of(name).map(|entry| entry.0),
+        sock_type_of(name).map(|entry| entry.0),
+    )
+}
+
+#[test]
+fn other_names_have_no_entry(rt: HostRuntime) {
+    let names: [&[u8]; 20] = [
+        b"",
+        b" ",
+        b"\0",
+        b"\xff",
+        b"CHOWN",
+        b"Kill",
+        b"cap_kill",
+        b"chow",
+        b"hown",
+        b"chownx",
+        b"chown ",
+        b" chown",
+        b"chown\0",
+        b"ch\0wn",
+        b"chow\xee",
+        b"inet4",
+        b"INET",
+        b"ine",
+        b"streams",
+        b"tcp",
+    ];
+    for name in names {
+        assert_eq!(rt; numbers_of(name), (None, None, None));
+    }
+}
+
+#[test]
+fn each_table_has_its_own_names(rt: HostRuntime) {
+    // One name stands in two tables.
+    for (name, cap, family, kind) in [
+        ("kill", Some(5), None, None),
+        ("chown", Some(0), None, None),
+        ("sys_admin", Some(21), None, None),
+        ("inet", None, Some(1), None),
+        ("unix", None, Some(0), None),
+        ("mctp", None, Some(43), None),
+        ("stream", None, None, Some(0)),
+        ("rdm", None, None, Some(3)),
+        ("raw", None, None, Some(4)),
+        ("packet", None, Some(15), Some(5)),
+    ] {
+        assert_eq!(rt; numbers_of(name.as_bytes()), (cap, family, kind), "{name}");
+    }
+}

@@ -1,0 +1,253 @@
+//! What the tests see of a text's policy: each helper reads a text, and compares what it says with plain rows.
+
+use aa_glob::Pattern;
+use aa_policy::{Exec, ExecKind, Fallback, FileRule, PassedOver, Policy, Profile, parse};
+use aa_words::{PolicyFault, Sources, words};
+use bitflags::Flags;
+use std::alloc::Global;
+use std::process::Abort;
+
+/// The policy that a text spells.
+pub fn read(alloc: Global, text: &[u8]) -> Result<Policy, PolicyFault> {
+    let sources = Sources::new(alloc);
+    let list = words(alloc, &sources, text)?;
+    parse(alloc, &list)
+}
+
+/// The kind's number, the file and the byte of the refusal, where the text is refused.
+pub fn refusal(alloc: Global, text: &[u8]) -> Option<(u8, u16, u32)> {
+    match read(alloc, text) {
+        Ok(_) => None,
+        Err(fault) => Some((fault.kind.number(), fault.at.file, fault.at.byte)),
+    }
+}
+
+/// The kind's name, the file and the byte of the refusal, where the text is refused.
+pub fn named_refusal(alloc: Global, text: &[u8]) -> Option<(&'static str, u16, u32)> {
+    match read(alloc, text) {
+        Ok(_) => None,
+        Err(fault) => Some((fault.kind.name(), fault.at.file, fault.at.byte)),
+    }
+}
+
+/// A text, the number of its refusal, and the byte that this points at.
+pub type Row = (&'static str, u8, u32);
+
+/// Each of the texts is refused as it says.
+pub fn refuses_each(rt: &impl Abort, alloc: Global, rows: &[Row]) {
+    for (text, number, byte) in rows {
+        assert_eq!(rt;
+            refusal(alloc, text.as_bytes()),
+            Some((*number, 0, *byte)),
+            "{text}"
+        );
+    }
+}
+
+/// A profile: its name, the byte at which that stands, its parent, and how many attachments, file
+/// rules, rules on capabilities and rules on sockets it has.
+pub type ProfileRow = (&'static str, u32, Option<u16>, [usize; 4]);
+
+fn is_profile(profile: &Profile, row: &ProfileRow) -> bool {
+    let counts = [
+        profile.attachments.as_slice().len(),
+        profile.files.as_slice().len(),
+        profile.caps.as_slice().len(),
+        profile.nets.as_slice().len(),
+    ];
+    let at = (profile.at.file, profile.at.byte);
+    profile.name.as_slice() == row.0.as_bytes()
+        && at == (0, row.1)
+        && profile.parent == row.2
+        && counts == row.3
+}
+
+/// The text has these profiles.
+pub fn has_profiles(
+    rt: &impl Abort,
+    alloc: Global,
+    text: &str,
+    rows: &[ProfileRow],
+) -> Result<(), PolicyFault> {
+    let policy = read(alloc, text.as_bytes())?;
+    assert_eq!(rt; policy.profiles.as_slice().len(), rows.len(), "{text}");
+    for (profile, row) in policy.profiles.as_slice().iter().zip(rows) {
+        assert!(rt; is_profile(profile, row), "{text}");
+    }
+    Ok(())
+}
+
+/// A file rule: what stands before it, its bits, how many patterns it has, and how many items the first of them has.
+pub type FileRow = (&'static str, u8, usize, usize);
+
+fn items_of_the_first(patterns: &[Pattern]) -> usize {
+    match patterns.first() {
+        Some(pattern) => pattern.items.len(),
+        None => 0,
+    }
+}
+
+fn qualifiers_of(rule: &FileRule) -> &'static str {
+    match (rule.audit, rule.deny, rule.owner) {
+        (false, false, false) => "",
+        (true, false, false) => "audit",
+        (false, true, false) => "deny",
+        (false, false, true) => "owner",
+        (true, true, true) => "audit deny owner",
+        _ => "others",
+    }
+}
+
+fn is_file_rule(rule: &FileRule, row: &FileRow) -> bool {
+    let patterns = rule.patterns.as_slice();
+    qualifiers_of(rule) == row.0
+        && rule.perms.bits() == row.1
+        && patterns.len() == row.2
+        && items_of_the_first(patterns) == row.3
+}
+
+/// The text's first profile has these file rules.
+pub fn has_files(
+    rt: &impl Abort,
+    alloc: Global,
+    text: &str,
+    rows: &[FileRow],
+) -> Result<(), PolicyFault> {
+    let policy = read(alloc, text.as_bytes())?;
+    for profile in policy.profiles.as_slice().iter().take(1) {
+        assert_eq!(rt; profile.files.as_slice().len(), rows.len(), "{text}");
+        for (rule, row) in profile.files.as_slice().iter().zip(rows) {
+            assert!(rt; is_file_rule(rule, row), "{text}");
+        }
+    }
+    Ok(())
+}
+
+/// How a file rule lets a program be executed: how, whether it scrubs, where to else, the profile's name, which is
+/// empty where none is named.
+pub type ExecRow = Option<(ExecKind, bool, Fallback, &'static str)>;
+
+fn target_of(exec: &Exec) -> &[u8] {
+    match &exec.target {
+        Some(target) => target.as_slice(),
+        None => &[],
+    }
+}
+
+fn is_exec(exec: &Option<Exec>, row: &ExecRow) -> bool {
+    match (exec, row) {
+        (Some(exec), Some((kind, scrub, fallback, name))) => {
+            (exec.kind, exec.scrub, exec.fallback) == (*kind, *scrub, *fallback)
+                && target_of(exec) == name.as_bytes()
+                && exec.target.is_none() == name.is_empty()
+        }
+        (None, None) => true,
+        _ => false,
+    }
+}
+
+/// The file rules of the text's first profile let programs be executed like this.
+pub fn has_execs(
+    rt: &impl Abort,
+    alloc: Global,
+    text: &str,
+    rows: &[ExecRow],
+) -> Result<(), PolicyFault> {
+    let policy = read(alloc, text.as_bytes())?;
+    for profile in policy.profiles.as_slice().iter().take(1) {
+        assert_eq!(rt; profile.files.as_slice().len(), rows.len(), "{text}");
+        for (number, (rule, row)) in profile.files.as_slice().iter().zip(rows).enumerate() {
+            assert!(rt; is_exec(&rule.exec, row), "rule {number}");
+        }
+    }
+    Ok(())
+}
+
+/// Which of the patterns of a text's attachments and then of its file rules match a path, profile by profile.
+pub fn matching(alloc: Global, text: &str, path: &str) -> Result<Vec<bool>, PolicyFault> {
+    let policy = read(alloc, text.as_bytes())?;
+    let mut matched = Vec::new(alloc);
+    for profile in policy.profiles.as_slice() {
+        for pattern in profile.attachments.as_slice() {
+            matched.push(pattern.matches(path.as_bytes()))?;
+        }
+        for rule in profile.files.as_slice() {
+            for pattern in rule.patterns.as_slice() {
+                matched.push(pattern.matches(path.as_bytes()))?;
+            }
+        }
+    }
+    Ok(matched)
+}
+
+/// Of each path the patterns of the text that match it are these.
+pub fn matches_each(
+    rt: &impl Abort,
+    alloc: Global,
+    text: &str,
+    rows: &[(&str, &[bool])],
+) -> Result<(), PolicyFault> {
+    for (path, expected) in rows {
+        let matched = matching(alloc, text, path)?;
+        assert_eq!(rt; matched.as_slice(), *expected, "{path}");
+    }
+    Ok(())
+}
+
+fn is_listed(rule: &PassedOver, profile: u16, keyword: &str) -> bool {
+    rule.profile == profile && rule.kind.as_slice() == keyword.as_bytes()
+}
+
+/// The rules of the text that are passed over are these, each by its profile and its keyword.
+pub fn lists(
+    rt: &impl Abort,
+    alloc: Global,
+    text: &str,
+    rows: &[(u16, &str)],
+) -> Result<(), PolicyFault> {
+    let policy = read(alloc, text.as_bytes())?;
+    let listed = policy.passed_over.as_slice();
+    assert_eq!(rt; listed.len(), rows.len(), "{text}");
+    for (rule, (profile, keyword)) in listed.iter().zip(rows) {
+        assert!(rt; is_listed(rule, *profile, keyword), "{text}");
+    }
+    Ok(())
+}
+
+/// The rules on capabilities of the text's first profile: whether each has `audit`, whether it has `deny`, and its
+/// capabilities.
+pub fn has_caps(
+    rt: &impl Abort,
+    alloc: Global,
+    text: &str,
+    rows: &[(bool, bool, u64)],
+) -> Result<(), PolicyFault> {
+    let policy = read(alloc, text.as_bytes())?;
+    for profile in policy.profiles.as_slice().iter().take(1) {
+        assert_eq!(rt; profile.caps.as_slice().len(), rows.len(), "{text}");
+        for (number, (rule, row)) in profile.caps.as_slice().iter().zip(rows).enumerate() {
+            let said = (rule.audit, rule.deny, rule.caps.0);
+            assert!(rt; said == *row, "rule {number}");
+        }
+    }
+    Ok(())
+}
+
+/// The rules on sockets of the text's first profile: whether each has `audit`, whether it has `deny`, its families
+/// and its types.
+pub fn has_nets(
+    rt: &impl Abort,
+    alloc: Global,
+    text: &str,
+    rows: &[(bool, bool, u64, u8)],
+) -> Result<(), PolicyFault> {
+    let policy = read(alloc, text.as_bytes())?;
+    for profile in policy.profiles.as_slice().iter().take(1) {
+        assert_eq!(rt; profile.nets.as_slice().len(), rows.len(), "{text}");
+        for (number, (rule, row)) in profile.nets.as_slice().iter().zip(rows).enumerate() {
+            let said = (rule.audit, rule.deny, rule.families, rule.kinds);
+            assert!(rt; said == *row, "rule {number}");
+        }
+    }
+    Ok(())
+}
