@@ -1,0 +1,13 @@
+//! A pool of workers that serve many lanes.
+#![tactic(auto)]
+
+mod crew;
+mod engine;
+mod hand;
+mod lane_server;
+mod pool;
+mod serve;
+mod serving;
+
+pub use engine::{Engine, EngineFault, shut_all};
+pub use serve::{PoolFault, PoolRefusal, serve_all};

@@ -1,0 +1,42 @@
+//! A machine that adds up, and what tests do at lanes of it.
+ghost use Rattle.std.specs.Prelude.{◌≡◌, ◌+◌, ◌%◌};
+ghost use Rattle.aa_lane.specs.Ends.{known};
+
+use aa_lane::{Lane, Machine, Owner};
+
+/// Adds the request to the state, modulo 1,000, and answers the new state.
+#[derive(Drop)]
+pub struct Sum;
+
+impl Machine for Sum {
+    type State = u64;
+
+    type Request = u64;
+
+    type Answer = u64;
+
+    ghost next = { λ _ s q. (s % 1000 + q % 1000) % 1000 };
+
+    ghost reply = { λ _ s q. (s % 1000 + q % 1000) % 1000 };
+
+    fn step(&self, state: &mut u64, request: &u64) -> u64 {
+        *state = (*state % 1000 + *request % 1000) % 1000;
+        *state
+    }
+}
+
+/// Whether the lane accepted the request.
+pub fn accepts(owner: &mut Owner<Sum>, lane: &Lane<Sum>, request: u64) -> bool
+    requires { owner.old.lane ≡ known lane.now }
+    ensures { owner.new.lane ≡ owner.old.lane }
+{
+    owner.send(lane, request).is_ok()
+}
+
+/// The next answer, if there is one.
+pub fn collected(owner: &mut Owner<Sum>, lane: &Lane<Sum>) -> Option<u64>
+    requires { owner.old.lane ≡ known lane.now }
+    ensures { owner.new.lane ≡ owner.old.lane }
+{
+    owner.collect(lane).map(|given| given.answer)
+}
