@@ -1,5 +1,5 @@
 //! The rule of the pool's queue, and what its steps tell: each server that was handed in stands once, in the queue or with one pass.
-ghost use Rattle.std.specs.Prelude.{◌≡◌, ◌+◌, ◌-◌, ◌≤◌, ◌++◌, [], ◌∷◌, length, map, List};
+ghost use Rattle.std.specs.Prelude.{◌≡◌, ◌+◌, ◌-◌, ◌≤◌, ◌++◌, [], ◌∷◌, false, length, map, List};
 ghost use Rattle.std.specs.List.Sorted.{IsPermutation};
 ghost use Rattle.aa_pool.specs.Once.{hand, all_parts, StandsOnce};
 
@@ -61,11 +61,11 @@ impl<T: Serving> Lesson<T, Hand<T::Place>> for Takes {
     ghost fact = { λ v items. Unit {0} };
 }
 
-// A worker puts back what it took last.
+// A worker puts back what it took last, which isn't settled.
 pub struct Puts;
 
 impl<T: Serving> Outcome<T, Hand<T::Place>> for Puts {
-    ghost then = { λ v x w. (held : List T.Place) → v.held ≡ held ++ T.place x ∷ [] → w ≡ hand v.parts v.handed held };
+    ghost then = { λ v x w. (T.is_settled x ≡ false) × ((held : List T.Place) → v.held ≡ held ++ T.place x ∷ [] → w ≡ hand v.parts v.handed held) };
 }
 
 impl<T: Serving> Lesson<T, Hand<T::Place>> for Puts {
