@@ -22,21 +22,22 @@ fn filled(alloc: Global, byte: u8, len: usize) -> Result<Vec<u8>, AllocError> {
     vec![in alloc; byte; len]
 }
 
+fn extend(whole: &mut Vec<u8>, text: &[u8]) -> Result<(), AllocError> {
+    whole.extend_from_slice(text)
+}
+
 /// As many times the same text.
 fn repeated(alloc: Global, text: &[u8], times: u32) -> Result<Vec<u8>, AllocError> {
     let mut whole = Vec::new(alloc);
     for _ in 0..times {
-        whole.extend_from_slice(text)?;
+        extend(&mut whole, text)?;
     }
     Ok(whole)
 }
 
 /// The fault with which a source is refused, if it is.
 fn refusal_of(sources: &mut Sources, name: &[u8], text: &[u8]) -> Option<PolicyFault> {
-    match add(sources, name, text) {
-        Ok(()) => None,
-        Err(fault) => Some(fault),
-    }
+    add(sources, name, text).err()
 }
 
 #[test]
@@ -113,12 +114,18 @@ fn add_empty(alloc: Global, sources: &mut Sources, number: u32) -> Result<(), Po
     add(sources, name.as_bytes(), b"".as_slice())
 }
 
-/// Sources a1, a2, .. of which each includes the next one twice, down to an empty one.
-fn doubling(alloc: Global, levels: u32) -> Result<Sources, PolicyFault> {
+/// Sources a1, a2, .. of which each includes the next one twice, which is missing behind the last.
+fn doubling_chain(alloc: Global, levels: u32) -> Result<Sources, PolicyFault> {
     let mut sources = Sources::new(alloc);
     for number in 1..levels {
         add_doubling(alloc, &mut sources, number)?;
     }
+    Ok(sources)
+}
+
+/// Sources a1, a2, .. of which each includes the next one twice, down to an empty one.
+fn doubling(alloc: Global, levels: u32) -> Result<Sources, PolicyFault> {
+    let mut sources = doubling_chain(alloc, levels)?;
     add_empty(alloc, &mut sources, levels)?;
     Ok(sources)
 }

@@ -15,7 +15,7 @@ pub(crate) type Spliced<'e> = (WordKind, &'e str, u32, u16, u32);
 pub(crate) type Refused<'e> = (&'e str, &'e str);
 
 /// The words of a text and of what it includes.
-pub(crate) fn read<'s>(
+fn read<'s>(
     alloc: Global,
     sources: &'s Sources,
     main: &'s [u8],
@@ -53,22 +53,29 @@ pub(crate) fn end_of(alloc: Global, sources: &Sources, main: &[u8]) -> Option<Sp
     }
 }
 
-/// The kind of the second word of a text that has two.
-pub(crate) fn second_of_two(alloc: Global, text: &str) -> Option<WordKind> {
-    let sources = Sources::new(alloc);
-    let found = read(alloc, &sources, text.as_bytes()).ok()?;
+/// The words of a text that has two.
+pub(crate) fn two_words<'s>(
+    alloc: Global,
+    sources: &'s Sources,
+    main: &'s [u8],
+) -> Option<(Word<'s>, Word<'s>)> {
+    let found = read(alloc, sources, main).ok()?;
     match found.list.as_slice() {
-        [_, second] => Some(second.kind),
+        [first, second] => Some((*first, *second)),
         _ => None,
     }
 }
 
+/// The kind of the second word of a text that has two.
+pub(crate) fn second_of_two(alloc: Global, text: &str) -> Option<WordKind> {
+    let sources = Sources::new(alloc);
+    let (_, second) = two_words(alloc, &sources, text.as_bytes())?;
+    Some(second.kind)
+}
+
 /// The fault for which a text is refused, if it is.
 pub(crate) fn fault_of(alloc: Global, sources: &Sources, main: &[u8]) -> Option<PolicyFault> {
-    match read(alloc, sources, main) {
-        Ok(_) => None,
-        Err(fault) => Some(fault),
-    }
+    read(alloc, sources, main).err()
 }
 
 /// The line of the fault for which a text is refused, or that it is accepted.
@@ -141,6 +148,18 @@ pub(crate) fn expect_kinds(
     Ok(())
 }
 
+fn expect_line(
+    rt: &impl Abort,
+    alloc: Global,
+    sources: &Sources,
+    main: &str,
+    expected: &str,
+) -> Result<(), Fail> {
+    let line = line_of(alloc, sources, main)?;
+    assert_eq!(rt; line.as_str(), expected, "in {main}");
+    Ok(())
+}
+
 /// Each text is refused with the line beside it.
 pub(crate) fn expect_refused(rt: &impl Abort, alloc: Global, rows: &[Refused]) -> Result<(), Fail> {
     expect_splice_refused(rt, alloc, [].as_slice(), rows)
@@ -155,8 +174,7 @@ pub(crate) fn expect_same_refusal(
 ) -> Result<(), Fail> {
     let sources = Sources::new(alloc);
     for text in texts {
-        let line = line_of(alloc, &sources, text)?;
-        assert_eq!(rt; line.as_str(), expected, "in {text}");
+        expect_line(rt, alloc, &sources, text, expected)?;
     }
     Ok(())
 }
@@ -184,8 +202,7 @@ pub(crate) fn expect_splice_refused(
 ) -> Result<(), Fail> {
     let sources = sources_of(alloc, texts)?;
     for (main, expected) in rows {
-        let line = line_of(alloc, &sources, main)?;
-        assert_eq!(rt; line.as_str(), *expected, "in {main}");
+        expect_line(rt, alloc, &sources, main, expected)?;
     }
     Ok(())
 }

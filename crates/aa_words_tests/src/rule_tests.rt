@@ -24,25 +24,9 @@ fn rules_that_are_passed_over_are_words(rt: HostRuntime) -> Result<(), Fail> {
         "io_uring",
         "change_profile",
     ];
-    let skipped = [WordKind::Skipped, WordKind::Comma];
-    let behind = [
-        WordKind::Name,
-        WordKind::Name,
-        WordKind::Skipped,
-        WordKind::Comma,
-    ];
-    let names = [WordKind::Name, WordKind::Name];
     expect_same_refusal(&rt, alloc, keywords.as_slice(), "refused 4 Syntax 0:0")?;
     for keyword in keywords {
-        expect_kinds_around(&rt, alloc, ["", keyword, ","], skipped.as_slice())?;
-        expect_kinds_around(
-            &rt,
-            alloc,
-            ["audit deny ", keyword, " a,"],
-            behind.as_slice(),
-        )?;
-        expect_kinds_around(&rt, alloc, ["owner ", keyword, ""], names.as_slice())?;
-        expect_kinds_longer(&rt, alloc, keyword, names.as_slice())?;
+        expect_keyword(&rt, alloc, keyword)?;
     }
     let expected = [
         (WordKind::Name, "profile", 0, 7),
@@ -100,6 +84,28 @@ fn expect_kinds_longer(
 ) -> Result<(), Fail> {
     let text = format!(in alloc; "{keyword}s {keyword}")?;
     expect_kinds(rt, alloc, [text.as_str()].as_slice(), kinds)
+}
+
+/// A rule that is passed over begins with the keyword, also behind qualifiers, but not behind `owner`, and not where more
+/// letters stand behind the keyword.
+fn expect_keyword(rt: &impl Abort, alloc: Global, keyword: &str) -> Result<(), Fail> {
+    let skipped = [WordKind::Skipped, WordKind::Comma];
+    let behind = [
+        WordKind::Name,
+        WordKind::Name,
+        WordKind::Skipped,
+        WordKind::Comma,
+    ];
+    let names = [WordKind::Name, WordKind::Name];
+    expect_kinds_around(rt, alloc, ["", keyword, ","], skipped.as_slice())?;
+    expect_kinds_around(
+        rt,
+        alloc,
+        ["audit deny ", keyword, " a,"],
+        behind.as_slice(),
+    )?;
+    expect_kinds_around(rt, alloc, ["owner ", keyword, ""], names.as_slice())?;
+    expect_kinds_longer(rt, alloc, keyword, names.as_slice())
 }
 
 /// One rule that is passed over, and the comma that ends it at the text's end.
