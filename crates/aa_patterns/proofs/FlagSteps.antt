@@ -52,6 +52,17 @@ skips_at h item text old first simple shows le none = (
     at_end a [] e m part = ((allows_part item [] simple).0 part, subst (Matches h) (sym (e ∙ append-nil a)) m)
     at_end a (x ∷ b) e m part = let s = cut_set h a (x ∷ b) text old first shows le e m in absurd (true≢false (sym s.1 ∙ none (length a) (omega (arith, s.0))))
 
+-- what holds of each flag before i, and of the one that is put there
+pub up_to : (P : ℕ → Bool → Type 0) (flags : List Bool) (i : ℕ) (v : Bool) → i < length flags →
+    ((k : ℕ) → k < i → P k (get_or flags k false)) → P i v → (k : ℕ) → k ≤ i → P k (get_or (set flags i v) k false)
+up_to P flags i v long below here k le =
+    ⊎_elim
+    (λ (less : k < i). subst (P k) (sym (get_or-set_other flags i k v false (omega arith))) (below k less))
+    (λ (more : i ≤ k).
+    let k_is : k ≡ i = omega arith in
+    subst (λ n. P n (get_or (set flags i v) n false)) (sym k_is) (subst (P i) (sym (get_or-set_same flags i v false long)) here))
+    (cases_lt k i)
+
 -- the flags up to i are those behind the item, the later ones still those before it
 pub record IsAt (item : Item) (text : List ℕ) (old new : List Bool) (before : Bool) (i : ℕ) : Type 0 where
   pub before_is : before ≡ get_or old i false
@@ -64,22 +75,15 @@ pub begins_at : (item : Item) (text : List ℕ) (old : List Bool) (before v : Bo
 begins_at item text old before v first simple le long none e same = record {
   before_is = e;
   later = λ j lt. get_or-set_other old first j v false (omega arith);
-  done = λ h shows j lj. ⊎_elim
-      (λ (less : j < first). (
-        λ t. absurd (true≢false (sym t ∙ get_or-set_other old first j v false (omega arith) ∙ none j less)),
-        λ m. absurd (none_yet h (item ∷ []) text old j shows (omega arith) (λ k lk. none k (omega arith)) m),
-      ))
-      (λ (more : first ≤ j).
-      let j_is : j ≡ first = omega arith in
+  done = λ h shows.
       let skips = skips_at h item text old first simple shows le none in
       let here : IsTrue before ↔ Matches h (take first text) = subst (λ b. IsTrue b ↔ Matches h (take first text)) (sym e) (shows.at first le) in
-      let now : IsTrue v ↔ Matches (h ++ item ∷ []) (take first text) = (
-        λ t. let p = same.0 t in skips.1 (p.1, here.0 p.0),
-        λ m. let p = skips.0 m in same.1 (here.1 p.1, p.0),
-      ) in
-      subst (λ k. IsTrue (get_or (set old first v) k false) ↔ Matches (h ++ item ∷ []) (take k text)) (sym j_is)
-      (subst (λ b. IsTrue b ↔ Matches (h ++ item ∷ []) (take first text)) (sym (get_or-set_same old first v false (omega arith))) now))
-      (cases_lt j first);
+      up_to (λ j b. IsTrue b ↔ Matches (h ++ item ∷ []) (take j text)) old first v (omega arith)
+      (λ j less. (
+        λ t. absurd (true≢false (sym t ∙ none j less)),
+        λ m. absurd (none_yet h (item ∷ []) text old j shows (omega arith) (λ k lk. none k (omega arith)) m),
+      ))
+      (λ t. let p = same.0 t in skips.1 (p.1, here.0 p.0), λ m. let p = skips.0 m in same.1 (here.1 p.1, p.0));
 }
 
 pub grows_same : (i : Item) (b : ℕ) {P Q R P' Q' R' : Type 0} → (P ↔ P') → (Q ↔ Q') → (R ↔ R') → Grows i b P Q R ↔ Grows i b P' Q' R'
@@ -94,19 +98,13 @@ pub goes_at : (item : Item) (text : List ℕ) (old new : List Bool) (before here
 goes_at item text old new before here v i simple lt long e same at = record {
   before_is = e ∙ at.later (i + 1) (omega arith);
   later = λ j h. get_or-set_other new (i + 1) j v false (omega arith) ∙ at.later j (omega arith);
-  done = λ h shows j le. ⊎_elim
-      (λ (less : j < i + 1). subst (λ b. IsTrue b ↔ Matches (h ++ item ∷ []) (take j text)) (sym (get_or-set_other new (i + 1) j v false (omega arith))) (at.done h shows j (omega arith)))
-      (λ (more : i + 1 ≤ j).
-      let j_is : j ≡ i + 1 = omega arith in
+  done = λ h shows.
       let now : IsTrue here ↔ Matches h (take i text ++ get_or text i 0 ∷ []) =
       subst (λ s. IsTrue here ↔ Matches h s) (take_more text i 0 lt) (subst (λ b. IsTrue b ↔ Matches h (take (i + 1) text)) (sym (e ∙ at.later (i + 1) (omega arith))) (shows.at (i + 1) (omega arith))) in
       let was : IsTrue before ↔ Matches h (take i text) = subst (λ b. IsTrue b ↔ Matches h (take i text)) (sym at.before_is) (shows.at i (omega arith)) in
-      let step : IsTrue v ↔ Matches (h ++ item ∷ []) (take (i + 1) text) =
-      subst (λ s. IsTrue v ↔ Matches (h ++ item ∷ []) s) (sym (take_more text i 0 lt))
-      (↔_trans same (↔_trans (grows_same item (get_or text i 0) now was (at.done h shows i (omega arith))) (↔_sym (Matches-grow h item (take i text) (get_or text i 0) simple)))) in
-      subst (λ k. IsTrue (get_or (set new (i + 1) v) k false) ↔ Matches (h ++ item ∷ []) (take k text)) (sym j_is)
-      (subst (λ b. IsTrue b ↔ Matches (h ++ item ∷ []) (take (i + 1) text)) (sym (get_or-set_same new (i + 1) v false (omega arith))) step))
-      (cases_lt j (i + 1));
+      up_to (λ j b. IsTrue b ↔ Matches (h ++ item ∷ []) (take j text)) new (i + 1) v (omega arith) (λ j less. at.done h shows j (omega arith))
+      (subst (λ s. IsTrue v ↔ Matches (h ++ item ∷ []) s) (sym (take_more text i 0 lt))
+      (↔_trans same (↔_trans (grows_same item (get_or text i 0) now was (at.done h shows i (omega arith))) (↔_sym (Matches-grow h item (take i text) (get_or text i 0) simple)))));
 }
 
 pub follows_at : (item : Item) (text : List ℕ) (old new : List Bool) (before : Bool) (i : ℕ) → length text ≤ i → IsAt item text old new before i → Follows (item ∷ []) text old new

@@ -1,6 +1,5 @@
 -- Flags over the gaps between items, one item and one byte on.
-use Rattle.std.proofs.Common.{◌≡◌, ℕ, ◌+◌, ◌<◌, ◌≤◌, ◌↔◌, Bool, false, List, [], ◌∷◌, ◌++◌, All, length, take, set, get_or, IsTrue, sym, ◌∙◌, subst, ⊎_elim, arith, get_or-set_other, get_or-set_same}
-use Rattle.std.proofs.lemmas.Bool.{cases_lt}
+use Rattle.std.proofs.Common.{◌≡◌, ℕ, ◌+◌, ◌<◌, ◌≤◌, ◌↔◌, Bool, false, List, [], ◌∷◌, ◌++◌, All, length, take, set, get_or, IsTrue, sym, ◌∙◌, subst, arith, get_or-set_other}
 use Rattle.std.proofs.lemmas.List.{take_more}
 use Rattle.std.proofs.lemmas.List.Elements.{All-get_or}
 use Rattle.aa_items.specs.declared.item.Item.{Item}
@@ -9,28 +8,19 @@ use Rattle.aa_items.specs.Steps.{IsSimple, IsSkippable}
 use Rattle.aa_patterns.specs.Flags.{StandsIn, Grows}
 use Rattle.aa_patterns.proofs.Equivalences.{↔_trans, ↔_sym}
 use Rattle.aa_patterns.proofs.Texts.{Matches-skip, Matches-grow}
-use Rattle.aa_patterns.proofs.FlagSteps.{grows_same}
+use Rattle.aa_patterns.proofs.FlagSteps.{grows_same, up_to}
 
 -- the empty text, one item on
 pub begins_gap : (items : List Item) (gaps : List Bool) (i : ℕ) (d : Item) (v : Bool) → All IsSimple items → i < length items → i + 1 < length gaps →
     (IsTrue v ↔ (IsTrue (get_or gaps i false) × IsSkippable (get_or items i d))) →
     ((g : ℕ) → g ≤ i → IsTrue (get_or gaps g false) ↔ Matches (take g items) []) →
     (g : ℕ) → g ≤ i + 1 → IsTrue (get_or (set gaps (i + 1) v) g false) ↔ Matches (take g items) []
-begins_gap items gaps i d v all lt long same done g le =
-    ⊎_elim
-    (λ (less : g < i + 1). subst (λ b. IsTrue b ↔ Matches (take g items) []) (sym (get_or-set_other gaps (i + 1) g v false (omega arith))) (done g (omega arith)))
-    (λ (more : i + 1 ≤ g).
-    let g_is : g ≡ i + 1 = omega arith in
+begins_gap items gaps i d v all lt long same done =
     let here = done i (omega arith) in
     let skip = Matches-skip (take i items) (get_or items i d) (All-get_or IsSimple items i d lt all) in
-    let now : IsTrue v ↔ Matches (take i items ++ get_or items i d ∷ []) [] = (
-      λ t. let p = same.0 t in skip.1 (p.1, here.0 p.0),
-      λ m. let p = skip.0 m in same.1 (here.1 p.1, p.0),
-    ) in
-    subst (λ k. IsTrue (get_or (set gaps (i + 1) v) k false) ↔ Matches (take k items) []) (sym g_is)
-    (subst (λ b. IsTrue b ↔ Matches (take (i + 1) items) []) (sym (get_or-set_same gaps (i + 1) v false long))
-    (subst (λ xs. IsTrue v ↔ Matches xs []) (sym (take_more items i d lt)) now)))
-    (cases_lt g (i + 1))
+    up_to (λ g b. IsTrue b ↔ Matches (take g items) []) gaps (i + 1) v long (λ g less. done g (omega arith))
+    (subst (λ xs. IsTrue v ↔ Matches xs []) (sym (take_more items i d lt))
+    (λ t. let p = same.0 t in skip.1 (p.1, here.0 p.0), λ m. let p = skip.0 m in same.1 (here.1 p.1, p.0)))
 
 -- the flags up to the gap i are those behind the byte, the later ones still those before it
 pub record IsOnto (items : List Item) (byte : ℕ) (old new : List Bool) (before : Bool) (i : ℕ) : Type 0 where
@@ -44,20 +34,13 @@ pub onto_next : (items : List Item) (byte : ℕ) (old new : List Bool) (before v
 onto_next items byte old new before v i d all lt long same on = record {
   before_is = on.later (i + 1) (omega arith);
   later = λ j h. get_or-set_other new (i + 1) j v false (omega arith) ∙ on.later j (omega arith);
-  done = λ text stands g le.
-      ⊎_elim
-      (λ (less : g < i + 1). subst (λ b. IsTrue b ↔ Matches (take g items) (text ++ byte ∷ [])) (sym (get_or-set_other new (i + 1) g v false (omega arith))) (on.done text stands g (omega arith)))
-      (λ (more : i + 1 ≤ g).
-      let g_is : g ≡ i + 1 = omega arith in
+  done = λ text stands.
       let item = get_or items i d in
       let was : IsTrue before ↔ Matches (take i items) text = subst (λ b. IsTrue b ↔ Matches (take i items) text) (sym on.before_is) (stands.at i (omega arith)) in
       let next : IsTrue (get_or new (i + 1) false) ↔ Matches (take i items ++ item ∷ []) text =
       subst (λ xs. IsTrue (get_or new (i + 1) false) ↔ Matches xs text) (take_more items i d lt)
       (subst (λ b. IsTrue b ↔ Matches (take (i + 1) items) text) (sym (on.later (i + 1) (omega arith))) (stands.at (i + 1) (omega arith))) in
-      let now : IsTrue v ↔ Matches (take (i + 1) items) (text ++ byte ∷ []) =
-      subst (λ xs. IsTrue v ↔ Matches xs (text ++ byte ∷ [])) (sym (take_more items i d lt))
-      (↔_trans same (↔_trans (grows_same item byte (on.done text stands i (omega arith)) was next) (↔_sym (Matches-grow (take i items) item text byte (All-get_or IsSimple items i d lt all))))) in
-      subst (λ k. IsTrue (get_or (set new (i + 1) v) k false) ↔ Matches (take k items) (text ++ byte ∷ [])) (sym g_is)
-      (subst (λ b. IsTrue b ↔ Matches (take (i + 1) items) (text ++ byte ∷ [])) (sym (get_or-set_same new (i + 1) v false long)) now))
-      (cases_lt g (i + 1));
+      up_to (λ g b. IsTrue b ↔ Matches (take g items) (text ++ byte ∷ [])) new (i + 1) v long (λ g less. on.done text stands g (omega arith))
+      (subst (λ xs. IsTrue v ↔ Matches xs (text ++ byte ∷ [])) (sym (take_more items i d lt))
+      (↔_trans same (↔_trans (grows_same item byte (on.done text stands i (omega arith)) was next) (↔_sym (Matches-grow (take i items) item text byte (All-get_or IsSimple items i d lt all))))));
 }
