@@ -1,8 +1,11 @@
 //! A lane of any machine and its three ends on one thread, and steps of them as plain data.
-ghost use Rattle.std.specs.Prelude.{◌≡◌};
+ghost use Rattle.std.specs.Prelude.{◌≡◌, IfOk};
 ghost use Rattle.aa_lane.specs.Ends.{known};
 
-use aa_lane::{Answered, Ends, Lane, Machine, Owner, SendFault, Served, Server, Shutter, Unsent};
+use aa_lane::{
+    Answered, Ends, Lane, LaneFault, Machine, Owner, SendFault, Served, Server, Shutter, Unsent,
+};
+use std::alloc::Global;
 
 /// What is done at a lane, with the number that a request is.
 #[derive(Clone, Copy, PartialEq, Eq, Debug)]
@@ -129,6 +132,19 @@ impl<'l, 'm, M: Machine> Bench<'l, 'm, M> {
             shutter,
         }
     }
+}
+
+/// A lane and its ends.
+pub fn open<'m, M: Machine>(
+    alloc: Global,
+    machine: &'m M,
+    tag: u32,
+    capacity: u32,
+    start: M::State,
+) -> Result<(Lane<'m, M>, Owner<M>, Server<M>, Shutter<M>), LaneFault>
+    ensures { IfOk result (λ r. (r.1.lane ≡ known r.0) × (r.2.lane ≡ known r.0) × (r.3.lane ≡ known r.0)) }
+{
+    Lane::new(alloc, machine, tag, capacity, start)
 }
 
 /// The server after one service, and what came of it.

@@ -2,7 +2,7 @@
 ghost use Rattle.std.specs.Prelude.{◌≡◌, ◌<◌};
 ghost use Rattle.aa_lane.specs.Ends.{known};
 
-use crate::bench::{Bench, Outcome, Step, closed};
+use crate::bench::{Bench, Outcome, Step, closed, open};
 use crate::sum::{Happening, Said, Sum};
 use crate::worlds::apply;
 use aa_lane::SendFault::{Closed, Full};
@@ -82,7 +82,7 @@ fn totals(
     rows: &[(Step, Outcome)],
 ) -> Result<[u64; 4], LaneFault> {
     let sum = Sum;
-    let (lane, owner, server, shutter) = Lane::new(alloc, &sum, 7, capacity, start)?;
+    let (lane, owner, server, shutter) = open(alloc, &sum, 7, capacity, start)?;
     let bench = plays(rt, Bench::of(&lane, owner, server, shutter), rows);
     let ends = bench.leaves();
     Ok(closed(lane, ends))
@@ -151,7 +151,7 @@ fn tags_of(owner: &Owner<Sum>, server: &Server<Sum>, shutter: &Shutter<Sum>) -> 
 #[test]
 fn tags(rt: HostRuntime) -> Result<(), Fail> {
     let sum = Sum;
-    let (lane, owner, server, shutter) = Lane::new(rt.alloc(), &sum, 7, 1, 0)?;
+    let (lane, owner, server, shutter) = open(rt.alloc(), &sum, 7, 1, 0)?;
     let (bench, outcome) = does(Bench::of(&lane, owner, server, shutter), Step::Send(3));
     assert_eq!(rt; outcome, Outcome::Sent(0));
     assert_eq!(rt; lane.tag(), 7);
@@ -168,7 +168,7 @@ fn tags(rt: HostRuntime) -> Result<(), Fail> {
 #[test]
 fn the_sum_from_five_with_one_place(rt: HostRuntime) -> Result<(), Fail> {
     let sum = Sum;
-    let (lane, owner, server, shutter) = Lane::new(rt.alloc(), &sum, 7, 1, 5)?;
+    let (lane, owner, server, shutter) = open(rt.alloc(), &sum, 7, 1, 5)?;
     let bench = plays(
         &rt,
         Bench::of(&lane, owner, server, shutter),
@@ -228,10 +228,20 @@ fn given(lane: &Lane<Sum>, leaver: &mut Leaver<Sum>) -> Outcome
     }
 }
 
+// How many requests the leaver says were accepted, and what its next two looks find.
+fn looks(lane: &Lane<Sum>, leaver: &mut Leaver<Sum>) -> (u64, [Outcome; 2])
+    requires { leaver.old.lane ≡ known lane.now }
+    ensures { leaver.new.lane ≡ leaver.old.lane }
+{
+    let accepted = leaver.accepted();
+    let first = given(lane, leaver);
+    (accepted, [first, given(lane, leaver)])
+}
+
 #[test]
 fn exit_at_once(rt: HostRuntime) -> Result<(), Fail> {
     let sum = Sum;
-    let (lane, owner, server, shutter) = Lane::new(rt.alloc(), &sum, 7, 2, 5)?;
+    let (lane, owner, server, shutter) = open(rt.alloc(), &sum, 7, 2, 5)?;
     let mut ends = Bench::of(&lane, owner, server, shutter).leaves();
     assert_eq!(rt; ends.owner.accepted(), 0);
     let Taken::Settled(server) = ends.server.take(&lane) else {
@@ -246,7 +256,7 @@ fn exit_at_once(rt: HostRuntime) -> Result<(), Fail> {
 #[test]
 fn a_leaver_collects_what_is_left(rt: HostRuntime) -> Result<(), Fail> {
     let sum = Sum;
-    let (lane, owner, server, shutter) = Lane::new(rt.alloc(), &sum, 7, 2, 5)?;
+    let (lane, owner, server, shutter) = open(rt.alloc(), &sum, 7, 2, 5)?;
     let bench = plays(
         &rt,
         Bench::of(&lane, owner, server, shutter),
@@ -257,9 +267,10 @@ fn a_leaver_collects_what_is_left(rt: HostRuntime) -> Result<(), Fail> {
         ],
     );
     let mut ends = bench.leaves();
-    assert_eq!(rt; ends.owner.accepted(), 2);
-    assert_eq!(rt; given(&lane, &mut ends.owner), Outcome::Got(0, 3, 8));
-    assert_eq!(rt; given(&lane, &mut ends.owner), Outcome::Nothing);
+    assert_eq!(rt;
+        looks(&lane, &mut ends.owner),
+        (2, [Outcome::Got(0, 3, 8), Outcome::Nothing])
+    );
     assert_eq!(rt; closed(lane, ends), [2, 1, 1, 8]);
     Ok(())
 }
@@ -344,7 +355,7 @@ fn shut_at(rt: &impl Abort, alloc: Global, place: usize) -> Result<(), LaneFault
 {
     let sum = Sum;
     let mut world = World::new(alloc, &sum, 2, 0)?;
-    let (lane, owner, server, shutter) = Lane::new(alloc, &sum, 7, 2, 0)?;
+    let (lane, owner, server, shutter) = open(alloc, &sum, 7, 2, 0)?;
     let mut ends = shut_after(
         rt,
         Bench::of(&lane, owner, server, shutter),
@@ -418,7 +429,7 @@ fn rounds(rt: &impl Abort, bench: Bench<Sum>, world: &mut World<Sum>, counts: &[
 fn five_thousand_requests_through_the_largest_lane(rt: HostRuntime) -> Result<(), Fail> {
     let sum = Sum;
     let mut world = World::new(rt.alloc(), &sum, 1024, 0)?;
-    let (lane, owner, server, shutter) = Lane::new(rt.alloc(), &sum, 7, 1024, 0)?;
+    let (lane, owner, server, shutter) = open(rt.alloc(), &sum, 7, 1024, 0)?;
     let bench = Bench::of(&lane, owner, server, shutter);
     let ends = rounds(&rt, bench, &mut world, &[1024, 1024, 1024, 1024, 904]);
     assert_eq!(rt; closed(lane, ends), [5000, 5000, 5000, 500]);
@@ -458,7 +469,7 @@ fn wanders(rt: &impl Abort, bench: Bench<Sum>, world: &mut World<Sum>, seed: u64
 fn wanders_at(rt: &impl Abort, alloc: Global, capacity: u32, seed: u64) -> Result<(), LaneFault> {
     let sum = Sum;
     let mut world = World::new(alloc, &sum, capacity, 5)?;
-    let (lane, owner, server, shutter) = Lane::new(alloc, &sum, 7, capacity, 5)?;
+    let (lane, owner, server, shutter) = open(alloc, &sum, 7, capacity, 5)?;
     let ends = wanders(
         rt,
         Bench::of(&lane, owner, server, shutter),

@@ -2,13 +2,14 @@
 ghost use Rattle.std.specs.Prelude.{◌≡◌};
 ghost use Rattle.aa_lane.specs.Ends.{known};
 
-use crate::bench::{Bench, Outcome, Step, closed, served};
+use crate::bench::{Bench, Outcome, Step, closed, open, served};
 use crate::scales::{Held, Scales, a_parcel, a_thing, collected, owners, plays, sent};
 use crate::sum::{Happening, Said, Sum};
 use crate::worlds::apply;
 use aa_lane::SendFault::Full;
 use aa_lane::{
-    Event, Lane, LaneFault, NoMemory, Reply, Server, Shutter, Taken, Unapplied, World, replay,
+    Event, Lane, LaneFault, NoMemory, Owner, Reply, Server, Shutter, Taken, Unapplied, World,
+    replay,
 };
 use std::alloc::Global;
 use std::collections::VecDeque;
@@ -19,7 +20,7 @@ use std::test::Fail;
 fn each_request_and_answer_is_dropped_once(rt: HostRuntime) -> Result<(), Fail> {
     let scales = Scales;
     let held = a_thing(rt.alloc());
-    let (lane, owner, server, shutter) = Lane::new(rt.alloc(), &scales, 0, 2, 0)?;
+    let (lane, owner, server, shutter) = open(rt.alloc(), &scales, 0, 2, 0)?;
     let rows = [
         (Step::Send(1), Outcome::Sent(0), [2, 2]),
         (Step::Send(2), Outcome::Sent(1), [3, 3]),
@@ -37,7 +38,7 @@ fn each_request_and_answer_is_dropped_once(rt: HostRuntime) -> Result<(), Fail> 
 fn a_close_drops_what_is_left(rt: HostRuntime) -> Result<(), Fail> {
     let scales = Scales;
     let held = a_thing(rt.alloc());
-    let (lane, owner, server, shutter) = Lane::new(rt.alloc(), &scales, 0, 2, 0)?;
+    let (lane, owner, server, shutter) = open(rt.alloc(), &scales, 0, 2, 0)?;
     let rows = [(Step::Send(7), Outcome::Sent(0), [2, 2])];
     let bench = plays(&rt, Bench::of(&lane, owner, server, shutter), &held, &rows);
     let ends = bench.leaves();
@@ -56,18 +57,29 @@ fn taken_and_dropped(rt: &impl Abort, lane: &Lane<Scales>, server: Server<Scales
     }
 }
 
+// What a second parcel, a look for an answer and a third parcel come to.
+fn goes_on(lane: &Lane<Scales>, owner: &mut Owner<Scales>, held: &Held) -> [Outcome; 3]
+    requires { owner.old.lane ≡ known lane.now }
+    ensures { owner.new.lane ≡ owner.old.lane }
+{
+    let second = sent(lane, owner, 8, held);
+    let given = collected(lane, owner);
+    [second, given, sent(lane, owner, 9, held)]
+}
+
 #[test]
 fn a_server_dropped_with_a_request_in_hand(rt: HostRuntime) -> Result<(), Fail> {
     let scales = Scales;
     let held = a_thing(rt.alloc());
-    let (lane, owner, server, shutter) = Lane::new(rt.alloc(), &scales, 0, 2, 0)?;
+    let (lane, owner, server, shutter) = open(rt.alloc(), &scales, 0, 2, 0)?;
     let mut owner = owner;
     assert_eq!(rt; sent(&lane, &mut owner, 7, &held), Outcome::Sent(0));
     assert_eq!(rt; taken_and_dropped(&rt, &lane, server), 7);
     assert_eq!(rt; owners(&held), 1);
-    assert_eq!(rt; sent(&lane, &mut owner, 8, &held), Outcome::Sent(1));
-    assert_eq!(rt; collected(&lane, &mut owner), Outcome::Nothing);
-    assert_eq!(rt; sent(&lane, &mut owner, 9, &held), Outcome::Unsent(Full, 9));
+    assert_eq!(rt;
+        goes_on(&lane, &mut owner, &held),
+        [Outcome::Sent(1), Outcome::Nothing, Outcome::Unsent(Full, 9)]
+    );
     assert_eq!(rt; owners(&held), 2);
     drop((lane, owner, shutter));
     assert_eq!(rt; owners(&held), 1);
@@ -95,7 +107,7 @@ fn shut_and_served(
 fn an_owner_dropped_with_requests_on_their_way(rt: HostRuntime) -> Result<(), Fail> {
     let scales = Scales;
     let held = a_thing(rt.alloc());
-    let (lane, owner, server, shutter) = Lane::new(rt.alloc(), &scales, 0, 2, 0)?;
+    let (lane, owner, server, shutter) = open(rt.alloc(), &scales, 0, 2, 0)?;
     let mut owner = owner;
     assert_eq!(rt; sent(&lane, &mut owner, 7, &held), Outcome::Sent(0));
     drop(owner);

@@ -3,6 +3,7 @@ ghost use Rattle.aa_lane.specs.Ends.{LaneId, known};
 ghost use Rattle.aa_lane_tests.specs.declared.sum.Sum.{Sum};
 ghost use Rattle.std.specs.Prelude.{◌≡◌, ℕ};
 
+use crate::bench::open;
 use crate::sum::Sum;
 use aa_lane::SendFault::Closed;
 use aa_lane::{Ends, Lane, Owner, Served, Server, Shutter, Totals};
@@ -179,7 +180,7 @@ fn feed_and_serve<R: Threads + Wait + Sync, L: Worked + Sync>(
 fn an_owner_and_a_server_on_two_threads(rt: HostRuntime) -> Result<(), Fail> {
     let sum = Sum;
     for capacity in [1, 3, 1024] {
-        let (lane, owner, server, shutter) = Lane::new(rt.alloc(), &sum, 7, capacity, 0)?;
+        let (lane, owner, server, shutter) = open(rt.alloc(), &sum, 7, capacity, 0)?;
         let ((owner, fed), server) = feed_and_serve(&rt, &lane, owner, server, 10000);
         assert_eq!(rt;
             fed,
@@ -339,8 +340,8 @@ fn closes(
 #[test]
 fn two_owners_while_another_thread_shuts_one_lane(rt: HostRuntime) -> Result<(), Fail> {
     let sum = Sum;
-    let (first, owner, server, shutter) = Lane::new(rt.alloc(), &sum, 0, 3, 0)?;
-    let (second, other_owner, other_server, other_shutter) = Lane::new(rt.alloc(), &sum, 1, 3, 0)?;
+    let (first, owner, server, shutter) = open(rt.alloc(), &sum, 0, 3, 0)?;
+    let (second, other_owner, other_server, other_shutter) = open(rt.alloc(), &sum, 1, 3, 0)?;
     let ((fed, other_fed), (servers, shut)) = all_run(
         &rt,
         &first,
