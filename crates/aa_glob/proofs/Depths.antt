@@ -1,20 +1,91 @@
 -- A text comes to the same at each depth that is deep enough.
-use Rattle.std.proofs.Common.{◌≡◌, ◌≢◌, ℕ, zero, suc, ◌+◌, ◌-◌, ◌⊎◌, max, cond, List, length, Result, Err, refl, sym, ap, ◌∙◌, subst, inl, inr, ⊎_elim, arith, lt-ltb}
+use Rattle.std.proofs.Common.{◌≡◌, ◌≢◌, ℕ, zero, suc, ◌≤◌, ◌⊎◌, max, Bool, true, false, cond, List, [], ◌∷◌, length, Option, Some, None, Result, Err, refl, sym, ap, ◌∙◌, inl, inr, arith, lt-ltb}
 use Rattle.std.specs.Prelude.{nat_lt, if◌then◌else◌}
 use Rattle.std.proofs.lemmas.Bool.{cases_lt, le-ltb}
 use Rattle.aa_faults.specs.declared.fault.PolicyKind.{PolicyKind}
-use Rattle.aa_faults.specs.declared.fault.PolicyKind.TheVariants.{VariableCircle, TooManyExpansions}
+use Rattle.aa_faults.specs.declared.fault.PolicyKind.TheVariants.{Unsupported, VariableCircle, TooManyExpansions}
 use Rattle.aa_reader.specs.declared.sign.Token.{Token}
-use Rattle.aa_glob.specs.Pieces.{pieces}
-use Rattle.aa_glob.specs.Variables.{Variable}
-use Rattle.aa_glob.specs.Expansions.{Outcome, Texts, Stops, Deeper, outcome, outcome_of, expansions, Expands, in_walk, in_circle, too_many, as_texts, ExpandsOnce}
-use Rattle.aa_glob.proofs.BuildSteps.{Below, joined_below, outcome_below}
+use Rattle.aa_glob.specs.Pieces.{Piece, Plain, Use, Broken, pieces}
+use Rattle.aa_glob.specs.Variables.{Variable, values_of}
+use Rattle.aa_glob.specs.Expansions.{Outcome, Texts, Stops, Deeper, both, alone, joined, in_turn, of_values, counted, is_reserved, outcome, outcome_of, expansions, Expands, in_walk, in_circle, too_many, as_texts, ExpandsOnce}
 
-below_next : (x y z : Outcome) → Below x y → Below y z → Below x z
-below_next x y z a b = ⊎_elim (λ e. inl e) (λ e. subst (λ w. Below w z) (sym e) b) a
+-- where both come to texts, those that c makes of them
+abbrev pub joins : (List (List ℕ) → List (List ℕ) → List (List ℕ)) → Outcome → Outcome → Outcome
+joins c = both (λ m ts n us. Texts (max m n) (c ts us))
 
-same : (x y : Outcome) → Below x y → x ≢ Deeper → x ≡ y
-same x y b some = ⊎_elim (λ e. absurd (some e)) (λ e. e) b
+-- deeper, an outcome is the same or was none
+abbrev pub Below : Outcome → Outcome → Type 0
+Below x y = (x ≡ Deeper) ⊎ (x ≡ y)
+
+below_joins : (c : List (List ℕ) → List (List ℕ) → List (List ℕ)) (x x' y y' : Outcome) → Below x x' → Below y y' → Below (joins c x y) (joins c x' y')
+below_joins c x x' y y' (inl e) b = inl (ap (λ z. joins c z y) e)
+below_joins c x x' y y' (inr e) (inr g) = inr (ap (λ z. joins c z y) e ∙ ap (joins c x') g)
+below_joins c (Texts m ts) x' y y' (inr e) (inl g) = inl (ap (joins c (Texts m ts)) g)
+below_joins c (Stops fault) x' y y' (inr e) (inl g) = inr (ap (λ z. joins c z y') e)
+below_joins c Deeper x' y y' (inr e) (inl g) = inl refl
+
+below_counted : (x y : Outcome) → Below x y → Below (counted x) (counted y)
+below_counted x y (inl e) = inl (ap counted e)
+below_counted x y (inr e) = inr (ap counted e)
+
+module _ (of other : List ℕ → Outcome) (each : (n : List ℕ) → Below (of n) (other n)) where
+  pub alone_below : (p : Piece) → Below (alone of p) (alone other p)
+  alone_below (Plain b) = inr refl
+  alone_below (Use name) = each name
+  alone_below Broken = inr refl
+
+  joined_below : (ps : List Piece) → Below (joined of ps) (joined other ps)
+  unfolding joined
+  joined_below [] = inr refl
+  joined_below (p ∷ ps) = below_joins _ (alone of p) (alone other p) (joined of ps) (joined other ps) (alone_below p) (joined_below ps)
+
+  in_turn_below : (vs : List (List ℕ)) → Below (in_turn of vs) (in_turn other vs)
+  unfolding in_turn
+  in_turn_below [] = inr refl
+  in_turn_below (v ∷ vs) = below_joins _ (joined of (pieces v)) (joined other (pieces v)) (in_turn of vs) (in_turn other vs) (joined_below (pieces v)) (in_turn_below vs)
+
+  values_below : (b : Bool) (o : Option (List (List ℕ))) → Below (cond b (Stops Unsupported) (of_values of o)) (cond b (Stops Unsupported) (of_values other o))
+  values_below true o = inr refl
+  values_below false None = inr refl
+  values_below false (Some values) = below_counted (in_turn of values) (in_turn other values) (in_turn_below values)
+
+pub outcome_below : (vars : List Variable) (d e : ℕ) → d ≤ e → (name : List ℕ) → Below (outcome d vars name) (outcome e vars name)
+unfolding outcome
+outcome_below vars zero e le name = inl refl
+outcome_below vars (suc d) zero le name = absurd (omega arith)
+outcome_below vars (suc d) (suc e) le name =
+    values_below (outcome d vars) (outcome e vars) (outcome_below vars d e (omega arith)) (is_reserved name) (values_of vars name)
+
+-- outcomes that are each below those of more depth
+module _ (of : ℕ → Outcome) (up : (d e : ℕ) → d ≤ e → Below (of d) (of e)) where
+  same : (d e : ℕ) → d ≤ e → of d ≢ Deeper → of d ≡ of e
+  same d e le some = by (up d e le)
+    where
+      by : Below (of d) (of e) → of d ≡ of e
+      by (inl deeper) = absurd (some deeper)
+      by (inr is) = is
+
+  one_outcome : (d e : ℕ) → of d ≢ Deeper → of e ≢ Deeper → of d ≡ of e
+  one_outcome d e a b = by (cases_lt d e)
+    where
+      by : (suc d ≤ e) ⊎ (e ≤ d) → of d ≡ of e
+      by (inl lt) = same d e (omega arith) a
+      by (inr le) = sym (same e d le b)
+
+  one_texts : (d e m n : ℕ) (ts us : List (List ℕ)) → of d ≡ Texts m ts → of e ≡ Texts n us → Texts m ts ≡ Texts n us
+  one_texts d e m n ts us a b = sym a ∙ one_outcome d e (λ z. absurd (cc (sym a ∙ z))) (λ z. absurd (cc (sym b ∙ z))) ∙ b
+
+pub piece_up : (vars : List Variable) (p : Piece) (d e : ℕ) → d ≤ e → Below (alone (outcome d vars) p) (alone (outcome e vars) p)
+piece_up vars p d e le = alone_below (outcome d vars) (outcome e vars) (outcome_below vars d e le) p
+
+pub pieces_up : (vars : List Variable) (ps : List Piece) (d e : ℕ) → d ≤ e → Below (joined (outcome d vars) ps) (joined (outcome e vars) ps)
+pieces_up vars ps d e le = joined_below (outcome d vars) (outcome e vars) (outcome_below vars d e le) ps
+
+pub same_name : (vars : List Variable) (name : List ℕ) (d e m n : ℕ) (ts us : List (List ℕ)) → outcome d vars name ≡ Texts m ts → outcome e vars name ≡ Texts n us → ts ≡ us
+same_name vars name d e m n ts us a b = let t : Texts m ts ≡ Texts n us = one_texts (λ k. outcome k vars name) (λ j k le. outcome_below vars j k le name) d e m n ts us a b in cc t
+
+pub same_texts : (vars : List Variable) (ps : List Piece) (d e m n : ℕ) (ts us : List (List ℕ)) → joined (outcome d vars) ps ≡ Texts m ts → joined (outcome e vars) ps ≡ Texts n us → ts ≡ us
+same_texts vars ps d e m n ts us a b = let t : Texts m ts ≡ Texts n us = one_texts (λ k. joined (outcome k vars) ps) (pieces_up vars ps) d e m n ts us a b in cc t
 
 -- what an outcome is refused for or expands to
 abbrev answer : Outcome → Result (List (List Token)) PolicyKind
@@ -25,17 +96,6 @@ answer Deeper = Err VariableCircle
 module _ (vars : List Variable) (raw : List ℕ) where
   abbrev at : ℕ → Outcome
   at depth = outcome_of depth vars raw
-
-  below_more : (d e k : ℕ) → e ≡ d + k → Below (at d) (at e)
-  below_more d e zero is = inr (ap at (omega (arith, is)))
-  below_more d e (suc k) is =
-      let next : suc (d + k) ≡ e = omega (arith, is) in
-      subst (λ n. Below (at d) (at n)) next (below_next (at d) (at (d + k)) (at (suc (d + k))) (below_more d (d + k) k refl)
-      (joined_below (outcome (d + k) vars) (outcome (suc (d + k)) vars) (outcome_below (d + k) vars) (pieces raw)))
-
-  one_outcome : (d e : ℕ) → at d ≢ Deeper → at e ≢ Deeper → at d ≡ at e
-  one_outcome d e a b =
-      ⊎_elim (λ lt. same (at d) (at e) (below_more d e (e - d) (omega (arith, lt))) a) (λ le. sym (same (at e) (at d) (below_more e d (d - e) (omega (arith, le))) b)) (cases_lt d e)
 
   -- at some depth that is the answer, or none is deep enough
   abbrev Answers : Result (List (List Token)) PolicyKind → Type 0
@@ -50,11 +110,10 @@ module _ (vars : List Variable) (raw : List ℕ) where
       inl (d, (λ z. absurd (cc (sym e ∙ z))), sym (ap answer e ∙ ap (λ b. cond b (Err TooManyExpansions) (expansions ts)) (le-ltb 1024 (max most (length ts)) few)))
 
   one_answer : (r s : Result (List (List Token)) PolicyKind) → Answers r → Answers s → r ≡ s
-  one_answer r s a b =
-      ⊎_elim
-      (λ x. ⊎_elim (λ y. x.2 ∙ ap answer (one_outcome x.0 y.0 x.1 y.1) ∙ sym y.2) (λ y. absurd (x.1 (y.0 x.0))) b)
-      (λ x. ⊎_elim (λ y. absurd (y.1 (x.0 y.0))) (λ y. x.1 ∙ sym y.1) b)
-      a
+  one_answer r s (inl x) (inl y) = x.2 ∙ ap answer (one_outcome at (pieces_up vars (pieces raw)) x.0 y.0 x.1 y.1) ∙ sym y.2
+  one_answer r s (inl x) (inr y) = absurd (x.1 (y.0 x.0))
+  one_answer r s (inr x) (inl y) = absurd (y.1 (x.0 y.0))
+  one_answer r s (inr x) (inr y) = x.1 ∙ sym y.1
 
 pub expands_once : ExpandsOnce
 expands_once vars raw one other a b = one_answer vars raw one other (answers vars raw a) (answers vars raw b)

@@ -1,5 +1,5 @@
 -- Expansions, one byte and one text on.
-use Rattle.std.proofs.Common.{◌≡◌, ◌≢◌, ℕ, ◌+◌, ◌<◌, ◌≤◌, ◌⊎◌, ◌↔◌, Bool, true, false, ◌&&◌, ◌==◌, cond, List, [], ◌∷◌, ◌++◌, drop, get_or, length, Result, Ok, Err, IfOk, IfErr, refl, sym, ap, ◌∙◌, subst, ⊎_elim, arith, append_assoc, lt-ltb, IsTrue, true≢false}
+use Rattle.std.proofs.Common.{◌≡◌, ◌≢◌, ℕ, ◌+◌, ◌<◌, ◌≤◌, ◌⊎◌, ◌↔◌, Bool, true, false, ◌&&◌, ◌==◌, cond, List, [], ◌∷◌, ◌++◌, drop, get_or, length, Result, Ok, Err, IfOk, IfErr, refl, sym, ap, ◌∙◌, subst, inl, inr, ⊎_elim, arith, append_assoc, lt-ltb, IsTrue, true≢false}
 use Rattle.std.proofs.lemmas.Bool.{cases_lt}
 use Rattle.std.proofs.lemmas.List.{append-nil, at_drop_more, at_drop_all}
 use Rattle.aa_faults.specs.declared.fault.PolicyKind.{PolicyKind}
@@ -10,10 +10,9 @@ use Rattle.aa_glob.specs.declared.building.Rest.{Rest}
 use Rattle.aa_glob.specs.Variables.{Variable}
 use Rattle.aa_reader.specs.Reading.{tokens, Gives}
 use Rattle.aa_glob.specs.Expansions.{Outcome, Deeper, Texts, outcome_of, squeezed, pattern_text, expansion, of_path, expansions, and_more, Expands, in_walk, in_circle, too_many, as_texts, joined, outcome}
-use Rattle.aa_glob.specs.Pieces.{pieces_from}
-use Rattle.aa_glob.specs.Settled.{Settles, Settled}
+use Rattle.aa_glob.specs.Settled.{Settled}
 use Rattle.aa_glob.specs.Ways.{IsWalkFault}
-use Rattle.aa_glob.specs.Built.{IsBuilt, Stands}
+use Rattle.aa_glob.specs.Built.{IsBuilt, Stands, pieces_of, text_of, text_at}
 
 pub squeezed_step : (after : Bool) (s : List ℕ) (i d : ℕ) → i < length s →
     squeezed after (drop i s) ≡ cond (after && (get_or s i d == 47)) (squeezed true (drop (i + 1) s)) (get_or s i d ∷ squeezed (get_or s i d == 47) (drop (i + 1) s))
@@ -79,21 +78,10 @@ pub read_start : (ts : List (List ℕ)) (r : Result (List (List Token)) PolicyKi
 read_start ts (Ok qs) = refl
 read_start ts (Err e) = refl
 
-pub stands_start : (depth : ℕ) (vars : List Variable) (raw : List ℕ) (f : Rest) (most : ℕ) (ts : List (List ℕ)) → f.text.now ≡ raw → f.kept ≡ false → outcome_of depth vars raw ≡ Texts most ts → most ≤ 1024 →
-    length ts ≡ f.count → f.number < f.count → Stands depth vars f (get_or ts f.number [])
-stands_start depth vars raw f most ts text kept e few count within = record {
-  most = most;
-  ts = ts;
-  texts = ap (λ k. joined (outcome depth vars) (pieces_from k 0 f.text.now)) kept ∙ ap (λ t. joined (outcome depth vars) (pieces_from false 0 t)) text ∙ e;
-  few = few;
-  count = count;
-  within = within;
-  is = refl;
-}
-
--- what settles and goes no deeper than it may is settled
-pub settled_texts : (of : ℕ → Outcome) (most : ℕ) (ts : List (List ℕ)) (depth : ℕ) → Settles of most ts → of depth ≢ Deeper → of depth ≡ Texts most ts
-settled_texts of most ts depth s reached = ⊎_elim (λ e. e) (λ e. absurd (reached e)) (s.other depth)
+pub stands_start : (depth : ℕ) (vars : List Variable) (f : Rest) (most : ℕ) (ts : List (List ℕ)) → joined (outcome depth vars) (pieces_of f) ≡ Texts most ts → most ≤ 1024 → length ts ≡ f.count → f.number < f.count →
+    Stands depth vars f (text_at depth vars f)
+stands_start depth vars f most ts e few count within =
+    record { most = most; ts = ts; texts = e; few = few; count = count; within = within; is = sym (ap (λ x. text_of x f.number) e) }
 
 -- the whole
 pub fault_expands : (vars : List Variable) (raw : List ℕ) (e : PolicyKind) → IsWalkFault vars raw e → Expands vars raw (Err e)
@@ -101,18 +89,17 @@ fault_expands vars raw e f =
     ⊎_elim (λ h. in_walk h.0 e h.1)
     (λ h. subst (λ x. Expands vars raw (Err x)) (sym h.0) (in_circle h.1)) f
 
-pub many_expands : (vars : List Variable) (raw : List ℕ) (s : Summary) → Settled (λ d. outcome_of d vars raw) s → (IsTrue s.many ⊎ (1024 < s.count)) → Expands vars raw (Err TooManyExpansions)
-many_expands vars raw s k h =
-    too_many k.settles.from k.most k.ts (k.settles.texts k.settles.from (omega arith))
-    (⊎_elim (λ m. let x = k.sums.many.0 m in omega arith) (λ c. omega (arith, k.sums.count, c)) h)
+pub many_expands : (vars : List Variable) (raw : List ℕ) (depth : ℕ) (s : Summary) → Settled (outcome_of depth vars raw) s → (IsTrue s.many ⊎ (1024 < s.count)) → Expands vars raw (Err TooManyExpansions)
+many_expands vars raw depth s k (inl m) = let x = k.sums.many.0 m in too_many depth k.most k.ts k.is (omega arith)
+many_expands vars raw depth s k (inr c) = too_many depth k.most k.ts k.is (omega (arith, k.sums.count, c))
 
 pub few_most : (m : ℕ) (many : Bool) → (IsTrue many ↔ (1024 < m)) → many ≡ false → m ≤ 1024
 few_most m many same e = ⊎_elim (λ (lt : 1024 < m). absurd (true≢false (sym (same.1 lt) ∙ e))) (λ ge. ge) (cases_lt 1024 m)
 
-pub texts_expand : (vars : List Variable) (raw : List ℕ) (s : Summary) (r : Result (List (List Token)) PolicyKind) → (k : Settled (λ d. outcome_of d vars raw) s) → s.many ≡ false → s.count ≤ 1024 → expansions k.ts ≡ r → Expands vars raw r
-texts_expand vars raw s r k few short e =
+pub texts_expand : (vars : List Variable) (raw : List ℕ) (depth : ℕ) (s : Summary) (r : Result (List (List Token)) PolicyKind) → (k : Settled (outcome_of depth vars raw) s) → s.many ≡ false → s.count ≤ 1024 → expansions k.ts ≡ r → Expands vars raw r
+texts_expand vars raw depth s r k few short e =
     let most : k.most ≤ 1024 = few_most k.most s.many k.sums.many few in
-    subst (Expands vars raw) e (as_texts k.settles.from k.most k.ts (k.settles.texts k.settles.from (omega arith)) (omega (arith, k.sums.count, short, most)))
+    subst (Expands vars raw) e (as_texts depth k.most k.ts k.is (omega (arith, k.sums.count, short, most)))
 
 -- what reading gives, at Ok and where it is refused
 pub gives_ok : {X Y : Type 0} (view : X → Y) (P : Result Y PolicyKind → Type 0) (r : Result X PolicyKind) (read : Result Y PolicyKind) → Gives view r read → ((x : Result Y PolicyKind) → read ≡ x → P x) → IfOk r (λ v. P (Ok (view v)))

@@ -1,17 +1,8 @@
 -- Outcomes that are texts, and what is known of them.
-use Rattle.std.specs.Prelude.{ℕ, ◌<◌, ◌≤◌, ◌≡◌, ◌↔◌, ◌⊎◌, min, List, [], ◌∷◌, length, All, IsTrue, Option, Some}
-use Rattle.std.specs.Map.{lookup}
-use Rattle.std.specs.Str.{bytes_eq}
-use Rattle.std.specs.Borrow.{Bor}
+use Rattle.std.specs.Prelude.{ℕ, zero, suc, ◌<◌, ◌≤◌, ◌≡◌, ◌↔◌, ◌+◌, ◌*◌, ◌||◌, ◌&&◌, min, List, [], ◌∷◌, length, All, IsTrue}
 use Rattle.aa_glob.specs.declared.summary.Summary.{Summary}
-use Rattle.aa_glob.specs.Variables.{Variable, values_of}
-use Rattle.aa_glob.specs.Expansions.{Outcome, Texts, Deeper, outcome, outcome_of}
-
--- from some depth on the outcome is these texts; before, it may go deeper
-pub record Settles (of : ℕ → Outcome) (most : ℕ) (ts : List (List ℕ)) : Type 0 where
-  pub from : ℕ
-  pub texts : (depth : ℕ) → from ≤ depth → of depth ≡ Texts most ts
-  pub other : (depth : ℕ) → (of depth ≡ Texts most ts) ⊎ (of depth ≡ Deeper)
+use Rattle.aa_glob.specs.Variables.{Variable}
+use Rattle.aa_glob.specs.Expansions.{Outcome, Texts, outcome_of}
 
 abbrev pub IsEmptyText : List ℕ → Type 0
 IsEmptyText t = t ≡ []
@@ -23,22 +14,30 @@ pub record Sums (s : Summary) (most : ℕ) (ts : List (List ℕ)) : Type 0 where
   pub blank : IsTrue s.blank → All IsEmptyText ts
 
 -- an outcome with that summary
-pub record Settled (of : ℕ → Outcome) (s : Summary) : Type 0 where
+pub record Settled (x : Outcome) (s : Summary) : Type 0 where
   pub most : ℕ
   pub ts : List (List ℕ)
-  pub settles : Settles of most ts
+  pub is : x ≡ Texts most ts
   pub sums : Sums s most ts
 
--- what a table has of a name
-abbrev pub found : List ℕ → List (Bor (List ℕ) × Option Summary) → Option (Option Summary)
-found name done = lookup (λ k. bytes_eq name k.now) done
+-- each text of the one followed by each of the other
+abbrev pub times : Summary → Summary → Summary
+times s r = record { count = min 1025 (s.count * r.count); many = s.many || r.many; blank = s.blank && r.blank }
 
--- each of the texts is known to make exactly one text
-abbrev pub AreSingle : List Variable → List (List ℕ) → Type 0
-AreSingle vars [] = Unit {0}
-AreSingle vars (v ∷ vs) = ((s : Summary) × Settled (λ depth. outcome_of depth vars v) s × (s.count ≡ 1)) × AreSingle vars vs
+-- the texts of the one and then those of the other
+abbrev pub plus : Summary → Summary → Summary
+plus s r = record { count = min 1025 (s.count + r.count); many = s.many || r.many; blank = s.blank && r.blank }
 
--- each summary in a table is right
-pub record AreRight (vars : List Variable) (done : List (Bor (List ℕ) × Option Summary)) : Type 0 where
-  pub right : (name : List ℕ) (s : Summary) → found name done ≡ Some (Some s) → Settled (λ depth. outcome depth vars name) s
-  pub single : (name : List ℕ) (s : Summary) (values : List (List ℕ)) → found name done ≡ Some (Some s) → values_of vars name ≡ Some values → IsTrue s.single → AreSingle vars values
+-- where the texts of each value end among those of all, if the first begin at `start`
+abbrev pub AreEnds : List Variable → ℕ → List (List ℕ) → List ℕ → Type 0
+AreEnds vars start [] [] = Unit {0}
+AreEnds vars start [] (e ∷ es) = ⊥
+AreEnds vars start (v ∷ vs) [] = ⊥
+AreEnds vars start (v ∷ vs) (e ∷ es) =
+    (start ≤ e) × ((depth most : ℕ) (ts : List (List ℕ)) → outcome_of depth vars v ≡ Texts most ts → e ≡ min 1025 (start + length ts)) × AreEnds vars e vs es
+
+-- where the texts before those of a value end
+abbrev pub before : ℕ → List ℕ → ℕ → ℕ
+before start es zero = start
+before start [] (suc i) = start
+before start (e ∷ es) (suc i) = before e es i

@@ -1,15 +1,14 @@
 -- The texts on the way of a walk.
-use Rattle.std.specs.Prelude.{ℕ, ◌+◌, ◌≤◌, ◌≡◌, ◌≢◌, length, ◌⊎◌, false, List, [], ◌∷◌, ◌++◌, map, drop, Some, None, Vec}
+use Rattle.std.specs.Prelude.{ℕ, suc, ◌+◌, ◌≤◌, ◌≡◌, length, reverse, ◌⊎◌, false, List, [], ◌∷◌, map, Option, Some, None, Vec}
 use Rattle.std.specs.Global.{Global}
 use Rattle.aa_faults.specs.declared.fault.PolicyKind.{PolicyKind}
 use Rattle.aa_faults.specs.declared.fault.PolicyKind.TheVariants.{VariableCircle}
-use Rattle.aa_glob.specs.declared.summary.Summary.{Summary}
+use Rattle.aa_glob.specs.declared.summary.VariableSummary.{VariableSummary}
 use Rattle.aa_glob.specs.declared.walk.Step.{Step}
 use Rattle.aa_glob.specs.Variables.{Variable, values_of}
 use Rattle.aa_glob.specs.Pieces.{Piece, Use, pieces_from}
 use Rattle.aa_glob.specs.Expansions.{Outcome, Stops, Deeper, and_then, joined, in_turn, outcome, outcome_of, is_reserved}
-use Rattle.aa_glob.specs.Settled.{AreRight, found}
-use Rattle.aa_glob.specs.Known.{Table, AreKnown, AreTextsKnown, IsClosed}
+use Rattle.aa_glob.specs.Known.{Table, found, AreKnown, AreTextsKnown, AreRight}
 
 -- the walk stops at the fault, or it has no end
 abbrev pub IsWalkFault : List Variable → List ℕ → PolicyKind → Type 0
@@ -29,55 +28,68 @@ pub record Passes (rest whole : ℕ → Outcome) : Type 0 where
 abbrev pub items_of : List (Vec ℕ Global) → List (List ℕ)
 items_of vs = map (λ v. v.items) vs
 
+abbrev pub pieces_left : Step → List Piece
+pieces_left f = pieces_from f.kept 0 f.rest.now
+
 -- the outcome of what is left of a step
 abbrev pub rest_of : List Variable → Step → ℕ → Outcome
-rest_of vars f depth = and_then (joined (outcome depth vars) (pieces_from f.kept 0 f.rest.now)) (in_turn (outcome depth vars) (items_of f.later.now))
+rest_of vars f depth = and_then (joined (outcome depth vars) (pieces_left f)) (in_turn (outcome depth vars) (items_of f.later.now))
 
--- the second step is a value of the variable that comes next in the first
-pub record Calls (vars : List Variable) (f g : Step) : Type 0 where
+-- a step is what is left of the texts: all that is before comes to texts, and is known
+pub record IsPart (vars : List Variable) (done : Table) (texts : List (List ℕ)) (f : Step) : Type 0 where
+  pub passes : Passes (rest_of vars f) (λ depth. in_turn (outcome depth vars) texts)
+  pub reads : AreKnown done (pieces_left f) → AreTextsKnown done (items_of f.later.now) → AreTextsKnown done texts
+
+-- the variable comes next in the step, and has these values
+pub record Calls (vars : List Variable) (f : Step) (name : List ℕ) (all : List (List ℕ)) : Type 0 where
   pub behind : List Piece
-  pub next : pieces_from f.kept 0 f.rest.now ≡ Use g.name.now ∷ behind
-  pub plain : is_reserved g.name.now ≡ false
-  pub defined : values_of vars g.name.now ≡ Some (items_of g.all.now)
-  pub passes : Passes (rest_of vars g) (λ depth. in_turn (outcome depth vars) (items_of g.all.now))
+  pub next : pieces_left f ≡ Use name ∷ behind
+  pub plain : is_reserved name ≡ false
+  pub defined : values_of vars name ≡ Some all
 
-abbrev pub CallsAll : List Variable → Step → List Step → Type 0
-CallsAll vars f [] = Unit {0}
-CallsAll vars f (g ∷ gs) = Calls vars f g × CallsAll vars g gs
+-- each step on the way is what is left of the values of the variable that comes next in the one below, the lowest of the raw text
+abbrev pub OnWay : List Variable → Table → List ℕ → Step → List Step → Type 0
+OnWay vars done raw g [] = IsPart vars done (raw ∷ []) g
+OnWay vars done raw g (f ∷ fs) = IsPart vars done (items_of g.all.now) g × Calls vars f g.name.now (items_of g.all.now) × OnWay vars done raw f fs
 
--- the steps on the way, from the raw text on
-abbrev pub OnWay : List Variable → (ℕ → Outcome) → List Step → Type 0
-OnWay vars whole [] = Unit {0}
-OnWay vars whole (f ∷ fs) = Passes (rest_of vars f) whole × CallsAll vars f fs
-
--- one of the steps is a value of that variable
-abbrev pub IsAmong : List ℕ → List Step → Type 0
-IsAmong name [] = ⊥
-IsAmong name (f ∷ fs) = (f.name.now ≡ name) ⊎ IsAmong name fs
+-- one of the steps but the lowest is a value of that variable; `own` is the name of the highest
+abbrev pub IsAmong : List ℕ → List ℕ → List Step → Type 0
+IsAmong name own [] = ⊥
+IsAmong name own (f ∷ fs) = (own ≡ name) ⊎ IsAmong name f.name.now fs
 
 -- the second table has all summaries' names that the first has
 abbrev pub Grows : Table → Table → Type 0
-Grows done more = (name : List ℕ) (s : Summary) → found name done ≡ Some (Some s) → (t : Summary) × (found name more ≡ Some (Some t))
-
--- once what is left of a step is known, all of the texts is
-abbrev pub Reads : Table → List (List ℕ) → Step → Type 0
-Reads done texts f =
-    (more : Table) → Grows done more → AreKnown more (pieces_from f.kept 0 f.rest.now) → AreTextsKnown more (items_of f.later.now) → AreTextsKnown more texts
-
-abbrev pub ReadsAll : Table → List Step → Type 0
-ReadsAll done [] = Unit {0}
-ReadsAll done (g ∷ gs) = Reads done (items_of g.all.now) g × ReadsAll done gs
-
-abbrev pub ReadsWay : Table → List ℕ → List Step → Type 0
-ReadsWay done raw [] = Unit {0}
-ReadsWay done raw (f ∷ fs) = Reads done (raw ∷ []) f × ReadsAll done fs
+Grows done more = (name : List ℕ) (s : VariableSummary) → found name done ≡ Some (Some s) → (t : VariableSummary) × (found name more ≡ Some (Some t))
 
 -- the stack and the top of a walk, and its table: a variable without a summary is one on the way
 pub record IsWalking (vars : List Variable) (raw : List ℕ) (stack : List Step) (top : Step) (done : Table) : Type 0 where
-  pub way : OnWay vars (λ depth. outcome_of depth vars raw) (stack ++ top ∷ [])
-  pub right : AreRight vars done
-  pub open_names : (name : List ℕ) → found name done ≡ Some None → IsAmong name (drop 1 (stack ++ top ∷ []))
-  pub closed : IsClosed vars done
-  pub reads : ReadsWay done raw (stack ++ top ∷ [])
+  pub way : (more : Table) → Grows done more → OnWay vars more raw top (reverse stack)
+  pub right : (depth : ℕ) → length done ≤ depth + length stack → AreRight depth vars done
+  pub open_names : (name : List ℕ) → found name done ≡ Some None → IsAmong name top.name.now (reverse stack)
   pub room : length stack ≤ length done
-  pub reached : (name : List ℕ) (s : Summary) (d : ℕ) → found name done ≡ Some (Some s) → length done ≤ d + length stack → outcome d vars name ≢ Deeper
+
+-- the bytes of texts, and their ends
+abbrev pub bytes_of : List (List ℕ) → ℕ
+bytes_of [] = 0
+bytes_of (t ∷ ts) = suc (length t + bytes_of ts)
+
+abbrev pub unless_found : Option (Option VariableSummary) → ℕ → ℕ
+unless_found (Some _) n = 0
+unless_found None n = n
+
+-- what the variables hold that the walk hasn't come to
+abbrev pub unseen : List Variable → Table → ℕ
+unseen [] done = 0
+unseen (v ∷ vs) done = unless_found (found v.name done) (2 + bytes_of v.values) + unseen vs done
+
+-- what is left of a text and of the values behind it
+abbrev pub unread : Step → ℕ
+unread f = length f.rest.now + bytes_of (items_of f.later.now)
+
+abbrev pub unread_all : List Step → ℕ
+unread_all [] = 0
+unread_all (f ∷ fs) = suc (unread f + unread_all fs)
+
+-- what the walk has still to read
+abbrev pub walk_left : List Variable → Table → List Step → Step → ℕ
+walk_left vars done stack top = unseen vars done + (unread_all stack + unread top)

@@ -1,15 +1,14 @@
 //! Builds the texts of a word, one by one, from their numbers.
 
-ghost use Rattle.std.specs.Prelude.{◌≡◌, ◌<◌, ◌≤◌, ◌/◌, ◌%◌, ℕ, suc, List, length, map, false, Some, IfOk, IfErr, IsTrue, IfSome, IsSomeAnd, Contains};
-ghost use Rattle.aa_glob.specs.Variables.{Variable, values_of};
-ghost use Rattle.aa_glob.specs.Expansions.{is_reserved};
-ghost use Rattle.aa_glob.specs.Settled.{AreRight, AreSingle};
-ghost use Rattle.aa_glob.specs.Pieces.{pieces_from};
-ghost use Rattle.aa_glob.specs.Known.{AreKnown, AreTextsKnown, IsClosed};
-ghost use Rattle.aa_glob.specs.Built.{IsBuilt, Stands, Named};
+ghost use Rattle.std.specs.Prelude.{◌≡◌, ◌<◌, ◌≤◌, ◌-◌, ℕ, leb, List, length, map, slice_index_or, IfOk, IfErr, Contains, [], ◌∷◌, false};
+ghost use Rattle.aa_glob.specs.Variables.{Variable};
+ghost use Rattle.aa_glob.specs.Settled.{AreEnds, before};
+ghost use Rattle.aa_glob.specs.Pieces.{Use, pieces_from};
+ghost use Rattle.aa_glob.specs.Known.{AreKnown, AreRight};
+ghost use Rattle.aa_glob.specs.Built.{HasTexts, IsBuilt, Stands, IsBuilding, pieces_of, steps_left, text_at};
 
 use crate::pieces::{Part, next_part};
-use crate::summary::{Done, known_summary, text_summary};
+use crate::summary::{Done, known_summary};
 use crate::vars::Vars;
 use aa_faults::PolicyKind;
 use std::alloc::Global;
@@ -26,43 +25,84 @@ pub(crate) struct Rest<'t> {
     pub count: usize,
 }
 
-/// The value of a variable that its text of that number is of. Where each value has exactly one text, no other is looked at.
-fn value_at<'t>(
-    values: &'t [Vec<u8>],
-    done: &Done<'_>,
-    single: bool,
-    number: usize,
-) -> Option<Rest<'t>>
-    requires { AreTextsKnown done.now.entries (map (λ v. v.items) values.now) }
-    ensures stands { (depth : ℕ) (vars : List Variable) (name t : List ℕ) → AreRight vars done.now.entries → is_reserved name ≡ false → values_of vars name ≡ Some (map (λ v. v.items) values.now)
-        → (IsTrue single → AreSingle vars (map (λ v. v.items) values.now)) → Named (suc depth) vars name number t → IsSomeAnd result (λ f. Stands depth vars f t) }
-    ensures among { IfSome result (λ f. (f.kept ≡ false) × Contains (map (λ v. v.items) values.now) f.text.now) }
+/// How many of the ends aren't above that number.
+fn ends_up_to(ends: &[usize], number: usize) -> usize
+    requires { (i j d : ℕ) → i ≤ j → j < length ends.now → slice_index_or ends.now i d ≤ slice_index_or ends.now j d }
+    ensures within { result ≤ length ends.now }
+    ensures below { (k : ℕ) → k < result → slice_index_or ends.now k 0 ≤ number }
+    ensures above { result < length ends.now → number < slice_index_or ends.now result 0 }
 {
-    if single {
-        return match values.get(number) {
-            Some(value) => Some(Rest {
-                text: value.as_slice(),
-                kept: false,
-                number: 0,
-                count: 1,
-            }),
-            None => None,
-        };
+    ends.partition_point(
+        |end: &usize| -> bool
+            ensures { result ≡ leb end.now number }
+        { *end <= number },
+    )
+}
+
+/// How many texts the values before that one have.
+fn end_before(ends: &[usize], place: usize) -> usize
+    requires { place ≤ length ends.now }
+    ensures { result ≡ before 0 ends.now place }
+{
+    if place == 0 { 0 } else { ends[place - 1] }
+}
+
+/// The value of a variable that its text of that number is of.
+fn value_at<'t>(values: &'t [Vec<u8>], ends: &[usize], number: usize) -> Rest<'t>
+    requires { (depth : ℕ) × (vars : List Variable) × (ts : List (List ℕ)) × AreEnds vars 0 (map (λ v. v.items) values.now) ends.now × HasTexts depth vars (map (λ v. v.items) values.now) ts number }
+    ensures stands { (depth : ℕ) (vars : List Variable) (ts : List (List ℕ)) → AreEnds vars 0 (map (λ v. v.items) values.now) ends.now → HasTexts depth vars (map (λ v. v.items) values.now) ts number
+        → Stands depth vars result (slice_index_or ts number []) }
+    ensures fresh { result.kept ≡ false }
+    ensures among { Contains (map (λ v. v.items) values.now) result.text.now }
+{
+    let place = ends_up_to(ends, number);
+    let first = end_before(ends, place);
+    let Some(value) = values.get(place) else {
+        unreachable!();
+    };
+    Rest {
+        text: value.as_slice(),
+        kept: false,
+        number: number - first,
+        count: ends[place] - first,
     }
-    let mut left = number;
-    for value in values {
-        let summary = text_summary(value.as_slice(), done);
-        if left < summary.count {
-            return Some(Rest {
-                text: value.as_slice(),
-                kept: false,
-                number: left,
-                count: summary.count,
-            });
-        }
-        left -= summary.count;
+}
+
+/// Where the rest of a text has come to a variable: into the value that its text is of, or behind it if that is known to be
+/// empty. The number of the text is cut in that of the variable's text and that of what is behind it.
+fn enter<'t>(
+    vars: &'t Vars,
+    done: &Done<'t>,
+    stack: &mut Vec<Rest<'t>>,
+    top: Rest<'t>,
+    name: &[u8],
+    behind: &'t [u8],
+    keep: bool,
+) -> Result<Rest<'t>, PolicyKind>
+    requires right { AreRight (length done.now.entries) vars.now done.now.entries }
+    requires next { pieces_of top ≡ Use name.now ∷ pieces_from keep 0 behind.now }
+    requires building { (text : List ℕ) × (t : List ℕ) × IsBuilding (length done.now.entries) vars.now done.now.entries text stack.old.items top t }
+    ensures ok { IfOk result (λ rest. (text t : List ℕ) → IsBuilding (length done.now.entries) vars.now done.now.entries text stack.old.items top.entry t → IsBuilding (length done.now.entries) vars.now done.now.entries text stack.new.items rest t) }
+    ensures less { IfOk result (λ rest. steps_left (length done.now.entries - length stack.new.items) vars.now stack.new.items rest < steps_left (length done.now.entries - length stack.old.items) vars.now stack.old.items top.entry) }
+    ensures err { IfErr result (λ e. e ≡ PolicyKind.NoMemory) }
+{
+    let known = known_summary(name, done);
+    let left = top.count / known.texts.count;
+    let next = Rest {
+        text: behind,
+        kept: keep,
+        number: top.number % left,
+        count: left,
+    };
+    if known.texts.blank {
+        return Ok(next);
     }
-    None
+    let Ok(values) = vars.values(name) else {
+        unreachable!();
+    };
+    let value = value_at(values, known.ends.as_slice(), top.number / left);
+    stack.push(next)?;
+    Ok(value)
 }
 
 /// Builds a text, up to more than 16,384 bytes.
@@ -72,11 +112,10 @@ pub(crate) fn build<'t>(
     done: &Done<'t>,
     start: Rest<'t>,
 ) -> Result<Vec<u8>, PolicyKind>
-    requires right { AreRight vars.now done.now.entries }
-    requires closed { IsClosed vars.now done.now.entries }
-    requires known { AreKnown done.now.entries (pieces_from start.kept 0 start.text.now) }
-    requires stands { (t : List ℕ) × Stands (length done.now.entries) vars.now start t }
-    ensures built { (depth : ℕ) (t : List ℕ) → Stands depth vars.now start.entry t → IfOk result (λ v. IsBuilt v.items t) }
+    requires right { AreRight (length done.now.entries) vars.now done.now.entries }
+    requires known { AreKnown done.now.entries (pieces_of start) }
+    requires stands { Stands (length done.now.entries) vars.now start (text_at (length done.now.entries) vars.now start) }
+    ensures built { IfOk result (λ v. IsBuilt v.items (text_at (length done.now.entries) vars.now start.entry)) }
     ensures err { IfErr result (λ e. e ≡ PolicyKind.NoMemory) }
 {
     let mut text: Vec<u8> = Vec::with_capacity(alloc, start.text.len())?;
@@ -104,40 +143,8 @@ pub(crate) fn build<'t>(
             }
             Part::Broken => unreachable!(),
             Part::Use(name) => {
-                let summary = known_summary(name, done);
-                let (number, next) = split(top, summary.count, behind, keep);
-                if summary.blank {
-                    top = next;
-                } else {
-                    let Ok(values) = vars.values(name) else {
-                        unreachable!();
-                    };
-                    let Some(value) = value_at(values, done, summary.single, number) else {
-                        unreachable!();
-                    };
-                    stack.push(next)?;
-                    top = value;
-                }
+                top = enter(vars, done, &mut stack, top, name, behind, keep)?;
             }
         }
     }
-}
-
-/// The number of a variable's text, and what is left behind the variable.
-fn split<'t>(top: Rest<'t>, count: usize, behind: &'t [u8], keep: bool) -> (usize, Rest<'t>)
-    requires some { 0 < count }
-    requires within { count ≤ top.count }
-    ensures { (0 < result.1.count) × (result.1.count ≡ top.entry.count / count) × (result.0 ≡ top.entry.number / result.1.count) × (result.1.number ≡ top.entry.number % result.1.count)
-        × (result.1.text.now ≡ behind.now) × (result.1.kept ≡ keep) }
-{
-    let left = top.count / count;
-    (
-        top.number / left,
-        Rest {
-            text: behind,
-            kept: keep,
-            number: top.number % left,
-            count: left,
-        },
-    )
 }

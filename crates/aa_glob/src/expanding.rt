@@ -1,7 +1,6 @@
 //! Expands a word with variables to patterns.
 
 ghost use Rattle.std.specs.Prelude.{◌≡◌, ◌≢◌, ◌≤◌, ◌==◌, ◌&&◌, ℕ, List, length, map, IfOk, IfErr, Ok, Err};
-ghost use Rattle.aa_glob.specs.Settled.{AreRight};
 ghost use Rattle.aa_glob.specs.Known.{IsWalked};
 ghost use Rattle.aa_reader.specs.Reading.{Gives, spelled};
 ghost use Rattle.aa_glob.specs.Expansions.{pattern_text, expansion, expansions, outcome_of, Texts, Expands};
@@ -70,7 +69,7 @@ fn read_all<'t>(
 ) -> Result<Vec<Pattern>, PolicyKind>
     requires walked { IsWalked vars.now raw.now done.now.entries }
     requires texts { (most : ℕ) × (ts : List (List ℕ)) × (outcome_of (length done.now.entries) vars.now raw.now ≡ Texts most ts) × (most ≤ 1024) × (length ts ≡ count) }
-    ensures { (depth most : ℕ) (ts : List (List ℕ)) → AreRight vars.now done.now.entries → outcome_of depth vars.now raw.now ≡ Texts most ts → most ≤ 1024 → length ts ≡ count
+    ensures { (most : ℕ) (ts : List (List ℕ)) → outcome_of (length done.now.entries) vars.now raw.now ≡ Texts most ts → most ≤ 1024 → length ts ≡ count
         → Gives (λ v. map (λ p. spelled p.items.items) v.items) result (expansions ts) }
 {
     let mut patterns: Vec<Pattern> = Vec::with_capacity(alloc, count)?;

@@ -57,11 +57,11 @@ fn add_values(
     ensures err { OnErr result (map variable table.new.entries ≡ map variable table.old.entries) }
 {
     let Some(place) = table.get_index_of(name) else {
-        return Err(AllocError);
+        unreachable!();
     };
     match table.get_index_mut(place) {
         Some(list) => list.append(&mut more),
-        None => Err(AllocError),
+        None => unreachable!(),
     }
 }
 

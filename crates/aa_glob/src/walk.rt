@@ -1,12 +1,13 @@
 //! The walk of a text, left to right and into the values of its variables depth first. It visits each variable once, and keeps
 //! its own stack.
 
-ghost use Rattle.std.specs.Prelude.{◌≡◌, ◌≢◌, IfOk, IfErr};
+ghost use Rattle.std.specs.Prelude.{◌≡◌, ◌≢◌, ◌<◌, ◌∷◌, IfOk, IfErr, List, ℕ, length};
+ghost use Rattle.aa_glob.specs.Pieces.{Use, pieces_from};
 ghost use Rattle.aa_glob.specs.Known.{IsWalked};
-ghost use Rattle.aa_glob.specs.Ways.{IsWalkFault};
+ghost use Rattle.aa_glob.specs.Ways.{IsWalkFault, IsWalking, pieces_left, walk_left};
 
 use crate::pieces::{Part, next_part};
-use crate::summary::{Done, Summary, variable_summary};
+use crate::summary::{Done, variable_summary};
 use crate::vars::Vars;
 use aa_faults::PolicyKind;
 use indexmap::IndexMap;
@@ -26,6 +27,47 @@ pub(crate) struct Step<'t> {
     pub later: &'t [Vec<u8>],
 }
 
+/// Where a step has come to a variable: behind it if its walk is done, else before its values.
+fn enter<'t>(
+    vars: &'t Vars,
+    done: &mut Done<'t>,
+    stack: &mut Vec<Step<'t>>,
+    top: Step<'t>,
+    name: &'t [u8],
+    behind: &'t [u8],
+    keep: bool,
+) -> Result<Step<'t>, PolicyKind>
+    requires next { pieces_left top ≡ Use name.now ∷ pieces_from keep 0 behind.now }
+    requires shorter { length behind.now < length top.rest.now }
+    ensures ok { IfOk result (λ next. (raw : List ℕ) → IsWalking vars.now raw stack.old.items top.entry done.old.entries → IsWalking vars.now raw stack.new.items next done.new.entries) }
+    ensures less { IfOk result (λ next. walk_left vars.now done.new.entries stack.new.items next < walk_left vars.now done.old.entries stack.old.items top.entry) }
+    ensures err { IfErr result (λ e. e ≢ PolicyKind.NoMemory → (raw : List ℕ) → IsWalking vars.now raw stack.old.items top.entry done.old.entries → IsWalkFault vars.now raw e) }
+{
+    match done.get(name) {
+        Some(Some(_)) => Ok(Step {
+            rest: behind,
+            kept: keep,
+            ..top
+        }),
+        Some(None) => Err(PolicyKind::VariableCircle),
+        None => {
+            let values = match vars.values(name) {
+                Ok(values) => values,
+                Err(fault) => return Err(fault),
+            };
+            done.insert(name, None)?;
+            stack.push(top)?;
+            Ok(Step {
+                name,
+                all: values,
+                rest: &[],
+                kept: false,
+                later: values,
+            })
+        }
+    }
+}
+
 /// Walks a text, and gives the summary of each variable on the way.
 pub(crate) fn walk<'t>(alloc: Global, vars: &'t Vars, raw: &'t [u8]) -> Result<Done<'t>, PolicyKind>
     ensures ok { IfOk result (λ done. IsWalked vars.now raw.now done.entries) }
@@ -41,58 +83,33 @@ pub(crate) fn walk<'t>(alloc: Global, vars: &'t Vars, raw: &'t [u8]) -> Result<D
         later: &[],
     };
     loop {
-        let Some((part, behind, keep)) = next_part(top.rest, top.kept) else {
-            if let Some((value, others)) = top.later.split_first() {
-                top = Step {
-                    rest: value.as_slice(),
-                    kept: false,
-                    later: others,
-                    ..top
-                };
-                continue;
-            }
-            let Some(below) = stack.pop() else {
-                return Ok(done);
-            };
-            let summary = variable_summary(top.all, &done);
-            done.insert(top.name, Some(summary))?;
-            top = below;
-            continue;
-        };
-        match part {
-            Part::Plain(_) => {
-                top = Step {
+        if let Some((part, behind, keep)) = next_part(top.rest, top.kept) {
+            top = match part {
+                Part::Plain(_) => Step {
                     rest: behind,
                     kept: keep,
                     ..top
-                }
-            }
-            Part::Broken => return Err(PolicyKind::BadPattern),
-            Part::Use(name) => match done.get(name).copied() {
-                Some(Some(_)) => {
-                    top = Step {
-                        rest: behind,
-                        kept: keep,
-                        ..top
-                    }
-                }
-                Some(None) => return Err(PolicyKind::VariableCircle),
-                None => {
-                    let values = match vars.values(name) {
-                        Ok(values) => values,
-                        Err(fault) => return Err(fault),
-                    };
-                    done.insert(name, None)?;
-                    stack.push(top)?;
-                    top = Step {
-                        name,
-                        all: values,
-                        rest: &[],
-                        kept: false,
-                        later: values,
-                    };
-                }
-            },
+                },
+                Part::Broken => return Err(PolicyKind::BadPattern),
+                Part::Use(name) => match enter(vars, &mut done, &mut stack, top, name, behind, keep) {
+                    Ok(next) => next,
+                    Err(fault) => return Err(fault),
+                },
+            };
+        } else if let Some((value, others)) = top.later.split_first() {
+            top = Step {
+                rest: value.as_slice(),
+                kept: false,
+                later: others,
+                ..top
+            };
+        } else {
+            let Some(below) = stack.pop() else {
+                return Ok(done);
+            };
+            let summary = variable_summary(alloc, top.all, &done)?;
+            done.insert(top.name, Some(summary))?;
+            top = below;
         }
     }
 }

@@ -1,63 +1,48 @@
-use Rattle.std.proofs.Common.{◌+◌, ◌∙◌, [], arith, refl, sym, ap, subst, map, drop, get_or, List, ℕ, Vec, Global}
-use Rattle.std.proofs.lemmas.List.{drop_more, at_drop_all, get_or-map, length-map}
-use Rattle.aa_glob.specs.Pieces.{pieces}
-use Rattle.aa_glob.specs.Known.{AreKnown, AreTextsKnown}
-use Rattle.aa_glob.specs.Expansions.{outcome_of}
-use Rattle.aa_glob.specs.Settled.{Settled}
-use Rattle.aa_glob.proofs.BuildSteps.{left_start, left_next, left_none, left_single}
+use Rattle.std.proofs.Common.{◌≡◌, ◌-◌, ◌≤◌, ◌<◌, ◌∙◌, [], ap, arith, get_or, length, List, refl, sym, Vec, ℕ, Global}
+use Rattle.std.proofs.lemmas.List.{get_or-map, length-map}
+use Rattle.aa_glob.specs.Variables.{Variable}
+use Rattle.aa_glob.specs.Settled.{AreEnds}
+use Rattle.aa_glob.specs.Built.{HasTexts}
+use Rattle.aa_glob.specs.Ways.{items_of}
+use Rattle.aa_glob.proofs.Builds.{IsValue, value_picked, ends_rise}
 use Rattle.aa_glob.proofs.building.value_at.Goals as goal
 
-pub loop-value-init : goal.loop-value-init
-loop-value-init c = record { known = c.requires; left = λ depth vars name t right plain defined n. left_start depth vars name _ c.args.number t plain defined n }
+pub ends_up_to-place-requires : goal.ends_up_to-place-requires
+ends_up_to-place-requires c = let r = c.requires in ends_rise r.1 0 (items_of c.args.values.now) c.args.ends.now r.3
 
-pub text_summary-summary-requires : goal.text_summary-summary-requires
-text_summary-summary-requires c =
-    subst (λ (t : List ℕ). AreKnown c.args.done.now.entries (pieces t)) (sym (c.as_slice-in-loop-value.ensures.value ∙ ap (λ (v : Vec ℕ Global). v.items) c.value-item.is))
-    (subst (AreTextsKnown c.args.done.now.entries) (ap (map (λ (v : Vec ℕ Global). v.items)) (drop_more c.args.values.now c.loop-value.value-index c.value-item.result c.loop-value-test.true)) c.loop-value.invariant.known).0
+pub unreachable-requires : goal.unreachable-requires
+unreachable-requires c =
+    let r = c.requires in
+    let v = value_picked r.0 r.1 (items_of c.args.values.now) c.args.ends.now c.args.number c.ends_up_to-place.result r.2 r.3 r.4 c.ends_up_to-place.ensures.below c.ends_up_to-place.ensures.above in
+    omega (arith, v.within, length-map c.args.values.now (λ (x : Vec ℕ Global). x.items), c.in_default.ensures.lookup.3)
 
-pub returns-then-left-summary-clause-stands : goal.returns-then-left-summary-clause-stands
-returns-then-left-summary-clause-stands c = λ depth vars name t right plain defined single n.
-    (left_next depth vars (get_or c.args.values.now c.loop-value.value-index c.value-item.result).items
-    (map (λ (v : Vec ℕ Global). v.items) (drop (c.loop-value.value-index + 1) c.args.values.now)) _ c.text_summary-summary.result c.loop-value.left t
-    (ap (map (λ (v : Vec ℕ Global). v.items)) (drop_more c.args.values.now c.loop-value.value-index c.value-item.result c.loop-value-test.true))
-    (subst (λ (x : List ℕ). Settled (λ d. outcome_of d vars x) c.text_summary-summary.result) (c.as_slice-in-loop-value.ensures.value ∙ ap (λ (v : Vec ℕ Global). v.items) c.value-item.is) (c.text_summary-summary.ensures vars right))
-    (c.loop-value.invariant.left depth vars name t right plain defined n)).here c.if-left-summary.true _ (c.as_slice-then-left-summary.ensures.value ∙ ap (λ (v : Vec ℕ Global). v.items) c.value-item.is) refl refl refl
+pub overflow_sub-result : goal.overflow_sub-result
+overflow_sub-result c =
+    let r = c.requires in
+    let v = value_picked r.0 r.1 (items_of c.args.values.now) c.args.ends.now c.args.number c.ends_up_to-place.result r.2 r.3 r.4 c.ends_up_to-place.ensures.below c.ends_up_to-place.ensures.above in omega (arith, v.first, c.end_before-first.ensures)
 
-pub loop-value-preserved : goal.loop-value-preserved
-loop-value-preserved c = record {
-  known = (subst (AreTextsKnown c.args.done.now.entries) (ap (map (λ (v : Vec ℕ Global). v.items)) (drop_more c.args.values.now c.loop-value.value-index c.value-item.result c.loop-value-test.true)) c.loop-value.invariant.known).1;
-  left = λ depth vars name t right plain defined n.
-      (left_next depth vars (get_or c.args.values.now c.loop-value.value-index c.value-item.result).items
-      (map (λ (v : Vec ℕ Global). v.items) (drop (c.loop-value.value-index + 1) c.args.values.now)) _ c.text_summary-summary.result c.loop-value.left t
-      (ap (map (λ (v : Vec ℕ Global). v.items)) (drop_more c.args.values.now c.loop-value.value-index c.value-item.result c.loop-value-test.true))
-      (subst (λ (x : List ℕ). Settled (λ d. outcome_of d vars x) c.text_summary-summary.result) (c.as_slice-in-loop-value.ensures.value ∙ ap (λ (v : Vec ℕ Global). v.items) c.value-item.is) (c.text_summary-summary.ensures vars right))
-      (c.loop-value.invariant.left depth vars name t right plain defined n)).later c.if-left-summary.false;
-}
+pub bounds-ends-place : goal.bounds-ends-place
+bounds-ends-place c =
+    let r = c.requires in
+    let v = value_picked r.0 r.1 (items_of c.args.values.now) c.args.ends.now c.args.number c.ends_up_to-place.result r.2 r.3 r.4 c.ends_up_to-place.ensures.below c.ends_up_to-place.ensures.above in omega (arith, v.among)
+
+pub overflow_sub-result-2 : goal.overflow_sub-result-2
+overflow_sub-result-2 c =
+    let r = c.requires in
+    let v = value_picked r.0 r.1 (items_of c.args.values.now) c.args.ends.now c.args.number c.ends_up_to-place.result r.2 r.3 r.4 c.ends_up_to-place.ensures.below c.ends_up_to-place.ensures.above in
+    omega (arith, v.first, v.last, c.end_before-first.ensures)
 
 pub returns-clause-stands : goal.returns-clause-stands
-returns-clause-stands c = λ depth vars name t right plain defined single n.
-    left_none depth vars _ c.loop-value.left t (at_drop_all (λ (vs : List (Vec ℕ Global)). map (λ (v : Vec ℕ Global). v.items) vs) c.args.values.now c.loop-value.value-index c.loop-value-test.false)
-    (c.loop-value.invariant.left depth vars name t right plain defined n)
-
-pub returns-in-Some-clause-stands : goal.returns-in-Some-clause-stands
-returns-in-Some-clause-stands c = λ depth vars name t right plain defined single n.
+returns-clause-stands c = λ depth vars ts ends has.
     let at = c.in-Some.ensures.lookup in
-    (left_single depth vars (map (λ (v : Vec ℕ Global). v.items) c.args.values.now) c.args.number t (single c.if-single.true) (left_start depth vars name _ c.args.number t plain defined n)).1 _
-    (c.as_slice.ensures.value ∙ ap (λ (v : Vec ℕ Global). v.items) at.1 ∙ sym (get_or-map (λ (v : Vec ℕ Global). v.items) c.args.values.now c.args.number c.in-Some.value.now [] at.3.0)) refl refl refl
+    (value_picked depth vars (items_of c.args.values.now) c.args.ends.now c.args.number c.ends_up_to-place.result ts ends has c.ends_up_to-place.ensures.below c.ends_up_to-place.ensures.above).stands c.as_slice.result _ _
+    (c.as_slice.ensures.value ∙ ap (λ (v : Vec ℕ Global). v.items) at.1 ∙ sym (get_or-map (λ (v : Vec ℕ Global). v.items) c.args.values.now c.ends_up_to-place.result c.in-Some.value.now [] at.3.0))
+    (ap (λ n. c.args.number - n) c.end_before-first.ensures) (ap (λ n. get_or c.args.ends.now c.ends_up_to-place.result 0 - n) c.end_before-first.ensures)
 
-pub returns-in-Some-clause-among : goal.returns-in-Some-clause-among
-returns-in-Some-clause-among c =
-    let at = c.in-Some.ensures.lookup in
-    let long = length-map c.args.values.now (λ (v : Vec ℕ Global). v.items) in (
-      refl,
-      (
-        c.args.number,
-        omega (arith, at.3.0, long),
-        get_or-map (λ (v : Vec ℕ Global). v.items) c.args.values.now c.args.number c.in-Some.value.now c.as_slice.result.now at.3.0 ∙ sym (c.as_slice.ensures.value ∙ ap (λ (v : Vec ℕ Global). v.items) at.1),
-      ),
+pub returns-clause-among : goal.returns-clause-among
+returns-clause-among c =
+    let at = c.in-Some.ensures.lookup in (
+      c.ends_up_to-place.result,
+      omega (arith, at.3.0, length-map c.args.values.now (λ (v : Vec ℕ Global). v.items)),
+      get_or-map (λ (v : Vec ℕ Global). v.items) c.args.values.now c.ends_up_to-place.result c.in-Some.value.now c.as_slice.result.now at.3.0 ∙ sym (c.as_slice.ensures.value ∙ ap (λ (v : Vec ℕ Global). v.items) at.1),
     )
-
-pub returns-in-None-clause-stands : goal.returns-in-None-clause-stands
-returns-in-None-clause-stands c = λ depth vars name t right plain defined single n.
-    let within = (left_single depth vars (map (λ (v : Vec ℕ Global). v.items) c.args.values.now) c.args.number t (single c.if-single.true) (left_start depth vars name _ c.args.number t plain defined n)).0 in
-    let long = length-map c.args.values.now (λ (v : Vec ℕ Global). v.items) in omega (arith, within, long, c.in-None.ensures.lookup.3)

@@ -1,45 +1,37 @@
-use Rattle.std.proofs.Common.{length, arith, inl, inr}
-use Rattle.aa_glob.proofs.ExpandSteps.{fault_expands, many_expands, texts_expand, gives_ok, gives_err, few_most, settled_texts}
-use Rattle.aa_glob.specs.Expansions.{Expands, expansions, outcome_of}
+use Rattle.std.proofs.Common.{arith, inl, inr, length}
+use Rattle.aa_glob.specs.Expansions.{Expands, expansions}
+use Rattle.aa_glob.proofs.ExpandSteps.{fault_expands, many_expands, texts_expand, gives_ok, gives_err, few_most}
 use Rattle.aa_glob.proofs.expanding.expand.Goals as goal
-
-pub returns-in-Err-clause-refused : goal.returns-in-Err-clause-refused
-returns-in-Err-clause-refused c = λ other. fault_expands c.args.vars.now c.args.raw.now c.in-Err.fault (c.in-Err.ensures.err other)
-
-pub returns-then-summary-clause-refused : goal.returns-then-summary-clause-refused
-returns-then-summary-clause-refused c = λ other. many_expands c.args.vars.now c.args.raw.now c.text_summary-summary.result (c.text_summary-summary.ensures c.args.vars.now c.in-Ok.ensures.ok.right) (inl c.if-summary.true)
-
-pub returns-then-summary-gt-MAX_TEXTS-clause-refused : goal.returns-then-summary-gt-MAX_TEXTS-clause-refused
-returns-then-summary-gt-MAX_TEXTS-clause-refused c = λ other.
-    many_expands c.args.vars.now c.args.raw.now c.text_summary-summary.result (c.text_summary-summary.ensures c.args.vars.now c.in-Ok.ensures.ok.right) (inr c.if-summary-gt-MAX_TEXTS.true)
-
-pub returns-clause-expanded : goal.returns-clause-expanded
-returns-clause-expanded c =
-    let k = c.text_summary-summary.ensures c.args.vars.now c.in-Ok.ensures.ok.right in
-    gives_ok _ (Expands c.args.vars.now c.args.raw.now) c.read_all.result (expansions k.ts)
-    (c.read_all.ensures k.settles.from k.most k.ts c.in-Ok.ensures.ok.right (k.settles.texts k.settles.from (omega arith)) (few_most k.most c.text_summary-summary.result.many k.sums.many c.if-summary.false) (omega (arith, k.sums.count, c.if-summary-gt-MAX_TEXTS.false)))
-    (λ x e. texts_expand c.args.vars.now c.args.raw.now c.text_summary-summary.result x k c.if-summary.false c.if-summary-gt-MAX_TEXTS.false e)
-
-pub returns-clause-refused : goal.returns-clause-refused
-returns-clause-refused c =
-    let k = c.text_summary-summary.ensures c.args.vars.now c.in-Ok.ensures.ok.right in
-    gives_err _ (Expands c.args.vars.now c.args.raw.now) c.read_all.result (expansions k.ts)
-    (c.read_all.ensures k.settles.from k.most k.ts c.in-Ok.ensures.ok.right (k.settles.texts k.settles.from (omega arith)) (few_most k.most c.text_summary-summary.result.many k.sums.many c.if-summary.false) (omega (arith, k.sums.count, c.if-summary-gt-MAX_TEXTS.false)))
-    (λ x e. texts_expand c.args.vars.now c.args.raw.now c.text_summary-summary.result x k c.if-summary.false c.if-summary-gt-MAX_TEXTS.false e)
 
 pub text_summary-summary-requires : goal.text_summary-summary-requires
 text_summary-summary-requires c = c.in-Ok.ensures.ok.known
 
 pub read_all-requires : goal.read_all-requires
 read_all-requires c =
-    let k = c.text_summary-summary.ensures c.args.vars.now c.in-Ok.ensures.ok.right in
-    record {
-      walked = c.in-Ok.ensures.ok;
-      texts = (
-        k.most,
-        k.ts,
-        settled_texts (λ d. outcome_of d c.args.vars.now c.args.raw.now) k.most k.ts (length c.in-Ok.done.entries) k.settles c.in-Ok.ensures.ok.reached,
-        few_most k.most c.text_summary-summary.result.many k.sums.many c.if-summary.false,
-        omega (arith, k.sums.count, c.if-summary-gt-MAX_TEXTS.false),
-      );
-    }
+    let k = c.text_summary-summary.ensures (length c.in-Ok.done.entries) c.args.vars.now c.in-Ok.ensures.ok.right in
+    record { walked = c.in-Ok.ensures.ok; texts = (k.most, k.ts, k.is, few_most k.most c.text_summary-summary.result.many k.sums.many c.if-summary.false, omega (arith, k.sums.count, c.if-summary-gt-MAX_TEXTS.false)) }
+
+pub returns-in-Err-clause-refused : goal.returns-in-Err-clause-refused
+returns-in-Err-clause-refused c = λ other. fault_expands c.args.vars.now c.args.raw.now c.in-Err.fault (c.in-Err.ensures.err other)
+
+pub returns-then-summary-clause-refused : goal.returns-then-summary-clause-refused
+returns-then-summary-clause-refused c = λ other.
+    many_expands c.args.vars.now c.args.raw.now _ c.text_summary-summary.result (c.text_summary-summary.ensures (length c.in-Ok.done.entries) c.args.vars.now c.in-Ok.ensures.ok.right) (inl c.if-summary.true)
+
+pub returns-then-summary-gt-MAX_TEXTS-clause-refused : goal.returns-then-summary-gt-MAX_TEXTS-clause-refused
+returns-then-summary-gt-MAX_TEXTS-clause-refused c = λ other.
+    many_expands c.args.vars.now c.args.raw.now _ c.text_summary-summary.result (c.text_summary-summary.ensures (length c.in-Ok.done.entries) c.args.vars.now c.in-Ok.ensures.ok.right) (inr c.if-summary-gt-MAX_TEXTS.true)
+
+pub returns-clause-expanded : goal.returns-clause-expanded
+returns-clause-expanded c =
+    let k = c.text_summary-summary.ensures (length c.in-Ok.done.entries) c.args.vars.now c.in-Ok.ensures.ok.right in
+    gives_ok _ (Expands c.args.vars.now c.args.raw.now) c.read_all.result (expansions k.ts)
+    (c.read_all.ensures k.most k.ts k.is (few_most k.most c.text_summary-summary.result.many k.sums.many c.if-summary.false) (omega (arith, k.sums.count, c.if-summary-gt-MAX_TEXTS.false)))
+    (λ x e. texts_expand c.args.vars.now c.args.raw.now _ c.text_summary-summary.result x k c.if-summary.false c.if-summary-gt-MAX_TEXTS.false e)
+
+pub returns-clause-refused : goal.returns-clause-refused
+returns-clause-refused c =
+    let k = c.text_summary-summary.ensures (length c.in-Ok.done.entries) c.args.vars.now c.in-Ok.ensures.ok.right in
+    gives_err _ (Expands c.args.vars.now c.args.raw.now) c.read_all.result (expansions k.ts)
+    (c.read_all.ensures k.most k.ts k.is (few_most k.most c.text_summary-summary.result.many k.sums.many c.if-summary.false) (omega (arith, k.sums.count, c.if-summary-gt-MAX_TEXTS.false)))
+    (λ x e. texts_expand c.args.vars.now c.args.raw.now _ c.text_summary-summary.result x k c.if-summary.false c.if-summary-gt-MAX_TEXTS.false e)

@@ -1,5 +1,4 @@
-use Rattle.aa_glob.specs.Ways.{IsWalking}
-use Rattle.aa_glob.proofs.WalkEnds.{walk_left}
+use Rattle.aa_glob.specs.Ways.{IsWalking, walk_left}
 use Rattle.aa_glob.proofs.walk.walk.Given as goal
 
 abbrev pub invariant-loop-part : goal.invariant-loop-part

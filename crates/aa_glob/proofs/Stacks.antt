@@ -1,0 +1,188 @@
+-- A text that is built, one part on.
+use Rattle.std.proofs.Common.{◌≡◌, ℕ, zero, suc, max, ◌+◌, ◌-◌, ◌/◌, ◌%◌, ◌<◌, ◌≤◌, Bool, false, List, [], ◌∷◌, ◌++◌, get_or, length, reverse, Contains, IsTrue, Some, Bor, refl, sym, ap, ◌∙◌, subst, inl, inr, arith, append_assoc, length-append}
+use Rattle.std.proofs.lemmas.List.{append-nil, reverse-append}
+use Rattle.aa_faults.specs.declared.fault.PolicyKind.{PolicyKind}
+use Rattle.aa_glob.specs.declared.summary.VariableSummary.{VariableSummary}
+use Rattle.aa_glob.specs.declared.building.Rest.{Rest}
+use Rattle.aa_glob.specs.Variables.{Variable, values_of}
+use Rattle.aa_glob.specs.Pieces.{Piece, Plain, Use, Broken, pieces, pieces_from}
+use Rattle.aa_glob.specs.Expansions.{Outcome, Texts, Stops, Deeper, joined, in_turn, outcome, counted, is_reserved}
+use Rattle.aa_glob.specs.Known.{Table, AreKnown, IsRight}
+use Rattle.aa_glob.specs.Built.{HasTexts, IsBuilt, Stands, Waits, IsBuilding, pieces_of, steps, steps_of_texts, steps_of_values, steps_of_variable, steps_of_rest, steps_of_stack, steps_left}
+use Rattle.aa_glob.proofs.Summaries.{variable_is}
+use Rattle.aa_glob.proofs.Ways.{no_pieces}
+use Rattle.aa_glob.proofs.Builds.{Splits, stands_plain, stands_use}
+
+no_text : (level : ℕ) (vars : List Variable) (top : Rest) (t : List ℕ) → pieces_of top ≡ [] → Stands level vars top t → t ≡ []
+no_text level vars top t none s =
+    let e : Texts 0 ([] ∷ []) ≡ Texts s.most s.ts = sym (no_pieces (outcome level vars) (pieces_of top) none) ∙ s.texts in
+    let h : ([] ∷ []) ≡ s.ts = cc e in sym s.is ∙ ap (λ (xs : List (List ℕ)). get_or xs top.number []) (sym h) ∙ one top.number
+  where
+    one : (n : ℕ) → get_or {A = List ℕ} ([] ∷ []) n [] ≡ []
+    one zero = refl
+    one (suc n) = refl
+
+-- a variable goes one deeper than its values
+goes_deeper : (level : ℕ) (vars : List Variable) (name : List ℕ) (most : ℕ) (ts : List (List ℕ)) → outcome level vars name ≡ Texts most ts → (l : ℕ) × (level ≡ suc l)
+unfolding outcome
+goes_deeper zero vars name most ts e = absurd (cc e)
+goes_deeper (suc l) vars name most ts e = (l, refl)
+
+pushed_up : (stack new : List Rest) (top : Rest) → new ≡ stack ++ top ∷ [] → reverse new ≡ top ∷ reverse stack
+pushed_up stack new top e = ap reverse e ∙ reverse-append stack (top ∷ [])
+
+pushed_long : (stack new : List Rest) (top : Rest) → new ≡ stack ++ top ∷ [] → length new ≡ length stack + 1
+pushed_long stack new top e = ap length e ∙ length-append stack (top ∷ [])
+
+-- each kind of step leaves less
+steps_among : (of : List ℕ → ℕ) (texts : List (List ℕ)) (text : List ℕ) → Contains texts text → steps of (pieces text) ≤ steps_of_texts of texts
+steps_among of texts text c = at texts c.0 c.1 c.2
+  where
+    at : (ts : List (List ℕ)) (k : ℕ) → k < length ts → get_or ts k text ≡ text → steps of (pieces text) ≤ steps_of_texts of ts
+    at [] k h e = absurd (omega arith)
+    at (t ∷ ts) zero h e = omega (arith, ap (λ x. steps of (pieces x)) e)
+    at (t ∷ ts) (suc k) h e = omega (arith, at ts k (omega arith) e)
+
+pub steps_next : (level : ℕ) (vars : List Variable) (f : Rest) (p : Piece) (ps : List Piece) → pieces_of f ≡ p ∷ ps → steps (steps_of_variable level vars) ps < steps_of_rest level vars f
+steps_next level vars f p ps e = by p (ap (steps (steps_of_variable level vars)) e)
+  where
+    by : (p : Piece) → steps_of_rest level vars f ≡ steps (steps_of_variable level vars) (p ∷ ps) → steps (steps_of_variable level vars) ps < steps_of_rest level vars f
+    by (Plain b) h = omega (arith, h)
+    by (Use name) h = omega (arith, h)
+    by Broken h = omega (arith, h)
+
+pub steps_back : (depth : ℕ) (vars : List Variable) (stack below_stack : List Rest) (below top : Rest) → stack ≡ below_stack ++ below ∷ [] → length stack ≤ depth →
+    steps_left (depth - length below_stack) vars below_stack below < steps_left (depth - length stack) vars stack top
+steps_back depth vars stack below_stack below top popped fits =
+    let level : depth - length below_stack ≡ suc (depth - length stack) = omega (arith, pushed_long below_stack stack below popped, fits) in
+    let stacked : steps_of_stack (depth - length stack) vars (reverse stack) ≡ suc (steps_left (suc (depth - length stack)) vars below_stack below) =
+    ap (steps_of_stack (depth - length stack) vars) (pushed_up below_stack stack below popped) in
+    omega (arith, ap (λ d. steps_left d vars below_stack below) level, stacked)
+
+-- what a variable's values are, a level below it
+pub record Opens (level : ℕ) (vars : List Variable) (values ts : List (List ℕ)) (q : ℕ) : Type 0 where
+  pub below : ℕ
+  pub is : level ≡ suc below
+  pub has : HasTexts below vars values ts q
+
+module _ (depth : ℕ) (vars : List Variable) (done : Table) where
+  pub build_start : (text : List ℕ) (stack : List Rest) (top : Rest) (t : List ℕ) → text ≡ [] → stack ≡ [] → AreKnown done (pieces_of top) → Stands depth vars top t → IsBuilding depth vars done text stack top t
+  build_start text stack top t e g known s = record {
+    level = depth;
+    deep = omega (arith, ap length g);
+    now = t;
+    later = [];
+    stands = s;
+    known = known;
+    waits = subst (λ st. Waits done depth vars (reverse st) []) (sym g) refl;
+    is = sym (append-nil t) ∙ ap (λ x. x ++ (t ++ [])) (sym e);
+  }
+
+  pub build_end : (text : List ℕ) (stack : List Rest) (top : Rest) (t : List ℕ) → pieces_of top ≡ [] → stack ≡ [] → IsBuilding depth vars done text stack top t → IsBuilt text t
+  build_end text stack top t none last b =
+      let later : b.later ≡ [] = subst (λ st. Waits done b.level vars (reverse st) b.later) last b.waits in
+      inl (sym (b.is ∙ ap (λ x. text ++ (x ++ b.later)) (no_text b.level vars top b.now none b.stands) ∙ ap (λ x. text ++ x) later ∙ append-nil text))
+
+  pub build_long : (text : List ℕ) (stack : List Rest) (top : Rest) (t : List ℕ) → 16384 < length text → IsBuilding depth vars done text stack top t → IsBuilt text t
+  build_long text stack top t long b = inr (long, omega (arith, long, ap length b.is, length-append text (b.now ++ b.later)))
+
+  pub build_back : (text : List ℕ) (stack below_stack : List Rest) (below top : Rest) (t : List ℕ) → pieces_of top ≡ [] → stack ≡ below_stack ++ below ∷ [] →
+      IsBuilding depth vars done text stack top t → IsBuilding depth vars done text below_stack below t
+  build_back text stack below_stack below top t none popped b =
+      let w = subst (λ st. Waits done b.level vars st b.later) (pushed_up below_stack stack below popped) b.waits in
+      record {
+        level = suc b.level;
+        deep = omega (arith, b.deep, pushed_long below_stack stack below popped);
+        now = w.0;
+        later = w.1;
+        stands = w.2;
+        known = w.3;
+        waits = w.4;
+        is = b.is ∙ ap (λ x. text ++ (x ++ b.later)) (no_text b.level vars top b.now none b.stands) ∙ ap (λ x. text ++ x) w.5;
+      }
+
+  pub build_plain : (text new : List ℕ) (stack : List Rest) (f : Rest) (behind : Bor (List ℕ)) (keep : Bool) (t : List ℕ) (b : ℕ) → pieces_of f ≡ Plain b ∷ pieces_from keep 0 behind.now → new ≡ text ++ b ∷ [] →
+      IsBuilding depth vars done text stack f t → IsBuilding depth vars done new stack (record f { text = behind; kept = keep }) t
+  build_plain text new stack f behind keep t b e pushed w =
+      let r = stands_plain w.level vars f behind keep b w.now e w.stands in
+      record {
+        level = w.level;
+        deep = w.deep;
+        now = r.0;
+        later = w.later;
+        stands = r.2;
+        known = (subst (AreKnown done) e w.known).1;
+        waits = w.waits;
+        is = w.is ∙ ap (λ x. text ++ (x ++ w.later)) r.1 ∙ sym (append_assoc text (b ∷ []) (r.0 ++ w.later)) ∙ ap (λ x. x ++ (r.0 ++ w.later)) (sym pushed);
+      }
+
+  -- at a variable
+  module _ (text : List ℕ) (stack : List Rest) (f : Rest) (behind : Bor (List ℕ)) (keep : Bool) (t name : List ℕ) (k : VariableSummary) (right : IsRight depth vars done name k)
+      (e : pieces_of f ≡ Use name ∷ pieces_from keep 0 behind.now) (w : IsBuilding depth vars done text stack f t) where
+    pub split : Splits w.level vars f behind keep name k w.now
+    split = stands_use w.level vars f behind keep name k w.now depth done right e w.stands
+
+    abbrev pub next : Rest
+    next = record { text = behind; kept = keep; number = f.number % (f.count / k.texts.count); count = f.count / k.texts.count }
+
+    -- it is defined
+    pub build_defined : (fault : PolicyKind) → ((d : ℕ) → outcome (suc d) vars name ≡ Stops fault) → ⊥
+    build_defined fault stops = let d = goes_deeper w.level vars name split.most split.ts split.texts in cc (sym split.texts ∙ ap (λ l. outcome l vars name) d.1 ∙ stops d.0)
+
+    pub build_opens : (values : List (List ℕ)) → is_reserved name ≡ false → values_of vars name ≡ Some values → Opens w.level vars values split.ts (f.number / (f.count / k.texts.count))
+    build_opens values plain defined = by (in_turn (outcome d.0 vars) values) refl (sym (variable_is d.0 vars name values plain defined) ∙ ap (λ l. outcome l vars name) (sym d.1) ∙ split.texts)
+      where
+        d : (l : ℕ) × (w.level ≡ suc l)
+        d = goes_deeper w.level vars name split.most split.ts split.texts
+
+        by : (x : Outcome) → in_turn (outcome d.0 vars) values ≡ x → counted x ≡ Texts split.most split.ts → Opens w.level vars values split.ts (f.number / (f.count / k.texts.count))
+        by (Texts m us) is c =
+            let g : max m (length us) ≡ split.most = cc c in let h : us ≡ split.ts = cc c in
+            record { below = d.0; is = d.1; has = record { most = m; texts = is ∙ ap (Texts m) h; few = omega (arith, split.few); short = omega (arith, split.few, ap length h); within = split.within } }
+        by (Stops fault) is c = absurd (cc c)
+        by Deeper is c = absurd (cc c)
+
+    pub build_blank : IsTrue k.texts.blank → IsBuilding depth vars done text stack next t
+    build_blank blank = record {
+      level = w.level;
+      deep = w.deep;
+      now = split.later;
+      later = w.later;
+      stands = split.stands;
+      known = (subst (AreKnown done) e w.known).1;
+      waits = w.waits;
+      is = w.is ∙ ap (λ x. text ++ (x ++ w.later)) (split.is ∙ ap (λ x. x ++ split.later) (split.blank blank));
+    }
+
+    -- into the value that its text is of
+    module _ (values : List (List ℕ)) (o : Opens w.level vars values split.ts (f.number / (f.count / k.texts.count))) (new_stack : List Rest) (value : Rest) (pushed : new_stack ≡ stack ++ next ∷ []) where
+      pub build_into : AreKnown done (pieces_of value) → Stands o.below vars value (get_or split.ts (f.number / (f.count / k.texts.count)) []) → IsBuilding depth vars done text new_stack value t
+      build_into known stands = record {
+        level = o.below;
+        deep = omega (arith, w.deep, o.is, pushed_long stack new_stack next pushed);
+        now = get_or split.ts (f.number / (f.count / k.texts.count)) [];
+        later = split.later ++ w.later;
+        stands = stands;
+        known = known;
+        waits = subst (λ st. Waits done o.below vars st (split.later ++ w.later)) (sym (pushed_up stack new_stack next pushed)) (
+          split.later,
+          w.later,
+          subst (λ l. Stands l vars next split.later) o.is split.stands,
+          (subst (AreKnown done) e w.known).1,
+          subst (λ l. Waits done l vars (reverse stack) w.later) o.is w.waits,
+          refl,
+        );
+        is = w.is ∙ ap (λ x. text ++ (x ++ w.later)) split.is ∙ ap (λ x. text ++ x) (append_assoc _ split.later w.later);
+      }
+
+      pub steps_into : values_of vars name ≡ Some values → value.kept ≡ false → Contains values value.text.now → steps_left (depth - length new_stack) vars new_stack value < steps_left (depth - length stack) vars stack f
+      steps_into defined fresh among =
+          let above : depth - length stack ≡ suc o.below = omega (arith, w.deep, o.is) in
+          let below : depth - length new_stack ≡ o.below = omega (arith, w.deep, o.is, pushed_long stack new_stack next pushed) in
+          let variable : steps_of_variable (suc o.below) vars name ≡ steps_of_texts (steps_of_variable o.below vars) values = ap (steps_of_values (steps_of_variable o.below vars)) defined in
+          let whole : steps_of_rest (suc o.below) vars f ≡ suc (suc (steps_of_variable (suc o.below) vars name + steps_of_rest (suc o.below) vars next)) = ap (steps (steps_of_variable (suc o.below) vars)) e in
+          let inside : steps_of_rest o.below vars value ≡ steps (steps_of_variable o.below vars) (pieces value.text.now) = ap (λ b. steps (steps_of_variable o.below vars) (pieces_from b 0 value.text.now)) fresh in
+          let stacked : steps_of_stack o.below vars (reverse new_stack) ≡ suc (steps_of_rest (suc o.below) vars next + steps_of_stack (suc o.below) vars (reverse stack)) =
+          ap (steps_of_stack o.below vars) (pushed_up stack new_stack next pushed) in
+          omega (arith, ap (λ d. steps_left d vars stack f) above, ap (λ d. steps_left d vars new_stack value) below, variable, whole, inside, stacked,
+          steps_among (steps_of_variable o.below vars) values value.text.now among)
