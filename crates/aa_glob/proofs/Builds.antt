@@ -1,23 +1,22 @@
 -- The texts that are built from their numbers, one part on.
-use Rattle.std.proofs.Common.{◌≡◌, ℕ, zero, suc, ◌+◌, ◌*◌, ◌-◌, ◌/◌, ◌%◌, ◌<◌, ◌≤◌, ◌⊎◌, max, Bool, true, false, cond, List, [], ◌∷◌, ◌++◌, map, get_or, length, reverse, All, Contains, IsTrue, Option, Some, None, Bor, refl, sym, ap, ◌∙◌, subst, inl, inr, arith, append_assoc, length-append}
+use Rattle.std.proofs.Common.{◌≡◌, ℕ, zero, suc, ◌+◌, ◌*◌, ◌-◌, ◌/◌, ◌%◌, ◌<◌, ◌≤◌, ◌⊎◌, max, Bool, true, false, cond, List, [], ◌∷◌, ◌++◌, map, get_or, length, All, IsTrue, Option, Some, None, Bor, refl, sym, ap, ◌∙◌, subst, inl, inr, arith, length-append}
 use Rattle.std.proofs.lemmas.Bool.{cases_lt}
 use Rattle.std.proofs.Math.Nat.{mul-div_cancel_left}
 use Rattle.std.proofs.lemmas.Nat.{div-add-mod'}
-use Rattle.std.proofs.lemmas.List.{append-nil, get_or_append_left, get_or-append-add, reverse-append}
+use Rattle.std.proofs.lemmas.List.{get_or_append_left, get_or-append-add}
 use Rattle.std.proofs.lemmas.List.Elements.{All-head, All-tail}
-use Rattle.aa_faults.specs.declared.fault.PolicyKind.{PolicyKind}
 use Rattle.aa_faults.specs.declared.fault.PolicyKind.TheVariants.{Unsupported}
 use Rattle.aa_glob.specs.declared.summary.VariableSummary.{VariableSummary}
 use Rattle.aa_glob.specs.declared.building.Rest.{Rest}
 use Rattle.aa_glob.specs.Variables.{Variable, values_of}
-use Rattle.aa_glob.specs.Pieces.{Piece, Plain, Use, Broken, pieces, pieces_from}
-use Rattle.aa_glob.specs.Expansions.{Outcome, Texts, Stops, Deeper, followed, and_then, alone, joined, in_turn, outcome, outcome_of, counted, of_values, is_reserved}
-use Rattle.aa_glob.specs.Settled.{Settled, IsEmptyText, AreEnds, before}
-use Rattle.aa_glob.specs.Known.{Table, AreKnown, IsRight}
-use Rattle.aa_glob.specs.Built.{HasTexts, IsBuilt, Stands, Waits, IsBuilding, pieces_of, steps, steps_of_texts, steps_of_values, steps_of_variable, steps_of_rest, steps_of_stack, steps_left}
+use Rattle.aa_glob.specs.Pieces.{Piece, Plain, Use, pieces_from}
+use Rattle.aa_glob.specs.Expansions.{Outcome, Texts, Stops, Deeper, alone, joined, in_turn, outcome, outcome_of, counted, of_values, is_reserved}
+use Rattle.aa_glob.specs.Settled.{IsEmptyText, AreEnds, before}
+use Rattle.aa_glob.specs.Known.{Table, IsRight}
+use Rattle.aa_glob.specs.Built.{HasTexts, Stands, pieces_of}
 use Rattle.aa_glob.proofs.Depths.{joins, same_name}
-use Rattle.aa_glob.proofs.Summaries.{product, length_each, length_product, variable_is}
-use Rattle.aa_glob.proofs.Ways.{no_pieces, one_piece}
+use Rattle.aa_glob.proofs.Summaries.{product, length_each, length_product}
+use Rattle.aa_glob.proofs.Ways.{one_piece}
 
 -- what two outcomes that make texts are
 record Both (c : List (List ℕ) → List (List ℕ) → List (List ℕ)) (x y : Outcome) (m : ℕ) (ts : List (List ℕ)) : Type 0 where

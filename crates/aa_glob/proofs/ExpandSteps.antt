@@ -9,7 +9,7 @@ use Rattle.aa_glob.specs.declared.summary.Summary.{Summary}
 use Rattle.aa_glob.specs.declared.building.Rest.{Rest}
 use Rattle.aa_glob.specs.Variables.{Variable}
 use Rattle.aa_reader.specs.Reading.{tokens, Gives}
-use Rattle.aa_glob.specs.Expansions.{Outcome, Deeper, Texts, outcome_of, squeezed, pattern_text, expansion, of_path, expansions, and_more, Expands, in_walk, in_circle, too_many, as_texts, joined, outcome}
+use Rattle.aa_glob.specs.Expansions.{Texts, outcome_of, squeezed, pattern_text, expansion, of_path, expansions, and_more, Expands, in_walk, in_circle, too_many, as_texts, joined, outcome}
 use Rattle.aa_glob.specs.Settled.{Settled}
 use Rattle.aa_glob.specs.Ways.{IsWalkFault}
 use Rattle.aa_glob.specs.Built.{IsBuilt, Stands, pieces_of, text_of, text_at}

@@ -6,7 +6,7 @@ use Rattle.aa_glob.specs.declared.summary.VariableSummary.{VariableSummary}
 use Rattle.aa_glob.specs.declared.building.Rest.{Rest}
 use Rattle.aa_glob.specs.Variables.{Variable, values_of}
 use Rattle.aa_glob.specs.Pieces.{Piece, Plain, Use, Broken, pieces, pieces_from}
-use Rattle.aa_glob.specs.Expansions.{Outcome, Texts, Stops, Deeper, joined, in_turn, outcome, counted, is_reserved}
+use Rattle.aa_glob.specs.Expansions.{Outcome, Texts, Stops, Deeper, in_turn, outcome, counted, is_reserved}
 use Rattle.aa_glob.specs.Known.{Table, AreKnown, IsRight}
 use Rattle.aa_glob.specs.Built.{HasTexts, IsBuilt, Stands, Waits, IsBuilding, pieces_of, steps, steps_of_texts, steps_of_values, steps_of_variable, steps_of_rest, steps_of_stack, steps_left}
 use Rattle.aa_glob.proofs.Summaries.{variable_is}
@@ -184,5 +184,13 @@ module _ (depth : ℕ) (vars : List Variable) (done : Table) where
           let inside : steps_of_rest o.below vars value ≡ steps (steps_of_variable o.below vars) (pieces value.text.now) = ap (λ b. steps (steps_of_variable o.below vars) (pieces_from b 0 value.text.now)) fresh in
           let stacked : steps_of_stack o.below vars (reverse new_stack) ≡ suc (steps_of_rest (suc o.below) vars next + steps_of_stack (suc o.below) vars (reverse stack)) =
           ap (steps_of_stack o.below vars) (pushed_up stack new_stack next pushed) in
-          omega (arith, ap (λ d. steps_left d vars stack f) above, ap (λ d. steps_left d vars new_stack value) below, variable, whole, inside, stacked,
-          steps_among (steps_of_variable o.below vars) values value.text.now among)
+          omega (
+            arith,
+            ap (λ d. steps_left d vars stack f) above,
+            ap (λ d. steps_left d vars new_stack value) below,
+            variable,
+            whole,
+            inside,
+            stacked,
+            steps_among (steps_of_variable o.below vars) values value.text.now among,
+          )

@@ -1,14 +1,13 @@
 -- Summaries, one part and one value on.
-use Rattle.std.proofs.Common.{◌≡◌, ℕ, zero, suc, ◌+◌, ◌*◌, ◌<◌, ◌≤◌, ◌↔◌, ◌⊎◌, min, max, Bool, true, false, ◌||◌, ◌&&◌, cond, List, [], ◌∷◌, ◌++◌, map, flat_map, length, All, IsTrue, Option, Some, None, refl, sym, ap, ◌∙◌, subst, inl, inr, arith, append_assoc, length-append, true≢false}
+use Rattle.std.proofs.Common.{◌≡◌, ℕ, zero, suc, ◌+◌, ◌*◌, ◌<◌, ◌≤◌, ◌↔◌, ◌⊎◌, min, max, Bool, true, false, ◌||◌, ◌&&◌, cond, List, [], ◌∷◌, ◌++◌, map, flat_map, length, All, IsTrue, Some, None, refl, sym, ap, ◌∙◌, subst, inl, inr, arith, append_assoc, length-append, true≢false}
 use Rattle.std.proofs.Math.Bool.{or_assoc}
 use Rattle.std.proofs.lemmas.Bool.{cases_lt}
 use Rattle.std.proofs.lemmas.List.Elements.{All-nil, All-cons, All-head, All-tail}
-use Rattle.aa_faults.specs.declared.fault.PolicyKind.{PolicyKind}
 use Rattle.aa_faults.specs.declared.fault.PolicyKind.TheVariants.{Unsupported, UndefinedVariable}
 use Rattle.aa_glob.specs.declared.summary.Summary.{Summary}
 use Rattle.aa_glob.specs.Variables.{Variable, values_of}
 use Rattle.aa_glob.specs.Pieces.{Piece, pieces}
-use Rattle.aa_glob.specs.Expansions.{Outcome, Texts, Stops, Deeper, alone, joined, in_turn, outcome, outcome_of, of_values, counted, is_reserved}
+use Rattle.aa_glob.specs.Expansions.{Outcome, Texts, Stops, alone, joined, in_turn, outcome, outcome_of, of_values, counted, is_reserved}
 use Rattle.aa_glob.specs.Settled.{Sums, Settled, IsEmptyText, times, plus, AreEnds}
 use Rattle.aa_glob.proofs.Depths.{joins, same_texts}
 

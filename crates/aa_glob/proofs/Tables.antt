@@ -5,7 +5,7 @@ use Rattle.std.proofs.lemmas.Slice.Eq.{bytes_eq-Decides}
 use Rattle.aa_glob.specs.declared.summary.VariableSummary.{VariableSummary}
 use Rattle.aa_glob.specs.Variables.{Variable}
 use Rattle.aa_glob.specs.Pieces.{Piece, Plain, Use, Broken, pieces}
-use Rattle.aa_glob.specs.Known.{Table, found, IsKnown, AreKnown, AreTextsKnown, IsRight, AreRight}
+use Rattle.aa_glob.specs.Known.{Table, found, IsKnown, AreKnown, AreTextsKnown, IsRight}
 use Rattle.aa_glob.specs.Ways.{Grows}
 
 pub same_bytes : (a b : List ℕ) → bytes_eq a b ≡ true → a ≡ b

@@ -1,5 +1,5 @@
 -- The walk at its start, one step on, and at its end.
-use Rattle.std.proofs.Common.{◌≡◌, ℕ, zero, suc, ◌+◌, ◌<◌, ◌≤◌, ◌⊎◌, Bool, true, false, cond, List, [], ◌∷◌, ◌++◌, length, reverse, Option, Some, None, Bor, Vec, Global, refl, sym, ap, ◌∙◌, subst, inl, inr, arith, length-append}
+use Rattle.std.proofs.Common.{◌≡◌, ℕ, zero, suc, ◌+◌, ◌≤◌, ◌⊎◌, Bool, true, false, cond, List, [], ◌∷◌, ◌++◌, length, reverse, Option, Some, None, Bor, Vec, Global, refl, sym, ap, ◌∙◌, subst, inl, inr, arith, length-append}
 use Rattle.std.specs.Str.{bytes_eq}
 use Rattle.std.proofs.lemmas.List.{reverse-append}
 use Rattle.aa_faults.specs.declared.fault.PolicyKind.{PolicyKind}
@@ -7,8 +7,8 @@ use Rattle.aa_faults.specs.declared.fault.PolicyKind.TheVariants.{VariableCircle
 use Rattle.aa_glob.specs.declared.summary.VariableSummary.{VariableSummary}
 use Rattle.aa_glob.specs.declared.walk.Step.{Step}
 use Rattle.aa_glob.specs.Variables.{Variable, values_of}
-use Rattle.aa_glob.specs.Pieces.{Piece, Use, pieces, pieces_from}
-use Rattle.aa_glob.specs.Expansions.{Outcome, Texts, Stops, Deeper, alone, outcome, is_reserved}
+use Rattle.aa_glob.specs.Pieces.{Piece, Use, pieces_from}
+use Rattle.aa_glob.specs.Expansions.{Texts, Stops, alone, outcome, is_reserved}
 use Rattle.aa_glob.specs.Settled.{Settled, AreEnds}
 use Rattle.aa_glob.specs.Known.{Table, found, IsKnown, AreTextsKnown, IsRight, AreRight, IsWalked}
 use Rattle.aa_glob.specs.Ways.{IsWalkFault, items_of, pieces_left, IsPart, Calls, OnWay, IsAmong, Grows, IsWalking, bytes_of, unless_found, unseen, unread, unread_all}

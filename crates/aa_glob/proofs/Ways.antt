@@ -1,8 +1,8 @@
 -- The steps on the way of a walk.
-use Rattle.std.proofs.Common.{◌≡◌, ℕ, zero, suc, ◌+◌, ◌≤◌, ◌⊎◌, max, Bool, false, List, [], ◌∷◌, ◌++◌, Some, Bor, Vec, Global, refl, sym, ap, ◌∙◌, subst, inl, inr, arith}
+use Rattle.std.proofs.Common.{◌≡◌, ℕ, zero, suc, ◌+◌, ◌≤◌, ◌⊎◌, max, Bool, false, List, [], ◌∷◌, Bor, Vec, Global, refl, sym, ap, ◌∙◌, subst, inl, inr, arith}
 use Rattle.aa_faults.specs.declared.fault.PolicyKind.{PolicyKind}
 use Rattle.aa_glob.specs.declared.walk.Step.{Step}
-use Rattle.aa_glob.specs.Variables.{Variable, values_of}
+use Rattle.aa_glob.specs.Variables.{Variable}
 use Rattle.aa_glob.specs.Pieces.{Piece, Use, pieces, pieces_from}
 use Rattle.aa_glob.specs.Expansions.{Outcome, Texts, Stops, Deeper, followed, and_then, alone, joined, in_turn, outcome, outcome_of, counted}
 use Rattle.aa_glob.specs.Known.{Table, IsKnown, AreKnown, AreTextsKnown}

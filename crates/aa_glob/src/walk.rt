@@ -91,7 +91,9 @@ pub(crate) fn walk<'t>(alloc: Global, vars: &'t Vars, raw: &'t [u8]) -> Result<D
                     ..top
                 },
                 Part::Broken => return Err(PolicyKind::BadPattern),
-                Part::Use(name) => match enter(vars, &mut done, &mut stack, top, name, behind, keep) {
+                Part::Use(name) => match enter(
+                    vars, &mut done, &mut stack, top, name, behind, keep,
+                ) {
                     Ok(next) => next,
                     Err(fault) => return Err(fault),
                 },

@@ -1,4 +1,4 @@
-use Rattle.std.proofs.Common.{arith, leb, of_calls, rules, true, false}
+use Rattle.std.proofs.Common.{arith, leb, of_calls, rules}
 use Rattle.std.proofs.lemmas.Bool.{leb-true, leb-false}
 use Rattle.std.proofs.lemmas.Fn.{always_returns_same}
 use Rattle.std.proofs.lemmas.List.Sorted.{IsPartitionedBy-leb}

@@ -1,10 +1,10 @@
-use Rattle.std.proofs.Common.{◌/◌, arith, length, subst, sym, Bool}
-use Rattle.aa_glob.specs.Pieces.{Use, pieces_from}
+use Rattle.std.proofs.Common.{length, subst, sym, Bool}
+use Rattle.aa_glob.specs.Pieces.{pieces_from}
 use Rattle.aa_glob.specs.Settled.{AreEnds}
 use Rattle.aa_glob.specs.Known.{AreKnown}
 use Rattle.aa_glob.specs.Ways.{items_of}
 use Rattle.aa_glob.proofs.Tables.{known_at}
-use Rattle.aa_glob.proofs.Stacks.{split, build_defined, build_opens, build_blank, build_into, steps_next, steps_into}
+use Rattle.aa_glob.proofs.Stacks.{split, build_defined, build_opens, build_blank, build_into, steps_into}
 use Rattle.aa_glob.proofs.building.enter.Goals as goal
 
 pub nonzero_div-left : goal.nonzero_div-left

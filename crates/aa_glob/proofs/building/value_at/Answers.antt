@@ -1,10 +1,7 @@
-use Rattle.std.proofs.Common.{◌≡◌, ◌-◌, ◌≤◌, ◌<◌, ◌∙◌, [], ap, arith, get_or, length, List, refl, sym, Vec, ℕ, Global}
+use Rattle.std.proofs.Common.{◌-◌, ◌∙◌, [], ap, arith, get_or, sym, Vec, ℕ, Global}
 use Rattle.std.proofs.lemmas.List.{get_or-map, length-map}
-use Rattle.aa_glob.specs.Variables.{Variable}
-use Rattle.aa_glob.specs.Settled.{AreEnds}
-use Rattle.aa_glob.specs.Built.{HasTexts}
 use Rattle.aa_glob.specs.Ways.{items_of}
-use Rattle.aa_glob.proofs.Builds.{IsValue, value_picked, ends_rise}
+use Rattle.aa_glob.proofs.Builds.{value_picked, ends_rise}
 use Rattle.aa_glob.proofs.building.value_at.Goals as goal
 
 pub ends_up_to-place-requires : goal.ends_up_to-place-requires

@@ -1,4 +1,4 @@
-use Rattle.std.proofs.Common.{◌≤◌, arith, ap, refl, subst, sym}
+use Rattle.std.proofs.Common.{arith, ap, subst, sym}
 use Rattle.aa_glob.specs.Parts.{piece_of}
 use Rattle.aa_glob.specs.Known.{AreKnown}
 use Rattle.aa_glob.specs.Expansions.{joined, outcome, outcome_of}

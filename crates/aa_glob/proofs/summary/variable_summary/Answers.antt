@@ -1,4 +1,4 @@
-use Rattle.std.proofs.Common.{◌≡◌, ◌+◌, ◌++◌, [], ◌∷◌, ◌∙◌, ap, arith, drop, get_or, List, map, refl, subst, sym, Vec, ℕ, Global}
+use Rattle.std.proofs.Common.{◌≡◌, ◌+◌, ◌++◌, [], ◌∷◌, ◌∙◌, ap, arith, drop, get_or, List, subst, sym, Vec, ℕ, Global}
 use Rattle.std.proofs.lemmas.List.{append-nil, at_drop_all, drop_more}
 use Rattle.aa_glob.specs.Expansions.{in_turn, outcome, outcome_of}
 use Rattle.aa_glob.specs.Pieces.{pieces}

@@ -1,5 +1,5 @@
 use Rattle.std.proofs.Common.{◌≡◌, ◌+◌, ◌∙◌, ap, arith, refl, Some, None, suc, sym}
-use Rattle.aa_glob.specs.Ways.{items_of, bytes_of, unread, unread_all}
+use Rattle.aa_glob.specs.Ways.{items_of, unread, unread_all}
 use Rattle.aa_glob.proofs.Tables.{IsPut, put_in}
 use Rattle.aa_glob.proofs.Walks.{walk_known, walk_into, walk_circle, walk_refused, unseen_new, unread_push}
 use Rattle.aa_glob.proofs.walk.enter.Goals as goal

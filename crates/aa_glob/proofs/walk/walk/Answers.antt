@@ -1,7 +1,7 @@
-use Rattle.std.proofs.Common.{◌≡◌, ◌+◌, ◌<◌, ◌∷◌, [], ◌∙◌, ap, arith, length, List, refl, Some, suc, sym, Vec, ℕ, Global}
+use Rattle.std.proofs.Common.{◌≡◌, ◌+◌, ◌∷◌, [], ◌∙◌, ap, arith, length, refl, Some, suc}
 use Rattle.aa_glob.specs.Pieces.{Plain, Broken, pieces_from}
 use Rattle.aa_glob.specs.Parts.{piece_of}
-use Rattle.aa_glob.specs.Ways.{items_of, bytes_of, unread, unread_all}
+use Rattle.aa_glob.specs.Ways.{unread, unread_all}
 use Rattle.aa_glob.specs.declared.pieces.Part.{Part}
 use Rattle.aa_glob.proofs.Tables.{IsPut, put_in, none_left}
 use Rattle.aa_glob.proofs.Walks.{walk_start, walk_part, walk_value, walk_values, walk_texts, walk_back, walk_end, walk_stops, unseen_less, unread_push}
