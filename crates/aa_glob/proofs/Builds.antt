@@ -33,10 +33,7 @@ both_texts : (c : List (List ℕ) → List (List ℕ) → List (List ℕ)) (x y 
 both_texts c (Texts a t1) (Texts n us) m ts e =
     let g : m ≡ max a n = cc e in let h : ts ≡ c t1 us = cc e in
     record { most_first = a; first = t1; most_second = n; second = us; is_first = refl; is_second = refl; most = g; texts = h }
-both_texts c (Texts a t1) (Stops f) m ts e = absurd (cc e)
-both_texts c (Texts a t1) Deeper m ts e = absurd (cc e)
-both_texts c (Stops f) y m ts e = absurd (cc e)
-both_texts c Deeper y m ts e = absurd (cc e)
+both_texts c x y m ts e = absurd (cc e)
 
 -- a text of the product by its number
 get_each : (t : List ℕ) (us : List (List ℕ)) (r : ℕ) → r < length us → get_or (map (λ u. t ++ u) us) r [] ≡ t ++ get_or us r []

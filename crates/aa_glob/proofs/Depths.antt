@@ -1,5 +1,5 @@
 -- A text comes to the same at each depth that is deep enough.
-use Rattle.std.proofs.Common.{◌≡◌, ◌≢◌, ℕ, zero, suc, ◌≤◌, ◌⊎◌, max, Bool, true, false, cond, List, [], ◌∷◌, length, Option, Some, None, Result, Err, refl, sym, ap, ◌∙◌, inl, inr, arith, lt-ltb}
+use Rattle.std.proofs.Common.{◌≡◌, ◌≢◌, ℕ, zero, suc, ◌≤◌, ◌⊎◌, max, Bool, true, false, cond, List, [], ◌∷◌, length, Option, Some, None, Result, Err, refl, sym, ap, ◌∙◌, subst, inl, inr, arith, lt-ltb}
 use Rattle.std.specs.Prelude.{nat_lt, if◌then◌else◌}
 use Rattle.std.proofs.lemmas.Bool.{cases_lt, le-ltb}
 use Rattle.aa_faults.specs.declared.fault.PolicyKind.{PolicyKind}
@@ -74,6 +74,13 @@ module _ (of : ℕ → Outcome) (up : (d e : ℕ) → d ≤ e → Below (of d) (
 
   one_texts : (d e m n : ℕ) (ts us : List (List ℕ)) → of d ≡ Texts m ts → of e ≡ Texts n us → Texts m ts ≡ Texts n us
   one_texts d e m n ts us a b = sym a ∙ one_outcome d e (λ z. absurd (cc (sym a ∙ z))) (λ z. absurd (cc (sym b ∙ z))) ∙ b
+
+  -- at more depth it is those texts, and at less it is deeper or they
+  pub texts_above : (n d m : ℕ) (ts : List (List ℕ)) → n ≤ d → of n ≡ Texts m ts → of d ≡ Texts m ts
+  texts_above n d m ts le e = sym (same n d le (λ z. absurd (cc (sym e ∙ z)))) ∙ e
+
+  pub texts_near : (n d m : ℕ) (ts : List (List ℕ)) → of n ≡ Texts m ts → Below (of d) (Texts m ts)
+  texts_near n d m ts e = subst (Below (of d)) (texts_above n (max n d) m ts (omega arith) e) (up d (max n d) (omega arith))
 
 pub piece_up : (vars : List Variable) (p : Piece) (d e : ℕ) → d ≤ e → Below (alone (outcome d vars) p) (alone (outcome e vars) p)
 piece_up vars p d e le = alone_below (outcome d vars) (outcome e vars) (outcome_below vars d e le) p

@@ -7,7 +7,7 @@ use Rattle.aa_glob.specs.Pieces.{Piece, Use, pieces, pieces_from}
 use Rattle.aa_glob.specs.Expansions.{Outcome, Texts, Stops, Deeper, followed, and_then, alone, joined, in_turn, outcome, outcome_of, counted}
 use Rattle.aa_glob.specs.Known.{Table, IsKnown, AreKnown, AreTextsKnown}
 use Rattle.aa_glob.specs.Ways.{Faults, Passes, items_of, pieces_left, rest_of, IsPart, Calls, OnWay, IsAmong}
-use Rattle.aa_glob.proofs.Depths.{Below, piece_up, outcome_below}
+use Rattle.aa_glob.proofs.Depths.{Below, texts_above, texts_near, piece_up, outcome_below}
 use Rattle.aa_glob.proofs.Summaries.{variable_is}
 
 abbrev IsBad : Outcome → Type 0
@@ -24,20 +24,15 @@ deeper_bad x h = subst IsBad (sym h) tt
 -- what stops or goes deeper behind texts does so as a whole
 bad_behind : (J K : Outcome) (m : ℕ) (ts : List (List ℕ)) → IsBad (and_then J K) → and_then (followed (Texts m ts) J) K ≡ and_then J K
 bad_behind (Texts n us) (Texts k vs) m ts b = absurd b
-bad_behind (Texts n us) (Stops e) m ts b = refl
-bad_behind (Texts n us) Deeper m ts b = refl
-bad_behind (Stops e) K m ts b = refl
-bad_behind Deeper K m ts b = refl
+bad_behind J K m ts b = refl
 
 bad_after : (m : ℕ) (ts : List (List ℕ)) (X : Outcome) → IsBad X → and_then (Texts m ts) X ≡ X
 bad_after m ts (Texts n us) b = absurd b
-bad_after m ts (Stops e) b = refl
-bad_after m ts Deeper b = refl
+bad_after m ts X b = refl
 
 bad_within : (m : ℕ) (ts : List (List ℕ)) (X : Outcome) → IsBad (and_then (Texts m ts) X) → and_then (Texts m ts) X ≡ X
 bad_within m ts (Texts n us) b = absurd b
-bad_within m ts (Stops e) b = refl
-bad_within m ts Deeper b = refl
+bad_within m ts X b = refl
 
 -- where the one is bad, so is the other
 passes_same : (a b whole : ℕ → Outcome) → ((d : ℕ) → IsBad (a d) → b d ≡ a d) → Passes b whole → Passes a whole
@@ -83,8 +78,8 @@ module _ (vars : List Variable) where
       alone (outcome n vars) p ≡ Texts m ts → IsKnown done p → IsPart vars done texts f → IsPart vars done texts (record f { rest = behind; kept = keep })
   part_on done texts f behind keep p n m ts e comes known part = record {
     passes = record {
-      stops = λ fault g. part.passes.stops fault (record { from = max n g.from; stops = λ d h. at d (texts_at d (omega arith)) (stops_bad (next d) fault (g.stops d (omega arith))) ∙ g.stops d (omega arith) });
-      deeper = λ d h. part.passes.deeper d (deep d h (cases d));
+      stops = λ fault g. part.passes.stops fault (record { from = max n g.from; stops = λ d h. at d (texts_above P (piece_up vars p) n d m ts (omega arith) comes) (stops_bad (next d) fault (g.stops d (omega arith))) ∙ g.stops d (omega arith) });
+      deeper = λ d h. part.passes.deeper d (deep d h (texts_near P (piece_up vars p) n d m ts comes));
     };
     reads = λ k l. part.reads (subst (AreKnown done) (sym e) (known, k)) l;
   }
@@ -101,21 +96,7 @@ module _ (vars : List Variable) where
       at : (d : ℕ) → P d ≡ Texts m ts → IsBad (next d) → rest_of vars f d ≡ next d
       at d h b = is d (Texts m ts) h ∙ bad_behind (joined (outcome d vars) (pieces_from keep 0 behind.now)) (values_at f.later.now d) m ts b
 
-      texts_at : (d : ℕ) → n ≤ d → P d ≡ Texts m ts
-      texts_at d le = by (piece_up vars p n d le)
-        where
-          by : Below (P n) (P d) → P d ≡ Texts m ts
-          by (inl deeper) = absurd (cc (sym comes ∙ deeper))
-          by (inr same) = sym same ∙ comes
-
-      cases : (d : ℕ) → (P d ≡ Deeper) ⊎ (P d ≡ Texts m ts)
-      cases d = by (piece_up vars p d (max n d) (omega arith))
-        where
-          by : Below (P d) (P (max n d)) → (P d ≡ Deeper) ⊎ (P d ≡ Texts m ts)
-          by (inl deeper) = inl deeper
-          by (inr same) = inr (same ∙ texts_at (max n d) (omega arith))
-
-      deep : (d : ℕ) → next d ≡ Deeper → (P d ≡ Deeper) ⊎ (P d ≡ Texts m ts) → rest_of vars f d ≡ Deeper
+      deep : (d : ℕ) → next d ≡ Deeper → Below (P d) (Texts m ts) → rest_of vars f d ≡ Deeper
       deep d h (inl deeper) = is d Deeper deeper
       deep d h (inr texts) = at d texts (deeper_bad (next d) h) ∙ h
 
