@@ -6,8 +6,10 @@ ghost use Rattle.aa_audit.specs.Values.{mask};
 ghost use Rattle.aa_audit.specs.Lines.{word_text, operation_text, head_text, file_text, object_text, denied_text, note_line, line};
 
 use crate::values::{push_mask, push_value};
-use aa_mediate::{Answer, Compiled, FileRequest, Label, Note, NoteWord, Request, name_of_label};
-use aa_policy::{Perms, Policy};
+use aa_mediate::{Compiled, name_of_label};
+use aa_policy::Policy;
+use aa_requests::{Answer, FileRequest, Label, Note, NoteWord, Request};
+use aa_tables::Perms;
 use std::alloc::{AllocError, Global};
 
 fn text_of_word(word: NoteWord) -> &'static str
@@ -42,9 +44,9 @@ fn push_file(out: &mut String, file: &FileRequest) -> Result<(), AllocError>
     ensures { OnOk result (string_bytes out.new ≡ string_bytes out.old ++ file_text file.now) }
 {
     out.push_str(" name=")?;
-    push_value(out, file.path.as_slice())?;
+    push_value(out, file.path())?;
     out.push_str(" requested_mask=")?;
-    push_mask(out, file.mask)
+    push_mask(out, file.mask())
 }
 
 fn push_object(out: &mut String, request: &Request) -> Result<(), AllocError>

@@ -1,7 +1,7 @@
 use crate::job::{EventName, Job, Task, Work};
 use crate::job_fault::JobFault;
 use crate::reading::read_job;
-use aa_mediate::Request;
+use aa_requests::Request;
 use std::alloc::{AllocError, Global};
 use std::test::*;
 
@@ -47,7 +47,7 @@ fn repeated(alloc: Global, item: &str, count: u32) -> Result<String, AllocError>
 /// The path, the mask's bits and the ownership of a request for a file.
 fn file_of(work: &Work) -> Option<(&[u8], u8, bool)> {
     match work {
-        Work::Ask(Request::File(file)) => Some((file.path.as_slice(), file.mask.0, file.owned)),
+        Work::Ask(Request::File(file)) => Some((file.path(), file.mask().0, file.owned())),
         Work::Exit => None,
     }
 }

@@ -1,12 +1,10 @@
 //! Verdicts of policies that are built by hand, and of read ones.
 
-use crate::answer::{Answer, Note, NoteWord};
-use crate::label::Label;
 use crate::mediator::{Compiled, Mediator, compile};
 use crate::reply::answer_in;
-use crate::request::Request;
 use aa_glob::{Item, Pattern};
 use aa_policy::{FileRule, Perms, Profile, Seq, Text, parse};
+use aa_requests::{Answer, Label, Note, NoteWord, Request};
 use aa_words::{Sources, Spot, words};
 use bitflags::Flags;
 use std::alloc::{AllocError, Global};

@@ -5,9 +5,9 @@ use Rattle.std.specs.List.{position_from}
 use Rattle.std.proofs.lemmas.Iterator.Adapters.{position_from-zero}
 use Rattle.std.proofs.lemmas.List.{drop_more, at_drop_all, append-nil, length-append}
 use Rattle.aa_policy.specs.declared.policy.Policy.{Policy}
-use Rattle.aa_mediate.specs.declared.label.Label.{Label}
-use Rattle.aa_mediate.specs.declared.request.Request.{Request}
-use Rattle.aa_mediate.specs.declared.answer.Answer.{Answer}
+use Rattle.aa_requests.specs.declared.label.Label.{Label}
+use Rattle.aa_requests.specs.declared.request.Request.{Request}
+use Rattle.aa_requests.specs.declared.answer.Answer.{Answer}
 use Rattle.aa_jobs.specs.declared.job.Work.{Work}
 use Rattle.aa_jobs.specs.declared.job.Work.TheVariants.{Ask, Exit}
 use Rattle.aa_jobs.specs.declared.job.Task.{Task}

@@ -2,9 +2,9 @@
 use Rattle.std.specs.Prelude.{ℕ, ◌+◌, List, [], ◌∷◌, codes, Option, Some, option_map, option_and_then, is_none, position, if◌then◌else◌}
 use Rattle.std.specs.Str.{bytes_eq}
 use Rattle.aa_policy.specs.declared.policy.Policy.{Policy}
-use Rattle.aa_mediate.specs.declared.label.Label.{Label}
-use Rattle.aa_mediate.specs.declared.label.Label.TheVariants.{Unconfined, Confined}
-use Rattle.aa_mediate.specs.declared.request.Request.{Request}
+use Rattle.aa_requests.specs.declared.label.Label.{Label}
+use Rattle.aa_requests.specs.declared.label.Label.TheVariants.{Unconfined, Confined}
+use Rattle.aa_requests.specs.declared.request.Request.{Request}
 use Rattle.aa_jobs.specs.declared.job.Work.{Work}
 use Rattle.aa_jobs.specs.declared.job.Work.TheVariants.{Ask, Exit}
 use Rattle.aa_jobs.specs.declared.job.Task.{Task}

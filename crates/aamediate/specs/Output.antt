@@ -5,8 +5,8 @@ use Rattle.std.specs.List.{list_all}
 use Rattle.aa_policy.specs.declared.policy.Policy.{Policy}
 use Rattle.aa_policy.specs.declared.policy.Profile.{Profile}
 use Rattle.aa_policy.specs.declared.policy.PassedOver.{PassedOver}
-use Rattle.aa_mediate.specs.declared.label.Label.{Label}
-use Rattle.aa_mediate.specs.declared.label.Label.TheVariants.{Confined}
+use Rattle.aa_requests.specs.declared.label.Label.{Label}
+use Rattle.aa_requests.specs.declared.label.Label.TheVariants.{Confined}
 use Rattle.aa_jobs.specs.declared.job.Task.{Task}
 use Rattle.aamediate.specs.declared.mediate.Answered.{Answered}
 use Rattle.aa_audit.specs.Values.{is_shown, value}

@@ -2,12 +2,13 @@
 
 ghost use Rattle.std.specs.Prelude.{◌≡◌, ◌↔◌, ◌==◌, false, true, IfOk, IsErrOf};
 ghost use Rattle.std.specs.List.{list_any};
-ghost use Rattle.aa_mediate.specs.Requests.{begins_with, is_path, is_mask};
-ghost use Rattle.aa_mediate.specs.declared.request.FileRequest.{FileRequest};
+ghost use Rattle.aa_requests.specs.Requests.{begins_with, is_path, is_mask};
 
-use aa_policy::{Perms, Text};
+use aa_lists::Text;
+use aa_tables::Perms;
 use bitflags::Flags;
 use std::alloc::{AllocError, Global};
+use std::marker::Model;
 
 /// Why a request can't be made: a bad path comes before a bad mask, and that before want of memory.
 #[derive(Clone, Copy, Debug, PartialEq, Eq)]
@@ -15,21 +16,33 @@ pub enum RequestFault {
     NoMemory,
     /// The path is empty, doesn't begin with `/`, holds a zero byte, or has more than 4,095 bytes.
     BadPath,
-    /// The mask is empty, or holds LINK or EXEC.
+    /// The mask is empty, or holds LINK or EXEC, or a bit that is no permission.
     BadMask,
 }
 
 /// How many bytes a path may have.
 const MAX_PATH: usize = 4095;
 
-/// A request to use a file.
+/// The bits of all permissions.
+const MAX_MASK: u8 = 127;
+
+/// A request to use a file. Its path is one, and so is its mask.
 #[derive(Drop)]
 pub struct FileRequest {
-    pub path: Text,
-    /// The permissions that are asked for.
-    pub mask: Perms,
-    /// Whether the task's user owns the file.
-    pub owned: bool,
+    path: Text,
+    mask: Perms,
+    owned: bool,
+}
+
+impl Model for FileRequest {
+    ghost use Rattle.std.specs.Prelude.{◌≡◌, true};
+    ghost use Rattle.aa_requests.specs.Requests.{RequestedFile, is_path, is_mask};
+
+    ghost Value = { RequestedFile };
+
+    ghost view = { λ r. record { path = r.path; mask = r.mask; owned = r.owned } };
+
+    ghost invariant = { λ r. (is_path r.path ≡ true) × (is_mask r.mask.0 ≡ true) };
 }
 
 /// What a task asks for.
@@ -62,7 +75,42 @@ fn is_good_path(path: &[u8]) -> bool
 fn is_good_mask(mask: Perms) -> bool
     ensures { result ≡ is_mask mask.0 }
 {
-    !mask.is_empty() && !mask.intersects(Perms::LINK.union(Perms::EXEC))
+    !mask.is_empty() && !mask.intersects(Perms::LINK.union(Perms::EXEC)) && mask.bits() <= MAX_MASK
+}
+
+impl FileRequest {
+    /// The path of the file.
+    pub fn path(&self) -> &[u8]
+        ensures path { result.now ≡ self.now.path }
+        ensures is_one { is_path result.now ≡ true }
+    {
+        self.path.as_slice()
+    }
+
+    /// The permissions that are asked for.
+    pub fn mask(&self) -> Perms
+        ensures mask { result ≡ self.now.mask }
+        ensures is_one { is_mask result.0 ≡ true }
+    {
+        self.mask
+    }
+
+    /// Whether the task's user owns the file.
+    pub fn owned(&self) -> bool
+        ensures { result ≡ self.now.owned }
+    {
+        self.owned
+    }
+
+    fn try_clone(&self) -> Result<FileRequest, AllocError>
+        ensures { IfOk result (λ r. r ≡ self.now) }
+    {
+        Ok(FileRequest {
+            path: self.path.try_clone()?,
+            mask: self.mask,
+            owned: self.owned,
+        })
+    }
 }
 
 impl Request {
@@ -94,11 +142,7 @@ impl Request {
         ensures { IfOk result (λ r. r ≡ self.now) }
     {
         match self {
-            Request::File(request) => Ok(Request::File(FileRequest {
-                path: request.path.try_clone()?,
-                mask: request.mask,
-                owned: request.owned,
-            })),
+            Request::File(request) => Ok(Request::File(request.try_clone()?)),
         }
     }
 }

@@ -1,7 +1,7 @@
 //! What a request is answered.
 
 use crate::label::Label;
-use aa_policy::Perms;
+use aa_tables::Perms;
 
 /// What an audit line says of a request.
 #[derive(Clone, Copy, Debug, PartialEq, Eq)]
