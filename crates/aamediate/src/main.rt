@@ -2,19 +2,11 @@
 #![tactic(auto)]
 
 mod command;
-mod engine;
-mod fault;
-mod mediate;
-mod output;
-mod stream;
-#[cfg(test)]
-mod tests;
 
+use aa_engine::{RunFault, check_job, run_job};
 use clap::Error;
 use clap::error::ErrorKind;
-use command::{Engine, engine_named, status_of};
-use engine::{check_job, run_job};
-use fault::RunFault;
+use command::{Command, command_named, status_of};
 use std::process::ExitCode;
 use std::{env, io};
 
@@ -52,22 +44,22 @@ fn answer_command(rt: &HostRuntime) -> u8 {
             Ok(words) => words,
         },
     };
-    match engine_named(alloc, words.as_slice()) {
+    match command_named(alloc, words.as_slice()) {
         Err(error) => refuse_command(rt, &error),
-        Ok(engine) => match answer_job(rt, engine) {
+        Ok(command) => match answer_job(rt, command) {
             Ok(()) => 0,
             Err(fault) => refuse(rt, fault),
         },
     }
 }
 
-fn answer_job(rt: &HostRuntime, engine: Engine) -> Result<(), RunFault> {
+fn answer_job(rt: &HostRuntime, command: Command) -> Result<(), RunFault> {
     let alloc = rt.alloc();
     let mut reader = rt.reader();
     let mut writer = io::writer(rt);
-    match engine {
-        Engine::Check => check_job(alloc, &mut reader, &mut writer),
-        Engine::Run => run_job(alloc, &mut reader, &mut writer, 1),
+    match command {
+        Command::Check => check_job(alloc, &mut reader, &mut writer),
+        Command::Run => run_job(alloc, &mut reader, &mut writer, 1),
     }
 }
 
