@@ -1,29 +1,13 @@
 //! Audit lines of answers that are built by hand, and the values in them.
 
-use crate::audit::audit_line;
-use crate::values::{push_mask, push_value};
-use aa_mediate::{Answer, Compiled, Label, Note, NoteWord, Request, compile};
-use aa_policy::{Perms, parse};
-use aa_words::{Sources, words};
+use crate::policies::{READING_AND_WRITING, WRITING, compiled_from};
+use aa_audit::{audit_line, push_mask, push_value};
+use aa_mediate::Compiled;
+use aa_requests::{Answer, Label, Note, NoteWord, Request};
+use aa_tables::Perms;
 use bitflags::Flags;
-use std::alloc::Global;
+use std::alloc::{AllocError, Global};
 use std::test::Fail;
-
-/// The letters of a rule's mode: `w` stands for writing and appending.
-const WRITING: Perms = Perms(6);
-
-const READING_AND_WRITING: Perms = Perms(7);
-
-/// The policy of a text.
-fn compiled_from(alloc: Global, text: &[u8]) -> Result<Compiled, Fail> {
-    let sources = Sources::new(alloc);
-    let list = words(alloc, &sources, text)?;
-    let policy = parse(alloc, &list)?;
-    match compile(alloc, policy, 4096) {
-        Ok(compiled) => Ok(compiled),
-        Err(_) => Err(Fail::new("not compiled")),
-    }
-}
 
 /// An answer with that note.
 fn noted(note: Option<Note>) -> Answer {
@@ -33,6 +17,30 @@ fn noted(note: Option<Note>) -> Answer {
         label: Label::Unconfined,
         note,
     }
+}
+
+fn value_of(alloc: Global, bytes: &[u8]) -> Result<String, AllocError> {
+    let mut out = String::new(alloc);
+    push_value(&mut out, bytes)?;
+    Ok(out)
+}
+
+fn mask_of(alloc: Global, perms: Perms) -> Result<String, AllocError> {
+    let mut out = String::new(alloc);
+    push_mask(&mut out, perms)?;
+    Ok(out)
+}
+
+/// The line of an answer with that note to a request of a task of that label.
+fn line_of(
+    alloc: Global,
+    compiled: &Compiled,
+    before: Label,
+    (path, mask): (&[u8], Perms),
+    note: Option<Note>,
+) -> Result<Option<String>, Fail> {
+    let request = Request::file(alloc, path, mask, false)?;
+    Ok(audit_line(alloc, compiled, before, &request, &noted(note))?)
 }
 
 #[test]
@@ -46,9 +54,8 @@ fn a_value_is_quoted_where_all_its_bytes_show(rt: HostRuntime) -> Result<(), Fai
         (b"", "\"\""),
     ];
     for (bytes, expected) in rows {
-        let mut out = String::new(rt.alloc());
-        push_value(&mut out, bytes)?;
-        assert_eq!(rt; out.as_str(), expected);
+        let shown = value_of(rt.alloc(), bytes)?;
+        assert_eq!(rt; shown.as_str(), expected);
     }
     Ok(())
 }
@@ -63,9 +70,8 @@ fn mask_letters_stand_in_their_order(rt: HostRuntime) -> Result<(), Fail> {
         (Perms(0), "\"\""),
     ];
     for (perms, expected) in rows {
-        let mut out = String::new(rt.alloc());
-        push_mask(&mut out, perms)?;
-        assert_eq!(rt; out.as_str(), expected);
+        let shown = mask_of(rt.alloc(), perms)?;
+        assert_eq!(rt; shown.as_str(), expected);
     }
     Ok(())
 }
@@ -109,9 +115,8 @@ fn a_line_has_the_bits_of_its_note(rt: HostRuntime) -> Result<(), Fail> {
         ),
     ];
     for (before, path, mask, word, perms, expected) in rows {
-        let request = Request::file(alloc, path, mask, false)?;
-        let answer = noted(Some(Note { word, perms }));
-        let line = audit_line(alloc, &compiled, before, &request, &answer)?.ok_or("no line")?;
+        let note = Some(Note { word, perms });
+        let line = line_of(alloc, &compiled, before, (path, mask), note)?.ok_or("no line")?;
         assert_eq!(rt; line.as_str(), expected);
     }
     Ok(())
@@ -121,8 +126,8 @@ fn a_line_has_the_bits_of_its_note(rt: HostRuntime) -> Result<(), Fail> {
 fn an_answer_without_a_note_has_no_line(rt: HostRuntime) -> Result<(), Fail> {
     let alloc = rt.alloc();
     let compiled = compiled_from(alloc, b"profile p { }")?;
-    let request = Request::file(alloc, b"/x", Perms::READ, false)?;
-    let line = audit_line(alloc, &compiled, Label::Confined(0), &request, &noted(None))?;
+    let asked = (b"/x".as_slice(), Perms::READ);
+    let line = line_of(alloc, &compiled, Label::Confined(0), asked, None)?;
     assert!(rt; line.is_none());
     Ok(())
 }

@@ -1,20 +1,18 @@
 //! Verdicts of policies that are built by hand, and of read ones.
 
-use crate::mediator::{Compiled, Mediator, compile};
-use crate::reply::answer_in;
-use aa_glob::{Item, Pattern};
-use aa_policy::{FileRule, Perms, Profile, Seq, Text, parse};
+use crate::policies::{READING_AND_WRITING, WRITING, compiled_from};
+use aa_faults::Spot;
+use aa_items::Item;
+use aa_lists::{Seq, Text};
+use aa_mediate::{Compiled, Mediator, answer_in};
+use aa_patterns::Pattern;
+use aa_policy::{FileRule, Profile};
 use aa_requests::{Answer, Label, Note, NoteWord, Request};
-use aa_words::{Sources, Spot, words};
+use aa_tables::Perms;
 use bitflags::Flags;
 use std::alloc::{AllocError, Global};
 use std::process::Abort;
 use std::test::Fail;
-
-/// The letters of a rule's mode: `w` stands for writing and appending.
-const WRITING: Perms = Perms(6);
-
-const READING_AND_WRITING: Perms = Perms(7);
 
 /// A rule on one path, as written.
 #[derive(Clone, Copy)]
@@ -74,15 +72,10 @@ fn profile_with(alloc: Global, flags: &str, rules: &[Written]) -> Result<Profile
     })
 }
 
-/// The policy of a text.
-fn compiled_from(alloc: Global, text: &[u8]) -> Result<Compiled, Fail> {
-    let sources = Sources::new(alloc);
-    let list = words(alloc, &sources, text)?;
-    let policy = parse(alloc, &list)?;
-    match compile(alloc, policy, 4096) {
-        Ok(compiled) => Ok(compiled),
-        Err(_) => Err(Fail::new("not compiled")),
-    }
+/// The answer to a task in the profile p, by its list of rules.
+fn answer_to(alloc: Global, profile: &Profile, asked: &Expected) -> Result<Answer, Fail> {
+    let request = Request::file(alloc, asked.path.as_bytes(), asked.mask, asked.owned)?;
+    Ok(answer_in(profile, Label::Confined(0), &request))
 }
 
 /// A task in the profile p asks for each.
@@ -94,18 +87,13 @@ fn expect(
 ) -> Result<(), Fail> {
     for expected in asked {
         let path = expected.path;
-        let request = Request::file(alloc, path.as_bytes(), expected.mask, expected.owned)?;
         let answer = Answer {
             granted: expected.granted,
             scrub: false,
             label: Label::Confined(0),
             note: expected.note,
         };
-        assert_eq!(rt;
-            answer_in(profile, Label::Confined(0), &request),
-            answer,
-            "at {path}"
-        );
+        assert_eq!(rt; answer_to(alloc, profile, expected)?, answer, "at {path}");
     }
     Ok(())
 }
@@ -325,28 +313,45 @@ fn complain_mode_grants_what_no_rule_denies(rt: HostRuntime) -> Result<(), Fail>
     )
 }
 
+/// The answer to a task of that label, and its label after it.
+fn step_of(compiled: &Compiled, before: Label, request: &Request) -> (Answer, Label) {
+    let mediator = Mediator::new(compiled);
+    let mut label = before;
+    let answer = mediator.step(&mut label, request);
+    (answer, label)
+}
+
+fn request_for(alloc: Global, path: &[u8], mask: Perms) -> Result<Request, Fail> {
+    Ok(Request::file(alloc, path, mask, true)?)
+}
+
 #[test]
 fn labels_without_a_profile_of_the_policy(rt: HostRuntime) -> Result<(), Fail> {
     let alloc = rt.alloc();
     let compiled = compiled_from(alloc, b"profile p { /x r, }")?;
-    let mediator = Mediator::new(&compiled);
-    let request = Request::file(alloc, b"/x", Perms::READ, true)?;
-    let other = Request::file(alloc, b"/y", Perms::WRITE, true)?;
+    let request = request_for(alloc, b"/x", Perms::READ)?;
+    let other = request_for(alloc, b"/y", Perms::WRITE)?;
     for (before, granted) in [(Label::Unconfined, true), (Label::Confined(1), false)] {
         for asked in [&request, &other] {
-            let mut label = before;
-            let answer = mediator.step(&mut label, asked);
             let expected = Answer {
                 granted,
                 scrub: false,
                 label: before,
                 note: None,
             };
-            assert_eq!(rt; answer, expected);
-            assert_eq!(rt; label, before);
+            assert!(rt; step_of(&compiled, before, asked) == (expected, before));
         }
     }
     Ok(())
+}
+
+/// How many profiles the policy has.
+fn count_of(compiled: &Compiled) -> usize {
+    compiled.policy().profiles.as_slice().len()
+}
+
+fn number_of(compiled: &Compiled, name: &[u8]) -> Option<u16> {
+    compiled.find(name)
 }
 
 #[test]
@@ -356,7 +361,7 @@ fn profiles_are_found_by_their_full_names(rt: HostRuntime) -> Result<(), Fail> {
         alloc,
         b"profile p { profile helper { } /x { } } profile helper { } /x { }",
     )?;
-    assert!(rt; compiled.policy().profiles.as_slice().len() == 5);
+    assert_eq!(rt; count_of(&compiled), 5);
     let rows: [(&[u8], Option<u16>); 9] = [
         (b"p", Some(0)),
         (b"p//helper", Some(1)),
@@ -369,7 +374,7 @@ fn profiles_are_found_by_their_full_names(rt: HostRuntime) -> Result<(), Fail> {
         (b"", None),
     ];
     for (name, number) in rows {
-        assert_eq!(rt; compiled.find(name), number);
+        assert_eq!(rt; number_of(&compiled, name), number);
     }
     Ok(())
 }

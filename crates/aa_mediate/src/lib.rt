@@ -10,6 +10,4 @@ mod reply;
 pub use aa_requests::{Answer, FileRequest, Label, Note, NoteWord, Request, RequestFault};
 pub use label::name_of_label;
 pub use mediator::{CompileRefusal, Compiled, Mediator, compile};
-
-#[cfg(test)]
-mod tests;
+pub use reply::answer_in;
