@@ -62,6 +62,7 @@ fn compile_job(alloc: Global, bytes: &[u8]) -> Result<CompiledJob, RunFault>
     ensures asked { IfOk result (λ a. HandsIn bytes.now a.job a.compiled) }
     ensures cause { IfErr result (λ e. Explains e bytes.now) }
     ensures unwritten { IfErr result (λ e. e ≢ RunFault.Write) }
+    ensures labels { (t : ℕ) → IsErrOf result (RunFault.UnknownProfile t) → ⊥ }
 {
     let job = match read_job(alloc, bytes) {
         Ok(job) => job,
@@ -79,6 +80,7 @@ fn check_text_of(alloc: Global, bytes: &[u8]) -> Result<String, RunFault>
     ensures text { IfOk result (λ text. IsCheckOutput bytes.now (string_bytes text)) }
     ensures cause { IfErr result (λ e. Explains e bytes.now) }
     ensures unwritten { IfErr result (λ e. e ≢ RunFault.Write) }
+    ensures labels { (t : ℕ) → IsErrOf result (RunFault.UnknownProfile t) → ⊥ }
 {
     let asked = compile_job(alloc, bytes)?;
     Ok(check_output(alloc, asked.compiled.policy())?)
@@ -108,7 +110,8 @@ fn run_text_of(alloc: Global, bytes: &[u8], workers: u32) -> Result<String, RunF
 ///
 /// Faults: `Read` where the reader failed or didn't come to an end within 33,554,432 calls; `Job` where the input is no job;
 /// `Policy` where its policy is refused; `Write` where the writer failed or took nothing, and then a front of the text was
-/// written; after every other fault nothing was. `NoMemory` can come at any point before the writing.
+/// written; after every other fault nothing was. `NoMemory` can come at any point before the writing. The labels of the
+/// tasks aren't looked at.
 pub fn check_job<R: Read, W: Write>(
     alloc: Global,
     reader: &mut R,
@@ -120,6 +123,7 @@ pub fn check_job<R: Read, W: Write>(
         × IsCheckOutput input text × (n ≤ length text) × Appends (W.contents writer.old) (W.contents writer.new) (take n text)) }
     ensures nothing { IfErr result (λ e. e ≢ RunFault.Write → Keeps (W.contents writer.old) (W.contents writer.new)) }
     ensures cause { IfErr result (λ e. IfSome (R.remaining reader.old) (λ input. Explains e input)) }
+    ensures labels { (t : ℕ) → IsErrOf result (RunFault.UnknownProfile t) → ⊥ }
 {
     let bytes = read_input(alloc, reader)?;
     let text = check_text_of(alloc, bytes.as_slice())?;

@@ -8,7 +8,7 @@ ghost use Rattle.aa_engine.specs.Output.{verdict_word, verdict_line, audit_lines
 ghost use Rattle.aa_engine.specs.declared.tasks.Answered.{Answered};
 
 use crate::tasks::{Answered, opening_label};
-use aa_audit::{audit_line, plain_text, push_value};
+use aa_audit::{plain_text, push_audit_line, push_value};
 use aa_jobs::{Job, Task};
 use aa_mediate::{Compiled, name_of_label};
 use aa_policy::{PassedOver, Policy, Profile};
@@ -53,7 +53,6 @@ fn push_verdict(
 /// Appends the audit line of an answer, if it has one.
 #[tactic(auto, unfolding(crate::specs::Output::audit_lines))]
 fn push_audit(
-    alloc: Global,
     out: &mut String,
     compiled: &Compiled,
     before: Label,
@@ -61,9 +60,9 @@ fn push_audit(
 ) -> Result<(), AllocError>
     ensures { OnOk result (string_bytes out.new ≡ string_bytes out.old ++ audit_lines compiled.now before answered.now) }
 {
-    match audit_line(alloc, compiled, before, &answered.request, &answered.answer)? {
-        Some(line) => {
-            out.push_str(line.as_str())?;
+    match answered.answer.note {
+        Some(note) => {
+            push_audit_line(out, compiled.policy(), before, &answered.request, note)?;
             out.push_str("\n")
         }
         None => Ok(()),
@@ -72,7 +71,6 @@ fn push_audit(
 
 /// Appends the lines of a task that opened with a label.
 fn push_task(
-    alloc: Global,
     out: &mut String,
     compiled: &Compiled,
     task: u64,
@@ -84,7 +82,7 @@ fn push_task(
     let mut before = opening;
     for answered in answers {
         push_verdict(out, compiled.policy(), task, answered)?;
-        push_audit(alloc, out, compiled, before, answered)?;
+        push_audit(out, compiled, before, answered)?;
         before = answered.answer.label;
     }
     Ok(())
@@ -108,7 +106,7 @@ pub fn run_output(
         let Some(label) = opening_label(compiled, task.label.as_slice()) else {
             unreachable!()
         };
-        push_task(alloc, &mut out, compiled, n as u64, label, row.as_slice())?;
+        push_task(&mut out, compiled, n as u64, label, row.as_slice())?;
     }
     Ok(out)
 }

@@ -27,62 +27,109 @@ fn numbers_have_limits(rt: HostRuntime) -> Result<(), Fail> {
     Ok(())
 }
 
+/// The text so many times, without anything between.
+fn run_of(alloc: Global, item: &str, count: u32) -> Result<String, AllocError> {
+    let mut text = String::new(alloc);
+    for _ in 0..count {
+        text.push_str(item)?;
+    }
+    Ok(text)
+}
+
+fn joined(alloc: Global, front: &str, middle: &str, end: &str) -> Result<String, AllocError> {
+    let mut text = String::from_str(alloc, front)?;
+    text.push_str(middle)?;
+    text.push_str(end)?;
+    Ok(text)
+}
+
+/// A job that asks for a path of a slash and so many letters.
+fn asking_for(alloc: Global, letters: u32) -> Result<String, AllocError> {
+    let path = run_of(alloc, "a", letters)?;
+    let item = joined(alloc, r#"{"mask":"r","file":"/"#, path.as_str(), r#""}"#)?;
+    asking(alloc, item.as_str())
+}
+
 #[test]
 fn a_path_has_at_most_4095_bytes(rt: HostRuntime) -> Result<(), Fail> {
     for (letters, want) in [(4094u32, None), (4095, Some(JobFault::BadRequest))] {
-        let mut item = String::from_str(rt.alloc(), r#"{"mask":"r","file":"/"#)?;
-        for _ in 0..letters {
-            item.push_str("a")?;
-        }
-        item.push_str(r#""}"#)?;
-        let text = asking(rt.alloc(), item.as_str())?;
+        let text = asking_for(rt.alloc(), letters)?;
         assert_eq!(rt; fault(rt.alloc(), text.as_str()), want);
     }
     Ok(())
+}
+
+fn with_tasks(alloc: Global, count: u32) -> Result<String, AllocError> {
+    let tasks = repeated(alloc, r#"{"label":"p","requests":[]}"#, count)?;
+    joined(alloc, r#"{"policy":"","tasks":["#, tasks.as_str(), "]}")
+}
+
+fn member_of(alloc: Global, i: u32) -> Result<String, Fail> {
+    Ok(format!(in alloc; ",\"{i}\":\"\"")?)
+}
+
+/// So many included texts, with the names of numbers but for the first.
+fn members_of(alloc: Global, count: u32) -> Result<String, Fail> {
+    let mut members = String::new(alloc);
+    for i in 1..count {
+        let member = member_of(alloc, i)?;
+        members.push_str(member.as_str())?;
+    }
+    Ok(members)
+}
+
+fn with_includes(alloc: Global, count: u32) -> Result<String, Fail> {
+    let members = members_of(alloc, count)?;
+    let members = joined(alloc, r#","includes":{"":"""#, members.as_str(), "}")?;
+    Ok(with(alloc, members.as_str())?)
+}
+
+fn with_items(alloc: Global, count: u32) -> Result<String, AllocError> {
+    let items = repeated(alloc, r#""exit""#, count)?;
+    asking(alloc, items.as_str())
 }
 
 #[test]
 fn lists_have_limits(rt: HostRuntime) -> Result<(), Fail> {
     for (count, want) in [(1024u32, None), (1025, Some(JobFault::TooLarge))] {
-        let tasks = repeated(rt.alloc(), r#"{"label":"p","requests":[]}"#, count)?;
-        let mut text = String::from_str(rt.alloc(), r#"{"policy":"","tasks":["#)?;
-        text.push_str(tasks.as_str())?;
-        text.push_str("]}")?;
+        let text = with_tasks(rt.alloc(), count)?;
         assert_eq!(rt; fault(rt.alloc(), text.as_str()), want);
     }
     for (count, want) in [(4095u32, None), (4096, Some(JobFault::TooLarge))] {
-        let mut members = String::from_str(rt.alloc(), r#","includes":{"":"""#)?;
-        for i in 1..count {
-            let member = format!(in rt.alloc(); ",\"{i}\":\"\"")?;
-            members.push_str(member.as_str())?;
-        }
-        members.push_str("}")?;
-        let text = with(rt.alloc(), members.as_str())?;
+        let text = with_includes(rt.alloc(), count)?;
         assert_eq!(rt; fault(rt.alloc(), text.as_str()), want);
     }
     for (count, want) in [(65_536u32, None), (65_537, Some(JobFault::TooLarge))] {
-        let items = repeated(rt.alloc(), r#""exit""#, count)?;
-        let text = asking(rt.alloc(), items.as_str())?;
+        let text = with_items(rt.alloc(), count)?;
         assert_eq!(rt; fault(rt.alloc(), text.as_str()), want);
     }
     Ok(())
 }
 
+/// A job whose policy's text has so many bytes.
+fn with_policy(alloc: Global, count: u32) -> Result<String, AllocError> {
+    let blanks = run_of(alloc, " ", count)?;
+    joined(alloc, r#"{"tasks":[],"policy":""#, blanks.as_str(), r#""}"#)
+}
+
+/// A job with an included text of so many bytes.
+fn with_include(alloc: Global, count: u32) -> Result<String, AllocError> {
+    let blanks = run_of(alloc, " ", count)?;
+    let members = joined(
+        alloc,
+        r#","includes":{"a":"","b":""#,
+        blanks.as_str(),
+        r#""}"#,
+    )?;
+    with(alloc, members.as_str())
+}
+
 #[test]
 fn texts_have_limits(rt: HostRuntime) -> Result<(), Fail> {
     for (count, want) in [(1_048_576u32, None), (1_048_577, Some(JobFault::TooLarge))] {
-        let mut long = String::new(rt.alloc());
-        for _ in 0..count {
-            long.push_str(" ")?;
-        }
-        let mut text = String::from_str(rt.alloc(), r#"{"tasks":[],"policy":""#)?;
-        text.push_str(long.as_str())?;
-        text.push_str(r#""}"#)?;
+        let text = with_policy(rt.alloc(), count)?;
         assert_eq!(rt; fault(rt.alloc(), text.as_str()), want);
-        let mut members = String::from_str(rt.alloc(), r#","includes":{"a":"","b":""#)?;
-        members.push_str(long.as_str())?;
-        members.push_str(r#""}"#)?;
-        let text = with(rt.alloc(), members.as_str())?;
+        let text = with_include(rt.alloc(), count)?;
         assert_eq!(rt; fault(rt.alloc(), text.as_str()), want);
     }
     Ok(())
@@ -100,16 +147,16 @@ fn a_job_has_at_most_16777216_bytes(rt: HostRuntime) -> Result<(), Fail> {
     Ok(())
 }
 
+fn nested(alloc: Global, depth: u32) -> Result<String, AllocError> {
+    let opened = run_of(alloc, "[", depth)?;
+    let closed = run_of(alloc, "]", depth)?;
+    joined(alloc, opened.as_str(), closed.as_str(), "")
+}
+
 #[test]
 fn nesting_is_read_to_its_depth(rt: HostRuntime) -> Result<(), Fail> {
     for (depth, want) in [(127u32, JobFault::BadShape), (128, JobFault::NotJson)] {
-        let mut text = String::new(rt.alloc());
-        for _ in 0..depth {
-            text.push_str("[")?;
-        }
-        for _ in 0..depth {
-            text.push_str("]")?;
-        }
+        let text = nested(rt.alloc(), depth)?;
         assert_eq!(rt; fault(rt.alloc(), text.as_str()), Some(want));
     }
     Ok(())

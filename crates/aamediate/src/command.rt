@@ -1,7 +1,6 @@
 //! The command line.
 
 use clap::Error;
-use clap::error::ErrorKind;
 use std::alloc::{AllocError, Global};
 
 /// What the program is asked to do with the job on its standard input.
@@ -32,14 +31,5 @@ pub fn command_named(alloc: Global, words: &[String]) -> Result<Command, Error> 
         Ok(Command::Check)
     } else {
         Ok(Command::Run)
-    }
-}
-
-/// The exit status of a command line that names no command: 0 for a request for help, 2 where it is refused for another
-/// cause than memory.
-pub fn status_of(error: &Error) -> u8 {
-    match error.kind() {
-        ErrorKind::DisplayHelp => 0,
-        _ => 2,
     }
 }

@@ -6,7 +6,7 @@ mod command;
 use aa_engine::{RunFault, check_job, run_job};
 use clap::Error;
 use clap::error::ErrorKind;
-use command::{Command, command_named, status_of};
+use command::{Command, command_named};
 use std::process::ExitCode;
 use std::{env, io};
 
@@ -25,13 +25,13 @@ fn refuse_words(rt: &HostRuntime, error: &io::Error) -> u8 {
     2
 }
 
-/// Says what the command line is refused for, or the help that it asks for, and gives the exit status.
+/// Says what the command line is refused for, or the help or version that it asks for, and gives the exit status.
 fn refuse_command(rt: &HostRuntime, error: &Error) -> u8 {
     if error.kind() == ErrorKind::OutOfMemory {
         return refuse(rt, RunFault::NoMemory);
     }
     let _ = error.print(rt);
-    status_of(error)
+    if error.exit_code() == 0 { 0 } else { 2 }
 }
 
 /// Does what the command line asks, and gives the exit status.
