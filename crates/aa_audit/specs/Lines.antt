@@ -1,14 +1,14 @@
 -- Audit lines.
 use Rattle.std.specs.Prelude.{ℕ, List, [], ◌++◌, codes, Option, option_map}
 use Rattle.aa_policy.specs.declared.policy.Policy.{Policy}
-use Rattle.aa_mediate.specs.declared.label.Label.{Label}
-use Rattle.aa_mediate.specs.declared.request.FileRequest.{FileRequest}
-use Rattle.aa_mediate.specs.declared.request.Request.{Request}
-use Rattle.aa_mediate.specs.declared.request.Request.TheVariants.{File}
-use Rattle.aa_mediate.specs.declared.answer.Answer.{Answer}
-use Rattle.aa_mediate.specs.declared.answer.Note.{Note}
-use Rattle.aa_mediate.specs.declared.answer.NoteWord.{NoteWord}
-use Rattle.aa_mediate.specs.declared.answer.NoteWord.TheVariants.{Denied, Allowed, Audit}
+use Rattle.aa_requests.specs.declared.label.Label.{Label}
+use Rattle.aa_requests.specs.declared.request.FileRequest.{FileRequest}
+use Rattle.aa_requests.specs.declared.request.Request.{Request}
+use Rattle.aa_requests.specs.declared.request.Request.TheVariants.{File}
+use Rattle.aa_requests.specs.declared.answer.Answer.{Answer}
+use Rattle.aa_requests.specs.declared.answer.Note.{Note}
+use Rattle.aa_requests.specs.declared.answer.NoteWord.{NoteWord}
+use Rattle.aa_requests.specs.declared.answer.NoteWord.TheVariants.{Denied, Allowed, Audit}
 use Rattle.aa_mediate.specs.Labels.{label_name}
 use Rattle.aa_audit.specs.Values.{value, mask}
 

@@ -6,8 +6,10 @@ ghost use Rattle.aa_audit.specs.Values.{mask};
 ghost use Rattle.aa_audit.specs.Lines.{word_text, operation_text, head_text, file_text, object_text, denied_text, note_line, line};
 
 use crate::values::{push_mask, push_value};
-use aa_mediate::{Answer, Compiled, FileRequest, Label, Note, NoteWord, Request, name_of_label};
-use aa_policy::{Perms, Policy};
+use aa_mediate::{Compiled, name_of_label};
+use aa_policy::Policy;
+use aa_requests::{Answer, FileRequest, Label, Note, NoteWord, Request};
+use aa_tables::Perms;
 use std::alloc::{AllocError, Global};
 
 fn text_of_word(word: NoteWord) -> &'static str
@@ -42,9 +44,9 @@ fn push_file(out: &mut String, file: &FileRequest) -> Result<(), AllocError>
     ensures { OnOk result (string_bytes out.new ≡ string_bytes out.old ++ file_text file.now) }
 {
     out.push_str(" name=")?;
-    push_value(out, file.path.as_slice())?;
+    push_value(out, file.path())?;
     out.push_str(" requested_mask=")?;
-    push_mask(out, file.mask)
+    push_mask(out, file.mask())
 }
 
 fn push_object(out: &mut String, request: &Request) -> Result<(), AllocError>
@@ -72,23 +74,23 @@ fn push_denied(out: &mut String, note: Note) -> Result<(), AllocError>
     }
 }
 
+/// Appends the line of a note, without its line end. `before` is the label of the task when it asked. After an error
+/// `out` has a part of the line, and is to be thrown away.
 #[tactic(auto, unfolding(crate::specs::Lines::note_line))]
-fn line_of_note(
-    alloc: Global,
+pub fn push_audit_line(
+    out: &mut String,
     policy: &Policy,
     before: Label,
     request: &Request,
     note: Note,
-) -> Result<String, AllocError>
-    ensures { IfOk result (λ s. string_bytes s ≡ note_line policy.now before request.now note) }
+) -> Result<(), AllocError>
+    ensures { OnOk result (string_bytes out.new ≡ string_bytes out.old ++ note_line policy.now before request.now note) }
 {
-    let mut out = String::new(alloc);
-    push_head(&mut out, note.word, request)?;
+    push_head(out, note.word, request)?;
     out.push_str(" profile=")?;
-    push_value(&mut out, name_of_label(policy, before))?;
-    push_object(&mut out, request)?;
-    push_denied(&mut out, note)?;
-    Ok(out)
+    push_value(out, name_of_label(policy, before))?;
+    push_object(out, request)?;
+    push_denied(out, note)
 }
 
 /// The audit line of an answer, without its line end, where the answer has a note. `before` is the label of the
@@ -104,6 +106,10 @@ pub fn audit_line(
 {
     match answer.note {
         None => Ok(None),
-        Some(note) => Ok(Some(line_of_note(alloc, compiled.policy(), before, request, note)?)),
+        Some(note) => {
+            let mut out = String::new(alloc);
+            push_audit_line(&mut out, compiled.policy(), before, request, note)?;
+            Ok(Some(out))
+        }
     }
 }

@@ -4,8 +4,5 @@
 mod audit;
 mod values;
 
-pub use audit::audit_line;
-pub use values::{plain_text, push_value};
-
-#[cfg(test)]
-mod tests;
+pub use audit::{audit_line, push_audit_line};
+pub use values::{plain_text, push_mask, push_value};

@@ -2,8 +2,8 @@
 use Rattle.std.specs.Prelude.{◌≡◌, ℕ, ◌&&◌, ◌||◌, ◌==◌, List, length, map, codes, Bool, true, false, refl, bit_or, nat_lt, if◌then◌else◌, Result, Ok, Err}
 use Rattle.std.specs.List.{list_any, list_all}
 use Rattle.std.specs.Str.{bytes_eq}
-use Rattle.aa_mediate.specs.declared.request.Request.{Request}
-use Rattle.aa_mediate.specs.declared.request.Request.TheVariants.{File}
+use Rattle.aa_requests.specs.declared.request.Request.{Request}
+use Rattle.aa_requests.specs.declared.request.Request.TheVariants.{File}
 use Rattle.aa_jobs.specs.declared.job_fault.JobFault.{JobFault}
 use Rattle.aa_jobs.specs.declared.job_fault.JobFault.TheVariants.{BadRequest, TooLarge}
 use Rattle.aa_jobs.specs.declared.job.Include.{Include}
@@ -14,7 +14,7 @@ use Rattle.aa_jobs.specs.declared.job.EventName.{EventName}
 use Rattle.aa_jobs.specs.declared.job.EventName.TheVariants.{Send, Take, Finish, Collect, Shut}
 use Rattle.aa_jobs.specs.declared.job.Event.{Event}
 use Rattle.aa_jobs.specs.declared.job.Job.{Job}
-use Rattle.aa_mediate.specs.Requests.{is_path, is_mask}
+use Rattle.aa_requests.specs.Requests.{is_path, is_mask}
 use Rattle.aa_jobs.specs.Steps.{◌>>=◌, only_if, each}
 use Rattle.aa_jobs.specs.Written.{WrittenItem, exit_item, file_item, link_item, exec_item, cap_item, net_item, WrittenTask, WrittenEvent, WrittenJob}
 use Rattle.aa_jobs.specs.Limits.{Sizes, include_sizes, keeps_limits}

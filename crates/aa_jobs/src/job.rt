@@ -3,8 +3,8 @@
 ghost use Rattle.std.specs.Prelude.{IsTrue};
 ghost use Rattle.aa_jobs.specs.Limits.{keeps_limits};
 
-use aa_mediate::Request;
-use aa_policy::{Seq, Text};
+use aa_lists::{Seq, Text};
+use aa_requests::Request;
 
 /// A text that the policy may include, by its name.
 #[derive(Drop)]

@@ -13,6 +13,3 @@ mod tree;
 pub use job::{Event, EventName, Include, Job, Task, Work};
 pub use job_fault::JobFault;
 pub use reading::read_job;
-
-#[cfg(test)]
-mod tests;

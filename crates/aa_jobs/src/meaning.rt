@@ -10,8 +10,9 @@ ghost use Rattle.aa_jobs.specs.Raw.{raw_item, raw_task, raw_event, raw_include, 
 use crate::job::{Event, EventName, Include, Job, Task, Work};
 use crate::job_fault::JobFault;
 use crate::raw::{RawEvent, RawInclude, RawItem, RawJob, RawTask};
-use aa_mediate::{Request, RequestFault};
-use aa_policy::{Perms, Seq, Text};
+use aa_lists::{Seq, Text};
+use aa_requests::{Request, RequestFault};
+use aa_tables::Perms;
 use bitflags::Flags;
 use std::alloc::{AllocError, Global};
 

@@ -5,8 +5,8 @@ use Rattle.std.specs.List.{slice_get}
 use Rattle.std.specs.Str.{bytes_eq}
 use Rattle.aa_policy.specs.declared.policy.Policy.{Policy}
 use Rattle.aa_policy.specs.declared.policy.Profile.{Profile}
-use Rattle.aa_mediate.specs.declared.label.Label.{Label}
-use Rattle.aa_mediate.specs.declared.label.Label.TheVariants.{Unconfined, Confined}
+use Rattle.aa_requests.specs.declared.label.Label.{Label}
+use Rattle.aa_requests.specs.declared.label.Label.TheVariants.{Unconfined, Confined}
 
 -- the number of the profile with that full name
 abbrev pub profile_number : Policy → List ℕ → Option ℕ

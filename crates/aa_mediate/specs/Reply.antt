@@ -6,15 +6,15 @@ use Rattle.aa_policy.specs.declared.policy.Profile.{Profile}
 use Rattle.aa_policy.specs.declared.rule.FileRule.{FileRule}
 use Rattle.aa_tables.specs.declared.perms.Perms.{Perms}
 use Rattle.aa_mediate.specs.declared.reply.RequestBits.{RequestBits}
-use Rattle.aa_mediate.specs.declared.label.Label.{Label}
-use Rattle.aa_mediate.specs.declared.label.Label.TheVariants.{Unconfined, Confined}
-use Rattle.aa_mediate.specs.declared.request.FileRequest.{FileRequest}
-use Rattle.aa_mediate.specs.declared.request.Request.{Request}
-use Rattle.aa_mediate.specs.declared.request.Request.TheVariants.{File}
-use Rattle.aa_mediate.specs.declared.answer.Answer.{Answer}
-use Rattle.aa_mediate.specs.declared.answer.Note.{Note}
-use Rattle.aa_mediate.specs.declared.answer.NoteWord.{NoteWord}
-use Rattle.aa_mediate.specs.declared.answer.NoteWord.TheVariants.{Denied, Allowed, Audit}
+use Rattle.aa_requests.specs.declared.label.Label.{Label}
+use Rattle.aa_requests.specs.declared.label.Label.TheVariants.{Unconfined, Confined}
+use Rattle.aa_requests.specs.declared.request.FileRequest.{FileRequest}
+use Rattle.aa_requests.specs.declared.request.Request.{Request}
+use Rattle.aa_requests.specs.declared.request.Request.TheVariants.{File}
+use Rattle.aa_requests.specs.declared.answer.Answer.{Answer}
+use Rattle.aa_requests.specs.declared.answer.Note.{Note}
+use Rattle.aa_requests.specs.declared.answer.NoteWord.{NoteWord}
+use Rattle.aa_requests.specs.declared.answer.NoteWord.TheVariants.{Denied, Allowed, Audit}
 use Rattle.aa_mediate.specs.Permissions.{minus, granted, deny, loud, audited}
 
 -- a set of permissions by its bits

@@ -1,16 +1,10 @@
-//! What confines a task.
+//! How labels are called.
 
 ghost use Rattle.std.specs.Prelude.{◌≡◌};
 ghost use Rattle.aa_mediate.specs.Labels.{label_name};
 
 use aa_policy::Policy;
-
-/// The label of a task: no profile, or the profile of that number.
-#[derive(Clone, Copy, Debug, PartialEq, Eq)]
-pub enum Label {
-    Unconfined,
-    Confined(u16),
-}
+use aa_requests::Label;
 
 /// How a label is called: by its profile's full name, or `unconfined`. A label that the policy doesn't have has no name.
 #[tactic(auto, unfolding(crate::specs::Labels::label_name))]

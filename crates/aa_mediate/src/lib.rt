@@ -1,18 +1,13 @@
 //! Decides requests by the rules of a policy.
 #![tactic(auto)]
 
-mod answer;
 mod label;
 mod mediator;
 mod numbering;
 mod permissions;
 mod reply;
-mod request;
 
-pub use answer::{Answer, Note, NoteWord};
-pub use label::{Label, name_of_label};
+pub use aa_requests::{Answer, FileRequest, Label, Note, NoteWord, Request, RequestFault};
+pub use label::name_of_label;
 pub use mediator::{CompileRefusal, Compiled, Mediator, compile};
-pub use request::{FileRequest, Request, RequestFault};
-
-#[cfg(test)]
-mod tests;
+pub use reply::answer_in;

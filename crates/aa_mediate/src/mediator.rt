@@ -5,12 +5,10 @@ ghost use Rattle.aa_mediate.specs.Labels.{profile_number};
 ghost use Rattle.aa_faults.specs.Kinds.{no_memory};
 ghost use Rattle.aa_mediate.specs.Reply.{reply};
 
-use crate::answer::Answer;
-use crate::label::Label;
 use crate::numbering::number_profiles;
 use crate::reply::answer;
-use crate::request::Request;
 use aa_policy::Policy;
+use aa_requests::{Answer, Label, Request};
 use aa_words::PolicyFault;
 use std::alloc::Global;
 use std::collections::HashMap;

@@ -4,11 +4,9 @@ ghost use Rattle.std.specs.Prelude.{◌≡◌};
 ghost use Rattle.aa_mediate.specs.Permissions.{minus};
 ghost use Rattle.aa_mediate.specs.Reply.{file_bits, blocked, note_of, refusal_note, grant_note, stay, decided, reply_in, reply};
 
-use crate::answer::{Answer, Note, NoteWord};
-use crate::label::Label;
 use crate::permissions::RuleSets;
-use crate::request::{FileRequest, Request};
 use aa_policy::{FileRule, Perms, Policy, Profile};
+use aa_requests::{Answer, FileRequest, Label, Note, NoteWord, Request};
 use bitflags::Flags;
 
 /// The permissions that a request is about, sorted by what the rules say of them.
@@ -29,15 +27,16 @@ pub struct RequestBits {
 fn bits_of_file(rules: &[FileRule], request: &FileRequest) -> RequestBits
     ensures { result ≡ file_bits rules.now request.now }
 {
-    let sets = RuleSets::of(rules, request.path.as_slice(), request.owned);
-    let missing = request.mask.difference(sets.granted());
+    let requested = request.mask();
+    let sets = RuleSets::of(rules, request.path(), request.owned());
+    let missing = requested.difference(sets.granted());
     let denied = missing.intersection(sets.deny);
     RequestBits {
-        requested: request.mask,
+        requested,
         missing,
         denied,
         quiet: denied.difference(sets.loud),
-        audited: request.mask.intersection(sets.audited),
+        audited: requested.intersection(sets.audited),
     }
 }
 

@@ -1,45 +1,35 @@
 //! The command line.
 
-use clap::error::ErrorKind;
-use clap::{Command, Error};
+use clap::Error;
 use std::alloc::{AllocError, Global};
 
 /// What the program is asked to do with the job on its standard input.
 #[derive(Clone, Copy, Debug, PartialEq, Eq)]
-pub enum Engine {
+pub enum Command {
     /// To say whether its policy compiles.
     Check,
     /// To decide its requests.
     Run,
 }
 
-fn command_line<'a>(alloc: Global) -> Result<Command<'a>, AllocError> {
-    let check = Command::new(alloc, "check").about(
+fn command_line<'a>(alloc: Global) -> Result<clap::Command<'a>, AllocError> {
+    let check = clap::Command::new(alloc, "check").about(
         "Reads the policy of a job and counts its rules",
     );
-    let run = Command::new(alloc, "run").about("Decides the requests of a job's tasks");
-    Command::new(alloc, "aamediate")
+    let run = clap::Command::new(alloc, "run").about("Decides the requests of a job's tasks");
+    clap::Command::new(alloc, "aamediate")
         .about("Decides what AppArmor profiles permit: reads a job from standard input")
         .subcommand_required(true)
         .subcommand(check)?
         .subcommand(run)
 }
 
-/// The engine that the words of a command line name; the first word is the program's name.
-pub fn engine_named(alloc: Global, words: &[String]) -> Result<Engine, Error> {
+/// The command that the words of a command line name; the first word is the program's name.
+pub fn command_named(alloc: Global, words: &[String]) -> Result<Command, Error> {
     let matches = command_line(alloc)?.try_get_matches_from(words)?;
     if matches.subcommand_name() == Some("check") {
-        Ok(Engine::Check)
+        Ok(Command::Check)
     } else {
-        Ok(Engine::Run)
-    }
-}
-
-/// The exit status of a command line that names no engine: 0 for a request for help, 2 where it is refused for another
-/// cause than memory.
-pub fn status_of(error: &Error) -> u8 {
-    match error.kind() {
-        ErrorKind::DisplayHelp => 0,
-        _ => 2,
+        Ok(Command::Run)
     }
 }

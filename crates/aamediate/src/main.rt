@@ -2,19 +2,11 @@
 #![tactic(auto)]
 
 mod command;
-mod engine;
-mod fault;
-mod mediate;
-mod output;
-mod stream;
-#[cfg(test)]
-mod tests;
 
+use aa_engine::{RunFault, check_job, run_job};
 use clap::Error;
 use clap::error::ErrorKind;
-use command::{Engine, engine_named, status_of};
-use engine::{check_job, run_job};
-use fault::RunFault;
+use command::{Command, command_named};
 use std::process::ExitCode;
 use std::{env, io};
 
@@ -33,13 +25,13 @@ fn refuse_words(rt: &HostRuntime, error: &io::Error) -> u8 {
     2
 }
 
-/// Says what the command line is refused for, or the help that it asks for, and gives the exit status.
+/// Says what the command line is refused for, or the help or version that it asks for, and gives the exit status.
 fn refuse_command(rt: &HostRuntime, error: &Error) -> u8 {
     if error.kind() == ErrorKind::OutOfMemory {
         return refuse(rt, RunFault::NoMemory);
     }
     let _ = error.print(rt);
-    status_of(error)
+    if error.exit_code() == 0 { 0 } else { 2 }
 }
 
 /// Does what the command line asks, and gives the exit status.
@@ -52,22 +44,22 @@ fn answer_command(rt: &HostRuntime) -> u8 {
             Ok(words) => words,
         },
     };
-    match engine_named(alloc, words.as_slice()) {
+    match command_named(alloc, words.as_slice()) {
         Err(error) => refuse_command(rt, &error),
-        Ok(engine) => match answer_job(rt, engine) {
+        Ok(command) => match answer_job(rt, command) {
             Ok(()) => 0,
             Err(fault) => refuse(rt, fault),
         },
     }
 }
 
-fn answer_job(rt: &HostRuntime, engine: Engine) -> Result<(), RunFault> {
+fn answer_job(rt: &HostRuntime, command: Command) -> Result<(), RunFault> {
     let alloc = rt.alloc();
     let mut reader = rt.reader();
     let mut writer = io::writer(rt);
-    match engine {
-        Engine::Check => check_job(alloc, &mut reader, &mut writer),
-        Engine::Run => run_job(alloc, &mut reader, &mut writer, 1),
+    match command {
+        Command::Check => check_job(alloc, &mut reader, &mut writer),
+        Command::Run => run_job(alloc, &mut reader, &mut writer, 1),
     }
 }
 

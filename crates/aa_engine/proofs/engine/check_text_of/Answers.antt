@@ -1,0 +1,9 @@
+use Rattle.aa_engine.proofs.engine.check_text_of.Goals as goal
+
+pub returns-clause-text : goal.returns-clause-text
+returns-clause-text c = record {
+  job = c.in_ok-asked.asked.job;
+  policy = c.in_ok-asked.asked.compiled;
+  asked = c.in_ok-asked.ensures.asked;
+  written = rw c.policy.ensures at c.in_ok-check_output.ensures;
+}

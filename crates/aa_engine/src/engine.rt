@@ -1,0 +1,154 @@
+//! The engines: a job's bytes in, lines out.
+
+ghost use Rattle.std.specs.Prelude.{◌≡◌, ◌≢◌, ◌<◌, ◌≤◌, ℕ, List, [], length, take, IfOk, IfErr, OnOk, IfSome, IsErrOf};
+ghost use Rattle.std.specs.Io.KnownBytes.{Appends, Keeps};
+ghost use Rattle.std.specs.String.{string_bytes};
+ghost use Rattle.aa_policy.specs.declared.policy.Policy.{Policy};
+ghost use Rattle.aa_engine.specs.Policies.{sources_of, CanFollow, IsPolicyOf};
+ghost use Rattle.aa_engine.specs.Engines.{HandsIn, IsPolicyCause, IsCheckOutput, IsRunOutput, Explains};
+
+use crate::fault::{RunFault, job_fault, mediate_fault, policy_fault};
+use crate::output::{check_output, run_output};
+use crate::stream::{read_input, write_text};
+use crate::tasks::mediate;
+use aa_jobs::{Include, Job, read_job};
+use aa_mediate::{Compiled, compile};
+use aa_policy::{Policy, parse};
+use aa_words::{Sources, words};
+use std::alloc::Global;
+use std::io::{Read, Write};
+
+/// The sources that a job hands in.
+fn gather_sources(alloc: Global, includes: &[Include]) -> Result<Sources, RunFault>
+    ensures gathered { IfOk result (λ s. s ≡ sources_of includes.now) }
+    ensures fit { OnOk result (CanFollow [] (sources_of includes.now)) }
+    ensures cause { IfErr result (λ e. IsPolicyCause e (CanFollow [] (sources_of includes.now) → ⊥)) }
+{
+    let mut sources = Sources::new(alloc);
+    for include in includes {
+        match sources.add(include.name.as_slice(), include.text.as_slice()) {
+            Ok(()) => {}
+            Err(fault) => return Err(policy_fault(fault)),
+        }
+    }
+    Ok(sources)
+}
+
+/// The policy that a job's text spells.
+fn policy_of(alloc: Global, job: &Job) -> Result<Policy, RunFault>
+    ensures found { IfOk result (IsPolicyOf job.now) }
+    ensures cause { IfErr result (λ e. IsPolicyCause e ((policy : Policy) → IsPolicyOf job.now policy → ⊥)) }
+{
+    let sources = gather_sources(alloc, job.includes.as_slice())?;
+    let list = match words(alloc, &sources, job.policy.as_slice()) {
+        Ok(list) => list,
+        Err(fault) => return Err(policy_fault(fault)),
+    };
+    match parse(alloc, &list) {
+        Ok(policy) => Ok(policy),
+        Err(fault) => Err(policy_fault(fault)),
+    }
+}
+
+/// A job with its policy, compiled.
+#[derive(Drop)]
+struct CompiledJob {
+    job: Job,
+    compiled: Compiled,
+}
+
+/// The job that the bytes are, and its policy.
+fn compile_job(alloc: Global, bytes: &[u8]) -> Result<CompiledJob, RunFault>
+    ensures asked { IfOk result (λ a. HandsIn bytes.now a.job a.compiled) }
+    ensures cause { IfErr result (λ e. Explains e bytes.now) }
+    ensures unwritten { IfErr result (λ e. e ≢ RunFault.Write) }
+    ensures labels { (t : ℕ) → IsErrOf result (RunFault.UnknownProfile t) → ⊥ }
+{
+    let job = match read_job(alloc, bytes) {
+        Ok(job) => job,
+        Err(fault) => return Err(job_fault(fault)),
+    };
+    let policy = policy_of(alloc, &job)?;
+    match compile(alloc, policy, job.states) {
+        Ok(compiled) => Ok(CompiledJob { job, compiled }),
+        Err(refusal) => Err(policy_fault(refusal.fault)),
+    }
+}
+
+/// The text of `check` for the bytes of a job.
+fn check_text_of(alloc: Global, bytes: &[u8]) -> Result<String, RunFault>
+    ensures text { IfOk result (λ text. IsCheckOutput bytes.now (string_bytes text)) }
+    ensures cause { IfErr result (λ e. Explains e bytes.now) }
+    ensures unwritten { IfErr result (λ e. e ≢ RunFault.Write) }
+    ensures labels { (t : ℕ) → IsErrOf result (RunFault.UnknownProfile t) → ⊥ }
+{
+    let asked = compile_job(alloc, bytes)?;
+    Ok(check_output(alloc, asked.compiled.policy())?)
+}
+
+/// The text of `run` for the bytes of a job.
+fn run_text_of(alloc: Global, bytes: &[u8], workers: u32) -> Result<String, RunFault>
+    requires { (0 < workers) × (workers ≤ 16) }
+    ensures text { IfOk result (λ text. IsRunOutput bytes.now (string_bytes text)) }
+    ensures cause { IfErr result (λ e. Explains e bytes.now) }
+    ensures unwritten { IfErr result (λ e. e ≢ RunFault.Write) }
+{
+    let asked = compile_job(alloc, bytes)?;
+    let rows = match mediate(alloc, &asked.job, &asked.compiled, workers) {
+        Ok(rows) => rows,
+        Err(fault) => return Err(mediate_fault(fault)),
+    };
+    Ok(run_output(
+        alloc,
+        asked.job.tasks.as_slice(),
+        &asked.compiled,
+        rows.as_slice(),
+    )?)
+}
+
+/// Reads a job, and writes how many profiles and rules its policy has.
+///
+/// Faults: `Read` where the reader failed or didn't come to an end within 33,554,432 calls; `Job` where the input is no job;
+/// `Policy` where its policy is refused; `Write` where the writer failed or took nothing, and then a front of the text was
+/// written; after every other fault nothing was. `NoMemory` can come at any point before the writing. The labels of the
+/// tasks aren't looked at.
+pub fn check_job<R: Read, W: Write>(
+    alloc: Global,
+    reader: &mut R,
+    writer: &mut W,
+) -> Result<(), RunFault>
+    ensures written { OnOk result (IfSome (R.remaining reader.old) (λ input. (text : List ℕ)
+        × IsCheckOutput input text × Appends (W.contents writer.old) (W.contents writer.new) text)) }
+    ensures front { IsErrOf result RunFault.Write → IfSome (R.remaining reader.old) (λ input. (text : List ℕ) × (n : ℕ)
+        × IsCheckOutput input text × (n ≤ length text) × Appends (W.contents writer.old) (W.contents writer.new) (take n text)) }
+    ensures nothing { IfErr result (λ e. e ≢ RunFault.Write → Keeps (W.contents writer.old) (W.contents writer.new)) }
+    ensures cause { IfErr result (λ e. IfSome (R.remaining reader.old) (λ input. Explains e input)) }
+    ensures labels { (t : ℕ) → IsErrOf result (RunFault.UnknownProfile t) → ⊥ }
+{
+    let bytes = read_input(alloc, reader)?;
+    let text = check_text_of(alloc, bytes.as_slice())?;
+    write_text(writer, text.as_bytes())
+}
+
+/// Reads a job, decides the requests of its tasks, and writes the verdicts, with the audit lines where there are some.
+///
+/// Faults as those of `check_job`, and `UnknownProfile` with the first task whose label names no profile. The requests are
+/// decided on the calling thread, whatever the number of workers.
+pub fn run_job<R: Read, W: Write>(
+    alloc: Global,
+    reader: &mut R,
+    writer: &mut W,
+    workers: u32,
+) -> Result<(), RunFault>
+    requires { (0 < workers) × (workers ≤ 16) }
+    ensures written { OnOk result (IfSome (R.remaining reader.old) (λ input. (text : List ℕ)
+        × IsRunOutput input text × Appends (W.contents writer.old) (W.contents writer.new) text)) }
+    ensures front { IsErrOf result RunFault.Write → IfSome (R.remaining reader.old) (λ input. (text : List ℕ) × (n : ℕ)
+        × IsRunOutput input text × (n ≤ length text) × Appends (W.contents writer.old) (W.contents writer.new) (take n text)) }
+    ensures nothing { IfErr result (λ e. e ≢ RunFault.Write → Keeps (W.contents writer.old) (W.contents writer.new)) }
+    ensures cause { IfErr result (λ e. IfSome (R.remaining reader.old) (λ input. Explains e input)) }
+{
+    let bytes = read_input(alloc, reader)?;
+    let text = run_text_of(alloc, bytes.as_slice(), workers)?;
+    write_text(writer, text.as_bytes())
+}

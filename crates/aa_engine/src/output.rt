@@ -1,0 +1,191 @@
+//! The lines that the commands write.
+
+ghost use Rattle.std.specs.Prelude.{◌≡◌, ◌++◌, ◌^◌, ◌<◌, ◌*◌, OnOk, IfOk, Some, decimal, flat_map, length, map, option_map, sum_by};
+ghost use Rattle.std.specs.String.{string_bytes};
+ghost use Rattle.aa_mediate.specs.Labels.{label_name};
+ghost use Rattle.aa_engine.specs.Answers.{job_answers};
+ghost use Rattle.aa_engine.specs.Output.{verdict_word, verdict_line, audit_lines, task_lines, lines_from, run_text, keyword_text, passed_over_line, counts_line, rules_of, check_text};
+ghost use Rattle.aa_engine.specs.declared.tasks.Answered.{Answered};
+
+use crate::tasks::{Answered, opening_label};
+use aa_audit::{plain_text, push_audit_line, push_value};
+use aa_jobs::{Job, Task};
+use aa_mediate::{Compiled, name_of_label};
+use aa_policy::{PassedOver, Policy, Profile};
+use aa_requests::Label;
+use itoa::{Buffer, Integer};
+use std::alloc::{AllocError, Global};
+
+fn push_integer<I: Integer>(out: &mut String, number: I) -> Result<(), AllocError>
+    ensures { OnOk result (string_bytes out.new ≡ string_bytes out.old ++ I.text number) }
+{
+    let mut buffer = Buffer::new();
+    out.push_str(buffer.format(number))
+}
+
+fn verdict(granted: bool) -> &'static str
+    ensures { result.now ≡ verdict_word granted }
+{
+    if granted { " granted" } else { " denied" }
+}
+
+/// Appends the verdict on a request.
+#[tactic(auto, unfolding(crate::specs::Output::verdict_line))]
+fn push_verdict(
+    out: &mut String,
+    policy: &Policy,
+    task: u64,
+    answered: &Answered,
+) -> Result<(), AllocError>
+    ensures { OnOk result (string_bytes out.new ≡ string_bytes out.old ++ verdict_line policy.now task answered.now) }
+{
+    let answer = &answered.answer;
+    push_integer(out, task)?;
+    out.push_str(" ")?;
+    push_integer(out, answered.number)?;
+    out.push_str(verdict(answer.granted))?;
+    out.push_str(" label=")?;
+    push_value(out, name_of_label(policy, answer.label))?;
+    out.push_str(if answer.scrub { " scrub" } else { "" })?;
+    out.push_str("\n")
+}
+
+/// Appends the audit line of an answer, if it has one.
+#[tactic(auto, unfolding(crate::specs::Output::audit_lines))]
+fn push_audit(
+    out: &mut String,
+    compiled: &Compiled,
+    before: Label,
+    answered: &Answered,
+) -> Result<(), AllocError>
+    ensures { OnOk result (string_bytes out.new ≡ string_bytes out.old ++ audit_lines compiled.now before answered.now) }
+{
+    match answered.answer.note {
+        Some(note) => {
+            push_audit_line(out, compiled.policy(), before, &answered.request, note)?;
+            out.push_str("\n")
+        }
+        None => Ok(()),
+    }
+}
+
+/// Appends the lines of a task that opened with a label.
+fn push_task(
+    out: &mut String,
+    compiled: &Compiled,
+    task: u64,
+    opening: Label,
+    answers: &[Answered],
+) -> Result<(), AllocError>
+    ensures { OnOk result (string_bytes out.new ≡ string_bytes out.old ++ task_lines compiled.now task opening answers.now) }
+{
+    let mut before = opening;
+    for answered in answers {
+        push_verdict(out, compiled.policy(), task, answered)?;
+        push_audit(out, compiled, before, answered)?;
+        before = answered.answer.label;
+    }
+    Ok(())
+}
+
+/// The text of `run`, where the tasks of a job are answered so.
+pub fn run_output(
+    alloc: Global,
+    tasks: &[Task],
+    compiled: &Compiled,
+    rows: &[Vec<Answered>],
+) -> Result<String, AllocError>
+    requires { job_answers compiled.now tasks.now ≡ Some (map (λ row. row.items) rows.now) }
+    ensures { IfOk result (λ text. run_text compiled.now tasks.now ≡ Some (string_bytes text)) }
+{
+    let mut out = String::new(alloc);
+    for (n, row) in rows.iter().enumerate() {
+        let Some(task) = tasks.get(n) else {
+            unreachable!()
+        };
+        let Some(label) = opening_label(compiled, task.label.as_slice()) else {
+            unreachable!()
+        };
+        push_task(&mut out, compiled, n as u64, label, row.as_slice())?;
+    }
+    Ok(out)
+}
+
+#[tactic(auto, unfolding(crate::specs::Output::keyword_text))]
+fn push_keyword(out: &mut String, kind: &[u8]) -> Result<(), AllocError>
+    ensures { OnOk result (string_bytes out.new ≡ string_bytes out.old ++ keyword_text kind.now) }
+{
+    match plain_text(kind) {
+        Some(text) => out.push_str(text),
+        None => push_value(out, kind),
+    }
+}
+
+/// Appends the line of a passed-over rule.
+#[tactic(auto, unfolding(crate::specs::Output::passed_over_line))]
+fn push_passed_over(out: &mut String, policy: &Policy, rule: &PassedOver) -> Result<(), AllocError>
+    ensures { OnOk result (string_bytes out.new ≡ string_bytes out.old ++ passed_over_line policy.now rule.now) }
+{
+    out.push_str("passed over ")?;
+    push_value(out, name_of_label(policy, Label::Confined(rule.profile)))?;
+    out.push_str(" ")?;
+    push_keyword(out, rule.kind.as_slice())?;
+    out.push_str("\n")?;
+    Ok(())
+}
+
+#[tactic(auto, unfolding(crate::specs::Output::counts_line))]
+fn push_counts(
+    out: &mut String,
+    profiles: u64,
+    rules: u128,
+    passed_over: u64,
+) -> Result<(), AllocError>
+    ensures { OnOk result (string_bytes out.new ≡ string_bytes out.old ++ counts_line profiles rules passed_over) }
+{
+    out.push_str("ok ")?;
+    push_integer(out, profiles)?;
+    out.push_str(" profiles ")?;
+    push_integer(out, rules)?;
+    out.push_str(" file rules ")?;
+    push_integer(out, passed_over)?;
+    out.push_str(" passed over\n")
+}
+
+/// Appends the lines of the passed-over rules.
+fn push_all_passed_over(out: &mut String, policy: &Policy) -> Result<(), AllocError>
+    ensures { OnOk result (string_bytes out.new ≡ string_bytes out.old ++ flat_map (passed_over_line policy.now) policy.now.passed_over) }
+{
+    for rule in policy.passed_over.as_slice() {
+        push_passed_over(out, policy, rule)?;
+    }
+    Ok(())
+}
+
+/// How many file rules the profiles have.
+fn count_rules(profiles: &[Profile]) -> u128
+    ensures { result ≡ rules_of profiles.now }
+{
+    let mut count = 0;
+    for profile in profiles {
+        count += profile.files.as_slice().len() as u128;
+    }
+    count
+}
+
+/// The text of `check` for a policy that compiles.
+pub fn check_output(alloc: Global, policy: &Policy) -> Result<String, AllocError>
+    ensures { IfOk result (λ text. string_bytes text ≡ check_text policy.now) }
+{
+    let mut out = String::new(alloc);
+    let profiles = policy.profiles.as_slice();
+    let passed_over = policy.passed_over.as_slice();
+    push_counts(
+        &mut out,
+        profiles.len() as u64,
+        count_rules(profiles),
+        passed_over.len() as u64,
+    )?;
+    push_all_passed_over(&mut out, policy)?;
+    Ok(out)
+}

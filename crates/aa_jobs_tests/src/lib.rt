@@ -1,0 +1,11 @@
+//! Tests of jobs: what is read, what is refused, and the limits.
+#![tactic(auto)]
+
+#[cfg(test)]
+mod limit_tests;
+#[cfg(test)]
+mod reading_tests;
+#[cfg(test)]
+mod refusal_tests;
+#[cfg(test)]
+mod texts;

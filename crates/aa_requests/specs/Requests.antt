@@ -1,0 +1,23 @@
+-- What a task may ask.
+use Rattle.std.specs.Prelude.{ℕ, List, [], ◌∷◌, length, Bool, false, not, ◌==◌, ◌&&◌, nat_le, bit_and}
+use Rattle.std.specs.List.{list_any}
+use Rattle.aa_tables.specs.declared.perms.Perms.{Perms}
+
+-- the first byte is that one
+abbrev pub begins_with : ℕ → List ℕ → Bool
+begins_with c [] = false
+begins_with c (b ∷ bs) = b == c
+
+-- a path begins with /, holds no zero byte, and has at most 4,095 bytes
+abbrev pub is_path : List ℕ → Bool
+is_path path = begins_with 47 path && not (list_any (λ b. b == 0) path) && nat_le (length path) 4095
+
+-- a mask is not empty, and holds neither LINK nor EXEC, nor a bit that is no permission
+abbrev pub is_mask : ℕ → Bool
+is_mask mask = not (mask == 0) && bit_and mask 72 == 0 && nat_le mask 127
+
+-- a file by its path, the permissions that are asked for, and whether the task's user owns it
+pub record RequestedFile : Type 0 where
+  pub path : List ℕ
+  pub mask : Perms
+  pub owned : Bool

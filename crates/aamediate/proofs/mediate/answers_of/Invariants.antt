@@ -1,7 +1,0 @@
-use Rattle.std.proofs.Common.{drop}
-use Rattle.aamediate.specs.Answers.{asked, answered}
-use Rattle.aamediate.proofs.Answering.{Answering}
-use Rattle.aamediate.proofs.mediate.answers_of.Given as goal
-
-abbrev pub invariant-loop-work : goal.invariant-loop-work
-invariant-loop-work l = Answering l.compiled l.label l.answers.items (drop l.work-index l.works) (answered l.compiled l.fn.opening 0 (asked l.works))

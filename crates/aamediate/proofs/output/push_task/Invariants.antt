@@ -1,8 +1,0 @@
-use Rattle.std.proofs.Common.{◌++◌, drop, string_bytes}
-use Rattle.aamediate.specs.Output.{task_lines}
-use Rattle.aamediate.proofs.Writing.{WritingTask}
-use Rattle.aamediate.proofs.output.push_task.Given as goal
-
-abbrev pub invariant-loop-answered : goal.invariant-loop-answered
-invariant-loop-answered l =
-    WritingTask l.compiled l.task (string_bytes l.out) l.before (drop l.answered-index l.answers) (string_bytes l.fn.out ++ task_lines l.compiled l.task l.fn.opening l.answers)
