@@ -65,46 +65,46 @@ pub record Opens (level : ℕ) (vars : List Variable) (values ts : List (List �
   pub is : level ≡ suc below
   pub has : HasTexts below vars values ts q
 
-module _ (depth : ℕ) (vars : List Variable) (done : Table) where
-  pub build_start : (text : List ℕ) (stack : List Rest) (top : Rest) (t : List ℕ) → text ≡ [] → stack ≡ [] → AreKnown done (pieces_of top) → Stands depth vars top t → IsBuilding depth vars done text stack top t
-  build_start text stack top t e g known s = record {
-    level = depth;
-    deep = omega (arith, ap length g);
-    now = t;
-    later = [];
-    stands = s;
-    known = known;
-    waits = subst (λ st. Waits done depth vars (reverse st) []) (sym g) refl;
-    is = sym (append-nil t) ∙ ap (λ x. x ++ (t ++ [])) (sym e);
-  }
+pub build_start : {depth : ℕ} {vars : List Variable} {text : List ℕ} {stack : List Rest} {top : Rest} {t : List ℕ} (done : Table) → text ≡ [] → stack ≡ [] → AreKnown done (pieces_of top) → Stands depth vars top t →
+    IsBuilding depth vars done text stack top t
+build_start {depth} {vars} {text} {stack} {top} {t} done e g known s = record {
+  level = depth;
+  deep = omega (arith, ap length g);
+  now = t;
+  later = [];
+  stands = s;
+  known = known;
+  waits = subst (λ st. Waits done depth vars (reverse st) []) (sym g) refl;
+  is = sym (append-nil t) ∙ ap (λ x. x ++ (t ++ [])) (sym e);
+}
 
-  pub build_end : (text : List ℕ) (stack : List Rest) (top : Rest) (t : List ℕ) → pieces_of top ≡ [] → stack ≡ [] → IsBuilding depth vars done text stack top t → IsBuilt text t
-  build_end text stack top t none last b =
-      let later : b.later ≡ [] = subst (λ st. Waits done b.level vars (reverse st) b.later) last b.waits in
-      inl (sym (b.is ∙ ap (λ x. text ++ (x ++ b.later)) (no_text b.level vars top b.now none b.stands) ∙ ap (λ x. text ++ x) later ∙ append-nil text))
+module _ {depth : ℕ} {vars : List Variable} {done : Table} {text : List ℕ} {stack : List Rest} {top : Rest} {t : List ℕ} (w : IsBuilding depth vars done text stack top t) where
+  pub build_end : pieces_of top ≡ [] → stack ≡ [] → IsBuilt text t
+  build_end none last =
+      let later : w.later ≡ [] = subst (λ st. Waits done w.level vars (reverse st) w.later) last w.waits in
+      inl (sym (w.is ∙ ap (λ x. text ++ (x ++ w.later)) (no_text w.level vars top w.now none w.stands) ∙ ap (λ x. text ++ x) later ∙ append-nil text))
 
-  pub build_long : (text : List ℕ) (stack : List Rest) (top : Rest) (t : List ℕ) → 16384 < length text → IsBuilding depth vars done text stack top t → IsBuilt text t
-  build_long text stack top t long b = inr (long, omega (arith, long, ap length b.is, length-append text (b.now ++ b.later)))
+  pub build_long : 16384 < length text → IsBuilt text t
+  build_long long = inr (long, omega (arith, long, ap length w.is, length-append text (w.now ++ w.later)))
 
-  pub build_back : (text : List ℕ) (stack below_stack : List Rest) (below top : Rest) (t : List ℕ) → pieces_of top ≡ [] → stack ≡ below_stack ++ below ∷ [] →
-      IsBuilding depth vars done text stack top t → IsBuilding depth vars done text below_stack below t
-  build_back text stack below_stack below top t none popped b =
-      let w = subst (λ st. Waits done b.level vars st b.later) (pushed_up below_stack stack below popped) b.waits in
+  pub build_back : {below_stack : List Rest} {below : Rest} → pieces_of top ≡ [] → stack ≡ below_stack ++ below ∷ [] → IsBuilding depth vars done text below_stack below t
+  build_back {below_stack} {below} none popped =
+      let r = subst (λ st. Waits done w.level vars st w.later) (pushed_up below_stack stack below popped) w.waits in
       record {
-        level = suc b.level;
-        deep = omega (arith, b.deep, pushed_long below_stack stack below popped);
-        now = w.0;
-        later = w.1;
-        stands = w.2;
-        known = w.3;
-        waits = w.4;
-        is = b.is ∙ ap (λ x. text ++ (x ++ b.later)) (no_text b.level vars top b.now none b.stands) ∙ ap (λ x. text ++ x) w.5;
+        level = suc w.level;
+        deep = omega (arith, w.deep, pushed_long below_stack stack below popped);
+        now = r.0;
+        later = r.1;
+        stands = r.2;
+        known = r.3;
+        waits = r.4;
+        is = w.is ∙ ap (λ x. text ++ (x ++ w.later)) (no_text w.level vars top w.now none w.stands) ∙ ap (λ x. text ++ x) r.5;
       }
 
-  pub build_plain : (text new : List ℕ) (stack : List Rest) (f : Rest) (behind : Bor (List ℕ)) (keep : Bool) (t : List ℕ) (b : ℕ) → pieces_of f ≡ Plain b ∷ pieces_from keep 0 behind.now → new ≡ text ++ b ∷ [] →
-      IsBuilding depth vars done text stack f t → IsBuilding depth vars done new stack (record f { text = behind; kept = keep }) t
-  build_plain text new stack f behind keep t b e pushed w =
-      let r = stands_plain w.level vars f behind keep b w.now e w.stands in
+  pub build_plain : {new : List ℕ} {b : ℕ} (behind : Bor (List ℕ)) (keep : Bool) → pieces_of top ≡ Plain b ∷ pieces_from keep 0 behind.now → new ≡ text ++ b ∷ [] →
+      IsBuilding depth vars done new stack (record top { text = behind; kept = keep }) t
+  build_plain {new} {b} behind keep e pushed =
+      let r = stands_plain w.level vars top behind keep b w.now e w.stands in
       record {
         level = w.level;
         deep = w.deep;
@@ -117,25 +117,24 @@ module _ (depth : ℕ) (vars : List Variable) (done : Table) where
       }
 
   -- at a variable
-  module _ (text : List ℕ) (stack : List Rest) (f : Rest) (behind : Bor (List ℕ)) (keep : Bool) (t name : List ℕ) (k : VariableSummary) (right : IsRight depth vars done name k)
-      (e : pieces_of f ≡ Use name ∷ pieces_from keep 0 behind.now) (w : IsBuilding depth vars done text stack f t) where
-    pub split : Splits w.level vars f behind keep name k w.now
-    split = stands_use w.level vars f behind keep name k w.now depth done right e w.stands
+  module _ (behind : Bor (List ℕ)) (keep : Bool) {name : List ℕ} {k : VariableSummary} (right : IsRight depth vars done name k) (e : pieces_of top ≡ Use name ∷ pieces_from keep 0 behind.now) where
+    pub split : Splits w.level vars top behind keep name k w.now
+    split = stands_use w.level vars top behind keep name k w.now depth done right e w.stands
 
     abbrev pub next : Rest
-    next = record { text = behind; kept = keep; number = f.number % (f.count / k.texts.count); count = f.count / k.texts.count }
+    next = record { text = behind; kept = keep; number = top.number % (top.count / k.texts.count); count = top.count / k.texts.count }
 
     -- it is defined
     pub build_defined : (fault : PolicyKind) → ((d : ℕ) → outcome (suc d) vars name ≡ Stops fault) → ⊥
     build_defined fault stops = let d = goes_deeper w.level vars name split.most split.ts split.texts in cc (sym split.texts ∙ ap (λ l. outcome l vars name) d.1 ∙ stops d.0)
 
-    pub build_opens : (values : List (List ℕ)) → is_reserved name ≡ false → values_of vars name ≡ Some values → Opens w.level vars values split.ts (f.number / (f.count / k.texts.count))
+    pub build_opens : (values : List (List ℕ)) → is_reserved name ≡ false → values_of vars name ≡ Some values → Opens w.level vars values split.ts (top.number / (top.count / k.texts.count))
     build_opens values plain defined = by (in_turn (outcome d.0 vars) values) refl (sym (variable_is d.0 vars name values plain defined) ∙ ap (λ l. outcome l vars name) (sym d.1) ∙ split.texts)
       where
         d : (l : ℕ) × (w.level ≡ suc l)
         d = goes_deeper w.level vars name split.most split.ts split.texts
 
-        by : (x : Outcome) → in_turn (outcome d.0 vars) values ≡ x → counted x ≡ Texts split.most split.ts → Opens w.level vars values split.ts (f.number / (f.count / k.texts.count))
+        by : (x : Outcome) → in_turn (outcome d.0 vars) values ≡ x → counted x ≡ Texts split.most split.ts → Opens w.level vars values split.ts (top.number / (top.count / k.texts.count))
         by (Texts m us) is c =
             let g : max m (length us) ≡ split.most = cc c in let h : us ≡ split.ts = cc c in
             record { below = d.0; is = d.1; has = record { most = m; texts = is ∙ ap (Texts m) h; few = omega (arith, split.few); short = omega (arith, split.few, ap length h); within = split.within } }
@@ -155,12 +154,12 @@ module _ (depth : ℕ) (vars : List Variable) (done : Table) where
     }
 
     -- into the value that its text is of
-    module _ (values : List (List ℕ)) (o : Opens w.level vars values split.ts (f.number / (f.count / k.texts.count))) (new_stack : List Rest) (value : Rest) (pushed : new_stack ≡ stack ++ next ∷ []) where
-      pub build_into : AreKnown done (pieces_of value) → Stands o.below vars value (get_or split.ts (f.number / (f.count / k.texts.count)) []) → IsBuilding depth vars done text new_stack value t
+    module _ {values : List (List ℕ)} (o : Opens w.level vars values split.ts (top.number / (top.count / k.texts.count))) {new_stack : List Rest} (value : Rest) (pushed : new_stack ≡ stack ++ next ∷ []) where
+      pub build_into : AreKnown done (pieces_of value) → Stands o.below vars value (get_or split.ts (top.number / (top.count / k.texts.count)) []) → IsBuilding depth vars done text new_stack value t
       build_into known stands = record {
         level = o.below;
         deep = omega (arith, w.deep, o.is, pushed_long stack new_stack next pushed);
-        now = get_or split.ts (f.number / (f.count / k.texts.count)) [];
+        now = get_or split.ts (top.number / (top.count / k.texts.count)) [];
         later = split.later ++ w.later;
         stands = stands;
         known = known;
@@ -175,18 +174,18 @@ module _ (depth : ℕ) (vars : List Variable) (done : Table) where
         is = w.is ∙ ap (λ x. text ++ (x ++ w.later)) split.is ∙ ap (λ x. text ++ x) (append_assoc _ split.later w.later);
       }
 
-      pub steps_into : values_of vars name ≡ Some values → value.kept ≡ false → Contains values value.text.now → steps_left (depth - length new_stack) vars new_stack value < steps_left (depth - length stack) vars stack f
+      pub steps_into : values_of vars name ≡ Some values → value.kept ≡ false → Contains values value.text.now → steps_left (depth - length new_stack) vars new_stack value < steps_left (depth - length stack) vars stack top
       steps_into defined fresh among =
           let above : depth - length stack ≡ suc o.below = omega (arith, w.deep, o.is) in
           let below : depth - length new_stack ≡ o.below = omega (arith, w.deep, o.is, pushed_long stack new_stack next pushed) in
           let variable : steps_of_variable (suc o.below) vars name ≡ steps_of_texts (steps_of_variable o.below vars) values = ap (steps_of_values (steps_of_variable o.below vars)) defined in
-          let whole : steps_of_rest (suc o.below) vars f ≡ suc (suc (steps_of_variable (suc o.below) vars name + steps_of_rest (suc o.below) vars next)) = ap (steps (steps_of_variable (suc o.below) vars)) e in
+          let whole : steps_of_rest (suc o.below) vars top ≡ suc (suc (steps_of_variable (suc o.below) vars name + steps_of_rest (suc o.below) vars next)) = ap (steps (steps_of_variable (suc o.below) vars)) e in
           let inside : steps_of_rest o.below vars value ≡ steps (steps_of_variable o.below vars) (pieces value.text.now) = ap (λ b. steps (steps_of_variable o.below vars) (pieces_from b 0 value.text.now)) fresh in
           let stacked : steps_of_stack o.below vars (reverse new_stack) ≡ suc (steps_of_rest (suc o.below) vars next + steps_of_stack (suc o.below) vars (reverse stack)) =
           ap (steps_of_stack o.below vars) (pushed_up stack new_stack next pushed) in
           omega (
             arith,
-            ap (λ d. steps_left d vars stack f) above,
+            ap (λ d. steps_left d vars stack top) above,
             ap (λ d. steps_left d vars new_stack value) below,
             variable,
             whole,

@@ -8,52 +8,38 @@ use Rattle.aa_glob.proofs.Stacks.{split, build_defined, build_opens, build_blank
 use Rattle.aa_glob.proofs.building.enter.Goals as goal
 
 pub nonzero_div-left : goal.nonzero_div-left
-nonzero_div-left c = let b = c.requires.building in
-    (split (length c.args.done.now.entries) c.args.vars.now c.args.done.now.entries b.0 c.args.stack.now.items c.args.top c.args.behind c.args.keep b.1 c.args.name.now c.known_summary-known.result.now
-    (c.requires.right c.args.name.now c.known_summary-known.result.now c.known_summary-known.ensures) c.requires.next b.2).some
+nonzero_div-left c = (split c.requires.building.2 c.args.behind c.args.keep (c.requires.right c.args.name.now _ c.known_summary-known.ensures) c.requires.next).some
 
 pub nonzero_rem-next : goal.nonzero_rem-next
-nonzero_rem-next c = let b = c.requires.building in
-    (split (length c.args.done.now.entries) c.args.vars.now c.args.done.now.entries b.0 c.args.stack.now.items c.args.top c.args.behind c.args.keep b.1 c.args.name.now c.known_summary-known.result.now
-    (c.requires.right c.args.name.now c.known_summary-known.result.now c.known_summary-known.ensures) c.requires.next b.2).left
+nonzero_rem-next c = (split c.requires.building.2 c.args.behind c.args.keep (c.requires.right c.args.name.now _ c.known_summary-known.ensures) c.requires.next).left
 
 pub nonzero_div-top : goal.nonzero_div-top
-nonzero_div-top c = let b = c.requires.building in
-    (split (length c.args.done.now.entries) c.args.vars.now c.args.done.now.entries b.0 c.args.stack.now.items c.args.top c.args.behind c.args.keep b.1 c.args.name.now c.known_summary-known.result.now
-    (c.requires.right c.args.name.now c.known_summary-known.result.now c.known_summary-known.ensures) c.requires.next b.2).left
+nonzero_div-top c = (split c.requires.building.2 c.args.behind c.args.keep (c.requires.right c.args.name.now _ c.known_summary-known.ensures) c.requires.next).left
 
 pub returns-then-known-clause-ok : goal.returns-then-known-clause-ok
-returns-then-known-clause-ok c = λ text t b.
-    build_blank (length c.args.done.now.entries) c.args.vars.now c.args.done.now.entries text c.args.stack.now.items c.args.top c.args.behind c.args.keep t c.args.name.now c.known_summary-known.result.now
-    (c.requires.right c.args.name.now c.known_summary-known.result.now c.known_summary-known.ensures) c.requires.next b c.if-known.true
+returns-then-known-clause-ok c = λ text t b. build_blank b c.args.behind c.args.keep (c.requires.right c.args.name.now _ c.known_summary-known.ensures) c.requires.next c.if-known.true
 
 pub unreachable-requires : goal.unreachable-requires
-unreachable-requires c = let b = c.requires.building in
-    build_defined (length c.args.done.now.entries) c.args.vars.now c.args.done.now.entries b.0 c.args.stack.now.items c.args.top c.args.behind c.args.keep b.1 c.args.name.now c.known_summary-known.result.now
-    (c.requires.right c.args.name.now c.known_summary-known.result.now c.known_summary-known.ensures) c.requires.next b.2 c.in_default.field-0 c.in_default.ensures.err
+unreachable-requires c = build_defined c.requires.building.2 c.args.behind c.args.keep (c.requires.right c.args.name.now _ c.known_summary-known.ensures) c.requires.next c.in_default.field-0 c.in_default.ensures.err
 
 pub value_at-value-requires : goal.value_at-value-requires
-value_at-value-requires c = let b = c.requires.building in
+value_at-value-requires c =
     let right = c.requires.right c.args.name.now c.known_summary-known.result.now c.known_summary-known.ensures in
-    let o = build_opens (length c.args.done.now.entries) c.args.vars.now c.args.done.now.entries b.0 c.args.stack.now.items c.args.top c.args.behind c.args.keep b.1 c.args.name.now c.known_summary-known.result.now
-    right c.requires.next b.2 (items_of c.in-Ok.values.now) c.in-Ok.ensures.ok.0 c.in-Ok.ensures.ok.1 in
+    let o = build_opens c.requires.building.2 c.args.behind c.args.keep right c.requires.next (items_of c.in-Ok.values.now) c.in-Ok.ensures.ok.0 c.in-Ok.ensures.ok.1 in
     (o.below, c.args.vars.now, _, subst (AreEnds c.args.vars.now 0 (items_of c.in-Ok.values.now)) (sym c.as_slice.ensures.value) (right.ends (items_of c.in-Ok.values.now) c.in-Ok.ensures.ok.1), o.has)
 
 pub returns-clause-ok : goal.returns-clause-ok
 returns-clause-ok c = λ text t b.
     let right = c.requires.right c.args.name.now c.known_summary-known.result.now c.known_summary-known.ensures in
-    let o = build_opens (length c.args.done.now.entries) c.args.vars.now c.args.done.now.entries text c.args.stack.now.items c.args.top c.args.behind c.args.keep t c.args.name.now c.known_summary-known.result.now
-    right c.requires.next b (items_of c.in-Ok.values.now) c.in-Ok.ensures.ok.0 c.in-Ok.ensures.ok.1 in
-    build_into (length c.args.done.now.entries) c.args.vars.now c.args.done.now.entries text c.args.stack.now.items c.args.top c.args.behind c.args.keep t c.args.name.now c.known_summary-known.result.now
-    right c.requires.next b (items_of c.in-Ok.values.now) o c.push.new.self.items c.value_at-value.result c.in_ok-push.ensures.items
+    let o = build_opens b c.args.behind c.args.keep right c.requires.next (items_of c.in-Ok.values.now) c.in-Ok.ensures.ok.0 c.in-Ok.ensures.ok.1 in
+    build_into b c.args.behind c.args.keep right c.requires.next o c.value_at-value.result c.in_ok-push.ensures.items
     (subst (λ (k : Bool). AreKnown c.args.done.now.entries (pieces_from k 0 c.value_at-value.result.text.now)) (sym c.value_at-value.ensures.fresh)
     (known_at c.args.done.now.entries (items_of c.in-Ok.values.now) c.value_at-value.result.text.now c.value_at-value.ensures.among (right.closed (items_of c.in-Ok.values.now) c.in-Ok.ensures.ok.1)))
-    (c.value_at-value.ensures.stands o.below c.args.vars.now _ (subst (AreEnds c.args.vars.now 0 (items_of c.in-Ok.values.now)) (sym c.as_slice.ensures.value) (right.ends (items_of c.in-Ok.values.now) c.in-Ok.ensures.ok.1)) o.has)
+    (c.value_at-value.ensures.stands o.below c.args.vars.now _
+    (subst (AreEnds c.args.vars.now 0 (items_of c.in-Ok.values.now)) (sym c.as_slice.ensures.value) (right.ends (items_of c.in-Ok.values.now) c.in-Ok.ensures.ok.1)) o.has)
 
 pub returns-clause-less : goal.returns-clause-less
-returns-clause-less c = let b = c.requires.building in
+returns-clause-less c =
     let right = c.requires.right c.args.name.now c.known_summary-known.result.now c.known_summary-known.ensures in
-    let o = build_opens (length c.args.done.now.entries) c.args.vars.now c.args.done.now.entries b.0 c.args.stack.now.items c.args.top c.args.behind c.args.keep b.1 c.args.name.now c.known_summary-known.result.now
-    right c.requires.next b.2 (items_of c.in-Ok.values.now) c.in-Ok.ensures.ok.0 c.in-Ok.ensures.ok.1 in
-    steps_into (length c.args.done.now.entries) c.args.vars.now c.args.done.now.entries b.0 c.args.stack.now.items c.args.top c.args.behind c.args.keep b.1 c.args.name.now c.known_summary-known.result.now
-    right c.requires.next b.2 (items_of c.in-Ok.values.now) o c.push.new.self.items c.value_at-value.result c.in_ok-push.ensures.items c.in-Ok.ensures.ok.1 c.value_at-value.ensures.fresh c.value_at-value.ensures.among
+    let o = build_opens c.requires.building.2 c.args.behind c.args.keep right c.requires.next (items_of c.in-Ok.values.now) c.in-Ok.ensures.ok.0 c.in-Ok.ensures.ok.1 in
+    steps_into c.requires.building.2 c.args.behind c.args.keep right c.requires.next o c.value_at-value.result c.in_ok-push.ensures.items c.in-Ok.ensures.ok.1 c.value_at-value.ensures.fresh c.value_at-value.ensures.among
