@@ -81,6 +81,17 @@ fn letters_grant_their_permissions(rt: HostRuntime) -> Result<(), Fail> {
 }
 
 #[test]
+fn all_is_a_mode_where_no_rule_begins(rt: HostRuntime) -> Result<(), Fail> {
+    has_files(
+        &rt,
+        rt.alloc(),
+        "profile p { /x all, file all /x, file /x all, }",
+        &[("", 12, 1, 2), ("", 12, 1, 2), ("", 12, 1, 2)],
+    )?;
+    Ok(())
+}
+
+#[test]
 fn paths_are_patterns(rt: HostRuntime) -> Result<(), Fail> {
     has_files(
         &rt,

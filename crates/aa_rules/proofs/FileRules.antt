@@ -12,8 +12,9 @@ use Rattle.aa_rules.specs.declared.modes.ExecMode.{ExecMode}
 use Rattle.aa_rules.specs.declared.modes.Mode.{Mode}
 use Rattle.aa_rules.specs.declared.tree.Qualifiers.{Qualifiers}
 use Rattle.aa_rules.specs.Modes.{mode_of}
-use Rattle.aa_rules.specs.FileRules.{IsPath, IsMode, IsPathFirst, IsModeFirst, IsPair, IsWhole, IsNamed, IsEntry, IsArrow, IsTarget, exec_with, IsFile}
-use Rattle.aa_rules.specs.Phrases.{Starts, StartsAs, Optional, spot_of, is_path_kind}
+use Rattle.aa_rules.specs.FileRules.{IsPath, IsMode, IsPathFirst, IsModeFirst, IsPair, IsWhole, IsLeftOut, IsNamed, IsEntry, IsArrow, IsTarget, exec_with, IsFile}
+use Rattle.aa_rules.specs.Names.{is_left_out}
+use Rattle.aa_rules.specs.Phrases.{Starts, StartsAs, Lacks, Optional, spot_of, is_path_kind}
 use Rattle.aa_rules.specs.Reading.{EntryData, ExecData, FileData}
 use Rattle.aa_rules.proofs.Phrases.{starts_same, starts_kind, keyword_once, optional_once, false_true, left_out}
 
@@ -163,6 +164,18 @@ pub no_named : (deny : Bool) (ws : List WordData) (named : Bool) (bare : List Wo
 no_named deny ws named bare h none e rest a =
     let o = optional_once (codes "file") ws a.named named a.bare bare a.file_stands h in
     none e rest (subst (λ (z : List WordData). IsPair deny z e rest) o.1 a.pair)
+
+-- a word that is left out begins no path and mode
+pub none_left_out : (deny : Bool) (ws : List WordData) → IsLeftOut ws → (e : EntryData) (rest : List WordData) → IsNamed deny ws e rest → ⊥
+none_left_out deny ws h e rest a = a.read h
+
+-- a name is left out where it stands, or it isn't
+pub read_here : (ws : List WordData) (w : WordData) (after : List WordData) → Starts Name ws w after → is_left_out w.text ≡ false → IsLeftOut ws → ⊥
+read_here ws w after h none a =
+    false_true (sym none ∙ ap (λ (x : WordData). is_left_out x.text) (starts_same ws w a.word after a.rest h.words a.stands.words).0 ∙ a.left_out)
+
+pub read_without : (ws : List WordData) → Lacks Name ws → IsLeftOut ws → ⊥
+read_without ws none a = none a.word a.rest a.stands
 
 pub no_either : {A B : EntryData → List WordData → Type 0} → ((e : EntryData) (r : List WordData) → A e r → ⊥) → ((e : EntryData) (r : List WordData) → B e r → ⊥)
     → (e : EntryData) (r : List WordData) → A e r ⊎ B e r → ⊥

@@ -9,7 +9,7 @@ use Rattle.aa_rules.specs.declared.modes.ExecMode.{ExecMode}
 use Rattle.aa_rules.specs.declared.modes.Mode.{Mode}
 use Rattle.aa_rules.specs.declared.tree.Qualifiers.{Qualifiers}
 use Rattle.aa_rules.specs.Modes.{mode_of}
-use Rattle.aa_rules.specs.Names.{is_target_name}
+use Rattle.aa_rules.specs.Names.{is_target_name, is_left_out}
 use Rattle.aa_rules.specs.Phrases.{Starts, Lacks, StartsAs, is_path_kind, is_name_kind, Optional, spot_of}
 use Rattle.aa_rules.specs.Reading.{ExecData, EntryData, FileData}
 
@@ -55,8 +55,16 @@ pub record IsWhole (deny : Bool) (ws : List WordData) (entry : EntryData) (rest 
   pub path_is : entry.path ≡ codes "/{**,}"
   pub says : mode_of deny (whole_mode deny) ≡ Some entry.mode
 
--- ["file"] (path mode | mode path)
+-- the words begin with one that is left out where a rule begins
+pub record IsLeftOut (ws : List WordData) : Type 0 where
+  pub word : WordData
+  pub rest : List WordData
+  pub stands : Starts Name ws word rest
+  pub left_out : is_left_out word.text ≡ true
+
+-- ["file"] (path mode | mode path), where no word that is left out is read as a mode
 pub record IsNamed (deny : Bool) (ws : List WordData) (entry : EntryData) (rest : List WordData) : Type 0 where
+  pub read : IsLeftOut ws → ⊥
   pub named : Bool
   pub bare : List WordData
   pub file_stands : Optional (codes "file") ws named bare

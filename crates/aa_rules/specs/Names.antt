@@ -1,10 +1,11 @@
--- Which words name a profile.
+-- Which words name a profile, and which are left out where a rule begins.
 use Rattle.std.specs.Prelude.{ℕ, List, [], ◌∷◌, Bool, true, false, not, ◌&&◌, ◌||◌, ◌==◌, codes}
 use Rattle.std.specs.Bool.{nat_eq}
 use Rattle.std.specs.List.{starts_with}
 use Rattle.std.specs.Str.{bytes_eq}
 use Rattle.aa_faults.specs.declared.fault.PolicyKind.{PolicyKind}
 use Rattle.aa_faults.specs.declared.fault.PolicyKind.TheVariants.{Syntax, Unsupported}
+use Rattle.aa_words.specs.Splits.{is_one_of}
 pub use Rattle.aa_words.specs.Runs.{begins_with}
 
 abbrev pub is_empty : List ℕ → Bool
@@ -45,3 +46,13 @@ is_plain_name top name = is_right_name top name && not (holds_pair 64 123 name)
 abbrev pub name_fault : List ℕ → PolicyKind
 name_fault [] = Syntax
 name_fault (b ∷ bs) = Unsupported
+
+-- the words of the language that this one leaves out where a rule begins
+abbrev pub left_out_words : List (List ℕ)
+left_out_words =
+    codes "alias" ∷ codes "link" ∷ codes "hat" ∷ codes "change_hat" ∷ codes "if" ∷ codes "else"
+    ∷ codes "priority" ∷ codes "quiet" ∷ codes "prompt" ∷ codes "other" ∷ codes "all" ∷ []
+
+-- a word that is left out where a rule begins: it is one of these, or begins with $ or ^
+unfoldable pub is_left_out : List ℕ → Bool
+is_left_out name = begins_with 36 name || begins_with 94 name || is_one_of left_out_words name

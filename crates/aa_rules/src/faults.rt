@@ -8,7 +8,7 @@ ghost use Rattle.aa_rules.specs.Faults.{is_word_fault};
 
 use crate::file_rules::takes_target;
 use crate::modes::{Mode, mode_fault};
-use crate::names::name_fault;
+use crate::names::{is_left_out, name_fault};
 use crate::reading::is_name_kind;
 use crate::tree::RuleTree;
 use aa_tables::Perms;
@@ -49,22 +49,6 @@ fn is_kind_at(words: &[Word], at: usize, kind: WordKind) -> bool {
 /// Whether a word that can be a path stands at a place.
 fn is_path_at(words: &[Word], at: usize) -> bool {
     is_kind_at(words, at, WordKind::Path) || is_kind_at(words, at, WordKind::Quoted)
-}
-
-/// A word of the language that the rules of this crate leave out where a rule begins.
-fn is_left_out(name: &[u8]) -> bool {
-    matches!(name, [b'$' | b'^', ..])
-        || name == "alias".as_bytes()
-        || name == "link".as_bytes()
-        || name == "hat".as_bytes()
-        || name == "change_hat".as_bytes()
-        || name == "if".as_bytes()
-        || name == "else".as_bytes()
-        || name == "priority".as_bytes()
-        || name == "quiet".as_bytes()
-        || name == "prompt".as_bytes()
-        || name == "other".as_bytes()
-        || name == "all".as_bytes()
 }
 
 /// What is wrong with a name that is no mode.

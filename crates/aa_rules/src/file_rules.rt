@@ -1,16 +1,17 @@
 //! Reads file rules (apparmor.d(5), "Access Modes").
 
 ghost use Rattle.std.specs.Prelude.{◌≡◌, ◌<◌, ◌≤◌, ◌+◌, true, List, ℕ, Option, option_map, length, IfSome, IfNone, OnSome, OnErr, IfOk, IfErr};
+ghost use Rattle.std.specs.Bool.{OnTrue, OnFalse};
 ghost use Rattle.aa_words.specs.Splits.{WordData, word_data};
 ghost use Rattle.aa_rules.specs.Faults.{is_word_fault};
 ghost use Rattle.aa_rules.specs.Phrases.{StartsAs, LacksAll};
-ghost use Rattle.aa_rules.specs.FileRules.{IsMode, IsPathFirst, IsModeFirst, IsPair, IsWhole, IsNamed, IsEntry, names_profile, takes_target, IsArrow, IsTarget, exec_with, IsFile, whole_mode};
+ghost use Rattle.aa_rules.specs.FileRules.{IsMode, IsPathFirst, IsModeFirst, IsPair, IsWhole, IsLeftOut, IsNamed, IsEntry, names_profile, takes_target, IsArrow, IsTarget, exec_with, IsFile, whole_mode};
 ghost use Rattle.aa_rules.specs.Reading.{EntryData, entry_data, FileData, file_data, target_data, exec_data, rest_of};
 ghost use Rattle.aa_rules.specs.declared.modes.Mode.{Mode};
 
 use crate::faults::{RulePlace, no_entry_fault, no_target_fault, spot_of};
 use crate::modes::{ExecMode, Mode, mode_of};
-use crate::names::is_target_name;
+use crate::names::{is_left_out, is_target_name};
 use crate::reading::{name_at, optional, path_at, word_at};
 use crate::rule::ExecKind;
 use crate::tree::{EntryTree, ExecTree, FileTree, Qualifiers};
@@ -104,6 +105,18 @@ fn whole_of<'s>(words: &[Word<'s>], at: usize, deny: bool) -> Option<EntryTree<'
     })
 }
 
+/// Whether a word stands at a place that is left out where a rule begins.
+#[tactic(auto, using(crate::proofs::FileRules::read_here, crate::proofs::FileRules::read_without))]
+fn is_left_out_at(words: &[Word], at: usize) -> bool
+    ensures yes { OnTrue result (IsLeftOut (rest_of words.now at)) }
+    ensures no { OnFalse result (IsLeftOut (rest_of words.now at) → ⊥) }
+{
+    match word_at(words, at, WordKind::Name) {
+        Some(word) => is_left_out(word.text),
+        None => false,
+    }
+}
+
 /// What a rule grants, and where, and the place behind it.
 fn entry_of<'s>(words: &[Word<'s>], at: usize, deny: bool) -> Option<(EntryTree<'s>, usize)>
     ensures found { IfSome result (λ r. IsEntry deny (rest_of words.now at) (entry_data r.0) (rest_of words.now r.1)) }
@@ -112,6 +125,9 @@ fn entry_of<'s>(words: &[Word<'s>], at: usize, deny: bool) -> Option<(EntryTree<
 {
     if let Some(entry) = whole_of(words, at, deny) {
         return Some((entry, at + 1));
+    }
+    if is_left_out_at(words, at) {
+        return None;
     }
     let (_, bare) = optional(words, at, "file".as_bytes());
     let Some(entry) = pair_of(words, bare, deny) else {

@@ -1,10 +1,10 @@
-//! Names of profiles (apparmor.d(5), "Profile Head").
+//! Names of profiles (apparmor.d(5), "Profile Head"), and words that are left out.
 
 ghost use Rattle.std.specs.Prelude.{◌≡◌, ◌==◌, ◌&&◌, true};
 ghost use Rattle.std.specs.Bool.{nat_eq};
 ghost use Rattle.std.specs.List.{starts_with};
 ghost use Rattle.aa_rules.specs.Faults.{is_word_fault};
-ghost use Rattle.aa_rules.specs.Names.{begins_with, holds_pair, holds, is_single_name, is_full_name, is_right_name, is_plain_name, is_target_name, name_fault};
+ghost use Rattle.aa_rules.specs.Names.{begins_with, holds_pair, holds, is_single_name, is_full_name, is_right_name, is_plain_name, is_target_name, name_fault, is_left_out};
 
 use aa_words::PolicyKind;
 
@@ -110,4 +110,24 @@ pub fn name_fault(name: &[u8]) -> PolicyKind
     } else {
         PolicyKind::Unsupported
     }
+}
+
+/// Whether a word is left out where a rule begins.
+#[tactic(auto, unfolding(crate::specs::Names::is_left_out))]
+pub fn is_left_out(name: &[u8]) -> bool
+    ensures { result ≡ is_left_out name.now }
+{
+    begins_with(name, b'$')
+        || begins_with(name, b'^')
+        || name == "alias".as_bytes()
+        || name == "link".as_bytes()
+        || name == "hat".as_bytes()
+        || name == "change_hat".as_bytes()
+        || name == "if".as_bytes()
+        || name == "else".as_bytes()
+        || name == "priority".as_bytes()
+        || name == "quiet".as_bytes()
+        || name == "prompt".as_bytes()
+        || name == "other".as_bytes()
+        || name == "all".as_bytes()
 }
