@@ -1,11 +1,15 @@
 -- The head of a profile (apparmor.d(5), "Profile Head"): how it is named, where it attaches, its flags.
-use Rattle.std.specs.Prelude.{ℕ, ◌≡◌, ◌⊎◌, List, [], ◌∷◌, codes, Option, Some, None, option_map, Bool, true, false, if◌then◌else◌}
+use Rattle.std.specs.Prelude.{ℕ, ◌≡◌, ◌⊎◌, ◌&&◌, ◌||◌, List, [], ◌∷◌, codes, Option, Some, None, option_map, Bool, true, false, if◌then◌else◌}
+use Rattle.std.specs.List.{list_any}
+use Rattle.std.specs.Str.{bytes_eq}
 use Rattle.aa_faults.specs.declared.fault.Spot.{Spot}
 use Rattle.aa_words.specs.declared.word.WordKind.{WordKind}
 use Rattle.aa_words.specs.declared.word.WordKind.TheVariants.{Open, Comma, Equals, LeftParen, RightParen, Name}
 use Rattle.aa_words.specs.Splits.{WordData, is_one_of}
 use Rattle.aa_heads.specs.declared.heads.AttachmentTree.{AttachmentTree}
+use Rattle.aa_heads.specs.declared.heads.HeadFlags.{HeadFlags}
 use Rattle.aa_heads.specs.declared.heads.HeadTree.{HeadTree}
+use Rattle.aa_heads.specs.declared.heads.TitleTree.{TitleTree}
 use Rattle.aa_rules.specs.Grammar.{Ending, Production, Many, Starts, StartsAs, LacksAll, Keyword, spot_of, is_path_kind, is_name_kind}
 use Rattle.aa_rules.specs.Names.{begins_with, is_right_name, is_plain_name}
 
@@ -17,17 +21,25 @@ pub record AttachmentData : Type 0 where
   pub path : List ℕ
 
 -- where a profile's name stands, the name, and what it attaches to, if it attaches
-pub record HeadData : Type 0 where
+pub record TitleData : Type 0 where
   pub at : Spot
   pub name : List ℕ
   pub attachment : Option AttachmentData
+
+-- the head of a profile
+pub record HeadData : Type 0 where
+  pub title : TitleData
+  pub flags : HeadFlags
 
 -- a head without where its text lies in memory
 abbrev pub attachment_data : AttachmentTree → AttachmentData
 attachment_data t = record { at = t.at; path = t.path.now }
 
+abbrev pub title_data : TitleTree → TitleData
+title_data t = record { at = t.at; name = t.name.now; attachment = option_map attachment_data t.attachment }
+
 abbrev pub head_data : HeadTree → HeadData
-head_data t = record { at = t.at; name = t.name.now; attachment = option_map attachment_data t.attachment }
+head_data t = record { title = title_data t.title; flags = t.flags }
 
 -- ---- words
 
@@ -61,35 +73,35 @@ attachment_of name (Some path) = Some (attached path)
 attachment_of name None = if begins_with 47 name.text then Some (attached name) else None
 
 -- name [attach]
-pub record IsNamed (top : Bool) (ws : List WordData) (head : HeadData) (rest : List WordData) : Type 0 where
+pub record IsNamed (top : Bool) (ws : List WordData) (title : TitleData) (rest : List WordData) : Type 0 where
   pub name : WordData
   pub path : Option WordData
   pub after : List WordData
   pub name_stands : StartsAs is_name_kind ws name after
   pub is_right : is_plain_name top name.text ≡ true
   pub path_stands : OptionalPath after path rest
-  pub at_is : head.at ≡ spot_of name
-  pub name_is : head.name ≡ name.text
-  pub attachment_is : head.attachment ≡ attachment_of name path
+  pub at_is : title.at ≡ spot_of name
+  pub name_is : title.name ≡ name.text
+  pub attachment_is : title.attachment ≡ attachment_of name path
 
 -- path: it is name and attachment
-pub record IsPathNamed (top : Bool) (ws : List WordData) (head : HeadData) (rest : List WordData) : Type 0 where
+pub record IsPathNamed (top : Bool) (ws : List WordData) (title : TitleData) (rest : List WordData) : Type 0 where
   pub path : WordData
   pub path_stands : StartsAs is_path_kind ws path rest
   pub is_right : is_right_name top path.text ≡ true
-  pub at_is : head.at ≡ spot_of path
-  pub name_is : head.name ≡ path.text
-  pub attachment_is : head.attachment ≡ Some (attached path)
+  pub at_is : title.at ≡ spot_of path
+  pub name_is : title.name ≡ path.text
+  pub attachment_is : title.attachment ≡ Some (attached path)
 
 -- title = "profile" name [attach] | path
-abbrev pub IsTitle : Bool → Production HeadData
-IsTitle top ws head rest = ((bare : List WordData) × Keyword (codes "profile") ws bare × IsNamed top bare head rest) ⊎ IsPathNamed top ws head rest
+abbrev pub IsTitle : Bool → Production TitleData
+IsTitle top ws title rest = ((bare : List WordData) × Keyword (codes "profile") ws bare × IsNamed top bare title rest) ⊎ IsPathNamed top ws title rest
 
 -- ---- flags
 
--- the flags that are read; they have no effect
+-- the flags that are read; the last two have no effect
 abbrev pub known_flags : List (List ℕ)
-known_flags = codes "enforce" ∷ codes "attach_disconnected" ∷ codes "mediate_deleted" ∷ []
+known_flags = codes "complain" ∷ codes "enforce" ∷ codes "audit" ∷ codes "attach_disconnected" ∷ codes "mediate_deleted" ∷ []
 
 -- what may stand between the parentheses: a flag, or a comma
 abbrev pub is_flag : WordKind → List ℕ → Bool
@@ -97,15 +109,26 @@ is_flag Comma text = true
 is_flag Name text = is_one_of known_flags text
 is_flag _ text = false
 
--- a name is one flag more, another word none
-abbrev pub flag_before : WordKind → List ℕ → List (List ℕ) → List (List ℕ)
-flag_before Name text flags = text ∷ flags
-flag_before _ text flags = flags
+-- a word is this flag
+abbrev pub is_the_flag : List ℕ → WordKind → List ℕ → Bool
+is_the_flag flag Name text = bytes_eq text flag
+is_the_flag flag _ text = false
 
--- the flags among such words
-abbrev pub flags_among : List WordData → List (List ℕ)
-flags_among [] = []
-flags_among (w ∷ ws) = flag_before w.kind w.text (flags_among ws)
+-- the flag stands among the words
+abbrev pub has_flag : List ℕ → List WordData → Bool
+has_flag flag ws = list_any (λ w. is_the_flag flag w.kind w.text) ws
+
+-- what the flags say that have an effect
+abbrev pub said_by : List WordData → HeadFlags
+said_by ws = record { complain = has_flag (codes "complain") ws; enforce = has_flag (codes "enforce") ws; audit = has_flag (codes "audit") ws }
+
+-- the same with one word more
+abbrev pub flags_with : HeadFlags → WordData → HeadFlags
+flags_with flags w = record {
+  complain = flags.complain || is_the_flag (codes "complain") w.kind w.text;
+  enforce = flags.enforce || is_the_flag (codes "enforce") w.kind w.text;
+  audit = flags.audit || is_the_flag (codes "audit") w.kind w.text;
+}
 
 -- ["flags" "="] "("
 pub record NamesFlags (ws rest : List WordData) : Type 0 where
@@ -122,33 +145,36 @@ OpensFlags ws rest = Stands LeftParen ws rest ⊎ NamesFlags ws rest
 abbrev pub AreFlags : List WordData → List WordData → List WordData → Type 0
 AreFlags = Many (Fits is_flag) (Stands RightParen)
 
--- flags = ["flags" "="] "(" flag* ")"
-pub record IsFlags (ws : List WordData) (flags : List (List ℕ)) (rest : List WordData) : Type 0 where
-  pub inside : List WordData
+-- flag* ")": no profile is to complain and to enforce
+pub record IsFlagList (ws : List WordData) (flags : HeadFlags) (rest : List WordData) : Type 0 where
   pub between : List WordData
-  pub opens : OpensFlags ws inside
-  pub written : AreFlags inside between rest
-  pub flags_are : flags ≡ flags_among between
+  pub written : AreFlags ws between rest
+  pub flags_are : flags ≡ said_by between
+  pub agree : (flags.complain && flags.enforce) ≡ false
 
--- [flags]
-abbrev pub OptionalFlags : List WordData → Option (List (List ℕ)) → List WordData → Type 0
-OptionalFlags ws (Some flags) rest = IsFlags ws flags rest
-OptionalFlags ws None rest = rest ≡ ws
+-- flags = ["flags" "="] "(" flag* ")"
+pub record IsFlags (ws : List WordData) (flags : HeadFlags) (rest : List WordData) : Type 0 where
+  pub inside : List WordData
+  pub opens : OpensFlags ws inside
+  pub listed : IsFlagList inside flags rest
+
+-- [flags]: none say that none stands there
+abbrev pub OptionalFlags : List WordData → HeadFlags → List WordData → Type 0
+OptionalFlags ws flags rest = IsFlags ws flags rest ⊎ ((rest ≡ ws) × (flags ≡ said_by []))
 
 -- ---- the head
 
 -- [flags] "{"
-pub record IsOpening (ws : List WordData) (flags : Option (List (List ℕ))) (rest : List WordData) : Type 0 where
+pub record IsOpening (ws : List WordData) (flags : HeadFlags) (rest : List WordData) : Type 0 where
   pub after : List WordData
   pub flags_stand : OptionalFlags ws flags after
   pub brace_stands : Stands Open after rest
 
 -- head = title [flags] "{"
 pub record IsHead (top : Bool) (ws : List WordData) (head : HeadData) (rest : List WordData) : Type 0 where
-  pub flags : Option (List (List ℕ))
   pub after : List WordData
-  pub title : IsTitle top ws head after
-  pub opening : IsOpening after flags rest
+  pub title : IsTitle top ws head.title after
+  pub opening : IsOpening after head.flags rest
 
 -- ---- where a profile begins
 

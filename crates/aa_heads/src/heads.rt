@@ -1,11 +1,11 @@
 //! The head of a profile: how it is named, where it attaches, its flags (apparmor.d(5), "Profile Head").
 
-ghost use Rattle.std.specs.Prelude.{ℕ, ◌≡◌, ◌<◌, ◌≤◌, ◌+◌, true, List, Option, length, option_map, IfSome, IfNone, OnSome, OnErr, IfOk, IfErr};
+ghost use Rattle.std.specs.Prelude.{◌≡◌, ◌&&◌, [], ◌<◌, ◌≤◌, ◌+◌, true, List, Option, length, option_map, IfSome, IfNone, OnSome, OnErr, IfOk, IfErr};
 ghost use Rattle.std.specs.Bool.{OnTrue, OnFalse};
 ghost use Rattle.aa_words.specs.Splits.{WordData, word_data, is_one_of};
 ghost use Rattle.aa_rules.specs.Faults.{is_word_fault};
 ghost use Rattle.aa_rules.specs.Grammar.{StartsAs, LacksAll};
-ghost use Rattle.aa_heads.specs.Heads.{HeadData, AttachmentData, head_data, attachment_data, Stands, Fits, LacksFitting, OptionalPath, attached, attachment_of, IsNamed, IsPathNamed, IsTitle, known_flags, is_flag, AreFlags, OpensFlags, IsFlags, IsOpening, IsHead, goes_on, BeginsPathNamed, BeginsProfile};
+ghost use Rattle.aa_heads.specs.Heads.{HeadData, TitleData, AttachmentData, head_data, title_data, attachment_data, Stands, Fits, LacksFitting, OptionalPath, attached, attachment_of, IsNamed, IsPathNamed, IsTitle, known_flags, is_flag, is_the_flag, said_by, flags_with, OpensFlags, IsFlagList, IsFlags, IsOpening, IsHead, goes_on, BeginsPathNamed, BeginsProfile};
 ghost use Rattle.aa_rules.specs.Reading.{rest_of};
 
 use aa_rules::{
@@ -23,15 +23,33 @@ pub struct AttachmentTree<'s> {
     pub path: &'s [u8],
 }
 
-/// The head of a profile as it is written.
+/// How a profile is named, and where it attaches.
 #[derive(Clone, Copy, Debug)]
-pub struct HeadTree<'s> {
+pub struct TitleTree<'s> {
     /// Where its name stands.
     pub at: Spot,
     /// The name, as its raw bytes.
     pub name: &'s [u8],
     /// What it attaches to, if it attaches.
     pub attachment: Option<AttachmentTree<'s>>,
+}
+
+/// The flags that a head has, of those with an effect.
+#[derive(Clone, Copy, Debug, PartialEq, Eq)]
+pub struct HeadFlags {
+    /// Requests are granted that no rule denies.
+    pub complain: bool,
+    /// Requests are refused that no rule grants. So it is without flags, too.
+    pub enforce: bool,
+    /// All that is granted or refused is reported.
+    pub audit: bool,
+}
+
+/// The head of a profile as it is written.
+#[derive(Clone, Copy, Debug)]
+pub struct HeadTree<'s> {
+    pub title: TitleTree<'s>,
+    pub flags: HeadFlags,
 }
 
 /// The path at a place, if one stands there, and the place behind it.
@@ -86,9 +104,9 @@ fn named_of<'s>(
     at: usize,
     top: bool,
     end: Spot,
-) -> Result<(HeadTree<'s>, usize), PolicyFault>
-    ensures found { IfOk result (λ r. IsNamed top (rest_of words.now at) (head_data r.0) (rest_of words.now r.1)) }
-    ensures refused { OnErr result ((h : HeadData) (rest : List WordData) → IsNamed top (rest_of words.now at) h rest → ⊥) }
+) -> Result<(TitleTree<'s>, usize), PolicyFault>
+    ensures found { IfOk result (λ r. IsNamed top (rest_of words.now at) (title_data r.0) (rest_of words.now r.1)) }
+    ensures refused { OnErr result ((t : TitleData) (rest : List WordData) → IsNamed top (rest_of words.now at) t rest → ⊥) }
     ensures cause { IfErr result (λ e. is_word_fault e.kind ≡ true) }
     ensures within { IfOk result (λ r. (at < r.1) × (r.1 ≤ length words.now)) }
 {
@@ -99,12 +117,12 @@ fn named_of<'s>(
         return Err(fault(name_fault(name.text), words, at, end));
     }
     let (path, next) = optional_path(words, at + 1);
-    let head = HeadTree {
+    let title = TitleTree {
         at: spot_of(name),
         name: name.text,
         attachment: attachment_of(name, path),
     };
-    Ok((head, next))
+    Ok((title, next))
 }
 
 /// A path that is name and attachment, and the place behind it.
@@ -113,9 +131,9 @@ fn path_named_of<'s>(
     at: usize,
     top: bool,
     end: Spot,
-) -> Result<(HeadTree<'s>, usize), PolicyFault>
-    ensures found { IfOk result (λ r. IsPathNamed top (rest_of words.now at) (head_data r.0) (rest_of words.now r.1)) }
-    ensures refused { OnErr result ((h : HeadData) (rest : List WordData) → IsPathNamed top (rest_of words.now at) h rest → ⊥) }
+) -> Result<(TitleTree<'s>, usize), PolicyFault>
+    ensures found { IfOk result (λ r. IsPathNamed top (rest_of words.now at) (title_data r.0) (rest_of words.now r.1)) }
+    ensures refused { OnErr result ((t : TitleData) (rest : List WordData) → IsPathNamed top (rest_of words.now at) t rest → ⊥) }
     ensures cause { IfErr result (λ e. is_word_fault e.kind ≡ true) }
     ensures within { IfOk result (λ r. (at < r.1) × (r.1 ≤ length words.now)) }
 {
@@ -125,12 +143,12 @@ fn path_named_of<'s>(
     if !is_right_name(path.text, top) {
         return Err(fault(name_fault(path.text), words, at, end));
     }
-    let head = HeadTree {
+    let title = TitleTree {
         at: spot_of(path),
         name: path.text,
         attachment: Some(attached(path)),
     };
-    Ok((head, at + 1))
+    Ok((title, at + 1))
 }
 
 /// How a profile is named and where it attaches, and the place behind that.
@@ -139,9 +157,9 @@ fn title_of<'s>(
     at: usize,
     top: bool,
     end: Spot,
-) -> Result<(HeadTree<'s>, usize), PolicyFault>
-    ensures found { IfOk result (λ r. IsTitle top (rest_of words.now at) (head_data r.0) (rest_of words.now r.1)) }
-    ensures refused { OnErr result ((h : HeadData) (rest : List WordData) → IsTitle top (rest_of words.now at) h rest → ⊥) }
+) -> Result<(TitleTree<'s>, usize), PolicyFault>
+    ensures found { IfOk result (λ r. IsTitle top (rest_of words.now at) (title_data r.0) (rest_of words.now r.1)) }
+    ensures refused { OnErr result ((t : TitleData) (rest : List WordData) → IsTitle top (rest_of words.now at) t rest → ⊥) }
     ensures cause { IfErr result (λ e. is_word_fault e.kind ≡ true) }
     ensures within { IfOk result (λ r. (at < r.1) × (r.1 ≤ length words.now)) }
 {
@@ -151,11 +169,13 @@ fn title_of<'s>(
     path_named_of(words, at, top, end)
 }
 
-/// Whether a flag has no effect.
+/// Whether a flag is read.
 fn is_known_flag(name: &[u8]) -> bool
     ensures { result ≡ is_one_of known_flags name.now }
 {
-    name == "enforce".as_bytes()
+    name == "complain".as_bytes()
+        || name == "enforce".as_bytes()
+        || name == "audit".as_bytes()
         || name == "attach_disconnected".as_bytes()
         || name == "mediate_deleted".as_bytes()
 }
@@ -188,30 +208,61 @@ fn flag_at<'w, 's>(words: &'w [Word<'s>], at: usize) -> Option<&'w Word<'s>>
     Some(word)
 }
 
+/// Whether a word is this flag.
+fn is_the_flag(word: &Word, flag: &[u8]) -> bool
+    ensures { result ≡ is_the_flag flag.now word.now.kind word.now.text.now }
+{
+    match word.kind {
+        WordKind::Name => word.text == flag,
+        _ => false,
+    }
+}
+
+impl HeadFlags {
+    /// Those of a head without flags.
+    fn none() -> HeadFlags
+        ensures { result ≡ said_by [] }
+    {
+        HeadFlags {
+            complain: false,
+            enforce: false,
+            audit: false,
+        }
+    }
+
+    /// These with one word more.
+    fn with_word(self, word: &Word) -> HeadFlags
+        ensures { result ≡ flags_with self (word_data word.now) }
+    {
+        HeadFlags {
+            complain: self.complain || is_the_flag(word, "complain".as_bytes()),
+            enforce: self.enforce || is_the_flag(word, "enforce".as_bytes()),
+            audit: self.audit || is_the_flag(word, "audit".as_bytes()),
+        }
+    }
+
+    /// Whether the profile is to complain and to enforce.
+    fn contradict(self) -> bool
+        ensures { result ≡ (self.complain && self.enforce) }
+    {
+        self.complain && self.enforce
+    }
+}
+
 /// Whether a word is a flag that the rules of this crate leave out.
 fn is_left_out_flag(name: &[u8]) -> bool {
-    name == "complain".as_bytes()
-        || name == "audit".as_bytes()
-        || name == "kill".as_bytes()
+    name == "kill".as_bytes()
         || name == "unconfined".as_bytes()
         || name == "prompt".as_bytes()
         || name == "default_allow".as_bytes()
         || name == "xattrs".as_bytes()
 }
 
-/// Whether a word is `enforce`.
-fn is_enforce(word: &Word) -> bool {
-    word.kind == WordKind::Name && word.text == "enforce".as_bytes()
-}
-
-/// Why a name isn't read as a flag: one that is left out is refused where it stands, so of
-/// `complain` and `enforce` the contradiction is met only where `complain` is the later one.
-fn flag_name_fault(name: &[u8], enforced: bool) -> PolicyKind
+/// Why a name isn't read as a flag.
+fn flag_name_fault(name: &[u8]) -> PolicyKind
     ensures { is_word_fault result ≡ true }
 {
-    if enforced && name == "complain".as_bytes() {
-        PolicyKind::Syntax
-    } else if is_left_out_flag(name) {
+    if is_left_out_flag(name) {
         PolicyKind::Unsupported
     } else {
         PolicyKind::UnknownWord
@@ -229,28 +280,35 @@ fn flag_fault(words: &[Word], start: usize, at: usize, end: Spot) -> PolicyFault
     let before = &words[start..at];
     let word = &words[at];
     let kind = match (word.kind, before) {
-        (WordKind::Name, _) => flag_name_fault(word.text, before.iter().any(is_enforce)),
+        (WordKind::Name, _) => flag_name_fault(word.text),
         (WordKind::Equals, [.., flag]) if flag.kind == WordKind::Name => PolicyKind::Unsupported,
         _ => PolicyKind::Syntax,
     };
     fault(kind, words, at, end)
 }
 
-/// The place behind the parenthesis that closes the flags, of which the first stands at `start`.
-fn flags_end(words: &[Word], start: usize, end: Spot) -> Result<usize, PolicyFault>
-    ensures found { IfOk result (λ r. (between : List WordData) × AreFlags (rest_of words.now start) between (rest_of words.now r)) }
-    ensures refused { OnErr result ((between : List WordData) (rest : List WordData) → AreFlags (rest_of words.now start) between rest → ⊥) }
+/// The flags, of which the first stands at `start`, and the place behind the parenthesis that
+/// closes them. Of `complain` and `enforce` the later one is refused.
+fn flag_list_of(words: &[Word], start: usize, end: Spot) -> Result<(HeadFlags, usize), PolicyFault>
+    ensures found { IfOk result (λ r. IsFlagList (rest_of words.now start) r.0 (rest_of words.now r.1)) }
+    ensures refused { OnErr result ((flags : HeadFlags) (rest : List WordData) → IsFlagList (rest_of words.now start) flags rest → ⊥) }
     ensures cause { IfErr result (λ e. is_word_fault e.kind ≡ true) }
-    ensures within { IfOk result (λ r. (start < r) × (r ≤ length words.now)) }
+    ensures within { IfOk result (λ r. (start < r.1) × (r.1 ≤ length words.now)) }
 {
+    let mut flags = HeadFlags::none();
     let mut at = start;
     'flags: while word_at(words, at, WordKind::RightParen).is_none() {
-        let Some(_) = flag_at(words, at) else {
+        let Some(word) = flag_at(words, at) else {
             return Err(flag_fault(words, start, at, end));
         };
+        let more = flags.with_word(word);
+        if more.contradict() {
+            return Err(fault(PolicyKind::Syntax, words, at, end));
+        }
+        flags = more;
         at += 1;
     }
-    Ok(at + 1)
+    Ok((flags, at + 1))
 }
 
 /// The place behind the parenthesis that opens the flags.
@@ -277,32 +335,32 @@ fn flags_start(words: &[Word], at: usize, end: Spot) -> Result<usize, PolicyFaul
     Ok(paren + 1)
 }
 
-/// The place behind the flags, which stand there.
-fn flags_of(words: &[Word], at: usize, end: Spot) -> Result<usize, PolicyFault>
-    ensures found { IfOk result (λ r. (flags : List (List ℕ)) × IsFlags (rest_of words.now at) flags (rest_of words.now r)) }
-    ensures refused { OnErr result ((flags : List (List ℕ)) (rest : List WordData) → IsFlags (rest_of words.now at) flags rest → ⊥) }
+/// The flags that stand there, and the place behind them.
+fn flags_of(words: &[Word], at: usize, end: Spot) -> Result<(HeadFlags, usize), PolicyFault>
+    ensures found { IfOk result (λ r. IsFlags (rest_of words.now at) r.0 (rest_of words.now r.1)) }
+    ensures refused { OnErr result ((flags : HeadFlags) (rest : List WordData) → IsFlags (rest_of words.now at) flags rest → ⊥) }
     ensures cause { IfErr result (λ e. is_word_fault e.kind ≡ true) }
-    ensures within { IfOk result (λ r. (at < r) × (r ≤ length words.now)) }
+    ensures within { IfOk result (λ r. (at < r.1) × (r.1 ≤ length words.now)) }
 {
     let inside = flags_start(words, at, end)?;
-    flags_end(words, inside, end)
+    flag_list_of(words, inside, end)
 }
 
-/// The place behind the brace that opens a body, before which flags may stand.
-fn opening_of(words: &[Word], at: usize, end: Spot) -> Result<usize, PolicyFault>
-    ensures found { IfOk result (λ r. (flags : Option (List (List ℕ))) × IsOpening (rest_of words.now at) flags (rest_of words.now r)) }
-    ensures refused { OnErr result ((flags : Option (List (List ℕ))) (rest : List WordData) → IsOpening (rest_of words.now at) flags rest → ⊥) }
+/// The flags that may stand before the brace that opens a body, and the place behind that brace.
+fn opening_of(words: &[Word], at: usize, end: Spot) -> Result<(HeadFlags, usize), PolicyFault>
+    ensures found { IfOk result (λ r. IsOpening (rest_of words.now at) r.0 (rest_of words.now r.1)) }
+    ensures refused { OnErr result ((flags : HeadFlags) (rest : List WordData) → IsOpening (rest_of words.now at) flags rest → ⊥) }
     ensures cause { IfErr result (λ e. is_word_fault e.kind ≡ true) }
-    ensures within { IfOk result (λ r. (at < r) × (r ≤ length words.now)) }
+    ensures within { IfOk result (λ r. (at < r.1) × (r.1 ≤ length words.now)) }
 {
     if word_at(words, at, WordKind::Open).is_some() {
-        return Ok(at + 1);
+        return Ok((HeadFlags::none(), at + 1));
     }
-    let brace = flags_of(words, at, end)?;
+    let (flags, brace) = flags_of(words, at, end)?;
     let Some(_) = word_at(words, brace, WordKind::Open) else {
         return Err(head_fault(words, brace, end));
     };
-    Ok(brace + 1)
+    Ok((flags, brace + 1))
 }
 
 /// The head of a profile, of the top level or of a child, and the place behind its opening brace.
@@ -317,9 +375,9 @@ pub fn head_of<'s>(
     ensures cause { IfErr result (λ e. is_word_fault e.kind ≡ true) }
     ensures within { IfOk result (λ r. (at < r.1) × (r.1 ≤ length words.now)) }
 {
-    let (head, after) = title_of(words, at, top, end)?;
-    let body = opening_of(words, after, end)?;
-    Ok((head, body))
+    let (title, after) = title_of(words, at, top, end)?;
+    let (flags, body) = opening_of(words, after, end)?;
+    Ok((HeadTree { title, flags }, body))
 }
 
 /// Whether a word behind a path makes it the name of a profile.

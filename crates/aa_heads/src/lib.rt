@@ -6,5 +6,5 @@ mod heads;
 mod preamble;
 
 pub use assignments::begins_assignment;
-pub use heads::{AttachmentTree, HeadTree, begins_profile, head_of};
+pub use heads::{AttachmentTree, HeadFlags, HeadTree, TitleTree, begins_profile, head_of};
 pub use preamble::{abi_of, preamble_of};

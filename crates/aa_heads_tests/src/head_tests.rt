@@ -15,12 +15,20 @@ fn is_read(alloc: Global, text: &[u8], top: bool, expected: Expected) -> Result<
     let sources = Sources::new(alloc);
     let list = words(alloc, &sources, text)?;
     let (head, next) = head_of(list.list.as_slice(), 0, top, list.end)?;
-    let attached = match (head.attachment, attachment) {
+    let attached = match (head.title.attachment, attachment) {
         (Some(read), Some((at, path))) => read.at.byte == at && read.path == path.as_bytes(),
         (None, None) => true,
         _ => false,
     };
-    Ok(attached && head.at.byte == at && head.name == name.as_bytes() && next == count)
+    Ok(attached && head.title.at.byte == at && head.title.name == name.as_bytes() && next == count)
+}
+
+/// Whether a head has `complain`, `enforce` and `audit` among its flags.
+fn flags_of(alloc: Global, text: &[u8]) -> Result<(bool, bool, bool), PolicyFault> {
+    let sources = Sources::new(alloc);
+    let list = words(alloc, &sources, text)?;
+    let (head, _) = head_of(list.list.as_slice(), 0, true, list.end)?;
+    Ok((head.flags.complain, head.flags.enforce, head.flags.audit))
 }
 
 /// The kind's number and the byte of the refusal, where the head is refused.
@@ -200,16 +208,42 @@ fn words_behind_the_name_are_refused_at_the_word(rt: HostRuntime) {
 }
 
 #[test]
+fn flags_are_kept(rt: HostRuntime) -> Result<(), Fail> {
+    for (text, flags) in [
+        ("/x {", (false, false, false)),
+        ("/x () {", (false, false, false)),
+        ("/x (complain) {", (true, false, false)),
+        ("/x (audit) {", (false, false, true)),
+        ("/x (enforce) {", (false, true, false)),
+        ("/x (mediate_deleted complain) {", (true, false, false)),
+        ("/x (enforce, audit) {", (false, true, true)),
+        ("/x flags=(audit,complain,,audit) {", (true, false, true)),
+        (
+            "profile complain flags = (attach_disconnected) {",
+            (false, false, false),
+        ),
+        (
+            "profile audit /audit (complain complain) {",
+            (true, false, false),
+        ),
+    ] {
+        assert_eq!(rt; flags_of(rt.alloc(), text.as_bytes())?, flags, "{text}");
+    }
+    Ok(())
+}
+
+#[test]
 fn flags_are_refused_at_the_flag(rt: HostRuntime) {
     let alloc = rt.alloc();
     for (text, number, byte) in [
-        ("/x (complain) {", 5, 4),
-        ("/x (audit) {", 5, 4),
-        ("/x (complain enforce) {", 5, 4),
+        ("/x (complain enforce) {", 4, 13),
+        ("/x (complain, audit, enforce, kill) {", 4, 21),
+        ("/x (complain kill enforce) {", 5, 13),
+        ("/x (complain=1 enforce) {", 5, 12),
+        ("/x (complain strict) {", 6, 13),
+        ("/x (enforce audit complain complain) {", 4, 18),
         ("/x (enforce complain) {", 4, 12),
         ("/x (enforce,, mediate_deleted, complain) {", 4, 31),
-        ("/x (mediate_deleted complain) {", 5, 20),
-        ("/x (enforce, audit) {", 5, 13),
         ("/x (kill) {", 5, 4),
         ("/x (unconfined) {", 5, 4),
         ("/x (prompt) {", 5, 4),

@@ -10,7 +10,7 @@ use Rattle.aa_words.specs.Splits.{WordData}
 use Rattle.aa_glob.specs.Variables.{Variable}
 use Rattle.aa_policy.specs.Bodies.{ChildData, FamilyData, ProfileData, PartData, Stated, Held, IsStatement, IsChild, IsPart, IsProfile, IsItem, IsPolicy, if_any, rules_in, children_in, child_name, child_profile, family, row_from}
 use Rattle.aa_rules.specs.Grammar.{Production, Ending, Many, IsRule, Closes, IsEnd}
-use Rattle.aa_heads.specs.Heads.{HeadData, IsTitle}
+use Rattle.aa_heads.specs.Heads.{TitleData, IsTitle}
 use Rattle.aa_rules.specs.Names.{is_full_name, is_right_name, is_plain_name}
 use Rattle.aa_rules.specs.Reading.{RuleData, OnFile, OnCap, OnNet, Listed}
 use Rattle.aa_policy.specs.Spelling.{on_file, files_of}
@@ -71,9 +71,9 @@ plain_right : (top : Bool) (name : List ℕ) → is_plain_name top name ≡ true
 unfolding is_plain_name
 plain_right top name e = first_and (is_right_name top name) _ e
 
-title_confined : (ws : List WordData) (head : HeadData) (rest : List WordData) → IsTitle true ws head rest → IsConfined head.name
-title_confined ws head rest (inl a) = subst IsConfined (sym a.2.name_is) (full_confined a.2.name.text (right_full a.2.name.text (plain_right true a.2.name.text a.2.is_right)))
-title_confined ws head rest (inr a) = subst IsConfined (sym a.name_is) (full_confined a.path.text (right_full a.path.text a.is_right))
+title_confined : (ws : List WordData) (title : TitleData) (rest : List WordData) → IsTitle true ws title rest → IsConfined title.name
+title_confined ws title rest (inl a) = subst IsConfined (sym a.2.name_is) (full_confined a.2.name.text (right_full a.2.name.text (plain_right true a.2.name.text a.2.is_right)))
+title_confined ws title rest (inr a) = subst IsConfined (sym a.name_is) (full_confined a.path.text (right_full a.path.text a.is_right))
 
 or_true : (a b : Bool) → b ≡ true → (a || b) ≡ true
 or_true true b e = refl
@@ -135,7 +135,7 @@ pub record IsKept (p : ProfileData) : Type 0 where
   pub lawful : AreLawful p.rules
 
 child_kept : (number : ℕ) (parent : List ℕ) (c : ChildData) → ChildLawful c → IsKept (child_profile number parent c)
-child_kept number parent c h = record { confined = child_confined parent c.head.name; lawful = h }
+child_kept number parent c h = record { confined = child_confined parent c.head.title.name; lawful = h }
 
 abbrev FamilyKept : FamilyData → Type 0
 FamilyKept f = (number : ℕ) → AllByRecursion IsKept (family number f)
@@ -145,7 +145,7 @@ family_kept ws f rest i = λ number.
     let parts = all_both (λ p. AllByRecursion RuleLawful (rules_in p)) (λ p. AllByRecursion ChildLawful (children_in p)) i.parts (many_all IsPart Closes PartLawful part_lawful i.after i.parts rest i.body_stands) in
     let rules : AreLawful f.rules = all_flat IsLawfulFile on_file f.rules (subst (AllByRecursion RuleLawful) (sym i.rules_are) (all_flat RuleLawful rules_in i.parts parts.0)) in
     let children : AllByRecursion ChildLawful f.children = subst (AllByRecursion ChildLawful) (sym i.children_are) (all_flat ChildLawful children_in i.parts parts.1) in
-    (record { confined = title_confined ws f.head i.head_stands.after i.head_stands.title; lawful = rules }, all_map IsKept ChildLawful (child_profile number f.head.name) (child_kept number f.head.name) f.children children)
+    (record { confined = title_confined ws f.head.title i.head_stands.after i.head_stands.title; lawful = rules }, all_map IsKept ChildLawful (child_profile number f.head.title.name) (child_kept number f.head.title.name) f.children children)
 
 item_kept : (ws : List WordData) (item : Option FamilyData) (rest : List WordData) → IsItem ws item rest → AllByRecursion FamilyKept (if_any item)
 item_kept ws (Some f) rest i = (family_kept ws f rest i, tt)

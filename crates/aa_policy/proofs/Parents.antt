@@ -71,7 +71,7 @@ children_in_order before n name h (c ∷ cs) =
     (fits_if before n (nat_lt n 65536) h, children_in_order (before ++ number_of n ∷ []) n name (get_longer before (number_of n ∷ []) n None h) cs)
 
 family_in_order : (before : List (Option ℕ)) (f : FamilyData) → InOrder before (parents (family (length before) f))
-family_in_order before f = (tt, children_in_order (before ++ None ∷ []) (length before) f.head.name (get_last before None) f.children)
+family_in_order before f = (tt, children_in_order (before ++ None ∷ []) (length before) f.head.title.name (get_last before None) f.children)
 
 row_in_order : (before : List (Option ℕ)) (number : ℕ) → length before ≡ number → (fs : List FamilyData) → InOrder before (parents (row_from number fs))
 row_in_order before number e [] = tt

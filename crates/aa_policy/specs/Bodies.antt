@@ -10,6 +10,7 @@ use Rattle.aa_policy.specs.declared.tree.ProfileTree.{ProfileTree}
 use Rattle.aa_policy.specs.declared.bodies.PartTree.{PartTree}
 use Rattle.aa_policy.specs.declared.bodies.PartTree.TheVariants.{States, Holds}
 use Rattle.aa_rules.specs.Grammar.{Production, Many, IsRule, Closes, IsEnd}
+use Rattle.aa_heads.specs.declared.heads.HeadFlags.{HeadFlags}
 use Rattle.aa_heads.specs.Heads.{AttachmentData, attachment_data, HeadData, head_data, IsHead}
 use Rattle.aa_heads.specs.Preamble.{PreambleData, IsAbi, IsPreamble, variables_of}
 use Rattle.aa_rules.specs.Reading.{RuleData, rule_data}
@@ -88,12 +89,13 @@ pub record IsProfile (ws : List WordData) (profile : FamilyData) (rest : List Wo
 
 -- ---- the row of profiles
 
--- a profile in the row of all: where its name stands, its full name, its parent's number, what it attaches to, its rules in order
+-- a profile in the row of all: where its name stands, its full name, its parent's number, what it attaches to, its flags, its rules in order
 pub record ProfileData : Type 0 where
   pub at : Spot
   pub name : List ℕ
   pub parent : Option ℕ
   pub attachment : Option AttachmentData
+  pub flags : HeadFlags
   pub rules : List RuleData
 
 -- the full name of a child
@@ -105,15 +107,22 @@ abbrev pub number_of : ℕ → Option ℕ
 number_of n = if nat_lt n 65536 then Some n else None
 
 abbrev pub top_profile : FamilyData → ProfileData
-top_profile f = record { at = f.head.at; name = f.head.name; parent = None; attachment = f.head.attachment; rules = f.rules }
+top_profile f = record { at = f.head.title.at; name = f.head.title.name; parent = None; attachment = f.head.title.attachment; flags = f.head.flags; rules = f.rules }
 
 -- a child of the profile with that number and name
 abbrev pub child_profile : ℕ → List ℕ → ChildData → ProfileData
-child_profile number parent c = record { at = c.head.at; name = child_name parent c.head.name; parent = number_of number; attachment = c.head.attachment; rules = c.rules }
+child_profile number parent c = record {
+  at = c.head.title.at;
+  name = child_name parent c.head.title.name;
+  parent = number_of number;
+  attachment = c.head.title.attachment;
+  flags = c.head.flags;
+  rules = c.rules;
+}
 
 -- a top-level profile with that number, and behind it its children
 abbrev pub family : ℕ → FamilyData → List ProfileData
-family number f = top_profile f ∷ map (child_profile number f.head.name) f.children
+family number f = top_profile f ∷ map (child_profile number f.head.title.name) f.children
 
 -- all profiles, of which the first has that number
 abbrev pub row_from : ℕ → List FamilyData → List ProfileData
@@ -131,7 +140,14 @@ full_name None name = name
 full_name (Some parent) name = child_name parent.name.now name
 
 abbrev pub profile_data : ProfileTree → ProfileData
-profile_data t = record { at = t.head.at; name = full_name t.parent t.head.name.now; parent = option_and_then (λ p. p.number) t.parent; attachment = option_map attachment_data t.head.attachment; rules = map rule_data t.rules.items }
+profile_data t = record {
+  at = t.head.title.at;
+  name = full_name t.parent t.head.title.name.now;
+  parent = option_and_then (λ p. p.number) t.parent;
+  attachment = option_map attachment_data t.head.title.attachment;
+  flags = t.head.flags;
+  rules = map rule_data t.rules.items;
+}
 
 abbrev pub tree_data : List ProfileTree → List ProfileData
 tree_data ts = map profile_data ts

@@ -64,14 +64,14 @@ abbrev pub AttachesTo : List Variable → Option AttachmentData → List Pattern
 AttachesTo vars None patterns = patterns ≡ []
 AttachesTo vars (Some attachment) patterns = StandsFor vars attachment.path patterns
 
--- a profile without flags, with the rules that are written
+-- a profile with the flags and the rules that are written
 pub record MeansProfile (vars : List Variable) (p : ProfileData) (q : Profile) : Type 0 where
   pub at_is : q.at ≡ p.at
   pub name_is : q.name ≡ p.name
   pub parent_is : q.parent ≡ p.parent
   pub attaches : AttachesTo vars p.attachment q.attachments
-  pub enforces : q.complain ≡ false
-  pub quiet : q.audit ≡ false
+  pub complain_is : q.complain ≡ p.flags.complain
+  pub audit_is : q.audit ≡ p.flags.audit
   pub files_are : AllZip (MeansRule vars) (files_of p.rules) q.files
   pub caps_are : q.caps ≡ flat_map cap_rules_of p.rules
   pub nets_are : q.nets ≡ flat_map net_rules_of p.rules

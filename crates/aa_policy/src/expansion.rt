@@ -144,14 +144,14 @@ fn attachments_of(
 
 /// The full name of a profile: that of a child is its parent's, `//` and its own.
 fn full_name(alloc: Global, tree: &ProfileTree) -> Result<Text, AllocError>
-    ensures { IfOk result (λ t. t ≡ full_name tree.now.parent tree.now.head.name.now) }
+    ensures { IfOk result (λ t. t ≡ full_name tree.now.parent tree.now.head.title.name.now) }
 {
     let Some(parent) = tree.parent else {
-        return Text::copy_of(alloc, tree.head.name);
+        return Text::copy_of(alloc, tree.head.title.name);
     };
     let mut name = Vec::from_slice(alloc, parent.name)?;
     name.extend_from_slice("//".as_bytes())?;
-    name.extend_from_slice(tree.head.name)?;
+    name.extend_from_slice(tree.head.title.name)?;
     Ok(Text::from_vec(name))
 }
 
@@ -161,17 +161,17 @@ fn profile(alloc: Global, vars: &Vars, tree: &ProfileTree) -> Result<Profile, Po
     ensures refused { IfErr result (λ e. e.kind ≢ PolicyKind.NoMemory → IsFirstRefused vars.now (profile_paths (profile_data tree.now)) e) }
     ensures cause { IfErr result IsPathRefusal }
 {
-    let attachments = attachments_of(alloc, vars, tree.head.attachment)?;
+    let attachments = attachments_of(alloc, vars, tree.head.title.attachment)?;
     let files = file_rules(alloc, vars, tree.rules.as_slice())?;
     let caps = cap_rules(alloc, tree.rules.as_slice())?;
     let nets = net_rules(alloc, tree.rules.as_slice())?;
     Ok(Profile {
-        at: tree.head.at,
+        at: tree.head.title.at,
         name: full_name(alloc, tree)?,
         parent: tree.parent.and_then(|parent| parent.number),
         attachments,
-        complain: false,
-        audit: false,
+        complain: tree.head.flags.complain,
+        audit: tree.head.flags.audit,
         files: Seq::from_vec(files),
         caps: Seq::from_vec(caps),
         nets: Seq::from_vec(nets),

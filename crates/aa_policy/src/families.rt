@@ -61,7 +61,7 @@ pub fn push_family<'s>(
         rules,
     })?;
     for child in children {
-        push_child(row, number, head.name, child)?;
+        push_child(row, number, head.title.name, child)?;
     }
     Ok(())
 }

@@ -1,6 +1,6 @@
 //! Profiles in their row: names, parents, attachments, and what stands under each.
 
-use crate::reading::{has_profiles, lists, matches_each};
+use crate::reading::{has_flags, has_profiles, lists, matches_each};
 use aa_policy::{Seq, Text, matching_is_decided, parse, spelled_once};
 use aa_words::{Span, Spot, Word, WordKind, WordList};
 use std::alloc::{AllocError, Global};
@@ -22,6 +22,25 @@ fn children_stand_behind_their_parent(rt: HostRuntime) -> Result<(), Fail> {
             ("p///d", 59, Some(1), [1, 1, 0, 0]),
             ("/q", 107, None, [1, 0, 0, 0]),
             ("r", 122, None, [0, 1, 0, 0]),
+        ],
+    )?;
+    Ok(())
+}
+
+#[test]
+fn each_profile_has_its_flags(rt: HostRuntime) -> Result<(), Fail> {
+    has_flags(
+        &rt,
+        rt.alloc(),
+        "profile p flags=(complain) { profile c (audit) { } /d (complain, audit) { } profile e { } } /q { } profile r (enforce audit) { profile s (complain) { } }",
+        &[
+            (true, false),
+            (false, true),
+            (true, true),
+            (false, false),
+            (false, false),
+            (false, true),
+            (true, false),
         ],
     )?;
     Ok(())

@@ -48,6 +48,21 @@ pub fn refuses_each(rt: &impl Abort, alloc: Global, rows: &[Row]) {
 /// rules, rules on capabilities and rules on sockets it has.
 pub type ProfileRow = (&'static str, u32, Option<u16>, [usize; 4]);
 
+/// The profiles of the text have these flags: `complain`, `audit`.
+pub fn has_flags(
+    rt: &impl Abort,
+    alloc: Global,
+    text: &str,
+    rows: &[(bool, bool)],
+) -> Result<(), PolicyFault> {
+    let policy = read(alloc, text.as_bytes())?;
+    assert_eq!(rt; policy.profiles.as_slice().len(), rows.len(), "{text}");
+    for (profile, row) in policy.profiles.as_slice().iter().zip(rows) {
+        assert!(rt; (profile.complain, profile.audit) == *row, "{text}");
+    }
+    Ok(())
+}
+
 fn is_profile(profile: &Profile, row: &ProfileRow) -> bool {
     let counts = [
         profile.attachments.as_slice().len(),

@@ -1,7 +1,6 @@
-use Rattle.std.proofs.Common.{refl}
-use Rattle.std.proofs.lemmas.Result.{err_from_is_err_and, IfOk-weaker}
-use Rattle.aa_heads.specs.Heads.{flags_among}
+use Rattle.std.proofs.lemmas.Result.{err_from_is_err_and, on_err_weaker, IfOk-weaker}
 use Rattle.aa_rules.specs.Reading.{rest_of}
+use Rattle.aa_heads.proofs.HeadProductions.{no_flags}
 use Rattle.aa_heads.proofs.heads.flags_of.Goals as goal
 
 pub returns-in_err-inside-clause-refused : goal.returns-in_err-inside-clause-refused
@@ -11,4 +10,7 @@ returns-in_err-inside-clause-refused c =
 
 pub returns-clause-found : goal.returns-clause-found
 returns-clause-found c =
-    IfOk-weaker c.flags_end.result _ _ (λ r f. (flags_among f.0, record { inside = rest_of c.args.words.now c.in_ok-inside.inside; between = f.0; opens = c.in_ok-inside.ensures.found; written = f.1; flags_are = refl })) c.flags_end.ensures.found
+    IfOk-weaker c.flag_list_of.result _ _ (λ r f. record { inside = rest_of c.args.words.now c.in_ok-inside.inside; opens = c.in_ok-inside.ensures.found; listed = f }) c.flag_list_of.ensures.found
+
+pub returns-clause-refused : goal.returns-clause-refused
+returns-clause-refused c = on_err_weaker c.flag_list_of.result (no_flags _ _ c.in_ok-inside.ensures.found) c.flag_list_of.ensures.refused
