@@ -71,6 +71,13 @@ fn chain(alloc: Global, links: u32) -> Result<Sources, PolicyFault> {
     Ok(sources)
 }
 
+/// The same, with an empty source of this name added behind the last.
+fn ended_chain(alloc: Global, links: u32, end: &[u8]) -> Result<Sources, PolicyFault> {
+    let mut sources = chain(alloc, links)?;
+    add(&mut sources, end, b"".as_slice())?;
+    Ok(sources)
+}
+
 #[test]
 fn includes_in_a_circle_go_at_most_16_deep(rt: HostRuntime) -> Result<(), Fail> {
     let alloc = rt.alloc();
@@ -83,18 +90,17 @@ fn includes_in_a_circle_go_at_most_16_deep(rt: HostRuntime) -> Result<(), Fail> 
 fn includes_go_16_deep(rt: HostRuntime) -> Result<(), Fail> {
     let alloc = rt.alloc();
     let main = b"include <c1>".as_slice();
-    let mut sources = chain(alloc, 15)?;
-    assert_eq!(rt; count_of(alloc, &sources, main), None);
-    add(&mut sources, b"c16".as_slice(), b"".as_slice())?;
-    assert_eq!(rt; count_of(alloc, &sources, main), Some(0));
+    let missing = chain(alloc, 15)?;
+    assert_eq!(rt; count_of(alloc, &missing, main), None);
+    let ended = ended_chain(alloc, 15, b"c16".as_slice())?;
+    assert_eq!(rt; count_of(alloc, &ended, main), Some(0));
     Ok(())
 }
 
 #[test]
 fn includes_go_at_most_16_deep(rt: HostRuntime) -> Result<(), Fail> {
     let alloc = rt.alloc();
-    let mut deeper = chain(alloc, 16)?;
-    add(&mut deeper, b"c17".as_slice(), b"".as_slice())?;
+    let deeper = ended_chain(alloc, 16, b"c17".as_slice())?;
     let line = line_of(alloc, &deeper, "include <c1>")?;
     assert_eq!(rt; line.as_str(), "refused 3 IncludeDepth 16:0");
     Ok(())
@@ -141,12 +147,18 @@ fn at_most_4096_readings_are_opened(rt: HostRuntime) -> Result<(), Fail> {
     Ok(())
 }
 
-#[test]
-fn readings_have_at_most_16_mebibytes_together(rt: HostRuntime) -> Result<(), Fail> {
-    let alloc = rt.alloc();
+/// The source a, as large as one may be.
+fn largest_source(alloc: Global) -> Result<Sources, PolicyFault> {
     let mut sources = Sources::new(alloc);
     let text = filled(alloc, b'#', LARGEST)?;
     add(&mut sources, b"a".as_slice(), text.as_slice())?;
+    Ok(sources)
+}
+
+#[test]
+fn readings_have_at_most_16_mebibytes_together(rt: HostRuntime) -> Result<(), Fail> {
+    let alloc = rt.alloc();
+    let sources = largest_source(alloc)?;
     let main = repeated(alloc, b"include <a>".as_slice(), 15)?;
     assert_eq!(rt; count_of(alloc, &sources, main.as_slice()), Some(0));
     let more = repeated(alloc, b"include <a>".as_slice(), 16)?;
