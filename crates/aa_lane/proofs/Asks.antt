@@ -31,14 +31,14 @@ module _ {M S Q A : Type 0} (next : M → S → Q → S) (reply : M → S → Q 
       subst P (sym can.held) (takes_step next reply k z'.slots id m.0 can.serves (can.idle ∙ sym can.done))
 
   pub can_collect : (z z' : TableId) (id n slot : ℕ) (m : Me (Cell M S Q A) (View M S Q A)) → CanCollect z m n slot → z ≡ z'
-      → Allows (HasLog next reply k) z'.slots id m 1 (λ n. n) (collected next reply (step z'.slots 1 0 0 none) m)
+      → Allows (HasLog next reply k) z'.slots id m 16 (λ n. n) (collected next reply (step z'.slots 16 0 0 none) m)
   can_collect z z' id n slot m can same = collects_step next reply k z'.slots id m.0 m.1 can.owns can.ready
 
   pub can_finish : (z z' : TableId) (id n slot : ℕ) (m : Me (Cell M S Q A) (View M S Q A)) (q : Q) (a : A) → CanFinish next reply z m n slot q a → z ≡ z'
-      → Allows (HasLog next reply k) z'.slots id (m.0, (slot, Answered q a) ∷ rest m.1) 1 (λ _. n + 1) (λ _. finished (step z'.slots 1 (n + 1) 0 none) (m.0, (slot, Answered q a) ∷ rest m.1) (n + 1))
+      → Allows (HasLog next reply k) z'.slots id (m.0, (slot, Answered q a) ∷ rest m.1) 16 (λ _. n + 1) (λ _. finished (step z'.slots 16 (n + 1) 0 none) (m.0, (slot, Answered q a) ∷ rest m.1) (n + 1))
   can_finish z z' id n slot m q a can same =
       let at_slot : slot ≡ m.0.server.done % z'.slots = can.slot_is ∙ ap (λ (y : TableId). n % y.slots) same ∙ ap (λ i. i % z'.slots) (sym can.done) in
-      let P : ℕ → List (ℕ × Cell M S Q A) → Type 0 = λ i l. Allows (HasLog next reply k) z'.slots id (m.0, l) 1 (λ _. i + 1) (λ _. finished (step z'.slots 1 (i + 1) 0 none) (m.0, l) (i + 1)) in
+      let P : ℕ → List (ℕ × Cell M S Q A) → Type 0 = λ i l. Allows (HasLog next reply k) z'.slots id (m.0, l) 16 (λ _. i + 1) (λ _. finished (step z'.slots 16 (i + 1) 0 none) (m.0, l) (i + 1)) in
       let held : (slot, Answered q a) ∷ rest m.1 ≡ (m.0.server.done % z'.slots, Answered q a) ∷ [] = ap (λ l. (slot, Answered q a) ∷ rest l) can.held ∙ ap (λ i. (i, Answered q a) ∷ []) at_slot in
       let busy : length m.0.server.taken ≡ m.0.server.done + 1 = can.busy ∙ ap (λ i. i + 1) (sym can.done) in
       let job : slice_get m.0.server.taken m.0.server.done ≡ Some q = subst (λ i. slice_get m.0.server.taken i ≡ Some q) (sym can.done) can.job in

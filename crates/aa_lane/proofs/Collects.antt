@@ -31,14 +31,14 @@ module _ {M S Q A : Type 0} (next : M → S → Q → S) (reply : M → S → Q 
   after_collect w b e = (rw e refl, rw e refl)
 
   module _ (s : State (Cell M S Q A) (View M S Q A)) (w : WorldState M S Q A) (h : Shows next reply s w) (id : ℕ) (v : View M S Q A)
-      (at : get_elem? s.views id ≡ some v) (owns : v.owns ≡ true) (ready : v.owner.ready ≡ true) (x : ℕ) (is : x ≡ slice_index s.words 1) where
+      (at : get_elem? s.views id ≡ some v) (owns : v.owns ≡ true) (ready : v.owner.ready ≡ true) (x : ℕ) (is : x ≡ slice_index s.words 16) where
     fits : OwnerFits s.homes w v.owner
     fits = (h.seats ByOwner id v at owns).2
 
-    pub collect_none : (held : List (ℕ × Cell M S Q A)) → x ≤ v.owner.got → Shows next reply (stepped s 1 x id held (uncollected_view v x) keeps) w
+    pub collect_none : (held : List (ℕ × Cell M S Q A)) → x ≤ v.owner.got → Shows next reply (stepped s 16 x id held (uncollected_view v x) keeps) w
     collect_none held le =
         let d = h.done in
-        stays next reply s w h 1 x id held ByOwner v (uncollected_view v x) is at owns
+        stays next reply s w h 16 x id held ByOwner v (uncollected_view v x) is at owns
         (λ a. elim a as (λ a. role a (uncollected_view v x) ≡ true → role a v ≡ true) [ ByOwner ↦ λ o. o | ByServer ↦ λ o. o | ByShutter ↦ λ o. o ]) refl (λ e. e) (λ e. e)
         (λ a. elim a as (λ a. Fits a s.homes w v → Fits a s.homes w (uncollected_view v x)) [
           | ByOwner ↦ λ f. record { sent = f.sent; got = f.got; found = omega arith; closed = f.closed; left = f.left; fresh = f.fresh }
@@ -59,7 +59,7 @@ module _ {M S Q A : Type 0} (next : M → S → Q → S) (reply : M → S → Q 
 
     pub collect_one : (held : List (ℕ × Cell M S Q A)) (q : Q) (a : A) → v.owner.got < x → slice_get w.accepted w.collected ≡ Some q → slice_get w.answers w.collected ≡ Some a
         → (get_elem? s.homes (v.owner.got % length s.homes) ≡ some (some (Answered q a)))
-        × Shows next reply (stepped s 1 x id held (collected_view v x) (takes (v.owner.got % length s.homes) (Answered q a))) (collecting w)
+        × Shows next reply (stepped s 16 x id held (collected_view v x) (takes (v.owner.got % length s.homes) (Answered q a))) (collecting w)
     collect_one held q a more eq ea =
         let dn = h.done in let gt = fits.got in
         let t = h.lawful.sent in let g = h.lawful.gotten in let b = h.lawful.begun in let room = h.lawful.room in let c = h.capacity in
@@ -68,7 +68,7 @@ module _ {M S Q A : Type 0} (next : M → S → Q → S) (reply : M → S → Q 
         let slot : ℕ = v.owner.got % length s.homes in
         let hs : List (Option (Cell M S Q A)) = set s.homes slot none in
         let homes : length hs ≡ length s.homes = length-set s.homes slot none in
-        let words : slice_set s.words 1 x ≡ s.words = rw is (set-get_or s.words 1 0) in (
+        let words : slice_set s.words 16 x ≡ s.words = rw is (set-get_or s.words 16 0) in (
           home,
           record {
             lawful = collecting_lawful next reply w h.lawful lt;
@@ -103,13 +103,13 @@ module _ {M S Q A : Type 0} (next : M → S → Q → S) (reply : M → S → Q 
 module _ {M S Q A : Type 0} (next : M → S → Q → S) (reply : M → S → Q → A) (k : Key M S Q A) where
   -- a load of the done word
   pub collects_step : (c id : ℕ) (v : View M S Q A) (held : List (ℕ × Cell M S Q A)) → v.owns ≡ true → v.owner.ready ≡ true
-      → Allows (HasLog next reply k) c id (v, held) 1 (λ n. n) (collected next reply (step c 1 0 0 none) (v, held))
+      → Allows (HasLog next reply k) c id (v, held) 16 (λ n. n) (collected next reply (step c 16 0 0 none) (v, held))
   collects_step c id v held owns ready s all len at small =
       let w : WorldState M S Q A = world next reply k s all in
       let h : Shows next reply s w = all.shows in
-      let x : ℕ = slice_index s.words 1 in
+      let x : ℕ = slice_index s.words 16 in
       let f = (h.seats ByOwner id v at owns).2 in
-      let P : Bool → Type 0 = λ b. (v' : View M S Q A) × (a : Act (Cell M S Q A)) × Valid s.homes held a × HasLog next reply k (stepped s 1 x id held v' a) × is_collected next reply b c x (v, held) (v', carried_after held a) in
+      let P : Bool → Type 0 = λ b. (v' : View M S Q A) × (a : Act (Cell M S Q A)) × Valid s.homes held a × HasLog next reply k (stepped s 16 x id held v' a) × is_collected next reply b c x (v, held) (v', carried_after held a) in
       let by : (b : Bool) → nat_lt v.owner.got x ≡ b → P b = elim [
         | true ↦ λ e.
             let lt : v.owner.got < x = ltb-true _ _ e in

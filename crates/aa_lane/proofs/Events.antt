@@ -104,7 +104,7 @@ module _ {M S Q A : Type 0} (next : M → S → Q → S) (reply : M → S → Q 
         let y : w.collected < length w.accepted = omega arith in
         let q = there w.accepted w.collected y in
         let a = there w.answers w.collected z in
-        let r = collect_one next reply s w h id v st.at owns ready (slice_index s.words 1) refl held q.0 a.0 more q.1 a.1 in
+        let r = collect_one next reply s w h id v st.at owns ready (slice_index s.words 16) refl held q.0 a.0 more q.1 a.1 in
         let does = after_collect next reply w true (lt-ltb w.collected (length w.answers) z) in
         (q.0, a.0, r.0, event_of _ w (collecting next reply w) Collect (Given v.owner.got) (sym does.0) (ap Given gt ∙ sym does.1) r.1);
     collects_none = λ s w id v held st owns ready le.
@@ -112,7 +112,7 @@ module _ {M S Q A : Type 0} (next : M → S → Q → S) (reply : M → S → Q 
         let dn = h.done in let gt = (h.seats ByOwner id v st.at owns).2.got in
         let z : length w.answers ≤ w.collected = omega arith in
         let does = after_collect next reply w false (le-ltb w.collected (length w.answers) z) in
-        event_of _ w w Collect Nothing (sym does.0) (sym does.1) (collect_none next reply s w h id v st.at owns ready (slice_index s.words 1) refl held le);
+        event_of _ w w Collect Nothing (sym does.0) (sym does.1) (collect_none next reply s w h id v st.at owns ready (slice_index s.words 16) refl held le);
     shuts = λ s w id v held st is.
         let h = st.shows in
         let n : ℕ = slice_index s.words 0 / 2 in

@@ -45,7 +45,7 @@ module _ {M S Q A : Type 0} (next : M → S → Q → S) (reply : M → S → Q 
     answer_is : a ≡ reply w.machine w.state q
     answer_is = decided w.machine w.start (h.seats ByServer id v at serves).1 ∙ rw (taken_part, ← h.lawful.reached) refl
 
-    pub finish_one : Shows next reply (stepped s 1 (v.server.done + 1) id ((v.server.done % length s.homes, Answered q a) ∷ []) (finished_view v) gives) (answering next reply w q)
+    pub finish_one : Shows next reply (stepped s 16 (v.server.done + 1) id ((v.server.done % length s.homes, Answered q a) ∷ []) (finished_view v) gives) (answering next reply w q)
     finish_one =
         let b = began in let d = fits.done in
         let t = h.lawful.sent in let g = h.lawful.gotten in let room = h.lawful.room in let c = h.capacity in
@@ -62,9 +62,9 @@ module _ {M S Q A : Type 0} (next : M → S → Q → S) (reply : M → S → Q 
           lawful = answering_lawful next reply w q h.lawful ne there_is;
           capacity = h.capacity ∙ sym homes;
           roomy = rw homes h.roomy;
-          wide = length-set s.words 1 (v.server.done + 1) ∙ h.wide;
-          gate = rw (get_or-set_other s.words 1 0 (v.server.done + 1) 0 (λ e. omega arith)) h.gate;
-          done = rw (get_or-set_same s.words 1 (v.server.done + 1) 0 (let u = h.wide in omega arith)) (omega arith);
+          wide = length-set s.words 16 (v.server.done + 1) ∙ h.wide;
+          gate = rw (get_or-set_other s.words 16 0 (v.server.done + 1) 0 (λ e. omega arith)) h.gate;
+          done = rw (get_or-set_same s.words 16 (v.server.done + 1) 0 (let u = h.wide in omega arith)) (omega arith);
           waiting = λ m r low e'. let in_sent : m < length w.accepted = slice_get_within w.accepted m r e' in
               rw homes (set_else s.homes slot (m % length s.homes) (some (Answered q a)) (λ f. let z : v.server.done ≡ m = one_turn v.server.done m (length s.homes) (omega arith) (omega arith) (sym f) in omega arith)
               ∙ h.waiting m r low e');
@@ -97,7 +97,7 @@ module _ {M S Q A : Type 0} (next : M → S → Q → S) (reply : M → S → Q 
   -- the store of the done word
   pub finishes_step : (c id : ℕ) (v : View M S Q A) (q : Q) (a : A) → v.serves ≡ true → length v.server.taken ≡ v.server.done + 1 → slice_get v.server.taken v.server.done ≡ Some q
       → ((m : M) (t : S) → v.terms ≡ Some (m, t) → a ≡ reply m (state_after (next m) (reply m) t (take v.server.done v.server.taken)) q)
-      → Allows (HasLog next reply k) c id (v, (v.server.done % c, Answered q a) ∷ []) 1 (λ _. v.server.done + 1) (λ _. finished (step c 1 (v.server.done + 1) 0 none) (v, (v.server.done % c, Answered q a) ∷ []) (v.server.done + 1))
+      → Allows (HasLog next reply k) c id (v, (v.server.done % c, Answered q a) ∷ []) 16 (λ _. v.server.done + 1) (λ _. finished (step c 16 (v.server.done + 1) 0 none) (v, (v.server.done % c, Answered q a) ∷ []) (v.server.done + 1))
   finishes_step c id v q a serves busy job decided s held len at small =
       let w : WorldState M S Q A = world next reply k s held in
       let h : Shows next reply s w = held.shows in

@@ -88,7 +88,7 @@ module _ {M S Q A : Type 0} (next : M → S → Q → S) (reply : M → S → Q 
   first_only (suc j) v w e = cc
 
   -- the table as it is made shows the opening world
-  pub opens_one : (k : Key M S Q A) → 0 < k.capacity → Shows next reply (table_opening (0 ∷ 0 ∷ []) (replicate k.capacity Vacant) (first_view k)) (opening k.machine.now k.start k.capacity)
+  pub opens_one : (k : Key M S Q A) → 0 < k.capacity → Shows next reply (table_opening (replicate 17 0) (replicate k.capacity Vacant) (first_view k)) (opening k.machine.now k.start k.capacity)
   opens_one k roomy =
       let n = length_homes {X = Cell M S Q A} Vacant k.capacity in
       let w : WorldState M S Q A = opening k.machine.now k.start k.capacity in
@@ -328,7 +328,7 @@ module _ {M S Q A : Type 0} (next : M → S → Q → S) (reply : M → S → Q 
   joins_shutter_one s w h id v other u at there owns is = join_one s w h ByShutter id v other u (with_shutter v u) (shutter_whole v u owns is) at there
 
 module _ {M S Q A : Type 0} (next : M → S → Q → S) (reply : M → S → Q → A) (k : Key M S Q A) where
-  pub opens : 0 < k.capacity → HasLog next reply k (table_opening (0 ∷ 0 ∷ []) (replicate k.capacity Vacant) (first_view k))
+  pub opens : 0 < k.capacity → HasLog next reply k (table_opening (replicate 17 0) (replicate k.capacity Vacant) (first_view k))
   opens roomy = record {
     log = [];
     told = refl;

@@ -68,7 +68,7 @@ module _ {M S Q A : Type 0} (next : M → S → Q → S) (reply : M → S → Q 
           roomy = rw homes h.roomy;
           wide = length-set s.words 0 x ∙ h.wide;
           gate = rw (get_or-set_same s.words 0 x 0 (let u = h.wide in omega arith), unshut) (let c = count in omega (arith, n));
-          done = rw (get_or-set_other s.words 0 1 x 0 (λ e. omega arith)) h.done;
+          done = rw (get_or-set_other s.words 0 16 x 0 (λ e. omega arith)) h.done;
           waiting = λ m r low e. rw homes (elim (snoc_cases w.accepted q m r e) [
             | inl p ↦ set_else s.homes slot (m % length s.homes) (some (Asked q)) (other_slot m (omega arith) (slice_get_within w.accepted m r p)) ∙ h.waiting m r low p
             | inr p ↦ let c = count in

@@ -53,7 +53,7 @@ module _ {M S Q A : Type 0} (next : M → S → Q → S) (reply : M → S → Q 
         roomy = h.roomy;
         wide = length-set s.words 0 x ∙ h.wide;
         gate = get_or-set_same s.words 0 x 0 (let u = h.wide in omega arith) ∙ gate;
-        done = rw (get_or-set_other s.words 0 1 x 0 (λ e. omega arith)) h.done;
+        done = rw (get_or-set_other s.words 0 16 x 0 (λ e. omega arith)) h.done;
         waiting = h.waiting;
         answered = h.answered;
         seat = h.seat;

@@ -80,7 +80,7 @@ module _ {M S Q A : Type 0} where
   pub record OwnerOk (z : TableId) (v : View M S Q A) (held : List (ℕ × Cell M S Q A)) (c sent got : ℕ) : Type 0 where
     pub owns : v.owns ≡ true
     pub ready : v.owner.ready ≡ true
-    pub words : z.words ≡ 2
+    pub words : z.words ≡ 17
     pub slots : z.slots ≡ c
     pub roomy : 0 < c
     pub small : c ≤ 1024
@@ -94,7 +94,7 @@ module _ {M S Q A : Type 0} where
   -- the seat z is a shutter's
   pub record ShutterOk (z : TableId) (v : View M S Q A) (held : List (ℕ × Cell M S Q A)) (c : ℕ) : Type 0 where
     pub shuts : v.shuts ≡ true
-    pub words : z.words ≡ 2
+    pub words : z.words ≡ 17
     pub slots : z.slots ≡ c
     pub held_is : held ≡ []
 
@@ -107,7 +107,7 @@ module _ {M S Q A : Type 0} (next : M → S → Q → S) (reply : M → S → Q 
   -- the seat z is a server's that has answered all that it took, and this is the state that they leave
   pub record ServerOk (z : TableId) (v : View M S Q A) (held : List (ℕ × Cell M S Q A)) (c done : ℕ) (state : S) : Type 0 where
     pub serves : v.serves ≡ true
-    pub words : z.words ≡ 2
+    pub words : z.words ≡ 17
     pub slots : z.slots ≡ c
     pub roomy : 0 < c
     pub done_is : v.server.done ≡ done
@@ -119,7 +119,7 @@ module _ {M S Q A : Type 0} (next : M → S → Q → S) (reply : M → S → Q 
   -- the seat z is a server's with one request in hand
   pub record BusyOk (z : TableId) (v : View M S Q A) (held : List (ℕ × Cell M S Q A)) (c done : ℕ) (state : S) (q : Q) : Type 0 where
     pub serves : v.serves ≡ true
-    pub words : z.words ≡ 2
+    pub words : z.words ≡ 17
     pub slots : z.slots ≡ c
     pub roomy : 0 < c
     pub done_is : v.server.done ≡ done

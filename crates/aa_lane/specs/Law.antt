@@ -30,7 +30,7 @@ module _ {M S Q A : Type 0} (next : M → S → Q → S) (reply : M → S → Q 
 
   pub record StepsAreEvents : Type 0 where
     -- the table as it is made shows the opening world
-    pub opens : (k : Key M S Q A) → 0 < k.capacity → Shows next reply (table_opening (0 ∷ 0 ∷ []) (replicate k.capacity Vacant) (first_view k)) (opening k.machine.now k.start k.capacity)
+    pub opens : (k : Key M S Q A) → 0 < k.capacity → Shows next reply (table_opening (replicate 17 0) (replicate k.capacity Vacant) (first_view k)) (opening k.machine.now k.start k.capacity)
     -- the load at which the owner takes all slots
     pub readies : (s : State (Cell M S Q A) (View M S Q A)) (w : WorldState M S Q A) (id : ℕ) (v : View M S Q A) → Stands s w id v → v.owns ≡ true → v.owner.ready ≡ false
         → Valid s.homes [] (take_slots (length s.homes)) × Shows next reply (stepped s 0 (slice_index s.words 0) id [] (ready_view v) (take_slots (length s.homes))) w
@@ -55,13 +55,13 @@ module _ {M S Q A : Type 0} (next : M → S → Q → S) (reply : M → S → Q 
     -- the server's store of the done word, with the answer in the slot
     pub finishes : (s : State (Cell M S Q A) (View M S Q A)) (w : WorldState M S Q A) (id : ℕ) (v : View M S Q A) (q : Q) (a : A) → Stands s w id v → v.serves ≡ true → length v.server.taken ≡ v.server.done + 1 → slice_get v.server.taken v.server.done ≡ Some q
         → ((m : M) (t : S) → v.terms ≡ Some (m, t) → a ≡ reply m (state_after (next m) (reply m) t (take v.server.done v.server.taken)) q)
-        → IsEvent (stepped s 1 (v.server.done + 1) id ((v.server.done % length s.homes, Answered q a) ∷ []) (finished_view v) gives) w Finish (Finished v.server.done)
+        → IsEvent (stepped s 16 (v.server.done + 1) id ((v.server.done % length s.homes, Answered q a) ∷ []) (finished_view v) gives) w Finish (Finished v.server.done)
     -- the owner's load of the done word
-    pub collects_one : (s : State (Cell M S Q A) (View M S Q A)) (w : WorldState M S Q A) (id : ℕ) (v : View M S Q A) (held : List (ℕ × Cell M S Q A)) → Stands s w id v → v.owns ≡ true → v.owner.ready ≡ true → v.owner.got < slice_index s.words 1
+    pub collects_one : (s : State (Cell M S Q A) (View M S Q A)) (w : WorldState M S Q A) (id : ℕ) (v : View M S Q A) (held : List (ℕ × Cell M S Q A)) → Stands s w id v → v.owns ≡ true → v.owner.ready ≡ true → v.owner.got < slice_index s.words 16
         → (q : Q) × (a : A) × (get_elem? s.homes (v.owner.got % length s.homes) ≡ some (some (Answered q a)))
-        × IsEvent (stepped s 1 (slice_index s.words 1) id held (collected_view v (slice_index s.words 1)) (takes (v.owner.got % length s.homes) (Answered q a))) w Collect (Given v.owner.got)
-    pub collects_none : (s : State (Cell M S Q A) (View M S Q A)) (w : WorldState M S Q A) (id : ℕ) (v : View M S Q A) (held : List (ℕ × Cell M S Q A)) → Stands s w id v → v.owns ≡ true → v.owner.ready ≡ true → slice_index s.words 1 ≤ v.owner.got
-        → IsEvent (stepped s 1 (slice_index s.words 1) id held (uncollected_view v (slice_index s.words 1)) keeps) w Collect Nothing
+        × IsEvent (stepped s 16 (slice_index s.words 16) id held (collected_view v (slice_index s.words 16)) (takes (v.owner.got % length s.homes) (Answered q a))) w Collect (Given v.owner.got)
+    pub collects_none : (s : State (Cell M S Q A) (View M S Q A)) (w : WorldState M S Q A) (id : ℕ) (v : View M S Q A) (held : List (ℕ × Cell M S Q A)) → Stands s w id v → v.owns ≡ true → v.owner.ready ≡ true → slice_index s.words 16 ≤ v.owner.got
+        → IsEvent (stepped s 16 (slice_index s.words 16) id held (uncollected_view v (slice_index s.words 16)) keeps) w Collect Nothing
     -- the two ways to shut
     pub shuts : (s : State (Cell M S Q A) (View M S Q A)) (w : WorldState M S Q A) (id : ℕ) (v : View M S Q A) (held : List (ℕ × Cell M S Q A)) → Stands s w id v → v.shuts ≡ true
         → IsEvent (stepped s 0 (bit_or (slice_index s.words 0) 1) id held (shut_view v (slice_index s.words 0 / 2)) keeps) w Shut (Count (slice_index s.words 0 / 2))
@@ -81,9 +81,9 @@ module _ {M S Q A : Type 0} (next : M → S → Q → S) (reply : M → S → Q 
     -- a shutter that was given a count: the gate is shut, and counts so many
     pub counted : (j c : ℕ) (v : View M S Q A) → get_elem? s.views j ≡ some v → v.shuts ≡ true → v.shutter.count ≡ Some c → slice_index s.words 0 ≡ 2 * c + 1
     -- a server that found the lane settled: the gate is shut, and counts as many as are answered
-    pub settled : (j : ℕ) (v : View M S Q A) → get_elem? s.views j ≡ some v → v.serves ≡ true → v.server.settled ≡ true → slice_index s.words 0 ≡ 2 * slice_index s.words 1 + 1
+    pub settled : (j : ℕ) (v : View M S Q A) → get_elem? s.views j ≡ some v → v.serves ≡ true → v.server.settled ≡ true → slice_index s.words 0 ≡ 2 * slice_index s.words 16 + 1
     -- no load found more than is there
-    pub found : (j : ℕ) (v : View M S Q A) → get_elem? s.views j ≡ some v → v.owns ≡ true → v.owner.found ≤ slice_index s.words 1
+    pub found : (j : ℕ) (v : View M S Q A) → get_elem? s.views j ≡ some v → v.owns ≡ true → v.owner.found ≤ slice_index s.words 16
     pub seen : (j : ℕ) (v : View M S Q A) → get_elem? s.views j ≡ some v → v.serves ≡ true → v.server.seen ≤ slice_index s.words 0 / 2
 
   -- in every state that a lane's table can have

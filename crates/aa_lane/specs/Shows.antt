@@ -87,9 +87,9 @@ module _ {M S Q A : Type 0} (next : M → S → Q → S) (reply : M → S → Q 
     pub lawful : IsLawful next reply w
     pub capacity : w.capacity ≡ length s.homes
     pub roomy : 0 < length s.homes
-    pub wide : length s.words ≡ 2
+    pub wide : length s.words ≡ 17
     pub gate : slice_index s.words 0 ≡ 2 * length w.accepted + bit w.shut
-    pub done : slice_index s.words 1 ≡ length w.answers
+    pub done : slice_index s.words 16 ≡ length w.answers
     pub waiting : (n : ℕ) (q : Q) → w.taken ≤ n → slice_get w.accepted n ≡ Some q → get_elem? s.homes (n % length s.homes) ≡ some (some (Asked q))
     pub answered : (n : ℕ) (q : Q) (a : A) → w.collected ≤ n → slice_get w.accepted n ≡ Some q → slice_get w.answers n ≡ Some a → get_elem? s.homes (n % length s.homes) ≡ some (some (Answered q a))
     pub seat : Who → ℕ

@@ -13,7 +13,7 @@ module _ {M S Q A : Type 0} where
   pub record CanSend (z : TableId) (m : Me (Cell M S Q A) (View M S Q A)) (n slot : ℕ) : Type 0 where
     pub owns : m.0.owns ≡ true
     pub ready : m.0.owner.ready ≡ true
-    pub words : z.words ≡ 2
+    pub words : z.words ≡ 17
     pub count : n ≡ length m.0.owner.sent
     pub spent : n < most_accepted
     pub gotten : m.0.owner.got ≤ n
@@ -25,13 +25,13 @@ module _ {M S Q A : Type 0} where
   pub record CanReady (z : TableId) (m : Me (Cell M S Q A) (View M S Q A)) : Type 0 where
     pub owns : m.0.owns ≡ true
     pub before : m.0.owner.ready ≡ false
-    pub words : z.words ≡ 2
+    pub words : z.words ≡ 17
     pub held : m.1 ≡ []
 
   -- the server has nothing in hand, and answered n requests
   pub record CanTake (z : TableId) (m : Me (Cell M S Q A) (View M S Q A)) (n slot : ℕ) : Type 0 where
     pub serves : m.0.serves ≡ true
-    pub words : z.words ≡ 2
+    pub words : z.words ≡ 17
     pub done : m.0.server.done ≡ n
     pub idle : length m.0.server.taken ≡ n
     pub slot_is : slot ≡ n % z.slots
@@ -41,7 +41,7 @@ module _ {M S Q A : Type 0} where
   pub record CanCollect (z : TableId) (m : Me (Cell M S Q A) (View M S Q A)) (n slot : ℕ) : Type 0 where
     pub owns : m.0.owns ≡ true
     pub ready : m.0.owner.ready ≡ true
-    pub words : z.words ≡ 2
+    pub words : z.words ≡ 17
     pub got : m.0.owner.got ≡ n
     pub slot_is : slot ≡ n % z.slots
 
@@ -49,7 +49,7 @@ module _ {M S Q A : Type 0} (next : M → S → Q → S) (reply : M → S → Q 
   -- the server has request n in hand, and this is its answer
   pub record CanFinish (z : TableId) (m : Me (Cell M S Q A) (View M S Q A)) (n slot : ℕ) (q : Q) (a : A) : Type 0 where
     pub serves : m.0.serves ≡ true
-    pub words : z.words ≡ 2
+    pub words : z.words ≡ 17
     pub done : m.0.server.done ≡ n
     pub small : n < 2 ^ 63
     pub busy : length m.0.server.taken ≡ n + 1

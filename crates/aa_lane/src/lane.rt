@@ -38,7 +38,7 @@ impl<'m, M: Machine> Model for Lane<'m, M> {
 
     ghost view = { λ l. record { table = l.table.shared.table_id; machine = l.machine.now; start = l.table.shared.key.start; capacity = l.capacity; tag = l.tag } };
 
-    ghost invariant = { λ l. (l.table.shared.key.machine.now ≡ l.machine.now) × (l.table.shared.key.capacity ≡ l.capacity) × (l.table.shared.table_id.slots ≡ l.capacity) × (l.table.shared.table_id.words ≡ 2) × (0 < l.capacity) };
+    ghost invariant = { λ l. (l.table.shared.key.machine.now ≡ l.machine.now) × (l.table.shared.key.capacity ≡ l.capacity) × (l.table.shared.table_id.slots ≡ l.capacity) × (l.table.shared.table_id.words ≡ 17) × (0 < l.capacity) };
 }
 
 /// The end that sends requests and collects the answers to them.
@@ -447,7 +447,7 @@ fn open_table<'m, M: Machine>(
     start: M::State,
 ) -> Result<(LaneTable<'m, M>, Seat<Cell<M>, View<M>>), AllocError>
     requires { 0 < capacity }
-    ensures table { IfOk result (λ r. (r.0.shared.table_id.words ≡ 2) × (r.0.shared.table_id.slots ≡ capacity)) }
+    ensures table { IfOk result (λ r. (r.0.shared.table_id.words ≡ 17) × (r.0.shared.table_id.slots ≡ capacity)) }
     ensures key { IfOk result (λ r. (r.0.shared.key.machine.now ≡ machine.now) × (r.0.shared.key.start ≡ start) × (r.0.shared.key.capacity ≡ capacity)) }
     ensures seat { IfOk result (λ r. (r.1.table_id ≡ r.0.shared.table_id) × (r.1.me ≡ (first_view r.0.shared.key, []))) }
 {
@@ -457,7 +457,7 @@ fn open_table<'m, M: Machine>(
         start,
         capacity: u64::from(capacity),
     };
-    match LaneTable::<'m, M>::new(alloc, &[0, 0], slots, &key) {
+    match LaneTable::<'m, M>::new(alloc, &[0; 17], slots, &key) {
         Ok(opened) => Ok(opened),
         Err(_) => Err(AllocError),
     }

@@ -17,9 +17,12 @@ use aa_machine::Machine;
 use atomic_table::{Closed, Seat, Shared, Table};
 use std::alloc::{Allocator, Global};
 
+// Twice the number of accepted requests, and one more where the lane is shut.
 pub const GATE: usize = 0;
 
-pub const DONE: usize = 1;
+// The number of answers. It stands 128 bytes behind the gate, so that the two never share a cache line, nor two lines that
+// are loaded together. The words between are not used.
+pub const DONE: usize = 16;
 
 // Takes all slots.
 pub fn ready<M: Machine>(
@@ -136,7 +139,7 @@ pub fn shut<M: Machine>(
     seat: &mut Seat<Cell<M>, View<M>>,
 ) -> u64
     requires table { seat.old.table_id ≡ shared.now.table_id }
-    requires ready { (seat.old.me.0.shuts ≡ true) × (seat.old.table_id.words ≡ 2) }
+    requires ready { (seat.old.me.0.shuts ≡ true) × (seat.old.table_id.words ≡ 17) }
     ensures table { (seat.new.table_id ≡ seat.old.table_id) × (seat.new.id ≡ seat.old.id) }
     ensures shut { seat.new.me ≡ (shut_view seat.old.me.0 result, seat.old.me.1) }
     ensures again { (c : ℕ) → seat.old.me.0.shutter.count ≡ Some c → result ≡ c }
@@ -150,7 +153,7 @@ pub fn exit<M: Machine>(
     seat: &mut Seat<Cell<M>, View<M>>,
 )
     requires table { seat.old.table_id ≡ shared.now.table_id }
-    requires ready { (seat.old.me.0.owns ≡ true) × (seat.old.table_id.words ≡ 2) }
+    requires ready { (seat.old.me.0.owns ≡ true) × (seat.old.table_id.words ≡ 17) }
     ensures table { (seat.new.table_id ≡ seat.old.table_id) × (seat.new.id ≡ seat.old.id) }
     ensures left { seat.new.me ≡ (left_view seat.old.me.0, seat.old.me.1) }
 {
@@ -178,7 +181,7 @@ pub fn close<'m, M: Machine>(
     shutter: Seat<Cell<M>, View<M>>,
 )
     requires tables { (owner.table_id ≡ table.shared.table_id) × (server.table_id ≡ table.shared.table_id) × (shutter.table_id ≡ table.shared.table_id) }
-    requires words { table.shared.table_id.words ≡ 2 }
+    requires words { table.shared.table_id.words ≡ 17 }
     requires roles { (owner.me.0.owns ≡ true) × (server.me.0.serves ≡ true) × (shutter.me.0.shuts ≡ true) }
     requires held { (server.me.1 ≡ []) × (shutter.me.1 ≡ []) }
     ensures { LastState M.next M.reply table.entry.shared.key (joined owner.me.0 server.me.0 shutter.me.0) }
