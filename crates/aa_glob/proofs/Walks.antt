@@ -19,57 +19,53 @@ use Rattle.aa_glob.proofs.Ways.{part_on, part_value, part_variable, part_raw, pa
 abbrev open_entry : Option (Option VariableSummary)
 open_entry = Some None
 
-module _ (vars : List Variable) (raw : List ℕ) where
-  pub walk_start : (top : Step) (none : Table) → none ≡ [] → top.kept ≡ false → top.rest.now ≡ raw → top.later.now ≡ [] → IsWalking vars raw [] top none
-  walk_start top none e kept text later = record {
-    way = λ more g. part_raw vars more top raw kept text later;
-    right = λ depth le name s h. absurd (cc (ap (found name) (sym e) ∙ h));
-    open_names = λ name h. absurd (cc (ap (found name) (sym e) ∙ h));
-    room = omega arith;
-  }
+pub walk_start : {vars : List Variable} {raw : List ℕ} {top : Step} {none : Table} → none ≡ [] → top.kept ≡ false → top.rest.now ≡ raw → top.later.now ≡ [] → IsWalking vars raw [] top none
+walk_start {vars} {raw} {top} {none} e kept text later = record {
+  way = λ more g. part_raw vars more top raw kept text later;
+  right = λ depth le name s h. absurd (cc (ap (found name) (sym e) ∙ h));
+  open_names = λ name h. absurd (cc (ap (found name) (sym e) ∙ h));
+  room = omega arith;
+}
 
+module _ {vars : List Variable} {raw : List ℕ} {stack : List Step} {top : Step} {done : Table} (w : IsWalking vars raw stack top done) where
   -- within a text
-  walk_on : (stack : List Step) (f : Step) (rest : Bor (List ℕ)) (kept : Bool) (later : Bor (List (Vec ℕ Global))) (done : Table) →
-      ((more : Table) → Grows done more → (texts : List (List ℕ)) → IsPart vars more texts f → IsPart vars more texts (record f { rest = rest; kept = kept; later = later })) →
-      IsWalking vars raw stack f done → IsWalking vars raw stack (record f { rest = rest; kept = kept; later = later }) done
-  walk_on stack f rest kept later done on w = record {
-    way = λ more g. way_on vars more raw f rest kept later (reverse stack) (on more g) (w.way more g);
+  walk_on : (rest : Bor (List ℕ)) (kept : Bool) (later : Bor (List (Vec ℕ Global))) →
+      ((more : Table) → Grows done more → (texts : List (List ℕ)) → IsPart vars more texts top → IsPart vars more texts (record top { rest = rest; kept = kept; later = later })) →
+      IsWalking vars raw stack (record top { rest = rest; kept = kept; later = later }) done
+  walk_on rest kept later on = record {
+    way = λ more g. way_on vars more raw top rest kept later (reverse stack) (on more g) (w.way more g);
     right = w.right;
     open_names = w.open_names;
     room = w.room;
   }
 
-  pub walk_part : (stack : List Step) (f : Step) (behind : Bor (List ℕ)) (keep : Bool) (done : Table) (p : Piece) (n m : ℕ) (ts : List (List ℕ)) → pieces_left f ≡ p ∷ pieces_from keep 0 behind.now →
-      alone (outcome n vars) p ≡ Texts m ts → IsKnown done p → IsWalking vars raw stack f done → IsWalking vars raw stack (record f { rest = behind; kept = keep }) done
-  walk_part stack f behind keep done p n m ts e comes known =
-      walk_on stack f behind keep f.later done (λ more g texts. part_on vars more texts f behind keep p n m ts e comes (known_more done more g p known))
+  pub walk_part : (behind : Bor (List ℕ)) (keep : Bool) (p : Piece) (n m : ℕ) (ts : List (List ℕ)) → pieces_left top ≡ p ∷ pieces_from keep 0 behind.now → alone (outcome n vars) p ≡ Texts m ts → IsKnown done p →
+      IsWalking vars raw stack (record top { rest = behind; kept = keep }) done
+  walk_part behind keep p n m ts e comes known = walk_on behind keep top.later (λ more g texts. part_on vars more texts top behind keep p n m ts e comes (known_more done more g p known))
 
-  pub walk_known : (stack : List Step) (f : Step) (behind : Bor (List ℕ)) (keep : Bool) (done : Table) (name : List ℕ) (s : VariableSummary) → pieces_left f ≡ Use name ∷ pieces_from keep 0 behind.now →
-      found name done ≡ Some (Some s) → IsWalking vars raw stack f done → IsWalking vars raw stack (record f { rest = behind; kept = keep }) done
-  walk_known stack f behind keep done name s e known w =
-      let r = (w.right (length done) (omega arith) name s known).texts in walk_part stack f behind keep done (Use name) (length done) r.most r.ts e r.is (s, known) w
+  pub walk_known : (behind : Bor (List ℕ)) (keep : Bool) (name : List ℕ) (s : VariableSummary) → pieces_left top ≡ Use name ∷ pieces_from keep 0 behind.now → found name done ≡ Some (Some s) →
+      IsWalking vars raw stack (record top { rest = behind; kept = keep }) done
+  walk_known behind keep name s e known = let r = (w.right (length done) (omega arith) name s known).texts in walk_part behind keep (Use name) (length done) r.most r.ts e r.is (s, known)
 
-  pub walk_value : (stack : List Step) (f : Step) (text : Bor (List ℕ)) (others : Bor (List (Vec ℕ Global))) (done : Table) (v : Vec ℕ Global) → pieces_left f ≡ [] → f.later.now ≡ v ∷ others.now → text.now ≡ v.items →
-      IsWalking vars raw stack f done → IsWalking vars raw stack (record f { rest = text; kept = false; later = others }) done
-  walk_value stack f text others done v none later is =
-      walk_on stack f text false others done (λ more g texts. part_value vars more texts f text others v none later is)
+  pub walk_value : (text : Bor (List ℕ)) (others : Bor (List (Vec ℕ Global))) {v : Vec ℕ Global} → pieces_left top ≡ [] → top.later.now ≡ v ∷ others.now → text.now ≡ v.items →
+      IsWalking vars raw stack (record top { rest = text; kept = false; later = others }) done
+  walk_value text others {v} none later is = walk_on text false others (λ more g texts. part_value vars more texts top text others v none later is)
 
   -- into a variable
-  pub walk_into : (stack new_stack : List Step) (f g : Step) (done new : Table) (behind : List Piece) → new_stack ≡ stack ++ f ∷ [] → IsPut done new g.name.now None → found g.name.now done ≡ None →
-      pieces_left f ≡ Use g.name.now ∷ behind → is_reserved g.name.now ≡ false → values_of vars g.name.now ≡ Some (items_of g.all.now) → g.rest.now ≡ [] → g.later.now ≡ g.all.now →
-      IsWalking vars raw stack f done → IsWalking vars raw new_stack g new
-  walk_into stack new_stack f g done new behind pushed put fresh next plain defined none all w = record {
+  pub walk_into : {new_stack : List Step} {new : Table} (g : Step) (behind : List Piece) → new_stack ≡ stack ++ top ∷ [] → IsPut done new g.name.now None → found g.name.now done ≡ None →
+      pieces_left top ≡ Use g.name.now ∷ behind → is_reserved g.name.now ≡ false → values_of vars g.name.now ≡ Some (items_of g.all.now) → g.rest.now ≡ [] → g.later.now ≡ g.all.now → IsWalking vars raw new_stack g new
+  walk_into {new_stack} {new} g behind pushed put fresh next plain defined none all = record {
     way = λ more h. subst (OnWay vars more raw g) (sym up) (part_variable vars more g none all, record { behind = behind; next = next; plain = plain; defined = defined }, w.way more (grows_then done new more grows h));
     right = λ depth le name s h. right_more done new grows depth vars name s (w.right depth (omega (arith, high, put.fresh fresh, le)) name s (had name s (put_case done new g.name.now None put name (Some (Some s)) h)));
     open_names = λ name h. subst (IsAmong name g.name.now) (sym up) (open_new name (put_case done new g.name.now None put name open_entry h));
     room = omega (arith, high, put.fresh fresh, w.room);
   }
     where
-      up : reverse new_stack ≡ f ∷ reverse stack
-      up = ap reverse pushed ∙ reverse-append stack (f ∷ [])
+      up : reverse new_stack ≡ top ∷ reverse stack
+      up = ap reverse pushed ∙ reverse-append stack (top ∷ [])
 
       high : length new_stack ≡ length stack + 1
-      high = ap length pushed ∙ length-append stack (f ∷ [])
+      high = ap length pushed ∙ length-append stack (top ∷ [])
 
       grows : Grows done new
       grows = grows_put done new g.name.now None put (λ s h. absurd (cc (sym fresh ∙ h)))
@@ -78,30 +74,30 @@ module _ (vars : List Variable) (raw : List ℕ) where
       had name s (inl x) = absurd (cc x.1)
       had name s (inr x) = x.1
 
-      open_new : (name : List ℕ) → ((g.name.now ≡ name) × (Some None ≡ open_entry)) ⊎ ((g.name.now ≡ name → ⊥) × (found name done ≡ Some None)) → (g.name.now ≡ name) ⊎ IsAmong name f.name.now (reverse stack)
+      open_new : (name : List ℕ) → ((g.name.now ≡ name) × (Some None ≡ open_entry)) ⊎ ((g.name.now ≡ name → ⊥) × (found name done ≡ Some None)) → (g.name.now ≡ name) ⊎ IsAmong name top.name.now (reverse stack)
       open_new name (inl x) = inl x.0
       open_new name (inr x) = inr (w.open_names name x.1)
 
   -- at the end of a variable's values
-  module _ (stack below_stack : List Step) (below g : Step) (done : Table) (popped : stack ≡ below_stack ++ below ∷ []) (w : IsWalking vars raw stack g done) where
-    down : (more : Table) → Grows done more → OnWay vars more raw g (below ∷ reverse below_stack)
-    down more grows = subst (OnWay vars more raw g) (ap reverse popped ∙ reverse-append below_stack (below ∷ [])) (w.way more grows)
+  module _ (below_stack : List Step) (below : Step) (popped : stack ≡ below_stack ++ below ∷ []) where
+    down : (more : Table) → Grows done more → OnWay vars more raw top (below ∷ reverse below_stack)
+    down more grows = subst (OnWay vars more raw top) (ap reverse popped ∙ reverse-append below_stack (below ∷ [])) (w.way more grows)
 
-    called : Calls vars below g.name.now (items_of g.all.now)
+    called : Calls vars below top.name.now (items_of top.all.now)
     called = (down done (λ name s h. (s, h))).1
 
-    pub walk_values : (is_reserved g.name.now ≡ false) × (values_of vars g.name.now ≡ Some (items_of g.all.now))
+    pub walk_values : (is_reserved top.name.now ≡ false) × (values_of vars top.name.now ≡ Some (items_of top.all.now))
     walk_values = (called.plain, called.defined)
 
-    pub walk_texts : pieces_left g ≡ [] → g.later.now ≡ [] → AreTextsKnown done (items_of g.all.now)
-    walk_texts none last = part_end vars done (items_of g.all.now) g none last (down done (λ name s h. (s, h))).0
+    pub walk_texts : pieces_left top ≡ [] → top.later.now ≡ [] → AreTextsKnown done (items_of top.all.now)
+    walk_texts none last = part_end vars done (items_of top.all.now) top none last (down done (λ name s h. (s, h))).0
 
-    pub walk_back : (new : Table) (s : VariableSummary) → IsPut done new g.name.now (Some s) → pieces_left g ≡ [] → g.later.now ≡ [] →
-        ((depth : ℕ) → AreRight depth vars done → Settled (outcome (suc depth) vars g.name.now) s.texts) → AreEnds vars 0 (items_of g.all.now) s.ends.items → IsWalking vars raw below_stack below new
-    walk_back new s put none last texts ends = record {
+    pub walk_back : {new : Table} {s : VariableSummary} → IsPut done new top.name.now (Some s) → pieces_left top ≡ [] → top.later.now ≡ [] →
+        ((depth : ℕ) → AreRight depth vars done → Settled (outcome (suc depth) vars top.name.now) s.texts) → AreEnds vars 0 (items_of top.all.now) s.ends.items → IsWalking vars raw below_stack below new
+    walk_back {new} {s} put none last texts ends = record {
       way = λ more h. (down more (grows_then done new more grows h)).2;
-      right = λ depth le name t h. right_more done new grows depth vars name t (by depth le name t (put_case done new g.name.now (Some s) put name (Some (Some t)) h));
-      open_names = λ name h. opened name (put_case done new g.name.now (Some s) put name (Some None) h);
+      right = λ depth le name t h. right_more done new grows depth vars name t (by depth le name t (put_case done new top.name.now (Some s) put name (Some (Some t)) h));
+      open_names = λ name h. opened name (put_case done new top.name.now (Some s) put name (Some None) h);
       room = omega (arith, high, put.longer, w.room);
     }
       where
@@ -109,53 +105,50 @@ module _ (vars : List Variable) (raw : List ℕ) where
         high = ap length popped ∙ length-append below_stack (below ∷ [])
 
         grows : Grows done new
-        grows = grows_put done new g.name.now (Some s) put (λ t h. (s, refl))
+        grows = grows_put done new top.name.now (Some s) put (λ t h. (s, refl))
 
-        right : (depth : ℕ) → length new ≤ depth + length below_stack → IsRight depth vars done g.name.now s
+        right : (depth : ℕ) → length new ≤ depth + length below_stack → IsRight depth vars done top.name.now s
         right zero le = absurd (omega (arith, high, put.longer, w.room, le))
         right (suc d) le = record {
           texts = texts d (w.right d (omega (arith, high, put.longer, le)));
-          ends = λ values e. let same : items_of g.all.now ≡ values = cc (sym called.defined ∙ e) in subst (λ vs. AreEnds vars 0 vs s.ends.items) same ends;
-          closed = λ values e. let same : items_of g.all.now ≡ values = cc (sym called.defined ∙ e) in subst (AreTextsKnown done) same (walk_texts none last);
+          ends = λ values e. let same : items_of top.all.now ≡ values = cc (sym called.defined ∙ e) in subst (λ vs. AreEnds vars 0 vs s.ends.items) same ends;
+          closed = λ values e. let same : items_of top.all.now ≡ values = cc (sym called.defined ∙ e) in subst (AreTextsKnown done) same (walk_texts none last);
         }
 
         by : (depth : ℕ) → length new ≤ depth + length below_stack → (name : List ℕ) (t : VariableSummary) →
-            ((g.name.now ≡ name) × (Some (Some s) ≡ Some (Some t))) ⊎ ((g.name.now ≡ name → ⊥) × (found name done ≡ Some (Some t))) → IsRight depth vars done name t
+            ((top.name.now ≡ name) × (Some (Some s) ≡ Some (Some t))) ⊎ ((top.name.now ≡ name → ⊥) × (found name done ≡ Some (Some t))) → IsRight depth vars done name t
         by depth le name t (inl x) =
-            let same : s ≡ t = cc x.1 in subst (λ n. IsRight depth vars done n t) x.0 (subst (IsRight depth vars done g.name.now) same (right depth le))
+            let same : s ≡ t = cc x.1 in subst (λ n. IsRight depth vars done n t) x.0 (subst (IsRight depth vars done top.name.now) same (right depth le))
         by depth le name t (inr x) = w.right depth (omega (arith, high, put.longer, le)) name t x.1
 
-        opened : (name : List ℕ) → ((g.name.now ≡ name) × (Some (Some s) ≡ Some None)) ⊎ ((g.name.now ≡ name → ⊥) × (found name done ≡ Some None)) → IsAmong name below.name.now (reverse below_stack)
+        opened : (name : List ℕ) → ((top.name.now ≡ name) × (Some (Some s) ≡ Some None)) ⊎ ((top.name.now ≡ name → ⊥) × (found name done ≡ Some None)) → IsAmong name below.name.now (reverse below_stack)
         opened name (inl x) = absurd (cc x.1)
-        opened name (inr x) = among (subst (IsAmong name g.name.now) (ap reverse popped ∙ reverse-append below_stack (below ∷ [])) (w.open_names name x.1))
+        opened name (inr x) = among (subst (IsAmong name top.name.now) (ap reverse popped ∙ reverse-append below_stack (below ∷ [])) (w.open_names name x.1))
           where
-            among : (g.name.now ≡ name) ⊎ IsAmong name below.name.now (reverse below_stack) → IsAmong name below.name.now (reverse below_stack)
+            among : (top.name.now ≡ name) ⊎ IsAmong name below.name.now (reverse below_stack) → IsAmong name below.name.now (reverse below_stack)
             among (inl e) = absurd (x.0 e)
             among (inr a) = a
 
-  pub walk_end : (stack : List Step) (top : Step) (done : Table) → stack ≡ [] → pieces_left top ≡ [] → top.later.now ≡ [] → IsWalking vars raw stack top done → IsWalked vars raw done
-  walk_end stack top done last none later w = record {
-    right = w.right (length done) (omega arith);
+  pub walk_end : stack ≡ [] → pieces_left top ≡ [] → top.later.now ≡ [] → IsWalked vars raw done
+  walk_end last none later = record {
+    right = w.right (length done) (omega (arith, ap length last));
     known = (part_end vars done (raw ∷ []) top none later (subst (OnWay vars done raw top) (ap reverse last) (w.way done (λ name s h. (s, h))))).0;
   }
 
   -- where the walk is refused
-  pub walk_stops : (stack : List Step) (top : Step) (done : Table) (p : Piece) (behind : List Piece) (e : PolicyKind) (from : ℕ) → pieces_left top ≡ p ∷ behind →
-      ((d : ℕ) → from ≤ d → alone (outcome d vars) p ≡ Stops e) → IsWalking vars raw stack top done → IsWalkFault vars raw e
-  walk_stops stack top done p behind e from next stops w =
+  pub walk_stops : {behind : List Piece} (p : Piece) (e : PolicyKind) (from : ℕ) → pieces_left top ≡ p ∷ behind → ((d : ℕ) → from ≤ d → alone (outcome d vars) p ≡ Stops e) → IsWalkFault vars raw e
+  walk_stops {behind} p e from next stops =
       let f = way_stops vars done raw e top (reverse stack) (w.way done (λ name s h. (s, h))) (next_stops vars top p behind e from next stops) in inl (f.from, f.stops f.from (omega arith))
 
-  pub walk_refused : (stack : List Step) (top : Step) (done : Table) (name : List ℕ) (behind : List Piece) (e : PolicyKind) → pieces_left top ≡ Use name ∷ behind →
-      ((d : ℕ) → outcome (suc d) vars name ≡ Stops e) → IsWalking vars raw stack top done → IsWalkFault vars raw e
-  walk_refused stack top done name behind e next stops w = walk_stops stack top done (Use name) behind e 1 next at w
+  pub walk_refused : {name : List ℕ} {behind : List Piece} {e : PolicyKind} → pieces_left top ≡ Use name ∷ behind → ((d : ℕ) → outcome (suc d) vars name ≡ Stops e) → IsWalkFault vars raw e
+  walk_refused {name} {behind} {e} next stops = walk_stops (Use name) e 1 next at
     where
       at : (d : ℕ) → 1 ≤ d → outcome d vars name ≡ Stops e
       at zero h = absurd (omega arith)
       at (suc d) h = stops d
 
-  pub walk_circle : (stack : List Step) (top : Step) (done : Table) (name : List ℕ) (behind : List Piece) → pieces_left top ≡ Use name ∷ behind → found name done ≡ Some None →
-      IsWalking vars raw stack top done → IsWalkFault vars raw VariableCircle
-  walk_circle stack top done name behind next open_name w =
+  pub walk_circle : {name : List ℕ} {behind : List Piece} → pieces_left top ≡ Use name ∷ behind → found name done ≡ Some None → IsWalkFault vars raw VariableCircle
+  walk_circle {name} {behind} next open_name =
       inr (refl, way_circle vars done raw name top (reverse stack) behind (w.way done (λ n s h. (s, h))) (w.open_names name open_name) next)
 
 -- A walk ends: what was come to stays so.

@@ -1,4 +1,4 @@
-use Rattle.std.proofs.Common.{length, subst, sym, Bool}
+use Rattle.std.proofs.Common.{subst, sym, Bool}
 use Rattle.aa_glob.specs.Pieces.{pieces_from}
 use Rattle.aa_glob.specs.Settled.{AreEnds}
 use Rattle.aa_glob.specs.Known.{AreKnown}

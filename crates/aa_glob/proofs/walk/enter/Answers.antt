@@ -5,19 +5,18 @@ use Rattle.aa_glob.proofs.Walks.{walk_known, walk_into, walk_circle, walk_refuse
 use Rattle.aa_glob.proofs.walk.enter.Goals as goal
 
 pub returns-in-Some-Some-clause-ok : goal.returns-in-Some-Some-clause-ok
-returns-in-Some-Some-clause-ok c = λ raw.
-    walk_known c.args.vars.now raw c.args.stack.now.items c.args.top c.args.behind c.args.keep c.args.done.now.entries c.args.name.now c.in-Some-Some.field-0-0 c.requires.next (sym c.in-Some-Some.ensures.value ∙ ap Some c.in-Some-Some.field-0-is)
+returns-in-Some-Some-clause-ok c = λ raw w.
+    walk_known w c.args.behind c.args.keep c.args.name.now c.in-Some-Some.field-0-0 c.requires.next (sym c.in-Some-Some.ensures.value ∙ ap Some c.in-Some-Some.field-0-is)
 
 pub returns-in-Some-None-clause-err : goal.returns-in-Some-None-clause-err
-returns-in-Some-None-clause-err c = λ _ raw.
-    walk_circle c.args.vars.now raw c.args.stack.now.items c.args.top c.args.done.now.entries c.args.name.now _ c.requires.next (sym c.in-Some-None.ensures.value ∙ ap Some c.in-Some-None.field-0-is)
+returns-in-Some-None-clause-err c = λ _ raw w. walk_circle w c.requires.next (sym c.in-Some-None.ensures.value ∙ ap Some c.in-Some-None.field-0-is)
 
 pub returns-in-Err-clause-err : goal.returns-in-Err-clause-err
-returns-in-Err-clause-err c = λ _ raw. walk_refused c.args.vars.now raw c.args.stack.now.items c.args.top c.args.done.now.entries c.args.name.now _ _ c.requires.next c.in-Err.ensures.err
+returns-in-Err-clause-err c = λ _ raw w. walk_refused w c.requires.next c.in-Err.ensures.err
 
 pub returns-in_ok-push-in-None-clause-ok : goal.returns-in_ok-push-in-None-clause-ok
-returns-in_ok-push-in-None-clause-ok c = λ raw.
-    walk_into c.args.vars.now raw c.args.stack.now.items c.push.new.self.items c.args.top _ c.args.done.now.entries c.insert.new.self.entries _ c.in_ok-push-in-None.ensures.items
+returns-in_ok-push-in-None-clause-ok c = λ raw w.
+    walk_into w _ _ c.in_ok-push-in-None.ensures.items
     (put_in c.args.done.now.entries c.insert.new.self.entries c.args.name None c.in_ok-insert-in-None.field-0 c.in_ok-insert-in-None.ensures.old c.in_ok-insert-in-None.ensures.len c.in_ok-insert-in-None.ensures.updates.0)
     (sym c.in-None.ensures.value) c.requires.next c.in-Ok.ensures.ok.0 c.in-Ok.ensures.ok.1 refl refl
 
