@@ -1,4 +1,4 @@
-"""Cuts a .rt source into pieces: what stands outside functions, and of each function its head and its body."""
+"""Cuts a .rt source into pieces: what stands outside functions, and of each function what stands before `fn`, its head and its body."""
 import re
 import subprocess
 import tempfile
@@ -21,13 +21,12 @@ class Function:
         return (*self.modules, f"+{self.cycle}") if self.cycle else (*self.modules, self.types[0], self.name)
 
     def is_named(self, printed):
-        """Tells whether rattle prints the function so, or a closure of it, in the words that stand between `::` below the crate's name."""
+        """Tells whether rattle prints the function so, or a closure of it, in the words between `::` below the crate's name. (A method stands
+        in the module of its type, wherever its impl is.)"""
         for type_name in self.types:
-            within = [type_name] if type_name else []
-            if printed == [*self.modules, *within, self.name]:
-                return True
-            front = [*self.modules, "fn", *within, self.name]
-            if printed[: len(front)] == front and len(printed) > len(front):
+            own = [type_name, self.name] if type_name else [*self.modules, self.name]
+            closures = [[*printed[:at], *printed[at + 1 : at + 1 + len(own)]] for at, it in enumerate(printed) if it == "fn"]
+            if any(it[-len(own) :] == own and (type_name or it == own) for it in [printed, *closures]):
                 return True
         return False
 
@@ -132,9 +131,9 @@ def scope_of(words):
 
 
 def cut(path, text, tokens):
-    """Returns the pieces of a file, as (function, part, text): part is head or body, and empty outside functions."""
+    """Returns the pieces of a file, as (function, part, text): part is front, head or body, and empty outside functions."""
     data = text.encode()
-    found, scopes, before, at, end = [], [], [], 0, 0
+    found, scopes, before, front, at, end = [], [], [], 0, 0, 0
     while at < len(tokens):
         start, _, word = tokens[at]
         if word == "fn" and at + 1 < len(tokens) and is_word(tokens[at + 1][2]):
@@ -145,7 +144,9 @@ def cut(path, text, tokens):
                 head, body = data[start : tokens[opens][0]], data[tokens[opens][0] : tokens[closes][1]]
                 shown = " ".join(it for _, _, it in tokens[at:opens])
                 function = Function(modules_of(path), scopes, tokens[at + 1][2], attributes, words, shown)
-                found += [(None, "", data[end:start]), (function, "head", head), (function, "body", body)]
+                front = front if before else start
+                found += [(None, "", data[end:front]), (function, "front", data[front:start])]
+                found += [(function, "head", head), (function, "body", body)]
                 end, at = tokens[closes][1], closes
             else:
                 at = opens
@@ -155,6 +156,7 @@ def cut(path, text, tokens):
         elif word in ("}", ";"):
             scopes, before = scopes[:-1] if word == "}" else scopes, []
         else:
+            front = front if before else start
             before.append(word)
         at += 1
     return [*found, (None, "", data[end:])]
