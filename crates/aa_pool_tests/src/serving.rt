@@ -28,7 +28,7 @@ fn collected_at(lanes: &[Lane<Sum>], owners: &mut [Owner<Sum>], i: usize) -> Opt
     collected(&mut owners[i], &lanes[i])
 }
 
-/// How many lanes accepted the request 7.
+/// How many lanes accepted a request of 7.
 fn sent_to_each(lanes: &[Lane<Sum>], owners: &mut [Owner<Sum>]) -> usize
     requires { map (λ o. o.lane) owners.old ≡ map known lanes.now }
     ensures { map (λ o. o.lane) owners.new ≡ map known lanes.now }
