@@ -3,7 +3,7 @@ use Rattle.std.specs.Prelude.{◌≡◌, ℕ, ◌<◌, Option, List, length, map
 use Rattle.aa_patterns.specs.declared.pattern.Pattern.{Pattern}
 use Rattle.aa_auto.specs.declared.nodes.Node.{Node}
 use Rattle.aa_auto.specs.declared.net.Net.{Net}
-use Rattle.aa_auto.specs.Nodes.{AreNodes}
+use Rattle.aa_auto.specs.Nodes.{AreNodes, pointed}
 use Rattle.aa_auto.specs.Spots.{AreJumps}
 use Rattle.aa_auto.specs.Finals.{AreFinals}
 
@@ -16,5 +16,8 @@ pub record IsNet (ps : List Pattern) (nodes : List Node) (rows : List (List ℕ)
   pub count : length finals ≡ length nodes
   pub few : length nodes < 4294967296
 
+abbrev pub patterns_of : Net → List Pattern
+patterns_of net = pointed net.patterns.now
+
 abbrev pub IsNetOf : Net → Type 0
-IsNetOf net = IsNet net.patterns.now net.nodes.items (map (λ v. v.items) net.jumps.items) net.finals.items
+IsNetOf net = IsNet (patterns_of net) net.nodes.items (map (λ v. v.items) net.jumps.items) net.finals.items

@@ -1,5 +1,6 @@
 -- What stands before each position, said by the positions before it.
-use Rattle.std.specs.Prelude.{◌≡◌, ℕ, ◌+◌, ◌-◌, ◌<◌, ◌↔◌, List, [], ◌∷◌, ◌++◌, length, Contains, Vec, Some, All, slice_get, slice_index_or}
+use Rattle.std.specs.Borrow.{Bor}
+use Rattle.std.specs.Prelude.{◌≡◌, map, ℕ, ◌+◌, ◌-◌, ◌<◌, ◌↔◌, List, [], ◌∷◌, ◌++◌, length, Contains, Vec, Some, All, slice_get, slice_index_or}
 use Rattle.std.specs.Global.{Global}
 use Rattle.std.specs.List.Sorted.{IsStrictlyIncreasing}
 use Rattle.aa_items.specs.declared.item.Item.{Item}
@@ -10,6 +11,10 @@ use Rattle.aa_auto.specs.declared.nodes.Node.TheVariants.{Start, After, Same, Jo
 use Rattle.aa_items.specs.Steps.{IsSimple, Begins, Continues}
 use Rattle.aa_auto.specs.Classes.{IsSameFor, IsSameForItems, IsSameForLists, IsSame}
 use Rattle.aa_patterns.specs.Heads.{heads_within, heads_after, heads_of_choice, heads_of_patterns}
+
+-- the patterns that are pointed to
+abbrev pub pointed : List (Bor Pattern) → List Pattern
+pointed patterns = map (λ (p : Bor Pattern). p.now) patterns
 
 -- the head of the position
 abbrev pub head_at : List (List Item) → ℕ → List Item

@@ -2,12 +2,13 @@
 
 ghost use Rattle.std.specs.Prelude.{◌≡◌, ◌+◌, ◌<◌, ◌≤◌, IfOk, Err, length};
 ghost use Rattle.aa_patterns.specs.Places.{DecideNext};
+ghost use Rattle.aa_auto.specs.Nodes.{pointed};
 ghost use Rattle.aa_auto.specs.Tables.{IsAutomaton, BytesLeadAlike, HasPlaces, rows_of, classes_of, place_of, list_at};
 
 use crate::build::{BuildFault, Found, explore};
 use crate::classes::Classes;
 use crate::net::net_of;
-use aa_patterns::{Pattern, places_decide_next};
+use aa_patterns::Pattern;
 use std::alloc::Global;
 use std::marker::Model;
 
@@ -50,7 +51,26 @@ impl Automaton {
         ensures places_stay { DecideNext patterns.now }
         ensures bytes_lead_alike { BytesLeadAlike patterns.now }
     {
-        places_decide_next(patterns);
+        let mut pointers = Vec::new(alloc);
+        for pattern in patterns {
+            pointers.push(pattern)?;
+        }
+        Automaton::of(alloc, pointers.as_slice(), limit)
+    }
+
+    /// The same of patterns that lie apart.
+    pub fn of(alloc: Global, patterns: &[&Pattern], limit: usize) -> Result<Automaton, BuildFault>
+        requires patterns { length patterns.now ≤ 65535 }
+        requires some { 0 < limit }
+        requires limit { limit ≤ 1000000 }
+        ensures automaton { IfOk result (IsAutomaton (pointed patterns.now)) }
+        ensures within { IfOk result (λ a. rows_of a ≤ limit) }
+        ensures too_many { result ≡ Err BuildFault.TooManyStates → HasPlaces (pointed patterns.now) (limit + 1) }
+
+        // Laws of the patterns.
+        ensures places_stay { DecideNext (pointed patterns.now) }
+        ensures bytes_lead_alike { BytesLeadAlike (pointed patterns.now) }
+    {
         let net = net_of(alloc, patterns)?;
         let classes = net.classes(alloc)?;
         let (found, cells) = explore(alloc, &net, classes.bytes.as_slice(), limit)?;

@@ -1,7 +1,8 @@
 //! Patterns, compiled position by position, and the set of positions after one more byte.
 
 ghost use Rattle.std.specs.Prelude.{◌≡◌, ◌≤◌, IfOk, length};
-ghost use Rattle.aa_auto.specs.Nets.{IsNetOf};
+ghost use Rattle.aa_auto.specs.Nets.{IsNetOf, patterns_of};
+ghost use Rattle.aa_auto.specs.Nodes.{pointed};
 
 use crate::classes::{Classes, classes_of};
 use crate::closing::closed;
@@ -16,7 +17,7 @@ use std::alloc::{AllocError, Global};
 #[derive(Drop)]
 pub(crate) struct Net<'a> {
     /// The patterns that it is of.
-    pub(crate) patterns: &'a [Pattern],
+    pub(crate) patterns: &'a [&'a Pattern],
     /// What stands before each position.
     pub(crate) nodes: Vec<Node<'a>>,
     /// The positions that each one leads to without a byte.
@@ -29,10 +30,10 @@ pub(crate) struct Net<'a> {
 const POSITIONS: usize = 4294967295;
 
 /// Compiles the patterns.
-pub(crate) fn net_of<'a>(alloc: Global, patterns: &'a [Pattern]) -> Result<Net<'a>, AllocError>
+pub(crate) fn net_of<'a>(alloc: Global, patterns: &'a [&'a Pattern]) -> Result<Net<'a>, AllocError>
     requires { length patterns.now ≤ 65535 }
     ensures net { IfOk result IsNetOf }
-    ensures patterns { IfOk result (λ net. net.patterns.now ≡ patterns.now) }
+    ensures patterns { IfOk result (λ net. patterns_of net ≡ pointed patterns.now) }
 {
     let (nodes, ends) = nodes_of(alloc, patterns)?;
     if nodes.len() > POSITIONS {
@@ -50,14 +51,14 @@ pub(crate) fn net_of<'a>(alloc: Global, patterns: &'a [Pattern]) -> Result<Net<'
 
 impl Net<'_> {
     ghost use Rattle.std.specs.Prelude.{ℕ, ◌<◌, IfOk, Some, None, [], Contains, length};
-    ghost use Rattle.aa_auto.specs.Nets.{IsNetOf};
+    ghost use Rattle.aa_auto.specs.Nets.{IsNetOf, patterns_of};
     ghost use Rattle.aa_auto.specs.Explored.{Follows, Lists};
     ghost use Rattle.aa_auto.specs.Division.{AreClassesOf};
 
     /// The classes of the bytes that no item of the patterns tells apart.
     pub(crate) fn classes(&self, alloc: Global) -> Result<Classes, AllocError>
         requires { IsNetOf self.now }
-        ensures { IfOk result (λ c. AreClassesOf self.now.patterns.now c.of.items c.bytes.items) }
+        ensures { IfOk result (λ c. AreClassesOf (patterns_of self.now) c.of.items c.bytes.items) }
     {
         classes_of(alloc, self.nodes.as_slice())
     }
@@ -65,7 +66,7 @@ impl Net<'_> {
     /// The positions where the empty text stands.
     pub(crate) fn start(&self, alloc: Global) -> Result<Vec<u32>, AllocError>
         requires { IsNetOf self.now }
-        ensures { IfOk result (λ new. Follows self.now.patterns.now None [] new.items) }
+        ensures { IfOk result (λ new. Follows (patterns_of self.now) None [] new.items) }
     {
         let seeds = beginnings(alloc, self.nodes.as_slice())?;
         closed(alloc, self.jumps.as_slice(), seeds.as_slice())
@@ -75,7 +76,7 @@ impl Net<'_> {
     pub(crate) fn next(&self, alloc: Global, byte: u8, old: &[u32]) -> Result<Vec<u32>, AllocError>
         requires net { IsNetOf self.now }
         requires old { (n : ℕ) → Contains old.now n → n < length self.now.nodes.items }
-        ensures { IfOk result (λ new. Follows self.now.patterns.now (Some byte) old.now new.items) }
+        ensures { IfOk result (λ new. Follows (patterns_of self.now) (Some byte) old.now new.items) }
     {
         let seeds = moved(alloc, self.nodes.as_slice(), byte, old)?;
         closed(alloc, self.jumps.as_slice(), seeds.as_slice())
@@ -85,7 +86,7 @@ impl Net<'_> {
     pub(crate) fn numbers(&self, alloc: Global, set: &[u32]) -> Result<Vec<u16>, AllocError>
         requires net { IsNetOf self.now }
         requires set { (n : ℕ) → Contains set.now n → n < length self.now.nodes.items }
-        ensures { IfOk result (λ numbers. Lists self.now.patterns.now set.now numbers.items) }
+        ensures { IfOk result (λ numbers. Lists (patterns_of self.now) set.now numbers.items) }
     {
         numbers_at(alloc, self.finals.as_slice(), set)
     }

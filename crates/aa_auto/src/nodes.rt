@@ -1,7 +1,7 @@
 //! What stands before each position of the patterns.
 
 ghost use Rattle.std.specs.Prelude.{◌<◌, IfOk, OnOk, vec_len, length};
-ghost use Rattle.aa_auto.specs.Nodes.{AddsItem, AddsItems, AddsBranches, AreNodes};
+ghost use Rattle.aa_auto.specs.Nodes.{AddsItem, AddsItems, AddsBranches, AreNodes, pointed};
 
 use aa_items::Item;
 use aa_patterns::Pattern;
@@ -78,9 +78,9 @@ fn add_branches<'a>(
 /// The nodes of all positions of the patterns, and where each pattern ends.
 pub(crate) fn nodes_of<'a>(
     alloc: Global,
-    patterns: &'a [Pattern],
+    patterns: &'a [&'a Pattern],
 ) -> Result<(Vec<Node<'a>>, Vec<usize>), AllocError>
-    ensures { IfOk result (λ r. AreNodes r.0.items r.1.items patterns.now) }
+    ensures { IfOk result (λ r. AreNodes r.0.items r.1.items (pointed patterns.now)) }
 {
     let mut nodes = Vec::new(alloc);
     let mut ends = Vec::new(alloc);

@@ -1,0 +1,2 @@
+pub use Rattle.aa_said.specs.Patterns
+pub mod Attached

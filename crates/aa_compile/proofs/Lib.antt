@@ -1,0 +1,6 @@
+mod Named
+mod GroupLemmas
+mod Counts
+mod CheckLemmas
+mod Transitions
+mod Bytes

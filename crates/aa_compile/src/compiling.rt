@@ -1,0 +1,188 @@
+//! Compiling a policy.
+
+ghost use Rattle.std.specs.Prelude.{◌≡◌, ◌≤◌, ◌<◌, ◌⊎◌, ℕ, Some, length, IfOk, IfErr};
+ghost use Rattle.std.specs.List.{slice_get};
+ghost use Rattle.std.specs.Option.{is_some};
+ghost use Rattle.aa_faults.specs.Kinds.{no_memory};
+ghost use Rattle.aa_policy.specs.declared.policy.Profile.{Profile};
+ghost use Rattle.aa_policy.specs.Lawful.{IsWithinLimits, ParentsComeFirst};
+ghost use Rattle.aa_attach.specs.Attached.{attached, Attaches};
+ghost use Rattle.aa_rows.specs.Rows.{IsSideOf};
+ghost use Rattle.aa_rows.specs.Ways.{way_by};
+ghost use Rattle.aa_compile.specs.Found.{found_in};
+ghost use Rattle.aa_compile.specs.Transitions.{transition};
+ghost use Rattle.aa_compile.specs.Checks.{tops, children, first_spot, IsRight, AreRight, IsRefused, IsAccepted};
+
+use crate::groups::{groups_of, numbers_of_tops};
+use crate::numbering::number_profiles;
+use crate::tables::{ProfileRows, fault_of_states, rows_of};
+use crate::transition::{Transition, lead};
+use aa_attach::AttachRows;
+use aa_faults::{PolicyFault, Spot};
+use aa_policy::{ExecKind, Perms, Policy, Profile};
+use aa_rows::{Side, Way};
+use bitflags::Flags;
+use std::alloc::Global;
+use std::marker::Model;
+
+/// A policy that isn't compiled, and why.
+#[derive(Drop)]
+pub struct CompileRefusal {
+    pub fault: PolicyFault,
+    pub policy: Policy,
+}
+
+/// A policy with what deciding needs, seen as the policy.
+#[derive(Drop)]
+pub struct Compiled {
+    policy: Policy,
+    tops: AttachRows,
+    rows: Vec<ProfileRows>,
+}
+
+impl Model for Compiled {
+    ghost use Rattle.aa_policy.specs.contracts.policy.Policy as contract;
+    ghost use Rattle.aa_policy.specs.declared.policy.Policy.{Policy};
+    ghost use Rattle.aa_compile.specs.Found.{found_in};
+    ghost use Rattle.aa_compile.specs.Transitions.{transition};
+    ghost use Rattle.aa_compile.specs.Checks.{IsCompiled};
+
+    ghost Value = { Policy };
+
+    ghost coded = { contract.the_row.coded };
+
+    ghost view = { λ c. c.policy };
+
+    ghost invariant = { λ c. IsCompiled c.policy.profiles c.tops c.rows.items };
+}
+
+fn spot_of_first(profiles: &[Profile]) -> Spot
+    ensures { result ≡ first_spot profiles.now }
+{
+    match profiles {
+        [first, ..] => first.at,
+        [] => Spot { file: 0, byte: 0 },
+    }
+}
+
+fn tables_of(
+    alloc: Global,
+    profiles: &[Profile],
+    limit: usize,
+) -> Result<(AttachRows, Vec<ProfileRows>), PolicyFault>
+    requires limits { IsWithinLimits profiles.now }
+    requires parents { ParentsComeFirst profiles.now }
+    requires some { 0 < limit }
+    requires limit { limit ≤ 1000000 }
+    ensures right { IfOk result (λ t. AreRight profiles.now (length profiles.now) t.1.items) }
+    ensures tops { IfOk result (λ t. Attaches profiles.now (tops profiles.now) t.0) }
+    ensures accepted { IfOk result (λ _. IsAccepted profiles.now limit) }
+    ensures refused { IfErr result (λ f. (f ≡ no_memory) ⊎ IsRefused profiles.now limit f) }
+{
+    let numbers = numbers_of_tops(alloc, profiles)?;
+    let tops = match AttachRows::build(alloc, profiles, numbers.as_slice(), limit) {
+        Ok(tops) => tops,
+        Err(fault) => return Err(fault_of_states(fault, spot_of_first(profiles))),
+    };
+    let names = number_profiles(alloc, profiles)?;
+    let groups = groups_of(alloc, profiles)?;
+    let rows = rows_of(alloc, &names, groups.as_slice(), profiles, limit)?;
+    Ok((tops, rows))
+}
+
+/// Makes a policy ready. An automaton of it may have at most `limit` states.
+pub fn compile(alloc: Global, policy: Policy, limit: u32) -> Result<Compiled, CompileRefusal>
+    requires some { 1 ≤ limit }
+    requires bounded { limit ≤ 1000000 }
+    ensures ok { IfOk result (λ c. c ≡ policy) }
+    ensures accepted { IfOk result (λ _. IsAccepted policy.profiles limit) }
+    ensures same { IfErr result (λ e. e.policy ≡ policy) }
+    ensures refused { IfErr result (λ e. (e.fault ≡ no_memory) ⊎ IsRefused policy.profiles limit e.fault) }
+{
+    match tables_of(alloc, policy.profiles.as_slice(), limit as usize) {
+        Ok((tops, rows)) => Ok(Compiled { policy, tops, rows }),
+        Err(fault) => Err(CompileRefusal { fault, policy }),
+    }
+}
+
+impl Compiled {
+    /// The policy that was compiled.
+    pub fn policy(&self) -> &Policy
+        ensures { result.now ≡ self.now }
+    {
+        &self.policy
+    }
+
+    /// The top-level profile that is attached to a path.
+    pub fn attach(&self, path: &[u8]) -> Option<u16>
+        ensures { result ≡ attached self.now.profiles (tops self.now.profiles) path.now }
+    {
+        self.tops.attached(path)
+    }
+
+    fn rows_at(&self, number: u16) -> &ProfileRows
+        requires { number < length self.now.profiles }
+        ensures { (p : Profile) → slice_get self.now.profiles number ≡ Some p → IsRight self.now.profiles number p result.now }
+    {
+        &self.rows[number as usize]
+    }
+
+    /// The child of a profile that is attached to a path.
+    pub fn attach_child(&self, parent: u16, path: &[u8]) -> Option<u16>
+        ensures { (p : Profile) → slice_get self.now.profiles parent ≡ Some p → result ≡ attached self.now.profiles (children self.now.profiles parent) path.now }
+    {
+        if parent as usize >= self.policy.profiles.as_slice().len() {
+            return None;
+        }
+        self.rows_at(parent).children.attached(path)
+    }
+
+    /// What the file rules of a profile say of an object: one walk, and one look at a row.
+    pub fn side(&self, number: u16, path: &[u8], owned: bool) -> Side
+        requires { number < length self.now.profiles }
+        ensures { (p : Profile) → slice_get self.now.profiles number ≡ Some p → IsSideOf (way_by p.files) p.files path.now owned result }
+    {
+        self.rows_at(number).files.side(path, owned)
+    }
+
+    /// The profile that a way to execute leads to, if it is found.
+    fn found(&self, number: u16, path: &[u8], way: Way) -> Option<u16>
+        requires number { number < length self.now.profiles }
+        requires target { (p : Profile) (t : ℕ) → slice_get self.now.profiles number ≡ Some p → way.target ≡ Some t → t < length p.files }
+        ensures { (p : Profile) → slice_get self.now.profiles number ≡ Some p → result ≡ found_in self.now.profiles number p path.now way }
+    {
+        let rows = self.rows_at(number);
+        match (way.kind, way.target) {
+            (ExecKind::Profile, Some(target)) => rows.targets_at(target).profile,
+            (ExecKind::Profile, None) => self.attach(path),
+            (ExecKind::Child, Some(target)) => rows.targets_at(target).child,
+            (ExecKind::Child, None) if self.is_child(number) => None,
+            (ExecKind::Child, None) => self.attach_child(number, path),
+            _ => None,
+        }
+    }
+
+    fn is_child(&self, number: u16) -> bool
+        requires { number < length self.now.profiles }
+        ensures { (p : Profile) → slice_get self.now.profiles number ≡ Some p → result ≡ is_some p.parent }
+    {
+        self.policy.profiles.as_slice()[number as usize]
+            .parent
+            .is_some()
+    }
+
+    /// Where an execution by a task in a profile leads.
+    pub fn transition(&self, number: u16, path: &[u8], owned: bool, side: Side) -> Transition
+        requires number { number < length self.now.profiles }
+        requires side { (p : Profile) → slice_get self.now.profiles number ≡ Some p → IsSideOf (way_by p.files) p.files path.now owned side }
+        ensures { (p : Profile) → slice_get self.now.profiles number ≡ Some p → result ≡ transition self.now.profiles number p path.now owned }
+    {
+        if side.sets.deny.contains(Perms::EXEC) {
+            return Transition::Denied;
+        }
+        match side.chosen().way {
+            Some(way) => lead(way, number, self.found(number, path, way)),
+            None => Transition::Nowhere,
+        }
+    }
+}

@@ -1,0 +1,51 @@
+//! Where an execution leads.
+
+ghost use Rattle.std.specs.Prelude.{◌≡◌};
+ghost use Rattle.aa_compile.specs.Transitions.{falls, goes, leads};
+
+use aa_policy::{ExecKind, Fallback};
+use aa_requests::Label;
+use aa_rows::Way;
+
+/// What the rules make of an execution.
+#[derive(Clone, Copy, Debug, PartialEq, Eq)]
+pub enum Transition {
+    /// A rule denies it.
+    Denied,
+    /// No rule says how, or the profile isn't there and there is no fallback.
+    Nowhere,
+    /// The label from now on, and whether the environment is to be scrubbed.
+    To(Label, bool),
+}
+
+/// Where a profile isn't found.
+fn fall_back(way: Way, number: u16) -> Transition
+    ensures { result ≡ falls way.fallback way.scrub number }
+{
+    match way.fallback {
+        Fallback::Refuse => Transition::Nowhere,
+        Fallback::Inherit => Transition::To(Label::Confined(number), false),
+        Fallback::Unconfined => Transition::To(Label::Unconfined, way.scrub),
+    }
+}
+
+fn to_found(way: Way, number: u16, found: Option<u16>) -> Transition
+    ensures { result ≡ goes way.fallback way.scrub number found }
+{
+    match found {
+        Some(profile) => Transition::To(Label::Confined(profile), way.scrub),
+        None => fall_back(way, number),
+    }
+}
+
+/// Where a way leads from a profile, if it leads to the one that was found.
+pub(crate) fn lead(way: Way, number: u16, found: Option<u16>) -> Transition
+    ensures { result ≡ leads way.kind way.fallback way.scrub number found }
+{
+    match way.kind {
+        ExecKind::Inherit => Transition::To(Label::Confined(number), false),
+        ExecKind::Unconfined => Transition::To(Label::Unconfined, way.scrub),
+        ExecKind::Profile => to_found(way, number, found),
+        ExecKind::Child => to_found(way, number, found),
+    }
+}

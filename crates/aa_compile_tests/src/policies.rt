@@ -1,0 +1,91 @@
+//! Policies that are read from their texts and compiled, and what they say, as plain data.
+
+use aa_compile::{Compiled, Transition, compile};
+use aa_policy::{Policy, parse};
+use aa_requests::Label;
+use aa_words::{PolicyFault, Sources, words};
+use std::alloc::Global;
+use std::process::Abort;
+
+/// The policy that a text spells.
+fn read(alloc: Global, text: &str) -> Result<Policy, PolicyFault> {
+    let sources = Sources::new(alloc);
+    let list = words(alloc, &sources, text.as_bytes())?;
+    parse(alloc, &list)
+}
+
+/// The policy that a text spells, compiled, or the fault for which it isn't. The limit is from 1 to 1,000,000.
+pub fn compiled(alloc: Global, text: &str, limit: u32) -> Result<Compiled, PolicyFault> {
+    let policy = read(alloc, text)?;
+    match compile(alloc, policy, limit.clamp(1, 1_000_000)) {
+        Ok(compiled) => Ok(compiled),
+        Err(refusal) => Err(refusal.fault),
+    }
+}
+
+/// The number of the fault for which the text is refused, and the byte at which it points.
+pub fn refusal(alloc: Global, text: &str, limit: u32) -> Option<(u8, u32)> {
+    match compiled(alloc, text, limit) {
+        Ok(_) => None,
+        Err(fault) => Some((fault.kind.number(), fault.at.byte)),
+    }
+}
+
+/// A text, a limit of states, and the refusal: its number, and the byte at which it points.
+pub type Row = (&'static str, u32, Option<(u8, u32)>);
+
+/// Each of the texts is accepted or refused as it says.
+pub fn refuses_each(rt: &impl Abort, alloc: Global, rows: &[Row]) {
+    for (text, limit, expected) in rows {
+        assert_eq!(rt; refusal(alloc, text, *limit), *expected, "{text}");
+    }
+}
+
+/// How many profiles the policy has that a refused compilation hands back, where it is refused.
+pub fn handed_back(alloc: Global, text: &str, limit: u32) -> Option<usize> {
+    match read(alloc, text) {
+        Err(_) => None,
+        Ok(policy) => match compile(alloc, policy, limit.clamp(1, 1_000_000)) {
+            Ok(_) => None,
+            Err(refusal) => Some(refusal.policy.profiles.as_slice().len()),
+        },
+    }
+}
+
+/// The top-level profile that is attached to the path.
+pub fn attached(compiled: &Compiled, path: &str) -> Option<u16> {
+    compiled.attach(path.as_bytes())
+}
+
+/// The child of the profile that is attached to the path.
+pub fn attached_child(compiled: &Compiled, parent: u16, path: &str) -> Option<u16> {
+    compiled.attach_child(parent, path.as_bytes())
+}
+
+/// Where an execution of the path leads from a profile, where that is there. Nobody's path is owned.
+pub fn execution(compiled: &Compiled, profile: u16, path: &str) -> Option<Transition> {
+    if (profile as usize) < compiled.policy().profiles.as_slice().len() {
+        let side = compiled.side(profile, path.as_bytes(), false);
+        return Some(compiled.transition(profile, path.as_bytes(), false, side));
+    }
+    None
+}
+
+/// To the profile of that number.
+pub fn to(profile: u16, scrub: bool) -> Option<Transition> {
+    Some(Transition::To(Label::Confined(profile), scrub))
+}
+
+/// To no profile.
+pub fn to_none(scrub: bool) -> Option<Transition> {
+    Some(Transition::To(Label::Unconfined, scrub))
+}
+
+/// The bits that the rules of a profile allow, deny, deny with a line, and report, where the profile is there.
+pub fn bits(compiled: &Compiled, profile: u16, path: &str, owned: bool) -> Option<[u8; 4]> {
+    if (profile as usize) < compiled.policy().profiles.as_slice().len() {
+        let sets = compiled.side(profile, path.as_bytes(), owned).sets;
+        return Some([sets.allow.0, sets.deny.0, sets.loud.0, sets.audited.0]);
+    }
+    None
+}

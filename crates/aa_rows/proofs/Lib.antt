@@ -1,0 +1,7 @@
+mod Joins
+mod SideLemmas
+mod HitLemmas
+mod DifferLemmas
+mod MatchedTexts
+pub mod ConflictLemmas
+pub mod WayLemmas

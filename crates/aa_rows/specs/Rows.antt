@@ -1,0 +1,69 @@
+-- What is kept for each row of an automaton.
+use Rattle.std.specs.Prelude.{◌≡◌, ℕ, List, Bool, true, false, if◌then◌else◌, map, Option, Some, Contains, is_some}
+use Rattle.std.specs.Option.{option_map, option_map_or}
+use Rattle.std.specs.List.{slice_get, list_any, flat_map}
+use Rattle.aa_patterns.specs.declared.pattern.Pattern.{Pattern}
+use Rattle.aa_policy.specs.declared.rule.Exec.{Exec}
+use Rattle.aa_policy.specs.declared.rule.FileRule.{FileRule}
+use Rattle.aa_auto.specs.Tables.{Table, IsText, place_of}
+use Rattle.aa_auto.specs.declared.build.BuildFault.{BuildFault}
+use Rattle.aa_auto.specs.declared.build.BuildFault.TheVariants.{NoMemory, TooManyStates}
+use Rattle.aa_rows.specs.declared.rows.RowsFault.{RowsFault}
+use Rattle.aa_rows.specs.declared.rows.RowsFault.TheVariants.{NoMemory as NoRowMemory, TooManyStates as TooManyRows}
+use Rattle.aa_rows.specs.declared.mark.Way.{Way}
+use Rattle.aa_rows.specs.declared.mark.Mark.{Mark}
+use Rattle.aa_rows.specs.declared.side.Chosen.{Chosen}
+use Rattle.aa_rows.specs.declared.side.Side.{Side}
+use Rattle.aa_rows.specs.declared.rows.Row.{Row}
+use Rattle.aa_said.specs.Gathered.{picked}
+use Rattle.aa_rows.specs.Sides.{side_by, none_said}
+use Rattle.aa_rows.specs.FileRules.{file_verdict, chosen, way_of}
+
+-- an automaton, and a value for each of its rows
+pub record RowTable : Type 0 where
+  pub table : Table
+  pub rows : List Row
+
+abbrev pub row_by : List Mark → Row
+row_by marks = record { owned = side_by true marks; other = side_by false marks }
+
+abbrev pub rows_by : List Mark → List (List ℕ) → List Row
+rows_by marks lists = map (λ list. row_by (picked marks list)) lists
+
+-- the side of a row that speaks of owned objects, or of others
+abbrev pub side_of : Bool → Row → Side
+side_of owned row = if owned then row.owned else row.other
+
+-- the side that a path leads to
+abbrev pub side_at : RowTable → List ℕ → Bool → Side
+side_at r path owned = option_map_or (side_of owned) (slice_get r.rows (place_of r.table path)) none_said
+
+-- the literal ones, or else all
+abbrev pub choice_of : Side → Chosen
+choice_of side = if is_some side.literal.way then side.literal else side.any
+
+-- the side says what the rules say of the object; `number` numbers the ways to execute
+pub record IsSideOf (number : Exec → Way) (rules : List FileRule) (path : List ℕ) (owned : Bool) (side : Side) : Type 0 where
+  pub sets : side.sets ≡ file_verdict rules path owned
+  pub way : (choice_of side).way ≡ option_map number (way_of (chosen rules path owned))
+  pub audited : (choice_of side).audited ≡ list_any (λ r. r.audit) (chosen rules path owned)
+
+-- each path leads to what the rules say of it
+abbrev pub AreRowsOf : (Exec → Way) → List FileRule → RowTable → Type 0
+AreRowsOf number rules r = (path : List ℕ) (owned : Bool) → IsText path → IsSideOf number rules path owned (side_at r path owned)
+
+-- the patterns of the rules, in order
+abbrev pub patterns_of : List FileRule → List Pattern
+patterns_of rules = flat_map (λ r. r.patterns) rules
+
+-- for each rule, how it says that a program is executed
+abbrev pub numbered : (Exec → Way) → List FileRule → List (Option Way)
+numbered number rules = map (λ r. option_map number r.exec) rules
+
+-- different ways have different numbers
+abbrev pub TellsApart : (Exec → Way) → List FileRule → Type 0
+TellsApart number rules = (r q : FileRule) (a b : Exec) → Contains rules r → Contains rules q → r.exec ≡ Some a → q.exec ≡ Some b → number a ≡ number b → a ≡ b
+
+abbrev pub fault_of : BuildFault → RowsFault
+fault_of NoMemory = NoRowMemory
+fault_of TooManyStates = TooManyRows

@@ -1,0 +1,167 @@
+//! The automaton of a profile's file rules, and what they say at each row.
+
+ghost use Rattle.std.specs.Prelude.{◌≡◌, ◌+◌, ◌<◌, ◌≤◌, ◌++◌, IfOk, OnOk, Err, length};
+ghost use Rattle.aa_auto.specs.Nodes.{pointed};
+ghost use Rattle.aa_auto.specs.Tables.{HasPlaces};
+ghost use Rattle.aa_rows.specs.Ways.{way_by};
+ghost use Rattle.aa_said.specs.Gathered.{picked};
+ghost use Rattle.aa_rows.specs.Marks.{marks_by};
+ghost use Rattle.aa_rows.specs.Rows.{row_by, rows_by, side_at, side_of, patterns_of, AreRowsOf, fault_of};
+ghost use Rattle.aa_said.specs.Patterns.{HasAutomaton};
+ghost use Rattle.aa_rows.specs.FileRules.{Conflicts};
+
+use crate::conflicts::has_conflict;
+use crate::mark::{Mark, marks_of};
+use crate::side::Side;
+use crate::ways::ways_of;
+use aa_auto::{Automaton, BuildFault};
+use aa_patterns::Pattern;
+use aa_policy::FileRule;
+use std::alloc::{AllocError, Global};
+use std::marker::Model;
+
+/// What the rules say where a path leads to a row.
+#[derive(Clone, Copy, Debug, PartialEq, Eq)]
+pub struct Row {
+    /// Of objects that the task's user owns.
+    pub owned: Side,
+    /// Of others.
+    pub other: Side,
+}
+
+impl Row {
+    fn of(marks: &[Mark], numbers: &[u16]) -> Row
+        ensures { result ≡ row_by (picked marks.now numbers.now) }
+    {
+        Row {
+            owned: Side::of(marks, numbers, true),
+            other: Side::of(marks, numbers, false),
+        }
+    }
+
+    fn side(&self, owned: bool) -> Side
+        ensures { result ≡ side_of owned self.now }
+    {
+        if owned { self.owned } else { self.other }
+    }
+}
+
+fn add_patterns<'a>(
+    pointers: &mut Vec<&'a Pattern>,
+    patterns: &'a [Pattern],
+) -> Result<(), AllocError>
+    ensures { OnOk result (pointed pointers.new.items ≡ pointed pointers.old.items ++ patterns.now) }
+{
+    for pattern in patterns {
+        pointers.push(pattern)?;
+    }
+    Ok(())
+}
+
+/// The patterns of the rules, in order.
+fn pointers_of(alloc: Global, rules: &[FileRule]) -> Result<Vec<&Pattern>, AllocError>
+    ensures { IfOk result (λ pointers. pointed pointers.items ≡ patterns_of rules.now) }
+{
+    let mut pointers = Vec::new(alloc);
+    for rule in rules {
+        add_patterns(&mut pointers, rule.patterns.as_slice())?;
+    }
+    Ok(pointers)
+}
+
+fn rows_of(alloc: Global, automaton: &Automaton, marks: &[Mark]) -> Result<Vec<Row>, AllocError>
+    ensures { IfOk result (λ rows. rows.items ≡ rows_by marks.now automaton.now.lists) }
+{
+    let mut rows = Vec::new(alloc);
+    for row in 0..automaton.rows() {
+        rows.push(Row::of(marks, automaton.at_row(row)))?;
+    }
+    Ok(rows)
+}
+
+/// Why there are no rows.
+#[derive(Clone, Copy, Debug, PartialEq, Eq)]
+pub enum RowsFault {
+    NoMemory,
+    /// The patterns need more rows than the limit.
+    TooManyStates,
+    /// Two rules say differently how one text is executed.
+    Conflict,
+}
+
+impl From<AllocError> for RowsFault {
+    ghost use Rattle.std.specs.Prelude.{◌≡◌};
+    ghost use Rattle.aa_rows.specs.declared.rows.RowsFault.TheVariants.{NoMemory};
+
+    ghost from_gives = { λ _ e. e ≡ NoMemory };
+
+    fn from(_: AllocError) -> Self {
+        RowsFault::NoMemory
+    }
+}
+
+impl From<BuildFault> for RowsFault {
+    ghost use Rattle.std.specs.Prelude.{◌≡◌};
+    ghost use Rattle.aa_rows.specs.Rows.{fault_of};
+
+    ghost from_gives = { λ b e. e ≡ fault_of b };
+
+    fn from(fault: BuildFault) -> Self {
+        match fault {
+            BuildFault::NoMemory => RowsFault::NoMemory,
+            BuildFault::TooManyStates => RowsFault::TooManyStates,
+        }
+    }
+}
+
+/// Decides requests for files by the rules of a profile.
+#[derive(Drop)]
+pub struct FileRows {
+    automaton: Automaton,
+    rows: Vec<Row>,
+}
+
+impl Model for FileRows {
+    ghost use Rattle.std.specs.Prelude.{◌≡◌, length};
+    ghost use Rattle.aa_auto.specs.Tables.{rows_of};
+    ghost use Rattle.aa_rows.specs.Rows.{RowTable};
+
+    ghost Value = { RowTable };
+
+    ghost view = { λ r. record { table = r.automaton; rows = r.rows.items } };
+
+    ghost invariant = { λ r. length r.rows.items ≡ rows_of r.automaton };
+}
+
+impl FileRows {
+    /// The rows of these rules. The errors are `TooManyStates`, then `Conflict`; `NoMemory` may come before either.
+    pub fn build(alloc: Global, rules: &[FileRule], limit: usize) -> Result<FileRows, RowsFault>
+        requires few { length (patterns_of rules.now) ≤ 65535 }
+        requires some { 0 < limit }
+        requires limit { limit ≤ 1000000 }
+        ensures ok { IfOk result (λ r. AreRowsOf (way_by rules.now) rules.now r) }
+        ensures free { IfOk result (λ _. Conflicts rules.now → ⊥) }
+        ensures conflict { result ≡ Err RowsFault.Conflict → Conflicts rules.now }
+        ensures fits { IfOk result (λ _. HasAutomaton (patterns_of rules.now) limit) }
+        ensures fitted { result ≡ Err RowsFault.Conflict → HasAutomaton (patterns_of rules.now) limit }
+        ensures too_many { result ≡ Err RowsFault.TooManyStates → HasPlaces (patterns_of rules.now) (limit + 1) }
+    {
+        let pointers = pointers_of(alloc, rules)?;
+        let automaton = Automaton::of(alloc, pointers.as_slice(), limit)?;
+        let ways = ways_of(alloc, rules)?;
+        let marks = marks_of(alloc, rules, ways.as_slice())?;
+        if has_conflict(&automaton, marks.as_slice()) {
+            return Err(RowsFault::Conflict);
+        }
+        let rows = rows_of(alloc, &automaton, marks.as_slice())?;
+        Ok(FileRows { automaton, rows })
+    }
+
+    /// What the rules say of an object.
+    pub fn side(&self, path: &[u8], owned: bool) -> Side
+        ensures { result ≡ side_at self.now path.now owned }
+    {
+        let row = self.automaton.place(path);
+        self.rows[row].side(owned)
+    }
+}

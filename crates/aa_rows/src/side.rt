@@ -1,0 +1,148 @@
+//! What the rules say of the objects at a row, for their owner or for others.
+
+ghost use Rattle.std.specs.Prelude.{◌≡◌};
+ghost use Rattle.std.specs.Option.{option_map_or};
+ghost use Rattle.std.specs.List.{slice_get};
+ghost use Rattle.aa_rows.specs.Rows.{choice_of};
+ghost use Rattle.aa_said.specs.Said.{bits_if};
+ghost use Rattle.aa_said.specs.Gathered.{picked};
+ghost use Rattle.aa_rows.specs.Sides.{earlier, choice_if, mark_says, none_said, joined, one, side_by};
+
+use crate::mark::{Mark, Way};
+use aa_policy::Perms;
+use aa_said::RuleSets;
+
+/// How a program is executed by the first of some rules, and whether one of them reports it.
+#[derive(Clone, Copy, Debug, PartialEq, Eq)]
+pub struct Chosen {
+    pub way: Option<Way>,
+    pub audited: bool,
+}
+
+/// What the rules that apply to an object say.
+#[derive(Clone, Copy, Debug, PartialEq, Eq)]
+pub struct Side {
+    pub sets: RuleSets,
+    /// Of the allow rules on execution, those that match by a literal pattern.
+    pub literal: Chosen,
+    /// All of them.
+    pub any: Chosen,
+}
+
+fn chosen_if(test: bool, mark: &Mark) -> Chosen
+    ensures { result ≡ choice_if test mark.now }
+{
+    if test && mark.way.is_some() {
+        Chosen {
+            way: mark.way,
+            audited: mark.audit,
+        }
+    } else {
+        Chosen {
+            way: None,
+            audited: false,
+        }
+    }
+}
+
+impl Chosen {
+    /// This one, or else that.
+    fn or(self, other: Chosen) -> Chosen
+        ensures { result ≡ earlier self other }
+    {
+        Chosen {
+            way: self.way.or(other.way),
+            audited: self.audited || other.audited,
+        }
+    }
+}
+
+fn perms_if(test: bool, perms: Perms) -> Perms
+    ensures { result ≡ bits_if test perms.0 }
+{
+    if test { perms } else { Perms(0) }
+}
+
+fn sets_of(mark: &Mark) -> RuleSets
+    ensures { result ≡ mark_says mark.now }
+{
+    RuleSets {
+        allow: perms_if(!mark.deny, mark.perms),
+        deny: perms_if(mark.deny, mark.perms),
+        loud: perms_if(mark.audit && mark.deny, mark.perms),
+        audited: perms_if(mark.audit && !mark.deny, mark.perms),
+    }
+}
+
+impl Side {
+    /// The literal choice, or else that of all.
+    pub fn chosen(&self) -> Chosen
+        ensures { result ≡ choice_of self.now }
+    {
+        if self.literal.way.is_some() {
+            self.literal
+        } else {
+            self.any
+        }
+    }
+
+    fn none() -> Side
+        ensures { result ≡ none_said }
+    {
+        Side {
+            sets: RuleSets::none(),
+            literal: Chosen {
+                way: None,
+                audited: false,
+            },
+            any: Chosen {
+                way: None,
+                audited: false,
+            },
+        }
+    }
+
+    fn of_mark(mark: &Mark, owned: bool) -> Side
+        ensures { result ≡ one owned mark.now }
+    {
+        if !owned && mark.owner {
+            return Side::none();
+        }
+        Side {
+            sets: sets_of(mark),
+            literal: chosen_if(!mark.deny && mark.literal, mark),
+            any: chosen_if(!mark.deny, mark),
+        }
+    }
+
+    fn with(self, other: Side) -> Side
+        ensures { result ≡ joined self other }
+    {
+        Side {
+            sets: self.sets.with(other.sets),
+            literal: self.literal.or(other.literal),
+            any: self.any.or(other.any),
+        }
+    }
+
+    /// What the rule of a pattern says.
+    fn at(marks: &[Mark], number: u16, owned: bool) -> Side
+        ensures { result ≡ option_map_or (one owned) (slice_get marks.now number) none_said }
+    {
+        match marks.get(number as usize) {
+            Some(mark) => Side::of_mark(mark, owned),
+            None => Side::none(),
+        }
+    }
+
+    /// What the rules of these patterns say.
+    pub fn of(marks: &[Mark], numbers: &[u16], owned: bool) -> Side
+        ensures { result ≡ side_by owned (picked marks.now numbers.now) }
+    {
+        let mut side = Side::none();
+        for number in numbers {
+            side = side.with(Side::at(marks, *number, owned));
+        }
+        side
+    }
+}

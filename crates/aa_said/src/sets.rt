@@ -1,0 +1,45 @@
+//! Sets of permissions that rules name.
+
+ghost use Rattle.std.specs.Prelude.{◌≡◌};
+ghost use Rattle.aa_said.specs.Said.{both, nothing};
+
+use aa_tables::Perms;
+use bitflags::Flags;
+
+/// The permissions that rules name (apparmor.d(5), "Rule Qualifiers").
+#[derive(Clone, Copy, Debug, PartialEq, Eq)]
+pub struct RuleSets {
+    /// Those of the rules without `deny`.
+    pub allow: Perms,
+    /// Those of the rules with `deny`.
+    pub deny: Perms,
+    /// Those of the `audit deny` rules.
+    pub loud: Perms,
+    /// Those of the `audit` rules without `deny`.
+    pub audited: Perms,
+}
+
+impl RuleSets {
+    pub fn none() -> RuleSets
+        ensures { result ≡ nothing }
+    {
+        RuleSets {
+            allow: Perms(0),
+            deny: Perms(0),
+            loud: Perms(0),
+            audited: Perms(0),
+        }
+    }
+
+    /// These and those.
+    pub fn with(self, other: RuleSets) -> RuleSets
+        ensures { result ≡ both self other }
+    {
+        RuleSets {
+            allow: self.allow.union(other.allow),
+            deny: self.deny.union(other.deny),
+            loud: self.loud.union(other.loud),
+            audited: self.audited.union(other.audited),
+        }
+    }
+}
