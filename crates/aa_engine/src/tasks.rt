@@ -5,7 +5,7 @@ ghost use Rattle.aa_engine.specs.Answers.{asked, answered, label_named, job_answ
 ghost use Rattle.aa_engine.specs.declared.tasks.Answered.{Answered};
 
 use aa_jobs::{Job, Task, Work};
-use aa_mediate::{Compiled, Mediator};
+use aa_mediate::{Compiled, Machine, Mediator};
 use aa_requests::{Answer, Label, Request};
 use std::alloc::{AllocError, AllocFailed, Global};
 

@@ -4,7 +4,7 @@ use crate::policies::{READING_AND_WRITING, WRITING, compiled_from};
 use aa_faults::Spot;
 use aa_items::Item;
 use aa_lists::{Seq, Text};
-use aa_mediate::{Compiled, Mediator, answer_in};
+use aa_mediate::{Compiled, Machine, Mediator, answer_in};
 use aa_patterns::Pattern;
 use aa_policy::{FileRule, Profile};
 use aa_requests::{Answer, Label, Note, NoteWord, Request};

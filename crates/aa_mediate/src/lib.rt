@@ -7,6 +7,7 @@ mod numbering;
 mod permissions;
 mod reply;
 
+pub use aa_machine::Machine;
 pub use aa_requests::{Answer, FileRequest, Label, Note, NoteWord, Request, RequestFault};
 pub use label::name_of_label;
 pub use mediator::{CompileRefusal, Compiled, Mediator, compile};

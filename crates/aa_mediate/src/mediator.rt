@@ -7,6 +7,7 @@ ghost use Rattle.aa_mediate.specs.Reply.{reply};
 
 use crate::numbering::number_profiles;
 use crate::reply::answer;
+use aa_machine::Machine;
 use aa_policy::Policy;
 use aa_requests::{Answer, Label, Request};
 use aa_words::PolicyFault;
@@ -98,12 +99,21 @@ impl<'p> Mediator<'p> {
     {
         Mediator { compiled }
     }
+}
+
+impl<'p> Machine for Mediator<'p> {
+    type State = Label;
+
+    type Request = Request;
+
+    type Answer = Answer;
+
+    ghost next = { λ policy label request. (reply policy label request).label };
+
+    ghost reply = { λ policy label request. reply policy label request };
 
     /// Answers a request of a task, and moves its label to that of the answer.
-    pub fn step(&self, state: &mut Label, request: &Request) -> Answer
-        ensures answer { result ≡ reply self.now state.old request.now }
-        ensures state { state.new ≡ result.label }
-    {
+    fn step(&self, state: &mut Label, request: &Request) -> Answer {
         let answer = answer(self.compiled.policy(), *state, request);
         *state = answer.label;
         answer

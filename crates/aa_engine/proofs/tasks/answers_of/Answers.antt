@@ -1,4 +1,5 @@
-use Rattle.std.proofs.Common.{◌≡◌, rules, length}
+use Rattle.std.proofs.Common.{◌≡◌, ◌∙◌, ap, sym, rules, length}
+use Rattle.aa_requests.specs.declared.answer.Answer.{Answer}
 use Rattle.aa_engine.proofs.Answering.{answering_start, answering_more, answering_exit, answering_end}
 use Rattle.aa_engine.proofs.tasks.answers_of.Goals as goal
 
@@ -14,9 +15,11 @@ pub loop-work-preserved : goal.loop-work-preserved
 loop-work-preserved c =
     let item = rw c.in-Ask.is at c.work-item.is in
     let number : c.len-number.result ≡ length c.loop-work.answers.items = search rules in
+    let answer = rw c.new-mediator.ensures at c.step-answer.ensures.answer in
+    let label = (rw c.new-mediator.ensures at c.step-answer.ensures.state) ∙ ap (λ (a : Answer). a.label) (sym answer) in
     answering_more c.args.compiled.now c.loop-work.label c.step-answer.new.state c.loop-work.answers.items c.push.new.self.items c.args.works.now
     c.loop-work.work-index c.len-number.result c.in-Ask.request c.in_ok-request.request c.step-answer.result _
-    c.loop-work-test.true item number c.in_ok-request.ensures (rw c.new-mediator.ensures at c.step-answer.ensures.answer) c.step-answer.ensures.state
+    c.loop-work-test.true item number c.in_ok-request.ensures answer label
     c.in_ok-push.ensures.items c.loop-work.invariant
 
 pub returns : goal.returns
