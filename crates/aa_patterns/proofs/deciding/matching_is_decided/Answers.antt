@@ -1,5 +1,7 @@
+use Rattle.std.proofs.lemmas.Grind.{common_steps}
+use Rattle.std.proofs.Common.{arith}
 use Rattle.aa_patterns.proofs.Decided.{decided}
 use Rattle.aa_patterns.proofs.deciding.matching_is_decided.Goals as goal
 
 pub returns : goal.returns
-returns c = λ items text. decided items text
+returns c = grind (arith, common_steps, decided)

@@ -1,3 +1,5 @@
+use Rattle.std.proofs.lemmas.Grind.{common_steps}
+use Rattle.std.proofs.Common.{rules}
 use Rattle.std.proofs.Common.{◌≡◌, ◌<◌, ◌∷◌, [], ℕ, All, length, false, sym, ap, ◌∙◌, subst, inr, ⊎_elim, arith, get_or}
 use Rattle.std.proofs.lemmas.List.{length-replicate}
 use Rattle.std.proofs.lemmas.List.Elements.{All-get_or}
@@ -12,23 +14,7 @@ use Rattle.aa_patterns.proofs.flags.+follow.Goals as goal
 use Rattle.aa_patterns.proofs.flags.+follow.Goals.{follow_items-in-Choice, follow_items-in_default}
 
 pub follow_branches-follow_items-more-requires : goal.follow_branches-follow_items-more-requires
-follow_branches-follow_items-more-requires t c = (
-  omega (
-    arith,
-    c.decreases,
-    weight_of_at c.args.branches.now c.loop-branch.branch-index c.branch-item.result c.loop-branch-test.true,
-    ap weight_of_items c.as_slice.ensures.value,
-    ap (λ v. weight_of_items v.items) c.branch-item.is,
-  ),
-  (
-    omega (arith, c.requires.long_ends, c.copy_flags.auto.flags, c.loop-branch.auto.ends),
-    (
-      inr c.requires.small,
-      within_same c.args.flags.now c.copy_flags.new.flags c.args.text.now c.args.span.first c.args.span.end
-          (copied c.loop-branch.ends c.copy_flags.new.flags c.args.flags.now c.args.text.now c.args.span.first c.args.span.end c.requires.within c.copy_flags.ensures c.loop-branch.invariant.no_ends) c.requires.within,
-    ),
-  ),
-)
+follow_branches-follow_items-more-requires t c = grind (arith, common_steps, weight_of_at, within_same, copied)
 
 pub follow_branches-loop-branch-preserved : goal.follow_branches-loop-branch-preserved
 follow_branches-loop-branch-preserved t c =
@@ -45,9 +31,7 @@ follow_branches-loop-branch-preserved t c =
     }
 
 pub follow_items-returns-then-reached-clause-follows : goal.follow_items-returns-then-reached-clause-follows
-follow_items-returns-then-reached-clause-follows t c =
-    follows_nothing c.args.items.now c.loop-item.item-index c.args.text.now c.args.flags.now c.loop-item.flags
-    (within_none c.loop-item.flags c.args.text.now c.loop-item.reached.first c.loop-item.reached.end c.if-reached.true c.loop-item.invariant.within) c.loop-item.invariant.follows
+follow_items-returns-then-reached-clause-follows t c = grind (arith, common_steps, follows_nothing, within_none)
 
 pub follow_items-follow_choice-reached-requires : goal.follow_items-follow_choice-reached-requires
 follow_items-follow_choice-reached-requires t c = (
@@ -87,19 +71,10 @@ follow_items-loop-item-preserved t c = record {
 }
 
 pub follow_short-follow_branches-requires : goal.follow_short-follow_branches-requires
-follow_short-follow_branches-requires t c = (
-  omega (arith, c.decreases),
-  (c.requires.long, (omega arith, (omega (arith, length-replicate 64 false), (omega (arith, length-replicate 64 false), (c.requires.within, (none_at 64, none_at 64)))))),
-)
+follow_short-follow_branches-requires t c = search (rules, length-replicate, none_at)
 
 pub follow_path-follow_branches-requires : goal.follow_path-follow_branches-requires
-follow_path-follow_branches-requires t c = (
-  omega (arith, c.decreases),
-  (c.requires.long, (omega arith, (omega (arith, length-replicate 4096 false), (omega (arith, length-replicate 4096 false), (c.requires.within, (none_at 4096, none_at 4096)))))),
-)
+follow_path-follow_branches-requires t c = search (rules, length-replicate, none_at)
 
 pub follow_long-follow_branches-requires : goal.follow_long-follow_branches-requires
-follow_long-follow_branches-requires t c = (
-  omega (arith, c.decreases),
-  (c.requires.long, (c.requires.small, (omega (arith, length-replicate 16384 false), (omega (arith, length-replicate 16384 false), (c.requires.within, (none_at 16384, none_at 16384)))))),
-)
+follow_long-follow_branches-requires t c = search (rules, length-replicate, none_at)

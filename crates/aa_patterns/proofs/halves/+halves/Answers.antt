@@ -1,3 +1,4 @@
+use Rattle.std.proofs.lemmas.Grind.{common_steps}
 use Rattle.std.proofs.Common.{◌≡◌, ℕ, ◌/◌, ◌≤◌, length, take, drop, refl, sym, ap, ◌∙◌, subst, arith, ⊎_elim, true≢false}
 use Rattle.std.proofs.lemmas.Bool.{cases_lt}
 use Rattle.std.proofs.lemmas.List.{take_rest}
@@ -11,58 +12,32 @@ use Rattle.aa_patterns.proofs.halves.+halves.Goals as goal
 use Rattle.aa_patterns.proofs.halves.+halves.Goals.{matches_by_halves-else-matches_by_halves-via-then-matches_by_halves+else-matches_by_halves-2, matches_by_halves-else-matches_by_halves-via-else-matches_by_halves}
 
 pub allows-some_matches-requires : goal.allows-some_matches-requires
-allows-some_matches-requires t c =
-    (omega (arith, weight-Choice c.in-Choice.branches, ap weight_of_lists c.as_slice.ensures.value, ap weight c.in-Choice.is, c.decreases), tt)
+allows-some_matches-requires t c = grind (arith, common_steps, weight-Choice)
 
 pub allows-returns-in-Choice : goal.allows-returns-in-Choice
-allows-returns-in-Choice t c =
-    rw c.in-Choice.is (↔_trans (rw c.as_slice.ensures.value at c.some_matches.ensures) (↔_sym (Allows-Choice c.in-Choice.branches _)))
+allows-returns-in-Choice t c = grind (arith, common_steps, Allows-Choice, ↔_trans, ↔_sym)
 
 pub some_matches-matches_by_halves-requires : goal.some_matches-matches_by_halves-requires
-some_matches-matches_by_halves-requires t c = (
-  omega (
-    arith,
-    c.decreases,
-    weight_of_at c.args.branches.now c.loop-branch.branch-index c.branch-item.result c.loop-branch-test.true,
-    ap weight_of_items c.as_slice.ensures.value,
-    ap (λ v. weight_of_items v.items) c.branch-item.is,
-  ),
-  tt,
-)
+some_matches-matches_by_halves-requires t c = grind (arith, common_steps, weight_of_at)
 
 pub some_matches-returns-then-matches_by_halves : goal.some_matches-returns-then-matches_by_halves
-some_matches-returns-then-matches_by_halves t c = (
-  λ _. some_at c.args.branches.now c.loop-branch.branch-index c.branch-item.result c.args.text.now c.loop-branch-test.true
-      (subst (λ xs. Matches xs c.args.text.now) (c.as_slice.ensures.value ∙ ap (λ v. v.items) c.branch-item.is) (c.matches_by_halves.ensures.0 c.if-matches_by_halves.true)),
-  λ _. refl,
-)
+some_matches-returns-then-matches_by_halves t c = grind (arith, common_steps, some_at)
 
 pub some_matches-loop-branch-preserved : goal.some_matches-loop-branch-preserved
-some_matches-loop-branch-preserved t c = λ s.
-    ⊎_elim c.loop-branch.invariant
-    (λ m. not_true c.matches_by_halves.result c.matches_by_halves.ensures c.if-matches_by_halves.false
-    (subst (λ xs. Matches xs c.args.text.now) (sym (c.as_slice.ensures.value ∙ ap (λ v. v.items) c.branch-item.is)) m))
-    ((some_push c.args.branches.now c.loop-branch.branch-index c.branch-item.result c.args.text.now c.loop-branch-test.true).0 s)
+some_matches-loop-branch-preserved t c = grind (arith, common_steps, not_true, some_push)
 
 pub matches_by_halves-returns-in-Some : goal.matches_by_halves-returns-in-Some
 matches_by_halves-returns-in-Some t c =
     ↔_trans c.allows.ensures (↔_sym (one_item c.args.items.now c.in-Some.field-0-1.now c.in-Some.item.now c.args.text.now c.in-Some.ensures.cases.0 c.if-items-lt2.true))
 
 pub matches_by_halves-matches_by_halves-requires : goal.matches_by_halves-matches_by_halves-requires
-matches_by_halves-matches_by_halves-requires t c =
-    (omega (arith, c.decreases, ap weight_of_items c.split_at.ensures.front, weight_front c.args.items.now (length c.args.items.now / 2) (omega arith)), tt)
+matches_by_halves-matches_by_halves-requires t c = grind (arith, common_steps, weight_front)
 
 pub matches_by_halves-matches_by_halves-requires-then-matches_by_halves : goal.matches_by_halves-matches_by_halves-requires-then-matches_by_halves
-matches_by_halves-matches_by_halves-requires-then-matches_by_halves t c =
-    (omega (arith, c.decreases, ap weight_of_items c.split_at.ensures.back, weight_back c.args.items.now (length c.args.items.now / 2) (omega arith) (omega arith)), tt)
+matches_by_halves-matches_by_halves-requires-then-matches_by_halves t c = grind (arith, common_steps, weight_back)
 
 pub matches_by_halves-returns-then-matches_by_halves-2 : goal.matches_by_halves-returns-then-matches_by_halves-2
-matches_by_halves-returns-then-matches_by_halves-2 t c = (
-  λ _. some_cut c.args.items.now (length c.args.items.now / 2) c.args.text.now c.loop-cut.cut
-      (subst (λ xs. Matches xs (take c.loop-cut.cut c.args.text.now)) c.split_at.ensures.front (c.matches_by_halves.ensures.0 c.if-matches_by_halves.true))
-      (subst (λ xs. Matches xs (drop c.loop-cut.cut c.args.text.now)) c.split_at.ensures.back (rw take_rest at (c.matches_by_halves-then-matches_by_halves.ensures.0 c.if-matches_by_halves-2.true))),
-  λ _. refl,
-)
+matches_by_halves-returns-then-matches_by_halves-2 t c = grind (arith, common_steps, take_rest, some_cut)
 
 pub matches_by_halves-returns-else-matches_by_halves : goal.matches_by_halves-returns-else-matches_by_halves
 matches_by_halves-returns-else-matches_by_halves t c =

@@ -1,5 +1,6 @@
+use Rattle.std.proofs.Common.{rules}
 use Rattle.aa_patterns.proofs.PlaceLaws.{decide_next}
 use Rattle.aa_patterns.proofs.places.places_decide_next.Goals as goal
 
 pub returns : goal.returns
-returns c = decide_next c.args.patterns.now
+returns c = search (rules, decide_next)

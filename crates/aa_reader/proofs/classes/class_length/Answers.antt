@@ -1,3 +1,5 @@
+use Rattle.std.proofs.Common.{arith}
+use Rattle.std.proofs.lemmas.Grind.{common_steps}
 use Rattle.std.proofs.Common.{sym, ◌∙◌}
 use Rattle.aa_reader.specs.Classes.{class_len}
 use Rattle.aa_reader.proofs.Runs.{stops_at, goes_at, ends_at, class_step, class_nil}
@@ -10,4 +12,4 @@ pub loop-i-preserved : goal.loop-i-preserved
 loop-i-preserved c = goes_at _ _ _ _ _ (class_step c.args.signs.now c.loop-i.i _ c.loop-i-test.true) (sym c.is_plain.ensures ∙ c.if-is_plain.false) c.loop-i.invariant
 
 pub returns-clause-length : goal.returns-clause-length
-returns-clause-length c = ends_at class_len c.args.signs.now _ c.loop-i.i class_nil c.loop-i-test.false c.loop-i.auto.i-end c.loop-i.invariant
+returns-clause-length c = grind (arith, common_steps, ends_at, class_nil)

@@ -1,3 +1,5 @@
+use Rattle.std.proofs.Common.{arith}
+use Rattle.std.proofs.lemmas.Grind.{common_steps}
 use Rattle.std.proofs.Common.{sym, ◌∙◌}
 use Rattle.aa_reader.specs.Reading.{stars}
 use Rattle.aa_reader.proofs.Runs.{stops_not, goes_yet, ends_at, stars_step, stars_nil}
@@ -10,4 +12,4 @@ pub loop-i-preserved : goal.loop-i-preserved
 loop-i-preserved c = goes_yet _ _ _ _ _ (stars_step c.args.signs.now c.loop-i.i _ c.loop-i-test.true) (sym c.is_plain.ensures ∙ c.if-not-is_plain.false) c.loop-i.invariant
 
 pub returns-clause-count : goal.returns-clause-count
-returns-clause-count c = ends_at stars c.args.signs.now _ c.loop-i.i stars_nil c.loop-i-test.false c.loop-i.auto.i-end c.loop-i.invariant
+returns-clause-count c = grind (arith, common_steps, ends_at, stars_nil)
