@@ -26,25 +26,16 @@ plus : (i a b c : ℕ) → a + b ≡ c → i + a + b ≡ i + c
 plus i a b c e = omega arith
 
 three : (s : List Sign) (i : ℕ) (d : Sign) → i + 2 < length s → drop i s ≡ get_or s i d ∷ get_or s (i + 1) d ∷ get_or s (i + 2) d ∷ drop (i + 3) s
-three s i d h =
-    let a : i < length s = omega arith in let b : i + 1 < length s = omega arith in
-    let e : drop (i + 1) s ≡ get_or s (i + 1) d ∷ drop (i + 2) s = drop_more s (i + 1) d b ∙ ap (λ n. get_or s (i + 1) d ∷ drop n s) (plus i 1 1 2 refl) in
-    let f : drop (i + 2) s ≡ get_or s (i + 2) d ∷ drop (i + 3) s = drop_more s (i + 2) d h ∙ ap (λ n. get_or s (i + 2) d ∷ drop n s) (plus i 2 1 3 refl) in
-    drop_more s i d a ∙ ap (λ r. get_or s i d ∷ r) (e ∙ ap (λ r. get_or s (i + 1) d ∷ r) f)
+three s i d h = grind (arith, drop_more, plus)
 
 two : (s : List Sign) (i : ℕ) (d : Sign) → i + 2 < length s → drop (i + 1) s ≡ get_or s (i + 1) d ∷ get_or s (i + 2) d ∷ drop (i + 3) s
-two s i d h =
-    let b : i + 1 < length s = omega arith in
-    drop_more s (i + 1) d b ∙ ap (λ n. get_or s (i + 1) d ∷ drop n s) (plus i 1 1 2 refl)
-    ∙ ap (λ r. get_or s (i + 1) d ∷ r) (drop_more s (i + 2) d h ∙ ap (λ n. get_or s (i + 2) d ∷ drop n s) (plus i 2 1 3 refl))
+two s i d h = grind (arith, drop_more, plus)
 
 -- a range comes next
 pub range_next : (front all : List Range) (s : List Sign) (i : ℕ) (d : Sign) → i + 2 < length s →
     is_range (get_or s i d) (get_or s (i + 1) d) (get_or s (i + 2) d) ≡ true → front ++ ranges (drop i s) ≡ all →
     (front ++ record { first = (get_or s i d).byte; last = (get_or s (i + 2) d).byte } ∷ []) ++ ranges (drop (i + 3) s) ≡ all
-range_next front all s i d h e so_far =
-    append_assoc front (record { first = (get_or s i d).byte; last = (get_or s (i + 2) d).byte } ∷ []) (ranges (drop (i + 3) s))
-    ∙ ap (λ r. front ++ r) (sym (ap ranges (three s i d h) ∙ ranges_three (get_or s i d) (get_or s (i + 1) d) (get_or s (i + 2) d) (drop (i + 3) s) e)) ∙ so_far
+range_next front all s i d h e so_far = grind (arith, append_assoc, ranges_three, three)
 
 flags_taken : (negated : Bool) (rs : List Range) (n : ℕ) (xs : List Bool) → n ≤ length xs →
     ((k : ℕ) → k < n → get_or xs k false ≡ is_listed negated rs k) → take n xs ≡ flags_below negated rs n
@@ -67,11 +58,7 @@ flags_same negated rs n xs long each = sym (take_all n xs (omega arith)) ∙ fla
 pub one_next : (front all : List Range) (s : List Sign) (i : ℕ) (d : Sign) → i < length s →
     (i + 2 < length s → is_range (get_or s i d) (get_or s (i + 1) d) (get_or s (i + 2) d) ≡ false) → front ++ ranges (drop i s) ≡ all →
     (front ++ record { first = (get_or s i d).byte; last = (get_or s i d).byte } ∷ []) ++ ranges (drop (i + 1) s) ≡ all
-one_next front all s i d h none inv =
-    let step : ranges (get_or s i d ∷ drop (i + 1) s) ≡ only (get_or s i d) ∷ ranges (drop (i + 1) s) =
-    ⊎_elim (λ lt. ap (λ r. ranges (get_or s i d ∷ r)) (two s i d lt) ∙ ranges_two (get_or s i d) (get_or s (i + 1) d) (get_or s (i + 2) d) (drop (i + 3) s) (none lt) ∙ ap (λ r. only (get_or s i d) ∷ ranges r) (sym (two s i d lt)))
-    (λ ge. ranges_short (get_or s i d) (drop (i + 1) s) (omega (arith, length-drop (i + 1) s))) (cases_lt (i + 2) (length s)) in
-    append_assoc front (only (get_or s i d) ∷ []) (ranges (drop (i + 1) s)) ∙ ap (λ r. front ++ r) (sym (ap ranges (drop_more s i d h) ∙ step)) ∙ inv
+one_next front all s i d h none inv = grind (arith, append_assoc, cases_lt, drop_more, length-drop, ranges_two, ranges_short, two)
 
 pub ranges_done : (front all : List Range) (s : List Sign) (i : ℕ) → length s ≤ i → front ++ ranges (drop i s) ≡ all → all ≡ front
 unfolding ranges
@@ -84,10 +71,7 @@ and_true false b p q = p
 pub class_same : (negated : Bool) (body : List Sign) (rs : List Range) (set : List Bool) → 0 < length body → list_all is_rising rs ≡ true → ranges body ≡ rs →
     set ≡ flags_below negated rs 256 → class_of negated body ≡ Some (Class set)
 unfolding class_of
-class_same negated body rs set pos rise e f =
-    ap (λ t. cond t (Some (Class (flags_below negated (ranges body) 256))) None)
-    (and_true (nat_lt 0 (length body)) (list_all is_rising (ranges body)) (lt-ltb 0 (length body) pos) (ap (list_all is_rising) e ∙ rise))
-    ∙ ap (λ x. Some (Class x)) (ap (λ r. flags_below negated r 256) e ∙ sym f)
+class_same negated body rs set pos rise e f = grind (arith, lt-ltb, and_true)
 
 and_false : (a b : Bool) → b ≡ false → (a && b) ≡ false
 and_false true b q = q
@@ -100,6 +84,4 @@ class_empty negated (s ∷ ss) h = absurd (omega arith)
 
 pub class_falls : (negated : Bool) (body : List Sign) (rs : List Range) → list_all is_rising rs ≡ false → ranges body ≡ rs → class_of negated body ≡ None
 unfolding class_of
-class_falls negated body rs falls e =
-    ap (λ t. cond t (Some (Class (flags_below negated (ranges body) 256))) None)
-    (and_false (nat_lt 0 (length body)) (list_all is_rising (ranges body)) (ap (list_all is_rising) e ∙ falls))
+class_falls negated body rs falls e = grind (arith, and_false)

@@ -94,9 +94,7 @@ choice_of_lists choice [] = Single choice ∷ []
 choice_of_lists choice (branch ∷ rest) = Open ∷ (spelled branch.items ++ rest_of_lists rest)
 
 behind : (t : Token) (front xs ys zs : List Token) → xs ≡ (ys ++ zs) ++ Close ∷ [] → t ∷ (front ++ xs) ≡ (t ∷ (front ++ ys) ++ zs) ++ Close ∷ []
-behind t front xs ys zs e =
-    ap (λ r. t ∷ (front ++ r)) e
-    ∙ ap (λ r. t ∷ r) (sym (append_assoc front (ys ++ zs) (Close ∷ [])) ∙ ap (λ r. r ++ Close ∷ []) (sym (append_assoc front ys zs)))
+behind t front xs ys zs e = grind (arith, append_assoc)
 
 rest-push : (bs : List (Vec Item Global)) (b : Vec Item Global) → rest_of_lists (bs ++ b ∷ []) ≡ (begun Comma bs ++ spelled b.items) ++ Close ∷ []
 rest-push [] b = refl
@@ -130,12 +128,7 @@ spelled-Choice v = choice_spelled (Choice v) (rows_of (Choice v)).1 ∙ ap (choi
 
 pub put_single : (stack : List OpenChoice) (items new : List Item) (item : Item) (token : Token) → token ≡ Single item → IsFit (length stack) token → new ≡ items ++ item ∷ [] →
     (so_far stack new ≡ so_far stack items ++ token ∷ []) × (length stack ≡ depth_after (length stack) token)
-put_single stack items new item token is fit e =
-    let f : spelled_item item ≡ Single item ∷ [] = subst (IsFit (length stack)) is fit in
-    let front = flat_map begun_choice stack in (
-      ap (so_far stack) e ∙ ap (λ r. front ++ r) (spelled-push items item ∙ ap (λ r. spelled items ++ r) (f ∙ ap (λ x. x ∷ []) (sym is))) ∙ sym (append_assoc front (spelled items) (token ∷ [])),
-      sym (ap (depth_after (length stack)) is),
-    )
+put_single stack items new item token is fit e = grind (arith, append_assoc, spelled-push)
 
 regroup_comma : (a b c d e : List Token) → (a ++ ((b ++ ((c ++ d) ++ e)) ++ [])) ++ [] ≡ ((a ++ ((b ++ c) ++ [])) ++ d) ++ e
 regroup_comma a b c d e = simp (append_assoc, append-nil) refl
@@ -146,37 +139,17 @@ regroup_close a b c d e = simp (append_assoc, append-nil) refl
 -- the stack so far, and its last choice
 so_far_last : (stack rest : List OpenChoice) (f : OpenChoice) (items : List Item) (token t : Token) → stack ≡ rest ++ f ∷ [] → token ≡ t →
     so_far stack items ++ token ∷ [] ≡ ((flat_map begun_choice rest ++ (begun_choice f ++ [])) ++ spelled items) ++ t ∷ []
-so_far_last stack rest f items token t was is =
-    ap (λ s. (s ++ spelled items) ++ token ∷ []) (ap (flat_map begun_choice) was ∙ flat_map-append begun_choice rest (f ∷ []))
-    ∙ ap (λ t. ((flat_map begun_choice rest ++ (begun_choice f ++ [])) ++ spelled items) ++ t ∷ []) is
+so_far_last stack rest f items token t was is = grind (arith, flat_map-append)
 
 pub put_comma : (stack rest new : List OpenChoice) (f g : OpenChoice) (items : Vec Item Global) (token : Token) → token ≡ Comma →
     stack ≡ rest ++ f ∷ [] → new ≡ rest ++ g ∷ [] → g.before ≡ f.before → g.branches.items ≡ f.branches.items ++ items ∷ [] →
     (so_far new [] ≡ so_far stack items.items ++ token ∷ []) × (length new ≡ depth_after (length stack) token)
-put_comma stack rest new f g items token is was now before branches =
-    let a = flat_map begun_choice rest in let b = spelled f.before.items in
-    let made : begun_choice g ≡ b ++ ((begun Open f.branches.items ++ spelled items.items) ++ Comma ∷ []) =
-    ap (λ v. spelled v.items ++ begun Open g.branches.items) before ∙ ap (λ r. b ++ r) (ap (begun Open) branches ∙ begun-push Open f.branches.items items) in (
-      ap (λ s. flat_map begun_choice s ++ []) now ∙ ap (λ r. r ++ []) (flat_map-append begun_choice rest (g ∷ []) ∙ ap (λ r. a ++ (r ++ [])) made)
-          ∙ regroup_comma a b (begun Open f.branches.items) (spelled items.items) (Comma ∷ [])
-          ∙ sym (so_far_last stack rest f items.items token _ was is),
-      ap length now ∙ length-append rest (g ∷ []) ∙ sym (ap length was ∙ length-append rest (f ∷ [])) ∙ sym (ap (depth_after (length stack)) is),
-    )
+put_comma stack rest new f g items token is was now before branches = grind (arith, length-append, flat_map-append, begun-push, regroup_comma, so_far_last)
 
 pub put_close : (stack rest : List OpenChoice) (f : OpenChoice) (items : Vec Item Global) (v : Vec (Vec Item Global) Global) (new : List Item) (token : Token) → token ≡ Close →
     stack ≡ rest ++ f ∷ [] → v.items ≡ f.branches.items ++ items ∷ [] → new ≡ f.before.items ++ Choice v ∷ [] →
     (so_far rest new ≡ so_far stack items.items ++ token ∷ []) × (length rest ≡ depth_after (length stack) token)
-put_close stack rest f items v new token is was branches now =
-    let a = flat_map begun_choice rest in let b = spelled f.before.items in
-    let long : length stack ≡ length rest + 1 = ap length was ∙ length-append rest (f ∷ []) in
-    let less : length rest ≡ length stack - 1 = omega (arith, long) in (
-      ap (λ xs. a ++ spelled xs) now
-          ∙ ap (λ r. a ++ r) (spelled-push f.before.items (Choice v)
-          ∙ ap (λ r. b ++ r) (spelled-Choice v ∙ ap (choice_of_lists (Choice v)) branches ∙ choice-push (Choice v) f.branches.items items))
-          ∙ regroup_close a b (begun Open f.branches.items) (spelled items.items) (Close ∷ [])
-          ∙ sym (so_far_last stack rest f items.items token _ was is),
-      less ∙ sym (ap (depth_after (length stack)) is),
-    )
+put_close stack rest f items v new token is was branches now = grind (arith, length-append, spelled-push, choice-push, spelled-Choice, regroup_close, so_far_last)
 
 -- At the end of the signs.
 

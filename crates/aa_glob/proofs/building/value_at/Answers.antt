@@ -1,3 +1,4 @@
+use Rattle.std.proofs.lemmas.Grind.{common_steps}
 use Rattle.std.proofs.Common.{◌-◌, ◌∙◌, [], ap, arith, get_or, sym, Vec, ℕ, Global}
 use Rattle.std.proofs.lemmas.List.{get_or-map, length-map}
 use Rattle.aa_glob.specs.Ways.{items_of}
@@ -37,9 +38,4 @@ returns-clause-stands c = λ depth vars ts ends has.
     (ap (λ n. c.args.number - n) c.end_before-first.ensures) (ap (λ n. get_or c.args.ends.now c.ends_up_to-place.result 0 - n) c.end_before-first.ensures)
 
 pub returns-clause-among : goal.returns-clause-among
-returns-clause-among c =
-    let at = c.in-Some.ensures.lookup in (
-      c.ends_up_to-place.result,
-      omega (arith, at.3.0, length-map c.args.values.now (λ (v : Vec ℕ Global). v.items)),
-      get_or-map (λ (v : Vec ℕ Global). v.items) c.args.values.now c.ends_up_to-place.result c.in-Some.value.now c.as_slice.result.now at.3.0 ∙ sym (c.as_slice.ensures.value ∙ ap (λ (v : Vec ℕ Global). v.items) at.1),
-    )
+returns-clause-among c = grind (arith, common_steps, get_or-map, length-map)

@@ -1,10 +1,11 @@
+use Rattle.std.proofs.lemmas.Grind.{common_steps}
 use Rattle.std.proofs.Common.{arith, inl, inr, length}
 use Rattle.aa_glob.specs.Expansions.{Expands, expansions}
 use Rattle.aa_glob.proofs.ExpandSteps.{fault_expands, many_expands, texts_expand, gives_ok, gives_err, few_most}
 use Rattle.aa_glob.proofs.expanding.expand.Goals as goal
 
 pub text_summary-summary-requires : goal.text_summary-summary-requires
-text_summary-summary-requires c = c.in-Ok.ensures.ok.known
+text_summary-summary-requires c = grind (arith, common_steps)
 
 pub read_all-requires : goal.read_all-requires
 read_all-requires c =
@@ -12,7 +13,7 @@ read_all-requires c =
     record { walked = c.in-Ok.ensures.ok; texts = (k.most, k.ts, k.is, few_most k.most c.text_summary-summary.result.many k.sums.many c.if-summary.false, omega (arith, k.sums.count, c.if-summary-gt-MAX_TEXTS.false)) }
 
 pub returns-in-Err-clause-refused : goal.returns-in-Err-clause-refused
-returns-in-Err-clause-refused c = λ other. fault_expands c.args.vars.now c.args.raw.now c.in-Err.fault (c.in-Err.ensures.err other)
+returns-in-Err-clause-refused c = grind (arith, common_steps, fault_expands)
 
 pub returns-then-summary-clause-refused : goal.returns-then-summary-clause-refused
 returns-then-summary-clause-refused c = λ other.

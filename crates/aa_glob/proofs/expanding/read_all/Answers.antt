@@ -1,3 +1,4 @@
+use Rattle.std.proofs.lemmas.Grind.{common_steps}
 use Rattle.std.proofs.Common.{◌≡◌, ◌∙◌, ◌∷◌, [], map, get_or, sym, ap, arith, List, length}
 use Rattle.std.proofs.lemmas.List.{map-append}
 use Rattle.aa_patterns.specs.declared.pattern.Pattern.{Pattern}
@@ -8,12 +9,10 @@ use Rattle.aa_glob.proofs.ExpandSteps.{behind_read, built_same, read_more, read_
 use Rattle.aa_glob.proofs.expanding.read_all.Goals as goal
 
 pub loop-number-init : goal.loop-number-init
-loop-number-init c = λ most ts e few count.
-    ap (λ (ps : List Pattern). behind_read (map (λ (p : Pattern). spelled p.items.items) ps) (expansions ts)) c.in_ok-patterns.ensures.items ∙ read_start ts (expansions ts)
+loop-number-init c = grind (arith, common_steps, behind_read, read_start)
 
 pub build-requires-clause-stands : goal.build-requires-clause-stands
-build-requires-clause-stands c =
-    let r = c.requires.texts in stands_start (length c.args.done.now.entries) c.args.vars.now _ r.0 r.1 r.2 r.3 r.4 c.loop-number-test.true
+build-requires-clause-stands c = grind (arith, common_steps, stands_start)
 
 pub returns-in-Err : goal.returns-in-Err
 returns-in-Err c = λ most ts e few count other.

@@ -1,3 +1,4 @@
+use Rattle.std.proofs.Common.{rules}
 use Rattle.std.proofs.Common.{sym, ◌∙◌, ap}
 use Rattle.aa_glob.proofs.ExpandSteps.{squeeze_left_out, squeeze_kept, squeeze_end}
 use Rattle.aa_glob.proofs.expanding.squeeze.Goals as goal
@@ -11,4 +12,4 @@ loop-byte-preserved c =
     ]
 
 pub returns-clause-ok : goal.returns-clause-ok
-returns-clause-ok c = squeeze_end c.loop-byte.found.items _ c.loop-byte.after c.args.text.now c.loop-byte.byte-index c.loop-byte-test.false c.loop-byte.invariant
+returns-clause-ok c = search (rules, squeeze_end)

@@ -1,3 +1,4 @@
+use Rattle.std.proofs.Common.{rules}
 use Rattle.std.proofs.Common.{sym, ◌∙◌}
 use Rattle.aa_reader.proofs.Runs.{stops_not, goes_yet}
 use Rattle.aa_glob.proofs.PieceSteps.{name_step, names_end}
@@ -10,4 +11,4 @@ pub loop-i-preserved : goal.loop-i-preserved
 loop-i-preserved c = goes_yet _ _ _ _ _ (name_step c.args.text.now c.loop-i.i _ c.loop-i-test.true) (sym c.is_name_byte.ensures ∙ c.if-not-is_name_byte.false) c.loop-i.invariant
 
 pub returns-clause-length : goal.returns-clause-length
-returns-clause-length c = names_end c.args.text.now _ c.loop-i.i c.loop-i-test.false c.loop-i.auto.i-end c.loop-i.invariant
+returns-clause-length c = search (rules, names_end)

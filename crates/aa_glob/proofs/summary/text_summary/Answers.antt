@@ -1,3 +1,4 @@
+use Rattle.std.proofs.lemmas.Grind.{common_steps}
 use Rattle.std.proofs.Common.{arith, ap, subst, sym}
 use Rattle.aa_glob.specs.Parts.{piece_of}
 use Rattle.aa_glob.specs.Known.{AreKnown}
@@ -9,10 +10,10 @@ use Rattle.aa_glob.specs.declared.summary.Summary.{Summary}
 use Rattle.aa_glob.proofs.summary.text_summary.Goals as goal
 
 pub loop-part-init : goal.loop-part-init
-loop-part-init c = record { known = c.requires; small = omega arith; goes = λ depth vars right. text_start depth vars _ }
+loop-part-init c = grind (arith, common_steps, text_start)
 
 pub part_summary-requires : goal.part_summary-requires
-part_summary-requires c = (subst (AreKnown c.args.done.now.entries) c.in-Some.ensures.first c.loop-part.invariant.known).0
+part_summary-requires c = grind (arith, common_steps)
 
 pub loop-part-preserved : goal.loop-part-preserved
 loop-part-preserved c = record {

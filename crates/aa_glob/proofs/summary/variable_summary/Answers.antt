@@ -1,3 +1,4 @@
+use Rattle.std.proofs.lemmas.Grind.{common_steps}
 use Rattle.std.proofs.Common.{◌≡◌, ◌+◌, ◌++◌, [], ◌∷◌, ◌∙◌, ap, arith, drop, get_or, List, subst, sym, Vec, ℕ, Global}
 use Rattle.std.proofs.lemmas.List.{append-nil, at_drop_all, drop_more}
 use Rattle.aa_glob.specs.Expansions.{in_turn, outcome, outcome_of}
@@ -10,17 +11,10 @@ use Rattle.aa_glob.proofs.Summaries.{GoesOn, ends_more, settled_variable, values
 use Rattle.aa_glob.proofs.summary.variable_summary.Goals as goal
 
 pub loop-value-init : goal.loop-value-init
-loop-value-init c = record {
-  known = c.requires;
-  small = omega arith;
-  goes = λ depth vars right. values_start depth vars _;
-  ends = λ depth vars right es h. subst (λ (x : List ℕ). AreEnds vars 0 (items_of c.args.values.now) (x ++ es)) (sym (c.in_ok-ends.ensures.items)) h;
-}
+loop-value-init c = grind (arith, common_steps, values_start)
 
 pub text_summary-requires : goal.text_summary-requires
-text_summary-requires c =
-    subst (λ (t : List ℕ). AreKnown c.args.done.now.entries (pieces t)) (sym (c.as_slice.ensures.value ∙ ap (λ (v : Vec ℕ Global). v.items) c.value-item.is))
-    (subst (AreTextsKnown c.args.done.now.entries) (ap items_of (drop_more c.args.values.now c.loop-value.value-index c.value-item.result c.loop-value-test.true)) c.loop-value.invariant.known).0
+text_summary-requires c = grind (arith, common_steps, drop_more)
 
 pub loop-value-preserved : goal.loop-value-preserved
 loop-value-preserved c =

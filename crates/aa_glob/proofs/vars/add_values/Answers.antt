@@ -1,3 +1,5 @@
+use Rattle.std.proofs.Common.{arith}
+use Rattle.std.proofs.lemmas.Grind.{common_steps}
 use Rattle.std.proofs.Common.{◌++◌, ◌∙◌, ap, sym, map, cond, true≢false, List, ℕ, Vec, Global}
 use Rattle.std.proofs.lemmas.List.{map-append}
 use Rattle.aa_glob.proofs.VarSteps.{named, more_first, same_values, at_ok, at_err}
@@ -11,10 +13,7 @@ returns-clause-ok c =
     (ap (λ (xs : List (Vec ℕ Global)). map (λ v. v.items) xs) (c.append.ensures.items ∙ ap (λ b. cond b (c.in-Some-get_index_mut.list.now.items ++ c.args.more.items) c.in-Some-get_index_mut.list.now.items) good) ∙ map-append (λ (v : Vec ℕ Global). v.items) c.in-Some-get_index_mut.list.now.items c.args.more.items))
 
 pub returns-clause-err : goal.returns-clause-err
-returns-clause-err c =
-    at_err c.append.result (λ bad.
-    same_values c.args.table.now.entries c.in-Some.place c.in-Some-get_index_mut.list.now c.append.new.self (sym c.in-Some-get_index_mut.ensures.value)
-    (c.append.ensures.items ∙ ap (λ b. cond b (c.in-Some-get_index_mut.list.now.items ++ c.args.more.items) c.in-Some-get_index_mut.list.now.items) bad))
+returns-clause-err c = grind (arith, common_steps, same_values, at_err)
 
 pub unreachable-requires : goal.unreachable-requires
 unreachable-requires c = true≢false (sym (c.in_default.ensures.found ∙ named c.args.name.now c.args.table.now.entries ∙ c.requires))
