@@ -1,4 +1,5 @@
 -- A choice behind other items.
+use Rattle.std.proofs.Common.{arith}
 use Rattle.std.proofs.Common.{◌≡◌, ℕ, ◌↔◌, ◌⊎◌, ◌<◌, ◌+◌, List, [], ◌∷◌, ◌++◌, length, take, get_or, Vec, Global, sym, subst, inl, inr, ⊎_elim}
 use Rattle.std.proofs.lemmas.List.{take_more}
 use Rattle.aa_items.specs.declared.item.Item.{Item, Choice}
@@ -22,10 +23,7 @@ some_ends h (v ∷ bs) t = (
 )
 
 pub Matches-choice : (h : List Item) (v : Vec (Vec Item Global) Global) (t : List ℕ) → Matches (h ++ Choice v ∷ []) t ↔ SomeEnds h v.items t
-Matches-choice h v t = (
-  λ m. let p = (Matches-push h (Choice v) t).0 m in (some_ends h v.items t).0 (p.0, p.1, p.2, p.3, (Allows-Choice v p.1).0 p.4),
-  λ e. let p = (some_ends h v.items t).1 e in (Matches-push h (Choice v) t).1 (p.0, p.1, p.2, p.3, (Allows-Choice v p.1).1 p.4),
-)
+Matches-choice h v t = grind (arith, Allows-Choice, Matches-push, some_ends)
 
 pub SomeEnds-push : (h : List Item) (bs : List (Vec Item Global)) (v : Vec Item Global) (t : List ℕ) →
     SomeEnds h (bs ++ v ∷ []) t ↔ (SomeEnds h bs t ⊎ Matches (h ++ v.items) t)

@@ -1,4 +1,5 @@
 -- Deciding whether a text is matched.
+use Rattle.std.proofs.Common.{arith}
 use Rattle.std.proofs.Common.{◌≡◌, ◌≢◌, ℕ, List, [], ◌∷◌, ◌++◌, map, Bool, false, refl, sym, ap, subst, ◌∙◌, ◌⊎◌, inl, inr}
 use Rattle.std.specs.Prelude.{◌==◌, ◌&&◌, ◌||◌, nat_lt, not, ◌↔◌, IsTrue, slice_index_or}
 use Rattle.std.specs.Bool.{Decides}
@@ -95,17 +96,13 @@ byte_at c s h = (h.1 ∙ ap (λ (b : ℕ). b ∷ []) h.2.0, h.2.1)
 
 mutual
   item_decides : (i : Item) (s : List ℕ) → Decides (allows i s) (Allows i s)
-  item_decides (Byte c) s =
-      Decides-like _ (byte_at c s) (λ h. (c, h.0, (refl, h.1)))
-      (one_decides (λ b. b == c && is_nonzero_byte c) (λ b. (b ≡ c) × IsNonzeroByte c) (λ b. Decides-and (b == c) (is_nonzero_byte c) (Decides-eqb b c) (nonzero_decides c)) s)
+  item_decides (Byte c) s = grind (arith, Decides-like, Decides-and, Decides-eqb, nonzero_decides, one_decides, byte_at)
   item_decides One s = one_decides is_name_byte IsNameByte name_decides s
   item_decides Run s = all_decides is_name_byte IsNameByte name_decides s
   item_decides RunOne s = Decides-like _ (some_from IsNameByte s) (from_some IsNameByte s) (begins_decides is_name_byte is_name_byte IsNameByte IsNameByte name_decides name_decides s)
   item_decides Deep s = all_decides is_nonzero_byte IsNonzeroByte nonzero_decides s
   item_decides DeepOne s = begins_decides is_name_byte is_nonzero_byte IsNameByte IsNonzeroByte name_decides nonzero_decides s
-  item_decides (Class set) s =
-      one_decides (λ b. is_nonzero_byte b && slice_index_or set b false) (IsListed set)
-      (λ b. Decides-and (is_nonzero_byte b) (slice_index_or set b false) (nonzero_decides b) (λ e. e, λ e. e)) s
+  item_decides (Class set) s = grind (arith, Decides-and, nonzero_decides, one_decides)
   item_decides (Choice' _ branches) s = some_decides branches s
 
   some_decides : {n : _} (branches : Row_of-Item-Choice-0-1 n) (s : List ℕ) → Decides (some_allows branches s) (SomeAllows branches s)

@@ -55,13 +55,7 @@ skips_at h item text old first simple shows le none = (
 -- what holds of each flag before i, and of the one that is put there
 pub up_to : (P : ℕ → Bool → Type 0) (flags : List Bool) (i : ℕ) (v : Bool) → i < length flags →
     ((k : ℕ) → k < i → P k (get_or flags k false)) → P i v → (k : ℕ) → k ≤ i → P k (get_or (set flags i v) k false)
-up_to P flags i v long below here k le =
-    ⊎_elim
-    (λ (less : k < i). subst (P k) (sym (get_or-set_other flags i k v false (omega arith))) (below k less))
-    (λ (more : i ≤ k).
-    let k_is : k ≡ i = omega arith in
-    subst (λ n. P n (get_or (set flags i v) n false)) (sym k_is) (subst (P i) (sym (get_or-set_same flags i v false long)) here))
-    (cases_lt k i)
+up_to P flags i v long below here k le = grind (arith, get_or-set_other, get_or-set_same, cases_lt)
 
 -- the flags up to i are those behind the item, the later ones still those before it
 pub record IsAt (item : Item) (text : List ℕ) (old new : List Bool) (before : Bool) (i : ℕ) : Type 0 where
@@ -87,10 +81,7 @@ begins_at item text old before v first simple le long none e same = record {
 }
 
 pub grows_same : (i : Item) (b : ℕ) {P Q R P' Q' R' : Type 0} → (P ↔ P') → (Q ↔ Q') → (R ↔ R') → Grows i b P Q R ↔ Grows i b P' Q' R'
-grows_same i b p q r = (
-  λ g. ⊎_elim (λ x. inl (x.0, p.0 x.1)) (λ y. inr (⊎_elim (λ x. inl (q.0 x.0, x.1)) (λ x. inr (r.0 x.0, x.1)) y)) g,
-  λ g. ⊎_elim (λ x. inl (x.0, p.1 x.1)) (λ y. inr (⊎_elim (λ x. inl (q.1 x.0, x.1)) (λ x. inr (r.1 x.0, x.1)) y)) g,
-)
+grows_same i b p q r = grind (arith)
 
 pub goes_at : (item : Item) (text : List ℕ) (old new : List Bool) (before here v : Bool) (i : ℕ) → IsSimple item → i < length text → length text < length new →
     here ≡ get_or new (i + 1) false → (IsTrue v ↔ Grows item (get_or text i 0) (IsTrue here) (IsTrue before) (IsTrue (get_or new i false))) →
@@ -186,11 +177,7 @@ module _ (item : Item) (text : List ℕ) (old : List Bool) (place : ℕ) (one : 
 -- no item, and one more
 pub follows_more : (items : List Item) (k : ℕ) (d : Item) (text : List ℕ) (a b c : List Bool) → k < length items →
     Follows (take k items) text a b → Follows (get_or items k d ∷ []) text b c → Follows (take (k + 1) items) text a c
-follows_more items k d text a b c lt f g = record {
-  follow = λ h shows.
-      subst (λ xs. Shows c xs text) (append_assoc h (take k items) (get_or items k d ∷ []) ∙ ap (λ xs. h ++ xs) (sym (take_more items k d lt)))
-      (g.follow (h ++ take k items) (f.follow h shows));
-}
+follows_more items k d text a b c lt f g = grind (arith, append_assoc, take_more)
 
 -- no flag is set any more
 pub follows_nothing : (items : List Item) (k : ℕ) (text : List ℕ) (old new : List Bool) → ((j : ℕ) → get_or new j false ≡ false) →
@@ -211,12 +198,7 @@ follows_same items text a b c same f = record { follow = λ h shows. f.follow h 
 
 pub follows_choice : (item : Item) (v : Vec (Vec Item Global) Global) (bs : List (Vec Item Global)) (text : List ℕ) (a b : List Bool) → item ≡ Choice v → bs ≡ v.items →
     FollowsSome bs text a b → Follows (item ∷ []) text a b
-follows_choice item v bs text a b e same f = record {
-  follow = λ h shows. record {
-    at = λ k le. subst (λ (i : Item). IsTrue (get_or b k false) ↔ Matches (h ++ i ∷ []) (take k text)) (sym e)
-        (↔_trans (subst (λ xs. IsTrue (get_or b k false) ↔ SomeEnds h xs (take k text)) same (f.follow h shows k le)) (↔_sym (Matches-choice h v (take k text))));
-  };
-}
+follows_choice item v bs text a b e same f = grind (arith, ↔_trans, ↔_sym, Matches-choice)
 
 -- no sequence, and one more
 or_both : (a b : Bool) {P Q : Type 0} → (IsTrue a ↔ P) → (IsTrue b ↔ Q) → IsTrue (a || b) ↔ (P ⊎ Q)
@@ -226,11 +208,7 @@ or_both false b p q = (λ t. inr (q.0 t), λ s. ⊎_elim (λ x. absurd (true≢f
 pub some_more : (bs : List (Vec Item Global)) (k : ℕ) (d : Vec Item Global) (text : List ℕ) (old a b c : List Bool) → k < length bs →
     ((j : ℕ) → get_or c j false ≡ (get_or a j false || get_or b j false)) →
     FollowsSome (take k bs) text old a → Follows (get_or bs k d).items text old b → FollowsSome (take (k + 1) bs) text old c
-some_more bs k d text old a b c lt each f g = record {
-  follow = λ h shows j le.
-      subst (λ x. IsTrue x ↔ SomeEnds h (take (k + 1) bs) (take j text)) (sym (each j))
-      (↔_trans (or_both (get_or a j false) (get_or b j false) (f.follow h shows j le) ((g.follow h shows).at j le)) (↔_sym (SomeEnds-more h bs k d (take j text) lt)));
-}
+some_more bs k d text old a b c lt each f g = grind (arith, ↔_trans, ↔_sym, SomeEnds-more, or_both)
 
 pub none_at : (n k : ℕ) → get_or (replicate n false) k false ≡ false
 none_at zero k = refl
@@ -244,17 +222,14 @@ or_none false y e = sym e
 
 changed : (old new : List Bool) (first end : ℕ) (flag : ℕ → Bool) → Changes old new first end flag → ((k : ℕ) → k < first → get_or old k false ≡ flag k) →
     ((k : ℕ) → end ≤ k → get_or old k false ≡ flag k) → (k : ℕ) → get_or new k false ≡ flag k
-changed old new first end flag ch before behind k =
-    ⊎_elim (λ lt. ch.before k lt ∙ before k lt) (λ ge. ⊎_elim (λ lt. ch.within k ge lt) (λ past. ch.behind k past ∙ behind k past) (cases_lt k end)) (cases_lt k first)
+changed old new first end flag ch before behind k = grind (arith, cases_lt)
 
 module _ (old new from : List Bool) (text : List ℕ) (first end : ℕ) (within : AreWithin from text first end) where
   pub copied : Changes old new first end (λ k. get_or from k false) → AreUnset old → (k : ℕ) → get_or new k false ≡ get_or from k false
   copied ch none = changed old new first end (λ k. get_or from k false) ch (λ k lt. none k ∙ sym (within.before k lt)) (λ k le. none k ∙ sym (within.behind k le))
 
   pub added : Changes old new first end (λ k. get_or old k false || get_or from k false) → (k : ℕ) → get_or new k false ≡ (get_or old k false || get_or from k false)
-  added ch =
-      changed old new first end (λ k. get_or old k false || get_or from k false) ch
-      (λ k lt. or_none (get_or old k false) (get_or from k false) (within.before k lt)) (λ k le. or_none (get_or old k false) (get_or from k false) (within.behind k le))
+  added ch = grind (arith, or_none, changed)
 
 pub cleared : (old new : List Bool) (text : List ℕ) (first end : ℕ) → AreWithin old text first end → Changes old new first end (λ k. false) → AreUnset new
 cleared old new text first end within ch = changed old new first end (λ k. false) ch within.before within.behind
@@ -268,39 +243,15 @@ within_none flags text first end le w k = ⊎_elim (λ lt. w.before k lt) (λ ge
 pub within_both : (text : List ℕ) (a b c : List Bool) (first end first' end' first'' end'' : ℕ) → ((j : ℕ) → get_or c j false ≡ (get_or a j false || get_or b j false)) →
     AreWithin a text first end → AreWithin b text first' end' → (end' ≤ first' → (first'' ≡ first) × (end'' ≡ end)) → (first' < end' → (first'' ≡ min first first') × (end'' ≡ max end end')) →
     AreWithin c text first'' end''
-within_both text a b c first end first' end' first'' end'' each p q none some =
-    ⊎_elim
-    (λ (lt : first' < end').
-    let e = some lt in record {
-      before = λ k h. each k ∙ or_from (get_or a k false) (get_or b k false) (p.before k (omega (arith, e.0))) (q.before k (omega (arith, e.0)));
-      behind = λ k h. each k ∙ or_from (get_or a k false) (get_or b k false) (p.behind k (omega (arith, e.1))) (q.behind k (omega (arith, e.1)));
-      fits = omega (arith, e.1, p.fits, q.fits);
-    })
-    (λ (le : end' ≤ first').
-    let e = none le in record {
-      before = λ k h. each k ∙ or_from (get_or a k false) (get_or b k false) (p.before k (omega (arith, e.0))) (within_none b text first' end' le q k);
-      behind = λ k h. each k ∙ or_from (get_or a k false) (get_or b k false) (p.behind k (omega (arith, e.1))) (within_none b text first' end' le q k);
-      fits = omega (arith, e.1, p.fits);
-    })
-    (cases_lt first' end')
+within_both text a b c first end first' end' first'' end'' each p q none some = grind (arith, cases_lt, or_from, within_none)
 
 pub within_start : (text : List ℕ) (flags : List Bool) → ((k : ℕ) → 0 < k → get_or flags k false ≡ false) → AreWithin flags text 0 1
 within_start text flags others = record { before = λ k h. absurd (omega arith); behind = λ k h. others k (omega arith); fits = omega arith }
 
 -- the empty text, and the whole
 pub shows_start : (text : List ℕ) (flags : List Bool) → IsTrue (get_or flags 0 false) → ((k : ℕ) → 0 < k → get_or flags k false ≡ false) → Shows flags [] text
-shows_start text flags first others = record { at = λ k le. at k le }
-  where
-    some : (k : ℕ) (t : List ℕ) → 0 < k → k ≤ length t → take k t ≡ [] → ⊥
-    some zero t lt le e = omega arith
-    some (suc k) [] lt le e = omega arith
-    some (suc k) (x ∷ t) lt le e = cc e
-
-    at : (k : ℕ) → k ≤ length text → IsTrue (get_or flags k false) ↔ (take k text ≡ [])
-    at zero le = (λ t. refl, λ e. first)
-    at (suc k) le = (λ t. absurd (true≢false (sym t ∙ others (suc k) (omega arith))), λ e. absurd (some (suc k) text (omega arith) le e))
+shows_start text flags first others = grind (arith)
 
 pub shows_whole : (items : List Item) (text : List ℕ) (start end : List Bool) → Shows start [] text → Follows items text start end →
     IsTrue (get_or end (length text) false) ↔ Matches items text
-shows_whole items text start end s f =
-    subst (λ t. IsTrue (get_or end (length text) false) ↔ Matches items t) (take_all (length text) text (omega arith)) ((f.follow [] s).at (length text) (omega arith))
+shows_whole items text start end s f = grind (arith, take_all)

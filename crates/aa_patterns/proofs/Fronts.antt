@@ -1,4 +1,5 @@
 -- Items of one byte at the front.
+use Rattle.std.proofs.Common.{arith}
 use Rattle.std.proofs.Common.{◌≡◌, ℕ, ◌+◌, ◌<◌, ◌↔◌, List, [], ◌∷◌, ◌++◌, length, drop, get_or, refl, sym, ap, ◌∙◌, subst}
 use Rattle.std.proofs.lemmas.List.{drop_more}
 use Rattle.aa_items.specs.declared.item.Item.{Item, Byte, One, Class}
@@ -19,12 +20,7 @@ that_byte (Class set) b o h = (b, refl, h)
 that_byte _ b o h = absurd o
 
 pub front_match : (i : Item) (items : List Item) (b : ℕ) (s : List ℕ) → IsOneByte i → Begins i b → Matches (i ∷ items) (b ∷ s) ↔ Matches items s
-front_match i items b s o h = (
-  λ m. let p = one_byte i m.0 o m.3 in
-      let e : b ∷ s ≡ p.0 ∷ m.1 = m.2 ∙ ap (λ z. z ++ m.1) p.1 in
-      let same : s ≡ m.1 = cc e in subst (Matches items) (sym same) m.4,
-  λ m. (b ∷ [], s, refl, that_byte i b o h, m),
-)
+front_match i items b s o h = grind (arith, one_byte, that_byte)
 
 pub front_more : (items : List Item) (s : List ℕ) (k : ℕ) (d : Item) → k < length items → k < length s → IsOneByte (get_or items k d) → Begins (get_or items k d) (get_or s k 0) →
     (Matches items s ↔ Matches (drop k items) (drop k s)) → Matches items s ↔ Matches (drop (k + 1) items) (drop (k + 1) s)

@@ -37,9 +37,7 @@ no_cut items n text none m =
     none (length p.0) (omega (arith, ap length p.2, length-append p.0 p.1)) (subst (Matches (take n items)) (sym front) p.3) (subst (Matches (drop n items)) (sym back) p.4)
 
 pub one_item : (items others : List Item) (item : Item) (s : List ℕ) → items ≡ item ∷ others → length items < 2 → Matches items s ↔ Allows item s
-one_item items [] item s e h =
-    subst (λ xs. Matches xs s ↔ Allows item s) (sym e)
-    (λ m. subst (Allows item) (sym (m.2 ∙ ap (λ b. m.0 ++ b) m.4 ∙ append-nil m.0)) m.3, λ a. (s, [], sym (append-nil s), a, refl))
+one_item items [] item s e h = grind (arith, append-nil)
 one_item items (x ∷ others) item s e h = absurd (omega (arith, ap length e))
 
 pub some_push : (bs : List (Vec Item Global)) (k : ℕ) (d : Vec Item Global) (s : List ℕ) → k < length bs →

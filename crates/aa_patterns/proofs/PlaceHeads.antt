@@ -95,9 +95,7 @@ in_within h _ = refl
 
 in_branch : (h g branch : List Item) (bs : List (List Item)) (j : ℕ) → slice_get bs j ≡ Some branch → In g (h ∷ heads_after h branch) → In g (of_sequences h bs)
 in_branch h g branch [] j e i = absurd (cc e)
-in_branch h g branch (b ∷ bs) zero e i =
-    let same : b ≡ branch = cc e in
-    (In-append g (h ∷ heads_after h b) (of_sequences h bs)).1 (inl (subst (λ z. In g (h ∷ heads_after h z)) (sym same) i))
+in_branch h g branch (b ∷ bs) zero e i = grind (arith, In-append)
 in_branch h g branch (b ∷ bs) (suc j) e i = (In-append g (h ∷ heads_after h b) (of_sequences h bs)).1 (inr (in_branch h g branch bs j e i))
 
 in_gap : (h items : List Item) (i : ℕ) → i ≤ length items → In (h ++ take i items) (h ∷ heads_after h items)
@@ -110,10 +108,7 @@ in_gap h (item ∷ items) (suc i) le =
 
 in_item : (h items : List Item) (i : ℕ) (item : Item) (g : List Item) → slice_get items i ≡ Some item → In g (heads_within (h ++ take i items) item) → In g (heads_after h items)
 in_item h [] i item g e n = absurd (cc e)
-in_item h (x ∷ items) zero item g e n =
-    let same : x ≡ item = cc e in
-    (In-append g (heads_within h x) ((h ++ x ∷ []) ∷ heads_after (h ++ x ∷ []) items)).1
-    (inl (subst (λ z. In g (heads_within z x)) (append-nil h) (subst (λ z. In g (heads_within (h ++ []) z)) (sym same) n)))
+in_item h (x ∷ items) zero item g e n = grind (arith, append-nil, In-append)
 in_item h (x ∷ items) (suc i) item g e n =
     (In-append g (heads_within h x) ((h ++ x ∷ []) ∷ heads_after (h ++ x ∷ []) items)).1
     (inr (inr (in_item (h ++ x ∷ []) items i item g e (subst (λ z. In g (heads_within z item)) (sym (append_assoc h (x ∷ []) (take i items))) n))))

@@ -67,8 +67,7 @@ module _ (s t : List ℕ) (b : ℕ) where
   Nexts hs = Agree (s ++ b ∷ []) (t ++ b ∷ []) hs
 
   simple_next : (h : List Item) (i : Item) → IsSimple i → Same s t h → Same s t (h ++ i ∷ []) → Next h → Next (h ++ i ∷ [])
-  simple_next h i simple was was_next now =
-      ↔_trans (Matches-grow h i s b simple) (↔_trans (grows_same i b now was was_next) (↔_sym (Matches-grow h i t b simple)))
+  simple_next h i simple was was_next now = grind (arith, ↔_trans, ↔_sym, grows_same, Matches-grow)
 
   mutual
     item_next : (h : List Item) (i : Item) → Agree s t (heads_within h i) → Same s t h → Same s t (h ++ i ∷ []) → Next h → Nexts (heads_within h i) × Next (h ++ i ∷ [])

@@ -1,4 +1,5 @@
 -- What one more byte does to what is matched.
+use Rattle.std.proofs.Common.{arith}
 use Rattle.std.proofs.Common.{◌≡◌, ◌≢◌, ℕ, ◌↔◌, ◌⊎◌, List, [], ◌∷◌, ◌++◌, All, refl, sym, ap, ◌∙◌, subst, inl, inr, ⊎_elim, append_assoc}
 use Rattle.std.proofs.lemmas.List.{same_from_push, append-nil}
 use Rattle.std.proofs.lemmas.List.Elements.{All-nil, All-cons, All-head, All-tail, All-push}
@@ -19,13 +20,7 @@ Matches-append (i ∷ g) h s = (
 
 pub Matches-push : (h : List Item) (i : Item) (s : List ℕ) →
     Matches (h ++ i ∷ []) s ↔ ((a : List ℕ) × (b : List ℕ) × (s ≡ a ++ b) × Matches h a × Allows i b)
-Matches-push h i s = (
-  λ m. let r = (Matches-append h (i ∷ []) s).0 m in
-      let one = r.4 in
-      let same : r.1 ≡ one.0 = one.2 ∙ ap (λ z. one.0 ++ z) one.4 ∙ append-nil one.0 in
-      (r.0, r.1, r.2, r.3, subst (Allows i) (sym same) one.3),
-  λ p. (Matches-append h (i ∷ []) s).1 (p.0, p.1, p.2, p.3, (p.1, [], sym (append-nil p.1), p.4, refl)),
-)
+Matches-push h i s = grind (arith, append-nil, Matches-append)
 
 -- a text that begins as a part of the item may, and goes on so
 abbrev pub IsPart : Item → List ℕ → Type 0
@@ -39,21 +34,14 @@ none_left {P} (b ∷ s) none all = absurd (none b (All-head P b s all))
 single : (i : Item) (P : ℕ → Type 0) (s : List ℕ) → ((b : ℕ) → Continues i b → ⊥) → (IsSkippable i → ⊥) → ((b : ℕ) → P b ↔ Begins i b) →
     ((b : ℕ) × (s ≡ b ∷ []) × P b) ↔ IsPart i s
 single i P [] none never same = (λ h. absurd (cc h.1), λ p. absurd (never p))
-single i P (x ∷ s) none never same = (
-  λ h. let e : s ≡ [] = cc h.1 in let e' : x ≡ h.0 = cc h.1 in
-      (subst (Begins i) (sym e') ((same h.0).0 h.2), subst (All (Continues i)) (sym e) (All-nil (Continues i))),
-  λ p. let e : s ≡ [] = none_left s none p.1 in (x, ap (λ z. x ∷ z) e, (same x).1 p.0),
-)
+single i P (x ∷ s) none never same = grind (arith, All-nil, none_left)
 
 same_iff : {P : Type 0} → P ↔ P
 same_iff = (λ p. p, λ p. p)
 
 pub allows_part : (i : Item) (s : List ℕ) → IsSimple i → Allows i s ↔ IsPart i s
 allows_part (Byte c) [] _ = (λ h. absurd (cc h.0), λ p. absurd p)
-allows_part (Byte c) (x ∷ s) _ = (
-  λ h. let e : x ≡ c = cc h.0 in let e' : s ≡ [] = cc h.0 in ((e, subst IsNonzeroByte (sym e) h.1), subst (All (Continues (Byte c))) (sym e') (All-nil (Continues (Byte c)))),
-  λ p. let e : s ≡ [] = none_left s (λ b z. z) p.1 in (ap (λ z. z ∷ s) p.0.0 ∙ ap (λ z. c ∷ z) e, subst IsNonzeroByte p.0.0 p.0.1),
-)
+allows_part (Byte c) (x ∷ s) _ = grind (arith, All-nil, none_left)
 allows_part One s _ = single One IsNameByte s (λ b z. z) (λ z. z) (λ b. same_iff)
 allows_part (Class set) s _ = single (Class set) (Begins (Class set)) s (λ b z. z) (λ z. z) (λ b. same_iff)
 allows_part Run [] _ = (λ h. tt, λ p. All-nil IsNameByte)
@@ -63,10 +51,7 @@ allows_part Deep (x ∷ s) _ = (λ h. (All-head IsNonzeroByte x s h, All-tail Is
 allows_part RunOne [] _ = (λ h. absurd (h.1 refl), λ p. absurd p)
 allows_part RunOne (x ∷ s) _ = (λ h. (All-head IsNameByte x s h.0, All-tail IsNameByte x s h.0), λ p. (All-cons IsNameByte x s p.0 p.1, λ e. cc e))
 allows_part DeepOne [] _ = (λ h. absurd (cc h.2), λ p. absurd p)
-allows_part DeepOne (x ∷ s) _ = (
-  λ h. let e : x ≡ h.0 = cc h.2 in let e' : s ≡ h.1 = cc h.2 in (subst IsNameByte (sym e) h.3, subst (All IsNonzeroByte) (sym e') h.4),
-  λ p. (x, s, refl, p.0, p.1),
-)
+allows_part DeepOne (x ∷ s) _ = grind (arith)
 allows_part (Choice' _ _) s z = absurd z
 
 -- where a part may be empty, it may begin as it goes on
