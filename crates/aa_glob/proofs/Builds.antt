@@ -30,9 +30,7 @@ record Both (c : List (List ℕ) → List (List ℕ) → List (List ℕ)) (x y :
   texts : ts ≡ c first second
 
 both_texts : (c : List (List ℕ) → List (List ℕ) → List (List ℕ)) (x y : Outcome) (m : ℕ) (ts : List (List ℕ)) → joins c x y ≡ Texts m ts → Both c x y m ts
-both_texts c (Texts a t1) (Texts n us) m ts e =
-    let g : m ≡ max a n = cc e in let h : ts ≡ c t1 us = cc e in
-    record { most_first = a; first = t1; most_second = n; second = us; is_first = refl; is_second = refl; most = g; texts = h }
+both_texts c (Texts a t1) (Texts n us) m ts e = grind (arith)
 both_texts c x y m ts e = absurd (cc e)
 
 -- a text of the product by its number
@@ -43,9 +41,7 @@ get_each t (u ∷ us) (suc r) h = get_each t us r (omega arith)
 
 product_at : (ts us : List (List ℕ)) (q r : ℕ) → r < length us → q < length ts → get_or (product ts us) (q * length us + r) [] ≡ get_or ts q [] ++ get_or us r []
 product_at [] us q r hr hq = absurd (omega arith)
-product_at (t ∷ ts) us zero r hr hq =
-    let z : 0 * length us + r ≡ r = omega arith in
-    ap (λ k. get_or (product (t ∷ ts) us) k []) z ∙ get_or_append_left (map (λ u. t ++ u) us) (product ts us) [] r (omega (arith, length_each t us)) ∙ get_each t us r hr
+product_at (t ∷ ts) us zero r hr hq = grind (arith, get_or_append_left, product, length_each, get_each)
 product_at (t ∷ ts) us (suc q) r hr hq =
     let z : suc q * length us + r ≡ length (map (λ u. t ++ u) us) + (q * length us + r) = omega (arith, length_each t us) in
     ap (λ k. get_or (product (t ∷ ts) us) k []) z ∙ get_or-append-add (map (λ u. t ++ u) us) (product ts us) (q * length us + r) [] ∙ product_at ts us q r hr (omega arith)
@@ -65,11 +61,7 @@ times_le : (a q l : ℕ) → a ≤ q → a * l ≤ q * l
 times_le a q l h = grind arith
 
 quotient : (q r a l : ℕ) → q * l + r < a * l → q < a
-quotient q r a l h = by (cases_lt q a)
-  where
-    by : (suc q ≤ a) ⊎ (a ≤ q) → q < a
-    by (inl lt) = lt
-    by (inr ge) = let x : a * l ≤ q * l = times_le a q l ge in absurd (omega arith)
+quotient q r a l h = grind (arith, cases_lt, times_le)
 
 factor : (a b n : ℕ) → n < a * b → (0 < a) × (0 < b) × (a ≤ a * b)
 factor zero b n h = absurd (omega arith)
@@ -93,8 +85,7 @@ module _ (level : ℕ) (vars : List Variable) where
         record { most = parts.most_second; ts = parts.second; texts = parts.is_second; few = omega (arith, parts.most, s.few); count = sym is; within = within; is = refl }
 
     text_is : (q r : ℕ) → f.number ≡ q * length parts.second + r → r < length parts.second → q < length parts.first → t ≡ get_or parts.first q [] ++ get_or parts.second r []
-    text_is q r whole within_r within_q =
-        sym s.is ∙ ap (λ xs. get_or xs f.number []) parts.texts ∙ ap (λ k. get_or (product parts.first parts.second) k []) whole ∙ product_at parts.first parts.second q r within_r within_q
+    text_is q r whole within_r within_q = grind (arith, product, product_at, parts)
 
   -- a byte
   pub stands_plain : (f : Rest) (behind : Bor (List ℕ)) (keep : Bool) (b : ℕ) (t : List ℕ) → pieces_of f ≡ Plain b ∷ pieces_from keep 0 behind.now → Stands level vars f t →
@@ -126,17 +117,7 @@ module _ (level : ℕ) (vars : List Variable) where
   own_few : (d : ℕ) (name : List ℕ) (m : ℕ) (ts : List (List ℕ)) → outcome d vars name ≡ Texts m ts → length ts ≤ m
   unfolding outcome
   own_few zero name m ts e = absurd (cc e)
-  own_few (suc d) name m ts e = by (is_reserved name) (values_of vars name) e
-    where
-      by_outcome : (x : Outcome) → counted x ≡ Texts m ts → length ts ≤ m
-      by_outcome (Texts k us) e = let g : max k (length us) ≡ m = cc e in let h : us ≡ ts = cc e in omega (arith, ap length h)
-      by_outcome (Stops f) e = absurd (cc e)
-      by_outcome Deeper e = absurd (cc e)
-
-      by : (b : Bool) (o : Option (List (List ℕ))) → cond b (Stops Unsupported) (of_values (outcome d vars) o) ≡ Texts m ts → length ts ≤ m
-      by true o e = absurd (cc e)
-      by false None e = absurd (cc e)
-      by false (Some values) e = by_outcome (in_turn (outcome d vars) values) e
+  own_few (suc d) name m ts e = grind (arith)
 
   pub stands_use : (f : Rest) (behind : Bor (List ℕ)) (keep : Bool) (name : List ℕ) (k : VariableSummary) (t : List ℕ) (depth : ℕ) (done : Table) → IsRight depth vars done name k →
       pieces_of f ≡ Use name ∷ pieces_from keep 0 behind.now → Stands level vars f t → Splits f behind keep name k t

@@ -66,11 +66,7 @@ module _ (of : ℕ → Outcome) (up : (d e : ℕ) → d ≤ e → Below (of d) (
       by (inr is) = is
 
   one_outcome : (d e : ℕ) → of d ≢ Deeper → of e ≢ Deeper → of d ≡ of e
-  one_outcome d e a b = by (cases_lt d e)
-    where
-      by : (suc d ≤ e) ⊎ (e ≤ d) → of d ≡ of e
-      by (inl lt) = same d e (omega arith) a
-      by (inr le) = sym (same e d le b)
+  one_outcome d e a b = grind (arith, cases_lt, same)
 
   one_texts : (d e m n : ℕ) (ts us : List (List ℕ)) → of d ≡ Texts m ts → of e ≡ Texts n us → Texts m ts ≡ Texts n us
   one_texts d e m n ts us a b = sym a ∙ one_outcome d e (λ z. absurd (cc (sym a ∙ z))) (λ z. absurd (cc (sym b ∙ z))) ∙ b
@@ -111,10 +107,8 @@ module _ (vars : List Variable) (raw : List ℕ) where
   answers : {r : Result (List (List Token)) PolicyKind} → Expands vars raw r → Answers r
   answers (in_walk d fault e) = inl (d, (λ z. absurd (cc (sym e ∙ z))), sym (ap answer e))
   answers (in_circle all) = inr (all, refl)
-  answers (too_many d most ts e many) =
-      inl (d, (λ z. absurd (cc (sym e ∙ z))), sym (ap answer e ∙ ap (λ b. cond b (Err TooManyExpansions) (expansions ts)) (lt-ltb 1024 (max most (length ts)) many)))
-  answers (as_texts d most ts e few) =
-      inl (d, (λ z. absurd (cc (sym e ∙ z))), sym (ap answer e ∙ ap (λ b. cond b (Err TooManyExpansions) (expansions ts)) (le-ltb 1024 (max most (length ts)) few)))
+  answers (too_many d most ts e many) = grind (arith, lt-ltb)
+  answers (as_texts d most ts e few) = grind (arith, le-ltb)
 
   one_answer : (r s : Result (List (List Token)) PolicyKind) → Answers r → Answers s → r ≡ s
   one_answer r s (inl x) (inl y) = x.2 ∙ ap answer (one_outcome at (pieces_up vars (pieces raw)) x.0 y.0 x.1 y.1) ∙ sym y.2

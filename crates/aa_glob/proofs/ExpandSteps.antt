@@ -62,9 +62,7 @@ expansions_step ts i h = at_drop_more expansions ts i [] h
 
 pub read_more : (ts : List (List ℕ)) (i : ℕ) (ps new : List (List Token)) (p : List Token) → i < length ts → expansion (get_or ts i []) ≡ Ok p → new ≡ ps ++ p ∷ [] →
     behind_read ps (expansions (drop i ts)) ≡ expansions ts → behind_read new (expansions (drop (i + 1) ts)) ≡ expansions ts
-read_more ts i ps new p h e pushed so_far =
-    ap (λ r. behind_read r (expansions (drop (i + 1) ts))) pushed ∙ sym (behind_more ps p (expansions (drop (i + 1) ts)))
-    ∙ ap (behind_read ps) (sym (expansions_step ts i h ∙ ap (λ r. and_more r (expansions (drop (i + 1) ts))) e)) ∙ so_far
+read_more ts i ps new p h e pushed so_far = grind (arith, behind_more, expansions_step)
 
 pub read_refused : (ts : List (List ℕ)) (i : ℕ) (ps : List (List Token)) (fault : PolicyKind) → i < length ts → expansion (get_or ts i []) ≡ Err fault →
     behind_read ps (expansions (drop i ts)) ≡ expansions ts → expansions ts ≡ Err fault
@@ -80,8 +78,7 @@ read_start ts (Err e) = refl
 
 pub stands_start : (depth : ℕ) (vars : List Variable) (f : Rest) (most : ℕ) (ts : List (List ℕ)) → joined (outcome depth vars) (pieces_of f) ≡ Texts most ts → most ≤ 1024 → length ts ≡ f.count → f.number < f.count →
     Stands depth vars f (text_at depth vars f)
-stands_start depth vars f most ts e few count within =
-    record { most = most; ts = ts; texts = e; few = few; count = count; within = within; is = sym (ap (λ x. text_of x f.number) e) }
+stands_start depth vars f most ts e few count within = grind (arith)
 
 -- the whole
 pub fault_expands : (vars : List Variable) (raw : List ℕ) (e : PolicyKind) → IsWalkFault vars raw e → Expands vars raw (Err e)

@@ -28,8 +28,7 @@ pub part_plain : (kept : Bool) (b : ℕ) (s : List ℕ) (keep : Bool) → (not k
     pieces_from kept 0 (b ∷ s) ≡ Plain b ∷ pieces_from keep 0 s
 unfolding pieces_from
 part_plain true b s keep e k = ap (λ c. Plain b ∷ pieces_from c 0 s) (sym k)
-part_plain false b s keep e k =
-    ap (λ c. cond c (behind_name (name_at (drop 1 s)) (λ n. pieces_from false n s)) (Plain b ∷ pieces_from (b == 92) 0 s)) e ∙ ap (λ c. Plain b ∷ pieces_from c 0 s) (sym k)
+part_plain false b s keep e k = grind (arith)
 
 -- what a name would be comes first
 pub part_named : (kept : Bool) (b : ℕ) (s : List ℕ) (rest : List Piece) → (not kept && (b == 64) && begins_with 123 s) ≡ true → behind_name (name_at (drop 1 s)) (λ n. pieces_from false n s) ≡ rest →

@@ -14,13 +14,7 @@ use Rattle.aa_glob.proofs.Ways.{no_pieces}
 use Rattle.aa_glob.proofs.Builds.{Splits, stands_plain, stands_use}
 
 no_text : (level : ℕ) (vars : List Variable) (top : Rest) (t : List ℕ) → pieces_of top ≡ [] → Stands level vars top t → t ≡ []
-no_text level vars top t none s =
-    let e : Texts 0 ([] ∷ []) ≡ Texts s.most s.ts = sym (no_pieces (outcome level vars) (pieces_of top) none) ∙ s.texts in
-    let h : ([] ∷ []) ≡ s.ts = cc e in sym s.is ∙ ap (λ (xs : List (List ℕ)). get_or xs top.number []) (sym h) ∙ one top.number
-  where
-    one : (n : ℕ) → get_or {A = List ℕ} ([] ∷ []) n [] ≡ []
-    one zero = refl
-    one (suc n) = refl
+no_text level vars top t none s = grind (arith, no_pieces)
 
 -- a variable goes one deeper than its values
 goes_deeper : (level : ℕ) (vars : List Variable) (name : List ℕ) (most : ℕ) (ts : List (List ℕ)) → outcome level vars name ≡ Texts most ts → (l : ℕ) × (level ≡ suc l)
@@ -44,20 +38,11 @@ steps_among of texts text c = at texts c.0 c.1 c.2
     at (t ∷ ts) (suc k) h e = omega (arith, at ts k (omega arith) e)
 
 pub steps_next : (level : ℕ) (vars : List Variable) (f : Rest) (p : Piece) (ps : List Piece) → pieces_of f ≡ p ∷ ps → steps (steps_of_variable level vars) ps < steps_of_rest level vars f
-steps_next level vars f p ps e = by p (ap (steps (steps_of_variable level vars)) e)
-  where
-    by : (p : Piece) → steps_of_rest level vars f ≡ steps (steps_of_variable level vars) (p ∷ ps) → steps (steps_of_variable level vars) ps < steps_of_rest level vars f
-    by (Plain b) h = omega (arith, h)
-    by (Use name) h = omega (arith, h)
-    by Broken h = omega (arith, h)
+steps_next level vars f p ps e = grind (arith)
 
 pub steps_back : (depth : ℕ) (vars : List Variable) (stack below_stack : List Rest) (below top : Rest) → stack ≡ below_stack ++ below ∷ [] → length stack ≤ depth →
     steps_left (depth - length below_stack) vars below_stack below < steps_left (depth - length stack) vars stack top
-steps_back depth vars stack below_stack below top popped fits =
-    let level : depth - length below_stack ≡ suc (depth - length stack) = omega (arith, pushed_long below_stack stack below popped, fits) in
-    let stacked : steps_of_stack (depth - length stack) vars (reverse stack) ≡ suc (steps_left (suc (depth - length stack)) vars below_stack below) =
-    ap (steps_of_stack (depth - length stack) vars) (pushed_up below_stack stack below popped) in
-    omega (arith, ap (λ d. steps_left d vars below_stack below) level, stacked)
+steps_back depth vars stack below_stack below top popped fits = grind (arith, pushed_up, pushed_long)
 
 -- what a variable's values are, a level below it
 pub record Opens (level : ℕ) (vars : List Variable) (values ts : List (List ℕ)) (q : ℕ) : Type 0 where
@@ -67,16 +52,7 @@ pub record Opens (level : ℕ) (vars : List Variable) (values ts : List (List �
 
 pub build_start : {depth : ℕ} {vars : List Variable} {text : List ℕ} {stack : List Rest} {top : Rest} {t : List ℕ} (done : Table) → text ≡ [] → stack ≡ [] → AreKnown done (pieces_of top) → Stands depth vars top t →
     IsBuilding depth vars done text stack top t
-build_start {depth} {vars} {text} {stack} {top} {t} done e g known s = record {
-  level = depth;
-  deep = omega (arith, ap length g);
-  now = t;
-  later = [];
-  stands = s;
-  known = known;
-  waits = subst (λ st. Waits done depth vars (reverse st) []) (sym g) refl;
-  is = sym (append-nil t) ∙ ap (λ x. x ++ (t ++ [])) (sym e);
-}
+build_start {depth} {vars} {text} {stack} {top} {t} done e g known s = grind (arith, append-nil)
 
 module _ {depth : ℕ} {vars : List Variable} {done : Table} {text : List ℕ} {stack : List Rest} {top : Rest} {t : List ℕ} (w : IsBuilding depth vars done text stack top t) where
   pub build_end : pieces_of top ≡ [] → stack ≡ [] → IsBuilt text t

@@ -25,19 +25,10 @@ length_product (t ∷ ts) us = length-append (map (λ u. t ++ u) us) (product ts
 -- products that are counted up to 1,025
 capped : (x y : ℕ) → min 1025 (min 1025 x * y) ≡ min 1025 (x * y)
 capped x zero = omega arith
-capped x (suc y) = by (cases_lt x 1025)
-  where
-    by : (suc x ≤ 1025) ⊎ (1025 ≤ x) → min 1025 (min 1025 x * suc y) ≡ min 1025 (x * suc y)
-    by (inl lt) = let e : min 1025 x ≡ x = omega arith in ap (λ n. min 1025 (n * suc y)) e
-    by (inr ge) =
-        let e : min 1025 x ≡ 1025 = omega arith in
-        let a : 1025 ≤ x * suc y = grind arith in
-        let b : min 1025 (1025 * suc y) ≡ min 1025 (x * suc y) = omega arith in ap (λ n. min 1025 (n * suc y)) e ∙ b
+capped x (suc y) = grind (arith, cases_lt)
 
 capped_right : (x y : ℕ) → min 1025 (x * min 1025 y) ≡ min 1025 (x * y)
-capped_right x y =
-    let a : x * min 1025 y ≡ min 1025 y * x = grind arith in
-    let b : y * x ≡ x * y = grind arith in ap (min 1025) a ∙ capped y x ∙ ap (min 1025) b
+capped_right x y = grind (arith, capped)
 
 -- texts that are all empty
 empty_each : (t : List ℕ) (us : List (List ℕ)) → t ≡ [] → All IsEmptyText us → All IsEmptyText (map (λ u. t ++ u) us)
@@ -57,11 +48,7 @@ empty_product (t ∷ ts) us a b =
 -- the summary of what two lists of texts make
 or_true : (a b : Bool) → IsTrue (a || b) ↔ (IsTrue a ⊎ IsTrue b)
 or_true true b = (λ t. inl refl, λ s. refl)
-or_true false b = (λ t. inr t, λ s. right s)
-  where
-    right : IsTrue false ⊎ IsTrue b → IsTrue b
-    right (inl x) = absurd (true≢false (sym x))
-    right (inr y) = y
+or_true false b = grind (arith)
 
 and_true : (a b : Bool) → IsTrue (a && b) → IsTrue a × IsTrue b
 and_true true b t = (refl, t)
@@ -69,25 +56,10 @@ and_true false b t = absurd (true≢false (sym t))
 
 joined_sums : (s r : Summary) (k m n : ℕ) (ts us vs : List (List ℕ)) → Sums s m ts → Sums r n us → k ≡ min 1025 (length vs) → (All IsEmptyText ts → All IsEmptyText us → All IsEmptyText vs) →
     Sums (record { count = k; many = s.many || r.many; blank = s.blank && r.blank }) (max m n) vs
-joined_sums s r k m n ts us vs a b count empty = record {
-  count = count;
-  many = (λ t. there ((or_true s.many r.many).0 t), λ h. (or_true s.many r.many).1 (back h (cases_lt 1024 m)));
-  blank = λ t. let p = and_true s.blank r.blank t in empty (a.blank p.0) (b.blank p.1);
-}
-  where
-    there : IsTrue s.many ⊎ IsTrue r.many → 1024 < max m n
-    there (inl t) = let z = a.many.0 t in omega arith
-    there (inr t) = let z = b.many.0 t in omega arith
-
-    back : 1024 < max m n → (1025 ≤ m) ⊎ (m ≤ 1024) → IsTrue s.many ⊎ IsTrue r.many
-    back h (inl lt) = inl (a.many.1 lt)
-    back h (inr le) = inr (b.many.1 (omega arith))
+joined_sums s r k m n ts us vs a b count empty = grind (arith, cases_lt, or_true, and_true)
 
 pub times_sums : (s r : Summary) (m n : ℕ) (ts us : List (List ℕ)) → Sums s m ts → Sums r n us → Sums (times s r) (max m n) (product ts us)
-times_sums s r m n ts us a b = joined_sums s r _ m n ts us _ a b
-    (ap (λ k. min 1025 (k * r.count)) a.count ∙ capped (length ts) r.count ∙ ap (λ k. min 1025 (length ts * k)) b.count ∙ capped_right (length ts) (length us)
-    ∙ ap (min 1025) (sym (length_product ts us)))
-    (empty_product ts us)
+times_sums s r m n ts us a b = grind (arith, length_product, capped, capped_right, empty_product, joined_sums)
 
 pub plus_sums : (s r : Summary) (m n : ℕ) (ts us : List (List ℕ)) → Sums s m ts → Sums r n us → Sums (plus s r) (max m n) (ts ++ us)
 plus_sums s r m n ts us a b = joined_sums s r _ m n ts us _ a b (omega (arith, a.count, b.count, length-append ts us)) (empty_append ts us)
@@ -100,9 +72,7 @@ and_assoc true b c = refl
 and_assoc false b c = refl
 
 times_assoc : (s a r : Summary) → times (times s a) r ≡ times s (times a r)
-times_assoc s a r =
-    let e : s.count * a.count * r.count ≡ s.count * (a.count * r.count) = grind arith in
-    same_summary _ _ _ _ _ _ (capped (s.count * a.count) r.count ∙ ap (min 1025) e ∙ sym (capped_right s.count (a.count * r.count))) (or_assoc s.many a.many r.many) (and_assoc s.blank a.blank r.blank)
+times_assoc s a r = grind (arith, or_assoc, capped, capped_right, same_summary, and_assoc)
 
 plus_assoc : (s a r : Summary) → plus (plus s a) r ≡ plus s (plus a r)
 plus_assoc s a r = same_summary _ _ _ _ _ _ (omega arith) (or_assoc s.many a.many r.many) (and_assoc s.blank a.blank r.blank)
@@ -142,17 +112,11 @@ module _ (depth : ℕ) (vars : List Variable) where
 
   -- a byte alone
   pub byte_alone : (b : ℕ) → Settled (Texts 0 ((b ∷ []) ∷ [])) (record { count = 1; many = false; blank = false })
-  byte_alone b = record {
-    most = 0;
-    ts = (b ∷ []) ∷ [];
-    is = refl;
-    sums = record { count = refl; many = none_many refl; blank = λ t. absurd (true≢false (sym t)) };
-  }
+  byte_alone b = grind (arith, none_many)
 
   -- the parts of a text
   pub text_start : (whole : Outcome) → GoesOn times whole whole (record { count = 1; many = false; blank = true })
-  text_start whole = λ r k. let e : min 1025 (1 * r.count) ≡ r.count = omega (arith, k.sums.count) in
-      subst (Settled whole) (sym (same_summary _ _ r.many _ r.blank _ e refl refl)) k
+  text_start whole = grind (arith, same_summary)
 
   pub text_more : (whole : Outcome) (p : Piece) (ps all : List Piece) (s a : Summary) → all ≡ p ∷ ps → Settled (alone of p) a → GoesOn times whole (joined of all) s → GoesOn times whole (joined of ps) (times s a)
   unfolding joined
@@ -171,8 +135,7 @@ module _ (depth : ℕ) (vars : List Variable) where
 
   -- the values of a variable
   pub values_start : (whole : Outcome) → GoesOn plus whole whole (record { count = 0; many = false; blank = true })
-  values_start whole = λ r k. let e : min 1025 (0 + r.count) ≡ r.count = omega (arith, k.sums.count) in
-      subst (Settled whole) (sym (same_summary _ _ r.many _ r.blank _ e refl refl)) k
+  values_start whole = grind (arith, same_summary)
 
   pub values_more : (whole : Outcome) (v : List ℕ) (vs all : List (List ℕ)) (s a : Summary) → all ≡ v ∷ vs → Settled (outcome_of depth vars v) a → GoesOn plus whole (in_turn of all) s → GoesOn plus whole (in_turn of vs) (plus s a)
   unfolding in_turn
@@ -192,12 +155,7 @@ module _ (depth : ℕ) (vars : List Variable) where
   -- where the texts of one value more end
   pub ends_more : (values : List (List ℕ)) (front new : List ℕ) (v : List ℕ) (vs all : List (List ℕ)) (s a : Summary) → s.count ≤ 1025 → all ≡ v ∷ vs → new ≡ front ++ (plus s a).count ∷ [] → Settled (outcome_of depth vars v) a →
       ((es : List ℕ) → AreEnds vars s.count all es → AreEnds vars 0 values (front ++ es)) → (es : List ℕ) → AreEnds vars (plus s a).count vs es → AreEnds vars 0 values (new ++ es)
-  ends_more values front new v vs all s a small e pushed one earlier = λ es h.
-      subst (AreEnds vars 0 values) (sym (ap (λ x. x ++ es) pushed ∙ append_assoc front ((plus s a).count ∷ []) es))
-      (earlier ((plus s a).count ∷ es) (subst (λ l. AreEnds vars s.count l ((plus s a).count ∷ es)) (sym e) (omega (arith, small), (λ d m ts is. one_end d m ts is), h)))
-    where
-      one_end : (d m : ℕ) (ts : List (List ℕ)) → outcome_of d vars v ≡ Texts m ts → min 1025 (s.count + a.count) ≡ min 1025 (s.count + length ts)
-      one_end d m ts is = omega (arith, one.sums.count, ap length (same_texts vars (pieces v) depth d one.most m one.ts ts one.is is))
+  ends_more values front new v vs all s a small e pushed one earlier = grind (arith, append_assoc, same_texts)
 
   -- a variable is one deeper than its values
   pub variable_is : (name : List ℕ) (values : List (List ℕ)) → is_reserved name ≡ false → values_of vars name ≡ Some values → outcome (suc depth) vars name ≡ counted (in_turn of values)

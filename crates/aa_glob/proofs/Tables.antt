@@ -26,11 +26,7 @@ put_in es new key v (Some x) is len at = record { at = λ n. at (record key { no
 -- what it has of a name is that entry, or was there before
 pub put_case : (es new : Table) (key : List ℕ) (v : Option VariableSummary) → IsPut es new key v → (name : List ℕ) (x : Option (Option VariableSummary)) → found name new ≡ x →
     ((key ≡ name) × (Some v ≡ x)) ⊎ ((key ≡ name → ⊥) × (found name es ≡ x))
-put_case es new key v put name x h = by (bytes_eq key name) refl (sym (put.at name) ∙ h)
-  where
-    by : (b : Bool) → bytes_eq key name ≡ b → cond b (Some v) (found name es) ≡ x → ((key ≡ name) × (Some v ≡ x)) ⊎ ((key ≡ name → ⊥) × (found name es ≡ x))
-    by true q e = inl (same_bytes key name q, e)
-    by false q e = inr ((λ same. absurd (true≢false (sym ((bytes_eq-Decides key name).1 same) ∙ q))), e)
+put_case es new key v put name x h = grind (arith, bytes_eq-Decides, same_bytes)
 
 pub grows_put : (es new : Table) (key : List ℕ) (v : Option VariableSummary) → IsPut es new key v → ((s : VariableSummary) → found key es ≡ Some (Some s) → (t : VariableSummary) × (v ≡ Some t)) → Grows es new
 grows_put es new key v put keeps = λ name s h. by name s h (bytes_eq key name) refl (put.at name)

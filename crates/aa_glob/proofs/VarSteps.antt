@@ -41,11 +41,7 @@ more_at : (name : List ℕ) (more : List (List ℕ)) (es : List Entry) (i : ℕ)
     map variable (set_value_at es i w) ≡ with_more name more (map variable es)
 unfolding with_more
 more_at name more [] i d old w here before at is = absurd (cc at)
-more_at name more (e ∷ es) zero d old w here before at is =
-    let same : e.1 ≡ old = cc at in
-    let values : map (λ v. v.items) w.items ≡ map (λ v. v.items) e.1.items ++ more = is ∙ ap (λ (o : Vec (Vec ℕ Global) Global). map (λ v. v.items) o.items ++ more) (sym same) in
-    ap (λ vs. record { name = e.0.items; values = vs } ∷ map variable es) values
-    ∙ sym (ap (λ b. cond b (record { name = e.0.items; values = map (λ v. v.items) e.1.items ++ more } ∷ map variable es) (variable e ∷ with_more name more (map variable es))) here)
+more_at name more (e ∷ es) zero d old w here before at is = grind (arith)
 more_at name more (e ∷ es) (suc i) d old w here before at is =
     ap (λ vs. variable e ∷ vs) (more_at name more es i d old w here (λ k h. before (suc k) (omega arith)) at is)
     ∙ sym (ap (λ b. cond b (record { name = e.0.items; values = map (λ v. v.items) e.1.items ++ more } ∷ map variable es) (variable e ∷ with_more name more (map variable es))) (before 0 (omega arith)))
@@ -54,9 +50,7 @@ more_at name more (e ∷ es) (suc i) d old w here before at is =
 pub same_values : (es : List Entry) (i : ℕ) (old w : Vec (Vec ℕ Global) Global) → slice_get (map (λ (e : Entry). e.1) es) i ≡ Some old → w.items ≡ old.items →
     map variable (set_value_at es i w) ≡ map variable es
 same_values [] i old w at is = absurd (cc at)
-same_values (e ∷ es) zero old w at is =
-    let same : e.1 ≡ old = cc at in
-    ap (λ (vs : List (Vec ℕ Global)). record { name = e.0.items; values = map (λ v. v.items) vs } ∷ map variable es) (is ∙ ap (λ (o : Vec (Vec ℕ Global) Global). o.items) (sym same))
+same_values (e ∷ es) zero old w at is = grind (arith)
 same_values (e ∷ es) (suc i) old w at is = ap (λ vs. variable e ∷ vs) (same_values es i old w at is)
 
 -- more values at the first entry of that name

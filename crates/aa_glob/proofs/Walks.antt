@@ -153,11 +153,7 @@ module _ {vars : List Variable} {raw : List ℕ} {stack : List Step} {top : Step
 
 -- A walk ends: what was come to stays so.
 none_put : (done new : Table) (key : List ℕ) (v : Option VariableSummary) (name : List ℕ) → IsPut done new key v → found name new ≡ None → found name done ≡ None
-none_put done new key v name put none = by (put_case done new key v put name None none)
-  where
-    by : ((key ≡ name) × (Some v ≡ None)) ⊎ ((key ≡ name → ⊥) × (found name done ≡ None)) → found name done ≡ None
-    by (inl x) = absurd (cc x.1)
-    by (inr x) = x.1
+none_put done new key v name put none = grind (arith, put_case)
 
 unless_less : (o o' : Option (Option VariableSummary)) (n : ℕ) → (o' ≡ None → o ≡ None) → unless_found o' n ≤ unless_found o n
 unless_less None None n h = omega arith

@@ -36,10 +36,7 @@ bad_within m ts X b = refl
 
 -- where the one is bad, so is the other
 passes_same : (a b whole : ℕ → Outcome) → ((d : ℕ) → IsBad (a d) → b d ≡ a d) → Passes b whole → Passes a whole
-passes_same a b whole same p = record {
-  stops = λ e f. p.stops e (record { from = f.from; stops = λ d h. same d (stops_bad (a d) e (f.stops d h)) ∙ f.stops d h });
-  deeper = λ d h. p.deeper d (same d (deeper_bad (a d) h) ∙ h);
-}
+passes_same a b whole same p = grind (arith, stops_bad, deeper_bad)
 
 pub no_pieces : (of : List ℕ → Outcome) (all : List Piece) → all ≡ [] → joined of all ≡ Texts 0 ([] ∷ [])
 unfolding joined
@@ -103,39 +100,15 @@ module _ (vars : List Variable) where
   -- the next value
   pub part_value : (done : Table) (texts : List (List ℕ)) (f : Step) (text : Bor (List ℕ)) (others : Bor (List (Vec ℕ Global))) (v : Vec ℕ Global) → pieces_left f ≡ [] → f.later.now ≡ v ∷ others.now →
       text.now ≡ v.items → IsPart vars done texts f → IsPart vars done texts (record f { rest = text; kept = false; later = others })
-  part_value done texts f text others v none later is part = record {
-    passes = passes_same _ _ _ (λ d b. end_is f d none ∙ ap (and_then (Texts 0 ([] ∷ []))) (all d) ∙ bad_after 0 ([] ∷ []) _ b) part.passes;
-    reads = λ k l. part.reads (subst (AreKnown done) (sym none) tt) (subst (λ (x : List (Vec ℕ Global)). AreTextsKnown done (items_of x)) (sym later) (subst (λ t. AreKnown done (pieces t)) is k, l));
-  }
-    where
-      all : (d : ℕ) → values_at f.later.now d ≡ rest_of vars (record f { rest = text; kept = false; later = others }) d
-      all d = ap (λ (x : List (Vec ℕ Global)). values_at x d) later ∙ one_value (outcome d vars) v.items (items_of others.now) ∙ ap (λ t. and_then (joined (outcome d vars) (pieces t)) (values_at others.now d)) (sym is)
+  part_value done texts f text others v none later is part = grind (arith, bad_after, passes_same, one_value, end_is)
 
   -- a variable before its first value
   pub part_variable : (done : Table) (g : Step) → g.rest.now ≡ [] → g.later.now ≡ g.all.now → IsPart vars done (items_of g.all.now) g
-  part_variable done g none all = record {
-    passes = passes_same _ (values_at g.all.now) _ (λ d b. by d b) (record { stops = λ e f. f; deeper = λ d h. h });
-    reads = λ k l. subst (λ (x : List (Vec ℕ Global)). AreTextsKnown done (items_of x)) all l;
-  }
-    where
-      is : (d : ℕ) → rest_of vars g d ≡ and_then (Texts 0 ([] ∷ [])) (values_at g.all.now d)
-      is d = end_is g d (ap (pieces_from g.kept 0) none ∙ no_rest g.kept) ∙ ap (λ (x : List (Vec ℕ Global)). and_then (Texts 0 ([] ∷ [])) (values_at x d)) all
-
-      by : (d : ℕ) → IsBad (rest_of vars g d) → values_at g.all.now d ≡ rest_of vars g d
-      by d b = sym (is d ∙ bad_within 0 ([] ∷ []) (values_at g.all.now d) (subst IsBad (is d) b))
+  part_variable done g none all = grind (arith, bad_within, passes_same, no_rest, end_is)
 
   -- the raw text
   pub part_raw : (done : Table) (f : Step) (raw : List ℕ) → f.kept ≡ false → f.rest.now ≡ raw → f.later.now ≡ [] → IsPart vars done (raw ∷ []) f
-  part_raw done f raw kept text none = record {
-    passes = passes_same _ _ _ (λ d b. is d) (record { stops = λ e f. f; deeper = λ d h. h });
-    reads = λ k l. (subst (AreKnown done) left k, tt);
-  }
-    where
-      left : pieces_left f ≡ pieces raw
-      left = ap (λ b. pieces_from b 0 f.rest.now) kept ∙ ap pieces text
-
-      is : (d : ℕ) → in_turn (outcome d vars) (raw ∷ []) ≡ rest_of vars f d
-      is d = one_value (outcome d vars) raw [] ∙ sym (ap (λ ps. and_then (joined (outcome d vars) ps) (values_at f.later.now d)) left ∙ ap (λ (x : List (Vec ℕ Global)). and_then (outcome_of d vars raw) (values_at x d)) none)
+  part_raw done f raw kept text none = grind (arith, passes_same, one_value)
 
   pub part_end : (done : Table) (texts : List (List ℕ)) (f : Step) → pieces_left f ≡ [] → f.later.now ≡ [] → IsPart vars done texts f → AreTextsKnown done texts
   part_end done texts f none last part = part.reads (subst (AreKnown done) (sym none) tt) (subst (λ (x : List (Vec ℕ Global)). AreTextsKnown done (items_of x)) (sym last) tt)
@@ -145,16 +118,10 @@ module _ (vars : List Variable) where
   next_stops f p behind e from is stops = record { from = from; stops = λ d h. next_is f p behind d is ∙ ap (λ x. and_then (followed x (joined (outcome d vars) behind)) (values_at f.later.now d)) (stops d h) }
 
   raw_bad : (raw : List ℕ) (d : ℕ) (x : Outcome) → IsBad x → in_turn (outcome d vars) (raw ∷ []) ≡ x → outcome_of d vars raw ≡ x
-  raw_bad raw d x b h = by (outcome_of d vars raw) (sym (value_alone (outcome d vars) raw) ∙ h)
-    where
-      by : (y : Outcome) → and_then y (Texts 0 []) ≡ x → y ≡ x
-      by (Texts m ts) e = absurd (subst IsBad (sym e) b)
-      by (Stops fault) e = e
-      by Deeper e = e
+  raw_bad raw d x b h = grind (arith, value_alone)
 
   pub way_stops : (done : Table) (raw : List ℕ) (e : PolicyKind) (g : Step) (fs : List Step) → OnWay vars done raw g fs → Faults (rest_of vars g) e → Faults (λ d. outcome_of d vars raw) e
-  way_stops done raw e g [] w fault =
-      let whole = w.passes.stops e fault in record { from = whole.from; stops = λ d h. raw_bad raw d (Stops e) tt (whole.stops d h) }
+  way_stops done raw e g [] w fault = grind (arith, raw_bad)
   way_stops done raw e g (f ∷ fs) w fault =
       let whole = w.0.passes.stops e fault in way_stops done raw e f fs w.2 (next_stops f (Use g.name.now) w.1.behind e (whole.from + 1) w.1.next (at whole))
     where
