@@ -1,16 +1,15 @@
 -- The texts that are built from their numbers, one part on.
-use Rattle.std.proofs.Common.{◌≡◌, ℕ, zero, suc, ◌+◌, ◌*◌, ◌-◌, ◌/◌, ◌%◌, ◌<◌, ◌≤◌, ◌⊎◌, max, Bool, true, false, cond, List, [], ◌∷◌, ◌++◌, map, get_or, length, All, IsTrue, Option, Some, None, Bor, refl, sym, ap, ◌∙◌, subst, inl, inr, arith, length-append}
+use Rattle.std.proofs.Common.{◌≡◌, ℕ, zero, suc, ◌+◌, ◌*◌, ◌-◌, ◌/◌, ◌%◌, ◌<◌, ◌≤◌, max, Bool, false, List, [], ◌∷◌, ◌++◌, map, get_or, length, All, IsTrue, Bor, refl, sym, ap, ◌∙◌, subst, arith, length-append}
 use Rattle.std.proofs.lemmas.Bool.{cases_lt}
 use Rattle.std.proofs.Math.Nat.{mul-div_cancel_left}
 use Rattle.std.proofs.lemmas.Nat.{div-add-mod'}
 use Rattle.std.proofs.lemmas.List.{get_or_append_left, get_or-append-add}
 use Rattle.std.proofs.lemmas.List.Elements.{All-head, All-tail}
-use Rattle.aa_faults.specs.declared.fault.PolicyKind.TheVariants.{Unsupported}
 use Rattle.aa_glob.specs.declared.summary.VariableSummary.{VariableSummary}
 use Rattle.aa_glob.specs.declared.building.Rest.{Rest}
-use Rattle.aa_glob.specs.Variables.{Variable, values_of}
+use Rattle.aa_glob.specs.Variables.{Variable}
 use Rattle.aa_glob.specs.Pieces.{Piece, Plain, Use, pieces_from}
-use Rattle.aa_glob.specs.Expansions.{Outcome, Texts, Stops, Deeper, alone, joined, in_turn, outcome, outcome_of, counted, of_values, is_reserved}
+use Rattle.aa_glob.specs.Expansions.{Outcome, Texts, alone, joined, in_turn, outcome, outcome_of}
 use Rattle.aa_glob.specs.Settled.{IsEmptyText, AreEnds, before}
 use Rattle.aa_glob.specs.Known.{Table, IsRight}
 use Rattle.aa_glob.specs.Built.{HasTexts, Stands, pieces_of}

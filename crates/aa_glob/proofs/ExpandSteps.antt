@@ -12,7 +12,7 @@ use Rattle.aa_reader.specs.Reading.{tokens, Gives}
 use Rattle.aa_glob.specs.Expansions.{Texts, outcome_of, squeezed, pattern_text, expansion, of_path, expansions, and_more, Expands, in_walk, in_circle, too_many, as_texts, joined, outcome}
 use Rattle.aa_glob.specs.Settled.{Settled}
 use Rattle.aa_glob.specs.Ways.{IsWalkFault}
-use Rattle.aa_glob.specs.Built.{IsBuilt, Stands, pieces_of, text_of, text_at}
+use Rattle.aa_glob.specs.Built.{IsBuilt, Stands, pieces_of, text_at}
 
 pub squeezed_step : (after : Bool) (s : List ℕ) (i d : ℕ) → i < length s →
     squeezed after (drop i s) ≡ cond (after && (get_or s i d == 47)) (squeezed true (drop (i + 1) s)) (get_or s i d ∷ squeezed (get_or s i d == 47) (drop (i + 1) s))

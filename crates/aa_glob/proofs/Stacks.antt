@@ -5,7 +5,7 @@ use Rattle.aa_faults.specs.declared.fault.PolicyKind.{PolicyKind}
 use Rattle.aa_glob.specs.declared.summary.VariableSummary.{VariableSummary}
 use Rattle.aa_glob.specs.declared.building.Rest.{Rest}
 use Rattle.aa_glob.specs.Variables.{Variable, values_of}
-use Rattle.aa_glob.specs.Pieces.{Piece, Plain, Use, Broken, pieces, pieces_from}
+use Rattle.aa_glob.specs.Pieces.{Piece, Plain, Use, pieces, pieces_from}
 use Rattle.aa_glob.specs.Expansions.{Outcome, Texts, Stops, Deeper, in_turn, outcome, counted, is_reserved}
 use Rattle.aa_glob.specs.Known.{Table, AreKnown, IsRight}
 use Rattle.aa_glob.specs.Built.{HasTexts, IsBuilt, Stands, Waits, IsBuilding, pieces_of, steps, steps_of_texts, steps_of_values, steps_of_variable, steps_of_rest, steps_of_stack, steps_left}

@@ -1,4 +1,5 @@
 -- Summaries, one part and one value on.
+use Rattle.std.proofs.lemmas.Grind.{common_steps}
 use Rattle.std.proofs.Common.{◌≡◌, ℕ, zero, suc, ◌+◌, ◌*◌, ◌<◌, ◌≤◌, ◌↔◌, ◌⊎◌, min, max, Bool, true, false, ◌||◌, ◌&&◌, cond, List, [], ◌∷◌, ◌++◌, map, flat_map, length, All, IsTrue, Some, None, refl, sym, ap, ◌∙◌, subst, inl, inr, arith, append_assoc, length-append, true≢false}
 use Rattle.std.proofs.Math.Bool.{or_assoc}
 use Rattle.std.proofs.lemmas.Bool.{cases_lt}
@@ -6,7 +7,7 @@ use Rattle.std.proofs.lemmas.List.Elements.{All-nil, All-cons, All-head, All-tai
 use Rattle.aa_faults.specs.declared.fault.PolicyKind.TheVariants.{Unsupported, UndefinedVariable}
 use Rattle.aa_glob.specs.declared.summary.Summary.{Summary}
 use Rattle.aa_glob.specs.Variables.{Variable, values_of}
-use Rattle.aa_glob.specs.Pieces.{Piece, pieces}
+use Rattle.aa_glob.specs.Pieces.{Piece}
 use Rattle.aa_glob.specs.Expansions.{Outcome, Texts, Stops, alone, joined, in_turn, outcome, outcome_of, of_values, counted, is_reserved}
 use Rattle.aa_glob.specs.Settled.{Sums, Settled, IsEmptyText, times, plus, AreEnds}
 use Rattle.aa_glob.proofs.Depths.{joins, same_texts}
@@ -92,8 +93,7 @@ module _ (c : List (List ℕ) → List (List ℕ) → List (List ℕ)) (op : Sum
   }
 
   goes_more : (whole rest part next : Outcome) (s a : Summary) → rest ≡ joins c part next → Settled part a → GoesOn op whole rest s → GoesOn op whole next (op s a)
-  goes_more whole rest part next s a is one g = λ r k.
-      subst (Settled whole) (sym (assoc s a r)) (g (op a r) (subst (λ x. Settled x (op a r)) (sym is) (settled_joins part next a r one k)))
+  goes_more whole rest part next s a is one g = grind (arith, common_steps, settled_joins)
 
 or_none : (b : Bool) → (b || false) ≡ b
 or_none true = refl

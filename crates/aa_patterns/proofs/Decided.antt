@@ -1,14 +1,14 @@
 -- Deciding whether a text is matched.
 use Rattle.std.proofs.Common.{arith}
-use Rattle.std.proofs.Common.{◌≡◌, ◌≢◌, ℕ, List, [], ◌∷◌, ◌++◌, map, Bool, false, refl, sym, ap, subst, ◌∙◌, ◌⊎◌, inl, inr}
-use Rattle.std.specs.Prelude.{◌==◌, ◌&&◌, ◌||◌, nat_lt, not, ◌↔◌, IsTrue, slice_index_or}
+use Rattle.std.proofs.Common.{◌≡◌, ◌≢◌, ℕ, List, [], ◌∷◌, ◌++◌, map, Bool, refl, sym, ap, subst, ◌∙◌, ◌⊎◌, inl, inr}
+use Rattle.std.specs.Prelude.{◌==◌, ◌&&◌, ◌||◌, nat_lt, not, ◌↔◌, IsTrue}
 use Rattle.std.specs.Bool.{Decides}
 use Rattle.std.specs.List.{All, list_all, list_any}
 use Rattle.std.proofs.Math.Bool.{or-false}
 use Rattle.std.proofs.lemmas.Bool.Decides.{Decides-at, Decides-like, Decides-not, Decides-and, Decides-or, Decides-ltb, Decides-eqb, Decides-by_and}
 use Rattle.std.proofs.lemmas.List.Elements.{All-cons, All-head, All-tail}
 use Rattle.aa_items.specs.declared.item.Item.{Item, Byte, One, Run, RunOne, Deep, DeepOne, Class, Choice', Row_of-Item, end_of-Item, more_of-Item, Row_of-Item-Choice-0-1, end_of-Item-Choice-0-1, more_of-Item-Choice-0-1}
-use Rattle.aa_items.specs.Globs.{Allows, SomeAllows, AllAllow, Matches, IsNonzeroByte, IsNameByte, IsListed}
+use Rattle.aa_items.specs.Globs.{Allows, SomeAllows, AllAllow, Matches, IsNonzeroByte, IsNameByte}
 use Rattle.aa_patterns.specs.Matching.{cuts, is_nonzero_byte, is_name_byte, is_empty, is_one, begins_so, allows, some_allows, all_allow, is_match}
 
 -- a text is cut so that both parts have something

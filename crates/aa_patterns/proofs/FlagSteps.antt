@@ -1,11 +1,12 @@
 -- Flags, one item, one byte and one sequence on.
+use Rattle.std.proofs.lemmas.Grind.{common_steps}
 use Rattle.std.proofs.Common.{◌≡◌, ◌≢◌, ℕ, zero, suc, ◌+◌, ◌-◌, min, max, ◌<◌, ◌≤◌, ◌↔◌, ◌⊎◌, ◌||◌, Bool, true, false, List, [], ◌∷◌, ◌++◌, length, length-append, length-set, take, drop, set, get_or, replicate, IsTrue, Vec, Global, refl, sym, ap, ◌∙◌, subst, inl, inr, ⊎_elim, arith, append_assoc, get_or-set_other, get_or-set_same, true≢false}
 use Rattle.std.proofs.lemmas.Bool.{cases_lt, or_from}
 use Rattle.std.proofs.lemmas.List.{take-take, take_more, take_all, take_at, append-nil, length-take-le, take-append-drop}
 use Rattle.aa_items.specs.declared.item.Item.{Item, Byte, One, Class, Choice, Choice'}
 use Rattle.aa_items.specs.Globs.{Matches, Allows}
 use Rattle.aa_items.specs.Steps.{IsSimple, IsOneByte, IsSkippable, Begins, Continues}
-use Rattle.aa_patterns.specs.Flags.{Shows, AreUnset, AreWithin, Changes, Follows, FollowsSome, SomeEnds, Grows}
+use Rattle.aa_patterns.specs.Flags.{Shows, AreUnset, AreWithin, Changes, Follows, FollowsSome, Grows}
 use Rattle.aa_patterns.specs.Weights.{weight, weight_of_items, weight_of_lists}
 use Rattle.aa_patterns.proofs.Equivalences.{↔_trans, ↔_sym}
 use Rattle.aa_patterns.proofs.Texts.{Matches-append, Matches-push, Matches-grow, allows_part}
@@ -86,17 +87,7 @@ grows_same i b p q r = grind (arith)
 pub goes_at : (item : Item) (text : List ℕ) (old new : List Bool) (before here v : Bool) (i : ℕ) → IsSimple item → i < length text → length text < length new →
     here ≡ get_or new (i + 1) false → (IsTrue v ↔ Grows item (get_or text i 0) (IsTrue here) (IsTrue before) (IsTrue (get_or new i false))) →
     IsAt item text old new before i → IsAt item text old (set new (i + 1) v) here (i + 1)
-goes_at item text old new before here v i simple lt long e same at = record {
-  before_is = e ∙ at.later (i + 1) (omega arith);
-  later = λ j h. get_or-set_other new (i + 1) j v false (omega arith) ∙ at.later j (omega arith);
-  done = λ h shows.
-      let now : IsTrue here ↔ Matches h (take i text ++ get_or text i 0 ∷ []) =
-      subst (λ s. IsTrue here ↔ Matches h s) (take_more text i 0 lt) (subst (λ b. IsTrue b ↔ Matches h (take (i + 1) text)) (sym (e ∙ at.later (i + 1) (omega arith))) (shows.at (i + 1) (omega arith))) in
-      let was : IsTrue before ↔ Matches h (take i text) = subst (λ b. IsTrue b ↔ Matches h (take i text)) (sym at.before_is) (shows.at i (omega arith)) in
-      up_to (λ j b. IsTrue b ↔ Matches (h ++ item ∷ []) (take j text)) new (i + 1) v (omega arith) (λ j less. at.done h shows j (omega arith))
-      (subst (λ s. IsTrue v ↔ Matches (h ++ item ∷ []) s) (sym (take_more text i 0 lt))
-      (↔_trans same (↔_trans (grows_same item (get_or text i 0) now was (at.done h shows i (omega arith))) (↔_sym (Matches-grow h item (take i text) (get_or text i 0) simple)))));
-}
+goes_at item text old new before here v i simple lt long e same at = grind (arith, common_steps, get_or-set_other, take_more, ↔_trans, ↔_sym, Matches-grow, up_to, grows_same)
 
 pub follows_at : (item : Item) (text : List ℕ) (old new : List Bool) (before : Bool) (i : ℕ) → length text ≤ i → IsAt item text old new before i → Follows (item ∷ []) text old new
 follows_at item text old new before i le at = record { follow = λ h shows. record { at = λ k lk. at.done h shows k (omega arith) } }
@@ -106,16 +97,7 @@ module _ (item : Item) (text : List ℕ) (old new : List Bool) (before : Bool) (
   module _ (h : List Item) (shows : Shows old h text) where
     none_next : (j : ℕ) → i ≤ j → j < length text → (Matches (h ++ item ∷ []) (take j text) → Continues item (get_or text j 0) → ⊥) →
         Matches (h ++ item ∷ []) (take (j + 1) text) → ⊥
-    none_next j le lt goes m =
-        ⊎_elim
-        (λ (x : IsSkippable item × Matches h (take j text ++ get_or text j 0 ∷ [])).
-        true≢false (sym ((shows.at (j + 1) (omega arith)).1 (subst (Matches h) (sym (take_more text j 0 lt)) x.1)) ∙ none (j + 1) (omega arith)))
-        (λ (y : (Matches h (take j text) × Begins item (get_or text j 0)) ⊎ (Matches (h ++ item ∷ []) (take j text) × Continues item (get_or text j 0))).
-        ⊎_elim
-        (λ (x : Matches h (take j text) × Begins item (get_or text j 0)). true≢false (sym ((shows.at j (omega arith)).1 x.0) ∙ none j le))
-        (λ (x : Matches (h ++ item ∷ []) (take j text) × Continues item (get_or text j 0)). goes x.0 x.1)
-        y)
-        ((Matches-grow h item (take j text) (get_or text j 0) simple).0 (subst (Matches (h ++ item ∷ [])) (take_more text j 0 lt) m))
+    none_next j le lt goes m = grind (arith, common_steps, take_more, Matches-grow)
 
     none_later : (n j : ℕ) → j ≡ i + n → j < length text → Matches (h ++ item ∷ []) (take (j + 1) text) → ⊥
     none_later zero j e lt =

@@ -1,6 +1,6 @@
 -- Items of one byte at the front.
 use Rattle.std.proofs.Common.{arith}
-use Rattle.std.proofs.Common.{◌≡◌, ℕ, ◌+◌, ◌<◌, ◌↔◌, List, [], ◌∷◌, ◌++◌, length, drop, get_or, refl, sym, ap, ◌∙◌, subst}
+use Rattle.std.proofs.Common.{◌≡◌, ℕ, ◌+◌, ◌<◌, ◌↔◌, List, [], ◌∷◌, length, drop, get_or, refl, sym, ap, subst}
 use Rattle.std.proofs.lemmas.List.{drop_more}
 use Rattle.aa_items.specs.declared.item.Item.{Item, Byte, One, Class}
 use Rattle.aa_items.specs.Globs.{Allows, Matches, IsNonzeroByte}

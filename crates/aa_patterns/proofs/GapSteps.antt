@@ -1,5 +1,6 @@
 -- Flags over the gaps between items, one item and one byte on.
-use Rattle.std.proofs.Common.{◌≡◌, ℕ, ◌+◌, ◌<◌, ◌≤◌, ◌↔◌, Bool, false, List, [], ◌∷◌, ◌++◌, All, length, take, set, get_or, IsTrue, sym, ◌∙◌, subst, arith, get_or-set_other}
+use Rattle.std.proofs.lemmas.Grind.{common_steps}
+use Rattle.std.proofs.Common.{◌≡◌, ℕ, ◌+◌, ◌<◌, ◌≤◌, ◌↔◌, Bool, false, List, [], ◌∷◌, ◌++◌, All, length, take, set, get_or, IsTrue, arith, get_or-set_other}
 use Rattle.std.proofs.lemmas.List.{take_more}
 use Rattle.std.proofs.lemmas.List.Elements.{All-get_or}
 use Rattle.aa_items.specs.declared.item.Item.{Item}
@@ -15,12 +16,7 @@ pub begins_gap : (items : List Item) (gaps : List Bool) (i : ℕ) (d : Item) (v 
     (IsTrue v ↔ (IsTrue (get_or gaps i false) × IsSkippable (get_or items i d))) →
     ((g : ℕ) → g ≤ i → IsTrue (get_or gaps g false) ↔ Matches (take g items) []) →
     (g : ℕ) → g ≤ i + 1 → IsTrue (get_or (set gaps (i + 1) v) g false) ↔ Matches (take g items) []
-begins_gap items gaps i d v all lt long same done =
-    let here = done i (omega arith) in
-    let skip = Matches-skip (take i items) (get_or items i d) (All-get_or IsSimple items i d lt all) in
-    up_to (λ g b. IsTrue b ↔ Matches (take g items) []) gaps (i + 1) v long (λ g less. done g (omega arith))
-    (subst (λ xs. IsTrue v ↔ Matches xs []) (sym (take_more items i d lt))
-    (λ t. let p = same.0 t in skip.1 (p.1, here.0 p.0), λ m. let p = skip.0 m in same.1 (here.1 p.1, p.0)))
+begins_gap items gaps i d v all lt long same done = grind (arith, common_steps, take_more, All-get_or, Matches-skip, up_to)
 
 -- the flags up to the gap i are those behind the byte, the later ones still those before it
 pub record IsOnto (items : List Item) (byte : ℕ) (old new : List Bool) (before : Bool) (i : ℕ) : Type 0 where
@@ -31,16 +27,4 @@ pub record IsOnto (items : List Item) (byte : ℕ) (old new : List Bool) (before
 pub onto_next : (items : List Item) (byte : ℕ) (old new : List Bool) (before v : Bool) (i : ℕ) (d : Item) → All IsSimple items → i < length items → i + 1 < length new →
     (IsTrue v ↔ Grows (get_or items i d) byte (IsTrue (get_or new i false)) (IsTrue before) (IsTrue (get_or new (i + 1) false))) →
     IsOnto items byte old new before i → IsOnto items byte old (set new (i + 1) v) (get_or new (i + 1) false) (i + 1)
-onto_next items byte old new before v i d all lt long same on = record {
-  before_is = on.later (i + 1) (omega arith);
-  later = λ j h. get_or-set_other new (i + 1) j v false (omega arith) ∙ on.later j (omega arith);
-  done = λ text stands.
-      let item = get_or items i d in
-      let was : IsTrue before ↔ Matches (take i items) text = subst (λ b. IsTrue b ↔ Matches (take i items) text) (sym on.before_is) (stands.at i (omega arith)) in
-      let next : IsTrue (get_or new (i + 1) false) ↔ Matches (take i items ++ item ∷ []) text =
-      subst (λ xs. IsTrue (get_or new (i + 1) false) ↔ Matches xs text) (take_more items i d lt)
-      (subst (λ b. IsTrue b ↔ Matches (take (i + 1) items) text) (sym (on.later (i + 1) (omega arith))) (stands.at (i + 1) (omega arith))) in
-      up_to (λ g b. IsTrue b ↔ Matches (take g items) (text ++ byte ∷ [])) new (i + 1) v long (λ g less. on.done text stands g (omega arith))
-      (subst (λ xs. IsTrue v ↔ Matches xs (text ++ byte ∷ [])) (sym (take_more items i d lt))
-      (↔_trans same (↔_trans (grows_same item byte (on.done text stands i (omega arith)) was next) (↔_sym (Matches-grow (take i items) item text byte (All-get_or IsSimple items i d lt all))))));
-}
+onto_next items byte old new before v i d all lt long same on = grind (arith, common_steps, get_or-set_other, take_more, All-get_or, ↔_trans, ↔_sym, Matches-grow, grows_same, up_to)

@@ -1,4 +1,5 @@
 -- What one more byte does to what is matched.
+use Rattle.std.proofs.lemmas.Grind.{common_steps}
 use Rattle.std.proofs.Common.{arith}
 use Rattle.std.proofs.Common.{◌≡◌, ◌≢◌, ℕ, ◌↔◌, ◌⊎◌, List, [], ◌∷◌, ◌++◌, All, refl, sym, ap, ◌∙◌, subst, inl, inr, ⊎_elim, append_assoc}
 use Rattle.std.proofs.lemmas.List.{same_from_push, append-nil}
@@ -87,20 +88,7 @@ part-push i (x ∷ c) b = (
 
 -- what stands before a simple item, and the item: the text is empty
 pub Matches-skip : (h : List Item) (i : Item) → IsSimple i → Matches (h ++ i ∷ []) [] ↔ (IsSkippable i × Matches h [])
-Matches-skip h i simple = (
-  λ m. let p = (Matches-push h i []).0 m in
-      let a : p.0 ≡ [] = nil_left p.0 p.1 p.2 in let b : p.1 ≡ [] = nil_right p.0 p.1 p.2 in
-      ((allows_part i [] simple).0 (subst (Allows i) b p.4), subst (Matches h) a p.3),
-  λ q. (Matches-push h i []).1 ([], [], refl, q.1, (allows_part i [] simple).1 q.0),
-)
-  where
-    nil_left : (a b : List ℕ) → [] ≡ a ++ b → a ≡ []
-    nil_left [] b e = refl
-    nil_left (x ∷ a) b e = absurd (cc e)
-
-    nil_right : (a b : List ℕ) → [] ≡ a ++ b → b ≡ []
-    nil_right [] b e = sym e
-    nil_right (x ∷ a) b e = absurd (cc e)
+Matches-skip h i simple = grind (arith, common_steps, Matches-push, allows_part)
 
 -- and where the text has a last byte
 pub Matches-grow : (h : List Item) (i : Item) (s : List ℕ) (b : ℕ) → IsSimple i →

@@ -1,5 +1,6 @@
 -- How long a run of signs is, and what the signs of a text are, byte by byte.
-use Rattle.std.proofs.Common.{◌≡◌, ℕ, suc, ◌+◌, ◌<◌, ◌≤◌, Bool, true, false, List, [], ◌∷◌, ◌++◌, length, drop, get_or, cond, refl, arith, sym, ap, ◌∙◌, append_assoc, ne_eqb}
+use Rattle.std.proofs.lemmas.Grind.{common_steps}
+use Rattle.std.proofs.Common.{◌≡◌, ℕ, suc, ◌+◌, ◌<◌, ◌≤◌, Bool, true, false, List, [], ◌∷◌, ◌++◌, length, drop, get_or, cond, refl, arith, ap, append_assoc, ne_eqb}
 use Rattle.std.proofs.lemmas.List.{at_drop_more, at_drop_all, append-nil}
 use Rattle.aa_reader.specs.declared.sign.Sign.{Sign}
 use Rattle.aa_reader.specs.Signs.{signs_from, stands_for, plain}
@@ -48,17 +49,12 @@ stars_nil = refl
 pub signs_kept : (kept kept2 : Bool) (front front2 all : List Sign) (s : List ℕ) (i : ℕ) → i < length s → kept ≡ true → kept2 ≡ false →
     front2 ≡ front ++ record { kept = true; byte = get_or s i 0 } ∷ [] → front ++ signs_from kept (drop i s) ≡ all → front2 ++ signs_from kept2 (drop (i + 1) s) ≡ all
 unfolding signs_from
-signs_kept kept kept2 front front2 all s i h is is2 more inv =
-    ap (λ f. f ++ signs_from kept2 (drop (i + 1) s)) more ∙ ap (λ k. (front ++ record { kept = true; byte = get_or s i 0 } ∷ []) ++ signs_from k (drop (i + 1) s)) is2
-    ∙ append_assoc front (record { kept = true; byte = get_or s i 0 } ∷ []) (signs_from false (drop (i + 1) s))
-    ∙ ap (λ r. front ++ r) (sym (ap (λ k. signs_from k (drop i s)) is ∙ at_drop_more (signs_from true) s i 0 h)) ∙ inv
+signs_kept kept kept2 front front2 all s i h is is2 more inv = grind (arith, common_steps, append_assoc, at_drop_more)
 
 pub signs_slash : (kept kept2 : Bool) (front front2 all : List Sign) (s : List ℕ) (i : ℕ) → i < length s → kept ≡ false → kept2 ≡ true → get_or s i 0 ≡ 92 →
     front2 ≡ front → front ++ signs_from kept (drop i s) ≡ all → front2 ++ signs_from kept2 (drop (i + 1) s) ≡ all
 unfolding signs_from
-signs_slash kept kept2 front front2 all s i h is is2 slash more inv =
-    ap (λ f. f ++ signs_from kept2 (drop (i + 1) s)) more ∙ ap (λ k. front ++ signs_from k (drop (i + 1) s)) is2
-    ∙ ap (λ r. front ++ r) (sym (ap (λ k. signs_from k (drop i s)) is ∙ at_drop_more (signs_from false) s i 0 h ∙ ap (λ b. signs_from false (b ∷ drop (i + 1) s)) slash)) ∙ inv
+signs_slash kept kept2 front front2 all s i h is is2 slash more inv = grind (arith, common_steps, at_drop_more)
 
 signs_other : (b : ℕ) (bs : List ℕ) → (b ≡ 92 → ⊥) → signs_from false (b ∷ bs) ≡ plain b ∷ signs_from false bs
 unfolding signs_from
@@ -66,19 +62,14 @@ signs_other b bs ne = ap (λ t. cond t (signs_from true bs) (plain b ∷ signs_f
 
 pub signs_plain : (kept kept2 : Bool) (front front2 all : List Sign) (s : List ℕ) (i : ℕ) → i < length s → kept ≡ false → kept2 ≡ false → (get_or s i 0 ≡ 92 → ⊥) →
     front2 ≡ front ++ plain (get_or s i 0) ∷ [] → front ++ signs_from kept (drop i s) ≡ all → front2 ++ signs_from kept2 (drop (i + 1) s) ≡ all
-signs_plain kept kept2 front front2 all s i h is is2 other more inv =
-    ap (λ f. f ++ signs_from kept2 (drop (i + 1) s)) more ∙ ap (λ k. (front ++ plain (get_or s i 0) ∷ []) ++ signs_from k (drop (i + 1) s)) is2
-    ∙ append_assoc front (plain (get_or s i 0) ∷ []) (signs_from false (drop (i + 1) s))
-    ∙ ap (λ r. front ++ r) (sym (ap (λ k. signs_from k (drop i s)) is ∙ at_drop_more (signs_from false) s i 0 h ∙ signs_other (get_or s i 0) (drop (i + 1) s) other)) ∙ inv
+signs_plain kept kept2 front front2 all s i h is is2 other more inv = grind (arith, common_steps, append_assoc, at_drop_more, signs_other)
 
 pub signs_end_kept : (kept : Bool) (front front2 all : List Sign) (s : List ℕ) (i : ℕ) → length s ≤ i → kept ≡ true → front2 ≡ front ++ plain 92 ∷ [] →
     front ++ signs_from kept (drop i s) ≡ all → front2 ≡ all
 unfolding signs_from
-signs_end_kept kept front front2 all s i h is more inv =
-    more ∙ ap (λ r. front ++ r) (sym (ap (λ k. signs_from k (drop i s)) is ∙ at_drop_all (signs_from true) s i h)) ∙ inv
+signs_end_kept kept front front2 all s i h is more inv = grind (arith, common_steps, at_drop_all)
 
 pub signs_end : (kept : Bool) (front front2 all : List Sign) (s : List ℕ) (i : ℕ) → length s ≤ i → kept ≡ false → front2 ≡ front →
     front ++ signs_from kept (drop i s) ≡ all → front2 ≡ all
 unfolding signs_from
-signs_end kept front front2 all s i h is more inv =
-    more ∙ sym (append-nil front) ∙ ap (λ r. front ++ r) (sym (ap (λ k. signs_from k (drop i s)) is ∙ at_drop_all (signs_from false) s i h)) ∙ inv
+signs_end kept front front2 all s i h is more inv = grind (arith, common_steps, at_drop_all, append-nil)

@@ -1,5 +1,6 @@
 -- Tokens, one after the other.
-use Rattle.std.proofs.Common.{◌≡◌, ℕ, zero, suc, ◌+◌, ◌<◌, ◌≤◌, Bool, List, [], ◌∷◌, ◌++◌, length, drop, ◌-◌, get_or, refl, arith, sym, ap, ◌∙◌, append_assoc, flat_map, length-append, Vec, Global, Option, Some, None, subst, Result, Ok, Err}
+use Rattle.std.proofs.lemmas.Grind.{common_steps}
+use Rattle.std.proofs.Common.{◌≡◌, ℕ, zero, suc, ◌+◌, ◌<◌, ◌≤◌, Bool, List, [], ◌∷◌, ◌++◌, length, drop, get_or, refl, arith, sym, ap, ◌∙◌, append_assoc, flat_map, length-append, Vec, Global, Option, Some, None, Result, Ok, Err}
 use Rattle.std.specs.Result.{IfOk}
 use Rattle.aa_faults.specs.declared.fault.PolicyKind.{PolicyKind}
 use Rattle.std.specs.Option.{option_map, option_and_then}
@@ -38,15 +39,11 @@ tokens_cons d b s ss = refl
 pub tokens_step : (d : ℕ) (b : Bool) (s : List Sign) (i : ℕ) (x : Sign) (t : Token) (n : ℕ) → i < length s →
     token_at d b (get_or s i x) (drop (i + 1) s) ≡ Some (t, n) →
     tokens_from d b 0 (drop i s) ≡ option_map (λ ts. t ∷ ts) (tokens_from (depth_after d t) (is_slash t) 0 (drop (i + 1 + n) s))
-tokens_step d b s i x t n h e =
-    at_drop_more (tokens_from d b 0) s i x h ∙ tokens_cons d b (get_or s i x) (drop (i + 1) s)
-    ∙ ap (option_and_then (then_from d (drop (i + 1) s))) e
-    ∙ ap (option_map (λ ts. t ∷ ts)) (tokens_skip (depth_after d t) (is_slash t) n (drop (i + 1) s) ∙ ap (tokens_from (depth_after d t) (is_slash t) 0) (drop-drop n (i + 1) s))
+tokens_step d b s i x t n h e = grind (arith, common_steps, at_drop_more, drop-drop, tokens_skip, tokens_cons)
 
 pub tokens_stop : (d : ℕ) (b : Bool) (s : List Sign) (i : ℕ) (x : Sign) → i < length s →
     token_at d b (get_or s i x) (drop (i + 1) s) ≡ None → tokens_from d b 0 (drop i s) ≡ None
-tokens_stop d b s i x h e =
-    at_drop_more (tokens_from d b 0) s i x h ∙ tokens_cons d b (get_or s i x) (drop (i + 1) s) ∙ ap (option_and_then (then_from d (drop (i + 1) s))) e
+tokens_stop d b s i x h e = grind (arith, common_steps, at_drop_more, tokens_cons)
 
 pub tokens_end : (d : ℕ) (b : Bool) → d ≡ 0 → tokens_from d b 0 [] ≡ Some []
 unfolding tokens_from
@@ -155,14 +152,12 @@ put_close stack rest f items v new token is was branches now = grind (arith, len
 
 pub reads_done : (stack : List OpenChoice) (items : List Item) (b : Bool) (s : List Sign) (i : ℕ) (whole : Option (List Token)) → length stack ≡ 0 → length s ≤ i →
     with_front (so_far stack items) (tokens_from (length stack) b 0 (drop i s)) ≡ whole → whole ≡ Some (spelled items)
-reads_done [] items b s i whole none h inv =
-    sym inv ∙ at_drop_all (λ r. with_front (spelled items) (tokens_from 0 b 0 r)) s i h ∙ ap (with_front (spelled items)) (tokens_end 0 b refl) ∙ ap Some (append-nil (spelled items))
+reads_done [] items b s i whole none h inv = grind (arith, common_steps, at_drop_all, append-nil, tokens_end)
 reads_done (f ∷ fs) items b s i whole none h inv = absurd (omega (arith, none))
 
 pub reads_open : (stack : List OpenChoice) (items : List Item) (b : Bool) (s : List Sign) (i : ℕ) (whole : Option (List Token)) → 0 < length stack → length s ≤ i →
     with_front (so_far stack items) (tokens_from (length stack) b 0 (drop i s)) ≡ whole → whole ≡ None
-reads_open stack items b s i whole some h inv =
-    sym inv ∙ at_drop_all (λ r. with_front (so_far stack items) (tokens_from (length stack) b 0 r)) s i h ∙ ap (with_front (so_far stack items)) (tokens_open (length stack) b some)
+reads_open stack items b s i whole some h inv = grind (arith, common_steps, at_drop_all, tokens_open)
 
 pub fit_at : (r : Result (Token × ℕ) PolicyKind) (d : ℕ) → IfOk r (λ t. (depth : ℕ) → IsFit depth t.0) → IfOk r (λ t. IsFit d t.0)
 fit_at (Ok t) d h = h d

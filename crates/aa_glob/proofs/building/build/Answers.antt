@@ -1,8 +1,5 @@
 use Rattle.std.proofs.lemmas.Grind.{common_steps}
-use Rattle.std.proofs.Common.{◌≡◌, ◌≤◌, ◌∷◌, ◌∙◌, ap, arith, length, vec_len}
-use Rattle.aa_glob.specs.Pieces.{pieces_from}
-use Rattle.aa_glob.specs.Parts.{piece_of}
-use Rattle.aa_glob.specs.declared.pieces.Part.{Part}
+use Rattle.std.proofs.Common.{arith}
 use Rattle.aa_glob.proofs.Tables.{none_left}
 use Rattle.aa_glob.proofs.Stacks.{build_start, build_end, build_long, build_back, build_plain, steps_back}
 use Rattle.aa_glob.proofs.building.build.Goals as goal

@@ -1,6 +1,4 @@
 use Rattle.std.proofs.Common.{rules}
-use Rattle.std.proofs.Common.{◌≡◌, ◌-◌, ◌∙◌, ap, arith, suc, sym}
-use Rattle.aa_glob.specs.Settled.{before}
 use Rattle.aa_glob.proofs.Builds.{before_is}
 use Rattle.aa_glob.proofs.building.end_before.Goals as goal
 

@@ -1,6 +1,5 @@
 use Rattle.std.proofs.lemmas.Grind.{common_steps}
-use Rattle.std.proofs.Common.{◌∙◌, sym, ap, arith}
-use Rattle.aa_glob.specs.Pieces.{pieces_from}
+use Rattle.std.proofs.Common.{arith}
 use Rattle.aa_glob.proofs.PieceSteps.{part_none, part_plain, part_named}
 use Rattle.aa_glob.proofs.pieces.next_part.Goals as goal
 

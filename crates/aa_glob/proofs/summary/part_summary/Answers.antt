@@ -1,11 +1,6 @@
 use Rattle.std.proofs.Common.{arith}
 use Rattle.std.proofs.lemmas.Grind.{common_steps}
-use Rattle.std.proofs.Common.{false, sym, subst}
-use Rattle.aa_glob.specs.Expansions.{alone, outcome}
-use Rattle.aa_glob.specs.Parts.{piece_of}
-use Rattle.aa_glob.specs.Settled.{Settled}
 use Rattle.aa_glob.proofs.Summaries.{byte_alone}
-use Rattle.aa_glob.specs.declared.pieces.Part.{Part}
 use Rattle.aa_glob.proofs.summary.part_summary.Goals as goal
 
 pub returns-in-Plain : goal.returns-in-Plain

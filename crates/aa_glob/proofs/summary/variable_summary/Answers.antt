@@ -2,9 +2,8 @@ use Rattle.std.proofs.lemmas.Grind.{common_steps}
 use Rattle.std.proofs.Common.{◌≡◌, ◌+◌, ◌++◌, [], ◌∷◌, ◌∙◌, ap, arith, drop, get_or, List, subst, sym, Vec, ℕ, Global}
 use Rattle.std.proofs.lemmas.List.{append-nil, at_drop_all, drop_more}
 use Rattle.aa_glob.specs.Expansions.{in_turn, outcome, outcome_of}
-use Rattle.aa_glob.specs.Pieces.{pieces}
 use Rattle.aa_glob.specs.Settled.{AreEnds, Settled, plus}
-use Rattle.aa_glob.specs.Known.{AreKnown, AreTextsKnown}
+use Rattle.aa_glob.specs.Known.{AreTextsKnown}
 use Rattle.aa_glob.specs.Ways.{items_of}
 use Rattle.aa_glob.specs.declared.summary.Summary.{Summary}
 use Rattle.aa_glob.proofs.Summaries.{GoesOn, ends_more, settled_variable, values_start, values_more, values_end}

@@ -1,11 +1,11 @@
 use Rattle.std.proofs.lemmas.Grind.{common_steps}
 use Rattle.std.proofs.Common.{rules}
-use Rattle.std.proofs.Common.{◌≡◌, ◌<◌, ◌∷◌, [], ℕ, All, length, false, sym, ap, ◌∙◌, subst, inr, ⊎_elim, arith, get_or}
+use Rattle.std.proofs.Common.{◌≡◌, ◌<◌, ◌∷◌, [], ℕ, All, length, false, sym, ap, ◌∙◌, subst, ⊎_elim, arith, get_or}
 use Rattle.std.proofs.lemmas.List.{length-replicate}
 use Rattle.std.proofs.lemmas.List.Elements.{All-get_or}
 use Rattle.aa_items.specs.declared.item.Item.{Item}
 use Rattle.aa_patterns.specs.declared.flags.Span.{Span}
-use Rattle.aa_patterns.specs.Weights.{weight, weight_of_items, weight_of_lists}
+use Rattle.aa_patterns.specs.Weights.{weight, weight_of_lists}
 use Rattle.aa_items.specs.Steps.{IsSimple}
 use Rattle.aa_patterns.specs.Flags.{AreWithin, Follows}
 use Rattle.aa_patterns.proofs.Rows.{weight-Choice}

@@ -1,6 +1,5 @@
 use Rattle.std.proofs.lemmas.Grind.{common_steps}
 use Rattle.std.proofs.Common.{arith}
-use Rattle.std.proofs.Common.{sym, ◌∙◌, true≢false}
 use Rattle.aa_patterns.proofs.FlagSteps.{byte_last, byte_next}
 use Rattle.aa_patterns.proofs.flags.follow_byte.Goals as goal
 use Rattle.aa_patterns.proofs.flags.follow_byte.Goals.{then-before, else-before}

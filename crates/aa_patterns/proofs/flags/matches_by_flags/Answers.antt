@@ -1,7 +1,6 @@
 use Rattle.std.proofs.lemmas.Grind.{common_steps}
-use Rattle.std.proofs.Common.{◌≡◌, ◌<◌, ◌≤◌, ℕ, All, true, false, inl, inr, ⊎_elim, arith, replicate, get_or, set, length-set, get_or-set_same, get_or-set_other, Bool, ◌∙◌}
+use Rattle.std.proofs.Common.{◌≡◌, ◌<◌, ℕ, true, false, arith, replicate, get_or, set, length-set, get_or-set_same, get_or-set_other}
 use Rattle.std.proofs.lemmas.List.{length-replicate}
-use Rattle.aa_items.specs.Steps.{IsSimple}
 use Rattle.aa_patterns.proofs.FlagSteps.{shows_start, shows_whole, within_start, none_at}
 use Rattle.aa_patterns.proofs.flags.matches_by_flags.Goals as goal
 

@@ -1,7 +1,5 @@
 use Rattle.std.proofs.lemmas.Grind.{common_steps}
-use Rattle.std.proofs.Common.{Bool, IsTrue, ◌↔◌, sym, ◌∙◌, subst, arith, length-set, true≢false}
-use Rattle.aa_items.specs.declared.item.Item.{Item}
-use Rattle.aa_items.specs.Steps.{IsSkippable}
+use Rattle.std.proofs.Common.{arith, length-set}
 use Rattle.aa_patterns.proofs.GapSteps.{begins_gap}
 use Rattle.aa_patterns.proofs.gaps.begin.Goals as goal
 use Rattle.aa_patterns.proofs.gaps.begin.Goals.{then-gaps-i, else-gaps-i}

@@ -1,9 +1,8 @@
 use Rattle.std.proofs.lemmas.Grind.{common_steps}
-use Rattle.std.proofs.Common.{◌≡◌, ℕ, ◌/◌, ◌≤◌, length, take, drop, refl, sym, ap, ◌∙◌, subst, arith, ⊎_elim, true≢false}
+use Rattle.std.proofs.Common.{◌≡◌, ℕ, ◌/◌, ◌≤◌, length, take, drop, sym, subst, arith, ⊎_elim, true≢false}
 use Rattle.std.proofs.lemmas.Bool.{cases_lt}
 use Rattle.std.proofs.lemmas.List.{take_rest}
 use Rattle.aa_items.specs.Globs.{Matches}
-use Rattle.aa_patterns.specs.Weights.{weight, weight_of_items, weight_of_lists}
 use Rattle.aa_patterns.proofs.Rows.{Allows-Choice, weight-Choice}
 use Rattle.aa_patterns.proofs.Equivalences.{not_true, ↔_trans, ↔_sym}
 use Rattle.aa_patterns.proofs.FlagSteps.{weight_of_at}

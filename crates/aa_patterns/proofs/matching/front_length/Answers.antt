@@ -1,6 +1,4 @@
 use Rattle.std.proofs.Common.{rules}
-use Rattle.std.proofs.Common.{arith, subst, get_or}
-use Rattle.aa_items.specs.Steps.{IsOneByte, Begins}
 use Rattle.aa_patterns.proofs.Fronts.{front_more}
 use Rattle.aa_patterns.proofs.matching.front_length.Goals as goal
 

@@ -1,7 +1,6 @@
 use Rattle.std.proofs.Common.{arith}
 use Rattle.std.proofs.lemmas.Grind.{common_steps}
 use Rattle.std.proofs.Common.{sym, ◌∙◌}
-use Rattle.aa_reader.specs.Classes.{class_len}
 use Rattle.aa_reader.proofs.Runs.{stops_at, goes_at, ends_at, class_step, class_nil}
 use Rattle.aa_reader.proofs.classes.class_length.Goals as goal
 

@@ -1,5 +1,5 @@
 use Rattle.std.proofs.lemmas.Grind.{common_steps}
-use Rattle.std.proofs.Common.{arith, refl}
+use Rattle.std.proofs.Common.{arith}
 use Rattle.std.proofs.lemmas.Option.{same_Some}
 use Rattle.aa_reader.proofs.ClassSteps.{class_same, class_empty, class_falls}
 use Rattle.aa_reader.proofs.classes.class_with.Goals as goal

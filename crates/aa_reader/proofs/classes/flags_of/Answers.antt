@@ -1,5 +1,5 @@
 use Rattle.std.proofs.lemmas.Grind.{common_steps}
-use Rattle.std.proofs.Common.{arith, ◌∙◌, ◌<◌, ◌≢◌, length, length-set, below_more, get_or-set_other, get_or-set_same}
+use Rattle.std.proofs.Common.{arith, length-set, below_more, get_or-set_other, get_or-set_same}
 use Rattle.aa_reader.proofs.ClassSteps.{flags_same}
 use Rattle.aa_reader.proofs.classes.flags_of.Goals as goal
 

@@ -1,7 +1,6 @@
 use Rattle.std.proofs.lemmas.Grind.{common_steps}
 use Rattle.std.proofs.Common.{rules}
-use Rattle.std.proofs.Common.{arith, ap, sym, ◌∙◌, ◌++◌, ◌+◌, drop, Some}
-use Rattle.aa_reader.specs.Classes.{ranges}
+use Rattle.std.proofs.Common.{arith}
 use Rattle.aa_reader.proofs.ClassSteps.{range_next, one_next, ranges_done}
 use Rattle.aa_reader.proofs.classes.ranges_of.Goals as goal
 use Rattle.aa_reader.proofs.classes.ranges_of.Goals.{else-body-at-gt2-via-then-body-at-gt2+else-makes_range, else-body-at-gt2-via-else-body-at-gt2}

@@ -1,7 +1,6 @@
 use Rattle.std.proofs.lemmas.Grind.{common_steps}
 use Rattle.std.proofs.Common.{rules}
-use Rattle.std.proofs.Common.{arith, ap, sym, ◌∙◌, refl, length}
-use Rattle.aa_reader.specs.Stack.{so_far}
+use Rattle.std.proofs.Common.{arith}
 use Rattle.aa_reader.proofs.Tokens.{with_front, goes_on, reads_done, reads_open, tokens_stop}
 use Rattle.aa_reader.proofs.reader.items_of.Goals as goal
 

@@ -1,7 +1,5 @@
 use Rattle.std.proofs.Common.{arith}
 use Rattle.std.proofs.lemmas.Grind.{common_steps}
-use Rattle.std.proofs.Common.{refl}
-use Rattle.aa_reader.specs.declared.reader.OpenChoice.{OpenChoice}
 use Rattle.aa_reader.proofs.Tokens.{put_single, put_comma, put_close}
 use Rattle.aa_reader.proofs.reader.put.Goals as goal
 

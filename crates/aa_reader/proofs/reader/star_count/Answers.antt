@@ -1,7 +1,6 @@
 use Rattle.std.proofs.Common.{arith}
 use Rattle.std.proofs.lemmas.Grind.{common_steps}
 use Rattle.std.proofs.Common.{sym, ◌∙◌}
-use Rattle.aa_reader.specs.Reading.{stars}
 use Rattle.aa_reader.proofs.Runs.{stops_not, goes_yet, ends_at, stars_step, stars_nil}
 use Rattle.aa_reader.proofs.reader.star_count.Goals as goal
 

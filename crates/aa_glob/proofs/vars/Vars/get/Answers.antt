@@ -1,7 +1,5 @@
 use Rattle.std.proofs.Common.{arith}
 use Rattle.std.proofs.lemmas.Grind.{common_steps}
-use Rattle.std.proofs.Common.{sym, ap, ◌∙◌, Some, map, List, ℕ, Vec, Global}
-use Rattle.aa_glob.specs.Variables.{Variable, values_of}
 use Rattle.aa_glob.proofs.VarSteps.{value_there}
 use Rattle.aa_glob.proofs.vars.Vars.get.Goals as goal
 

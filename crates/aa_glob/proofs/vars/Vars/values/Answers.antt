@@ -1,6 +1,5 @@
 use Rattle.std.proofs.Common.{arith}
 use Rattle.std.proofs.lemmas.Grind.{common_steps}
-use Rattle.std.proofs.Common.{sym, ◌∙◌}
 use Rattle.aa_glob.proofs.Summaries.{reserved_stops, undefined_stops}
 use Rattle.aa_glob.proofs.vars.Vars.values.Goals as goal
 
