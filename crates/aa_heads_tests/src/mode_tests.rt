@@ -112,3 +112,44 @@ fn modes_grant_their_letters_and_one_exec_part(rt: HostRuntime) {
         assert_eq!(rt; is_faulty(text.as_bytes(), deny), bits.is_none(), "{text}");
     }
 }
+
+/// The number of a mode's fault, if a rule that ends there is refused at it.
+fn fault_of(mode: &[u8], deny: bool) -> Option<u8> {
+    let words = [
+        word(WordKind::Name, qualifier(deny), 0),
+        word(WordKind::Name, b"file", 1),
+        word(WordKind::Name, mode, 2),
+    ];
+    match rule_of(&words, 0, Spot { file: 0, byte: 3 }) {
+        Err(fault) if fault.at.byte == 2 => Some(fault.kind.number()),
+        _ => None,
+    }
+}
+
+#[test]
+fn a_mode_has_the_first_of_its_faults(rt: HostRuntime) {
+    for (text, deny, number) in [
+        ("r", false, None),
+        ("rpx", false, None),
+        ("pUx", false, Some(5)),
+        ("Pux", true, Some(5)),
+        ("cUx", false, Some(5)),
+        ("Cux", false, Some(5)),
+        ("zpUx", false, Some(5)),
+        ("wapUx", false, Some(5)),
+        ("pxPux", false, Some(5)),
+        ("pUxi", false, Some(5)),
+        ("ipUx", false, Some(7)),
+        ("pU", false, Some(7)),
+        ("z", false, Some(7)),
+        ("waz", false, Some(7)),
+        ("wax", false, Some(7)),
+        ("wax", true, Some(8)),
+        ("wa", false, Some(8)),
+        ("awix", false, Some(8)),
+        ("wixa", false, Some(8)),
+        ("waix", true, Some(7)),
+    ] {
+        assert_eq!(rt; fault_of(text.as_bytes(), deny), number, "{text}");
+    }
+}

@@ -2,6 +2,7 @@ pub mod CapRules
 pub mod FileRules
 pub mod FileWords
 pub mod Letters
+pub mod Mixed
 pub mod NetRules
 pub mod Pairs
 pub mod Phrases

@@ -1,7 +1,10 @@
 -- The modes of file rules: what their letters grant, and how they let a program be executed.
-use Rattle.std.specs.Prelude.{ℕ, List, [], ◌∷◌, ◌++◌, Bool, true, false, ◌&&◌, ◌||◌, ◌==◌, if◌then◌else◌, Option, Some, None, option_map, option_and_then, bit_or, codes, is_some, drop}
-use Rattle.std.specs.List.{list_any, take_while, prefix_len}
+use Rattle.std.specs.Prelude.{ℕ, List, [], ◌∷◌, ◌++◌, Bool, true, false, not, ◌&&◌, ◌||◌, ◌==◌, if◌then◌else◌, Option, Some, None, option_map, option_and_then, bit_or, codes, is_some, drop}
+use Rattle.std.specs.Bool.{nat_eq}
+use Rattle.std.specs.List.{list_any, take_while, prefix_len, starts_with}
 use Rattle.std.specs.Str.{bytes_eq}
+use Rattle.aa_faults.specs.declared.fault.PolicyKind.{PolicyKind}
+use Rattle.aa_faults.specs.declared.fault.PolicyKind.TheVariants.{Unsupported, BadMode, WriteWithAppend}
 use Rattle.aa_rules.specs.declared.rule.ExecKind.{ExecKind}
 use Rattle.aa_rules.specs.declared.rule.ExecKind.TheVariants as kind
 use Rattle.aa_rules.specs.declared.rule.Fallback.{Fallback}
@@ -80,8 +83,39 @@ part_of text = take_while is_exec_letter (behind is_access_letter text)
 abbrev pub back_of : List ℕ → List ℕ
 back_of text = behind is_exec_letter (behind is_access_letter text)
 
--- what a mode says in a rule with deny or without it: w is not written beside a, and one exec part at most
+-- what a mode says where w may be written beside a: its access letters, and one exec part at most
+abbrev pub parts_of : Bool → List ℕ → Option Mode
+parts_of deny text = option_and_then (λ bits. with_part deny (part_of text) bits) (letters_bits 0 (front_of text ++ back_of text))
+
+-- w stands beside a
+abbrev pub writes_and_appends : List ℕ → Bool
+writes_and_appends text = has_letter 119 text && has_letter 97 text
+
+-- what a mode says in a rule with deny or without it: w is not written beside a
 unfoldable pub mode_of : Bool → List ℕ → Option Mode
-mode_of deny text =
-    if has_letter 119 text && has_letter 97 text then None
-    else option_and_then (λ bits. with_part deny (part_of text) bits) (letters_bits 0 (front_of text ++ back_of text))
+mode_of deny text = if writes_and_appends text then None else parts_of deny text
+
+-- an exec part of mixed case stands first: one that scrubs in one half alone
+unfoldable pub begins_mixed : List ℕ → Bool
+begins_mixed text =
+    starts_with nat_eq text (codes "pUx") || starts_with nat_eq text (codes "Pux")
+    || starts_with nat_eq text (codes "cUx") || starts_with nat_eq text (codes "Cux")
+
+-- behind the letter an exec part may begin: it is the x at the end of one, or stands in none
+abbrev pub ends_part : ℕ → Bool
+ends_part c = c == 120 || not (is_exec_letter c)
+
+-- an exec part of mixed case stands in the letters, each beginning where one may; whether one may at the first of them
+unfoldable pub holds_mixed : Bool → List ℕ → Bool
+holds_mixed may_begin [] = false
+holds_mixed may_begin (c ∷ cs) = (may_begin && begins_mixed (c ∷ cs)) || holds_mixed (ends_part c) cs
+
+-- an exec part of mixed case stands in the mode
+abbrev pub is_mixed : List ℕ → Bool
+is_mixed text = holds_mixed true text
+
+-- what is wrong with a mode: mixed case before any other fault, and w beside a where nothing else is
+unfoldable pub mode_fault : Bool → List ℕ → Option PolicyKind
+mode_fault deny text =
+    if is_some (parts_of deny text) then (if writes_and_appends text then Some WriteWithAppend else None)
+    else (if is_mixed text then Some Unsupported else Some BadMode)

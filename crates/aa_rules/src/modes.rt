@@ -1,10 +1,11 @@
 //! Modes of file rules (apparmor.d(5), "Access Modes").
 
-ghost use Rattle.std.specs.Prelude.{◌≡◌, ◌≤◌, ◌&&◌, ◌++◌, true, length, IfSome, option_map};
+ghost use Rattle.std.specs.Prelude.{◌≡◌, ◌≤◌, ◌&&◌, ◌++◌, true, None, length, is_some, IfSome, IfNone, OnSome, option_map};
 ghost use Rattle.std.specs.List.{prefix_len};
 ghost use Rattle.aa_rules.specs.Faults.{is_word_fault};
-ghost use Rattle.aa_rules.specs.Modes.{letter_bits, letters_bits, has_letter, is_access_letter, is_exec_letter, how, exec_of, with_part, mode_of};
+ghost use Rattle.aa_rules.specs.Modes.{letter_bits, letters_bits, has_letter, is_access_letter, is_exec_letter, how, exec_of, with_part, parts_of, writes_and_appends, mode_of, begins_mixed, ends_part, is_mixed, mode_fault};
 
+use crate::names::begins_with_all;
 use crate::rule::{ExecKind, Fallback};
 use aa_tables::Perms;
 use aa_words::PolicyKind;
@@ -75,7 +76,7 @@ fn contains(text: &[u8], c: u8) -> bool
 
 /// Whether a mode has `w` beside `a`.
 fn writes_and_appends(mode: &[u8]) -> bool
-    ensures { result ≡ (has_letter 119 mode.now && has_letter 97 mode.now) }
+    ensures { result ≡ writes_and_appends mode.now }
 {
     contains(mode, b'w') && contains(mode, b'a')
 }
@@ -181,14 +182,10 @@ fn with_part(access: Perms, part: &[u8], deny: bool) -> Option<Mode>
     })
 }
 
-/// What a mode says in a rule with `deny` or without it.
-#[tactic(auto, unfolding(crate::specs::Modes::mode_of))]
-pub fn mode_of(mode: &[u8], deny: bool) -> Option<Mode>
-    ensures { result ≡ mode_of deny mode.now }
+/// What a mode says where `w` may be written beside `a`.
+fn parts_of(mode: &[u8], deny: bool) -> Option<Mode>
+    ensures { result ≡ parts_of deny mode.now }
 {
-    if writes_and_appends(mode) {
-        return None;
-    }
     let (front, rest) = mode.split_at(access_letters(mode));
     let (part, back) = rest.split_at(exec_letters(rest));
     let Some(access) = access_of(front, back) else {
@@ -197,102 +194,73 @@ pub fn mode_of(mode: &[u8], deny: bool) -> Option<Mode>
     with_part(access, part, deny)
 }
 
-/// What a run of exec letters with its `x` is.
-#[derive(Clone, Copy, Debug, PartialEq, Eq)]
-enum ExecPart {
-    /// One of the exec parts of the language.
-    Right,
-    /// One that scrubs in one half alone.
-    Mixed,
-    /// None.
-    Wrong,
-}
-
-/// Which exec part the letters are, the `x` at their end included. Under `deny` it is `x` alone.
-fn exec_part(part: &[u8], deny: bool) -> ExecPart {
-    match part {
-        b"pUx" | b"Pux" | b"cUx" | b"Cux" => ExecPart::Mixed,
-        b"x" if deny => ExecPart::Right,
-        _ if deny => ExecPart::Wrong,
-        b"ix" | b"ux" | b"Ux" | b"px" | b"Px" | b"cx" | b"Cx" => ExecPart::Right,
-        b"pix" | b"Pix" | b"cix" | b"Cix" => ExecPart::Right,
-        b"pux" | b"PUx" | b"cux" | b"CUx" => ExecPart::Right,
-        _ => ExecPart::Wrong,
+/// What a mode says in a rule with `deny` or without it.
+#[tactic(auto, unfolding(crate::specs::Modes::mode_of))]
+pub fn mode_of(mode: &[u8], deny: bool) -> Option<Mode>
+    ensures { result ≡ mode_of deny mode.now }
+{
+    if writes_and_appends(mode) {
+        return None;
     }
+    parts_of(mode, deny)
 }
 
-/// What has been seen of a mode's letters.
-#[derive(Clone, Copy, Debug)]
-struct Seen {
-    /// An exec part.
-    exec: bool,
-    /// One of mixed case.
-    mixed: bool,
-    /// A letter, a run or a second exec part that no mode has.
-    wrong: bool,
+/// Whether an exec part of mixed case stands first: one that scrubs in one half alone.
+#[tactic(auto, unfolding(crate::specs::Modes::begins_mixed))]
+fn begins_mixed(text: &[u8]) -> bool
+    ensures { result ≡ begins_mixed text.now }
+{
+    begins_with_all(text, "pUx".as_bytes())
+        || begins_with_all(text, "Pux".as_bytes())
+        || begins_with_all(text, "cUx".as_bytes())
+        || begins_with_all(text, "Cux".as_bytes())
 }
 
-impl Seen {
-    /// With an exec part more.
-    fn with_part(self, part: &[u8], deny: bool) -> Seen {
-        let part = exec_part(part, deny);
-        Seen {
-            exec: true,
-            mixed: self.mixed || part == ExecPart::Mixed,
-            wrong: self.wrong || self.exec || part == ExecPart::Wrong,
-        }
-    }
-
-    /// With a letter of no exec part more; `alone`, if no exec letters stand before it.
-    fn with_letter(self, b: u8, alone: bool) -> Seen {
-        Seen {
-            wrong: self.wrong || !alone || letter(b).is_none(),
-            ..self
-        }
-    }
+/// Whether one stands first where one may begin.
+fn is_mixed_here(may_begin: bool, text: &[u8]) -> bool
+    ensures { result ≡ (may_begin && begins_mixed text.now) }
+{
+    may_begin && begins_mixed(text)
 }
 
-/// The exec parts and the wrong letters of a mode.
-fn seen_in(mode: &[u8], deny: bool) -> Seen {
-    let mut seen = Seen {
-        exec: false,
-        mixed: false,
-        wrong: false,
-    };
-    let mut start = 0;
+/// Whether an exec part may begin behind a letter: it is the `x` at the end of one, or stands in none.
+fn ends_part(b: u8) -> bool
+    ensures { result ≡ ends_part b }
+{
+    b == b'x' || !is_exec_letter(b)
+}
+
+/// Whether an exec part of mixed case stands in a mode.
+fn is_mixed(mode: &[u8]) -> bool
+    ensures { result ≡ is_mixed mode.now }
+{
+    let mut may_begin = true;
     for (i, b) in mode.iter().enumerate() {
-        match *b {
-            b'i' | b'u' | b'U' | b'p' | b'P' | b'c' | b'C' => {}
-            b'x' => {
-                seen = seen.with_part(&mode[start..i + 1], deny);
-                start = i + 1;
-            }
-            other => {
-                seen = seen.with_letter(other, start == i);
-                start = i + 1;
-            }
+        if is_mixed_here(may_begin, &mode[i..]) {
+            return true;
         }
+        may_begin = ends_part(*b);
     }
-    Seen {
-        wrong: seen.wrong || start < mode.len(),
-        ..seen
-    }
+    false
 }
 
 /// What is wrong with a mode, if anything is, in a rule with `deny` or without it. A mixed-case exec part comes
 /// first, then any other fault, then `w` beside `a`.
+#[tactic(auto, unfolding(crate::specs::Modes::mode_of, crate::specs::Modes::mode_fault))]
 pub fn mode_fault(mode: &[u8], deny: bool) -> Option<PolicyKind>
-    ensures { IfSome result (λ k. is_word_fault k ≡ true) }
+    ensures fault { result ≡ mode_fault deny mode.now }
+    ensures right { IfNone result (is_some (mode_of deny mode.now) ≡ true) }
+    ensures wrong { OnSome result (mode_of deny mode.now ≡ None) }
+    ensures cause { IfSome result (λ k. is_word_fault k ≡ true) }
 {
-    let seen = seen_in(mode, deny);
-    if seen.mixed {
+    if parts_of(mode, deny).is_some() {
+        if writes_and_appends(mode) {
+            return Some(PolicyKind::WriteWithAppend);
+        }
+        return None;
+    }
+    if is_mixed(mode) {
         return Some(PolicyKind::Unsupported);
     }
-    if seen.wrong {
-        return Some(PolicyKind::BadMode);
-    }
-    if writes_and_appends(mode) {
-        return Some(PolicyKind::WriteWithAppend);
-    }
-    None
+    Some(PolicyKind::BadMode)
 }

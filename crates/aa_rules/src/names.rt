@@ -39,7 +39,7 @@ pub fn holds_pair(text: &[u8], a: u8, b: u8) -> bool
 }
 
 /// Whether a text begins with these bytes.
-fn begins_with_all(text: &[u8], part: &[u8]) -> bool
+pub fn begins_with_all(text: &[u8], part: &[u8]) -> bool
     ensures { result ≡ starts_with nat_eq text.now part.now }
 {
     text.starts_with(part)
