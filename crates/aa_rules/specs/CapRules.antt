@@ -1,5 +1,5 @@
 -- Rules on capabilities: the names, and the set that they name.
-use Rattle.std.specs.Prelude.{ℕ, ◌≡◌, ◌^◌, List, [], ◌∷◌, codes, Some, bit_or}
+use Rattle.std.specs.Prelude.{ℕ, ◌≡◌, ◌^◌, ◌-◌, List, [], ◌∷◌, codes, Some, bit_or}
 use Rattle.aa_words.specs.declared.word.WordKind.TheVariants.{Name}
 use Rattle.aa_words.specs.Splits.{WordData}
 use Rattle.aa_rules.specs.declared.rule.CapRule.{CapRule}
@@ -24,7 +24,7 @@ numbers_bits bits (n ∷ ns) = numbers_bits (bit_or bits (2 ^ n)) ns
 
 -- the set of all 41 capabilities
 abbrev pub all_caps : ℕ
-all_caps = 2199023255551
+all_caps = 2 ^ 41 - 1
 
 -- the capabilities of these numbers; where none is named, all
 abbrev pub caps_of : List ℕ → ℕ

@@ -1,5 +1,5 @@
 -- Rules on sockets: the names, and the families and types that they name together.
-use Rattle.std.specs.Prelude.{ℕ, ◌≡◌, ◌^◌, List, [], ◌∷◌, codes, Bool, ◌||◌, ◌==◌, if◌then◌else◌, Option, Some, None, option_map, option_and_then}
+use Rattle.std.specs.Prelude.{ℕ, ◌≡◌, ◌^◌, ◌+◌, ◌-◌, List, [], ◌∷◌, codes, Bool, ◌||◌, ◌==◌, if◌then◌else◌, Option, Some, None, option_map, option_and_then}
 use Rattle.std.specs.Option.{option_or}
 use Rattle.std.specs.Str.{bytes_eq}
 use Rattle.aa_words.specs.declared.word.WordKind.TheVariants.{Name}
@@ -17,14 +17,14 @@ sockets families kinds = record { families = families; kinds = kinds }
 
 -- the set of all 44 families, and that of all 6 types
 abbrev pub all_families : ℕ
-all_families = 17592186044415
+all_families = 2 ^ 44 - 1
 
 abbrev pub all_kinds : ℕ
-all_kinds = 63
+all_kinds = 2 ^ 6 - 1
 
 -- a name that stands for a type in the internet's families: tcp is stream, udp is dgram
 unfoldable pub transport_kinds : List ℕ → Option ℕ
-transport_kinds name = if bytes_eq name (codes "tcp") then Some 1 else (if bytes_eq name (codes "udp") then Some 2 else None)
+transport_kinds name = if bytes_eq name (codes "tcp") then Some (2 ^ 0) else (if bytes_eq name (codes "udp") then Some (2 ^ 1) else None)
 
 -- the set of one entry
 abbrev pub one_in : List (List ℕ) → List ℕ → Option ℕ
@@ -32,7 +32,7 @@ one_in table name = option_map (λ n. 2 ^ n) (number_in table name)
 
 -- inet and inet6
 abbrev pub internet : ℕ
-internet = 514
+internet = 2 ^ 1 + 2 ^ 9
 
 -- one name: a family with all types, or else a type in all families, or else a type in the internet's
 unfoldable pub one_name : List ℕ → Option Sockets
@@ -40,9 +40,9 @@ one_name name =
     option_or (option_map (λ f. sockets f all_kinds) (one_in family_names name))
     (option_or (option_map (λ k. sockets all_families k) (one_in sock_type_names name)) (option_map (λ k. sockets internet k) (transport_kinds name)))
 
--- inet, inet6
+-- inet alone, inet6 alone
 abbrev pub is_internet : ℕ → Bool
-is_internet families = families == 2 || families == 512
+is_internet families = families == 2 ^ 1 || families == 2 ^ 9
 
 -- the type that a name stands for behind a family
 unfoldable pub kinds_in : ℕ → List ℕ → Option ℕ

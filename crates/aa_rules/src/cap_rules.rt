@@ -16,7 +16,7 @@ use aa_words::{PolicyFault, PolicyKind, Spot, Word, WordKind};
 use bitflags::Flags;
 
 /// All capabilities.
-const ALL: Caps = Caps(2199023255551);
+const ALL: Caps = Caps((1 << 41) - 1);
 
 /// The capabilities that are named from a place on, and the place behind them.
 fn caps_named(words: &[Word], start: usize, end: Spot) -> Result<(Caps, usize), PolicyFault>

@@ -22,13 +22,19 @@ pub struct Sockets {
 }
 
 /// All families.
-const ALL_FAMILIES: u64 = 17592186044415;
+const ALL_FAMILIES: u64 = (1 << 44) - 1;
 
 /// All types.
-const ALL_KINDS: u8 = 63;
+const ALL_KINDS: u8 = (1 << 6) - 1;
+
+/// `inet`.
+const INET: u64 = 1 << 1;
+
+/// `inet6`.
+const INET6: u64 = 1 << 9;
 
 /// `inet` and `inet6`.
-const INTERNET: u64 = 514;
+const INTERNET: u64 = INET | INET6;
 
 /// The set of the one family with that name, if there is one.
 fn family_in(name: &[u8]) -> Option<u64>
@@ -88,7 +94,7 @@ fn one_name(name: &[u8]) -> Option<Sockets>
 fn is_internet(families: u64) -> bool
     ensures { result ≡ is_internet families }
 {
-    families == 2 || families == 512
+    families == INET || families == INET6
 }
 
 /// The type that a name stands for behind a family.
