@@ -1,10 +1,19 @@
 -- The tables of names. An entry's number is its place in the table, counted from 0.
-use Rattle.std.specs.Prelude.{ℕ, List, [], ◌∷◌, codes, Option, position}
+use Rattle.std.specs.Prelude.{ℕ, ◌+◌, ◌-◌, ◌^◌, List, [], ◌∷◌, map, codes, Option, position, nat_le, ◌&&◌, if◌then◌else◌}
 use Rattle.std.specs.Str.{bytes_eq}
 
 -- the number of the entry with that name, if there is one
 abbrev pub number_in : List (List ℕ) → List ℕ → Option ℕ
 number_in table name = position (λ entry. bytes_eq entry name) table
+
+-- the capital letter of a small one
+abbrev pub capital : ℕ → ℕ
+capital c = if nat_le 97 c && nat_le c 122 then c - 32 else c
+
+-- the flags of a table's names: each in capital letters, at the bit of its number
+unfoldable pub flags_from : ℕ → List (List ℕ) → List (List ℕ × ℕ)
+flags_from number [] = []
+flags_from number (name ∷ names) = (map capital name, 2 ^ number) ∷ flags_from (number + 1) names
 
 -- capabilities(7), without CAP_, in the order of the numbers that Linux gives them
 unfoldable pub capability_names : List (List ℕ)

@@ -1,6 +1,7 @@
 //! Sets of capabilities.
 
-ghost use Rattle.std.specs.Prelude.{⊤, ◌≡◌, [], ◌∷◌, codes};
+ghost use Rattle.std.specs.Prelude.{⊤, ◌≡◌};
+ghost use Rattle.aa_tables.specs.Tables.{flags_from, capability_names};
 
 use bitflags::{Flag, Flags, bitflag_items};
 
@@ -59,10 +60,11 @@ impl Flags for Caps {
 
     ghost exact = { ⊤ };
 
-    ghost table = { (codes "CHOWN", 1) ∷ (codes "DAC_OVERRIDE", 2) ∷ (codes "DAC_READ_SEARCH", 4) ∷ (codes "FOWNER", 8) ∷ (codes "FSETID", 16) ∷ (codes "KILL", 32) ∷ (codes "SETGID", 64) ∷ (codes "SETUID", 128) ∷ (codes "SETPCAP", 256) ∷ (codes "LINUX_IMMUTABLE", 512) ∷ (codes "NET_BIND_SERVICE", 1024) ∷ (codes "NET_BROADCAST", 2048) ∷ (codes "NET_ADMIN", 4096) ∷ (codes "NET_RAW", 8192) ∷ (codes "IPC_LOCK", 16384) ∷ (codes "IPC_OWNER", 32768) ∷ (codes "SYS_MODULE", 65536) ∷ (codes "SYS_RAWIO", 131072) ∷ (codes "SYS_CHROOT", 262144) ∷ (codes "SYS_PTRACE", 524288) ∷ (codes "SYS_PACCT", 1048576) ∷ (codes "SYS_ADMIN", 2097152) ∷ (codes "SYS_BOOT", 4194304) ∷ (codes "SYS_NICE", 8388608) ∷ (codes "SYS_RESOURCE", 16777216) ∷ (codes "SYS_TIME", 33554432) ∷ (codes "SYS_TTY_CONFIG", 67108864) ∷ (codes "MKNOD", 134217728) ∷ (codes "LEASE", 268435456) ∷ (codes "AUDIT_WRITE", 536870912) ∷ (codes "AUDIT_CONTROL", 1073741824) ∷ (codes "SETFCAP", 2147483648) ∷ (codes "MAC_OVERRIDE", 4294967296) ∷ (codes "MAC_ADMIN", 8589934592) ∷ (codes "SYSLOG", 17179869184) ∷ (codes "WAKE_ALARM", 34359738368) ∷ (codes "BLOCK_SUSPEND", 68719476736) ∷ (codes "AUDIT_READ", 137438953472) ∷ (codes "PERFMON", 274877906944) ∷ (codes "BPF", 549755813888) ∷ (codes "CHECKPOINT_RESTORE", 1099511627776) ∷ [] };
+    ghost table = { flags_from 0 capability_names };
 
     ghost set_of = { λ p. p.0 };
 
+    #[tactic(auto, unfolding(crate::specs::Tables::flags_from, crate::specs::Tables::capability_names))]
     fn flags<'a>() -> &'a [Flag<Caps>] {
         Caps::FLAGS
     }
