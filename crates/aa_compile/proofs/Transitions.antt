@@ -7,7 +7,7 @@ use Rattle.std.specs.Option.{option_map, option_map_or, option_and_then}
 use Rattle.std.specs.Str.{bytes_eq}
 use Rattle.std.proofs.lemmas.List.Quantifiers.{position-Some}
 use Rattle.std.proofs.lemmas.Option.{slice_get-map, slice_get-get_or, same_Some, cond_some}
-use borrow.Author.Tests.{ltb-true}
+use Rattle.std.proofs.lemmas.Bool.{ltb-true}
 use Rattle.std.proofs.lemmas.Slice.Eq.{bytes_eq-Decides}
 use Rattle.aa_rules.specs.declared.rule.ExecKind.{ExecKind}
 use Rattle.aa_rules.specs.declared.rule.ExecKind.TheVariants.{Inherit, Unconfined, Profile as Named, Child}
@@ -16,11 +16,11 @@ use Rattle.aa_policy.specs.declared.rule.FileRule.{FileRule}
 use Rattle.aa_policy.specs.declared.policy.Profile.{Profile}
 use Rattle.aa_policy.specs.Lawful.{has_exec}
 use Rattle.aa_rows.specs.declared.mark.Way.{Way}
-use Rattle.aa_rows.specs.declared.side.Side.{Side}
+use Rattle.aa_rows.specs.declared.side.Verdict.{Verdict}
 use Rattle.aa_said.specs.Patterns.{is_literal}
 use Rattle.aa_rows.specs.Ways.{names, way_by}
 use Rattle.aa_rows.specs.FileRules.{any_sort, chosen, is_nil, way_of, ways_by}
-use Rattle.aa_rows.specs.Rows.{choice_of, IsSideOf}
+use Rattle.aa_rows.specs.Rows.{IsVerdictOf}
 use Rattle.aa_rows.proofs.WayLemmas.{found, named}
 use Rattle.aa_rows.proofs.ConflictLemmas.{in_head, in_tail}
 use Rattle.aa_compile.specs.declared.targets.Targets.{Targets}
@@ -94,20 +94,20 @@ module _ (profiles : List Profile) (n : ℕ) (p : Profile) (path : List ℕ) whe
   map_none number None h = refl
   map_none number (Some e) h = absurd (let f = h in cc)
 
-  module _ (owned : Bool) (side : Side) (is : IsSideOf (way_by p.files) p.files path owned side) where
-    pub denied : has_exec side.sets.deny ≡ true → Denied ≡ transition profiles n p path owned
+  module _ (owned : Bool) (verdict : Verdict) (is : IsVerdictOf (way_by p.files) p.files path owned verdict) where
+    pub denied : has_exec verdict.sets.deny ≡ true → Denied ≡ transition profiles n p path owned
     denied h = sym (ap (λ b. cond b Denied (option_map_or (leads_by profiles n p path) (way_of (chosen p.files path owned)) Nowhere)) (sym (ap (λ s. has_exec s.deny) is.sets) ∙ h))
 
     abbrev undenied : Option Exec → Transition
     undenied o = option_map_or (leads_by profiles n p path) o Nowhere
 
-    allowed : has_exec side.sets.deny ≡ false → transition profiles n p path owned ≡ undenied (way_of (chosen p.files path owned))
+    allowed : has_exec verdict.sets.deny ≡ false → transition profiles n p path owned ≡ undenied (way_of (chosen p.files path owned))
     allowed h = ap (λ b. cond b Denied (undenied (way_of (chosen p.files path owned)))) (sym (ap (λ s. has_exec s.deny) is.sets) ∙ h)
 
-    pub nowhere : has_exec side.sets.deny ≡ false → (choice_of side).way ≡ None → Nowhere ≡ transition profiles n p path owned
+    pub nowhere : has_exec verdict.sets.deny ≡ false → verdict.chosen.way ≡ None → Nowhere ≡ transition profiles n p path owned
     nowhere h e = sym (allowed h ∙ ap undenied (map_none (way_by p.files) (way_of (chosen p.files path owned)) (sym e ∙ is.way)))
 
-    pub led : (w : Way) (t : Transition) → has_exec side.sets.deny ≡ false → (choice_of side).way ≡ Some w → t ≡ leads w.kind w.fallback w.scrub n (found_in profiles n p path w) → t ≡ transition profiles n p path owned
+    pub led : (w : Way) (t : Transition) → has_exec verdict.sets.deny ≡ false → verdict.chosen.way ≡ Some w → t ≡ leads w.kind w.fallback w.scrub n (found_in profiles n p path w) → t ≡ transition profiles n p path owned
     led w t h e to =
         let q = map_some (way_by p.files) (way_of (chosen p.files path owned)) w (sym e ∙ is.way) in
         let s = chosen_says p.files path owned q.0 q.1 in
@@ -117,7 +117,7 @@ module _ (profiles : List Profile) (n : ℕ) (p : Profile) (path : List ℕ) whe
         ∙ sym (allowed h ∙ ap undenied q.1)
 
     -- the number in a way is that of a rule
-    pub within : (w : Way) (t : ℕ) → (choice_of side).way ≡ Some w → w.target ≡ Some t → t < length p.files
+    pub within : (w : Way) (t : ℕ) → verdict.chosen.way ≡ Some w → w.target ≡ Some t → t < length p.files
     within w t e at =
         let q = map_some (way_by p.files) (way_of (chosen p.files path owned)) w (sym e ∙ is.way) in
         let s = chosen_says p.files path owned q.0 q.1 in

@@ -7,10 +7,11 @@ ghost use Rattle.aa_faults.specs.Kinds.{no_memory};
 ghost use Rattle.aa_policy.specs.declared.policy.Profile.{Profile};
 ghost use Rattle.aa_policy.specs.Lawful.{IsWithinLimits, ParentsComeFirst};
 ghost use Rattle.aa_attach.specs.Attached.{attached, Attaches};
-ghost use Rattle.aa_rows.specs.Rows.{IsSideOf};
+ghost use Rattle.aa_rows.specs.Rows.{IsVerdictOf};
 ghost use Rattle.aa_rows.specs.Ways.{way_by};
 ghost use Rattle.aa_compile.specs.Found.{found_in};
-ghost use Rattle.aa_compile.specs.Transitions.{transition};
+ghost use Rattle.aa_compile.specs.Numbering.{IsNumbering};
+ghost use Rattle.aa_compile.specs.Transitions.{named, transition};
 ghost use Rattle.aa_compile.specs.Checks.{tops, children, first_spot, IsRight, AreRight, IsRefused, IsAccepted};
 
 use crate::groups::{groups_of, numbers_of_tops};
@@ -20,9 +21,10 @@ use crate::transition::{Transition, lead};
 use aa_attach::AttachRows;
 use aa_faults::{PolicyFault, Spot};
 use aa_policy::{ExecKind, Perms, Policy, Profile};
-use aa_rows::{Side, Way};
+use aa_rows::{Verdict, Way};
 use bitflags::Flags;
 use std::alloc::Global;
+use std::collections::HashMap;
 use std::marker::Model;
 
 /// A policy that isn't compiled, and why.
@@ -36,6 +38,8 @@ pub struct CompileRefusal {
 #[derive(Drop)]
 pub struct Compiled {
     policy: Policy,
+    /// The numbers of the profiles by their names.
+    names: HashMap<Vec<u8>, u16>,
     tops: AttachRows,
     rows: Vec<ProfileRows>,
 }
@@ -46,6 +50,7 @@ impl Model for Compiled {
     ghost use Rattle.aa_compile.specs.Found.{found_in};
     ghost use Rattle.aa_compile.specs.Transitions.{transition};
     ghost use Rattle.aa_compile.specs.Checks.{IsCompiled};
+    ghost use Rattle.aa_compile.specs.Numbering.{IsNumbering};
 
     ghost Value = { Policy };
 
@@ -53,7 +58,7 @@ impl Model for Compiled {
 
     ghost view = { λ c. c.policy };
 
-    ghost invariant = { λ c. IsCompiled c.policy.profiles c.tops c.rows.items };
+    ghost invariant = { λ c. IsCompiled c.policy.profiles c.tops c.rows.items × IsNumbering c.names c.policy.profiles };
 }
 
 fn spot_of_first(profiles: &[Profile]) -> Spot
@@ -65,17 +70,22 @@ fn spot_of_first(profiles: &[Profile]) -> Spot
     }
 }
 
-fn tables_of(
-    alloc: Global,
-    profiles: &[Profile],
-    limit: usize,
-) -> Result<(AttachRows, Vec<ProfileRows>), PolicyFault>
+/// What is kept of a policy beside itself.
+#[derive(Drop)]
+struct Tables {
+    names: HashMap<Vec<u8>, u16>,
+    tops: AttachRows,
+    rows: Vec<ProfileRows>,
+}
+
+fn tables_of(alloc: Global, profiles: &[Profile], limit: usize) -> Result<Tables, PolicyFault>
     requires limits { IsWithinLimits profiles.now }
     requires parents { ParentsComeFirst profiles.now }
     requires some { 0 < limit }
     requires limit { limit ≤ 1000000 }
-    ensures right { IfOk result (λ t. AreRight profiles.now (length profiles.now) t.1.items) }
-    ensures tops { IfOk result (λ t. Attaches profiles.now (tops profiles.now) t.0) }
+    ensures right { IfOk result (λ t. AreRight profiles.now (length profiles.now) t.rows.items) }
+    ensures tops { IfOk result (λ t. Attaches profiles.now (tops profiles.now) t.tops) }
+    ensures names { IfOk result (λ t. IsNumbering t.names profiles.now) }
     ensures accepted { IfOk result (λ _. IsAccepted profiles.now limit) }
     ensures refused { IfErr result (λ f. (f ≡ no_memory) ⊎ IsRefused profiles.now limit f) }
 {
@@ -87,7 +97,7 @@ fn tables_of(
     let names = number_profiles(alloc, profiles)?;
     let groups = groups_of(alloc, profiles)?;
     let rows = rows_of(alloc, &names, groups.as_slice(), profiles, limit)?;
-    Ok((tops, rows))
+    Ok(Tables { names, tops, rows })
 }
 
 /// Makes a policy ready. An automaton of it may have at most `limit` states.
@@ -100,7 +110,12 @@ pub fn compile(alloc: Global, policy: Policy, limit: u32) -> Result<Compiled, Co
     ensures refused { IfErr result (λ e. (e.fault ≡ no_memory) ⊎ IsRefused policy.profiles limit e.fault) }
 {
     match tables_of(alloc, policy.profiles.as_slice(), limit as usize) {
-        Ok((tops, rows)) => Ok(Compiled { policy, tops, rows }),
+        Ok(Tables { names, tops, rows }) => Ok(Compiled {
+            policy,
+            names,
+            tops,
+            rows,
+        }),
         Err(fault) => Err(CompileRefusal { fault, policy }),
     }
 }
@@ -111,6 +126,13 @@ impl Compiled {
         ensures { result.now ≡ self.now }
     {
         &self.policy
+    }
+
+    /// The number of the profile with that full name.
+    pub fn find(&self, name: &[u8]) -> Option<u16>
+        ensures { result ≡ named self.now.profiles name.now }
+    {
+        self.names.get(name).copied()
     }
 
     /// The top-level profile that is attached to a path.
@@ -138,11 +160,11 @@ impl Compiled {
     }
 
     /// What the file rules of a profile say of an object: one walk, and one look at a row.
-    pub fn side(&self, number: u16, path: &[u8], owned: bool) -> Side
+    pub fn verdict(&self, number: u16, path: &[u8], owned: bool) -> Verdict
         requires { number < length self.now.profiles }
-        ensures { (p : Profile) → slice_get self.now.profiles number ≡ Some p → IsSideOf (way_by p.files) p.files path.now owned result }
+        ensures { (p : Profile) → slice_get self.now.profiles number ≡ Some p → IsVerdictOf (way_by p.files) p.files path.now owned result }
     {
-        self.rows_at(number).files.side(path, owned)
+        self.rows_at(number).files.verdict(path, owned)
     }
 
     /// The profile that a way to execute leads to, if it is found.
@@ -172,15 +194,15 @@ impl Compiled {
     }
 
     /// Where an execution by a task in a profile leads.
-    pub fn transition(&self, number: u16, path: &[u8], owned: bool, side: Side) -> Transition
+    pub fn transition(&self, number: u16, path: &[u8], owned: bool, verdict: Verdict) -> Transition
         requires number { number < length self.now.profiles }
-        requires side { (p : Profile) → slice_get self.now.profiles number ≡ Some p → IsSideOf (way_by p.files) p.files path.now owned side }
+        requires verdict { (p : Profile) → slice_get self.now.profiles number ≡ Some p → IsVerdictOf (way_by p.files) p.files path.now owned verdict }
         ensures { (p : Profile) → slice_get self.now.profiles number ≡ Some p → result ≡ transition self.now.profiles number p path.now owned }
     {
-        if side.sets.deny.contains(Perms::EXEC) {
+        if verdict.sets.deny.contains(Perms::EXEC) {
             return Transition::Denied;
         }
-        match side.chosen().way {
+        match verdict.chosen.way {
             Some(way) => lead(way, number, self.found(number, path, way)),
             None => Transition::Nowhere,
         }

@@ -1,6 +1,6 @@
 //! Which profile is attached to a path.
 
-use crate::policies::{attached, attached_child, compiled};
+use crate::policies::{attached, attached_child, compiled, found};
 use std::test::Fail;
 
 #[test]
@@ -61,5 +61,23 @@ fn no_profile_attaches_nothing(rt: HostRuntime) -> Result<(), Fail> {
     let policy = compiled(rt.alloc(), "", 1)?;
     assert_eq!(rt; attached(&policy, "/bin/ls"), None);
     assert_eq!(rt; attached_child(&policy, 0, "/bin/ls"), None);
+    Ok(())
+}
+
+#[test]
+fn profiles_are_found_by_their_full_names(rt: HostRuntime) -> Result<(), Fail> {
+    let text = "profile p /x { profile c { } } profile q { profile c { } }";
+    let policy = compiled(rt.alloc(), text, 4096)?;
+    let rows: [(&str, Option<u16>); 6] = [
+        ("p", Some(0)),
+        ("p//c", Some(1)),
+        ("q", Some(2)),
+        ("q//c", Some(3)),
+        ("c", None),
+        ("", None),
+    ];
+    for (name, expected) in rows {
+        assert_eq!(rt; found(&policy, name), expected, "{name}");
+    }
     Ok(())
 }

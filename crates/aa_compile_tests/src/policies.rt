@@ -52,6 +52,11 @@ pub fn handed_back(alloc: Global, text: &str, limit: u32) -> Option<usize> {
     }
 }
 
+/// The number of the profile with that full name.
+pub fn found(compiled: &Compiled, name: &str) -> Option<u16> {
+    compiled.find(name.as_bytes())
+}
+
 /// The top-level profile that is attached to the path.
 pub fn attached(compiled: &Compiled, path: &str) -> Option<u16> {
     compiled.attach(path.as_bytes())
@@ -65,8 +70,8 @@ pub fn attached_child(compiled: &Compiled, parent: u16, path: &str) -> Option<u1
 /// Where an execution of the path leads from a profile, where that is there. Nobody's path is owned.
 pub fn execution(compiled: &Compiled, profile: u16, path: &str) -> Option<Transition> {
     if (profile as usize) < compiled.policy().profiles.as_slice().len() {
-        let side = compiled.side(profile, path.as_bytes(), false);
-        return Some(compiled.transition(profile, path.as_bytes(), false, side));
+        let verdict = compiled.verdict(profile, path.as_bytes(), false);
+        return Some(compiled.transition(profile, path.as_bytes(), false, verdict));
     }
     None
 }
@@ -84,7 +89,7 @@ pub fn to_none(scrub: bool) -> Option<Transition> {
 /// The bits that the rules of a profile allow, deny, deny with a line, and report, where the profile is there.
 pub fn bits(compiled: &Compiled, profile: u16, path: &str, owned: bool) -> Option<[u8; 4]> {
     if (profile as usize) < compiled.policy().profiles.as_slice().len() {
-        let sets = compiled.side(profile, path.as_bytes(), owned).sets;
+        let sets = compiled.verdict(profile, path.as_bytes(), owned).sets;
         return Some([sets.allow.0, sets.deny.0, sets.loud.0, sets.audited.0]);
     }
     None

@@ -15,7 +15,7 @@ use Rattle.aa_jobs.specs.Jobs.{job_of}
 use Rattle.aa_policy.specs.declared.policy.Policy.{Policy}
 use Rattle.aa_jobs.specs.declared.job.Job.{Job}
 use Rattle.aa_engine.specs.Policies.{IsPolicyOf}
-use Rattle.aa_engine.specs.Engines.{IsPolicyCause, HandsIn, IsCheckOutput, IsRunOutput, Explains}
+use Rattle.aa_engine.specs.Engines.{IsPolicyCause, HandsIn, IsCheckOutput, IsRunOutput, IsReplayOutput, Explains}
 
 -- more bytes than a job may have
 too_long : (input : List ℕ) → 16777216 < length input → job_of input ≡ Err TooLarge
@@ -39,6 +39,14 @@ check_kept input text o = record {
 
 pub run_kept : (input text : List ℕ) → IsRunOutput (take 16777217 input) text → IsRunOutput input text
 run_kept input text o = record {
+  job = o.job;
+  policy = o.policy;
+  asked = record { read = sym (kept_same input) ∙ o.asked.read; spelled = o.asked.spelled };
+  written = o.written;
+}
+
+pub replay_kept : (input text : List ℕ) → IsReplayOutput (take 16777217 input) text → IsReplayOutput input text
+replay_kept input text o = record {
   job = o.job;
   policy = o.policy;
   asked = record { read = sym (kept_same input) ∙ o.asked.read; spelled = o.asked.spelled };

@@ -7,6 +7,7 @@ use Rattle.aa_engine.specs.declared.fault.RunFault.TheVariants as causes
 use Rattle.aa_engine.specs.Answers.{first_unknown}
 use Rattle.aa_jobs.specs.Jobs.{job_of}
 use Rattle.aa_engine.specs.Output.{run_text, check_text}
+use Rattle.aa_engine.specs.Replay.{replay_text}
 use Rattle.aa_engine.specs.Policies.{IsPolicyOf}
 
 -- the bytes hand in this job, and its texts this policy
@@ -27,6 +28,13 @@ pub record IsRunOutput (input text : List ℕ) : Type 0 where
   pub policy : Policy
   pub asked : HandsIn input job policy
   pub written : run_text policy job.tasks ≡ Some text
+
+-- what `replay` writes for the bytes of a job
+pub record IsReplayOutput (input text : List ℕ) : Type 0 where
+  pub job : Job
+  pub policy : Policy
+  pub asked : HandsIn input job policy
+  pub written : replay_text policy job.capacity job.tasks job.events ≡ Some text
 
 -- the bytes are a job, and no policy is that of its text
 pub record HasNoPolicy (input : List ℕ) : Type 0 where

@@ -3,3 +3,4 @@ pub mod Engines
 pub mod Faults
 pub mod Output
 pub mod Policies
+pub mod Replay

@@ -5,12 +5,13 @@ ghost use Rattle.std.specs.Io.KnownBytes.{Appends, Keeps};
 ghost use Rattle.std.specs.String.{string_bytes};
 ghost use Rattle.aa_policy.specs.declared.policy.Policy.{Policy};
 ghost use Rattle.aa_engine.specs.Policies.{sources_of, CanFollow, IsPolicyOf};
-ghost use Rattle.aa_engine.specs.Engines.{HandsIn, IsPolicyCause, IsCheckOutput, IsRunOutput, Explains};
+ghost use Rattle.aa_engine.specs.Engines.{HandsIn, IsPolicyCause, IsCheckOutput, IsRunOutput, IsReplayOutput, Explains};
 
 use crate::fault::{RunFault, job_fault, mediate_fault, policy_fault};
 use crate::output::{check_output, run_output};
+use crate::replay::replay_output;
 use crate::stream::{read_input, write_text};
-use crate::tasks::mediate;
+use crate::tasks::{mediate, unknown_task};
 use aa_jobs::{Include, Job, read_job};
 use aa_mediate::{Compiled, compile};
 use aa_policy::{Policy, parse};
@@ -106,6 +107,19 @@ fn run_text_of(alloc: Global, bytes: &[u8], workers: u32) -> Result<String, RunF
     )?)
 }
 
+/// The text of `replay` for the bytes of a job.
+fn replay_text_of(alloc: Global, bytes: &[u8]) -> Result<String, RunFault>
+    ensures text { IfOk result (λ text. IsReplayOutput bytes.now (string_bytes text)) }
+    ensures cause { IfErr result (λ e. Explains e bytes.now) }
+    ensures unwritten { IfErr result (λ e. e ≢ RunFault.Write) }
+{
+    let asked = compile_job(alloc, bytes)?;
+    if let Some(task) = unknown_task(&asked.compiled, asked.job.tasks.as_slice()) {
+        return Err(RunFault::UnknownProfile(task));
+    }
+    Ok(replay_output(alloc, &asked.job, &asked.compiled)?)
+}
+
 /// Reads a job, and writes how many profiles and rules its policy has.
 ///
 /// Faults: `Read` where the reader failed or didn't come to an end within 33,554,432 calls; `Job` where the input is no job;
@@ -150,5 +164,25 @@ pub fn run_job<R: Read, W: Write>(
 {
     let bytes = read_input(alloc, reader)?;
     let text = run_text_of(alloc, bytes.as_slice(), workers)?;
+    write_text(writer, text.as_bytes())
+}
+
+/// Reads a job, makes its events happen, each at the world of its own task, and writes a line for each.
+///
+/// Faults as those of `check_job`, and `UnknownProfile` with the first task whose label names no profile.
+pub fn replay_job<R: Read, W: Write>(
+    alloc: Global,
+    reader: &mut R,
+    writer: &mut W,
+) -> Result<(), RunFault>
+    ensures written { OnOk result (IfSome (R.remaining reader.old) (λ input. (text : List ℕ)
+        × IsReplayOutput input text × Appends (W.contents writer.old) (W.contents writer.new) text)) }
+    ensures front { IsErrOf result RunFault.Write → IfSome (R.remaining reader.old) (λ input. (text : List ℕ) × (n : ℕ)
+        × IsReplayOutput input text × (n ≤ length text) × Appends (W.contents writer.old) (W.contents writer.new) (take n text)) }
+    ensures nothing { IfErr result (λ e. e ≢ RunFault.Write → Keeps (W.contents writer.old) (W.contents writer.new)) }
+    ensures cause { IfErr result (λ e. IfSome (R.remaining reader.old) (λ input. Explains e input)) }
+{
+    let bytes = read_input(alloc, reader)?;
+    let text = replay_text_of(alloc, bytes.as_slice())?;
     write_text(writer, text.as_bytes())
 }

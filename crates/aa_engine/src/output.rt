@@ -16,14 +16,14 @@ use aa_requests::Label;
 use itoa::{Buffer, Integer};
 use std::alloc::{AllocError, Global};
 
-fn push_integer<I: Integer>(out: &mut String, number: I) -> Result<(), AllocError>
+pub(crate) fn push_integer<I: Integer>(out: &mut String, number: I) -> Result<(), AllocError>
     ensures { OnOk result (string_bytes out.new ≡ string_bytes out.old ++ I.text number) }
 {
     let mut buffer = Buffer::new();
     out.push_str(buffer.format(number))
 }
 
-fn verdict(granted: bool) -> &'static str
+pub(crate) fn verdict(granted: bool) -> &'static str
     ensures { result.now ≡ verdict_word granted }
 {
     if granted { " granted" } else { " denied" }

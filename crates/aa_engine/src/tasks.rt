@@ -67,7 +67,7 @@ fn is_unknown(compiled: &Compiled, task: &Task) -> bool
 }
 
 /// The first task whose label names no profile.
-fn unknown_task(compiled: &Compiled, tasks: &[Task]) -> Option<usize>
+pub fn unknown_task(compiled: &Compiled, tasks: &[Task]) -> Option<usize>
     ensures { result ≡ first_unknown compiled.now tasks.now }
 {
     tasks.iter().position(|task| is_unknown(compiled, task))

@@ -40,6 +40,7 @@ fn ends_up_to(ends: &[usize], number: usize) -> usize
 }
 
 /// How many texts the values before that one have.
+#[tactic(auto, using(crate::proofs::Builds::before_is))]
 fn end_before(ends: &[usize], place: usize) -> usize
     requires { place ≤ length ends.now }
     ensures { result ≡ before 0 ends.now place }

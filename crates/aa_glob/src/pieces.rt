@@ -97,6 +97,7 @@ fn keeps(kept: bool, byte: u8) -> bool
 
 /// The first part of a text, what is left behind it, and whether a backslash keeps the first byte of that. `kept` says so of
 /// the text.
+#[tactic(auto, using(crate::proofs::PieceSteps::part_none, crate::proofs::PieceSteps::part_named, crate::proofs::PieceSteps::part_plain))]
 pub(crate) fn next_part(text: &[u8], kept: bool) -> Option<(Part<'_>, &[u8], bool)>
     ensures first { MatchOption result (pieces_from kept 0 text.now ≡ []) (λ r. pieces_from kept 0 text.now ≡ piece_of r.0 ∷ pieces_from r.2 0 r.1.now) }
     ensures shorter { IfSome result (λ r. length r.1.now < length text.now) }

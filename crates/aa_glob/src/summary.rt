@@ -86,6 +86,7 @@ pub(crate) fn known_summary<'d>(name: &[u8], done: &'d Done<'_>) -> &'d Variable
 }
 
 /// The summary of one part, a byte or a variable that is done.
+#[tactic(auto, using(crate::proofs::Summaries::byte_alone))]
 fn part_summary(part: Part<'_>, done: &Done<'_>) -> Summary
     requires { IsKnown done.now.entries (piece_of part) }
     ensures { (depth : ℕ) (vars : List Variable) → AreRight depth vars done.now.entries → Settled (alone (outcome depth vars) (piece_of part.entry)) result }

@@ -63,6 +63,7 @@ fn follow_from(item: &Item, text: &[u8], flags: &mut [bool], span: Span) -> usiz
 }
 
 /// The same for an item of one byte where one flag may be set, the one at that place.
+#[tactic(auto, using(crate::proofs::FlagSteps::byte_last, crate::proofs::FlagSteps::byte_next))]
 fn follow_byte(item: &Item, text: &[u8], flags: &mut [bool], place: usize) -> Span
     requires one { IsOneByte item.now }
     requires long { length text.now < length flags.old }

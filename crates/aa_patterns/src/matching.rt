@@ -19,6 +19,7 @@ fn takes(item: &Item, byte: u8) -> bool
 }
 
 /// How many items at the front have parts of one byte that the text begins with.
+#[tactic(auto, using(crate::proofs::Fronts::front_more))]
 fn front_length(items: &[Item], text: &[u8]) -> usize
     ensures items { result ≤ length items.now }
     ensures text { result ≤ length text.now }

@@ -103,6 +103,7 @@ fn all_rise(ranges: &[Range]) -> bool
 }
 
 /// The class with these signs between its brackets.
+#[tactic(auto, using(crate::proofs::ClassSteps::class_same, crate::proofs::ClassSteps::class_empty, crate::proofs::ClassSteps::class_falls, std::proofs::lemmas::Option::same_Some))]
 pub(crate) fn class_with(alloc: Global, negated: bool, body: &[Sign]) -> Result<Item, PolicyKind>
     ensures finds { Finds (λ i. i) result (class_of negated body.now) }
     ensures single { IfOk result (λ i. spelled_item i ≡ Single i ∷ []) }

@@ -182,6 +182,7 @@ struct OpenChoice {
 }
 
 /// Puts one more token behind those that the open choices and the items have.
+#[tactic(auto, using(crate::proofs::Tokens::put_single, crate::proofs::Tokens::put_comma, crate::proofs::Tokens::put_close))]
 fn put(
     alloc: Global,
     mut stack: Vec<OpenChoice>,

@@ -14,7 +14,7 @@ use Rattle.aa_rows.specs.declared.mark.Mark.{Mark}
 use Rattle.aa_said.specs.Gathered.{gather, picked}
 use Rattle.aa_rows.specs.Marks.{mark_by, marks_by}
 use Rattle.aa_rows.specs.Sides.{none_said, joined, one, side_by}
-use Rattle.aa_rows.specs.Rows.{RowTable, row_by, rows_by, side_of, side_at, patterns_of, numbered, IsSideOf, AreRowsOf}
+use Rattle.aa_rows.specs.Rows.{RowTable, row_by, rows_by, settled, verdict_of, verdict_at, patterns_of, numbered, IsVerdictOf, AreRowsOf}
 use Rattle.aa_said.proofs.Pickeds.{picked-map}
 use Rattle.aa_said.proofs.Hits.{map_map, hits_at}
 use Rattle.aa_said.proofs.Gathers.{gather-map}
@@ -51,7 +51,7 @@ module _ (number : Exec → Way) (rules : List FileRule) (patterns : List Patter
   abbrev marks : List Mark
   marks = marks_by rules ways
 
-  side_at_list : (path : List ℕ) (owned : Bool) (numbers : List ℕ) → ListsMatching patterns path numbers → IsSideOf number rules path owned (side_by owned (picked marks numbers))
+  side_at_list : (path : List ℕ) (owned : Bool) (numbers : List ℕ) → ListsMatching patterns path numbers → IsVerdictOf number rules path owned (settled (side_by owned (picked marks numbers)))
   side_at_list path owned numbers lists =
       let hits = hits_of rules in
       let lists' : ListsMatching (map (λ h. h.1) hits) path numbers = subst (λ ps. ListsMatching ps path numbers) (flat ∙ patterns_are rules) lists in
@@ -59,9 +59,9 @@ module _ (number : Exec → Way) (rules : List FileRule) (patterns : List Patter
       ap (λ ms. picked ms numbers) (ap (marks_by rules) are ∙ marks_are number rules) ∙ picked-map (mark_of number) hits numbers ∙ ap (map (mark_of number)) (hits_at hits path numbers lists') in
       let sides : side_by owned (picked marks numbers) ≡ gather joined none_said (λ h. one owned (mark_of number h)) (filter (λ h. is_match h.1.items.items path) hits) =
       ap (side_by owned) marked ∙ gather-map joined none_said (one owned) (mark_of number) (filter (λ h. is_match h.1.items.items path) hits) in
-      subst (IsSideOf number rules path owned) (sym sides) (side_is number rules path owned)
+      subst (λ side. IsVerdictOf number rules path owned (settled side)) (sym sides) (side_is number rules path owned)
 
-  row_side : (owned : Bool) (ms : List Mark) → side_of owned (row_by ms) ≡ side_by owned ms
+  row_side : (owned : Bool) (ms : List Mark) → verdict_of owned (row_by ms) ≡ settled (side_by owned ms)
   row_side true ms = refl
   row_side false ms = refl
 
@@ -72,5 +72,5 @@ module _ (number : Exec → Way) (rules : List FileRule) (patterns : List Patter
       let stored : slice_get r.rows place ≡ Some (row_by (picked marks list)) =
       ap (λ l. slice_get l place) rows ∙ slice_get-map (λ (l : List ℕ). row_by (picked marks l)) r.table.lists place
       ∙ ap (option_map (λ (l : List ℕ). row_by (picked marks l))) (slice_get-get_or r.table.lists place [] (auto.within path text)) in
-      let is : side_at r path owned ≡ side_by owned (picked marks list) = ap (λ o. option_map_or (side_of owned) o none_said) stored ∙ row_side owned (picked marks list) in
-      subst (IsSideOf number rules path owned) (sym is) (side_at_list path owned list (auto.matching path text))
+      let is : verdict_at r path owned ≡ settled (side_by owned (picked marks list)) = ap (λ o. option_map_or (verdict_of owned) o (settled none_said)) stored ∙ row_side owned (picked marks list) in
+      subst (IsVerdictOf number rules path owned) (sym is) (side_at_list path owned list (auto.matching path text))

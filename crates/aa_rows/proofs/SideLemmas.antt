@@ -19,7 +19,7 @@ use Rattle.aa_said.specs.Patterns.{is_literal}
 use Rattle.aa_rows.specs.Marks.{mark_by}
 use Rattle.aa_rows.specs.Sides.{no_choice, earlier, none_said, joined, one}
 use Rattle.aa_rows.specs.FileRules.{some_match, any_sort, applies_by, saying, file_verdict, says_how, ways_by, is_nil, chosen, way_of}
-use Rattle.aa_rows.specs.Rows.{choice_of, IsSideOf}
+use Rattle.aa_rows.specs.Rows.{choice_of, settled, IsVerdictOf}
 use Rattle.aa_said.proofs.Gathers.{gather_agree, gather_part, of_hits, gather_tested}
 use Rattle.aa_rows.proofs.Joins.{both_joins, earlier_joins}
 
@@ -192,7 +192,7 @@ module _ (number : Exec → Way) where
     chosen_head : HeadSays (chosen rules path owned)
     chosen_head = chosen_says (is_nil (ways_by is_literal rules path owned)) (ways_by is_literal rules path owned) (ways_by any_sort rules path owned) (ways_say is_literal) (ways_say any_sort)
 
-    pub side_is : IsSideOf number rules path owned side
+    pub side_is : IsVerdictOf number rules path owned (settled side)
     side_is = record {
       sets = sets_are;
       way = ap (λ c. c.way) choice_is ∙ way_first (chosen rules path owned) chosen_head;

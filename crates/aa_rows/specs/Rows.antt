@@ -14,6 +14,7 @@ use Rattle.aa_rows.specs.declared.mark.Way.{Way}
 use Rattle.aa_rows.specs.declared.mark.Mark.{Mark}
 use Rattle.aa_rows.specs.declared.side.Chosen.{Chosen}
 use Rattle.aa_rows.specs.declared.side.Side.{Side}
+use Rattle.aa_rows.specs.declared.side.Verdict.{Verdict}
 use Rattle.aa_rows.specs.declared.rows.Row.{Row}
 use Rattle.aa_said.specs.Gathered.{picked}
 use Rattle.aa_rows.specs.Sides.{side_by, none_said}
@@ -24,33 +25,37 @@ pub record RowTable : Type 0 where
   pub table : Table
   pub rows : List Row
 
+-- the literal choice, or else that of all
+abbrev pub choice_of : Side → Chosen
+choice_of side = if is_some side.literal.way then side.literal else side.any
+
+-- what is kept of what marks say
+abbrev pub settled : Side → Verdict
+settled side = record { sets = side.sets; chosen = choice_of side }
+
 abbrev pub row_by : List Mark → Row
-row_by marks = record { owned = side_by true marks; other = side_by false marks }
+row_by marks = record { owned = settled (side_by true marks); other = settled (side_by false marks) }
 
 abbrev pub rows_by : List Mark → List (List ℕ) → List Row
 rows_by marks lists = map (λ list. row_by (picked marks list)) lists
 
--- the side of a row that speaks of owned objects, or of others
-abbrev pub side_of : Bool → Row → Side
-side_of owned row = if owned then row.owned else row.other
+-- what a row says of owned objects, or of others
+abbrev pub verdict_of : Bool → Row → Verdict
+verdict_of owned row = if owned then row.owned else row.other
 
--- the side that a path leads to
-abbrev pub side_at : RowTable → List ℕ → Bool → Side
-side_at r path owned = option_map_or (side_of owned) (slice_get r.rows (place_of r.table path)) none_said
+-- what the row says that a path leads to
+abbrev pub verdict_at : RowTable → List ℕ → Bool → Verdict
+verdict_at r path owned = option_map_or (verdict_of owned) (slice_get r.rows (place_of r.table path)) (settled none_said)
 
--- the literal ones, or else all
-abbrev pub choice_of : Side → Chosen
-choice_of side = if is_some side.literal.way then side.literal else side.any
-
--- the side says what the rules say of the object; `number` numbers the ways to execute
-pub record IsSideOf (number : Exec → Way) (rules : List FileRule) (path : List ℕ) (owned : Bool) (side : Side) : Type 0 where
-  pub sets : side.sets ≡ file_verdict rules path owned
-  pub way : (choice_of side).way ≡ option_map number (way_of (chosen rules path owned))
-  pub audited : (choice_of side).audited ≡ list_any (λ r. r.audit) (chosen rules path owned)
+-- it is what the rules say of the object; `number` numbers the ways to execute
+pub record IsVerdictOf (number : Exec → Way) (rules : List FileRule) (path : List ℕ) (owned : Bool) (verdict : Verdict) : Type 0 where
+  pub sets : verdict.sets ≡ file_verdict rules path owned
+  pub way : verdict.chosen.way ≡ option_map number (way_of (chosen rules path owned))
+  pub audited : verdict.chosen.audited ≡ list_any (λ r. r.audit) (chosen rules path owned)
 
 -- each path leads to what the rules say of it
 abbrev pub AreRowsOf : (Exec → Way) → List FileRule → RowTable → Type 0
-AreRowsOf number rules r = (path : List ℕ) (owned : Bool) → IsText path → IsSideOf number rules path owned (side_at r path owned)
+AreRowsOf number rules r = (path : List ℕ) (owned : Bool) → IsText path → IsVerdictOf number rules path owned (verdict_at r path owned)
 
 -- the patterns of the rules, in order
 abbrev pub patterns_of : List FileRule → List Pattern

@@ -10,4 +10,4 @@ mod ways;
 
 pub use mark::{Mark, Way};
 pub use rows::{FileRows, Row, RowsFault};
-pub use side::{Chosen, Side};
+pub use side::{Chosen, Verdict};

@@ -6,13 +6,13 @@ ghost use Rattle.aa_auto.specs.Tables.{HasPlaces};
 ghost use Rattle.aa_rows.specs.Ways.{way_by};
 ghost use Rattle.aa_said.specs.Gathered.{picked};
 ghost use Rattle.aa_rows.specs.Marks.{marks_by};
-ghost use Rattle.aa_rows.specs.Rows.{row_by, rows_by, side_at, side_of, patterns_of, AreRowsOf, fault_of};
+ghost use Rattle.aa_rows.specs.Rows.{row_by, rows_by, verdict_at, verdict_of, patterns_of, AreRowsOf, fault_of};
 ghost use Rattle.aa_said.specs.Patterns.{HasAutomaton};
 ghost use Rattle.aa_rows.specs.FileRules.{Conflicts};
 
 use crate::conflicts::has_conflict;
 use crate::mark::{Mark, marks_of};
-use crate::side::Side;
+use crate::side::{Side, Verdict};
 use crate::ways::ways_of;
 use aa_auto::{Automaton, BuildFault};
 use aa_patterns::Pattern;
@@ -24,9 +24,9 @@ use std::marker::Model;
 #[derive(Clone, Copy, Debug, PartialEq, Eq)]
 pub struct Row {
     /// Of objects that the task's user owns.
-    pub owned: Side,
+    pub owned: Verdict,
     /// Of others.
-    pub other: Side,
+    pub other: Verdict,
 }
 
 impl Row {
@@ -34,13 +34,13 @@ impl Row {
         ensures { result ≡ row_by (picked marks.now numbers.now) }
     {
         Row {
-            owned: Side::of(marks, numbers, true),
-            other: Side::of(marks, numbers, false),
+            owned: Side::of(marks, numbers, true).settled(),
+            other: Side::of(marks, numbers, false).settled(),
         }
     }
 
-    fn side(&self, owned: bool) -> Side
-        ensures { result ≡ side_of owned self.now }
+    fn verdict(&self, owned: bool) -> Verdict
+        ensures { result ≡ verdict_of owned self.now }
     {
         if owned { self.owned } else { self.other }
     }
@@ -158,10 +158,10 @@ impl FileRows {
     }
 
     /// What the rules say of an object.
-    pub fn side(&self, path: &[u8], owned: bool) -> Side
-        ensures { result ≡ side_at self.now path.now owned }
+    pub fn verdict(&self, path: &[u8], owned: bool) -> Verdict
+        ensures { result ≡ verdict_at self.now path.now owned }
     {
         let row = self.automaton.place(path);
-        self.rows[row].side(owned)
+        self.rows[row].verdict(owned)
     }
 }

@@ -3,7 +3,7 @@
 ghost use Rattle.std.specs.Prelude.{◌≡◌};
 ghost use Rattle.std.specs.Option.{option_map_or};
 ghost use Rattle.std.specs.List.{slice_get};
-ghost use Rattle.aa_rows.specs.Rows.{choice_of};
+ghost use Rattle.aa_rows.specs.Rows.{choice_of, settled};
 ghost use Rattle.aa_said.specs.Said.{bits_if};
 ghost use Rattle.aa_said.specs.Gathered.{picked};
 ghost use Rattle.aa_rows.specs.Sides.{earlier, choice_if, mark_says, none_said, joined, one, side_by};
@@ -19,14 +19,22 @@ pub struct Chosen {
     pub audited: bool,
 }
 
-/// What the rules that apply to an object say.
+/// What the rules that apply to an object say: its chosen rules on execution are those that match by a literal pattern, or
+/// else all.
 #[derive(Clone, Copy, Debug, PartialEq, Eq)]
-pub struct Side {
+pub struct Verdict {
     pub sets: RuleSets,
+    pub chosen: Chosen,
+}
+
+/// What marks say together, before the literal ones are chosen.
+#[derive(Clone, Copy, Debug, PartialEq, Eq)]
+pub(crate) struct Side {
+    pub(crate) sets: RuleSets,
     /// Of the allow rules on execution, those that match by a literal pattern.
-    pub literal: Chosen,
+    pub(crate) literal: Chosen,
     /// All of them.
-    pub any: Chosen,
+    pub(crate) any: Chosen,
 }
 
 fn chosen_if(test: bool, mark: &Mark) -> Chosen
@@ -76,13 +84,23 @@ fn sets_of(mark: &Mark) -> RuleSets
 
 impl Side {
     /// The literal choice, or else that of all.
-    pub fn chosen(&self) -> Chosen
+    fn chosen(&self) -> Chosen
         ensures { result ≡ choice_of self.now }
     {
         if self.literal.way.is_some() {
             self.literal
         } else {
             self.any
+        }
+    }
+
+    /// What is kept of them.
+    pub(crate) fn settled(&self) -> Verdict
+        ensures { result ≡ settled self.now }
+    {
+        Verdict {
+            sets: self.sets,
+            chosen: self.chosen(),
         }
     }
 
@@ -136,7 +154,7 @@ impl Side {
     }
 
     /// What the rules of these patterns say.
-    pub fn of(marks: &[Mark], numbers: &[u16], owned: bool) -> Side
+    pub(crate) fn of(marks: &[Mark], numbers: &[u16], owned: bool) -> Side
         ensures { result ≡ side_by owned (picked marks.now numbers.now) }
     {
         let mut side = Side::none();

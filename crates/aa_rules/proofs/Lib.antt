@@ -9,3 +9,4 @@ pub mod Phrases
 pub mod Places
 pub mod Productions
 pub mod Repetition
+pub mod WrongModes

@@ -1,15 +1,19 @@
 //! Why reading can't go on at a word.
 
-ghost use Rattle.std.specs.Prelude.{◌≡◌, true};
-ghost use Rattle.aa_words.specs.Splits.{word_data};
+ghost use Rattle.std.specs.Prelude.{◌≡◌, true, false, List, None};
+ghost use Rattle.aa_words.specs.Splits.{WordData, word_data};
 ghost use Rattle.aa_rules.specs.Grammar.{spot_of, place_of};
-ghost use Rattle.aa_rules.specs.Reading.{rest_of};
+ghost use Rattle.aa_rules.specs.Reading.{EntryData, rest_of};
 ghost use Rattle.aa_rules.specs.Faults.{is_word_fault};
+ghost use Rattle.aa_rules.specs.FileRules.{IsMode, IsPair, IsEntry};
+ghost use Rattle.aa_rules.specs.Modes.{mode_of};
+ghost use Rattle.aa_rules.specs.Names.{is_left_out};
+ghost use Rattle.aa_rules.specs.declared.modes.Mode.{Mode};
 
 use crate::file_rules::takes_target;
 use crate::modes::{Mode, mode_fault};
 use crate::names::{is_left_out, name_fault};
-use crate::reading::is_name_kind;
+use crate::reading::{is_keyword, is_name_kind, path_at, word_at};
 use crate::tree::RuleTree;
 use aa_tables::Perms;
 use aa_words::{PolicyFault, PolicyKind, Spot, Word, WordKind};
@@ -53,11 +57,12 @@ fn is_path_at(words: &[Word], at: usize) -> bool {
 
 /// What is wrong with a name that is no mode.
 fn wrong_mode(name: &[u8], deny: bool) -> PolicyKind
+    requires wrong { mode_of deny name.now ≡ None }
     ensures { is_word_fault result ≡ true }
 {
     match mode_fault(name, deny) {
         Some(kind) => kind,
-        None => PolicyKind::BadMode,
+        None => unreachable!(),
     }
 }
 
@@ -66,18 +71,15 @@ fn wrong_mode(name: &[u8], deny: bool) -> PolicyKind
 pub struct RulePlace {
     /// `audit`, `allow` or `deny`.
     qualified: bool,
-    /// `deny`.
-    deny: bool,
     /// `owner`.
     owner: bool,
 }
 
 impl RulePlace {
     /// Where a rule's qualifiers end, if it has any.
-    pub fn behind_qualifiers(deny: bool, qualified: bool) -> RulePlace {
+    pub fn behind_qualifiers(qualified: bool) -> RulePlace {
         RulePlace {
             qualified,
-            deny,
             owner: false,
         }
     }
@@ -88,7 +90,8 @@ impl RulePlace {
     }
 
     /// Why no rule goes on with a name here.
-    fn name_fault(self, name: &[u8], path_follows: bool) -> PolicyKind
+    fn name_fault(self, name: &[u8], deny: bool, path_follows: bool) -> PolicyKind
+        requires wrong { is_left_out name.now ≡ false → path_follows ≡ true → mode_of deny name.now ≡ None }
         ensures { is_word_fault result ≡ true }
     {
         if is_left_out(name) {
@@ -100,7 +103,7 @@ impl RulePlace {
         if !path_follows {
             return PolicyKind::UnknownWord;
         }
-        wrong_mode(name, self.deny)
+        wrong_mode(name, deny)
     }
 
     /// Why no rule goes on with a word here that is no name.
@@ -161,53 +164,58 @@ pub fn no_comma_fault(words: &[Word], at: usize, rule: &RuleTree, end: Spot) -> 
 
 /// Why a word of a body is no file rule's first: neither a path, nor `file`, nor a mode before a
 /// path that is a right one.
-pub fn no_entry_fault(words: &[Word], at: usize, place: RulePlace, end: Spot) -> PolicyFault
+pub fn no_entry_fault(
+    words: &[Word],
+    at: usize,
+    place: RulePlace,
+    deny: bool,
+    end: Spot,
+) -> PolicyFault
+    requires wrong { (e : EntryData) (rest : List WordData) → IsEntry deny (rest_of words.now at) e rest → ⊥ }
     ensures { is_word_fault result.kind ≡ true }
 {
     if at >= words.len() {
         return fault(PolicyKind::Syntax, words, at, end);
     }
-    let word = &words[at];
     let next = at + 1;
-    match word.kind {
-        WordKind::Path | WordKind::Quoted => wrong_mode_fault(words, next, place.deny, end),
-        WordKind::Name if word.text == "file".as_bytes() => {
-            behind_file_fault(words, next, place.deny, end)
-        }
-        WordKind::Name => PolicyFault {
-            kind: place.name_fault(word.text, is_path_at(words, next)),
-            at: spot_of(word),
-        },
-        other => fault(place.word_fault(other), words, at, end),
+    if path_at(words, at).is_some() {
+        return wrong_mode_fault(words, next, deny, end);
     }
+    if is_keyword(words, at, "file".as_bytes()) {
+        return behind_file_fault(words, next, deny, end);
+    }
+    let kind = match word_at(words, at, WordKind::Name) {
+        Some(word) => place.name_fault(word.text, deny, path_at(words, next).is_some()),
+        None => place.word_fault(words[at].kind),
+    };
+    fault(kind, words, at, end)
 }
 
 /// Why the words behind `file` are no path and mode, in whichever order.
 fn behind_file_fault(words: &[Word], at: usize, deny: bool, end: Spot) -> PolicyFault
+    requires wrong { (e : EntryData) (rest : List WordData) → IsPair deny (rest_of words.now at) e rest → ⊥ }
     ensures { is_word_fault result.kind ≡ true }
 {
-    if at >= words.len() {
-        return fault(PolicyKind::Syntax, words, at, end);
+    if path_at(words, at).is_some() {
+        return wrong_mode_fault(words, at + 1, deny, end);
     }
-    let word = &words[at];
-    let next = at + 1;
-    match word.kind {
-        WordKind::Path | WordKind::Quoted => wrong_mode_fault(words, next, deny, end),
-        WordKind::Name => match mode_fault(word.text, deny) {
+    match word_at(words, at, WordKind::Name) {
+        Some(word) => match mode_fault(word.text, deny) {
             Some(kind) => fault(kind, words, at, end),
-            None => fault(PolicyKind::Syntax, words, next, end),
+            None => fault(PolicyKind::Syntax, words, at + 1, end),
         },
-        _ => fault(PolicyKind::Syntax, words, at, end),
+        None => fault(PolicyKind::Syntax, words, at, end),
     }
 }
 
 /// Why a word isn't the mode that has to stand there.
 fn wrong_mode_fault(words: &[Word], at: usize, deny: bool, end: Spot) -> PolicyFault
+    requires wrong { (m : Mode) (rest : List WordData) → IsMode deny (rest_of words.now at) m rest → ⊥ }
     ensures { is_word_fault result.kind ≡ true }
 {
-    let kind = match words.get(at) {
-        Some(word) if word.kind == WordKind::Name => wrong_mode(word.text, deny),
-        _ => PolicyKind::Syntax,
+    let kind = match word_at(words, at, WordKind::Name) {
+        Some(word) => wrong_mode(word.text, deny),
+        None => PolicyKind::Syntax,
     };
     fault(kind, words, at, end)
 }

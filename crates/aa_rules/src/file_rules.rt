@@ -215,7 +215,8 @@ pub fn file_of<'s>(
 {
     let (owner, bare) = optional(words, at, "owner".as_bytes());
     let Some((entry, next)) = entry_of(words, bare, qualifiers.deny) else {
-        return Err(no_entry_fault(words, bare, place.behind_owner(owner), end));
+        let place = place.behind_owner(owner);
+        return Err(no_entry_fault(words, bare, place, qualifiers.deny, end));
     };
     let Some((target, behind)) = target_of(words, next, entry.mode.exec) else {
         return Err(no_target_fault(words, next, entry.mode, end));

@@ -183,7 +183,7 @@ pub fn rule_of<'s>(
     ensures within { IfOk result (λ r. (at < r.1) × (r.1 ≤ length words.now)) }
 {
     let (qualifiers, unqualified) = qualifiers_of(words, at);
-    let place = RulePlace::behind_qualifiers(qualifiers.deny, at < unqualified);
+    let place = RulePlace::behind_qualifiers(at < unqualified);
     let (rule, next) = unqualified_of(words, unqualified, qualifiers, place, end)?;
     let Some(_) = word_at(words, next, WordKind::Comma) else {
         return Err(no_comma_fault(words, next, &rule, end));

@@ -3,7 +3,7 @@
 
 mod command;
 
-use aa_engine::{RunFault, check_job, run_job};
+use aa_engine::{RunFault, check_job, replay_job, run_job};
 use clap::Error;
 use clap::error::ErrorKind;
 use command::{Command, command_named};
@@ -60,6 +60,7 @@ fn answer_job(rt: &HostRuntime, command: Command) -> Result<(), RunFault> {
     match command {
         Command::Check => check_job(alloc, &mut reader, &mut writer),
         Command::Run => run_job(alloc, &mut reader, &mut writer, 1),
+        Command::Replay => replay_job(alloc, &mut reader, &mut writer),
     }
 }
 

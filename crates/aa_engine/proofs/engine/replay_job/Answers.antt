@@ -1,0 +1,36 @@
+use Rattle.std.specs.Prelude.{IfSome}
+use Rattle.std.proofs.lemmas.Result.{err_from_is_err_and}
+use Rattle.aa_engine.specs.Engines.{IsReplayOutput, Explains}
+use Rattle.aa_engine.proofs.Inputs.{unread, explained, wrote, wrote_front, replay_kept, handed_on, on_ok, on_err}
+use Rattle.aa_engine.proofs.engine.replay_job.Goals as goal
+
+pub returns-in_err-bytes-clause-cause : goal.returns-in_err-bytes-clause-cause
+returns-in_err-bytes-clause-cause g c =
+    let q = err_from_is_err_and c.from_residual.result c.from_residual.ensures.1 in
+    let known = g.R.Read.remaining c.args.reader.now in
+    handed_on c.from_residual.result _ _ (λ e. IfSome known (λ input. Explains e input)) q.1 q.2 (unread known _ c.in_err-bytes.ensures.cause)
+
+pub returns-in_err-text-clause-cause : goal.returns-in_err-text-clause-cause
+returns-in_err-text-clause-cause g c =
+    let q = err_from_is_err_and c.from_residual-in_err-text.result c.from_residual-in_err-text.ensures.1 in
+    let known = g.R.Read.remaining c.args.reader.now in
+    handed_on c.from_residual-in_err-text.result _ _ (λ e. IfSome known (λ input. Explains e input)) q.1 q.2
+    (explained known _ _ c.in_ok-bytes.ensures.kept (rw c.as_slice.ensures.value at c.in_err-text.ensures.cause))
+
+pub returns-clause-written : goal.returns-clause-written
+returns-clause-written g c =
+    let known = g.R.Read.remaining c.args.reader.now in
+    let contents = g.W.Write.contents in
+    on_ok c.write_text.result _ _
+    (wrote IsReplayOutput known (contents c.args.writer.now) (contents c.write_text.new.writer) _ _ (record { kept = replay_kept }) c.in_ok-bytes.ensures.kept
+    (rw c.as_slice.ensures.value at c.in_ok-text.ensures.text))
+    (rw c.as_bytes.ensures.value at c.write_text.ensures.ok)
+
+pub returns-clause-front : goal.returns-clause-front
+returns-clause-front g c =
+    let known = g.R.Read.remaining c.args.reader.now in
+    let contents = g.W.Write.contents in
+    on_err c.write_text.result _ _
+    (wrote_front IsReplayOutput known (contents c.args.writer.now) (contents c.write_text.new.writer) _ _ (record { kept = replay_kept }) c.in_ok-bytes.ensures.kept
+    (rw c.as_slice.ensures.value at c.in_ok-text.ensures.text))
+    (rw c.as_bytes.ensures.value at c.write_text.ensures.err)
