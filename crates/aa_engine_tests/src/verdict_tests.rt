@@ -69,6 +69,7 @@ fn profile_with(alloc: Global, flags: &str, rules: &[Written]) -> Result<Profile
         files: Seq::from_vec(files),
         caps: Seq::from_vec(Vec::new(alloc)),
         nets: Seq::from_vec(Vec::new(alloc)),
+        changes: Seq::from_vec(Vec::new(alloc)),
     })
 }
 

@@ -16,6 +16,7 @@ use Rattle.aa_reader.specs.Reading.{spelled}
 use Rattle.aa_glob.specs.Variables.{Variable}
 use Rattle.aa_glob.proofs.Depths.{expands_once}
 use Rattle.aa_reader.proofs.Spellings.{tokens_decide_items}
+use Rattle.aa_policy.specs.declared.rule.ChangeRule.{ChangeRule}
 use Rattle.aa_policy.specs.declared.rule.Exec.{Exec}
 use Rattle.aa_policy.specs.declared.rule.FileRule.{FileRule}
 use Rattle.aa_policy.specs.declared.policy.Profile.{Profile}
@@ -25,7 +26,7 @@ use Rattle.aa_policy.specs.Bodies.{ProfileData, IsPolicy, if_any}
 use Rattle.aa_heads.specs.Heads.{AttachmentData}
 use Rattle.aa_rules.specs.Reading.{FileData}
 use Rattle.aa_policy.specs.Lawful.{IsLawful, IsLawfulRule, IsWithinLimits, IsWithinCounts, file_patterns, has_exec, names_of}
-use Rattle.aa_policy.specs.Sameness.{SamePatterns, SameRule, SameProfile, SamePolicy}
+use Rattle.aa_policy.specs.Sameness.{SamePatterns, SameRule, SameChange, SameProfile, SamePolicy}
 use Rattle.aa_policy.specs.Spelling.{Spells, IsRepeated, AttachesTo, MeansRule, MeansProfile, MeansProfiles, exec_of, files_of, paths_of, passed_over_from}
 use Rattle.aa_policy.proofs.Attachments.{same_sum, same_attachments}
 use Rattle.aa_policy.proofs.Expanded.{never_refused}
@@ -65,6 +66,9 @@ attachments_once vars None ps qs h k = rw (h, k) tt
 attachments_once vars (Some a) ps qs h k =
     same_patterns ps qs (same_ok (tokens_of ps) (tokens_of qs) (expands_once vars a.path (Ok (tokens_of ps)) (Ok (tokens_of qs)) h k))
 
+changes_once : (rs ss : List ChangeRule) → rs ≡ [] → ss ≡ [] → AllZip SameChange rs ss
+changes_once rs ss h k = rw (h, k) tt
+
 profile_once : (vars : List Variable) (d : ProfileData) (p q : Profile) → MeansProfile vars d p → MeansProfile vars d q → SameProfile p q
 profile_once vars d p q a b = record {
   at = a.at_is ∙ sym b.at_is;
@@ -76,6 +80,7 @@ profile_once vars d p q a b = record {
   files = zip_join (MeansRule vars) (MeansRule vars) SameRule (rule_once vars) (files_of d.rules) p.files q.files a.files_are b.files_are;
   caps = a.caps_are ∙ sym b.caps_are;
   nets = a.nets_are ∙ sym b.nets_are;
+  changes = changes_once p.changes q.changes a.changes_are b.changes_are;
 }
 
 moved : (u v : List Variable) (s t : List ProfileData) (ps : List Profile) → u ≡ v → s ≡ t → MeansProfiles u s ps → MeansProfiles v t ps

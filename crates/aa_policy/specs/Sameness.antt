@@ -1,8 +1,9 @@
 -- When two policies are the same.
-use Rattle.std.specs.Prelude.{◌≡◌, List}
+use Rattle.std.specs.Prelude.{◌≡◌, List, Option, Some, None}
 use Rattle.std.specs.List.{AllZip}
 use Rattle.aa_patterns.specs.declared.pattern.Pattern.{Pattern}
 use Rattle.aa_items.specs.Sameness.{SameItems}
+use Rattle.aa_policy.specs.declared.rule.ChangeRule.{ChangeRule}
 use Rattle.aa_policy.specs.declared.rule.FileRule.{FileRule}
 use Rattle.aa_policy.specs.declared.policy.Profile.{Profile}
 use Rattle.aa_policy.specs.declared.policy.Policy.{Policy}
@@ -20,6 +21,18 @@ pub record SameRule (r s : FileRule) : Type 0 where
   pub exec : r.exec ≡ s.exec
   pub patterns : SamePatterns r.patterns s.patterns
 
+-- no pattern twice, or two patterns of the same items in their place
+abbrev pub SameIfAny : Option Pattern → Option Pattern → Type 0
+SameIfAny None None = Unit {0}
+SameIfAny (Some p) (Some q) = SameItems p.items.items q.items.items
+SameIfAny _ _ = ⊥
+
+-- rules on changes of profile that are equal but for where their patterns lie
+pub record SameChange (r s : ChangeRule) : Type 0 where
+  pub audit : r.audit ≡ s.audit
+  pub deny : r.deny ≡ s.deny
+  pub pattern : SameIfAny r.pattern s.pattern
+
 -- profiles that are equal but for where patterns lie
 pub record SameProfile (p q : Profile) : Type 0 where
   pub at : p.at ≡ q.at
@@ -31,6 +44,7 @@ pub record SameProfile (p q : Profile) : Type 0 where
   pub files : AllZip SameRule p.files q.files
   pub caps : p.caps ≡ q.caps
   pub nets : p.nets ≡ q.nets
+  pub changes : AllZip SameChange p.changes q.changes
 
 -- policies that are equal but for where patterns lie
 pub record SamePolicy (p q : Policy) : Type 0 where

@@ -75,6 +75,7 @@ pub record MeansProfile (vars : List Variable) (p : ProfileData) (q : Profile) :
   pub files_are : AllZip (MeansRule vars) (files_of p.rules) q.files
   pub caps_are : q.caps ≡ flat_map cap_rules_of p.rules
   pub nets_are : q.nets ≡ flat_map net_rules_of p.rules
+  pub changes_are : q.changes ≡ []
 
 -- the profiles that are written, in their order
 abbrev pub MeansProfiles : List Variable → List ProfileData → List Profile → Type 0

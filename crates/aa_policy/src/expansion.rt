@@ -175,6 +175,7 @@ fn profile(alloc: Global, vars: &Vars, tree: &ProfileTree) -> Result<Profile, Po
         files: Seq::from_vec(files),
         caps: Seq::from_vec(caps),
         nets: Seq::from_vec(nets),
+        changes: Seq::from_vec(Vec::new(alloc)),
     })
 }
 

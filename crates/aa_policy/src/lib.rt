@@ -19,4 +19,4 @@ pub use aa_rules::{CapRule, ExecKind, Fallback, NetRule};
 pub use aa_tables::{Cap, Caps, Family, Perms, SockType};
 pub use parser::{parse, spelled_once};
 pub use policy::{PassedOver, Policy, Profile};
-pub use rule::{Exec, FileRule};
+pub use rule::{ChangeRule, Exec, FileRule};

@@ -3,7 +3,7 @@
 ghost use Rattle.aa_policy.specs.Lawful.{IsLawful};
 ghost use Rattle.std.proofs.Props.{props};
 
-use crate::rule::FileRule;
+use crate::rule::{ChangeRule, FileRule};
 use aa_glob::Pattern;
 use aa_lists::{Seq, Text};
 use aa_rules::{CapRule, NetRule};
@@ -25,6 +25,7 @@ pub struct Profile {
     pub files: Seq<FileRule>,
     pub caps: Seq<CapRule>,
     pub nets: Seq<NetRule>,
+    pub changes: Seq<ChangeRule>,
 }
 
 /// A rule that is read and never decides.

@@ -1,4 +1,4 @@
-//! What a rule on files says.
+//! What a rule on files says, and what one on changes of profile says.
 
 use aa_glob::Pattern;
 use aa_lists::{Seq, Text};
@@ -27,4 +27,13 @@ pub struct FileRule {
     pub exec: Option<Exec>,
     /// The rule applies to a path that one of these matches.
     pub patterns: Seq<Pattern>,
+}
+
+/// A rule on changes of profile, by which a task asks for another profile by its name.
+#[derive(Drop)]
+pub struct ChangeRule {
+    pub audit: bool,
+    pub deny: bool,
+    /// The rule holds for a name that this matches; without one it holds for every name.
+    pub pattern: Option<Pattern>,
 }
