@@ -1,5 +1,5 @@
 -- Paths that expand, and the first that doesn't.
-use Rattle.std.proofs.Common.{◌≡◌, ℕ, suc, zero, ◌+◌, ◌<◌, List, drop, get_or, length, [], ◌∷◌, ◌++◌, map, Bool, true, false, cond, refl, subst, inl, inr, Option, Some, None}
+use Rattle.std.proofs.Common.{◌≡◌, ℕ, suc, zero, ◌+◌, ◌<◌, List, drop, get_or, length, [], ◌∷◌, ◌++◌, map, Bool, true, false, cond, refl, sym, ◌∙◌, subst, inl, inr, Option, Some, None}
 use Rattle.std.specs.Prelude.{flat_map, nat_lt, Result, Ok, Err}
 use Rattle.std.specs.List.{AllByRecursion}
 use Rattle.aa_faults.specs.declared.fault.PolicyKind.{PolicyKind}
@@ -12,7 +12,7 @@ use Rattle.aa_reader.specs.Reading.{tokens, tokens_from, or_bad}
 use Rattle.aa_reader.specs.Signs.{is_unsupported, signs}
 use Rattle.aa_glob.specs.Expansions.{Outcome, Texts, Stops, Deeper, both, alone, joined, in_turn, is_reserved, counted, of_values, outcome, of_path, pattern_text, expansion, and_more, expansions, Expands, in_walk, in_circle, too_many, as_texts}
 use Rattle.aa_glob.proofs.Depths.{expands_once}
-use Rattle.aa_policy.specs.Expansion.{PathData, IsExpanding, IsFirstRefused}
+use Rattle.aa_policy.specs.Expansion.{PathData, Way, AsPath, AsName, IsReadAs, IsExpanding, IsFirstRefused}
 use Rattle.aa_policy.specs.Faults.{is_path_fault}
 use Rattle.aa_policy.proofs.Growth.{rest_step}
 
@@ -108,6 +108,10 @@ expands_refused vars raw (as_texts depth most ts e few) = expansions_refused ts
 pub fault_of_path : (vars : List Variable) (raw : List ℕ) (fault : PolicyKind) → Expands vars raw (Err fault) → is_path_fault fault ≡ true
 fault_of_path vars raw fault h = expands_refused vars raw h
 
+-- a name only for what it is read as
+pub fault_of_name : (text : List ℕ) (fault : PolicyKind) → tokens text ≡ Err fault → is_path_fault fault ≡ true
+fault_of_name text fault e = subst Refused e (tokens_refused text)
+
 -- ---- the first path that is refused
 
 abbrev AllExpanding : List Variable → List PathData → Type 0
@@ -130,10 +134,15 @@ expanded ts = Ok ts
 ok_err : (ts : List (List Token)) (fault : PolicyKind) → expanded ts ≡ Err fault → ⊥
 ok_err ts fault e = cc
 
+-- a text is read in one way alone
+read_once : (way : Way) (vars : List Variable) (text : List ℕ) (r s : Result (List (List Token)) PolicyKind) → IsReadAs way vars text r → IsReadAs way vars text s → r ≡ s
+read_once AsPath vars text r s h k = expands_once vars text r s h k
+read_once AsName vars text r s h k = sym h ∙ k
+
 -- what expands is not refused
 pub never_refused : (vars : List Variable) (paths : List PathData) (e : PolicyFault) → AllExpanding vars paths → IsFirstRefused vars paths e → ⊥
 never_refused vars [] e a h = h
-never_refused vars (p ∷ ps) e a (inl h) = ok_err a.0.0 e.kind (expands_once vars p.text (Ok a.0.0) (Err e.kind) a.0.1 h.kind)
+never_refused vars (p ∷ ps) e a (inl h) = ok_err a.0.0 e.kind (read_once p.way vars p.text (Ok a.0.0) (Err e.kind) a.0.1 h.kind)
 never_refused vars (p ∷ ps) e a (inr h) = never_refused vars ps e a.1 h.1
 
 -- the refusal of one of the things that are read in turn

@@ -12,7 +12,7 @@ use Rattle.aa_policy.specs.Bodies.{ChildData, FamilyData, ProfileData, PartData,
 use Rattle.aa_rules.specs.Grammar.{Production, Ending, Many, IsRule, Closes, IsEnd}
 use Rattle.aa_heads.specs.Heads.{TitleData, IsTitle}
 use Rattle.aa_rules.specs.Names.{is_full_name, is_right_name, is_plain_name}
-use Rattle.aa_rules.specs.Reading.{RuleData, OnFile, OnCap, OnNet, Listed}
+use Rattle.aa_rules.specs.Reading.{RuleData, OnFile, OnCap, OnNet, OnChange, Listed}
 use Rattle.aa_policy.specs.Spelling.{on_file, files_of}
 use Rattle.aa_policy.proofs.LawfulModes.{IsLawfulFile, file_lawful}
 use Rattle.aa_policy.proofs.Meaning.{all_append}
@@ -106,6 +106,7 @@ rule_lawful : (ws : List WordData) (r : RuleData) (rest : List WordData) → IsR
 rule_lawful ws (OnFile f) rest i = (file_lawful i.qualifiers i.unqualified f i.after i.says, tt)
 rule_lawful ws (OnCap rule) rest i = tt
 rule_lawful ws (OnNet rule) rest i = tt
+rule_lawful ws (OnChange c) rest i = tt
 rule_lawful ws (Listed keyword) rest i = tt
 
 statement_lawful : (ws : List WordData) (s : Option RuleData) (rest : List WordData) → IsStatement ws s rest → AllByRecursion RuleLawful (if_any s)

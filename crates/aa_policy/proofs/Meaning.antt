@@ -7,15 +7,17 @@ use Rattle.std.proofs.lemmas.List.Concat.{flat_map-cons}
 use Rattle.std.proofs.lemmas.Grind.{flat_map-append}
 use Rattle.aa_patterns.specs.declared.pattern.Pattern.{Pattern}
 use Rattle.aa_glob.specs.Variables.{Variable}
+use Rattle.aa_policy.specs.declared.rule.ChangeRule.{ChangeRule}
 use Rattle.aa_policy.specs.declared.rule.FileRule.{FileRule}
 use Rattle.aa_policy.specs.declared.policy.Profile.{Profile}
 use Rattle.aa_rules.specs.declared.tree.RuleTree.{RuleTree}
 use Rattle.aa_policy.specs.declared.tree.ProfileTree.{ProfileTree}
-use Rattle.aa_policy.specs.Expansion.{IsExpanding, tokens_of}
+use Rattle.aa_reader.specs.Reading.{spelled}
+use Rattle.aa_policy.specs.Expansion.{PathData, IsExpanding, alone, tokens_of}
 use Rattle.aa_policy.specs.Bodies.{ProfileData, profile_data, tree_data}
 use Rattle.aa_heads.specs.Heads.{AttachmentData}
-use Rattle.aa_rules.specs.Reading.{FileData, RuleData, OnFile, OnCap, OnNet, Listed, rule_data}
-use Rattle.aa_policy.specs.Spelling.{AttachesTo, MeansRule, MeansProfile, MeansProfiles, on_file, files_of, rule_paths, attachment_paths, profile_paths, paths_of}
+use Rattle.aa_rules.specs.Reading.{NameData, RuleData, OnFile, OnCap, OnNet, OnChange, Listed, rule_data}
+use Rattle.aa_policy.specs.Spelling.{AttachesTo, Aims, MeansRule, MeansChange, MeansProfile, MeansProfiles, on_file, files_of, on_change, changes_of, rule_paths, named_paths, change_paths, attachment_paths, profile_paths, paths_of}
 
 -- ---- lists that are related element by element
 
@@ -55,19 +57,20 @@ zip_all R P f [] (y ∷ ys) h = absurd h
 zip_all R P f (x ∷ xs) [] h = absurd h
 zip_all R P f (x ∷ xs) (y ∷ ys) h = (f x y h.0, zip_all R P f xs ys h.1)
 
--- ---- the file rules of a body
+-- ---- the rules of one kind in a body
 
-more_files : (xs : List RuleTree) (i : ℕ) (d : RuleTree) → i < length xs → files_of (map rule_data (take (i + 1) xs)) ≡ files_of (map rule_data (take i xs)) ++ on_file (rule_data (get_or xs i d))
-more_files xs i d h =
-    ap files_of (map_more rule_data xs i d h) ∙ flat_map-append on_file (map rule_data (take i xs)) (rule_data (get_or xs i d) ∷ [])
-    ∙ ap (λ (x : List FileData). files_of (map rule_data (take i xs)) ++ x) (flat_map-cons on_file (rule_data (get_or xs i d)) [] ∙ append-nil (on_file (rule_data (get_or xs i d))))
+more_rules : {Y : Type 0} (f : RuleData → List Y) (xs : List RuleTree) (i : ℕ) (d : RuleTree) → i < length xs
+    → flat_map f (map rule_data (take (i + 1) xs)) ≡ flat_map f (map rule_data (take i xs)) ++ f (rule_data (get_or xs i d))
+more_rules {Y} f xs i d h =
+    ap (λ (rs : List RuleData). flat_map f rs) (map_more rule_data xs i d h) ∙ flat_map-append f (map rule_data (take i xs)) (rule_data (get_or xs i d) ∷ [])
+    ∙ ap (λ (x : List Y). flat_map f (map rule_data (take i xs)) ++ x) (flat_map-cons f (rule_data (get_or xs i d)) [] ∙ append-nil (f (rule_data (get_or xs i d))))
 
-pub rules_more : (vars : List Variable) (xs : List RuleTree) (i : ℕ) (d : RuleTree) (found new : List FileRule) → i < length xs
-    → AllZip (MeansRule vars) (files_of (map rule_data (take i xs))) found
-    → (rs : List FileRule) × (new ≡ found ++ rs) × AllZip (MeansRule vars) (on_file (rule_data (get_or xs i d))) rs
-    → AllZip (MeansRule vars) (files_of (map rule_data (take (i + 1) xs))) new
-rules_more vars xs i d found new h z p =
-    rw (more_files xs i d h, p.1) (zip_append (MeansRule vars) (files_of (map rule_data (take i xs))) (on_file (rule_data (get_or xs i d))) found p.0 z p.2)
+pub rules_more : {Y Z : Type 0} (f : RuleData → List Y) (R : Y → Z → Type 0) (xs : List RuleTree) (i : ℕ) (d : RuleTree) (found new : List Z) → i < length xs
+    → AllZip R (flat_map f (map rule_data (take i xs))) found
+    → (rs : List Z) × (new ≡ found ++ rs) × AllZip R (f (rule_data (get_or xs i d))) rs
+    → AllZip R (flat_map f (map rule_data (take (i + 1) xs))) new
+rules_more f R xs i d found new h z p =
+    rw (more_rules f xs i d h, p.1) (zip_append R (flat_map f (map rule_data (take i xs))) (f (rule_data (get_or xs i d))) found p.0 z p.2)
 
 -- ---- the profiles
 
@@ -86,6 +89,7 @@ rule_expands vars (OnFile f) [] z = absurd z
 rule_expands vars (OnFile f) (r ∷ rs) z = ((tokens_of r.patterns, z.0.stands), tt)
 rule_expands vars (OnCap rule) rs z = tt
 rule_expands vars (OnNet rule) rs z = tt
+rule_expands vars (OnChange c) rs z = tt
 rule_expands vars (Listed keyword) rs z = tt
 
 zip_cut : {X Y : Type 0} (R : X → Y → Type 0) (xs us : List X) (zs : List Y) → AllZip R (xs ++ us) zs → (ys : List Y) × (vs : List Y) × AllZip R xs ys × AllZip R us vs
@@ -93,11 +97,36 @@ zip_cut R [] us zs h = ([], zs, tt, h)
 zip_cut R (x ∷ xs) us [] h = absurd h
 zip_cut R (x ∷ xs) us (z ∷ zs) h = let c = zip_cut R xs us zs h.1 in (z ∷ c.0, c.1, (h.0, c.2), c.3)
 
+each_expands : {Y Z : Type 0} (vars : List Variable) (f : RuleData → List Y) (paths : RuleData → List PathData) (R : Y → Z → Type 0)
+    → ((r : RuleData) (zs : List Z) → AllZip R (f r) zs → AllByRecursion (IsExpanding vars) (paths r))
+    → (rules : List RuleData) (zs : List Z) → AllZip R (flat_map f rules) zs → AllByRecursion (IsExpanding vars) (flat_map paths rules)
+each_expands vars f paths R h [] zs z = tt
+each_expands {Y} vars f paths R h (r ∷ rules) zs z =
+    let c = zip_cut R (f r) (flat_map f rules) zs (subst (λ (xs : List Y). AllZip R xs zs) (flat_map-cons f r rules) z) in
+    rw (flat_map-cons paths r rules) (all_append (IsExpanding vars) (paths r) (flat_map paths rules) (h r c.0 c.2) (each_expands vars f paths R h rules c.1 c.3))
+
 pub rules_expand : (vars : List Variable) (rules : List RuleData) (fs : List FileRule) → AllZip (MeansRule vars) (files_of rules) fs → AllByRecursion (IsExpanding vars) (flat_map rule_paths rules)
-rules_expand vars [] fs z = tt
-rules_expand vars (r ∷ rules) fs z =
-    let c = zip_cut (MeansRule vars) (on_file r) (files_of rules) fs (subst (λ (xs : List FileData). AllZip (MeansRule vars) xs fs) (flat_map-cons on_file r rules) z) in
-    rw (flat_map-cons rule_paths r rules) (all_append (IsExpanding vars) (rule_paths r) (flat_map rule_paths rules) (rule_expands vars r c.0 c.2) (rules_expand vars rules c.1 c.3))
+rules_expand vars rules fs z = each_expands vars on_file rule_paths (MeansRule vars) (rule_expands vars) rules fs z
+
+-- ---- rules on changes of profile
+
+aim_expands : (vars : List Variable) (n : Option NameData) (p : Option Pattern) → Aims n p → AllByRecursion (IsExpanding vars) (named_paths n)
+aim_expands vars None p h = tt
+aim_expands vars (Some n) None h = absurd h
+aim_expands vars (Some n) (Some p) h = ((spelled p.items.items ∷ [], ap alone h), tt)
+
+pub change_expands : (vars : List Variable) (r : RuleData) (rs : List ChangeRule) → AllZip MeansChange (on_change r) rs → AllByRecursion (IsExpanding vars) (change_paths r)
+change_expands vars (OnFile f) rs z = tt
+change_expands vars (OnCap rule) rs z = tt
+change_expands vars (OnNet rule) rs z = tt
+change_expands vars (OnChange c) [] z = absurd z
+change_expands vars (OnChange c) (r ∷ rs) z = aim_expands vars c.name r.pattern z.0.aims
+change_expands vars (Listed keyword) rs z = tt
+
+changes_expand : (vars : List Variable) (rules : List RuleData) (rs : List ChangeRule) → AllZip MeansChange (changes_of rules) rs → AllByRecursion (IsExpanding vars) (flat_map change_paths rules)
+changes_expand vars rules rs z = each_expands vars on_change change_paths MeansChange (change_expands vars) rules rs z
+
+-- ---- profiles
 
 pub attachment_expands : (vars : List Variable) (a : Option AttachmentData) (ps : List Pattern) → AttachesTo vars a ps → AllByRecursion (IsExpanding vars) (attachment_paths a)
 attachment_expands vars None ps h = tt
@@ -105,7 +134,9 @@ attachment_expands vars (Some a) ps h = ((tokens_of ps, h), tt)
 
 pub profile_expands : (vars : List Variable) (p : ProfileData) (q : Profile) → MeansProfile vars p q → AllByRecursion (IsExpanding vars) (profile_paths p)
 profile_expands vars p q m =
-    all_append (IsExpanding vars) (attachment_paths p.attachment) (flat_map rule_paths p.rules) (attachment_expands vars p.attachment q.attachments m.attaches) (rules_expand vars p.rules q.files m.files_are)
+    all_append (IsExpanding vars) (attachment_paths p.attachment ++ flat_map rule_paths p.rules) (flat_map change_paths p.rules)
+    (all_append (IsExpanding vars) (attachment_paths p.attachment) (flat_map rule_paths p.rules) (attachment_expands vars p.attachment q.attachments m.attaches) (rules_expand vars p.rules q.files m.files_are))
+    (changes_expand vars p.rules q.changes m.changes_are)
 
 pub tree_expands : (vars : List Variable) (tree : List ProfileData) (profiles : List Profile) → MeansProfiles vars tree profiles → AllByRecursion (IsExpanding vars) (paths_of tree)
 tree_expands vars [] [] z = tt

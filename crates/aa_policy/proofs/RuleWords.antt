@@ -13,7 +13,7 @@ use Rattle.aa_rules.specs.FileRules.{IsMode, IsPair, IsEntry, IsFile}
 use Rattle.aa_rules.specs.Modes.{mode_of, letters_bits}
 use Rattle.aa_heads.specs.Heads.{Fits, goes_on, BeginsPathNamed, BeginsProfile}
 use Rattle.aa_rules.specs.Phrases.{Keyword, is_path_kind}
-use Rattle.aa_rules.specs.Reading.{EntryData, FileData, RuleData, OnFile, OnCap, OnNet, Listed}
+use Rattle.aa_rules.specs.Reading.{EntryData, FileData, RuleData, OnFile, OnCap, OnNet, OnChange, Listed}
 use Rattle.aa_rules.proofs.Phrases.{starts_same, starts_kind, keyword_apart, other_left_out, keyword_or_path, left_out, false_true}
 use Rattle.aa_rules.proofs.FileWords.{BeginsNoFile, file_or_keyword, abi_begins_none, profile_begins_none}
 use Rattle.aa_rules.proofs.Productions.{unqualified, keyword_or_passed}
@@ -34,6 +34,7 @@ pub record BeginsNoRule (text : List ℕ) : Type 0 where
   pub no_file : BeginsNoFile text
   pub capability : bytes_eq text (codes "capability") ≡ false
   pub network : bytes_eq text (codes "network") ≡ false
+  pub change : bytes_eq text (codes "change_profile") ≡ false
 
 none_some : (m : Mode) → None ≡ Some m → ⊥
 none_some m e = cc
@@ -42,6 +43,7 @@ says_or_keyword : (text : List ℕ) (ws r : List WordData) (q : Qualifiers) (x :
 says_or_keyword text ws r q (OnFile f) s h k a = file_or_keyword text ws r q f s h.no_file k a
 says_or_keyword text ws r q (OnCap c) s h k a = keyword_apart text (codes "capability") ws r a.0 h.capability k a.1
 says_or_keyword text ws r q (OnNet n) s h k a = keyword_apart text (codes "network") ws r a.0 h.network k a.1
+says_or_keyword text ws r q (OnChange c) s h k a = keyword_apart text (codes "change_profile") ws r a.0 h.change k a.1
 says_or_keyword text ws r q (Listed l) s h k a = keyword_or_passed text ws r s l k a
 
 pub rule_or_keyword : (text : List ℕ) (ws : List WordData) (x : RuleData) (r s : List WordData) → BeginsNoRule text → IsRule ws x r → Keyword text ws s → ⊥
@@ -50,10 +52,10 @@ rule_or_keyword text ws x r s h a k =
     says_or_keyword text a.unqualified s a.qualifiers x a.after h (subst (λ (z : List WordData). Keyword text z s) (sym u) k) a.says
 
 pub no_rule_begins_abi : BeginsNoRule (codes "abi")
-no_rule_begins_abi = record { no_file = abi_begins_none; capability = refl; network = refl }
+no_rule_begins_abi = record { no_file = abi_begins_none; capability = refl; network = refl; change = refl }
 
 pub no_rule_begins_profile : BeginsNoRule (codes "profile")
-no_rule_begins_profile = record { no_file = profile_begins_none; capability = refl; network = refl }
+no_rule_begins_profile = record { no_file = profile_begins_none; capability = refl; network = refl; change = refl }
 
 -- ---- a profile that is named by its path
 
@@ -105,6 +107,7 @@ says_or_path : (q : Qualifiers) (ws : List WordData) (b : BeginsPathNamed ws) (x
 says_or_path q ws b (OnFile f) s a = file_or_path q ws b f s a
 says_or_path q ws b (OnCap c) s a = keyword_or_path (codes "capability") ws a.0 b.path b.after a.1 b.path_stands
 says_or_path q ws b (OnNet n) s a = keyword_or_path (codes "network") ws a.0 b.path b.after a.1 b.path_stands
+says_or_path q ws b (OnChange c) s a = keyword_or_path (codes "change_profile") ws a.0 b.path b.after a.1 b.path_stands
 says_or_path q ws b (Listed l) s a = false_true (sym (ap is_path_kind a.stands.kind_is) ∙ ap is_path_kind (starts_kind ws a.skipped b.path s b.after a.stands.words b.path_stands.words) ∙ b.path_stands.kind_fits)
 
 -- no rule begins where a profile does

@@ -24,10 +24,10 @@ use Rattle.aa_policy.specs.declared.policy.Policy.{Policy}
 use Rattle.aa_policy.specs.Expansion.{tokens_of, IsFirstRefused}
 use Rattle.aa_policy.specs.Bodies.{ProfileData, IsPolicy, if_any}
 use Rattle.aa_heads.specs.Heads.{AttachmentData}
-use Rattle.aa_rules.specs.Reading.{FileData}
+use Rattle.aa_rules.specs.Reading.{FileData, NameData, ChangeData}
 use Rattle.aa_policy.specs.Lawful.{IsLawful, IsLawfulRule, IsWithinLimits, IsWithinCounts, file_patterns, has_exec, names_of}
-use Rattle.aa_policy.specs.Sameness.{SamePatterns, SameRule, SameChange, SameProfile, SamePolicy}
-use Rattle.aa_policy.specs.Spelling.{Spells, IsRepeated, AttachesTo, MeansRule, MeansProfile, MeansProfiles, exec_of, files_of, paths_of, passed_over_from}
+use Rattle.aa_policy.specs.Sameness.{SamePatterns, SameIfAny, SameRule, SameChange, SameProfile, SamePolicy}
+use Rattle.aa_policy.specs.Spelling.{Spells, IsRepeated, AttachesTo, Aims, MeansRule, MeansChange, MeansProfile, MeansProfiles, exec_of, files_of, changes_of, paths_of, passed_over_from}
 use Rattle.aa_policy.proofs.Attachments.{same_sum, same_attachments}
 use Rattle.aa_policy.proofs.Expanded.{never_refused}
 use Rattle.aa_policy.proofs.Kept.{IsKept, policy_kept}
@@ -66,8 +66,26 @@ attachments_once vars None ps qs h k = rw (h, k) tt
 attachments_once vars (Some a) ps qs h k =
     same_patterns ps qs (same_ok (tokens_of ps) (tokens_of qs) (expands_once vars a.path (Ok (tokens_of ps)) (Ok (tokens_of qs)) h k))
 
-changes_once : (rs ss : List ChangeRule) → rs ≡ [] → ss ≡ [] → AllZip SameChange rs ss
-changes_once rs ss h k = rw (h, k) tt
+abbrev read : List Token → Result (List Token) PolicyKind
+read ts = Ok ts
+
+same_read : (a b : List Token) → read a ≡ read b → a ≡ b
+same_read a b e = cc
+
+aim_once : (n : Option NameData) (p q : Option Pattern) → Aims n p → Aims n q → SameIfAny p q
+aim_once None None None h k = tt
+aim_once None None (Some q) h k = absurd k
+aim_once None (Some p) q h k = absurd h
+aim_once (Some n) None q h k = absurd h
+aim_once (Some n) (Some p) None h k = absurd k
+aim_once (Some n) (Some p) (Some q) h k = tokens_decide_items p.items.items q.items.items (same_read (spelled p.items.items) (spelled q.items.items) (sym h ∙ k))
+
+change_once : (c : ChangeData) (r s : ChangeRule) → MeansChange c r → MeansChange c s → SameChange r s
+change_once c r s a b = record {
+  audit = a.audit_is ∙ sym b.audit_is;
+  deny = a.deny_is ∙ sym b.deny_is;
+  pattern = aim_once c.name r.pattern s.pattern a.aims b.aims;
+}
 
 profile_once : (vars : List Variable) (d : ProfileData) (p q : Profile) → MeansProfile vars d p → MeansProfile vars d q → SameProfile p q
 profile_once vars d p q a b = record {
@@ -80,7 +98,7 @@ profile_once vars d p q a b = record {
   files = zip_join (MeansRule vars) (MeansRule vars) SameRule (rule_once vars) (files_of d.rules) p.files q.files a.files_are b.files_are;
   caps = a.caps_are ∙ sym b.caps_are;
   nets = a.nets_are ∙ sym b.nets_are;
-  changes = changes_once p.changes q.changes a.changes_are b.changes_are;
+  changes = zip_join MeansChange MeansChange SameChange change_once (changes_of d.rules) p.changes q.changes a.changes_are b.changes_are;
 }
 
 moved : (u v : List Variable) (s t : List ProfileData) (ps : List Profile) → u ≡ v → s ≡ t → MeansProfiles u s ps → MeansProfiles v t ps

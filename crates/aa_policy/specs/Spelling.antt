@@ -1,5 +1,5 @@
 -- Which policy the words spell: what is written, then what it means, then what a policy keeps.
-use Rattle.std.specs.Prelude.{ℕ, ◌+◌, ◌≡◌, flat_map, List, [], ◌∷◌, ◌++◌, Option, Some, None, option_map, false, true}
+use Rattle.std.specs.Prelude.{ℕ, ◌+◌, ◌≡◌, flat_map, List, [], ◌∷◌, ◌++◌, Option, Some, None, option_map, true, Ok}
 use Rattle.std.specs.List.{list_any, AllZip, IsDistinct}
 use Rattle.std.specs.Str.{bytes_eq}
 use Rattle.aa_faults.specs.declared.fault.Spot.{Spot}
@@ -8,17 +8,19 @@ use Rattle.aa_words.specs.Splits.{WordData}
 use Rattle.aa_patterns.specs.declared.pattern.Pattern.{Pattern}
 use Rattle.aa_glob.specs.Variables.{Variable}
 use Rattle.aa_rules.specs.declared.rule.CapRule.{CapRule}
+use Rattle.aa_policy.specs.declared.rule.ChangeRule.{ChangeRule}
 use Rattle.aa_policy.specs.declared.rule.Exec.{Exec}
 use Rattle.aa_policy.specs.declared.rule.FileRule.{FileRule}
 use Rattle.aa_rules.specs.declared.rule.NetRule.{NetRule}
 use Rattle.aa_policy.specs.declared.policy.Profile.{Profile}
 use Rattle.aa_policy.specs.declared.policy.PassedOver.{PassedOver}
 use Rattle.aa_policy.specs.declared.policy.Policy.{Policy}
-use Rattle.aa_policy.specs.Expansion.{PathData, StandsFor, IsFirstRefused}
+use Rattle.aa_policy.specs.Expansion.{PathData, AsPath, AsName, StandsFor, IsFirstRefused}
 use Rattle.aa_policy.specs.Bodies.{ProfileData, IsPolicy}
 use Rattle.aa_heads.specs.Heads.{AttachmentData}
 use Rattle.aa_policy.specs.Lawful.{IsWithinLimits, names_of}
-use Rattle.aa_rules.specs.Reading.{ExecData, FileData, RuleData, OnFile, OnCap, OnNet, Listed}
+use Rattle.aa_reader.specs.Reading.{spelled, tokens}
+use Rattle.aa_rules.specs.Reading.{ExecData, FileData, NameData, ChangeData, RuleData, OnFile, OnCap, OnNet, OnChange, Listed}
 
 -- ---- what is written, and what it means
 
@@ -27,6 +29,7 @@ abbrev pub on_file : RuleData → List FileData
 on_file (OnFile f) = f ∷ []
 on_file (OnCap rule) = []
 on_file (OnNet rule) = []
+on_file (OnChange c) = []
 on_file (Listed keyword) = []
 
 -- the rule, if it is on capabilities
@@ -34,6 +37,7 @@ abbrev pub cap_rules_of : RuleData → List CapRule
 cap_rules_of (OnFile f) = []
 cap_rules_of (OnCap rule) = rule ∷ []
 cap_rules_of (OnNet rule) = []
+cap_rules_of (OnChange c) = []
 cap_rules_of (Listed keyword) = []
 
 -- the rule, if it is on sockets
@@ -41,7 +45,16 @@ abbrev pub net_rules_of : RuleData → List NetRule
 net_rules_of (OnFile f) = []
 net_rules_of (OnCap rule) = []
 net_rules_of (OnNet rule) = rule ∷ []
+net_rules_of (OnChange c) = []
 net_rules_of (Listed keyword) = []
+
+-- the rule, if it is on changes of profile
+abbrev pub on_change : RuleData → List ChangeData
+on_change (OnFile f) = []
+on_change (OnCap rule) = []
+on_change (OnNet rule) = []
+on_change (OnChange c) = c ∷ []
+on_change (Listed keyword) = []
 
 -- how a program may be executed
 abbrev pub exec_of : ExecData → Exec
@@ -49,6 +62,9 @@ exec_of e = record { kind = e.mode.kind; scrub = e.mode.scrub; fallback = e.mode
 
 abbrev pub files_of : List RuleData → List FileData
 files_of rules = flat_map on_file rules
+
+abbrev pub changes_of : List RuleData → List ChangeData
+changes_of rules = flat_map on_change rules
 
 -- the file rule says what is written, of the paths that the patterns of its path match; allow says what is so without it
 pub record MeansRule (vars : List Variable) (f : FileData) (r : FileRule) : Type 0 where
@@ -58,6 +74,18 @@ pub record MeansRule (vars : List Variable) (f : FileData) (r : FileRule) : Type
   pub perms_are : r.perms ≡ f.perms
   pub exec_is : r.exec ≡ option_map exec_of f.exec
   pub stands : StandsFor vars f.path r.patterns
+
+-- the pattern is what the name behind the arrow is read as; without a name there is none
+abbrev pub Aims : Option NameData → Option Pattern → Type 0
+Aims None None = Unit {0}
+Aims (Some name) (Some pattern) = tokens name.text ≡ Ok (spelled pattern.items.items)
+Aims _ _ = ⊥
+
+-- the rule on changes of profile says what is written; allow says what is so without it
+pub record MeansChange (c : ChangeData) (r : ChangeRule) : Type 0 where
+  pub audit_is : r.audit ≡ c.qualifiers.audit
+  pub deny_is : r.deny ≡ c.qualifiers.deny
+  pub aims : Aims c.name r.pattern
 
 -- the patterns are what an attachment's path stands for; without one there are none
 abbrev pub AttachesTo : List Variable → Option AttachmentData → List Pattern → Type 0
@@ -75,7 +103,7 @@ pub record MeansProfile (vars : List Variable) (p : ProfileData) (q : Profile) :
   pub files_are : AllZip (MeansRule vars) (files_of p.rules) q.files
   pub caps_are : q.caps ≡ flat_map cap_rules_of p.rules
   pub nets_are : q.nets ≡ flat_map net_rules_of p.rules
-  pub changes_are : q.changes ≡ []
+  pub changes_are : AllZip MeansChange (changes_of p.rules) q.changes
 
 -- the profiles that are written, in their order
 abbrev pub MeansProfiles : List Variable → List ProfileData → List Profile → Type 0
@@ -86,6 +114,7 @@ abbrev pub listed_at : ℕ → RuleData → List PassedOver
 listed_at number (OnFile f) = []
 listed_at number (OnCap rule) = []
 listed_at number (OnNet rule) = []
+listed_at number (OnChange c) = []
 listed_at number (Listed keyword) = record { profile = number; kind = keyword } ∷ []
 
 -- the rules that are passed over in the profiles, of which the first has this number
@@ -95,21 +124,35 @@ passed_over_from number (p ∷ ps) = flat_map (listed_at number) p.rules ++ pass
 
 -- ---- why what is written has no meaning
 
--- the path of a rule, at its place
+-- the path of a file rule, at its place
 abbrev pub rule_paths : RuleData → List PathData
-rule_paths (OnFile f) = record { at = f.at; text = f.path } ∷ []
+rule_paths (OnFile f) = record { at = f.at; text = f.path; way = AsPath } ∷ []
 rule_paths (OnCap rule) = []
 rule_paths (OnNet rule) = []
+rule_paths (OnChange c) = []
 rule_paths (Listed keyword) = []
+
+-- the name behind an arrow, at its place, if there is one
+abbrev pub named_paths : Option NameData → List PathData
+named_paths None = []
+named_paths (Some n) = record { at = n.at; text = n.text; way = AsName } ∷ []
+
+-- the name of a rule on changes of profile
+abbrev pub change_paths : RuleData → List PathData
+change_paths (OnFile f) = []
+change_paths (OnCap rule) = []
+change_paths (OnNet rule) = []
+change_paths (OnChange c) = named_paths c.name
+change_paths (Listed keyword) = []
 
 -- the path that a profile attaches to, if it attaches
 abbrev pub attachment_paths : Option AttachmentData → List PathData
 attachment_paths None = []
-attachment_paths (Some a) = record { at = a.at; text = a.path } ∷ []
+attachment_paths (Some a) = record { at = a.at; text = a.path; way = AsPath } ∷ []
 
--- the paths of a profile in the order in which they are expanded: its attachment, and then its file rules
+-- the paths and names of a profile in the order in which they are read: its attachment, its file rules, and then its rules on changes of profile
 abbrev pub profile_paths : ProfileData → List PathData
-profile_paths p = attachment_paths p.attachment ++ flat_map rule_paths p.rules
+profile_paths p = attachment_paths p.attachment ++ flat_map rule_paths p.rules ++ flat_map change_paths p.rules
 
 abbrev pub paths_of : List ProfileData → List PathData
 paths_of tree = flat_map profile_paths tree
@@ -132,7 +175,7 @@ pub record Spells (ws : List WordData) (policy : Policy) : Type 0 where
 abbrev pub start : Spot
 start = record { file = 0; byte = 0 }
 
--- the words are written right, and this is the first refusal of a path
+-- the words are written right, and this is the first refusal of a path or a name
 pub record IsPathFault (ws : List WordData) (fault : PolicyFault) : Type 0 where
   pub vars : List Variable
   pub tree : List ProfileData

@@ -16,7 +16,9 @@ fn push_cap_rule(rule: &RuleTree, found: &mut Vec<CapRule>) -> Result<(), AllocE
             found.push(*cap)?;
             Ok(())
         }
-        RuleTree::File(_) | RuleTree::Net(_) | RuleTree::PassedOver(_) => Ok(()),
+        RuleTree::File(_) | RuleTree::Net(_) | RuleTree::Change(_) | RuleTree::PassedOver(_) => {
+            Ok(())
+        }
     }
 }
 
@@ -40,7 +42,9 @@ fn push_net_rule(rule: &RuleTree, found: &mut Vec<NetRule>) -> Result<(), AllocE
             found.push(*net)?;
             Ok(())
         }
-        RuleTree::File(_) | RuleTree::Cap(_) | RuleTree::PassedOver(_) => Ok(()),
+        RuleTree::File(_) | RuleTree::Cap(_) | RuleTree::Change(_) | RuleTree::PassedOver(_) => {
+            Ok(())
+        }
     }
 }
 

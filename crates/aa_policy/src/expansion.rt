@@ -2,9 +2,8 @@
 
 ghost use Rattle.std.specs.Prelude.{◌≡◌, ◌≢◌, ◌++◌, List, flat_map, map, option_map, IfOk, IfErr, OnOk};
 ghost use Rattle.std.specs.List.{AllZip};
-ghost use Rattle.aa_faults.specs.Kinds.{no_memory};
 ghost use Rattle.aa_policy.specs.declared.rule.FileRule.{FileRule};
-ghost use Rattle.aa_policy.specs.Expansion.{StandsFor, IsRefused, IsFirstRefused};
+ghost use Rattle.aa_policy.specs.Expansion.{AsPath, StandsFor, IsRefused, IsFirstRefused};
 ghost use Rattle.aa_policy.specs.Faults.{IsPathRefusal};
 ghost use Rattle.aa_policy.specs.Bodies.{full_name, profile_data, tree_data};
 ghost use Rattle.aa_heads.specs.Heads.{attachment_data};
@@ -12,7 +11,9 @@ ghost use Rattle.aa_rules.specs.Reading.{target_data, exec_data, file_data, rule
 ghost use Rattle.aa_policy.specs.Spelling.{AttachesTo, MeansRule, MeansProfile, MeansProfiles, exec_of, on_file, files_of, attachment_paths, rule_paths, profile_paths, paths_of};
 
 use crate::access::{cap_rules, net_rules};
+use crate::changes::change_rules;
 use crate::policy::Profile;
+use crate::refusal::refusal_at;
 use crate::rule::{Exec, FileRule};
 use crate::tree::ProfileTree;
 use aa_glob::{Pattern, Vars, expand};
@@ -22,18 +23,6 @@ use aa_rules::{ExecTree, FileTree, RuleTree};
 use aa_words::{PolicyFault, PolicyKind, Spot};
 use std::alloc::{AllocError, Global};
 
-/// A refusal at a path's word; want of memory points at no word.
-fn refusal_at(kind: PolicyKind, at: Spot) -> PolicyFault
-    ensures kind { result.kind ≡ kind }
-    ensures at { kind ≢ PolicyKind.NoMemory → result.at ≡ at }
-    ensures memory { kind ≡ PolicyKind.NoMemory → result ≡ no_memory }
-{
-    match kind {
-        PolicyKind::NoMemory => PolicyFault::at_start(kind),
-        _ => PolicyFault { kind, at },
-    }
-}
-
 /// The patterns that a path stands for.
 fn patterns_of(
     alloc: Global,
@@ -42,7 +31,7 @@ fn patterns_of(
     at: Spot,
 ) -> Result<Seq<Pattern>, PolicyFault>
     ensures stands { IfOk result (λ ps. StandsFor vars.now path.now ps) }
-    ensures refused { IfErr result (λ e. e.kind ≢ PolicyKind.NoMemory → IsRefused vars.now (record { at = at; text = path.now }) e) }
+    ensures refused { IfErr result (λ e. e.kind ≢ PolicyKind.NoMemory → IsRefused vars.now (record { at = at; text = path.now; way = AsPath }) e) }
     ensures cause { IfErr result IsPathRefusal }
 {
     match expand(alloc, vars, path) {
@@ -79,7 +68,7 @@ fn exec_of(alloc: Global, exec: Option<ExecTree>) -> Result<Option<Exec>, AllocE
 /// What a file rule says.
 fn file_rule(alloc: Global, vars: &Vars, file: &FileTree) -> Result<FileRule, PolicyFault>
     ensures rule { IfOk result (λ r. MeansRule vars.now (file_data file.now) r) }
-    ensures refused { IfErr result (λ e. e.kind ≢ PolicyKind.NoMemory → IsRefused vars.now (record { at = file.now.at; text = file.now.path.now }) e) }
+    ensures refused { IfErr result (λ e. e.kind ≢ PolicyKind.NoMemory → IsRefused vars.now (record { at = file.now.at; text = file.now.path.now; way = AsPath }) e) }
     ensures cause { IfErr result IsPathRefusal }
 {
     let patterns = patterns_of(alloc, vars, file.path, file.at)?;
@@ -109,7 +98,9 @@ fn push_file_rule(
             found.push(file_rule(alloc, vars, file)?)?;
             Ok(())
         }
-        RuleTree::Cap(_) | RuleTree::Net(_) | RuleTree::PassedOver(_) => Ok(()),
+        RuleTree::Cap(_) | RuleTree::Net(_) | RuleTree::Change(_) | RuleTree::PassedOver(_) => {
+            Ok(())
+        }
     }
 }
 
@@ -163,6 +154,7 @@ fn profile(alloc: Global, vars: &Vars, tree: &ProfileTree) -> Result<Profile, Po
 {
     let attachments = attachments_of(alloc, vars, tree.head.title.attachment)?;
     let files = file_rules(alloc, vars, tree.rules.as_slice())?;
+    let changes = change_rules(alloc, tree.rules.as_slice())?;
     let caps = cap_rules(alloc, tree.rules.as_slice())?;
     let nets = net_rules(alloc, tree.rules.as_slice())?;
     Ok(Profile {
@@ -175,7 +167,7 @@ fn profile(alloc: Global, vars: &Vars, tree: &ProfileTree) -> Result<Profile, Po
         files: Seq::from_vec(files),
         caps: Seq::from_vec(caps),
         nets: Seq::from_vec(nets),
-        changes: Seq::from_vec(Vec::new(alloc)),
+        changes: Seq::from_vec(changes),
     })
 }
 

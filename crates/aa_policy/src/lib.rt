@@ -3,6 +3,7 @@
 
 mod access;
 mod bodies;
+mod changes;
 mod expansion;
 mod families;
 mod items;
@@ -10,6 +11,7 @@ mod limits;
 mod listing;
 mod parser;
 mod policy;
+mod refusal;
 mod rule;
 mod tree;
 

@@ -21,7 +21,7 @@ fn push_listed(
     ensures { OnOk result (found.new.items ≡ found.old.items ++ listed_at number (rule_data rule.now)) }
 {
     match rule {
-        RuleTree::File(_) | RuleTree::Cap(_) | RuleTree::Net(_) => Ok(()),
+        RuleTree::File(_) | RuleTree::Cap(_) | RuleTree::Net(_) | RuleTree::Change(_) => Ok(()),
         RuleTree::PassedOver(keyword) => {
             let kind = Text::copy_of(alloc, keyword)?;
             found.push(PassedOver {

@@ -2,6 +2,8 @@
 #![tactic(auto)]
 
 #[cfg(test)]
+mod change_tests;
+#[cfg(test)]
 mod limit_tests;
 #[cfg(test)]
 mod order_tests;

@@ -1,7 +1,9 @@
 //! What the tests see of a text's policy: each helper reads a text, and compares what it says with plain rows.
 
 use aa_glob::Pattern;
-use aa_policy::{Exec, ExecKind, Fallback, FileRule, PassedOver, Policy, Profile, parse};
+use aa_policy::{
+    ChangeRule, Exec, ExecKind, Fallback, FileRule, PassedOver, Policy, Profile, parse,
+};
 use aa_words::{PolicyFault, Sources, words};
 use bitflags::Flags;
 use std::alloc::Global;
@@ -262,6 +264,68 @@ pub fn has_nets(
         for (number, (rule, row)) in profile.nets.as_slice().iter().zip(rows).enumerate() {
             let said = (rule.audit, rule.deny, rule.families, rule.kinds);
             assert!(rt; said == *row, "rule {number}");
+        }
+    }
+    Ok(())
+}
+
+/// A rule on changes of profile: what stands before it, a name for which it holds, and one for which it doesn't.
+pub type ChangeRow = (&'static str, &'static str, &'static str);
+
+fn qualifiers_of_change(rule: &ChangeRule) -> &'static str {
+    match (rule.audit, rule.deny) {
+        (false, false) => "",
+        (true, false) => "audit",
+        (false, true) => "deny",
+        (true, true) => "audit deny",
+    }
+}
+
+fn holds_for(rule: &ChangeRule, name: &str) -> bool {
+    match &rule.pattern {
+        Some(pattern) => pattern.matches(name.as_bytes()),
+        None => true,
+    }
+}
+
+fn is_change_rule(rule: &ChangeRule, row: &ChangeRow) -> bool {
+    qualifiers_of_change(rule) == row.0
+        && rule.pattern.is_some()
+        && holds_for(rule, row.1)
+        && !holds_for(rule, row.2)
+}
+
+/// The text's first profile has these rules on changes of profile, each with a name.
+pub fn has_changes(
+    rt: &impl Abort,
+    alloc: Global,
+    text: &str,
+    rows: &[ChangeRow],
+) -> Result<(), PolicyFault> {
+    let policy = read(alloc, text.as_bytes())?;
+    for profile in policy.profiles.as_slice().iter().take(1) {
+        assert_eq!(rt; profile.changes.as_slice().len(), rows.len(), "{text}");
+        for (number, (rule, row)) in profile.changes.as_slice().iter().zip(rows).enumerate() {
+            assert!(rt; is_change_rule(rule, row), "rule {number} of {text}");
+        }
+    }
+    Ok(())
+}
+
+/// What stands before each rule on changes of profile of the text that holds for every name, profile by profile.
+pub fn has_bare_changes(
+    rt: &impl Abort,
+    alloc: Global,
+    text: &str,
+    rows: &[&[&'static str]],
+) -> Result<(), PolicyFault> {
+    let policy = read(alloc, text.as_bytes())?;
+    assert_eq!(rt; policy.profiles.as_slice().len(), rows.len(), "{text}");
+    for (profile, row) in policy.profiles.as_slice().iter().zip(rows) {
+        assert_eq!(rt; profile.changes.as_slice().len(), row.len(), "{text}");
+        for (rule, qualifiers) in profile.changes.as_slice().iter().zip(*row) {
+            assert!(rt; rule.pattern.is_none(), "{text}");
+            assert!(rt; qualifiers_of_change(rule) == *qualifiers, "{text}");
         }
     }
     Ok(())

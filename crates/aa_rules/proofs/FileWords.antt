@@ -53,6 +53,10 @@ pub network_begins_none : BeginsNoFile (codes "network")
 unfolding mode_of letters_bits
 network_begins_none = record { audit = refl; allow = refl; deny = refl; owner = refl; file = refl; mode = λ d. refl }
 
+pub change_begins_none : BeginsNoFile (codes "change_profile")
+unfolding mode_of letters_bits
+change_begins_none = record { audit = refl; allow = refl; deny = refl; owner = refl; file = refl; mode = λ d. refl }
+
 pub abi_begins_none : BeginsNoFile (codes "abi")
 unfolding mode_of letters_bits
 abi_begins_none = record { audit = refl; allow = refl; deny = refl; owner = refl; file = refl; mode = λ d. refl }

@@ -1,4 +1,5 @@
 pub mod CapRules
+pub mod ChangeRules
 pub mod FileRules
 pub mod FileWords
 pub mod Letters

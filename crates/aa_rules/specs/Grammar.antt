@@ -5,8 +5,9 @@ use Rattle.aa_words.specs.declared.word.WordKind.TheVariants.{Close, Comma, Skip
 use Rattle.aa_words.specs.Splits.{WordData}
 use Rattle.aa_rules.specs.declared.tree.Qualifiers.{Qualifiers}
 use Rattle.aa_rules.specs.CapRules.{IsCap}
+use Rattle.aa_rules.specs.ChangeRules.{IsChange}
 use Rattle.aa_rules.specs.NetRules.{IsNet}
-use Rattle.aa_rules.specs.Reading.{RuleData, OnFile, OnCap, OnNet, Listed}
+use Rattle.aa_rules.specs.Reading.{RuleData, OnFile, OnCap, OnNet, OnChange, Listed}
 pub use Rattle.aa_rules.specs.Phrases.{Production, Ending, Many, Starts, Lacks, is_path_kind, is_name_kind, StartsAs, LacksAll, spot_of, place_of, Keyword, LacksKeyword, Optional}
 pub use Rattle.aa_rules.specs.FileRules.{IsFile}
 
@@ -34,14 +35,15 @@ pub record IsPassedOver (ws : List WordData) (keyword : List ℕ) (rest : List W
   pub stands : Starts Skipped ws skipped rest
   pub keyword_is : keyword ≡ keyword_of skipped.text
 
--- file | cap | net | Skipped
+-- file | cap | net | change | Skipped
 abbrev pub Says : Qualifiers → List WordData → RuleData → List WordData → Type 0
 Says qualifiers ws (OnFile file) rest = IsFile qualifiers ws file rest
 Says qualifiers ws (OnCap rule) rest = IsCap qualifiers ws rule rest
 Says qualifiers ws (OnNet rule) rest = IsNet qualifiers ws rule rest
+Says qualifiers ws (OnChange change) rest = IsChange qualifiers ws change rest
 Says qualifiers ws (Listed keyword) rest = IsPassedOver ws keyword rest
 
--- rule = [qual] (file | cap | net | Skipped) ","
+-- rule = [qual] (file | cap | net | change | Skipped) ","
 pub record IsRule (ws : List WordData) (rule : RuleData) (rest : List WordData) : Type 0 where
   pub qualifiers : Qualifiers
   pub comma : WordData

@@ -1,5 +1,6 @@
 pub use Rattle.aa_tables.specs.Tables
 pub mod CapRules
+pub mod ChangeRules
 pub mod Faults
 pub mod FileRules
 pub mod Grammar

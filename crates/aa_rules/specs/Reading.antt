@@ -7,14 +7,16 @@ use Rattle.aa_words.specs.Splits.{WordData, words_data}
 use Rattle.aa_tables.specs.declared.perms.Perms.{Perms}
 use Rattle.aa_rules.specs.declared.modes.ExecMode.{ExecMode}
 use Rattle.aa_rules.specs.declared.modes.Mode.{Mode}
+use Rattle.aa_rules.specs.declared.tree.ChangeTree.{ChangeTree}
 use Rattle.aa_rules.specs.declared.tree.EntryTree.{EntryTree}
 use Rattle.aa_rules.specs.declared.tree.ExecTree.{ExecTree}
 use Rattle.aa_rules.specs.declared.rule.CapRule.{CapRule}
 use Rattle.aa_rules.specs.declared.rule.NetRule.{NetRule}
 use Rattle.aa_rules.specs.declared.tree.FileTree.{FileTree}
+use Rattle.aa_rules.specs.declared.tree.NameTree.{NameTree}
 use Rattle.aa_rules.specs.declared.tree.Qualifiers.{Qualifiers}
 use Rattle.aa_rules.specs.declared.tree.RuleTree.{RuleTree}
-use Rattle.aa_rules.specs.declared.tree.RuleTree.TheVariants.{File, Cap, Net, PassedOver}
+use Rattle.aa_rules.specs.declared.tree.RuleTree.TheVariants.{File, Cap, Net, Change, PassedOver}
 
 -- how a mode lets a program be executed, and the profile behind its arrow
 pub record ExecData : Type 0 where
@@ -36,11 +38,22 @@ pub record FileData : Type 0 where
   pub perms : Perms
   pub exec : Option ExecData
 
--- a rule of a body as written: a file rule, one on capabilities or on sockets, or the keyword of one that is passed over
+-- the name behind an arrow, at its place
+pub record NameData : Type 0 where
+  pub at : Spot
+  pub text : List ℕ
+
+-- a rule on changes of profile as written: what stands before it, and the name behind its arrow, if it has one
+pub record ChangeData : Type 0 where
+  pub qualifiers : Qualifiers
+  pub name : Option NameData
+
+-- a rule of a body as written: a file rule, one on capabilities, sockets or changes of profile, or the keyword of one that is passed over
 pub data RuleData : Type 0 where
   OnFile : FileData → RuleData
   OnCap : CapRule → RuleData
   OnNet : NetRule → RuleData
+  OnChange : ChangeData → RuleData
   Listed : List ℕ → RuleData
 
 -- a rule without where its text lies in memory
@@ -56,10 +69,17 @@ entry_data t = record { at = t.at; path = t.path.now; mode = t.mode }
 abbrev pub file_data : FileTree → FileData
 file_data t = record { qualifiers = t.qualifiers; owner = t.owner; at = t.at; path = t.path.now; perms = t.perms; exec = option_map exec_data t.exec }
 
+abbrev pub name_data : NameTree → NameData
+name_data t = record { at = t.at; text = t.text.now }
+
+abbrev pub change_data : ChangeTree → ChangeData
+change_data t = record { qualifiers = t.qualifiers; name = option_map name_data t.name }
+
 abbrev pub rule_data : RuleTree → RuleData
 rule_data (File t) = OnFile (file_data t)
 rule_data (Cap rule) = OnCap rule
 rule_data (Net rule) = OnNet rule
+rule_data (Change t) = OnChange (change_data t)
 rule_data (PassedOver keyword) = Listed keyword.now
 
 -- the words from a place on

@@ -149,7 +149,13 @@ pub fn item_fault(words: &[Word], at: usize, end: Spot) -> PolicyFault
     fault(kind, words, at, end)
 }
 
-/// Why no comma stands behind a rule: the conditions of a rule on sockets are left out.
+/// Whether a word stands at a place that no arrow precedes, as `safe`, `unsafe` or a program.
+fn is_run_at(words: &[Word], at: usize) -> bool {
+    is_kind_at(words, at, WordKind::Name) || is_kind_at(words, at, WordKind::Path)
+}
+
+/// Why no comma stands behind a rule: the conditions of a rule on sockets are left out, and so is
+/// what stands straight behind the keyword of a rule on changes of profile.
 pub fn no_comma_fault(words: &[Word], at: usize, rule: &RuleTree, end: Spot) -> PolicyFault
     ensures { is_word_fault result.kind ≡ true }
 {
@@ -157,6 +163,9 @@ pub fn no_comma_fault(words: &[Word], at: usize, rule: &RuleTree, end: Spot) -> 
         || is_kind_at(words, at, WordKind::Equals);
     let kind = match rule {
         RuleTree::Net(_) if is_condition => PolicyKind::Unsupported,
+        RuleTree::Change(change) if change.name.is_none() && is_run_at(words, at) => {
+            PolicyKind::Unsupported
+        }
         _ => PolicyKind::Syntax,
     };
     fault(kind, words, at, end)
@@ -231,6 +240,13 @@ pub fn no_target_fault(words: &[Word], at: usize, mode: Mode, end: Spot) -> Poli
     if !takes_target(mode.exec) {
         return fault(PolicyKind::BadMode, words, at, end);
     }
+    no_name_fault(words, at, end)
+}
+
+/// Why no profile is named behind the arrow that stands at a place.
+pub fn no_name_fault(words: &[Word], at: usize, end: Spot) -> PolicyFault
+    ensures { is_word_fault result.kind ≡ true }
+{
     if at >= words.len() {
         return fault(PolicyKind::Syntax, words, at, end);
     }

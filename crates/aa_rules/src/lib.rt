@@ -2,6 +2,7 @@
 #![tactic(auto)]
 
 mod cap_rules;
+mod change_rules;
 mod faults;
 mod file_rules;
 mod modes;
@@ -16,4 +17,4 @@ pub use modes::ExecMode;
 pub use names::{begins_with, is_plain_name, is_right_name, name_fault};
 pub use reading::{closes, is_keyword, name_at, path_at, rule_of, word_at};
 pub use rule::{CapRule, ExecKind, Fallback, NetRule};
-pub use tree::{ExecTree, FileTree, Qualifiers, RuleTree};
+pub use tree::{ChangeTree, ExecTree, FileTree, NameTree, Qualifiers, RuleTree};

@@ -8,6 +8,7 @@ ghost use Rattle.aa_rules.specs.Grammar.{Starts, StartsAs, Lacks, LacksAll, is_p
 ghost use Rattle.aa_rules.specs.Reading.{RuleData, rule_data, rest_of};
 
 use crate::cap_rules::cap_rule_of;
+use crate::change_rules::change_rule_of;
 use crate::faults::{RulePlace, no_comma_fault};
 use crate::file_rules::file_of;
 use crate::net_rules::net_rule_of;
@@ -166,6 +167,10 @@ fn unqualified_of<'s>(
     if is_keyword(words, at, "network".as_bytes()) {
         let (rule, next) = net_rule_of(words, at + 1, qualifiers, end)?;
         return Ok((RuleTree::Net(rule), next));
+    }
+    if is_keyword(words, at, "change_profile".as_bytes()) {
+        let (rule, next) = change_rule_of(words, at + 1, qualifiers, end)?;
+        return Ok((RuleTree::Change(rule), next));
     }
     let (file, next) = file_of(words, at, qualifiers, place, end)?;
     Ok((RuleTree::File(file), next))

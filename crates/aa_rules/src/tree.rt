@@ -45,6 +45,23 @@ pub struct FileTree<'s> {
     pub exec: Option<ExecTree<'s>>,
 }
 
+/// The name behind an arrow, as it is written.
+#[derive(Clone, Copy, Debug)]
+pub struct NameTree<'s> {
+    /// Where its word stands.
+    pub at: Spot,
+    /// Its raw bytes.
+    pub text: &'s [u8],
+}
+
+/// A rule on changes of profile as it is written.
+#[derive(Clone, Copy, Debug)]
+pub struct ChangeTree<'s> {
+    pub qualifiers: Qualifiers,
+    /// The name behind its arrow; without one it holds for every name.
+    pub name: Option<NameTree<'s>>,
+}
+
 /// A rule of a body as it is written.
 #[derive(Drop)]
 pub enum RuleTree<'s> {
@@ -54,6 +71,8 @@ pub enum RuleTree<'s> {
     Cap(CapRule),
     /// On sockets.
     Net(NetRule),
+    /// On changes of profile.
+    Change(ChangeTree<'s>),
     /// One that is passed over, by its keyword.
     PassedOver(&'s [u8]),
 }

@@ -64,7 +64,7 @@ qualifiers = codes "audit" ∷ codes "allow" ∷ codes "deny" ∷ []
 
 -- the words with which, where a rule begins or behind qualifiers, a rule of a kind begins that is passed over
 abbrev pub passed_over : List (List ℕ)
-passed_over = codes "signal" ∷ codes "ptrace" ∷ codes "dbus" ∷ codes "unix" ∷ codes "mount" ∷ codes "remount" ∷ codes "umount" ∷ codes "pivot_root" ∷ codes "set" ∷ codes "userns" ∷ codes "mqueue" ∷ codes "io_uring" ∷ codes "change_profile" ∷ []
+passed_over = codes "signal" ∷ codes "ptrace" ∷ codes "dbus" ∷ codes "unix" ∷ codes "mount" ∷ codes "remount" ∷ codes "umount" ∷ codes "pivot_root" ∷ codes "set" ∷ codes "userns" ∷ codes "mqueue" ∷ codes "io_uring" ∷ []
 
 -- a quoted text: one that is closed, and not straight behind a run
 abbrev pub quote_at : Bool → Piece → List ℕ → Option Piece

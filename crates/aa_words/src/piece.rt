@@ -105,7 +105,6 @@ pub(crate) fn is_passed_over(text: &[u8]) -> bool
         || text == "userns".as_bytes()
         || text == "mqueue".as_bytes()
         || text == "io_uring".as_bytes()
-        || text == "change_profile".as_bytes()
 }
 
 /// Whether a rule begins here, with no qualifier before it.

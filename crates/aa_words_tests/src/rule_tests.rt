@@ -22,7 +22,6 @@ fn rules_that_are_passed_over_are_words(rt: HostRuntime) -> Result<(), Fail> {
         "userns",
         "mqueue",
         "io_uring",
-        "change_profile",
     ];
     expect_same_refusal(&rt, alloc, keywords.as_slice(), "refused 4 Syntax 0:0")?;
     for keyword in keywords {
@@ -132,8 +131,8 @@ fn passed_over_rules_end_at_the_first_comma_outside(rt: HostRuntime) -> Result<(
         "mount a#b",
         "mount \"a\"# b,\n",
         "mount (#b, )\n)",
-        "change_profile -># a,\n b",
-        "change_profile a>#b",
+        "userns -># a,\n b",
+        "userns a>#b",
         "unix->\"/a,b\"",
         "signal {[(\")]},\")]}",
     ];
@@ -148,6 +147,26 @@ fn passed_over_rules_end_at_the_first_comma_outside(rt: HostRuntime) -> Result<(
         ("} allow set", "refused 4 Syntax 0:8"),
     ];
     expect_refused(&rt, alloc, rows.as_slice())
+}
+
+#[test]
+fn a_change_of_profile_is_no_rule_that_is_passed_over(rt: HostRuntime) -> Result<(), Fail> {
+    let alloc = rt.alloc();
+    let expected = [
+        (WordKind::Name, "audit", 0, 5),
+        (WordKind::Name, "change_profile", 6, 20),
+        (WordKind::Arrow, "->", 20, 22),
+        (WordKind::Name, "q*", 23, 25),
+        (WordKind::Comma, ",", 25, 26),
+        (WordKind::Name, "change_profile", 27, 41),
+        (WordKind::Comma, ",", 41, 42),
+    ];
+    expect_words(
+        &rt,
+        alloc,
+        "audit change_profile-> q*, change_profile,",
+        expected.as_slice(),
+    )
 }
 
 #[test]

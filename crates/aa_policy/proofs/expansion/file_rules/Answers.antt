@@ -1,6 +1,6 @@
 use Rattle.std.proofs.lemmas.Result.{err_from_is_err_and}
 use Rattle.aa_rules.specs.Reading.{rule_data}
-use Rattle.aa_policy.specs.Spelling.{rule_paths}
+use Rattle.aa_policy.specs.Spelling.{MeansRule, on_file, rule_paths}
 use Rattle.aa_policy.proofs.Expanded.{refused_at, passed_at}
 use Rattle.aa_policy.proofs.Meaning.{rules_more, rule_expands}
 use Rattle.aa_heads.proofs.Refusals.{handed_on}
@@ -16,6 +16,6 @@ pub loop-rule-preserved : goal.loop-rule-preserved
 loop-rule-preserved c =
     let pushed = c.in_ok-push_file_rule.ensures.rule in
     record {
-      rules = rules_more c.args.vars.now c.args.rules.now c.loop-rule.rule-index _ c.loop-rule.found.items _ c.loop-rule-test.true c.loop-rule.invariant.rules pushed;
+      rules = rules_more on_file (MeansRule c.args.vars.now) c.args.rules.now c.loop-rule.rule-index _ c.loop-rule.found.items _ c.loop-rule-test.true c.loop-rule.invariant.rules pushed;
       left = λ e h. c.loop-rule.invariant.left e (passed_at c.args.vars.now rule_paths rule_data c.args.rules.now c.loop-rule.rule-index _ e c.loop-rule-test.true (rule_expands c.args.vars.now _ pushed.0 pushed.2) h);
     }

@@ -1,0 +1,9 @@
+use Rattle.aa_policy.proofs.Expanded.{fault_of_name}
+use Rattle.aa_heads.proofs.Refusals.{memory_or}
+use Rattle.aa_policy.specs.Faults.{is_path_fault}
+use Rattle.aa_policy.proofs.changes.pattern_of.Goals as goal
+
+pub returns-in-Err-clause-cause : goal.returns-in-Err-clause-cause
+returns-in-Err-clause-cause c =
+    let r = c.refusal_at in
+    memory_or is_path_fault c.in-Err.kind r.result r.ensures.kind r.ensures.memory (λ h. fault_of_name c.args.name.now.text.now c.in-Err.kind (c.in-Err.ensures h))
