@@ -17,7 +17,7 @@ use Rattle.aa_policy.specs.Expansion.{PathData, IsExpanding, alone, tokens_of}
 use Rattle.aa_policy.specs.Bodies.{ProfileData, profile_data, tree_data}
 use Rattle.aa_heads.specs.Heads.{AttachmentData}
 use Rattle.aa_rules.specs.Reading.{NameData, RuleData, OnFile, OnCap, OnNet, OnChange, Listed, rule_data}
-use Rattle.aa_policy.specs.Spelling.{AttachesTo, Aims, MeansRule, MeansChange, MeansProfile, MeansProfiles, on_file, files_of, on_change, changes_of, rule_paths, named_paths, change_paths, attachment_paths, profile_paths, paths_of}
+use Rattle.aa_policy.specs.Spelling.{AttachesTo, Aims, MeansRule, MeansChange, MeansProfile, MeansProfiles, on_file, files_of, on_change, changes_of, rule_paths, named_paths, change_paths, paths_of_rules, attachment_paths, profile_paths, paths_of}
 
 -- ---- lists that are related element by element
 
@@ -132,11 +132,13 @@ pub attachment_expands : (vars : List Variable) (a : Option AttachmentData) (ps 
 attachment_expands vars None ps h = tt
 attachment_expands vars (Some a) ps h = ((tokens_of ps, h), tt)
 
+pub rules_read : (vars : List Variable) (rules : List RuleData) (fs : List FileRule) (cs : List ChangeRule) → AllZip (MeansRule vars) (files_of rules) fs → AllZip MeansChange (changes_of rules) cs
+    → AllByRecursion (IsExpanding vars) (paths_of_rules rules)
+rules_read vars rules fs cs z y = all_append (IsExpanding vars) (flat_map rule_paths rules) (flat_map change_paths rules) (rules_expand vars rules fs z) (changes_expand vars rules cs y)
+
 pub profile_expands : (vars : List Variable) (p : ProfileData) (q : Profile) → MeansProfile vars p q → AllByRecursion (IsExpanding vars) (profile_paths p)
 profile_expands vars p q m =
-    all_append (IsExpanding vars) (attachment_paths p.attachment ++ flat_map rule_paths p.rules) (flat_map change_paths p.rules)
-    (all_append (IsExpanding vars) (attachment_paths p.attachment) (flat_map rule_paths p.rules) (attachment_expands vars p.attachment q.attachments m.attaches) (rules_expand vars p.rules q.files m.files_are))
-    (changes_expand vars p.rules q.changes m.changes_are)
+    all_append (IsExpanding vars) (attachment_paths p.attachment) (paths_of_rules p.rules) (attachment_expands vars p.attachment q.attachments m.attaches) (rules_read vars p.rules q.files q.changes m.files_are m.changes_are)
 
 pub tree_expands : (vars : List Variable) (tree : List ProfileData) (profiles : List Profile) → MeansProfiles vars tree profiles → AllByRecursion (IsExpanding vars) (paths_of tree)
 tree_expands vars [] [] z = tt

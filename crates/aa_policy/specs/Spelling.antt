@@ -145,14 +145,18 @@ change_paths (OnNet rule) = []
 change_paths (OnChange c) = named_paths c.name
 change_paths (Listed keyword) = []
 
+-- the texts of a body in the order in which they are read: the paths of file rules, and then the names
+abbrev pub paths_of_rules : List RuleData → List PathData
+paths_of_rules rules = flat_map rule_paths rules ++ flat_map change_paths rules
+
 -- the path that a profile attaches to, if it attaches
 abbrev pub attachment_paths : Option AttachmentData → List PathData
 attachment_paths None = []
 attachment_paths (Some a) = record { at = a.at; text = a.path; way = AsPath } ∷ []
 
--- the paths and names of a profile in the order in which they are read: its attachment, its file rules, and then its rules on changes of profile
+-- the texts of a profile in the order in which they are read: its attachment's path, and then those of its body
 abbrev pub profile_paths : ProfileData → List PathData
-profile_paths p = attachment_paths p.attachment ++ flat_map rule_paths p.rules ++ flat_map change_paths p.rules
+profile_paths p = attachment_paths p.attachment ++ paths_of_rules p.rules
 
 abbrev pub paths_of : List ProfileData → List PathData
 paths_of tree = flat_map profile_paths tree

@@ -8,13 +8,13 @@ ghost use Rattle.aa_policy.specs.Faults.{IsPathRefusal};
 ghost use Rattle.aa_policy.specs.Bodies.{full_name, profile_data, tree_data};
 ghost use Rattle.aa_heads.specs.Heads.{attachment_data};
 ghost use Rattle.aa_rules.specs.Reading.{target_data, exec_data, file_data, rule_data};
-ghost use Rattle.aa_policy.specs.Spelling.{AttachesTo, MeansRule, MeansProfile, MeansProfiles, exec_of, on_file, files_of, attachment_paths, rule_paths, profile_paths, paths_of};
+ghost use Rattle.aa_policy.specs.Spelling.{AttachesTo, MeansRule, MeansChange, MeansProfile, MeansProfiles, exec_of, on_file, files_of, changes_of, paths_of_rules, attachment_paths, rule_paths, profile_paths, paths_of};
 
 use crate::access::{cap_rules, net_rules};
 use crate::changes::change_rules;
 use crate::policy::Profile;
 use crate::refusal::refusal_at;
-use crate::rule::{Exec, FileRule};
+use crate::rule::{ChangeRule, Exec, FileRule};
 use crate::tree::ProfileTree;
 use aa_glob::{Pattern, Vars, expand};
 use aa_heads::AttachmentTree;
@@ -146,6 +146,25 @@ fn full_name(alloc: Global, tree: &ProfileTree) -> Result<Text, AllocError>
     Ok(Text::from_vec(name))
 }
 
+/// What the rules of a body say whose texts are read.
+#[derive(Drop)]
+struct Read {
+    files: Vec<FileRule>,
+    changes: Vec<ChangeRule>,
+}
+
+/// What the file rules and the rules on changes of profile of a body say.
+fn read_rules(alloc: Global, vars: &Vars, rules: &[RuleTree]) -> Result<Read, PolicyFault>
+    ensures files { IfOk result (λ r. AllZip (MeansRule vars.now) (files_of (map rule_data rules.now)) r.files.items) }
+    ensures changes { IfOk result (λ r. AllZip MeansChange (changes_of (map rule_data rules.now)) r.changes.items) }
+    ensures refused { IfErr result (λ e. e.kind ≢ PolicyKind.NoMemory → IsFirstRefused vars.now (paths_of_rules (map rule_data rules.now)) e) }
+    ensures cause { IfErr result IsPathRefusal }
+{
+    let files = file_rules(alloc, vars, rules)?;
+    let changes = change_rules(alloc, rules)?;
+    Ok(Read { files, changes })
+}
+
 /// What a profile says.
 fn profile(alloc: Global, vars: &Vars, tree: &ProfileTree) -> Result<Profile, PolicyFault>
     ensures profile { IfOk result (λ p. MeansProfile vars.now (profile_data tree.now) p) }
@@ -153,8 +172,7 @@ fn profile(alloc: Global, vars: &Vars, tree: &ProfileTree) -> Result<Profile, Po
     ensures cause { IfErr result IsPathRefusal }
 {
     let attachments = attachments_of(alloc, vars, tree.head.title.attachment)?;
-    let files = file_rules(alloc, vars, tree.rules.as_slice())?;
-    let changes = change_rules(alloc, tree.rules.as_slice())?;
+    let Read { files, changes } = read_rules(alloc, vars, tree.rules.as_slice())?;
     let caps = cap_rules(alloc, tree.rules.as_slice())?;
     let nets = net_rules(alloc, tree.rules.as_slice())?;
     Ok(Profile {
