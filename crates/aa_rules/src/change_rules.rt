@@ -1,4 +1,4 @@
-//! Rules on changes of profile (apparmor.d(5), "Change Profile rules").
+//! Rules on changes of profile (apparmor.d(5), "change_profile rules").
 
 ghost use Rattle.std.specs.Prelude.{◌≡◌, ◌<◌, ◌≤◌, ◌+◌, true, List, Option, option_map, length, IfSome, IfNone, OnSome, OnErr, IfOk, IfErr};
 ghost use Rattle.aa_words.specs.Splits.{WordData};
