@@ -1,6 +1,6 @@
 //! Positions with the same head are one.
 
-ghost use Rattle.std.specs.Prelude.{◌≡◌, ◌↔◌, ◌<◌, ◌≤◌, ◌++◌, ◌∷◌, [], ℕ, List, All, IsTrue, IfOk, length};
+ghost use Rattle.std.specs.Prelude.{◌↔◌, ◌<◌, ℕ, List, All, IsTrue, IfOk, length};
 ghost use Rattle.aa_auto.specs.Nodes.{HaveSources};
 ghost use Rattle.aa_auto.specs.Merged.{AgreeOn, IsAlike, IsAt, IsBehind, IsJoin, HasStart, AreMerged};
 
@@ -141,7 +141,7 @@ fn key_of_ends(ends: &[usize]) -> u64 {
 }
 
 impl<'b, 'a> Merged<'b, 'a> {
-    ghost use Rattle.std.specs.Prelude.{◌≡◌, ◌<◌, ◌≤◌, ℕ, All, IfOk, IfSome, OnOk, length, slice_index_or};
+    ghost use Rattle.std.specs.Prelude.{◌≡◌, ◌<◌, All, IfOk, IfSome, OnOk, length, slice_index_or};
     ghost use Rattle.aa_auto.specs.declared.nodes.Node.TheVariants.{Start, After, Join};
     ghost use Rattle.aa_auto.specs.Nodes.{HasSources};
     ghost use Rattle.aa_auto.specs.Merged.{IsMerged, IsBehind, IsJoin, Pushes, Finds, Goes, AreEnds, AreMapped, HasEnds, Longer};
