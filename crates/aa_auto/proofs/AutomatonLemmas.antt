@@ -2,7 +2,8 @@
 use Rattle.std.proofs.Common.{◌≡◌, ℕ, ◌+◌, ◌*◌, ◌<◌, List, [], ◌∷◌, ◌++◌, length, get_or, drop, drop-cons, suc, refl, sym, ap, ◌∙◌, subst, arith, append_assoc}
 use Rattle.std.proofs.lemmas.List.{append-nil, get_or_default}
 use Rattle.std.proofs.lemmas.List.Elements.{All-head, All-tail}
-use Rattle.aa_patterns.specs.declared.pattern.Pattern.{Pattern}
+use Rattle.aa_auto.specs.declared.net.Net.{Net}
+use Rattle.aa_auto.specs.Nets.{IsNetOf, patterns_of, kept_of}
 use Rattle.aa_auto.specs.Classes.{IsSame}
 use Rattle.aa_auto.specs.Division.{AreClassesOf}
 use Rattle.aa_auto.specs.Spots.{IsSpotsOf}
@@ -16,39 +17,39 @@ row_after-append : (t : Table) (row : ℕ) (s u : List ℕ) → row_after t row 
 row_after-append t row [] u = refl
 row_after-append t row (b ∷ s) u = row_after-append t (get_or t.cells (t.width * row + get_or t.classes b 0) 0) s u
 
-module _ (ps : List Pattern) (sets : List (List ℕ)) (of bytes cells : List ℕ) (lists : List (List ℕ)) (classes : AreClassesOf ps of bytes) (all : IsExplored ps sets bytes cells lists) where
+module _ (net : Net) (is : IsNetOf net) (sets : List (List ℕ)) (of bytes cells : List ℕ) (lists : List (List ℕ)) (classes : AreClassesOf (patterns_of net) of bytes) (all : IsExplored net sets bytes cells lists) where
   abbrev made : Table
   made = record { classes = of; width = length bytes; cells = cells; lists = lists }
 
-  cell : (row b : ℕ) → row < length sets → b < 256 → Goes ps sets row (get_or bytes (get_or of b 0) 0) (get_or cells (length bytes * row + get_or of b 0) 0)
+  cell : (row b : ℕ) → row < length sets → b < 256 → Goes net sets row (get_or bytes (get_or of b 0) 0) (get_or cells (length bytes * row + get_or of b 0) 0)
   cell row b lt few =
       let class = classes.division.within b few in
       all.filled row (get_or of b 0) class
       (subst (λ n. length bytes * row + get_or of b 0 < n) (sym all.whole) (cell_below (length bytes) row (length sets) (get_or of b 0) lt class))
 
-  step : (row b : ℕ) (front : List ℕ) → row < length sets → b < 256 → IsSpotsOf ps (get_or sets row []) front →
-      IsSpotsOf ps (get_or sets (get_or cells (length bytes * row + get_or of b 0) 0) []) (front ++ b ∷ [])
+  step : (row b : ℕ) (front : List ℕ) → row < length sets → b < 256 → IsSpotsOf (kept_of net) (get_or sets row []) front →
+      IsSpotsOf (kept_of net) (get_or sets (get_or cells (length bytes * row + get_or of b 0) 0) []) (front ++ b ∷ [])
   step row b front lt few set =
       let named = classes.division.named (get_or of b 0) (classes.division.within b few) in
-      let same : IsSame ps (get_or bytes (get_or of b 0) 0) b = (classes.same (get_or bytes (get_or of b 0) 0) b named.0 few).0 named.1 in
-      spots_same ps (get_or sets (get_or cells (length bytes * row + get_or of b 0) 0) []) (front ++ get_or bytes (get_or of b 0) 0 ∷ []) (front ++ b ∷ [])
-      ((cell row b lt few).step front set) (same_bytes ps (get_or bytes (get_or of b 0) 0) b same front)
+      let same : IsSame (patterns_of net) (get_or bytes (get_or of b 0) 0) b = (classes.same (get_or bytes (get_or of b 0) 0) b named.0 few).0 named.1 in
+      spots_same net is (get_or sets (get_or cells (length bytes * row + get_or of b 0) 0) []) (front ++ get_or bytes (get_or of b 0) 0 ∷ []) (front ++ b ∷ [])
+      ((cell row b lt few).step front set) (same_bytes (patterns_of net) (get_or bytes (get_or of b 0) 0) b same front)
 
-  leads : (s : List ℕ) → IsText s → (row : ℕ) (front : List ℕ) → row < length sets → IsSpotsOf ps (get_or sets row []) front →
-      (row_after made row s < length sets) × IsSpotsOf ps (get_or sets (row_after made row s) []) (front ++ s)
-  leads [] text row front lt set = (lt, subst (IsSpotsOf ps (get_or sets row [])) (sym (append-nil front)) set)
+  leads : (s : List ℕ) → IsText s → (row : ℕ) (front : List ℕ) → row < length sets → IsSpotsOf (kept_of net) (get_or sets row []) front →
+      (row_after made row s < length sets) × IsSpotsOf (kept_of net) (get_or sets (row_after made row s) []) (front ++ s)
+  leads [] text row front lt set = (lt, subst (IsSpotsOf (kept_of net) (get_or sets row [])) (sym (append-nil front)) set)
   leads (b ∷ s) text row front lt set =
       let few : b < 256 = All-head (λ b. b < 256) b s text in
       let rest = leads s (All-tail (λ b. b < 256) b s text) (get_or cells (length bytes * row + get_or of b 0) 0) (front ++ b ∷ []) (cell row b lt few).within (step row b front lt few set) in
-      (rest.0, subst (IsSpotsOf ps (get_or sets (row_after made row (b ∷ s)) [])) (append_assoc front (b ∷ []) s) rest.1)
+      (rest.0, subst (IsSpotsOf (kept_of net) (get_or sets (row_after made row (b ∷ s)) [])) (append_assoc front (b ∷ []) s) rest.1)
 
-  at : (s : List ℕ) → IsText s → (row_after made 0 s < length sets) × IsSpotsOf ps (get_or sets (row_after made 0 s) []) s
+  at : (s : List ℕ) → IsText s → (row_after made 0 s < length sets) × IsSpotsOf (kept_of net) (get_or sets (row_after made 0 s) []) s
   at s text = leads s text 0 [] all.reached.some all.reached.start
 
   appended : (s u : List ℕ) (b : ℕ) → place_of made s ≡ place_of made u → place_of made (s ++ b ∷ []) ≡ place_of made (u ++ b ∷ [])
   appended s u b e = row_after-append made 0 s (b ∷ []) ∙ ap (λ r. row_after made r (b ∷ [])) e ∙ sym (row_after-append made 0 u (b ∷ []))
 
-  has_classes : HasClasses ps (length bytes)
+  has_classes : HasClasses (patterns_of net) (length bytes)
   has_classes = record {
     bytes = bytes;
     many = refl;
@@ -63,19 +64,19 @@ module _ (ps : List Pattern) (sets : List (List ℕ)) (of bytes cells : List ℕ
         (get_or of b 0, lt, (classes.same b (get_or bytes (get_or of b 0) 0) few p.0).0 (sym p.1));
   }
 
-  pub automaton : IsAutomaton ps (record { classes = of; width = length bytes; cells = cells; lists = lists })
+  pub automaton : IsAutomaton (patterns_of net) (record { classes = of; width = length bytes; cells = cells; lists = lists })
   automaton = record {
     matching = λ s text. all.listed.exact (row_after made 0 s) s (at s text).0 (at s text).1;
     places = λ s u st ut. (
-      λ e. same_places ps (get_or sets (row_after made 0 s) []) s u (at s st).1 (subst (λ k. IsSpotsOf ps (get_or sets k []) u) (sym e) (at u ut).1),
-      λ same. all.reached.apart (row_after made 0 s) (row_after made 0 u) (at s st).0 (at u ut).0 (same_sets ps (get_or sets (row_after made 0 s) []) (get_or sets (row_after made 0 u) []) s u (at s st).1 (at u ut).1 same),
+      λ e. same_places net is (get_or sets (row_after made 0 s) []) s u (at s st).1 (subst (λ k. IsSpotsOf (kept_of net) (get_or sets k []) u) (sym e) (at u ut).1),
+      λ same. all.reached.apart (row_after made 0 s) (row_after made 0 u) (at s st).0 (at u ut).0 (same_sets net is (get_or sets (row_after made 0 s) []) (get_or sets (row_after made 0 u) []) s u (at s st).1 (at u ut).1 same),
     );
     reached = λ row lt.
         let w = all.reached.reached row (omega (arith, all.listed.many)) in (
           w.0,
           w.1,
           all.reached.apart (row_after made 0 w.0) row (at w.0 w.1).0 (omega (arith, all.listed.many))
-              (same_sets ps (get_or sets (row_after made 0 w.0) []) (get_or sets row []) w.0 w.0 (at w.0 w.1).1 w.2 (λ n q. (λ p. p, λ p. p))),
+              (same_sets net is (get_or sets (row_after made 0 w.0) []) (get_or sets row []) w.0 w.0 (at w.0 w.1).1 w.2 (λ n q. (λ p. p, λ p. p))),
         );
     within = λ s text. omega (arith, (at s text).0, all.listed.many);
     appended = λ s u b st ut few e. appended s u b e;

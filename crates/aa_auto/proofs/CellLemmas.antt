@@ -3,7 +3,8 @@ use Rattle.std.proofs.Common.{◌≡◌, ℕ, ◌+◌, ◌*◌, ◌<◌, ◌≤�
 use Rattle.std.proofs.Math.Nat.{mul-le-mul_left, mul-suc}
 use Rattle.std.proofs.lemmas.List.{get_or_append_left, get_or_push, length_push}
 use Rattle.std.proofs.lemmas.Bool.{cases_lt}
-use Rattle.aa_patterns.specs.declared.pattern.Pattern.{Pattern}
+use Rattle.aa_auto.specs.declared.net.Net.{Net}
+use Rattle.aa_auto.specs.Nets.{kept_of}
 use Rattle.aa_auto.specs.Spots.{IsSpotsOf}
 use Rattle.aa_auto.specs.Explored.{Goes, AreFilled, Extends}
 
@@ -46,32 +47,32 @@ cell_unique w r s c d few few' e =
     rest : (a b : ℕ) → a ≡ b → a + c ≡ b + d → c ≡ d
     rest a b p q = omega arith
 
-module _ (ps : List Pattern) (old new : List (List ℕ)) (more : Extends old new) where
+module _ (net : Net) (old new : List (List ℕ)) (more : Extends old new) where
   kept : (r : ℕ) → r < length old → get_or new r [] ≡ get_or old r []
   kept r lt = ap (λ z. get_or z r []) more.1 ∙ get_or_append_left old more.0 [] r lt
 
   pub longer : length old ≤ length new
   longer = omega (arith, ap length more.1, length-append old more.0)
 
-  pub goes_on : (row byte next : ℕ) → row < length old → Goes ps old row byte next → Goes ps new row byte next
+  pub goes_on : (row byte next : ℕ) → row < length old → Goes net old row byte next → Goes net new row byte next
   goes_on row byte next lt goes = record {
     within = omega (arith, goes.within, longer);
-    step = λ s set. subst (λ z. IsSpotsOf ps z (s ++ byte ∷ [])) (sym (kept next goes.within)) (goes.step s (subst (λ z. IsSpotsOf ps z s) (kept row lt) set));
+    step = λ s set. subst (λ z. IsSpotsOf (kept_of net) z (s ++ byte ∷ [])) (sym (kept next goes.within)) (goes.step s (subst (λ z. IsSpotsOf (kept_of net) z s) (kept row lt) set));
   }
 
   pub filled_more : (bytes cells : List ℕ) (row class byte next : ℕ) → length cells ≡ length bytes * row + class → class < length bytes → byte ≡ get_or bytes class 0 → row < length old →
-      AreFilled ps old bytes cells → Goes ps new row byte next → AreFilled ps new bytes (cells ++ next ∷ [])
+      AreFilled net old bytes cells → Goes net new row byte next → AreFilled net new bytes (cells ++ next ∷ [])
   filled_more bytes cells row class byte next many few is within filled goes r c lt_c lt =
       ⊎_elim
       (λ (l : length bytes * r + c < length cells).
       let before : r ≤ row = row_order (length bytes) r row c class lt_c few (at_most (length bytes * r + c) (length bytes * row + class) (length cells) many l) in
-      subst (λ z. Goes ps new r (get_or bytes c 0) z) (sym (get_or_append_left cells (next ∷ []) 0 (length bytes * r + c) l))
+      subst (λ z. Goes net new r (get_or bytes c 0) z) (sym (get_or_append_left cells (next ∷ []) 0 (length bytes * r + c) l))
       (goes_on r (get_or bytes c 0) (get_or cells (length bytes * r + c) 0) (omega (arith, before, within)) (filled r c lt_c l)))
       (λ (g : length cells ≤ length bytes * r + c).
       let last : length bytes * r + c ≡ length cells = end (length bytes * r + c) (length cells) (length (cells ++ next ∷ [])) (length_push cells next) lt g in
       let same = cell_unique (length bytes) r row c class lt_c few (last ∙ many) in
-      subst (λ z. Goes ps new r (get_or bytes c 0) z) (sym (get_or_push cells next 0 (length bytes * r + c) (sym last)))
-      (subst (λ z. Goes ps new z (get_or bytes c 0) next) (sym same.0) (subst (λ z. Goes ps new row z next) (is ∙ ap (λ z. get_or bytes z 0) (sym same.1)) goes)))
+      subst (λ z. Goes net new r (get_or bytes c 0) z) (sym (get_or_push cells next 0 (length bytes * r + c) (sym last)))
+      (subst (λ z. Goes net new z (get_or bytes c 0) next) (sym same.0) (subst (λ z. Goes net new row z next) (is ∙ ap (λ z. get_or bytes z 0) (sym same.1)) goes)))
       (cases_lt (length bytes * r + c) (length cells))
     where
       at_most : (a b d : ℕ) → d ≡ b → a < d → a ≤ b

@@ -4,12 +4,14 @@ use Rattle.std.proofs.Math.ListN.{set}
 use Rattle.std.proofs.lemmas.List.{take_more, length-map, get_or_append_left, length_push}
 use Rattle.std.proofs.lemmas.List.Elements.{Contains-push, Contains-push_cases, Contains-append_left}
 use Rattle.std.proofs.lemmas.Bool.{cases_lt}
+use Rattle.aa_items.specs.declared.item.Item.{Item}
 use Rattle.aa_patterns.specs.declared.pattern.Pattern.{Pattern}
 use Rattle.aa_auto.specs.declared.nodes.Node.{Node}
 use Rattle.aa_auto.specs.declared.nodes.Node.TheVariants.{Start, After, Same, Join}
 use Rattle.aa_items.specs.Steps.{IsSkippable}
 use Rattle.aa_patterns.specs.Heads.{heads_of_patterns}
 use Rattle.aa_auto.specs.Nodes.{IsRight, HasSources, HaveSources, AreNodes}
+use Rattle.aa_auto.specs.Merged.{Tells}
 use Rattle.aa_auto.specs.Closed.{IsUpward}
 use Rattle.aa_auto.specs.Spots.{Jumps, AreJumps, AreJumpsSoFar, AddsToRows, AddsJumps, AreEmpty}
 use Rattle.aa_auto.proofs.SortedLemmas.{contains_at, at_of}
@@ -171,6 +173,16 @@ jumps_all nodes k rows e all = record {
   many = all.many;
   exact = λ p n. (λ c. let q = (all.exact p n).0 c in (omega (arith, q.0, e), q.1), λ q. (all.exact p n).1 (omega (arith, q.0, e), q.1));
 }
+
+-- nodes that tell texts name positions before their own
+pub tells_sources : (hs : List (List Item)) (nodes : List Node) → ((n : ℕ) → n < length nodes → Tells hs n (get_or nodes n Start)) → HaveSources nodes
+tells_sources hs nodes tells n lt = at (get_or nodes n Start) (tells n lt)
+  where
+    at : (node : Node) → Tells hs n node → HasSources node n
+    at Start r = tt
+    at (After i) r = r.1
+    at (Same p) r = r.0
+    at (Join es) r = r.0
 
 -- nodes of patterns name positions before their own
 pub have_sources : (nodes : List Node) (ends : List ℕ) (ps : List Pattern) → AreNodes nodes ends ps → HaveSources nodes

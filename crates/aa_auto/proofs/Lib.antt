@@ -5,12 +5,15 @@ pub mod NodesLemmas
 pub mod SortedLemmas
 pub mod ClosedLemmas
 pub mod SpotsLemmas
+pub mod MergeLemmas
+pub mod MergedSteps
 pub mod DivisionLemmas
 pub mod LawLemmas
 pub mod MoveLemmas
 pub mod JumpLemmas
 pub mod FinalLemmas
 pub mod NetLemmas
+pub mod NetParts
 pub mod SetsLemmas
 pub mod ExploredLemmas
 pub mod CellLemmas

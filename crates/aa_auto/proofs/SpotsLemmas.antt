@@ -1,13 +1,12 @@
 -- The closed set of the positions that a byte leads to is that of the longer text.
 use Rattle.std.proofs.Common.{Contains, ◌≡◌, ℕ, ◌+◌, ◌-◌, ◌<◌, ◌↔◌, ◌⊎◌, Option, Some, None, List, [], ◌∷◌, ◌++◌, length, get_or, suc, zero, refl, sym, subst, inl, inr, ⊎_elim, arith, length-append, append_assoc}
 use Rattle.aa_items.specs.declared.item.Item.{Item}
-use Rattle.aa_patterns.specs.declared.pattern.Pattern.{Pattern}
 use Rattle.aa_items.specs.Globs.{Matches}
 use Rattle.aa_auto.specs.declared.nodes.Node.{Node}
 use Rattle.aa_auto.specs.declared.nodes.Node.TheVariants.{Start, After, Same, Join}
 use Rattle.aa_items.specs.Steps.{Begins, Continues, IsSkippable}
-use Rattle.aa_patterns.specs.Heads.{heads_of_patterns}
-use Rattle.aa_auto.specs.Nodes.{Fits, IsRight, AllRight, AreNodes}
+use Rattle.aa_auto.specs.Nodes.{Fits, IsRight, AllRight}
+use Rattle.aa_auto.specs.Merged.{Tells}
 use Rattle.aa_auto.specs.Closed.{IsClosure}
 use Rattle.aa_auto.specs.Spots.{Stands, IsSpotsOf, Jumps, AreJumps, Seeds, AreSeeds, Leads, Stood}
 use Rattle.aa_patterns.proofs.Texts.{Matches-skip, Matches-grow}
@@ -41,13 +40,13 @@ module _ (hs : List (List Item)) where
   abbrev Jumped : Node → ℕ → List ℕ → Type 0
   Jumped node n t = (p : ℕ) × (p < n) × Jumps node n p × Matches (get_or hs p []) t
 
-  same_to : (q n : ℕ) (t : List ℕ) → IsRight hs n (Same q) → Matches (get_or hs n []) t ↔ Jumped (Same q) n t
+  same_to : (q n : ℕ) (t : List ℕ) → Tells hs n (Same q) → Matches (get_or hs n []) t ↔ Jumped (Same q) n t
   same_to q n t r = (
-    λ m. (q, r.0, refl, subst (λ h. Matches h t) r.1 m),
-    λ j. subst (λ h. Matches h t) (sym r.1) (subst (λ p. Matches (get_or hs p []) t) j.2 j.3),
+    λ m. (q, r.0, refl, (r.1 t).0 m),
+    λ j. (r.1 t).1 (subst (λ p. Matches (get_or hs p []) t) j.2 j.3),
   )
 
-  join_to : (ends : _) (n : ℕ) (t : List ℕ) → IsRight hs n (Join ends) → Matches (get_or hs n []) t ↔ Jumped (Join ends) n t
+  join_to : (ends : _) (n : ℕ) (t : List ℕ) → Tells hs n (Join ends) → Matches (get_or hs n []) t ↔ Jumped (Join ends) n t
   join_to ends n t r = (
     λ m. let x = (r.1 t).0 m in (x.0, subst (λ z. z < n) x.1.2 (r.0 x.1.0 x.0 x.1.1), x.1, x.2),
     λ j. (r.1 t).1 (j.0, j.2, j.3),
@@ -56,21 +55,21 @@ module _ (hs : List (List Item)) where
   back : (p n : ℕ) (t : List ℕ) → n ≡ p + 1 → Matches (get_or hs p []) t → Matches (get_or hs (n - 1) []) t
   back p n t e m = let e' : p ≡ n - 1 = omega (arith, e) in subst (λ k. Matches (get_or hs k []) t) e' m
 
-  meaning_none : (old : List ℕ) (n : ℕ) (node : Node) → IsRight hs n node → Matches (get_or hs n []) [] ↔ (Seeds None old node n ⊎ Jumped node n [])
-  meaning_none old n Start r = (λ m. inl tt, λ x. subst (λ h. Matches h []) (sym r) refl)
+  meaning_none : (old : List ℕ) (n : ℕ) (node : Node) → Tells hs n node → Matches (get_or hs n []) [] ↔ (Seeds None old node n ⊎ Jumped node n [])
+  meaning_none old n Start r = (λ m. inl tt, λ x. (r []).1 refl)
   meaning_none old n (After i) r = (
-    λ m. let q = (Matches-skip (get_or hs (n - 1) []) i.now r.0).0 (subst (λ h. Matches h []) r.2 m) in
+    λ m. let q = (Matches-skip (get_or hs (n - 1) []) i.now r.0).0 ((r.2 []).0 m) in
         inr (n - 1, omega (arith, r.1), (q.0, omega (arith, r.1)), q.1),
     λ x. ⊎_elim (λ z. absurd z)
-        (λ (j : Jumped (After i) n []). subst (λ h. Matches h []) (sym r.2) ((Matches-skip (get_or hs (n - 1) []) i.now r.0).1 (j.2.0, back j.0 n [] j.2.1 j.3))) x,
+        (λ (j : Jumped (After i) n []). (r.2 []).1 ((Matches-skip (get_or hs (n - 1) []) i.now r.0).1 (j.2.0, back j.0 n [] j.2.1 j.3))) x,
   )
   meaning_none old n (Same q) r = (λ m. inr ((same_to q n [] r).0 m), λ x. ⊎_elim (λ z. absurd z) (λ (j : Jumped (Same q) n []). (same_to q n [] r).1 j) x)
   meaning_none old n (Join ends) r = (λ m. inr ((join_to ends n [] r).0 m), λ x. ⊎_elim (λ z. absurd z) (λ (j : Jumped (Join ends) n []). (join_to ends n [] r).1 j) x)
 
-  meaning_some : (b : ℕ) (old : List ℕ) (s : List ℕ) → Stands hs old s → (n : ℕ) (node : Node) → n < length hs → IsRight hs n node →
+  meaning_some : (b : ℕ) (old : List ℕ) (s : List ℕ) → Stands hs old s → (n : ℕ) (node : Node) → n < length hs → Tells hs n node →
       Matches (get_or hs n []) (s ++ b ∷ []) ↔ (Seeds (Some b) old node n ⊎ Jumped node n (s ++ b ∷ []))
   meaning_some b old s was n Start lt r = (
-    λ m. absurd (nothing s (subst (λ h. Matches h (s ++ b ∷ [])) r m)),
+    λ m. absurd (nothing s ((r (s ++ b ∷ [])).0 m)),
     λ x. ⊎_elim (λ z. absurd z) (λ (j : Jumped Start n (s ++ b ∷ [])). absurd j.2) x,
   )
     where
@@ -89,12 +88,12 @@ module _ (hs : List (List Item)) where
           (λ (y : (Matches h s × Begins i.now b) ⊎ (Matches (h ++ i.now ∷ []) s × Continues i.now b)).
           ⊎_elim
           (λ (x : Matches h s × Begins i.now b). inl (inl (n - 1, omega (arith, r.1), (was (n - 1)).1 (omega (arith, r.1, lt), x.0), x.1)))
-          (λ (x : Matches (h ++ i.now ∷ []) s × Continues i.now b). inl (inr ((was n).1 (lt, subst (λ g. Matches g s) (sym r.2) x.0), x.1)))
+          (λ (x : Matches (h ++ i.now ∷ []) s × Continues i.now b). inl (inr ((was n).1 (lt, (r.2 s).1 x.0), x.1)))
           y)
-          ((Matches-grow h i.now s b r.0).0 (subst (λ g. Matches g (s ++ b ∷ [])) r.2 m))
+          ((Matches-grow h i.now s b r.0).0 ((r.2 (s ++ b ∷ [])).0 m))
 
       grown : (IsSkippable i.now × Matches h (s ++ b ∷ [])) ⊎ (Matches h s × Begins i.now b) ⊎ (Matches (h ++ i.now ∷ []) s × Continues i.now b) → Matches (get_or hs n []) (s ++ b ∷ [])
-      grown g = subst (λ z. Matches z (s ++ b ∷ [])) (sym r.2) ((Matches-grow h i.now s b r.0).1 g)
+      grown g = (r.2 (s ++ b ∷ [])).1 ((Matches-grow h i.now s b r.0).1 g)
 
       from : Seeds (Some b) old (After i) n ⊎ Jumped (After i) n (s ++ b ∷ []) → Matches (get_or hs n []) (s ++ b ∷ [])
       from x =
@@ -102,36 +101,33 @@ module _ (hs : List (List Item)) where
           (λ (y : ((p : ℕ) × (n ≡ p + 1) × Contains old p × Begins i.now b) ⊎ (Contains old n × Continues i.now b)).
           ⊎_elim
           (λ (z : (p : ℕ) × (n ≡ p + 1) × Contains old p × Begins i.now b). grown (inr (inl (back z.0 n s z.1 ((was z.0).0 z.2).1, z.3))))
-          (λ (z : Contains old n × Continues i.now b). grown (inr (inr (subst (λ g. Matches g s) r.2 ((was n).0 z.0).1, z.1))))
+          (λ (z : Contains old n × Continues i.now b). grown (inr (inr ((r.2 s).0 ((was n).0 z.0).1, z.1))))
           y)
           (λ (j : Jumped (After i) n (s ++ b ∷ [])). grown (inl (j.2.0, back j.0 n (s ++ b ∷ []) j.2.1 j.3)))
           x
   meaning_some b old s was n (Same q) lt r = (λ m. inr ((same_to q n (s ++ b ∷ []) r).0 m), λ x. ⊎_elim (λ z. absurd z) (λ (j : Jumped (Same q) n (s ++ b ∷ [])). (same_to q n (s ++ b ∷ []) r).1 j) x)
   meaning_some b old s was n (Join ends) lt r = (λ m. inr ((join_to ends n (s ++ b ∷ []) r).0 m), λ x. ⊎_elim (λ z. absurd z) (λ (j : Jumped (Join ends) n (s ++ b ∷ [])). (join_to ends n (s ++ b ∷ []) r).1 j) x)
 
-  meaning : (byte : Option ℕ) (old : List ℕ) (s t : List ℕ) → Leads byte s t → Stood byte hs old s → (n : ℕ) (node : Node) → n < length hs → IsRight hs n node →
+  meaning : (byte : Option ℕ) (old : List ℕ) (s t : List ℕ) → Leads byte s t → Stood byte hs old s → (n : ℕ) (node : Node) → n < length hs → Tells hs n node →
       Matches (get_or hs n []) t ↔ (Seeds byte old node n ⊎ Jumped node n t)
   meaning None old s t leads stood n node lt r = subst (λ u. Matches (get_or hs n []) u ↔ (Seeds None old node n ⊎ Jumped node n u)) (sym leads) (meaning_none old n node r)
   meaning (Some b) old s t leads stood n node lt r =
       subst (λ u. Matches (get_or hs n []) u ↔ (Seeds (Some b) old node n ⊎ Jumped node n u)) (sym leads) (meaning_some b old s stood n node lt r)
 
 -- the bridge
-pub spots_follow : (ps : List Pattern) (nodes : List Node) (ends : List ℕ) (rows : List (List ℕ)) (byte : Option ℕ) (old seeds new : List ℕ) (s t : List ℕ) →
-    AreNodes nodes ends ps → AreJumps nodes rows → AreSeeds nodes byte old seeds → IsClosure rows seeds new → Leads byte s t → Stood byte (heads_of_patterns ps) old s →
-    IsSpotsOf ps new t
-spots_follow ps nodes ends rows byte old seeds new s t are jumps seeded closed leads stood =
+pub spots_follow : (hs : List (List Item)) (nodes : List Node) (rows : List (List ℕ)) (byte : Option ℕ) (old seeds new : List ℕ) (s t : List ℕ) →
+    length nodes ≡ length hs → ((n : ℕ) → n < length nodes → Tells hs n (get_or nodes n Start)) → AreJumps nodes rows → AreSeeds nodes byte old seeds → IsClosure rows seeds new → Leads byte s t → Stood byte hs old s →
+    IsSpotsOf hs new t
+spots_follow hs nodes rows byte old seeds new s t many tells jumps seeded closed leads stood =
     record { rising = closed.rising; exact = λ n. let e : n < n + 1 = omega arith in below (n + 1) n e }
   where
-    hs : List (List Item)
-    hs = heads_of_patterns ps
-
     at : (n : ℕ) → n < length hs → Matches (get_or hs n []) t ↔ (Seeds byte old (get_or nodes n Start) n ⊎ ((p : ℕ) × (p < n) × Jumps (get_or nodes n Start) n p × Matches (get_or hs p []) t))
-    at n lt = meaning hs byte old s t leads stood n (get_or nodes n Start) lt (right_of hs nodes n (are.right hs (fits_itself hs)) (omega (arith, lt, are.many)))
+    at n lt = meaning hs byte old s t leads stood n (get_or nodes n Start) lt (tells n (omega (arith, lt, many)))
 
     source : (n p : ℕ) → n < length hs → Jumps (get_or nodes n Start) n p → p < n
-    source n p lt j = before (get_or nodes n Start) (right_of hs nodes n (are.right hs (fits_itself hs)) (omega (arith, lt, are.many))) j
+    source n p lt j = before (get_or nodes n Start) (tells n (omega (arith, lt, many))) j
       where
-        before : (node : Node) → IsRight hs n node → Jumps node n p → p < n
+        before : (node : Node) → Tells hs n node → Jumps node n p → p < n
         before Start r j = absurd j
         before (After i) r j = omega (arith, j.1)
         before (Same q) r j = omega (arith, j, r.0)
@@ -139,7 +135,7 @@ spots_follow ps nodes ends rows byte old seeds new s t are jumps seeded closed l
 
     to : (n : ℕ) → ((k : ℕ) → k < n → Contains new k ↔ ((k < length hs) × Matches (get_or hs k []) t)) → Contains new n → (n < length hs) × Matches (get_or hs n []) t
     to n ih c =
-        let inside : n < length hs = omega (arith, closed.within n c, jumps.many, are.many) in (
+        let inside : n < length hs = omega (arith, closed.within n c, jumps.many, many) in (
           inside,
           (at n inside).1 (⊎_elim
               (λ x. inl ((seeded.exact n).0 x).1)
@@ -153,9 +149,9 @@ spots_follow ps nodes ends rows byte old seeds new s t are jumps seeded closed l
     from : (n : ℕ) → ((k : ℕ) → k < n → Contains new k ↔ ((k < length hs) × Matches (get_or hs k []) t)) → (n < length hs) × Matches (get_or hs n []) t → Contains new n
     from n ih q =
         (closed.exact n).1 (⊎_elim
-        (λ x. inl ((seeded.exact n).1 (omega (arith, q.0, are.many), x)))
+        (λ x. inl ((seeded.exact n).1 (omega (arith, q.0, many), x)))
         (λ (j : (p : ℕ) × (p < n) × Jumps (get_or nodes n Start) n p × Matches (get_or hs p []) t).
-        inr (j.0, (ih j.0 j.1).1 (omega (arith, j.1, q.0), j.3), (jumps.exact j.0 n).1 (omega (arith, q.0, are.many), j.2)))
+        inr (j.0, (ih j.0 j.1).1 (omega (arith, j.1, q.0), j.3), (jumps.exact j.0 n).1 (omega (arith, q.0, many), j.2)))
         ((at n q.0).0 q.1))
 
     below : (m n : ℕ) → n < m → Contains new n ↔ ((n < length hs) × Matches (get_or hs n []) t)

@@ -8,6 +8,7 @@ pub mod Division
 pub mod Explored
 pub mod Finals
 pub mod Found
+pub mod Merged
 pub mod Nets
 pub mod Nodes
 pub mod Sorted

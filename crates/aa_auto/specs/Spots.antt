@@ -2,21 +2,19 @@
 use Rattle.std.specs.Prelude.{◌≡◌, ℕ, ◌+◌, ◌<◌, ◌↔◌, ◌⊎◌, Option, Some, None, List, [], ◌∷◌, ◌++◌, length, Contains, slice_index_or}
 use Rattle.std.specs.List.Sorted.{IsStrictlyIncreasing}
 use Rattle.aa_items.specs.declared.item.Item.{Item}
-use Rattle.aa_patterns.specs.declared.pattern.Pattern.{Pattern}
 use Rattle.aa_items.specs.Globs.{Matches}
 use Rattle.aa_auto.specs.declared.nodes.Node.{Node}
 use Rattle.aa_auto.specs.declared.nodes.Node.TheVariants.{Start, After, Same, Join}
 use Rattle.aa_items.specs.Steps.{Begins, Continues, IsSkippable}
-use Rattle.aa_patterns.specs.Heads.{heads_of_patterns}
 use Rattle.aa_auto.specs.Nodes.{head_at}
 
 -- the positions whose head the text matches
 abbrev pub Stands : List (List Item) → List ℕ → List ℕ → Type 0
 Stands hs set s = (n : ℕ) → Contains set n ↔ ((n < length hs) × Matches (head_at hs n) s)
 
-pub record IsSpotsOf (ps : List Pattern) (set : List ℕ) (s : List ℕ) : Type 0 where
+pub record IsSpotsOf (hs : List (List Item)) (set : List ℕ) (s : List ℕ) : Type 0 where
   pub rising : IsStrictlyIncreasing set
-  pub exact : Stands (heads_of_patterns ps) set s
+  pub exact : Stands hs set s
 
 -- where the head of p matches, that of n does
 abbrev pub Jumps : Node → ℕ → ℕ → Type 0

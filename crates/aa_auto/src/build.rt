@@ -58,7 +58,7 @@ impl Found {
         requires net { IsNetOf net.now }
         requires set { (n : ℕ) → Contains set.items n → n < length net.now.nodes.items }
         ensures found { IfOk result (λ next. slice_get self.new.sets next ≡ Some set.items) }
-        ensures grows { OnOk result (TakesSet (patterns_of net.now) set.items self.old.sets self.new.sets (numbers_of self.old) (numbers_of self.new)) }
+        ensures grows { OnOk result (TakesSet net.now set.items self.old.sets self.new.sets (numbers_of self.old) (numbers_of self.new)) }
         ensures apart { OnOk result (IsApart self.new.sets) }
         ensures err { IfErr result (λ e. e ≡ BuildFault.NoMemory) }
     {
@@ -85,13 +85,13 @@ fn next_row(
     found: &mut Found,
 ) -> Result<usize, BuildFault>
     requires net { IsNetOf net.now }
-    requires reached { AreReached (patterns_of net.now) found.old.sets }
-    requires listed { AreListed (patterns_of net.now) found.old.sets (numbers_of found.old) }
+    requires reached { AreReached net.now found.old.sets }
+    requires listed { AreListed net.now found.old.sets (numbers_of found.old) }
     requires row { row < length found.old.sets }
     requires few { length found.old.sets ≤ limit }
-    ensures reached { OnOk result (AreReached (patterns_of net.now) found.new.sets) }
-    ensures listed { OnOk result (AreListed (patterns_of net.now) found.new.sets (numbers_of found.new)) }
-    ensures goes { IfOk result (λ next. Goes (patterns_of net.now) found.new.sets row byte next) }
+    ensures reached { OnOk result (AreReached net.now found.new.sets) }
+    ensures listed { OnOk result (AreListed net.now found.new.sets (numbers_of found.new)) }
+    ensures goes { IfOk result (λ next. Goes net.now found.new.sets row byte next) }
     ensures extends { OnOk result (Extends found.old.sets found.new.sets) }
     ensures few { OnOk result (length found.new.sets ≤ limit) }
     ensures too_many { result ≡ Err BuildFault.TooManyStates → HasPlaces (patterns_of net.now) (limit + 1) }
@@ -118,16 +118,16 @@ fn fill_row(
     cells: &mut Vec<u32>,
 ) -> Result<(), BuildFault>
     requires net { IsNetOf net.now }
-    requires reached { AreReached (patterns_of net.now) found.old.sets }
-    requires listed { AreListed (patterns_of net.now) found.old.sets (numbers_of found.old) }
+    requires reached { AreReached net.now found.old.sets }
+    requires listed { AreListed net.now found.old.sets (numbers_of found.old) }
     requires row { row < length found.old.sets }
     requires few { length found.old.sets ≤ limit }
     requires limit { limit ≤ 1000000 }
-    requires filled { AreFilled (patterns_of net.now) found.old.sets bytes.now cells.old.items }
+    requires filled { AreFilled net.now found.old.sets bytes.now cells.old.items }
     requires cells { length cells.old.items ≡ length bytes.now * row }
-    ensures reached { OnOk result (AreReached (patterns_of net.now) found.new.sets) }
-    ensures listed { OnOk result (AreListed (patterns_of net.now) found.new.sets (numbers_of found.new)) }
-    ensures filled { OnOk result (AreFilled (patterns_of net.now) found.new.sets bytes.now cells.new.items) }
+    ensures reached { OnOk result (AreReached net.now found.new.sets) }
+    ensures listed { OnOk result (AreListed net.now found.new.sets (numbers_of found.new)) }
+    ensures filled { OnOk result (AreFilled net.now found.new.sets bytes.now cells.new.items) }
     ensures cells { OnOk result (length cells.new.items ≡ length bytes.now * (row + 1)) }
     ensures row { OnOk result (row < length found.new.sets) }
     ensures few { OnOk result (length found.new.sets ≤ limit) }
@@ -150,7 +150,7 @@ pub(crate) fn explore(
     requires net { IsNetOf net.now }
     requires some { 0 < limit }
     requires limit { limit ≤ 1000000 }
-    ensures explored { IfOk result (λ r. IsExplored (patterns_of net.now) r.0.sets bytes.now r.1.items (numbers_of r.0)) }
+    ensures explored { IfOk result (λ r. IsExplored net.now r.0.sets bytes.now r.1.items (numbers_of r.0)) }
     ensures few { IfOk result (λ r. length r.0.sets ≤ limit) }
     ensures too_many { result ≡ Err BuildFault.TooManyStates → HasPlaces (patterns_of net.now) (limit + 1) }
 {

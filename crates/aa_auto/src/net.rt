@@ -8,6 +8,7 @@ use crate::classes::{Classes, classes_of};
 use crate::closing::closed;
 use crate::finals::{finals_of, numbers_at};
 use crate::jumps::jumps_of;
+use crate::merging::{Kept, merge_nodes};
 use crate::moves::{beginnings, moved};
 use crate::nodes::{Node, nodes_of};
 use aa_patterns::Pattern;
@@ -18,8 +19,12 @@ use std::alloc::{AllocError, Global};
 pub(crate) struct Net<'a> {
     /// The patterns that it is of.
     pub(crate) patterns: &'a [&'a Pattern],
-    /// What stands before each position.
+    /// What stands before each position of the patterns.
+    pub(crate) plain: Vec<Node<'a>>,
+    /// What stands before each position, where those with the same head are one.
     pub(crate) nodes: Vec<Node<'a>>,
+    /// Of each position, one of the patterns with its head.
+    pub(crate) firsts: Vec<usize>,
     /// The positions that each one leads to without a byte.
     pub(crate) jumps: Vec<Vec<u32>>,
     /// The number of the pattern that ends at each position.
@@ -35,7 +40,13 @@ pub(crate) fn net_of<'a>(alloc: Global, patterns: &'a [&'a Pattern]) -> Result<N
     ensures net { IfOk result IsNetOf }
     ensures patterns { IfOk result (λ net. patterns_of net ≡ pointed patterns.now) }
 {
-    let (nodes, ends) = nodes_of(alloc, patterns)?;
+    let (plain, plain_ends) = nodes_of(alloc, patterns)?;
+    let kept = merge_nodes(alloc, plain.as_slice(), plain_ends.as_slice())?;
+    let Kept {
+        nodes,
+        firsts,
+        ends,
+    } = kept;
     if nodes.len() > POSITIONS {
         return Err(AllocError);
     }
@@ -43,7 +54,9 @@ pub(crate) fn net_of<'a>(alloc: Global, patterns: &'a [&'a Pattern]) -> Result<N
     let finals = finals_of(alloc, ends.as_slice(), nodes.len())?;
     Ok(Net {
         patterns,
+        plain,
         nodes,
+        firsts,
         jumps,
         finals,
     })
@@ -60,13 +73,13 @@ impl Net<'_> {
         requires { IsNetOf self.now }
         ensures { IfOk result (λ c. AreClassesOf (patterns_of self.now) c.of.items c.bytes.items) }
     {
-        classes_of(alloc, self.nodes.as_slice())
+        classes_of(alloc, self.plain.as_slice())
     }
 
     /// The positions where the empty text stands.
     pub(crate) fn start(&self, alloc: Global) -> Result<Vec<u32>, AllocError>
         requires { IsNetOf self.now }
-        ensures { IfOk result (λ new. Follows (patterns_of self.now) None [] new.items) }
+        ensures { IfOk result (λ new. Follows self.now None [] new.items) }
     {
         let seeds = beginnings(alloc, self.nodes.as_slice())?;
         closed(alloc, self.jumps.as_slice(), seeds.as_slice())
@@ -76,7 +89,7 @@ impl Net<'_> {
     pub(crate) fn next(&self, alloc: Global, byte: u8, old: &[u32]) -> Result<Vec<u32>, AllocError>
         requires net { IsNetOf self.now }
         requires old { (n : ℕ) → Contains old.now n → n < length self.now.nodes.items }
-        ensures { IfOk result (λ new. Follows (patterns_of self.now) (Some byte) old.now new.items) }
+        ensures { IfOk result (λ new. Follows self.now (Some byte) old.now new.items) }
     {
         let seeds = moved(alloc, self.nodes.as_slice(), byte, old)?;
         closed(alloc, self.jumps.as_slice(), seeds.as_slice())
@@ -86,7 +99,7 @@ impl Net<'_> {
     pub(crate) fn numbers(&self, alloc: Global, set: &[u32]) -> Result<Vec<u16>, AllocError>
         requires net { IsNetOf self.now }
         requires set { (n : ℕ) → Contains set.now n → n < length self.now.nodes.items }
-        ensures { IfOk result (λ numbers. Lists (patterns_of self.now) set.now numbers.items) }
+        ensures { IfOk result (λ numbers. Lists self.now set.now numbers.items) }
     {
         numbers_at(alloc, self.finals.as_slice(), set)
     }

@@ -4,17 +4,16 @@ use Rattle.aa_auto.specs.Found.{numbers_of}
 use Rattle.aa_auto.proofs.JumpLemmas.{lists}
 use Rattle.aa_auto.proofs.NetLemmas.{spots_below}
 use Rattle.aa_auto.proofs.ExploredLemmas.{start_set, first_found}
-use Rattle.aa_auto.specs.Nets.{patterns_of}
 use Rattle.aa_auto.proofs.build.explore.Goals as goal
 
 pub add-requires-clause-set : goal.add-requires-clause-set
 add-requires-clause-set c =
-    spots_below (patterns_of c.args.net.now) c.args.net.now.nodes.items (lists c.args.net.now.jumps.items) c.args.net.now.finals.items c.requires.net c.in_ok-start.start.items []
-    (start_set (patterns_of c.args.net.now) c.in_ok-start.start.items c.in_ok-start.ensures)
+    spots_below c.args.net.now c.requires.net c.in_ok-start.start.items []
+    (start_set c.args.net.now c.in_ok-start.start.items c.in_ok-start.ensures)
 
 pub loop-row-init : goal.loop-row-init
 loop-row-init c =
-    let first = first_found (patterns_of c.args.net.now) c.new.result c.add.new.self.sets (lists c.new-2.result.items) (numbers_of c.add.new.self) c.in_ok-start.start.items
+    let first = first_found c.args.net.now c.new.result c.add.new.self.sets (lists c.new-2.result.items) (numbers_of c.add.new.self) c.in_ok-start.start.items
     c.in_ok-add.field-0 c.new.ensures (ap lists c.new-2.ensures.items) c.in_ok-start.ensures c.in_ok-add.ensures.found c.in_ok-add.ensures.grows c.in_ok-add.ensures.apart in
     record {
       reached = first.0;

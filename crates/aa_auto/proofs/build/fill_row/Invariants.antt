@@ -1,14 +1,13 @@
 use Rattle.std.proofs.Common.{◌≡◌, ◌+◌, ◌*◌, ◌<◌, ◌≤◌, length}
 use Rattle.aa_auto.specs.Explored.{AreReached, AreFilled, AreListed}
 use Rattle.aa_auto.specs.Found.{numbers_of}
-use Rattle.aa_auto.specs.Nets.{patterns_of}
 use Rattle.aa_auto.proofs.build.fill_row.Given as goal
 
 abbrev pub invariant-loop-byte : goal.invariant-loop-byte
 invariant-loop-byte l = record {
-  reached : AreReached (patterns_of l.net) l.found.sets;
-  listed : AreListed (patterns_of l.net) l.found.sets (numbers_of l.found);
-  filled : AreFilled (patterns_of l.net) l.found.sets l.bytes l.cells.items;
+  reached : AreReached l.net l.found.sets;
+  listed : AreListed l.net l.found.sets (numbers_of l.found);
+  filled : AreFilled l.net l.found.sets l.bytes l.cells.items;
   many : length l.cells.items ≡ length l.bytes * l.row + l.byte-index;
   row : l.row < length l.found.sets;
   few : length l.found.sets ≤ l.limit;

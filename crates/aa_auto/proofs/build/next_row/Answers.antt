@@ -1,7 +1,6 @@
 use Rattle.std.proofs.Common.{◌≡◌, ◌+◌, length, sym, subst, arith}
 use Rattle.aa_auto.specs.Tables.{HasPlaces}
 use Rattle.aa_auto.specs.Found.{numbers_of}
-use Rattle.aa_auto.proofs.JumpLemmas.{lists}
 use Rattle.aa_auto.proofs.NetLemmas.{spots_below}
 use Rattle.aa_auto.proofs.ExploredLemmas.{row_set, next_set, one_longer, still_reached, still_listed, goes_next, many_places, grown_sets}
 use Rattle.aa_auto.specs.Nets.{patterns_of}
@@ -9,36 +8,36 @@ use Rattle.aa_auto.proofs.build.next_row.Goals as goal
 
 pub next-requires-clause-old : goal.next-requires-clause-old
 next-requires-clause-old c =
-    let r = row_set (patterns_of c.args.net.now) c.args.found.now.sets c.args.row c.in-Some.old.now (sym c.in-Some.ensures) c.requires.reached in
-    spots_below (patterns_of c.args.net.now) c.args.net.now.nodes.items (lists c.args.net.now.jumps.items) c.args.net.now.finals.items c.requires.net c.in-Some.old.now r.0 r.2
+    let r = row_set c.args.net.now c.args.found.now.sets c.args.row c.in-Some.old.now (sym c.in-Some.ensures) c.requires.reached in
+    spots_below c.args.net.now c.requires.net c.in-Some.old.now r.0 r.2
 
 pub add-requires-clause-set : goal.add-requires-clause-set
 add-requires-clause-set c =
-    let r = next_set (patterns_of c.args.net.now) c.args.found.now.sets c.args.row c.args.byte c.in-Some.old.now c.in_ok-new.new.items (sym c.in-Some.ensures) c.requires.reached c.in_ok-new.ensures in
-    spots_below (patterns_of c.args.net.now) c.args.net.now.nodes.items (lists c.args.net.now.jumps.items) c.args.net.now.finals.items c.requires.net c.in_ok-new.new.items r.0 r.1
+    let r = next_set c.args.net.now c.args.found.now.sets c.args.row c.args.byte c.in-Some.old.now c.in_ok-new.new.items (sym c.in-Some.ensures) c.requires.reached c.in_ok-new.ensures in
+    spots_below c.args.net.now c.requires.net c.in_ok-new.new.items r.0 r.1
 
 pub returns-then-len-limit-clause-too_many : goal.returns-then-len-limit-clause-too_many
 returns-then-len-limit-clause-too_many c =
-    let grown = grown_sets (patterns_of c.args.net.now) c.in_ok-new.new.items c.args.found.now.sets c.add.new.self.sets (numbers_of c.args.found.now) (numbers_of c.add.new.self) c.in_ok-next.ensures.grows in
-    let reached = still_reached (patterns_of c.args.net.now) c.args.found.now.sets c.add.new.self.sets c.args.row c.args.byte c.in_ok-new.new.items c.in-Some.old.now c.ranges.byte.fits (sym c.in-Some.ensures) c.in_ok-new.ensures grown c.requires.reached c.in_ok-next.ensures.apart in
-    let longer = one_longer (patterns_of c.args.net.now) c.args.found.now.sets c.add.new.self.sets c.args.row c.args.byte c.in_ok-new.new.items c.in-Some.old.now c.ranges.byte.fits (sym c.in-Some.ensures) c.in_ok-new.ensures grown in
+    let grown = grown_sets c.args.net.now c.in_ok-new.new.items c.args.found.now.sets c.add.new.self.sets (numbers_of c.args.found.now) (numbers_of c.add.new.self) c.in_ok-next.ensures.grows in
+    let reached = still_reached c.args.net.now c.args.found.now.sets c.add.new.self.sets c.args.row c.args.byte c.in_ok-new.new.items c.in-Some.old.now c.ranges.byte.fits (sym c.in-Some.ensures) c.in_ok-new.ensures grown c.requires.reached c.in_ok-next.ensures.apart in
+    let longer = one_longer c.args.net.now c.args.found.now.sets c.add.new.self.sets c.args.row c.args.byte c.in_ok-new.new.items c.in-Some.old.now c.ranges.byte.fits (sym c.in-Some.ensures) c.in_ok-new.ensures grown in
     let many : length c.add.new.self.sets ≡ c.args.limit + 1 = omega (arith, longer, c.if-len-limit.true, c.len.ensures, c.requires.few) in
-    λ _. subst (HasPlaces (patterns_of c.args.net.now)) many (many_places (patterns_of c.args.net.now) c.add.new.self.sets reached)
+    λ _. subst (HasPlaces (patterns_of c.args.net.now)) many (many_places c.args.net.now c.requires.net c.add.new.self.sets reached)
 
 pub returns-clause-reached : goal.returns-clause-reached
 returns-clause-reached c =
-    still_reached (patterns_of c.args.net.now) c.args.found.now.sets c.add.new.self.sets c.args.row c.args.byte c.in_ok-new.new.items c.in-Some.old.now c.ranges.byte.fits (sym c.in-Some.ensures) c.in_ok-new.ensures
-    (grown_sets (patterns_of c.args.net.now) c.in_ok-new.new.items c.args.found.now.sets c.add.new.self.sets (numbers_of c.args.found.now) (numbers_of c.add.new.self) c.in_ok-next.ensures.grows)
+    still_reached c.args.net.now c.args.found.now.sets c.add.new.self.sets c.args.row c.args.byte c.in_ok-new.new.items c.in-Some.old.now c.ranges.byte.fits (sym c.in-Some.ensures) c.in_ok-new.ensures
+    (grown_sets c.args.net.now c.in_ok-new.new.items c.args.found.now.sets c.add.new.self.sets (numbers_of c.args.found.now) (numbers_of c.add.new.self) c.in_ok-next.ensures.grows)
     c.requires.reached c.in_ok-next.ensures.apart
 
 pub returns-clause-listed : goal.returns-clause-listed
 returns-clause-listed c =
-    still_listed (patterns_of c.args.net.now) c.args.found.now.sets c.add.new.self.sets c.args.row c.args.byte c.in_ok-new.new.items c.in-Some.old.now c.ranges.byte.fits (sym c.in-Some.ensures) c.in_ok-new.ensures
-    (grown_sets (patterns_of c.args.net.now) c.in_ok-new.new.items c.args.found.now.sets c.add.new.self.sets (numbers_of c.args.found.now) (numbers_of c.add.new.self) c.in_ok-next.ensures.grows)
+    still_listed c.args.net.now c.args.found.now.sets c.add.new.self.sets c.args.row c.args.byte c.in_ok-new.new.items c.in-Some.old.now c.ranges.byte.fits (sym c.in-Some.ensures) c.in_ok-new.ensures
+    (grown_sets c.args.net.now c.in_ok-new.new.items c.args.found.now.sets c.add.new.self.sets (numbers_of c.args.found.now) (numbers_of c.add.new.self) c.in_ok-next.ensures.grows)
     (numbers_of c.args.found.now) (numbers_of c.add.new.self) c.requires.listed c.in_ok-next.ensures.grows
 
 pub returns-clause-goes : goal.returns-clause-goes
 returns-clause-goes c =
-    goes_next (patterns_of c.args.net.now) c.args.found.now.sets c.add.new.self.sets c.args.row c.args.byte c.in_ok-new.new.items c.in-Some.old.now c.ranges.byte.fits (sym c.in-Some.ensures) c.in_ok-new.ensures
-    (grown_sets (patterns_of c.args.net.now) c.in_ok-new.new.items c.args.found.now.sets c.add.new.self.sets (numbers_of c.args.found.now) (numbers_of c.add.new.self) c.in_ok-next.ensures.grows)
+    goes_next c.args.net.now c.args.found.now.sets c.add.new.self.sets c.args.row c.args.byte c.in_ok-new.new.items c.in-Some.old.now c.ranges.byte.fits (sym c.in-Some.ensures) c.in_ok-new.ensures
+    (grown_sets c.args.net.now c.in_ok-new.new.items c.args.found.now.sets c.add.new.self.sets (numbers_of c.args.found.now) (numbers_of c.add.new.self) c.in_ok-next.ensures.grows)
     c.in_ok-next.next c.in_ok-next.ensures.found

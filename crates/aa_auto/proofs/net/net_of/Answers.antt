@@ -1,11 +1,45 @@
-use Rattle.std.proofs.Common.{sym, subst}
-use Rattle.aa_auto.specs.Nodes.{HaveSources}
-use Rattle.aa_auto.proofs.JumpLemmas.{have_sources}
-use Rattle.aa_auto.specs.Nodes.{pointed}
+use Rattle.std.proofs.Common.{◌≡◌, ◌<◌, All, ℕ, List, arith, ap, length, sym, subst}
+use Rattle.aa_auto.specs.Nodes.{HaveSources, pointed}
+use Rattle.aa_auto.specs.Merged.{AreMerged}
+use Rattle.aa_auto.specs.Spots.{AreJumps}
+use Rattle.aa_auto.specs.Finals.{AreFinals}
+use Rattle.aa_auto.proofs.JumpLemmas.{lists, have_sources}
+use Rattle.aa_auto.proofs.NetParts.{net_made, merged_sources}
 use Rattle.aa_auto.proofs.net.net_of.Goals as goal
+
+pub merge_nodes-requires-clause-sources : goal.merge_nodes-requires-clause-sources
+merge_nodes-requires-clause-sources c =
+    let sources : HaveSources c.as_slice.result.now =
+    subst HaveSources (sym c.as_slice.ensures.value) (have_sources c.in_ok-plain.plain.items c.in_ok-plain.plain_ends.items (pointed c.args.patterns.now) c.in_ok-plain.ensures) in
+    sources
+
+pub merge_nodes-requires-clause-ends : goal.merge_nodes-requires-clause-ends
+merge_nodes-requires-clause-ends c =
+    let within : All (λ e. e < length c.as_slice.result.now) c.as_slice-2.result.now =
+    subst (λ (z : List ℕ). All (λ e. e < length c.as_slice.result.now) z) (sym c.as_slice-2.ensures.value)
+    (subst (λ n. All (λ e. e < n) c.in_ok-plain.plain_ends.items) (sym (ap length c.as_slice.ensures.value)) c.in_ok-plain.ensures.within) in
+    within
 
 pub jumps_of-requires-clause-sources : goal.jumps_of-requires-clause-sources
 jumps_of-requires-clause-sources c =
-    let sources : HaveSources c.as_slice.result.now =
-    subst HaveSources (sym c.as_slice.ensures.value) (have_sources c.in_ok-nodes.nodes.items c.in_ok-nodes.ends.items (pointed c.args.patterns.now) c.in_ok-nodes.ensures) in
+    let k = c.in_ok-kept.kept in
+    let m = c.in_ok-kept.ensures in
+    let merged = subst (λ z. AreMerged z k.nodes.items k.firsts.items m.0 c.in_ok-plain.plain_ends.items k.ends.items) c.as_slice.ensures.value
+    (subst (λ z. AreMerged c.as_slice.result.now k.nodes.items k.firsts.items m.0 z k.ends.items) c.as_slice-2.ensures.value m.1) in
+    let sources : HaveSources c.as_slice-3.result.now =
+    subst HaveSources (sym c.as_slice-3.ensures.value)
+    (merged_sources c.in_ok-plain.plain.items k.nodes.items k.firsts.items m.0 c.in_ok-plain.plain_ends.items k.ends.items (pointed c.args.patterns.now) c.in_ok-plain.ensures merged) in
     sources
+
+pub returns-clause-net : goal.returns-clause-net
+returns-clause-net c =
+    let k = c.in_ok-kept.kept in
+    let m = c.in_ok-kept.ensures in
+    let merged = subst (λ z. AreMerged z k.nodes.items k.firsts.items m.0 c.in_ok-plain.plain_ends.items k.ends.items) c.as_slice.ensures.value
+    (subst (λ z. AreMerged c.as_slice.result.now k.nodes.items k.firsts.items m.0 z k.ends.items) c.as_slice-2.ensures.value m.1) in
+    let many : c.len-2.result ≡ length k.nodes.items = omega (arith, c.len-2.ensures, k.nodes.ok) in
+    let finals = subst (λ n. AreFinals k.ends.items (length k.ends.items) n c.in_ok-finals.finals.items) many
+    (subst (λ (z : List ℕ). AreFinals z (length z) c.len-2.result c.in_ok-finals.finals.items) c.as_slice-4.ensures.value c.in_ok-finals.ensures) in
+    net_made _ c.in_ok-plain.plain_ends.items k.ends.items m.0 c.in_ok-plain.ensures merged
+    (subst (λ z. AreJumps z (lists c.in_ok-jumps.jumps.items)) c.as_slice-3.ensures.value c.in_ok-jumps.ensures) finals
+    (omega (arith, c.if-len-gt-POSITIONS.false, c.len.ensures, k.nodes.ok))

@@ -5,7 +5,6 @@ use Rattle.aa_auto.proofs.DivisionLemmas.{if_ok}
 use Rattle.aa_auto.proofs.MoveLemmas.{seeds_from_moves}
 use Rattle.aa_auto.proofs.JumpLemmas.{lists, length_lists}
 use Rattle.aa_auto.proofs.NetLemmas.{net_upward, seeds_below, follows}
-use Rattle.aa_auto.specs.Nets.{patterns_of}
 use Rattle.aa_auto.proofs.net.Net.next.Goals as goal
 
 pub moved-requires-clause-within : goal.moved-requires-clause-within
@@ -16,13 +15,13 @@ closed-requires-clause-within c =
     let seeds : AreSeeds c.args.self.now.nodes.items (Some c.args.byte) c.args.old.now c.in_ok-seeds.seeds.items =
     seeds_from_moves c.args.self.now.nodes.items c.args.byte c.args.old.now c.in_ok-seeds.seeds.items (subst (λ z. MovesFrom z c.args.byte c.args.old.now c.in_ok-seeds.seeds.items) c.as_slice.ensures.value c.in_ok-seeds.ensures) in
     subst (λ (z : List ℕ). (n : ℕ) → Contains z n → n < length c.as_slice-2.result.now) (sym c.as_slice-3.ensures.value)
-    (seeds_below (patterns_of c.args.self.now) c.args.self.now.nodes.items (lists c.args.self.now.jumps.items) c.args.self.now.finals.items c.requires.net (Some c.args.byte) c.args.old.now c.in_ok-seeds.seeds.items seeds
+    (seeds_below c.args.self.now c.requires.net (Some c.args.byte) c.args.old.now c.in_ok-seeds.seeds.items seeds
     (length c.as_slice-2.result.now) (ap length c.as_slice-2.ensures.value ∙ sym (length_lists c.args.self.now.jumps.items)))
 
 pub closed-requires-clause-upward : goal.closed-requires-clause-upward
 closed-requires-clause-upward c =
     subst (λ z. IsUpward (lists z)) (sym c.as_slice-2.ensures.value)
-    (net_upward (patterns_of c.args.self.now) c.args.self.now.nodes.items (lists c.args.self.now.jumps.items) c.args.self.now.finals.items c.requires.net)
+    (net_upward c.args.self.now c.requires.net)
 
 pub returns : goal.returns
 returns c =
@@ -30,6 +29,6 @@ returns c =
     seeds_from_moves c.args.self.now.nodes.items c.args.byte c.args.old.now c.in_ok-seeds.seeds.items (subst (λ z. MovesFrom z c.args.byte c.args.old.now c.in_ok-seeds.seeds.items) c.as_slice.ensures.value c.in_ok-seeds.ensures) in
     if_ok c.closed.result
     (λ (new : Vec ℕ Global) closed.
-    follows (patterns_of c.args.self.now) c.args.self.now.nodes.items (lists c.args.self.now.jumps.items) c.args.self.now.finals.items c.requires.net (Some c.args.byte) c.args.old.now c.in_ok-seeds.seeds.items new.items seeds
+    follows c.args.self.now c.requires.net (Some c.args.byte) c.args.old.now c.in_ok-seeds.seeds.items new.items seeds
     (subst (λ z. IsClosure (lists z) c.in_ok-seeds.seeds.items new.items) c.as_slice-2.ensures.value (subst (λ z. IsClosure (lists c.as_slice-2.result.now) z new.items) c.as_slice-3.ensures.value closed)))
     c.closed.ensures

@@ -4,7 +4,6 @@ use Rattle.aa_auto.specs.Spots.{AreSeeds}
 use Rattle.aa_auto.proofs.DivisionLemmas.{if_ok}
 use Rattle.aa_auto.proofs.JumpLemmas.{lists, length_lists}
 use Rattle.aa_auto.proofs.NetLemmas.{net_upward, seeds_below, follows}
-use Rattle.aa_auto.specs.Nets.{patterns_of}
 use Rattle.aa_auto.proofs.net.Net.start.Goals as goal
 
 pub closed-requires-clause-within : goal.closed-requires-clause-within
@@ -12,13 +11,13 @@ closed-requires-clause-within c =
     let seeds : AreSeeds c.args.self.now.nodes.items None [] c.in_ok-seeds.seeds.items =
     subst (λ z. AreSeeds z None [] c.in_ok-seeds.seeds.items) c.as_slice.ensures.value c.in_ok-seeds.ensures in
     subst (λ (z : List ℕ). (n : ℕ) → Contains z n → n < length c.as_slice-2.result.now) (sym c.as_slice-3.ensures.value)
-    (seeds_below (patterns_of c.args.self.now) c.args.self.now.nodes.items (lists c.args.self.now.jumps.items) c.args.self.now.finals.items c.requires None [] c.in_ok-seeds.seeds.items seeds
+    (seeds_below c.args.self.now c.requires None [] c.in_ok-seeds.seeds.items seeds
     (length c.as_slice-2.result.now) (ap length c.as_slice-2.ensures.value ∙ sym (length_lists c.args.self.now.jumps.items)))
 
 pub closed-requires-clause-upward : goal.closed-requires-clause-upward
 closed-requires-clause-upward c =
     subst (λ z. IsUpward (lists z)) (sym c.as_slice-2.ensures.value)
-    (net_upward (patterns_of c.args.self.now) c.args.self.now.nodes.items (lists c.args.self.now.jumps.items) c.args.self.now.finals.items c.requires)
+    (net_upward c.args.self.now c.requires)
 
 pub returns : goal.returns
 returns c =
@@ -26,6 +25,6 @@ returns c =
     subst (λ z. AreSeeds z None [] c.in_ok-seeds.seeds.items) c.as_slice.ensures.value c.in_ok-seeds.ensures in
     if_ok c.closed.result
     (λ (new : Vec ℕ Global) closed.
-    follows (patterns_of c.args.self.now) c.args.self.now.nodes.items (lists c.args.self.now.jumps.items) c.args.self.now.finals.items c.requires None [] c.in_ok-seeds.seeds.items new.items seeds
+    follows c.args.self.now c.requires None [] c.in_ok-seeds.seeds.items new.items seeds
     (subst (λ z. IsClosure (lists z) c.in_ok-seeds.seeds.items new.items) c.as_slice-2.ensures.value (subst (λ z. IsClosure (lists c.as_slice-2.result.now) z new.items) c.as_slice-3.ensures.value closed)))
     c.closed.ensures
