@@ -3,6 +3,7 @@ pub mod WorldStates
 pub mod Rows
 pub mod Lawful
 pub mod WorldLaws
+pub mod Worlds
 pub mod Logs
 pub mod ShutBy
 pub mod Stays
