@@ -18,4 +18,6 @@ pub mod Asks
 pub mod Servers
 pub mod Shuts
 pub mod Closing
+pub mod Shown
 pub mod Events
+pub mod Given
