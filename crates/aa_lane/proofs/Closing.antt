@@ -1,5 +1,5 @@
 -- What the last state of a lane's table tells.
-use Rattle.std.proofs.Common.{◌≡◌, ℕ, true, List, length, take, refl, sym, ap, ◌∙◌, arith, length-take, Some}
+use Rattle.std.proofs.Common.{◌≡◌, ℕ, true, is_some, List, length, take, refl, sym, ap, ◌∙◌, arith, length-take, Some}
 use mathlib.Core.Option.{some}
 use lib.ListN.{get_elem?}
 use Rattle.atomic_table.specs.Table.{Final, Seen}
@@ -60,6 +60,7 @@ module _ {M S Q A : Type 0} (next : M → S → Q → S) (reply : M → S → Q 
         collected = collected ∙ own.got;
         state = state l.machine l.start s_terms ∙ rw (one.0, one.1, taken) (sym h.shows.lawful.reached);
         counted = λ c is. accepted ∙ count ∙ sym (shut.count c (ap (λ (x : ShutterSeen M S Q A). x.count) (sym eu) ∙ is)).1;
+        closed = λ is. ap (λ (x : ShutterSeen M S Q A). is_some x.count) eu ∙ h.shows.shut_by.closed id id j j at owns at refl (ap (λ (x : OwnerSeen M S Q A). x.closed) (sym eo) ∙ is);
         within = let a = h.shows.lawful.gotten in let b = h.shows.lawful.begun in let c = h.shows.lawful.sent in let g = own.got in (omega arith, omega arith);
         settled = λ is. answered ∙ done ∙ (serve.settled (ap (λ (x : ServerSeen M S Q A). x.settled) (sym es) ∙ is)).1 ∙ sym (accepted ∙ count);
       } in

@@ -1,11 +1,11 @@
 -- The step that collects an answer, or finds none.
-use Rattle.std.proofs.Common.{◌≡◌, ℕ, ◌+◌, ◌%◌, ◌<◌, ◌≤◌, cond, nat_lt, lt-ltb, le-ltb, ltb-true, ltb-false, Bool, true, false, List, length, set, refl, sym, ap, ◌∙◌, subst, arith, slice_get, slice_set, slice_index, Some}
+use Rattle.std.proofs.Common.{◌≡◌, ℕ, ◌+◌, ◌%◌, ◌<◌, ◌≤◌, ◌==◌, ◌≢◌, inl, inr, eqb-true, false-eqb, cond, nat_lt, lt-ltb, le-ltb, ltb-true, ltb-false, Bool, true, false, List, length, set, refl, sym, ap, ◌∙◌, subst, arith, slice_get, slice_set, slice_index, Some}
 use Rattle.std.proofs.lemmas.List.{length-set, set-get_or}
 use Rattle.std.proofs.lemmas.Option.{slice_get_within}
 use mathlib.Core.Option.{Option, some, none}
 use lib.ListN.{get_elem?}
 use Rattle.atomic_table.specs.Table.{State, step, Act, keeps, takes, Valid, stepped, Allows, carried_after}
-use Rattle.atomic_table.proofs.Lists.{set_else, one_turn}
+use Rattle.atomic_table.proofs.Lists.{set_else, set_here, one_turn}
 use Rattle.aa_lane.specs.WorldState.{WorldState, after, answer_to}
 use Rattle.aa_lane.specs.Log.{ByOwner, ByServer, ByShutter, same}
 use Rattle.aa_lane.specs.Shows.{Shows, HasLog, Fits, OwnerFits, role}
@@ -16,10 +16,11 @@ use Rattle.aa_lane.specs.declared.cells.Cell.TheVariants.{Answered}
 use Rattle.aa_lane.specs.declared.cells.View.{View}
 use Rattle.aa_lane.specs.declared.cells.Key.{Key}
 use Rattle.aa_lane.proofs.ShutBy.{step_shut_by}
-use Rattle.aa_lane.proofs.Stays.{keep_seats, stays, logged, world}
+use Rattle.aa_lane.proofs.Stays.{keep_filled, keep_seats, stays, logged, world}
 use Rattle.aa_lane.specs.Plays.{collected, is_collected, collected_view, uncollected_view, Gives}
 use Rattle.aa_lane.proofs.Lawful.{collecting_lawful}
-use Rattle.aa_lane.proofs.Rows.{there, same_terms}
+use Rattle.aa_lane.proofs.Rows.{there, same_terms, split_eq}
+use Rattle.std.proofs.Math.Nat.{add-mod_right}
 use Rattle.aa_lane.proofs.Runs.{replies-take}
 
 module _ {M S Q A : Type 0} (next : M → S → Q → S) (reply : M → S → Q → A) where
@@ -39,9 +40,10 @@ module _ {M S Q A : Type 0} (next : M → S → Q → S) (reply : M → S → Q 
     collect_none held le =
         let d = h.done in
         stays next reply s w h 16 x id held ByOwner v (uncollected_view v x) is at owns
-        (λ a. elim a as (λ a. role a (uncollected_view v x) ≡ true → role a v ≡ true) [ ByOwner ↦ λ o. o | ByServer ↦ λ o. o | ByShutter ↦ λ o. o ]) refl (λ e. e) (λ e. e)
+        (λ a. elim a as (λ a. role a (uncollected_view v x) ≡ role a v) [ ByOwner ↦ refl | ByServer ↦ refl | ByShutter ↦ refl ]) refl
+        (step_shut_by s.views id v (uncollected_view v x) w.shut at (λ o. o) (λ o. o) (λ e. e) (λ e. e) (λ e. e) h.shut_by)
         (λ a. elim a as (λ a. Fits a s.homes w v → Fits a s.homes w (uncollected_view v x)) [
-          | ByOwner ↦ λ f. record { sent = f.sent; got = f.got; found = omega arith; closed = f.closed; left = f.left; fresh = f.fresh }
+          | ByOwner ↦ λ f. record { sent = f.sent; got = f.got; found = omega arith; closed = f.closed; left = f.left; free = f.free; fresh = f.fresh }
           | ByServer ↦ λ f. f
           | ByShutter ↦ λ f. f
         ])
@@ -68,7 +70,14 @@ module _ {M S Q A : Type 0} (next : M → S → Q → S) (reply : M → S → Q 
         let slot : ℕ = v.owner.got % length s.homes in
         let hs : List (Option (Cell M S Q A)) = set s.homes slot none in
         let homes : length hs ≡ length s.homes = length-set s.homes slot none in
-        let words : slice_set s.words 16 x ≡ s.words = rw is (set-get_or s.words 16 0) in (
+        let words : slice_set s.words 16 x ≡ s.words = rw is (set-get_or s.words 16 0) in
+        let out : OwnerFits s.homes w v.owner → (i : ℕ) → length w.accepted ≤ i → i < (w.collected + 1) + w.capacity → get_elem? hs (i % length s.homes) ≡ some none = λ f i low high.
+        elim (split_eq (i == w.collected + w.capacity)) [
+          | inl e ↦ let is : i ≡ v.owner.got + length s.homes = eqb-true _ _ e ∙ (let y : w.collected + w.capacity ≡ v.owner.got + length s.homes = omega arith in y) in
+              rw (is, add-mod_right v.owner.got (length s.homes)) (set_here s.homes slot none (let r = h.roomy in omega arith))
+          | inr e ↦ let ne : i ≢ w.collected + w.capacity = false-eqb _ _ (sym e) in
+              set_else s.homes slot (i % length s.homes) none (λ k. let y : v.owner.got ≡ i = one_turn v.owner.got i (length s.homes) (omega arith) (omega arith) (sym k) in omega arith) ∙ f.free ready i low (omega arith)
+        ] in (
           home,
           record {
             lawful = collecting_lawful next reply w h.lawful lt;
@@ -83,11 +92,13 @@ module _ {M S Q A : Type 0} (next : M → S → Q → S) (reply : M → S → Q 
             answered = λ m r y low e' f'. let in_answers : m < length w.answers = slice_get_within w.answers m y f' in
                 rw homes (set_else s.homes slot (m % length s.homes) none (λ f. let z : v.owner.got ≡ m = one_turn v.owner.got m (length s.homes) (omega arith) (omega arith) (sym f) in omega arith)
                 ∙ h.answered m r y (omega arith) e' f');
+            in_hand = λ m low high. rw homes (set_else s.homes slot (m % length s.homes) none (λ k. let y : v.owner.got ≡ m = one_turn v.owner.got m (length s.homes) (omega arith) (omega arith) (sym k) in omega arith) ∙ h.in_hand m low high);
             seat = h.seat;
+            filled = keep_filled s.views h.seat id v (collected_view v x) h.filled at (λ a. elim a as (λ a. role a (collected_view v x) ≡ role a v) [ ByOwner ↦ refl | ByServer ↦ refl | ByShutter ↦ refl ]);
             seats = keep_seats s.views h.seat s.homes hs w (collecting w) ByOwner id v (collected_view v x) h.seats at owns
-                (λ a. elim a as (λ a. role a (collected_view v x) ≡ true → role a v ≡ true) [ ByOwner ↦ λ o. o | ByServer ↦ λ o. o | ByShutter ↦ λ o. o ]) refl refl refl
+                (λ a. elim a as (λ a. role a (collected_view v x) ≡ role a v) [ ByOwner ↦ refl | ByServer ↦ refl | ByShutter ↦ refl ]) refl refl refl
                 (λ a. elim a as (λ a. Fits a s.homes w v → Fits a hs (collecting w) (collected_view v x)) [
-                  | ByOwner ↦ λ f. record { sent = f.sent; got = omega arith; found = omega arith; closed = f.closed; left = f.left; fresh = λ r. let z : true ≡ false = sym ready ∙ r in cc }
+                  | ByOwner ↦ λ f. record { sent = f.sent; got = omega arith; found = omega arith; closed = f.closed; left = f.left; free = λ r i low high. rw homes (out f i low high); fresh = λ r. let z : true ≡ false = sym ready ∙ r in cc }
                   | ByServer ↦ λ f. record { taken = f.taken; done = f.done; seen = f.seen; settled = f.settled }
                   | ByShutter ↦ λ f. record { count = f.count }
                 ])
@@ -96,7 +107,7 @@ module _ {M S Q A : Type 0} (next : M → S → Q → S) (reply : M → S → Q 
                   | ByServer ↦ λ u e f. record { taken = f.taken; done = f.done; seen = f.seen; settled = f.settled }
                   | ByShutter ↦ λ u e f. record { count = f.count }
                 ]);
-            shut_by = step_shut_by s.views id v (collected_view v x) w.shut at (λ o. o) (λ o. o) (λ e. e) (λ e. e) h.shut_by;
+            shut_by = step_shut_by s.views id v (collected_view v x) w.shut at (λ o. o) (λ o. o) (λ e. e) (λ e. e) (λ e. e) h.shut_by;
           },
         )
 
@@ -121,7 +132,7 @@ module _ {M S Q A : Type 0} (next : M → S → Q → S) (reply : M → S → Q 
             let z : w.collected < length w.answers = omega arith in
             let does = after_collect next reply w true (lt-ltb w.collected (length w.answers) z) in
             let kept = logged next reply k s all _ _ id v (collected_view v x) ByOwner Collect (Given v.owner.got) (collecting next reply w) at owns
-            (λ a. elim a as (λ a. role a (collected_view v x) ≡ true → role a v ≡ true) [ ByOwner ↦ λ o. o | ByServer ↦ λ o. o | ByShutter ↦ λ o. o ])
+            (λ a. elim a as (λ a. role a (collected_view v x) ≡ role a v) [ ByOwner ↦ refl | ByServer ↦ refl | ByShutter ↦ refl ])
             (elim [ ByOwner ↦ refl | ByServer ↦ refl | ByShutter ↦ refl ]) (sym does.0) (ap Given gt ∙ sym does.1) r.1 in
             (collected_view v x, takes (v.owner.got % length s.homes) (Answered q.0 a.0), r.0, kept, (q.0, a.0, told, rw len refl))
         | false ↦ λ e.
@@ -130,7 +141,7 @@ module _ {M S Q A : Type 0} (next : M → S → Q → S) (reply : M → S → Q 
             let z : length w.answers ≤ w.collected = omega arith in
             let does = after_collect next reply w false (le-ltb w.collected (length w.answers) z) in
             let kept = logged next reply k s all _ _ id v (uncollected_view v x) ByOwner Collect Nothing w at owns
-            (λ a. elim a as (λ a. role a (uncollected_view v x) ≡ true → role a v ≡ true) [ ByOwner ↦ λ o. o | ByServer ↦ λ o. o | ByShutter ↦ λ o. o ])
+            (λ a. elim a as (λ a. role a (uncollected_view v x) ≡ role a v) [ ByOwner ↦ refl | ByServer ↦ refl | ByShutter ↦ refl ])
             (elim [ ByOwner ↦ refl | ByServer ↦ refl | ByShutter ↦ refl ]) (sym does.0) (sym does.1) (collect_none next reply s w h id v at owns ready x refl held le) in
             (uncollected_view v x, keeps, tt, kept, refl)
       ] in

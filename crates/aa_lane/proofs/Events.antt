@@ -1,5 +1,5 @@
 -- Each step of a seat is an event of the world.
-use Rattle.std.proofs.Common.{◌≡◌, ◌≢◌, ℕ, ◌+◌, ◌*◌, ◌/◌, ◌%◌, ◌<◌, ◌≤◌, ◌==◌, cond, lt-ltb, le-ltb, true, false, ◌∷◌, length, refl, sym, ap, ◌∙◌, subst, arith, slice_index, Some, eq-eqb, ne_eqb}
+use Rattle.std.proofs.Common.{◌≡◌, ◌≢◌, ℕ, ◌+◌, ◌*◌, ◌/◌, ◌%◌, ◌<◌, ◌≤◌, ◌==◌, cond, lt-ltb, le-ltb, true, false, length, refl, sym, ap, ◌∙◌, subst, arith, slice_index, Some, eq-eqb, ne_eqb}
 use Rattle.atomic_table.specs.Table.{State}
 use Rattle.aa_lane.specs.WorldState.{WorldState, after, answer_to}
 use Rattle.aa_lane.specs.Log.{ByOwner, ByServer, ByShutter}
@@ -10,15 +10,15 @@ use Rattle.aa_lane.specs.declared.event.Event.TheVariants.{Send, Take, Finish, C
 use Rattle.aa_lane.specs.declared.event.Reply.{Reply}
 use Rattle.aa_lane.specs.declared.event.Reply.TheVariants.{Accepted, Unsent, Taken, Idle, Settled, Finished, Given, Nothing, Count}
 use Rattle.aa_lane.specs.declared.cells.Cell.{Cell}
-use Rattle.aa_lane.specs.declared.cells.Cell.TheVariants.{Asked}
 use Rattle.aa_lane.specs.declared.cells.View.{View}
-use Rattle.aa_lane.proofs.Stays.{stays, world}
+use Rattle.aa_lane.proofs.Stays.{world}
 use Rattle.aa_lane.specs.Law.{IsEvent, StepsAreEvents, NotesStayTrue}
 use Rattle.aa_lane.proofs.Opens.{opens_one, readies_one, splits_server_one, splits_shutter_one, joins_server_one, joins_shutter_one}
-use Rattle.aa_lane.specs.Plays.{unsent_view, shut_view, left_view}
+use Rattle.aa_lane.specs.Plays.{shut_view, left_view}
+use Rattle.aa_lane.proofs.Shown.{shows_one}
 use Rattle.aa_lane.proofs.Rows.{there}
 use Rattle.aa_lane.proofs.WorldStates.{answering, finishes}
-use Rattle.aa_lane.proofs.Sends.{sending, after_send, not_spent, not_full, sent_unshut}
+use Rattle.aa_lane.proofs.Sends.{sending, after_send, not_spent, not_full, sent_unshut, sent_shut}
 use Rattle.aa_lane.proofs.Takes.{taking, after_take, free, take_none, take_more_one}
 use Rattle.aa_lane.proofs.Finishes.{began, there_is, finish_one}
 use Rattle.aa_lane.proofs.Collects.{collecting, after_collect, collect_none, collect_one}
@@ -43,31 +43,26 @@ module _ {M S Q A : Type 0} (next : M → S → Q → S) (reply : M → S → Q 
 
   pub steps_are_events : StepsAreEvents next reply
   steps_are_events = record {
+    one = shows_one next reply;
     opens = opens_one next reply;
     readies = λ s w id v st owns ready. readies_one next reply s w st.shows id (length s.homes) v st.at owns ready refl;
     splits_server = λ s w id v st is. splits_server_one next reply s w st.shows id v st.at is;
     splits_shutter = λ s w id v st is. splits_shutter_one next reply s w st.shows id v st.at is;
-    joins_server = λ s w id v other u st there owns is. joins_server_one next reply s w st.shows id v other u st.at there owns is;
-    joins_shutter = λ s w id v other u st there owns is. joins_shutter_one next reply s w st.shows id v other u st.at there owns is;
+    joins_server = λ s w id v other u st there apart owns is alone. joins_server_one next reply s w st.shows id v other u st.at there apart owns is alone;
+    joins_shutter = λ s w id v other u st there apart owns is alone. joins_shutter_one next reply s w st.shows id v other u st.at there apart owns is alone;
     sends = λ s w id v q held st owns ready spent gotten room gate.
         let h = st.shows in
         let count : length w.accepted ≡ length v.owner.sent = ap length (sym (h.seats ByOwner id v st.at owns).2.sent) in
         let unshut = gate_open s w (length v.owner.sent) h count gate in
         let d = after_send next reply w q (not_spent next reply s w h id v q held st.at owns ready spent gotten room) (not_full next reply s w h id v q held st.at owns ready spent gotten room) false unshut in
         event_of _ w (sending next reply w q) (Send q) (Accepted (length v.owner.sent)) (sym d.0) (ap Accepted (sym count) ∙ sym d.1) (sent_unshut next reply s w h id v q held st.at owns ready spent gotten room unshut (2 * length v.owner.sent + 2) refl);
-    closed = λ s w id v q held st owns ready spent gotten room gate.
+    closed = λ s w id v q held st owns stayed ready spent gotten room gate.
         let h = st.shows in
         let count : length w.accepted ≡ length v.owner.sent = ap length (sym (h.seats ByOwner id v st.at owns).2.sent) in
         let is = gate_shut s w (length v.owner.sent) h count gate in
         let d = after_send next reply w q (not_spent next reply s w h id v q held st.at owns ready spent gotten room) (not_full next reply s w h id v q held st.at owns ready spent gotten room) true is in
         event_of _ w w (Send q) (Unsent Closed q) (sym d.0) (sym d.1)
-        (stays next reply s w h 0 (slice_index s.words 0) id ((length v.owner.sent % length s.homes, Asked q) ∷ held) ByOwner v (unsent_view v q) refl st.at owns
-        (λ a. elim a as (λ a. role a (unsent_view v q) ≡ true → role a v ≡ true) [ ByOwner ↦ λ o. o | ByServer ↦ λ o. o | ByShutter ↦ λ o. o ]) refl (λ e. e) (λ e. e)
-        (λ a. elim a as (λ a. Fits a s.homes w v → Fits a s.homes w (unsent_view v q)) [
-          | ByOwner ↦ λ f. record { sent = f.sent; got = f.got; found = f.found; closed = λ _. is; left = f.left; fresh = f.fresh }
-          | ByServer ↦ λ f. f
-          | ByShutter ↦ λ f. f
-        ]));
+        (sent_shut next reply s w h id v q held st.at owns ready spent gotten room is stayed);
     takes_one = λ s w id v st serves idle more.
         let h = st.shows in
         let d = (h.seats ByServer id v st.at serves).2.done in
@@ -119,7 +114,7 @@ module _ {M S Q A : Type 0} (next : M → S → Q → S) (reply : M → S → Q 
         let count : n ≡ length w.accepted = half next reply s w h in
         event_of _ w (shutting next reply w) Shut (Count n) refl (ap Count count)
         (shut_one next reply s w h id held ByShutter v (shut_view v n) st.at is
-        (λ a. elim a as (λ a. role a (shut_view v n) ≡ true → role a v ≡ true) [ ByOwner ↦ λ o. o | ByServer ↦ λ o. o | ByShutter ↦ λ o. o ]) refl refl
+        (λ a. elim a as (λ a. role a (shut_view v n) ≡ role a v) [ ByOwner ↦ refl | ByServer ↦ refl | ByShutter ↦ refl ]) refl refl (λ e. e) (λ _. refl) (λ e. e)
         (λ a. elim a as (λ a. Fits a s.homes w v → Fits a s.homes (shutting next reply w) (shut_view v n)) [
           | ByOwner ↦ λ f. shut_fits next reply s.homes w ByOwner v f
           | ByServer ↦ λ f. shut_fits next reply s.homes w ByServer v f
@@ -130,9 +125,9 @@ module _ {M S Q A : Type 0} (next : M → S → Q → S) (reply : M → S → Q 
         let count : length v.owner.sent ≡ length w.accepted = ap length (h.seats ByOwner id v st.at is).2.sent in
         event_of _ w (shutting next reply w) Shut (Count (length v.owner.sent)) refl (ap Count count)
         (shut_one next reply s w h id held ByOwner v (left_view v) st.at is
-        (λ a. elim a as (λ a. role a (left_view v) ≡ true → role a v ≡ true) [ ByOwner ↦ λ o. o | ByServer ↦ λ o. o | ByShutter ↦ λ o. o ]) refl refl
+        (λ a. elim a as (λ a. role a (left_view v) ≡ role a v) [ ByOwner ↦ refl | ByServer ↦ refl | ByShutter ↦ refl ]) refl refl (λ _. refl) (λ e. e) (λ e. e)
         (λ a. elim a as (λ a. Fits a s.homes w v → Fits a s.homes (shutting next reply w) (left_view v)) [
-          | ByOwner ↦ λ f. record { sent = f.sent; got = f.got; found = f.found; closed = λ _. refl; left = λ _. refl; fresh = f.fresh }
+          | ByOwner ↦ λ f. record { sent = f.sent; got = f.got; found = f.found; closed = λ _. refl; left = λ _. refl; free = f.free; fresh = f.fresh }
           | ByServer ↦ λ f. shut_fits next reply s.homes w ByServer v f
           | ByShutter ↦ λ f. shut_fits next reply s.homes w ByShutter v f
         ]));
@@ -149,6 +144,7 @@ module _ {M S Q A : Type 0} (next : M → S → Q → S) (reply : M → S → Q 
       let done = h.done in
       record {
         closed = λ j v at owns e. let g = shut_gate s w h ((h.seats ByOwner j v at owns).2.closed e) in omega arith;
+        closed_by = λ j k o u at owns e there shuts. h.shut_by.closed j k o u at owns there shuts e;
         left = λ j v at owns e. let f = (h.seats ByOwner j v at owns).2 in shut_gate s w h (f.left e) ∙ ap (λ l. 2 * length l + 1) (sym f.sent);
         counted = λ j c v at shuts e. let f = (h.seats ByShutter j v at shuts).2.count c e in shut_gate s w h f.0 ∙ ap (λ n. 2 * n + 1) (sym f.1);
         settled = λ j v at serves e. let f = (h.seats ByServer j v at serves).2.settled e in let g = shut_gate s w h f.0 in let n = f.1 in omega arith;

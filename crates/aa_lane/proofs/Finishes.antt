@@ -16,7 +16,7 @@ use Rattle.aa_lane.specs.declared.cells.Cell.TheVariants.{Answered}
 use Rattle.aa_lane.specs.declared.cells.View.{View}
 use Rattle.aa_lane.specs.declared.cells.Key.{Key}
 use Rattle.aa_lane.proofs.ShutBy.{step_shut_by}
-use Rattle.aa_lane.proofs.Stays.{keep_seats, logged, world}
+use Rattle.aa_lane.proofs.Stays.{keep_filled, keep_seats, logged, world}
 use Rattle.aa_machine.specs.Run.{state_after}
 use Rattle.aa_lane.specs.Plays.{finished, finished_view}
 use Rattle.aa_lane.proofs.Rows.{snoc_cases, get_take, take_take}
@@ -57,7 +57,7 @@ module _ {M S Q A : Type 0} (next : M → S → Q → S) (reply : M → S → Q 
         let homes : length hs ≡ length s.homes = length-set s.homes slot (some (Answered q a)) in
         let ne : w.taken ≢ length w.answers = λ e. omega arith in
         let owner : (u : View M S Q A) → OwnerFits s.homes w u.owner → OwnerFits hs w' u.owner = λ u f.
-        record { sent = f.sent; got = f.got; found = let z = f.found in omega arith; closed = f.closed; left = f.left; fresh = λ r. let z = (f.fresh r).0 in absurd (omega arith) } in
+        record { sent = f.sent; got = f.got; found = let z = f.found in omega arith; closed = f.closed; left = f.left; free = λ r i low high. rw homes (set_else s.homes slot (i % length s.homes) (some (Answered q a)) (λ e. let y : v.server.done ≡ i = one_turn v.server.done i (length s.homes) (omega arith) (omega arith) (sym e) in omega arith) ∙ f.free r i low high); fresh = λ r. let z = (f.fresh r).0 in absurd (omega arith) } in
         record {
           lawful = answering_lawful next reply w q h.lawful ne there_is;
           capacity = h.capacity ∙ sym homes;
@@ -77,9 +77,11 @@ module _ {M S Q A : Type 0} (next : M → S → Q → S) (reply : M → S → Q 
                 let q_is : q ≡ r = let z : Some r ≡ Some q = sym e' ∙ subst (λ i. slice_get w.accepted i ≡ Some q) (sym p.0) there_is in cc in
                 rw (at_done, set_here s.homes slot (some (Answered q a)) lt, answer_is, p.1, q_is) refl
           ]);
+          in_hand = λ m low high. absurd (omega arith);
           seat = h.seat;
+          filled = keep_filled s.views h.seat id v (finished_view v) h.filled at (λ a. elim a as (λ a. role a (finished_view v) ≡ role a v) [ ByOwner ↦ refl | ByServer ↦ refl | ByShutter ↦ refl ]);
           seats = keep_seats s.views h.seat s.homes hs w w' ByServer id v (finished_view v) h.seats at serves
-              (λ a. elim a as (λ a. role a (finished_view v) ≡ true → role a v ≡ true) [ ByOwner ↦ λ o. o | ByServer ↦ λ o. o | ByShutter ↦ λ o. o ]) refl refl refl
+              (λ a. elim a as (λ a. role a (finished_view v) ≡ role a v) [ ByOwner ↦ refl | ByServer ↦ refl | ByShutter ↦ refl ]) refl refl refl
               (λ a. elim a as (λ a. Fits a s.homes w v → Fits a hs w' (finished_view v)) [
                 | ByOwner ↦ owner v
                 | ByServer ↦ λ f. record { taken = f.taken; done = omega arith; seen = f.seen; settled = λ e. let z = (f.settled e).1 in absurd (omega arith) }
@@ -90,7 +92,7 @@ module _ {M S Q A : Type 0} (next : M → S → Q → S) (reply : M → S → Q 
                 | ByServer ↦ λ u e f. let z : true ≡ false = e in cc
                 | ByShutter ↦ λ u e f. record { count = f.count }
               ]);
-          shut_by = step_shut_by s.views id v (finished_view v) w.shut at (λ o. o) (λ o. o) (λ e. e) (λ e. e) h.shut_by;
+          shut_by = step_shut_by s.views id v (finished_view v) w.shut at (λ o. o) (λ o. o) (λ e. e) (λ e. e) (λ e. e) h.shut_by;
         }
 
 module _ {M S Q A : Type 0} (next : M → S → Q → S) (reply : M → S → Q → A) (k : Key M S Q A) where
@@ -106,7 +108,7 @@ module _ {M S Q A : Type 0} (next : M → S → Q → S) (reply : M → S → Q 
       let d = (h.seats ByServer id v at serves).2.done in
       let told : Finished v.server.done ≡ answer_to next reply w Finish = rw (ne_eqb w.taken (length w.answers) ne) (ap Finished d) in
       let kept = logged next reply k s held _ _ id v (finished_view v) ByServer Finish (Finished v.server.done) (answering next reply w q) at serves
-      (λ a. elim a as (λ a. role a (finished_view v) ≡ true → role a v ≡ true) [ ByOwner ↦ λ o. o | ByServer ↦ λ o. o | ByShutter ↦ λ o. o ])
+      (λ a. elim a as (λ a. role a (finished_view v) ≡ role a v) [ ByOwner ↦ refl | ByServer ↦ refl | ByShutter ↦ refl ])
       (elim [ ByOwner ↦ refl | ByServer ↦ refl | ByShutter ↦ refl ])
       (finishes next reply w q ne (there_is next reply s w h id v q a at serves busy job decided)) told (finish_one next reply s w h id v q a at serves busy job decided) in
       (finished_view v, gives, tt, rw (← len) kept, refl)

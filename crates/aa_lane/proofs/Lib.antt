@@ -3,6 +3,7 @@ pub mod WorldStates
 pub mod Rows
 pub mod Lawful
 pub mod WorldLaws
+pub mod Worlds
 pub mod Logs
 pub mod ShutBy
 pub mod Stays
@@ -17,4 +18,6 @@ pub mod Asks
 pub mod Servers
 pub mod Shuts
 pub mod Closing
+pub mod Shown
 pub mod Events
+pub mod Given

@@ -1,5 +1,5 @@
 -- What an owner may do, and what it is afterwards.
-use Rattle.std.proofs.Common.{◌≡◌, ◌≢◌, ℕ, suc, ◌+◌, ◌-◌, ◌%◌, ◌<◌, ◌≤◌, List, [], ◌∷◌, ◌++◌, refl, sym, ap, ◌∙◌, arith, length-append, add-one, slice_get, Some}
+use Rattle.std.proofs.Common.{◌≡◌, ◌≢◌, ℕ, suc, ◌+◌, ◌-◌, ◌%◌, ◌<◌, ◌≤◌, false, List, [], ◌∷◌, ◌++◌, refl, sym, ap, ◌∙◌, arith, length-append, add-one, slice_get, Some}
 use Rattle.std.proofs.lemmas.Option.{slice_get_within}
 use Rattle.std.proofs.Math.Nat.{add-mod_right}
 use Rattle.atomic_table.specs.Table.{rest}
@@ -20,13 +20,14 @@ module _ {M S Q A : Type 0} where
   first_held : (held : List (ℕ × Cell M S Q A)) (c sent got : ℕ) → held ≡ vacant c sent ((got + c) - sent) → sent < got + c → held ≡ (sent % c, Vacant) ∷ vacant c (suc sent) ((got + c) - suc sent)
   first_held held c sent got is room = is ∙ vacant-first M S Q A c sent ((got + c) - sent) ((got + c) - suc sent) (omega arith)
 
-  pub owner_can_send : (z : TableId) (v : View M S Q A) (held : List (ℕ × Cell M S Q A)) (c sent got : ℕ) → OwnerOk z v held c sent got → sent ≢ 4611686018427387903 → (sent - got) ≢ c → CanSend z (v, held) sent (sent % c)
-  owner_can_send z v held c sent got ok spent full =
+  pub owner_can_send : (z : TableId) (v : View M S Q A) (held : List (ℕ × Cell M S Q A)) (c sent got : ℕ) → OwnerOk z v held c sent got → v.owner.left ≡ false → sent ≢ 4611686018427387903 → (sent - got) ≢ c → CanSend z (v, held) sent (sent % c)
+  owner_can_send z v held c sent got ok stays spent full =
       let room = has_room c sent got ok.room ok.gotten full in
       let g = ok.got_is in let l = ok.gotten in let s = ok.spent in let n = ok.slots in
       let first = first_held held c sent got ok.held_is room in
       record {
         owns = ok.owns;
+        stays = stays;
         ready = ok.ready;
         words = ok.words;
         count = ok.sent_is;

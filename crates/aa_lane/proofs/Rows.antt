@@ -29,6 +29,11 @@ module _ {X : Type 0} where
         | inr h ↦ other j x h.0 h.1
       ]
 
+  pub at_here : (xs : List X) (i : ℕ) (x y : X) → get_elem? xs i ≡ some x → get_elem? (set xs i y) i ≡ some y
+  at_here [] i x y e = cc
+  at_here (z ∷ xs) zero x y e = refl
+  at_here (z ∷ xs) (suc i) x y e = at_here xs i x y e
+
   pub there : (xs : List X) (n : ℕ) → n < length xs → (x : X) × (slice_get xs n ≡ Some x)
   there [] n h = absurd (omega arith)
   there (x ∷ xs) zero h = (x, refl)
@@ -46,6 +51,10 @@ module _ {X : Type 0} where
   take_take (suc m) zero xs h = absurd (omega arith)
   take_take (suc m) (suc n) [] h = refl
   take_take (suc m) (suc n) (x ∷ xs) h = ap (λ l. x ∷ l) (take_take m n xs (omega arith))
+
+pub split_eq : (b : Bool) → (b ≡ true) ⊎ (b ≡ false)
+split_eq true = inl refl
+split_eq false = inr refl
 
 pub or_cases : (a b : Bool) → (a || b) ≡ true → (a ≡ true) ⊎ (b ≡ true)
 or_cases true b h = inl refl

@@ -18,10 +18,11 @@ use Rattle.aa_lane.specs.declared.cells.Cell.{Cell}
 use Rattle.aa_lane.specs.declared.cells.Cell.TheVariants.{Asked}
 use Rattle.aa_lane.specs.declared.cells.View.{View}
 use Rattle.aa_lane.specs.declared.cells.Key.{Key}
-use Rattle.aa_lane.proofs.Stays.{keep_seats, stays, logged, world}
+use Rattle.aa_lane.proofs.Stays.{keep_filled, keep_seats, stays, logged, world}
 use Rattle.aa_lane.specs.Steps.{CanSend}
 use Rattle.aa_lane.specs.Plays.{sent, is_sent, StillClosed, sent_view, unsent_view}
 use Rattle.aa_lane.proofs.Lawful.{sending_lawful}
+use Rattle.aa_lane.proofs.ShutBy.{step_shut_by, told_shut_by}
 use Rattle.aa_lane.proofs.Rows.{snoc_cases}
 
 module _ {M S Q A : Type 0} (next : M → S → Q → S) (reply : M → S → Q → A) where
@@ -81,8 +82,10 @@ module _ {M S Q A : Type 0} (next : M → S → Q → S) (reply : M → S → Q 
                 | inl p ↦ set_else s.homes slot (m % length s.homes) (some (Asked q)) (other_slot m low (slice_get_within w.accepted m r p)) ∙ h.answered m r a low p f
                 | inr p ↦ absurd (omega arith)
               ]);
+          in_hand = λ m low high. rw homes (set_else s.homes slot (m % length s.homes) (some (Asked q)) (other_slot m (omega arith) (omega arith)) ∙ h.in_hand m low high);
           seat = h.seat;
-          seats = keep_seats s.views h.seat s.homes hs w (sending w q) ByOwner id v (sent_view v q) h.seats at owns (λ a r. elim a as (λ a. role a (sent_view v q) ≡ true → role a v ≡ true) [ ByOwner ↦ λ o. o | ByServer ↦ λ o. o | ByShutter ↦ λ o. o ] r) refl refl refl
+          filled = keep_filled s.views h.seat id v (sent_view v q) h.filled at (λ a. elim a as (λ a. role a (sent_view v q) ≡ role a v) [ ByOwner ↦ refl | ByServer ↦ refl | ByShutter ↦ refl ]);
+          seats = keep_seats s.views h.seat s.homes hs w (sending w q) ByOwner id v (sent_view v q) h.seats at owns (λ a r. elim a as (λ a. role a (sent_view v q) ≡ role a v) [ ByOwner ↦ refl | ByServer ↦ refl | ByShutter ↦ refl ] r) refl refl refl
               (λ a. elim a as (λ a. Fits a s.homes w v → Fits a hs (sending w q) (sent_view v q)) [
                 | ByOwner ↦ λ f. record {
                   sent = ap (λ l. l ++ q ∷ []) f.sent;
@@ -90,6 +93,9 @@ module _ {M S Q A : Type 0} (next : M → S → Q → S) (reply : M → S → Q 
                   found = f.found;
                   closed = f.closed;
                   left = f.left;
+                  free = λ r i low high.
+                      rw homes (set_else s.homes slot (i % length s.homes) (some (Asked q)) (λ e. let c = count in let g = fits.got in let y : length v.owner.sent ≡ i = one_turn (length v.owner.sent) i (length s.homes) (omega (arith, n)) (omega (arith, n)) (sym e) in omega (arith, n))
+                      ∙ f.free r i (omega (arith, n)) high);
                   fresh = λ r. let z : true ≡ false = sym ready ∙ r in cc;
                 }
                 | ByServer ↦ λ f. record {
@@ -110,15 +116,27 @@ module _ {M S Q A : Type 0} (next : M → S → Q → S) (reply : M → S → Q 
                 }
                 | ByShutter ↦ λ u e f. record { count = λ c e. let z : true ≡ false = sym (f.count c e).0 ∙ unshut in cc }
               ]);
-          shut_by = λ e. let z : false ≡ true = sym unshut ∙ e in cc;
+          shut_by = step_shut_by s.views id v (sent_view v q) w.shut at (λ o. o) (λ o. o) (λ e. e) (λ e. e) (λ e. e) h.shut_by;
         }
+
+    -- the owner hadn't left, so its shutter has shut
+    pub sent_shut : w.shut ≡ true → v.owner.left ≡ false → Shows next reply (stepped s 0 (slice_index s.words 0) id ((length v.owner.sent % length s.homes, Asked q) ∷ tail) (unsent_view v q) keeps) w
+    sent_shut is stayed =
+        stays next reply s w h 0 (slice_index s.words 0) id ((length v.owner.sent % length s.homes, Asked q) ∷ tail) ByOwner v (unsent_view v q) refl at owns
+        (λ a. elim a as (λ a. role a (unsent_view v q) ≡ role a v) [ ByOwner ↦ refl | ByServer ↦ refl | ByShutter ↦ refl ]) refl
+        (told_shut_by s.views h.seat s.homes w id v (unsent_view v q) h.seats at owns is (λ o. o) (λ e. e) stayed h.shut_by)
+        (λ a. elim a as (λ a. Fits a s.homes w v → Fits a s.homes w (unsent_view v q)) [
+          | ByOwner ↦ λ f. record { sent = f.sent; got = f.got; found = f.found; closed = λ _. is; left = f.left; free = f.free; fresh = f.fresh }
+          | ByServer ↦ λ f. f
+          | ByShutter ↦ λ f. f
+        ])
 
 module _ {M S Q A : Type 0} (next : M → S → Q → S) (reply : M → S → Q → A) (k : Key M S Q A) where
   -- a single try to accept a request
-  pub sends : (c id n : ℕ) (v : View M S Q A) (q : Q) (tail : List (ℕ × Cell M S Q A)) → v.owns ≡ true → v.owner.ready ≡ true → n ≡ length v.owner.sent
+  pub sends : (c id n : ℕ) (v : View M S Q A) (q : Q) (tail : List (ℕ × Cell M S Q A)) → v.owns ≡ true → v.owner.left ≡ false → v.owner.ready ≡ true → n ≡ length v.owner.sent
       → n ≢ 4611686018427387903 → v.owner.got ≤ n → n < v.owner.got + c
       → Allows (HasLog next reply k) c id (v, (n % c, Asked q) ∷ tail) 0 (λ g. either (g == 2 * n) (2 * n + 2) g) (sent (step c 0 (2 * n) (2 * n + 2) none) (v, (n % c, Asked q) ∷ tail))
-  sends c id n v q tail owns ready is spent gotten room s held len at small =
+  sends c id n v q tail owns stayed ready is spent gotten room s held len at small =
       let w : WorldState M S Q A = world next reply k s held in
       let h : Shows next reply s w = held.shows in
       let spent' : length v.owner.sent ≢ 4611686018427387903 = λ e. spent (is ∙ e) in
@@ -137,22 +155,16 @@ module _ {M S Q A : Type 0} (next : M → S → Q → S) (reply : M → S → Q 
             let told : Accepted (length v.owner.sent) ≡ answer_to next reply w (Send q) = ap Accepted (sym is ∙ sym count) ∙ sym d.1 in
             let new = sent_unshut next reply s w h id v q tail at owns ready spent' gotten' room' e (2 * length v.owner.sent + 2) refl in
             let kept = logged next reply k s held _ _ id v (sent_view v q) ByOwner (Send q) (Accepted (length v.owner.sent)) (sending next reply w q) at owns
-            (λ a. elim a as (λ a. role a (sent_view v q) ≡ true → role a v ≡ true) [ ByOwner ↦ λ o. o | ByServer ↦ λ o. o | ByShutter ↦ λ o. o ])
+            (λ a. elim a as (λ a. role a (sent_view v q) ≡ role a v) [ ByOwner ↦ refl | ByServer ↦ refl | ByShutter ↦ refl ])
             (elim [ ByOwner ↦ refl | ByServer ↦ refl | ByShutter ↦ refl ]) (sym d.0) told new in
             rw (eq-eqb g (2 * n) gate) (sent_view v q, gives, tt, rw (is, ← len) kept, (refl, λ f. let z : true ≡ false = sym (fit.closed f) ∙ e in cc))
         | true ↦ λ e.
             let gate : g ≡ 2 * n + 1 = h.gate ∙ rw e (omega arith) in
             let ne : g ≢ 2 * n = λ f. omega arith in
             let d = does true e in
-            let new = stays next reply s w h 0 g id ((n % c, Asked q) ∷ tail) ByOwner v (unsent_view v q) refl at owns
-            (λ a. elim a as (λ a. role a (unsent_view v q) ≡ true → role a v ≡ true) [ ByOwner ↦ λ o. o | ByServer ↦ λ o. o | ByShutter ↦ λ o. o ]) refl (λ e. e) (λ e. e)
-            (λ a. elim a as (λ a. Fits a s.homes w v → Fits a s.homes w (unsent_view v q)) [
-              | ByOwner ↦ λ f. record { sent = f.sent; got = f.got; found = f.found; closed = λ _. e; left = f.left; fresh = f.fresh }
-              | ByServer ↦ λ f. f
-              | ByShutter ↦ λ f. f
-            ]) in
+            let new : Shows next reply (stepped s 0 g id ((n % c, Asked q) ∷ tail) (unsent_view v q) keeps) w = sent_shut next reply s w h id v q tail at owns ready spent' gotten' room' e stayed in
             let kept = logged next reply k s held _ _ id v (unsent_view v q) ByOwner (Send q) (Unsent Closed q) w at owns
-            (λ a. elim a as (λ a. role a (unsent_view v q) ≡ true → role a v ≡ true) [ ByOwner ↦ λ o. o | ByServer ↦ λ o. o | ByShutter ↦ λ o. o ])
+            (λ a. elim a as (λ a. role a (unsent_view v q) ≡ role a v) [ ByOwner ↦ refl | ByServer ↦ refl | ByShutter ↦ refl ])
             (elim [ ByOwner ↦ refl | ByServer ↦ refl | ByShutter ↦ refl ]) (sym d.0) (sym d.1) new in
             rw (ne_eqb g (2 * n) ne) (unsent_view v q, keeps, tt, kept, (refl, λ _. refl))
       ] in
@@ -162,7 +174,7 @@ module _ {M S Q A : Type 0} (next : M → S → Q → S) (reply : M → S → Q 
       → Allows (HasLog next reply k) z'.slots id (m.0, (slot, Asked q) ∷ rest m.1) 0 (λ g. either (g == 2 * n) (2 * n + 2) g) (sent (step z'.slots 0 (2 * n) (2 * n + 2) none) (m.0, (slot, Asked q) ∷ rest m.1))
   can_send z z' id n slot m q can same_table =
       let P : TableId → Type 0 = λ y. Allows (HasLog next reply k) y.slots id (m.0, (slot, Asked q) ∷ rest m.1) 0 (λ g. either (g == 2 * n) (2 * n + 2) g) (sent (step y.slots 0 (2 * n) (2 * n + 2) none) (m.0, (slot, Asked q) ∷ rest m.1)) in
-      subst P same_table (rw can.slot_is (sends z.slots id n m.0 q (rest m.1) can.owns can.ready can.count (λ e. let s = can.spent in absurd (omega arith)) can.gotten can.room))
+      subst P same_table (rw can.slot_is (sends z.slots id n m.0 q (rest m.1) can.owns can.stays can.ready can.count (λ e. let s = can.spent in absurd (omega arith)) can.gotten can.room))
 
 module _ {M S Q A : Type 0} where
   -- a send that failed

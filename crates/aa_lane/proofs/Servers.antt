@@ -32,6 +32,7 @@ module _ {M S Q A : Type 0} (next : M → S → Q → S) (reply : M → S → Q 
       let i = ok.idle in
       record {
         serves = ok.serves;
+        alone = ok.alone;
         words = ok.words;
         slots = ok.slots;
         roomy = ok.roomy;
@@ -49,6 +50,7 @@ module _ {M S Q A : Type 0} (next : M → S → Q → S) (reply : M → S → Q 
       let s = ok.small in
       record {
         serves = ok.serves;
+        alone = ok.alone;
         words = ok.words;
         slots = ok.slots;
         roomy = ok.roomy;

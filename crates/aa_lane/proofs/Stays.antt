@@ -1,25 +1,37 @@
 -- Each step keeps the rule.
-use Rattle.std.proofs.Common.{◌≡◌, ℕ, true, false, is_some, cond, List, [], ◌∷◌, ◌++◌, refl, sym, ap, ◌∙◌, subst, slice_set, slice_index, Some}
+use Rattle.std.proofs.Common.{◌≡◌, ◌≢◌, ◌==◌, inl, inr, eqb-true, false-eqb, set, ℕ, true, false, cond, List, [], ◌∷◌, ◌++◌, refl, sym, ap, ◌∙◌, subst, slice_set, slice_index, Some}
 use Rattle.std.proofs.lemmas.List.{set-get_or}
 use mathlib.Core.Option.{Option, some}
 use lib.ListN.{get_elem?}
 use Rattle.atomic_table.specs.Table.{State, keeps, stepped}
 use Rattle.aa_lane.specs.WorldState.{WorldState, after, answer_to}
-use Rattle.aa_lane.specs.Log.{Who, ByOwner, ByShutter, same, Entry, by, leaves}
-use Rattle.aa_lane.specs.Shows.{Shows, HasLog, Seats, Fits, role, made}
+use Rattle.aa_lane.specs.Log.{Who, same, Entry, by, leaves}
+use Rattle.aa_lane.specs.Shows.{Shows, HasLog, Seats, Filled, ShutBy, Fits, role, made}
 use Rattle.aa_lane.specs.declared.event.Event.{Event}
 use Rattle.aa_lane.specs.declared.event.Reply.{Reply}
 use Rattle.aa_lane.specs.declared.cells.Cell.{Cell}
 use Rattle.aa_lane.specs.declared.cells.View.{View}
 use Rattle.aa_lane.specs.declared.cells.Key.{Key}
-use Rattle.aa_lane.proofs.Rows.{each_set}
-use Rattle.aa_lane.proofs.ShutBy.{step_shut_by}
+use Rattle.aa_lane.proofs.Rows.{each_set, at_here, split_eq}
+use Rattle.atomic_table.proofs.Lists.{set_else}
 use Rattle.aa_lane.proofs.Logs.{same_eq, by_snoc, leaves_snoc, told_snoc}
 
 module _ {M S Q A : Type 0} where
+  -- no role is lost
+  pub keep_filled : (views : List (View M S Q A)) (seat : Who → ℕ) (id : ℕ) (v v' : View M S Q A) → Filled views seat → get_elem? views id ≡ some v → ((a : Who) → role a v' ≡ role a v) → Filled (slice_set views id v') seat
+  keep_filled views seat id v v' old at roles a =
+      let f = old a in
+      elim (split_eq (seat a == id)) [
+        | inl e ↦ let is : seat a ≡ id = eqb-true _ _ e in
+            let same_view : v ≡ f.0 = let z : some v ≡ some f.0 = sym at ∙ ap (get_elem? views) (sym is) ∙ f.1 in cc in
+            (v', subst (λ i. get_elem? (set views id v') i ≡ some v') (sym is) (at_here views id v v' at), roles a ∙ ap (role a) same_view ∙ f.2)
+        | inr e ↦ let ne : seat a ≢ id = false-eqb _ _ (sym e) in
+            (f.0, set_else views id (seat a) v' ne ∙ f.1, f.2)
+      ]
+
   -- the seat that steps has a role that no other seat has
   pub keep_seats : (views : List (View M S Q A)) (seat : Who → ℕ) (hs hs' : List (Option (Cell M S Q A))) (w w' : WorldState M S Q A) (who : Who) (id : ℕ) (v v' : View M S Q A)
-      → Seats views seat hs w → get_elem? views id ≡ some v → role who v ≡ true → ((a : Who) → role a v' ≡ true → role a v ≡ true)
+      → Seats views seat hs w → get_elem? views id ≡ some v → role who v ≡ true → ((a : Who) → role a v' ≡ role a v)
       → v'.terms ≡ v.terms → w'.machine ≡ w.machine → w'.start ≡ w.start
       → ((a : Who) → Fits a hs w v → Fits a hs' w' v') → ((a : Who) (u : View M S Q A) → same a who ≡ false → Fits a hs w u → Fits a hs' w' u)
       → Seats (slice_set views id v') seat hs' w'
@@ -27,7 +39,7 @@ module _ {M S Q A : Type 0} where
       let at_terms : Some (w.machine, w.start) ≡ Some (w'.machine, w'.start) = rw (m, t) refl in
       let R : ℕ → View M S Q A → Type 0 = λ j u. role a u ≡ true → (j ≡ seat a) × (u.terms ≡ Some (w'.machine, w'.start)) × Fits a hs' w' u in
       each_set R views id v'
-      (λ r. let f = old a id v at (roles a r) in (f.0, terms ∙ f.1 ∙ at_terms, here a f.2))
+      (λ r. let f = old a id v at (sym (roles a) ∙ r) in (f.0, terms ∙ f.1 ∙ at_terms, here a f.2))
       (λ j u ne there r. let f = old a j u there r in (
         f.0,
         f.1 ∙ at_terms,
@@ -40,11 +52,11 @@ module _ {M S Q A : Type 0} where
 module _ {M S Q A : Type 0} (next : M → S → Q → S) (reply : M → S → Q → A) where
   -- a step at which the world stays, as does every slot and word, and the seat knows something more
   pub stays : (s : State (Cell M S Q A) (View M S Q A)) (w : WorldState M S Q A) (h : Shows next reply s w) (i x id : ℕ) (held : List (ℕ × Cell M S Q A)) (who : Who) (v v' : View M S Q A)
-      → x ≡ slice_index s.words i → get_elem? s.views id ≡ some v → role who v ≡ true → ((a : Who) → role a v' ≡ true → role a v ≡ true) → v'.terms ≡ v.terms
-      → (v.owner.left ≡ true → v'.owner.left ≡ true) → (is_some v.shutter.count ≡ true → is_some v'.shutter.count ≡ true)
+      → x ≡ slice_index s.words i → get_elem? s.views id ≡ some v → role who v ≡ true → ((a : Who) → role a v' ≡ role a v) → v'.terms ≡ v.terms
+      → ShutBy (slice_set s.views id v') w.shut
       → ((a : Who) → Fits a s.homes w v → Fits a s.homes w v')
       → Shows next reply (stepped s i x id held v' keeps) w
-  stays s w h i x id held who v v' is at may roles terms left count here =
+  stays s w h i x id held who v v' is at may roles terms by here =
       let words : slice_set s.words i x ≡ s.words = rw is (set-get_or s.words i 0) in
       record {
         lawful = h.lawful;
@@ -55,9 +67,11 @@ module _ {M S Q A : Type 0} (next : M → S → Q → S) (reply : M → S → Q 
         done = rw words h.done;
         waiting = h.waiting;
         answered = h.answered;
+        in_hand = h.in_hand;
         seat = h.seat;
+        filled = keep_filled s.views h.seat id v v' h.filled at roles;
         seats = keep_seats s.views h.seat s.homes s.homes w w who id v v' h.seats at may roles terms refl refl here (λ a u e f. f);
-        shut_by = step_shut_by s.views id v v' w.shut at (roles ByOwner) (roles ByShutter) left count h.shut_by;
+        shut_by = by;
       }
 
 module _ {M S Q A : Type 0} (next : M → S → Q → S) (reply : M → S → Q → A) (k : Key M S Q A) where
@@ -66,7 +80,7 @@ module _ {M S Q A : Type 0} (next : M → S → Q → S) (reply : M → S → Q 
 
   -- a step that is an event of the world
   pub logged : (s : State (Cell M S Q A) (View M S Q A)) (h : HasLog next reply k s) (ws : List ℕ) (hs : List (Option (Cell M S Q A))) (id : ℕ) (v v' : View M S Q A) (who : Who) (e : Event M S Q A) (r : Reply M S Q A)
-      (w' : WorldState M S Q A) → get_elem? s.views id ≡ some v → role who v ≡ true → ((a : Who) → role a v' ≡ true → role a v ≡ true)
+      (w' : WorldState M S Q A) → get_elem? s.views id ≡ some v → role who v ≡ true → ((a : Who) → role a v' ≡ role a v)
       → ((a : Who) → made a v' ≡ cond (same a who) (made a v ++ (e, r) ∷ []) (made a v))
       → w' ≡ after next reply (world s h) e → r ≡ answer_to next reply (world s h) e
       → Shows next reply record { words = ws; homes = hs; views = slice_set s.views id v' } w'
@@ -78,7 +92,7 @@ module _ {M S Q A : Type 0} (next : M → S → Q → S) (reply : M → S → Q 
         told = told_snoc next reply k.machine.now k.start k.capacity h.log x h.told told;
         shows = subst (Shows next reply record { words = ws; homes = hs; views = slice_set s.views id v' }) (left ∙ sym (leaves_snoc next reply k.machine.now k.start k.capacity h.log x)) shows;
         makes = λ a. each_set (λ j u. role a u ≡ true → made a u ≡ by a (h.log ++ x ∷ [])) s.views id v'
-            (λ o. lists a ∙ ap (λ (l : List (Event M S Q A × Reply M S Q A)). cond (same a who) (l ++ (e, r) ∷ []) l) (h.makes a id v at (roles a o)) ∙ sym (by_snoc a h.log x))
+            (λ o. lists a ∙ ap (λ (l : List (Event M S Q A × Reply M S Q A)). cond (same a who) (l ++ (e, r) ∷ []) l) (h.makes a id v at (sym (roles a) ∙ o)) ∙ sym (by_snoc a h.log x))
             (λ j u ne there o.
             let old : made a u ≡ by a h.log = h.makes a j u there o in
             elim (same a who) as (λ b. same a who ≡ b → made a u ≡ by a (h.log ++ x ∷ [])) [

@@ -5,7 +5,7 @@ use Rattle.std.proofs.lemmas.Option.{slice_get_within, get_or_from_slice_get}
 use mathlib.Core.Option.{Option, some, none}
 use lib.ListN.{get_elem?}
 use Rattle.atomic_table.specs.Table.{State, step, Act, keeps, takes, Valid, stepped, Allows, carried_after}
-use Rattle.atomic_table.proofs.Lists.{set_else, one_turn}
+use Rattle.atomic_table.proofs.Lists.{set_else, set_here, one_turn}
 use Rattle.aa_lane.specs.WorldState.{WorldState, after, answer_to}
 use Rattle.aa_lane.specs.Log.{ByOwner, ByServer, ByShutter, same}
 use Rattle.aa_lane.specs.Shows.{Shows, HasLog, Fits, OwnerFits, ServerFits, role, bit}
@@ -16,7 +16,7 @@ use Rattle.aa_lane.specs.declared.cells.Cell.TheVariants.{Asked}
 use Rattle.aa_lane.specs.declared.cells.View.{View}
 use Rattle.aa_lane.specs.declared.cells.Key.{Key}
 use Rattle.aa_lane.proofs.ShutBy.{step_shut_by}
-use Rattle.aa_lane.proofs.Stays.{keep_seats, stays, logged, world}
+use Rattle.aa_lane.proofs.Stays.{keep_filled, keep_seats, stays, logged, world}
 use Rattle.aa_lane.specs.Plays.{took, is_taken, StillSettled, taken_view, idle_view}
 use Rattle.aa_lane.proofs.Lawful.{taking_lawful}
 use Rattle.aa_lane.proofs.Rows.{there, or_cases}
@@ -45,7 +45,8 @@ module _ {M S Q A : Type 0} (next : M → S → Q → S) (reply : M → S → Q 
     take_none x n odd is count none_now shut =
         let f0 = free in let d = fits.done in let t = h.lawful.sent in
         stays next reply s w h 0 x id [] ByServer v (idle_view v n odd) is at serves
-        (λ a. elim a as (λ a. role a (idle_view v n odd) ≡ true → role a v ≡ true) [ ByOwner ↦ λ o. o | ByServer ↦ λ o. o | ByShutter ↦ λ o. o ]) refl (λ e. e) (λ e. e)
+        (λ a. elim a as (λ a. role a (idle_view v n odd) ≡ role a v) [ ByOwner ↦ refl | ByServer ↦ refl | ByShutter ↦ refl ]) refl
+        (step_shut_by s.views id v (idle_view v n odd) w.shut at (λ o. o) (λ o. o) (λ e. e) (λ e. e) (λ e. e) h.shut_by)
         (λ a. elim a as (λ a. Fits a s.homes w v → Fits a s.homes w (idle_view v n odd)) [
           | ByOwner ↦ λ f. f
           | ByServer ↦ λ f. record {
@@ -71,7 +72,7 @@ module _ {M S Q A : Type 0} (next : M → S → Q → S) (reply : M → S → Q 
         let homes : length hs ≡ length s.homes = length-set s.homes slot none in
         let words : slice_set s.words 0 x ≡ s.words = rw is (set-get_or s.words 0 0) in
         let owner : (u : View M S Q A) → OwnerFits s.homes w u.owner → OwnerFits hs (taking w) u.owner = λ u f.
-        record { sent = f.sent; got = f.got; found = f.found; closed = f.closed; left = f.left; fresh = λ r. let z = (f.fresh r).0 in absurd (omega arith) } in (
+        record { sent = f.sent; got = f.got; found = f.found; closed = f.closed; left = f.left; free = λ r i low high. rw homes (set_else s.homes slot (i % length s.homes) none (λ e. let y : w.taken ≡ i = one_turn w.taken i (length s.homes) (omega arith) (omega arith) (ap (λ k. k % length s.homes) (sym at_taken) ∙ sym e) in omega arith) ∙ f.free r i low high); fresh = λ r. let z = (f.fresh r).0 in absurd (omega arith) } in (
           home,
           record {
             lawful = taking_lawful next reply w h.lawful (omega arith) lt;
@@ -86,9 +87,11 @@ module _ {M S Q A : Type 0} (next : M → S → Q → S) (reply : M → S → Q 
             answered = λ m r a low e' f'. let in_answers : m < length w.answers = slice_get_within w.answers m a f' in
                 rw homes (set_else s.homes slot (m % length s.homes) none (λ f. let z : m ≡ w.taken = one_turn m w.taken (length s.homes) (omega arith) (omega arith) (f ∙ ap (λ i. i % length s.homes) at_taken) in omega arith)
                 ∙ h.answered m r a low e' f');
+            in_hand = λ m low high. rw homes (let is : m % length s.homes ≡ slot = ap (λ i. i % length s.homes) (let y : m ≡ v.server.done = omega arith in y) in rw is (set_here s.homes slot none (let r = h.roomy in omega arith)));
             seat = h.seat;
+            filled = keep_filled s.views h.seat id v (taken_view v n q) h.filled at (λ a. elim a as (λ a. role a (taken_view v n q) ≡ role a v) [ ByOwner ↦ refl | ByServer ↦ refl | ByShutter ↦ refl ]);
             seats = keep_seats s.views h.seat s.homes hs w (taking w) ByServer id v (taken_view v n q) h.seats at serves
-                (λ a. elim a as (λ a. role a (taken_view v n q) ≡ true → role a v ≡ true) [ ByOwner ↦ λ o. o | ByServer ↦ λ o. o | ByShutter ↦ λ o. o ]) refl refl refl
+                (λ a. elim a as (λ a. role a (taken_view v n q) ≡ role a v) [ ByOwner ↦ refl | ByServer ↦ refl | ByShutter ↦ refl ]) refl refl refl
                 (λ a. elim a as (λ a. Fits a s.homes w v → Fits a hs (taking w) (taken_view v n q)) [
                   | ByOwner ↦ owner v
                   | ByServer ↦ λ f. record {
@@ -104,7 +107,7 @@ module _ {M S Q A : Type 0} (next : M → S → Q → S) (reply : M → S → Q 
                   | ByServer ↦ λ u e f. let z : true ≡ false = e in cc
                   | ByShutter ↦ λ u e f. record { count = f.count }
                 ]);
-            shut_by = step_shut_by s.views id v (taken_view v n q) w.shut at (λ o. o) (λ o. o) (λ e. e) (λ e. e) h.shut_by;
+            shut_by = step_shut_by s.views id v (taken_view v n q) w.shut at (λ o. o) (λ o. o) (λ e. e) (λ e. e) (λ e. e) h.shut_by;
           },
         )
 
@@ -133,7 +136,7 @@ module _ {M S Q A : Type 0} (next : M → S → Q → S) (reply : M → S → Q 
             let does = after_take next reply w (omega arith) true (lt-ltb w.taken (length w.accepted) z) in
             let number : v.server.done ≡ w.taken = omega arith in
             let kept = logged next reply k s held _ _ id v (taken_view v (g / 2) q.0) ByServer Take (Taken v.server.done) (taking next reply w) at serves
-            (λ a. elim a as (λ a. role a (taken_view v (g / 2) q.0) ≡ true → role a v ≡ true) [ ByOwner ↦ λ o. o | ByServer ↦ λ o. o | ByShutter ↦ λ o. o ])
+            (λ a. elim a as (λ a. role a (taken_view v (g / 2) q.0) ≡ role a v) [ ByOwner ↦ refl | ByServer ↦ refl | ByShutter ↦ refl ])
             (elim [ ByOwner ↦ refl | ByServer ↦ refl | ByShutter ↦ refl ]) (sym does.0) (ap Taken number ∙ sym does.1) r.1 in
             (taken_view v (g / 2) q.0, takes (v.server.done % length s.homes) (Asked q.0), r.0, kept, ((q.0, rw len refl), still))
         | false ↦ λ e.
@@ -142,7 +145,7 @@ module _ {M S Q A : Type 0} (next : M → S → Q → S) (reply : M → S → Q 
             let does = after_take next reply w (omega arith) false (le-ltb w.taken (length w.accepted) z) in
             let new = take_none next reply s w h id v at serves idle g (g / 2) (g % 2 == 1) refl count le (λ o. sym odd ∙ o) in
             let kept = logged next reply k s held _ _ id v (idle_view v (g / 2) (g % 2 == 1)) ByServer Take (cond (g % 2 == 1) Settled Idle) w at serves
-            (λ a. elim a as (λ a. role a (idle_view v (g / 2) (g % 2 == 1)) ≡ true → role a v ≡ true) [ ByOwner ↦ λ o. o | ByServer ↦ λ o. o | ByShutter ↦ λ o. o ])
+            (λ a. elim a as (λ a. role a (idle_view v (g / 2) (g % 2 == 1)) ≡ role a v) [ ByOwner ↦ refl | ByServer ↦ refl | ByShutter ↦ refl ])
             (elim [ ByOwner ↦ refl | ByServer ↦ refl | ByShutter ↦ refl ]) (sym does.0) (rw odd (sym does.1)) new in
             (idle_view v (g / 2) (g % 2 == 1), keeps, tt, kept, (refl, still))
       ] in

@@ -1,5 +1,5 @@
 -- What the calls on a lane's ends answer, and what the end is afterwards.
-use Rattle.std.specs.Prelude.{◌≡◌, ℕ, ◌+◌, ◌<◌, ◌≤◌, true, Option, Some, None, [], ◌∷◌, ◌++◌, length, slice_get}
+use Rattle.std.specs.Prelude.{◌≡◌, ℕ, ◌+◌, ◌<◌, ◌≤◌, true, take, Option, Some, None, List, suc, [], ◌∷◌, ◌++◌, length, slice_get}
 use Rattle.aa_machine.specs.Run.{replies}
 use Rattle.aa_lane.specs.Ends.{LaneSeen, OwnerSeen, ServerSeen, ShutterSeen}
 use Rattle.aa_lane.specs.declared.event.Event.TheVariants.{Send, Take, Finish, Collect, Shut}
@@ -66,9 +66,23 @@ module _ {M S Q A : Type 0} where
   StaysSettled (served.Idle t) = ⊥
   StaysSettled (served.Settled t) = Unit {0}
 
+-- what one look gave
+abbrev pub look : {X : Type 0} → Option X → List X
+look None = []
+look (Some x) = x ∷ []
+
 module _ {M S Q A : Type 0} (next : M → S → Q → S) (reply : M → S → Q → A) where
   -- one look at the answers: the first that the owner hasn't got, with its number and its request, or none
   abbrev pub Collects : LaneSeen M S → OwnerSeen M S Q A → OwnerSeen M S Q A → Option (Answered M S Q A) → Type 0
   Collects l o o' None = (o'.found ≤ o.got) × (o' ≡ uncollected_of o o'.found)
   Collects l o o' (Some a) = (o.got < o'.found) × (a.number ≡ o.got) × (slice_get o.sent o.got ≡ Some a.request)
       × (slice_get (replies (next l.machine) (reply l.machine) l.start o.sent) o.got ≡ Some a.answer) × (o' ≡ collected_of o o'.found)
+
+  -- requests from a state on, each with its answer and its number, the first of which is n
+  abbrev pub answered_from : M → ℕ → S → List Q → List (Answered M S Q A)
+  answered_from m n s [] = []
+  answered_from m n s (q ∷ qs) = record { number = n; request = q; answer = reply m s q } ∷ answered_from m (suc n) (next m s q) qs
+
+  -- all that an owner has collected, in order
+  abbrev pub collected_by : LaneSeen M S → OwnerSeen M S Q A → List (Answered M S Q A)
+  collected_by l o = take o.got (answered_from l.machine 0 l.start o.sent)

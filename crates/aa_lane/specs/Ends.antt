@@ -94,6 +94,7 @@ module _ {M S Q A : Type 0} where
   -- the seat z is a shutter's
   pub record ShutterOk (z : TableId) (v : View M S Q A) (held : List (ℕ × Cell M S Q A)) (c : ℕ) : Type 0 where
     pub shuts : v.shuts ≡ true
+    pub alone : (v.owns ≡ false) × (v.serves ≡ false)
     pub words : z.words ≡ 17
     pub slots : z.slots ≡ c
     pub held_is : held ≡ []
@@ -107,6 +108,7 @@ module _ {M S Q A : Type 0} (next : M → S → Q → S) (reply : M → S → Q 
   -- the seat z is a server's that has answered all that it took, and this is the state that they leave
   pub record ServerOk (z : TableId) (v : View M S Q A) (held : List (ℕ × Cell M S Q A)) (c done : ℕ) (state : S) : Type 0 where
     pub serves : v.serves ≡ true
+    pub alone : (v.owns ≡ false) × (v.shuts ≡ false)
     pub words : z.words ≡ 17
     pub slots : z.slots ≡ c
     pub roomy : 0 < c
@@ -119,6 +121,7 @@ module _ {M S Q A : Type 0} (next : M → S → Q → S) (reply : M → S → Q 
   -- the seat z is a server's with one request in hand
   pub record BusyOk (z : TableId) (v : View M S Q A) (held : List (ℕ × Cell M S Q A)) (c done : ℕ) (state : S) (q : Q) : Type 0 where
     pub serves : v.serves ≡ true
+    pub alone : (v.owns ≡ false) × (v.shuts ≡ false)
     pub words : z.words ≡ 17
     pub slots : z.slots ≡ c
     pub roomy : 0 < c

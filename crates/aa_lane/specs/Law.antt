@@ -1,5 +1,5 @@
 -- Each step at a lane is an event of the world that the table shows, or leaves that world as it is.
-use Rattle.std.specs.Prelude.{◌≡◌, ◌≢◌, ℕ, ◌+◌, ◌*◌, ◌/◌, ◌%◌, ◌<◌, ◌≤◌, ◌==◌, true, false, cond, List, [], ◌∷◌, length, take, slice_index, slice_get, slice_set, ◌++◌, replicate, Some, bit_or}
+use Rattle.std.specs.Prelude.{◌≡◌, ◌≢◌, ℕ, ◌+◌, ◌*◌, ◌/◌, ◌%◌, ◌<◌, ◌≤◌, ◌==◌, true, false, cond, List, [], ◌∷◌, length, take, slice_index, slice_get, slice_set, ◌++◌, replicate, Some, is_some, bit_or}
 use mathlib.Core.Option.{some}
 use lib.ListN.{get_elem?}
 use Rattle.atomic_table.specs.Table.{State, keeps, takes, gives, stepped, Valid, opening as table_opening}
@@ -29,6 +29,8 @@ module _ {M S Q A : Type 0} (next : M → S → Q → S) (reply : M → S → Q 
     pub at : get_elem? s.views id ≡ some v
 
   pub record StepsAreEvents : Type 0 where
+    -- a table shows one world at most
+    pub one : (s : State (Cell M S Q A) (View M S Q A)) (w w' : WorldState M S Q A) → Shows next reply s w → Shows next reply s w' → w ≡ w'
     -- the table as it is made shows the opening world
     pub opens : (k : Key M S Q A) → 0 < k.capacity → Shows next reply (table_opening (replicate 17 0) (replicate k.capacity Vacant) (first_view k)) (opening k.machine.now k.start k.capacity)
     -- the load at which the owner takes all slots
@@ -43,7 +45,7 @@ module _ {M S Q A : Type 0} (next : M → S → Q → S) (reply : M → S → Q 
     pub sends : (s : State (Cell M S Q A) (View M S Q A)) (w : WorldState M S Q A) (id : ℕ) (v : View M S Q A) (q : Q) (held : List (ℕ × Cell M S Q A)) → Stands s w id v → v.owns ≡ true → v.owner.ready ≡ true
         → length v.owner.sent ≢ most_accepted → v.owner.got ≤ length v.owner.sent → length v.owner.sent < v.owner.got + length s.homes → slice_index s.words 0 ≡ 2 * length v.owner.sent
         → IsEvent (stepped s 0 (2 * length v.owner.sent + 2) id ((length v.owner.sent % length s.homes, Asked q) ∷ held) (sent_view v q) gives) w (Send q) (Accepted (length v.owner.sent))
-    pub closed : (s : State (Cell M S Q A) (View M S Q A)) (w : WorldState M S Q A) (id : ℕ) (v : View M S Q A) (q : Q) (held : List (ℕ × Cell M S Q A)) → Stands s w id v → v.owns ≡ true → v.owner.ready ≡ true
+    pub closed : (s : State (Cell M S Q A) (View M S Q A)) (w : WorldState M S Q A) (id : ℕ) (v : View M S Q A) (q : Q) (held : List (ℕ × Cell M S Q A)) → Stands s w id v → v.owns ≡ true → v.owner.left ≡ false → v.owner.ready ≡ true
         → length v.owner.sent ≢ most_accepted → v.owner.got ≤ length v.owner.sent → length v.owner.sent < v.owner.got + length s.homes → slice_index s.words 0 ≢ 2 * length v.owner.sent
         → IsEvent (stepped s 0 (slice_index s.words 0) id ((length v.owner.sent % length s.homes, Asked q) ∷ held) (unsent_view v q) keeps) w (Send q) (Unsent Closed q)
     -- the server's load of the gate
@@ -68,9 +70,9 @@ module _ {M S Q A : Type 0} (next : M → S → Q → S) (reply : M → S → Q 
     pub exits : (s : State (Cell M S Q A) (View M S Q A)) (w : WorldState M S Q A) (id : ℕ) (v : View M S Q A) (held : List (ℕ × Cell M S Q A)) → Stands s w id v → v.owns ≡ true
         → IsEvent (stepped s 0 (bit_or (slice_index s.words 0) 1) id held (left_view v) keeps) w Shut (Count (length v.owner.sent))
     -- the two joins
-    pub joins_server : (s : State (Cell M S Q A) (View M S Q A)) (w : WorldState M S Q A) (id : ℕ) (v : View M S Q A) (other : ℕ) (u : View M S Q A) → Stands s w id v → get_elem? s.views other ≡ some u → v.owns ≡ true → u.serves ≡ true
+    pub joins_server : (s : State (Cell M S Q A) (View M S Q A)) (w : WorldState M S Q A) (id : ℕ) (v : View M S Q A) (other : ℕ) (u : View M S Q A) → Stands s w id v → get_elem? s.views other ≡ some u → other ≢ id → v.owns ≡ true → u.serves ≡ true → (u.owns ≡ false) × (u.shuts ≡ false)
         → Shows next reply record { words = s.words; homes = s.homes; views = slice_set (slice_set s.views id (with_server v u)) other spent_view } w
-    pub joins_shutter : (s : State (Cell M S Q A) (View M S Q A)) (w : WorldState M S Q A) (id : ℕ) (v : View M S Q A) (other : ℕ) (u : View M S Q A) → Stands s w id v → get_elem? s.views other ≡ some u → v.owns ≡ true → u.shuts ≡ true
+    pub joins_shutter : (s : State (Cell M S Q A) (View M S Q A)) (w : WorldState M S Q A) (id : ℕ) (v : View M S Q A) (other : ℕ) (u : View M S Q A) → Stands s w id v → get_elem? s.views other ≡ some u → other ≢ id → v.owns ≡ true → u.shuts ≡ true → (u.owns ≡ false) × (u.serves ≡ false)
         → Shows next reply record { words = s.words; homes = s.homes; views = slice_set (slice_set s.views id (with_shutter v u)) other spent_view } w
 
   -- what the seats of a table have noted is so
@@ -78,6 +80,8 @@ module _ {M S Q A : Type 0} (next : M → S → Q → S) (reply : M → S → Q 
     -- an owner that found the lane shut, or has left it: the gate is shut
     pub closed : (j : ℕ) (v : View M S Q A) → get_elem? s.views j ≡ some v → v.owns ≡ true → v.owner.closed ≡ true → slice_index s.words 0 % 2 ≡ 1
     pub left : (j : ℕ) (v : View M S Q A) → get_elem? s.views j ≡ some v → v.owns ≡ true → v.owner.left ≡ true → slice_index s.words 0 ≡ 2 * length v.owner.sent + 1
+    -- where an owner was told so, there is a shutter's seat, and each has a count
+    pub closed_by : (j k : ℕ) (o u : View M S Q A) → get_elem? s.views j ≡ some o → o.owns ≡ true → o.owner.closed ≡ true → get_elem? s.views k ≡ some u → u.shuts ≡ true → is_some u.shutter.count ≡ true
     -- a shutter that was given a count: the gate is shut, and counts so many
     pub counted : (j c : ℕ) (v : View M S Q A) → get_elem? s.views j ≡ some v → v.shuts ≡ true → v.shutter.count ≡ Some c → slice_index s.words 0 ≡ 2 * c + 1
     -- a server that found the lane settled: the gate is shut, and counts as many as are answered

@@ -1,6 +1,7 @@
 pub use Rattle.aa_machine.specs.Run
 pub mod WorldState
 pub mod WorldLaws
+pub mod Worlds
 pub mod Log
 pub mod Shows
 pub mod Ends

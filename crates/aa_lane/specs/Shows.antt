@@ -2,7 +2,7 @@
 -- Word 0 is the gate: twice the number of accepted requests, and 1 more once the lane is shut. Word 1 is the number of answers.
 -- Request n uses the slot n modulo the capacity.
 use Rattle.std.specs.Prelude.{◌≡◌, ℕ, ◌+◌, ◌*◌, ◌%◌, ◌<◌, ◌≤◌, Bool, true, false, ◌||◌, is_some, cond, List, [], length, take, slice_index, slice_get, Some, None}
-use mathlib.Core.Option.{Option, some}
+use mathlib.Core.Option.{Option, some, none}
 use lib.ListN.{get_elem?}
 use Rattle.atomic_table.specs.Table.{State}
 use Rattle.aa_lane.specs.WorldState.{WorldState, IsLawful, IsSettled}
@@ -55,6 +55,8 @@ module _ {M S Q A : Type 0} where
     pub found : n.found ≤ length w.answers
     pub closed : n.closed ≡ true → w.shut ≡ true
     pub left : n.left ≡ true → w.shut ≡ true
+    -- before it takes the slots they are all at home, and then each that no request uses is out with it
+    pub free : n.ready ≡ true → (i : ℕ) → length w.accepted ≤ i → i < w.collected + w.capacity → get_elem? homes (i % length homes) ≡ some none
     pub fresh : n.ready ≡ false → (length w.accepted ≡ 0) × ((i : ℕ) → i < length homes → get_elem? homes i ≡ some (some Vacant))
 
   -- the server knows what was taken and answered
@@ -77,9 +79,14 @@ module _ {M S Q A : Type 0} where
   abbrev pub Seats : List (View M S Q A) → (Who → ℕ) → List (Option (Cell M S Q A)) → WorldState M S Q A → Type 0
   Seats views seat homes w = (a : Who) (j : ℕ) (v : View M S Q A) → get_elem? views j ≡ some v → role a v ≡ true → (j ≡ seat a) × (v.terms ≡ Some (w.machine, w.start)) × Fits a homes w v
 
-  -- where the lane is shut, its owner has left or its shutter has a count
-  abbrev pub ShutBy : List (View M S Q A) → Bool → Type 0
-  ShutBy views shut = shut ≡ true → (j k : ℕ) (o u : View M S Q A) → get_elem? views j ≡ some o → o.owns ≡ true → get_elem? views k ≡ some u → u.shuts ≡ true → (o.owner.left || is_some u.shutter.count) ≡ true
+  -- some seat has each role
+  abbrev pub Filled : List (View M S Q A) → (Who → ℕ) → Type 0
+  Filled views seat = (a : Who) → (v : View M S Q A) × (get_elem? views (seat a) ≡ some v) × (role a v ≡ true)
+
+  -- where the lane is shut, its owner has left or its shutter has a count; where an owner was told so, it hadn't left, and its shutter has a count
+  pub record ShutBy (views : List (View M S Q A)) (shut : Bool) : Type 0 where
+    pub either : shut ≡ true → (j k : ℕ) (o u : View M S Q A) → get_elem? views j ≡ some o → o.owns ≡ true → get_elem? views k ≡ some u → u.shuts ≡ true → (o.owner.left || is_some u.shutter.count) ≡ true
+    pub closed : (j k : ℕ) (o u : View M S Q A) → get_elem? views j ≡ some o → o.owns ≡ true → get_elem? views k ≡ some u → u.shuts ≡ true → o.owner.closed ≡ true → is_some u.shutter.count ≡ true
 
 module _ {M S Q A : Type 0} (next : M → S → Q → S) (reply : M → S → Q → A) where
   -- words, slots and views show the world
@@ -92,8 +99,11 @@ module _ {M S Q A : Type 0} (next : M → S → Q → S) (reply : M → S → Q 
     pub done : slice_index s.words 16 ≡ length w.answers
     pub waiting : (n : ℕ) (q : Q) → w.taken ≤ n → slice_get w.accepted n ≡ Some q → get_elem? s.homes (n % length s.homes) ≡ some (some (Asked q))
     pub answered : (n : ℕ) (q : Q) (a : A) → w.collected ≤ n → slice_get w.accepted n ≡ Some q → slice_get w.answers n ≡ Some a → get_elem? s.homes (n % length s.homes) ≡ some (some (Answered q a))
+    -- that of the request in hand is out with the server
+    pub in_hand : (n : ℕ) → length w.answers ≤ n → n < w.taken → get_elem? s.homes (n % length s.homes) ≡ some none
     pub seat : Who → ℕ
     pub seats : Seats s.views seat s.homes w
+    pub filled : Filled s.views seat
     pub shut_by : ShutBy s.views w.shut
 
   -- some log leaves the world that is shown, with the world's replies, and each seat knows what it made

@@ -12,6 +12,7 @@ module _ {M S Q A : Type 0} where
   -- the owner has room for request n, whose slot it took last
   pub record CanSend (z : TableId) (m : Me (Cell M S Q A) (View M S Q A)) (n slot : ℕ) : Type 0 where
     pub owns : m.0.owns ≡ true
+    pub stays : m.0.owner.left ≡ false
     pub ready : m.0.owner.ready ≡ true
     pub words : z.words ≡ 17
     pub count : n ≡ length m.0.owner.sent

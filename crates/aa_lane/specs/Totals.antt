@@ -1,5 +1,5 @@
 -- What is known of a lane at its end.
-use Rattle.std.specs.Prelude.{◌≡◌, ℕ, ◌≤◌, true, List, length, take, Some}
+use Rattle.std.specs.Prelude.{◌≡◌, ℕ, ◌≤◌, true, is_some, List, length, take, Some}
 use lib.ListN.{get_elem?}
 use mathlib.Core.Option.{some}
 use Rattle.atomic_table.specs.Table.{State}
@@ -37,6 +37,8 @@ module _ {M S Q A : Type 0} (next : M → S → Q → S) (reply : M → S → Q 
     pub collected : t.collected ≡ w.collected
     pub state : t.state ≡ w.state
     pub counted : (c : ℕ) → e.shutter.count ≡ Some c → t.accepted ≡ c
+    -- an owner that was told that the lane is shut was told so by its shutter's doing
+    pub closed : e.owner.closed ≡ true → is_some e.shutter.count ≡ true
     pub within : (t.collected ≤ t.answered) × (t.answered ≤ t.accepted)
     pub settled : e.server.settled ≡ true → t.answered ≡ t.accepted
 

@@ -1,6 +1,6 @@
 //! A lane that runs: one owner sends requests, one server answers them, and neither waits.
 
-ghost use Rattle.std.specs.Prelude.{◌≡◌, ◌≢◌, ℕ, ◌<◌, [], true, IfOk, IfErr, OnOk, MatchResult, Some, length, replicate};
+ghost use Rattle.std.specs.Prelude.{◌≡◌, ◌≢◌, ℕ, ◌<◌, ◌≤◌, ◌++◌, [], true, false, IfOk, IfErr, OnOk, MatchResult, Some, length, replicate};
 ghost use Rattle.aa_lane.specs.Shows.{first_view};
 ghost use Rattle.aa_lane.specs.Ends.{known, IsCapacity, Denies, MaySend, Refuses, new_owner, new_server, new_shutter};
 ghost use Rattle.aa_lane.specs.Answers as answers;
@@ -41,9 +41,9 @@ impl<'m, M: Machine> Model for Lane<'m, M> {
     ghost invariant = { λ l. (l.table.shared.key.machine.now ≡ l.machine.now) × (l.table.shared.key.capacity ≡ l.capacity) × (l.table.shared.table_id.slots ≡ l.capacity) × (l.table.shared.table_id.words ≡ 17) × (0 < l.capacity) };
 }
 
-/// The end that sends requests and collects the answers to them.
+// The owner's seat, with its own counts.
 #[derive(Drop)]
-pub struct Owner<M: Machine> {
+struct Sending<M: Machine> {
     seat: Seat<Cell<M>, View<M>>,
     tag: u32,
     capacity: u64,
@@ -51,7 +51,7 @@ pub struct Owner<M: Machine> {
     got: u64,
 }
 
-impl<M: Machine> Model for Owner<M> {
+impl<M: Machine> Model for Sending<M> {
     ghost use Rattle.aa_lane.specs.Ends.{OwnerSeen, owner_seen, OwnerOk};
 
     ghost Value = { OwnerSeen M M.State M.Request M.Answer };
@@ -59,6 +59,23 @@ impl<M: Machine> Model for Owner<M> {
     ghost view = { λ o. owner_seen o.seat.table_id o.seat.me.0 o.capacity o.tag };
 
     ghost invariant = { λ o. OwnerOk o.seat.table_id o.seat.me.0 o.seat.me.1 o.capacity o.sent o.got };
+}
+
+/// The end that sends requests and collects the answers to them.
+#[derive(Drop)]
+pub struct Owner<M: Machine> {
+    end: Sending<M>,
+}
+
+impl<M: Machine> Model for Owner<M> {
+    ghost use Rattle.std.specs.Prelude.{◌≡◌, false};
+    ghost use Rattle.aa_lane.specs.Ends.{OwnerSeen};
+
+    ghost Value = { OwnerSeen M M.State M.Request M.Answer };
+
+    ghost view = { λ o. o.end };
+
+    ghost invariant = { λ o. o.end.left ≡ false };
 }
 
 /// A request that wasn't accepted, and why.
@@ -76,24 +93,14 @@ pub struct Answered<M: Machine> {
     pub answer: M::Answer,
 }
 
-impl<M: Machine> Owner<M> {
-    /// The tag of the lane that this end is of.
-    pub fn tag(&self) -> u32
-        ensures { result ≡ self.now.lane.tag }
-    {
-        self.tag
-    }
-
-    /// Sends a request, by one try at the gate. Accepted, it has the number that is answered, counted from 0.
-    ///
-    /// Errors, in this order: `Spent` where 2^62 - 1 requests were accepted; `Full` where as many requests as the capacity
-    /// aren't collected yet; `Closed` where the lane was shut. The owner's own counts decide the first two, without a step.
-    /// A request that isn't accepted comes back.
-    pub fn send(&mut self, lane: &Lane<M>, request: M::Request) -> Result<u64, Unsent<M>>
-        requires { self.old.lane ≡ known lane.now }
+impl<M: Machine> Sending<M> {
+    fn send(&mut self, lane: &Lane<M>, request: M::Request) -> Result<u64, Unsent<M>>
+        requires lane { self.old.lane ≡ known lane.now }
+        requires stays { self.old.left ≡ false }
         ensures accepted { IfOk result (λ n. MaySend self.old × (n ≡ length self.old.sent) × (self.new ≡ answers.sent_of self.old request)) }
         ensures open { OnOk result (self.old.closed ≢ true) }
         ensures unsent { IfErr result (λ u. (u.request ≡ request) × Refuses u.fault request self.old self.new) }
+        ensures gotten { self.old.got ≤ length self.old.sent }
     {
         if self.sent == MOST_ACCEPTED {
             return Err(Unsent {
@@ -121,8 +128,7 @@ impl<M: Machine> Owner<M> {
         }
     }
 
-    /// Collects the next answer if there is one, by one load of the number of answers.
-    pub fn collect(&mut self, lane: &Lane<M>) -> Option<Answered<M>>
+    fn collect(&mut self, lane: &Lane<M>) -> Option<Answered<M>>
         requires { self.old.lane ≡ known lane.now }
         ensures { answers.Collects M.next M.reply lane.now self.old self.new result }
     {
@@ -142,35 +148,61 @@ impl<M: Machine> Owner<M> {
         }
     }
 
+    fn exit(&mut self, lane: &Lane<M>)
+        requires { self.old.lane ≡ known lane.now }
+        ensures { self.new ≡ answers.left_of self.old }
+    {
+        steps::exit(&lane.table.shared, &mut self.seat);
+    }
+}
+
+impl<M: Machine> Owner<M> {
+    /// The tag of the lane that this end is of.
+    pub fn tag(&self) -> u32
+        ensures { result ≡ self.now.lane.tag }
+    {
+        self.end.tag
+    }
+
+    /// Sends a request, by one try at the gate. Accepted, it has the number that is answered, counted from 0.
+    ///
+    /// Errors, in this order: `Spent` where 2^62 - 1 requests were accepted; `Full` where as many requests as the capacity
+    /// aren't collected yet; `Closed` where the lane was shut, which its shutter alone can have done. The owner's own counts
+    /// decide the first two, without a step. A request that isn't accepted comes back.
+    pub fn send(&mut self, lane: &Lane<M>, request: M::Request) -> Result<u64, Unsent<M>>
+        requires { self.old.lane ≡ known lane.now }
+        ensures accepted { IfOk result (λ n. MaySend self.old × (n ≡ length self.old.sent) × (self.new ≡ answers.sent_of self.old request)) }
+        ensures open { OnOk result (self.old.closed ≢ true) }
+        ensures unsent { IfErr result (λ u. (u.request ≡ request) × Refuses u.fault request self.old self.new) }
+        ensures collected { answers.collected_by M.next M.reply lane.now self.new ≡ answers.collected_by M.next M.reply lane.now self.old }
+    {
+        self.end.send(lane, request)
+    }
+
+    /// Collects the next answer if there is one, by one load of the number of answers.
+    pub fn collect(&mut self, lane: &Lane<M>) -> Option<Answered<M>>
+        requires { self.old.lane ≡ known lane.now }
+        ensures look { answers.Collects M.next M.reply lane.now self.old self.new result }
+        ensures collected { answers.collected_by M.next M.reply lane.now self.new ≡ answers.collected_by M.next M.reply lane.now self.old ++ answers.look result }
+    {
+        self.end.collect(lane)
+    }
+
     /// Shuts the lane and leaves it. No request is accepted any more; the answers to come can still be collected.
     pub fn exit(self, lane: &Lane<M>) -> Leaver<M>
         requires { self.lane ≡ known lane.now }
         ensures { result ≡ answers.left_of self }
     {
-        let Owner {
-            mut seat,
-            tag,
-            capacity,
-            sent,
-            got,
-        } = self;
-        steps::exit(&lane.table.shared, &mut seat);
-        Leaver {
-            owner: Owner {
-                seat,
-                tag,
-                capacity,
-                sent,
-                got,
-            },
-        }
+        let Owner { mut end } = self;
+        end.exit(lane);
+        Leaver { owner: end }
     }
 }
 
 /// An owner that has left its lane, and can only collect.
 #[derive(Drop)]
 pub struct Leaver<M: Machine> {
-    owner: Owner<M>,
+    owner: Sending<M>,
 }
 
 impl<M: Machine> Model for Leaver<M> {
@@ -195,7 +227,8 @@ impl<M: Machine> Leaver<M> {
     /// Collects the next answer if there is one, by one load of the number of answers.
     pub fn collect(&mut self, lane: &Lane<M>) -> Option<Answered<M>>
         requires { self.old.lane ≡ known lane.now }
-        ensures { answers.Collects M.next M.reply lane.now self.old self.new result }
+        ensures look { answers.Collects M.next M.reply lane.now self.old self.new result }
+        ensures collected { answers.collected_by M.next M.reply lane.now self.new ≡ answers.collected_by M.next M.reply lane.now self.old ++ answers.look result }
     {
         self.owner.collect(lane)
     }
@@ -276,7 +309,8 @@ impl<M: Machine> Server<M> {
     pub fn tag(&self) -> u32
         ensures { result ≡ self.now.lane.tag }
     {
-        self.tag
+        let Server { tag, .. } = self;
+        *tag
     }
 
     /// Takes the next request if there is one, by one load of the gate.
@@ -337,7 +371,8 @@ impl<M: Machine> Busy<M> {
     pub fn tag(&self) -> u32
         ensures { result ≡ self.now.server.lane.tag }
     {
-        self.tag
+        let Busy { tag, .. } = self;
+        *tag
     }
 
     /// The request in hand.
@@ -396,7 +431,8 @@ impl<M: Machine> Shutter<M> {
     pub fn tag(&self) -> u32
         ensures { result ≡ self.now.lane.tag }
     {
-        self.tag
+        let Shutter { tag, .. } = self;
+        *tag
     }
 
     /// Shuts the lane, and gives the number of all requests that it accepted, the same each time.
@@ -501,13 +537,14 @@ impl<'m, M: Machine> Lane<'m, M> {
             tag,
             capacity,
         };
-        let owner = Owner {
+        let end = Sending {
             seat,
             tag,
             capacity,
             sent: 0,
             got: 0,
         };
+        let owner = Owner { end };
         let lane = Lane {
             machine,
             tag,
@@ -535,13 +572,13 @@ impl<'m, M: Machine> Lane<'m, M> {
             server,
             shutter,
         } = ends;
-        let Leaver { owner } = owner;
-        let Owner {
+        let Leaver { owner: end } = owner;
+        let Sending {
             seat,
             sent,
             got,
             ..
-        } = owner;
+        } = end;
         let Server {
             seat: second,
             done,

@@ -18,4 +18,4 @@ pub use lane::{
     Answered, Busy, Ends, Lane, Leaver, Owner, Served, Server, Shutter, Taken, Totals, Unsent,
 };
 pub use steps::{notes_stay_true, steps_are_events};
-pub use world::{World, always_lawful, replay, world_laws};
+pub use world::{World, always_lawful, replay, world_laws, worlds_apart};

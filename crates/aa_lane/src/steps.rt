@@ -183,6 +183,7 @@ pub fn close<'m, M: Machine>(
     requires tables { (owner.table_id ≡ table.shared.table_id) × (server.table_id ≡ table.shared.table_id) × (shutter.table_id ≡ table.shared.table_id) }
     requires words { table.shared.table_id.words ≡ 17 }
     requires roles { (owner.me.0.owns ≡ true) × (server.me.0.serves ≡ true) × (shutter.me.0.shuts ≡ true) }
+    requires alone { (server.me.0.owns ≡ false) × (server.me.0.shuts ≡ false) × (shutter.me.0.owns ≡ false) × (shutter.me.0.serves ≡ false) }
     requires held { (server.me.1 ≡ []) × (shutter.me.1 ≡ []) }
     ensures { LastState M.next M.reply table.entry.shared.key (joined owner.me.0 server.me.0 shutter.me.0) }
 {

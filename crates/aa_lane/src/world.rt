@@ -3,6 +3,7 @@
 ghost use Rattle.std.specs.Prelude.{◌≡◌, ◌≢◌, ◌≤◌, ◌<◌, ◌⊎◌, IfOk, IfErr, OnErr, OnOk, MatchResult, slice_get, option_map, ℕ, List, []};
 ghost use Rattle.aa_lane.specs.WorldState.{WorldState, IsLawful, opening, after, answer_to, after_all, Grows, Replayed};
 ghost use Rattle.aa_lane.specs.WorldLaws.{WorldLaws};
+ghost use Rattle.aa_lane.specs.Worlds.{WorldsApart};
 ghost use Rattle.aa_lane.specs.Ends.{IsCapacity, Denies};
 
 use crate::event::{
@@ -238,4 +239,10 @@ pub fn always_lawful<M: Machine>()
 /// What holds of a world for good: shut, settled, accepted and answered.
 pub fn world_laws<M: Machine>()
     ensures { WorldLaws M.next M.reply }
+{}
+
+/// The worlds of an engine, one for each task, don't touch one another: an event with a tag is an event of the world of
+/// that tag alone, so each world is what its own events, in their order, make of it.
+pub fn worlds_apart<M: Machine>()
+    ensures { WorldsApart M.next M.reply }
 {}

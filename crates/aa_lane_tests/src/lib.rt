@@ -4,6 +4,8 @@
 #[cfg(test)]
 mod bench;
 #[cfg(test)]
+mod generic;
+#[cfg(test)]
 mod lanes;
 #[cfg(test)]
 mod memory;

@@ -4,6 +4,7 @@ use std::thread;
 use std::time::Instant;
 
 const REQUESTS: u64 = 1_000_000;
+const BURST: u64 = 64;
 
 fn serve(requests: Receiver<u64>, answers: SyncSender<(u64, u64)>) -> u64 {
     let mut state = 0;
@@ -48,15 +49,38 @@ fn feed(requests: &SyncSender<u64>, answers: &Receiver<(u64, u64)>, capacity: u6
     last
 }
 
+// The same, in bursts: it sends until it is refused, at most 64, and then collects until nothing is there.
+fn feed_in_bursts(requests: &SyncSender<u64>, answers: &Receiver<(u64, u64)>, capacity: u64) -> u64 {
+    let (mut sent, mut got, mut last) = (0, 0, 0);
+    while got < REQUESTS {
+        let before = (sent, got);
+        for _ in 0..BURST {
+            if sent >= REQUESTS || sent - got >= capacity || requests.try_send(sent).is_err() {
+                break;
+            }
+            sent += 1;
+        }
+        while let Ok((request, answer)) = answers.try_recv() {
+            assert_eq!(request, got);
+            got += 1;
+            last = answer;
+        }
+        if before == (sent, got) {
+            thread::yield_now();
+        }
+    }
+    last
+}
+
 fn main() {
-    for capacity in [1u64, 16, 1024] {
+    for (name, bursts, capacity) in [false, true].into_iter().flat_map(|b| [1u64, 16, 1024].map(|c| (if b { "bursts" } else { "single" }, b, c))) {
         let start = Instant::now();
         let (requests, inbox) = sync_channel(capacity as usize);
         let (outbox, answers) = sync_channel(capacity as usize);
         let server = thread::spawn(move || serve(inbox, outbox));
-        let last = feed(&requests, &answers, capacity);
+        let last = if bursts { feed_in_bursts(&requests, &answers, capacity) } else { feed(&requests, &answers, capacity) };
         drop(requests);
         assert_eq!(server.join().unwrap(), last);
-        println!("{capacity} {}", start.elapsed().as_nanos());
+        println!("{name} {capacity} {}", start.elapsed().as_nanos());
     }
 }

@@ -10,7 +10,7 @@ join_seat-requires g c =
       t.1,
       c.requires.held.0,
       rw c.requires.words (omega arith),
-      joins_server g.M.Machine.next g.M.Machine.reply _ c.args.owner.id c.args.owner.me.0 c.args.server.id c.args.server.me.0 c.requires.roles.0 c.requires.roles.1,
+      joins_server g.M.Machine.next g.M.Machine.reply _ c.args.owner.id c.args.owner.me.0 c.args.server.id c.args.server.me.0 c.requires.roles.0 c.requires.roles.1 (c.requires.alone.0, c.requires.alone.1),
     )
 
 pub join_seat-requires-2 : goal.join_seat-requires-2
@@ -22,7 +22,7 @@ join_seat-requires-2 g c =
       t.2,
       c.requires.held.1,
       rw c.requires.words (omega arith),
-      joins_shutter g.M.Machine.next g.M.Machine.reply _ c.join_seat.new.seat.id c.join_seat.new.seat.me.0 c.args.shutter.id c.args.shutter.me.0 owns c.requires.roles.2,
+      joins_shutter g.M.Machine.next g.M.Machine.reply _ c.join_seat.new.seat.id c.join_seat.new.seat.me.0 c.args.shutter.id c.args.shutter.me.0 owns c.requires.roles.2 (c.requires.alone.2, c.requires.alone.3),
     )
 
 pub returns : goal.returns

@@ -1,8 +1,11 @@
-use Rattle.aa_lane.proofs.Owners.{owner_can_send, owner_sent}
+use Rattle.std.proofs.Common.{ap, ◌∙◌}
+use Rattle.aa_lane.specs.Ends.{OwnerSeen}
+use Rattle.aa_lane.specs.Answers.{collected_by}
+use Rattle.aa_lane.proofs.Given.{send_collected}
 use Rattle.aa_lane.proofs.lane.Owner.send.Goals as goal
 
-pub send-requires-clause-ready : goal.send-requires-clause-ready
-send-requires-clause-ready g c = owner_can_send _ _ _ _ _ _ c.self.invariant c.if-self-eq-MOST_ACCEPTED.false c.if-self.false
-
-pub invariant_of-self : goal.invariant_of-self
-invariant_of-self g c = rw (c.in-Ok.ensures.table.0, c.in-Ok.ensures.sent) (owner_sent _ _ _ _ _ _ c.args.request c.self.invariant c.if-self-eq-MOST_ACCEPTED.false c.if-self.false)
+pub returns-clause-collected : goal.returns-clause-collected
+returns-clause-collected g c =
+    let e = c.send.ensures in
+    send_collected g.M.Machine.next g.M.Machine.reply c.args.lane.now c.self.inside.end c.send.new.self c.args.request c.send.result e.accepted e.unsent e.gotten
+    ∙ ap (λ (o : OwnerSeen g.row.M.Denot g.row.M-State.Denot g.row.M-Request.Denot g.row.M-Answer.Denot). collected_by g.M.Machine.next g.M.Machine.reply c.args.lane.now o) c.self.view_is
