@@ -10,14 +10,14 @@ use Rattle.aa_words.specs.Stops.{LeadTo, ReadTo}
 use Rattle.aa_words.proofs.Pieces.{extent_le}
 
 -- one piece more
-spelled_more : (ps : List Part) (p : Part) (rest : List ℕ) → spelled (ps ++ p ∷ []) ++ rest ≡ spelled ps ++ (p.text ++ rest)
+pub spelled_more : (ps : List Part) (p : Part) (rest : List ℕ) → spelled (ps ++ p ∷ []) ++ rest ≡ spelled ps ++ (p.text ++ rest)
 spelled_more [] p rest = rw append-nil refl
 spelled_more (q ∷ qs) p rest = append_assoc q.text (spelled (qs ++ p ∷ [])) rest ∙ ap (λ (t : List ℕ). q.text ++ t) (spelled_more qs p rest) ∙ sym (append_assoc q.text (spelled qs) (p.text ++ rest))
 
-length_more : (ps : List Part) (p : Part) → length (spelled (ps ++ p ∷ [])) ≡ length (spelled ps) + length p.text
+pub length_more : (ps : List Part) (p : Part) → length (spelled (ps ++ p ∷ [])) ≡ length (spelled ps) + length p.text
 length_more ps p = let e : spelled (ps ++ p ∷ []) ++ [] ≡ spelled ps ++ (p.text ++ []) = spelled_more ps p [] in omega (arith, ap length e, length-append (spelled (ps ++ p ∷ [])) [], length-append (spelled ps) (p.text ++ []), length-append p.text [])
 
-lead_more : (from place : Place) (ps : List Part) (p : Part) (rest : List ℕ) → LeadTo from ps (p.text ++ rest) place → IsPart place p rest → LeadTo from (ps ++ p ∷ []) rest (place_after place p.kind p.text)
+pub lead_more : (from place : Place) (ps : List Part) (p : Part) (rest : List ℕ) → LeadTo from ps (p.text ++ rest) place → IsPart place p rest → LeadTo from (ps ++ p ∷ []) rest (place_after place p.kind p.text)
 lead_more from place [] p rest e part = (subst (λ (q : Place). IsPart q p rest) (sym e) part, ap (λ (q : Place). place_after q p.kind p.text) e)
 lead_more from place (q ∷ qs) p rest leads part =
     (subst (λ (t : List ℕ). IsPart from q t) (sym (spelled_more qs p rest)) leads.0, lead_more (place_after from q.kind q.text) place qs p rest leads.1 part)

@@ -3,3 +3,4 @@ pub mod Named
 pub mod Order
 pub mod Cuts
 pub mod Once
+pub mod Finds

@@ -6,3 +6,5 @@ pub mod Stops
 pub mod Sources
 pub mod WordLists
 pub mod Openings
+pub mod Found
+pub mod FoundData

@@ -2,6 +2,7 @@
 #![tactic(auto)]
 
 mod cut;
+mod found;
 mod lexer;
 mod piece;
 mod reading;
@@ -10,6 +11,7 @@ mod stops;
 mod word;
 
 pub use aa_faults::{PolicyFault, PolicyKind, Spot};
+pub use found::{IncludeAt, includes_of};
 pub use lexer::words;
 pub use sources::Sources;
 pub use word::{Span, Word, WordKind, WordList};
