@@ -1,2 +1,3 @@
-pub mod Lines
 pub mod Values
+pub mod Keys
+pub mod Lines

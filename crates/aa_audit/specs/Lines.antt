@@ -1,49 +1,43 @@
 -- Audit lines.
-use Rattle.std.specs.Prelude.{ℕ, List, [], ◌++◌, codes, Option, option_map}
+use Rattle.std.specs.Prelude.{ℕ, List, ◌++◌, codes, Option, Some, None, option_map, option_and_then}
 use Rattle.aa_policy.specs.declared.policy.Policy.{Policy}
 use Rattle.aa_requests.specs.declared.label.Label.{Label}
-use Rattle.aa_requests.specs.declared.request.FileRequest.{FileRequest}
 use Rattle.aa_requests.specs.declared.request.Request.{Request}
-use Rattle.aa_requests.specs.declared.request.Request.TheVariants.{File}
+use Rattle.aa_requests.specs.declared.request.Request.TheVariants.{File, Link, Exec, Cap, Net, Change, Reload}
 use Rattle.aa_requests.specs.declared.answer.Answer.{Answer}
 use Rattle.aa_requests.specs.declared.answer.Note.{Note}
 use Rattle.aa_requests.specs.declared.answer.NoteWord.{NoteWord}
 use Rattle.aa_requests.specs.declared.answer.NoteWord.TheVariants.{Denied, Allowed, Audit}
-use Rattle.aa_mediate.specs.Labels.{label_name}
-use Rattle.aa_audit.specs.Values.{value, mask}
+use Rattle.aa_labels.specs.Labels.{label_name}
+use Rattle.aa_audit.specs.Values.{quoted, value}
+use Rattle.aa_audit.specs.Keys.{key, keys}
 
 abbrev pub word_text : NoteWord → List ℕ
 word_text Denied = codes "DENIED"
 word_text Allowed = codes "ALLOWED"
 word_text Audit = codes "AUDIT"
 
-abbrev pub operation_text : Request → List ℕ
-operation_text (File r) = codes "file"
+-- how the operation of a request is called; a reload is none
+abbrev pub operation_name : Request → Option (List ℕ)
+operation_name (File r) = Some (codes "file")
+operation_name (Link r) = Some (codes "link")
+operation_name (Exec r) = Some (codes "exec")
+operation_name (Cap n) = Some (codes "capable")
+operation_name (Net family kind) = Some (codes "net")
+operation_name (Change name) = Some (codes "change_profile")
+operation_name (Reload k) = None
 
--- what was decided, on what operation
-abbrev pub head_text : NoteWord → Request → List ℕ
-head_text word request = codes "apparmor=\"" ++ word_text word ++ codes "\" operation=\"" ++ operation_text request ++ codes "\""
+-- what was decided, on what operation, for a task with which label
+unfoldable pub head_text : NoteWord → List ℕ → List ℕ → List ℕ
+head_text word operation profile =
+    codes "apparmor=" ++ quoted (word_text word) ++ key (codes "operation") (quoted operation) ++ key (codes "profile") (value profile)
 
--- the file, and what was asked for
-abbrev pub file_text : FileRequest → List ℕ
-file_text r = codes " name=" ++ value r.path ++ codes " requested_mask=" ++ mask r.mask.0
+-- the line of a note, if the request is an operation that has lines
+unfoldable pub note_line : List Policy → Label → Request → Answer → Note → Option (List ℕ)
+note_line policies before request answer note =
+    option_map (λ operation. head_text note.word operation (label_name policies before) ++ keys policies request answer note)
+    (operation_name request)
 
--- the object of the request, and what was asked for
-abbrev pub object_text : Request → List ℕ
-object_text (File r) = file_text r
-
--- the permissions that the note is about; a grant of all that was asked for has no such key
-abbrev pub denied_text : NoteWord → ℕ → List ℕ
-denied_text Denied bits = codes " denied_mask=" ++ mask bits
-denied_text Allowed bits = codes " denied_mask=" ++ mask bits
-denied_text Audit bits = []
-
--- the line of a note; the label is the one before the answer
-unfoldable pub note_line : Policy → Label → Request → Note → List ℕ
-note_line policy before request note =
-    head_text note.word request ++ codes " profile=" ++ value (label_name policy before) ++ object_text request
-    ++ denied_text note.word note.perms.0
-
--- the line of an answer, if it has a note
-abbrev pub line : Policy → Label → Request → Answer → Option (List ℕ)
-line policy before request answer = option_map (λ note. note_line policy before request note) answer.note
+-- the line of an answer, if it has a note; the label is the one before the answer
+abbrev pub line : List Policy → Label → Request → Answer → Option (List ℕ)
+line policies before request answer = option_and_then (note_line policies before request answer) answer.note

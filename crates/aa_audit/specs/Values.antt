@@ -14,9 +14,13 @@ hex_digit n = if nat_lt n 10 then 48 + n else 65 + (n - 10)
 abbrev pub hex_pair : ℕ → List ℕ
 hex_pair b = hex_digit (b / 16) ∷ hex_digit (b % 16) ∷ []
 
+-- a text between quotes
+unfoldable pub quoted : List ℕ → List ℕ
+quoted text = (34 ∷ text) ++ 34 ∷ []
+
 -- bytes between quotes where all stand for themselves, else in hexadecimal
 unfoldable pub value : List ℕ → List ℕ
-value bytes = if list_all is_shown bytes then (34 ∷ bytes) ++ 34 ∷ [] else flat_map hex_pair bytes
+value bytes = if list_all is_shown bytes then quoted bytes else flat_map hex_pair bytes
 
 -- the letter of a permission that a set has
 abbrev pub letter : ℕ → ℕ → ℕ → List ℕ
@@ -29,5 +33,5 @@ letters bits =
     ++ letter bits 32 109 ++ letter bits 64 120
 
 -- the letters between quotes
-unfoldable pub mask : ℕ → List ℕ
-mask bits = (34 ∷ letters bits) ++ 34 ∷ []
+abbrev pub mask : ℕ → List ℕ
+mask bits = quoted (letters bits)

@@ -1,15 +1,13 @@
 //! Audit lines.
 
-ghost use Rattle.std.specs.Prelude.{◌≡◌, ◌++◌, OnOk, IfOk, option_map, codes};
+ghost use Rattle.std.specs.Prelude.{◌≡◌, ◌++◌, [], OnOk, IfOk, is_some, option_map, unwrap_or};
 ghost use Rattle.std.specs.String.{string_bytes};
-ghost use Rattle.aa_audit.specs.Values.{mask};
-ghost use Rattle.aa_audit.specs.Lines.{word_text, operation_text, head_text, file_text, object_text, denied_text, note_line, line};
+ghost use Rattle.aa_audit.specs.Lines.{word_text, operation_name, head_text, note_line, line};
 
-use crate::values::{push_mask, push_value};
-use aa_mediate::{Compiled, name_of_label};
-use aa_policy::Policy;
-use aa_requests::{Answer, FileRequest, Label, Note, NoteWord, Request};
-use aa_tables::Perms;
+use crate::keys::{push_keys, push_name, push_text};
+use crate::values::push_quoted;
+use aa_labels::{Compiled, name_of_label};
+use aa_requests::{Answer, Label, Note, NoteWord, Request};
 use std::alloc::{AllocError, Global};
 
 fn text_of_word(word: NoteWord) -> &'static str
@@ -22,94 +20,89 @@ fn text_of_word(word: NoteWord) -> &'static str
     }
 }
 
-fn operation(request: &Request) -> &'static str
-    ensures { result.now ≡ operation_text request.now }
+fn operation_of(request: &Request) -> Option<&'static str>
+    ensures { option_map (λ o. o.now) result ≡ operation_name request.now }
 {
     match request {
-        Request::File(_) => "file",
+        Request::File(_) => Some("file"),
+        Request::Link(_) => Some("link"),
+        Request::Exec(_) => Some("exec"),
+        Request::Cap(_) => Some("capable"),
+        Request::Net(_, _) => Some("net"),
+        Request::Change(_) => Some("change_profile"),
+        Request::Reload(_) => None,
     }
 }
 
-fn push_head(out: &mut String, word: NoteWord, request: &Request) -> Result<(), AllocError>
-    ensures { OnOk result (string_bytes out.new ≡ string_bytes out.old ++ head_text word request.now) }
-{
-    out.push_str("apparmor=\"")?;
-    out.push_str(text_of_word(word))?;
-    out.push_str("\" operation=\"")?;
-    out.push_str(operation(request))?;
-    out.push('"')
-}
-
-fn push_file(out: &mut String, file: &FileRequest) -> Result<(), AllocError>
-    ensures { OnOk result (string_bytes out.new ≡ string_bytes out.old ++ file_text file.now) }
-{
-    out.push_str(" name=")?;
-    push_value(out, file.path())?;
-    out.push_str(" requested_mask=")?;
-    push_mask(out, file.mask())
-}
-
-fn push_object(out: &mut String, request: &Request) -> Result<(), AllocError>
-    ensures { OnOk result (string_bytes out.new ≡ string_bytes out.old ++ object_text request.now) }
-{
-    match request {
-        Request::File(file) => push_file(out, file),
-    }
-}
-
-fn push_denied_mask(out: &mut String, perms: Perms) -> Result<(), AllocError>
-    ensures { OnOk result (string_bytes out.new ≡ string_bytes out.old ++ (codes " denied_mask=" ++ mask perms.0)) }
-{
-    out.push_str(" denied_mask=")?;
-    push_mask(out, perms)
-}
-
-fn push_denied(out: &mut String, note: Note) -> Result<(), AllocError>
-    ensures { OnOk result (string_bytes out.new ≡ string_bytes out.old ++ denied_text note.word note.perms.0) }
-{
-    match note.word {
-        NoteWord::Denied => push_denied_mask(out, note.perms),
-        NoteWord::Allowed => push_denied_mask(out, note.perms),
-        NoteWord::Audit => Ok(()),
-    }
-}
-
-/// Appends the line of a note, without its line end. `before` is the label of the task when it asked. After an error
-/// `out` has a part of the line, and is to be thrown away.
-#[tactic(auto, unfolding(crate::specs::Lines::note_line))]
-pub fn push_audit_line(
+#[tactic(auto, unfolding(crate::specs::Lines::head_text))]
+fn push_head(
     out: &mut String,
-    policy: &Policy,
+    word: NoteWord,
+    operation: &str,
+    profile: &[u8],
+) -> Result<(), AllocError>
+    ensures { OnOk result (string_bytes out.new ≡ string_bytes out.old ++ head_text word operation.now profile.now) }
+{
+    out.push_str("apparmor=")?;
+    push_quoted(out, text_of_word(word))?;
+    push_text(out, "operation", operation)?;
+    push_name(out, "profile", profile)
+}
+
+#[tactic(auto, unfolding(crate::specs::Lines::note_line))]
+fn push_note_line(
+    out: &mut String,
+    policies: &[Compiled],
     before: Label,
     request: &Request,
+    answer: &Answer,
     note: Note,
-) -> Result<(), AllocError>
-    ensures { OnOk result (string_bytes out.new ≡ string_bytes out.old ++ note_line policy.now before request.now note) }
+) -> Result<bool, AllocError>
+    ensures appended { OnOk result (string_bytes out.new ≡ string_bytes out.old ++ unwrap_or (note_line policies.now before request.now answer.now note) []) }
+    ensures is_one { IfOk result (λ is_one. is_one ≡ is_some (note_line policies.now before request.now answer.now note)) }
 {
-    push_head(out, note.word, request)?;
-    out.push_str(" profile=")?;
-    push_value(out, name_of_label(policy, before))?;
-    push_object(out, request)?;
-    push_denied(out, note)
+    match operation_of(request) {
+        Some(operation) => {
+            push_head(out, note.word, operation, name_of_label(policies, before))?;
+            push_keys(out, policies, request, answer, note)?;
+            Ok(true)
+        }
+        None => Ok(false),
+    }
 }
 
-/// The audit line of an answer, without its line end, where the answer has a note. `before` is the label of the
-/// task when it asked.
+/// Appends the audit line of an answer, without its line end, and tells whether there is one; else `out` stays. `before`
+/// is the label of the task when it asked. After an error `out` has a part of the line, and is to be thrown away.
+pub fn push_audit_line(
+    out: &mut String,
+    policies: &[Compiled],
+    before: Label,
+    request: &Request,
+    answer: &Answer,
+) -> Result<bool, AllocError>
+    ensures appended { OnOk result (string_bytes out.new ≡ string_bytes out.old ++ unwrap_or (line policies.now before request.now answer.now) []) }
+    ensures is_one { IfOk result (λ is_one. is_one ≡ is_some (line policies.now before request.now answer.now)) }
+{
+    match answer.note {
+        Some(note) => push_note_line(out, policies, before, request, answer, note),
+        None => Ok(false),
+    }
+}
+
+/// The audit line of an answer, without its line end, where the answer has a note and the request isn't a reload. `before`
+/// is the label of the task when it asked.
 pub fn audit_line(
     alloc: Global,
-    compiled: &Compiled,
+    policies: &[Compiled],
     before: Label,
     request: &Request,
     answer: &Answer,
 ) -> Result<Option<String>, AllocError>
-    ensures { IfOk result (λ o. option_map string_bytes o ≡ line compiled.now before request.now answer.now) }
+    ensures { IfOk result (λ o. option_map string_bytes o ≡ line policies.now before request.now answer.now) }
 {
-    match answer.note {
-        None => Ok(None),
-        Some(note) => {
-            let mut out = String::new(alloc);
-            push_audit_line(&mut out, compiled.policy(), before, request, note)?;
-            Ok(Some(out))
-        }
+    let mut out = String::new(alloc);
+    if push_audit_line(&mut out, policies, before, request, answer)? {
+        return Ok(Some(out));
     }
+    Ok(None)
 }

@@ -2,6 +2,7 @@
 #![tactic(auto)]
 
 mod audit;
+mod keys;
 mod values;
 
 pub use audit::{audit_line, push_audit_line};

@@ -3,9 +3,9 @@
 ghost use Rattle.std.specs.Prelude.{◌≡◌, ◌<◌, ◌++◌, [], ◌∷◌, ◌==◌, bit_and, flat_map, if◌then◌else◌, OnOk, IfSome, IsNone, ◌↔◌, false, true};
 ghost use Rattle.std.specs.String.{string_bytes};
 ghost use Rattle.std.specs.List.{list_all};
-ghost use Rattle.aa_audit.specs.Values.{is_shown, hex_digit, hex_pair, value, letter, letters, mask};
+ghost use Rattle.aa_audit.specs.Values.{is_shown, hex_digit, hex_pair, quoted, value, letter, letters, mask};
 
-use aa_policy::Perms;
+use aa_tables::Perms;
 use bitflags::Flags;
 use std::alloc::AllocError;
 
@@ -47,8 +47,10 @@ fn push_hex(out: &mut String, bytes: &[u8]) -> Result<(), AllocError>
     Ok(())
 }
 
-fn push_quoted(out: &mut String, text: &str) -> Result<(), AllocError>
-    ensures { OnOk result (string_bytes out.new ≡ string_bytes out.old ++ ((34 ∷ text.now) ++ 34 ∷ [])) }
+/// Appends a text between quotes. After an error `out` has a part of it, and is to be thrown away.
+#[tactic(auto, unfolding(crate::specs::Values::quoted))]
+pub(crate) fn push_quoted(out: &mut String, text: &str) -> Result<(), AllocError>
+    ensures { OnOk result (string_bytes out.new ≡ string_bytes out.old ++ quoted text.now) }
 {
     out.push('"')?;
     out.push_str(text)?;
@@ -92,7 +94,7 @@ fn push_letters(out: &mut String, mask: Perms) -> Result<(), AllocError>
 
 /// Appends the letters of a set of permissions between quotes, in the order `rwalkmx`. After an error
 /// `out` has a part of them, and is to be thrown away.
-#[tactic(auto, unfolding(crate::specs::Values::mask))]
+#[tactic(auto, unfolding(crate::specs::Values::quoted))]
 pub fn push_mask(out: &mut String, perms: Perms) -> Result<(), AllocError>
     ensures { OnOk result (string_bytes out.new ≡ string_bytes out.old ++ mask perms.0) }
 {

@@ -2,5 +2,5 @@ mod Named
 mod GroupLemmas
 mod Counts
 mod CheckLemmas
-mod Transitions
+pub mod Transitions
 mod Bytes

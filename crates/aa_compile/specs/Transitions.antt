@@ -13,7 +13,6 @@ use Rattle.aa_policy.specs.Lawful.{has_exec}
 use Rattle.aa_rows.specs.FileRules.{file_verdict, chosen, way_of}
 use Rattle.aa_attach.specs.Attached.{attached, numbers_below}
 use Rattle.aa_compile.specs.declared.targets.Targets.{Targets}
-use Rattle.aa_requests.specs.declared.label.Label.TheVariants.{Unconfined as Free, Confined}
 use Rattle.aa_compile.specs.declared.transition.Transition.{Transition}
 use Rattle.aa_compile.specs.declared.transition.Transition.TheVariants.{Denied, Nowhere, To}
 
@@ -48,17 +47,17 @@ found_by profiles n p path Unconfined _ = None
 
 abbrev pub falls : Fallback → Bool → ℕ → Transition
 falls Refuse scrub n = Nowhere
-falls Stay scrub n = To (Confined n) false
-falls Leave scrub n = To Free scrub
+falls Stay scrub n = To (Some n) false
+falls Leave scrub n = To None scrub
 
 abbrev pub goes : Fallback → Bool → ℕ → Option ℕ → Transition
-goes fallback scrub n (Some m) = To (Confined m) scrub
+goes fallback scrub n (Some m) = To (Some m) scrub
 goes fallback scrub n None = falls fallback scrub n
 
 -- where it leads from profile n, when that profile was found
 abbrev pub leads : ExecKind → Fallback → Bool → ℕ → Option ℕ → Transition
-leads Inherit fallback scrub n found = To (Confined n) false
-leads Unconfined fallback scrub n found = To Free scrub
+leads Inherit fallback scrub n found = To (Some n) false
+leads Unconfined fallback scrub n found = To None scrub
 leads Named fallback scrub n found = goes fallback scrub n found
 leads Child fallback scrub n found = goes fallback scrub n found
 

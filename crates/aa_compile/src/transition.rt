@@ -4,7 +4,6 @@ ghost use Rattle.std.specs.Prelude.{◌≡◌};
 ghost use Rattle.aa_compile.specs.Transitions.{falls, goes, leads};
 
 use aa_policy::{ExecKind, Fallback};
-use aa_requests::Label;
 use aa_rows::Way;
 
 /// What the rules make of an execution.
@@ -14,8 +13,8 @@ pub enum Transition {
     Denied,
     /// No rule says how, or the profile isn't there and there is no fallback.
     Nowhere,
-    /// The label from now on, and whether the environment is to be scrubbed.
-    To(Label, bool),
+    /// The profile from now on, none where the task is unconfined then, and whether the environment is to be scrubbed.
+    To(Option<u16>, bool),
 }
 
 /// Where a profile isn't found.
@@ -24,8 +23,8 @@ fn fall_back(way: Way, number: u16) -> Transition
 {
     match way.fallback {
         Fallback::Refuse => Transition::Nowhere,
-        Fallback::Inherit => Transition::To(Label::Confined(number), false),
-        Fallback::Unconfined => Transition::To(Label::Unconfined, way.scrub),
+        Fallback::Inherit => Transition::To(Some(number), false),
+        Fallback::Unconfined => Transition::To(None, way.scrub),
     }
 }
 
@@ -33,7 +32,7 @@ fn to_found(way: Way, number: u16, found: Option<u16>) -> Transition
     ensures { result ≡ goes way.fallback way.scrub number found }
 {
     match found {
-        Some(profile) => Transition::To(Label::Confined(profile), way.scrub),
+        Some(profile) => Transition::To(Some(profile), way.scrub),
         None => fall_back(way, number),
     }
 }
@@ -43,8 +42,8 @@ pub(crate) fn lead(way: Way, number: u16, found: Option<u16>) -> Transition
     ensures { result ≡ leads way.kind way.fallback way.scrub number found }
 {
     match way.kind {
-        ExecKind::Inherit => Transition::To(Label::Confined(number), false),
-        ExecKind::Unconfined => Transition::To(Label::Unconfined, way.scrub),
+        ExecKind::Inherit => Transition::To(Some(number), false),
+        ExecKind::Unconfined => Transition::To(None, way.scrub),
         ExecKind::Profile => to_found(way, number, found),
         ExecKind::Child => to_found(way, number, found),
     }

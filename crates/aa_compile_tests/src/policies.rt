@@ -2,7 +2,6 @@
 
 use aa_compile::{Compiled, Transition, compile};
 use aa_policy::{Policy, parse};
-use aa_requests::Label;
 use aa_words::{PolicyFault, Sources, words};
 use std::alloc::Global;
 use std::process::Abort;
@@ -78,12 +77,12 @@ pub fn execution(compiled: &Compiled, profile: u16, path: &str) -> Option<Transi
 
 /// To the profile of that number.
 pub fn to(profile: u16, scrub: bool) -> Option<Transition> {
-    Some(Transition::To(Label::Confined(profile), scrub))
+    Some(Transition::To(Some(profile), scrub))
 }
 
 /// To no profile.
 pub fn to_none(scrub: bool) -> Option<Transition> {
-    Some(Transition::To(Label::Unconfined, scrub))
+    Some(Transition::To(None, scrub))
 }
 
 /// The bits that the rules of a profile allow, deny, deny with a line, and report, where the profile is there.

@@ -1,21 +1,24 @@
 -- An input is kept as far as it decides what it is.
 use Rattle.std.proofs.Common.{◌≡◌, ℕ, ◌<◌, ◌≤◌, inl, inr, List, length, take, Option, Some, None, Result, Ok, Err, refl, ap, sym, subst, ◌∙◌, arith}
-use Rattle.std.specs.Prelude.{nat_le, false, IfSome, IfErr, OnOk, OnErr, IsErrOf}
+use Rattle.std.specs.Prelude.{nat_le, false, ◌≢◌, IfSome, IfErr, OnOk, OnErr, IsErrOf}
 use Rattle.std.specs.Io.KnownBytes.{Appends}
 use Rattle.std.proofs.lemmas.Bool.{cases_lt, lt-leb}
 use Rattle.std.proofs.lemmas.List.{take_all, length-take}
+use Rattle.aa_faults.specs.declared.fault.PolicyKind.{PolicyKind}
+use Rattle.aa_faults.specs.declared.fault.PolicyKind.TheVariants as kinds
+use Rattle.aa_policies.specs.declared.refused.RefusedPolicy.{RefusedPolicy}
+use Rattle.aa_policies.specs.Policies.{sources_of, IsRefusedBy}
 use Rattle.aa_jobs.specs.declared.job_fault.JobFault.TheVariants.{TooLarge}
 use Rattle.aa_engine.specs.declared.fault.RunFault.{RunFault}
 use Rattle.aa_engine.specs.declared.fault.RunFault.TheVariants as causes
 use Rattle.aa_engine.specs.declared.tasks.MediateFault.{MediateFault}
 use Rattle.aa_engine.specs.declared.tasks.MediateFault.TheVariants as mediates
 use Rattle.aa_engine.specs.Answers.{first_unknown}
-use Rattle.aa_engine.specs.Faults.{IsReadCause, mediate_cause}
+use Rattle.aa_engine.specs.Faults.{IsReadCause, mediate_cause, cause_by_kind, policy_cause}
 use Rattle.aa_jobs.specs.Jobs.{job_of}
 use Rattle.aa_policy.specs.declared.policy.Policy.{Policy}
 use Rattle.aa_jobs.specs.declared.job.Job.{Job}
-use Rattle.aa_engine.specs.Policies.{IsPolicyOf}
-use Rattle.aa_engine.specs.Engines.{IsPolicyCause, HandsIn, IsCheckOutput, IsRunOutput, IsReplayOutput, Explains}
+use Rattle.aa_engine.specs.Engines.{HandsIn, IsOutput, HasBadPolicy, Explains}
 
 -- more bytes than a job may have
 too_long : (input : List ℕ) → 16777216 < length input → job_of input ≡ Err TooLarge
@@ -29,42 +32,19 @@ kept_same input = elim (cases_lt 16777216 (length input)) [
   | inr short ↦ ap job_of (take_all 16777217 input (omega arith))
 ]
 
-pub check_kept : (input text : List ℕ) → IsCheckOutput (take 16777217 input) text → IsCheckOutput input text
-check_kept input text o = record {
-  job = o.job;
-  policy = o.policy;
-  asked = record { read = sym (kept_same input) ∙ o.asked.read; spelled = o.asked.spelled };
-  written = o.written;
-}
+asked_kept : (input : List ℕ) (job : Job) (policies : List Policy) → HandsIn (take 16777217 input) job policies → HandsIn input job policies
+asked_kept input job policies asked = record { read = sym (kept_same input) ∙ asked.read; spelled = asked.spelled }
 
-pub run_kept : (input text : List ℕ) → IsRunOutput (take 16777217 input) text → IsRunOutput input text
-run_kept input text o = record {
-  job = o.job;
-  policy = o.policy;
-  asked = record { read = sym (kept_same input) ∙ o.asked.read; spelled = o.asked.spelled };
-  written = o.written;
-}
-
-pub replay_kept : (input text : List ℕ) → IsReplayOutput (take 16777217 input) text → IsReplayOutput input text
-replay_kept input text o = record {
-  job = o.job;
-  policy = o.policy;
-  asked = record { read = sym (kept_same input) ∙ o.asked.read; spelled = o.asked.spelled };
-  written = o.written;
-}
+output_kept : (P : Job → List Policy → List ℕ → Type 0) (input text : List ℕ) → IsOutput P (take 16777217 input) text → IsOutput P input text
+output_kept P input text o = record { job = o.job; policies = o.policies; asked = asked_kept input o.job o.policies o.asked; written = o.written }
 
 explains_kept : (cause : RunFault) (input : List ℕ) → Explains cause (take 16777217 input) → Explains cause input
 explains_kept causes.NoMemory input h = tt
 explains_kept causes.Read input h = tt
 explains_kept causes.Write input h = tt
 explains_kept (causes.Job fault) input h = sym (kept_same input) ∙ h
-explains_kept (causes.Policy fault) input h = record { job = h.job; read = sym (kept_same input) ∙ h.read; refused = h.refused }
-explains_kept (causes.UnknownProfile task) input h = record {
-  job = h.job;
-  policy = h.policy;
-  asked = record { read = sym (kept_same input) ∙ h.asked.read; spelled = h.asked.spelled };
-  unknown = h.unknown;
-}
+explains_kept (causes.Policy refused) input h = record { job = h.job; read = sym (kept_same input) ∙ h.read; cause = h.cause }
+explains_kept (causes.UnknownProfile task) input h = record { job = h.job; policies = h.policies; asked = asked_kept input h.job h.policies h.asked; unknown = h.unknown }
 
 -- ---- what the engines say of a reader's bytes, where those are known
 
@@ -85,33 +65,29 @@ pub unwritten : (known : Option (List ℕ)) (cause : RunFault) → cause ≡ cau
 unwritten None cause e = tt
 unwritten (Some input) cause e = subst (λ (x : RunFault). Explains x input) (sym e) tt
 
--- an output for the kept bytes is one for the input
-pub record IsOutput (P : List ℕ → List ℕ → Type 0) : Type 0 where
-  pub kept : (input text : List ℕ) → P (take 16777217 input) text → P input text
+pub wrote : (P : Job → List Policy → List ℕ → Type 0) (known old new : Option (List ℕ)) (bytes text : List ℕ) → Kept known bytes → IsOutput P bytes text → Appends old new text
+    → IfSome known (λ input. (written : List ℕ) × IsOutput P input written × Appends old new written)
+wrote P None old new bytes text kept h a = tt
+wrote P (Some input) old new bytes text kept h a = (text, output_kept P input text (subst (λ (x : List ℕ). IsOutput P x text) kept h), a)
 
-pub wrote : (P : List ℕ → List ℕ → Type 0) (known old new : Option (List ℕ)) (bytes text : List ℕ) → IsOutput P → Kept known bytes → P bytes text → Appends old new text
-    → IfSome known (λ input. (written : List ℕ) × P input written × Appends old new written)
-wrote P None old new bytes text o kept h a = tt
-wrote P (Some input) old new bytes text o kept h a = (text, o.kept input text (subst (λ (x : List ℕ). P x text) kept h), a)
-
-pub wrote_front : (P : List ℕ → List ℕ → Type 0) (known old new : Option (List ℕ)) (bytes text : List ℕ) → IsOutput P → Kept known bytes → P bytes text
+pub wrote_front : (P : Job → List Policy → List ℕ → Type 0) (known old new : Option (List ℕ)) (bytes text : List ℕ) → Kept known bytes → IsOutput P bytes text
     → (n : ℕ) × (n ≤ length text) × Appends old new (take n text)
-    → IfSome known (λ input. (written : List ℕ) × (n : ℕ) × P input written × (n ≤ length written) × Appends old new (take n written))
-wrote_front P None old new bytes text o kept h a = tt
-wrote_front P (Some input) old new bytes text o kept h a = (text, a.0, o.kept input text (subst (λ (x : List ℕ). P x text) kept h), a.1, a.2)
+    → IfSome known (λ input. (written : List ℕ) × (n : ℕ) × IsOutput P input written × (n ≤ length written) × Appends old new (take n written))
+wrote_front P None old new bytes text kept h a = tt
+wrote_front P (Some input) old new bytes text kept h a = (text, a.0, output_kept P input text (subst (λ (x : List ℕ). IsOutput P x text) kept h), a.1, a.2)
 
 -- a fault that is handed on
 pub handed_on : {T : Type 0} (r : Result T RunFault) (e f : RunFault) (P : RunFault → Type 0) → r ≡ Err e → e ≡ f → P f → IfErr r P
 handed_on {T} r e f P eq same h = subst (λ (x : Result T RunFault). IfErr x P) (sym eq) (subst P (sym same) h)
 
--- the policy's fault, where the bytes are a job
-pub policy_explained : (input : List ℕ) (job : Job) (cause : RunFault) → job_of input ≡ Ok job → IsPolicyCause cause ((policy : Policy) → IsPolicyOf job policy → ⊥) → Explains cause input
-policy_explained input job causes.NoMemory read h = tt
-policy_explained input job causes.Read read h = tt
-policy_explained input job causes.Write read h = tt
-policy_explained input job (causes.Job fault) read h = absurd h
-policy_explained input job (causes.Policy fault) read h = record { job = job; read = read; refused = h }
-policy_explained input job (causes.UnknownProfile task) read h = absurd h
+by_kind : (input : List ℕ) (kind : PolicyKind) (refused : RefusedPolicy) → (kind ≢ kinds.NoMemory → HasBadPolicy input refused) → Explains (cause_by_kind kind refused) input
+by_kind input kinds.NoMemory refused h = tt
+by_kind input _ refused h = h (λ e. cc)
+
+-- a refused policy explains itself, unless memory was wanting
+pub policy_explained : (input : List ℕ) (job : Job) (refused : RefusedPolicy) → job_of input ≡ Ok job
+    → (refused.fault.kind ≢ kinds.NoMemory → IsRefusedBy (sources_of job.includes) job.states job.policies refused) → Explains (policy_cause refused) input
+policy_explained input job refused read h = by_kind input refused.fault.kind refused (λ other. record { job = job; read = read; cause = h other })
 
 ok_err : {x : Unit {0}} {f : RunFault} → Ok x ≡ Err f → ⊥
 ok_err e = cc
@@ -130,7 +106,7 @@ if_err (Ok x) P f h = tt
 if_err (Err e) P f h = f e h
 
 -- the task whose label names no profile, where the bytes are a job and its policy compiles
-pub unknown_explained : (input : List ℕ) (job : Job) (policy : Policy) (fault : MediateFault) → HandsIn input job policy
-    → ((task : ℕ) → fault ≡ mediates.UnknownProfile task → first_unknown policy job.tasks ≡ Some task) → Explains (mediate_cause fault) input
-unknown_explained input job policy mediates.NoMemory asked first = tt
-unknown_explained input job policy (mediates.UnknownProfile task) asked first = record { job = job; policy = policy; asked = asked; unknown = first task refl }
+pub unknown_explained : (input : List ℕ) (job : Job) (policies : List Policy) (fault : MediateFault) → HandsIn input job policies
+    → ((task : ℕ) → fault ≡ mediates.UnknownProfile task → first_unknown policies job.tasks ≡ Some task) → Explains (mediate_cause fault) input
+unknown_explained input job policies mediates.NoMemory asked first = tt
+unknown_explained input job policies (mediates.UnknownProfile task) asked first = record { job = job; policies = policies; asked = asked; unknown = first task refl }

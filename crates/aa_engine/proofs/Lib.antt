@@ -1,6 +1,6 @@
-pub mod Answering
-pub mod Gathering
-pub mod Inputs
-pub mod Replaying
-pub mod Streams
-pub mod Writing
+mod Answering
+mod Checking
+mod Inputs
+mod Replaying
+mod Streams
+mod Writing

@@ -12,74 +12,74 @@ use Rattle.aa_requests.specs.declared.label.Label.{Label}
 use Rattle.aa_jobs.specs.declared.job.Task.{Task}
 use Rattle.aa_jobs.specs.declared.job.Event.{Event as Listed}
 use Rattle.aa_lane.specs.WorldState.{opening}
-use Rattle.aa_engine.specs.Answers.{label_named}
+use Rattle.aa_engine.specs.Answers.{task_label}
 use Rattle.aa_engine.specs.Replay.{TaskState, TaskWorld, task_after, tasks_after, line_at, replay_lines, opened, replay_text}
 
 -- these tasks are open, and then those from that place on, are all
-pub record Opening (policy : Policy) (capacity : ℕ) (found : List TaskState) (rest tasks : List Task) : Type 0 where
-  pub goes_on : option_map (λ (more : List TaskState). found ++ more) (opened policy capacity rest) ≡ opened policy capacity tasks
+pub record Opening (policies : List Policy) (capacity : ℕ) (found : List TaskState) (rest tasks : List Task) : Type 0 where
+  pub goes_on : option_map (λ (more : List TaskState). found ++ more) (opened policies capacity rest) ≡ opened policies capacity tasks
 
-abbrev start : Policy → ℕ → Task → Label → TaskState
-start policy capacity task label = record { world = opening policy label capacity; left = task.requests }
+abbrev start : List Policy → ℕ → Task → Label → TaskState
+start policies capacity task label = record { world = opening policies label capacity; left = task.requests }
 
 mapped : (t : TaskState) (ts : Option (List TaskState)) → option_and_then (λ (others : List TaskState). Some (t ∷ others)) ts ≡ option_map (λ (others : List TaskState). t ∷ others) ts
 mapped t None = refl
 mapped t (Some ts) = refl
 
-opened_step : (policy : Policy) (capacity : ℕ) (task : Task) (tasks : List Task) (label : Label) → label_named policy task.label ≡ Some label
-    → opened policy capacity (task ∷ tasks) ≡ option_map (λ (more : List TaskState). start policy capacity task label ∷ more) (opened policy capacity tasks)
+opened_step : (policies : List Policy) (capacity : ℕ) (task : Task) (tasks : List Task) (label : Label) → task_label policies task ≡ Some label
+    → opened policies capacity (task ∷ tasks) ≡ option_map (λ (more : List TaskState). start policies capacity task label ∷ more) (opened policies capacity tasks)
 unfolding opened
-opened_step policy capacity task tasks label e = rw e (mapped (start policy capacity task label) (opened policy capacity tasks))
+opened_step policies capacity task tasks label e = rw e (mapped (start policies capacity task label) (opened policies capacity tasks))
 
-opened_nil : (policy : Policy) (capacity : ℕ) → opened policy capacity [] ≡ Some []
+opened_nil : (policies : List Policy) (capacity : ℕ) → opened policies capacity [] ≡ Some []
 unfolding opened
-opened_nil policy capacity = refl
+opened_nil policies capacity = refl
 
 behind : (found : List TaskState) (t : TaskState) (ts : Option (List TaskState))
     → option_map (λ (more : List TaskState). (found ++ t ∷ []) ++ more) ts ≡ option_map (λ (more : List TaskState). found ++ more) (option_map (λ (more : List TaskState). t ∷ more) ts)
 behind found t None = refl
 behind found t (Some more) = ap (λ (x : List TaskState). Some x) (append_assoc found (t ∷ []) more)
 
-pub opening_more : (policy : Policy) (capacity : ℕ) (found more : List TaskState) (tasks : List Task) (i : ℕ) (task : Task) (label : Label) (world : TaskWorld)
-    → i < length tasks → task ≡ get_or tasks i task → label_named policy task.label ≡ Some label → world ≡ opening policy label capacity
+pub opening_more : (policies : List Policy) (capacity : ℕ) (found more : List TaskState) (tasks : List Task) (i : ℕ) (task : Task) (label : Label) (world : TaskWorld)
+    → i < length tasks → task ≡ get_or tasks i task → task_label policies task ≡ Some label → world ≡ opening policies label capacity
     → more ≡ found ++ (record { world = world; left = task.requests }) ∷ []
-    → Opening policy capacity found (drop i tasks) tasks → Opening policy capacity more (drop (i + 1) tasks) tasks
-opening_more policy capacity found more tasks i task label world lt item named world-is more-is so_far =
+    → Opening policies capacity found (drop i tasks) tasks → Opening policies capacity more (drop (i + 1) tasks) tasks
+opening_more policies capacity found more tasks i task label world lt item named world-is more-is so_far =
     let rest = drop (i + 1) tasks in
     let here : drop i tasks ≡ task ∷ rest = drop_more tasks i task lt ∙ ap (λ (t : Task). t ∷ rest) (sym item) in
-    let t = start policy capacity task label in
+    let t = start policies capacity task label in
     let whole : more ≡ found ++ t ∷ [] = more-is ∙ ap (λ (w : TaskWorld). found ++ (record { world = w; left = task.requests }) ∷ []) world-is in
     record {
       goes_on =
-          ap (λ (f : List TaskState). option_map (λ (x : List TaskState). f ++ x) (opened policy capacity rest)) whole
-          ∙ behind found t (opened policy capacity rest)
-          ∙ ap (option_map (λ (x : List TaskState). found ++ x)) (sym (opened_step policy capacity task rest label named))
-          ∙ ap (λ (ts : List Task). option_map (λ (x : List TaskState). found ++ x) (opened policy capacity ts)) (sym here)
+          ap (λ (f : List TaskState). option_map (λ (x : List TaskState). f ++ x) (opened policies capacity rest)) whole
+          ∙ behind found t (opened policies capacity rest)
+          ∙ ap (option_map (λ (x : List TaskState). found ++ x)) (sym (opened_step policies capacity task rest label named))
+          ∙ ap (λ (ts : List Task). option_map (λ (x : List TaskState). found ++ x) (opened policies capacity ts)) (sym here)
           ∙ so_far.goes_on;
     }
 
-pub opening_end : (policy : Policy) (capacity : ℕ) (found : List TaskState) (tasks : List Task) (i : ℕ) → length tasks ≤ i → Opening policy capacity found (drop i tasks) tasks
-    → opened policy capacity tasks ≡ Some found
-opening_end policy capacity found tasks i le so_far =
+pub opening_end : (policies : List Policy) (capacity : ℕ) (found : List TaskState) (tasks : List Task) (i : ℕ) → length tasks ≤ i → Opening policies capacity found (drop i tasks) tasks
+    → opened policies capacity tasks ≡ Some found
+opening_end policies capacity found tasks i le so_far =
     let over = λ (o : Option (List TaskState)). option_map (λ (more : List TaskState). found ++ more) o in
-    sym so_far.goes_on ∙ at_drop_all (λ (ts : List Task). over (opened policy capacity ts)) tasks i le ∙ ap over (opened_nil policy capacity) ∙ ap (λ (x : List TaskState). Some x) (append-nil found)
+    sym so_far.goes_on ∙ at_drop_all (λ (ts : List Task). over (opened policies capacity ts)) tasks i le ∙ ap over (opened_nil policies capacity) ∙ ap (λ (x : List TaskState). Some x) (append-nil found)
 
 -- ---- event after event
 
 -- from these tasks on, what is written and then the lines of these events are the lines of all; there is one for each task of the job
-pub record Replaying (policy : Policy) (capacity : ℕ) (tasks : List Task) (events : List Listed) (out : List ℕ) (states : List TaskState) (rest : List Listed) : Type 0 where
+pub record Replaying (several : Bool) (policies : List Policy) (capacity : ℕ) (tasks : List Task) (events : List Listed) (out : List ℕ) (states : List TaskState) (rest : List Listed) : Type 0 where
   pub first : List TaskState
-  pub opens : opened policy capacity tasks ≡ Some first
-  pub goes_on : out ++ replay_lines policy states rest ≡ replay_lines policy first events
+  pub opens : opened policies capacity tasks ≡ Some first
+  pub goes_on : out ++ replay_lines several policies states rest ≡ replay_lines several policies first events
   pub sized : length states ≡ length tasks
 
-lines_step : (policy : Policy) (states : List TaskState) (e : Listed) (es : List Listed) → replay_lines policy states (e ∷ es) ≡ line_at policy states e ++ replay_lines policy (tasks_after states e) es
+lines_step : (several : Bool) (policies : List Policy) (states : List TaskState) (e : Listed) (es : List Listed) → replay_lines several policies states (e ∷ es) ≡ line_at several policies states e ++ replay_lines several policies (tasks_after states e) es
 unfolding replay_lines
-lines_step policy states e es = refl
+lines_step several policies states e es = refl
 
-lines_nil : (policy : Policy) (states : List TaskState) → replay_lines policy states [] ≡ []
+lines_nil : (several : Bool) (policies : List Policy) (states : List TaskState) → replay_lines several policies states [] ≡ []
 unfolding replay_lines
-lines_nil policy states = refl
+lines_nil several policies states = refl
 
 same_size : (states : List TaskState) (e : Listed) (o : Option TaskState) → length (option_map_or (λ (t : TaskState). slice_set states e.task (task_after t e.name)) o states) ≡ length states
 same_size states e None = refl
@@ -95,48 +95,48 @@ some_size t (Some more) first n e h =
 none_some : {first : List TaskState} → None ≡ Some first → ⊥
 none_some e = cc
 
-no_label_opens : (policy : Policy) (capacity : ℕ) (task : Task) (tasks : List Task) → label_named policy task.label ≡ None → (first : List TaskState) → opened policy capacity (task ∷ tasks) ≡ Some first → ⊥
+no_label_opens : (policies : List Policy) (capacity : ℕ) (task : Task) (tasks : List Task) → task_label policies task ≡ None → (first : List TaskState) → opened policies capacity (task ∷ tasks) ≡ Some first → ⊥
 unfolding opened
-no_label_opens policy capacity task tasks named first e =
-    let none : opened policy capacity (task ∷ tasks) ≡ None = rw named refl in
+no_label_opens policies capacity task tasks named first e =
+    let none : opened policies capacity (task ∷ tasks) ≡ None = rw named refl in
     none_some (sym none ∙ e)
 
-one_each_at : (policy : Policy) (capacity : ℕ) (task : Task) (tasks : List Task) (named : Option Label) → label_named policy task.label ≡ named → (first : List TaskState)
-    → opened policy capacity (task ∷ tasks) ≡ Some first → ((more : List TaskState) → opened policy capacity tasks ≡ Some more → length more ≡ length tasks) → length first ≡ length (task ∷ tasks)
-one_each_at policy capacity task tasks None named first e h = absurd (no_label_opens policy capacity task tasks named first e)
-one_each_at policy capacity task tasks (Some label) named first e h =
-    omega (arith, some_size (start policy capacity task label) (opened policy capacity tasks) first (length tasks) (sym (opened_step policy capacity task tasks label named) ∙ e) h)
+one_each_at : (policies : List Policy) (capacity : ℕ) (task : Task) (tasks : List Task) (named : Option Label) → task_label policies task ≡ named → (first : List TaskState)
+    → opened policies capacity (task ∷ tasks) ≡ Some first → ((more : List TaskState) → opened policies capacity tasks ≡ Some more → length more ≡ length tasks) → length first ≡ length (task ∷ tasks)
+one_each_at policies capacity task tasks None named first e h = absurd (no_label_opens policies capacity task tasks named first e)
+one_each_at policies capacity task tasks (Some label) named first e h =
+    omega (arith, some_size (start policies capacity task label) (opened policies capacity tasks) first (length tasks) (sym (opened_step policies capacity task tasks label named) ∙ e) h)
 
-one_each : (policy : Policy) (capacity : ℕ) (tasks : List Task) (first : List TaskState) → opened policy capacity tasks ≡ Some first → length first ≡ length tasks
-one_each policy capacity [] first e = let is : Some [] ≡ Some first = sym (opened_nil policy capacity) ∙ e in let same : [] ≡ first = cc in ap length (sym same)
-one_each policy capacity (task ∷ tasks) first e = one_each_at policy capacity task tasks (label_named policy task.label) refl first e (one_each policy capacity tasks)
+one_each : (policies : List Policy) (capacity : ℕ) (tasks : List Task) (first : List TaskState) → opened policies capacity tasks ≡ Some first → length first ≡ length tasks
+one_each policies capacity [] first e = let is : Some [] ≡ Some first = sym (opened_nil policies capacity) ∙ e in let same : [] ≡ first = cc in ap length (sym same)
+one_each policies capacity (task ∷ tasks) first e = one_each_at policies capacity task tasks (task_label policies task) refl first e (one_each policies capacity tasks)
 
-pub replaying_start : (policy : Policy) (capacity : ℕ) (tasks : List Task) (events : List Listed) (out : List ℕ) (states : List TaskState)
-    → out ≡ [] → opened policy capacity tasks ≡ Some states → Replaying policy capacity tasks events out states events
-replaying_start policy capacity tasks events out states none opens = record {
+pub replaying_start : (several : Bool) (policies : List Policy) (capacity : ℕ) (tasks : List Task) (events : List Listed) (out : List ℕ) (states : List TaskState)
+    → out ≡ [] → opened policies capacity tasks ≡ Some states → Replaying several policies capacity tasks events out states events
+replaying_start several policies capacity tasks events out states none opens = record {
   first = states;
   opens = opens;
-  goes_on = ap (λ (o : List ℕ). o ++ replay_lines policy states events) none;
-  sized = one_each policy capacity tasks states opens;
+  goes_on = ap (λ (o : List ℕ). o ++ replay_lines several policies states events) none;
+  sized = one_each policies capacity tasks states opens;
 }
 
-pub replaying_more : (policy : Policy) (capacity : ℕ) (tasks : List Task) (events : List Listed) (out more : List ℕ) (states moved : List TaskState) (i : ℕ) (d : Listed)
-    → i < length events → more ≡ out ++ line_at policy states (get_or events i d) → moved ≡ tasks_after states (get_or events i d)
-    → Replaying policy capacity tasks events out states (drop i events) → Replaying policy capacity tasks events more moved (drop (i + 1) events)
-replaying_more policy capacity tasks events out more states moved i d lt more-is moved-is so_far =
+pub replaying_more : (several : Bool) (policies : List Policy) (capacity : ℕ) (tasks : List Task) (events : List Listed) (out more : List ℕ) (states moved : List TaskState) (i : ℕ) (d : Listed)
+    → i < length events → more ≡ out ++ line_at several policies states (get_or events i d) → moved ≡ tasks_after states (get_or events i d)
+    → Replaying several policies capacity tasks events out states (drop i events) → Replaying several policies capacity tasks events more moved (drop (i + 1) events)
+replaying_more several policies capacity tasks events out more states moved i d lt more-is moved-is so_far =
     let rest = drop (i + 1) events in
     let e = get_or events i d in
     let here : drop i events ≡ e ∷ rest = drop_more events i d lt in
-    let line = line_at policy states e in
+    let line = line_at several policies states e in
     record {
       first = so_far.first;
       opens = so_far.opens;
       goes_on =
-          ap (λ (o : List ℕ). o ++ replay_lines policy moved rest) more-is
-          ∙ ap (λ (ts : List TaskState). (out ++ line) ++ replay_lines policy ts rest) moved-is
-          ∙ append_assoc out line (replay_lines policy (tasks_after states e) rest)
-          ∙ ap (λ (x : List ℕ). out ++ x) (sym (lines_step policy states e rest))
-          ∙ ap (λ (es : List Listed). out ++ replay_lines policy states es) (sym here)
+          ap (λ (o : List ℕ). o ++ replay_lines several policies moved rest) more-is
+          ∙ ap (λ (ts : List TaskState). (out ++ line) ++ replay_lines several policies ts rest) moved-is
+          ∙ append_assoc out line (replay_lines several policies (tasks_after states e) rest)
+          ∙ ap (λ (x : List ℕ). out ++ x) (sym (lines_step several policies states e rest))
+          ∙ ap (λ (es : List Listed). out ++ replay_lines several policies states es) (sym here)
           ∙ so_far.goes_on;
       sized = ap length moved-is ∙ same_size states e (slice_get states e.task) ∙ so_far.sized;
     }
@@ -161,18 +161,23 @@ all_pass_at : (p : Listed → Bool) (events : List Listed) (i : ℕ) (d : Listed
 all_pass_at p events i d true is all lt = refl
 all_pass_at p events i d false is all lt = absurd (tf (sym all ∙ list_all_at p events i d lt is))
 
-pub is_there : (sizes : Bool) (events : List Listed) (n m i : ℕ) (d : Listed) → IsTrue (sizes && tasks_there events n) → n ≡ m → i < length events → (get_or events i d).task < m
-is_there sizes events n m i d kept same lt =
+and_left : (a b : Bool) → IsTrue (a && b) → a ≡ true
+and_left true b h = refl
+and_left false b h = absurd (tf (sym h))
+
+pub is_there : (sizes others : Bool) (events : List Listed) (n m i : ℕ) (d : Listed) → IsTrue ((sizes && tasks_there events n) && others) → n ≡ m → i < length events → (get_or events i d).task < m
+is_there sizes others events n m i d kept same lt =
     let p = λ (e : Listed). nat_lt e.task n in
-    let under : nat_lt (get_or events i d).task n ≡ true = all_pass_at p events i d (p (get_or events i d)) refl (and_right sizes (tasks_there events n) kept) lt in
+    let all : tasks_there events n ≡ true = and_right sizes (tasks_there events n) (and_left (sizes && tasks_there events n) others kept) in
+    let under : nat_lt (get_or events i d).task n ≡ true = all_pass_at p events i d (p (get_or events i d)) refl all lt in
     let less = ltb-true (get_or events i d).task n under in
     omega (arith, less, same)
 
-pub replaying_end : (policy : Policy) (capacity : ℕ) (tasks : List Task) (events : List Listed) (out : List ℕ) (states : List TaskState) (i : ℕ)
-    → length events ≤ i → Replaying policy capacity tasks events out states (drop i events) → replay_text policy capacity tasks events ≡ Some out
-replaying_end policy capacity tasks events out states i le so_far =
-    let all : out ≡ replay_lines policy so_far.first events =
-    sym (append-nil out) ∙ ap (λ (x : List ℕ). out ++ x) (sym (lines_nil policy states))
-    ∙ sym (at_drop_all (λ (es : List Listed). out ++ replay_lines policy states es) events i le) ∙ so_far.goes_on
+pub replaying_end : (several : Bool) (policies : List Policy) (capacity : ℕ) (tasks : List Task) (events : List Listed) (out : List ℕ) (states : List TaskState) (i : ℕ)
+    → length events ≤ i → Replaying several policies capacity tasks events out states (drop i events) → replay_text several policies capacity tasks events ≡ Some out
+replaying_end several policies capacity tasks events out states i le so_far =
+    let all : out ≡ replay_lines several policies so_far.first events =
+    sym (append-nil out) ∙ ap (λ (x : List ℕ). out ++ x) (sym (lines_nil several policies states))
+    ∙ sym (at_drop_all (λ (es : List Listed). out ++ replay_lines several policies states es) events i le) ∙ so_far.goes_on
     in
-    ap (option_map (λ (ts : List TaskState). replay_lines policy ts events)) so_far.opens ∙ ap (λ (x : List ℕ). Some x) (sym all)
+    ap (option_map (λ (ts : List TaskState). replay_lines several policies ts events)) so_far.opens ∙ ap (λ (x : List ℕ). Some x) (sym all)

@@ -1,8 +1,8 @@
 -- Why an engine gives up, and with which exit status.
 use Rattle.std.specs.Prelude.{ℕ}
-use Rattle.aa_faults.specs.declared.fault.PolicyFault.{PolicyFault}
 use Rattle.aa_faults.specs.declared.fault.PolicyKind.{PolicyKind}
 use Rattle.aa_faults.specs.declared.fault.PolicyKind.TheVariants as kinds
+use Rattle.aa_policies.specs.declared.refused.RefusedPolicy.{RefusedPolicy}
 use Rattle.aa_jobs.specs.declared.job_fault.JobFault.{JobFault}
 use Rattle.aa_jobs.specs.declared.job_fault.JobFault.TheVariants as faults
 use Rattle.aa_engine.specs.declared.tasks.MediateFault.{MediateFault}
@@ -18,13 +18,13 @@ job_cause faults.BadShape = causes.Job faults.BadShape
 job_cause faults.BadRequest = causes.Job faults.BadRequest
 job_cause faults.TooLarge = causes.Job faults.TooLarge
 
-abbrev pub cause_by_kind : PolicyKind → PolicyFault → RunFault
-cause_by_kind kinds.NoMemory fault = causes.NoMemory
-cause_by_kind _ fault = causes.Policy fault
+abbrev pub cause_by_kind : PolicyKind → RefusedPolicy → RunFault
+cause_by_kind kinds.NoMemory refused = causes.NoMemory
+cause_by_kind _ refused = causes.Policy refused
 
 -- want of memory while a policy is read is want of memory; another fault is the policy's
-abbrev pub policy_cause : PolicyFault → RunFault
-policy_cause fault = cause_by_kind fault.kind fault
+abbrev pub policy_cause : RefusedPolicy → RunFault
+policy_cause refused = cause_by_kind refused.fault.kind refused
 
 -- want of memory while requests are decided, or the task whose label names no profile
 abbrev pub mediate_cause : MediateFault → RunFault

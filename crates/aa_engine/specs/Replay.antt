@@ -19,21 +19,19 @@ use Rattle.aa_lane.specs.declared.event.Reply.{Reply}
 use Rattle.aa_lane.specs.declared.event.Reply.TheVariants.{Accepted, Unsent, Taken, Idle, Settled, Held, Finished, NoJob, Given, Nothing, Count}
 use Rattle.aa_engine.specs.declared.replay.Said.{Said}
 use Rattle.aa_engine.specs.declared.replay.Said.TheVariants as say
-use Rattle.aa_mediate.specs.Labels.{label_name}
 use Rattle.aa_mediate.specs.Reply.{reply}
-use Rattle.aa_audit.specs.Values.{value}
-use Rattle.aa_engine.specs.Answers.{label_named, ◌>>=◌}
-use Rattle.aa_engine.specs.Output.{verdict_word, scrub_word}
+use Rattle.aa_engine.specs.Answers.{task_label, ◌>>=◌}
+use Rattle.aa_engine.specs.Output.{outcome_text}
 
 -- the lane of a task as plain lists
 abbrev pub TaskWorld : Type 0
-TaskWorld = WorldState Policy Label Request Answer
+TaskWorld = WorldState (List Policy) Label Request Answer
 
 abbrev pub TaskEvent : Type 0
-TaskEvent = Event Policy Label Request Answer
+TaskEvent = Event (List Policy) Label Request Answer
 
 abbrev pub TaskReply : Type 0
-TaskReply = Reply Policy Label Request Answer
+TaskReply = Reply (List Policy) Label Request Answer
 
 -- a task's world, and the items of its list that it has still to offer
 pub record TaskState : Type 0 where
@@ -41,8 +39,8 @@ pub record TaskState : Type 0 where
   pub left : List Work
 
 -- the label after a request
-abbrev pub next_label : Policy → Label → Request → Label
-next_label policy label request = (reply policy label request).label
+abbrev pub next_label : List Policy → Label → Request → Label
+next_label policies label request = (reply policies label request).label
 
 -- an item that is offered: a request is sent, an exit shuts the lane
 abbrev pub offered : Work → TaskEvent
@@ -103,14 +101,10 @@ moved task name e = record {
 abbrev pub task_after : TaskState → EventName → TaskState
 task_after task name = option_map_or (moved task name) (named_event name task.left) task
 
--- what an answer says
-unfoldable pub outcome_text : Policy → Answer → List ℕ
-outcome_text policy answer = verdict_word answer.granted ++ codes " label=" ++ value (label_name policy answer.label) ++ scrub_word answer.scrub
-
 -- a collected answer
-abbrev pub given_text : Policy → Option Answer → List ℕ
-given_text policy None = []
-given_text policy (Some answer) = outcome_text policy answer
+abbrev pub given_text : Bool → List Policy → Option Answer → List ℕ
+given_text several policies None = []
+given_text several policies (Some answer) = outcome_text several policies answer
 
 abbrev pub is_send : EventName → Bool
 is_send names.Send = true
@@ -121,50 +115,50 @@ abbrev pub count_word : EventName → List ℕ
 count_word name = if is_send name then codes " exit " else codes " shut "
 
 -- how it is told, where these answers are given by now
-unfoldable pub said_text : Policy → EventName → List Answer → Said → List ℕ
-said_text policy name answers (say.Accepted n) = codes " send accepted " ++ decimal n
-said_text policy name answers say.Spent = codes " send spent"
-said_text policy name answers say.Full = codes " send full"
-said_text policy name answers say.Closed = codes " send closed"
-said_text policy name answers (say.Taken n) = codes " take " ++ decimal n
-said_text policy name answers say.Idle = codes " take idle"
-said_text policy name answers say.Settled = codes " take settled"
-said_text policy name answers say.Held = codes " take held"
-said_text policy name answers (say.Finished n) = codes " finish " ++ decimal n
-said_text policy name answers say.NoJob = codes " finish none"
-said_text policy name answers (say.Given n) = codes " collect " ++ (decimal n ++ given_text policy (slice_get answers n))
-said_text policy name answers say.Nothing = codes " collect none"
-said_text policy name answers (say.Count n) = count_word name ++ decimal n
+unfoldable pub said_text : Bool → List Policy → EventName → List Answer → Said → List ℕ
+said_text several policies name answers (say.Accepted n) = codes " send accepted " ++ decimal n
+said_text several policies name answers say.Spent = codes " send spent"
+said_text several policies name answers say.Full = codes " send full"
+said_text several policies name answers say.Closed = codes " send closed"
+said_text several policies name answers (say.Taken n) = codes " take " ++ decimal n
+said_text several policies name answers say.Idle = codes " take idle"
+said_text several policies name answers say.Settled = codes " take settled"
+said_text several policies name answers say.Held = codes " take held"
+said_text several policies name answers (say.Finished n) = codes " finish " ++ decimal n
+said_text several policies name answers say.NoJob = codes " finish none"
+said_text several policies name answers (say.Given n) = codes " collect " ++ (decimal n ++ given_text several policies (slice_get answers n))
+said_text several policies name answers say.Nothing = codes " collect none"
+said_text several policies name answers (say.Count n) = count_word name ++ decimal n
 
 -- where no item is left to send, the lane isn't asked
-abbrev pub told : Policy → EventName → List Answer → Option Said → List ℕ
-told policy name answers None = codes " send none"
-told policy name answers (Some s) = said_text policy name answers s
+abbrev pub told : Bool → List Policy → EventName → List Answer → Option Said → List ℕ
+told several policies name answers None = codes " send none"
+told several policies name answers (Some s) = said_text several policies name answers s
 
 -- the line of an event at a task
-unfoldable pub event_line : Policy → ℕ → TaskState → EventName → List ℕ
-event_line policy number task name = decimal number ++ told policy name (task_after task name).world.answers (task_says task name) ++ codes "\n"
+unfoldable pub event_line : Bool → List Policy → ℕ → TaskState → EventName → List ℕ
+event_line several policies number task name = decimal number ++ told several policies name (task_after task name).world.answers (task_says task name) ++ codes "\n"
 
 -- an event changes the world of its task, and no other
 abbrev pub tasks_after : List TaskState → Listed → List TaskState
 tasks_after tasks e = option_map_or (λ (t : TaskState). slice_set tasks e.task (task_after t e.name)) (slice_get tasks e.task) tasks
 
-abbrev pub line_at : Policy → List TaskState → Listed → List ℕ
-line_at policy tasks e = option_map_or (λ (t : TaskState). event_line policy e.task t e.name) (slice_get tasks e.task) []
+abbrev pub line_at : Bool → List Policy → List TaskState → Listed → List ℕ
+line_at several policies tasks e = option_map_or (λ (t : TaskState). event_line several policies e.task t e.name) (slice_get tasks e.task) []
 
 -- the lines of events, in their order
-unfoldable pub replay_lines : Policy → List TaskState → List Listed → List ℕ
-replay_lines policy tasks [] = []
-replay_lines policy tasks (e ∷ es) = line_at policy tasks e ++ replay_lines policy (tasks_after tasks e) es
+unfoldable pub replay_lines : Bool → List Policy → List TaskState → List Listed → List ℕ
+replay_lines several policies tasks [] = []
+replay_lines several policies tasks (e ∷ es) = line_at several policies tasks e ++ replay_lines several policies (tasks_after tasks e) es
 
 -- each task before the first event: its label's world, in which nothing has happened, and all of its items
-unfoldable pub opened : Policy → ℕ → List Task → Option (List TaskState)
-opened policy capacity [] = Some []
-opened policy capacity (task ∷ tasks) = do
-  label ← label_named policy task.label
-  others ← opened policy capacity tasks
-  Some (record { world = opening policy label capacity; left = task.requests } ∷ others)
+unfoldable pub opened : List Policy → ℕ → List Task → Option (List TaskState)
+opened policies capacity [] = Some []
+opened policies capacity (task ∷ tasks) = do
+  label ← task_label policies task
+  others ← opened policies capacity tasks
+  Some (record { world = opening policies label capacity; left = task.requests } ∷ others)
 
 -- what `replay` writes
-abbrev pub replay_text : Policy → ℕ → List Task → List Listed → Option (List ℕ)
-replay_text policy capacity tasks events = option_map (λ (states : List TaskState). replay_lines policy states events) (opened policy capacity tasks)
+abbrev pub replay_text : Bool → List Policy → ℕ → List Task → List Listed → Option (List ℕ)
+replay_text several policies capacity tasks events = option_map (λ (states : List TaskState). replay_lines several policies states events) (opened policies capacity tasks)

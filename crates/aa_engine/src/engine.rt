@@ -3,64 +3,28 @@
 ghost use Rattle.std.specs.Prelude.{◌≡◌, ◌≢◌, ◌<◌, ◌≤◌, ℕ, List, [], length, take, IfOk, IfErr, OnOk, IfSome, IsErrOf};
 ghost use Rattle.std.specs.Io.KnownBytes.{Appends, Keeps};
 ghost use Rattle.std.specs.String.{string_bytes};
-ghost use Rattle.aa_policy.specs.declared.policy.Policy.{Policy};
-ghost use Rattle.aa_engine.specs.Policies.{sources_of, CanFollow, IsPolicyOf};
-ghost use Rattle.aa_engine.specs.Engines.{HandsIn, IsPolicyCause, IsCheckOutput, IsRunOutput, IsReplayOutput, Explains};
+ghost use Rattle.aa_engine.specs.Engines.{HandsIn, IsCheckOutput, IsRunOutput, IsReplayOutput, Explains};
 
 use crate::fault::{RunFault, job_fault, mediate_fault, policy_fault};
 use crate::output::{check_output, run_output};
 use crate::replay::replay_output;
 use crate::stream::{read_input, write_text};
 use crate::tasks::{mediate, unknown_task};
-use aa_jobs::{Include, Job, read_job};
-use aa_mediate::{Compiled, compile};
-use aa_policy::{Policy, parse};
-use aa_words::{Sources, words};
+use aa_jobs::{Job, read_job};
+use aa_policies::{Compiled, compile_policies};
 use std::alloc::Global;
 use std::io::{Read, Write};
 
-/// The sources that a job hands in.
-fn gather_sources(alloc: Global, includes: &[Include]) -> Result<Sources, RunFault>
-    ensures gathered { IfOk result (λ s. s ≡ sources_of includes.now) }
-    ensures fit { OnOk result (CanFollow [] (sources_of includes.now)) }
-    ensures cause { IfErr result (λ e. IsPolicyCause e (CanFollow [] (sources_of includes.now) → ⊥)) }
-{
-    let mut sources = Sources::new(alloc);
-    for include in includes {
-        match sources.add(include.name.as_slice(), include.text.as_slice()) {
-            Ok(()) => {}
-            Err(fault) => return Err(policy_fault(fault)),
-        }
-    }
-    Ok(sources)
-}
-
-/// The policy that a job's text spells.
-fn policy_of(alloc: Global, job: &Job) -> Result<Policy, RunFault>
-    ensures found { IfOk result (IsPolicyOf job.now) }
-    ensures cause { IfErr result (λ e. IsPolicyCause e ((policy : Policy) → IsPolicyOf job.now policy → ⊥)) }
-{
-    let sources = gather_sources(alloc, job.includes.as_slice())?;
-    let list = match words(alloc, &sources, job.policy.as_slice()) {
-        Ok(list) => list,
-        Err(fault) => return Err(policy_fault(fault)),
-    };
-    match parse(alloc, &list) {
-        Ok(policy) => Ok(policy),
-        Err(fault) => Err(policy_fault(fault)),
-    }
-}
-
-/// A job with its policy, compiled.
+/// A job with its policies, compiled.
 #[derive(Drop)]
 struct CompiledJob {
     job: Job,
-    compiled: Compiled,
+    policies: Vec<Compiled>,
 }
 
-/// The job that the bytes are, and its policy.
+/// The job that the bytes are, and its policies.
 fn compile_job(alloc: Global, bytes: &[u8]) -> Result<CompiledJob, RunFault>
-    ensures asked { IfOk result (λ a. HandsIn bytes.now a.job a.compiled) }
+    ensures asked { IfOk result (λ a. HandsIn bytes.now a.job a.policies.items) }
     ensures cause { IfErr result (λ e. Explains e bytes.now) }
     ensures unwritten { IfErr result (λ e. e ≢ RunFault.Write) }
     ensures labels { (t : ℕ) → IsErrOf result (RunFault.UnknownProfile t) → ⊥ }
@@ -69,10 +33,14 @@ fn compile_job(alloc: Global, bytes: &[u8]) -> Result<CompiledJob, RunFault>
         Ok(job) => job,
         Err(fault) => return Err(job_fault(fault)),
     };
-    let policy = policy_of(alloc, &job)?;
-    match compile(alloc, policy, job.states) {
-        Ok(compiled) => Ok(CompiledJob { job, compiled }),
-        Err(refusal) => Err(policy_fault(refusal.fault)),
+    match compile_policies(
+        alloc,
+        job.includes.as_slice(),
+        job.policies.as_slice(),
+        job.states,
+    ) {
+        Ok(policies) => Ok(CompiledJob { job, policies }),
+        Err(refused) => Err(policy_fault(refused)),
     }
 }
 
@@ -84,7 +52,7 @@ fn check_text_of(alloc: Global, bytes: &[u8]) -> Result<String, RunFault>
     ensures labels { (t : ℕ) → IsErrOf result (RunFault.UnknownProfile t) → ⊥ }
 {
     let asked = compile_job(alloc, bytes)?;
-    Ok(check_output(alloc, asked.compiled.policy())?)
+    Ok(check_output(alloc, asked.job.several, asked.policies.as_slice())?)
 }
 
 /// The text of `run` for the bytes of a job.
@@ -95,14 +63,15 @@ fn run_text_of(alloc: Global, bytes: &[u8], workers: u32) -> Result<String, RunF
     ensures unwritten { IfErr result (λ e. e ≢ RunFault.Write) }
 {
     let asked = compile_job(alloc, bytes)?;
-    let rows = match mediate(alloc, &asked.job, &asked.compiled, workers) {
+    let rows = match mediate(alloc, &asked.job, asked.policies.as_slice(), workers) {
         Ok(rows) => rows,
         Err(fault) => return Err(mediate_fault(fault)),
     };
     Ok(run_output(
         alloc,
+        asked.job.several,
         asked.job.tasks.as_slice(),
-        &asked.compiled,
+        asked.policies.as_slice(),
         rows.as_slice(),
     )?)
 }
@@ -114,16 +83,16 @@ fn replay_text_of(alloc: Global, bytes: &[u8]) -> Result<String, RunFault>
     ensures unwritten { IfErr result (λ e. e ≢ RunFault.Write) }
 {
     let asked = compile_job(alloc, bytes)?;
-    if let Some(task) = unknown_task(&asked.compiled, asked.job.tasks.as_slice()) {
+    if let Some(task) = unknown_task(asked.policies.as_slice(), asked.job.tasks.as_slice()) {
         return Err(RunFault::UnknownProfile(task));
     }
-    Ok(replay_output(alloc, &asked.job, &asked.compiled)?)
+    Ok(replay_output(alloc, &asked.job, asked.policies.as_slice())?)
 }
 
-/// Reads a job, and writes how many profiles and rules its policy has.
+/// Reads a job, and writes how many profiles and rules each of its policies has.
 ///
 /// Faults: `Read` where the reader failed or didn't come to an end within 33,554,432 calls; `Job` where the input is no job;
-/// `Policy` where its policy is refused; `Write` where the writer failed or took nothing, and then a front of the text was
+/// `Policy` where one of its policies is refused, the first such one; `Write` where the writer failed or took nothing, and then a front of the text was
 /// written; after every other fault nothing was. `NoMemory` can come at any point before the writing. The labels of the
 /// tasks aren't looked at.
 pub fn check_job<R: Read, W: Write>(

@@ -4,8 +4,9 @@ ghost use Rattle.std.specs.Prelude.{◌≡◌};
 ghost use Rattle.aa_engine.specs.Faults.{job_cause, policy_cause, mediate_cause, exit_status};
 
 use crate::tasks::MediateFault;
+use aa_faults::PolicyKind;
 use aa_jobs::JobFault;
-use aa_words::{PolicyFault, PolicyKind};
+use aa_policies::RefusedPolicy;
 use std::alloc::{AllocError, AllocFailed};
 use thiserror::Error;
 
@@ -23,9 +24,9 @@ pub enum RunFault {
     /// The input is no job.
     #[error("{0}")]
     Job(JobFault),
-    /// The job's policy is refused.
+    /// One of the job's policies is refused, the first such one.
     #[error("{0}")]
-    Policy(PolicyFault),
+    Policy(RefusedPolicy),
     /// The label of the task of that number, the first such one, names no profile.
     #[error("task {0} has no profile")]
     UnknownProfile(usize),
@@ -53,13 +54,13 @@ pub fn job_fault(fault: JobFault) -> RunFault
     }
 }
 
-/// The engine's fault where no policy was read.
-pub fn policy_fault(fault: PolicyFault) -> RunFault
-    ensures { result ≡ policy_cause fault }
+/// The engine's fault where a policy is refused.
+pub fn policy_fault(refused: RefusedPolicy) -> RunFault
+    ensures { result ≡ policy_cause refused }
 {
-    match fault.kind {
+    match refused.fault.kind {
         PolicyKind::NoMemory => RunFault::NoMemory,
-        _ => RunFault::Policy(fault),
+        _ => RunFault::Policy(refused),
     }
 }
 

@@ -2,17 +2,17 @@
 
 ghost use Rattle.std.specs.Prelude.{◌≡◌, ◌++◌, ◌^◌, ◌<◌, ◌*◌, OnOk, IfOk, Some, decimal, flat_map, length, map, option_map, sum_by};
 ghost use Rattle.std.specs.String.{string_bytes};
-ghost use Rattle.aa_mediate.specs.Labels.{label_name};
+ghost use Rattle.aa_labels.specs.Labels.{label_name, policy_number};
 ghost use Rattle.aa_engine.specs.Answers.{job_answers};
-ghost use Rattle.aa_engine.specs.Output.{verdict_word, verdict_line, audit_lines, task_lines, lines_from, run_text, keyword_text, passed_over_line, counts_line, rules_of, check_text};
+ghost use Rattle.aa_engine.specs.Output.{verdict_word, policy_word, outcome_text, verdict_line, audit_lines, task_lines, lines_from, run_text, keyword_text, profile_name, passed_over_line, counts_line, rules_of, policy_text, number_line, policies_from, check_text};
 ghost use Rattle.aa_engine.specs.declared.tasks.Answered.{Answered};
 
 use crate::tasks::{Answered, opening_label};
 use aa_audit::{plain_text, push_audit_line, push_value};
 use aa_jobs::{Job, Task};
-use aa_mediate::{Compiled, name_of_label};
+use aa_labels::{Compiled, name_of_label};
 use aa_policy::{PassedOver, Policy, Profile};
-use aa_requests::Label;
+use aa_requests::{Answer, Label};
 use itoa::{Buffer, Integer};
 use std::alloc::{AllocError, Global};
 
@@ -29,24 +29,58 @@ pub(crate) fn verdict(granted: bool) -> &'static str
     if granted { " granted" } else { " denied" }
 }
 
+/// Appends the number of a label's policy, for a job that has a list of policies.
+fn push_policy(out: &mut String, several: bool, label: Label) -> Result<(), AllocError>
+    ensures { OnOk result (string_bytes out.new ≡ string_bytes out.old ++ policy_word several label) }
+{
+    if !several {
+        return Ok(());
+    }
+    out.push_str(" policy=")?;
+    push_integer(out, policy_of(label))
+}
+
+fn policy_of(label: Label) -> u16
+    ensures { result ≡ policy_number label }
+{
+    match label {
+        Label::Unconfined(policy) => policy,
+        Label::Confined(policy, _) => policy,
+    }
+}
+
+/// Appends what an answer says.
+#[tactic(auto, unfolding(crate::specs::Output::outcome_text))]
+pub(crate) fn push_outcome(
+    out: &mut String,
+    several: bool,
+    policies: &[Compiled],
+    answer: &Answer,
+) -> Result<(), AllocError>
+    ensures { OnOk result (string_bytes out.new ≡ string_bytes out.old ++ outcome_text several policies.now answer.now) }
+{
+    out.push_str(verdict(answer.granted))?;
+    out.push_str(" label=")?;
+    push_value(out, name_of_label(policies, answer.label))?;
+    push_policy(out, several, answer.label)?;
+    out.push_str(if answer.scrub { " scrub" } else { "" })
+}
+
 /// Appends the verdict on a request.
 #[tactic(auto, unfolding(crate::specs::Output::verdict_line))]
 fn push_verdict(
     out: &mut String,
-    policy: &Policy,
+    several: bool,
+    policies: &[Compiled],
     task: u64,
     answered: &Answered,
 ) -> Result<(), AllocError>
-    ensures { OnOk result (string_bytes out.new ≡ string_bytes out.old ++ verdict_line policy.now task answered.now) }
+    ensures { OnOk result (string_bytes out.new ≡ string_bytes out.old ++ verdict_line several policies.now task answered.now) }
 {
-    let answer = &answered.answer;
     push_integer(out, task)?;
     out.push_str(" ")?;
     push_integer(out, answered.number)?;
-    out.push_str(verdict(answer.granted))?;
-    out.push_str(" label=")?;
-    push_value(out, name_of_label(policy, answer.label))?;
-    out.push_str(if answer.scrub { " scrub" } else { "" })?;
+    push_outcome(out, several, policies, &answered.answer)?;
     out.push_str("\n")
 }
 
@@ -54,35 +88,33 @@ fn push_verdict(
 #[tactic(auto, unfolding(crate::specs::Output::audit_lines))]
 fn push_audit(
     out: &mut String,
-    compiled: &Compiled,
+    policies: &[Compiled],
     before: Label,
     answered: &Answered,
 ) -> Result<(), AllocError>
-    ensures { OnOk result (string_bytes out.new ≡ string_bytes out.old ++ audit_lines compiled.now before answered.now) }
+    ensures { OnOk result (string_bytes out.new ≡ string_bytes out.old ++ audit_lines policies.now before answered.now) }
 {
-    match answered.answer.note {
-        Some(note) => {
-            push_audit_line(out, compiled.policy(), before, &answered.request, note)?;
-            out.push_str("\n")
-        }
-        None => Ok(()),
+    if push_audit_line(out, policies, before, &answered.request, &answered.answer)? {
+        out.push_str("\n")?;
     }
+    Ok(())
 }
 
 /// Appends the lines of a task that opened with a label.
 fn push_task(
     out: &mut String,
-    compiled: &Compiled,
+    several: bool,
+    policies: &[Compiled],
     task: u64,
     opening: Label,
     answers: &[Answered],
 ) -> Result<(), AllocError>
-    ensures { OnOk result (string_bytes out.new ≡ string_bytes out.old ++ task_lines compiled.now task opening answers.now) }
+    ensures { OnOk result (string_bytes out.new ≡ string_bytes out.old ++ task_lines several policies.now task opening answers.now) }
 {
     let mut before = opening;
     for answered in answers {
-        push_verdict(out, compiled.policy(), task, answered)?;
-        push_audit(out, compiled, before, answered)?;
+        push_verdict(out, several, policies, task, answered)?;
+        push_audit(out, policies, before, answered)?;
         before = answered.answer.label;
     }
     Ok(())
@@ -91,22 +123,23 @@ fn push_task(
 /// The text of `run`, where the tasks of a job are answered so.
 pub fn run_output(
     alloc: Global,
+    several: bool,
     tasks: &[Task],
-    compiled: &Compiled,
+    policies: &[Compiled],
     rows: &[Vec<Answered>],
 ) -> Result<String, AllocError>
-    requires { job_answers compiled.now tasks.now ≡ Some (map (λ row. row.items) rows.now) }
-    ensures { IfOk result (λ text. run_text compiled.now tasks.now ≡ Some (string_bytes text)) }
+    requires { job_answers policies.now tasks.now ≡ Some (map (λ row. row.items) rows.now) }
+    ensures { IfOk result (λ text. run_text several policies.now tasks.now ≡ Some (string_bytes text)) }
 {
     let mut out = String::new(alloc);
     for (n, row) in rows.iter().enumerate() {
         let Some(task) = tasks.get(n) else {
             unreachable!()
         };
-        let Some(label) = opening_label(compiled, task.label.as_slice()) else {
+        let Some(label) = opening_label(policies, task) else {
             unreachable!()
         };
-        push_task(&mut out, compiled, n as u64, label, row.as_slice())?;
+        push_task(&mut out, several, policies, n as u64, label, row.as_slice())?;
     }
     Ok(out)
 }
@@ -121,13 +154,26 @@ fn push_keyword(out: &mut String, kind: &[u8]) -> Result<(), AllocError>
     }
 }
 
+fn name_of_profile(profiles: &[Profile], number: u16) -> &[u8]
+    ensures { result.now ≡ profile_name profiles.now number }
+{
+    match profiles.get(number as usize) {
+        Some(profile) => profile.name.as_slice(),
+        None => &[],
+    }
+}
+
 /// Appends the line of a passed-over rule.
 #[tactic(auto, unfolding(crate::specs::Output::passed_over_line))]
-fn push_passed_over(out: &mut String, policy: &Policy, rule: &PassedOver) -> Result<(), AllocError>
-    ensures { OnOk result (string_bytes out.new ≡ string_bytes out.old ++ passed_over_line policy.now rule.now) }
+fn push_passed_over(
+    out: &mut String,
+    profiles: &[Profile],
+    rule: &PassedOver,
+) -> Result<(), AllocError>
+    ensures { OnOk result (string_bytes out.new ≡ string_bytes out.old ++ passed_over_line profiles.now rule.now) }
 {
     out.push_str("passed over ")?;
-    push_value(out, name_of_label(policy, Label::Confined(rule.profile)))?;
+    push_value(out, name_of_profile(profiles, rule.profile))?;
     out.push_str(" ")?;
     push_keyword(out, rule.kind.as_slice())?;
     out.push_str("\n")?;
@@ -154,10 +200,10 @@ fn push_counts(
 
 /// Appends the lines of the passed-over rules.
 fn push_all_passed_over(out: &mut String, policy: &Policy) -> Result<(), AllocError>
-    ensures { OnOk result (string_bytes out.new ≡ string_bytes out.old ++ flat_map (passed_over_line policy.now) policy.now.passed_over) }
+    ensures { OnOk result (string_bytes out.new ≡ string_bytes out.old ++ flat_map (passed_over_line policy.now.profiles) policy.now.passed_over) }
 {
     for rule in policy.passed_over.as_slice() {
-        push_passed_over(out, policy, rule)?;
+        push_passed_over(out, policy.profiles.as_slice(), rule)?;
     }
     Ok(())
 }
@@ -173,19 +219,46 @@ fn count_rules(profiles: &[Profile]) -> u128
     count
 }
 
-/// The text of `check` for a policy that compiles.
-pub fn check_output(alloc: Global, policy: &Policy) -> Result<String, AllocError>
-    ensures { IfOk result (λ text. string_bytes text ≡ check_text policy.now) }
+/// Appends what `check` writes of a policy.
+fn push_policy_text(out: &mut String, policy: &Policy) -> Result<(), AllocError>
+    ensures { OnOk result (string_bytes out.new ≡ string_bytes out.old ++ policy_text policy.now) }
 {
-    let mut out = String::new(alloc);
     let profiles = policy.profiles.as_slice();
     let passed_over = policy.passed_over.as_slice();
     push_counts(
-        &mut out,
+        out,
         profiles.len() as u64,
         count_rules(profiles),
         passed_over.len() as u64,
     )?;
-    push_all_passed_over(&mut out, policy)?;
+    push_all_passed_over(out, policy)
+}
+
+/// Appends which policy of a list the lines behind it are about.
+#[tactic(auto, unfolding(crate::specs::Output::number_line))]
+fn push_number(out: &mut String, several: bool, number: u64) -> Result<(), AllocError>
+    ensures { OnOk result (string_bytes out.new ≡ string_bytes out.old ++ number_line several number) }
+{
+    if !several {
+        return Ok(());
+    }
+    out.push_str("policy ")?;
+    push_integer(out, number)?;
+    out.push_str("\n")
+}
+
+/// The text of `check` for policies that compile.
+pub fn check_output(
+    alloc: Global,
+    several: bool,
+    policies: &[Compiled],
+) -> Result<String, AllocError>
+    ensures { IfOk result (λ text. string_bytes text ≡ check_text several policies.now) }
+{
+    let mut out = String::new(alloc);
+    for (number, compiled) in policies.iter().enumerate() {
+        push_number(&mut out, several, number as u64)?;
+        push_policy_text(&mut out, compiled.policy())?;
+    }
     Ok(out)
 }

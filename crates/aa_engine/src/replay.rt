@@ -3,16 +3,14 @@
 ghost use Rattle.std.specs.Prelude.{◌≡◌, ◌++◌, ◌<◌, ◌≤◌, OnOk, IfOk, Some, None, codes, length, decimal, slice_get};
 ghost use Rattle.std.specs.String.{string_bytes};
 ghost use Rattle.aa_engine.specs.Answers.{first_unknown};
-ghost use Rattle.aa_engine.specs.Replay.{offered, named_event, is_refused, left_after, is_send, count_word, outcome_text, given_text, said_text, told, event_line, says, task_says, task_after, without_request, line_at, tasks_after, replay_lines, opened, replay_text};
+ghost use Rattle.aa_engine.specs.Replay.{offered, named_event, is_refused, left_after, is_send, count_word, given_text, said_text, told, event_line, says, task_says, task_after, without_request, line_at, tasks_after, replay_lines, opened, replay_text};
 
-use crate::output::{push_integer, verdict};
+use crate::output::{push_integer, push_outcome};
 use crate::tasks::opening_label;
-use aa_audit::push_value;
 use aa_jobs::{Event as Listed, EventName, Job, Task, Work};
+use aa_labels::Compiled;
 use aa_lane::{Event, Reply, SendFault, World};
-use aa_mediate::{Compiled, Mediator, name_of_label};
-use aa_policy::Policy;
-use aa_requests::Answer;
+use aa_mediate::Mediator;
 use std::alloc::{AllocError, Global};
 use std::marker::Model;
 
@@ -159,29 +157,19 @@ fn push_numbered(out: &mut String, word: &str, number: u64) -> Result<(), AllocE
     push_integer(out, number)
 }
 
-/// Appends what an answer says.
-#[tactic(auto, unfolding(crate::specs::Replay::outcome_text))]
-fn push_outcome(out: &mut String, policy: &Policy, answer: &Answer) -> Result<(), AllocError>
-    ensures { OnOk result (string_bytes out.new ≡ string_bytes out.old ++ outcome_text policy.now answer.now) }
-{
-    out.push_str(verdict(answer.granted))?;
-    out.push_str(" label=")?;
-    push_value(out, name_of_label(policy, answer.label))?;
-    out.push_str(if answer.scrub { " scrub" } else { "" })
-}
-
 /// Appends that an answer was collected, and what it says.
 fn push_given<'p>(
     out: &mut String,
-    policy: &Policy,
+    several: bool,
+    policies: &[Compiled],
     world: &World<'p, Mediator<'p>>,
     number: u64,
 ) -> Result<(), AllocError>
-    ensures { OnOk result (string_bytes out.new ≡ string_bytes out.old ++ (codes " collect " ++ (decimal number ++ given_text policy.now (slice_get world.now.answers number)))) }
+    ensures { OnOk result (string_bytes out.new ≡ string_bytes out.old ++ (codes " collect " ++ (decimal number ++ given_text several policies.now (slice_get world.now.answers number)))) }
 {
     push_numbered(out, " collect ", number)?;
     match world.answer(number) {
-        Some(answer) => push_outcome(out, policy, answer),
+        Some(answer) => push_outcome(out, several, policies, answer),
         None => Ok(()),
     }
 }
@@ -190,12 +178,13 @@ fn push_given<'p>(
 #[tactic(auto, unfolding(crate::specs::Replay::said_text))]
 fn push_said<'p>(
     out: &mut String,
-    policy: &Policy,
+    several: bool,
+    policies: &[Compiled],
     name: EventName,
     world: &World<'p, Mediator<'p>>,
     said: Said,
 ) -> Result<(), AllocError>
-    ensures { OnOk result (string_bytes out.new ≡ string_bytes out.old ++ said_text policy.now name world.now.answers said) }
+    ensures { OnOk result (string_bytes out.new ≡ string_bytes out.old ++ said_text several policies.now name world.now.answers said) }
 {
     match said {
         Said::Accepted(n) => push_numbered(out, " send accepted ", n),
@@ -208,7 +197,7 @@ fn push_said<'p>(
         Said::Held => out.push_str(" take held"),
         Said::Finished(n) => push_numbered(out, " finish ", n),
         Said::NoJob => out.push_str(" finish none"),
-        Said::Given(n) => push_given(out, policy, world, n),
+        Said::Given(n) => push_given(out, several, policies, world, n),
         Said::Nothing => out.push_str(" collect none"),
         Said::Count(n) => push_numbered(out, count_word(name), n),
     }
@@ -217,15 +206,16 @@ fn push_said<'p>(
 /// Appends what a task's world said, or that no item was left to send.
 fn push_told<'p>(
     out: &mut String,
-    policy: &Policy,
+    several: bool,
+    policies: &[Compiled],
     name: EventName,
     world: &World<'p, Mediator<'p>>,
     said: Option<Said>,
 ) -> Result<(), AllocError>
-    ensures { OnOk result (string_bytes out.new ≡ string_bytes out.old ++ told policy.now name world.now.answers said) }
+    ensures { OnOk result (string_bytes out.new ≡ string_bytes out.old ++ told several policies.now name world.now.answers said) }
 {
     match said {
-        Some(said) => push_said(out, policy, name, world, said),
+        Some(said) => push_said(out, several, policies, name, world, said),
         None => out.push_str(" send none"),
     }
 }
@@ -234,34 +224,37 @@ fn push_told<'p>(
 #[tactic(auto, unfolding(crate::specs::Replay::event_line))]
 fn push_line<'j>(
     out: &mut String,
-    policy: &Policy,
+    several: bool,
+    policies: &[Compiled],
     number: u32,
     task: &mut TaskAtPlay<'j>,
     name: EventName,
 ) -> Result<(), AllocError>
     ensures task { OnOk result (task.new ≡ task_after task.old name) }
-    ensures line { OnOk result (string_bytes out.new ≡ string_bytes out.old ++ event_line policy.now number task.old name) }
+    ensures line { OnOk result (string_bytes out.new ≡ string_bytes out.old ++ event_line several policies.now number task.old name) }
 {
     let said = task.play(name)?;
     push_integer(out, number)?;
-    push_told(out, policy, name, &task.world, said)?;
+    push_told(out, several, policies, name, &task.world, said)?;
     out.push_str("\n")
 }
 
 /// Makes an event happen at the task that it names, and appends its line.
 fn push_event<'j>(
     out: &mut String,
-    policy: &Policy,
+    several: bool,
+    policies: &[Compiled],
     tasks: &mut [TaskAtPlay<'j>],
     event: Listed,
 ) -> Result<(), AllocError>
     requires { event.task < length tasks.old }
     ensures tasks { OnOk result (tasks.new ≡ tasks_after tasks.old event) }
-    ensures line { OnOk result (string_bytes out.new ≡ string_bytes out.old ++ line_at policy.now tasks.old event) }
+    ensures line { OnOk result (string_bytes out.new ≡ string_bytes out.old ++ line_at several policies.now tasks.old event) }
 {
     push_line(
         out,
-        policy,
+        several,
+        policies,
         event.task,
         &mut tasks[event.task as usize],
         event.name,
@@ -271,19 +264,19 @@ fn push_event<'j>(
 /// A world for each task, in which nothing has happened.
 fn open_tasks<'j>(
     alloc: Global,
-    compiled: &Compiled,
+    policies: &[Compiled],
     mediator: &'j Mediator<'j>,
     capacity: u32,
     tasks: &'j [Task],
 ) -> Result<Vec<TaskAtPlay<'j>>, AllocError>
-    requires same { mediator.now ≡ compiled.now }
+    requires same { mediator.now ≡ policies.now }
     requires room { (0 < capacity) × (capacity ≤ 1024) }
-    requires known { first_unknown compiled.now tasks.now ≡ None }
-    ensures { IfOk result (λ states. opened compiled.now capacity tasks.now ≡ Some states.items) }
+    requires known { first_unknown policies.now tasks.now ≡ None }
+    ensures { IfOk result (λ states. opened policies.now capacity tasks.now ≡ Some states.items) }
 {
     let mut states = Vec::new(alloc);
     for task in tasks {
-        let Some(label) = opening_label(compiled, task.label.as_slice()) else {
+        let Some(label) = opening_label(policies, task) else {
             unreachable!()
         };
         let Ok(world) = World::new(alloc, mediator, capacity, label) else {
@@ -298,21 +291,27 @@ fn open_tasks<'j>(
 }
 
 /// The text of `replay`, for a job each of whose labels names a profile.
-pub fn replay_output(alloc: Global, job: &Job, compiled: &Compiled) -> Result<String, AllocError>
-    requires { first_unknown compiled.now job.now.tasks ≡ None }
-    ensures { IfOk result (λ text. replay_text compiled.now job.now.capacity job.now.tasks job.now.events ≡ Some (string_bytes text)) }
+pub fn replay_output(alloc: Global, job: &Job, policies: &[Compiled]) -> Result<String, AllocError>
+    requires { first_unknown policies.now job.now.tasks ≡ None }
+    ensures { IfOk result (λ text. replay_text job.now.several policies.now job.now.capacity job.now.tasks job.now.events ≡ Some (string_bytes text)) }
 {
-    let mediator = Mediator::new(compiled);
+    let mediator = Mediator::new(policies);
     let mut out = String::new(alloc);
     let mut states = open_tasks(
         alloc,
-        compiled,
+        policies,
         &mediator,
         job.capacity,
         job.tasks.as_slice(),
     )?;
     for event in job.events.as_slice() {
-        push_event(&mut out, compiled.policy(), states.as_mut_slice(), *event)?;
+        push_event(
+            &mut out,
+            job.several,
+            policies,
+            states.as_mut_slice(),
+            *event,
+        )?;
     }
     Ok(out)
 }

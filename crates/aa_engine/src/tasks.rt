@@ -1,11 +1,13 @@
 //! What the tasks of a job are answered.
 
 ghost use Rattle.std.specs.Prelude.{◌≡◌, ◌↔◌, ◌<◌, ◌≤◌, ℕ, List, map, Some, IfOk, IsErrOf, is_none, position};
-ghost use Rattle.aa_engine.specs.Answers.{asked, answered, label_named, job_answers, first_unknown};
+ghost use Rattle.aa_engine.specs.Answers.{asked, answered, task_label, job_answers, first_unknown};
 ghost use Rattle.aa_engine.specs.declared.tasks.Answered.{Answered};
 
 use aa_jobs::{Job, Task, Work};
-use aa_mediate::{Compiled, Machine, Mediator};
+use aa_labels::{Compiled, label_of};
+use aa_machine::Machine;
+use aa_mediate::Mediator;
 use aa_requests::{Answer, Label, Request};
 use std::alloc::{AllocError, AllocFailed, Global};
 
@@ -46,43 +48,36 @@ impl<T: Drop> From<AllocFailed<T>> for MediateFault {
     }
 }
 
-/// The label that a task opens with: `unconfined`, or a full profile name.
-#[tactic(auto, unfolding(crate::specs::Answers::label_named))]
-pub fn opening_label(compiled: &Compiled, name: &[u8]) -> Option<Label>
-    ensures { result ≡ label_named compiled.now name.now }
+/// The label that a task opens with, in the policy that it names.
+pub fn opening_label(policies: &[Compiled], task: &Task) -> Option<Label>
+    ensures { result ≡ task_label policies.now task.now }
 {
-    if name == "unconfined".as_bytes() {
-        return Some(Label::Unconfined);
-    }
-    match compiled.find(name) {
-        Some(number) => Some(Label::Confined(number)),
-        None => None,
-    }
+    label_of(policies, task.policy, task.label.as_slice())
 }
 
-fn is_unknown(compiled: &Compiled, task: &Task) -> bool
-    ensures { result ≡ is_none (label_named compiled.now task.now.label) }
+fn is_unknown(policies: &[Compiled], task: &Task) -> bool
+    ensures { result ≡ is_none (task_label policies.now task.now) }
 {
-    opening_label(compiled, task.label.as_slice()).is_none()
+    opening_label(policies, task).is_none()
 }
 
 /// The first task whose label names no profile.
-pub fn unknown_task(compiled: &Compiled, tasks: &[Task]) -> Option<usize>
-    ensures { result ≡ first_unknown compiled.now tasks.now }
+pub fn unknown_task(policies: &[Compiled], tasks: &[Task]) -> Option<usize>
+    ensures { result ≡ first_unknown policies.now tasks.now }
 {
-    tasks.iter().position(|task| is_unknown(compiled, task))
+    tasks.iter().position(|task| is_unknown(policies, task))
 }
 
 /// The answers to a task's requests before its first exit, from a label on.
 fn answers_of(
     alloc: Global,
-    compiled: &Compiled,
+    policies: &[Compiled],
     opening: Label,
     works: &[Work],
 ) -> Result<Vec<Answered>, AllocError>
-    ensures { IfOk result (λ v. v.items ≡ answered compiled.now opening 0 (asked works.now)) }
+    ensures { IfOk result (λ v. v.items ≡ answered policies.now opening 0 (asked works.now)) }
 {
-    let mediator = Mediator::new(compiled);
+    let mediator = Mediator::new(policies);
     let mut answers = Vec::new(alloc);
     let mut label = opening;
     for work in works {
@@ -107,23 +102,23 @@ fn answers_of(
 pub fn mediate(
     alloc: Global,
     job: &Job,
-    compiled: &Compiled,
+    policies: &[Compiled],
     workers: u32,
 ) -> Result<Vec<Vec<Answered>>, MediateFault>
     requires { (0 < workers) × (workers ≤ 16) }
-    ensures answers { IfOk result (λ rows. job_answers compiled.now job.now.tasks ≡ Some (map (λ row. row.items) rows.items)) }
-    ensures unknown { (task : ℕ) → IsErrOf result (MediateFault.UnknownProfile task) ↔ (first_unknown compiled.now job.now.tasks ≡ Some task) }
+    ensures answers { IfOk result (λ rows. job_answers policies.now job.now.tasks ≡ Some (map (λ row. row.items) rows.items)) }
+    ensures unknown { (task : ℕ) → IsErrOf result (MediateFault.UnknownProfile task) ↔ (first_unknown policies.now job.now.tasks ≡ Some task) }
 {
     let tasks = job.tasks.as_slice();
-    if let Some(task) = unknown_task(compiled, tasks) {
+    if let Some(task) = unknown_task(policies, tasks) {
         return Err(MediateFault::UnknownProfile(task));
     }
     let mut rows = Vec::new(alloc);
     for task in tasks {
-        let Some(label) = opening_label(compiled, task.label.as_slice()) else {
+        let Some(label) = opening_label(policies, task) else {
             unreachable!()
         };
-        rows.push(answers_of(alloc, compiled, label, task.requests.as_slice())?)?;
+        rows.push(answers_of(alloc, policies, label, task.requests.as_slice())?)?;
     }
     Ok(rows)
 }

@@ -5,6 +5,7 @@ ghost use Rattle.std.specs.Prelude.{◌<◌, ◌≤◌};
 use aa_engine::{RunFault, check_job, run_job};
 use aa_faults::{PolicyFault, PolicyKind, Spot};
 use aa_jobs::JobFault;
+use aa_policies::RefusedPolicy;
 use std::alloc::Global;
 use std::io;
 use std::io::{ErrorKind, Read, Write};
@@ -64,9 +65,12 @@ fn check_gives(
 }
 
 fn policy_fault(kind: PolicyKind, byte: u32) -> Result<(), RunFault> {
-    Err(RunFault::Policy(PolicyFault {
-        kind,
-        at: Spot { file: 0, byte },
+    Err(RunFault::Policy(RefusedPolicy {
+        policy: 0,
+        fault: PolicyFault {
+            kind,
+            at: Spot { file: 0, byte },
+        },
     }))
 }
 

@@ -3,9 +3,3 @@
 
 #[cfg(test)]
 mod engine_tests;
-#[cfg(test)]
-mod line_tests;
-#[cfg(test)]
-mod policies;
-#[cfg(test)]
-mod verdict_tests;

@@ -12,7 +12,7 @@ use Rattle.aa_jobs.specs.declared.job.Event.{Event}
 use Rattle.aa_jobs.specs.declared.job.Job.{Job}
 use Rattle.aa_jobs.specs.Steps.{◌>>=◌, only_if, each}
 use Rattle.aa_jobs.specs.Written.{WrittenTask, WrittenEvent, WrittenJob}
-use Rattle.aa_jobs.specs.Limits.{Sizes, within_limits, include_sizes, job_sizes, keeps_limits, tasks_there}
+use Rattle.aa_jobs.specs.Limits.{Sizes, within_limits, include_sizes, job_sizes, keeps_limits, tasks_there, policies_there}
 use Rattle.aa_jobs.specs.Meaning.{work_of, task_of, event_name, event_of, if_true, sealed, written_sizes, meaning}
 
 bind_ok : {A B : Type 0} (given : Result A JobFault) (f : A → Result B JobFault) (z : B) → (given >>= f) ≡ Ok z → (y : A) × (given ≡ Ok y) × (f y ≡ Ok z)
@@ -44,13 +44,23 @@ each_length {A = A} {B = B} f xs ys e =
     let none : map zero_of_b ys ≡ map zero_of_a xs = each_keeps f zero_of_b zero_of_a (λ x y h. refl) xs ys e in
     sym (length-map ys zero_of_b) ∙ ap length none ∙ length-map xs zero_of_a
 
-task_keeps : (w : WrittenTask) (t : Task) → task_of w ≡ Ok t → length t.requests ≡ length w.items
+task_keeps : (n : ℕ) (w : WrittenTask) (t : Task) → task_of n w ≡ Ok t → length t.requests ≡ length w.items
 unfolding task_of
-task_keeps w t e =
-    let a = bind_ok (each work_of w.items) (λ requests. Ok (record { label = w.label; requests = requests })) t e in
-    let made : Task = record { label = w.label; requests = a.0 } in
-    let p : made ≡ t = cc (a.2) in
-    subst (λ (z : Task). length z.requests ≡ length w.items) p (each_length work_of w.items a.0 a.1)
+task_keeps n w t e =
+    let a = bind_ok (only_if (nat_lt w.policy n) BadRequest) (λ _. each (work_of n) w.items >>= λ requests. Ok (record { label = w.label; policy = w.policy; requests = requests })) t e in
+    let b = bind_ok (each (work_of n) w.items) (λ requests. Ok (record { label = w.label; policy = w.policy; requests = requests })) t a.2 in
+    let made : Task = record { label = w.label; policy = w.policy; requests = b.0 } in
+    let p : made ≡ t = cc (b.2) in
+    subst (λ (z : Task). length z.requests ≡ length w.items) p (each_length (work_of n) w.items b.0 b.1)
+
+policy_there : (n : ℕ) (w : WrittenTask) (t : Task) → task_of n w ≡ Ok t → nat_lt t.policy n ≡ true
+unfolding task_of
+policy_there n w t e =
+    let a = bind_ok (only_if (nat_lt w.policy n) BadRequest) (λ _. each (work_of n) w.items >>= λ requests. Ok (record { label = w.label; policy = w.policy; requests = requests })) t e in
+    let b = bind_ok (each (work_of n) w.items) (λ requests. Ok (record { label = w.label; policy = w.policy; requests = requests })) t a.2 in
+    let made : Task = record { label = w.label; policy = w.policy; requests = b.0 } in
+    let p : made ≡ t = cc (b.2) in
+    subst (λ (z : Task). nat_lt z.policy n ≡ true) p (only_true (nat_lt w.policy n) BadRequest a.0 a.1)
 
 event_there : (n : ℕ) (w : WrittenEvent) (e : Event) → event_of n w ≡ Ok e → nat_lt e.task n ≡ true
 unfolding event_of
@@ -70,18 +80,24 @@ events_there n ws es e =
     let kept : map (λ z. nat_lt z.task n) es ≡ map (λ _. true) ws = each_keeps (event_of n) (λ z. nat_lt z.task n) (λ _. true) (event_there n) ws es e in
     sym (list_all-map (λ b. b) (λ z. nat_lt z.task n) es) ∙ ap (list_all (λ b. b)) kept ∙ all_true ws
 
+tasks_policies_there : (n : ℕ) (ws : List WrittenTask) (ts : List Task) → each (task_of n) ws ≡ Ok ts → policies_there ts n ≡ true
+tasks_policies_there n ws ts e =
+    let kept : map (λ z. nat_lt z.policy n) ts ≡ map (λ _. true) ws = each_keeps (task_of n) (λ z. nat_lt z.policy n) (λ _. true) (policy_there n) ws ts e in
+    sym (list_all-map (λ b. b) (λ z. nat_lt z.policy n) ts) ∙ ap (list_all (λ b. b)) kept ∙ all_true ws
+
 both : (a b : Bool) → a ≡ true → b ≡ true → (a && b) ≡ true
 both a b h k = rw (h, k)
 
-pub limits_kept : (w : WrittenJob) (ts : List Task) (es : List Event) → within_limits (written_sizes w) ≡ true → each task_of w.tasks ≡ Ok ts → each (event_of (length w.tasks)) w.events ≡ Ok es → keeps_limits w.policy w.includes ts w.states w.capacity es ≡ true
+pub limits_kept : (w : WrittenJob) (ts : List Task) (es : List Event) → within_limits (written_sizes w) ≡ true → each (task_of (length w.policies)) w.tasks ≡ Ok ts → each (event_of (length w.tasks)) w.events ≡ Ok es → keeps_limits w.policies w.includes ts w.states w.capacity es ≡ true
 limits_kept w ts es within t e =
-    let items : map (λ z. length z.requests) ts ≡ map (λ z. length z.items) w.tasks = each_keeps task_of (λ z. length z.requests) (λ z. length z.items) task_keeps w.tasks ts t in
+    let items : map (λ z. length z.requests) ts ≡ map (λ z. length z.items) w.tasks = each_keeps (task_of (length w.policies)) (λ z. length z.requests) (λ z. length z.items) (task_keeps (length w.policies)) w.tasks ts t in
     let events : length es ≡ length w.events = each_length (event_of (length w.tasks)) w.events es e in
-    let sizes : job_sizes w.policy w.includes ts w.states w.capacity es ≡ written_sizes w =
-    ap (λ (m : List ℕ). let s : Sizes = record { policy = length w.policy; includes = include_sizes w.includes; tasks = m; states = w.states; capacity = w.capacity; events = length es } in s) items
-    ∙ ap (λ (n : ℕ). let s : Sizes = record { policy = length w.policy; includes = include_sizes w.includes; tasks = map (λ z. length z.items) w.tasks; states = w.states; capacity = w.capacity; events = n } in s) events in
-    let there : tasks_there es (length ts) ≡ true = ap (tasks_there es) (each_length task_of w.tasks ts t) ∙ events_there (length w.tasks) w.events es e in
-    both (within_limits (job_sizes w.policy w.includes ts w.states w.capacity es)) (tasks_there es (length ts)) (ap within_limits sizes ∙ within) there
+    let sizes : job_sizes w.policies w.includes ts w.states w.capacity es ≡ written_sizes w =
+    ap (λ (m : List ℕ). let s : Sizes = record { policies = map length w.policies; includes = include_sizes w.includes; tasks = m; states = w.states; capacity = w.capacity; events = length es } in s) items
+    ∙ ap (λ (n : ℕ). let s : Sizes = record { policies = map length w.policies; includes = include_sizes w.includes; tasks = map (λ z. length z.items) w.tasks; states = w.states; capacity = w.capacity; events = n } in s) events in
+    let there : tasks_there es (length ts) ≡ true = ap (tasks_there es) (each_length (task_of (length w.policies)) w.tasks ts t) ∙ events_there (length w.tasks) w.events es e in
+    let policies : policies_there ts (length w.policies) ≡ true = tasks_policies_there (length w.policies) w.tasks ts t in
+    both (within_limits (job_sizes w.policies w.includes ts w.states w.capacity es) && tasks_there es (length ts)) (policies_there ts (length w.policies)) (both (within_limits (job_sizes w.policies w.includes ts w.states w.capacity es)) (tasks_there es (length ts)) (ap within_limits sizes ∙ within) there) policies
 
 if_true_is : {A : Type 0} (b : Bool) (f : b ≡ true → A) (other : A) (h : b ≡ true) → if_true b f other ≡ f h
 if_true_is true f other h =
@@ -90,12 +106,12 @@ if_true_is true f other h =
 if_true_is false f other h = absurd cc
 
 -- a job is the one of its parts
-sealed_is : (j : Job) → sealed j.policy j.includes j.tasks j.states j.capacity j.events ≡ Ok j
+sealed_is : (j : Job) → sealed j.policies j.several j.includes j.tasks j.states j.capacity j.events ≡ Ok j
 unfolding sealed
-sealed_is j = if_true_is (keeps_limits j.policy j.includes j.tasks j.states j.capacity j.events)
-    (λ kept. Ok (record { policy = j.policy; includes = j.includes; tasks = j.tasks; states = j.states; capacity = j.capacity; events = j.events; limits = kept }))
+sealed_is j = if_true_is (keeps_limits j.policies j.includes j.tasks j.states j.capacity j.events)
+    (λ kept. Ok (record { policies = j.policies; several = j.several; includes = j.includes; tasks = j.tasks; states = j.states; capacity = j.capacity; events = j.events; limits = kept }))
     (Err TooLarge) j.limits
 
-pub meaning_is : (w : WrittenJob) (j : Job) → each task_of w.tasks ≡ Ok j.tasks → each (event_of (length w.tasks)) w.events ≡ Ok j.events → w.policy ≡ j.policy → w.includes ≡ j.includes → w.states ≡ j.states → w.capacity ≡ j.capacity → meaning w ≡ Ok j
+pub meaning_is : (w : WrittenJob) (j : Job) → each (task_of (length w.policies)) w.tasks ≡ Ok j.tasks → each (event_of (length w.tasks)) w.events ≡ Ok j.events → w.policies ≡ j.policies → w.several ≡ j.several → w.includes ≡ j.includes → w.states ≡ j.states → w.capacity ≡ j.capacity → meaning w ≡ Ok j
 unfolding meaning
-meaning_is w j t e p i s c = rw (t, e, p, i, s, c) (sealed_is j)
+meaning_is w j t e p m i s c = rw (t, e, p, m, i, s, c) (sealed_is j)

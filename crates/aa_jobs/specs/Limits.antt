@@ -7,21 +7,24 @@ use Rattle.aa_jobs.specs.declared.job.Event.{Event}
 
 -- the bytes of the texts, the items of each task, and the numbers
 pub record Sizes : Type 0 where
-  pub policy : ℕ
+  pub policies : List ℕ
   pub includes : List ℕ
   pub tasks : List ℕ
   pub states : ℕ
   pub capacity : ℕ
   pub events : ℕ
 
+abbrev pub policies_fit : Sizes → Bool
+policies_fit s = nat_le 1 (length s.policies) && nat_le (length s.policies) 16 && list_all (λ n. nat_le n 1048576) s.policies
+
 abbrev pub texts_fit : Sizes → Bool
-texts_fit s = nat_le s.policy 1048576 && nat_le (length s.includes) 4095 && list_all (λ n. nat_le n 1048576) s.includes
+texts_fit s = policies_fit s && nat_le (length s.includes) 4095 && list_all (λ n. nat_le n 1048576) s.includes
 
 abbrev pub lists_fit : Sizes → Bool
 lists_fit s = nat_le (length s.tasks) 1024 && list_all (λ n. nat_le n 65536) s.tasks && nat_le s.events 1000000
 
 abbrev pub numbers_fit : Sizes → Bool
-numbers_fit s = nat_le 1 s.states && nat_le s.states 65535 && nat_le 1 s.capacity && nat_le s.capacity 1024
+numbers_fit s = nat_le 1 s.states && nat_le s.states 1000000 && nat_le 1 s.capacity && nat_le s.capacity 1024
 
 abbrev pub within_limits : Sizes → Bool
 within_limits s = texts_fit s && lists_fit s && numbers_fit s
@@ -29,13 +32,17 @@ within_limits s = texts_fit s && lists_fit s && numbers_fit s
 abbrev pub include_sizes : List Include → List ℕ
 include_sizes is = map (λ i. length i.text) is
 
-abbrev pub job_sizes : List ℕ → List Include → List Task → ℕ → ℕ → List Event → Sizes
-job_sizes policy includes tasks states capacity events = record { policy = length policy; includes = include_sizes includes; tasks = map (λ t. length t.requests) tasks; states = states; capacity = capacity; events = length events }
+abbrev pub job_sizes : List (List ℕ) → List Include → List Task → ℕ → ℕ → List Event → Sizes
+job_sizes policies includes tasks states capacity events = record { policies = map length policies; includes = include_sizes includes; tasks = map (λ t. length t.requests) tasks; states = states; capacity = capacity; events = length events }
 
 -- each event's task is there
 abbrev pub tasks_there : List Event → ℕ → Bool
 tasks_there events tasks = list_all (λ e. nat_lt e.task tasks) events
 
+-- each task's policy is there
+abbrev pub policies_there : List Task → ℕ → Bool
+policies_there tasks policies = list_all (λ t. nat_lt t.policy policies) tasks
+
 -- what the type of a job keeps
-abbrev pub keeps_limits : List ℕ → List Include → List Task → ℕ → ℕ → List Event → Bool
-keeps_limits policy includes tasks states capacity events = within_limits (job_sizes policy includes tasks states capacity events) && tasks_there events (length tasks)
+abbrev pub keeps_limits : List (List ℕ) → List Include → List Task → ℕ → ℕ → List Event → Bool
+keeps_limits policies includes tasks states capacity events = within_limits (job_sizes policies includes tasks states capacity events) && tasks_there events (length tasks) && policies_there tasks (length policies)

@@ -3,7 +3,7 @@ use Rattle.std.specs.Prelude.{◌≡◌, ℕ, ◌&&◌, ◌||◌, ◌==◌, List
 use Rattle.std.specs.List.{list_any, list_all}
 use Rattle.std.specs.Str.{bytes_eq}
 use Rattle.aa_requests.specs.declared.request.Request.{Request}
-use Rattle.aa_requests.specs.declared.request.Request.TheVariants.{File}
+use Rattle.aa_requests.specs.declared.request.Request.TheVariants as requests
 use Rattle.aa_jobs.specs.declared.job_fault.JobFault.{JobFault}
 use Rattle.aa_jobs.specs.declared.job_fault.JobFault.TheVariants.{BadRequest, TooLarge}
 use Rattle.aa_jobs.specs.declared.job.Include.{Include}
@@ -14,9 +14,10 @@ use Rattle.aa_jobs.specs.declared.job.EventName.{EventName}
 use Rattle.aa_jobs.specs.declared.job.EventName.TheVariants.{Send, Take, Finish, Collect, Shut}
 use Rattle.aa_jobs.specs.declared.job.Event.{Event}
 use Rattle.aa_jobs.specs.declared.job.Job.{Job}
-use Rattle.aa_requests.specs.Requests.{is_path, is_mask}
-use Rattle.aa_jobs.specs.Steps.{◌>>=◌, only_if, each}
-use Rattle.aa_jobs.specs.Written.{WrittenItem, exit_item, file_item, link_item, exec_item, cap_item, net_item, WrittenTask, WrittenEvent, WrittenJob}
+use Rattle.aa_tables.specs.Tables.{number_in, capability_names, family_names, sock_type_names}
+use Rattle.aa_requests.specs.Requests.{is_path, is_mask, is_wanted_name}
+use Rattle.aa_jobs.specs.Steps.{◌>>=◌, needed, only_if, each}
+use Rattle.aa_jobs.specs.Written.{WrittenItem, exit_item, file_item, link_item, exec_item, cap_item, net_item, change_item, reload_item, WrittenTask, WrittenEvent, WrittenJob}
 use Rattle.aa_jobs.specs.Limits.{Sizes, include_sizes, keeps_limits}
 
 -- ---- requests
@@ -34,18 +35,55 @@ mask_bits letters = bit_or (bit_or (bit_or (bit_or (bit_if letters 114 1) (bit_i
 
 -- a request for a file, where its letters are known and its path and mask can be asked for
 abbrev pub file_request : List ℕ → List ℕ → Bool → Result Request JobFault
-file_request path letters owned = if list_all is_letter letters && is_path path && is_mask (mask_bits letters) then Ok (File (record { path = path; mask = record { 0 = mask_bits letters }; owned = owned })) else Err BadRequest
+file_request path letters owned = if list_all is_letter letters && is_path path && is_mask (mask_bits letters) then Ok (requests.File (record { path = path; mask = record { 0 = mask_bits letters }; owned = owned })) else Err BadRequest
 
-unfoldable pub work_of : WrittenItem → Result Work JobFault
-work_of exit_item = Ok Exit
-work_of (file_item path letters owned) = file_request path letters owned >>= λ r. Ok (Ask r)
-work_of (link_item path target owned) = Err BadRequest
-work_of (exec_item path owned) = Err BadRequest
-work_of (cap_item name) = Err BadRequest
-work_of (net_item family kind) = Err BadRequest
+-- a request for a hard link at a path to another, where both are paths
+abbrev pub link_request : List ℕ → List ℕ → Bool → Result Request JobFault
+link_request path target owned = if is_path path && is_path target then Ok (requests.Link (record { link = path; target = target; owned = owned })) else Err BadRequest
 
-unfoldable pub task_of : WrittenTask → Result Task JobFault
-task_of w = each work_of w.items >>= λ requests. Ok (record { label = w.label; requests = requests })
+abbrev pub exec_request : List ℕ → Bool → Result Request JobFault
+exec_request path owned = if is_path path then Ok (requests.Exec (record { path = path; owned = owned })) else Err BadRequest
+
+-- requests by names of the tables
+abbrev pub cap_request : List ℕ → Result Request JobFault
+cap_request name = do
+  cap ← needed BadRequest (number_in capability_names name)
+  Ok (requests.Cap cap)
+
+abbrev pub net_request : List ℕ → List ℕ → Result Request JobFault
+net_request family kind = do
+  f ← needed BadRequest (number_in family_names family)
+  k ← needed BadRequest (number_in sock_type_names kind)
+  Ok (requests.Net f k)
+
+-- a request to change the profile, where the name can be asked for
+abbrev pub change_request : List ℕ → Result Request JobFault
+change_request name = if is_wanted_name name then Ok (requests.Change name) else Err BadRequest
+
+-- a request to be decided by one of that many policies
+abbrev pub reload_request : ℕ → ℕ → Result Request JobFault
+reload_request policies policy = if nat_lt policy policies then Ok (requests.Reload policy) else Err BadRequest
+
+abbrev pub asked : Result Request JobFault → Result Work JobFault
+asked given = given >>= λ r. Ok (Ask r)
+
+-- an item's request, in a job of that many policies
+unfoldable pub work_of : ℕ → WrittenItem → Result Work JobFault
+work_of policies exit_item = Ok Exit
+work_of policies (file_item path letters owned) = asked (file_request path letters owned)
+work_of policies (link_item path target owned) = asked (link_request path target owned)
+work_of policies (exec_item path owned) = asked (exec_request path owned)
+work_of policies (cap_item name) = asked (cap_request name)
+work_of policies (net_item family kind) = asked (net_request family kind)
+work_of policies (change_item name) = asked (change_request name)
+work_of policies (reload_item policy) = asked (reload_request policies policy)
+
+-- a task, in a job of that many policies
+unfoldable pub task_of : ℕ → WrittenTask → Result Task JobFault
+task_of policies w = do
+  _ ← only_if (nat_lt w.policy policies) BadRequest
+  requests ← each (work_of policies) w.items
+  Ok (record { label = w.label; policy = w.policy; requests = requests })
 
 -- ---- events
 
@@ -72,17 +110,17 @@ if_true true f other = f refl
 if_true false f other = other
 
 -- the job of these parts, which keeps the limits: they are looked at before, so the other case doesn't come up
-unfoldable pub sealed : List ℕ → List Include → List Task → ℕ → ℕ → List Event → Result Job JobFault
-sealed policy includes tasks states capacity events =
-    if_true (keeps_limits policy includes tasks states capacity events)
-    (λ kept. Ok (record { policy = policy; includes = includes; tasks = tasks; states = states; capacity = capacity; events = events; limits = kept }))
+unfoldable pub sealed : List (List ℕ) → Bool → List Include → List Task → ℕ → ℕ → List Event → Result Job JobFault
+sealed policies several includes tasks states capacity events =
+    if_true (keeps_limits policies includes tasks states capacity events)
+    (λ kept. Ok (record { policies = policies; several = several; includes = includes; tasks = tasks; states = states; capacity = capacity; events = events; limits = kept }))
     (Err TooLarge)
 
 abbrev pub written_sizes : WrittenJob → Sizes
-written_sizes w = record { policy = length w.policy; includes = include_sizes w.includes; tasks = map (λ t. length t.items) w.tasks; states = w.states; capacity = w.capacity; events = length w.events }
+written_sizes w = record { policies = map length w.policies; includes = include_sizes w.includes; tasks = map (λ t. length t.items) w.tasks; states = w.states; capacity = w.capacity; events = length w.events }
 
 unfoldable pub meaning : WrittenJob → Result Job JobFault
 meaning w = do
-  tasks ← each task_of w.tasks
+  tasks ← each (task_of (length w.policies)) w.tasks
   events ← each (event_of (length w.tasks)) w.events
-  sealed w.policy w.includes tasks w.states w.capacity events
+  sealed w.policies w.several w.includes tasks w.states w.capacity events

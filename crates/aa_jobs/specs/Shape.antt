@@ -8,21 +8,23 @@ use Rattle.aa_jobs.specs.declared.job_fault.JobFault.{JobFault}
 use Rattle.aa_jobs.specs.declared.job_fault.JobFault.TheVariants.{BadShape}
 use Rattle.aa_jobs.specs.declared.job.Include.{Include}
 use Rattle.aa_jobs.specs.declared.shape.Part.{Part}
-use Rattle.aa_jobs.specs.declared.shape.Part.TheVariants.{Whole, OfTask, OfFile, OfLink, OfExec, OfCap, OfNet}
+use Rattle.aa_jobs.specs.declared.shape.Part.TheVariants.{Whole, OfTask, OfFile, OfLink, OfExec, OfCap, OfNet, OfChange, OfReload}
 use Rattle.aa_jobs.specs.Steps.{◌>>=◌, needed, only_if, each}
-use Rattle.aa_jobs.specs.Written.{WrittenItem, exit_item, file_item, link_item, exec_item, cap_item, net_item, WrittenTask, WrittenEvent, WrittenJob}
+use Rattle.aa_jobs.specs.Written.{WrittenItem, exit_item, file_item, link_item, exec_item, cap_item, net_item, change_item, reload_item, WrittenTask, WrittenEvent, WrittenJob}
 
 -- ---- keys
 
 -- the keys that an object of a job may have
 abbrev pub keys_of : Part → List (List ℕ)
-keys_of Whole = codes "policy" ∷ codes "includes" ∷ codes "tasks" ∷ codes "states" ∷ codes "capacity" ∷ codes "events" ∷ []
-keys_of OfTask = codes "label" ∷ codes "requests" ∷ []
+keys_of Whole = codes "policy" ∷ codes "policies" ∷ codes "includes" ∷ codes "tasks" ∷ codes "states" ∷ codes "capacity" ∷ codes "events" ∷ []
+keys_of OfTask = codes "label" ∷ codes "policy" ∷ codes "requests" ∷ []
 keys_of OfFile = codes "file" ∷ codes "mask" ∷ codes "owned" ∷ []
 keys_of OfLink = codes "link" ∷ codes "to" ∷ codes "owned" ∷ []
 keys_of OfExec = codes "exec" ∷ codes "owned" ∷ []
 keys_of OfCap = codes "cap" ∷ []
 keys_of OfNet = codes "net" ∷ codes "type" ∷ []
+keys_of OfChange = codes "change" ∷ []
+keys_of OfReload = codes "reload" ∷ []
 
 abbrev pub is_key : Part → List ℕ → Bool
 is_key part k = list_any (λ n. bytes_eq k n) (keys_of part)
@@ -62,6 +64,9 @@ list_in d = needed BadShape (option_map data_list (as_array d))
 
 abbrev pub text_at : List ℕ → Data → Result (List ℕ) JobFault
 text_at k d = needed BadShape (get k d) >>= text_in
+
+abbrev pub number_at : List ℕ → Data → Result ℕ JobFault
+number_at k d = needed BadShape (get k d) >>= number_in
 
 abbrev pub list_at : List ℕ → Data → Result (List Data) JobFault
 list_at k d = needed BadShape (get k d) >>= list_in
@@ -114,6 +119,18 @@ net_shape d = do
   kind ← text_at (codes "type") d
   Ok (net_item family kind)
 
+unfoldable pub change_shape : Data → Result WrittenItem JobFault
+change_shape d = do
+  _ ← only_if (fits OfChange d) BadShape
+  name ← text_at (codes "change") d
+  Ok (change_item name)
+
+unfoldable pub reload_shape : Data → Result WrittenItem JobFault
+reload_shape d = do
+  _ ← only_if (fits OfReload d) BadShape
+  policy ← number_at (codes "reload") d
+  Ok (reload_item policy)
+
 abbrev pub has : List ℕ → Data → Bool
 has k d = is_some (get k d)
 
@@ -125,7 +142,9 @@ request_shape d =
     else (if has (codes "exec") d then exec_shape d
     else (if has (codes "cap") d then cap_shape d
     else (if has (codes "net") d then net_shape d
-    else Err BadShape))))
+    else (if has (codes "change") d then change_shape d
+    else (if has (codes "reload") d then reload_shape d
+    else Err BadShape))))))
 
 -- the one text that is an item
 abbrev pub word_shape : List ℕ → Result WrittenItem JobFault
@@ -144,9 +163,10 @@ unfoldable pub task_shape : Data → Result WrittenTask JobFault
 task_shape d = do
   _ ← only_if (fits OfTask d) BadShape
   label ← text_at (codes "label") d
+  policy ← number_from 0 (get (codes "policy") d)
   requests ← list_at (codes "requests") d
   items ← each item_shape requests
-  Ok (record { label = label; items = items })
+  Ok (record { label = label; policy = policy; items = items })
 
 -- a list of two: a task's number, and the event's name
 abbrev pub pair_shape : List Data → Result WrittenEvent JobFault
@@ -175,14 +195,21 @@ abbrev pub includes_from : Option Data → Result (List Include) JobFault
 includes_from None = Ok []
 includes_from (Some d) = includes_in d
 
+-- the one text of policy, or the texts of policies, and not both
+abbrev pub policies_from : Option Data → Option Data → Result (List (List ℕ)) JobFault
+policies_from None None = Err BadShape
+policies_from (Some one) None = text_in one >>= λ policy. Ok (policy ∷ [])
+policies_from None (Some several) = list_in several >>= each text_in
+policies_from (Some one) (Some several) = Err BadShape
+
 unfoldable pub job_shape : Data → Result WrittenJob JobFault
 job_shape d = do
   _ ← only_if (fits Whole d) BadShape
-  policy ← text_at (codes "policy") d
+  policies ← policies_from (get (codes "policy") d) (get (codes "policies") d)
   includes ← includes_from (get (codes "includes") d)
   list ← list_at (codes "tasks") d
   tasks ← each task_shape list
   states ← number_from 4096 (get (codes "states") d)
   capacity ← number_from 1 (get (codes "capacity") d)
   events ← events_from (get (codes "events") d)
-  Ok (record { policy = policy; includes = includes; tasks = tasks; states = states; capacity = capacity; events = events })
+  Ok (record { policies = policies; several = has (codes "policies") d; includes = includes; tasks = tasks; states = states; capacity = capacity; events = events })

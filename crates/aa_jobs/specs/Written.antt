@@ -10,17 +10,22 @@ pub data WrittenItem : Type 0 where
   exec_item : (path : List ℕ) (owned : Bool) → WrittenItem
   cap_item : (name : List ℕ) → WrittenItem
   net_item : (family kind : List ℕ) → WrittenItem
+  change_item : (name : List ℕ) → WrittenItem
+  reload_item : (policy : ℕ) → WrittenItem
 
 pub record WrittenTask : Type 0 where
   pub label : List ℕ
+  pub policy : ℕ
   pub items : List WrittenItem
 
 pub record WrittenEvent : Type 0 where
   pub task : ℕ
   pub name : List ℕ
 
+-- several where the policies stand in a list
 pub record WrittenJob : Type 0 where
-  pub policy : List ℕ
+  pub policies : List (List ℕ)
+  pub several : Bool
   pub includes : List Include
   pub tasks : List WrittenTask
   pub states : ℕ

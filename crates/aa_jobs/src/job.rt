@@ -1,4 +1,4 @@
-//! Jobs: a policy's text, and tasks with what they ask.
+//! Jobs: the texts of policies, and tasks with what they ask.
 
 ghost use Rattle.std.specs.Prelude.{IsTrue};
 ghost use Rattle.aa_jobs.specs.Limits.{keeps_limits};
@@ -6,7 +6,7 @@ ghost use Rattle.aa_jobs.specs.Limits.{keeps_limits};
 use aa_lists::{Seq, Text};
 use aa_requests::Request;
 
-/// A text that the policy may include, by its name.
+/// A text that the policies may include, by its name.
 #[derive(Drop)]
 pub struct Include {
     pub name: Text,
@@ -24,8 +24,10 @@ pub enum Work {
 /// A task, confined as its label says, and what it asks, in order.
 #[derive(Drop)]
 pub struct Task {
-    /// `unconfined`, or a profile's full name.
+    /// `unconfined`, or the full name of a profile of its policy.
     pub label: Text,
+    /// The number of the policy that decides for it, counted from 0.
+    pub policy: u16,
     pub requests: Seq<Work>,
 }
 
@@ -46,11 +48,14 @@ pub struct Event {
     pub name: EventName,
 }
 
-/// A job. It keeps the limits: 1 to 65,535 states, a capacity of 1 to 1,024, at most 1,024 tasks with 65,536 items each,
-/// 4,095 included texts, 1,000,000 events, 1,048,576 bytes of each text; and each event's task is there.
+/// A job. It keeps the limits: 1 to 16 policies, 1 to 1,000,000 states, a capacity of 1 to 1,024, at most 1,024 tasks with 65,536 items each,
+/// 4,095 included texts, 1,000,000 events, 1,048,576 bytes of each text; and each event's task and each task's policy is there.
 #[derive(Drop)]
 pub struct Job {
-    pub policy: Text,
+    /// The policies, numbered from 0.
+    pub policies: Seq<Text>,
+    /// Whether they were written as a list.
+    pub several: bool,
     /// The files 1, 2, .. in byte order of their names.
     pub includes: Seq<Include>,
     pub tasks: Seq<Task>,
@@ -59,5 +64,5 @@ pub struct Job {
     /// How many requests a lane holds.
     pub capacity: u32,
     pub events: Seq<Event>,
-    ghost limits: { IsTrue (keeps_limits policy includes tasks states capacity events) },
+    ghost limits: { IsTrue (keeps_limits policies includes tasks states capacity events) },
 }

@@ -15,10 +15,12 @@ pub enum JobFault {
     /// The bytes are no UTF-8, or no JSON that nests at most 127 deep.
     #[error("job 2 NotJson")]
     NotJson,
-    /// A key is missing or unknown, a value is of another kind, or a number isn't held as a `u64`.
+    /// A key is missing or unknown, `policy` and `policies` stand both or neither, a value is of another kind, or a number
+    /// isn't held as a `u64`.
     #[error("job 3 BadShape")]
     BadShape,
-    /// A path or mask that can't be asked for, an unknown letter or name, or an event of a task that isn't there.
+    /// A path, mask or name that can't be asked for, an unknown letter or name, a policy that isn't there, or an event of a
+    /// task that isn't there.
     #[error("job 4 BadRequest")]
     BadRequest,
     /// The bytes, a text, a list or a number is over its limit.

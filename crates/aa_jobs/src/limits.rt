@@ -2,13 +2,16 @@
 
 ghost use Rattle.std.specs.Prelude.{◌≡◌, length, map, nat_le};
 ghost use Rattle.std.specs.List.{list_all};
-ghost use Rattle.aa_jobs.specs.Limits.{include_sizes, texts_fit, lists_fit, numbers_fit, within_limits};
+ghost use Rattle.aa_jobs.specs.Limits.{include_sizes, policies_fit, texts_fit, lists_fit, numbers_fit, within_limits};
 ghost use Rattle.aa_jobs.specs.Meaning.{written_sizes};
-ghost use Rattle.aa_jobs.specs.Raw.{raw_include, raw_task, raw_job};
+ghost use Rattle.aa_jobs.specs.Raw.{raw_text, raw_include, raw_task, raw_job};
 
 use crate::raw::{RawInclude, RawJob, RawTask};
 
-/// How many bytes the policy's text, and each included one, may have.
+/// How many policies there may be.
+const MAX_POLICIES: usize = 16;
+
+/// How many bytes each policy's text, and each included one, may have.
 const MAX_TEXT: usize = 1_048_576;
 
 /// How many texts may be included.
@@ -24,7 +27,7 @@ const MAX_ITEMS: usize = 65_536;
 const MAX_EVENTS: usize = 1_000_000;
 
 /// How many states an automaton may be allowed.
-const MAX_STATES: u64 = 65_535;
+const MAX_STATES: u64 = 1_000_000;
 
 /// How many requests a lane may hold.
 const MAX_CAPACITY: u64 = 1024;
@@ -55,10 +58,30 @@ fn each_task_fits(tasks: &[RawTask]) -> bool
     all_tasks_fit(tasks)
 }
 
+fn all_policies_fit(policies: &[&str]) -> bool
+    ensures { result ≡ list_all (λ p. nat_le (length p.now) 1048576) policies.now }
+{
+    policies.iter().all(|policy| policy.len() <= MAX_TEXT)
+}
+
+fn each_policy_fits(policies: &[&str]) -> bool
+    ensures { result ≡ list_all (λ n. nat_le n 1048576) (map length (map raw_text policies.now)) }
+{
+    all_policies_fit(policies)
+}
+
+fn policies_within(job: &RawJob) -> bool
+    ensures { result ≡ policies_fit (written_sizes (raw_job job.now)) }
+{
+    1 <= job.policies.len()
+        && job.policies.len() <= MAX_POLICIES
+        && each_policy_fits(job.policies.as_slice())
+}
+
 fn texts_within(job: &RawJob) -> bool
     ensures { result ≡ texts_fit (written_sizes (raw_job job.now)) }
 {
-    job.policy.len() <= MAX_TEXT
+    policies_within(job)
         && job.includes.len() <= MAX_INCLUDES
         && each_text_fits(job.includes.as_slice())
 }

@@ -4,15 +4,15 @@ ghost use Rattle.std.specs.Prelude.{◌≡◌, ◌==◌, map, true, IfOk};
 ghost use Rattle.std.specs.List.{list_any, list_all};
 ghost use Rattle.aa_jobs.specs.Steps.{Gives, each};
 ghost use Rattle.aa_jobs.specs.Limits.{within_limits};
-ghost use Rattle.aa_jobs.specs.Meaning.{is_letter, bit_if, mask_bits, file_request, work_of, task_of, event_name, event_of, written_sizes, meaning};
-ghost use Rattle.aa_jobs.specs.Raw.{raw_item, raw_task, raw_event, raw_include, raw_job};
+ghost use Rattle.aa_jobs.specs.Meaning.{is_letter, bit_if, mask_bits, file_request, link_request, exec_request, cap_request, net_request, change_request, reload_request, work_of, task_of, event_name, event_of, written_sizes, meaning};
+ghost use Rattle.aa_jobs.specs.Raw.{raw_text, raw_item, raw_task, raw_event, raw_include, raw_job};
 
 use crate::job::{Event, EventName, Include, Job, Task, Work};
 use crate::job_fault::JobFault;
 use crate::raw::{RawEvent, RawInclude, RawItem, RawJob, RawTask};
 use aa_lists::{Seq, Text};
 use aa_requests::{Request, RequestFault};
-use aa_tables::Perms;
+use aa_tables::{Cap, Family, Perms, SockType};
 use bitflags::Flags;
 use std::alloc::{AllocError, Global};
 
@@ -59,58 +59,131 @@ fn file_work(alloc: Global, path: &[u8], letters: &[u8], owned: bool) -> Result<
     match Request::file(alloc, path, mask_of(letters), owned) {
         Ok(request) => Ok(request),
         Err(RequestFault::NoMemory) => Err(JobFault::NoMemory),
-        Err(RequestFault::BadPath | RequestFault::BadMask) => Err(JobFault::BadRequest),
-    }
-}
-
-#[tactic(auto, unfolding(crate::specs::Meaning::work_of))]
-fn work(alloc: Global, item: &RawItem) -> Result<Work, JobFault>
-    ensures { Gives (λ w. w) result (work_of (raw_item item.now)) }
-{
-    match item {
-        RawItem::Exit => Ok(Work::Exit),
-        RawItem::File {
-            path,
-            letters,
-            owned,
-        } => {
-            let request = file_work(alloc, path.as_bytes(), letters.as_bytes(), *owned)?;
-            Ok(Work::Ask(request))
-        }
-        RawItem::Link { .. } | RawItem::Exec { .. } | RawItem::Cap { .. } | RawItem::Net { .. } => {
+        Err(RequestFault::BadPath | RequestFault::BadMask | RequestFault::BadName) => {
             Err(JobFault::BadRequest)
         }
     }
 }
 
-fn works(alloc: Global, items: &[RawItem]) -> Result<Vec<Work>, JobFault>
-    ensures { Gives (λ v. v.items) result (each work_of (map raw_item items.now)) }
+fn link_work(alloc: Global, path: &[u8], target: &[u8], owned: bool) -> Result<Request, JobFault>
+    ensures { Gives (λ r. r) result (link_request path.now target.now owned) }
 {
-    let mut requests = Vec::new(alloc);
+    match Request::link(alloc, path, target, owned) {
+        Ok(request) => Ok(request),
+        Err(RequestFault::NoMemory) => Err(JobFault::NoMemory),
+        Err(RequestFault::BadPath | RequestFault::BadMask | RequestFault::BadName) => {
+            Err(JobFault::BadRequest)
+        }
+    }
+}
+
+fn exec_work(alloc: Global, path: &[u8], owned: bool) -> Result<Request, JobFault>
+    ensures { Gives (λ r. r) result (exec_request path.now owned) }
+{
+    match Request::exec(alloc, path, owned) {
+        Ok(request) => Ok(request),
+        Err(RequestFault::NoMemory) => Err(JobFault::NoMemory),
+        Err(RequestFault::BadPath | RequestFault::BadMask | RequestFault::BadName) => {
+            Err(JobFault::BadRequest)
+        }
+    }
+}
+
+fn cap_work(name: &[u8]) -> Result<Request, JobFault>
+    ensures { Gives (λ r. r) result (cap_request name.now) }
+{
+    let cap = Cap::from_name(name).ok_or(JobFault::BadRequest)?;
+    Ok(Request::cap(cap))
+}
+
+fn net_work(family: &[u8], kind: &[u8]) -> Result<Request, JobFault>
+    ensures { Gives (λ r. r) result (net_request family.now kind.now) }
+{
+    let family = Family::from_name(family).ok_or(JobFault::BadRequest)?;
+    let kind = SockType::from_name(kind).ok_or(JobFault::BadRequest)?;
+    Ok(Request::net(family, kind))
+}
+
+fn change_work(alloc: Global, name: &[u8]) -> Result<Request, JobFault>
+    ensures { Gives (λ r. r) result (change_request name.now) }
+{
+    match Request::change(alloc, name) {
+        Ok(request) => Ok(request),
+        Err(RequestFault::NoMemory) => Err(JobFault::NoMemory),
+        Err(RequestFault::BadPath | RequestFault::BadMask | RequestFault::BadName) => {
+            Err(JobFault::BadRequest)
+        }
+    }
+}
+
+/// A request to be decided by one of that many policies.
+fn reload_work(policy: u64, policies: u16) -> Result<Request, JobFault>
+    ensures { Gives (λ r. r) result (reload_request policies policy) }
+{
+    if policy < policies as u64 {
+        Ok(Request::reload(policy as u16))
+    } else {
+        Err(JobFault::BadRequest)
+    }
+}
+
+#[tactic(auto, unfolding(crate::specs::Meaning::work_of))]
+fn work(alloc: Global, item: &RawItem, policies: u16) -> Result<Work, JobFault>
+    ensures { Gives (λ w. w) result (work_of policies (raw_item item.now)) }
+{
+    let request = match item {
+        RawItem::Exit => return Ok(Work::Exit),
+        RawItem::File {
+            path,
+            letters,
+            owned,
+        } => file_work(alloc, path.as_bytes(), letters.as_bytes(), *owned)?,
+        RawItem::Link {
+            path,
+            target,
+            owned,
+        } => link_work(alloc, path.as_bytes(), target.as_bytes(), *owned)?,
+        RawItem::Exec { path, owned } => exec_work(alloc, path.as_bytes(), *owned)?,
+        RawItem::Cap { name } => cap_work(name.as_bytes())?,
+        RawItem::Net { family, kind } => net_work(family.as_bytes(), kind.as_bytes())?,
+        RawItem::Change { name } => change_work(alloc, name.as_bytes())?,
+        RawItem::Reload { policy } => reload_work(*policy, policies)?,
+    };
+    Ok(Work::Ask(request))
+}
+
+fn works(alloc: Global, items: &[RawItem], policies: u16) -> Result<Vec<Work>, JobFault>
+    ensures { Gives (λ v. v.items) result (each (work_of policies) (map raw_item items.now)) }
+{
+    let mut requests = Vec::with_capacity(alloc, items.len())?;
     for item in items {
-        requests.push(work(alloc, item)?)?;
+        requests.push(work(alloc, item, policies)?)?;
     }
     Ok(requests)
 }
 
 #[tactic(auto, unfolding(crate::specs::Meaning::task_of))]
-fn task(alloc: Global, raw: &RawTask) -> Result<Task, JobFault>
-    ensures { Gives (λ t. t) result (task_of (raw_task raw.now)) }
+fn task(alloc: Global, raw: &RawTask, policies: u16) -> Result<Task, JobFault>
+    ensures { Gives (λ t. t) result (task_of policies (raw_task raw.now)) }
 {
-    let requests = works(alloc, raw.items.as_slice())?;
+    if raw.policy >= policies as u64 {
+        return Err(JobFault::BadRequest);
+    }
+    let requests = works(alloc, raw.items.as_slice(), policies)?;
     let label = Text::copy_of(alloc, raw.label.as_bytes())?;
     Ok(Task {
         label,
+        policy: raw.policy as u16,
         requests: Seq::from_vec(requests),
     })
 }
 
-fn tasks(alloc: Global, list: &[RawTask]) -> Result<Vec<Task>, JobFault>
-    ensures { Gives (λ v. v.items) result (each task_of (map raw_task list.now)) }
+fn tasks(alloc: Global, list: &[RawTask], policies: u16) -> Result<Vec<Task>, JobFault>
+    ensures { Gives (λ v. v.items) result (each (task_of policies) (map raw_task list.now)) }
 {
-    let mut tasks = Vec::new(alloc);
+    let mut tasks = Vec::with_capacity(alloc, list.len())?;
     for raw in list {
-        tasks.push(task(alloc, raw)?)?;
+        tasks.push(task(alloc, raw, policies)?)?;
     }
     Ok(tasks)
 }
@@ -152,7 +225,7 @@ fn event(raw: &RawEvent, tasks: u32) -> Result<Event, JobFault>
 fn events(alloc: Global, list: &[RawEvent], tasks: u32) -> Result<Vec<Event>, JobFault>
     ensures { Gives (λ v. v.items) result (each (event_of tasks) (map raw_event list.now)) }
 {
-    let mut events = Vec::new(alloc);
+    let mut events = Vec::with_capacity(alloc, list.len())?;
     for raw in list {
         events.push(event(raw, tasks)?)?;
     }
@@ -171,11 +244,21 @@ fn include(alloc: Global, raw: &RawInclude) -> Result<Include, AllocError>
 fn includes(alloc: Global, list: &[RawInclude]) -> Result<Vec<Include>, AllocError>
     ensures { IfOk result (λ v. v.items ≡ map raw_include list.now) }
 {
-    let mut includes = Vec::new(alloc);
+    let mut includes = Vec::with_capacity(alloc, list.len())?;
     for raw in list {
         includes.push(include(alloc, raw)?)?;
     }
     Ok(includes)
+}
+
+fn policies(alloc: Global, list: &[&str]) -> Result<Vec<Text>, AllocError>
+    ensures { IfOk result (λ v. v.items ≡ map raw_text list.now) }
+{
+    let mut policies = Vec::with_capacity(alloc, list.len())?;
+    for text in list {
+        policies.push(Text::copy_of(alloc, text.as_bytes())?)?;
+    }
+    Ok(policies)
 }
 
 /// The job that stands there.
@@ -186,12 +269,14 @@ pub fn job_from(alloc: Global, raw: &RawJob) -> Result<Job, JobFault>
 {
     let list = raw.tasks.as_slice();
     let count = list.len() as u32;
-    let tasks = tasks(alloc, list)?;
+    let texts = raw.policies.as_slice();
+    let tasks = tasks(alloc, list, texts.len() as u16)?;
     let events = events(alloc, raw.events.as_slice(), count)?;
     let includes = includes(alloc, raw.includes.as_slice())?;
-    let policy = Text::copy_of(alloc, raw.policy.as_bytes())?;
+    let policies = policies(alloc, texts)?;
     Ok(Job {
-        policy,
+        policies: Seq::from_vec(policies),
+        several: raw.several,
         includes: Seq::from_vec(includes),
         tasks: Seq::from_vec(tasks),
         states: raw.states as u32,

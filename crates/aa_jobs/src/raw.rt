@@ -25,12 +25,19 @@ pub enum RawItem<'v> {
         family: &'v str,
         kind: &'v str,
     },
+    Change {
+        name: &'v str,
+    },
+    Reload {
+        policy: u64,
+    },
 }
 
-/// A task's label and the items of its list.
+/// A task's label, its policy's number, and the items of its list.
 #[derive(Drop)]
 pub struct RawTask<'v> {
     pub label: &'v str,
+    pub policy: u64,
     pub items: Vec<RawItem<'v>>,
 }
 
@@ -51,7 +58,8 @@ pub struct RawInclude<'v> {
 /// All that stands in a job.
 #[derive(Drop)]
 pub struct RawJob<'v> {
-    pub policy: &'v str,
+    pub policies: Vec<&'v str>,
+    pub several: bool,
     pub includes: Vec<RawInclude<'v>>,
     pub tasks: Vec<RawTask<'v>>,
     pub states: u64,

@@ -1,12 +1,12 @@
 //! The shape of a job: what stands in its JSON value, or `BadShape`.
 
-ghost use Rattle.std.specs.Prelude.{◌≡◌, codes, map};
+ghost use Rattle.std.specs.Prelude.{◌≡◌, codes, map, Some, None};
 ghost use Rattle.std.specs.List.{list_all};
 ghost use Rattle.serde_json.specs.Find.{get};
 ghost use Rattle.aa_jobs.specs.declared.job_fault.JobFault.TheVariants.{BadShape};
 ghost use Rattle.aa_jobs.specs.Steps.{Gives, only_if, each};
-ghost use Rattle.aa_jobs.specs.Shape.{is_key, has_only, fits, text_in, number_in, list_in, text_at, list_at, flag_from, number_from, has, file_shape, link_shape, exec_shape, cap_shape, net_shape, request_shape, item_shape, task_shape, pair_shape, event_shape, include_shape, events_from, includes_in, includes_from, job_shape};
-ghost use Rattle.aa_jobs.specs.Raw.{raw_item, raw_task, raw_event, raw_include, raw_job};
+ghost use Rattle.aa_jobs.specs.Shape.{is_key, has_only, fits, text_in, number_in, list_in, text_at, number_at, list_at, flag_from, number_from, has, file_shape, link_shape, exec_shape, cap_shape, net_shape, change_shape, reload_shape, request_shape, item_shape, task_shape, pair_shape, event_shape, include_shape, events_from, includes_in, includes_from, policies_from, job_shape};
+ghost use Rattle.aa_jobs.specs.Raw.{raw_text, raw_item, raw_task, raw_event, raw_include, raw_job};
 ghost use Rattle.aa_jobs.specs.Trees.{tree_data, object_data, entry_data};
 
 use crate::job_fault::JobFault;
@@ -14,6 +14,9 @@ use crate::raw::{RawEvent, RawInclude, RawItem, RawJob, RawTask};
 use crate::tree::{self, Member, Tree};
 use std::alloc::Global;
 use std::collections::BTreeMap;
+
+/// The number of the policy that decides for a task where it doesn't say.
+const DEFAULT_POLICY: u64 = 0;
 
 /// How many states an automaton may have where the job doesn't say.
 const DEFAULT_STATES: u64 = 4096;
@@ -31,12 +34,15 @@ enum Part {
     OfExec,
     OfCap,
     OfNet,
+    OfChange,
+    OfReload,
 }
 
 fn is_whole_key(key: &str) -> bool
     ensures { result ≡ is_key Part.Whole key.now }
 {
     key == "policy"
+        || key == "policies"
         || key == "includes"
         || key == "tasks"
         || key == "states"
@@ -49,12 +55,14 @@ fn is_known(part: Part, key: &str) -> bool
 {
     match part {
         Part::Whole => is_whole_key(key),
-        Part::OfTask => key == "label" || key == "requests",
+        Part::OfTask => key == "label" || key == "policy" || key == "requests",
         Part::OfFile => key == "file" || key == "mask" || key == "owned",
         Part::OfLink => key == "link" || key == "to" || key == "owned",
         Part::OfExec => key == "exec" || key == "owned",
         Part::OfCap => key == "cap",
         Part::OfNet => key == "net" || key == "type",
+        Part::OfChange => key == "change",
+        Part::OfReload => key == "reload",
     }
 }
 
@@ -144,6 +152,15 @@ fn number_of(value: &Tree, key: &str, default: u64) -> Result<u64, JobFault>
     }
 }
 
+fn number_at(value: &Tree, key: &str) -> Result<u64, JobFault>
+    ensures { Gives (λ n. n) result (number_at key.now (tree_data value.now)) }
+{
+    match tree::member(value, key) {
+        Some(member) => number(member),
+        None => Err(JobFault::BadShape),
+    }
+}
+
 fn has_key(value: &Tree, key: &str) -> bool
     ensures { result ≡ has key.now (tree_data value.now) }
 {
@@ -209,6 +226,24 @@ fn net_item<'t>(value: &Tree<'t>) -> Result<RawItem<'t>, JobFault>
     Ok(RawItem::Net { family, kind })
 }
 
+#[tactic(auto, unfolding(crate::specs::Shape::change_shape))]
+fn change_item<'t>(value: &Tree<'t>) -> Result<RawItem<'t>, JobFault>
+    ensures { Gives raw_item result (change_shape (tree_data value.now)) }
+{
+    expect(Part::OfChange, value)?;
+    let name = text_of(value, "change")?;
+    Ok(RawItem::Change { name })
+}
+
+#[tactic(auto, unfolding(crate::specs::Shape::reload_shape))]
+fn reload_item<'t>(value: &Tree<'t>) -> Result<RawItem<'t>, JobFault>
+    ensures { Gives raw_item result (reload_shape (tree_data value.now)) }
+{
+    expect(Part::OfReload, value)?;
+    let policy = number_at(value, "reload")?;
+    Ok(RawItem::Reload { policy })
+}
+
 /// What an object asks for, by the key that tells its kind.
 #[tactic(auto, unfolding(crate::specs::Shape::request_shape))]
 fn request_item<'t>(value: &Tree<'t>) -> Result<RawItem<'t>, JobFault>
@@ -224,6 +259,10 @@ fn request_item<'t>(value: &Tree<'t>) -> Result<RawItem<'t>, JobFault>
         cap_item(value)
     } else if has_key(value, "net") {
         net_item(value)
+    } else if has_key(value, "change") {
+        change_item(value)
+    } else if has_key(value, "reload") {
+        reload_item(value)
     } else {
         Err(JobFault::BadShape)
     }
@@ -247,7 +286,7 @@ fn item<'t>(value: &Tree<'t>) -> Result<RawItem<'t>, JobFault>
 fn items<'t>(alloc: Global, list: &[Tree<'t>]) -> Result<Vec<RawItem<'t>>, JobFault>
     ensures { Gives (λ v. map raw_item v.items) result (each item_shape (map tree_data list.now)) }
 {
-    let mut items = Vec::new(alloc);
+    let mut items = Vec::with_capacity(alloc, list.len())?;
     for value in list {
         items.push(item(value)?)?;
     }
@@ -260,15 +299,20 @@ fn task<'t>(alloc: Global, value: &Tree<'t>) -> Result<RawTask<'t>, JobFault>
 {
     expect(Part::OfTask, value)?;
     let label = text_of(value, "label")?;
+    let policy = number_of(value, "policy", DEFAULT_POLICY)?;
     let requests = list_of(value, "requests")?;
     let items = items(alloc, requests)?;
-    Ok(RawTask { label, items })
+    Ok(RawTask {
+        label,
+        policy,
+        items,
+    })
 }
 
 fn tasks<'t>(alloc: Global, list: &[Tree<'t>]) -> Result<Vec<RawTask<'t>>, JobFault>
     ensures { Gives (λ v. map raw_task v.items) result (each task_shape (map tree_data list.now)) }
 {
-    let mut tasks = Vec::new(alloc);
+    let mut tasks = Vec::with_capacity(alloc, list.len())?;
     for value in list {
         tasks.push(task(alloc, value)?)?;
     }
@@ -297,7 +341,7 @@ fn event<'t>(value: &Tree<'t>) -> Result<RawEvent<'t>, JobFault>
 fn events<'t>(alloc: Global, list: &[Tree<'t>]) -> Result<Vec<RawEvent<'t>>, JobFault>
     ensures { Gives (λ v. map raw_event v.items) result (each event_shape (map tree_data list.now)) }
 {
-    let mut events = Vec::new(alloc);
+    let mut events = Vec::with_capacity(alloc, list.len())?;
     for value in list {
         events.push(event(value)?)?;
     }
@@ -353,20 +397,54 @@ fn includes_of<'t>(alloc: Global, value: &Tree<'t>) -> Result<Vec<RawInclude<'t>
     }
 }
 
+fn texts<'t>(alloc: Global, list: &[Tree<'t>]) -> Result<Vec<&'t str>, JobFault>
+    ensures { Gives (λ v. map raw_text v.items) result (each text_in (map tree_data list.now)) }
+{
+    let mut texts = Vec::with_capacity(alloc, list.len())?;
+    for value in list {
+        texts.push(text(value)?)?;
+    }
+    Ok(texts)
+}
+
+fn one_text<'t>(alloc: Global, value: &Tree<'t>) -> Result<Vec<&'t str>, JobFault>
+    ensures { Gives (λ v. map raw_text v.items) result (policies_from (Some (tree_data value.now)) None) }
+{
+    let mut texts = Vec::new(alloc);
+    texts.push(text(value)?)?;
+    Ok(texts)
+}
+
+/// The policies: the one text of `policy`, or the texts of `policies`, and not both.
+fn policies_of<'t>(alloc: Global, value: &Tree<'t>) -> Result<Vec<&'t str>, JobFault>
+    ensures { Gives (λ v. map raw_text v.items) result (policies_from (get (codes "policy") (tree_data value.now)) (get (codes "policies") (tree_data value.now))) }
+{
+    match (
+        tree::member(value, "policy"),
+        tree::member(value, "policies"),
+    ) {
+        (Some(one), None) => one_text(alloc, one),
+        (None, Some(several)) => texts(alloc, list(several)?),
+        _ => Err(JobFault::BadShape),
+    }
+}
+
 /// All that stands in a job.
 #[tactic(auto, unfolding(crate::specs::Shape::job_shape))]
 pub fn job<'t>(alloc: Global, value: &Tree<'t>) -> Result<RawJob<'t>, JobFault>
     ensures { Gives raw_job result (job_shape (tree_data value.now)) }
 {
     expect(Part::Whole, value)?;
-    let policy = text_of(value, "policy")?;
+    let policies = policies_of(alloc, value)?;
+    let several = has_key(value, "policies");
     let includes = includes_of(alloc, value)?;
     let tasks = tasks(alloc, list_of(value, "tasks")?)?;
     let states = number_of(value, "states", DEFAULT_STATES)?;
     let capacity = number_of(value, "capacity", DEFAULT_CAPACITY)?;
     let events = events_of(alloc, value)?;
     Ok(RawJob {
-        policy,
+        policies,
+        several,
         includes,
         tasks,
         states,

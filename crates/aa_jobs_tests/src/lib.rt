@@ -4,8 +4,14 @@
 #[cfg(test)]
 mod limit_tests;
 #[cfg(test)]
+mod order_tests;
+#[cfg(test)]
+mod policy_tests;
+#[cfg(test)]
 mod reading_tests;
 #[cfg(test)]
 mod refusal_tests;
+#[cfg(test)]
+mod request_tests;
 #[cfg(test)]
 mod texts;

@@ -11,7 +11,9 @@ fn numbers_have_limits(rt: HostRuntime) -> Result<(), Fail> {
         (r#","states":0"#, Some(JobFault::TooLarge)),
         (r#","states":1"#, None),
         (r#","states":65535"#, None),
-        (r#","states":65536"#, Some(JobFault::TooLarge)),
+        (r#","states":65536"#, None),
+        (r#","states":1000000"#, None),
+        (r#","states":1000001"#, Some(JobFault::TooLarge)),
         (
             r#","states":18446744073709551615"#,
             Some(JobFault::TooLarge),
@@ -48,6 +50,27 @@ fn asking_for(alloc: Global, letters: u32) -> Result<String, AllocError> {
     let path = run_of(alloc, "a", letters)?;
     let item = joined(alloc, r#"{"mask":"r","file":"/"#, path.as_str(), r#""}"#)?;
     asking(alloc, item.as_str())
+}
+
+/// A job that asks to change to a name of so many letters.
+fn changing_to(alloc: Global, letters: u32) -> Result<String, AllocError> {
+    let name = run_of(alloc, "a", letters)?;
+    let item = joined(alloc, r#"{"change":""#, name.as_str(), r#""}"#)?;
+    asking(alloc, item.as_str())
+}
+
+#[test]
+fn a_name_has_1_to_1024_bytes(rt: HostRuntime) -> Result<(), Fail> {
+    for (letters, want) in [
+        (0u32, Some(JobFault::BadRequest)),
+        (1, None),
+        (1024, None),
+        (1025, Some(JobFault::BadRequest)),
+    ] {
+        let text = changing_to(rt.alloc(), letters)?;
+        assert_eq!(rt; fault(rt.alloc(), text.as_str()), want);
+    }
+    Ok(())
 }
 
 #[test]
@@ -89,6 +112,30 @@ fn with_items(alloc: Global, count: u32) -> Result<String, AllocError> {
     asking(alloc, items.as_str())
 }
 
+fn with_policies(alloc: Global, count: u32) -> Result<String, AllocError> {
+    let policies = repeated(alloc, r#""""#, count)?;
+    joined(
+        alloc,
+        r#"{"tasks":[],"policies":["#,
+        policies.as_str(),
+        "]}",
+    )
+}
+
+#[test]
+fn a_job_has_1_to_16_policies(rt: HostRuntime) -> Result<(), Fail> {
+    for (count, want) in [
+        (0u32, Some(JobFault::TooLarge)),
+        (1, None),
+        (16, None),
+        (17, Some(JobFault::TooLarge)),
+    ] {
+        let text = with_policies(rt.alloc(), count)?;
+        assert_eq!(rt; fault(rt.alloc(), text.as_str()), want);
+    }
+    Ok(())
+}
+
 #[test]
 fn lists_have_limits(rt: HostRuntime) -> Result<(), Fail> {
     for (count, want) in [(1024u32, None), (1025, Some(JobFault::TooLarge))] {
@@ -112,6 +159,17 @@ fn with_policy(alloc: Global, count: u32) -> Result<String, AllocError> {
     joined(alloc, r#"{"tasks":[],"policy":""#, blanks.as_str(), r#""}"#)
 }
 
+/// A job of two policies, of which the last has so many bytes.
+fn with_last_policy(alloc: Global, count: u32) -> Result<String, AllocError> {
+    let blanks = run_of(alloc, " ", count)?;
+    joined(
+        alloc,
+        r#"{"tasks":[],"policies":["",""#,
+        blanks.as_str(),
+        r#""]}"#,
+    )
+}
+
 /// A job with an included text of so many bytes.
 fn with_include(alloc: Global, count: u32) -> Result<String, AllocError> {
     let blanks = run_of(alloc, " ", count)?;
@@ -130,6 +188,8 @@ fn texts_have_limits(rt: HostRuntime) -> Result<(), Fail> {
         let text = with_policy(rt.alloc(), count)?;
         assert_eq!(rt; fault(rt.alloc(), text.as_str()), want);
         let text = with_include(rt.alloc(), count)?;
+        assert_eq!(rt; fault(rt.alloc(), text.as_str()), want);
+        let text = with_last_policy(rt.alloc(), count)?;
         assert_eq!(rt; fault(rt.alloc(), text.as_str()), want);
     }
     Ok(())

@@ -10,7 +10,7 @@ use std::test::Fail;
 fn file_of(work: &Work) -> Option<(&[u8], u8, bool)> {
     match work {
         Work::Ask(Request::File(file)) => Some((file.path(), file.mask().0, file.owned())),
-        Work::Exit => None,
+        _ => None,
     }
 }
 
@@ -22,8 +22,12 @@ fn last_task(job: &Job) -> Option<&Task> {
     job.tasks.as_slice().last()
 }
 
-fn policy_of(job: &Job) -> &[u8] {
-    job.policy.as_slice()
+/// The one policy, of a job that wasn't written with several.
+fn policy_of(job: &Job) -> Option<&[u8]> {
+    match job.policies.as_slice() {
+        [policy] if !job.several => Some(policy.as_slice()),
+        _ => None,
+    }
 }
 
 fn label_of(task: &Task) -> &[u8] {
@@ -64,7 +68,7 @@ fn events_of(alloc: Global, job: &Job) -> Result<Vec<(u32, EventName)>, Fail> {
 #[test]
 fn reads_a_policy_and_two_requests(rt: HostRuntime) -> Result<(), Fail> {
     let job = job_of(rt.alloc(), WORKED)?;
-    assert_eq!(rt; policy_of(&job), b"profile p { /etc/passwd r, }".as_slice());
+    assert!(rt; policy_of(&job) == Some(b"profile p { /etc/passwd r, }".as_slice()));
     assert!(rt; counts_of(&job) == [0, 1, 0]);
     assert_eq!(rt; job.states, 4096);
     assert_eq!(rt; job.capacity, 1);
@@ -76,6 +80,7 @@ fn reads_the_requests_of_a_task(rt: HostRuntime) -> Result<(), Fail> {
     let job = job_of(rt.alloc(), WORKED)?;
     let task = first_task(&job).ok_or("there is a task")?;
     assert_eq!(rt; label_of(task), b"p".as_slice());
+    assert_eq!(rt; task.policy, 0);
     assert_eq!(rt; works_of(task).len(), 2);
     let mut bits = 0u8;
     for work in works_of(task) {
@@ -90,15 +95,15 @@ fn reads_the_requests_of_a_task(rt: HostRuntime) -> Result<(), Fail> {
 
 /// A job with all that one may have.
 const WHOLE: &str =
-    r#" {"events":[[0,"send"],[1,"take"],[0,"finish"],[1,"collect"],[0,"shut"]],"capacity":1024,"states":65535,
+    r#" {"events":[[0,"send"],[1,"take"],[0,"finish"],[1,"collect"],[0,"shut"]],"capacity":1024,"states":1000000,
         "tasks":[{"requests":[],"label":"unconfined"},{"label":"","requests":["exit",{"owned":true,"mask":"mkawrrr","file":"/"},"exit"]}],
         "includes":{"b":"2","a/x":"1","Z":"0"},"policy":"\u0041\n"} "#;
 
 #[test]
 fn reads_each_optional_member(rt: HostRuntime) -> Result<(), Fail> {
     let job = job_of(rt.alloc(), WHOLE)?;
-    assert_eq!(rt; policy_of(&job), b"A\n".as_slice());
-    assert_eq!(rt; job.states, 65535);
+    assert!(rt; policy_of(&job) == Some(b"A\n".as_slice()));
+    assert_eq!(rt; job.states, 1_000_000);
     assert_eq!(rt; job.capacity, 1024);
     let order = includes_of(rt.alloc(), &job)?;
     assert_eq!(rt; order.as_slice(), b"Z0a/x1b2".as_slice());

@@ -62,6 +62,19 @@ fn another_shape_is_refused(rt: HostRuntime) {
         r#"{"policy":"","tasks":[{"label":"p","requests":{}}]}"#,
         r#"{"policy":"","tasks":[{"label":"p","requests":[],"name":""}]}"#,
         r#"{"policy":"","tasks":[],"Policy":""}"#,
+        r#"{"policy":"","policies":[""],"tasks":[]}"#,
+        r#"{"policy":"","policies":null,"tasks":[]}"#,
+        r#"{"policies":"","tasks":[]}"#,
+        r#"{"policies":null,"tasks":[]}"#,
+        r#"{"policies":{"0":""},"tasks":[]}"#,
+        r#"{"policies":["",1],"tasks":[]}"#,
+        r#"{"policies":[[""]],"tasks":[]}"#,
+        r#"{"policy":"","tasks":[{"label":"p","requests":[],"policy":"0"}]}"#,
+        r#"{"policy":"","tasks":[{"label":"p","requests":[],"policy":null}]}"#,
+        r#"{"policy":"","tasks":[{"label":"p","requests":[],"policy":-1}]}"#,
+        r#"{"policy":"","tasks":[{"label":"p","requests":[],"policy":0.0}]}"#,
+        r#"{"policy":"","tasks":[{"label":"p","requests":[],"policy":18446744073709551616}]}"#,
+        r#"{"policy":"","tasks":[{"label":"p","requests":[],"policies":0}]}"#,
         r#"{"policy":"","tasks":[],"":""}"#,
     ] {
         assert_eq!(rt;
@@ -143,6 +156,22 @@ fn an_item_of_another_shape_is_refused(rt: HostRuntime) -> Result<(), Fail> {
         r#"{"net":"inet","type":1}"#,
         r#"{"net":"inet","type":"raw","owned":false}"#,
         r#"{"type":"raw"}"#,
+        r#"{"net":"inet","type":"raw","to":"/b"}"#,
+        r#"{"link":"/a","to":"/b","owned":0}"#,
+        r#"{"link":"/a","file":"/b"}"#,
+        r#"{"exec":"/a","to":"/b"}"#,
+        r#"{"cap":null}"#,
+        r#"{"change":1}"#,
+        r#"{"change":null}"#,
+        r#"{"change":"p","owned":false}"#,
+        r#"{"change":"p","exec":"/a"}"#,
+        r#"{"reload":"0"}"#,
+        r#"{"reload":null}"#,
+        r#"{"reload":-1}"#,
+        r#"{"reload":-0}"#,
+        r#"{"reload":0.0}"#,
+        r#"{"reload":18446744073709551616}"#,
+        r#"{"reload":0,"policy":0}"#,
     ] {
         let text = asking(rt.alloc(), item)?;
         assert_eq!(rt;
@@ -165,12 +194,26 @@ fn a_request_that_cannot_be_made_is_refused(rt: HostRuntime) -> Result<(), Fail>
         r#"{"file":"/a","mask":"l"}"#,
         r#"{"file":"/a","mask":"rW"}"#,
         r#"{"file":"/a","mask":"r w"}"#,
-        r#"{"link":"/a","to":"/b","owned":true}"#,
-        r#"{"link":"/a","to":"/b"}"#,
-        r#"{"exec":"/a","owned":true}"#,
-        r#"{"exec":"/a"}"#,
-        r#"{"cap":"kill"}"#,
-        r#"{"net":"inet","type":"stream"}"#,
+        r#"{"link":"a","to":"/b"}"#,
+        r#"{"link":"/a","to":"b"}"#,
+        r#"{"link":"/a","to":"/b\u0000","owned":true}"#,
+        r#"{"link":"","to":"/b"}"#,
+        r#"{"exec":"a","owned":true}"#,
+        r#"{"exec":""}"#,
+        r#"{"exec":"/a\u0000"}"#,
+        r#"{"cap":"CAP_KILL"}"#,
+        r#"{"cap":"Kill"}"#,
+        r#"{"cap":""}"#,
+        r#"{"net":"inet7","type":"stream"}"#,
+        r#"{"net":"stream","type":"stream"}"#,
+        r#"{"net":"inet","type":"tcp"}"#,
+        r#"{"net":"inet","type":"inet"}"#,
+        r#"{"change":""}"#,
+        r#"{"change":"p\u0000"}"#,
+        r#"{"reload":1}"#,
+        r#"{"reload":65535}"#,
+        r#"{"reload":65536}"#,
+        r#"{"reload":18446744073709551615}"#,
     ] {
         let text = asking(rt.alloc(), item)?;
         assert_eq!(rt;
@@ -193,34 +236,4 @@ fn a_request_that_cannot_be_made_is_refused(rt: HostRuntime) -> Result<(), Fail>
         );
     }
     Ok(())
-}
-
-#[test]
-fn the_first_fault_counts(rt: HostRuntime) {
-    for (text, want) in [
-        (r#"{"policy":"","tasks":[],"states":0,"#, JobFault::NotJson),
-        (r#"{"policy":1,"tasks":["#, JobFault::NotJson),
-        (
-            r#"{"policy":"","tasks":[],"states":0,"none":0}"#,
-            JobFault::BadShape,
-        ),
-        (
-            r#"{"policy":"","tasks":[],"states":0,"events":[[0]]}"#,
-            JobFault::BadShape,
-        ),
-        (
-            r#"{"policy":"","tasks":[{"label":"p","requests":[{"file":"etc","mask":"r"},{}]}]}"#,
-            JobFault::BadShape,
-        ),
-        (
-            r#"{"policy":"","tasks":[{"label":"p","requests":[{"file":"etc","mask":"r"}]}],"capacity":0}"#,
-            JobFault::TooLarge,
-        ),
-        (
-            r#"{"policy":"","tasks":[],"capacity":0,"events":[[0,"none"]]}"#,
-            JobFault::TooLarge,
-        ),
-    ] {
-        assert_eq!(rt; fault(rt.alloc(), text), Some(want), "at {text}");
-    }
 }

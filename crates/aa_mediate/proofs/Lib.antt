@@ -1,2 +1,2 @@
-pub mod Named
-pub mod Unions
+mod Holding
+mod SameWays

@@ -1,6 +1,10 @@
 pub use Rattle.aa_faults.specs.Kinds
 pub use Rattle.aa_requests.specs.Requests
-pub mod Labels
-pub mod Numbering
-pub mod Permissions
+pub use Rattle.aa_compile.specs.Transitions
+pub use Rattle.aa_labels.specs.Labels
+pub mod Held
+pub mod Bits
+pub mod Links
+pub mod Decided
+pub mod Attachments
 pub mod Reply

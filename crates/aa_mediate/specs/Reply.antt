@@ -1,76 +1,96 @@
 -- What a request is answered.
-use Rattle.std.specs.Prelude.{ℕ, List, Bool, true, false, ◌==◌, if◌then◌else◌, Option, Some, None, bit_and}
+use Rattle.std.specs.Prelude.{ℕ, List, Bool, true, false, Option, Some, None, option_map, is_some}
+use Rattle.std.specs.Option.{option_map_or, option_and_then}
 use Rattle.std.specs.List.{slice_get}
 use Rattle.aa_policy.specs.declared.policy.Policy.{Policy}
 use Rattle.aa_policy.specs.declared.policy.Profile.{Profile}
-use Rattle.aa_policy.specs.declared.rule.FileRule.{FileRule}
-use Rattle.aa_tables.specs.declared.perms.Perms.{Perms}
-use Rattle.aa_mediate.specs.declared.reply.RequestBits.{RequestBits}
+use Rattle.aa_compile.specs.declared.transition.Transition.{Transition}
+use Rattle.aa_compile.specs.declared.transition.Transition.TheVariants.{To}
+use Rattle.aa_compile.specs.Transitions.{named, transition}
 use Rattle.aa_requests.specs.declared.label.Label.{Label}
 use Rattle.aa_requests.specs.declared.label.Label.TheVariants.{Unconfined, Confined}
-use Rattle.aa_requests.specs.declared.request.FileRequest.{FileRequest}
+use Rattle.aa_requests.specs.Requests.{RequestedExec}
 use Rattle.aa_requests.specs.declared.request.Request.{Request}
-use Rattle.aa_requests.specs.declared.request.Request.TheVariants.{File}
+use Rattle.aa_requests.specs.declared.request.Request.TheVariants.{File, Link, Exec, Cap, Net, Change, Reload}
 use Rattle.aa_requests.specs.declared.answer.Answer.{Answer}
-use Rattle.aa_requests.specs.declared.answer.Note.{Note}
-use Rattle.aa_requests.specs.declared.answer.NoteWord.{NoteWord}
-use Rattle.aa_requests.specs.declared.answer.NoteWord.TheVariants.{Denied, Allowed, Audit}
-use Rattle.aa_mediate.specs.Permissions.{minus, granted, deny, loud, audited}
+use Rattle.aa_labels.specs.Labels.{policy_number, label_named}
+use Rattle.aa_mediate.specs.declared.bits.RequestBits.{RequestBits}
+use Rattle.aa_mediate.specs.Attachments.{attached_in}
+use Rattle.aa_mediate.specs.Held.{cap_verdict, net_verdict, change_verdict}
+use Rattle.aa_mediate.specs.Bits.{plain_bits, file_bits, exec_bits, change_bits}
+use Rattle.aa_mediate.specs.Links.{link_bits}
+use Rattle.aa_mediate.specs.Decided.{answered, decided, without_perms}
 
--- a set of permissions by its bits
-abbrev pub perms_of : ℕ → Perms
-perms_of bits = record { 0 = bits }
+-- the label of a profile of policy k, or of none
+abbrev pub label_by : ℕ → Option ℕ → Label
+label_by k profile = option_map_or (Confined k) profile (Unconfined k)
 
--- the bits of a request for a file
-abbrev pub file_bits : List FileRule → FileRequest → RequestBits
-file_bits rules r =
-    let missing = minus r.mask.0 (granted rules r.path r.owned) in
-    let denied = bit_and missing (deny rules r.path r.owned) in
-    record {
-      requested = r.mask;
-      missing = perms_of missing;
-      denied = perms_of denied;
-      quiet = perms_of (minus denied (loud rules r.path r.owned));
-      audited = perms_of (bit_and r.mask.0 (audited rules r.path r.owned));
-    }
+-- the label after an execution that is granted: where it leads, in the same policy, if it leads anywhere
+abbrev pub label_after : ℕ → ℕ → Transition → Label
+label_after k n (To next scrub) = label_by k next
+label_after k n _ = Confined k n
 
--- the bits for which a request is refused: those not granted, in complain mode those of them that a rule denies
-abbrev pub blocked : Profile → RequestBits → ℕ
-blocked profile bits = if profile.complain then bits.denied.0 else bits.missing.0
+abbrev pub scrubs : Transition → Bool
+scrubs (To next scrub) = scrub
+scrubs _ = false
 
--- a note, unless it were about nothing
-abbrev pub note_of : NoteWord → ℕ → Option Note
-note_of word bits = if bits == 0 then None else Some (record { word = word; perms = perms_of bits })
+abbrev pub found_or : Label → Option Label → Label
+found_or label found = option_map_or (λ (next : Label). next) found label
 
--- a refusal reports the blocked bits without the quiet ones, under the profile's audit flag all of them
-abbrev pub refusal_note : Profile → RequestBits → Option Note
-refusal_note profile bits = note_of Denied (if profile.audit then blocked profile bits else minus (blocked profile bits) bits.quiet.0)
+-- granted with the label that is found, else refused; never a note
+abbrev pub goes_to : Label → Option Label → Answer
+goes_to label found = answered (is_some found) false (found_or label found) None
 
--- a grant reports the bits that no rule grants, else the audited ones, under the audit flag all that was asked for
-abbrev pub grant_note : Profile → RequestBits → Option Note
-grant_note profile bits =
-    if bits.missing.0 == 0 then note_of Audit (if profile.audit then bits.requested.0 else bits.audited.0)
-    else note_of Allowed bits.missing.0
+-- unconfined, by the policy of that number if it is there
+abbrev pub free_in : List Policy → ℕ → Option Label
+free_in policies m = option_map (λ (p : Policy). Unconfined m) (slice_get policies m)
 
--- an answer that keeps the label
-abbrev pub stay : Bool → Label → Option Note → Answer
-stay granted label note = record { granted = granted; scrub = false; label = label; note = note }
+-- the profile with that full name in the policy of that number, if there are both
+abbrev pub confined_in : List Policy → ℕ → List ℕ → Option Label
+confined_in policies m name = option_and_then (λ (p : Policy). option_map (Confined m) (named p.profiles name)) (slice_get policies m)
 
--- refused where a bit is blocked
-abbrev pub decided : Profile → Label → RequestBits → Answer
-decided profile label bits =
-    if blocked profile bits == 0 then stay true label (grant_note profile bits) else stay false label (refusal_note profile bits)
+-- an unconfined task, by policy k: everything is granted, but for a label that isn't there; an execution leads to the attached profile
+abbrev pub reply_free : List Policy → ℕ → Request → Answer
+reply_free policies k (Exec r) = answered true false (label_by k (attached_in policies k r.path)) None
+reply_free policies k (Change name) = goes_to (Unconfined k) (label_named policies k name)
+reply_free policies k (Reload m) = goes_to (Unconfined k) (free_in policies m)
+reply_free policies k _ = answered true false (Unconfined k) None
 
--- the answer to a task in a profile
-abbrev pub reply_in : Profile → Label → Request → Answer
-reply_in profile label (File r) = decided profile label (file_bits profile.files r)
+-- a request that doesn't move a task in profile n of policy k
+abbrev pub kept : ℕ → ℕ → Profile → RequestBits → Answer
+kept k n p bits = decided p (Confined k n) (Confined k n) false bits
 
--- a label whose profile isn't there is refused everything
-abbrev pub reply_at : Option Profile → Label → Request → Answer
-reply_at None label request = stay false label None
-reply_at (Some profile) label request = reply_in profile label request
+-- an execution leads where its transition does
+abbrev pub exec_reply : ℕ → List Profile → ℕ → Profile → RequestedExec → Answer
+exec_reply k profiles n p r =
+    let t = transition profiles n p r.path r.owned in
+    decided p (Confined k n) (label_after k n t) (scrubs t) (exec_bits p.files r t)
 
--- the answer to a request of a task with that label: one without a profile is granted everything
-unfoldable pub reply : Policy → Label → Request → Answer
-reply policy Unconfined request = stay true Unconfined None
-reply policy (Confined n) request = reply_at (slice_get policy.profiles n) (Confined n) request
+-- a change leads to the label of that name, if one is found
+abbrev pub change_reply : ℕ → ℕ → Profile → List ℕ → Option Label → Answer
+change_reply k n p name found = without_perms (decided p (Confined k n) (found_or (Confined k n) found) false (change_bits (change_verdict p.changes name) (is_some found)))
+
+-- a task in profile n, which is p, of policy k
+abbrev pub reply_in : List Policy → ℕ → List Profile → ℕ → Profile → Request → Answer
+reply_in policies k profiles n p (File r) = kept k n p (file_bits p.files r)
+reply_in policies k profiles n p (Link r) = kept k n p (link_bits p.files r)
+reply_in policies k profiles n p (Exec r) = exec_reply k profiles n p r
+reply_in policies k profiles n p (Cap c) = without_perms (kept k n p (plain_bits 1 (cap_verdict p.caps c)))
+reply_in policies k profiles n p (Net f s) = without_perms (kept k n p (plain_bits 1 (net_verdict p.nets f s)))
+reply_in policies k profiles n p (Change name) = change_reply k n p name (label_named policies k name)
+reply_in policies k profiles n p (Reload m) = goes_to (Confined k n) (confined_in policies m p.name)
+
+-- in a profile that isn't there, everything is refused
+abbrev pub reply_at : List Policy → ℕ → List Profile → ℕ → Option Profile → Request → Answer
+reply_at policies k profiles n (Some p) request = reply_in policies k profiles n p request
+reply_at policies k profiles n None request = goes_to (Confined k n) None
+
+-- by a policy that isn't there, everything is refused
+abbrev pub reply_by : List Policy → Label → Option Policy → Request → Answer
+reply_by policies (Unconfined k) (Some policy) request = reply_free policies k request
+reply_by policies (Confined k n) (Some policy) request = reply_at policies k policy.profiles n (slice_get policy.profiles n) request
+reply_by policies label None request = goes_to label None
+
+-- the answer to a request of a task with that label: the policy that the label names decides it
+unfoldable pub reply : List Policy → Label → Request → Answer
+reply policies label request = reply_by policies label (slice_get policies (policy_number label)) request

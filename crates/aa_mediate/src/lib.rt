@@ -1,14 +1,19 @@
-//! Decides requests by the rules of a policy.
+//! Decides requests by the rules of a list of compiled policies.
 #![tactic(auto)]
 
-mod label;
+mod attachments;
+mod bits;
+mod decided;
+mod held;
+mod link;
 mod mediator;
-mod numbering;
-mod permissions;
 mod reply;
 
+pub use aa_compile::{CompileRefusal, Compiled, compile};
+pub use aa_labels::{label_of, name_of_label, profile_of};
 pub use aa_machine::Machine;
-pub use aa_requests::{Answer, FileRequest, Label, Note, NoteWord, Request, RequestFault};
-pub use label::name_of_label;
-pub use mediator::{CompileRefusal, Compiled, Mediator, compile};
-pub use reply::answer_in;
+pub use aa_requests::{
+    Answer, ChangeRequest, ExecRequest, FileRequest, Label, LinkRequest, Note, NoteWord, Request,
+    RequestFault,
+};
+pub use mediator::Mediator;

@@ -21,3 +21,18 @@ pub record RequestedFile : Type 0 where
   pub path : List ℕ
   pub mask : Perms
   pub owned : Bool
+
+-- a hard link by its path and that of the file it is to, and whether the task's user owns it
+pub record RequestedLink : Type 0 where
+  pub link : List ℕ
+  pub target : List ℕ
+  pub owned : Bool
+
+-- an execution by the path of the file, and whether the task's user owns it
+pub record RequestedExec : Type 0 where
+  pub path : List ℕ
+  pub owned : Bool
+
+-- a name that is asked for is not empty, holds no zero byte, and has at most 1,024 bytes
+abbrev pub is_wanted_name : List ℕ → Bool
+is_wanted_name name = not (length name == 0) && not (list_any (λ b. b == 0) name) && nat_le (length name) 1024

@@ -2,9 +2,20 @@
 #![tactic(auto)]
 
 mod answer;
+mod change;
+mod exec;
+mod fault;
+mod file;
 mod label;
+mod link;
+mod path;
 mod request;
 
 pub use answer::{Answer, Note, NoteWord};
+pub use change::ChangeRequest;
+pub use exec::ExecRequest;
+pub use fault::RequestFault;
+pub use file::FileRequest;
 pub use label::Label;
-pub use request::{FileRequest, Request, RequestFault};
+pub use link::LinkRequest;
+pub use request::Request;

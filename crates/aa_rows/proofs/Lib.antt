@@ -1,4 +1,4 @@
-mod Joins
+pub mod Joins
 mod SideLemmas
 mod HitLemmas
 mod DifferLemmas

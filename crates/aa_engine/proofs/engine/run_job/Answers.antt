@@ -1,7 +1,7 @@
 use Rattle.std.specs.Prelude.{IfSome}
 use Rattle.std.proofs.lemmas.Result.{err_from_is_err_and}
-use Rattle.aa_engine.specs.Engines.{IsRunOutput, Explains}
-use Rattle.aa_engine.proofs.Inputs.{unread, explained, wrote, wrote_front, run_kept, handed_on, on_ok, on_err}
+use Rattle.aa_engine.specs.Engines.{Explains}
+use Rattle.aa_engine.proofs.Inputs.{unread, explained, wrote, wrote_front, handed_on, on_ok, on_err}
 use Rattle.aa_engine.proofs.engine.run_job.Goals as goal
 
 pub returns-in_err-bytes-clause-cause : goal.returns-in_err-bytes-clause-cause
@@ -22,7 +22,7 @@ returns-clause-written g c =
     let known = g.R.Read.remaining c.args.reader.now in
     let contents = g.W.Write.contents in
     on_ok c.write_text.result _ _
-    (wrote IsRunOutput known (contents c.args.writer.now) (contents c.write_text.new.writer) _ _ (record { kept = run_kept }) c.in_ok-bytes.ensures.kept
+    (wrote _ known (contents c.args.writer.now) (contents c.write_text.new.writer) _ _ c.in_ok-bytes.ensures.kept
     (rw c.as_slice.ensures.value at c.in_ok-text.ensures.text))
     (rw c.as_bytes.ensures.value at c.write_text.ensures.ok)
 
@@ -31,6 +31,6 @@ returns-clause-front g c =
     let known = g.R.Read.remaining c.args.reader.now in
     let contents = g.W.Write.contents in
     on_err c.write_text.result _ _
-    (wrote_front IsRunOutput known (contents c.args.writer.now) (contents c.write_text.new.writer) _ _ (record { kept = run_kept }) c.in_ok-bytes.ensures.kept
+    (wrote_front _ known (contents c.args.writer.now) (contents c.write_text.new.writer) _ _ c.in_ok-bytes.ensures.kept
     (rw c.as_slice.ensures.value at c.in_ok-text.ensures.text))
     (rw c.as_bytes.ensures.value at c.write_text.ensures.err)

@@ -5,4 +5,4 @@ use Rattle.aa_engine.proofs.output.push_task.Given as goal
 
 abbrev pub invariant-loop-answered : goal.invariant-loop-answered
 invariant-loop-answered l =
-    WritingTask l.compiled l.task (string_bytes l.out) l.before (drop l.answered-index l.answers) (string_bytes l.fn.out ++ task_lines l.compiled l.task l.fn.opening l.answers)
+    WritingTask l.several l.policies l.task (string_bytes l.out) l.before (drop l.answered-index l.answers) (string_bytes l.fn.out ++ task_lines l.several l.policies l.task l.fn.opening l.answers)

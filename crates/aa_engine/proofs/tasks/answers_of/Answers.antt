@@ -17,7 +17,7 @@ loop-work-preserved c =
     let number : c.len-number.result ≡ length c.loop-work.answers.items = search rules in
     let answer = rw c.new-mediator.ensures at c.step-answer.ensures.answer in
     let label = (rw c.new-mediator.ensures at c.step-answer.ensures.state) ∙ ap (λ (a : Answer). a.label) (sym answer) in
-    answering_more c.args.compiled.now c.loop-work.label c.step-answer.new.state c.loop-work.answers.items c.push.new.self.items c.args.works.now
+    answering_more c.args.policies.now c.loop-work.label c.step-answer.new.state c.loop-work.answers.items c.push.new.self.items c.args.works.now
     c.loop-work.work-index c.len-number.result c.in-Ask.request c.in_ok-request.request c.step-answer.result _
     c.loop-work-test.true item number c.in_ok-request.ensures answer label
     c.in_ok-push.ensures.items c.loop-work.invariant

@@ -11,13 +11,13 @@ loop-task-init c = meaning_start _ _ c.as_slice-tasks.result.now (ap (map (λ (r
 pub unreachable-requires : goal.unreachable-requires
 unreachable-requires c =
     none_unknown _ c.as_slice-tasks.result.now c.loop-task.task-index c.task-item.result c.in_default.ensures c.loop-task-test.true c.task-item.is
-    (rw c.as_slice.ensures at c.in_default-opening_label.ensures)
+    c.in_default-opening_label.ensures
 
 pub loop-task-preserved : goal.loop-task-preserved
 loop-task-preserved c =
     rw (c.in_ok-push.ensures.items, map-append)
     (meaning_more _ _ c.as_slice-tasks.result.now c.loop-task.task-index c.task-item.result c.in-Some-opening_label.label _ c.loop-task-test.true c.task-item.is
-    (sym (rw c.as_slice.ensures at c.in-Some-opening_label.ensures)) (rw c.as_slice-in-loop-task.ensures at c.in_ok-answers_of.ensures) c.loop-task.invariant)
+    (sym c.in-Some-opening_label.ensures) (rw c.as_slice.ensures at c.in_ok-answers_of.ensures) c.loop-task.invariant)
 
 pub returns-clause-answers : goal.returns-clause-answers
 returns-clause-answers c =

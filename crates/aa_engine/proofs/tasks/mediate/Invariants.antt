@@ -3,4 +3,4 @@ use Rattle.aa_engine.proofs.Answering.{Meaning}
 use Rattle.aa_engine.proofs.tasks.mediate.Given as goal
 
 abbrev pub invariant-loop-task : goal.invariant-loop-task
-invariant-loop-task l = Meaning l.compiled (map (λ row. row.items) l.rows.items) (drop l.task-index l.tasks) l.tasks
+invariant-loop-task l = Meaning l.policies (map (λ row. row.items) l.rows.items) (drop l.task-index l.tasks) l.tasks

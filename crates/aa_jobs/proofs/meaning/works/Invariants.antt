@@ -6,4 +6,4 @@ use Rattle.aa_jobs.proofs.Rows.{with_front}
 use Rattle.aa_jobs.proofs.meaning.works.Given as goal
 
 abbrev pub invariant-loop-item : goal.invariant-loop-item
-invariant-loop-item l = with_front l.requests.items (each work_of (map raw_item (drop l.item-index l.items))) ≡ each work_of (map raw_item l.items)
+invariant-loop-item l = with_front l.requests.items (each (work_of l.policies) (map raw_item (drop l.item-index l.items))) ≡ each (work_of l.policies) (map raw_item l.items)

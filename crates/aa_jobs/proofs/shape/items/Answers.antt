@@ -9,11 +9,11 @@ use Rattle.aa_jobs.proofs.Rows.{nothing_before, next_is, step_on, step_ends, ste
 use Rattle.aa_jobs.proofs.shape.items.Goals as goal
 
 pub loop-value-init : goal.loop-value-init
-loop-value-init c = rw c.new-items.ensures.items (nothing_before (each item_shape (map tree_data c.args.list.now)))
+loop-value-init c = rw c.in_ok-items.ensures.items (nothing_before (each item_shape (map tree_data c.args.list.now)))
 
 pub returns-in_err-item : goal.returns-in_err-item
 returns-in_err-item c =
-    let p = err_from_is_err_and c.from_residual.result c.from_residual.ensures.1 in
+    let p = err_from_is_err_and c.from_residual-in_err-item.result c.from_residual-in_err-item.ensures.1 in
     rw (p.1, p.2) (step_ends c.in_err-item.field-0.0 item_shape tree_data (map raw_item c.loop-value.items.items) (drop c.loop-value.value-index c.args.list.now) (drop (c.loop-value.value-index + 1) c.args.list.now) c.value-item.result (each item_shape (map tree_data c.args.list.now)) (next_is c.args.list.now c.loop-value.value-index c.value-item.result c.loop-value-test.true c.value-item.is) c.in_err-item.ensures c.loop-value.invariant)
 
 pub loop-value-preserved : goal.loop-value-preserved

@@ -9,11 +9,11 @@ use Rattle.aa_jobs.proofs.Rows.{nothing_before, next_is, step_on, step_ends, ste
 use Rattle.aa_jobs.proofs.shape.tasks.Goals as goal
 
 pub loop-value-init : goal.loop-value-init
-loop-value-init c = rw c.new-tasks.ensures.items (nothing_before (each task_shape (map tree_data c.args.list.now)))
+loop-value-init c = rw c.in_ok-tasks.ensures.items (nothing_before (each task_shape (map tree_data c.args.list.now)))
 
 pub returns-in_err-task : goal.returns-in_err-task
 returns-in_err-task c =
-    let p = err_from_is_err_and c.from_residual.result c.from_residual.ensures.1 in
+    let p = err_from_is_err_and c.from_residual-in_err-task.result c.from_residual-in_err-task.ensures.1 in
     rw (p.1, p.2) (step_ends c.in_err-task.field-0.0 task_shape tree_data (map raw_task c.loop-value.tasks.items) (drop c.loop-value.value-index c.args.list.now) (drop (c.loop-value.value-index + 1) c.args.list.now) c.value-item.result (each task_shape (map tree_data c.args.list.now)) (next_is c.args.list.now c.loop-value.value-index c.value-item.result c.loop-value-test.true c.value-item.is) c.in_err-task.ensures c.loop-value.invariant)
 
 pub loop-value-preserved : goal.loop-value-preserved

@@ -1,0 +1,64 @@
+-- The keys of an audit line that stand behind its profile, for each operation.
+use Rattle.std.specs.Prelude.{ℕ, List, [], ◌++◌, codes, decimal, if◌then◌else◌, slice_get, unwrap_or}
+use Rattle.aa_policy.specs.declared.policy.Policy.{Policy}
+use Rattle.aa_tables.specs.Tables.{capability_names, family_names, sock_type_names}
+use Rattle.aa_requests.specs.Requests.{RequestedFile, RequestedLink, RequestedExec}
+use Rattle.aa_requests.specs.declared.request.Request.{Request}
+use Rattle.aa_requests.specs.declared.request.Request.TheVariants.{File, Link, Exec, Cap, Net, Change, Reload}
+use Rattle.aa_requests.specs.declared.answer.Answer.{Answer}
+use Rattle.aa_requests.specs.declared.answer.Note.{Note}
+use Rattle.aa_requests.specs.declared.answer.NoteWord.{NoteWord}
+use Rattle.aa_requests.specs.declared.answer.NoteWord.TheVariants.{Denied, Allowed, Audit}
+use Rattle.aa_labels.specs.Labels.{label_name}
+use Rattle.aa_audit.specs.Values.{quoted, value, mask}
+
+-- a key and its value, behind a space
+unfoldable pub key : List ℕ → List ℕ → List ℕ
+key name text = codes " " ++ name ++ codes "=" ++ text
+
+-- the entry of a table of names
+abbrev pub entry : List (List ℕ) → ℕ → List ℕ
+entry table n = unwrap_or (slice_get table n) []
+
+-- the permissions that are blocked; a grant of all that was asked for has no such key
+abbrev pub denied_key : NoteWord → ℕ → List ℕ
+denied_key Denied bits = key (codes "denied_mask") (mask bits)
+denied_key Allowed bits = key (codes "denied_mask") (mask bits)
+denied_key Audit bits = []
+
+-- the label that an execution leads to, where it is granted
+abbrev pub target_key : List Policy → Answer → List ℕ
+target_key policies answer = if answer.granted then key (codes "target") (value (label_name policies answer.label)) else []
+
+abbrev pub file_keys : RequestedFile → Note → List ℕ
+file_keys r note =
+    key (codes "name") (value r.path) ++ key (codes "requested_mask") (mask r.mask.0) ++ denied_key note.word note.perms.0
+
+abbrev pub link_keys : RequestedLink → Note → List ℕ
+link_keys r note =
+    key (codes "name") (value r.link) ++ key (codes "target") (value r.target) ++ key (codes "requested_mask") (mask 8)
+    ++ denied_key note.word note.perms.0
+
+abbrev pub exec_keys : List Policy → RequestedExec → Answer → NoteWord → List ℕ
+exec_keys policies r answer word =
+    key (codes "name") (value r.path) ++ key (codes "requested_mask") (mask 64) ++ denied_key word 64 ++ target_key policies answer
+
+abbrev pub capability_keys : ℕ → List ℕ
+capability_keys n = key (codes "capability") (decimal n) ++ key (codes "capname") (quoted (entry capability_names n))
+
+abbrev pub network_keys : ℕ → ℕ → List ℕ
+network_keys family kind =
+    key (codes "family") (quoted (entry family_names family)) ++ key (codes "sock_type") (quoted (entry sock_type_names kind))
+
+-- the name that was asked for
+abbrev pub change_keys : List ℕ → List ℕ
+change_keys name = key (codes "target") (value name)
+
+abbrev pub keys : List Policy → Request → Answer → Note → List ℕ
+keys policies (File r) answer note = file_keys r note
+keys policies (Link r) answer note = link_keys r note
+keys policies (Exec r) answer note = exec_keys policies r answer note.word
+keys policies (Cap n) answer note = capability_keys n
+keys policies (Net family kind) answer note = network_keys family kind
+keys policies (Change name) answer note = change_keys name
+keys policies (Reload k) answer note = []

@@ -1,0 +1,2 @@
+pub use Rattle.aa_compile.specs.Transitions
+pub mod Labels
