@@ -19,9 +19,6 @@ NAME, TEXT, BYTES, STRUCT, STRUCT_END, LIST, LIST_END, ARRAY, ARRAY_END = range(
 EXEC, WRITE, READ, APPEND, LINK, LOCK, MAP = (1 << bit for bit in range(7))
 LETTERS = {"r": READ, "w": WRITE, "a": APPEND, "l": LINK, "k": LOCK, "m": MAP, "x": EXEC}
 BASE, OTHERS = 0x7F, 14
-# The bit of a link's second half that asks for the target's permissions.
-SUBSET = 1 << 14
-CHANGE = 1 << 31
 
 
 class Endless(Exception):
@@ -102,9 +99,7 @@ class Values:
         if tag == TEXT:
             return name, tag, self.bytes(self.take("<H"))[:-1]
         if tag == BYTES:
-            size = self.take("<I")
-            self.at += -self.at % 8
-            return name, tag, self.bytes(size)
+            return name, tag, self.bytes(self.take("<I"))
         if tag == ARRAY:
             return name, tag, self.take("<H")
         return name, tag, None
