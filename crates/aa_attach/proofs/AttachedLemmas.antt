@@ -6,7 +6,7 @@ use Rattle.std.proofs.lemmas.List.{append-nil, take_more}
 use Rattle.std.proofs.lemmas.List.Concat.{flat_map-append}
 use Rattle.std.proofs.lemmas.Option.{slice_get-map, slice_get-get_or}
 use Rattle.aa_patterns.specs.declared.pattern.Pattern.{Pattern}
-use Rattle.aa_policy.specs.declared.policy.Profile.{Profile}
+use Rattle.aa_profiles.specs.declared.policy.Profile.{Profile}
 use Rattle.aa_patterns.specs.Matching.{is_match}
 use Rattle.aa_auto.specs.Tables.{IsAutomaton, ListsMatching, list_at, place_of}
 use Rattle.aa_attach.specs.declared.attach.Attachment.{Attachment}

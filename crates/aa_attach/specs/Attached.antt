@@ -5,7 +5,7 @@ use Rattle.std.specs.Option.{option_eq, option_and_then, option_map_or}
 use Rattle.std.specs.List.{list_any, list_all, take_while, slice_get, filter_map, flat_map}
 use Rattle.aa_patterns.specs.declared.pattern.Pattern.{Pattern}
 use Rattle.aa_items.specs.Globs.{is_byte}
-use Rattle.aa_policy.specs.declared.policy.Profile.{Profile}
+use Rattle.aa_profiles.specs.declared.policy.Profile.{Profile}
 use Rattle.aa_patterns.specs.Matching.{is_match}
 use Rattle.aa_auto.specs.Tables.{Table, IsText, place_of}
 use Rattle.aa_attach.specs.declared.attach.Attachment.{Attachment}

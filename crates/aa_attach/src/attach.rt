@@ -10,7 +10,7 @@ ghost use Rattle.aa_attach.specs.Attached.{is_strong, longest, common, attached_
 
 use aa_auto::{Automaton, BuildFault};
 use aa_patterns::Pattern;
-use aa_policy::Profile;
+use aa_profiles::Profile;
 use std::alloc::{AllocError, Global};
 use std::marker::Model;
 

@@ -1,6 +1,6 @@
 -- The keys of an audit line that stand behind its profile, for each operation.
 use Rattle.std.specs.Prelude.{ℕ, List, [], ◌++◌, codes, decimal, if◌then◌else◌, slice_get, unwrap_or}
-use Rattle.aa_policy.specs.declared.policy.Policy.{Policy}
+use Rattle.aa_profiles.specs.declared.policy.Policy.{Policy}
 use Rattle.aa_tables.specs.Tables.{capability_names, family_names, sock_type_names}
 use Rattle.aa_requests.specs.Requests.{RequestedFile, RequestedLink, RequestedExec}
 use Rattle.aa_requests.specs.declared.request.Request.{Request}

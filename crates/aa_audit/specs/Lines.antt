@@ -1,6 +1,6 @@
 -- Audit lines.
 use Rattle.std.specs.Prelude.{ℕ, List, ◌++◌, codes, Option, Some, None, option_map, option_and_then}
-use Rattle.aa_policy.specs.declared.policy.Policy.{Policy}
+use Rattle.aa_profiles.specs.declared.policy.Policy.{Policy}
 use Rattle.aa_requests.specs.declared.label.Label.{Label}
 use Rattle.aa_requests.specs.declared.request.Request.{Request}
 use Rattle.aa_requests.specs.declared.request.Request.TheVariants.{File, Link, Exec, Cap, Net, Change, Reload}

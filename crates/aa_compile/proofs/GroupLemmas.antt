@@ -4,7 +4,7 @@ use Rattle.std.proofs.lemmas.List.{append-nil, take_more, length-take-le, get_or
 use Rattle.std.proofs.lemmas.Bool.{cases_Bool, eq-eqb, eqb-true}
 use Rattle.std.specs.Bool.{nat_eq}
 use Rattle.std.specs.Option.{option_eq}
-use Rattle.aa_policy.specs.declared.policy.Profile.{Profile}
+use Rattle.aa_profiles.specs.declared.policy.Profile.{Profile}
 use Rattle.aa_attach.specs.Attached.{has_parent, numbers_below}
 use Rattle.aa_compile.specs.Groups.{is_below}
 

@@ -9,12 +9,12 @@ use Rattle.std.proofs.lemmas.List.Quantifiers.{position-Some}
 use Rattle.std.proofs.lemmas.Option.{slice_get-map, slice_get-get_or, same_Some, cond_some}
 use Rattle.std.proofs.lemmas.Bool.{ltb-true}
 use Rattle.std.proofs.lemmas.Slice.Eq.{bytes_eq-Decides}
-use Rattle.aa_rules.specs.declared.rule.ExecKind.{ExecKind}
-use Rattle.aa_rules.specs.declared.rule.ExecKind.TheVariants.{Inherit, Unconfined, Profile as Named, Child}
-use Rattle.aa_policy.specs.declared.rule.Exec.{Exec}
-use Rattle.aa_policy.specs.declared.rule.FileRule.{FileRule}
-use Rattle.aa_policy.specs.declared.policy.Profile.{Profile}
-use Rattle.aa_policy.specs.Lawful.{has_exec}
+use Rattle.aa_profiles.specs.declared.rule.ExecKind.{ExecKind}
+use Rattle.aa_profiles.specs.declared.rule.ExecKind.TheVariants.{Inherit, Unconfined, Profile as Named, Child}
+use Rattle.aa_profiles.specs.declared.rule.Exec.{Exec}
+use Rattle.aa_profiles.specs.declared.rule.FileRule.{FileRule}
+use Rattle.aa_profiles.specs.declared.policy.Profile.{Profile}
+use Rattle.aa_profiles.specs.Lawful.{has_exec}
 use Rattle.aa_rows.specs.declared.mark.Way.{Way}
 use Rattle.aa_rows.specs.declared.side.Verdict.{Verdict}
 use Rattle.aa_said.specs.Patterns.{is_literal}

@@ -7,7 +7,7 @@ use Rattle.aa_faults.specs.declared.fault.PolicyKind.TheVariants.{ConflictingExe
 use Rattle.aa_faults.specs.declared.fault.Spot.{Spot}
 use Rattle.aa_faults.specs.Kinds.{no_memory}
 use Rattle.aa_patterns.specs.declared.pattern.Pattern.{Pattern}
-use Rattle.aa_policy.specs.declared.policy.Profile.{Profile}
+use Rattle.aa_profiles.specs.declared.policy.Profile.{Profile}
 use Rattle.aa_auto.specs.Tables.{HasPlaces}
 use Rattle.aa_auto.specs.declared.build.BuildFault.{BuildFault}
 use Rattle.aa_auto.specs.declared.build.BuildFault.TheVariants.{NoMemory, TooManyStates}

@@ -2,9 +2,9 @@
 use Rattle.std.specs.Prelude.{ℕ, List, if◌then◌else◌, Option, Some, None, is_some}
 use Rattle.std.specs.Option.{option_map_or}
 use Rattle.std.specs.List.{slice_get}
-use Rattle.aa_rules.specs.declared.rule.ExecKind.{ExecKind}
-use Rattle.aa_rules.specs.declared.rule.ExecKind.TheVariants.{Inherit, Unconfined, Profile as Named, Child}
-use Rattle.aa_policy.specs.declared.policy.Profile.{Profile}
+use Rattle.aa_profiles.specs.declared.rule.ExecKind.{ExecKind}
+use Rattle.aa_profiles.specs.declared.rule.ExecKind.TheVariants.{Inherit, Unconfined, Profile as Named, Child}
+use Rattle.aa_profiles.specs.declared.policy.Profile.{Profile}
 use Rattle.aa_rows.specs.declared.mark.Way.{Way}
 use Rattle.aa_attach.specs.Attached.{attached}
 use Rattle.aa_compile.specs.declared.targets.Targets.{Targets}

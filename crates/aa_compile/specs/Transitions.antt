@@ -2,14 +2,14 @@
 use Rattle.std.specs.Prelude.{ℕ, List, [], ◌∷◌, ◌++◌, map, Bool, false, if◌then◌else◌, Option, Some, None, is_some, position}
 use Rattle.std.specs.Option.{option_map_or, option_and_then}
 use Rattle.std.specs.Str.{bytes_eq}
-use Rattle.aa_rules.specs.declared.rule.ExecKind.{ExecKind}
-use Rattle.aa_rules.specs.declared.rule.ExecKind.TheVariants.{Inherit, Unconfined, Profile as Named, Child}
-use Rattle.aa_rules.specs.declared.rule.Fallback.{Fallback}
-use Rattle.aa_rules.specs.declared.rule.Fallback.TheVariants.{Refuse, Inherit as Stay, Unconfined as Leave}
-use Rattle.aa_policy.specs.declared.rule.Exec.{Exec}
-use Rattle.aa_policy.specs.declared.rule.FileRule.{FileRule}
-use Rattle.aa_policy.specs.declared.policy.Profile.{Profile}
-use Rattle.aa_policy.specs.Lawful.{has_exec}
+use Rattle.aa_profiles.specs.declared.rule.ExecKind.{ExecKind}
+use Rattle.aa_profiles.specs.declared.rule.ExecKind.TheVariants.{Inherit, Unconfined, Profile as Named, Child}
+use Rattle.aa_profiles.specs.declared.rule.Fallback.{Fallback}
+use Rattle.aa_profiles.specs.declared.rule.Fallback.TheVariants.{Refuse, Inherit as Stay, Unconfined as Leave}
+use Rattle.aa_profiles.specs.declared.rule.Exec.{Exec}
+use Rattle.aa_profiles.specs.declared.rule.FileRule.{FileRule}
+use Rattle.aa_profiles.specs.declared.policy.Profile.{Profile}
+use Rattle.aa_profiles.specs.Lawful.{has_exec}
 use Rattle.aa_rows.specs.FileRules.{file_verdict, chosen, way_of}
 use Rattle.aa_attach.specs.Attached.{attached, numbers_below}
 use Rattle.aa_compile.specs.declared.targets.Targets.{Targets}

@@ -4,8 +4,8 @@ ghost use Rattle.std.specs.Prelude.{◌≡◌, ◌≤◌, ◌<◌, ◌⊎◌, �
 ghost use Rattle.std.specs.List.{slice_get};
 ghost use Rattle.std.specs.Option.{is_some};
 ghost use Rattle.aa_faults.specs.Kinds.{no_memory};
-ghost use Rattle.aa_policy.specs.declared.policy.Profile.{Profile};
-ghost use Rattle.aa_policy.specs.Lawful.{IsWithinLimits, ParentsComeFirst};
+ghost use Rattle.aa_profiles.specs.declared.policy.Profile.{Profile};
+ghost use Rattle.aa_profiles.specs.Lawful.{IsWithinLimits, ParentsComeFirst};
 ghost use Rattle.aa_attach.specs.Attached.{attached, Attaches};
 ghost use Rattle.aa_rows.specs.Rows.{IsVerdictOf};
 ghost use Rattle.aa_rows.specs.Ways.{way_by};
@@ -20,7 +20,7 @@ use crate::tables::{ProfileRows, fault_of_states, rows_of};
 use crate::transition::{Transition, lead};
 use aa_attach::AttachRows;
 use aa_faults::{PolicyFault, Spot};
-use aa_policy::{ExecKind, Perms, Policy, Profile};
+use aa_profiles::{ExecKind, Perms, Policy, Profile};
 use aa_rows::{Verdict, Way};
 use bitflags::Flags;
 use std::alloc::Global;
@@ -45,8 +45,8 @@ pub struct Compiled {
 }
 
 impl Model for Compiled {
-    ghost use Rattle.aa_policy.specs.contracts.policy.Policy as contract;
-    ghost use Rattle.aa_policy.specs.declared.policy.Policy.{Policy};
+    ghost use Rattle.aa_profiles.specs.contracts.policy.Policy as contract;
+    ghost use Rattle.aa_profiles.specs.declared.policy.Policy.{Policy};
     ghost use Rattle.aa_compile.specs.Found.{found_in};
     ghost use Rattle.aa_compile.specs.Transitions.{transition};
     ghost use Rattle.aa_compile.specs.Checks.{IsCompiled};

@@ -1,11 +1,11 @@
 //! The numbers of the top-level profiles, and of the children of each profile.
 
 ghost use Rattle.std.specs.Prelude.{◌≡◌, ◌++◌, ◌∷◌, [], ◌<◌, ◌≤◌, length, ℕ, Some, None, IfOk, OnOk, slice_set, slice_index_or};
-ghost use Rattle.aa_policy.specs.declared.policy.Profile.{Profile};
+ghost use Rattle.aa_profiles.specs.declared.policy.Profile.{Profile};
 ghost use Rattle.aa_attach.specs.Attached.{has_parent, numbers_below};
 ghost use Rattle.aa_compile.specs.Groups.{lists, is_below};
 
-use aa_policy::Profile;
+use aa_profiles::Profile;
 use std::alloc::{AllocError, Global};
 
 fn is_top(profile: &Profile) -> bool

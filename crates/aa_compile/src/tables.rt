@@ -2,7 +2,7 @@
 
 ghost use Rattle.std.specs.Prelude.{◌≡◌, ◌<◌, ◌≤◌, ◌⊎◌, ℕ, [], length, slice_index_or, IfOk, IfErr};
 ghost use Rattle.aa_faults.specs.Kinds.{no_memory};
-ghost use Rattle.aa_policy.specs.Lawful.{IsWithinLimits};
+ghost use Rattle.aa_profiles.specs.Lawful.{IsWithinLimits};
 ghost use Rattle.aa_rows.specs.Rows.{patterns_of};
 ghost use Rattle.std.specs.List.{slice_get};
 ghost use Rattle.std.specs.Option.{option_map_or};
@@ -16,7 +16,7 @@ use crate::targets::{Targets, all_targets};
 use aa_attach::AttachRows;
 use aa_auto::BuildFault;
 use aa_faults::{PolicyFault, PolicyKind, Spot};
-use aa_policy::Profile;
+use aa_profiles::Profile;
 use aa_rows::{FileRows, RowsFault};
 use std::alloc::Global;
 use std::collections::HashMap;

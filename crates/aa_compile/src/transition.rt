@@ -3,7 +3,7 @@
 ghost use Rattle.std.specs.Prelude.{◌≡◌};
 ghost use Rattle.aa_compile.specs.Transitions.{falls, goes, leads};
 
-use aa_policy::{ExecKind, Fallback};
+use aa_profiles::{ExecKind, Fallback};
 use aa_rows::Way;
 
 /// What the rules make of an execution.

@@ -1,7 +1,7 @@
 -- Writing what is said of policy after policy.
 use Rattle.std.proofs.Common.{◌≡◌, Bool, ℕ, ◌+◌, ◌<◌, ◌≤◌, List, [], ◌∷◌, ◌++◌, length, drop, get_or, refl, ap, sym, ◌∙◌, append_assoc}
 use Rattle.std.proofs.lemmas.List.{drop_more, at_drop_all, append-nil}
-use Rattle.aa_policy.specs.declared.policy.Policy.{Policy}
+use Rattle.aa_profiles.specs.declared.policy.Policy.{Policy}
 use Rattle.aa_engine.specs.Output.{number_line, policy_text, policies_from}
 
 -- what is written, and then what is said of the policies from number n on, is said of all

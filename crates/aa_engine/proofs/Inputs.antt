@@ -16,7 +16,7 @@ use Rattle.aa_engine.specs.declared.tasks.MediateFault.TheVariants as mediates
 use Rattle.aa_engine.specs.Answers.{first_unknown}
 use Rattle.aa_engine.specs.Faults.{IsReadCause, mediate_cause, cause_by_kind, policy_cause}
 use Rattle.aa_jobs.specs.Jobs.{job_of}
-use Rattle.aa_policy.specs.declared.policy.Policy.{Policy}
+use Rattle.aa_profiles.specs.declared.policy.Policy.{Policy}
 use Rattle.aa_jobs.specs.declared.job.Job.{Job}
 use Rattle.aa_engine.specs.Engines.{HandsIn, IsOutput, HasBadPolicy, Explains}
 

@@ -7,7 +7,7 @@ use Rattle.std.proofs.lemmas.List.Folds.{list_all_at}
 use Rattle.std.proofs.lemmas.Bool.{ltb-true}
 use Rattle.std.specs.List.{list_all}
 use Rattle.aa_jobs.specs.Limits.{tasks_there}
-use Rattle.aa_policy.specs.declared.policy.Policy.{Policy}
+use Rattle.aa_profiles.specs.declared.policy.Policy.{Policy}
 use Rattle.aa_requests.specs.declared.label.Label.{Label}
 use Rattle.aa_jobs.specs.declared.job.Task.{Task}
 use Rattle.aa_jobs.specs.declared.job.Event.{Event as Listed}

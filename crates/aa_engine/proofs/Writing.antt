@@ -3,7 +3,7 @@ use Rattle.std.proofs.Common.{◌≡◌, Bool, ℕ, ◌+◌, ◌<◌, ◌≤◌,
 use Rattle.std.specs.Prelude.{option_map, option_and_then}
 use Rattle.std.proofs.lemmas.List.{drop_more, at_drop_all, append-nil, length-map}
 use Rattle.std.specs.Global.{Global}
-use Rattle.aa_policy.specs.declared.policy.Policy.{Policy}
+use Rattle.aa_profiles.specs.declared.policy.Policy.{Policy}
 use Rattle.aa_requests.specs.declared.label.Label.{Label}
 use Rattle.aa_jobs.specs.declared.job.Task.{Task}
 use Rattle.aa_engine.specs.declared.tasks.Answered.{Answered}

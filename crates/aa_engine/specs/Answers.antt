@@ -1,6 +1,6 @@
 -- What a job asks for and means: each task's requests before its first exit, answered from its label on.
 use Rattle.std.specs.Prelude.{ℕ, ◌+◌, List, [], ◌∷◌, Option, Some, option_and_then, is_none, position}
-use Rattle.aa_policy.specs.declared.policy.Policy.{Policy}
+use Rattle.aa_profiles.specs.declared.policy.Policy.{Policy}
 use Rattle.aa_requests.specs.declared.label.Label.{Label}
 use Rattle.aa_requests.specs.declared.request.Request.{Request}
 use Rattle.aa_jobs.specs.declared.job.Work.{Work}

@@ -1,6 +1,6 @@
 -- What the engines write for a job's bytes, and why they don't.
 use Rattle.std.specs.Prelude.{ℕ, ◌≡◌, List, Some, Ok, Err}
-use Rattle.aa_policy.specs.declared.policy.Policy.{Policy}
+use Rattle.aa_profiles.specs.declared.policy.Policy.{Policy}
 use Rattle.aa_jobs.specs.declared.job.Job.{Job}
 use Rattle.aa_engine.specs.declared.fault.RunFault.{RunFault}
 use Rattle.aa_engine.specs.declared.fault.RunFault.TheVariants as causes

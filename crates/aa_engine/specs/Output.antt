@@ -2,9 +2,9 @@
 use Rattle.std.specs.Prelude.{ℕ, ◌+◌, List, [], ◌∷◌, ◌++◌, length, codes, decimal, flat_map, sum_by, Bool, Option, Some, if◌then◌else◌}
 use Rattle.std.specs.Option.{option_map_or}
 use Rattle.std.specs.List.{list_all, slice_get}
-use Rattle.aa_policy.specs.declared.policy.Policy.{Policy}
-use Rattle.aa_policy.specs.declared.policy.Profile.{Profile}
-use Rattle.aa_policy.specs.declared.policy.PassedOver.{PassedOver}
+use Rattle.aa_profiles.specs.declared.policy.Policy.{Policy}
+use Rattle.aa_profiles.specs.declared.policy.Profile.{Profile}
+use Rattle.aa_profiles.specs.declared.policy.PassedOver.{PassedOver}
 use Rattle.aa_requests.specs.declared.label.Label.{Label}
 use Rattle.aa_requests.specs.declared.answer.Answer.{Answer}
 use Rattle.aa_jobs.specs.declared.job.Task.{Task}

@@ -22,7 +22,7 @@ pub struct TaskAtPlay<'j> {
 }
 
 impl<'j> Model for TaskAtPlay<'j> {
-    ghost use Rattle.aa_policy.specs.contracts.policy.Policy as policy;
+    ghost use Rattle.aa_profiles.specs.contracts.policy.Policy as policy;
     ghost use Rattle.std.specs.Coded.{codes};
     ghost use Rattle.aa_engine.specs.Replay.{TaskState};
 

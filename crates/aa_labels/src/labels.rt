@@ -3,11 +3,11 @@
 ghost use Rattle.std.specs.Prelude.{◌≡◌, option_map};
 ghost use Rattle.std.specs.Option.{option_map_or};
 ghost use Rattle.std.specs.List.{slice_get};
-ghost use Rattle.aa_policy.specs.declared.policy.Policy.{Policy};
+ghost use Rattle.aa_profiles.specs.declared.policy.Policy.{Policy};
 ghost use Rattle.aa_labels.specs.Labels.{profile_in, label_name, label_in, label_named};
 
 use aa_compile::Compiled;
-use aa_policy::Profile;
+use aa_profiles::Profile;
 use aa_requests::Label;
 
 /// The profile of that number in the policy of that number, if there are both.

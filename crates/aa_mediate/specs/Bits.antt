@@ -1,7 +1,7 @@
 -- What a request asks for, and what the rules say of it, bit by bit.
 use Rattle.std.specs.Prelude.{ℕ, List, Bool, if◌then◌else◌, bit_and}
 use Rattle.std.specs.List.{list_any}
-use Rattle.aa_policy.specs.declared.rule.FileRule.{FileRule}
+use Rattle.aa_profiles.specs.declared.rule.FileRule.{FileRule}
 use Rattle.aa_said.specs.declared.sets.RuleSets.{RuleSets}
 use Rattle.aa_said.specs.Said.{perms_of, minus, granted}
 use Rattle.aa_rows.specs.FileRules.{file_verdict, chosen}

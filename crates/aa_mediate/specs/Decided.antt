@@ -1,7 +1,7 @@
 -- From the bits of a request to its answer.
 use Rattle.std.specs.Prelude.{ℕ, Bool, true, false, ◌==◌, if◌then◌else◌, Option, Some, None}
 use Rattle.std.specs.Option.{option_map}
-use Rattle.aa_policy.specs.declared.policy.Profile.{Profile}
+use Rattle.aa_profiles.specs.declared.policy.Profile.{Profile}
 use Rattle.aa_said.specs.Said.{perms_of, minus}
 use Rattle.aa_requests.specs.declared.label.Label.{Label}
 use Rattle.aa_requests.specs.declared.answer.Answer.{Answer}

@@ -2,9 +2,9 @@
 use Rattle.std.specs.Prelude.{ℕ, List, Bool, true, ◌==◌, ◌&&◌, filter, map}
 use Rattle.std.specs.Option.{option_map_or}
 use Rattle.std.specs.Int.{bit_at}
-use Rattle.aa_rules.specs.declared.rule.CapRule.{CapRule}
-use Rattle.aa_rules.specs.declared.rule.NetRule.{NetRule}
-use Rattle.aa_policy.specs.declared.rule.ChangeRule.{ChangeRule}
+use Rattle.aa_profiles.specs.declared.rule.CapRule.{CapRule}
+use Rattle.aa_profiles.specs.declared.rule.NetRule.{NetRule}
+use Rattle.aa_profiles.specs.declared.rule.ChangeRule.{ChangeRule}
 use Rattle.aa_patterns.specs.declared.pattern.Pattern.{Pattern}
 use Rattle.aa_patterns.specs.Matching.{is_match}
 use Rattle.aa_said.specs.declared.sets.RuleSets.{RuleSets}

@@ -2,13 +2,13 @@
 use Rattle.std.specs.Prelude.{ℕ, List, Bool, true, false, not, ◌&&◌, if◌then◌else◌, bit_and, bit_or}
 use Rattle.std.specs.Option.{option_eq}
 use Rattle.std.specs.Str.{bytes_eq}
-use Rattle.aa_rules.specs.declared.rule.ExecKind.{ExecKind}
-use Rattle.aa_rules.specs.declared.rule.ExecKind.TheVariants.{Inherit, Unconfined, Profile as Named, Child}
-use Rattle.aa_rules.specs.declared.rule.Fallback.{Fallback}
-use Rattle.aa_rules.specs.declared.rule.Fallback.TheVariants.{Refuse, Inherit as Stay, Unconfined as Leave}
-use Rattle.aa_policy.specs.declared.rule.Exec.{Exec}
-use Rattle.aa_policy.specs.declared.rule.FileRule.{FileRule}
-use Rattle.aa_policy.specs.Lawful.{has_exec}
+use Rattle.aa_profiles.specs.declared.rule.ExecKind.{ExecKind}
+use Rattle.aa_profiles.specs.declared.rule.ExecKind.TheVariants.{Inherit, Unconfined, Profile as Named, Child}
+use Rattle.aa_profiles.specs.declared.rule.Fallback.{Fallback}
+use Rattle.aa_profiles.specs.declared.rule.Fallback.TheVariants.{Refuse, Inherit as Stay, Unconfined as Leave}
+use Rattle.aa_profiles.specs.declared.rule.Exec.{Exec}
+use Rattle.aa_profiles.specs.declared.rule.FileRule.{FileRule}
+use Rattle.aa_profiles.specs.Lawful.{has_exec}
 use Rattle.aa_said.specs.declared.sets.RuleSets.{RuleSets}
 use Rattle.aa_said.specs.Said.{perms_of, minus, granted}
 use Rattle.aa_rows.specs.FileRules.{file_verdict, chosen, way_of}

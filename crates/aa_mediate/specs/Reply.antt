@@ -2,8 +2,8 @@
 use Rattle.std.specs.Prelude.{ℕ, List, Bool, true, false, Option, Some, None, option_map, is_some}
 use Rattle.std.specs.Option.{option_map_or, option_and_then}
 use Rattle.std.specs.List.{slice_get}
-use Rattle.aa_policy.specs.declared.policy.Policy.{Policy}
-use Rattle.aa_policy.specs.declared.policy.Profile.{Profile}
+use Rattle.aa_profiles.specs.declared.policy.Policy.{Policy}
+use Rattle.aa_profiles.specs.declared.policy.Profile.{Profile}
 use Rattle.aa_compile.specs.declared.transition.Transition.{Transition}
 use Rattle.aa_compile.specs.declared.transition.Transition.TheVariants.{To}
 use Rattle.aa_compile.specs.Transitions.{named, transition}

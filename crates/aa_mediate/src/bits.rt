@@ -6,7 +6,7 @@ ghost use Rattle.aa_mediate.specs.Bits.{sorted, plain_bits, exec_missing, exec_d
 
 use crate::held::BIT;
 use aa_compile::Transition;
-use aa_policy::Perms;
+use aa_profiles::Perms;
 use aa_rows::Verdict;
 use aa_said::RuleSets;
 use bitflags::Flags;

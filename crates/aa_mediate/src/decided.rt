@@ -4,7 +4,7 @@ ghost use Rattle.std.specs.Prelude.{◌≡◌, true, false};
 ghost use Rattle.aa_mediate.specs.Decided.{blocked, note_of, refusal_note, grant_note, answered, decided, without_perms};
 
 use crate::bits::RequestBits;
-use aa_policy::{Perms, Profile};
+use aa_profiles::{Perms, Profile};
 use aa_requests::{Answer, Label, Note, NoteWord};
 use bitflags::Flags;
 

@@ -6,7 +6,7 @@ ghost use Rattle.aa_mediate.specs.Held.{holds, cap_holds, net_holds, change_hold
 ghost use Rattle.aa_patterns.specs.Matching.{is_match};
 
 use aa_patterns::Pattern;
-use aa_policy::{Cap, CapRule, ChangeRule, Family, NetRule, Perms, SockType};
+use aa_profiles::{Cap, CapRule, ChangeRule, Family, NetRule, Perms, SockType};
 use aa_said::RuleSets;
 
 /// The one bit of a request that isn't about a file.

@@ -2,12 +2,12 @@
 
 ghost use Rattle.std.specs.Prelude.{◌≡◌, ◌<◌, true, Some, length};
 ghost use Rattle.std.specs.List.{slice_get};
-ghost use Rattle.aa_policy.specs.declared.policy.Profile.{Profile};
+ghost use Rattle.aa_profiles.specs.declared.policy.Profile.{Profile};
 ghost use Rattle.aa_mediate.specs.Links.{link_missing, link_bits_of, link_bits};
 
 use crate::bits::{RequestBits, exec_if, granted_by};
 use aa_compile::Compiled;
-use aa_policy::Perms;
+use aa_profiles::Perms;
 use aa_requests::LinkRequest;
 use aa_rows::Way;
 use aa_said::RuleSets;

@@ -20,8 +20,8 @@ pub struct Mediator<'p> {
 impl<'p> Model for Mediator<'p> {
     ghost use Rattle.std.specs.Prelude.{List};
     ghost use Rattle.std.specs.Coded.{coded_list};
-    ghost use Rattle.aa_policy.specs.contracts.policy.Policy as contract;
-    ghost use Rattle.aa_policy.specs.declared.policy.Policy.{Policy};
+    ghost use Rattle.aa_profiles.specs.contracts.policy.Policy as contract;
+    ghost use Rattle.aa_profiles.specs.declared.policy.Policy.{Policy};
 
     ghost Value = { List Policy };
 

@@ -2,7 +2,7 @@
 
 ghost use Rattle.std.specs.Prelude.{◌≡◌, ◌<◌, Some, length, option_map};
 ghost use Rattle.std.specs.List.{slice_get};
-ghost use Rattle.aa_policy.specs.declared.policy.Profile.{Profile};
+ghost use Rattle.aa_profiles.specs.declared.policy.Profile.{Profile};
 ghost use Rattle.aa_compile.specs.Transitions.{named};
 ghost use Rattle.aa_mediate.specs.Bits.{file_bits};
 ghost use Rattle.aa_mediate.specs.Reply.{label_by, label_after, scrubs, found_or, goes_to, free_in, confined_in, kept, change_reply, exec_reply, reply_free, reply_in, reply_at, reply};
@@ -15,7 +15,7 @@ use crate::held::{BIT, verdict_of_cap, verdict_of_change, verdict_of_net};
 use crate::link::of_link;
 use aa_compile::{Compiled, Transition};
 use aa_labels::label_of;
-use aa_policy::Profile;
+use aa_profiles::Profile;
 use aa_requests::{Answer, ExecRequest, FileRequest, Label, Request};
 
 fn label_of_number(policy: u16, profile: Option<u16>) -> Label

@@ -6,7 +6,7 @@ ghost use Rattle.aa_said.specs.Said.{bits_if, said, nothing};
 ghost use Rattle.aa_rows.specs.FileRules.{any_sort, some_match, applies_by, saying, file_verdict};
 
 use aa_patterns::Pattern;
-use aa_policy::{FileRule, Perms};
+use aa_profiles::{FileRule, Perms};
 use aa_said::RuleSets;
 
 /// Whether the pattern matches the path.

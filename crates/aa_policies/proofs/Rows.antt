@@ -2,7 +2,7 @@
 use Rattle.std.proofs.Common.{◌≡◌, ℕ, ◌+◌, ◌<◌, ◌≤◌, List, [], ◌∷◌, ◌++◌, length, take, drop, get_or, Result, Err, ap, sym, subst, ◌∙◌, arith}
 use Rattle.std.proofs.lemmas.List.{take_more, drop_more, take-append-drop, take_all, length-take}
 use Rattle.std.specs.Prelude.{IfErr}
-use Rattle.aa_policy.specs.declared.policy.Policy.{Policy}
+use Rattle.aa_profiles.specs.declared.policy.Policy.{Policy}
 use Rattle.aa_policies.specs.declared.refused.RefusedPolicy.{RefusedPolicy}
 use Rattle.aa_policies.specs.Policies.{Source, IsPolicyOf, ArePoliciesOf, IsFaultOfText, CanFollow, IsRefusedBy, OfText}
 

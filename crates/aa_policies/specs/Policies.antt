@@ -5,7 +5,7 @@ use Rattle.aa_faults.specs.declared.fault.PolicyKind.{PolicyKind}
 use Rattle.aa_words.specs.Splits.{WordData, Splits}
 use Rattle.aa_words.specs.Sources.{has_name}
 use Rattle.aa_words.specs.Stops.{IsFaultOf}
-use Rattle.aa_policy.specs.declared.policy.Policy.{Policy}
+use Rattle.aa_profiles.specs.declared.policy.Policy.{Policy}
 use Rattle.aa_policy.specs.Faults.{IsParseRefusal, is_path_only}
 use Rattle.aa_heads.specs.Preamble.{IsTwice, IsUndefined}
 use Rattle.aa_policy.specs.Spelling.{Spells, IsPathFault, IsDuplicate, IsOverLimits, start}

@@ -8,8 +8,8 @@ use Rattle.std.proofs.lemmas.Bool.{eqb-true}
 use Rattle.std.proofs.lemmas.List.{take_all}
 use Rattle.std.proofs.lemmas.List.Elements.{All-from_recursion, All-get_or, All-more, recursion_from_All, length_all_zip}
 use Rattle.std.proofs.lemmas.List.Sums.{sum_by-cons}
-use Rattle.aa_policy.specs.declared.policy.Profile.{Profile}
-use Rattle.aa_policy.specs.Lawful.{attachments_with, attachment_patterns}
+use Rattle.aa_profiles.specs.declared.policy.Profile.{Profile}
+use Rattle.aa_profiles.specs.Lawful.{attachments_with, attachment_patterns}
 use Rattle.aa_policy.specs.Sameness.{SameProfile}
 
 -- ---- the sum below a parent is no more than the sum of all

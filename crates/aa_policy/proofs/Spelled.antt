@@ -16,16 +16,16 @@ use Rattle.aa_reader.specs.Reading.{spelled}
 use Rattle.aa_glob.specs.Variables.{Variable}
 use Rattle.aa_glob.proofs.Depths.{expands_once}
 use Rattle.aa_reader.proofs.Spellings.{tokens_decide_items}
-use Rattle.aa_policy.specs.declared.rule.ChangeRule.{ChangeRule}
-use Rattle.aa_policy.specs.declared.rule.Exec.{Exec}
-use Rattle.aa_policy.specs.declared.rule.FileRule.{FileRule}
-use Rattle.aa_policy.specs.declared.policy.Profile.{Profile}
-use Rattle.aa_policy.specs.declared.policy.Policy.{Policy}
+use Rattle.aa_profiles.specs.declared.rule.ChangeRule.{ChangeRule}
+use Rattle.aa_profiles.specs.declared.rule.Exec.{Exec}
+use Rattle.aa_profiles.specs.declared.rule.FileRule.{FileRule}
+use Rattle.aa_profiles.specs.declared.policy.Profile.{Profile}
+use Rattle.aa_profiles.specs.declared.policy.Policy.{Policy}
 use Rattle.aa_policy.specs.Expansion.{tokens_of, IsFirstRefused}
 use Rattle.aa_policy.specs.Bodies.{ProfileData, IsPolicy, if_any}
 use Rattle.aa_heads.specs.Heads.{AttachmentData}
 use Rattle.aa_rules.specs.Reading.{FileData, NameData, ChangeData}
-use Rattle.aa_policy.specs.Lawful.{IsLawful, IsLawfulRule, IsWithinLimits, IsWithinCounts, file_patterns, has_exec, names_of}
+use Rattle.aa_profiles.specs.Lawful.{IsLawful, IsLawfulRule, IsWithinLimits, IsWithinCounts, file_patterns, has_exec, names_of}
 use Rattle.aa_policy.specs.Sameness.{SamePatterns, SameIfAny, SameRule, SameChange, SameProfile, SamePolicy}
 use Rattle.aa_policy.specs.Spelling.{Spells, IsRepeated, AttachesTo, Aims, MeansRule, MeansChange, MeansProfile, MeansProfiles, exec_of, files_of, changes_of, paths_of, passed_over_from}
 use Rattle.aa_policy.proofs.Attachments.{same_sum, same_attachments}

@@ -2,9 +2,9 @@ pub use Rattle.aa_glob.specs.Expansions
 pub use Rattle.aa_items.specs.Globs
 pub use Rattle.aa_glob.specs.Variables
 pub use Rattle.aa_heads.specs.Preamble
+pub use Rattle.aa_profiles.specs.Lawful
 pub mod Bodies
 pub mod Expansion
 pub mod Faults
-pub mod Lawful
 pub mod Sameness
 pub mod Spelling

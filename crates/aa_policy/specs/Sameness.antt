@@ -3,10 +3,10 @@ use Rattle.std.specs.Prelude.{◌≡◌, List, Option, Some, None}
 use Rattle.std.specs.List.{AllZip}
 use Rattle.aa_patterns.specs.declared.pattern.Pattern.{Pattern}
 use Rattle.aa_items.specs.Sameness.{SameItems}
-use Rattle.aa_policy.specs.declared.rule.ChangeRule.{ChangeRule}
-use Rattle.aa_policy.specs.declared.rule.FileRule.{FileRule}
-use Rattle.aa_policy.specs.declared.policy.Profile.{Profile}
-use Rattle.aa_policy.specs.declared.policy.Policy.{Policy}
+use Rattle.aa_profiles.specs.declared.rule.ChangeRule.{ChangeRule}
+use Rattle.aa_profiles.specs.declared.rule.FileRule.{FileRule}
+use Rattle.aa_profiles.specs.declared.policy.Profile.{Profile}
+use Rattle.aa_profiles.specs.declared.policy.Policy.{Policy}
 
 -- as many patterns, each of the same items in its place, wherever these lie in memory
 abbrev pub SamePatterns : List Pattern → List Pattern → Type 0

@@ -7,18 +7,18 @@ use Rattle.aa_faults.specs.declared.fault.PolicyFault.{PolicyFault}
 use Rattle.aa_words.specs.Splits.{WordData}
 use Rattle.aa_patterns.specs.declared.pattern.Pattern.{Pattern}
 use Rattle.aa_glob.specs.Variables.{Variable}
-use Rattle.aa_rules.specs.declared.rule.CapRule.{CapRule}
-use Rattle.aa_policy.specs.declared.rule.ChangeRule.{ChangeRule}
-use Rattle.aa_policy.specs.declared.rule.Exec.{Exec}
-use Rattle.aa_policy.specs.declared.rule.FileRule.{FileRule}
-use Rattle.aa_rules.specs.declared.rule.NetRule.{NetRule}
-use Rattle.aa_policy.specs.declared.policy.Profile.{Profile}
-use Rattle.aa_policy.specs.declared.policy.PassedOver.{PassedOver}
-use Rattle.aa_policy.specs.declared.policy.Policy.{Policy}
+use Rattle.aa_profiles.specs.declared.rule.CapRule.{CapRule}
+use Rattle.aa_profiles.specs.declared.rule.ChangeRule.{ChangeRule}
+use Rattle.aa_profiles.specs.declared.rule.Exec.{Exec}
+use Rattle.aa_profiles.specs.declared.rule.FileRule.{FileRule}
+use Rattle.aa_profiles.specs.declared.rule.NetRule.{NetRule}
+use Rattle.aa_profiles.specs.declared.policy.Profile.{Profile}
+use Rattle.aa_profiles.specs.declared.policy.PassedOver.{PassedOver}
+use Rattle.aa_profiles.specs.declared.policy.Policy.{Policy}
 use Rattle.aa_policy.specs.Expansion.{PathData, AsPath, AsName, StandsFor, IsFirstRefused}
 use Rattle.aa_policy.specs.Bodies.{ProfileData, IsPolicy}
 use Rattle.aa_heads.specs.Heads.{AttachmentData}
-use Rattle.aa_policy.specs.Lawful.{IsWithinLimits, names_of}
+use Rattle.aa_profiles.specs.Lawful.{IsWithinLimits, names_of}
 use Rattle.aa_reader.specs.Reading.{spelled, tokens}
 use Rattle.aa_rules.specs.Reading.{ExecData, FileData, NameData, ChangeData, RuleData, OnFile, OnCap, OnNet, OnChange, Listed}
 

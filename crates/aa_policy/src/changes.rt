@@ -4,14 +4,14 @@ ghost use Rattle.std.specs.Prelude.{◌≡◌, ◌≢◌, ◌++◌, List, flat_m
 ghost use Rattle.std.specs.List.{AllZip};
 ghost use Rattle.aa_glob.specs.Variables.{Variable};
 ghost use Rattle.aa_reader.specs.Reading.{spelled, tokens};
-ghost use Rattle.aa_policy.specs.declared.rule.ChangeRule.{ChangeRule};
+ghost use Rattle.aa_profiles.specs.declared.rule.ChangeRule.{ChangeRule};
 ghost use Rattle.aa_policy.specs.Expansion.{AsName, IsRefused, IsFirstRefused};
 ghost use Rattle.aa_policy.specs.Faults.{IsPathRefusal};
 ghost use Rattle.aa_rules.specs.Reading.{name_data, change_data, rule_data};
 ghost use Rattle.aa_policy.specs.Spelling.{Aims, MeansChange, on_change, changes_of, named_paths, change_paths};
 
 use crate::refusal::refusal_at;
-use crate::rule::ChangeRule;
+use aa_profiles::ChangeRule;
 use aa_glob::{Pattern, read_pattern};
 use aa_rules::{ChangeTree, NameTree, RuleTree};
 use aa_words::{PolicyFault, PolicyKind};

@@ -2,7 +2,7 @@
 
 ghost use Rattle.std.specs.Prelude.{◌≡◌, ◌≢◌, ◌++◌, List, flat_map, map, option_map, IfOk, IfErr, OnOk};
 ghost use Rattle.std.specs.List.{AllZip};
-ghost use Rattle.aa_policy.specs.declared.rule.FileRule.{FileRule};
+ghost use Rattle.aa_profiles.specs.declared.rule.FileRule.{FileRule};
 ghost use Rattle.aa_policy.specs.Expansion.{AsPath, StandsFor, IsRefused, IsFirstRefused};
 ghost use Rattle.aa_policy.specs.Faults.{IsPathRefusal};
 ghost use Rattle.aa_policy.specs.Bodies.{full_name, profile_data, tree_data};
@@ -12,9 +12,9 @@ ghost use Rattle.aa_policy.specs.Spelling.{AttachesTo, MeansRule, MeansChange, M
 
 use crate::access::{cap_rules, net_rules};
 use crate::changes::change_rules;
-use crate::policy::Profile;
+use aa_profiles::Profile;
 use crate::refusal::refusal_at;
-use crate::rule::{ChangeRule, Exec, FileRule};
+use aa_profiles::{ChangeRule, Exec, FileRule};
 use crate::tree::ProfileTree;
 use aa_glob::{Pattern, Vars, expand};
 use aa_heads::AttachmentTree;

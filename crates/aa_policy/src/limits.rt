@@ -4,11 +4,11 @@ ghost use Rattle.std.specs.Prelude.{ℕ, Option, ◌≡◌, ◌⊎◌, ◌≤◌
 ghost use Rattle.std.specs.List.{All, IsDistinct, sum_by};
 ghost use Rattle.std.specs.Str.{bytes_eq};
 ghost use Rattle.aa_faults.specs.Kinds.{no_memory};
-ghost use Rattle.aa_policy.specs.Lawful.{names_of, file_patterns, attachments_with, attachment_patterns, IsWithinLimits};
+ghost use Rattle.aa_profiles.specs.Lawful.{names_of, file_patterns, attachments_with, attachment_patterns, IsWithinLimits};
 ghost use Rattle.aa_policy.specs.Spelling.{IsRepeated};
 
-use crate::policy::Profile;
-use crate::rule::FileRule;
+use aa_profiles::Profile;
+use aa_profiles::FileRule;
 use aa_words::{PolicyFault, PolicyKind};
 use std::alloc::Global;
 use std::collections::HashSet;

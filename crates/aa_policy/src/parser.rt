@@ -7,13 +7,13 @@ ghost use Rattle.aa_policy.specs.Faults.{IsParseRefusal, is_path_only};
 ghost use Rattle.aa_heads.specs.Preamble.{IsTwice, IsUndefined};
 ghost use Rattle.aa_policy.specs.Sameness.{SamePolicy};
 ghost use Rattle.aa_policy.specs.Spelling.{Spells, IsPathFault, IsDuplicate, IsOverLimits, start};
-ghost use Rattle.aa_policy.specs.declared.policy.Policy.{Policy};
+ghost use Rattle.aa_profiles.specs.declared.policy.Policy.{Policy};
 
 use crate::expansion::profiles;
 use crate::items::tree_of;
 use crate::limits::{check_names, is_within_limits};
 use crate::listing::passed_over;
-use crate::policy::Policy;
+use aa_profiles::Policy;
 use aa_lists::Seq;
 use aa_words::{PolicyFault, PolicyKind, WordList};
 use std::alloc::Global;

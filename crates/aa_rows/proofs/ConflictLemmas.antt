@@ -8,8 +8,8 @@ use Rattle.std.proofs.lemmas.List.Elements.{Contains-append_left, Contains-appen
 use Rattle.std.proofs.lemmas.Option.{slice_get-map, slice_get-get_or, slice_get_within, get_or_from_slice_get, same_Some}
 use Rattle.aa_patterns.specs.declared.pattern.Pattern.{Pattern}
 use Rattle.aa_items.specs.Globs.{Matches}
-use Rattle.aa_policy.specs.declared.rule.Exec.{Exec}
-use Rattle.aa_policy.specs.declared.rule.FileRule.{FileRule}
+use Rattle.aa_profiles.specs.declared.rule.Exec.{Exec}
+use Rattle.aa_profiles.specs.declared.rule.FileRule.{FileRule}
 use Rattle.aa_patterns.specs.Matching.{is_match}
 use Rattle.aa_patterns.proofs.Decided.{decided}
 use Rattle.aa_auto.specs.Tables.{Table, IsAutomaton, ListsMatching, list_at, place_of}

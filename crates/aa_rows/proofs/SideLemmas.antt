@@ -5,8 +5,8 @@ use Rattle.std.specs.List.{filter, list_any, flat_map, All}
 use Rattle.std.specs.Option.{option_map, option_or}
 use Rattle.std.proofs.lemmas.List.Elements.{filter_passes, All-head}
 use Rattle.aa_patterns.specs.declared.pattern.Pattern.{Pattern}
-use Rattle.aa_policy.specs.declared.rule.Exec.{Exec}
-use Rattle.aa_policy.specs.declared.rule.FileRule.{FileRule}
+use Rattle.aa_profiles.specs.declared.rule.Exec.{Exec}
+use Rattle.aa_profiles.specs.declared.rule.FileRule.{FileRule}
 use Rattle.aa_patterns.specs.Matching.{is_match}
 use Rattle.aa_said.specs.declared.sets.RuleSets.{RuleSets}
 use Rattle.aa_rows.specs.declared.mark.Way.{Way}

@@ -3,8 +3,8 @@ use Rattle.std.specs.Prelude.{◌≡◌, ◌≢◌, ℕ, List, [], ◌∷◌, Bo
 use Rattle.std.specs.Option.{option_and_then}
 use Rattle.std.specs.List.{list_any}
 use Rattle.aa_patterns.specs.declared.pattern.Pattern.{Pattern}
-use Rattle.aa_policy.specs.declared.rule.Exec.{Exec}
-use Rattle.aa_policy.specs.declared.rule.FileRule.{FileRule}
+use Rattle.aa_profiles.specs.declared.rule.Exec.{Exec}
+use Rattle.aa_profiles.specs.declared.rule.FileRule.{FileRule}
 use Rattle.aa_patterns.specs.Matching.{is_match}
 use Rattle.aa_said.specs.declared.sets.RuleSets.{RuleSets}
 use Rattle.aa_said.specs.Patterns.{is_literal}

@@ -2,7 +2,7 @@
 use Rattle.std.specs.Prelude.{List, [], ◌∷◌, ◌++◌, map, Option}
 use Rattle.aa_patterns.specs.declared.pattern.Pattern.{Pattern}
 use Rattle.aa_said.specs.Patterns.{is_literal}
-use Rattle.aa_policy.specs.declared.rule.FileRule.{FileRule}
+use Rattle.aa_profiles.specs.declared.rule.FileRule.{FileRule}
 use Rattle.aa_rows.specs.declared.mark.Way.{Way}
 use Rattle.aa_rows.specs.declared.mark.Mark.{Mark}
 

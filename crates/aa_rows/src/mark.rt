@@ -4,7 +4,7 @@ ghost use Rattle.std.specs.Prelude.{◌≡◌, ◌++◌, length, map, IfOk, OnOk
 ghost use Rattle.aa_rows.specs.Marks.{mark_by, marks_by};
 
 use aa_patterns::Pattern;
-use aa_policy::{ExecKind, Fallback, FileRule, Perms};
+use aa_profiles::{ExecKind, Fallback, FileRule, Perms};
 use std::alloc::{AllocError, Global};
 
 /// How a program is executed, with the number of the profile that is named.

@@ -16,7 +16,7 @@ use crate::side::{Side, Verdict};
 use crate::ways::ways_of;
 use aa_auto::{Automaton, BuildFault};
 use aa_patterns::Pattern;
-use aa_policy::FileRule;
+use aa_profiles::FileRule;
 use std::alloc::{AllocError, Global};
 use std::marker::Model;
 

@@ -9,7 +9,7 @@ ghost use Rattle.aa_said.specs.Gathered.{picked};
 ghost use Rattle.aa_rows.specs.Sides.{earlier, choice_if, mark_says, none_said, joined, one, side_by};
 
 use crate::mark::{Mark, Way};
-use aa_policy::Perms;
+use aa_profiles::Perms;
 use aa_said::RuleSets;
 
 /// How a program is executed by the first of some rules, and whether one of them reports it.

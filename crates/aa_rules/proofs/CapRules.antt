@@ -4,7 +4,7 @@ use Rattle.std.specs.Prelude.{codes, bit_or}
 use Rattle.std.proofs.lemmas.Nat.{le_or_l, le_or_r, pow_pos}
 use Rattle.aa_words.specs.declared.word.WordKind.TheVariants.{Name}
 use Rattle.aa_words.specs.Splits.{WordData}
-use Rattle.aa_rules.specs.declared.rule.CapRule.{CapRule}
+use Rattle.aa_profiles.specs.declared.rule.CapRule.{CapRule}
 use Rattle.aa_rules.specs.declared.tree.Qualifiers.{Qualifiers}
 use Rattle.aa_rules.specs.CapRules.{NamesEnd, IsCapName, numbers_bits, all_caps, caps_of, IsCaps, IsCap}
 use Rattle.aa_rules.specs.Phrases.{Many, Starts}

@@ -4,7 +4,7 @@ use Rattle.std.specs.Option.{option_or}
 use Rattle.std.specs.Str.{bytes_eq}
 use Rattle.aa_words.specs.declared.word.WordKind.TheVariants.{Name}
 use Rattle.aa_words.specs.Splits.{WordData}
-use Rattle.aa_rules.specs.declared.rule.NetRule.{NetRule}
+use Rattle.aa_profiles.specs.declared.rule.NetRule.{NetRule}
 use Rattle.aa_rules.specs.declared.tree.Qualifiers.{Qualifiers}
 use Rattle.aa_rules.specs.declared.net_rules.Sockets.{Sockets}
 use Rattle.aa_rules.specs.CapRules.{NamesEnd}

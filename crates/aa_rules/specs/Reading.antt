@@ -10,8 +10,8 @@ use Rattle.aa_rules.specs.declared.modes.Mode.{Mode}
 use Rattle.aa_rules.specs.declared.tree.ChangeTree.{ChangeTree}
 use Rattle.aa_rules.specs.declared.tree.EntryTree.{EntryTree}
 use Rattle.aa_rules.specs.declared.tree.ExecTree.{ExecTree}
-use Rattle.aa_rules.specs.declared.rule.CapRule.{CapRule}
-use Rattle.aa_rules.specs.declared.rule.NetRule.{NetRule}
+use Rattle.aa_profiles.specs.declared.rule.CapRule.{CapRule}
+use Rattle.aa_profiles.specs.declared.rule.NetRule.{NetRule}
 use Rattle.aa_rules.specs.declared.tree.FileTree.{FileTree}
 use Rattle.aa_rules.specs.declared.tree.NameTree.{NameTree}
 use Rattle.aa_rules.specs.declared.tree.Qualifiers.{Qualifiers}

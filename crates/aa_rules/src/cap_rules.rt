@@ -9,7 +9,7 @@ ghost use Rattle.aa_rules.specs.Reading.{rest_of};
 
 use crate::faults::fault;
 use crate::reading::word_at;
-use crate::rule::CapRule;
+use aa_profiles::CapRule;
 use crate::tree::Qualifiers;
 use aa_tables::{Cap, Caps};
 use aa_words::{PolicyFault, PolicyKind, Spot, Word, WordKind};

@@ -9,12 +9,11 @@ mod modes;
 mod names;
 mod net_rules;
 mod reading;
-mod rule;
 mod tree;
 
+pub use aa_profiles::{CapRule, ExecKind, Fallback, NetRule};
 pub use faults::{fault, item_fault, spot_of};
 pub use modes::ExecMode;
 pub use names::{begins_with, is_plain_name, is_right_name, name_fault};
 pub use reading::{closes, is_keyword, name_at, path_at, rule_of, word_at};
-pub use rule::{CapRule, ExecKind, Fallback, NetRule};
 pub use tree::{ChangeTree, ExecTree, FileTree, NameTree, Qualifiers, RuleTree};

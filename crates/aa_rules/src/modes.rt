@@ -6,7 +6,7 @@ ghost use Rattle.aa_rules.specs.Faults.{is_word_fault};
 ghost use Rattle.aa_rules.specs.Modes.{letter_bits, letters_bits, has_letter, is_access_letter, is_exec_letter, how, exec_of, with_part, parts_of, writes_and_appends, mode_of, begins_mixed, ends_part, is_mixed, mode_fault};
 
 use crate::names::begins_with_all;
-use crate::rule::{ExecKind, Fallback};
+use aa_profiles::{ExecKind, Fallback};
 use aa_tables::Perms;
 use aa_words::PolicyKind;
 use bitflags::Flags;

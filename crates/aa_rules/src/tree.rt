@@ -1,7 +1,7 @@
 //! What the words of a rule say as they are written, before any of it is given a meaning.
 
 use crate::modes::{ExecMode, Mode};
-use crate::rule::{CapRule, NetRule};
+use aa_profiles::{CapRule, NetRule};
 use aa_tables::Perms;
 use aa_words::Spot;
 

@@ -1,5 +1,5 @@
 use Rattle.std.proofs.Common.{Bool, cond, ap, ◌∙◌}
-use Rattle.aa_policy.specs.declared.rule.ChangeRule.{ChangeRule}
+use Rattle.aa_profiles.specs.declared.rule.ChangeRule.{ChangeRule}
 use Rattle.aa_said.specs.Said.{said, both, nothing}
 use Rattle.aa_mediate.specs.Held.{saying, change_holds}
 use Rattle.aa_mediate.proofs.Holding.{verdict_more, verdict_all}

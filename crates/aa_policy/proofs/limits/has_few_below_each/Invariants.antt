@@ -1,6 +1,6 @@
 use Rattle.std.proofs.Common.{◌≤◌, take}
 use Rattle.std.specs.List.{All}
-use Rattle.aa_policy.specs.Lawful.{attachment_patterns}
+use Rattle.aa_profiles.specs.Lawful.{attachment_patterns}
 use Rattle.aa_policy.proofs.limits.has_few_below_each.Given as goal
 
 abbrev pub invariant-loop-profile : goal.invariant-loop-profile

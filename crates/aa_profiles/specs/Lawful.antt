@@ -5,8 +5,8 @@ use Rattle.std.specs.Option.{option_eq}
 use Rattle.std.specs.Bool.{nat_eq}
 use Rattle.std.specs.Str.{bytes_eq}
 use Rattle.aa_tables.specs.declared.perms.Perms.{Perms}
-use Rattle.aa_policy.specs.declared.rule.FileRule.{FileRule}
-use Rattle.aa_policy.specs.declared.policy.Profile.{Profile}
+use Rattle.aa_profiles.specs.declared.rule.FileRule.{FileRule}
+use Rattle.aa_profiles.specs.declared.policy.Profile.{Profile}
 
 -- the permission to execute is among them
 abbrev pub has_exec : Perms → Bool

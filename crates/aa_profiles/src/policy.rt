@@ -1,13 +1,12 @@
-//! A policy, as the words of a text spell it.
+//! Profiles, and the policy that they make.
 
-ghost use Rattle.aa_policy.specs.Lawful.{IsLawful};
+ghost use Rattle.aa_profiles.specs.Lawful.{IsLawful};
 ghost use Rattle.std.proofs.Props.{props};
 
-use crate::rule::{ChangeRule, FileRule};
-use aa_glob::Pattern;
+use crate::rule::{CapRule, ChangeRule, FileRule, NetRule};
+use aa_faults::Spot;
 use aa_lists::{Seq, Text};
-use aa_rules::{CapRule, NetRule};
-use aa_words::Spot;
+use aa_patterns::Pattern;
 
 /// A profile with its rules.
 #[derive(Drop)]
