@@ -36,7 +36,8 @@ def has_parser():
 
 
 def job_of(policy, includes=None):
-    job = {"policy": policy, "tasks": []}
+    """A job without tasks, of as many states as a job may ask for."""
+    job = {"policy": policy, "states": 1_000_000, "tasks": []}
     if includes:
         job["includes"] = includes
     return json.dumps(job)

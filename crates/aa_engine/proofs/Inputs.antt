@@ -11,9 +11,9 @@ use Rattle.aa_policies.specs.Policies.{sources_of, IsRefusedBy}
 use Rattle.aa_jobs.specs.declared.job_fault.JobFault.TheVariants.{TooLarge}
 use Rattle.aa_engine.specs.declared.fault.RunFault.{RunFault}
 use Rattle.aa_engine.specs.declared.fault.RunFault.TheVariants as causes
-use Rattle.aa_engine.specs.declared.tasks.MediateFault.{MediateFault}
-use Rattle.aa_engine.specs.declared.tasks.MediateFault.TheVariants as mediates
-use Rattle.aa_engine.specs.Answers.{first_unknown}
+use Rattle.aa_answers.specs.declared.tasks.MediateFault.{MediateFault}
+use Rattle.aa_answers.specs.declared.tasks.MediateFault.TheVariants as mediates
+use Rattle.aa_answers.specs.Answers.{first_unknown}
 use Rattle.aa_engine.specs.Faults.{IsReadCause, mediate_cause, cause_by_kind, policy_cause}
 use Rattle.aa_jobs.specs.Jobs.{job_of}
 use Rattle.aa_profiles.specs.declared.policy.Policy.{Policy}

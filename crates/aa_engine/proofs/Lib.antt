@@ -1,6 +1,2 @@
-mod Answering
-mod Checking
 mod Inputs
-mod Replaying
 mod Streams
-mod Writing

@@ -7,9 +7,9 @@ use Rattle.aa_engine.specs.declared.fault.RunFault.TheVariants as causes
 use Rattle.aa_policies.specs.declared.refused.RefusedPolicy.{RefusedPolicy}
 use Rattle.aa_policies.specs.Policies.{sources_of, ArePoliciesOf, IsRefusedBy}
 use Rattle.aa_jobs.specs.Jobs.{job_of}
-use Rattle.aa_engine.specs.Answers.{first_unknown}
-use Rattle.aa_engine.specs.Output.{run_text, check_text}
-use Rattle.aa_engine.specs.Replay.{replay_text}
+use Rattle.aa_answers.specs.Answers.{first_unknown}
+use Rattle.aa_answers.specs.Output.{run_text, check_text}
+use Rattle.aa_answers.specs.Replay.{replay_text}
 
 -- the bytes hand in this job, and its texts these policies, each of which compiles
 pub record HandsIn (input : List ℕ) (job : Job) (policies : List Policy) : Type 0 where

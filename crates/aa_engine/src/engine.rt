@@ -6,10 +6,10 @@ ghost use Rattle.std.specs.String.{string_bytes};
 ghost use Rattle.aa_engine.specs.Engines.{HandsIn, IsCheckOutput, IsRunOutput, IsReplayOutput, Explains};
 
 use crate::fault::{RunFault, job_fault, mediate_fault, policy_fault};
-use crate::output::{check_output, run_output};
-use crate::replay::replay_output;
+use aa_answers::{check_output, run_output};
+use aa_answers::replay_output;
 use crate::stream::{read_input, write_text};
-use crate::tasks::{mediate, unknown_task};
+use aa_answers::{mediate, unknown_task};
 use aa_jobs::{Job, read_job};
 use aa_policies::{Compiled, compile_policies};
 use std::alloc::Global;

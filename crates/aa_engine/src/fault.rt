@@ -3,7 +3,7 @@
 ghost use Rattle.std.specs.Prelude.{◌≡◌};
 ghost use Rattle.aa_engine.specs.Faults.{job_cause, policy_cause, mediate_cause, exit_status};
 
-use crate::tasks::MediateFault;
+use aa_answers::MediateFault;
 use aa_faults::PolicyKind;
 use aa_jobs::JobFault;
 use aa_policies::RefusedPolicy;

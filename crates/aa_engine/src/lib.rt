@@ -3,13 +3,10 @@
 
 mod engine;
 mod fault;
-mod output;
-mod replay;
 mod stream;
-mod tasks;
 
+pub use aa_answers::{
+    Answered, MediateFault, check_output, mediate, replay_output, run_output,
+};
 pub use engine::{check_job, replay_job, run_job};
 pub use fault::RunFault;
-pub use output::{check_output, run_output};
-pub use replay::replay_output;
-pub use tasks::{Answered, MediateFault, mediate};

@@ -20,11 +20,11 @@ use Rattle.aa_rows.proofs.WayLemmas.{tells_apart}
 use Rattle.aa_compile.proofs.Transitions.{Says, chosen_says}
 use Rattle.aa_mediate.specs.Links.{same_kind, same_fallback, same_scrub, same_exec}
 
-both_true : (a b : Bool) → (a && b) ≡ true → (a ≡ true) × (b ≡ true)
+pub both_true : (a b : Bool) → (a && b) ≡ true → (a ≡ true) × (b ≡ true)
 both_true true b e = (refl, e)
 both_true false b e = absurd (true≢false (sym e))
 
-and_true : (a b : Bool) → a ≡ true → b ≡ true → (a && b) ≡ true
+pub and_true : (a b : Bool) → a ≡ true → b ≡ true → (a && b) ≡ true
 and_true a b p q = ap (λ x. x && b) p ∙ q
 
 kinds_same : (a b : ExecKind) → same_kind a b ≡ true → a ≡ b
@@ -102,7 +102,7 @@ execs_same a b e =
 exec_refl : (a : Exec) → same_exec a a ≡ true
 exec_refl a = and_true _ _ (and_true _ _ (and_true _ _ (kind_refl a.kind) (scrub_refl a.scrub)) (fallback_refl a.fallback)) (name_refl a.target)
 
-options_same : (s t : Option Exec) → option_eq same_exec s t ≡ true → s ≡ t
+pub options_same : (s t : Option Exec) → option_eq same_exec s t ≡ true → s ≡ t
 options_same None None e = refl
 options_same None (Some t) e = absurd (true≢false (sym e))
 options_same (Some s) None e = absurd (true≢false (sym e))
@@ -112,7 +112,7 @@ option_refl : (t : Option Exec) → option_eq same_exec t t ≡ true
 option_refl None = refl
 option_refl (Some t) = exec_refl t
 
-same_decides : (s t : Option Exec) → IsTrue (option_eq same_exec s t) ↔ (s ≡ t)
+pub same_decides : (s t : Option Exec) → IsTrue (option_eq same_exec s t) ↔ (s ≡ t)
 same_decides s t = (options_same s t, λ e. ap (option_eq same_exec s) (sym e) ∙ option_refl s)
 
 module _ (rules : List FileRule) where

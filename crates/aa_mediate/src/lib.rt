@@ -1,6 +1,7 @@
 //! Decides requests by the rules of a list of compiled policies.
 #![tactic(auto)]
 
+mod agreement;
 mod attachments;
 mod bits;
 mod decided;
@@ -9,6 +10,7 @@ mod link;
 mod mediator;
 mod reply;
 
+pub use agreement::chosen_rules_agree;
 pub use aa_compile::{CompileRefusal, Compiled, compile};
 pub use aa_labels::{label_of, name_of_label, profile_of};
 pub use aa_machine::Machine;

@@ -28,14 +28,14 @@ in_head x xs = (0, omega arith, refl)
 pub in_tail : {X : Type 0} (x y : X) (xs : List X) → Contains xs y → Contains (x ∷ xs) y
 in_tail x y xs c = (suc c.0, omega (arith, c.1), c.2)
 
-in_cases : {X : Type 0} (x y : X) (xs : List X) → Contains (x ∷ xs) y → (x ≡ y) ⊎ Contains xs y
+pub in_cases : {X : Type 0} (x y : X) (xs : List X) → Contains (x ∷ xs) y → (x ≡ y) ⊎ Contains xs y
 in_cases x y xs c = at c.0 c.1 c.2
   where
     at : (k : ℕ) → k < length (x ∷ xs) → get_or (x ∷ xs) k y ≡ y → (x ≡ y) ⊎ Contains xs y
     at zero lt e = inl e
     at (suc k) lt e = inr (k, omega (arith, lt), e)
 
-not_in : {X : Type 0} (y : X) → Contains [] y → ⊥
+pub not_in : {X : Type 0} (y : X) → Contains [] y → ⊥
 not_in y c = omega (arith, c.1)
 
 abbrev pub pair : FileRule → Pattern → FileRule × Pattern

@@ -1,5 +1,5 @@
 use Rattle.std.proofs.Common.{ap, Err}
-use Rattle.aa_engine.specs.declared.tasks.MediateFault.{MediateFault}
+use Rattle.aa_answers.specs.declared.tasks.MediateFault.{MediateFault}
 use Rattle.aa_engine.proofs.Inputs.{unknown_explained}
 use Rattle.aa_engine.proofs.engine.run_text_of.Goals as goal
 

@@ -1,0 +1,4 @@
+mod Answering
+mod Checking
+mod Replaying
+mod Writing
