@@ -1,3 +1,3 @@
-mod Agreement
+mod Agreeing
 mod Holding
 mod SameWays

@@ -1,4 +1,4 @@
-use Rattle.aa_mediate.proofs.Agreement.{chosen_agree}
+use Rattle.aa_mediate.proofs.Agreeing.{chosen_agree}
 use Rattle.aa_mediate.proofs.agreement.chosen_rules_agree.Goals as goal
 
 pub returns : goal.returns

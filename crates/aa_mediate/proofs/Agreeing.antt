@@ -82,7 +82,7 @@ module _ (rules : List FileRule) (path : List ℕ) (owned : Bool) where
     match : IsTrue (is_match pattern.items.items path)
     sort : is_literal pattern ≡ literal
 
-  test : (Pattern → Bool) → FileRule → Bool
+  abbrev test : (Pattern → Bool) → FileRule → Bool
   test sort r = says_how r && applies_by sort path owned r
 
   chosen_by : (sort : Pattern → Bool) (literal : Bool) → ((r : FileRule) (p : Pattern) → Contains rules r → test sort r ≡ true → Contains r.patterns p → (sort p && is_match p.items.items path) ≡ true → is_literal p ≡ literal) → (r : FileRule) → Contains (ways_by sort rules path owned) r → Chosen literal r
@@ -137,10 +137,12 @@ module _ (rules : List FileRule) (path : List ℕ) (owned : Bool) where
       at : (b : Bool) → is_literal p ≡ b → is_literal p ≡ false
       at false l = l
       at true l =
-          let parts = both_true _ _ t in
-          let applies = both_true _ _ parts.1 in
-          let some = some_passes (λ p. is_literal p && is_match p.items.items path) p r.patterns d (and_true _ _ l (both_true _ _ e).1) in
-          absurd (true≢false (sym (and_true _ _ parts.0 (and_true _ _ applies.0 some)) ∙ none_kept (λ x. says_how x && applies_by is_literal path owned x) r rules nil c))
+          let parts = both_true (says_how r) (applies_by any_sort path owned r) t in
+          let applies = both_true (owned || not r.owner) (some_match any_sort path r.patterns) parts.1 in
+          let match = (both_true (any_sort p) (is_match p.items.items path) e).1 in
+          let some = some_passes (λ p. is_literal p && is_match p.items.items path) p r.patterns d (and_true (is_literal p) (is_match p.items.items path) l match) in
+          let passes = and_true (says_how r) (applies_by is_literal path owned r) parts.0 (and_true (owned || not r.owner) (some_match is_literal path r.patterns) applies.0 some) in
+          absurd (true≢false (sym passes ∙ none_kept (λ x. says_how x && applies_by is_literal path owned x) r rules nil c))
 
   chosen_are : (b : Bool) → is_nil (ways_by is_literal rules path owned) ≡ b → (Conflicts rules → ⊥) → (r q : FileRule) → Contains (cond b (ways_by any_sort rules path owned) (ways_by is_literal rules path owned)) r → Contains (cond b (ways_by any_sort rules path owned) (ways_by is_literal rules path owned)) q → r.exec ≡ q.exec
   chosen_are true nil free r q c d = agree free false r q (chosen_by any_sort false (by_others nil) r c) (chosen_by any_sort false (by_others nil) q d)
