@@ -6,5 +6,6 @@ pub mod Bodies
 pub mod Expansion
 pub mod Faults
 pub mod Lawful
+pub mod Refusals
 pub mod Sameness
 pub mod Spelling
