@@ -1,16 +1,20 @@
 -- What stands before the profiles reads in one way alone.
-use Rattle.std.proofs.Common.{◌≡◌, ℕ, ◌+◌, ◌<◌, ◌≤◌, List, [], ◌∷◌, ◌++◌, length, map, get_or, refl, sym, ap, subst, ◌∙◌, Some, None, Bool, true, false, arith}
+use Rattle.std.proofs.Common.{◌≡◌, ℕ, ◌+◌, ◌<◌, ◌≤◌, List, [], ◌∷◌, ◌++◌, length, map, get_or, refl, sym, ap, subst, ◌∙◌, Some, None, Bool, true, false, arith, inl, inr, ◌⊎◌}
 use Rattle.std.proofs.lemmas.List.{append_cancel_left, append_cancel_right}
-use Rattle.std.specs.Prelude.{codes, Option, option_and_then, Result, Ok, Err, IfOk}
+use Rattle.std.specs.Prelude.{codes, not, Option, option_and_then, Result, Ok, Err, IfOk}
 use Rattle.std.specs.Bool.{OnTrue, OnFalse}
 use Rattle.aa_faults.specs.declared.fault.Spot.{Spot}
 use Rattle.aa_faults.specs.declared.fault.PolicyFault.{PolicyFault}
 use Rattle.aa_words.specs.declared.word.Word.{Word}
 use Rattle.aa_words.specs.declared.word.WordKind.TheVariants.{Equals, PlusEquals, Path, Name}
 use Rattle.aa_words.specs.Splits.{WordData, word_data}
-use Rattle.aa_glob.specs.Variables.{Variable}
+use Rattle.aa_glob.specs.Variables.{Variable, has_name}
 use Rattle.aa_rules.specs.Grammar.{Starts, Many, Keyword, LacksKeyword, spot_of}
-use Rattle.aa_heads.specs.Preamble.{Names, sign_of, Assigning, LacksAssignment, IsValue, NoValue, AssignmentData, assignment, IsAssignment, CanNameAbi, NamesAbi, LacksAbiName, IsAbi, PreambleData, Assigns, Abi, IsPreambleItem, PreambleEnds, IsPreamble, Here, assigned, given, variables_after, variables_of, Misnames, IsMisnamed}
+use Rattle.aa_faults.specs.declared.fault.PolicyKind.{PolicyKind}
+use Rattle.aa_faults.specs.declared.fault.PolicyKind.TheVariants.{NoMemory}
+use Rattle.aa_faults.specs.Kinds.{no_memory}
+use Rattle.aa_glob.specs.Expansions.{is_reserved}
+use Rattle.aa_heads.specs.Preamble.{Names, sign_of, Assigning, LacksAssignment, IsValue, NoValue, AssignmentData, assignment, IsAssignment, CanNameAbi, NamesAbi, LacksAbiName, IsAbi, PreambleData, Assigns, Abi, IsPreambleItem, PreambleEnds, IsPreamble, Here, assigned, given, variables_after, variables_of, Misfits, Misnames, IsMisnamed, misnamed}
 use Rattle.aa_rules.specs.Reading.{rest_of}
 use Rattle.aa_rules.proofs.Places.{here, nothing_here}
 use Rattle.aa_rules.proofs.Phrases.{starts_same, starts_kind, keyword_once}
@@ -156,6 +160,13 @@ pub as_item : (r : Result ℕ PolicyFault) (words : List Word) (ws : List WordDa
 as_item (Ok n) words ws old new a = (Assigns a.0, a.1, a.2)
 as_item (Err e) words ws old new a = a
 
+-- where neither an assignment nor an abi rule is read, no item is
+pub no_item : (ws : List WordData) (old : List Variable) → LacksKeyword (codes "abi") ws
+    → ((x : AssignmentData) (more : List Variable) (rest : List WordData) → IsAssignment ws x rest → assigned old x ≡ Some more → ⊥)
+    → (item : PreambleData) (more : List Variable) (rest : List WordData) → IsPreambleItem ws item rest → given old item ≡ Some more → ⊥
+no_item ws old l h (Assigns x) more rest a g = h x more rest a g
+no_item ws old l h Abi more rest a g = l a.named a.keyword_stands
+
 -- no items
 pub none_of : {X Y : Type 0} (f : X → Y) (xs : List X) → length xs ≡ 0 → map f xs ≡ []
 none_of f [] e = refl
@@ -222,3 +233,85 @@ stands_none ws rest vars h g s items whole end m e =
 
 pub stands_misnamed : (adds : Bool) (ws rest : List WordData) (vars : List Variable) (at : Spot) → Misnames adds vars rest at → Stands ws rest vars → IsMisnamed adds ws at
 stands_misnamed adds ws rest vars at m s = record { items = s.items; vars = vars; after = rest; before = s.before; gives = s.gives; misnames = m }
+
+-- ---- an assignment whose sign doesn't fit its name
+
+-- it gives no variables
+misfit : (vars : List Variable) (a : AssignmentData) (adds : Bool) → a.adds ≡ adds → is_reserved a.name ≡ false → has_name a.name vars ≡ not adds → assigned vars a ≡ None
+unfolding assigned
+misfit vars a true s u t = rw (u, s, t) refl
+misfit vars a false s u t = rw (u, s, t) refl
+
+pub misnames_head : (adds : Bool) (vars : List Variable) (ws : List WordData) (at : Spot) (name : List ℕ) (sign : Bool) (rest : List WordData) (spot : Spot) → Assigning ws at name sign rest
+    → Misnames adds vars ws spot → (at ≡ spot) × Misfits adds vars name sign
+misnames_head adds vars ws at name sign rest spot h m =
+    let s = assigning_once ws at spot name m.name sign m.sign rest m.rest h m.head in
+    (s.at_same, subst (λ (n : List ℕ). Misfits adds vars n sign) (sym s.name_same) (subst (λ (b : Bool). Misfits adds vars m.name b) (sym s.adds_same) m.misfits))
+
+misnames_no_item : (adds : Bool) (vars : List Variable) (ws : List WordData) (spot : Spot) → Misnames adds vars ws spot
+    → (item : PreambleData) (more : List Variable) (after : List WordData) → IsPreambleItem ws item after → given vars item ≡ Some more → ⊥
+misnames_no_item adds vars ws spot m (Assigns x) more after a g =
+    let f = (misnames_head adds vars ws x.at x.name x.adds a.after spot a.head m).1 in
+    none_some more (sym (misfit vars x adds f.sign_is f.usable f.there) ∙ g)
+misnames_no_item adds vars ws spot m Abi more after a g = assigning_no_keyword ws spot m.name m.sign m.rest (codes "abi") m.head a.named a.keyword_stands
+
+-- from here on items give more variables, and then such an assignment begins
+pub record Ahead (adds : Bool) (vars : List Variable) (ws : List WordData) (spot : Spot) : Type 0 where
+  pub items : List PreambleData
+  pub more : List Variable
+  pub after : List WordData
+  pub before : Many IsPreambleItem Here ws items after
+  pub gives : variables_after vars items ≡ Some more
+  pub misnames : Misnames adds more after spot
+
+pub ahead_start : (adds : Bool) (ws : List WordData) (spot : Spot) → IsMisnamed adds ws spot → Ahead adds [] ws spot
+ahead_start adds ws spot m = record { items = m.items; more = m.vars; after = m.after; before = m.before; gives = m.gives; misnames = m.misnames }
+
+same_given : (u v : List Variable) → Some u ≡ Some v → u ≡ v
+same_given u v e = cc
+
+-- it begins here
+begins_here : (adds : Bool) (vars more : List Variable) (ws after : List WordData) (spot : Spot) → after ≡ ws → variables_after vars [] ≡ Some more → Misnames adds more after spot → Misnames adds vars ws spot
+begins_here adds vars more ws after spot h g m =
+    subst (λ (v : List Variable). Misnames adds v ws spot) (sym (same_given vars more g)) (subst (λ (w : List WordData). Misnames adds more w spot) h m)
+
+next_of : (adds : Bool) (vars : List Variable) (ws : List WordData) (spot : Spot) (items : List PreambleData) (more : List Variable) (after : List WordData)
+    → Many IsPreambleItem Here ws items after → variables_after vars items ≡ Some more → Misnames adds more after spot
+    → (item : PreambleData) (rest : List WordData) (now : List Variable) → IsPreambleItem ws item rest → given vars item ≡ Some now → Ahead adds now rest spot
+next_of adds vars ws spot [] more after b g m item rest now h e = absurd (misnames_no_item adds vars ws spot (begins_here adds vars more ws after spot b g m) item now rest h e)
+next_of adds vars ws spot (x ∷ xs) more after b g m item rest now h e =
+    let o = item_once ws x item b.0 rest b.1 h in
+    let first : given vars x ≡ Some now = ap (given vars) o.0 ∙ e in
+    record {
+      items = xs;
+      more = more;
+      after = after;
+      before = subst (λ (w : List WordData). Many IsPreambleItem Here w xs after) o.1 b.2;
+      gives = sym (ap (option_and_then (λ v. variables_after v xs)) first) ∙ g;
+      misnames = m;
+    }
+
+pub ahead_next : (adds : Bool) (vars : List Variable) (ws : List WordData) (spot : Spot) (item : PreambleData) (rest : List WordData) (now : List Variable)
+    → IsPreambleItem ws item rest → given vars item ≡ Some now → Ahead adds vars ws spot → Ahead adds now rest spot
+ahead_next adds vars ws spot item rest now h e a = next_of adds vars ws spot a.items a.more a.after a.before a.gives a.misnames item rest now h e
+
+end_of : (adds : Bool) (vars : List Variable) (ws : List WordData) (spot : Spot) (items : List PreambleData) (more : List Variable) (after : List WordData)
+    → Many IsPreambleItem Here ws items after → variables_after vars items ≡ Some more → Misnames adds more after spot → PreambleEnds ws ws → ⊥
+end_of adds vars ws spot [] more after b g m e = let n = begins_here adds vars more ws after spot b g m in e.1 spot n.name n.sign n.rest n.head
+end_of adds vars ws spot (x ∷ xs) more after b g m e = item_apart ws x b.0 ws b.1 e
+
+pub ahead_end : (adds : Bool) (vars : List Variable) (ws : List WordData) (spot : Spot) → PreambleEnds ws ws → Ahead adds vars ws spot → ⊥
+ahead_end adds vars ws spot e a = end_of adds vars ws spot a.items a.more a.after a.before a.gives a.misnames e
+
+refusal_of : (adds : Bool) (vars : List Variable) (ws : List WordData) (spot : Spot) (items : List PreambleData) (more : List Variable) (after : List WordData)
+    → Many IsPreambleItem Here ws items after → variables_after vars items ≡ Some more → Misnames adds more after spot → (e : PolicyFault)
+    → (((item : PreambleData) (now : List Variable) (rest : List WordData) → IsPreambleItem ws item rest → given vars item ≡ Some now → ⊥) ⊎ (e ≡ no_memory))
+    → (Misnames adds vars ws spot → (e ≡ no_memory) ⊎ (e ≡ misnamed adds spot)) → (e ≡ no_memory) ⊎ (e ≡ misnamed adds spot)
+refusal_of adds vars ws spot [] more after b g m e n f = f (begins_here adds vars more ws after spot b g m)
+refusal_of adds vars ws spot (x ∷ xs) more after b g m e (inl n) f = let s = some_first (λ v. variables_after v xs) (given vars x) more g in absurd (n x s.0 b.0 b.1 s.1)
+refusal_of adds vars ws spot (x ∷ xs) more after b g m e (inr q) f = inl q
+
+pub ahead_refused : (adds : Bool) (vars : List Variable) (ws : List WordData) (spot : Spot) (e : PolicyFault) → Ahead adds vars ws spot
+    → (((item : PreambleData) (now : List Variable) (rest : List WordData) → IsPreambleItem ws item rest → given vars item ≡ Some now → ⊥) ⊎ (e ≡ no_memory))
+    → (Misnames adds vars ws spot → (e ≡ no_memory) ⊎ (e ≡ misnamed adds spot)) → (e ≡ no_memory) ⊎ (e ≡ misnamed adds spot)
+ahead_refused adds vars ws spot e a n f = refusal_of adds vars ws spot a.items a.more a.after a.before a.gives a.misnames e n f

@@ -1,5 +1,5 @@
 -- What may stand before a policy's profiles: assignments to variables, and abi rules.
-use Rattle.std.specs.Prelude.{⊤, ◌⊎◌, ℕ, ◌≡◌, ◌≢◌, List, [], ◌∷◌, ◌++◌, Bool, true, false, not, ◌&&◌, ◌||◌, ◌==◌, if◌then◌else◌, Option, Some, None, option_and_then, codes}
+use Rattle.std.specs.Prelude.{⊤, ◌⊎◌, ℕ, ◌≡◌, ◌≢◌, List, [], ◌∷◌, ◌++◌, Bool, true, false, not, ◌&&◌, ◌||◌, ◌==◌, if◌then◌else◌, Option, Some, None, option_and_then, codes, Result, Ok, Err}
 use Rattle.std.specs.List.{list_all}
 use Rattle.aa_faults.specs.declared.fault.Spot.{Spot}
 use Rattle.aa_faults.specs.declared.fault.PolicyFault.{PolicyFault}
@@ -155,6 +155,19 @@ pub record Misnames (adds : Bool) (vars : List Variable) (ws : List WordData) (a
   pub rest : List WordData
   pub head : Assigning ws at name sign rest
   pub misfits : Misfits adds vars name sign
+
+-- the refusal of such an assignment, at its variable
+abbrev pub misnamed_kind : Bool → PolicyKind
+misnamed_kind false = VariableTwice
+misnamed_kind true = UndefinedVariable
+
+abbrev pub misnamed : Bool → Spot → PolicyFault
+misnamed adds at = record { kind = misnamed_kind adds; at = at }
+
+-- the answer is that refusal, unless memory is wanting
+abbrev pub IsRefusedWith : {T : Type 0} → PolicyFault → Result T PolicyFault → Type 0
+IsRefusedWith fault (Ok x) = ⊥
+IsRefusedWith fault (Err e) = (e ≡ no_memory) ⊎ (e ≡ fault)
 
 -- the kinds of a preamble's refusals
 abbrev pub is_preamble_fault : PolicyKind → Bool

@@ -9,7 +9,7 @@ ghost use Rattle.aa_glob.specs.Variables.{Variable};
 ghost use Rattle.aa_faults.specs.Kinds.{no_memory, IsRefusal};
 ghost use Rattle.aa_words.specs.Splits.{WordData};
 ghost use Rattle.aa_rules.specs.Grammar.{Starts, Lacks, Many};
-ghost use Rattle.aa_heads.specs.Preamble.{is_name_byte, is_variable_name, Names, sign_of, Assigning, LacksAssignment, IsValue, NoValue, AssignmentData, assignment, IsAssignment, assigned, Misfits, Misnames, IsPreambleRefusal};
+ghost use Rattle.aa_heads.specs.Preamble.{is_name_byte, is_variable_name, Names, sign_of, Assigning, LacksAssignment, IsValue, NoValue, AssignmentData, assignment, IsAssignment, assigned, Misfits, Misnames, misnamed, IsRefusedWith, IsPreambleRefusal};
 ghost use Rattle.aa_rules.specs.Reading.{rest_of};
 
 use aa_glob::Vars;
@@ -155,6 +155,7 @@ fn assign(vars: &mut Vars, head: Head, values: &[&[u8]]) -> Result<(), PolicyFau
     ensures cause { IfErr result IsPreambleRefusal }
     ensures twice { IfErr result (λ e. e.kind ≡ PolicyKind.VariableTwice → Misfits false vars.old head.entry.name.now head.entry.adds × (e.at ≡ head.entry.at)) }
     ensures undefined { IfErr result (λ e. e.kind ≡ PolicyKind.UndefinedVariable → Misfits true vars.old head.entry.name.now head.entry.adds × (e.at ≡ head.entry.at)) }
+    ensures misfits { (adds : Bool) → Misfits adds vars.old head.entry.name.now head.entry.adds → IsRefusedWith (misnamed adds head.entry.at) result }
 {
     if is_reserved(head.name) {
         return Err(fault_at(PolicyKind::Unsupported, head.at));
@@ -185,6 +186,7 @@ pub fn assignment_of(
     ensures cause { IfErr result IsPreambleRefusal }
     ensures twice { IfErr result (λ e. e.kind ≡ PolicyKind.VariableTwice → Misnames false vars.old (rest_of words.now at) e.at) }
     ensures undefined { IfErr result (λ e. e.kind ≡ PolicyKind.UndefinedVariable → Misnames true vars.old (rest_of words.now at) e.at) }
+    ensures misnames { (adds : Bool) (spot : Spot) → Misnames adds vars.old (rest_of words.now at) spot → IsRefusedWith (misnamed adds spot) result }
     ensures within { IfOk result (λ next. (at < next) × (next ≤ length words.now)) }
 {
     let Some(head) = head_at(words, at) else {

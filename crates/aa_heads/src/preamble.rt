@@ -1,12 +1,13 @@
 //! What stands before a policy's profiles: assignments, and abi rules (apparmor.d(5), "Variables" and "ABI").
 
-ghost use Rattle.std.specs.Prelude.{◌≡◌, ◌≤◌, ◌<◌, ◌+◌, true, false, ◌∷◌, List, length, Some, IfSome, IfNone, OnSome, IfOk, IfErr, OnErr};
+ghost use Rattle.std.specs.Prelude.{Bool, ◌≡◌, ◌≤◌, ◌<◌, ◌+◌, true, false, ◌∷◌, List, length, Some, IfSome, IfNone, OnSome, IfOk, IfErr, OnErr};
 ghost use Rattle.std.specs.Bool.{OnTrue, OnFalse};
+ghost use Rattle.aa_faults.specs.declared.fault.Spot.{Spot};
 ghost use Rattle.aa_glob.specs.Variables.{Variable};
 ghost use Rattle.aa_faults.specs.Kinds.{IsRefusal};
 ghost use Rattle.aa_words.specs.Splits.{WordData, word_data};
 ghost use Rattle.aa_rules.specs.Faults.{is_word_fault};
-ghost use Rattle.aa_heads.specs.Preamble.{IsAngled, CanNameAbi, NamesAbi, LacksAbiName, IsAbi, PreambleData, IsPreambleItem, PreambleEnds, IsPreamble, given, variables_of, Misnames, IsTwice, IsUndefined, IsPreambleRefusal};
+ghost use Rattle.aa_heads.specs.Preamble.{IsAngled, CanNameAbi, NamesAbi, LacksAbiName, IsAbi, PreambleData, IsPreambleItem, PreambleEnds, IsPreamble, given, variables_of, Misnames, IsMisnamed, IsTwice, IsUndefined, misnamed, IsRefusedWith, IsPreambleRefusal};
 ghost use Rattle.aa_rules.specs.Reading.{rest_of};
 
 use crate::assignments::{assignment_of, begins_assignment};
@@ -93,6 +94,7 @@ fn item_of(
     ensures cause { IfErr result IsPreambleRefusal }
     ensures twice { IfErr result (λ e. e.kind ≡ PolicyKind.VariableTwice → Misnames false vars.old (rest_of words.now at) e.at) }
     ensures undefined { IfErr result (λ e. e.kind ≡ PolicyKind.UndefinedVariable → Misnames true vars.old (rest_of words.now at) e.at) }
+    ensures misnames { (adds : Bool) (spot : Spot) → Misnames adds vars.old (rest_of words.now at) spot → IsRefusedWith (misnamed adds spot) result }
     ensures within { IfOk result (λ next. (at < next) × (next ≤ length words.now)) }
 {
     if is_keyword(words, at, "abi".as_bytes()) {
@@ -115,6 +117,7 @@ pub fn preamble_of(
     ensures cause { IfErr result IsPreambleRefusal }
     ensures twice { IfErr result (λ e. e.kind ≡ PolicyKind.VariableTwice → IsTwice (rest_of words.now start) e.at) }
     ensures undefined { IfErr result (λ e. e.kind ≡ PolicyKind.UndefinedVariable → IsUndefined (rest_of words.now start) e.at) }
+    ensures misnamed { (adds : Bool) (spot : Spot) → IsMisnamed adds (rest_of words.now start) spot → IsRefusedWith (misnamed adds spot) result }
     ensures within { IfOk result (λ r. (start ≤ r.1) × (r.1 ≤ length words.now)) }
 {
     let mut vars = Vars::new(alloc);

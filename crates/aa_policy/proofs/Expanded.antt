@@ -1,7 +1,8 @@
 -- Paths that expand, and the first that doesn't.
-use Rattle.std.proofs.Common.{◌≡◌, ℕ, suc, zero, ◌+◌, ◌<◌, List, drop, get_or, length, [], ◌∷◌, ◌++◌, map, Bool, true, false, cond, refl, sym, ◌∙◌, subst, inl, inr, Option, Some, None}
+use Rattle.std.proofs.Common.{◌≡◌, ℕ, suc, zero, ◌+◌, ◌<◌, List, drop, get_or, length, [], ◌∷◌, ◌++◌, map, Bool, true, false, cond, refl, sym, ap, ◌∙◌, subst, inl, inr, Option, Some, None}
 use Rattle.std.specs.Prelude.{flat_map, nat_lt, Result, Ok, Err}
 use Rattle.std.specs.List.{AllByRecursion}
+use Rattle.aa_faults.specs.declared.fault.Spot.{Spot}
 use Rattle.aa_faults.specs.declared.fault.PolicyKind.{PolicyKind}
 use Rattle.aa_faults.specs.declared.fault.PolicyKind.TheVariants.{RelativePath}
 use Rattle.aa_faults.specs.declared.fault.PolicyFault.{PolicyFault}
@@ -12,7 +13,7 @@ use Rattle.aa_reader.specs.Reading.{tokens, tokens_from, or_bad}
 use Rattle.aa_reader.specs.Signs.{is_unsupported, signs}
 use Rattle.aa_glob.specs.Expansions.{Outcome, Texts, Stops, Deeper, both, alone, joined, in_turn, is_reserved, counted, of_values, outcome, of_path, pattern_text, expansion, and_more, expansions, Expands, in_walk, in_circle, too_many, as_texts}
 use Rattle.aa_glob.proofs.Depths.{expands_once}
-use Rattle.aa_policy.specs.Expansion.{PathData, Way, AsPath, AsName, IsReadAs, IsExpanding, IsFirstRefused}
+use Rattle.aa_policy.specs.Expansion.{PathData, Way, AsPath, AsName, IsReadAs, IsExpanding, IsRefused, IsFirstRefused}
 use Rattle.aa_policy.specs.Faults.{is_path_fault}
 use Rattle.aa_policy.proofs.Growth.{rest_step}
 
@@ -144,6 +145,28 @@ pub never_refused : (vars : List Variable) (paths : List PathData) (e : PolicyFa
 never_refused vars [] e a h = h
 never_refused vars (p ∷ ps) e a (inl h) = ok_err a.0.0 e.kind (read_once p.way vars p.text (Ok a.0.0) (Err e.kind) a.0.1 h.kind)
 never_refused vars (p ∷ ps) e a (inr h) = never_refused vars ps e a.1 h.1
+
+abbrev refused : PolicyKind → Result (List (List Token)) PolicyKind
+refused kind = Err kind
+
+same_kind : (a b : PolicyKind) → refused a ≡ refused b → a ≡ b
+same_kind a b e = cc
+
+pub same_fault : (e f : PolicyFault) → e.kind ≡ f.kind → e.at ≡ f.at → e ≡ f
+same_fault e f k a = ap (λ (x : PolicyKind). record { kind = x; at = e.at }) k ∙ ap (λ (x : Spot). record { kind = f.kind; at = x }) a
+
+-- what is refused does not expand
+not_expanding : (vars : List Variable) (p : PathData) (e : PolicyFault) → IsRefused vars p e → IsExpanding vars p → ⊥
+not_expanding vars p e h x = ok_err x.0 e.kind (read_once p.way vars p.text (Ok x.0) (Err e.kind) x.1 h.kind)
+
+-- there is one first refusal
+pub first_once : (vars : List Variable) (paths : List PathData) (e f : PolicyFault) → IsFirstRefused vars paths e → IsFirstRefused vars paths f → e ≡ f
+first_once vars [] e f h k = absurd h
+first_once vars (p ∷ ps) e f (inl h) (inl k) =
+    same_fault e f (same_kind e.kind f.kind (read_once p.way vars p.text (Err e.kind) (Err f.kind) h.kind k.kind)) (h.at_is ∙ sym k.at_is)
+first_once vars (p ∷ ps) e f (inl h) (inr k) = absurd (not_expanding vars p e h k.0)
+first_once vars (p ∷ ps) e f (inr h) (inl k) = absurd (not_expanding vars p f k h.0)
+first_once vars (p ∷ ps) e f (inr h) (inr k) = first_once vars ps e f h.1 k.1
 
 -- the refusal of one of the things that are read in turn
 pub refused_at : {X Y : Type 0} (vars : List Variable) (f : Y → List PathData) (g : X → Y) (xs : List X) (i : ℕ) (d : X) (e : PolicyFault) → i < length xs

@@ -9,3 +9,4 @@ pub mod RuleWords
 pub mod Profiles
 pub mod Parents
 pub mod Attachments
+pub mod Exact

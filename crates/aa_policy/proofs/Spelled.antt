@@ -101,7 +101,7 @@ profile_once vars d p q a b = record {
   changes = zip_join MeansChange MeansChange SameChange change_once (changes_of d.rules) p.changes q.changes a.changes_are b.changes_are;
 }
 
-moved : (u v : List Variable) (s t : List ProfileData) (ps : List Profile) → u ≡ v → s ≡ t → MeansProfiles u s ps → MeansProfiles v t ps
+pub moved : (u v : List Variable) (s t : List ProfileData) (ps : List Profile) → u ≡ v → s ≡ t → MeansProfiles u s ps → MeansProfiles v t ps
 moved u v s t ps e h m = subst (λ (x : List Variable). MeansProfiles x t ps) e (subst (λ (x : List ProfileData). MeansProfiles u x ps) h m)
 
 pub profiles_once : (ws : List WordData) (u v : List Variable) (s t : List ProfileData) (ps qs : List Profile)
@@ -112,7 +112,7 @@ profiles_once ws u v s t ps qs w x a b =
 
 -- ---- what is the same of profiles that are the same
 
-same_names : (ps qs : List Profile) → AllZip SameProfile ps qs → names_of ps ≡ names_of qs
+pub same_names : (ps qs : List Profile) → AllZip SameProfile ps qs → names_of ps ≡ names_of qs
 same_names ps qs h = zip_same SameProfile (λ p. p.name) (λ q. q.name) (λ p q s. s.name) ps qs h
 
 same_count : (p q : Profile) → SameProfile p q → file_patterns p ≡ file_patterns q
@@ -139,7 +139,7 @@ same_counts ps qs h c = record {
       (same_all HasFewPatterns (λ p q s. subst (λ (n : ℕ). n ≤ 65535) (same_count p q s)) ps qs h (recursion_from_All HasFewPatterns ps c.few_patterns));
 }
 
-same_limits : (ps qs : List Profile) → AllZip SameProfile ps qs → IsWithinLimits ps → IsWithinLimits qs
+pub same_limits : (ps qs : List Profile) → AllZip SameProfile ps qs → IsWithinLimits ps → IsWithinLimits qs
 same_limits ps qs h l = record {
   counts = same_counts ps qs h l.counts;
   few_attachments = λ parent. subst (λ (n : ℕ). n ≤ 65535) (same_attachments parent ps qs h) (l.few_attachments parent);
@@ -209,7 +209,7 @@ or_false : (a b : Bool) → a ≡ false → (a || b) ≡ true → b ≡ true
 or_false true b f e = absurd cc
 or_false false b f e = e
 
-not_repeated : (xs : List (List ℕ)) (y : List ℕ) (ys : List (List ℕ)) → list_any (bytes_eq y) xs ≡ true → IsDistinct bytes_eq (xs ++ y ∷ ys) → ⊥
+pub not_repeated : (xs : List (List ℕ)) (y : List ℕ) (ys : List (List ℕ)) → list_any (bytes_eq y) xs ≡ true → IsDistinct bytes_eq (xs ++ y ∷ ys) → ⊥
 unfolding IsDistinct
 not_repeated [] y ys h d = false_true h
 not_repeated (x ∷ xs) y ys h d =

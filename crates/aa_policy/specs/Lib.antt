@@ -6,5 +6,6 @@ pub use Rattle.aa_profiles.specs.Lawful
 pub mod Bodies
 pub mod Expansion
 pub mod Faults
+pub mod Refusals
 pub mod Sameness
 pub mod Spelling

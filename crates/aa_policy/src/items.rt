@@ -1,12 +1,13 @@
 //! The first pass: reads what is written, word by word.
 
-ghost use Rattle.std.specs.Prelude.{◌≡◌, ◌<◌, ◌≤◌, ◌++◌, true, List, Option, map, length, option_map, OnOk, OnErr, IfOk, IfErr};
+ghost use Rattle.std.specs.Prelude.{Bool, ◌≡◌, ◌<◌, ◌≤◌, ◌++◌, true, List, Option, map, length, option_map, OnOk, OnErr, IfOk, IfErr};
+ghost use Rattle.aa_faults.specs.declared.fault.Spot.{Spot};
 ghost use Rattle.aa_faults.specs.Kinds.{IsRefusal};
 ghost use Rattle.aa_words.specs.Splits.{WordData, words_data};
 ghost use Rattle.aa_rules.specs.Faults.{IsWordRefusal};
 ghost use Rattle.aa_policy.specs.Bodies.{FamilyData, ProfileData, IsItem, IsPolicy, row_of, family_data, profile_data, tree_data};
 ghost use Rattle.aa_glob.specs.Variables.{Variable};
-ghost use Rattle.aa_heads.specs.Preamble.{IsTwice, IsUndefined, IsPreambleRefusal};
+ghost use Rattle.aa_heads.specs.Preamble.{IsMisnamed, IsTwice, IsUndefined, misnamed, IsRefusedWith, IsPreambleRefusal};
 ghost use Rattle.aa_rules.specs.Reading.{rest_of};
 
 use crate::bodies::profile_of;
@@ -67,6 +68,7 @@ pub fn tree_of<'s>(
     ensures cause { IfErr result (λ e. IsPreambleRefusal e) }
     ensures twice { IfErr result (λ e. e.kind ≡ PolicyKind.VariableTwice → IsTwice (words_data words.now) e.at) }
     ensures undefined { IfErr result (λ e. e.kind ≡ PolicyKind.UndefinedVariable → IsUndefined (words_data words.now) e.at) }
+    ensures misnamed { (adds : Bool) (spot : Spot) → IsMisnamed adds (words_data words.now) spot → IsRefusedWith (misnamed adds spot) result }
 {
     let (vars, start) = preamble_of(alloc, words, 0, end)?;
     let mut profiles = Vec::new(alloc);

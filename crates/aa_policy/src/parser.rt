@@ -1,10 +1,12 @@
 //! Gives the policy that a text's words spell.
 
 ghost use Rattle.std.specs.Prelude.{◌≡◌, ◌⊎◌, List, true, IfOk, IfErr};
+ghost use Rattle.aa_faults.specs.declared.fault.PolicyFault.{PolicyFault};
 ghost use Rattle.aa_faults.specs.Kinds.{IsRefusal};
 ghost use Rattle.aa_words.specs.Splits.{WordData, words_data};
 ghost use Rattle.aa_policy.specs.Faults.{IsParseRefusal, is_path_only};
-ghost use Rattle.aa_heads.specs.Preamble.{IsTwice, IsUndefined};
+ghost use Rattle.aa_heads.specs.Preamble.{IsTwice, IsUndefined, IsRefusedWith};
+ghost use Rattle.aa_policy.specs.Refusals.{IsUnwritten, IsFault, is_word_only};
 ghost use Rattle.aa_policy.specs.Sameness.{SamePolicy};
 ghost use Rattle.aa_policy.specs.Spelling.{Spells, IsPathFault, IsDuplicate, IsOverLimits, start};
 ghost use Rattle.aa_profiles.specs.declared.policy.Policy.{Policy};
@@ -45,7 +47,13 @@ pub fn parse(alloc: Global, words: &WordList) -> Result<Policy, PolicyFault>
     ensures duplicate { IfErr result (λ e. e.kind ≡ PolicyKind.DuplicateProfile → IsDuplicate (words_data words.now.list.items) e.at) }
     ensures too_large { IfErr result (λ e. e.kind ≡ PolicyKind.TooLarge
         → IsPathFault (words_data words.now.list.items) e ⊎ ((e.at ≡ start) × IsOverLimits (words_data words.now.list.items))) }
+    ensures unwritten { IfErr result (λ e. is_word_only e.kind ≡ true → IsUnwritten (words_data words.now.list.items)) }
+    ensures unsupported { IfErr result (λ e. e.kind ≡ PolicyKind.Unsupported
+        → IsUnwritten (words_data words.now.list.items) ⊎ IsPathFault (words_data words.now.list.items) e) }
     ensures kinds { IfErr result IsParseRefusal }
+
+    // Each fault of the words that isn't one of a word is what they are refused with.
+    ensures exact { (fault : PolicyFault) → IsFault (words_data words.now.list.items) fault → IsRefusedWith fault result }
 {
     let tree = tree_of(alloc, words.list.as_slice(), words.end)?;
     let profiles = profiles(alloc, &tree.vars, tree.profiles.as_slice())?;

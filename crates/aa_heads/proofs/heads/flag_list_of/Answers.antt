@@ -1,7 +1,7 @@
 use Rattle.std.proofs.Common.{◌+◌, ◌++◌, ◌∷◌, [], sym, ap, ◌∙◌, rules, arith}
 use Rattle.std.specs.Prelude.{◌&&◌}
 use Rattle.aa_words.specs.declared.word.WordKind.TheVariants.{RightParen}
-use Rattle.aa_words.specs.Splits.{WordData, word_data}
+use Rattle.aa_words.specs.Splits.{word_data}
 use Rattle.aa_rules.specs.Grammar.{Lacks}
 use Rattle.aa_heads.specs.declared.heads.HeadFlags.{HeadFlags}
 use Rattle.aa_heads.specs.Heads.{Stands, Fits, LacksFitting, is_flag, flags_with}

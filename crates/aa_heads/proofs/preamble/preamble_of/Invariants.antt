@@ -1,10 +1,13 @@
-use Rattle.std.proofs.Common.{◌≤◌, length, ◌-◌}
+use Rattle.std.proofs.Common.{◌≤◌, length, ◌-◌, Bool}
+use Rattle.aa_faults.specs.declared.fault.Spot.{Spot}
+use Rattle.aa_heads.specs.Preamble.{IsMisnamed}
 use Rattle.aa_rules.specs.Reading.{rest_of}
-use Rattle.aa_heads.proofs.Preambles.{Stands}
+use Rattle.aa_heads.proofs.Preambles.{Ahead, Stands}
 use Rattle.aa_heads.proofs.preamble.preamble_of.Given as goal
 
 abbrev pub invariant-items : goal.invariant-items
 invariant-items l = record {
+  ahead : (adds : Bool) (spot : Spot) → IsMisnamed adds (rest_of l.words l.start) spot → Ahead adds l.vars (rest_of l.words l.at) spot;
   stands : Stands (rest_of l.words l.start) (rest_of l.words l.at) l.vars;
   behind : l.start ≤ l.at;
   within : l.at ≤ length l.words;

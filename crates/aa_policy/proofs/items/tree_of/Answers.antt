@@ -1,14 +1,14 @@
-use Rattle.std.proofs.Common.{[], ◌∷◌, ◌++◌, refl, sym}
+use Rattle.std.proofs.Common.{[], ◌∷◌, ◌++◌, refl, sym, ap}
 use Rattle.std.specs.Prelude.{option_map}
 use Rattle.std.proofs.lemmas.List.{length-map}
 use Rattle.std.proofs.lemmas.Result.{err_from_is_err_and}
-use Rattle.aa_policy.specs.Bodies.{IsItem, family_data, profile_data}
+use Rattle.aa_policy.specs.Bodies.{IsItem, family_data, profile_data, tree_data}
 use Rattle.aa_rules.specs.Grammar.{IsEnd}
 use Rattle.aa_rules.specs.Reading.{rest_of}
 use Rattle.aa_rules.proofs.Places.{nothing_here, something_here}
 use Rattle.aa_policy.proofs.Profiles.{item_reads, no_preamble, no_items, row_next}
-use Rattle.aa_heads.proofs.Refusals.{refused_by}
-use Rattle.aa_rules.proofs.Repetition.{reaches_next, reaches_end, reaches_none}
+use Rattle.aa_heads.proofs.Refusals.{refused_by, refused_with}
+use Rattle.aa_rules.proofs.Repetition.{reaches_start, reaches_next, reaches_end, reaches_none}
 use Rattle.aa_policy.proofs.items.tree_of.Goals as goal
 
 pub returns-in_err-vars-clause-refused : goal.returns-in_err-vars-clause-refused
@@ -44,3 +44,19 @@ returns-clause-found c = record {
   items_stand = reaches_end IsItem IsEnd _ _ (rest_of c.args.words.now c.items.at) [] (nothing_here c.args.words.now c.items.at c.items-test.false, refl) c.items.invariant.reach;
   profiles_are = c.items.invariant.profiles;
 }
+
+pub items-init : goal.items-init
+items-init c = record {
+  found = [];
+  reach = reaches_start IsItem IsEnd (rest_of c.args.words.now c.in_ok-vars.start);
+  profiles = ap tree_data c.new-profiles.ensures.items;
+  within = c.in_ok-vars.ensures.within.1;
+}
+
+pub returns-in_err-vars-clause-misnamed : goal.returns-in_err-vars-clause-misnamed
+returns-in_err-vars-clause-misnamed c = λ adds spot m.
+    let q = err_from_is_err_and c.from_residual.result c.from_residual.ensures.1 in
+    refused_with c.from_residual.result _ _ _ q.1 q.2 (c.in_err-vars.ensures.misnamed adds spot m)
+
+pub returns-in_err-item-clause-misnamed : goal.returns-in_err-item-clause-misnamed
+returns-in_err-item-clause-misnamed c = λ adds spot m. absurd (c.in_ok-vars.ensures.misnamed adds spot m)
