@@ -1,5 +1,17 @@
-//! Tests of verdicts, of lines, and of whole jobs.
+//! Tests of whole jobs: what each command answers, and readers and writers that fail.
 #![tactic(auto)]
 
 #[cfg(test)]
-mod engine_tests;
+mod check_tests;
+#[cfg(test)]
+mod fault_tests;
+#[cfg(test)]
+mod growth_tests;
+#[cfg(test)]
+mod jobs;
+#[cfg(test)]
+mod replay_tests;
+#[cfg(test)]
+mod run_tests;
+#[cfg(test)]
+mod stream_tests;

@@ -1,0 +1,78 @@
+//! Jobs, and what they are answered. The helpers have no clauses, so that a test's proof stays short.
+
+ghost use Rattle.std.specs.Prelude.{◌<◌, ◌≤◌};
+
+use aa_engine::{RunFault, check_job, replay_job, run_job};
+use std::alloc::Global;
+use std::io::{Read, Write};
+use std::process::Abort;
+
+/// A command, of `run` with its number of workers.
+#[derive(Clone, Copy)]
+pub enum Command {
+    Check,
+    Run(u32),
+    Replay,
+}
+
+/// Each command once.
+pub const COMMANDS: [Command; 3] = [Command::Check, Command::Run(1), Command::Replay];
+
+/// A job that reads and writes a file.
+pub const FIRST_JOB: &[u8] =
+    b"{\"policy\":\"profile p { /etc/passwd r, }\",\"tasks\":[{\"label\":\"p\",\"requests\":[{\"file\":\"/etc/passwd\",\"mask\":\"r\"},{\"file\":\"/etc/passwd\",\"mask\":\"w\"}]}],\"events\":[[0,\"send\"],[0,\"send\"],[0,\"take\"],[0,\"shut\"],[0,\"finish\"],[0,\"collect\"],[0,\"send\"],[0,\"take\"],[0,\"collect\"]]}";
+
+const FIRST_COUNTS: &[u8] = b"ok 1 profiles 1 file rules 0 passed over\n";
+
+const FIRST_VERDICTS: &[u8] =
+    b"0 0 granted label=\"p\"\n0 1 denied label=\"p\"\napparmor=\"DENIED\" operation=\"file\" profile=\"p\" name=\"/etc/passwd\" requested_mask=\"w\" denied_mask=\"w\"\n";
+
+const FIRST_REPLIES: &[u8] =
+    b"0 send accepted 0\n0 send full\n0 take 0\n0 shut 1\n0 finish 0\n0 collect 0 granted label=\"p\"\n0 send closed\n0 take settled\n0 collect none\n";
+
+/// What a command writes for the first job.
+pub fn first_text(command: Command) -> &'static [u8] {
+    match command {
+        Command::Check => FIRST_COUNTS,
+        Command::Run(_) => FIRST_VERDICTS,
+        Command::Replay => FIRST_REPLIES,
+    }
+}
+
+/// A job of three tasks, of which two move by executions and two exit.
+pub const MOVING_JOB: &[u8] =
+    b"{\"policy\":\"profile p { /bin/q px, /f r, } profile q /bin/q { /g r, }\",\"tasks\":[{\"label\":\"p\",\"requests\":[{\"file\":\"/g\",\"mask\":\"r\"},{\"exec\":\"/bin/q\"},{\"file\":\"/g\",\"mask\":\"r\"},\"exit\",{\"file\":\"/f\",\"mask\":\"r\"}]},{\"label\":\"unconfined\",\"requests\":[{\"exec\":\"/bin/q\"},{\"file\":\"/f\",\"mask\":\"r\"}]},{\"label\":\"q\",\"requests\":[\"exit\"]}]}";
+
+/// What `run` writes for it.
+pub const MOVED: &[u8] =
+    b"0 0 denied label=\"p\"\napparmor=\"DENIED\" operation=\"file\" profile=\"p\" name=\"/g\" requested_mask=\"r\" denied_mask=\"r\"\n0 1 granted label=\"q\"\n0 2 granted label=\"q\"\n1 0 granted label=\"q\"\n1 1 denied label=\"q\"\napparmor=\"DENIED\" operation=\"file\" profile=\"q\" name=\"/f\" requested_mask=\"r\" denied_mask=\"r\"\n";
+
+/// Lets the command answer what the reader gives.
+pub fn answer<R: Read, W: Write>(
+    alloc: Global,
+    command: Command,
+    reader: &mut R,
+    writer: &mut W,
+) -> Result<(), RunFault> {
+    match command {
+        Command::Check => check_job(alloc, reader, writer),
+        Command::Run(workers) => run_job(alloc, reader, writer, workers.clamp(1, 16)),
+        Command::Replay => replay_job(alloc, reader, writer),
+    }
+}
+
+/// The command answers the job so, and writes that text.
+pub fn gives(
+    rt: &impl Abort,
+    alloc: Global,
+    command: Command,
+    job: &[u8],
+    wanted: Result<(), RunFault>,
+    text: &[u8],
+) {
+    let mut reader = job;
+    let mut written = Vec::new(alloc);
+    let given = answer(alloc, command, &mut reader, &mut written);
+    assert!(rt; given == wanted);
+    assert!(rt; written.as_slice() == text);
+}

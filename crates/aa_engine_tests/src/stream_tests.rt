@@ -1,0 +1,149 @@
+//! Readers and writers that fail, or take and give little.
+
+ghost use Rattle.std.specs.Prelude.{◌<◌, ◌≤◌};
+
+use crate::jobs::{COMMANDS, Command, FIRST_JOB, answer, first_text};
+use aa_engine::RunFault;
+use std::io;
+use std::io::{ErrorKind, Read, Write};
+
+/// Gives the bytes of a text one by one, and fails at a call.
+#[derive(Drop)]
+struct FailingReader<'a> {
+    text: &'a [u8],
+    calls: usize,
+}
+
+impl Read for FailingReader<'_> {
+    fn read(&mut self, buf: &mut [u8]) -> io::Result<usize> {
+        if self.calls == 0 {
+            return Err(io::Error::from(ErrorKind::Other));
+        }
+        self.calls -= 1;
+        let (Some(byte), Some(place)) = (self.text.first(), buf.first_mut()) else {
+            return Ok(0);
+        };
+        *place = *byte;
+        self.text = &self.text[1..];
+        Ok(1)
+    }
+}
+
+#[test]
+fn nothing_is_written_where_the_reader_fails(rt: HostRuntime) {
+    for command in COMMANDS {
+        for calls in 0..=FIRST_JOB.len() {
+            let mut reader = FailingReader {
+                text: FIRST_JOB,
+                calls,
+            };
+            let mut written = Vec::new(rt.alloc());
+            let given = answer(rt.alloc(), command, &mut reader, &mut written);
+            assert!(rt; given == Err(RunFault::Read));
+            assert!(rt; written.is_empty());
+        }
+    }
+}
+
+#[test]
+fn a_reader_may_give_bytes_one_by_one(rt: HostRuntime) {
+    for command in COMMANDS {
+        let mut reader = FailingReader {
+            text: FIRST_JOB,
+            calls: FIRST_JOB.len() + 1,
+        };
+        let mut written = Vec::new(rt.alloc());
+        let given = answer(rt.alloc(), command, &mut reader, &mut written);
+        assert!(rt; given == Ok(()));
+        assert!(rt; written.as_slice() == first_text(command));
+    }
+}
+
+/// Gives bytes without end.
+#[derive(Drop)]
+struct EndlessReader;
+
+impl Read for EndlessReader {
+    fn read(&mut self, buf: &mut [u8]) -> io::Result<usize> {
+        let Some(place) = buf.first_mut() else {
+            return Ok(0);
+        };
+        *place = b' ';
+        Ok(1)
+    }
+}
+
+#[test]
+fn a_reader_without_end_is_given_up(rt: HostRuntime) {
+    let mut reader = EndlessReader;
+    let mut written = Vec::new(rt.alloc());
+    let given = answer(rt.alloc(), Command::Check, &mut reader, &mut written);
+    assert!(rt; given == Err(RunFault::Read));
+    assert!(rt; written.is_empty());
+}
+
+/// Takes one byte a call, and fails when it is full.
+#[derive(Drop)]
+struct FullWriter {
+    taken: Vec<u8>,
+    room: usize,
+}
+
+impl Write for FullWriter {
+    fn write(&mut self, buf: &[u8]) -> io::Result<usize> {
+        let Some(byte) = buf.first() else {
+            return Ok(0);
+        };
+        if self.room == 0 {
+            return Err(io::Error::from(ErrorKind::Other));
+        }
+        self.taken.push(*byte)?;
+        self.room -= 1;
+        Ok(1)
+    }
+
+    fn flush(&mut self) -> io::Result<()> {
+        Ok(())
+    }
+}
+
+#[test]
+fn a_front_is_written_where_the_writer_fails(rt: HostRuntime) {
+    for command in COMMANDS {
+        let text = first_text(command);
+        for room in 0..text.len() {
+            let mut reader = FIRST_JOB;
+            let mut writer = FullWriter {
+                taken: Vec::new(rt.alloc()),
+                room,
+            };
+            let given = answer(rt.alloc(), command, &mut reader, &mut writer);
+            assert!(rt; given == Err(RunFault::Write));
+            assert!(rt; writer.taken.as_slice() == &text[..room]);
+        }
+    }
+}
+
+/// Takes nothing, and says so.
+#[derive(Drop)]
+struct IdleWriter;
+
+impl Write for IdleWriter {
+    fn write(&mut self, _buf: &[u8]) -> io::Result<usize> {
+        Ok(0)
+    }
+
+    fn flush(&mut self) -> io::Result<()> {
+        Ok(())
+    }
+}
+
+#[test]
+fn a_writer_that_takes_nothing_failed(rt: HostRuntime) {
+    for command in COMMANDS {
+        let mut reader = FIRST_JOB;
+        let mut writer = IdleWriter;
+        let given = answer(rt.alloc(), command, &mut reader, &mut writer);
+        assert!(rt; given == Err(RunFault::Write));
+    }
+}

@@ -1,0 +1,97 @@
+//! Policies that are read from their texts, and what they are, as plain data. The helpers have no clauses, so that a
+//! test's proof stays short.
+
+ghost use Rattle.std.specs.Prelude.{◌<◌, ◌≤◌};
+
+use aa_faults::{PolicyFault, PolicyKind};
+use aa_jobs::Include;
+use aa_lists::Text;
+use aa_policies::{Compiled, RefusedPolicy, compile_policies};
+use std::alloc::{AllocError, Global};
+
+/// A text with its name.
+pub type Source = (&'static str, &'static str);
+
+fn include_of(alloc: Global, source: Source) -> Result<Include, AllocError> {
+    Ok(Include {
+        name: Text::copy_of(alloc, source.0.as_bytes())?,
+        text: Text::copy_of(alloc, source.1.as_bytes())?,
+    })
+}
+
+fn includes_of(alloc: Global, sources: &[Source]) -> Result<Vec<Include>, AllocError> {
+    let mut includes = Vec::new(alloc);
+    for source in sources {
+        includes.push(include_of(alloc, *source)?)?;
+    }
+    Ok(includes)
+}
+
+fn texts_of(alloc: Global, texts: &[&str]) -> Result<Vec<Text>, AllocError> {
+    let mut list = Vec::new(alloc);
+    for text in texts {
+        list.push(Text::copy_of(alloc, text.as_bytes())?)?;
+    }
+    Ok(list)
+}
+
+/// Where there is no memory for a test's own texts.
+fn no_memory() -> RefusedPolicy {
+    RefusedPolicy {
+        policy: 0,
+        fault: PolicyFault::at_start(PolicyKind::NoMemory),
+    }
+}
+
+/// The policies of the first 65,535 texts. The limit is from 1 to 1,000,000.
+pub fn compiled_with(
+    alloc: Global,
+    includes: &[Include],
+    texts: &[Text],
+    limit: u32,
+) -> Result<Vec<Compiled>, RefusedPolicy> {
+    let texts = texts.get(..65_535).unwrap_or(texts);
+    compile_policies(alloc, includes, texts, limit.clamp(1, 1_000_000))
+}
+
+/// The policies of the texts, each of which may include the sources.
+pub fn compiled(
+    alloc: Global,
+    sources: &[Source],
+    texts: &[&str],
+    limit: u32,
+) -> Result<Vec<Compiled>, RefusedPolicy> {
+    let Ok(includes) = includes_of(alloc, sources) else {
+        return Err(no_memory());
+    };
+    let Ok(texts) = texts_of(alloc, texts) else {
+        return Err(no_memory());
+    };
+    compiled_with(alloc, includes.as_slice(), texts.as_slice(), limit)
+}
+
+/// Which policy is refused, the number of its fault, and the file and the byte at which it points.
+pub fn refusal(
+    alloc: Global,
+    sources: &[Source],
+    texts: &[&str],
+    limit: u32,
+) -> Option<(u16, u8, u16, u32)> {
+    match compiled(alloc, sources, texts, limit) {
+        Ok(_) => None,
+        Err(refused) => {
+            let fault = refused.fault;
+            Some((refused.policy, fault.kind.number(), fault.at.file, fault.at.byte))
+        }
+    }
+}
+
+/// How many profiles the policy has.
+pub fn profiles_of(policy: &Compiled) -> usize {
+    policy.policy().profiles.as_slice().len()
+}
+
+/// The number of the profile with that full name.
+pub fn found(policy: &Compiled, name: &str) -> Option<u16> {
+    policy.find(name.as_bytes())
+}
