@@ -1,0 +1,54 @@
+-- What a lane was fed and has answered.
+use Rattle.std.specs.Prelude.{◌≡◌, ℕ, ◌≤◌, Bool, Option, Some, None, List, ◌++◌, map, length, ◌<◌, All, true, slice_index_or}
+use Rattle.aa_lane.specs.Ends.{LaneSeen, OwnerSeen, known}
+use Rattle.aa_lane.specs.Answers.{answered_from, collected_by}
+use Rattle.aa_lane.specs.declared.lane.Answered.{Answered}
+
+-- a lane that is fed: its requests, sent or left, and whether its owner has left
+pub record FeedSeen (M S Q : Type 0) : Type 0 where
+  pub lane : LaneSeen M S
+  pub all : List Q
+  pub finished : Bool
+
+module _ {M S Q A : Type 0} where
+  -- what was asked, of an owner or of one that has left, where these requests are left
+  abbrev pub all_of : Option (OwnerSeen M S Q A) → Option (OwnerSeen M S Q A) → List Q → List Q
+  all_of (Some o) leaver left = o.sent ++ left
+  all_of None (Some o) left = o.sent ++ left
+  all_of None None left = left
+
+module _ {M S Q A : Type 0} (next : M → S → Q → S) (reply : M → S → Q → A) where
+  -- the owner is the lane's, and has collected these answers
+  pub record IsFed (l : LaneSeen M S) (o : OwnerSeen M S Q A) (answered : List (Answered M S Q A)) : Type 0 where
+    pub of : o.lane ≡ known l
+    pub count : length answered ≡ o.got
+    pub within : o.got ≤ length o.sent
+    pub right : answered ≡ collected_by next reply l o
+
+  -- the owner has left its lane, and has the answers to all that it sent
+  pub record HasLeft (l : LaneSeen M S) (o : OwnerSeen M S Q A) (answered : List (Answered M S Q A)) : Type 0 where
+    pub of : o.lane ≡ known l
+    pub count : o.got ≡ length o.sent
+    pub requests : map (λ a. a.request) answered ≡ o.sent
+    pub right : answered ≡ answered_from next reply l.machine 0 l.start o.sent
+
+  -- an owner of the lane with so many sent has collected these answers; or it has left, with all answers to what was accepted
+  abbrev pub IsFeed : LaneSeen M S → Option (OwnerSeen M S Q A) → Option (OwnerSeen M S Q A) → List (Answered M S Q A) → ℕ → Type 0
+  IsFeed l (Some o) leaver answered sent = IsFed l o answered × (sent ≡ length o.sent)
+  IsFeed l None (Some o) answered sent = HasLeft l o answered
+  IsFeed l None None answered sent = ⊥
+
+-- each lane is the one that it was, with the same requests
+pub record AreSame {M S Q : Type 0} (fs gs : List (FeedSeen M S Q)) : Type 0 where
+  pub len : length gs ≡ length fs
+  pub lanes : (i : ℕ) (d : FeedSeen M S Q) → i < length fs → (slice_index_or gs i d).lane ≡ (slice_index_or fs i d).lane
+  pub all : (i : ℕ) (d : FeedSeen M S Q) → i < length fs → (slice_index_or gs i d).all ≡ (slice_index_or fs i d).all
+
+-- and all owners have left
+pub record AreAllFed {M S Q : Type 0} (fs gs : List (FeedSeen M S Q)) : Type 0 where
+  pub same : AreSame fs gs
+  pub finished : All (λ f. f.finished ≡ true) gs
+
+-- the answers to all requests of a lane
+abbrev pub answers_of : {M S Q A : Type 0} → (M → S → Q → S) → (M → S → Q → A) → FeedSeen M S Q → List (Answered M S Q A)
+answers_of next reply f = answered_from next reply f.lane.machine 0 f.lane.start f.all

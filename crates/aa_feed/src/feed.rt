@@ -1,0 +1,275 @@
+//! A lane with what it is to be fed.
+ghost use Rattle.std.specs.Prelude.{◌≡◌, ◌≢◌, map, true, ◌+◌, ◌<◌, ◌≤◌, ◌++◌, [], ◌∷◌, length, vec_len, vec_capacity, IfOk, MatchResult, List};
+ghost use Rattle.std.specs.VecDeque.{deque_len, deque_capacity};
+ghost use Rattle.aa_machine.specs.Run.{state_after};
+ghost use Rattle.aa_lane.specs.Ends.{known, new_owner};
+ghost use Rattle.aa_lane.specs.Answers.{answered_from};
+ghost use Rattle.aa_feed.specs.Fed.{IsFed, HasLeft, answers_of};
+
+use aa_lane::{Answered, Lane, Leaver, Machine, Owner, SendFault};
+use std::alloc::{AllocError, Global};
+use std::collections::VecDeque;
+use std::marker::Model;
+
+// How many turns a burst has at most: as many answers are collected and requests sent as the widest lane has slots.
+const MOST_TURNS: u32 = 2048;
+
+// Collects an answer, if there is one.
+fn collect<'m, M: Machine>(
+    lane: &Lane<'m, M>,
+    owner: &mut Owner<M>,
+    answered: &mut Vec<Answered<M>>,
+) -> bool
+    requires fed { IsFed M.next M.reply lane.now owner.old answered.old.items }
+    requires room { length owner.old.sent ≤ vec_capacity answered.old }
+    ensures fed { IsFed M.next M.reply lane.now owner.new answered.new.items }
+    ensures sent { owner.new.sent ≡ owner.old.sent }
+    ensures room { vec_capacity answered.new ≡ vec_capacity answered.old }
+{
+    match owner.collect(lane) {
+        Some(given) => {
+            answered.push_reserved(given);
+            true
+        }
+        None => false,
+    }
+}
+
+// What became of a request that was to be sent.
+#[derive(Clone, Copy, PartialEq, Eq)]
+enum Sending {
+    Accepted,
+    Full,
+    Closed,
+}
+
+// Sends a request, and counts it. Where it isn't accepted it stays the first that is left.
+fn send<'m, M: Machine>(
+    lane: &Lane<'m, M>,
+    owner: &mut Owner<M>,
+    answered: &Vec<Answered<M>>,
+    request: M::Request,
+    left: &mut VecDeque<M::Request>,
+    sent: &mut u64,
+) -> Sending
+    requires fed { IsFed M.next M.reply lane.now owner.old answered.now.items }
+    requires sent { sent.old ≡ length owner.old.sent }
+    requires room { deque_len left.old < deque_capacity left.old }
+    ensures fed { IsFed M.next M.reply lane.now owner.new answered.now.items }
+    ensures sent { sent.new ≡ length owner.new.sent }
+    ensures all { owner.new.sent ++ left.new.items ≡ owner.old.sent ++ request ∷ left.old.items }
+{
+    let _ = answered;
+    match owner.send(lane, request) {
+        Ok(number) => {
+            *sent = number + 1;
+            Sending::Accepted
+        }
+        Err(unsent) => {
+            let fault = unsent.fault;
+            match left.push_front(unsent.request) {
+                Ok(()) => {}
+                Err(_) => unreachable!(),
+            }
+            if fault == SendFault::Full {
+                Sending::Full
+            } else {
+                Sending::Closed
+            }
+        }
+    }
+}
+
+// Leaves the lane, if all answers are there.
+fn leave<'m, M: Machine>(
+    lane: &Lane<'m, M>,
+    owner: Owner<M>,
+    answered: &Vec<Answered<M>>,
+    sent: u64,
+) -> Result<Leaver<M>, Owner<M>>
+    requires fed { IsFed M.next M.reply lane.now owner answered.now.items }
+    requires sent { sent ≡ length owner.sent }
+    ensures { MatchResult result (λ l. HasLeft M.next M.reply lane.now l answered.now.items × (l.sent ≡ owner.sent)) (λ o. o ≡ owner) }
+{
+    if answered.len() as u64 == sent {
+        Ok(owner.exit(lane))
+    } else {
+        Err(owner)
+    }
+}
+
+/// What a turn at a lane came to.
+#[derive(Clone, Copy, PartialEq, Eq)]
+pub enum Turned {
+    /// An answer was collected, or a request sent.
+    Did,
+    /// There is nothing to do before the lane is served.
+    Waits,
+    /// The owner has left.
+    Left,
+}
+
+/// A lane, its owner until it leaves, what is left to be sent, and what was answered.
+#[derive(Drop)]
+pub struct Feed<'l, 'm, M: Machine> {
+    lane: &'l Lane<'m, M>,
+    owner: Option<Owner<M>>,
+    leaver: Option<Leaver<M>>,
+    open: bool,
+    sent: u64,
+    start: M::State,
+    left: VecDeque<M::Request>,
+    answered: Vec<Answered<M>>,
+    ghost opened: { start ≡ lane.now.start },
+}
+
+impl<'l, 'm, M: Machine> Model for Feed<'l, 'm, M> {
+    ghost use Rattle.std.specs.Prelude.{◌≤◌, length, vec_capacity, is_none};
+    ghost use Rattle.aa_feed.specs.Fed.{FeedSeen, all_of, IsFeed};
+
+    ghost Value = { FeedSeen M M.State M.Request };
+
+    ghost view = { λ f. record { lane = f.lane.now; all = all_of f.owner f.leaver f.left.items; finished = is_none f.owner } };
+
+    ghost invariant = { λ f. IsFeed M.next M.reply f.lane.now f.owner f.leaver f.answered.items f.sent × (length (all_of f.owner f.leaver f.left.items) ≤ vec_capacity f.answered) };
+}
+
+impl<'l, 'm, M: Machine> Feed<'l, 'm, M> {
+    /// A lane that is to be fed these requests, with room for all answers. Nothing takes memory later.
+    pub fn new(
+        alloc: Global,
+        lane: &'l Lane<'m, M>,
+        owner: Owner<M>,
+        start: M::State,
+        left: VecDeque<M::Request>,
+    ) -> Result<Feed<'l, 'm, M>, AllocError>
+        requires owner { owner ≡ new_owner lane.now }
+        requires start { start ≡ lane.now.start }
+        ensures { IfOk result (λ f. (f.lane ≡ lane.now) × (f.all ≡ left.items)) }
+    {
+        let answered = Vec::with_capacity(alloc, left.len())?;
+        Ok(Feed {
+            lane,
+            owner: Some(owner),
+            leaver: None,
+            open: true,
+            sent: 0,
+            start,
+            left,
+            answered,
+        })
+    }
+
+    /// Collects an answer, or else sends a request, or else leaves the lane, if there is nothing more to come.
+    pub fn turn(&mut self) -> Turned
+        ensures same { (self.new.lane ≡ self.old.lane) × (self.new.all ≡ self.old.all) }
+        ensures finished { result ≡ Turned.Left → self.new.finished ≡ true }
+    {
+        let Some(mut owner) = self.owner.take() else {
+            return Turned::Left;
+        };
+        if collect(self.lane, &mut owner, &mut self.answered) {
+            self.owner = Some(owner);
+            return Turned::Did;
+        }
+        if self.open {
+            if let Some(request) = self.left.pop_front() {
+                let sending = send(
+                    self.lane,
+                    &mut owner,
+                    &self.answered,
+                    request,
+                    &mut self.left,
+                    &mut self.sent,
+                );
+                self.open = sending != Sending::Closed;
+                self.owner = Some(owner);
+                return if sending == Sending::Full {
+                    Turned::Waits
+                } else {
+                    Turned::Did
+                };
+            }
+        }
+        match leave(self.lane, owner, &self.answered, self.sent) {
+            Ok(leaver) => {
+                self.leaver = Some(leaver);
+                Turned::Left
+            }
+            Err(owner) => {
+                self.owner = Some(owner);
+                Turned::Waits
+            }
+        }
+    }
+
+    /// Turns at the lane, until there is nothing to do before it is served. Whether the owner has left.
+    pub fn burst(&mut self) -> bool
+        ensures same { (self.new.lane ≡ self.old.lane) × (self.new.all ≡ self.old.all) }
+        ensures finished { result ≡ true → self.new.finished ≡ true }
+    {
+        'turns: for _ in 0..MOST_TURNS {
+            match self.turn() {
+                Turned::Did => {}
+                Turned::Waits => return false,
+                Turned::Left => return true,
+            }
+        }
+        false
+    }
+
+    /// All answers, once the owner has left. What the lane didn't accept is decided here, from the state that the accepted
+    /// requests leave.
+    pub fn answers(self, machine: &M) -> Vec<Answered<M>>
+        requires machine { machine.now ≡ self.lane.machine }
+        requires finished { self.finished ≡ true }
+        ensures { result.items ≡ answers_of M.next M.reply self.entry }
+    {
+        let Feed {
+            start,
+            leaver,
+            left,
+            answered,
+            ..
+        } = self;
+        drop(leaver);
+        decide_rest(machine, start, answered, left)
+    }
+}
+
+// The state that requests which were answered leave.
+fn state_behind<M: Machine>(machine: &M, start: M::State, answered: &[Answered<M>]) -> M::State
+    ensures { result ≡ state_after (M.next machine.now) (M.reply machine.now) start (map (λ a. a.request) answered.now) }
+{
+    let mut state = start;
+    for given in answered {
+        drop(machine.step(&mut state, &given.request));
+    }
+    state
+}
+
+// Decides the requests that are left, behind those that were answered.
+fn decide_rest<M: Machine>(
+    machine: &M,
+    start: M::State,
+    answered: Vec<Answered<M>>,
+    left: VecDeque<M::Request>,
+) -> Vec<Answered<M>>
+    requires right { answered.items ≡ answered_from M.next M.reply machine.now 0 start (map (λ a. a.request) answered.items) }
+    requires room { vec_len answered + deque_len left ≤ vec_capacity answered }
+    ensures { result.items ≡ answered_from M.next M.reply machine.now 0 start (map (λ a. a.request) answered.items ++ left.items) }
+{
+    let mut answered = answered;
+    let mut left = left;
+    let mut state = state_behind(machine, start, answered.as_slice());
+    'left: while let Some(request) = left.pop_front() {
+        let number = answered.len() as u64;
+        let answer = machine.step(&mut state, &request);
+        answered.push_reserved(Answered {
+            number,
+            request,
+            answer,
+        });
+    }
+    answered
+}

@@ -1,0 +1,341 @@
+//! Many lanes are fed by turns, while others serve them.
+ghost use Rattle.std.specs.Prelude.{◌≡◌, ◌≢◌, ◌<◌, ◌≤◌, ℕ, [], length, vec_len, vec_capacity, map, true, All, IfOk, IfErr, slice_index_or};
+ghost use Rattle.std.specs.List.Sorted.{IsPermutation};
+ghost use Rattle.aa_lane.specs.Ends.{known};
+ghost use Rattle.aa_feed.specs.Fed.{AreSame, AreAllFed, answers_of};
+
+use crate::beside::{Work, side_by_side};
+use crate::feed::Feed;
+use aa_lane::{Answered, Lane, Machine, Served, Server};
+use aa_pool::serve_all;
+use std::alloc::Global;
+use std::sync::Wait;
+use std::thread;
+use std::thread::Threads;
+
+// How many requests are answered in a burst at most: as many as the widest lane has slots.
+const MOST_SERVED: u32 = 1024;
+
+// A burst at each lane. Whether all have finished.
+fn round<'l, 'm, M: Machine>(feeds: &mut [Feed<'l, 'm, M>]) -> bool
+    ensures same { AreSame feeds.old feeds.new }
+    ensures finished { result ≡ true → All (λ f. f.finished ≡ true) feeds.new }
+{
+    let mut finished = true;
+    for i in 0..feeds.len() {
+        let done = feeds[i].burst();
+        finished = finished && done;
+    }
+    finished
+}
+
+// All lanes are fed by turns, until each owner has left.
+fn feed_all<'l, 'm, M: Machine, R: Wait>(rt: &R, feeds: &mut [Feed<'l, 'm, M>])
+    ensures { AreAllFed feeds.old feeds.new }
+{
+    'feeding: for _ in rt.forever() {
+        if round(feeds) {
+            return;
+        }
+        thread::yield_now();
+    }
+    unreachable!()
+}
+
+// The lanes that are fed.
+#[derive(Drop)]
+struct Feeding<'l, 'm, M: Machine> {
+    machine: &'m M,
+    feeds: Vec<Feed<'l, 'm, M>>,
+}
+
+impl<'l, 'm, M: Machine + Sync> Work for Feeding<'l, 'm, M>
+where
+    M::State: Send,
+    M::Request: Send,
+    M::Answer: Send,
+{
+    type Done = Vec<Feed<'l, 'm, M>>;
+
+    ghost does = { λ f done. AreAllFed f.feeds.items done.items };
+
+    fn run<R: Threads + Wait + Sync>(self, rt: &R) -> Vec<Feed<'l, 'm, M>> {
+        let Feeding { mut feeds, .. } = self;
+        feed_all(rt, feeds.as_mut_slice());
+        feeds
+    }
+}
+
+/// Servers of lanes, in order, and a list with room for as many.
+#[derive(Drop)]
+pub struct Service<M: Machine> {
+    pub servers: Vec<Server<M>>,
+    pub room: Vec<Server<M>>,
+    pub ghost empty: { room.items ≡ [] },
+    pub ghost wide: { vec_len servers ≤ vec_capacity room },
+}
+
+// Serves until the lane is settled.
+fn settle<'m, M: Machine, R: Wait>(rt: &R, lane: &Lane<'m, M>, server: Server<M>) -> Server<M>
+    requires { server.lane ≡ known lane.now }
+    ensures { result.lane ≡ server.lane }
+{
+    let mut server = server;
+    'serving: for _ in rt.forever() {
+        match server.serve(lane) {
+            Served::Did(next) => server = next,
+            Served::Idle(next) => {
+                thread::yield_now();
+                server = next;
+            }
+            Served::Settled(next) => return next,
+        }
+    }
+    unreachable!()
+}
+
+// Serves one lane after the other until each is settled.
+fn settle_all<'m, M: Machine, R: Wait>(
+    rt: &R,
+    lanes: &[Lane<'m, M>],
+    servers: Vec<Server<M>>,
+    room: Vec<Server<M>>,
+) -> Vec<Server<M>>
+    requires servers { map (λ s. s.lane) servers.items ≡ map known lanes.now }
+    requires empty { room.items ≡ [] }
+    requires wide { vec_len servers ≤ vec_capacity room }
+    ensures { map (λ s. s.lane) result.items ≡ map known lanes.now }
+{
+    let mut settled = room;
+    let mut at = 0;
+    for server in servers {
+        settled.push_reserved(settle(rt, &lanes[at], server));
+        at += 1;
+    }
+    settled
+}
+
+// Serves all lanes by that many workers; where the pool has no memory, on this thread.
+fn serve<'m, M: Machine + Sync, R: Threads + Wait + Sync>(
+    rt: &R,
+    alloc: Global,
+    lanes: &[Lane<'m, M>],
+    service: Service<M>,
+    workers: u32,
+) -> Vec<Server<M>>
+where
+    M::State: Send,
+    M::Request: Send,
+    M::Answer: Send,
+    requires servers { map (λ s. s.lane) service.servers.items ≡ map known lanes.now }
+    requires workers { (0 < workers) × (workers ≤ 16) }
+    ensures { IsPermutation (map known lanes.now) (map (λ s. s.lane) result.items) }
+{
+    let Service { servers, room } = service;
+    match serve_all(rt, alloc, lanes, servers, workers) {
+        Ok(served) => served,
+        Err(refused) => settle_all(rt, lanes, refused.servers, room),
+    }
+}
+
+// Feeds all lanes on a thread of its own, while they are served here. Feeds and servers come back where no thread can be
+// started.
+fn feed_and_serve<'l, 'm, M: Machine + Sync, R: Threads + Wait + Sync>(
+    rt: &R,
+    alloc: Global,
+    machine: &'m M,
+    lanes: &'l [Lane<'m, M>],
+    feeds: Vec<Feed<'l, 'm, M>>,
+    service: Service<M>,
+    workers: u32,
+) -> Result<Vec<Feed<'l, 'm, M>>, (Vec<Feed<'l, 'm, M>>, Service<M>)>
+where
+    M::State: Send,
+    M::Request: Send,
+    M::Answer: Send,
+    requires servers { map (λ s. s.lane) service.servers.items ≡ map known lanes.now }
+    requires workers { (0 < workers) × (workers ≤ 16) }
+    ensures fed { IfOk result (λ done. AreAllFed feeds.entry.items done.items) }
+    ensures back { IfErr result (λ r. (r.0.items ≡ feeds.entry.items) × (r.1 ≡ service)) }
+{
+    let done = side_by_side::<Feeding<'l, 'm, M>, Service<M>, (), _, R>(
+        rt,
+        Feeding { machine, feeds },
+        service,
+        |service: Service<M>|
+            requires servers { map (λ s. s.lane) service.servers.items ≡ map known lanes.now }
+            requires workers { (0 < workers) × (workers ≤ 16) }
+        { drop(serve(rt, alloc, lanes, service, workers)) },
+    );
+    match done {
+        Ok((feeds, ())) => Ok(feeds),
+        Err((feeding, service)) => Err((feeding.feeds, service)),
+    }
+}
+
+// Serves until there is no request, or as many as the lane may have were answered.
+fn serve_burst<'m, M: Machine>(lane: &Lane<'m, M>, server: Server<M>) -> Server<M>
+    requires { server.lane ≡ known lane.now }
+    ensures { result.lane ≡ server.lane }
+{
+    let mut server = server;
+    'requests: for _ in 0..MOST_SERVED {
+        match server.serve(lane) {
+            Served::Did(next) => server = next,
+            Served::Idle(next) | Served::Settled(next) => return next,
+        }
+    }
+    server
+}
+
+// One lane is fed and served by turns, in bursts.
+fn alone<'l, 'm, M: Machine, R: Wait>(
+    rt: &R,
+    lane: &Lane<'m, M>,
+    feed: &mut Feed<'l, 'm, M>,
+    server: Server<M>,
+) -> Server<M>
+    requires { server.lane ≡ known lane.now }
+    ensures same { (feed.new.lane ≡ feed.old.lane) × (feed.new.all ≡ feed.old.all) }
+    ensures finished { feed.new.finished ≡ true }
+    ensures server { result.lane ≡ server.lane }
+{
+    let mut server = server;
+    'bursts: for _ in rt.forever() {
+        if feed.burst() {
+            return server;
+        }
+        server = serve_burst(lane, server);
+    }
+    unreachable!()
+}
+
+// The lane of that number is fed and served by turns.
+fn alone_at<'l, 'm, M: Machine, R: Wait>(
+    rt: &R,
+    lane: &Lane<'m, M>,
+    feeds: &mut [Feed<'l, 'm, M>],
+    at: usize,
+    server: Server<M>,
+) -> Server<M>
+    requires server { server.lane ≡ known lane.now }
+    requires within { at < length feeds.old }
+    ensures same { AreSame feeds.old feeds.new }
+    ensures finished { (d : _) → (slice_index_or feeds.new at d).finished ≡ true }
+    ensures others { (k : ℕ) (d : _) → k ≢ at → slice_index_or feeds.new k d ≡ slice_index_or feeds.old k d }
+    ensures server { result.lane ≡ server.lane }
+{
+    alone(rt, lane, &mut feeds[at], server)
+}
+
+// Feeds and serves one lane after the other on this thread.
+fn feed_here<'l, 'm, M: Machine, R: Wait>(
+    rt: &R,
+    lanes: &[Lane<'m, M>],
+    feeds: &mut [Feed<'l, 'm, M>],
+    service: Service<M>,
+) -> Vec<Server<M>>
+    requires servers { map (λ s. s.lane) service.servers.items ≡ map known lanes.now }
+    requires len { length feeds.old ≡ length lanes.now }
+    ensures fed { AreAllFed feeds.old feeds.new }
+    ensures served { map (λ s. s.lane) result.items ≡ map known lanes.now }
+{
+    let Service { servers, room } = service;
+    let mut served = room;
+    let mut at = 0;
+    for server in servers {
+        served.push_reserved(alone_at(rt, &lanes[at], feeds, at, server));
+        at += 1;
+    }
+    served
+}
+
+// The same, with the feeds handed in and back.
+fn feed_by_one<'l, 'm, M: Machine, R: Wait>(
+    rt: &R,
+    lanes: &[Lane<'m, M>],
+    feeds: Vec<Feed<'l, 'm, M>>,
+    service: Service<M>,
+) -> Vec<Feed<'l, 'm, M>>
+    requires servers { map (λ s. s.lane) service.servers.items ≡ map known lanes.now }
+    requires len { vec_len feeds ≡ length lanes.now }
+    ensures { AreAllFed feeds.entry.items result.items }
+{
+    let mut feeds = feeds;
+    drop(feed_here(rt, lanes, feeds.as_mut_slice(), service));
+    feeds
+}
+
+// All lanes are fed and served, by that many workers. All memory but the pool's own was taken before.
+fn feed_by<'l, 'm, M: Machine + Sync, R: Threads + Wait + Sync>(
+    rt: &R,
+    alloc: Global,
+    machine: &'m M,
+    lanes: &'l [Lane<'m, M>],
+    feeds: Vec<Feed<'l, 'm, M>>,
+    service: Service<M>,
+    workers: u32,
+) -> Vec<Feed<'l, 'm, M>>
+where
+    M::State: Send,
+    M::Request: Send,
+    M::Answer: Send,
+    requires len { vec_len feeds ≡ length lanes.now }
+    requires servers { map (λ s. s.lane) service.servers.items ≡ map known lanes.now }
+    requires workers { (0 < workers) × (workers ≤ 16) }
+    ensures { AreAllFed feeds.entry.items result.items }
+{
+    if workers == 1 {
+        return feed_by_one(rt, lanes, feeds, service);
+    }
+    match feed_and_serve(rt, alloc, machine, lanes, feeds, service, workers) {
+        Ok(feeds) => feeds,
+        Err((feeds, service)) => feed_by_one(rt, lanes, feeds, service),
+    }
+}
+
+// The answers of lanes whose owners have left.
+fn rows_of<'l, 'm, M: Machine>(
+    machine: &M,
+    feeds: Vec<Feed<'l, 'm, M>>,
+    rows: Vec<Vec<Answered<M>>>,
+) -> Vec<Vec<Answered<M>>>
+    requires machine { All (λ f. f.lane.machine ≡ machine.now) feeds.items }
+    requires finished { All (λ f. f.finished ≡ true) feeds.items }
+    requires empty { rows.items ≡ [] }
+    requires room { vec_len feeds ≤ vec_capacity rows }
+    ensures { map (λ row. row.items) result.items ≡ map (answers_of M.next M.reply) feeds.entry.items }
+{
+    let mut rows = rows;
+    for feed in feeds {
+        rows.push_reserved(feed.answers(machine));
+    }
+    rows
+}
+
+/// The answers to what all lanes are fed, by that many workers.
+pub fn rows_by<'l, 'm, M: Machine + Sync, R: Threads + Wait + Sync>(
+    rt: &R,
+    alloc: Global,
+    machine: &'m M,
+    lanes: &'l [Lane<'m, M>],
+    feeds: Vec<Feed<'l, 'm, M>>,
+    service: Service<M>,
+    rows: Vec<Vec<Answered<M>>>,
+    workers: u32,
+) -> Vec<Vec<Answered<M>>>
+where
+    M::State: Send,
+    M::Request: Send,
+    M::Answer: Send,
+    requires machine { All (λ f. f.lane.machine ≡ machine.now) feeds.items }
+    requires len { vec_len feeds ≡ length lanes.now }
+    requires servers { map (λ s. s.lane) service.servers.items ≡ map known lanes.now }
+    requires workers { (0 < workers) × (workers ≤ 16) }
+    requires empty { rows.items ≡ [] }
+    requires room { vec_len feeds ≤ vec_capacity rows }
+    ensures { map (λ row. row.items) result.items ≡ map (answers_of M.next M.reply) feeds.entry.items }
+{
+    let feeds = feed_by(rt, alloc, machine, lanes, feeds, service, workers);
+    rows_of(machine, feeds, rows)
+}
