@@ -1,4 +1,3 @@
-mod Named
 mod GroupLemmas
 mod Counts
 mod CheckLemmas

@@ -5,3 +5,4 @@ mod DifferLemmas
 mod MatchedTexts
 pub mod ConflictLemmas
 pub mod WayLemmas
+pub mod Named

@@ -2,6 +2,7 @@ pub use Rattle.aa_said.specs.Said
 pub use Rattle.aa_said.specs.Patterns
 pub mod Marks
 pub mod Ways
+pub mod Namings
 pub mod Sides
 pub mod FileRules
 pub mod Rows
