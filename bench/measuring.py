@@ -43,17 +43,17 @@ def job_of(policy, includes=None):
     return json.dumps(job)
 
 
-def seconds_of(command, given):
-    """What a command takes of the processor with that standard input."""
+def seconds_of(command, given, refused=False):
+    """What a command takes of the processor with that standard input; it may say that a policy is refused, where that is wanted."""
     child = subprocess.Popen(command, stdin=given, stdout=subprocess.DEVNULL, stderr=subprocess.DEVNULL)
     _, status, used = os.wait4(child.pid, 0)
     child.returncode = status
-    if status:
+    if status and not (refused and os.waitstatus_to_exitcode(status) == 1):
         sys.exit(f"{command} ended with {status}")
     return used.ru_utime + used.ru_stime
 
 
-def median_seconds(runs, repeats):
+def median_seconds(runs, repeats, refused=False):
     """The median time of each of these pairs of a command and its input."""
     times = [[] for _ in runs]
     with tempfile.TemporaryDirectory() as folder:
@@ -65,13 +65,13 @@ def median_seconds(runs, repeats):
         for _ in range(repeats):
             for number, (command, _) in enumerate(runs):
                 with open(names[number]) as given:
-                    times[number].append(seconds_of(command, given))
+                    times[number].append(seconds_of(command, given, refused))
     return [statistics.median(each) for each in times]
 
 
-def net_seconds(command, texts, repeats):
+def net_seconds(command, texts, repeats, refused=False):
     """The median time of the command on each text, without the program's start."""
-    start, *times = median_seconds([([PROGRAM, "check"], job_of(""))] + [([PROGRAM, command], text) for text in texts], repeats)
+    start, *times = median_seconds([([PROGRAM, "check"], job_of(""))] + [([PROGRAM, command], text) for text in texts], repeats, refused)
     return [max(time - start, 1e-6) for time in times]
 
 

@@ -11,7 +11,7 @@ use aa_profiles::Profile;
 use aa_profiles::FileRule;
 use aa_words::{PolicyFault, PolicyKind};
 use std::alloc::Global;
-use std::collections::HashSet;
+use std::collections::BTreeSet;
 
 /// The most profiles of a policy.
 const MAX_PROFILES: usize = 4096;
@@ -25,12 +25,13 @@ const MAX_PATTERNS: usize = 65535;
 /// The most attachment patterns of the profiles below one parent, or of the top-level profiles.
 const MAX_ATTACHMENTS: usize = 65535;
 
-/// Refuses the first profile whose name an earlier one has.
+/// Refuses the first profile whose name an earlier one has. Names are looked up in their order, so
+/// that it takes no longer with names that their author chose.
 pub fn check_names(alloc: Global, profiles: &[Profile]) -> Result<(), PolicyFault>
     ensures distinct { OnOk result (IsDistinct bytes_eq (names_of profiles.now)) }
     ensures repeated { IfErr result (λ e. (e ≡ no_memory) ⊎ ((e.kind ≡ PolicyKind.DuplicateProfile) × IsRepeated profiles.now e.at)) }
 {
-    let mut names = HashSet::new(alloc);
+    let mut names = BTreeSet::new(alloc);
     for profile in profiles {
         let added = names.insert(profile.name.as_slice())?;
         if !added {
