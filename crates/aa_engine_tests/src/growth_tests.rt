@@ -10,13 +10,7 @@ use std::process::Abort;
 const ROOM: usize = 1000;
 
 // One try: whether the command wrote its text, where there was memory.
-fn is_answered(
-    rt: &impl Abort,
-    alloc: Global,
-    command: Command,
-    job: &[u8],
-    text: &[u8],
-) -> bool {
+fn is_answered(rt: &impl Abort, alloc: Global, command: Command, job: &[u8], text: &[u8]) -> bool {
     let Ok(mut written) = Vec::with_capacity(alloc, ROOM) else {
         return false;
     };
@@ -32,13 +26,7 @@ fn is_answered(
 }
 
 // Tries again where a growth is refused.
-fn is_answered_at_last(
-    rt: &impl Abort,
-    alloc: Global,
-    command: Command,
-    job: &[u8],
-    text: &[u8],
-) {
+fn is_answered_at_last(rt: &impl Abort, alloc: Global, command: Command, job: &[u8], text: &[u8]) {
     for _ in 0..3 {
         if is_answered(rt, alloc, command, job, text) {
             return;

@@ -8,19 +8,35 @@ use Rattle.aa_faults.specs.declared.fault.PolicyKind.TheVariants.{NoMemory, Synt
 use Rattle.aa_faults.specs.Kinds.{at_start, no_memory}
 use Rattle.aa_words.specs.Sources.{has_name}
 use Rattle.aa_jobs.specs.declared.job.Include.{Include}
-use Rattle.aa_policies.specs.Policies.{Source, sources_of, CanFollow}
+use Rattle.aa_policies.specs.Policies.{Source, sources_of, CanFollow, IsRefusedBehind, IsFaultOfSources}
 
 -- these sources were added, and what is left can be added behind them exactly where all can be
 pub record Gathering (includes : List Include) (rest : List Include) (found : List Source) : Type 0 where
   pub whole : found ++ sources_of rest ≡ sources_of includes
   pub goes_on : CanFollow found (sources_of rest) → CanFollow [] (sources_of includes)
   pub only : CanFollow [] (sources_of includes) → CanFollow found (sources_of rest)
+  pub so_far : CanFollow [] found
 
 pub gathering_start : (includes : List Include) (found : List Source) → found ≡ [] → Gathering includes includes found
-gathering_start includes found e = subst (λ (f : List Source). Gathering includes includes f) (sym e) (record { whole = refl; goes_on = λ h. h; only = λ h. h })
+gathering_start includes found e = subst (λ (f : List Source). Gathering includes includes f) (sym e) (record { whole = refl; goes_on = λ h. h; only = λ h. h; so_far = tt })
 
 abbrev source : Include → Source
 source i = (i.name, i.text)
+
+-- what can be added behind all of these can be added behind them
+follow_more : (earlier found : List Source) (s : Source) → CanFollow earlier found → length s.1 ≤ 1048576 → length (earlier ++ found) < 4095
+    → has_name s.0 (earlier ++ found) ≡ false → CanFollow earlier (found ++ s ∷ [])
+follow_more earlier [] s can short room fresh =
+    let e : earlier ++ [] ≡ earlier = append-nil earlier in
+    (short, subst (λ (l : List Source). length l < 4095) e room, subst (λ (l : List Source). has_name s.0 l ≡ false) e fresh, tt)
+follow_more earlier (x ∷ xs) s can short room fresh =
+    let e : (earlier ++ x ∷ []) ++ xs ≡ earlier ++ x ∷ xs = append_assoc earlier (x ∷ []) xs in (
+      can.0,
+      can.1,
+      can.2,
+      follow_more (earlier ++ x ∷ []) xs s can.3 short
+          (subst (λ (l : List Source). length l < 4095) (sym e) room) (subst (λ (l : List Source). has_name s.0 l ≡ false) (sym e) fresh),
+    )
 
 -- one more was added, since nothing refuses it
 pub gathering_more : (includes : List Include) (i : ℕ) (include : Include) (found more : List Source) → i < length includes → include ≡ get_or includes i include
@@ -34,6 +50,7 @@ gathering_more includes i include found more lt item short room fresh more-is so
       whole = append_assoc found (source include ∷ []) (sources_of rest) ∙ g.whole;
       goes_on = λ h. g.goes_on (short, room, fresh, h);
       only = λ h. (g.only h).3;
+      so_far = follow_more [] found (source include) g.so_far short room fresh;
     })
 
 pub gathering_end : (includes : List Include) (i : ℕ) (found : List Source) → length includes ≤ i → Gathering includes (drop i includes) found → (found ≡ sources_of includes) × CanFollow [] (sources_of includes)
@@ -87,6 +104,39 @@ refused_here includes i include found fault lt item kinds large twice so_far oth
     let here : drop i includes ≡ include ∷ rest = drop_more includes i include lt ∙ ap (λ (x : Include). x ∷ rest) (sym item) in
     let g : Gathering includes (include ∷ rest) found = subst (λ (x : List Include). Gathering includes x found) here so_far in
     refused fault include found (sources_of rest) kinds large twice other (g.only all)
+
+why : (fault : PolicyFault) (include : Include) (found : List Source)
+    → (fault ≡ no_memory) ⊎ (fault ≡ at_start TooLarge) ⊎ (fault ≡ at_start Syntax)
+    → (fault ≡ at_start TooLarge → (1048576 < length include.text) ⊎ (4095 ≤ length found))
+    → (fault ≡ at_start Syntax → (length include.text ≤ 1048576) × (length found < 4095) × IsTrue (has_name include.name found))
+    → fault.kind ≢ NoMemory → IsRefusedBehind found (source include) fault
+why fault include found kinds large twice other =
+    elim kinds [
+      | inl memory ↦ absurd (other (ap (λ (f : PolicyFault). f.kind) memory))
+      | inr named ↦ elim named [
+        | inl is_large ↦ inl (is_large, large is_large)
+        | inr is_twice ↦ let there = twice is_twice in inr (is_twice, there.0, there.1, there.2)
+      ]
+    ]
+
+-- an include that isn't added is the first that can't be
+pub fault_here : (includes : List Include) (i : ℕ) (include : Include) (found : List Source) (fault : PolicyFault) → i < length includes → include ≡ get_or includes i include
+    → (fault ≡ no_memory) ⊎ (fault ≡ at_start TooLarge) ⊎ (fault ≡ at_start Syntax)
+    → (fault ≡ at_start TooLarge → (1048576 < length include.text) ⊎ (4095 ≤ length found))
+    → (fault ≡ at_start Syntax → (length include.text ≤ 1048576) × (length found < 4095) × IsTrue (has_name include.name found))
+    → Gathering includes (drop i includes) found → fault.kind ≢ NoMemory → IsFaultOfSources (sources_of includes) fault
+fault_here includes i include found fault lt item kinds large twice so_far other =
+    let rest = drop (i + 1) includes in
+    let here : drop i includes ≡ include ∷ rest = drop_more includes i include lt ∙ ap (λ (x : Include). x ∷ rest) (sym item) in
+    let g : Gathering includes (include ∷ rest) found = subst (λ (x : List Include). Gathering includes x found) here so_far in
+    record {
+      before = found;
+      source = source include;
+      behind = sources_of rest;
+      are = sym g.whole;
+      fit = g.so_far;
+      fault = why fault include found kinds large twice other;
+    }
 
 pub ok_err : {x : Unit {0}} {f : PolicyFault} → Ok x ≡ Err f → ⊥
 ok_err e = cc

@@ -2,6 +2,7 @@
 use Rattle.std.specs.Prelude.{ℕ, ◌≡◌, ◌<◌, ◌≤◌, ◌⊎◌, List, [], ◌∷◌, ◌++◌, length, map, true, false}
 use Rattle.aa_faults.specs.declared.fault.PolicyFault.{PolicyFault}
 use Rattle.aa_faults.specs.declared.fault.PolicyKind.{PolicyKind}
+use Rattle.aa_faults.specs.Kinds.{at_start}
 use Rattle.aa_words.specs.Splits.{WordData, Splits}
 use Rattle.aa_words.specs.Sources.{has_name}
 use Rattle.aa_words.specs.Stops.{IsFaultOf}
@@ -26,6 +27,21 @@ abbrev pub CanFollow : List Source → List Source → Type 0
 CanFollow earlier [] = Unit {0}
 CanFollow earlier (source ∷ sources) =
     (length source.1 ≤ 1048576) × (length earlier < 4095) × (has_name source.0 earlier ≡ false) × CanFollow (earlier ++ source ∷ []) sources
+
+-- a source can't be added behind these: it is too long or one too many, or else its name is there
+abbrev pub IsRefusedBehind : List Source → Source → PolicyFault → Type 0
+IsRefusedBehind earlier source e =
+    ((e ≡ at_start PolicyKind.TooLarge) × ((1048576 < length source.1) ⊎ (4095 ≤ length earlier)))
+    ⊎ ((e ≡ at_start PolicyKind.Syntax) × (length source.1 ≤ 1048576) × (length earlier < 4095) × (has_name source.0 earlier ≡ true))
+
+-- of these sources the first that can't be added is refused so
+pub record IsFaultOfSources (sources : List Source) (e : PolicyFault) : Type 0 where
+  pub before : List Source
+  pub source : Source
+  pub behind : List Source
+  pub are : sources ≡ before ++ source ∷ behind
+  pub fit : CanFollow [] before
+  pub fault : IsRefusedBehind before source e
 
 -- the words of a text, with these sources, spell the policy
 pub record IsSpelledBy (sources : List Source) (text : List ℕ) (policy : Policy) : Type 0 where
@@ -73,5 +89,5 @@ pub record IsFirstRefused (sources : List Source) (limit : ℕ) (texts : List (L
 
 -- why texts are refused: the sources can't be handed in, which counts for the first, or one of the texts
 pub data IsRefusedBy (sources : List Source) (limit : ℕ) (texts : List (List ℕ)) (refused : RefusedPolicy) : Type 0 where
-  OfSources : (CanFollow [] sources → ⊥) → refused.policy ≡ 0 → IsRefusedBy sources limit texts refused
+  OfSources : (CanFollow [] sources → ⊥) → IsFaultOfSources sources refused.fault → refused.policy ≡ 0 → IsRefusedBy sources limit texts refused
   OfText : CanFollow [] sources → IsFirstRefused sources limit texts refused → IsRefusedBy sources limit texts refused

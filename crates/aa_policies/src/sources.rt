@@ -2,7 +2,7 @@
 
 ghost use Rattle.std.specs.Prelude.{◌≡◌, ◌≢◌, ◌⊎◌, [], IfOk, OnOk, IfErr};
 ghost use Rattle.aa_faults.specs.Kinds.{no_memory, at_start};
-ghost use Rattle.aa_policies.specs.Policies.{sources_of, CanFollow};
+ghost use Rattle.aa_policies.specs.Policies.{sources_of, CanFollow, IsFaultOfSources};
 
 use aa_faults::{PolicyFault, PolicyKind};
 use aa_jobs::Include;
@@ -14,6 +14,7 @@ pub fn gather_sources(alloc: Global, includes: &[Include]) -> Result<Sources, Po
     ensures gathered { IfOk result (λ s. s ≡ sources_of includes.now) }
     ensures fit { OnOk result (CanFollow [] (sources_of includes.now)) }
     ensures cause { IfErr result (λ e. e.kind ≢ PolicyKind.NoMemory → CanFollow [] (sources_of includes.now) → ⊥) }
+    ensures fault { IfErr result (λ e. e.kind ≢ PolicyKind.NoMemory → IsFaultOfSources (sources_of includes.now) e) }
 {
     let mut sources = Sources::new(alloc);
     for include in includes {

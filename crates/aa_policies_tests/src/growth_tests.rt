@@ -35,7 +35,12 @@ fn a_growth_refused_to_policies_is_no_memory(rt: HostRuntime) {
 #[test]
 fn a_growth_refused_is_no_fault_of_a_policy(rt: HostRuntime) {
     for _ in 0..3 {
-        match refusal(rt.alloc(), &[("m", "")], &["", "profile p { /a px, /a* ix, /b* ux, /bc px, /[b]c ix, }"], 100) {
+        match refusal(
+            rt.alloc(),
+            &[("m", "")],
+            &["", "profile p { /a px, /a* ix, /b* ux, /bc px, /[b]c ix, }"],
+            100,
+        ) {
             None => panic!(rt; "a policy that conflicts"),
             Some((_, 1, file, byte)) => assert_eq!(rt; (file, byte), (0, 0)),
             Some(refused) => {

@@ -81,7 +81,12 @@ pub fn refusal(
         Ok(_) => None,
         Err(refused) => {
             let fault = refused.fault;
-            Some((refused.policy, fault.kind.number(), fault.at.file, fault.at.byte))
+            Some((
+                refused.policy,
+                fault.kind.number(),
+                fault.at.file,
+                fault.at.byte,
+            ))
         }
     }
 }

@@ -18,7 +18,11 @@ type Row = (
 fn refuses_each(rt: &impl Abort, alloc: Global, rows: &[Row]) {
     for (number, row) in rows.iter().enumerate() {
         let (sources, texts, limit, expected) = *row;
-        assert_eq!(rt; refusal(alloc, sources, texts, limit), Some(expected), "row {number}");
+        assert_eq!(rt;
+            refusal(alloc, sources, texts, limit),
+            Some(expected),
+            "row {number}"
+        );
     }
 }
 
@@ -26,9 +30,19 @@ fn refuses_each(rt: &impl Abort, alloc: Global, rows: &[Row]) {
 fn a_text_without_words_is_refused(rt: HostRuntime) {
     let rows: [Row; 5] = [
         (&[], &["profile p { \"/x"], 4096, (0, 4, 0, 12)),
-        (&[], &["profile p { }", "profile p { \"/x"], 4096, (1, 4, 0, 12)),
+        (
+            &[],
+            &["profile p { }", "profile p { \"/x"],
+            4096,
+            (1, 4, 0, 12),
+        ),
         (&[], &["", "include <m>"], 4096, (1, 2, 0, 0)),
-        (&[("a", "include <a>")], &["", "include <a>"], 4096, (1, 3, 1, 0)),
+        (
+            &[("a", "include <a>")],
+            &["", "include <a>"],
+            4096,
+            (1, 3, 1, 0),
+        ),
         (
             &[("a", ""), ("b", "profile p { \"/x")],
             &["", "", "include <b>"],
@@ -49,8 +63,18 @@ fn words_that_spell_no_policy_are_refused(rt: HostRuntime) {
             4096,
             (1, 8, 0, 15),
         ),
-        (&[], &["profile p { }", "profile p { /x rz, }"], 4096, (1, 7, 0, 15)),
-        (&[], &["profile p { }", "profile p { /x r,"], 4096, (1, 4, 0, 17)),
+        (
+            &[],
+            &["profile p { }", "profile p { /x rz, }"],
+            4096,
+            (1, 7, 0, 15),
+        ),
+        (
+            &[],
+            &["profile p { }", "profile p { /x r,"],
+            4096,
+            (1, 4, 0, 17),
+        ),
         (
             &[],
             &["profile p { }", "profile p { } profile p { }"],
@@ -77,7 +101,12 @@ fn a_policy_that_does_not_compile_is_refused(rt: HostRuntime) {
             (1, 16, 0, 8),
         ),
         (&[], &["profile p { /etc/passwd r, }"], 4, (0, 17, 0, 8)),
-        (&[], &["profile p { /x r, }", "profile p { /etc/passwd r, }"], 12, (1, 17, 0, 8)),
+        (
+            &[],
+            &["profile p { /x r, }", "profile p { /etc/passwd r, }"],
+            12,
+            (1, 17, 0, 8),
+        ),
         (
             &[("m", "profile q { /a px, /a ix, }")],
             &["", "include <m>"],
@@ -97,8 +126,18 @@ fn the_first_refused_text_counts(rt: HostRuntime) {
             4096,
             (0, 16, 0, 8),
         ),
-        (&[], &["", "profile p { /x wa, }", "\""], 4096, (1, 8, 0, 15)),
-        (&[], &["", "", "\"", "profile p { /x wa, }"], 4096, (2, 4, 0, 0)),
+        (
+            &[],
+            &["", "profile p { /x wa, }", "\""],
+            4096,
+            (1, 8, 0, 15),
+        ),
+        (
+            &[],
+            &["", "", "\"", "profile p { /x wa, }"],
+            4096,
+            (2, 4, 0, 0),
+        ),
     ];
     refuses_each(&rt, rt.alloc(), &rows);
 }
@@ -106,7 +145,12 @@ fn the_first_refused_text_counts(rt: HostRuntime) {
 #[test]
 fn sources_of_one_name_refuse_the_first_text(rt: HostRuntime) {
     let rows: [Row; 2] = [
-        (&[("m", ""), ("m", "")], &["", "profile p { /x wa, }"], 4096, (0, 4, 0, 0)),
+        (
+            &[("m", ""), ("m", "")],
+            &["", "profile p { /x wa, }"],
+            4096,
+            (0, 4, 0, 0),
+        ),
         (&[("m", ""), ("n", ""), ("m", "")], &[], 4096, (0, 4, 0, 0)),
     ];
     refuses_each(&rt, rt.alloc(), &rows);

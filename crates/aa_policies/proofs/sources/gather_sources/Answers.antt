@@ -1,6 +1,6 @@
 use Rattle.std.proofs.Common.{ap, Err}
 use Rattle.aa_faults.specs.declared.fault.PolicyFault.{PolicyFault}
-use Rattle.aa_policies.proofs.Gathering.{gathering_start, gathering_more, gathering_end, is_short, is_fresh, refused_here, ok_err}
+use Rattle.aa_policies.proofs.Gathering.{gathering_start, gathering_more, gathering_end, is_short, is_fresh, refused_here, fault_here, ok_err}
 use Rattle.aa_policies.proofs.sources.gather_sources.Goals as goal
 
 pub loop-include-init : goal.loop-include-init
@@ -10,6 +10,12 @@ pub returns-in-Err-clause-cause : goal.returns-in-Err-clause-cause
 returns-in-Err-clause-cause c =
     let ok = rw (c.as_slice.ensures, c.as_slice-in-loop-include.ensures) at c.in-Err.ensures in
     refused_here c.args.includes.now c.loop-include.include-index c.include-item.result _ c.in-Err.fault c.loop-include-test.true c.include-item.is
+    ok.only (λ e. ok.too_large.0 (ap (λ (f : PolicyFault). Err f) e)) (λ e. ok.twice.0 (ap (λ (f : PolicyFault). Err f) e)) c.loop-include.invariant
+
+pub returns-in-Err-clause-fault : goal.returns-in-Err-clause-fault
+returns-in-Err-clause-fault c =
+    let ok = rw (c.as_slice.ensures, c.as_slice-in-loop-include.ensures) at c.in-Err.ensures in
+    fault_here c.args.includes.now c.loop-include.include-index c.include-item.result _ c.in-Err.fault c.loop-include-test.true c.include-item.is
     ok.only (λ e. ok.too_large.0 (ap (λ (f : PolicyFault). Err f) e)) (λ e. ok.twice.0 (ap (λ (f : PolicyFault). Err f) e)) c.loop-include.invariant
 
 pub loop-include-preserved : goal.loop-include-preserved
