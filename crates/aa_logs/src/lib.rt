@@ -1,0 +1,15 @@
+//! What the lines of a log ask: their fields, and the requests that these are.
+#![tactic(auto)]
+
+mod asked;
+mod line;
+mod mask;
+mod piece;
+mod reading;
+mod value;
+mod word;
+
+pub use line::{Line, Reason, Record, Then, line_of};
+pub use reading::{last_of, read_line};
+pub use value::name_of;
+pub use word::{Form, LogWord};
