@@ -1,13 +1,14 @@
 -- What sending and collecting keep of a lane that is fed.
-use Rattle.std.proofs.Common.{◌≡◌, ℕ, zero, suc, ◌+◌, ◌<◌, ◌≤◌, List, [], ◌∷◌, ◌++◌, map, length, take, Some, sym, refl, ap, ◌∙◌, arith, length-append}
+use Rattle.std.proofs.Common.{◌≡◌, ℕ, suc, ◌+◌, ◌<◌, ◌≤◌, List, [], ◌∷◌, ◌++◌, map, length, take, Option, Some, None, true, sym, refl, ap, ◌∙◌, arith, length-append}
 use Rattle.std.proofs.lemmas.List.{length-map, map-append}
 use Rattle.std.proofs.lemmas.Option.{slice_get_within}
-use Rattle.std.proofs.Math.Seq.{take-length}
+use Rattle.std.proofs.Math.Seq.{take-length, take-append_seam}
+use Rattle.std.specs.Option.{is_none}
 use Rattle.aa_machine.specs.Run.{state_after}
 use Rattle.aa_lane.specs.Ends.{LaneSeen, OwnerSeen}
 use Rattle.aa_lane.specs.Answers.{answered_from, collected_by, sent_of, left_of, collected_of, Collects}
 use Rattle.aa_lane.specs.declared.lane.Answered.{Answered}
-use Rattle.aa_feed.specs.Fed.{IsFed, HasLeft}
+use Rattle.aa_feed.specs.Fed.{IsFed, HasLeft, HasCollected, IsFeed, all_of}
 
 module _ {M S Q A : Type 0} (next : M → S → Q → S) (reply : M → S → Q → A) where
   answered-length : (m : M) (n : ℕ) (s : S) (qs : List Q) → length (answered_from next reply m n s qs) ≡ length qs
@@ -54,6 +55,20 @@ module _ {M S Q A : Type 0} (next : M → S → Q → S) (reply : M → S → Q 
       let right : answered ≡ all = h.right ∙ ap (λ k. take k all) n ∙ take-length all in
       let count : o.got ≡ length o.sent = omega (arith, h.count) in
       rw is (record { of = h.of; count = count; requests = ap (map (λ (a : Answered M S Q A). a.request)) right ∙ requests_of l.machine 0 l.start o.sent; right = right })
+
+  -- a feed without an owner has the one that left
+  pub is_left : (l : LaneSeen M S) (owner leaver : Option (OwnerSeen M S Q A)) (answered : List (Answered M S Q A)) (left : List Q) (sent room : ℕ) (o : OwnerSeen M S Q A)
+      → IsFeed next reply l owner leaver answered sent × (length (all_of owner leaver left) ≤ room) → is_none owner ≡ true → leaver ≡ Some o → HasLeft next reply l o answered
+  is_left l (Some p) leaver answered left sent room o h none is = cc
+  is_left l None None answered left sent room o h none is = cc
+  is_left l None (Some p) answered left sent room o h none is = let e : p ≡ o = cc in rw e at h.0
+
+  -- with what is decided of the rest, the first answers are those that the owner has collected
+  pub has_collected : (l : LaneSeen M S) (o : OwnerSeen M S Q A) (answered answers : List (Answered M S Q A)) (left : List Q) → HasLeft next reply l o answered
+      → answers ≡ answered_from next reply l.machine 0 l.start (map (λ (a : Answered M S Q A). a.request) answered ++ left) → HasCollected o answers
+  has_collected l o answered answers left h is =
+      let all : map (λ (a : Answered M S Q A). a.request) answers ≡ o.sent ++ left = ap (map (λ (a : Answered M S Q A). a.request)) is ∙ requests_of l.machine 0 l.start _ ∙ ap (λ qs. qs ++ left) h.requests in
+      record { got = h.count; sent = sym (ap (take (length o.sent)) all ∙ take-append_seam o.sent left) }
 
   answered-snoc : (m : M) (n : ℕ) (s : S) (qs : List Q) (a : Answered M S Q A) → a.number ≡ n + length qs → a.answer ≡ reply m (state_after (next m) (reply m) s qs) a.request
       → answered_from next reply m n s (qs ++ a.request ∷ []) ≡ answered_from next reply m n s qs ++ a ∷ []

@@ -1,4 +1,6 @@
 pub mod Answering
+pub mod Closing
 pub mod Cuts
 pub mod Pairs
 pub mod Rows
+pub mod Sorted

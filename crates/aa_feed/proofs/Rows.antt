@@ -1,10 +1,10 @@
 -- Lanes that are the same have the same answers, and the same machine.
-use Rattle.std.proofs.Common.{◌≡◌, ℕ, zero, suc, ◌+◌, ◌<◌, List, [], ◌∷◌, map, length, drop, get_or, slice_index_or, All, sym, refl, ap, ◌∙◌, arith}
+use Rattle.std.proofs.Common.{◌≡◌, suc, ◌<◌, List, [], ◌∷◌, map, length, drop, get_or, All, sym, refl, ap, ◌∙◌, arith}
 use Rattle.std.proofs.lemmas.List.{length-map, get_or-map}
-use Rattle.aa_lane.specs.Ends.{LaneSeen}
+use Rattle.aa_lane.specs.Ends.{LaneSeen, known}
 use Rattle.aa_lane.specs.Answers.{answered_from}
 use Rattle.aa_feed.specs.Fed.{FeedSeen, AreSame, answers_of}
-use Rattle.aa_feed.specs.Answers.{AreFeedsOf, answers_to}
+use Rattle.aa_feed.specs.Answers.{answers_to}
 use Rattle.aa_feed.specs.declared.tasks.Task.{Task}
 
 module _ {M S Q : Type 0} where
@@ -24,10 +24,17 @@ module _ {M S Q : Type 0} where
   pub same_machine : (m : M) (fs gs : List (FeedSeen M S Q)) → AreSame fs gs → All (λ (f : FeedSeen M S Q). f.lane.machine ≡ m) fs → All (λ (f : FeedSeen M S Q). f.lane.machine ≡ m) gs
   same_machine m fs gs h all k d b = let n : k < length fs = omega (arith, h.len) in ap (λ (l : LaneSeen M S). l.machine) (h.lanes k d n) ∙ all k d n
 
-module _ {M S Q A : Type 0} where
-  -- lanes that are the same are to be fed the same
-  pub still : (ls : List (LaneSeen M S)) (ts : List (Task M S Q A)) (fs gs : List (FeedSeen M S Q)) → AreFeedsOf ls ts fs → AreSame fs gs → AreFeedsOf ls ts gs
-  still ls ts fs gs h s = record { lanes_are = same_map (λ l all. l) fs gs s ∙ h.lanes_are; requests_are = same_map (λ l all. all) fs gs s ∙ h.requests_are }
+module _ {M S Q : Type 0} where
+  -- each lane is of the machine
+  pub of_machine : (m : M) (ls : List (LaneSeen M S)) (fs : List (FeedSeen M S Q)) → map (λ (f : FeedSeen M S Q). f.lane) fs ≡ ls → All (λ (l : LaneSeen M S). l.machine ≡ m) ls → All (λ (f : FeedSeen M S Q). f.lane.machine ≡ m) fs
+  of_machine m ls fs e all k d below =
+      let n : k < length ls = omega (arith, ap length e, length-map fs (λ (f : FeedSeen M S Q). f.lane), below) in
+      let at : get_or (map (λ (f : FeedSeen M S Q). f.lane) fs) k d.lane ≡ (get_or fs k d).lane = get_or-map (λ (f : FeedSeen M S Q). f.lane) fs k d d.lane below in
+      ap (λ (l : LaneSeen M S). l.machine) (sym at ∙ ap (λ xs. get_or xs k d.lane) e) ∙ all k d.lane n
+
+  pub lanes_known : (fs : List (FeedSeen M S Q)) → map (λ (f : FeedSeen M S Q). known f.lane) fs ≡ map known (map (λ (f : FeedSeen M S Q). f.lane) fs)
+  lanes_known [] = refl
+  lanes_known (f ∷ fs) = λ i. known f.lane ∷ lanes_known fs i
 
 module _ {M S Q A : Type 0} (next : M → S → Q → S) (reply : M → S → Q → A) (m : M) where
   -- the answers of all lanes are those of their tasks
@@ -42,10 +49,3 @@ module _ {M S Q A : Type 0} (next : M → S → Q → S) (reply : M → S → Q 
       let s : t.start ≡ f.lane.start = ap (λ l. get_or l 0 t.start) ss in
       let e : f.lane.machine ≡ m = ms 0 f (omega arith) in
       λ i. answered_from next reply (e i) 0 (sym s i) (r i) ∷ all_answers fs ts (ap (drop 1) rs) (ap (drop 1) ss) (λ k d b. ms (suc k) d (omega (arith, b))) i
-
-  -- each lane is of the machine
-  pub of_machine : (c : ℕ) (ls : List (LaneSeen M S)) (fs : List (FeedSeen M S Q)) → map (λ (f : FeedSeen M S Q). f.lane) fs ≡ ls → All (λ (l : LaneSeen M S). (l.machine ≡ m) × (l.capacity ≡ c)) ls → All (λ (f : FeedSeen M S Q). f.lane.machine ≡ m) fs
-  of_machine c ls fs e all k d below =
-      let n : k < length ls = omega (arith, ap length e, length-map fs (λ (f : FeedSeen M S Q). f.lane), below) in
-      let at : get_or (map (λ (f : FeedSeen M S Q). f.lane) fs) k d.lane ≡ (get_or fs k d).lane = get_or-map (λ (f : FeedSeen M S Q). f.lane) fs k d d.lane below in
-      ap (λ (l : LaneSeen M S). l.machine) (sym at ∙ ap (λ xs. get_or xs k d.lane) e) ∙ (all k d.lane n).0

@@ -1,5 +1,5 @@
 -- What a lane was fed and has answered.
-use Rattle.std.specs.Prelude.{◌≡◌, ℕ, ◌≤◌, Bool, Option, Some, None, List, ◌++◌, map, length, ◌<◌, All, true, slice_index_or}
+use Rattle.std.specs.Prelude.{◌≡◌, ℕ, ◌≤◌, Bool, Option, Some, None, List, ◌++◌, map, take, length, ◌<◌, All, true, slice_index_or}
 use Rattle.aa_lane.specs.Ends.{LaneSeen, OwnerSeen, known}
 use Rattle.aa_lane.specs.Answers.{answered_from, collected_by}
 use Rattle.aa_lane.specs.declared.lane.Answered.{Answered}
@@ -16,6 +16,11 @@ module _ {M S Q A : Type 0} where
   all_of (Some o) leaver left = o.sent ++ left
   all_of None (Some o) left = o.sent ++ left
   all_of None None left = left
+
+-- an owner has collected all that it sent, and these are the first of the answers
+pub record HasCollected {M S Q A : Type 0} (o : OwnerSeen M S Q A) (answers : List (Answered M S Q A)) : Type 0 where
+  pub got : o.got ≡ length o.sent
+  pub sent : o.sent ≡ take (length o.sent) (map (λ a. a.request) answers)
 
 module _ {M S Q A : Type 0} (next : M → S → Q → S) (reply : M → S → Q → A) where
   -- the owner is the lane's, and has collected these answers

@@ -1,2 +1,4 @@
 pub mod Fed
 pub mod Answers
+pub mod Closed
+pub mod Stage

@@ -4,10 +4,9 @@ ghost use Rattle.std.specs.VecDeque.{deque_len, deque_capacity};
 ghost use Rattle.aa_machine.specs.Run.{state_after};
 ghost use Rattle.aa_lane.specs.Ends.{known, new_owner};
 ghost use Rattle.aa_lane.specs.Answers.{answered_from};
-ghost use Rattle.aa_feed.specs.Fed.{IsFed, HasLeft, answers_of};
+ghost use Rattle.aa_feed.specs.Fed.{IsFed, HasLeft, HasCollected, answers_of};
 
 use aa_lane::{Answered, Lane, Leaver, Machine, Owner, SendFault};
-use std::alloc::{AllocError, Global};
 use std::collections::VecDeque;
 use std::marker::Model;
 
@@ -109,6 +108,14 @@ pub enum Turned {
     Left,
 }
 
+/// An owner that has left its lane, with the answers to all that the lane was to be fed.
+#[derive(Drop)]
+pub struct Finished<M: Machine> {
+    pub leaver: Leaver<M>,
+    pub answers: Vec<Answered<M>>,
+    pub ghost all: { HasCollected leaver answers.items },
+}
+
 /// A lane, its owner until it leaves, what is left to be sent, and what was answered.
 #[derive(Drop)]
 pub struct Feed<'l, 'm, M: Machine> {
@@ -135,20 +142,21 @@ impl<'l, 'm, M: Machine> Model for Feed<'l, 'm, M> {
 }
 
 impl<'l, 'm, M: Machine> Feed<'l, 'm, M> {
-    /// A lane that is to be fed these requests, with room for all answers. Nothing takes memory later.
+    /// A lane that is to be fed these requests. There is to be room for all answers: nothing takes memory later.
     pub fn new(
-        alloc: Global,
         lane: &'l Lane<'m, M>,
         owner: Owner<M>,
         start: M::State,
         left: VecDeque<M::Request>,
-    ) -> Result<Feed<'l, 'm, M>, AllocError>
+        room: Vec<Answered<M>>,
+    ) -> Feed<'l, 'm, M>
         requires owner { owner ≡ new_owner lane.now }
         requires start { start ≡ lane.now.start }
-        ensures { IfOk result (λ f. (f.lane ≡ lane.now) × (f.all ≡ left.items)) }
+        requires empty { room.items ≡ [] }
+        requires room { deque_len left ≤ vec_capacity room }
+        ensures { (result.lane ≡ lane.now) × (result.all ≡ left.items) }
     {
-        let answered = Vec::with_capacity(alloc, left.len())?;
-        Ok(Feed {
+        Feed {
             lane,
             owner: Some(owner),
             leaver: None,
@@ -156,8 +164,8 @@ impl<'l, 'm, M: Machine> Feed<'l, 'm, M> {
             sent: 0,
             start,
             left,
-            answered,
-        })
+            answered: room,
+        }
     }
 
     /// Collects an answer, or else sends a request, or else leaves the lane, if there is nothing more to come.
@@ -218,12 +226,13 @@ impl<'l, 'm, M: Machine> Feed<'l, 'm, M> {
         false
     }
 
-    /// All answers, once the owner has left. What the lane didn't accept is decided here, from the state that the accepted
-    /// requests leave.
-    pub fn answers(self, machine: &M) -> Vec<Answered<M>>
+    /// The owner, once it has left, with all answers. What the lane didn't accept is decided here, from the state that the
+    /// accepted requests leave.
+    pub fn finish(self, machine: &M) -> Finished<M>
         requires machine { machine.now ≡ self.lane.machine }
         requires finished { self.finished ≡ true }
-        ensures { result.items ≡ answers_of M.next M.reply self.entry }
+        ensures answers { result.answers.items ≡ answers_of M.next M.reply self.entry }
+        ensures of { result.leaver.lane ≡ known self.entry.lane }
     {
         let Feed {
             start,
@@ -232,8 +241,9 @@ impl<'l, 'm, M: Machine> Feed<'l, 'm, M> {
             answered,
             ..
         } = self;
-        drop(leaver);
-        decide_rest(machine, start, answered, left)
+        let Some(leaver) = leaver else { unreachable!() };
+        let answers = decide_rest(machine, start, answered, left);
+        Finished { leaver, answers }
     }
 }
 

@@ -5,8 +5,8 @@ ghost use Rattle.aa_lane.specs.Ends.{known};
 ghost use Rattle.aa_feed.specs.Fed.{AreSame, AreAllFed, answers_of};
 
 use crate::beside::{Work, side_by_side};
-use crate::feed::Feed;
-use aa_lane::{Answered, Lane, Machine, Served, Server};
+use crate::feed::{Feed, Finished};
+use aa_lane::{Lane, Machine, Served, Server};
 use aa_pool::serve_all;
 use std::alloc::Global;
 use std::sync::Wait;
@@ -115,22 +115,35 @@ fn settle_all<'m, M: Machine, R: Wait>(
     settled
 }
 
-// Serves all lanes by that many workers; where the pool has no memory, on this thread.
-fn serve<'m, M: Machine + Sync, R: Threads + Wait + Sync>(
-    rt: &R,
+// All lanes with their servers, and how many workers are to serve them.
+#[derive(Drop)]
+struct Rota<'r, 'l, 'm, M: Machine, R> {
+    rt: &'r R,
     alloc: Global,
-    lanes: &[Lane<'m, M>],
+    lanes: &'l [Lane<'m, M>],
     service: Service<M>,
     workers: u32,
+    ghost servers: { map (λ s. s.lane) service.servers.items ≡ map known lanes.now },
+    ghost crew: { (0 < workers) × (workers ≤ 16) },
+}
+
+// Serves all lanes by that many workers; where the pool has no memory, on this thread.
+fn serve<'r, 'l, 'm, M: Machine + Sync, R: Threads + Wait + Sync>(
+    rota: Rota<'r, 'l, 'm, M, R>,
 ) -> Vec<Server<M>>
 where
     M::State: Send,
     M::Request: Send,
     M::Answer: Send,
-    requires servers { map (λ s. s.lane) service.servers.items ≡ map known lanes.now }
-    requires workers { (0 < workers) × (workers ≤ 16) }
-    ensures { IsPermutation (map known lanes.now) (map (λ s. s.lane) result.items) }
+    ensures { IsPermutation (map known rota.entry.lanes.now) (map (λ s. s.lane) result.items) }
 {
+    let Rota {
+        rt,
+        alloc,
+        lanes,
+        service,
+        workers,
+    } = rota;
     let Service { servers, room } = service;
     match serve_all(rt, alloc, lanes, servers, workers) {
         Ok(served) => served,
@@ -140,36 +153,43 @@ where
 
 // Feeds all lanes on a thread of its own, while they are served here. Feeds and servers come back where no thread can be
 // started.
-fn feed_and_serve<'l, 'm, M: Machine + Sync, R: Threads + Wait + Sync>(
-    rt: &R,
+fn feed_and_serve<'r, 'l, 'm, M: Machine + Sync, R: Threads + Wait + Sync>(
+    rt: &'r R,
     alloc: Global,
     machine: &'m M,
     lanes: &'l [Lane<'m, M>],
     feeds: Vec<Feed<'l, 'm, M>>,
     service: Service<M>,
     workers: u32,
-) -> Result<Vec<Feed<'l, 'm, M>>, (Vec<Feed<'l, 'm, M>>, Service<M>)>
+) -> Result<(Vec<Feed<'l, 'm, M>>, Vec<Server<M>>), (Vec<Feed<'l, 'm, M>>, Service<M>)>
 where
     M::State: Send,
     M::Request: Send,
     M::Answer: Send,
     requires servers { map (λ s. s.lane) service.servers.items ≡ map known lanes.now }
     requires workers { (0 < workers) × (workers ≤ 16) }
-    ensures fed { IfOk result (λ done. AreAllFed feeds.entry.items done.items) }
+    ensures fed { IfOk result (λ r. AreAllFed feeds.entry.items r.0.items) }
+    ensures served { IfOk result (λ r. IsPermutation (map known lanes.entry.now) (map (λ s. s.lane) r.1.items)) }
     ensures back { IfErr result (λ r. (r.0.items ≡ feeds.entry.items) × (r.1 ≡ service)) }
 {
-    let done = side_by_side::<Feeding<'l, 'm, M>, Service<M>, (), _, R>(
+    let rota = Rota {
+        rt,
+        alloc,
+        lanes,
+        service,
+        workers,
+    };
+    let done = side_by_side::<Feeding<'l, 'm, M>, Rota<'r, 'l, 'm, M, R>, Vec<Server<M>>, _, R>(
         rt,
         Feeding { machine, feeds },
-        service,
-        |service: Service<M>|
-            requires servers { map (λ s. s.lane) service.servers.items ≡ map known lanes.now }
-            requires workers { (0 < workers) × (workers ≤ 16) }
-        { drop(serve(rt, alloc, lanes, service, workers)) },
+        rota,
+        |rota| -> Vec<Server<M>>
+            ensures { IsPermutation (map known rota.entry.lanes.now) (map (λ s. s.lane) result.items) }
+        { serve(rota) },
     );
     match done {
-        Ok((feeds, ())) => Ok(feeds),
-        Err((feeding, service)) => Err((feeding.feeds, service)),
+        Ok(done) => Ok(done),
+        Err((feeding, rota)) => Err((feeding.feeds, rota.service)),
     }
 }
 
@@ -256,14 +276,15 @@ fn feed_by_one<'l, 'm, M: Machine, R: Wait>(
     lanes: &[Lane<'m, M>],
     feeds: Vec<Feed<'l, 'm, M>>,
     service: Service<M>,
-) -> Vec<Feed<'l, 'm, M>>
+) -> (Vec<Feed<'l, 'm, M>>, Vec<Server<M>>)
     requires servers { map (λ s. s.lane) service.servers.items ≡ map known lanes.now }
     requires len { vec_len feeds ≡ length lanes.now }
-    ensures { AreAllFed feeds.entry.items result.items }
+    ensures fed { AreAllFed feeds.entry.items result.0.items }
+    ensures served { map (λ s. s.lane) result.1.items ≡ map known lanes.now }
 {
     let mut feeds = feeds;
-    drop(feed_here(rt, lanes, feeds.as_mut_slice(), service));
-    feeds
+    let served = feed_here(rt, lanes, feeds.as_mut_slice(), service);
+    (feeds, served)
 }
 
 // All lanes are fed and served, by that many workers. All memory but the pool's own was taken before.
@@ -275,7 +296,7 @@ fn feed_by<'l, 'm, M: Machine + Sync, R: Threads + Wait + Sync>(
     feeds: Vec<Feed<'l, 'm, M>>,
     service: Service<M>,
     workers: u32,
-) -> Vec<Feed<'l, 'm, M>>
+) -> (Vec<Feed<'l, 'm, M>>, Vec<Server<M>>)
 where
     M::State: Send,
     M::Request: Send,
@@ -283,59 +304,64 @@ where
     requires len { vec_len feeds ≡ length lanes.now }
     requires servers { map (λ s. s.lane) service.servers.items ≡ map known lanes.now }
     requires workers { (0 < workers) × (workers ≤ 16) }
-    ensures { AreAllFed feeds.entry.items result.items }
+    ensures fed { AreAllFed feeds.entry.items result.0.items }
+    ensures served { IsPermutation (map known lanes.entry.now) (map (λ s. s.lane) result.1.items) }
 {
     if workers == 1 {
         return feed_by_one(rt, lanes, feeds, service);
     }
     match feed_and_serve(rt, alloc, machine, lanes, feeds, service, workers) {
-        Ok(feeds) => feeds,
+        Ok(done) => done,
         Err((feeds, service)) => feed_by_one(rt, lanes, feeds, service),
     }
 }
 
-// The answers of lanes whose owners have left.
-fn rows_of<'l, 'm, M: Machine>(
+// The owners of lanes that have all left, with all answers.
+fn finish_all<'l, 'm, M: Machine>(
     machine: &M,
     feeds: Vec<Feed<'l, 'm, M>>,
-    rows: Vec<Vec<Answered<M>>>,
-) -> Vec<Vec<Answered<M>>>
+    room: Vec<Finished<M>>,
+) -> Vec<Finished<M>>
     requires machine { All (λ f. f.lane.machine ≡ machine.now) feeds.items }
     requires finished { All (λ f. f.finished ≡ true) feeds.items }
-    requires empty { rows.items ≡ [] }
-    requires room { vec_len feeds ≤ vec_capacity rows }
-    ensures { map (λ row. row.items) result.items ≡ map (answers_of M.next M.reply) feeds.entry.items }
+    requires empty { room.items ≡ [] }
+    requires room { vec_len feeds ≤ vec_capacity room }
+    ensures answers { map (λ f. f.answers.items) result.items ≡ map (answers_of M.next M.reply) feeds.entry.items }
+    ensures of { map (λ f. f.leaver.lane) result.items ≡ map (λ f. known f.lane) feeds.entry.items }
 {
-    let mut rows = rows;
+    let mut finished = room;
     for feed in feeds {
-        rows.push_reserved(feed.answers(machine));
+        finished.push_reserved(feed.finish(machine));
     }
-    rows
+    finished
 }
 
-/// The answers to what all lanes are fed, by that many workers.
-pub fn rows_by<'l, 'm, M: Machine + Sync, R: Threads + Wait + Sync>(
+/// All lanes are fed and served, by that many workers: their owners, which have left, with all answers, and their servers in
+/// any order.
+pub fn run_all<'l, 'm, M: Machine + Sync, R: Threads + Wait + Sync>(
     rt: &R,
     alloc: Global,
     machine: &'m M,
     lanes: &'l [Lane<'m, M>],
     feeds: Vec<Feed<'l, 'm, M>>,
     service: Service<M>,
-    rows: Vec<Vec<Answered<M>>>,
+    room: Vec<Finished<M>>,
     workers: u32,
-) -> Vec<Vec<Answered<M>>>
+) -> (Vec<Finished<M>>, Vec<Server<M>>)
 where
     M::State: Send,
     M::Request: Send,
     M::Answer: Send,
-    requires machine { All (λ f. f.lane.machine ≡ machine.now) feeds.items }
-    requires len { vec_len feeds ≡ length lanes.now }
+    requires machine { All (λ l. l.machine ≡ machine.now) lanes.now }
+    requires lanes { map (λ f. f.lane) feeds.items ≡ lanes.now }
     requires servers { map (λ s. s.lane) service.servers.items ≡ map known lanes.now }
     requires workers { (0 < workers) × (workers ≤ 16) }
-    requires empty { rows.items ≡ [] }
-    requires room { vec_len feeds ≤ vec_capacity rows }
-    ensures { map (λ row. row.items) result.items ≡ map (answers_of M.next M.reply) feeds.entry.items }
+    requires empty { room.items ≡ [] }
+    requires room { length lanes.now ≤ vec_capacity room }
+    ensures answers { map (λ f. f.answers.items) result.0.items ≡ map (answers_of M.next M.reply) feeds.entry.items }
+    ensures of { map (λ f. f.leaver.lane) result.0.items ≡ map known lanes.entry.now }
+    ensures served { IsPermutation (map known lanes.entry.now) (map (λ s. s.lane) result.1.items) }
 {
-    let feeds = feed_by(rt, alloc, machine, lanes, feeds, service, workers);
-    rows_of(machine, feeds, rows)
+    let (feeds, served) = feed_by(rt, alloc, machine, lanes, feeds, service, workers);
+    (finish_all(machine, feeds, room), served)
 }

@@ -2,11 +2,12 @@
 #![tactic(auto)]
 
 mod beside;
+mod close;
 mod feed;
 mod feeding;
 mod tasks;
 
-pub use aa_lane::{Answered, Machine};
-pub use feed::Feed;
-pub use feeding::{Service, rows_by};
-pub use tasks::{Task, feeds_of, starts_of};
+pub use aa_lane::{Answered, Machine, Totals};
+pub use aa_pool::EngineFault;
+pub use close::Outcome;
+pub use tasks::{Refusal, Task, answer_all};

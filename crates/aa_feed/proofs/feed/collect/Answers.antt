@@ -1,4 +1,3 @@
-use Rattle.std.proofs.Common.{◌≡◌}
 use Rattle.aa_feed.proofs.Answering.{collected}
 use Rattle.aa_feed.proofs.feed.collect.Goals as goal
 

@@ -1,6 +1,5 @@
-use Rattle.std.proofs.Common.{rules, ◌≡◌, ◌++◌, [], ◌∷◌, ◌+◌, ◌≤◌, ◌∙◌, sym, refl, ap, map, arith, length, vec_len, vec_capacity, append_assoc}
+use Rattle.std.proofs.Common.{rules, ◌≡◌, ◌++◌, [], ◌∷◌, ◌∙◌, sym, ap, map, arith, length, append_assoc}
 use Rattle.std.proofs.lemmas.List.{map-append}
-use Rattle.std.specs.VecDeque.{deque_len}
 use Rattle.aa_machine.specs.Run.{state_after}
 use Rattle.aa_lane.proofs.Runs.{state_after-snoc}
 use Rattle.aa_feed.proofs.Answering.{decided}

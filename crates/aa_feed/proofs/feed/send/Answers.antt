@@ -1,4 +1,3 @@
-use Rattle.std.proofs.Common.{◌≡◌}
 use Rattle.aa_feed.proofs.Answering.{accepted}
 use Rattle.aa_feed.proofs.feed.send.Goals as goal
 

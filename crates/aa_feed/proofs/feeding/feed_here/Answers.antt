@@ -1,10 +1,9 @@
-use Rattle.std.proofs.Common.{rules, ◌≡◌, ◌≤◌, ◌<◌, ◌+◌, ◌-◌, ◌++◌, ℕ, List, [], ◌∷◌, map, length, drop, vec_len, sym, refl, ap, ◌∙◌, arith, add-one, length-drop, append_assoc, append-nil}
+use Rattle.std.proofs.Common.{◌≡◌, ◌≤◌, ◌<◌, ◌-◌, ◌++◌, List, [], ◌∷◌, map, length, drop, sym, refl, ap, ◌∙◌, arith, add-one, length-drop, append_assoc, append-nil}
 use Rattle.std.proofs.lemmas.List.{length-map, map-append}
 use mathlib.Core.Logic.{dite}
 use native.Mathlib.Decide.{ℕ_discrete}
 use Rattle.aa_lane.specs.Ends.{known}
-use Rattle.aa_feed.specs.Fed.{AreSame}
-use Rattle.aa_feed.proofs.Pairs.{Next, next}
+use Rattle.aa_feed.proofs.Pairs.{next}
 use Rattle.aa_feed.proofs.feeding.feed_here.Goals as goal
 
 nil : {X : Type 0} (xs : List X) → length xs ≡ 0 → xs ≡ []

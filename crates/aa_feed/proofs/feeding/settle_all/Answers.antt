@@ -1,7 +1,7 @@
-use Rattle.std.proofs.Common.{rules, ◌≡◌, ◌≤◌, ◌<◌, ◌+◌, ◌-◌, ◌++◌, ℕ, List, [], ◌∷◌, map, length, drop, vec_len, sym, refl, ap, ◌∙◌, arith, add-one, length-drop, append_assoc, append-nil}
-use Rattle.std.proofs.lemmas.List.{length-map, map-append}
+use Rattle.std.proofs.Common.{◌≡◌, ◌<◌, ◌++◌, List, [], ◌∷◌, map, length, sym, refl, ap, ◌∙◌, arith, add-one, append_assoc, append-nil}
+use Rattle.std.proofs.lemmas.List.{map-append}
 use Rattle.aa_lane.specs.Ends.{known}
-use Rattle.aa_feed.proofs.Pairs.{Next, next}
+use Rattle.aa_feed.proofs.Pairs.{next}
 use Rattle.aa_feed.proofs.feeding.settle_all.Goals as goal
 
 nil : {X : Type 0} (xs : List X) → length xs ≡ 0 → xs ≡ []

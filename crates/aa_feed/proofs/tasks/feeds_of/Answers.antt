@@ -1,7 +1,8 @@
-use Rattle.std.proofs.Common.{rules, ◌≡◌, ◌+◌, ◌-◌, ◌<◌, ◌≤◌, ◌++◌, ℕ, List, [], ◌∷◌, map, length, take, drop, vec_len, sym, ap, ◌∙◌, arith, add-one, length-drop, append_assoc, append-nil}
+use Rattle.std.proofs.Common.{◌≡◌, ◌-◌, ◌<◌, ◌++◌, [], ◌∷◌, map, length, take, drop, sym, ap, ◌∙◌, arith, add-one, length-drop, append_assoc, append-nil}
 use Rattle.std.proofs.lemmas.List.{length-map, map-append, take_more}
 use Rattle.std.proofs.Math.Seq.{take-length}
 use Rattle.aa_lane.specs.Ends.{new_owner}
+use Rattle.aa_feed.specs.Answers.{AreRooms}
 use Rattle.aa_feed.proofs.Cuts.{nil, stepped}
 use Rattle.aa_feed.proofs.tasks.feeds_of.Goals as goal
 
@@ -10,19 +11,22 @@ loop-task-preserved g c =
     let i = c.loop-task.invariant in
     let s = (c.in-Some.ensures {u = tt}).steps in
     let e = (c.in-Some-next.ensures {u = tt}).items in
+    let r = (c.in-Some-next-2.ensures {u = tt}).items in
     let p = c.push_reserved.ensures in
-    let f = c.in_ok-feed_of.field-0 in
-    let is = c.in_ok-feed_of.ensures {u = tt} in
+    let f = c.feed_of.result in
+    let is = c.feed_of.ensures in
     let lanes = c.args.lanes.now in
     let feeds = c.loop-task.feeds.items in
     let left = c.next.new.self.rest.items in
     let o = stepped new_owner c.in-Some-next.owner c.next-in-loop-task.new.self.rest.items lanes c.loop-task.at (sym e ∙ i.owners) in
     let t = stepped (λ a. a.start) c.in-Some.task.start (map (λ t. t.start) left) lanes c.loop-task.at (ap (map (λ t. t.start)) (sym s.0) ∙ i.starts) in
+    let rooms : AreRooms (c.in-Some.task ∷ c.next.new.self.rest.items) (c.in-Some-next-2.room ∷ c.next-in-loop-task-2.new.self.rest.items) = rw (s.0, r) at i.rooms in
     let w : c.loop-task.at < length c.args.lanes.now = o.within in
     let h = is.0 ∙ c.index-lanes-at.is in
     record {
       owners = rw add-one o.left;
       starts = rw add-one t.left;
+      rooms = rooms.2;
       at = omega arith;
       lanes = rw (p.items, map-append (λ f. f.lane) feeds (f ∷ [])) ((λ k. i.lanes k ++ h k ∷ []) ∙ sym (take_more lanes c.loop-task.at c.index-lanes-at.result w));
       requests = rw (p.items, map-append (λ f. f.all) feeds (f ∷ []), append_assoc) (ap (λ y. map (λ f. f.all) feeds ++ y ∷ map (λ t. t.requests.items) left) is.1 ∙ ap (λ l. map (λ f. f.all) feeds ++ map (λ t. t.requests.items) l) (sym s.0) ∙ i.requests);
