@@ -9,7 +9,8 @@ use Rattle.aa_words.specs.declared.word.Word.{Word}
 use Rattle.aa_words.specs.declared.word.WordKind.TheVariants.{Equals, PlusEquals, Path, Name}
 use Rattle.aa_words.specs.Splits.{WordData, word_data}
 use Rattle.aa_glob.specs.Variables.{Variable, has_name}
-use Rattle.aa_rules.specs.Grammar.{Starts, Many, Keyword, LacksKeyword, spot_of}
+use Rattle.aa_rules.specs.Faults.{IsPlaced}
+use Rattle.aa_rules.specs.Grammar.{Starts, Many, Keyword, LacksKeyword, spot_of, place_of}
 use Rattle.aa_faults.specs.declared.fault.PolicyKind.{PolicyKind}
 use Rattle.aa_faults.specs.declared.fault.PolicyKind.TheVariants.{NoMemory}
 use Rattle.aa_faults.specs.Kinds.{no_memory}
@@ -235,6 +236,12 @@ pub stands_misnamed : (adds : Bool) (ws rest : List WordData) (vars : List Varia
 stands_misnamed adds ws rest vars at m s = record { items = s.items; vars = vars; after = rest; before = s.before; gives = s.gives; misnames = m }
 
 -- ---- an assignment whose sign doesn't fit its name
+
+-- it is refused at its variable
+pub head_placed : (words : List Word) (at : ℕ) (end spot : Spot) (name : List ℕ) (sign : Bool) (rest : List WordData) (e : PolicyFault) → Assigning (rest_of words at) spot name sign rest
+    → (e ≡ no_memory) ⊎ (e.at ≡ spot) → IsPlaced words end e
+head_placed words at end spot name sign rest e h (inl q) = inl q
+head_placed words at end spot name sign rest e h (inr q) = inr (at, q ∙ h.at_is ∙ sym (ap (λ (ws : List WordData). place_of ws end) h.variable_stands.words))
 
 -- it gives no variables
 misfit : (vars : List Variable) (a : AssignmentData) (adds : Bool) → a.adds ≡ adds → is_reserved a.name ≡ false → has_name a.name vars ≡ not adds → assigned vars a ≡ None

@@ -1,6 +1,6 @@
 //! Assignments to variables (apparmor.d(5), "Variables").
 
-ghost use Rattle.std.specs.Prelude.{◌≡◌, ◌≢◌, ◌≤◌, ◌<◌, ◌+◌, true, false, List, ℕ, Bool, map, length, Some, None, IfSome, IfNone, OnSome, OnOk, IfOk, IfErr};
+ghost use Rattle.std.specs.Prelude.{◌≡◌, ◌≢◌, ◌⊎◌, ◌≤◌, ◌<◌, ◌+◌, true, false, List, ℕ, Bool, map, length, Some, None, IfSome, IfNone, OnSome, OnOk, IfOk, IfErr};
 ghost use Rattle.std.specs.Bool.{OnTrue, OnFalse};
 ghost use Rattle.std.specs.List.{list_all};
 ghost use Rattle.aa_faults.specs.declared.fault.Spot.{Spot};
@@ -8,6 +8,7 @@ ghost use Rattle.aa_glob.specs.Expansions.{is_reserved};
 ghost use Rattle.aa_glob.specs.Variables.{Variable};
 ghost use Rattle.aa_faults.specs.Kinds.{no_memory, IsRefusal};
 ghost use Rattle.aa_words.specs.Splits.{WordData};
+ghost use Rattle.aa_rules.specs.Faults.{IsPlaced};
 ghost use Rattle.aa_rules.specs.Grammar.{Starts, Lacks, Many};
 ghost use Rattle.aa_heads.specs.Preamble.{is_name_byte, is_variable_name, Names, sign_of, Assigning, LacksAssignment, IsValue, NoValue, AssignmentData, assignment, IsAssignment, assigned, Misfits, Misnames, misnamed, IsRefusedWith, IsPreambleRefusal};
 ghost use Rattle.aa_rules.specs.Reading.{rest_of};
@@ -153,6 +154,7 @@ fn assign(vars: &mut Vars, head: Head, values: &[&[u8]]) -> Result<(), PolicyFau
     ensures done { OnOk result (assigned vars.old (assignment head.entry.at head.entry.name.now head.entry.adds (map (λ v. v.now) values.now)) ≡ Some vars.new) }
     ensures refused { IsRefusal result → assigned vars.old (assignment head.entry.at head.entry.name.now head.entry.adds (map (λ v. v.now) values.now)) ≡ None }
     ensures cause { IfErr result IsPreambleRefusal }
+    ensures place { IfErr result (λ e. (e ≡ no_memory) ⊎ (e.at ≡ head.entry.at)) }
     ensures twice { IfErr result (λ e. e.kind ≡ PolicyKind.VariableTwice → Misfits false vars.old head.entry.name.now head.entry.adds × (e.at ≡ head.entry.at)) }
     ensures undefined { IfErr result (λ e. e.kind ≡ PolicyKind.UndefinedVariable → Misfits true vars.old head.entry.name.now head.entry.adds × (e.at ≡ head.entry.at)) }
     ensures misfits { (adds : Bool) → Misfits adds vars.old head.entry.name.now head.entry.adds → IsRefusedWith (misnamed adds head.entry.at) result }
@@ -184,6 +186,7 @@ pub fn assignment_of(
     ensures refused { IsRefusal result → (x : AssignmentData) (more : List Variable) (rest : List WordData)
         → IsAssignment (rest_of words.now at) x rest → assigned vars.old x ≡ Some more → ⊥ }
     ensures cause { IfErr result IsPreambleRefusal }
+    ensures place { IfErr result (IsPlaced words.now end) }
     ensures twice { IfErr result (λ e. e.kind ≡ PolicyKind.VariableTwice → Misnames false vars.old (rest_of words.now at) e.at) }
     ensures undefined { IfErr result (λ e. e.kind ≡ PolicyKind.UndefinedVariable → Misnames true vars.old (rest_of words.now at) e.at) }
     ensures misnames { (adds : Bool) (spot : Spot) → Misnames adds vars.old (rest_of words.now at) spot → IsRefusedWith (misnamed adds spot) result }

@@ -3,7 +3,7 @@
 ghost use Rattle.std.specs.Prelude.{◌≡◌, ◌&&◌, [], ◌<◌, ◌≤◌, ◌+◌, true, List, Option, length, option_map, IfSome, IfNone, OnSome, OnErr, IfOk, IfErr};
 ghost use Rattle.std.specs.Bool.{OnTrue, OnFalse};
 ghost use Rattle.aa_words.specs.Splits.{WordData, word_data, is_one_of};
-ghost use Rattle.aa_rules.specs.Faults.{is_word_fault};
+ghost use Rattle.aa_rules.specs.Faults.{is_word_fault, IsPlaceIn};
 ghost use Rattle.aa_rules.specs.Grammar.{StartsAs, LacksAll};
 ghost use Rattle.aa_heads.specs.Heads.{HeadData, TitleData, AttachmentData, head_data, title_data, attachment_data, Stands, Fits, LacksFitting, OptionalPath, attached, attachment_of, IsNamed, IsPathNamed, IsTitle, known_flags, is_flag, is_the_flag, said_by, flags_with, OpensFlags, IsFlagList, IsFlags, IsOpening, IsHead, goes_on, BeginsPathNamed, BeginsProfile};
 ghost use Rattle.aa_rules.specs.Reading.{rest_of};
@@ -88,7 +88,8 @@ fn attachment_of<'s>(name: &Word<'s>, path: Option<&Word<'s>>) -> Option<Attachm
 
 /// Why a head can't go on at a word behind its name: extended attributes are left out.
 fn head_fault(words: &[Word], at: usize, end: Spot) -> PolicyFault
-    ensures { is_word_fault result.kind ≡ true }
+    ensures kind { is_word_fault result.kind ≡ true }
+    ensures place { IsPlaceIn words.now end result.at }
 {
     let kind = if is_keyword(words, at, "xattrs".as_bytes()) {
         PolicyKind::Unsupported
@@ -108,6 +109,7 @@ fn named_of<'s>(
     ensures found { IfOk result (λ r. IsNamed top (rest_of words.now at) (title_data r.0) (rest_of words.now r.1)) }
     ensures refused { OnErr result ((t : TitleData) (rest : List WordData) → IsNamed top (rest_of words.now at) t rest → ⊥) }
     ensures cause { IfErr result (λ e. is_word_fault e.kind ≡ true) }
+    ensures place { IfErr result (λ e. IsPlaceIn words.now end e.at) }
     ensures within { IfOk result (λ r. (at < r.1) × (r.1 ≤ length words.now)) }
 {
     let Some(name) = name_at(words, at) else {
@@ -135,6 +137,7 @@ fn path_named_of<'s>(
     ensures found { IfOk result (λ r. IsPathNamed top (rest_of words.now at) (title_data r.0) (rest_of words.now r.1)) }
     ensures refused { OnErr result ((t : TitleData) (rest : List WordData) → IsPathNamed top (rest_of words.now at) t rest → ⊥) }
     ensures cause { IfErr result (λ e. is_word_fault e.kind ≡ true) }
+    ensures place { IfErr result (λ e. IsPlaceIn words.now end e.at) }
     ensures within { IfOk result (λ r. (at < r.1) × (r.1 ≤ length words.now)) }
 {
     let Some(path) = path_at(words, at) else {
@@ -161,6 +164,7 @@ fn title_of<'s>(
     ensures found { IfOk result (λ r. IsTitle top (rest_of words.now at) (title_data r.0) (rest_of words.now r.1)) }
     ensures refused { OnErr result ((t : TitleData) (rest : List WordData) → IsTitle top (rest_of words.now at) t rest → ⊥) }
     ensures cause { IfErr result (λ e. is_word_fault e.kind ≡ true) }
+    ensures place { IfErr result (λ e. IsPlaceIn words.now end e.at) }
     ensures within { IfOk result (λ r. (at < r.1) × (r.1 ≤ length words.now)) }
 {
     if is_keyword(words, at, "profile".as_bytes()) {
@@ -272,7 +276,8 @@ fn flag_name_fault(name: &[u8]) -> PolicyKind
 /// Why a word among the flags, of which the first stands at `start`, isn't one: a flag with a
 /// value is left out.
 fn flag_fault(words: &[Word], start: usize, at: usize, end: Spot) -> PolicyFault
-    ensures { is_word_fault result.kind ≡ true }
+    ensures kind { is_word_fault result.kind ≡ true }
+    ensures place { IsPlaceIn words.now end result.at }
 {
     if at >= words.len() || at < start {
         return fault(PolicyKind::Syntax, words, at, end);
@@ -293,6 +298,7 @@ fn flag_list_of(words: &[Word], start: usize, end: Spot) -> Result<(HeadFlags, u
     ensures found { IfOk result (λ r. IsFlagList (rest_of words.now start) r.0 (rest_of words.now r.1)) }
     ensures refused { OnErr result ((flags : HeadFlags) (rest : List WordData) → IsFlagList (rest_of words.now start) flags rest → ⊥) }
     ensures cause { IfErr result (λ e. is_word_fault e.kind ≡ true) }
+    ensures place { IfErr result (λ e. IsPlaceIn words.now end e.at) }
     ensures within { IfOk result (λ r. (start < r.1) × (r.1 ≤ length words.now)) }
 {
     let mut flags = HeadFlags::none();
@@ -316,6 +322,7 @@ fn flags_start(words: &[Word], at: usize, end: Spot) -> Result<usize, PolicyFaul
     ensures found { IfOk result (λ r. OpensFlags (rest_of words.now at) (rest_of words.now r)) }
     ensures refused { OnErr result ((rest : List WordData) → OpensFlags (rest_of words.now at) rest → ⊥) }
     ensures cause { IfErr result (λ e. is_word_fault e.kind ≡ true) }
+    ensures place { IfErr result (λ e. IsPlaceIn words.now end e.at) }
     ensures within { IfOk result (λ r. (at < r) × (r ≤ length words.now)) }
 {
     if word_at(words, at, WordKind::LeftParen).is_some() {
@@ -340,6 +347,7 @@ fn flags_of(words: &[Word], at: usize, end: Spot) -> Result<(HeadFlags, usize), 
     ensures found { IfOk result (λ r. IsFlags (rest_of words.now at) r.0 (rest_of words.now r.1)) }
     ensures refused { OnErr result ((flags : HeadFlags) (rest : List WordData) → IsFlags (rest_of words.now at) flags rest → ⊥) }
     ensures cause { IfErr result (λ e. is_word_fault e.kind ≡ true) }
+    ensures place { IfErr result (λ e. IsPlaceIn words.now end e.at) }
     ensures within { IfOk result (λ r. (at < r.1) × (r.1 ≤ length words.now)) }
 {
     let inside = flags_start(words, at, end)?;
@@ -351,6 +359,7 @@ fn opening_of(words: &[Word], at: usize, end: Spot) -> Result<(HeadFlags, usize)
     ensures found { IfOk result (λ r. IsOpening (rest_of words.now at) r.0 (rest_of words.now r.1)) }
     ensures refused { OnErr result ((flags : HeadFlags) (rest : List WordData) → IsOpening (rest_of words.now at) flags rest → ⊥) }
     ensures cause { IfErr result (λ e. is_word_fault e.kind ≡ true) }
+    ensures place { IfErr result (λ e. IsPlaceIn words.now end e.at) }
     ensures within { IfOk result (λ r. (at < r.1) × (r.1 ≤ length words.now)) }
 {
     if word_at(words, at, WordKind::Open).is_some() {
@@ -373,6 +382,7 @@ pub fn head_of<'s>(
     ensures found { IfOk result (λ r. IsHead top (rest_of words.now at) (head_data r.0) (rest_of words.now r.1)) }
     ensures refused { OnErr result ((h : HeadData) (rest : List WordData) → IsHead top (rest_of words.now at) h rest → ⊥) }
     ensures cause { IfErr result (λ e. is_word_fault e.kind ≡ true) }
+    ensures place { IfErr result (λ e. IsPlaceIn words.now end e.at) }
     ensures within { IfOk result (λ r. (at < r.1) × (r.1 ≤ length words.now)) }
 {
     let (title, after) = title_of(words, at, top, end)?;

@@ -6,7 +6,7 @@ ghost use Rattle.aa_faults.specs.declared.fault.Spot.{Spot};
 ghost use Rattle.aa_glob.specs.Variables.{Variable};
 ghost use Rattle.aa_faults.specs.Kinds.{IsRefusal};
 ghost use Rattle.aa_words.specs.Splits.{WordData, word_data};
-ghost use Rattle.aa_rules.specs.Faults.{is_word_fault};
+ghost use Rattle.aa_rules.specs.Faults.{is_word_fault, IsPlaceIn, IsPlaced};
 ghost use Rattle.aa_heads.specs.Preamble.{IsAngled, CanNameAbi, NamesAbi, LacksAbiName, IsAbi, PreambleData, IsPreambleItem, PreambleEnds, IsPreamble, given, variables_of, Misnames, IsMisnamed, IsTwice, IsUndefined, misnamed, IsRefusedWith, IsPreambleRefusal};
 ghost use Rattle.aa_rules.specs.Reading.{rest_of};
 
@@ -58,6 +58,7 @@ pub fn abi_of(words: &[Word], at: usize, end: Spot) -> Result<usize, PolicyFault
     ensures found { IfOk result (λ next. IsAbi (rest_of words.now at) (rest_of words.now next)) }
     ensures refused { OnErr result ((rest : List WordData) → IsAbi (rest_of words.now at) rest → ⊥) }
     ensures cause { IfErr result (λ e. is_word_fault e.kind ≡ true) }
+    ensures place { IfErr result (λ e. IsPlaceIn words.now end e.at) }
     ensures within { IfOk result (λ next. (at < next) × (next ≤ length words.now)) }
 {
     if !is_keyword(words, at, "abi".as_bytes()) {
@@ -92,6 +93,7 @@ fn item_of(
     ensures refused { IsRefusal result → (item : PreambleData) (more : List Variable) (rest : List WordData)
         → IsPreambleItem (rest_of words.now at) item rest → given vars.old item ≡ Some more → ⊥ }
     ensures cause { IfErr result IsPreambleRefusal }
+    ensures place { IfErr result (IsPlaced words.now end) }
     ensures twice { IfErr result (λ e. e.kind ≡ PolicyKind.VariableTwice → Misnames false vars.old (rest_of words.now at) e.at) }
     ensures undefined { IfErr result (λ e. e.kind ≡ PolicyKind.UndefinedVariable → Misnames true vars.old (rest_of words.now at) e.at) }
     ensures misnames { (adds : Bool) (spot : Spot) → Misnames adds vars.old (rest_of words.now at) spot → IsRefusedWith (misnamed adds spot) result }
@@ -115,6 +117,7 @@ pub fn preamble_of(
     ensures refused { IsRefusal result → (items : List PreambleData) (vars : List Variable) (rest : List WordData)
         → IsPreamble (rest_of words.now start) items rest → variables_of items ≡ Some vars → ⊥ }
     ensures cause { IfErr result IsPreambleRefusal }
+    ensures place { IfErr result (IsPlaced words.now end) }
     ensures twice { IfErr result (λ e. e.kind ≡ PolicyKind.VariableTwice → IsTwice (rest_of words.now start) e.at) }
     ensures undefined { IfErr result (λ e. e.kind ≡ PolicyKind.UndefinedVariable → IsUndefined (rest_of words.now start) e.at) }
     ensures misnamed { (adds : Bool) (spot : Spot) → IsMisnamed adds (rest_of words.now start) spot → IsRefusedWith (misnamed adds spot) result }

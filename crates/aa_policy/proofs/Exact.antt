@@ -9,17 +9,18 @@ use Rattle.aa_faults.specs.declared.fault.PolicyFault.{PolicyFault}
 use Rattle.aa_faults.specs.declared.fault.PolicyKind.{PolicyKind}
 use Rattle.aa_faults.specs.declared.fault.PolicyKind.TheVariants.{NoMemory, Unsupported, DuplicateProfile, TooLarge}
 use Rattle.aa_faults.specs.Kinds.{no_memory, at_start}
-use Rattle.aa_words.specs.Splits.{WordData}
+use Rattle.aa_words.specs.declared.word.Word.{Word}
+use Rattle.aa_words.specs.Splits.{WordData, words_data}
 use Rattle.aa_glob.specs.Variables.{Variable}
 use Rattle.aa_heads.specs.Preamble.{IsMisnamed, IsPreambleRefusal, is_preamble_fault, misnamed}
 use Rattle.aa_heads.proofs.Refusals.{unless_wanting}
-use Rattle.aa_rules.specs.Faults.{is_word_fault}
-use Rattle.aa_profiles.specs.declared.policy.Profile.{Profile}
+use Rattle.aa_rules.specs.Faults.{is_word_fault, IsPlaceIn}
+use Rattle.aa_policy.specs.declared.policy.Profile.{Profile}
 use Rattle.aa_policy.specs.Bodies.{ProfileData, IsPolicy}
 use Rattle.aa_policy.specs.Expansion.{IsFirstRefused}
 use Rattle.aa_policy.specs.Faults.{IsPathRefusal, is_path_fault}
-use Rattle.aa_profiles.specs.Lawful.{IsWithinLimits, names_of}
-use Rattle.aa_policy.specs.Refusals.{IsUnwritten, is_word_only, IsFault, SetTwice, NeverSet, AtPath, NamedTwice, PastLimits}
+use Rattle.aa_policy.specs.Lawful.{IsWithinLimits, names_of}
+use Rattle.aa_policy.specs.Refusals.{IsStop, IsUnwritten, is_word_only, IsFault, SetTwice, NeverSet, AtPath, NamedTwice, PastLimits}
 use Rattle.aa_policy.specs.Sameness.{SameProfile}
 use Rattle.aa_policy.specs.Spelling.{IsPathFault, IsDuplicate, IsOverLimits, IsRepeated, MeansProfiles, paths_of}
 use Rattle.aa_policy.proofs.Expanded.{first_once, never_refused, same_fault}
@@ -158,3 +159,8 @@ word_only kind h = λ e. false_true (sym (ap is_word_only e) ∙ h)
 
 pub unsupported : (kind : PolicyKind) → kind ≡ Unsupported → kind ≢ NoMemory
 unsupported kind h = λ e. false_true (sym (ap is_word_fault e) ∙ ap is_word_fault h)
+
+-- ---- where reading stops
+
+pub stop_at : (words others : List Word) (end at : Spot) → words ≡ others → IsUnwritten (words_data words) → IsPlaceIn words end at → IsStop others end at
+stop_at words others end at same none place = subst (λ (ws : List Word). IsStop ws end at) same (record { unwritten = none; place = place })

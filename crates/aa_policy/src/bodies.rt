@@ -3,7 +3,7 @@
 ghost use Rattle.std.specs.Prelude.{◌≡◌, ◌<◌, ◌≤◌, ◌+◌, ◌++◌, true, List, Option, map, flat_map, length, option_map, OnOk, OnErr, IfOk, IfErr};
 ghost use Rattle.aa_faults.specs.Kinds.{IsRefusal};
 ghost use Rattle.aa_words.specs.Splits.{WordData};
-ghost use Rattle.aa_rules.specs.Faults.{is_word_fault, IsWordRefusal};
+ghost use Rattle.aa_rules.specs.Faults.{is_word_fault, IsWordRefusal, IsPlaceIn, IsPlaced};
 ghost use Rattle.aa_rules.specs.Grammar.{Closes, Many};
 ghost use Rattle.aa_policy.specs.Bodies.{ChildData, FamilyData, PartData, IsStatement, IsChild, IsPart, IsProfile, if_any, rules_in, children_in, child_data, family_data, part_data};
 ghost use Rattle.aa_rules.specs.Reading.{RuleData, rest_of, rule_data};
@@ -23,6 +23,7 @@ fn statement_of<'s>(
     ensures found { IfOk result (λ r. IsStatement (rest_of words.now at) (option_map rule_data r.0) (rest_of words.now r.1)) }
     ensures refused { OnErr result ((s : Option RuleData) (rest : List WordData) → IsStatement (rest_of words.now at) s rest → ⊥) }
     ensures cause { IfErr result (λ e. is_word_fault e.kind ≡ true) }
+    ensures place { IfErr result (λ e. IsPlaceIn words.now end e.at) }
     ensures within { IfOk result (λ r. (at < r.1) × (r.1 ≤ length words.now)) }
 {
     if is_keyword(words, at, "abi".as_bytes()) {
@@ -42,6 +43,7 @@ fn child_statement_of<'s>(
     ensures found { IfOk result (λ r. IsStatement (rest_of words.now at) (option_map rule_data r.0) (rest_of words.now r.1)) }
     ensures refused { OnErr result ((s : Option RuleData) (rest : List WordData) → IsStatement (rest_of words.now at) s rest → ⊥) }
     ensures cause { IfErr result (λ e. is_word_fault e.kind ≡ true) }
+    ensures place { IfErr result (λ e. IsPlaceIn words.now end e.at) }
     ensures within { IfOk result (λ r. (at < r.1) × (r.1 ≤ length words.now)) }
 {
     if begins_profile(words, at) {
@@ -76,6 +78,7 @@ fn child_body_of<'s>(
     ensures found { IfOk result (λ r. (ss : List (Option RuleData)) × Many IsStatement Closes (rest_of words.now start) ss (rest_of words.now r.1) × (map rule_data r.0.items ≡ flat_map if_any ss)) }
     ensures refused { IsRefusal result → (ss : List (Option RuleData)) (rest : List WordData) → Many IsStatement Closes (rest_of words.now start) ss rest → ⊥ }
     ensures cause { IfErr result (λ e. IsWordRefusal e) }
+    ensures place { IfErr result (IsPlaced words.now end) }
     ensures within { IfOk result (λ r. (start < r.1) × (r.1 ≤ length words.now)) }
 {
     let mut rules = Vec::new(alloc);
@@ -98,6 +101,7 @@ fn child_of<'s>(
     ensures found { IfOk result (λ r. IsChild (rest_of words.now at) (child_data r.0) (rest_of words.now r.1)) }
     ensures refused { IsRefusal result → (c : ChildData) (rest : List WordData) → IsChild (rest_of words.now at) c rest → ⊥ }
     ensures cause { IfErr result (λ e. IsWordRefusal e) }
+    ensures place { IfErr result (IsPlaced words.now end) }
     ensures within { IfOk result (λ r. (at < r.1) × (r.1 ≤ length words.now)) }
 {
     let (head, body) = head_of(words, at, false, end)?;
@@ -124,6 +128,7 @@ fn part_of<'s>(
     ensures found { IfOk result (λ r. IsPart (rest_of words.now at) (part_data r.0) (rest_of words.now r.1)) }
     ensures refused { IsRefusal result → (e : PartData) (rest : List WordData) → IsPart (rest_of words.now at) e rest → ⊥ }
     ensures cause { IfErr result (λ e. IsWordRefusal e) }
+    ensures place { IfErr result (IsPlaced words.now end) }
     ensures within { IfOk result (λ r. (at < r.1) × (r.1 ≤ length words.now)) }
 {
     if begins_profile(words, at) {
@@ -166,6 +171,7 @@ fn body_of<'s>(
         × (map rule_data r.0.rules.items ≡ flat_map rules_in es) × (map child_data r.0.children.items ≡ flat_map children_in es)) }
     ensures refused { IsRefusal result → (es : List PartData) (rest : List WordData) → Many IsPart Closes (rest_of words.now start) es rest → ⊥ }
     ensures cause { IfErr result (λ e. IsWordRefusal e) }
+    ensures place { IfErr result (IsPlaced words.now end) }
     ensures within { IfOk result (λ r. (start < r.1) × (r.1 ≤ length words.now)) }
 {
     let mut body = Body {
@@ -191,6 +197,7 @@ pub fn profile_of<'s>(
     ensures found { IfOk result (λ r. IsProfile (rest_of words.now at) (family_data r.0) (rest_of words.now r.1)) }
     ensures refused { IsRefusal result → (p : FamilyData) (rest : List WordData) → IsProfile (rest_of words.now at) p rest → ⊥ }
     ensures cause { IfErr result (λ e. IsWordRefusal e) }
+    ensures place { IfErr result (IsPlaced words.now end) }
     ensures within { IfOk result (λ r. (at < r.1) × (r.1 ≤ length words.now)) }
 {
     let (head, start) = head_of(words, at, true, end)?;

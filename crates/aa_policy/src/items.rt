@@ -4,7 +4,7 @@ ghost use Rattle.std.specs.Prelude.{Bool, ◌≡◌, ◌<◌, ◌≤◌, ◌++�
 ghost use Rattle.aa_faults.specs.declared.fault.Spot.{Spot};
 ghost use Rattle.aa_faults.specs.Kinds.{IsRefusal};
 ghost use Rattle.aa_words.specs.Splits.{WordData, words_data};
-ghost use Rattle.aa_rules.specs.Faults.{IsWordRefusal};
+ghost use Rattle.aa_rules.specs.Faults.{IsWordRefusal, IsPlaced};
 ghost use Rattle.aa_policy.specs.Bodies.{FamilyData, ProfileData, IsItem, IsPolicy, row_of, family_data, profile_data, tree_data};
 ghost use Rattle.aa_glob.specs.Variables.{Variable};
 ghost use Rattle.aa_heads.specs.Preamble.{IsMisnamed, IsTwice, IsUndefined, misnamed, IsRefusedWith, IsPreambleRefusal};
@@ -28,6 +28,7 @@ fn item_of<'s>(
     ensures found { IfOk result (λ r. IsItem (rest_of words.now at) (option_map family_data r.0) (rest_of words.now r.1)) }
     ensures refused { IsRefusal result → (i : Option FamilyData) (rest : List WordData) → IsItem (rest_of words.now at) i rest → ⊥ }
     ensures cause { IfErr result (λ e. IsWordRefusal e) }
+    ensures place { IfErr result (IsPlaced words.now end) }
     ensures within { IfOk result (λ r. (at < r.1) × (r.1 ≤ length words.now)) }
 {
     if is_keyword(words, at, "abi".as_bytes()) {
@@ -66,6 +67,7 @@ pub fn tree_of<'s>(
     ensures found { IfOk result (λ t. IsPolicy (words_data words.now) t.vars (tree_data t.profiles.items)) }
     ensures refused { IsRefusal result → (vars : List Variable) (tree : List ProfileData) → IsPolicy (words_data words.now) vars tree → ⊥ }
     ensures cause { IfErr result (λ e. IsPreambleRefusal e) }
+    ensures place { IfErr result (IsPlaced words.now end) }
     ensures twice { IfErr result (λ e. e.kind ≡ PolicyKind.VariableTwice → IsTwice (words_data words.now) e.at) }
     ensures undefined { IfErr result (λ e. e.kind ≡ PolicyKind.UndefinedVariable → IsUndefined (words_data words.now) e.at) }
     ensures misnamed { (adds : Bool) (spot : Spot) → IsMisnamed adds (words_data words.now) spot → IsRefusedWith (misnamed adds spot) result }

@@ -6,7 +6,7 @@ ghost use Rattle.aa_faults.specs.Kinds.{IsRefusal};
 ghost use Rattle.aa_words.specs.Splits.{WordData, words_data};
 ghost use Rattle.aa_policy.specs.Faults.{IsParseRefusal, is_path_only};
 ghost use Rattle.aa_heads.specs.Preamble.{IsTwice, IsUndefined, IsRefusedWith};
-ghost use Rattle.aa_policy.specs.Refusals.{IsUnwritten, IsFault, is_word_only};
+ghost use Rattle.aa_policy.specs.Refusals.{IsStop, IsFault, is_word_only};
 ghost use Rattle.aa_policy.specs.Sameness.{SamePolicy};
 ghost use Rattle.aa_policy.specs.Spelling.{Spells, IsPathFault, IsDuplicate, IsOverLimits, start};
 ghost use Rattle.aa_profiles.specs.declared.policy.Policy.{Policy};
@@ -25,14 +25,15 @@ use std::alloc::Global;
 /// It reads in three passes, and answers the first refusal. The first pass goes word by word:
 /// `Syntax`, `Unsupported`, `UnknownWord`, `BadMode` and `WriteWithAppend`, at the word at which
 /// reading can't go on, or behind the text where it ends too early; `VariableTwice` and
-/// `UndefinedVariable` at an assignment's variable. The second goes profile by profile from path to
-/// path, its attachment first, and expands each: `BadPattern`, `Unsupported`, `UndefinedVariable`,
+/// `UndefinedVariable` at an assignment's variable. The second goes profile by profile from text to
+/// text: the attachment's path, the paths of the file rules, and then the names of the rules on
+/// changes of profile. A path is expanded: `BadPattern`, `Unsupported`, `UndefinedVariable`,
 /// `VariableCircle`, `TooManyExpansions`, `TooLarge` for an expansion of more than 16,384 bytes,
-/// `RelativePath`, each at the path. The third looks at the profiles together: `DuplicateProfile` at
-/// the later name, then `TooLarge` at the start of the main text, for more than 4,096 profiles, a
-/// full name of more than 1,024 bytes, or more than 65,535 patterns of a profile's rules, of the
-/// top-level profiles' attachments, or of those of one parent's children. `NoMemory` can come at any
-/// point.
+/// `RelativePath`; a name is one pattern: `BadPattern`, `Unsupported`; each at the text. The third
+/// looks at the profiles together: `DuplicateProfile` at the later name, then `TooLarge` at the start
+/// of the main text, for more than 4,096 profiles, a full name of more than 1,024 bytes, or more than
+/// 65,535 patterns of a profile's rules, of the top-level profiles' attachments, or of those of one
+/// parent's children. `NoMemory` can come at any point.
 pub fn parse(alloc: Global, words: &WordList) -> Result<Policy, PolicyFault>
     // The policy that is given is spelled by the words.
     ensures spelled { IfOk result (λ p. Spells (words_data words.now.list.items) p) }
@@ -47,9 +48,9 @@ pub fn parse(alloc: Global, words: &WordList) -> Result<Policy, PolicyFault>
     ensures duplicate { IfErr result (λ e. e.kind ≡ PolicyKind.DuplicateProfile → IsDuplicate (words_data words.now.list.items) e.at) }
     ensures too_large { IfErr result (λ e. e.kind ≡ PolicyKind.TooLarge
         → IsPathFault (words_data words.now.list.items) e ⊎ ((e.at ≡ start) × IsOverLimits (words_data words.now.list.items))) }
-    ensures unwritten { IfErr result (λ e. is_word_only e.kind ≡ true → IsUnwritten (words_data words.now.list.items)) }
+    ensures unwritten { IfErr result (λ e. is_word_only e.kind ≡ true → IsStop words.now.list.items words.now.end e.at) }
     ensures unsupported { IfErr result (λ e. e.kind ≡ PolicyKind.Unsupported
-        → IsUnwritten (words_data words.now.list.items) ⊎ IsPathFault (words_data words.now.list.items) e) }
+        → IsStop words.now.list.items words.now.end e.at ⊎ IsPathFault (words_data words.now.list.items) e) }
     ensures kinds { IfErr result IsParseRefusal }
 
     // Each fault of the words that isn't one of a word is what they are refused with.

@@ -3,7 +3,7 @@
 ghost use Rattle.std.specs.Prelude.{◌≡◌, ◌≤◌, ℕ, true, List, length, OnErr, IfOk, IfErr};
 ghost use Rattle.aa_words.specs.Splits.{WordData};
 ghost use Rattle.aa_rules.specs.CapRules.{NamesEnd, IsCapName, numbers_bits, IsCaps};
-ghost use Rattle.aa_rules.specs.Faults.{is_word_fault};
+ghost use Rattle.aa_rules.specs.Faults.{is_word_fault, IsPlaceIn};
 ghost use Rattle.aa_rules.specs.Grammar.{Many};
 ghost use Rattle.aa_rules.specs.Reading.{rest_of};
 
@@ -24,6 +24,7 @@ fn caps_named(words: &[Word], start: usize, end: Spot) -> Result<(Caps, usize), 
     ensures found { IfOk result (λ r. (numbers : List ℕ) × Many IsCapName NamesEnd (rest_of words.now start) numbers (rest_of words.now r.1) × (r.0.0 ≡ numbers_bits 0 numbers)) }
     ensures refused { OnErr result ((numbers : List ℕ) (rest : List WordData) → Many IsCapName NamesEnd (rest_of words.now start) numbers rest → ⊥) }
     ensures cause { IfErr result (λ e. is_word_fault e.kind ≡ true) }
+    ensures place { IfErr result (λ e. IsPlaceIn words.now end e.at) }
     ensures within { IfOk result (λ r. (start ≤ r.1) × (r.1 ≤ length words.now)) }
 {
     let mut caps = Caps(0);
@@ -50,6 +51,7 @@ pub fn cap_rule_of(
     ensures found { IfOk result (λ r. IsCaps qualifiers (rest_of words.now at) r.0 (rest_of words.now r.1)) }
     ensures refused { OnErr result ((rule : CapRule) (rest : List WordData) → IsCaps qualifiers (rest_of words.now at) rule rest → ⊥) }
     ensures cause { IfErr result (λ e. is_word_fault e.kind ≡ true) }
+    ensures place { IfErr result (λ e. IsPlaceIn words.now end e.at) }
     ensures within { IfOk result (λ r. (at ≤ r.1) × (r.1 ≤ length words.now)) }
 {
     let (named, next) = caps_named(words, at, end)?;

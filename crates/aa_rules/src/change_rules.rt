@@ -3,7 +3,7 @@
 ghost use Rattle.std.specs.Prelude.{◌≡◌, ◌<◌, ◌≤◌, ◌+◌, true, List, Option, option_map, length, IfSome, IfNone, OnSome, OnErr, IfOk, IfErr};
 ghost use Rattle.aa_words.specs.Splits.{WordData};
 ghost use Rattle.aa_rules.specs.ChangeRules.{IsAim, IsAnyAim, IsChanges};
-ghost use Rattle.aa_rules.specs.Faults.{is_word_fault};
+ghost use Rattle.aa_rules.specs.Faults.{is_word_fault, IsPlaceIn};
 ghost use Rattle.aa_rules.specs.Reading.{NameData, name_data, ChangeData, change_data, rest_of};
 
 use crate::faults::{no_name_fault, spot_of};
@@ -56,6 +56,7 @@ pub fn change_rule_of<'s>(
     ensures found { IfOk result (λ r. IsChanges qualifiers (rest_of words.now at) (change_data r.0) (rest_of words.now r.1)) }
     ensures refused { OnErr result ((change : ChangeData) (rest : List WordData) → IsChanges qualifiers (rest_of words.now at) change rest → ⊥) }
     ensures cause { IfErr result (λ e. is_word_fault e.kind ≡ true) }
+    ensures place { IfErr result (λ e. IsPlaceIn words.now end e.at) }
     ensures within { IfOk result (λ r. (at ≤ r.1) × (r.1 ≤ length words.now)) }
 {
     let Some((name, next)) = any_aim_of(words, at) else {

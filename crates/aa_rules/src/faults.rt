@@ -4,7 +4,7 @@ ghost use Rattle.std.specs.Prelude.{◌≡◌, true, false, List, None};
 ghost use Rattle.aa_words.specs.Splits.{WordData, word_data};
 ghost use Rattle.aa_rules.specs.Grammar.{spot_of, place_of};
 ghost use Rattle.aa_rules.specs.Reading.{EntryData, rest_of};
-ghost use Rattle.aa_rules.specs.Faults.{is_word_fault};
+ghost use Rattle.aa_rules.specs.Faults.{is_word_fault, IsPlaceIn};
 ghost use Rattle.aa_rules.specs.FileRules.{IsMode, IsPair, IsEntry};
 ghost use Rattle.aa_rules.specs.Modes.{mode_of};
 ghost use Rattle.aa_rules.specs.Names.{is_left_out};
@@ -29,17 +29,27 @@ pub fn spot_of(word: &Word) -> Spot
     }
 }
 
-/// A refusal at a word, or behind the text where no word is left.
+/// Where a word stands, or the end of the text where no word is left.
 #[tactic(auto, using(crate::proofs::Places::here, crate::proofs::Places::nothing_here))]
-pub fn fault(kind: PolicyKind, words: &[Word], at: usize, end: Spot) -> PolicyFault
-    ensures kind { result.kind ≡ kind }
-    ensures place { result.at ≡ place_of (rest_of words.now at) end }
+fn spot_at(words: &[Word], at: usize, end: Spot) -> Spot
+    ensures { result ≡ place_of (rest_of words.now at) end }
 {
-    let at = match words.get(at) {
+    match words.get(at) {
         Some(word) => spot_of(word),
         None => end,
-    };
-    PolicyFault { kind, at }
+    }
+}
+
+/// A refusal at a word, or behind the text where no word is left.
+pub fn fault(kind: PolicyKind, words: &[Word], at: usize, end: Spot) -> PolicyFault
+    ensures kind { result.kind ≡ kind }
+    ensures spot { result.at ≡ place_of (rest_of words.now at) end }
+    ensures place { IsPlaceIn words.now end result.at }
+{
+    PolicyFault {
+        kind,
+        at: spot_at(words, at, end),
+    }
 }
 
 /// Whether a word of this kind stands at a place.
@@ -136,7 +146,8 @@ fn top_name_fault(name: &[u8], path_follows: bool) -> PolicyKind
 /// Why no item begins at a word of the top level: a name that isn't an item's first word is read
 /// as a mode where a path follows.
 pub fn item_fault(words: &[Word], at: usize, end: Spot) -> PolicyFault
-    ensures { is_word_fault result.kind ≡ true }
+    ensures kind { is_word_fault result.kind ≡ true }
+    ensures place { IsPlaceIn words.now end result.at }
 {
     if at >= words.len() {
         return fault(PolicyKind::Syntax, words, at, end);
@@ -157,7 +168,8 @@ fn is_run_at(words: &[Word], at: usize) -> bool {
 /// Why no comma stands behind a rule: the conditions of a rule on sockets are left out, and so is
 /// what stands straight behind the keyword of a rule on changes of profile.
 pub fn no_comma_fault(words: &[Word], at: usize, rule: &RuleTree, end: Spot) -> PolicyFault
-    ensures { is_word_fault result.kind ≡ true }
+    ensures kind { is_word_fault result.kind ≡ true }
+    ensures place { IsPlaceIn words.now end result.at }
 {
     let is_condition = is_kind_at(words, at, WordKind::LeftParen)
         || is_kind_at(words, at, WordKind::Equals);
@@ -181,7 +193,8 @@ pub fn no_entry_fault(
     end: Spot,
 ) -> PolicyFault
     requires wrong { (e : EntryData) (rest : List WordData) → IsEntry deny (rest_of words.now at) e rest → ⊥ }
-    ensures { is_word_fault result.kind ≡ true }
+    ensures kind { is_word_fault result.kind ≡ true }
+    ensures place { IsPlaceIn words.now end result.at }
 {
     if at >= words.len() {
         return fault(PolicyKind::Syntax, words, at, end);
@@ -203,7 +216,8 @@ pub fn no_entry_fault(
 /// Why the words behind `file` are no path and mode, in whichever order.
 fn behind_file_fault(words: &[Word], at: usize, deny: bool, end: Spot) -> PolicyFault
     requires wrong { (e : EntryData) (rest : List WordData) → IsPair deny (rest_of words.now at) e rest → ⊥ }
-    ensures { is_word_fault result.kind ≡ true }
+    ensures kind { is_word_fault result.kind ≡ true }
+    ensures place { IsPlaceIn words.now end result.at }
 {
     if path_at(words, at).is_some() {
         return wrong_mode_fault(words, at + 1, deny, end);
@@ -220,7 +234,8 @@ fn behind_file_fault(words: &[Word], at: usize, deny: bool, end: Spot) -> Policy
 /// Why a word isn't the mode that has to stand there.
 fn wrong_mode_fault(words: &[Word], at: usize, deny: bool, end: Spot) -> PolicyFault
     requires wrong { (m : Mode) (rest : List WordData) → IsMode deny (rest_of words.now at) m rest → ⊥ }
-    ensures { is_word_fault result.kind ≡ true }
+    ensures kind { is_word_fault result.kind ≡ true }
+    ensures place { IsPlaceIn words.now end result.at }
 {
     let kind = match word_at(words, at, WordKind::Name) {
         Some(word) => wrong_mode(word.text, deny),
@@ -232,7 +247,8 @@ fn wrong_mode_fault(words: &[Word], at: usize, deny: bool, end: Spot) -> PolicyF
 /// Why no profile is named by the arrow that stands behind a mode: the mode goes on under none
 /// of the policy, or what stands behind the arrow is no profile's name.
 pub fn no_target_fault(words: &[Word], at: usize, mode: Mode, end: Spot) -> PolicyFault
-    ensures { is_word_fault result.kind ≡ true }
+    ensures kind { is_word_fault result.kind ≡ true }
+    ensures place { IsPlaceIn words.now end result.at }
 {
     if !mode.perms.contains(Perms::EXEC) {
         return fault(PolicyKind::Unsupported, words, at, end);
@@ -245,7 +261,8 @@ pub fn no_target_fault(words: &[Word], at: usize, mode: Mode, end: Spot) -> Poli
 
 /// Why no profile is named behind the arrow that stands at a place.
 pub fn no_name_fault(words: &[Word], at: usize, end: Spot) -> PolicyFault
-    ensures { is_word_fault result.kind ≡ true }
+    ensures kind { is_word_fault result.kind ≡ true }
+    ensures place { IsPlaceIn words.now end result.at }
 {
     if at >= words.len() {
         return fault(PolicyKind::Syntax, words, at, end);

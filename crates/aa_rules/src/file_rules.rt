@@ -3,7 +3,7 @@
 ghost use Rattle.std.specs.Prelude.{◌≡◌, ◌<◌, ◌≤◌, ◌+◌, true, List, ℕ, Option, option_map, length, IfSome, IfNone, OnSome, OnErr, IfOk, IfErr};
 ghost use Rattle.std.specs.Bool.{OnTrue, OnFalse};
 ghost use Rattle.aa_words.specs.Splits.{WordData, word_data};
-ghost use Rattle.aa_rules.specs.Faults.{is_word_fault};
+ghost use Rattle.aa_rules.specs.Faults.{is_word_fault, IsPlaceIn};
 ghost use Rattle.aa_rules.specs.Phrases.{StartsAs, LacksAll};
 ghost use Rattle.aa_rules.specs.FileRules.{IsMode, IsPathFirst, IsModeFirst, IsPair, IsWhole, IsLeftOut, IsNamed, IsEntry, names_profile, takes_target, IsArrow, IsTarget, exec_with, IsFile, whole_mode};
 ghost use Rattle.aa_rules.specs.Reading.{EntryData, entry_data, FileData, file_data, target_data, exec_data, rest_of};
@@ -211,6 +211,7 @@ pub fn file_of<'s>(
     ensures found { IfOk result (λ r. IsFile qualifiers (rest_of words.now at) (file_data r.0) (rest_of words.now r.1)) }
     ensures refused { OnErr result ((f : FileData) (rest : List WordData) → IsFile qualifiers (rest_of words.now at) f rest → ⊥) }
     ensures cause { IfErr result (λ e. is_word_fault e.kind ≡ true) }
+    ensures place { IfErr result (λ e. IsPlaceIn words.now end e.at) }
     ensures within { IfOk result (λ r. (at < r.1) × (r.1 ≤ length words.now)) }
 {
     let (owner, bare) = optional(words, at, "owner".as_bytes());

@@ -2,7 +2,7 @@
 
 ghost use Rattle.std.specs.Prelude.{◌≡◌, ◌≤◌, ◌<◌, true, List, length, OnErr, IfOk, IfErr};
 ghost use Rattle.aa_words.specs.Splits.{WordData};
-ghost use Rattle.aa_rules.specs.Faults.{is_word_fault};
+ghost use Rattle.aa_rules.specs.Faults.{is_word_fault, IsPlaceIn};
 ghost use Rattle.aa_rules.specs.NetRules.{transport_kinds, one_in, one_name, is_internet, kinds_in, two_names, IsSockets, IsNets};
 ghost use Rattle.aa_rules.specs.Reading.{rest_of};
 ghost use Rattle.aa_tables.specs.Tables.{family_names, sock_type_names};
@@ -138,7 +138,8 @@ fn name_fault(name: &[u8]) -> PolicyKind
 /// Why two names at a place stand for nothing: the first stands for something by itself, or not.
 fn names_fault(words: &[Word], at: usize, first: &[u8], second: &[u8], end: Spot) -> PolicyFault
     requires within { at < length words.now }
-    ensures { is_word_fault result.kind ≡ true }
+    ensures kind { is_word_fault result.kind ≡ true }
+    ensures place { IsPlaceIn words.now end result.at }
 {
     if one_name(first).is_none() {
         return fault(name_fault(first), words, at, end);
@@ -152,6 +153,7 @@ fn sockets_of(words: &[Word], at: usize, end: Spot) -> Result<(Sockets, usize), 
     ensures found { IfOk result (λ r. IsSockets (rest_of words.now at) r.0 (rest_of words.now r.1)) }
     ensures refused { OnErr result ((named : Sockets) (rest : List WordData) → IsSockets (rest_of words.now at) named rest → ⊥) }
     ensures cause { IfErr result (λ e. is_word_fault e.kind ≡ true) }
+    ensures place { IfErr result (λ e. IsPlaceIn words.now end e.at) }
     ensures within { IfOk result (λ r. (at ≤ r.1) × (r.1 ≤ length words.now)) }
 {
     let Some(first) = word_at(words, at, WordKind::Name) else {
@@ -189,6 +191,7 @@ pub fn net_rule_of(
     ensures found { IfOk result (λ r. IsNets qualifiers (rest_of words.now at) r.0 (rest_of words.now r.1)) }
     ensures refused { OnErr result ((rule : NetRule) (rest : List WordData) → IsNets qualifiers (rest_of words.now at) rule rest → ⊥) }
     ensures cause { IfErr result (λ e. is_word_fault e.kind ≡ true) }
+    ensures place { IfErr result (λ e. IsPlaceIn words.now end e.at) }
     ensures within { IfOk result (λ r. (at ≤ r.1) × (r.1 ≤ length words.now)) }
 {
     let (sockets, next) = sockets_of(words, at, end)?;

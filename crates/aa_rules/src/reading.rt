@@ -3,7 +3,7 @@
 ghost use Rattle.std.specs.Prelude.{◌≡◌, ◌<◌, ◌≤◌, ◌+◌, true, List, length, IfSome, IfNone, OnSome, OnErr, IfOk, IfErr};
 ghost use Rattle.std.specs.Bool.{OnTrue, OnFalse};
 ghost use Rattle.aa_words.specs.Splits.{WordData, word_data};
-ghost use Rattle.aa_rules.specs.Faults.{is_word_fault};
+ghost use Rattle.aa_rules.specs.Faults.{is_word_fault, IsPlaceIn};
 ghost use Rattle.aa_rules.specs.Grammar.{Starts, StartsAs, Lacks, LacksAll, is_path_kind, is_name_kind, Keyword, LacksKeyword, Optional, IsPermission, IsQualified, Says, is_keyword_byte, keyword_of, IsRule, Closes};
 ghost use Rattle.aa_rules.specs.Reading.{RuleData, rule_data, rest_of};
 
@@ -155,6 +155,7 @@ fn unqualified_of<'s>(
     ensures found { IfOk result (λ r. Says qualifiers (rest_of words.now at) (rule_data r.0) (rest_of words.now r.1)) }
     ensures refused { OnErr result ((r : RuleData) (rest : List WordData) → Says qualifiers (rest_of words.now at) r rest → ⊥) }
     ensures cause { IfErr result (λ e. is_word_fault e.kind ≡ true) }
+    ensures place { IfErr result (λ e. IsPlaceIn words.now end e.at) }
     ensures within { IfOk result (λ r. (at < r.1) × (r.1 ≤ length words.now)) }
 {
     if let Some(skipped) = word_at(words, at, WordKind::Skipped) {
@@ -185,6 +186,7 @@ pub fn rule_of<'s>(
     ensures found { IfOk result (λ r. IsRule (rest_of words.now at) (rule_data r.0) (rest_of words.now r.1)) }
     ensures refused { OnErr result ((r : RuleData) (rest : List WordData) → IsRule (rest_of words.now at) r rest → ⊥) }
     ensures cause { IfErr result (λ e. is_word_fault e.kind ≡ true) }
+    ensures place { IfErr result (λ e. IsPlaceIn words.now end e.at) }
     ensures within { IfOk result (λ r. (at < r.1) × (r.1 ≤ length words.now)) }
 {
     let (qualifiers, unqualified) = qualifiers_of(words, at);

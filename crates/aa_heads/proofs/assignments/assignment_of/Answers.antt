@@ -2,8 +2,8 @@ use Rattle.std.proofs.Common.{◌≡◌, ◌+◌, [], map, length, None, rules}
 use Rattle.std.proofs.lemmas.Result.{err_from_is_err_and}
 use Rattle.aa_heads.specs.Preamble.{assignment, assigned}
 use Rattle.aa_rules.specs.Reading.{rest_of}
-use Rattle.aa_heads.proofs.Preambles.{assignment_is, misnames_head, no_variables, no_values, none_of}
-use Rattle.aa_heads.proofs.Refusals.{refused_by, refused_with}
+use Rattle.aa_heads.proofs.Preambles.{assignment_is, head_placed, misnames_head, no_variables, no_values, none_of}
+use Rattle.aa_heads.proofs.Refusals.{refused_by, refused_with, told_on}
 use Rattle.aa_heads.proofs.assignments.assignment_of.Goals as goal
 
 pub returns-in_default-clause-refused : goal.returns-in_default-clause-refused
@@ -51,3 +51,10 @@ pub returns-clause-misnames : goal.returns-clause-misnames
 returns-clause-misnames c = λ adds spot m.
     let head = c.in-Some.head in
     absurd (c.in_ok-assign.ensures.misfits adds (misnames_head adds c.args.vars.now (rest_of c.args.words.now c.args.at) head.at head.name.now head.adds _ spot c.in-Some.ensures.found m).1)
+
+pub returns-in_err-assign-clause-place : goal.returns-in_err-assign-clause-place
+returns-in_err-assign-clause-place c =
+    let r = c.from_residual-in_err-assign in
+    let q = err_from_is_err_and r.result r.ensures.1 in
+    let head = c.in-Some.head in
+    told_on r.result _ _ _ q.1 q.2 (head_placed c.args.words.now c.args.at c.args.end head.at head.name.now head.adds _ _ c.in-Some.ensures.found c.in_err-assign.ensures.place)

@@ -5,15 +5,15 @@ use Rattle.std.proofs.lemmas.Result.{err_from_is_err_and}
 use Rattle.aa_words.specs.declared.word.Word.{Word}
 use Rattle.aa_words.specs.Splits.{words_data}
 use Rattle.aa_policy.specs.declared.tree.ProfileTree.{ProfileTree}
-use Rattle.aa_profiles.specs.declared.policy.Profile.{Profile}
+use Rattle.aa_policy.specs.declared.policy.Profile.{Profile}
 use Rattle.aa_policy.specs.Bodies.{IsPolicy, tree_data}
-use Rattle.aa_profiles.specs.Lawful.{IsLawful, IsWithinLimits, names_of}
-use Rattle.aa_policy.specs.Refusals.{IsUnwritten, IsFault}
+use Rattle.aa_policy.specs.Lawful.{IsLawful, IsWithinLimits, names_of}
+use Rattle.aa_policy.specs.Refusals.{IsFault}
 use Rattle.aa_policy.specs.Spelling.{IsRepeated, MeansProfiles}
 use Rattle.aa_policy.proofs.Meaning.{few_trees}
 use Rattle.aa_heads.proofs.Refusals.{refused_by, refused_with, told_on, unless_memory}
 use Rattle.aa_policy.proofs.Spelled.{no_policy, no_paths, no_names, no_limits, lawful}
-use Rattle.aa_policy.proofs.Exact.{exact_words, exact_paths, exact_names, exact_limits, word_only, unsupported}
+use Rattle.aa_policy.proofs.Exact.{exact_words, exact_paths, exact_names, exact_limits, stop_at, word_only, unsupported}
 use Rattle.aa_policy.proofs.parser.parse.Goals as goal
 
 pub returns-in_err-tree-clause-refused : goal.returns-in_err-tree-clause-refused
@@ -76,13 +76,15 @@ pub returns-in_err-tree-clause-unwritten : goal.returns-in_err-tree-clause-unwri
 returns-in_err-tree-clause-unwritten c =
     let r = c.from_residual in
     let q = err_from_is_err_and r.result r.ensures.1 in
-    told_on r.result _ _ _ q.1 q.2 (λ k. subst (λ (ws : List Word). IsUnwritten (words_data ws)) c.as_slice.ensures.value (c.in_err-tree.ensures.refused (word_only _ k)))
+    let e = c.in_err-tree.ensures in
+    told_on r.result _ _ _ q.1 q.2 (λ k. stop_at _ _ c.args.words.now.end _ c.as_slice.ensures.value (e.refused (word_only _ k)) (unless_memory _ _ e.place (word_only _ k)))
 
 pub returns-in_err-tree-clause-unsupported : goal.returns-in_err-tree-clause-unsupported
 returns-in_err-tree-clause-unsupported c =
     let r = c.from_residual in
     let q = err_from_is_err_and r.result r.ensures.1 in
-    told_on r.result _ _ _ q.1 q.2 (λ k. inl (subst (λ (ws : List Word). IsUnwritten (words_data ws)) c.as_slice.ensures.value (c.in_err-tree.ensures.refused (unsupported _ k))))
+    let e = c.in_err-tree.ensures in
+    told_on r.result _ _ _ q.1 q.2 (λ k. inl (stop_at _ _ c.args.words.now.end _ c.as_slice.ensures.value (e.refused (unsupported _ k)) (unless_memory _ _ e.place (unsupported _ k))))
 
 pub returns-in_err-tree-clause-exact : goal.returns-in_err-tree-clause-exact
 returns-in_err-tree-clause-exact c = λ fault f.
