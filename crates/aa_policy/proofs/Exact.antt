@@ -15,11 +15,11 @@ use Rattle.aa_glob.specs.Variables.{Variable}
 use Rattle.aa_heads.specs.Preamble.{IsMisnamed, IsPreambleRefusal, is_preamble_fault, misnamed}
 use Rattle.aa_heads.proofs.Refusals.{unless_wanting}
 use Rattle.aa_rules.specs.Faults.{is_word_fault, IsPlaceIn}
-use Rattle.aa_policy.specs.declared.policy.Profile.{Profile}
+use Rattle.aa_profiles.specs.declared.policy.Profile.{Profile}
 use Rattle.aa_policy.specs.Bodies.{ProfileData, IsPolicy}
 use Rattle.aa_policy.specs.Expansion.{IsFirstRefused}
 use Rattle.aa_policy.specs.Faults.{IsPathRefusal, is_path_fault}
-use Rattle.aa_policy.specs.Lawful.{IsWithinLimits, names_of}
+use Rattle.aa_profiles.specs.Lawful.{IsWithinLimits, names_of}
 use Rattle.aa_policy.specs.Refusals.{IsStop, IsUnwritten, is_word_only, IsFault, SetTwice, NeverSet, AtPath, NamedTwice, PastLimits}
 use Rattle.aa_policy.specs.Sameness.{SameProfile}
 use Rattle.aa_policy.specs.Spelling.{IsPathFault, IsDuplicate, IsOverLimits, IsRepeated, MeansProfiles, paths_of}

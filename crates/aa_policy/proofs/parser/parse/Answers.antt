@@ -5,9 +5,9 @@ use Rattle.std.proofs.lemmas.Result.{err_from_is_err_and}
 use Rattle.aa_words.specs.declared.word.Word.{Word}
 use Rattle.aa_words.specs.Splits.{words_data}
 use Rattle.aa_policy.specs.declared.tree.ProfileTree.{ProfileTree}
-use Rattle.aa_policy.specs.declared.policy.Profile.{Profile}
+use Rattle.aa_profiles.specs.declared.policy.Profile.{Profile}
 use Rattle.aa_policy.specs.Bodies.{IsPolicy, tree_data}
-use Rattle.aa_policy.specs.Lawful.{IsLawful, IsWithinLimits, names_of}
+use Rattle.aa_profiles.specs.Lawful.{IsLawful, IsWithinLimits, names_of}
 use Rattle.aa_policy.specs.Refusals.{IsFault}
 use Rattle.aa_policy.specs.Spelling.{IsRepeated, MeansProfiles}
 use Rattle.aa_policy.proofs.Meaning.{few_trees}
