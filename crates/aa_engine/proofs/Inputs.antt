@@ -1,5 +1,5 @@
 -- An input is kept as far as it decides what it is.
-use Rattle.std.proofs.Common.{◌≡◌, ℕ, ◌<◌, ◌≤◌, inl, inr, List, length, take, Option, Some, None, Result, Ok, Err, refl, ap, sym, subst, ◌∙◌, arith}
+use Rattle.std.proofs.Common.{◌≡◌, ℕ, ◌<◌, ◌≤◌, inl, inr, List, [], length, take, Option, Some, None, Result, Ok, Err, refl, ap, sym, subst, ◌∙◌, arith}
 use Rattle.std.specs.Prelude.{nat_le, false, ◌≢◌, IfSome, IfErr, OnOk, OnErr, IsErrOf}
 use Rattle.std.specs.Io.KnownBytes.{Appends}
 use Rattle.std.proofs.lemmas.Bool.{cases_lt, lt-leb}
@@ -18,7 +18,7 @@ use Rattle.aa_engine.specs.Faults.{IsReadCause, mediate_cause, cause_by_kind, po
 use Rattle.aa_jobs.specs.Jobs.{job_of}
 use Rattle.aa_profiles.specs.declared.policy.Policy.{Policy}
 use Rattle.aa_jobs.specs.declared.job.Job.{Job}
-use Rattle.aa_engine.specs.Engines.{HandsIn, IsOutput, HasBadPolicy, Explains}
+use Rattle.aa_engine.specs.Engines.{HandsIn, IsOutput, HasBadPolicy, Explains, IsInput, IsExplained}
 
 -- more bytes than a job may have
 too_long : (input : List ℕ) → 16777216 < length input → job_of input ≡ Err TooLarge
@@ -43,38 +43,40 @@ explains_kept causes.NoMemory input h = tt
 explains_kept causes.Read input h = tt
 explains_kept causes.Write input h = tt
 explains_kept (causes.Job fault) input h = sym (kept_same input) ∙ h
-explains_kept (causes.Policy refused) input h = record { job = h.job; read = sym (kept_same input) ∙ h.read; cause = h.cause }
+explains_kept (causes.Policy refused) input h = record { job = h.job; read = sym (kept_same input) ∙ h.read; lasting = h.lasting; cause = h.cause }
 explains_kept (causes.UnknownProfile task) input h = record { job = h.job; policies = h.policies; asked = asked_kept input h.job h.policies h.asked; unknown = h.unknown }
 
--- ---- what the engines say of a reader's bytes, where those are known
+-- ---- what the engines say of the bytes that a reader gives
 
 abbrev Kept : Option (List ℕ) → List ℕ → Type 0
 Kept known bytes = IfSome known (λ input. bytes ≡ take 16777217 input)
 
-pub unread : (known : Option (List ℕ)) (cause : RunFault) → IsReadCause cause → IfSome known (λ input. Explains cause input)
-unread None cause h = tt
-unread (Some input) causes.NoMemory h = tt
-unread (Some input) causes.Read h = tt
+pub unread : (known : Option (List ℕ)) (cause : RunFault) → IsReadCause cause → IsExplained known cause
+unread None causes.NoMemory h = ([], tt, tt)
+unread None causes.Read h = ([], tt, tt)
+unread None _ h = absurd h
+unread (Some input) causes.NoMemory h = (input, refl, tt)
+unread (Some input) causes.Read h = (input, refl, tt)
 unread (Some input) _ h = absurd h
 
-pub explained : (known : Option (List ℕ)) (bytes : List ℕ) (cause : RunFault) → Kept known bytes → Explains cause bytes → IfSome known (λ input. Explains cause input)
-explained None bytes cause kept h = tt
-explained (Some input) bytes cause kept h = explains_kept cause input (subst (Explains cause) kept h)
+pub explained : (known : Option (List ℕ)) (bytes : List ℕ) (cause : RunFault) → Kept known bytes → Explains cause bytes → IsExplained known cause
+explained None bytes cause kept h = (bytes, tt, h)
+explained (Some input) bytes cause kept h = (input, refl, explains_kept cause input (subst (Explains cause) kept h))
 
-pub unwritten : (known : Option (List ℕ)) (cause : RunFault) → cause ≡ causes.Write → IfSome known (λ input. Explains cause input)
-unwritten None cause e = tt
-unwritten (Some input) cause e = subst (λ (x : RunFault). Explains x input) (sym e) tt
+pub unwritten : (known : Option (List ℕ)) (cause : RunFault) → cause ≡ causes.Write → IsExplained known cause
+unwritten None cause e = ([], tt, subst (λ (x : RunFault). Explains x []) (sym e) tt)
+unwritten (Some input) cause e = (input, refl, subst (λ (x : RunFault). Explains x input) (sym e) tt)
 
 pub wrote : (P : Job → List Policy → List ℕ → Type 0) (known old new : Option (List ℕ)) (bytes text : List ℕ) → Kept known bytes → IsOutput P bytes text → Appends old new text
-    → IfSome known (λ input. (written : List ℕ) × IsOutput P input written × Appends old new written)
-wrote P None old new bytes text kept h a = tt
-wrote P (Some input) old new bytes text kept h a = (text, output_kept P input text (subst (λ (x : List ℕ). IsOutput P x text) kept h), a)
+    → (input : List ℕ) × (written : List ℕ) × IsInput known input × IsOutput P input written × Appends old new written
+wrote P None old new bytes text kept h a = (bytes, text, tt, h, a)
+wrote P (Some input) old new bytes text kept h a = (input, text, refl, output_kept P input text (subst (λ (x : List ℕ). IsOutput P x text) kept h), a)
 
 pub wrote_front : (P : Job → List Policy → List ℕ → Type 0) (known old new : Option (List ℕ)) (bytes text : List ℕ) → Kept known bytes → IsOutput P bytes text
     → (n : ℕ) × (n ≤ length text) × Appends old new (take n text)
-    → IfSome known (λ input. (written : List ℕ) × (n : ℕ) × IsOutput P input written × (n ≤ length written) × Appends old new (take n written))
-wrote_front P None old new bytes text kept h a = tt
-wrote_front P (Some input) old new bytes text kept h a = (text, a.0, output_kept P input text (subst (λ (x : List ℕ). IsOutput P x text) kept h), a.1, a.2)
+    → (input : List ℕ) × (written : List ℕ) × (n : ℕ) × IsInput known input × IsOutput P input written × (n ≤ length written) × Appends old new (take n written)
+wrote_front P None old new bytes text kept h a = (bytes, text, a.0, tt, h, a.1, a.2)
+wrote_front P (Some input) old new bytes text kept h a = (input, text, a.0, refl, output_kept P input text (subst (λ (x : List ℕ). IsOutput P x text) kept h), a.1, a.2)
 
 -- a fault that is handed on
 pub handed_on : {T : Type 0} (r : Result T RunFault) (e f : RunFault) (P : RunFault → Type 0) → r ≡ Err e → e ≡ f → P f → IfErr r P
@@ -87,7 +89,7 @@ by_kind input _ refused h = h (λ e. cc)
 -- a refused policy explains itself, unless memory was wanting
 pub policy_explained : (input : List ℕ) (job : Job) (refused : RefusedPolicy) → job_of input ≡ Ok job
     → (refused.fault.kind ≢ kinds.NoMemory → IsRefusedBy (sources_of job.includes) job.states job.policies refused) → Explains (policy_cause refused) input
-policy_explained input job refused read h = by_kind input refused.fault.kind refused (λ other. record { job = job; read = read; cause = h other })
+policy_explained input job refused read h = by_kind input refused.fault.kind refused (λ lasting. record { job = job; read = read; lasting = lasting; cause = h lasting })
 
 ok_err : {x : Unit {0}} {f : RunFault} → Ok x ≡ Err f → ⊥
 ok_err e = cc

@@ -1,15 +1,16 @@
 -- What the engines write for a job's bytes, and why they don't.
-use Rattle.std.specs.Prelude.{ℕ, ◌≡◌, List, Some, Ok, Err}
-use Rattle.aa_profiles.specs.declared.policy.Policy.{Policy}
+use Rattle.std.specs.Prelude.{ℕ, ◌≡◌, ◌≢◌, List, Option, Some, Ok, Err, IfSome}
+use Rattle.aa_policy.specs.declared.policy.Policy.{Policy}
 use Rattle.aa_jobs.specs.declared.job.Job.{Job}
 use Rattle.aa_engine.specs.declared.fault.RunFault.{RunFault}
 use Rattle.aa_engine.specs.declared.fault.RunFault.TheVariants as causes
+use Rattle.aa_faults.specs.declared.fault.PolicyKind.TheVariants.{NoMemory}
 use Rattle.aa_policies.specs.declared.refused.RefusedPolicy.{RefusedPolicy}
 use Rattle.aa_policies.specs.Policies.{sources_of, ArePoliciesOf, IsRefusedBy}
 use Rattle.aa_jobs.specs.Jobs.{job_of}
-use Rattle.aa_answers.specs.Answers.{first_unknown}
-use Rattle.aa_answers.specs.Output.{run_text, check_text}
-use Rattle.aa_answers.specs.Replay.{replay_text}
+use Rattle.aa_engine.specs.Answers.{first_unknown}
+use Rattle.aa_engine.specs.Output.{run_text, check_text}
+use Rattle.aa_engine.specs.Replay.{replay_text}
 
 -- the bytes hand in this job, and its texts these policies, each of which compiles
 pub record HandsIn (input : List ℕ) (job : Job) (policies : List Policy) : Type 0 where
@@ -35,10 +36,11 @@ IsRunOutput = IsOutput (λ job policies text. run_text job.several policies job.
 abbrev pub IsReplayOutput : List ℕ → List ℕ → Type 0
 IsReplayOutput = IsOutput (λ job policies text. replay_text job.several policies job.capacity job.tasks job.events ≡ Some text)
 
--- the bytes are a job, and its policies are refused so
+-- the bytes are a job, and its policies are refused so, not for want of memory
 pub record HasBadPolicy (input : List ℕ) (refused : RefusedPolicy) : Type 0 where
   pub job : Job
   pub read : job_of input ≡ Ok job
+  pub lasting : refused.fault.kind ≢ NoMemory
   pub cause : IsRefusedBy (sources_of job.includes) job.states job.policies refused
 
 -- the bytes are a job, its policies compile, and of its tasks that one is the first whose label names no profile
@@ -56,3 +58,11 @@ Explains causes.Write input = Unit {0}
 Explains (causes.Job fault) input = job_of input ≡ Err fault
 Explains (causes.Policy refused) input = HasBadPolicy input refused
 Explains (causes.UnknownProfile task) input = HasUnknownTask input task
+
+-- a reader gives these bytes; where it isn't known what it gives, they may be any
+abbrev pub IsInput : Option (List ℕ) → List ℕ → Type 0
+IsInput known input = IfSome known (λ bytes. bytes ≡ input)
+
+-- what a reader gave says why an engine gave up
+abbrev pub IsExplained : Option (List ℕ) → RunFault → Type 0
+IsExplained known fault = (input : List ℕ) × IsInput known input × Explains fault input

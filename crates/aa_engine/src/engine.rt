@@ -1,9 +1,9 @@
 //! The engines: a job's bytes in, lines out.
 
-ghost use Rattle.std.specs.Prelude.{◌≡◌, ◌≢◌, ◌<◌, ◌≤◌, ℕ, List, [], length, take, IfOk, IfErr, OnOk, IfSome, IsErrOf};
+ghost use Rattle.std.specs.Prelude.{◌≡◌, ◌≢◌, ◌<◌, ◌≤◌, ℕ, List, [], length, take, IfOk, IfErr, OnOk, IsErrOf};
 ghost use Rattle.std.specs.Io.KnownBytes.{Appends, Keeps};
 ghost use Rattle.std.specs.String.{string_bytes};
-ghost use Rattle.aa_engine.specs.Engines.{HandsIn, IsCheckOutput, IsRunOutput, IsReplayOutput, Explains};
+ghost use Rattle.aa_engine.specs.Engines.{HandsIn, IsCheckOutput, IsRunOutput, IsReplayOutput, Explains, IsInput, IsExplained};
 
 use crate::fault::{RunFault, job_fault, mediate_fault, policy_fault};
 use aa_answers::{check_output, run_output};
@@ -22,17 +22,18 @@ struct CompiledJob {
     policies: Vec<Compiled>,
 }
 
-/// The job that the bytes are, and its policies.
-fn compile_job(alloc: Global, bytes: &[u8]) -> Result<CompiledJob, RunFault>
-    ensures asked { IfOk result (λ a. HandsIn bytes.now a.job a.policies.items) }
-    ensures cause { IfErr result (λ e. Explains e bytes.now) }
+/// The job that the bytes are, and its policies. The bytes are let go once the job is read.
+fn compile_job(alloc: Global, bytes: Vec<u8>) -> Result<CompiledJob, RunFault>
+    ensures asked { IfOk result (λ a. HandsIn bytes.items a.job a.policies.items) }
+    ensures cause { IfErr result (λ e. Explains e bytes.items) }
     ensures unwritten { IfErr result (λ e. e ≢ RunFault.Write) }
     ensures labels { (t : ℕ) → IsErrOf result (RunFault.UnknownProfile t) → ⊥ }
 {
-    let job = match read_job(alloc, bytes) {
+    let job = match read_job(alloc, bytes.as_slice()) {
         Ok(job) => job,
         Err(fault) => return Err(job_fault(fault)),
     };
+    drop(bytes);
     match compile_policies(
         alloc,
         job.includes.as_slice(),
@@ -45,9 +46,9 @@ fn compile_job(alloc: Global, bytes: &[u8]) -> Result<CompiledJob, RunFault>
 }
 
 /// The text of `check` for the bytes of a job.
-fn check_text_of(alloc: Global, bytes: &[u8]) -> Result<String, RunFault>
-    ensures text { IfOk result (λ text. IsCheckOutput bytes.now (string_bytes text)) }
-    ensures cause { IfErr result (λ e. Explains e bytes.now) }
+fn check_text_of(alloc: Global, bytes: Vec<u8>) -> Result<String, RunFault>
+    ensures text { IfOk result (λ text. IsCheckOutput bytes.items (string_bytes text)) }
+    ensures cause { IfErr result (λ e. Explains e bytes.items) }
     ensures unwritten { IfErr result (λ e. e ≢ RunFault.Write) }
     ensures labels { (t : ℕ) → IsErrOf result (RunFault.UnknownProfile t) → ⊥ }
 {
@@ -56,10 +57,10 @@ fn check_text_of(alloc: Global, bytes: &[u8]) -> Result<String, RunFault>
 }
 
 /// The text of `run` for the bytes of a job.
-fn run_text_of(alloc: Global, bytes: &[u8], workers: u32) -> Result<String, RunFault>
+fn run_text_of(alloc: Global, bytes: Vec<u8>, workers: u32) -> Result<String, RunFault>
     requires { (0 < workers) × (workers ≤ 16) }
-    ensures text { IfOk result (λ text. IsRunOutput bytes.now (string_bytes text)) }
-    ensures cause { IfErr result (λ e. Explains e bytes.now) }
+    ensures text { IfOk result (λ text. IsRunOutput bytes.items (string_bytes text)) }
+    ensures cause { IfErr result (λ e. Explains e bytes.items) }
     ensures unwritten { IfErr result (λ e. e ≢ RunFault.Write) }
 {
     let asked = compile_job(alloc, bytes)?;
@@ -77,9 +78,9 @@ fn run_text_of(alloc: Global, bytes: &[u8], workers: u32) -> Result<String, RunF
 }
 
 /// The text of `replay` for the bytes of a job.
-fn replay_text_of(alloc: Global, bytes: &[u8]) -> Result<String, RunFault>
-    ensures text { IfOk result (λ text. IsReplayOutput bytes.now (string_bytes text)) }
-    ensures cause { IfErr result (λ e. Explains e bytes.now) }
+fn replay_text_of(alloc: Global, bytes: Vec<u8>) -> Result<String, RunFault>
+    ensures text { IfOk result (λ text. IsReplayOutput bytes.items (string_bytes text)) }
+    ensures cause { IfErr result (λ e. Explains e bytes.items) }
     ensures unwritten { IfErr result (λ e. e ≢ RunFault.Write) }
 {
     let asked = compile_job(alloc, bytes)?;
@@ -100,16 +101,16 @@ pub fn check_job<R: Read, W: Write>(
     reader: &mut R,
     writer: &mut W,
 ) -> Result<(), RunFault>
-    ensures written { OnOk result (IfSome (R.remaining reader.old) (λ input. (text : List ℕ)
-        × IsCheckOutput input text × Appends (W.contents writer.old) (W.contents writer.new) text)) }
-    ensures front { IsErrOf result RunFault.Write → IfSome (R.remaining reader.old) (λ input. (text : List ℕ) × (n : ℕ)
-        × IsCheckOutput input text × (n ≤ length text) × Appends (W.contents writer.old) (W.contents writer.new) (take n text)) }
+    ensures written { OnOk result ((input : List ℕ) × (text : List ℕ) × IsInput (R.remaining reader.old) input
+        × IsCheckOutput input text × Appends (W.contents writer.old) (W.contents writer.new) text) }
+    ensures front { IsErrOf result RunFault.Write → (input : List ℕ) × (text : List ℕ) × (n : ℕ) × IsInput (R.remaining reader.old) input
+        × IsCheckOutput input text × (n ≤ length text) × Appends (W.contents writer.old) (W.contents writer.new) (take n text) }
     ensures nothing { IfErr result (λ e. e ≢ RunFault.Write → Keeps (W.contents writer.old) (W.contents writer.new)) }
-    ensures cause { IfErr result (λ e. IfSome (R.remaining reader.old) (λ input. Explains e input)) }
+    ensures cause { IfErr result (λ e. IsExplained (R.remaining reader.old) e) }
     ensures labels { (t : ℕ) → IsErrOf result (RunFault.UnknownProfile t) → ⊥ }
 {
     let bytes = read_input(alloc, reader)?;
-    let text = check_text_of(alloc, bytes.as_slice())?;
+    let text = check_text_of(alloc, bytes)?;
     write_text(writer, text.as_bytes())
 }
 
@@ -124,15 +125,15 @@ pub fn run_job<R: Read, W: Write>(
     workers: u32,
 ) -> Result<(), RunFault>
     requires { (0 < workers) × (workers ≤ 16) }
-    ensures written { OnOk result (IfSome (R.remaining reader.old) (λ input. (text : List ℕ)
-        × IsRunOutput input text × Appends (W.contents writer.old) (W.contents writer.new) text)) }
-    ensures front { IsErrOf result RunFault.Write → IfSome (R.remaining reader.old) (λ input. (text : List ℕ) × (n : ℕ)
-        × IsRunOutput input text × (n ≤ length text) × Appends (W.contents writer.old) (W.contents writer.new) (take n text)) }
+    ensures written { OnOk result ((input : List ℕ) × (text : List ℕ) × IsInput (R.remaining reader.old) input
+        × IsRunOutput input text × Appends (W.contents writer.old) (W.contents writer.new) text) }
+    ensures front { IsErrOf result RunFault.Write → (input : List ℕ) × (text : List ℕ) × (n : ℕ) × IsInput (R.remaining reader.old) input
+        × IsRunOutput input text × (n ≤ length text) × Appends (W.contents writer.old) (W.contents writer.new) (take n text) }
     ensures nothing { IfErr result (λ e. e ≢ RunFault.Write → Keeps (W.contents writer.old) (W.contents writer.new)) }
-    ensures cause { IfErr result (λ e. IfSome (R.remaining reader.old) (λ input. Explains e input)) }
+    ensures cause { IfErr result (λ e. IsExplained (R.remaining reader.old) e) }
 {
     let bytes = read_input(alloc, reader)?;
-    let text = run_text_of(alloc, bytes.as_slice(), workers)?;
+    let text = run_text_of(alloc, bytes, workers)?;
     write_text(writer, text.as_bytes())
 }
 
@@ -144,14 +145,14 @@ pub fn replay_job<R: Read, W: Write>(
     reader: &mut R,
     writer: &mut W,
 ) -> Result<(), RunFault>
-    ensures written { OnOk result (IfSome (R.remaining reader.old) (λ input. (text : List ℕ)
-        × IsReplayOutput input text × Appends (W.contents writer.old) (W.contents writer.new) text)) }
-    ensures front { IsErrOf result RunFault.Write → IfSome (R.remaining reader.old) (λ input. (text : List ℕ) × (n : ℕ)
-        × IsReplayOutput input text × (n ≤ length text) × Appends (W.contents writer.old) (W.contents writer.new) (take n text)) }
+    ensures written { OnOk result ((input : List ℕ) × (text : List ℕ) × IsInput (R.remaining reader.old) input
+        × IsReplayOutput input text × Appends (W.contents writer.old) (W.contents writer.new) text) }
+    ensures front { IsErrOf result RunFault.Write → (input : List ℕ) × (text : List ℕ) × (n : ℕ) × IsInput (R.remaining reader.old) input
+        × IsReplayOutput input text × (n ≤ length text) × Appends (W.contents writer.old) (W.contents writer.new) (take n text) }
     ensures nothing { IfErr result (λ e. e ≢ RunFault.Write → Keeps (W.contents writer.old) (W.contents writer.new)) }
-    ensures cause { IfErr result (λ e. IfSome (R.remaining reader.old) (λ input. Explains e input)) }
+    ensures cause { IfErr result (λ e. IsExplained (R.remaining reader.old) e) }
 {
     let bytes = read_input(alloc, reader)?;
-    let text = replay_text_of(alloc, bytes.as_slice())?;
+    let text = replay_text_of(alloc, bytes)?;
     write_text(writer, text.as_bytes())
 }

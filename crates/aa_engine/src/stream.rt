@@ -19,7 +19,7 @@ pub fn read_input<R: Read>(alloc: Global, reader: &mut R) -> Result<Vec<u8>, Run
     ensures cause { IfErr result IsReadCause }
 {
     let mut kept = Vec::new(alloc);
-    let mut buffer = [0u8; 4096];
+    let mut buffer = [0u8; 65536];
     for _ in 0..MAX_READS {
         let Ok(n) = reader.read(&mut buffer) else {
             return Err(RunFault::Read);

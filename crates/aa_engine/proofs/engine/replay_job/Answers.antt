@@ -1,21 +1,20 @@
-use Rattle.std.specs.Prelude.{IfSome}
 use Rattle.std.proofs.lemmas.Result.{err_from_is_err_and}
-use Rattle.aa_engine.specs.Engines.{Explains}
-use Rattle.aa_engine.proofs.Inputs.{unread, explained, wrote, wrote_front, handed_on, on_ok, on_err}
+use Rattle.aa_engine.specs.Engines.{IsExplained}
+use Rattle.aa_engine.proofs.Inputs.{unread, explained, wrote, wrote_front, unwritten, handed_on, on_ok, on_err, if_err}
 use Rattle.aa_engine.proofs.engine.replay_job.Goals as goal
 
 pub returns-in_err-bytes-clause-cause : goal.returns-in_err-bytes-clause-cause
 returns-in_err-bytes-clause-cause g c =
     let q = err_from_is_err_and c.from_residual.result c.from_residual.ensures.1 in
     let known = g.R.Read.remaining c.args.reader.now in
-    handed_on c.from_residual.result _ _ (λ e. IfSome known (λ input. Explains e input)) q.1 q.2 (unread known _ c.in_err-bytes.ensures.cause)
+    handed_on c.from_residual.result _ _ (λ e. IsExplained known e) q.1 q.2 (unread known _ c.in_err-bytes.ensures.cause)
 
 pub returns-in_err-text-clause-cause : goal.returns-in_err-text-clause-cause
 returns-in_err-text-clause-cause g c =
     let q = err_from_is_err_and c.from_residual-in_err-text.result c.from_residual-in_err-text.ensures.1 in
     let known = g.R.Read.remaining c.args.reader.now in
-    handed_on c.from_residual-in_err-text.result _ _ (λ e. IfSome known (λ input. Explains e input)) q.1 q.2
-    (explained known _ _ c.in_ok-bytes.ensures.kept (rw c.as_slice.ensures.value at c.in_err-text.ensures.cause))
+    handed_on c.from_residual-in_err-text.result _ _ (λ e. IsExplained known e) q.1 q.2
+    (explained known _ _ c.in_ok-bytes.ensures.kept c.in_err-text.ensures.cause)
 
 pub returns-clause-written : goal.returns-clause-written
 returns-clause-written g c =
@@ -23,7 +22,7 @@ returns-clause-written g c =
     let contents = g.W.Write.contents in
     on_ok c.write_text.result _ _
     (wrote _ known (contents c.args.writer.now) (contents c.write_text.new.writer) _ _ c.in_ok-bytes.ensures.kept
-    (rw c.as_slice.ensures.value at c.in_ok-text.ensures.text))
+    c.in_ok-text.ensures.text)
     (rw c.as_bytes.ensures.value at c.write_text.ensures.ok)
 
 pub returns-clause-front : goal.returns-clause-front
@@ -32,5 +31,10 @@ returns-clause-front g c =
     let contents = g.W.Write.contents in
     on_err c.write_text.result _ _
     (wrote_front _ known (contents c.args.writer.now) (contents c.write_text.new.writer) _ _ c.in_ok-bytes.ensures.kept
-    (rw c.as_slice.ensures.value at c.in_ok-text.ensures.text))
+    c.in_ok-text.ensures.text)
     (rw c.as_bytes.ensures.value at c.write_text.ensures.err)
+
+pub returns-clause-cause : goal.returns-clause-cause
+returns-clause-cause g c =
+    let known = g.R.Read.remaining c.args.reader.now in
+    if_err c.write_text.result (λ e. IsExplained known e) (unwritten known) c.write_text.ensures.cause
