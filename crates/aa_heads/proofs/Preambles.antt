@@ -11,8 +11,6 @@ use Rattle.aa_words.specs.Splits.{WordData, word_data}
 use Rattle.aa_glob.specs.Variables.{Variable, has_name}
 use Rattle.aa_rules.specs.Faults.{IsPlaced}
 use Rattle.aa_rules.specs.Grammar.{Starts, Many, Keyword, LacksKeyword, spot_of, place_of}
-use Rattle.aa_faults.specs.declared.fault.PolicyKind.{PolicyKind}
-use Rattle.aa_faults.specs.declared.fault.PolicyKind.TheVariants.{NoMemory}
 use Rattle.aa_faults.specs.Kinds.{no_memory}
 use Rattle.aa_glob.specs.Expansions.{is_reserved}
 use Rattle.aa_heads.specs.Preamble.{Names, sign_of, Assigning, LacksAssignment, IsValue, NoValue, AssignmentData, assignment, IsAssignment, CanNameAbi, NamesAbi, LacksAbiName, IsAbi, PreambleData, Assigns, Abi, IsPreambleItem, PreambleEnds, IsPreamble, Here, assigned, given, variables_after, variables_of, Misfits, Misnames, IsMisnamed, misnamed}

@@ -22,7 +22,7 @@ use Rattle.aa_policy.specs.Faults.{IsPathRefusal, is_path_fault}
 use Rattle.aa_profiles.specs.Lawful.{IsWithinLimits, names_of}
 use Rattle.aa_policy.specs.Refusals.{IsStop, IsUnwritten, is_word_only, IsFault, SetTwice, NeverSet, AtPath, NamedTwice, PastLimits}
 use Rattle.aa_policy.specs.Sameness.{SameProfile}
-use Rattle.aa_policy.specs.Spelling.{IsPathFault, IsDuplicate, IsOverLimits, IsRepeated, MeansProfiles, paths_of}
+use Rattle.aa_policy.specs.Spelling.{IsPathFault, IsRepeated, MeansProfiles, paths_of}
 use Rattle.aa_policy.proofs.Expanded.{first_once, never_refused, same_fault}
 use Rattle.aa_policy.proofs.Meaning.{tree_expands}
 use Rattle.aa_policy.proofs.Profiles.{policy_once}
