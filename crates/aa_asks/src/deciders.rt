@@ -147,9 +147,7 @@ fn exec_sayings(
     path: &[u8],
     owned: bool,
 ) -> Result<Vec<Saying>, AllocError> {
-    let literally = rules
-        .iter()
-        .any(|rule| says_how(rule) && applies_literally(rule, path, owned));
+    let literally = rules.iter().any(|rule| says_how(rule) && applies_literally(rule, path, owned));
     let mut sayings = Vec::new(alloc);
     for rule in rules {
         let chosen = says_how(rule)
@@ -289,10 +287,5 @@ pub fn target_deciders(
         .difference(denied)
         .difference(Perms::LINK.union(Perms::EXEC));
     let sayings = file_sayings(alloc, files, link.target(), link.owned())?;
-    Ok(Some(deciders_by(
-        alloc,
-        Listed::Files,
-        sayings.as_slice(),
-        asked,
-    )?))
+    Ok(Some(deciders_by(alloc, Listed::Files, sayings.as_slice(), asked)?))
 }

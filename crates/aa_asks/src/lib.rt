@@ -1,8 +1,8 @@
 //! Questions on policies: how a request is written in one word, which rules decide it, and where rules stand.
 #![tactic(auto)]
 
-mod deciders;
 mod applying;
+mod deciders;
 mod places;
 mod read;
 mod write;

@@ -22,7 +22,12 @@ pub struct ProfilePlaces<'s> {
     pub changes: Vec<Spot>,
 }
 
-fn no_rules<'s>(alloc: Global, name: &'s [u8], parent: Option<usize>, at: Spot) -> ProfilePlaces<'s> {
+fn no_rules<'s>(
+    alloc: Global,
+    name: &'s [u8],
+    parent: Option<usize>,
+    at: Spot,
+) -> ProfilePlaces<'s> {
     ProfilePlaces {
         name,
         parent,

@@ -130,7 +130,12 @@ fn read_net(text: &[u8]) -> Result<Request, WordFault> {
     }
 }
 
-fn read_file(alloc: Global, letters: &[u8], text: &[u8], owned: bool) -> Result<Request, WordFault> {
+fn read_file(
+    alloc: Global,
+    letters: &[u8],
+    text: &[u8],
+    owned: bool,
+) -> Result<Request, WordFault> {
     let Some(mask) = mask_of(letters) else {
         return Err(WordFault::NoRequest);
     };

@@ -46,12 +46,7 @@ fn push_owned(out: &mut Vec<u8>, owned: bool) -> Result<(), AllocError> {
     push_text(out, if owned { "owned:" } else { "" })
 }
 
-fn push_letter(
-    out: &mut Vec<u8>,
-    mask: Perms,
-    perm: Perms,
-    letter: u8,
-) -> Result<(), AllocError> {
+fn push_letter(out: &mut Vec<u8>, mask: Perms, perm: Perms, letter: u8) -> Result<(), AllocError> {
     if mask.contains(perm) {
         out.push(letter)?;
     }

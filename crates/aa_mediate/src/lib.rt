@@ -10,7 +10,6 @@ mod link;
 mod mediator;
 mod reply;
 
-pub use agreement::chosen_rules_agree;
 pub use aa_compile::{CompileRefusal, Compiled, compile};
 pub use aa_labels::{label_of, name_of_label, profile_of};
 pub use aa_machine::Machine;
@@ -18,4 +17,5 @@ pub use aa_requests::{
     Answer, ChangeRequest, ExecRequest, FileRequest, Label, LinkRequest, Note, NoteWord, Request,
     RequestFault,
 };
+pub use agreement::chosen_rules_agree;
 pub use mediator::Mediator;
