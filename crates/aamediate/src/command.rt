@@ -6,7 +6,7 @@ use std::alloc::{AllocError, Global};
 /// What the program is asked to do with the job on its standard input.
 #[derive(Clone, Copy, Debug, PartialEq, Eq)]
 pub enum Command {
-    /// To say whether its policy compiles.
+    /// To say whether its policies compile.
     Check,
     /// To decide its requests.
     Run,
@@ -14,20 +14,84 @@ pub enum Command {
     Replay,
 }
 
+const VERSION: &str = "0.1.0";
+
+/// What a job is, an example, and the exit statuses.
+const JOB: &str =
+    r#"A job is one JSON object: a policy, and tasks with their requests. A task's label is the full
+name of the profile that it begins in, or "unconfined". This job asks to read a file and to
+write it:
+
+  {"policy": "profile p { /etc/passwd r, }",
+   "tasks": [{"label": "p",
+              "requests": [{"file": "/etc/passwd", "mask": "r"},
+                           {"file": "/etc/passwd", "mask": "w"}]}]}
+
+For it, `aamediate run` writes
+
+  0 0 granted label="p"
+  0 1 denied label="p"
+  apparmor="DENIED" operation="file" profile="p" name="/etc/passwd" requested_mask="w" denied_mask="w"
+
+that is, for each request: the number of its task, its own number, the verdict and the label
+after it; then its audit line, if it has one.
+
+Exit status:
+  0  the job was answered
+  1  the job is refused, or one of its policies, or a task's label names no profile
+  2  the command line is refused
+  3  memory ran out, or reading or writing failed
+
+A refusal is one line on standard error. docs/JOBS.md has all requests, lines and refusals."#;
+
+const CHECK: &str =
+    r#"Writes how many profiles and file rules each policy has, and names each rule that is only
+listed. It doesn't look at the labels of the tasks."#;
+
+const RUN: &str =
+    r#"Decides as far as a task's first "exit". Each request gives its verdict, and then its audit line,
+if it has one."#;
+
+const REPLAY: &str =
+    r#"Each task has a queue of its own. The job's "events" happen at them in order: the task of a
+number sends its next request, or one is taken, finished or collected, or the queue is shut.
+Each event gives one line. For example:
+
+  {"policy": "profile p { /etc/passwd r, }",
+   "tasks": [{"label": "p", "requests": [{"file": "/etc/passwd", "mask": "r"}]}],
+   "events": [[0, "send"], [0, "take"], [0, "finish"], [0, "collect"]]}"#;
+
+fn check<'a>(alloc: Global) -> clap::Command<'a> {
+    clap::Command::new(alloc, "check")
+        .about("Reads the policies of a job, and counts their rules")
+        .override_usage("aamediate check < JOB")
+        .after_help(CHECK)
+}
+
+fn run<'a>(alloc: Global) -> clap::Command<'a> {
+    clap::Command::new(alloc, "run")
+        .about("Decides the requests of a job's tasks")
+        .override_usage("aamediate run < JOB")
+        .after_help(RUN)
+}
+
+fn replay<'a>(alloc: Global) -> clap::Command<'a> {
+    clap::Command::new(alloc, "replay")
+        .about("Makes the events of a job happen, and says what each was answered")
+        .override_usage("aamediate replay < JOB")
+        .after_help(REPLAY)
+}
+
 fn command_line<'a>(alloc: Global) -> Result<clap::Command<'a>, AllocError> {
-    let check = clap::Command::new(alloc, "check").about(
-        "Reads the policy of a job and counts its rules",
-    );
-    let run = clap::Command::new(alloc, "run").about("Decides the requests of a job's tasks");
-    let replay = clap::Command::new(alloc, "replay").about(
-        "Makes the events of a job happen, and says what each was answered",
-    );
     clap::Command::new(alloc, "aamediate")
+        .version(VERSION)
         .about("Decides what AppArmor profiles permit: reads a job from standard input")
+        .override_usage("aamediate <COMMAND> < JOB")
+        .after_help(JOB)
         .subcommand_required(true)
-        .subcommand(check)?
-        .subcommand(run)?
-        .subcommand(replay)
+        .subcommand(check(alloc))?
+        .subcommand(run(alloc))?
+        .subcommand(replay(alloc))
 }
 
 /// The command that the words of a command line name; the first word is the program's name.
