@@ -6,10 +6,8 @@ ghost use Rattle.std.specs.String.{string_bytes};
 ghost use Rattle.aa_engine.specs.Engines.{HandsIn, IsCheckOutput, IsRunOutput, IsReplayOutput, Explains, IsInput, IsExplained};
 
 use crate::fault::{RunFault, job_fault, mediate_fault, policy_fault};
-use aa_answers::{check_output, run_output};
-use aa_answers::replay_output;
 use crate::stream::{read_input, write_text};
-use aa_answers::{mediate, unknown_task};
+use aa_answers::{check_output, mediate, replay_output, run_output, unknown_task};
 use aa_jobs::{Job, read_job};
 use aa_policies::{Compiled, compile_policies};
 use std::alloc::Global;

@@ -11,8 +11,8 @@ ghost use Rattle.aa_rules.specs.Reading.{name_data, change_data, rule_data};
 ghost use Rattle.aa_policy.specs.Spelling.{Aims, MeansChange, on_change, changes_of, named_paths, change_paths};
 
 use crate::refusal::refusal_at;
-use aa_profiles::ChangeRule;
 use aa_glob::{Pattern, read_pattern};
+use aa_profiles::ChangeRule;
 use aa_rules::{ChangeTree, NameTree, RuleTree};
 use aa_words::{PolicyFault, PolicyKind};
 use std::alloc::Global;

@@ -12,13 +12,12 @@ ghost use Rattle.aa_policy.specs.Spelling.{AttachesTo, MeansRule, MeansChange, M
 
 use crate::access::{cap_rules, net_rules};
 use crate::changes::change_rules;
-use aa_profiles::Profile;
 use crate::refusal::refusal_at;
-use aa_profiles::{ChangeRule, Exec, FileRule};
 use crate::tree::ProfileTree;
 use aa_glob::{Pattern, Vars, expand};
 use aa_heads::AttachmentTree;
 use aa_lists::{Seq, Text};
+use aa_profiles::{ChangeRule, Exec, FileRule, Profile};
 use aa_rules::{ExecTree, FileTree, RuleTree};
 use aa_words::{PolicyFault, PolicyKind, Spot};
 use std::alloc::{AllocError, Global};

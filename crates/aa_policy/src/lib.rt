@@ -15,7 +15,7 @@ mod tree;
 
 pub use aa_glob::matching_is_decided;
 pub use aa_profiles::{
-    Cap, CapRule, Caps, ChangeRule, Exec, ExecKind, Fallback, Family, FileRule, NetRule, PassedOver,
-    Perms, Policy, Profile, Seq, SockType, Text,
+    Cap, CapRule, Caps, ChangeRule, Exec, ExecKind, Fallback, Family, FileRule, NetRule,
+    PassedOver, Perms, Policy, Profile, Seq, SockType, Text,
 };
 pub use parser::{parse, spelled_once};

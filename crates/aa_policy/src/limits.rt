@@ -7,8 +7,7 @@ ghost use Rattle.aa_faults.specs.Kinds.{no_memory};
 ghost use Rattle.aa_profiles.specs.Lawful.{names_of, file_patterns, attachments_with, attachment_patterns, IsWithinLimits};
 ghost use Rattle.aa_policy.specs.Spelling.{IsRepeated};
 
-use aa_profiles::Profile;
-use aa_profiles::FileRule;
+use aa_profiles::{FileRule, Profile};
 use aa_words::{PolicyFault, PolicyKind};
 use std::alloc::Global;
 use std::collections::BTreeSet;

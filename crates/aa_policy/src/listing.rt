@@ -5,9 +5,9 @@ ghost use Rattle.aa_policy.specs.Bodies.{tree_data};
 ghost use Rattle.aa_rules.specs.Reading.{rule_data};
 ghost use Rattle.aa_policy.specs.Spelling.{listed_at, passed_over_from};
 
-use aa_profiles::PassedOver;
 use crate::tree::ProfileTree;
 use aa_lists::Text;
+use aa_profiles::PassedOver;
 use aa_rules::RuleTree;
 use std::alloc::{AllocError, Global};
 

@@ -15,8 +15,8 @@ use crate::expansion::profiles;
 use crate::items::tree_of;
 use crate::limits::{check_names, is_within_limits};
 use crate::listing::passed_over;
-use aa_profiles::Policy;
 use aa_lists::Seq;
+use aa_profiles::Policy;
 use aa_words::{PolicyFault, PolicyKind, WordList};
 use std::alloc::Global;
 

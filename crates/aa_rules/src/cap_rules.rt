@@ -9,8 +9,8 @@ ghost use Rattle.aa_rules.specs.Reading.{rest_of};
 
 use crate::faults::fault;
 use crate::reading::word_at;
-use aa_profiles::CapRule;
 use crate::tree::Qualifiers;
+use aa_profiles::CapRule;
 use aa_tables::{Cap, Caps};
 use aa_words::{PolicyFault, PolicyKind, Spot, Word, WordKind};
 use bitflags::Flags;

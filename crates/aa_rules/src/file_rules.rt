@@ -13,8 +13,8 @@ use crate::faults::{RulePlace, no_entry_fault, no_target_fault, spot_of};
 use crate::modes::{ExecMode, Mode, mode_of};
 use crate::names::{is_left_out, is_target_name};
 use crate::reading::{name_at, optional, path_at, word_at};
-use aa_profiles::ExecKind;
 use crate::tree::{EntryTree, ExecTree, FileTree, Qualifiers};
+use aa_profiles::ExecKind;
 use aa_words::{PolicyFault, Spot, Word, WordKind};
 
 /// The mode at a place.

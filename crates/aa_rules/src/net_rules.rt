@@ -9,8 +9,8 @@ ghost use Rattle.aa_tables.specs.Tables.{family_names, sock_type_names};
 
 use crate::faults::fault;
 use crate::reading::word_at;
-use aa_profiles::NetRule;
 use crate::tree::Qualifiers;
+use aa_profiles::NetRule;
 use aa_tables::{Family, SockType};
 use aa_words::{PolicyFault, PolicyKind, Spot, Word, WordKind};
 
