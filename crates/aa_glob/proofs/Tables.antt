@@ -1,5 +1,8 @@
 -- What a table knows, one entry on.
-use Rattle.std.proofs.Common.{◌≡◌, ℕ, zero, suc, ◌≤◌, ◌<◌, ◌⊎◌, Bool, true, false, cond, List, [], ◌∷◌, get_or, length, Contains, Option, Some, None, is_some, Bor, ◌+◌, refl, ap, ◌∙◌, subst, arith}
+use Rattle.std.proofs.Common.{◌≡◌, ℕ, zero, suc, ◌≤◌, ◌<◌, ◌⊎◌, Bool, true, false, cond, List, [], ◌∷◌, get_or, length, Contains, Option, Some, None, is_some, Bor, ◌+◌, refl, sym, ap, ◌∙◌, subst, arith}
+use Rattle.std.specs.Map.{lookup}
+use Rattle.std.specs.Ordering.{is_eq, nat_cmp}
+use Rattle.std.specs.Cmp.Lexicographic.{slice_cmp, texts_ties}
 use Rattle.std.specs.Str.{bytes_eq}
 use Rattle.std.proofs.lemmas.Slice.Eq.{bytes_eq-Decides}
 use Rattle.aa_glob.specs.declared.summary.VariableSummary.{VariableSummary}
@@ -17,11 +20,32 @@ pub record IsPut (es new : Table) (key : List ℕ) (v : Option VariableSummary) 
   pub longer : length es ≤ length new
   pub fresh : found key es ≡ None → suc (length es) ≤ length new
 
+-- a name compares equal to those that it is
+same_found : (name : List ℕ) (es : Table) → lookup (λ k. is_eq (slice_cmp nat_cmp name k.now)) es ≡ found name es
+same_found name [] = refl
+same_found name (e ∷ es) =
+    ap (λ (b : Bool). cond b (Some e.1) (lookup (λ k. is_eq (slice_cmp nat_cmp name k.now)) es)) (sym (texts_ties name e.0.now))
+    ∙ ap (λ (r : Option (Option VariableSummary)). cond (bytes_eq name e.0.now) (Some e.1) r) (same_found name es)
+
+-- from what `get` ensures
+pub told : (name : List ℕ) (es : Table) (x : Option (Option VariableSummary)) → x ≡ lookup (λ k. is_eq (slice_cmp nat_cmp name k.now)) es → found name es ≡ x
+told name es x e = sym (same_found name es) ∙ sym e
+
 -- from what `insert` ensures
-pub put_in : (es new : Table) (key : Bor (List ℕ)) (v : Option VariableSummary) (old : Option (Option VariableSummary)) → old ≡ found key.now es → length new ≡ length es + cond (is_some old) 0 1 →
-    ((q : Bor (List ℕ)) → found q.now new ≡ cond (bytes_eq key.now q.now) (Some v) (found q.now es)) → IsPut es new key.now v
-put_in es new key v None is len at = record { at = λ n. at (record key { now = n }); longer = omega (arith, len); fresh = λ none. omega (arith, len) }
-put_in es new key v (Some x) is len at = record { at = λ n. at (record key { now = n }); longer = omega (arith, len); fresh = λ none. absurd (cc (is ∙ none)) }
+pub put_in : (es new : Table) (key : Bor (List ℕ)) (v : Option VariableSummary) (old : Option (Option VariableSummary)) → old ≡ lookup (λ k. is_eq (slice_cmp nat_cmp key.now k.now)) es →
+    length new ≡ length es + cond (is_some old) 0 1 →
+    ((q : Bor (List ℕ)) → lookup (λ k. is_eq (slice_cmp nat_cmp q.now k.now)) new ≡ cond (is_eq (slice_cmp nat_cmp key.now q.now)) (Some v) (lookup (λ k. is_eq (slice_cmp nat_cmp q.now k.now)) es)) → IsPut es new key.now v
+put_in es new key v old is len at = by old (told key.now es old is) len
+  where
+    at_name : (name : List ℕ) → found name new ≡ cond (bytes_eq key.now name) (Some v) (found name es)
+    at_name name =
+        sym (same_found name new) ∙ at (record key { now = name })
+        ∙ ap (λ (b : Bool). cond b (Some v) (lookup (λ k. is_eq (slice_cmp nat_cmp name k.now)) es)) (sym (texts_ties key.now name))
+        ∙ ap (λ (r : Option (Option VariableSummary)). cond (bytes_eq key.now name) (Some v) r) (same_found name es)
+
+    by : (old : Option (Option VariableSummary)) → found key.now es ≡ old → length new ≡ length es + cond (is_some old) 0 1 → IsPut es new key.now v
+    by None is len = record { at = at_name; longer = omega (arith, len); fresh = λ none. omega (arith, len) }
+    by (Some x) is len = record { at = at_name; longer = omega (arith, len); fresh = λ none. absurd (cc (sym is ∙ none)) }
 
 -- what it has of a name is that entry, or was there before
 pub put_case : (es new : Table) (key : List ℕ) (v : Option VariableSummary) → IsPut es new key v → (name : List ℕ) (x : Option (Option VariableSummary)) → found name new ≡ x →

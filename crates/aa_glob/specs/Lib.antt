@@ -6,6 +6,7 @@ pub use Rattle.aa_patterns.specs.Places
 pub use Rattle.aa_reader.specs.Reading
 pub use Rattle.aa_reader.specs.Signs
 pub mod Variables
+pub mod NamePlaces
 pub mod Pieces
 pub mod Expansions
 pub mod Parts

@@ -10,8 +10,8 @@ ghost use Rattle.aa_glob.specs.Parts.{piece_of};
 
 use crate::pieces::{Part, next_part};
 use aa_faults::PolicyKind;
-use indexmap::IndexMap;
 use std::alloc::Global;
+use std::collections::BTreeMap;
 
 /// How many texts a word or a variable may have.
 pub(crate) const MAX_TEXTS: usize = 1024;
@@ -33,7 +33,7 @@ pub(crate) struct VariableSummary {
 }
 
 /// The variables whose walk is done, and those on whose walk we are.
-pub(crate) type Done<'t> = IndexMap<&'t [u8], Option<VariableSummary>>;
+pub(crate) type Done<'t> = BTreeMap<&'t [u8], Option<VariableSummary>>;
 
 impl Summary {
     /// Each text of the one followed by each of the other.

@@ -1,29 +1,39 @@
 //! Variables and their values.
 
-ghost use Rattle.std.specs.Prelude.{◌≡◌, ◌↔◌, ◌⊎◌, List, [], ◌∷◌, ◌++◌, map, IsTrue, false, OnOk, OnErr, IfOk, IfErr, IsErrOf};
-ghost use Rattle.std.specs.Prelude.{ℕ, suc, MatchOption, Some, None};
+ghost use Rattle.std.specs.Prelude.{◌≡◌, ◌<◌, ◌↔◌, ◌⊎◌, List, [], ◌∷◌, ◌++◌, map, length, IsTrue, false, OnOk, OnErr, IfOk, IfErr, IsErrOf};
+ghost use Rattle.std.specs.Prelude.{ℕ, suc, MatchOption, IfSome, is_some, Some, None};
+ghost use Rattle.aa_glob.specs.NamePlaces.{place_of};
 ghost use Rattle.aa_glob.specs.Variables.{Variable, variable, has_name, with_more, values_of};
 ghost use Rattle.aa_glob.specs.Expansions.{is_reserved, outcome, Stops};
 
 use aa_faults::PolicyKind;
-use indexmap::IndexMap;
 use std::alloc::{AllocError, Global};
+use std::collections::BTreeMap;
 use std::marker::Model;
 
-/// Variables in the order in which they were set.
+/// A name and its values.
+type Entry = (Vec<u8>, Vec<Vec<u8>>);
+
+/// Variables in the order in which they were set. Names are looked up in their own order, so that it takes no longer with
+/// names that their author chose.
 #[derive(Drop)]
 pub struct Vars {
     alloc: Global,
-    table: IndexMap<Vec<u8>, Vec<Vec<u8>>>,
+    table: Vec<Entry>,
+    /// Where the variable of each name stands in the table.
+    places: BTreeMap<Vec<u8>, usize>,
 }
 
 impl Model for Vars {
     ghost use Rattle.std.specs.Prelude.{List, map};
+    ghost use Rattle.aa_glob.specs.NamePlaces.{ArePlaces};
     ghost use Rattle.aa_glob.specs.Variables.{Variable, variable};
 
     ghost Value = { List Variable };
 
-    ghost view = { λ s. map variable s.table.entries };
+    ghost view = { λ s. map variable s.table.items };
+
+    ghost invariant = { λ s. ArePlaces s.places.entries s.table.items };
 }
 
 /// The values, copied.
@@ -39,30 +49,18 @@ fn copies(alloc: Global, values: &[&[u8]]) -> Result<Vec<Vec<u8>>, PolicyKind>
     Ok(list)
 }
 
-/// Whether a variable has that name.
-fn is_named(table: &IndexMap<Vec<u8>, Vec<Vec<u8>>>, name: &[u8]) -> bool
-    ensures { result ≡ has_name name.now (map variable table.now.entries) }
-{
-    table.contains_key(name)
-}
-
-/// Adds the values at the end of those of that name.
+/// Adds the values at the end of those of the variable at a place.
 fn add_values(
-    table: &mut IndexMap<Vec<u8>, Vec<Vec<u8>>>,
-    name: &[u8],
+    table: &mut Vec<Entry>,
+    place: usize,
     mut more: Vec<Vec<u8>>,
 ) -> Result<(), AllocError>
-    requires { IsTrue (has_name name.now (map variable table.old.entries)) }
-    ensures ok { OnOk result (map variable table.new.entries ≡ with_more name.now (map (λ v. v.items) more.items) (map variable table.old.entries)) }
-    ensures err { OnErr result (map variable table.new.entries ≡ map variable table.old.entries) }
+    requires { place < length table.old.items }
+    ensures ok { OnOk result ((name : List ℕ) → place_of name (map variable table.old.items) ≡ Some place
+        → map variable table.new.items ≡ with_more name (map (λ v. v.items) more.items) (map variable table.old.items)) }
+    ensures err { OnErr result (map variable table.new.items ≡ map variable table.old.items) }
 {
-    let Some(place) = table.get_index_of(name) else {
-        unreachable!();
-    };
-    match table.get_index_mut(place) {
-        Some(list) => list.append(&mut more),
-        None => unreachable!(),
-    }
+    table[place].1.append(&mut more)
 }
 
 impl Vars {
@@ -72,7 +70,20 @@ impl Vars {
     {
         Vars {
             alloc,
-            table: IndexMap::new(alloc),
+            table: Vec::new(alloc),
+            places: BTreeMap::new(alloc),
+        }
+    }
+
+    /// Where the variable of that name stands.
+    fn place_of(&self, name: &[u8]) -> Option<usize>
+        ensures place { result ≡ place_of name.now self.now }
+        ensures there { is_some result ≡ has_name name.now self.now }
+        ensures within { IfSome result (λ i. i < length self.now) }
+    {
+        match self.places.get(name) {
+            Some(place) => Some(*place),
+            None => None,
         }
     }
 
@@ -84,13 +95,21 @@ impl Vars {
         ensures twice { IsErrOf result PolicyKind.VariableTwice ↔ IsTrue (has_name name.now self.old) }
         ensures only { IfErr result (λ e. (e ≡ PolicyKind.NoMemory) ⊎ (e ≡ PolicyKind.VariableTwice)) }
     {
-        if is_named(&self.table, name) {
+        if self.place_of(name).is_some() {
             return Err(PolicyKind::VariableTwice);
         }
         let key = Vec::from_slice(self.alloc, name)?;
+        let copy = Vec::from_slice(self.alloc, name)?;
         let list = copies(self.alloc, values)?;
-        self.table.insert(key, list)?;
-        Ok(())
+        let place = self.table.len();
+        self.table.push((copy, list))?;
+        match self.places.insert(key, place) {
+            Ok(_) => Ok(()),
+            Err(_) => {
+                let _ = self.table.pop();
+                Err(PolicyKind::NoMemory)
+            }
+        }
     }
 
     /// Adds values at the end of a variable's (the assignment `+=`). Refused where the name isn't there (UndefinedVariable),
@@ -101,11 +120,11 @@ impl Vars {
         ensures missing { IsErrOf result PolicyKind.UndefinedVariable ↔ (has_name name.now self.old ≡ false) }
         ensures only { IfErr result (λ e. (e ≡ PolicyKind.NoMemory) ⊎ (e ≡ PolicyKind.UndefinedVariable)) }
     {
-        if !is_named(&self.table, name) {
+        let Some(place) = self.place_of(name) else {
             return Err(PolicyKind::UndefinedVariable);
-        }
+        };
         let more = copies(self.alloc, values)?;
-        add_values(&mut self.table, name, more)?;
+        add_values(&mut self.table, place, more)?;
         Ok(())
     }
 }
@@ -120,8 +139,8 @@ impl Vars {
     fn get(&self, name: &[u8]) -> Option<&[Vec<u8>]>
         ensures { MatchOption result (values_of self.now name.now ≡ None) (λ vs. values_of self.now name.now ≡ Some (map (λ v. v.items) vs.now)) }
     {
-        match self.table.get(name) {
-            Some(list) => Some(list.as_slice()),
+        match self.place_of(name) {
+            Some(place) => Some(self.table[place].1.as_slice()),
             None => None,
         }
     }

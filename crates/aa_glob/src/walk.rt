@@ -10,8 +10,8 @@ use crate::pieces::{Part, next_part};
 use crate::summary::{Done, variable_summary};
 use crate::vars::Vars;
 use aa_faults::PolicyKind;
-use indexmap::IndexMap;
 use std::alloc::Global;
+use std::collections::BTreeMap;
 
 /// A text on the way: the raw text, or a value.
 #[derive(Clone, Copy, Debug)]
@@ -73,7 +73,7 @@ pub(crate) fn walk<'t>(alloc: Global, vars: &'t Vars, raw: &'t [u8]) -> Result<D
     ensures ok { IfOk result (λ done. IsWalked vars.now raw.now done.entries) }
     ensures err { IfErr result (λ e. e ≢ PolicyKind.NoMemory → IsWalkFault vars.now raw.now e) }
 {
-    let mut done: Done<'t> = IndexMap::new(alloc);
+    let mut done: Done<'t> = BTreeMap::new(alloc);
     let mut stack: Vec<Step<'t>> = Vec::new(alloc);
     let mut top = Step {
         name: &[],
