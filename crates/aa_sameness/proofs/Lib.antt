@@ -1,0 +1,5 @@
+mod Rows
+mod Patterns
+mod Rules
+mod Profiles
+mod Replies

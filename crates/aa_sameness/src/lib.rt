@@ -1,0 +1,6 @@
+//! A law of policies that are the same but for where their patterns lie in memory.
+#![tactic(auto)]
+
+mod laws;
+
+pub use laws::same_policies_reply_alike;
