@@ -3,3 +3,4 @@ mod Patterns
 mod Rules
 mod Profiles
 mod Replies
+mod Texts

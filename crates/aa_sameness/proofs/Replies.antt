@@ -97,7 +97,7 @@ module _ (policies others : List Policy) (same : AllZip SamePolicy policies othe
   label_in_alike k name None (Some y) h = absurd h
   label_in_alike k name (Some x) None h = absurd h
 
-  label_named_alike : (k : ℕ) (name : List ℕ) → label_named policies k name ≡ label_named others k name
+  pub label_named_alike : (k : ℕ) (name : List ℕ) → label_named policies k name ≡ label_named others k name
   label_named_alike k name = label_in_alike k name (slice_get policies k) (slice_get others k) (got k)
 
   free_by : (m : ℕ) (o p : Option Policy) → IsAlike SamePolicy o p → option_map (λ (x : Policy). Unconfined m) o ≡ option_map (λ (x : Policy). Unconfined m) p

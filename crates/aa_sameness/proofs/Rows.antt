@@ -53,7 +53,7 @@ module _ {X : Type 0} (R : X → X → Type 0) where
   got_alike [] (y ∷ ys) i h = absurd h
   got_alike (x ∷ xs) [] i h = absurd h
 
-  long_alike : (xs ys : List X) → AllZip R xs ys → length xs ≡ length ys
+  pub long_alike : (xs ys : List X) → AllZip R xs ys → length xs ≡ length ys
   long_alike [] [] h = refl
   long_alike (x ∷ xs) (y ∷ ys) h = ap suc (long_alike xs ys h.1)
   long_alike [] (y ∷ ys) h = absurd h

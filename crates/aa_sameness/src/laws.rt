@@ -1,15 +1,27 @@
 //! What policies that are the same answer.
 
-ghost use Rattle.std.specs.Prelude.{◌≡◌, List};
+ghost use Rattle.std.specs.Prelude.{◌≡◌, Bool, List};
 ghost use Rattle.std.specs.List.{AllZip};
 ghost use Rattle.aa_profiles.specs.declared.policy.Policy.{Policy};
 ghost use Rattle.aa_requests.specs.declared.label.Label.{Label};
 ghost use Rattle.aa_requests.specs.declared.request.Request.{Request};
+ghost use Rattle.aa_jobs.specs.declared.job.Task.{Task};
 ghost use Rattle.aa_policy.specs.Sameness.{SamePolicy};
 ghost use Rattle.aa_mediate.specs.Reply.{reply};
+ghost use Rattle.aa_answers.specs.Output.{run_text, check_text};
 
 /// Lists of policies, each the same as the other in its place but for where patterns lie in memory, give the same replies. It
 /// does nothing: its contract is a law of the definitions.
 pub fn same_policies_reply_alike()
     ensures { (policies others : List Policy) → AllZip SamePolicy policies others → (label : Label) (request : Request) → reply policies label request ≡ reply others label request }
+{}
+
+/// For them `run` writes the same text, whatever the tasks. It does nothing: its contract is a law of the definitions.
+pub fn same_policies_run_alike()
+    ensures { (policies others : List Policy) → AllZip SamePolicy policies others → (several : Bool) (tasks : List Task) → run_text several policies tasks ≡ run_text several others tasks }
+{}
+
+/// For them `check` writes the same text. It does nothing: its contract is a law of the definitions.
+pub fn same_policies_check_alike()
+    ensures { (policies others : List Policy) → AllZip SamePolicy policies others → (several : Bool) → check_text several policies ≡ check_text several others }
 {}

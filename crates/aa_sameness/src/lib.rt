@@ -3,4 +3,4 @@
 
 mod laws;
 
-pub use laws::same_policies_reply_alike;
+pub use laws::{same_policies_check_alike, same_policies_reply_alike, same_policies_run_alike};
