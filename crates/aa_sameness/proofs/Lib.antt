@@ -4,3 +4,4 @@ mod Rules
 mod Profiles
 mod Replies
 mod Texts
+mod Words

@@ -7,6 +7,8 @@ ghost use Rattle.aa_requests.specs.declared.label.Label.{Label};
 ghost use Rattle.aa_requests.specs.declared.request.Request.{Request};
 ghost use Rattle.aa_jobs.specs.declared.job.Task.{Task};
 ghost use Rattle.aa_policy.specs.Sameness.{SamePolicy};
+ghost use Rattle.aa_policy.specs.Spelling.{Spells};
+ghost use Rattle.aa_words.specs.Splits.{WordData};
 ghost use Rattle.aa_mediate.specs.Reply.{reply};
 ghost use Rattle.aa_answers.specs.Output.{run_text, check_text};
 
@@ -24,4 +26,12 @@ pub fn same_policies_run_alike()
 /// For them `check` writes the same text. It does nothing: its contract is a law of the definitions.
 pub fn same_policies_check_alike()
     ensures { (policies others : List Policy) → AllZip SamePolicy policies others → (several : Bool) → check_text several policies ≡ check_text several others }
+{}
+
+/// Words decide what is written, wherever patterns come to lie: policies that the same words spell have the same texts of `run`
+/// and of `check`. It does nothing: its contract is a law of the definitions.
+pub fn words_decide_texts()
+    ensures { (words : List (List WordData)) (policies others : List Policy) → AllZip Spells words policies → AllZip Spells words others
+        → (several : Bool) (tasks : List Task)
+        → (run_text several policies tasks ≡ run_text several others tasks) × (check_text several policies ≡ check_text several others) }
 {}

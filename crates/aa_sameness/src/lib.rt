@@ -3,4 +3,7 @@
 
 mod laws;
 
-pub use laws::{same_policies_check_alike, same_policies_reply_alike, same_policies_run_alike};
+pub use laws::{
+    same_policies_check_alike, same_policies_reply_alike, same_policies_run_alike,
+    words_decide_texts,
+};
