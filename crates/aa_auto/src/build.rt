@@ -107,6 +107,41 @@ fn next_row(
     Ok(next)
 }
 
+/// The byte that a row's others are compared with: no text in UTF-8 has it, so that few patterns name it.
+const USUAL: u8 = 255;
+
+/// The number of the set that the byte leads to: `next` where it leads as the usual byte does, else as in `next_row`.
+fn cell_of(
+    alloc: Global,
+    net: &Net,
+    limit: usize,
+    row: usize,
+    byte: u8,
+    next: usize,
+    found: &mut Found,
+) -> Result<usize, BuildFault>
+    requires net { IsNetOf net.now }
+    requires reached { AreReached net.now found.old.sets }
+    requires listed { AreListed net.now found.old.sets (numbers_of found.old) }
+    requires row { row < length found.old.sets }
+    requires few { length found.old.sets ≤ limit }
+    requires usual { Goes net.now found.old.sets row 255 next }
+    ensures reached { OnOk result (AreReached net.now found.new.sets) }
+    ensures listed { OnOk result (AreListed net.now found.new.sets (numbers_of found.new)) }
+    ensures goes { IfOk result (λ cell. Goes net.now found.new.sets row byte cell) }
+    ensures extends { OnOk result (Extends found.old.sets found.new.sets) }
+    ensures few { OnOk result (length found.new.sets ≤ limit) }
+    ensures too_many { result ≡ Err BuildFault.TooManyStates → HasPlaces (patterns_of net.now) (limit + 1) }
+{
+    let Some(old) = found.sets.get(row) else {
+        unreachable!()
+    };
+    if net.lead_alike(USUAL, byte, old) {
+        return Ok(next);
+    }
+    next_row(alloc, net, limit, row, byte, found)
+}
+
 /// Adds the cells of a row, one for each class of bytes.
 fn fill_row(
     alloc: Global,
@@ -133,8 +168,9 @@ fn fill_row(
     ensures few { OnOk result (length found.new.sets ≤ limit) }
     ensures too_many { result ≡ Err BuildFault.TooManyStates → HasPlaces (patterns_of net.now) (limit + 1) }
 {
+    let usual = next_row(alloc, net, limit, row, USUAL, found)?;
     for byte in bytes {
-        let next = next_row(alloc, net, limit, row, *byte, found)?;
+        let next = cell_of(alloc, net, limit, row, *byte, usual, found)?;
         cells.push(next as u32)?;
     }
     Ok(())

@@ -9,7 +9,7 @@ use crate::closing::closed;
 use crate::finals::{finals_of, numbers_at};
 use crate::jumps::jumps_of;
 use crate::merging::{Kept, merge_nodes};
-use crate::moves::{beginnings, moved};
+use crate::moves::{beginnings, lead_alike, moved};
 use crate::nodes::{Node, nodes_of};
 use aa_patterns::Pattern;
 use std::alloc::{AllocError, Global};
@@ -63,9 +63,10 @@ pub(crate) fn net_of<'a>(alloc: Global, patterns: &'a [&'a Pattern]) -> Result<N
 }
 
 impl Net<'_> {
-    ghost use Rattle.std.specs.Prelude.{ℕ, ◌<◌, IfOk, Some, None, [], Contains, length};
+    ghost use Rattle.std.specs.Prelude.{ℕ, ◌<◌, IfOk, IsTrue, Some, None, [], Contains, length};
     ghost use Rattle.aa_auto.specs.Nets.{IsNetOf, patterns_of};
     ghost use Rattle.aa_auto.specs.Explored.{Follows, Lists};
+    ghost use Rattle.aa_auto.specs.Spots.{LeadAlike};
     ghost use Rattle.aa_auto.specs.Division.{AreClassesOf};
 
     /// The classes of the bytes that no item of the patterns tells apart.
@@ -93,6 +94,15 @@ impl Net<'_> {
     {
         let seeds = moved(alloc, self.nodes.as_slice(), byte, old)?;
         closed(alloc, self.jumps.as_slice(), seeds.as_slice())
+    }
+
+    /// Whether two bytes lead to the same positions from those of the set.
+    pub(crate) fn lead_alike(&self, a: u8, b: u8, set: &[u32]) -> bool
+        requires net { IsNetOf self.now }
+        requires set { (n : ℕ) → Contains set.now n → n < length self.now.nodes.items }
+        ensures { IsTrue result → LeadAlike self.now.nodes.items a b set.now }
+    {
+        lead_alike(self.nodes.as_slice(), a, b, set)
     }
 
     /// The numbers of the patterns that match a text that stands at the positions, rising.

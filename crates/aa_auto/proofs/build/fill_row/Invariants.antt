@@ -1,5 +1,5 @@
 use Rattle.std.proofs.Common.{◌≡◌, ◌+◌, ◌*◌, ◌<◌, ◌≤◌, length}
-use Rattle.aa_auto.specs.Explored.{AreReached, AreFilled, AreListed}
+use Rattle.aa_auto.specs.Explored.{AreReached, AreFilled, AreListed, Goes}
 use Rattle.aa_auto.specs.Found.{numbers_of}
 use Rattle.aa_auto.proofs.build.fill_row.Given as goal
 
@@ -8,6 +8,7 @@ invariant-loop-byte l = record {
   reached : AreReached l.net l.found.sets;
   listed : AreListed l.net l.found.sets (numbers_of l.found);
   filled : AreFilled l.net l.found.sets l.bytes l.cells.items;
+  usual : Goes l.net l.found.sets l.row 255 l.usual;
   many : length l.cells.items ≡ length l.bytes * l.row + l.byte-index;
   row : l.row < length l.found.sets;
   few : length l.found.sets ≤ l.limit;
