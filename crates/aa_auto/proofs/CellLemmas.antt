@@ -48,7 +48,7 @@ cell_unique w r s c d few few' e =
     rest a b p q = omega arith
 
 module _ (net : Net) (old new : List (List ℕ)) (more : Extends old new) where
-  kept : (r : ℕ) → r < length old → get_or new r [] ≡ get_or old r []
+  pub kept : (r : ℕ) → r < length old → get_or new r [] ≡ get_or old r []
   kept r lt = ap (λ z. get_or z r []) more.1 ∙ get_or_append_left old more.0 [] r lt
 
   pub longer : length old ≤ length new
