@@ -48,7 +48,7 @@ cell_unique w r s c d few few' e =
     rest a b p q = omega arith
 
 module _ (net : Net) (old new : List (List ℕ)) (more : Extends old new) where
-  kept : (r : ℕ) → r < length old → get_or new r [] ≡ get_or old r []
+  pub kept : (r : ℕ) → r < length old → get_or new r [] ≡ get_or old r []
   kept r lt = ap (λ z. get_or z r []) more.1 ∙ get_or_append_left old more.0 [] r lt
 
   pub longer : length old ≤ length new
@@ -59,6 +59,14 @@ module _ (net : Net) (old new : List (List ℕ)) (more : Extends old new) where
     within = omega (arith, goes.within, longer);
     step = λ s set. subst (λ z. IsSpotsOf (kept_of net) z (s ++ byte ∷ [])) (sym (kept next goes.within)) (goes.step s (subst (λ z. IsSpotsOf (kept_of net) z s) (kept row lt) set));
   }
+
+  pub filled_on : (bytes cells : List ℕ) (row : ℕ) → length cells ≡ length bytes * row → row < length old → AreFilled net old bytes cells → AreFilled net new bytes cells
+  filled_on bytes cells row many within filled r c lt_c l =
+      let before : r ≤ row = row_order (length bytes) r row c c lt_c lt_c (at_most (length bytes * r + c) (length bytes * row) (length cells) many l) in
+      goes_on r (get_or bytes c 0) (get_or cells (length bytes * r + c) 0) (omega (arith, before, within)) (filled r c lt_c l)
+    where
+      at_most : (a b d : ℕ) → d ≡ b → a < d → a ≤ b + c
+      at_most a b d e lt = omega arith
 
   pub filled_more : (bytes cells : List ℕ) (row class byte next : ℕ) → length cells ≡ length bytes * row + class → class < length bytes → byte ≡ get_or bytes class 0 → row < length old →
       AreFilled net old bytes cells → Goes net new row byte next → AreFilled net new bytes (cells ++ next ∷ [])

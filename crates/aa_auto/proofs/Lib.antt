@@ -12,6 +12,7 @@ pub mod LawLemmas
 pub mod MoveLemmas
 pub mod JumpLemmas
 pub mod FinalLemmas
+pub mod NotedLemmas
 pub mod NetLemmas
 pub mod NetParts
 pub mod SetsLemmas

@@ -6,7 +6,7 @@ use Rattle.std.proofs.lemmas.Bool.{cases_lt}
 use Rattle.aa_auto.specs.declared.nodes.Node.{Node}
 use Rattle.aa_auto.specs.declared.nodes.Node.TheVariants.{Start, After, Same, Join}
 use Rattle.aa_auto.specs.Sorted.{Inserts, InsertsIf}
-use Rattle.aa_auto.specs.Spots.{Seeds, AreSeeds, AddsMoves, MovesFrom, BeginsAt, ContinuesAt, IsStart, AreStarts, BeginsNode, ContinuesNode}
+use Rattle.aa_auto.specs.Spots.{Seeds, AreSeeds, AddsMoves, MovesFrom, BeginsAt, ContinuesAt, IsStart, AreStarts, BeginsNode, ContinuesNode, LeadsAlike, LeadAlike}
 
 pub on_ok : {T E : Type 0} (r : Result T E) {P Q : Type 0} → (P → Q) → OnOk r P → OnOk r Q
 on_ok (Ok x) f p = f p
@@ -71,6 +71,11 @@ moves_more nodes b old mid new k v lt is front one =
         (λ (e : v ≡ n). (one.exact n).1 (inr (inr (sym e, x.1))))
         (Contains-push_cases xs v n x.0))
         s
+
+pub alike_more : (nodes : List Node) (a b : ℕ) (set : List ℕ) (k v : ℕ) → k < length set → v ≡ get_or set k 0 → LeadAlike nodes a b (take k set) → LeadsAlike nodes a b v → LeadAlike nodes a b (take (k + 1) set)
+alike_more nodes a b set k v lt is front one =
+    subst (λ z. LeadAlike nodes a b z) (sym (take_more set k 0 lt ∙ ap (λ z. take k set ++ z ∷ []) (sym is)))
+    (λ p c. ⊎_elim (λ o. front p o) (λ (e : v ≡ p). subst (λ z. LeadsAlike nodes a b z) e one) (Contains-push_cases (take k set) v p c))
 
 pub starts_none : (nodes : List Node) (xs : List ℕ) → xs ≡ [] → AreStarts nodes 0 xs
 starts_none nodes xs e = subst (λ z. AreStarts nodes 0 z) (sym e) (record {

@@ -6,12 +6,12 @@ use Rattle.aa_patterns.specs.declared.pattern.Pattern.{Pattern}
 use Rattle.aa_items.specs.Globs.{Matches}
 use Rattle.aa_auto.specs.declared.net.Net.{Net}
 use Rattle.aa_auto.specs.Closed.{IsUpward, IsClosure}
-use Rattle.aa_auto.specs.Spots.{IsSpotsOf, AreSeeds}
+use Rattle.aa_auto.specs.Spots.{IsSpotsOf, AreSeeds, LeadAlike}
 use Rattle.aa_auto.specs.Finals.{AreFinals, ListsFinals}
 use Rattle.aa_auto.specs.Division.{AreClasses, AreClassesOf}
 use Rattle.aa_auto.specs.Nets.{IsNetOf, patterns_of, kept_of}
-use Rattle.aa_auto.specs.Explored.{Follows, Lists}
-use Rattle.aa_auto.proofs.SpotsLemmas.{spots_follow}
+use Rattle.aa_auto.specs.Explored.{Follows, Lists, Goes}
+use Rattle.aa_auto.proofs.SpotsLemmas.{spots_follow, spots_alike}
 use Rattle.aa_auto.proofs.ExploredLemmas.{length_kept}
 use Rattle.aa_auto.proofs.JumpLemmas.{lists, tells_sources, upward}
 
@@ -26,6 +26,14 @@ module _ (net : Net) (is : IsNetOf net) where
   follows byte old seeds new seeded closed = record {
     spots = λ s t leads stood.
         spots_follow (kept_of net) net.nodes.items (lists net.jumps.items) byte old seeds new s t (omega (arith, length_kept net, is.many)) is.tells is.jumps seeded closed leads stood;
+  }
+
+  -- a byte that leads alike goes the same way
+  pub goes_alike : (sets : List (List ℕ)) (row a b next : ℕ) → LeadAlike net.nodes.items a b (get_or sets row []) → Goes net sets row a next → Goes net sets row b next
+  goes_alike sets row a b next like goes = record {
+    within = goes.within;
+    step = λ s spots.
+        spots_alike (kept_of net) net.nodes.items a b (get_or sets row []) (get_or sets next []) s (omega (arith, length_kept net, is.many)) is.tells like spots.exact (goes.step s spots);
   }
 
   pub spots_below : (set s : List ℕ) → IsSpotsOf (kept_of net) set s → (n : ℕ) → Contains set n → n < length net.nodes.items

@@ -1,5 +1,5 @@
 -- The closed set of the positions that a byte leads to is that of the longer text.
-use Rattle.std.proofs.Common.{Contains, ◌≡◌, ℕ, ◌+◌, ◌-◌, ◌<◌, ◌↔◌, ◌⊎◌, Option, Some, None, List, [], ◌∷◌, ◌++◌, length, get_or, suc, zero, refl, sym, subst, inl, inr, ⊎_elim, arith, length-append, append_assoc}
+use Rattle.std.proofs.Common.{Contains, ◌≡◌, ℕ, ◌+◌, ◌-◌, ◌<◌, ◌↔◌, ◌⊎◌, Option, Some, None, List, [], ◌∷◌, ◌++◌, length, get_or, suc, zero, refl, sym, ap, ◌∙◌, subst, inl, inr, ⊎_elim, arith, length-append, append_assoc}
 use Rattle.aa_items.specs.declared.item.Item.{Item}
 use Rattle.aa_items.specs.Globs.{Matches}
 use Rattle.aa_auto.specs.declared.nodes.Node.{Node}
@@ -8,7 +8,7 @@ use Rattle.aa_items.specs.Steps.{Begins, Continues, IsSkippable}
 use Rattle.aa_auto.specs.Nodes.{Fits, IsRight, AllRight}
 use Rattle.aa_auto.specs.Merged.{Tells}
 use Rattle.aa_auto.specs.Closed.{IsClosure}
-use Rattle.aa_auto.specs.Spots.{Stands, IsSpotsOf, Jumps, AreJumps, Seeds, AreSeeds, Leads, Stood}
+use Rattle.aa_auto.specs.Spots.{Stands, IsSpotsOf, Jumps, AreJumps, Seeds, AreSeeds, Leads, Stood, BeginsNode, ContinuesNode, LeadAlike}
 use Rattle.aa_patterns.proofs.Texts.{Matches-skip, Matches-grow}
 
 -- each list fits in itself
@@ -157,6 +157,42 @@ spots_follow hs nodes rows byte old seeds new s t many tells jumps seeded closed
     below : (m n : ℕ) → n < m → Contains new n ↔ ((n < length hs) × Matches (get_or hs n []) t)
     below zero n lt = absurd (omega arith)
     below (suc m) n lt = (to n (λ k l. below m k (omega (arith, l, lt))), from n (λ k l. below m k (omega (arith, l, lt))))
+
+-- bytes that lead alike have the same seeds
+alike_seeds : (nodes : List Node) (a b : ℕ) (old : List ℕ) → LeadAlike nodes a b old → (n : ℕ) (node : Node) → node ≡ get_or nodes n Start → Seeds (Some a) old node n → Seeds (Some b) old node n
+alike_seeds nodes a b old like n Start e s = absurd s
+alike_seeds nodes a b old like n (Same q) e s = absurd s
+alike_seeds nodes a b old like n (Join ends) e s = absurd s
+alike_seeds nodes a b old like n (After i) e s =
+    ⊎_elim
+    (λ (x : (p : ℕ) × (n ≡ p + 1) × Contains old p × Begins i.now a).
+    let here : get_or nodes (x.0 + 1) Start ≡ After i = ap (λ k. get_or nodes k Start) (sym x.1) ∙ sym e in
+    inl (x.0, x.1, x.2, subst (λ z. BeginsNode z b) here ((like x.0 x.2).0.0 (subst (λ z. BeginsNode z a) (sym here) x.3))))
+    (λ (x : Contains old n × Continues i.now a).
+    inr (x.0, subst (λ z. ContinuesNode z b) (sym e) ((like n x.0).1.0 (subst (λ z. ContinuesNode z a) e x.1))))
+    s
+
+-- so the set of a text and the one byte is that of the text and the other
+pub spots_alike : (hs : List (List Item)) (nodes : List Node) (a b : ℕ) (old new s : List ℕ) →
+    length nodes ≡ length hs → ((n : ℕ) → n < length nodes → Tells hs n (get_or nodes n Start)) → LeadAlike nodes a b old → Stands hs old s → IsSpotsOf hs new (s ++ a ∷ []) →
+    IsSpotsOf hs new (s ++ b ∷ [])
+spots_alike hs nodes a b old new s many tells like was spots = record {
+  rising = spots.rising;
+  exact = λ n. (
+    λ c. let m = (spots.exact n).0 c in let e : n < n + 1 = omega arith in (m.0, there a b like (n + 1) n e m.0 m.1),
+    λ m. let e : n < n + 1 = omega arith in (spots.exact n).1 (m.0, there b a (λ p c. let l = like p c in ((l.0.1, l.0.0), (l.1.1, l.1.0))) (n + 1) n e m.0 m.1),
+  );
+}
+  where
+    there : (x y : ℕ) → LeadAlike nodes x y old → (m n : ℕ) → n < m → n < length hs → Matches (get_or hs n []) (s ++ x ∷ []) → Matches (get_or hs n []) (s ++ y ∷ [])
+    there x y alike zero n lt inside h = absurd (omega arith)
+    there x y alike (suc m) n lt inside h =
+        (meaning hs (Some y) old s (s ++ y ∷ []) refl was n (get_or nodes n Start) inside (tells n (omega (arith, inside, many)))).1
+        (⊎_elim
+        (λ z. inl (alike_seeds nodes x y old alike n (get_or nodes n Start) refl z))
+        (λ (j : (p : ℕ) × (p < n) × Jumps (get_or nodes n Start) n p × Matches (get_or hs p []) (s ++ x ∷ [])).
+        inr (j.0, j.1, j.2, there x y alike m j.0 (omega (arith, j.1, lt)) (omega (arith, j.1, inside)) j.3))
+        ((meaning hs (Some x) old s (s ++ x ∷ []) refl was n (get_or nodes n Start) inside (tells n (omega (arith, inside, many)))).0 h))
 
 -- which positions two texts stand at
 pub same_spots : (hs : List (List Item)) (x : List ℕ) (s t : List ℕ) → Stands hs x s → Stands hs x t → (n : ℕ) → n < length hs → Matches (get_or hs n []) s ↔ Matches (get_or hs n []) t

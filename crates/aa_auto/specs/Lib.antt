@@ -11,6 +11,7 @@ pub mod Found
 pub mod Merged
 pub mod Nets
 pub mod Nodes
+pub mod Noted
 pub mod Sorted
 pub mod Spots
 pub mod Tables

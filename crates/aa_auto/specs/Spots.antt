@@ -78,6 +78,14 @@ BeginsAt nodes n b = BeginsNode (slice_index_or nodes n Start) b
 abbrev pub ContinuesAt : List Node → ℕ → ℕ → Type 0
 ContinuesAt nodes n b = ContinuesNode (slice_index_or nodes n Start) b
 
+-- two bytes lead to the same positions from this one
+abbrev pub LeadsAlike : List Node → ℕ → ℕ → ℕ → Type 0
+LeadsAlike nodes a b p = (BeginsAt nodes (p + 1) a ↔ BeginsAt nodes (p + 1) b) × (ContinuesAt nodes p a ↔ ContinuesAt nodes p b)
+
+-- so from each of these
+abbrev pub LeadAlike : List Node → ℕ → ℕ → List ℕ → Type 0
+LeadAlike nodes a b set = (p : ℕ) → Contains set p → LeadsAlike nodes a b p
+
 -- the positions that the byte leads to from these
 pub record MovesFrom (nodes : List Node) (byte : ℕ) (old new : List ℕ) : Type 0 where
   pub rising : IsStrictlyIncreasing new

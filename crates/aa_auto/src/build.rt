@@ -1,13 +1,15 @@
 //! How all sets of positions that some text stands at are found, row by row.
 
-ghost use Rattle.std.specs.Prelude.{◌≡◌, ◌+◌, ◌*◌, ◌<◌, ◌≤◌, ◌++◌, ℕ, Contains, IfOk, IfErr, OnOk, Err, length, slice_get, Some};
+ghost use Rattle.std.specs.Prelude.{◌≡◌, ◌+◌, ◌*◌, ◌<◌, ◌≤◌, ◌++◌, ℕ, Contains, IfOk, IfErr, OnOk, Err, length, slice_get, slice_index_or, [], Some};
 ghost use Rattle.aa_auto.specs.Apart.{IsApart};
 ghost use Rattle.aa_auto.specs.Explored.{AreReached, AreFilled, AreListed, Goes, Extends, IsExplored, TakesSet};
 ghost use Rattle.aa_auto.specs.Found.{numbers_of};
 ghost use Rattle.aa_auto.specs.Nets.{IsNetOf, patterns_of};
+ghost use Rattle.aa_auto.specs.Noted.{AreNoted};
 ghost use Rattle.aa_auto.specs.Tables.{HasPlaces};
 
 use crate::net::Net;
+use crate::noted::Noted;
 use crate::sets::Sets;
 use std::alloc::{AllocError, AllocFailed, Global};
 use thiserror::Error;
@@ -107,6 +109,53 @@ fn next_row(
     Ok(next)
 }
 
+/// The byte that a row's others are compared with: no text in UTF-8 has it, so that few patterns name it.
+const USUAL: u8 = 255;
+
+/// What is noted of a row's positions.
+fn noted_row(alloc: Global, net: &Net, row: usize, sets: &Sets) -> Result<Noted, AllocError>
+    requires net { IsNetOf net.now }
+    requires reached { AreReached net.now sets.now }
+    requires row { row < length sets.now }
+    ensures { IfOk result (λ t. AreNoted net.now.nodes.items (slice_index_or sets.now row []) t.named.items t.asked.items) }
+{
+    let Some(set) = sets.get(row) else {
+        unreachable!()
+    };
+    net.noted(alloc, set)
+}
+
+/// The number of the set that the byte leads to: `next` where it leads as the usual byte does, else as in `next_row`.
+fn cell_of(
+    alloc: Global,
+    net: &Net,
+    limit: usize,
+    row: usize,
+    byte: u8,
+    next: usize,
+    noted: &Noted,
+    found: &mut Found,
+) -> Result<usize, BuildFault>
+    requires net { IsNetOf net.now }
+    requires reached { AreReached net.now found.old.sets }
+    requires listed { AreListed net.now found.old.sets (numbers_of found.old) }
+    requires row { row < length found.old.sets }
+    requires few { length found.old.sets ≤ limit }
+    requires usual { Goes net.now found.old.sets row 255 next }
+    requires noted { AreNoted net.now.nodes.items (slice_index_or found.old.sets row []) noted.now.named.items noted.now.asked.items }
+    ensures reached { OnOk result (AreReached net.now found.new.sets) }
+    ensures listed { OnOk result (AreListed net.now found.new.sets (numbers_of found.new)) }
+    ensures goes { IfOk result (λ cell. Goes net.now found.new.sets row byte cell) }
+    ensures extends { OnOk result (Extends found.old.sets found.new.sets) }
+    ensures few { OnOk result (length found.new.sets ≤ limit) }
+    ensures too_many { result ≡ Err BuildFault.TooManyStates → HasPlaces (patterns_of net.now) (limit + 1) }
+{
+    if net.lead_alike(USUAL, byte, noted) {
+        return Ok(next);
+    }
+    next_row(alloc, net, limit, row, byte, found)
+}
+
 /// Adds the cells of a row, one for each class of bytes.
 fn fill_row(
     alloc: Global,
@@ -133,8 +182,10 @@ fn fill_row(
     ensures few { OnOk result (length found.new.sets ≤ limit) }
     ensures too_many { result ≡ Err BuildFault.TooManyStates → HasPlaces (patterns_of net.now) (limit + 1) }
 {
+    let usual = next_row(alloc, net, limit, row, USUAL, found)?;
+    let noted = noted_row(alloc, net, row, &found.sets)?;
     for byte in bytes {
-        let next = next_row(alloc, net, limit, row, *byte, found)?;
+        let next = cell_of(alloc, net, limit, row, *byte, usual, &noted, found)?;
         cells.push(next as u32)?;
     }
     Ok(())

@@ -11,6 +11,7 @@ mod merging;
 mod moves;
 mod net;
 mod nodes;
+mod noted;
 mod sets;
 mod sorted;
 

@@ -3,7 +3,7 @@
 ghost use Rattle.std.specs.Prelude.{◌↔◌, ◌<◌, ℕ, IsTrue, IfOk, OnOk, Contains, None, [], length};
 ghost use Rattle.std.specs.List.Sorted.{IsStrictlyIncreasing};
 ghost use Rattle.aa_auto.specs.Sorted.{InsertsIf};
-ghost use Rattle.aa_auto.specs.Spots.{AddsMoves, AreSeeds, MovesFrom, BeginsAt, ContinuesAt, IsStart};
+ghost use Rattle.aa_auto.specs.Spots.{AddsMoves, AreSeeds, MovesFrom, BeginsAt, ContinuesAt, IsStart, LeadsAlike, LeadAlike};
 
 use crate::nodes::Node;
 use crate::sorted::insert;
@@ -82,6 +82,31 @@ pub(crate) fn moved(
         move_from(nodes, byte, *start, &mut new)?;
     }
     Ok(new)
+}
+
+/// Whether two bytes lead to the same positions from this one.
+fn leads_alike(nodes: &[Node], a: u8, b: u8, start: u32) -> bool
+    requires start { start < length nodes.now }
+    requires few { length nodes.now < 4294967296 }
+    ensures { IsTrue result → LeadsAlike nodes.now a b start }
+{
+    let next = start + 1;
+    begins_at(nodes, next as usize, a) == begins_at(nodes, next as usize, b)
+        && continues_at(nodes, start as usize, a) == continues_at(nodes, start as usize, b)
+}
+
+/// Whether two bytes lead to the same positions from each of the set.
+pub(crate) fn lead_alike(nodes: &[Node], a: u8, b: u8, set: &[u32]) -> bool
+    requires within { (n : ℕ) → Contains set.now n → n < length nodes.now }
+    requires few { length nodes.now < 4294967296 }
+    ensures { IsTrue result → LeadAlike nodes.now a b set.now }
+{
+    for start in set {
+        if !leads_alike(nodes, a, b, *start) {
+            return false;
+        }
+    }
+    true
 }
 
 /// The positions that nothing stands before.

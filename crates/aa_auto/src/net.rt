@@ -11,6 +11,7 @@ use crate::jumps::jumps_of;
 use crate::merging::{Kept, merge_nodes};
 use crate::moves::{beginnings, moved};
 use crate::nodes::{Node, nodes_of};
+use crate::noted::{Noted, noted_of};
 use aa_patterns::Pattern;
 use std::alloc::{AllocError, Global};
 
@@ -63,9 +64,11 @@ pub(crate) fn net_of<'a>(alloc: Global, patterns: &'a [&'a Pattern]) -> Result<N
 }
 
 impl Net<'_> {
-    ghost use Rattle.std.specs.Prelude.{ℕ, ◌<◌, IfOk, Some, None, [], Contains, length};
+    ghost use Rattle.std.specs.Prelude.{ℕ, ◌≡◌, ◌<◌, IfOk, IsTrue, List, Some, None, [], Contains, length};
     ghost use Rattle.aa_auto.specs.Nets.{IsNetOf, patterns_of};
     ghost use Rattle.aa_auto.specs.Explored.{Follows, Lists};
+    ghost use Rattle.aa_auto.specs.Noted.{AreNoted};
+    ghost use Rattle.aa_auto.specs.Spots.{LeadAlike};
     ghost use Rattle.aa_auto.specs.Division.{AreClassesOf};
 
     /// The classes of the bytes that no item of the patterns tells apart.
@@ -93,6 +96,25 @@ impl Net<'_> {
     {
         let seeds = moved(alloc, self.nodes.as_slice(), byte, old)?;
         closed(alloc, self.jumps.as_slice(), seeds.as_slice())
+    }
+
+    /// What is noted of the positions of a set.
+    pub(crate) fn noted(&self, alloc: Global, set: &[u32]) -> Result<Noted, AllocError>
+        requires net { IsNetOf self.now }
+        requires set { (n : ℕ) → Contains set.now n → n < length self.now.nodes.items }
+        ensures { IfOk result (λ t. AreNoted self.now.nodes.items set.now t.named.items t.asked.items) }
+    {
+        noted_of(alloc, self.nodes.as_slice(), set)
+    }
+
+    /// Whether two bytes lead to the same positions from those that were noted.
+    pub(crate) fn lead_alike(&self, a: u8, b: u8, noted: &Noted) -> bool
+        requires net { IsNetOf self.now }
+        requires named { length noted.now.named.items ≡ 256 }
+        requires asked { (n : ℕ) → Contains noted.now.asked.items n → n < length self.now.nodes.items }
+        ensures { IsTrue result → (set : List ℕ) → AreNoted self.now.nodes.items set noted.now.named.items noted.now.asked.items → LeadAlike self.now.nodes.items a b set }
+    {
+        noted.lead_alike(self.nodes.as_slice(), a, b)
     }
 
     /// The numbers of the patterns that match a text that stands at the positions, rising.

@@ -1,16 +1,32 @@
 use Rattle.std.proofs.Common.{refl, sym, subst, arith}
 use Rattle.aa_auto.specs.Explored.{AreFilled}
-use Rattle.aa_auto.proofs.CellLemmas.{longer, filled_more}
+use Rattle.aa_auto.specs.Noted.{AreNoted}
+use Rattle.aa_auto.proofs.CellLemmas.{kept, longer, filled_more, filled_on, goes_on}
 use Rattle.aa_auto.proofs.build.fill_row.Goals as goal
+
+pub loop-byte-init : goal.loop-byte-init
+loop-byte-init c = record {
+  reached = c.in_ok-usual.ensures.reached;
+  listed = c.in_ok-usual.ensures.listed;
+  filled = filled_on c.args.net.now c.args.found.now.sets c.next_row.new.found.sets c.in_ok-usual.ensures.extends c.args.bytes.now c.args.cells.now.items c.args.row c.requires.cells c.requires.row c.requires.filled;
+  usual = c.in_ok-usual.ensures.goes;
+  noted = c.in_ok-noted.ensures;
+  many = omega (arith, c.requires.cells);
+  row = omega (arith, c.requires.row, longer c.args.net.now c.args.found.now.sets c.next_row.new.found.sets c.in_ok-usual.ensures.extends);
+  few = c.in_ok-usual.ensures.few;
+}
 
 pub loop-byte-preserved : goal.loop-byte-preserved
 loop-byte-preserved c = record {
   reached = c.in_ok-next.ensures.reached;
   listed = c.in_ok-next.ensures.listed;
-  filled = subst (λ z. AreFilled c.args.net.now c.next_row.new.found.sets c.args.bytes.now z) (sym c.in_ok-push.ensures.items)
-      (filled_more c.args.net.now c.loop-byte.found.sets c.next_row.new.found.sets c.in_ok-next.ensures.extends c.args.bytes.now c.loop-byte.cells.items c.args.row c.loop-byte.byte-index _ c.in_ok-next.next
+  filled = subst (λ z. AreFilled c.args.net.now c.cell_of.new.found.sets c.args.bytes.now z) (sym c.in_ok-push.ensures.items)
+      (filled_more c.args.net.now c.loop-byte.found.sets c.cell_of.new.found.sets c.in_ok-next.ensures.extends c.args.bytes.now c.loop-byte.cells.items c.args.row c.loop-byte.byte-index _ c.in_ok-next.next
       c.loop-byte.invariant.many c.loop-byte-test.true refl c.loop-byte.invariant.row c.loop-byte.invariant.filled c.in_ok-next.ensures.goes);
+  usual = goes_on c.args.net.now c.loop-byte.found.sets c.cell_of.new.found.sets c.in_ok-next.ensures.extends c.args.row 255 c.in_ok-usual.usual c.loop-byte.invariant.row c.loop-byte.invariant.usual;
+  noted = subst (λ z. AreNoted c.args.net.now.nodes.items z c.in_ok-noted.noted.named.items c.in_ok-noted.noted.asked.items)
+      (sym (kept c.args.net.now c.loop-byte.found.sets c.cell_of.new.found.sets c.in_ok-next.ensures.extends c.args.row c.loop-byte.invariant.row)) c.loop-byte.invariant.noted;
   many = omega (arith, c.loop-byte.invariant.many, c.in_ok-push.ensures.len, c.push.new.self.ok, c.loop-byte.cells.ok);
-  row = omega (arith, c.loop-byte.invariant.row, longer c.args.net.now c.loop-byte.found.sets c.next_row.new.found.sets c.in_ok-next.ensures.extends);
+  row = omega (arith, c.loop-byte.invariant.row, longer c.args.net.now c.loop-byte.found.sets c.cell_of.new.found.sets c.in_ok-next.ensures.extends);
   few = c.in_ok-next.ensures.few;
 }

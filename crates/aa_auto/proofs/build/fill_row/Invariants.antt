@@ -1,5 +1,6 @@
-use Rattle.std.proofs.Common.{◌≡◌, ◌+◌, ◌*◌, ◌<◌, ◌≤◌, length}
-use Rattle.aa_auto.specs.Explored.{AreReached, AreFilled, AreListed}
+use Rattle.std.proofs.Common.{◌≡◌, ◌+◌, ◌*◌, ◌<◌, ◌≤◌, [], length, get_or}
+use Rattle.aa_auto.specs.Explored.{AreReached, AreFilled, AreListed, Goes}
+use Rattle.aa_auto.specs.Noted.{AreNoted}
 use Rattle.aa_auto.specs.Found.{numbers_of}
 use Rattle.aa_auto.proofs.build.fill_row.Given as goal
 
@@ -8,6 +9,8 @@ invariant-loop-byte l = record {
   reached : AreReached l.net l.found.sets;
   listed : AreListed l.net l.found.sets (numbers_of l.found);
   filled : AreFilled l.net l.found.sets l.bytes l.cells.items;
+  usual : Goes l.net l.found.sets l.row 255 l.usual;
+  noted : AreNoted l.net.nodes.items (get_or l.found.sets l.row []) l.noted.named.items l.noted.asked.items;
   many : length l.cells.items ≡ length l.bytes * l.row + l.byte-index;
   row : l.row < length l.found.sets;
   few : length l.found.sets ≤ l.limit;
