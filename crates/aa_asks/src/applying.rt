@@ -9,7 +9,7 @@ use aa_patterns::Pattern;
 use aa_policy::FileRule;
 
 /// Whether the pattern matches the path.
-fn is_matched(pattern: &Pattern, path: &[u8]) -> bool
+pub(crate) fn is_matched(pattern: &Pattern, path: &[u8]) -> bool
     ensures { result ≡ is_match pattern.now.items.items path.now }
 {
     pattern.matches(path)

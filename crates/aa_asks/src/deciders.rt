@@ -1,8 +1,14 @@
 //! The rules that decide a request.
 
-use crate::applying::{applies, applies_literally, says_how};
+ghost use Rattle.std.specs.Prelude.{◌≡◌, ◌++◌, map, option_map, option_to_list, OnOk, IfOk};
+ghost use Rattle.std.specs.List.{list_any};
+ghost use Rattle.aa_said.specs.Said.{minus};
+ghost use Rattle.aa_asks.specs.Deciders.{part_of, decider_if, naming_from, first_allowing_from, unnamed, reasons, reasons_by, exec_reasons, granted_beside};
+ghost use Rattle.aa_asks.specs.Sayings.{file_saying, says_how_literally, chooses, is_denial, exec_saying, exec_sayings, has_entry, bit_saying, cap_saying, net_holds, net_saying, change_holds, change_saying, reasons_of, target_reasons};
+
+use crate::applying::{applies, applies_literally, is_matched, says_how};
 use aa_policy::{CapRule, ChangeRule, FileRule, NetRule, Profile};
-use aa_requests::Request;
+use aa_requests::{ExecRequest, Request};
 use aa_tables::{Cap, Family, Perms, SockType};
 use bitflags::Flags;
 use std::alloc::{AllocError, Global};
@@ -44,51 +50,114 @@ pub struct Saying {
     pub perms: Perms,
 }
 
-/// The decider that a rule is that denies some of what is asked.
-fn denier(number: usize, saying: Saying, asked: Perms) -> Option<Decider> {
-    let perms = saying.perms.intersection(asked);
-    if saying.holds && saying.deny && !perms.is_empty() {
-        Some(Decider {
-            rule: number,
-            perms,
-        })
+/// What a rule names of these permissions, if it speaks of the object with that verdict.
+fn part_of(saying: Saying, deny: bool, asked: Perms) -> Perms
+    ensures { result.0 ≡ part_of deny saying asked.0 }
+{
+    let is_meant = if deny { saying.deny } else { !saying.deny };
+    if saying.holds && is_meant {
+        saying.perms.intersection(asked)
     } else {
-        None
+        Perms(0)
     }
 }
 
-/// The decider that a rule is that allows some of what is left.
-fn allower(number: usize, saying: Saying, left: Perms) -> Option<Decider> {
-    let perms = saying.perms.intersection(left);
-    if saying.holds && !saying.deny && !perms.is_empty() {
-        Some(Decider {
-            rule: number,
-            perms,
-        })
-    } else {
-        None
+/// What is left without what was taken.
+fn left_of(left: Perms, taken: Perms) -> Perms
+    ensures { result.0 ≡ minus left.0 taken.0 }
+{
+    left.difference(taken)
+}
+
+/// A rule decides these permissions, if they are any.
+fn decider_if(number: usize, perms: Perms) -> Option<Decider>
+    ensures { result ≡ decider_if number perms.0 }
+{
+    if perms.is_empty() {
+        return None;
     }
+    Some(Decider {
+        rule: number,
+        perms,
+    })
+}
+
+fn push_any(found: &mut Vec<Decider>, decider: Option<Decider>) -> Result<(), AllocError>
+    ensures { OnOk result (found.new.items ≡ found.old.items ++ option_to_list decider) }
+{
+    if let Some(decider) = decider {
+        found.push(decider)?;
+    }
+    Ok(())
+}
+
+/// The rules with that verdict that name some of what is asked.
+fn naming(
+    alloc: Global,
+    sayings: &[Saying],
+    deny: bool,
+    asked: Perms,
+) -> Result<Vec<Decider>, AllocError>
+    ensures { IfOk result (λ found. found.items ≡ naming_from deny asked.0 0 sayings.now) }
+{
+    let mut found = Vec::new(alloc);
+    for (number, saying) in sayings.iter().enumerate() {
+        push_any(
+            &mut found,
+            decider_if(number, part_of(*saying, deny, asked)),
+        )?;
+    }
+    Ok(found)
+}
+
+/// The rules that allow some of what no rule before them allows.
+fn first_allowing(
+    alloc: Global,
+    sayings: &[Saying],
+    asked: Perms,
+) -> Result<Vec<Decider>, AllocError>
+    ensures { IfOk result (λ found. found.items ≡ first_allowing_from asked.0 0 sayings.now) }
+{
+    let mut found = Vec::new(alloc);
+    let mut left = asked;
+    for (number, saying) in sayings.iter().enumerate() {
+        let allowed = part_of(*saying, false, left);
+        push_any(&mut found, decider_if(number, allowed))?;
+        left = left_of(left, allowed);
+    }
+    Ok(found)
+}
+
+/// What no rule with that verdict names of what is asked.
+fn unnamed(sayings: &[Saying], deny: bool, asked: Perms) -> Perms
+    ensures { result.0 ≡ unnamed deny asked.0 sayings.now }
+{
+    let mut left = asked;
+    for saying in sayings {
+        left = left_of(left, part_of(*saying, deny, left));
+    }
+    left
 }
 
 /// The reason for an execution: the rules that deny it, else all that choose how it goes.
-fn exec_deciders(alloc: Global, sayings: &[Saying]) -> Result<Deciders, AllocError> {
-    let mut denies = Vec::new(alloc);
-    let mut allows = Vec::new(alloc);
-    for (number, saying) in sayings.iter().enumerate() {
-        if let Some(decider) = denier(number, *saying, Perms::EXEC) {
-            denies.push(decider)?;
-        }
-        if let Some(decider) = allower(number, *saying, Perms::EXEC) {
-            allows.push(decider)?;
-        }
+#[tactic(auto, unfolding(crate::specs::Deciders::exec_reasons))]
+fn exec_deciders(alloc: Global, sayings: &[Saying]) -> Result<Deciders, AllocError>
+    ensures { IfOk result (λ d. reasons d ≡ exec_reasons sayings.now) }
+{
+    let denies = naming(alloc, sayings, true, Perms::EXEC)?;
+    if !denies.is_empty() {
+        return Ok(Deciders {
+            listed: Listed::Files,
+            denies,
+            allows: Vec::new(alloc),
+            lacking: Perms(0),
+        });
     }
-    let is_denied = !denies.is_empty();
-    let is_lacking = !is_denied && allows.is_empty();
     Ok(Deciders {
         listed: Listed::Files,
         denies,
-        allows: if is_denied { Vec::new(alloc) } else { allows },
-        lacking: if is_lacking { Perms::EXEC } else { Perms(0) },
+        allows: naming(alloc, sayings, false, Perms::EXEC)?,
+        lacking: unnamed(sayings, false, Perms::EXEC),
     })
 }
 
@@ -98,28 +167,26 @@ fn deciders_by(
     listed: Listed,
     sayings: &[Saying],
     asked: Perms,
-) -> Result<Deciders, AllocError> {
-    let mut denies = Vec::new(alloc);
-    let mut left = asked;
-    for (number, saying) in sayings.iter().enumerate() {
-        if let Some(decider) = denier(number, *saying, asked) {
-            left = left.difference(decider.perms);
-            denies.push(decider)?;
-        }
-    }
-    let mut allows = Vec::new(alloc);
-    for (number, saying) in sayings.iter().enumerate() {
-        if let Some(decider) = allower(number, *saying, left) {
-            left = left.difference(decider.perms);
-            allows.push(decider)?;
-        }
-    }
+) -> Result<Deciders, AllocError>
+    ensures { IfOk result (λ d. reasons d ≡ reasons_by listed sayings.now asked.0) }
+{
+    let left = unnamed(sayings, true, asked);
     Ok(Deciders {
         listed,
-        denies,
-        allows,
-        lacking: left,
+        denies: naming(alloc, sayings, true, asked)?,
+        allows: first_allowing(alloc, sayings, left)?,
+        lacking: unnamed(sayings, false, left),
     })
+}
+
+fn file_saying(rule: &FileRule, path: &[u8], owned: bool) -> Saying
+    ensures { result ≡ file_saying path.now owned rule.now }
+{
+    Saying {
+        holds: applies(rule, path, owned),
+        deny: rule.deny,
+        perms: rule.perms,
+    }
 }
 
 fn file_sayings(
@@ -127,16 +194,70 @@ fn file_sayings(
     rules: &[FileRule],
     path: &[u8],
     owned: bool,
-) -> Result<Vec<Saying>, AllocError> {
-    let mut sayings = Vec::new(alloc);
-    for rule in rules {
-        sayings.push(Saying {
-            holds: applies(rule, path, owned),
-            deny: rule.deny,
-            perms: rule.perms,
-        })?;
+) -> Result<Vec<Saying>, AllocError>
+    ensures { IfOk result (λ s. s.items ≡ map (file_saying path.now owned) rules.now) }
+{
+    rules
+        .iter()
+        .map(|rule| file_saying(rule, path, owned))
+        .collect(alloc)
+}
+
+fn says_how_literally(rule: &FileRule, path: &[u8], owned: bool) -> bool
+    ensures { result ≡ says_how_literally path.now owned rule.now }
+{
+    says_how(rule) && applies_literally(rule, path, owned)
+}
+
+/// Whether a rule says how by a pattern of bytes alone, so that those that do so choose.
+fn is_told_literally(rules: &[FileRule], path: &[u8], owned: bool) -> bool
+    ensures { result ≡ list_any (says_how_literally path.now owned) rules.now }
+{
+    rules
+        .iter()
+        .any(|rule| says_how_literally(rule, path, owned))
+}
+
+/// Whether a rule is one of those that choose how a program is executed.
+fn chooses(rule: &FileRule, path: &[u8], owned: bool, literally: bool) -> bool
+    ensures { result ≡ chooses literally path.now owned rule.now }
+{
+    if literally {
+        says_how_literally(rule, path, owned)
+    } else {
+        says_how(rule) && applies(rule, path, owned)
     }
-    Ok(sayings)
+}
+
+fn is_denial(rule: &FileRule, path: &[u8], owned: bool) -> bool
+    ensures { result ≡ is_denial path.now owned rule.now }
+{
+    rule.deny && applies(rule, path, owned)
+}
+
+fn exec_saying(rule: &FileRule, path: &[u8], owned: bool, literally: bool) -> Saying
+    ensures { result ≡ exec_saying literally path.now owned rule.now }
+{
+    Saying {
+        holds: chooses(rule, path, owned, literally) || is_denial(rule, path, owned),
+        deny: rule.deny,
+        perms: rule.perms,
+    }
+}
+
+fn exec_sayings_by(
+    alloc: Global,
+    rules: &[FileRule],
+    path: &[u8],
+    owned: bool,
+    literally: bool,
+) -> Result<Vec<Saying>, AllocError>
+    ensures { IfOk result (λ s. s.items ≡ map (exec_saying literally path.now owned) rules.now) }
+{
+    rules
+        .iter()
+        .map(|rule| exec_saying(rule, path, owned, literally))
+        .collect(alloc)
 }
 
 /// For each rule whether it is one of those that choose how a program is executed, or denies that it is: those that say how and apply
@@ -146,39 +267,75 @@ fn exec_sayings(
     rules: &[FileRule],
     path: &[u8],
     owned: bool,
-) -> Result<Vec<Saying>, AllocError> {
-    let literally = rules.iter().any(|rule| says_how(rule) && applies_literally(rule, path, owned));
-    let mut sayings = Vec::new(alloc);
-    for rule in rules {
-        let chosen = says_how(rule)
-            && applies(rule, path, owned)
-            && (!literally || applies_literally(rule, path, owned));
-        let denies = rule.deny && applies(rule, path, owned);
-        sayings.push(Saying {
-            holds: chosen || denies,
-            deny: rule.deny,
-            perms: rule.perms,
-        })?;
-    }
-    Ok(sayings)
+) -> Result<Vec<Saying>, AllocError>
+    ensures { IfOk result (λ s. s.items ≡ exec_sayings path.now owned rules.now) }
+{
+    let literally = is_told_literally(rules, path, owned);
+    exec_sayings_by(alloc, rules, path, owned, literally)
 }
 
+fn exec_deciders_of(
+    alloc: Global,
+    rules: &[FileRule],
+    exec: &ExecRequest,
+) -> Result<Deciders, AllocError>
+    ensures { IfOk result (λ d. reasons d ≡ exec_reasons (exec_sayings exec.now.path exec.now.owned rules.now)) }
+{
+    let sayings = exec_sayings(alloc, rules, exec.path(), exec.owned())?;
+    exec_deciders(alloc, sayings.as_slice())
+}
+
+/// The one bit of a request that isn't about a file.
 const BIT: Perms = Perms::READ;
 
-fn holds_bit(bits: u64, number: u8) -> bool {
-    number < 64 && (bits >> number) & 1 == 1
+/// The bits of all permissions but LINK and EXEC.
+const BESIDE_LINK: Perms = Perms(55);
+
+fn holds_bit(bits: u64, number: u8) -> bool
+    ensures { result ≡ has_entry bits number }
+{
+    if number >= 64 {
+        return false;
+    }
+    (bits >> number) & 1 == 1
 }
 
-fn cap_sayings(alloc: Global, rules: &[CapRule], cap: Cap) -> Result<Vec<Saying>, AllocError> {
-    let mut sayings = Vec::new(alloc);
-    for rule in rules {
-        sayings.push(Saying {
-            holds: holds_bit(rule.caps.0, cap.number()),
-            deny: rule.deny,
-            perms: BIT,
-        })?;
+/// What a rule that isn't about files says, on one bit.
+fn saying_of(holds: bool, deny: bool) -> Saying
+    ensures { result ≡ bit_saying holds deny }
+{
+    Saying {
+        holds,
+        deny,
+        perms: BIT,
     }
-    Ok(sayings)
+}
+
+fn cap_saying(rule: &CapRule, cap: Cap) -> Saying
+    ensures { result ≡ cap_saying cap rule.now }
+{
+    saying_of(holds_bit(rule.caps.0, cap.number()), rule.deny)
+}
+
+fn cap_sayings(alloc: Global, rules: &[CapRule], cap: Cap) -> Result<Vec<Saying>, AllocError>
+    ensures { IfOk result (λ s. s.items ≡ map (cap_saying cap) rules.now) }
+{
+    rules
+        .iter()
+        .map(|rule| cap_saying(rule, cap))
+        .collect(alloc)
+}
+
+fn holds_net(rule: &NetRule, family: Family, kind: SockType) -> bool
+    ensures { result ≡ net_holds family kind rule.now }
+{
+    holds_bit(rule.families, family.number()) && holds_bit(u64::from(rule.kinds), kind.number())
+}
+
+fn net_saying(rule: &NetRule, family: Family, kind: SockType) -> Saying
+    ensures { result ≡ net_saying family kind rule.now }
+{
+    saying_of(holds_net(rule, family, kind), rule.deny)
 }
 
 fn net_sayings(
@@ -186,38 +343,42 @@ fn net_sayings(
     rules: &[NetRule],
     family: Family,
     kind: SockType,
-) -> Result<Vec<Saying>, AllocError> {
-    let mut sayings = Vec::new(alloc);
-    for rule in rules {
-        let holds = holds_bit(rule.families, family.number())
-            && holds_bit(u64::from(rule.kinds), kind.number());
-        sayings.push(Saying {
-            holds,
-            deny: rule.deny,
-            perms: BIT,
-        })?;
+) -> Result<Vec<Saying>, AllocError>
+    ensures { IfOk result (λ s. s.items ≡ map (net_saying family kind) rules.now) }
+{
+    rules
+        .iter()
+        .map(|rule| net_saying(rule, family, kind))
+        .collect(alloc)
+}
+
+/// Whether a rule holds for a name: one without a pattern holds for every name.
+fn holds_change(rule: &ChangeRule, name: &[u8]) -> bool
+    ensures { result ≡ change_holds name.now rule.now }
+{
+    match &rule.pattern {
+        Some(pattern) => is_matched(pattern, name),
+        None => true,
     }
-    Ok(sayings)
+}
+
+fn change_saying(rule: &ChangeRule, name: &[u8]) -> Saying
+    ensures { result ≡ change_saying name.now rule.now }
+{
+    saying_of(holds_change(rule, name), rule.deny)
 }
 
 fn change_sayings(
     alloc: Global,
     rules: &[ChangeRule],
     name: &[u8],
-) -> Result<Vec<Saying>, AllocError> {
-    let mut sayings = Vec::new(alloc);
-    for rule in rules {
-        let holds = match &rule.pattern {
-            Some(pattern) => pattern.matches(name),
-            None => true,
-        };
-        sayings.push(Saying {
-            holds,
-            deny: rule.deny,
-            perms: BIT,
-        })?;
-    }
-    Ok(sayings)
+) -> Result<Vec<Saying>, AllocError>
+    ensures { IfOk result (λ s. s.items ≡ map (change_saying name.now) rules.now) }
+{
+    rules
+        .iter()
+        .map(|rule| change_saying(rule, name))
+        .collect(alloc)
 }
 
 /// The reason for the answer to a request of a task in a profile: of a link that at the link's path.
@@ -225,7 +386,9 @@ pub fn deciders_of(
     alloc: Global,
     profile: &Profile,
     request: &Request,
-) -> Result<Option<Deciders>, AllocError> {
+) -> Result<Option<Deciders>, AllocError>
+    ensures { IfOk result (λ d. option_map reasons d ≡ reasons_of profile.now request.now) }
+{
     let files = profile.files.as_slice();
     let (listed, sayings, asked) = match request {
         Request::File(file) => (
@@ -239,8 +402,7 @@ pub fn deciders_of(
             Perms::LINK,
         ),
         Request::Exec(exec) => {
-            let sayings = exec_sayings(alloc, files, exec.path(), exec.owned())?;
-            return Ok(Some(exec_deciders(alloc, sayings.as_slice())?));
+            return Ok(Some(exec_deciders_of(alloc, files, exec)?));
         }
         Request::Cap(cap) => (
             Listed::Caps,
@@ -262,30 +424,28 @@ pub fn deciders_of(
     Ok(Some(deciders_by(alloc, listed, sayings.as_slice(), asked)?))
 }
 
+/// What the rules grant beside LINK and EXEC.
+fn granted_beside(sayings: &[Saying]) -> Perms
+    ensures { result.0 ≡ granted_beside sayings.now }
+{
+    let left = unnamed(sayings, true, BESIDE_LINK);
+    left_of(left, unnamed(sayings, false, left))
+}
+
 /// The reason for what a link's target has to grant: the permissions beside LINK and EXEC that the link's path grants.
 pub fn target_deciders(
     alloc: Global,
     profile: &Profile,
     request: &Request,
-) -> Result<Option<Deciders>, AllocError> {
+) -> Result<Option<Deciders>, AllocError>
+    ensures { IfOk result (λ d. option_map reasons d ≡ target_reasons profile.now request.now) }
+{
     let Request::Link(link) = request else {
         return Ok(None);
     };
     let files = profile.files.as_slice();
     let at_link = file_sayings(alloc, files, link.link(), link.owned())?;
-    let mut allowed = Perms(0);
-    let mut denied = Perms(0);
-    for saying in &at_link {
-        if saying.holds && saying.deny {
-            denied = denied.union(saying.perms);
-        }
-        if saying.holds && !saying.deny {
-            allowed = allowed.union(saying.perms);
-        }
-    }
-    let asked = allowed
-        .difference(denied)
-        .difference(Perms::LINK.union(Perms::EXEC));
+    let asked = granted_beside(at_link.as_slice());
     let sayings = file_sayings(alloc, files, link.target(), link.owned())?;
     Ok(Some(deciders_by(alloc, Listed::Files, sayings.as_slice(), asked)?))
 }

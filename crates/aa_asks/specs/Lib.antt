@@ -1,0 +1,2 @@
+pub mod Deciders
+pub mod Sayings
