@@ -1,42 +1,273 @@
-//! What `check` does.
+//! What `check` finds.
 
-use crate::report::{push_counts, push_fault, push_policy, push_refused, push_unread, unread_of};
-use crate::unit::{Unit, load};
-use aa_policy::{Policy, parse};
-use aa_words::{PolicyFault, PolicyKind, Sources, words};
-use std::alloc::{AllocError, AllocFailed, Global};
+use aa_compile::Compiled;
+use aa_output::{NoMemory, push_name};
+use aa_places::place_of;
+use aa_policy::{Policy, Profile};
+use aa_units::{
+    FaultReport, Unit, UnitFault, compile_unit, describe, load, push_text, roots_of, text_at,
+    unreadable,
+};
+use aa_words::PolicyKind;
+use std::alloc::{AllocError, Global};
 
-/// Memory ran out.
+/// Which files are read, and how.
 #[derive(Clone, Copy, Debug)]
-pub struct NoMemory;
-
-impl From<AllocError> for NoMemory {
-    fn from(_e: AllocError) -> NoMemory {
-        NoMemory
-    }
+pub struct Wanted<'a> {
+    pub base: &'a [u8],
+    /// The folders in which includes are searched, in order.
+    pub folders: &'a [&'a [u8]],
+    /// How many states an automaton may have.
+    pub states: u32,
 }
 
-impl<T: Drop> From<AllocFailed<T>> for NoMemory {
-    fn from(_e: AllocFailed<T>) -> NoMemory {
-        NoMemory
-    }
-}
-
-/// What is printed, and what it tells.
+/// What is counted of a profile.
 #[derive(Drop)]
-pub struct Report {
-    /// For standard output.
-    pub answers: Vec<u8>,
-    /// For standard error.
-    pub faults: Vec<u8>,
-    files: usize,
-    refused: usize,
-    profiles: usize,
-    /// Whether something couldn't be read.
-    is_unread: bool,
+pub struct ProfileReport {
+    pub name: Vec<u8>,
+    /// The line of its name in its file.
+    pub line: usize,
+    pub files: usize,
+    pub caps: usize,
+    pub nets: usize,
+    pub patterns: usize,
+    pub passed_over: usize,
 }
 
-impl Report {
+/// How often a keyword comes whose rules never decide.
+#[derive(Drop)]
+pub struct Passed {
+    pub keyword: Vec<u8>,
+    pub count: usize,
+}
+
+/// What is found of a file.
+#[derive(Drop)]
+pub struct FileReport {
+    pub path: Vec<u8>,
+    pub fault: Option<FaultReport>,
+    pub profiles: Vec<ProfileReport>,
+    pub passed_over: Vec<Passed>,
+    pub warnings: Vec<Vec<u8>>,
+}
+
+/// What is found of all files.
+#[derive(Drop)]
+pub struct CheckReport {
+    pub files: Vec<FileReport>,
+    pub warnings: Vec<Vec<u8>>,
+    pub refused: usize,
+    pub profiles: usize,
+    /// Whether something couldn't be read.
+    pub is_unread: bool,
+}
+
+fn patterns_of(profile: &Profile) -> usize {
+    let mut count: usize = 0;
+    for rule in profile.files.as_slice() {
+        count = count.saturating_add(rule.patterns.as_slice().len());
+    }
+    count
+}
+
+fn passed_over_in(policy: &Policy, number: usize) -> usize {
+    let mut count: usize = 0;
+    for rule in policy.passed_over.as_slice() {
+        if rule.profile as usize == number {
+            count = count.saturating_add(1);
+        }
+    }
+    count
+}
+
+fn profile_report(
+    alloc: Global,
+    unit: &Unit,
+    policy: &Policy,
+    number: usize,
+    profile: &Profile,
+) -> Result<ProfileReport, AllocError> {
+    let (_, text) = text_at(unit, profile.at.file);
+    Ok(ProfileReport {
+        name: Vec::from_slice(alloc, profile.name.as_slice())?,
+        line: place_of(text, profile.at.byte as usize).line,
+        files: profile.files.as_slice().len(),
+        caps: profile.caps.as_slice().len(),
+        nets: profile.nets.as_slice().len(),
+        patterns: patterns_of(profile),
+        passed_over: passed_over_in(policy, number),
+    })
+}
+
+/// Counts a keyword once more.
+fn count_keyword(
+    alloc: Global,
+    keyword: &[u8],
+    passed: &mut Vec<Passed>,
+) -> Result<(), AllocError> {
+    if let Some(at) = passed
+        .iter()
+        .position(|one| one.keyword.as_slice() == keyword)
+    {
+        if let Some(one) = passed.get_mut(at) {
+            one.count = one.count.saturating_add(1);
+        }
+        return Ok(());
+    }
+    passed.push(Passed {
+        keyword: Vec::from_slice(alloc, keyword)?,
+        count: 1,
+    })?;
+    Ok(())
+}
+
+fn count_rules(
+    alloc: Global,
+    unit: &Unit,
+    compiled: &Compiled,
+    report: &mut FileReport,
+) -> Result<(), AllocError> {
+    let policy = compiled.policy();
+    for (number, profile) in policy.profiles.as_slice().iter().enumerate() {
+        report
+            .profiles
+            .push(profile_report(alloc, unit, policy, number, profile)?)?;
+    }
+    for rule in policy.passed_over.as_slice() {
+        count_keyword(alloc, rule.kind.as_slice(), &mut report.passed_over)?;
+    }
+    Ok(())
+}
+
+/// The fault of a unit that can't be read; none for want of memory.
+pub fn fault_of_unit(alloc: Global, fault: UnitFault) -> Result<(FaultReport, bool), NoMemory> {
+    match fault {
+        UnitFault::NoMemory => Err(NoMemory),
+        UnitFault::At { path, why } => Ok((unreadable(alloc, path.as_slice(), why)?, true)),
+        UnitFault::Ambiguous(fault) => Ok((fault, false)),
+    }
+}
+
+fn check_unit(
+    alloc: Global,
+    wanted: &Wanted<'_>,
+    unit: &Unit,
+    report: &mut FileReport,
+) -> Result<(), NoMemory> {
+    match compile_unit(alloc, unit, wanted.states) {
+        Ok(compiled) => count_rules(alloc, unit, &compiled, report)?,
+        Err(fault) if fault.kind == PolicyKind::NoMemory => return Err(NoMemory),
+        Err(fault) => report.fault = Some(describe(alloc, wanted.folders, unit, fault)?),
+    }
+    Ok(())
+}
+
+fn check_file(
+    rt: &HostRuntime,
+    wanted: &Wanted<'_>,
+    path: &[u8],
+) -> Result<(FileReport, bool), NoMemory> {
+    let alloc = rt.alloc();
+    let mut report = FileReport {
+        path: Vec::from_slice(alloc, path)?,
+        fault: None,
+        profiles: Vec::new(alloc),
+        passed_over: Vec::new(alloc),
+        warnings: Vec::new(alloc),
+    };
+    match load(rt, wanted.folders, path) {
+        Ok(unit) => {
+            check_unit(alloc, wanted, &unit, &mut report)?;
+            Ok((report, false))
+        }
+        Err(fault) => {
+            let (fault, is_unread) = fault_of_unit(alloc, fault)?;
+            report.fault = Some(fault);
+            Ok((report, is_unread))
+        }
+    }
+}
+
+/// The path of the first file before that has a profile of that name.
+fn file_with<'r>(files: &'r [FileReport], name: &[u8]) -> Option<&'r [u8]> {
+    for file in files {
+        if file
+            .profiles
+            .iter()
+            .any(|profile| profile.name.as_slice() == name)
+        {
+            return Some(file.path.as_slice());
+        }
+    }
+    None
+}
+
+/// Warns of each profile whose name a file before has too.
+fn warn_of_names(
+    alloc: Global,
+    files: &[FileReport],
+    report: &FileReport,
+) -> Result<Vec<Vec<u8>>, AllocError> {
+    let mut warnings = Vec::new(alloc);
+    for profile in &report.profiles {
+        if let Some(path) = file_with(files, profile.name.as_slice()) {
+            let mut line = Vec::from_slice(alloc, report.path.as_slice())?;
+            push_text(&mut line, ": the profile ")?;
+            push_name(&mut line, alloc, profile.name.as_slice())?;
+            push_text(&mut line, " is in ")?;
+            line.extend_from_slice(path)?;
+            push_text(&mut line, " too")?;
+            warnings.push(line)?;
+        }
+    }
+    Ok(warnings)
+}
+
+/// Reads and compiles each file by itself.
+pub fn check(
+    rt: &HostRuntime,
+    wanted: &Wanted<'_>,
+    arguments: &[Vec<u8>],
+) -> Result<CheckReport, NoMemory> {
+    let alloc = rt.alloc();
+    let mut report = CheckReport {
+        files: Vec::new(alloc),
+        warnings: Vec::new(alloc),
+        refused: 0,
+        profiles: 0,
+        is_unread: false,
+    };
+    let roots = match roots_of(rt, wanted.base, arguments) {
+        Ok(roots) => roots,
+        Err(fault) => {
+            let (fault, is_unread) = fault_of_unit(alloc, fault)?;
+            report.refused = 1;
+            report.is_unread = is_unread;
+            report.files.push(FileReport {
+                path: fault.path.clone()?,
+                fault: Some(fault),
+                profiles: Vec::new(alloc),
+                passed_over: Vec::new(alloc),
+                warnings: Vec::new(alloc),
+            })?;
+            return Ok(report);
+        }
+    };
+    report.warnings = roots.warnings;
+    for path in &roots.paths {
+        let (mut file, is_unread) = check_file(rt, wanted, path.as_slice())?;
+        file.warnings = warn_of_names(alloc, report.files.as_slice(), &file)?;
+        report.is_unread = report.is_unread || is_unread;
+        report.profiles = report.profiles.saturating_add(file.profiles.len());
+        if file.fault.is_some() {
+            report.refused = report.refused.saturating_add(1);
+        }
+        report.files.push(file)?;
+    }
+    Ok(report)
+}
+
+impl CheckReport {
     /// The exit status.
     pub fn status(&self) -> u8 {
         if self.is_unread {
@@ -47,83 +278,4 @@ impl Report {
             0
         }
     }
-}
-
-/// The policy of a unit.
-fn policy_of(alloc: Global, unit: &Unit) -> Result<Policy, PolicyFault> {
-    let mut sources = Sources::new(alloc);
-    // In byte order of their names.
-    for index in unit.known.values() {
-        if let Some(source) = index.and_then(|index| unit.sources.get(index)) {
-            sources.add(source.name.as_slice(), source.text.as_slice())?;
-        }
-    }
-    parse(alloc, &words(alloc, &sources, unit.text.as_slice())?)
-}
-
-fn check_unit(
-    alloc: Global,
-    folders: &[&[u8]],
-    report: &mut Report,
-    unit: &Unit,
-) -> Result<(), NoMemory> {
-    match policy_of(alloc, unit) {
-        Ok(policy) => {
-            let count = policy.profiles.as_slice().len();
-            report.profiles = report.profiles.saturating_add(count);
-            push_policy(&mut report.answers, alloc, unit, &policy)?;
-        }
-        Err(fault) if fault.kind == PolicyKind::NoMemory => return Err(NoMemory),
-        Err(fault) => {
-            report.refused = report.refused.saturating_add(1);
-            push_refused(&mut report.answers, unit.path.as_slice())?;
-            push_fault(&mut report.faults, alloc, folders, unit, fault)?;
-        }
-    }
-    Ok(())
-}
-
-fn check_file(
-    rt: &HostRuntime,
-    folders: &[&[u8]],
-    report: &mut Report,
-    path: &str,
-) -> Result<(), NoMemory> {
-    report.files = report.files.saturating_add(1);
-    match load(rt, folders, path) {
-        Ok(unit) => check_unit(rt.alloc(), folders, report, &unit),
-        Err(fault) => {
-            let Some((at, why)) = unread_of(fault) else {
-                return Err(NoMemory);
-            };
-            report.refused = report.refused.saturating_add(1);
-            report.is_unread = true;
-            push_refused(&mut report.answers, path.as_bytes())?;
-            push_unread(&mut report.faults, at.as_slice(), why)?;
-            Ok(())
-        }
-    }
-}
-
-/// Reads each file by itself, and says of each whether it is a policy.
-pub fn check(rt: &HostRuntime, folders: &[&[u8]], paths: &[&str]) -> Result<Report, NoMemory> {
-    let alloc = rt.alloc();
-    let mut report = Report {
-        answers: Vec::new(alloc),
-        faults: Vec::new(alloc),
-        files: 0,
-        refused: 0,
-        profiles: 0,
-        is_unread: false,
-    };
-    for path in paths {
-        check_file(rt, folders, &mut report, path)?;
-    }
-    push_counts(
-        &mut report.answers,
-        report.files,
-        report.refused,
-        report.profiles,
-    )?;
-    Ok(report)
 }

@@ -1,16 +1,14 @@
-//! Reads policies as they lie in files, and says what is wrong and where.
+//! Reads policies as they lie in files and logs of what was asked, and says what is wrong and where, and which rules decide.
 #![tactic(auto)]
 
+mod checked;
 mod checking;
 mod command;
-mod report;
-mod tree;
-mod unit;
+mod commands;
 
-use checking::{NoMemory, Report, check};
-use clap::ArgMatches;
 use clap::error::{Error, ErrorKind};
-use command::{folders_of, matches_of};
+use command::matches_of;
+use commands::{Output, run_named};
 use std::io::Write;
 use std::process::ExitCode;
 use std::{env, io};
@@ -36,25 +34,17 @@ fn refuse_command(rt: &HostRuntime, error: &Error) -> u8 {
 }
 
 /// Writes what was found, and gives the exit status.
-fn write_report(rt: &HostRuntime, report: &Report, is_quiet: bool) -> u8 {
+fn write_output(rt: &HostRuntime, output: &Output) -> u8 {
     let mut errors = rt.stderr();
     let mut answers = io::writer(rt);
-    if errors.write_all(report.faults.as_slice()).is_err() {
+    if errors.write_all(output.faults.as_slice()).is_err() {
         return FAILED;
     }
-    if !is_quiet && answers.write_all(report.answers.as_slice()).is_err() {
+    if answers.write_all(output.answers.as_slice()).is_err() {
         let _ = eprintln!(rt; "the output can't be written");
         return FAILED;
     }
-    report.status()
-}
-
-fn check_named(rt: &HostRuntime, matches: &ArgMatches<'_>) -> Result<u8, NoMemory> {
-    let alloc = rt.alloc();
-    let folders = folders_of(alloc, matches)?;
-    let paths = matches.get_strs("PROFILE").unwrap_or(&[]);
-    let report = check(rt, folders.as_slice(), paths)?;
-    Ok(write_report(rt, &report, matches.get_flag("quiet")))
+    output.status
 }
 
 /// Does what the command line asks, and gives the exit status.
@@ -75,12 +65,9 @@ fn answer_command(rt: &HostRuntime) -> u8 {
         Err(error) => return refuse_command(rt, &error),
         Ok(matches) => matches,
     };
-    match matches.subcommand() {
-        Some((_, named)) => match check_named(rt, named) {
-            Ok(status) => status,
-            Err(NoMemory) => say_no_memory(rt),
-        },
-        None => REFUSED,
+    match run_named(rt, &matches) {
+        Ok(output) => write_output(rt, &output),
+        Err(_) => say_no_memory(rt),
     }
 }
 

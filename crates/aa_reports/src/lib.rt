@@ -1,0 +1,17 @@
+//! What logs say: which requests their lines ask, how a policy answers them now, and the job of them.
+#![tactic(auto)]
+
+mod against;
+mod job;
+mod lines;
+mod listed;
+mod logging;
+
+pub use against::{Counts, Now, push_against, push_json_against};
+pub use job::{JobFault, JobTask, JobTasks, push_job};
+pub use lines::{Lines, read_log};
+pub use listed::push_json_report;
+pub use logging::{
+    Entry, LinePlace, LogReport, SkippedLines, push_counts, push_entry, push_line_place,
+    push_report, push_rest, push_skipped_lines, then_text,
+};

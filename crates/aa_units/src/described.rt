@@ -1,0 +1,248 @@
+//! What is said of a fault.
+
+use crate::left_out::{left_out, word_at};
+use crate::policy::sources_of;
+use crate::text::{push_place, push_text};
+use crate::trail::trail_to;
+use crate::tree::Unread;
+use crate::unit::{Unit, node_of, paths_of, text_of_node};
+use aa_asks::{profile_before, variable_before};
+use aa_places::{excerpt, place_of};
+use aa_words::{PolicyFault, PolicyKind, Spot, WordList, includes_of, words};
+use std::alloc::{AllocError, Global};
+
+/// A place in a text, as people count, and its byte from 0.
+#[derive(Clone, Copy, Debug)]
+pub struct PlaceAt {
+    pub line: usize,
+    pub column: usize,
+    pub byte: usize,
+}
+
+/// An include on the way to a text.
+#[derive(Drop)]
+pub struct Link {
+    pub path: Vec<u8>,
+    pub place: PlaceAt,
+}
+
+/// What is said of a fault.
+#[derive(Drop)]
+pub struct FaultReport {
+    pub kind: &'static str,
+    /// The file that it lies in.
+    pub path: Vec<u8>,
+    /// Where in that file, unless it stands for the whole.
+    pub place: Option<PlaceAt>,
+    /// What is wrong, in one sentence.
+    pub message: Vec<u8>,
+    /// The line with a caret, where there is a place.
+    pub excerpt: Vec<u8>,
+    /// The includes by which the file was first reached, innermost first.
+    pub chain: Vec<Link>,
+    /// What else helps, each without a line end.
+    pub further: Vec<Vec<u8>>,
+}
+
+/// A byte's place in its text.
+pub fn place_at(text: &[u8], byte: usize) -> PlaceAt {
+    let place = place_of(text, byte);
+    PlaceAt {
+        line: place.line,
+        column: place.column,
+        byte,
+    }
+}
+
+/// What is wrong, in one sentence.
+fn sentence(kind: PolicyKind) -> &'static str {
+    match kind {
+        PolicyKind::NoMemory => "no memory",
+        PolicyKind::MissingInclude => "nothing of that name is there",
+        PolicyKind::IncludeDepth => "includes go more than 16 deep here",
+        PolicyKind::Syntax => "this can't stand here",
+        PolicyKind::Unsupported => "this part of the language is left out",
+        PolicyKind::UnknownWord => "no table has this word",
+        PolicyKind::BadMode => "this is no mode that can stand here",
+        PolicyKind::WriteWithAppend => "a mode has w or a, not both",
+        PolicyKind::BadPattern => "this pattern can't be read",
+        PolicyKind::RelativePath => "this path doesn't begin with /",
+        PolicyKind::UndefinedVariable => "a variable here is not set",
+        PolicyKind::VariableTwice => "this variable is set already, += adds to it",
+        PolicyKind::VariableCircle => "a variable here leads back to itself",
+        PolicyKind::TooManyExpansions => "this stands for more than 1,024 patterns",
+        PolicyKind::DuplicateProfile => "an earlier profile has this name",
+        PolicyKind::ConflictingExec =>
+            "two rules of this profile say otherwise how one program runs",
+        PolicyKind::TooManyStates =>
+            "more states are needed than the limit; --states N raises the limit",
+        PolicyKind::TooLarge => "a limit on bytes, names or counts is passed",
+    }
+}
+
+fn message_of(
+    alloc: Global,
+    kind: PolicyKind,
+    text: &[u8],
+    byte: usize,
+) -> Result<Vec<u8>, AllocError> {
+    let mut message = Vec::new(alloc);
+    if kind == PolicyKind::Syntax && byte >= text.len() {
+        push_text(&mut message, "the text ends too early")?;
+        return Ok(message);
+    }
+    if kind == PolicyKind::TooLarge && byte > 0 {
+        push_text(&mut message, "this expands to more than 16,384 bytes")?;
+        return Ok(message);
+    }
+    push_text(&mut message, sentence(kind))?;
+    if kind == PolicyKind::Unsupported {
+        if let Some(part) = left_out(word_at(text, byte)) {
+            push_text(&mut message, ": ")?;
+            push_text(&mut message, part)?;
+        }
+    }
+    Ok(message)
+}
+
+/// Where includes were looked for that weren't there.
+fn push_tried(
+    alloc: Global,
+    folders: &[&[u8]],
+    text: &[u8],
+    byte: usize,
+    further: &mut Vec<Vec<u8>>,
+) -> Result<(), AllocError> {
+    for include in &includes_of(alloc, text)? {
+        if include.byte == byte {
+            for path in &paths_of(alloc, include, folders)? {
+                let mut line = Vec::new(alloc);
+                push_text(&mut line, "tried ")?;
+                line.extend_from_slice(path.as_slice())?;
+                further.push(line)?;
+            }
+        }
+    }
+    Ok(())
+}
+
+fn spot_line(alloc: Global, unit: &Unit, what: &str, at: Spot) -> Result<Vec<u8>, AllocError> {
+    let (path, text, _) = text_of_node(unit, node_of(unit, at.file));
+    let mut line = Vec::new(alloc);
+    push_text(&mut line, what)?;
+    line.extend_from_slice(path)?;
+    push_place(&mut line, text, at.byte as usize)?;
+    Ok(line)
+}
+
+/// The place of the earlier one, of two that can't be there both.
+fn earlier(alloc: Global, list: &WordList, fault: PolicyFault) -> Option<Spot> {
+    match fault.kind {
+        PolicyKind::VariableTwice => variable_before(list.list.as_slice(), fault.at),
+        PolicyKind::DuplicateProfile => match profile_before(alloc, list, fault.at) {
+            Ok(at) => at,
+            Err(_) => None,
+        },
+        _ => None,
+    }
+}
+
+/// Where the earlier one stands, of two variables or profiles of one name.
+fn push_earlier(
+    alloc: Global,
+    unit: &Unit,
+    fault: PolicyFault,
+    further: &mut Vec<Vec<u8>>,
+) -> Result<(), AllocError> {
+    let what = match fault.kind {
+        PolicyKind::VariableTwice => "set at ",
+        PolicyKind::DuplicateProfile => "earlier at ",
+        _ => return Ok(()),
+    };
+    let Ok(sources) = sources_of(alloc, unit) else {
+        return Ok(());
+    };
+    let Ok(list) = words(alloc, &sources, unit.text.as_slice()) else {
+        return Ok(());
+    };
+    if let Some(at) = earlier(alloc, &list, fault) {
+        further.push(spot_line(alloc, unit, what, at)?)?;
+    }
+    Ok(())
+}
+
+/// The includes on the way to a node, without those of folders' texts.
+fn links_to(alloc: Global, unit: &Unit, node: usize) -> Result<Vec<Link>, AllocError> {
+    let mut links = Vec::new(alloc);
+    for step in &trail_to(alloc, unit, node)? {
+        let (path, text, is_folder) = text_of_node(unit, step.from);
+        if !is_folder {
+            links.push(Link {
+                path: Vec::from_slice(alloc, path)?,
+                place: place_at(text, step.byte),
+            })?;
+        }
+    }
+    Ok(links)
+}
+
+/// What is said of a fault of a unit's policy: in which file it lies and where, why, and what else helps.
+pub fn describe(
+    alloc: Global,
+    folders: &[&[u8]],
+    unit: &Unit,
+    fault: PolicyFault,
+) -> Result<FaultReport, AllocError> {
+    let node = node_of(unit, fault.at.file);
+    let (path, text, is_folder) = text_of_node(unit, node);
+    let byte = fault.at.byte as usize;
+    let at_whole = fault.kind == PolicyKind::TooLarge && node == 0 && byte == 0;
+    let has_place = !is_folder && !at_whole;
+    let mut further = Vec::new(alloc);
+    if fault.kind == PolicyKind::MissingInclude {
+        push_tried(alloc, folders, text, byte, &mut further)?;
+    }
+    push_earlier(alloc, unit, fault, &mut further)?;
+    Ok(FaultReport {
+        kind: fault.kind.name(),
+        path: Vec::from_slice(alloc, path)?,
+        place: if has_place {
+            Some(place_at(text, byte))
+        } else {
+            None
+        },
+        message: message_of(alloc, fault.kind, text, byte)?,
+        excerpt: if has_place {
+            excerpt(alloc, text, byte)?
+        } else {
+            Vec::new(alloc)
+        },
+        chain: links_to(alloc, unit, node)?,
+        further,
+    })
+}
+
+/// What is said of a path that can't be read.
+pub fn unreadable(alloc: Global, path: &[u8], why: Unread) -> Result<FaultReport, AllocError> {
+    let mut message = Vec::new(alloc);
+    if why == Unread::TooLarge {
+        push_text(&mut message, "a limit on bytes, names or counts is passed")?;
+    } else {
+        push_text(&mut message, "it can't be read (")?;
+        push_text(&mut message, why.reason())?;
+        push_text(&mut message, ")")?;
+    }
+    Ok(FaultReport {
+        kind: if why == Unread::TooLarge {
+            "TooLarge"
+        } else {
+            "Unreadable"
+        },
+        path: Vec::from_slice(alloc, path)?,
+        place: None,
+        message,
+        excerpt: Vec::new(alloc),
+        chain: Vec::new(alloc),
+        further: Vec::new(alloc),
+    })
+}

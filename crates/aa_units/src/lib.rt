@@ -1,0 +1,19 @@
+//! Policy files where they lie: which files the command line names, what each includes, and what is wrong in them, by path,
+//! line and column.
+#![tactic(auto)]
+
+mod described;
+mod left_out;
+mod policy;
+mod roots;
+mod text;
+mod trail;
+mod tree;
+mod unit;
+
+pub use described::{FaultReport, Link, PlaceAt, describe, place_at, unreadable};
+pub use policy::{compile_unit, sources_of};
+pub use roots::{Roots, roots_of};
+pub use text::{push_number, push_place, push_text};
+pub use tree::Unread;
+pub use unit::{Source, Unit, UnitFault, load, main_text, text_at};

@@ -1,0 +1,279 @@
+//! What `ask` answers.
+
+use crate::verdict::{Decided, DeciderLine, Verdict, decide, push_reasons};
+use aa_asks::{WordFault, read_word};
+use aa_mediate::{Label, label_of};
+use aa_output::{NoMemory, push_bool, push_json_bytes, push_json_place, push_key, push_name};
+use aa_units::push_text;
+use std::alloc::{AllocError, Global};
+
+/// Why requests aren't answered.
+#[derive(Drop)]
+pub enum AskFault {
+    NoMemory,
+    /// What is said of it.
+    Refused(Vec<u8>),
+}
+
+impl From<AllocError> for AskFault {
+    fn from(_e: AllocError) -> AskFault {
+        AskFault::NoMemory
+    }
+}
+
+impl<T: Drop> From<std::alloc::AllocFailed<T>> for AskFault {
+    fn from(_e: std::alloc::AllocFailed<T>) -> AskFault {
+        AskFault::NoMemory
+    }
+}
+
+impl From<NoMemory> for AskFault {
+    fn from(_e: NoMemory) -> AskFault {
+        AskFault::NoMemory
+    }
+}
+
+/// How requests are asked.
+#[derive(Clone, Copy, Debug)]
+pub struct Manner<'a> {
+    /// The name of the profile that asks, where it is given.
+    pub profile: Option<&'a [u8]>,
+    /// Whether every object is the task's user's.
+    pub owned: bool,
+    /// Whether the requests are one task's.
+    pub is_sequence: bool,
+}
+
+fn refused(alloc: Global, parts: &[&[u8]]) -> Result<AskFault, AllocError> {
+    let mut line = Vec::new(alloc);
+    for part in parts {
+        line.extend_from_slice(part)?;
+    }
+    push_text(&mut line, "\n")?;
+    Ok(AskFault::Refused(line))
+}
+
+/// What is said where it isn't told which of several profiles asks.
+fn which_profile(alloc: Global, decided: Decided<'_>) -> Result<AskFault, AllocError> {
+    let mut line = Vec::new(alloc);
+    push_text(&mut line, "error: --profile NAME tells which profile asks:")?;
+    for compiled in decided.policies {
+        for profile in compiled.policy().profiles.as_slice() {
+            push_text(&mut line, " ")?;
+            push_name(&mut line, alloc, profile.name.as_slice())?;
+        }
+    }
+    push_text(&mut line, "\n")?;
+    Ok(AskFault::Refused(line))
+}
+
+fn opening_label(
+    alloc: Global,
+    decided: Decided<'_>,
+    manner: Manner<'_>,
+) -> Result<Label, AskFault> {
+    if let Some(name) = manner.profile {
+        return match label_of(decided.policies, 0, name) {
+            Some(label) => Ok(label),
+            None => Err(refused(alloc, &["error: no profile is called ".as_bytes(), name])?),
+        };
+    }
+    if decided.places.len() == 1 {
+        return Ok(Label::Confined(0, 0));
+    }
+    Err(which_profile(alloc, decided)?)
+}
+
+/// Decides each request in turn.
+pub fn ask(
+    alloc: Global,
+    decided: Decided<'_>,
+    manner: Manner<'_>,
+    words: &[Vec<u8>],
+) -> Result<Vec<Verdict>, AskFault> {
+    let opening = opening_label(alloc, decided, manner)?;
+    let mut label = opening;
+    let mut verdicts = Vec::new(alloc);
+    for word in words {
+        let request = match read_word(alloc, word.as_slice(), manner.owned) {
+            Ok(request) => request,
+            Err(WordFault::NoMemory) => return Err(AskFault::NoMemory),
+            Err(WordFault::NoRequest) => {
+                return Err(refused(
+                    alloc,
+                    &["error: this is no request: ".as_bytes(), word.as_slice()],
+                )?);
+            }
+        };
+        if !manner.is_sequence {
+            label = opening;
+        }
+        verdicts.push(decide(alloc, decided, &mut label, &request)?)?;
+    }
+    Ok(verdicts)
+}
+
+/// Whether one of them is refused.
+pub fn is_one_denied(verdicts: &[Verdict]) -> bool {
+    verdicts.iter().any(|verdict| !verdict.granted)
+}
+
+fn push_verdict(out: &mut Vec<u8>, alloc: Global, verdict: &Verdict) -> Result<(), AllocError> {
+    push_text(
+        out,
+        if verdict.granted {
+            "granted "
+        } else {
+            "denied "
+        },
+    )?;
+    out.extend_from_slice(verdict.word.as_slice())?;
+    if let Some(label) = &verdict.label {
+        push_text(out, " label=")?;
+        push_name(out, alloc, label.as_slice())?;
+    }
+    push_text(out, if verdict.scrub { " scrub" } else { "" })?;
+    push_text(out, if verdict.complain { " complain" } else { "" })?;
+    push_text(out, "\n")?;
+    push_reasons(out, verdict)
+}
+
+/// Appends each answer with its reasons.
+pub fn push_verdicts(
+    out: &mut Vec<u8>,
+    alloc: Global,
+    verdicts: &[Verdict],
+) -> Result<(), AllocError> {
+    for verdict in verdicts {
+        push_verdict(out, alloc, verdict)?;
+    }
+    Ok(())
+}
+
+fn push_json_decider(
+    out: &mut Vec<u8>,
+    alloc: Global,
+    line: &DeciderLine,
+) -> Result<(), AllocError> {
+    push_text(out, "{")?;
+    push_json_place(out, alloc, line.path.as_slice(), Some(line.place))?;
+    push_text(out, ",")?;
+    push_key(out, "letters")?;
+    push_json_bytes(out, alloc, line.letters.as_slice())?;
+    push_text(
+        out,
+        if line.is_target {
+            ",\"target\":true}"
+        } else {
+            "}"
+        },
+    )
+}
+
+fn push_json_deciders(
+    out: &mut Vec<u8>,
+    alloc: Global,
+    verdict: &Verdict,
+    denies: bool,
+) -> Result<(), AllocError> {
+    push_text(out, ",")?;
+    push_key(out, if denies { "denies" } else { "allows" })?;
+    push_text(out, "[")?;
+    let mut is_later = false;
+    for line in &verdict.deciders {
+        if line.denies == denies {
+            push_text(out, if is_later { "," } else { "" })?;
+            push_json_decider(out, alloc, line)?;
+            is_later = true;
+        }
+    }
+    push_text(out, "]")
+}
+
+/// Whether something was decided at a link's target.
+fn has_target(verdict: &Verdict) -> bool {
+    verdict.deciders.iter().any(|line| line.is_target)
+        || verdict.lacking.iter().any(|lack| lack.is_target)
+}
+
+/// Appends what no rule allows, at the request's object or at a link's target.
+fn push_json_lacking(
+    out: &mut Vec<u8>,
+    alloc: Global,
+    verdict: &Verdict,
+    is_target: bool,
+) -> Result<(), AllocError> {
+    push_text(out, ",")?;
+    push_key(
+        out,
+        if is_target {
+            "target_lacking"
+        } else {
+            "lacking"
+        },
+    )?;
+    for lack in &verdict.lacking {
+        if lack.is_target == is_target {
+            return push_json_bytes(out, alloc, lack.letters.as_slice());
+        }
+    }
+    push_text(out, "\"\"")
+}
+
+/// Appends why all rules allow it and yet it is refused, where that is so, and closes the object.
+fn push_json_unfound(out: &mut Vec<u8>, verdict: &Verdict) -> Result<(), AllocError> {
+    if let Some(what) = verdict.unfound {
+        push_text(out, ",")?;
+        push_key(out, "missing")?;
+        push_text(out, "\"")?;
+        push_text(out, what)?;
+        push_text(out, "\"")?;
+    }
+    push_text(out, "}")
+}
+
+/// Appends an answer as a JSON object.
+pub fn push_json_verdict(
+    out: &mut Vec<u8>,
+    alloc: Global,
+    verdict: &Verdict,
+) -> Result<(), AllocError> {
+    push_text(out, "{")?;
+    push_key(out, "request")?;
+    push_json_bytes(out, alloc, verdict.word.as_slice())?;
+    push_text(out, ",")?;
+    push_key(out, "granted")?;
+    push_bool(out, verdict.granted)?;
+    if let Some(label) = &verdict.label {
+        push_text(out, ",")?;
+        push_key(out, "label")?;
+        push_json_bytes(out, alloc, label.as_slice())?;
+    }
+    push_text(out, ",")?;
+    push_key(out, "scrub")?;
+    push_bool(out, verdict.scrub)?;
+    push_text(out, ",")?;
+    push_key(out, "complain")?;
+    push_bool(out, verdict.complain)?;
+    push_json_deciders(out, alloc, verdict, false)?;
+    push_json_deciders(out, alloc, verdict, true)?;
+    push_json_lacking(out, alloc, verdict, false)?;
+    if has_target(verdict) {
+        push_json_lacking(out, alloc, verdict, true)?;
+    }
+    push_json_unfound(out, verdict)
+}
+
+/// Appends the answers as one JSON list and a line end.
+pub fn push_json_verdicts(
+    out: &mut Vec<u8>,
+    alloc: Global,
+    verdicts: &[Verdict],
+) -> Result<(), AllocError> {
+    push_text(out, "[")?;
+    for (number, verdict) in verdicts.iter().enumerate() {
+        push_text(out, if number > 0 { "," } else { "" })?;
+        push_json_verdict(out, alloc, verdict)?;
+    }
+    push_text(out, "]\n")
+}

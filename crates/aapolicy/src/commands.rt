@@ -1,0 +1,410 @@
+//! What each command does.
+
+use crate::checked::{push_faults, push_json_report, push_report};
+use crate::checking::{Wanted, check, fault_of_unit};
+use crate::command::{base_of, copies_of, folders_of, states_of, values_of};
+use aa_asks::rule_places;
+use aa_compile::Compiled;
+use aa_output::{NoMemory, push_fault};
+use aa_reports::{
+    JobFault, JobTasks, LogReport, push_against, push_job, push_json_against,
+    push_json_report as push_json_log, push_report as push_log_report, read_log,
+};
+use aa_units::{
+    Unit, Unread, compile_unit, describe, load, main_text, push_number, push_text, sources_of,
+    unreadable,
+};
+use aa_verdicts::{
+    AskFault, Decided, Manner, ask, is_one_denied, push_json_verdicts, push_verdicts,
+};
+use aa_words::{PolicyFault, PolicyKind, words};
+use clap::ArgMatches;
+use std::alloc::{AllocError, Global};
+
+/// What is printed, and the exit status.
+#[derive(Drop)]
+pub struct Output {
+    /// For standard output.
+    pub answers: Vec<u8>,
+    /// For standard error.
+    pub faults: Vec<u8>,
+    pub status: u8,
+}
+
+impl Output {
+    fn new(alloc: Global) -> Output {
+        Output {
+            answers: Vec::new(alloc),
+            faults: Vec::new(alloc),
+            status: 0,
+        }
+    }
+}
+
+/// Says why, with a status of its own.
+fn refused(alloc: Global, line: &str, status: u8) -> Result<Output, NoMemory> {
+    let mut output = Output::new(alloc);
+    push_text(&mut output.faults, line)?;
+    output.status = status;
+    Ok(output)
+}
+
+fn run_check(
+    rt: &HostRuntime,
+    matches: &ArgMatches<'_>,
+    wanted: &Wanted<'_>,
+) -> Result<Output, NoMemory> {
+    let alloc = rt.alloc();
+    let mut arguments = copies_of(alloc, matches, "PROFILE")?;
+    if arguments.is_empty() {
+        arguments.push(Vec::from_slice(alloc, wanted.base)?)?;
+    }
+    let report = check(rt, wanted, arguments.as_slice())?;
+    let mut output = Output::new(alloc);
+    output.status = report.status();
+    if matches.get_flag("json") {
+        push_json_report(&mut output.answers, alloc, &report)?;
+        return Ok(output);
+    }
+    let is_quiet = matches.get_flag("quiet");
+    push_faults(&mut output.faults, &report, is_quiet)?;
+    if !is_quiet {
+        push_report(&mut output.answers, alloc, &report)?;
+    }
+    Ok(output)
+}
+
+/// A unit that is loaded, or what is printed instead.
+#[derive(Drop)]
+enum Loaded {
+    Unit(Unit),
+    Refused(Output),
+}
+
+fn load_unit(rt: &HostRuntime, wanted: &Wanted<'_>, path: &[u8]) -> Result<Loaded, NoMemory> {
+    let alloc = rt.alloc();
+    match load(rt, wanted.folders, path) {
+        Ok(unit) => Ok(Loaded::Unit(unit)),
+        Err(fault) => {
+            let (fault, is_unread) = fault_of_unit(alloc, fault)?;
+            let mut output = Output::new(alloc);
+            output.status = if is_unread { 3 } else { 1 };
+            push_fault(&mut output.faults, &fault)?;
+            Ok(Loaded::Refused(output))
+        }
+    }
+}
+
+fn policy_refused(
+    alloc: Global,
+    wanted: &Wanted<'_>,
+    unit: &Unit,
+    fault: PolicyFault,
+) -> Result<Output, NoMemory> {
+    if fault.kind == PolicyKind::NoMemory {
+        return Err(NoMemory);
+    }
+    let mut output = Output::new(alloc);
+    output.status = 1;
+    push_fault(
+        &mut output.faults,
+        &describe(alloc, wanted.folders, unit, fault)?,
+    )?;
+    Ok(output)
+}
+
+fn log_unread(alloc: Global, path: &[u8], why: Unread) -> Result<Output, NoMemory> {
+    if why == Unread::NoMemory {
+        return Err(NoMemory);
+    }
+    let mut output = Output::new(alloc);
+    output.status = 3;
+    push_fault(&mut output.faults, &unreadable(alloc, path, why)?)?;
+    Ok(output)
+}
+
+/// Adds the lines of a text without their ends.
+fn push_lines(alloc: Global, text: &[u8], words: &mut Vec<Vec<u8>>) -> Result<(), AllocError> {
+    for line in text.split(|b| *b == b'\n') {
+        if !line.is_empty() {
+            words.push(Vec::from_slice(alloc, line)?)?;
+        }
+    }
+    Ok(())
+}
+
+fn answer_words(
+    alloc: Global,
+    matches: &ArgMatches<'_>,
+    decided: Decided<'_>,
+    words: &[Vec<u8>],
+) -> Result<Output, NoMemory> {
+    let manner = Manner {
+        profile: match matches.get_str("profile") {
+            Some(name) => Some(name.as_bytes()),
+            None => None,
+        },
+        owned: matches.get_flag("owned"),
+        is_sequence: matches.get_flag("sequence"),
+    };
+    let mut output = Output::new(alloc);
+    match ask(alloc, decided, manner, words) {
+        Ok(verdicts) => {
+            let verdicts = verdicts.as_slice();
+            output.status = if is_one_denied(verdicts) { 4 } else { 0 };
+            if matches.get_flag("json") {
+                push_json_verdicts(&mut output.answers, alloc, verdicts)?;
+            } else if !matches.get_flag("quiet") {
+                push_verdicts(&mut output.answers, alloc, verdicts)?;
+            }
+            Ok(output)
+        }
+        Err(AskFault::NoMemory) => Err(NoMemory),
+        Err(AskFault::Refused(line)) => {
+            output.faults = line;
+            output.status = 1;
+            Ok(output)
+        }
+    }
+}
+
+/// What is done with a compiled unit.
+trait Use {
+    fn use_policy(&mut self, alloc: Global, decided: Decided<'_>) -> Result<Output, NoMemory>;
+}
+
+/// Answers the requests of a command line.
+#[derive(Drop)]
+struct Answering<'a, 'm> {
+    matches: &'a ArgMatches<'m>,
+    words: &'a [Vec<u8>],
+}
+
+impl Use for Answering<'_, '_> {
+    fn use_policy(&mut self, alloc: Global, decided: Decided<'_>) -> Result<Output, NoMemory> {
+        answer_words(alloc, self.matches, decided, self.words)
+    }
+}
+
+/// Answers what logs say.
+#[derive(Drop)]
+struct Replaying<'a> {
+    report: &'a LogReport,
+    logs: &'a [&'a [u8]],
+    wants_all: bool,
+    is_json: bool,
+}
+
+impl Use for Replaying<'_> {
+    fn use_policy(&mut self, alloc: Global, decided: Decided<'_>) -> Result<Output, NoMemory> {
+        let mut output = Output::new(alloc);
+        let answers = &mut output.answers;
+        let (logs, report, wants_all) = (self.logs, self.report, self.wants_all);
+        let counts = if self.is_json {
+            push_json_against(answers, alloc, logs, report, decided, wants_all)?
+        } else {
+            push_against(answers, alloc, logs, report, decided, wants_all)?
+        };
+        output.status = if counts.has_newly_denied() { 4 } else { 0 };
+        Ok(output)
+    }
+}
+
+fn with_places<U: Use>(
+    alloc: Global,
+    wanted: &Wanted<'_>,
+    unit: &Unit,
+    policies: &[Compiled],
+    user: &mut U,
+) -> Result<Output, NoMemory> {
+    let sources = match sources_of(alloc, unit) {
+        Ok(sources) => sources,
+        Err(fault) => return policy_refused(alloc, wanted, unit, fault),
+    };
+    let list = match words(alloc, &sources, unit.text.as_slice()) {
+        Ok(list) => list,
+        Err(fault) => return policy_refused(alloc, wanted, unit, fault),
+    };
+    let places = match rule_places(alloc, &list) {
+        Ok(places) => places,
+        Err(fault) => return policy_refused(alloc, wanted, unit, fault),
+    };
+    let decided = Decided {
+        unit,
+        policies,
+        places: places.as_slice(),
+    };
+    user.use_policy(alloc, decided)
+}
+
+/// Compiles the unit of a path, and does something with it.
+fn with_policy<U: Use>(
+    rt: &HostRuntime,
+    wanted: &Wanted<'_>,
+    path: &[u8],
+    user: &mut U,
+) -> Result<Output, NoMemory> {
+    let alloc = rt.alloc();
+    let unit = match load_unit(rt, wanted, path)? {
+        Loaded::Unit(unit) => unit,
+        Loaded::Refused(output) => return Ok(output),
+    };
+    let mut policies = Vec::new(alloc);
+    match compile_unit(alloc, &unit, wanted.states) {
+        Ok(compiled) => policies.push(compiled)?,
+        Err(fault) => return policy_refused(alloc, wanted, &unit, fault),
+    }
+    with_places(alloc, wanted, &unit, policies.as_slice(), user)
+}
+
+fn run_ask(
+    rt: &HostRuntime,
+    matches: &ArgMatches<'_>,
+    wanted: &Wanted<'_>,
+) -> Result<Output, NoMemory> {
+    let alloc = rt.alloc();
+    let path = matches.get_str("PROFILE").unwrap_or("").as_bytes();
+    let text = match matches.get_str("from") {
+        Some(from) => match main_text(rt, from.as_bytes()) {
+            Ok(text) => text,
+            Err(why) => return log_unread(alloc, from.as_bytes(), why),
+        },
+        None => Vec::new(alloc),
+    };
+    let mut words = copies_of(alloc, matches, "WORD")?;
+    push_lines(alloc, text.as_slice(), &mut words)?;
+    let mut answering = Answering {
+        matches,
+        words: words.as_slice(),
+    };
+    with_policy(rt, wanted, path, &mut answering)
+}
+
+fn run_log(
+    rt: &HostRuntime,
+    matches: &ArgMatches<'_>,
+    wanted: &Wanted<'_>,
+) -> Result<Output, NoMemory> {
+    let alloc = rt.alloc();
+    let logs = values_of(alloc, matches, "FILE")?;
+    let mut report = LogReport::new(alloc, matches.get_flag("skipped"));
+    for (number, path) in logs.iter().enumerate() {
+        report.log = number;
+        if let Err(why) = read_log(rt, path, &mut report) {
+            return log_unread(alloc, path, why);
+        }
+    }
+    let Some(against) = matches.get_str("against") else {
+        let mut output = Output::new(alloc);
+        if matches.get_flag("json") {
+            push_json_log(&mut output.answers, alloc, logs.as_slice(), &report)?;
+        } else {
+            push_log_report(&mut output.answers, alloc, logs.as_slice(), &report)?;
+        }
+        return Ok(output);
+    };
+    let mut replaying = Replaying {
+        report: &report,
+        logs: logs.as_slice(),
+        wants_all: matches.get_flag("all"),
+        is_json: matches.get_flag("json"),
+    };
+    with_policy(rt, wanted, against.as_bytes(), &mut replaying)
+}
+
+fn push_left_out(out: &mut Vec<u8>, count: u64, what: &str) -> Result<(), AllocError> {
+    if count > 0 {
+        push_number(out, count)?;
+        push_text(out, what)?;
+    }
+    Ok(())
+}
+
+fn print_job(
+    alloc: Global,
+    unit: &Unit,
+    tasks: &JobTasks,
+    states: u32,
+) -> Result<Output, NoMemory> {
+    if tasks.is_too_large {
+        let line = "TooLarge: a job has at most 1,024 tasks, and a task 65,536 requests\n";
+        return refused(alloc, line, 1);
+    }
+    let mut output = Output::new(alloc);
+    match push_job(
+        &mut output.answers,
+        alloc,
+        unit,
+        tasks.tasks.as_slice(),
+        states,
+    ) {
+        Ok(left_out) => {
+            let faults = &mut output.faults;
+            push_left_out(faults, left_out, " requests left out: they are no UTF-8\n")?;
+            let what = " requests left out: no profile here asks them\n";
+            push_left_out(faults, tasks.strangers, what)?;
+            Ok(output)
+        }
+        Err(JobFault::NoMemory) => Err(NoMemory),
+        Err(JobFault::NotText) => {
+            let line = "NotText: a job holds UTF-8 text alone\n";
+            refused(alloc, line, 1)
+        }
+    }
+}
+
+/// The names of a policy's profiles.
+fn names_of(alloc: Global, compiled: &Compiled) -> Result<Vec<Vec<u8>>, AllocError> {
+    let mut names = Vec::new(alloc);
+    for profile in compiled.policy().profiles.as_slice() {
+        names.push(Vec::from_slice(alloc, profile.name.as_slice())?)?;
+    }
+    Ok(names)
+}
+
+fn run_job(
+    rt: &HostRuntime,
+    matches: &ArgMatches<'_>,
+    wanted: &Wanted<'_>,
+) -> Result<Output, NoMemory> {
+    let alloc = rt.alloc();
+    let path = matches.get_str("PROFILE").unwrap_or("").as_bytes();
+    let unit = match load_unit(rt, wanted, path)? {
+        Loaded::Unit(unit) => unit,
+        Loaded::Refused(output) => return Ok(output),
+    };
+    let names = match compile_unit(alloc, &unit, wanted.states) {
+        Ok(compiled) => names_of(alloc, &compiled)?,
+        Err(fault) => return policy_refused(alloc, wanted, &unit, fault),
+    };
+    let mut tasks = JobTasks::new(alloc, names);
+    for log in &values_of(alloc, matches, "log")? {
+        if let Err(why) = read_log(rt, log, &mut tasks) {
+            return log_unread(alloc, log, why);
+        }
+    }
+    print_job(alloc, &unit, &tasks, wanted.states)
+}
+
+/// Does what the command line asks.
+pub fn run_named(rt: &HostRuntime, matches: &ArgMatches<'_>) -> Result<Output, NoMemory> {
+    let alloc = rt.alloc();
+    let Some((name, matches)) = matches.subcommand() else {
+        return refused(alloc, "error: no command is given\n", 2);
+    };
+    let folders = folders_of(alloc, matches)?;
+    let Some(states) = states_of(matches) else {
+        return refused(alloc, "error: --states takes a number, 1 to 1000000\n", 2);
+    };
+    let wanted = Wanted {
+        base: base_of(matches),
+        folders: folders.as_slice(),
+        states,
+    };
+    match name {
+        "check" => run_check(rt, matches, &wanted),
+        "ask" => run_ask(rt, matches, &wanted),
+        "job" => run_job(rt, matches, &wanted),
+        _ => run_log(rt, matches, &wanted),
+    }
+}
