@@ -1,6 +1,7 @@
 /* Refuses one growth of a program that is started with this library before all others: the one whose number, counted
    from 1, REFUSE names, or from there on all of them where REFUSE_ALL is set. Where COUNT names a descriptor, the number of
-   growths so far stands in its file: it is written at each, since not every program runs what is to be run at its end. */
+   growths so far stands in its file: it is written at each, since not every program runs what is to be run at its end. Threads count
+   together. */
 typedef unsigned long size;
 
 extern void *__libc_malloc(size bytes);
@@ -29,10 +30,10 @@ __attribute__((constructor)) static void begin(void) {
     asked = 0;
 }
 
-static void tell(void) {
+static void tell(unsigned long number) {
     char text[LONGEST + 1];
     int at = LONGEST;
-    unsigned long left = asked;
+    unsigned long left = number;
     text[at] = '\n';
     do text[--at] = (char)('0' + left % 10);
     while (left /= 10);
@@ -40,9 +41,9 @@ static void tell(void) {
 }
 
 static int is_refused(void) {
-    asked = asked + 1;
-    if (count_file) tell();
-    int now = refused && (asked == refused || (refuses_all && asked > refused));
+    unsigned long nth = __atomic_add_fetch(&asked, 1, __ATOMIC_SEQ_CST);
+    if (count_file) tell(nth);
+    int now = refused && (nth == refused || (refuses_all && nth > refused));
     if (now) *__errno_location() = OUT_OF_MEMORY;
     return now;
 }

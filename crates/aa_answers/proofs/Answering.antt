@@ -1,9 +1,10 @@
--- Answering a task's requests one after another.
-use Rattle.std.proofs.Common.{Bool, true, false, cond, suc, zero, ◌≡◌, ℕ, ◌+◌, ◌<◌, ◌≤◌, List, [], ◌∷◌, ◌++◌, length, drop, get_or, Option, Some, None, refl, ap, sym, ◌∙◌, arith, append_assoc}
-use Rattle.std.specs.Prelude.{option_map, option_and_then, is_none}
-use Rattle.std.specs.List.{position_from}
+-- The requests of a task, and what its job's tasks are answered.
+use Rattle.std.proofs.Common.{Bool, true, false, cond, suc, zero, ◌≡◌, ◌⊎◌, inl, inr, ℕ, ◌+◌, ◌<◌, ◌≤◌, List, [], ◌∷◌, ◌++◌, length, drop, take, get_or, map, Option, Some, None, refl, ap, sym, ◌∙◌, arith, append_assoc}
+use Rattle.std.specs.Prelude.{option_map, option_and_then, is_none, nat_le, ◌&&◌}
+use Rattle.std.specs.List.{position_from, list_all}
+use Rattle.std.proofs.lemmas.Bool.{and_parts, leb-true}
 use Rattle.std.proofs.lemmas.Iterator.Adapters.{position_from-zero}
-use Rattle.std.proofs.lemmas.List.{drop_more, at_drop_all, append-nil, length-append}
+use Rattle.std.proofs.lemmas.List.{drop_more, at_drop_all, append-nil, take_more, map-append, length-map}
 use Rattle.aa_profiles.specs.declared.policy.Policy.{Policy}
 use Rattle.aa_requests.specs.declared.label.Label.{Label}
 use Rattle.aa_requests.specs.declared.request.Request.{Request}
@@ -11,115 +12,120 @@ use Rattle.aa_requests.specs.declared.answer.Answer.{Answer}
 use Rattle.aa_jobs.specs.declared.job.Work.{Work}
 use Rattle.aa_jobs.specs.declared.job.Work.TheVariants.{Ask, Exit}
 use Rattle.aa_jobs.specs.declared.job.Task.{Task}
-use Rattle.aa_answers.specs.declared.tasks.Answered.{Answered}
-use Rattle.aa_mediate.specs.Reply.{reply}
-use Rattle.aa_answers.specs.Answers.{asked, answered, answers_from, task_label, job_answers, first_unknown}
+use Rattle.aa_jobs.specs.declared.job.Include.{Include}
+use Rattle.aa_jobs.specs.declared.job.Event.{Event}
+use Rattle.aa_jobs.specs.Limits.{keeps_limits, job_sizes, within_limits, texts_fit, lists_fit, numbers_fit, tasks_there, policies_there}
+use Rattle.aa_pool.specs.Opened.{Denies}
+use Rattle.aa_pool.specs.declared.engine.EngineFault.{EngineFault}
+use Rattle.aa_pool.specs.declared.engine.EngineFault.TheVariants as engine
+use Rattle.aa_feed.specs.Answers.{answers_to}
+use Rattle.aa_feed.specs.declared.tasks.Task.{Task as AskingBy}
+use Rattle.aa_answers.specs.Answers.{Answered, asked, answers_by, task_label, job_answers_by, first_unknown}
 
--- these answers, and then those to the works from that place on, are all
-pub record Answering (policies : List Policy) (label : Label) (found : List Answered) (rest : List Work) (all : List Answered) : Type 0 where
-  pub goes_on : found ++ answered policies label (length found) (asked rest) ≡ all
+-- ---- the requests of a task
 
-abbrev entry : ℕ → Request → Answer → Answered
-entry n request answer = record { number = n; request = request; answer = answer }
+-- these requests, and then those of the works from that place on, are all
+pub record Asking (found : List Request) (rest : List Work) (all : List Request) : Type 0 where
+  pub goes_on : found ++ asked rest ≡ all
 
-answered_step : (policies : List Policy) (label : Label) (n : ℕ) (r : Request) (rs : List Request) → answered policies label n (r ∷ rs) ≡ entry n r (reply policies label r) ∷ answered policies (reply policies label r).label (n + 1) rs
-unfolding answered
-answered_step policies label n r rs = refl
-
-answered_nil : (policies : List Policy) (label : Label) (n : ℕ) → answered policies label n [] ≡ []
-unfolding answered
-answered_nil policies label n = refl
-
-pub answering_start : (policies : List Policy) (label : Label) (found : List Answered) (works : List Work) → found ≡ [] → Answering policies label found works (answered policies label 0 (asked works))
-answering_start policies label found works e = record { goes_on = ap (λ (f : List Answered). f ++ answered policies label (length f) (asked works)) e }
-
-pub answering_more : (policies : List Policy) (label after : Label) (found more : List Answered) (works : List Work) (i n : ℕ) (r r' : Request) (a : Answer) (all : List Answered)
-    → i < length works → Ask r ≡ get_or works i (Ask r) → n ≡ length found → r' ≡ r → a ≡ reply policies label r → after ≡ a.label → more ≡ found ++ entry n r' a ∷ []
-    → Answering policies label found (drop i works) all → Answering policies after more (drop (i + 1) works) all
-answering_more policies label after found more works i n r r' a all lt item n-is r-is a-is after-is more-is so_far =
+pub asking_more : (found more : List Request) (works : List Work) (i : ℕ) (r r' : Request) (all : List Request)
+    → i < length works → Ask r ≡ get_or works i (Ask r) → r' ≡ r → more ≡ found ++ r' ∷ [] → Asking found (drop i works) all → Asking more (drop (i + 1) works) all
+asking_more found more works i r r' all lt item same more-is so_far =
     let rest = drop (i + 1) works in
     let here : drop i works ≡ Ask r ∷ rest = drop_more works i (Ask r) lt ∙ ap (λ (w : Work). w ∷ rest) (sym item) in
-    let x = entry (length found) r (reply policies label r) in
-    let x-is : entry n r' a ≡ x = cc in
-    let whole : more ≡ found ++ x ∷ [] = more-is ∙ ap (λ (y : Answered). found ++ y ∷ []) x-is in
-    let long : length more ≡ length found + 1 = omega (arith, ap length whole, length-append found (x ∷ [])) in
-    let label-is : after ≡ (reply policies label r).label = after-is ∙ ap (λ (y : Answer). y.label) a-is in
-    let tail = answered policies (reply policies label r).label (length found + 1) (asked rest) in
     record {
       goes_on =
-          ap (λ (f : List Answered). f ++ answered policies after (length more) (asked rest)) whole
-          ∙ ap (λ (m : ℕ). (found ++ x ∷ []) ++ answered policies after m (asked rest)) long
-          ∙ ap (λ (l : Label). (found ++ x ∷ []) ++ answered policies l (length found + 1) (asked rest)) label-is
-          ∙ append_assoc found (x ∷ []) tail
-          ∙ ap (λ (f : List Answered). found ++ f) (sym (answered_step policies label (length found) r (asked rest)))
-          ∙ ap (λ (ws : List Work). found ++ answered policies label (length found) (asked ws)) (sym here)
+          ap (λ (f : List Request). f ++ asked rest) (more-is ∙ ap (λ (x : Request). found ++ x ∷ []) same)
+          ∙ append_assoc found (r ∷ []) (asked rest)
+          ∙ ap (λ (ws : List Work). found ++ asked ws) (sym here)
           ∙ so_far.goes_on;
     }
 
-pub answering_exit : (policies : List Policy) (label : Label) (found : List Answered) (works : List Work) (i : ℕ) (all : List Answered)
-    → i < length works → Exit ≡ get_or works i Exit → Answering policies label found (drop i works) all → found ≡ all
-answering_exit policies label found works i all lt item so_far =
+pub asking_exit : (found : List Request) (works : List Work) (i : ℕ) (all : List Request) → i < length works → Exit ≡ get_or works i Exit → Asking found (drop i works) all → found ≡ all
+asking_exit found works i all lt item so_far =
     let here : drop i works ≡ Exit ∷ drop (i + 1) works = drop_more works i Exit lt ∙ ap (λ (w : Work). w ∷ drop (i + 1) works) (sym item) in
-    sym (append-nil found) ∙ ap (λ (f : List Answered). found ++ f) (sym (answered_nil policies label (length found)))
-    ∙ ap (λ (ws : List Work). found ++ answered policies label (length found) (asked ws)) (sym here) ∙ so_far.goes_on
+    sym (append-nil found) ∙ ap (λ (ws : List Work). found ++ asked ws) (sym here) ∙ so_far.goes_on
 
-pub answering_end : (policies : List Policy) (label : Label) (found : List Answered) (works : List Work) (i : ℕ) (all : List Answered)
-    → length works ≤ i → Answering policies label found (drop i works) all → found ≡ all
-answering_end policies label found works i all le so_far =
-    sym (append-nil found) ∙ ap (λ (f : List Answered). found ++ f) (sym (answered_nil policies label (length found)))
-    ∙ sym (at_drop_all (λ (ws : List Work). found ++ answered policies label (length found) (asked ws)) works i le) ∙ so_far.goes_on
+pub asking_end : (found : List Request) (works : List Work) (i : ℕ) (all : List Request) → length works ≤ i → Asking found (drop i works) all → found ≡ all
+asking_end found works i all le so_far =
+    sym (append-nil found) ∙ sym (at_drop_all (λ (ws : List Work). found ++ asked ws) works i le) ∙ so_far.goes_on
 
 -- ---- task after task
 
--- these rows, and then those of the tasks from that place on, are what all tasks are answered
-pub record Meaning (policies : List Policy) (found : List (List Answered)) (rest tasks : List Task) : Type 0 where
-  pub goes_on : option_map (λ (rows : List (List Answered)). found ++ rows) (job_answers policies rest) ≡ job_answers policies tasks
+module _ {M : Type 0} (next : M → Label → Request → Label) (decide : M → Label → Request → Answer) (machine : M) (policies : List Policy) where
+  abbrev Row : Type 0
+  Row = List (Answered M)
 
-mapped : (row : List Answered) (rows : Option (List (List Answered))) → option_and_then (λ (others : List (List Answered)). Some (row ∷ others)) rows ≡ option_map (λ (others : List (List Answered)). row ∷ others) rows
-mapped row None = refl
-mapped row (Some rows) = refl
+  abbrev OfTask : Type 0
+  OfTask = AskingBy M Label Request Answer
 
-meaning_step : (policies : List Policy) (task : Task) (tasks : List Task) (label : Label) → task_label policies task ≡ Some label
-    → job_answers policies (task ∷ tasks) ≡ option_map (λ (rows : List (List Answered)). answers_from policies task label ∷ rows) (job_answers policies tasks)
-unfolding job_answers
-meaning_step policies task tasks label e = rw e (mapped (answers_from policies task label) (job_answers policies tasks))
+  mapped : (row : Row) (rows : Option (List Row)) → option_and_then (λ (others : List Row). Some (row ∷ others)) rows ≡ option_map (λ (others : List Row). row ∷ others) rows
+  mapped row None = refl
+  mapped row (Some rows) = refl
 
-meaning_nil : (policies : List Policy) → job_answers policies [] ≡ Some []
-unfolding job_answers
-meaning_nil policies = refl
+  step : (task : Task) (tasks : List Task) (label : Label) → task_label policies task ≡ Some label
+      → job_answers_by next decide machine policies (task ∷ tasks) ≡ option_map (λ (rows : List Row). answers_by next decide machine task label ∷ rows) (job_answers_by next decide machine policies tasks)
+  unfolding job_answers_by
+  step task tasks label e = rw e (mapped (answers_by next decide machine task label) (job_answers_by next decide machine policies tasks))
 
-row_behind : (found : List (List Answered)) (row : List Answered) (rows : Option (List (List Answered)))
-    → option_map (λ (more : List (List Answered)). (found ++ row ∷ []) ++ more) rows ≡ option_map (λ (more : List (List Answered)). found ++ more) (option_map (λ (more : List (List Answered)). row ∷ more) rows)
-row_behind found row None = refl
-row_behind found row (Some more) = ap (λ (x : List (List Answered)). Some x) (append_assoc found (row ∷ []) more)
+  none : job_answers_by next decide machine policies [] ≡ Some []
+  unfolding job_answers_by
+  none = refl
 
-none_before : (policies : List Policy) (tasks : Option (List (List Answered))) → option_map (λ (rows : List (List Answered)). [] ++ rows) tasks ≡ tasks
-none_before policies None = refl
-none_before policies (Some rows) = refl
+  -- where each task's label and requests are asked for, the answers to them are those of the job
+  pub all_answered : (askings : List OfTask) (tasks : List Task) → map (λ (a : OfTask). Some a.start) askings ≡ map (task_label policies) tasks
+      → map (λ (a : OfTask). a.requests.items) askings ≡ map (λ (t : Task). asked t.requests) tasks
+      → job_answers_by next decide machine policies tasks ≡ Some (map (λ (a : OfTask). answers_to next decide machine a.start a.requests.items) askings)
+  all_answered [] [] labels requests = none
+  all_answered [] (t ∷ ts) labels requests = absurd cc
+  all_answered (a ∷ more) [] labels requests = absurd cc
+  all_answered (a ∷ more) (t ∷ ts) labels requests =
+      let label : task_label policies t ≡ Some a.start = cc in
+      let others : map (λ (x : OfTask). Some x.start) more ≡ map (task_label policies) ts = cc in
+      let request : a.requests.items ≡ asked t.requests = cc in
+      let rest : map (λ (x : OfTask). x.requests.items) more ≡ map (λ (x : Task). asked x.requests) ts = cc in
+      step t ts a.start label
+      ∙ ap (option_map (λ (rows : List Row). answers_by next decide machine t a.start ∷ rows)) (all_answered more ts others rest)
+      ∙ ap (λ (qs : List Request). Some (answers_to next decide machine a.start qs ∷ map (λ (x : OfTask). answers_to next decide machine x.start x.requests.items) more)) (sym request)
 
-pub meaning_start : (policies : List Policy) (found : List (List Answered)) (tasks : List Task) → found ≡ [] → Meaning policies found tasks tasks
-meaning_start policies found tasks e = record { goes_on = ap (λ (f : List (List Answered)). option_map (λ (rows : List (List Answered)). f ++ rows) (job_answers policies tasks)) e ∙ none_before policies (job_answers policies tasks) }
+-- a task more
+pub mapped_more : {A B : Type 0} (f : A → B) (xs : List B) (ts : List A) (i : ℕ) (t : A) (x : B) → i < length ts → t ≡ get_or ts i t → x ≡ f t → xs ≡ map f (take i ts) → xs ++ x ∷ [] ≡ map f (take (i + 1) ts)
+mapped_more f xs ts i t x lt item same so_far =
+    rw (take_more ts i t lt, map-append) (ap (λ l. l ++ x ∷ []) so_far ∙ ap (λ y. map f (take i ts) ++ y ∷ []) (same ∙ ap f item))
 
-pub meaning_more : (policies : List Policy) (found : List (List Answered)) (tasks : List Task) (i : ℕ) (task : Task) (label : Label) (row : List Answered)
-    → i < length tasks → task ≡ get_or tasks i task → task_label policies task ≡ Some label → row ≡ answers_from policies task label
-    → Meaning policies found (drop i tasks) tasks → Meaning policies (found ++ row ∷ []) (drop (i + 1) tasks) tasks
-meaning_more policies found tasks i task label row lt item named row-is so_far =
-    let rest = drop (i + 1) tasks in
-    let here : drop i tasks ≡ task ∷ rest = drop_more tasks i task lt ∙ ap (λ (t : Task). t ∷ rest) (sym item) in
-    let step = meaning_step policies task rest label named in
-    record {
-      goes_on =
-          row_behind found row (job_answers policies rest)
-          ∙ ap (λ (r : List Answered). option_map (λ (more : List (List Answered)). found ++ more) (option_map (λ (more : List (List Answered)). r ∷ more) (job_answers policies rest))) row-is
-          ∙ ap (option_map (λ (more : List (List Answered)). found ++ more)) (sym step)
-          ∙ ap (λ (ts : List Task). option_map (λ (more : List (List Answered)). found ++ more) (job_answers policies ts)) (sym here)
-          ∙ so_far.goes_on;
-    }
+-- lanes are refused to a job for want of memory alone
+pub lanes_denied : (fault : EngineFault) (tasks capacity : ℕ) → tasks ≤ 1024 → 0 < capacity → capacity ≤ 1024 → Denies fault tasks capacity → fault ≡ engine.NoMemory
+lanes_denied engine.NoMemory tasks capacity few some narrow h = refl
+lanes_denied engine.BadCapacity tasks capacity few some narrow h = absurd (elim h.1 [ inl e ↦ omega arith | inr lt ↦ omega arith ])
+lanes_denied engine.TooManyLanes tasks capacity few some narrow h = absurd (omega arith)
 
-pub meaning_end : (policies : List Policy) (found : List (List Answered)) (tasks : List Task) (i : ℕ) → length tasks ≤ i → Meaning policies found (drop i tasks) tasks → job_answers policies tasks ≡ Some found
-meaning_end policies found tasks i le so_far =
-    let over = λ (o : Option (List (List Answered))). option_map (λ (rows : List (List Answered)). found ++ rows) o in
-    sym so_far.goes_on ∙ at_drop_all (λ (ts : List Task). over (job_answers policies ts)) tasks i le ∙ ap over (meaning_nil policies) ∙ ap (λ (x : List (List Answered)). Some x) (append-nil found)
+-- a job has as many tasks, and a capacity, as lanes may have
+pub fits_lanes : (policies : List (List ℕ)) (includes : List Include) (tasks : List Task) (states capacity : ℕ) (events : List Event) → keeps_limits policies includes tasks states capacity events ≡ true
+    → (length tasks ≤ 1024) × (0 < capacity) × (capacity ≤ 1024)
+fits_lanes policies includes tasks states capacity events kept =
+    let s = job_sizes policies includes tasks states capacity events in
+    let there = tasks_there events (length tasks) in
+    let sized = (and_parts (within_limits s) there (and_parts (within_limits s && there) (policies_there tasks (length policies)) kept).0).0 in
+    let parts = and_parts (texts_fit s && lists_fit s) (numbers_fit s) sized in
+    let lists = (and_parts (texts_fit s) (lists_fit s) parts.0).1 in
+    let short = nat_le (length s.tasks) 1024 in
+    let each = list_all (λ (n : ℕ). nat_le n 65536) s.tasks in
+    let few = (and_parts short each (and_parts (short && each) (nat_le s.events 1000000) lists).0).0 in
+    let stated = nat_le 1 s.states && nat_le s.states 1000000 in
+    let numbers = and_parts (stated && nat_le 1 s.capacity) (nat_le s.capacity 1024) parts.1 in
+    let some = (and_parts stated (nat_le 1 s.capacity) numbers.0).1 in
+    let a = leb-true (length s.tasks) 1024 few in
+    let b = leb-true 1 capacity some in
+    let c = leb-true capacity 1024 numbers.1 in
+    (omega (arith, a, length-map tasks (λ (t : Task). length t.requests)), omega (arith, b), omega (arith, c))
+
+-- as many labels as tasks
+pub as_many : {A B C : Type 0} (f : A → C) (g : B → C) (xs : List A) (ys : List B) → map f xs ≡ map g ys → length xs ≡ length ys
+as_many f g xs ys e = sym (length-map xs f) ∙ ap length e ∙ length-map ys g
+
+pub mapped_twice : {A B C : Type 0} (f : B → C) (g : A → B) (xs : List A) → map f (map g xs) ≡ map (λ (x : A). f (g x)) xs
+mapped_twice f g [] = refl
+mapped_twice f g (x ∷ xs) = ap (λ l. f (g x) ∷ l) (mapped_twice f g xs)
 
 -- where no task's label is unknown, each names a profile
 tf : true ≡ false → ⊥

@@ -6,13 +6,14 @@ use Rattle.aa_profiles.specs.declared.policy.Policy.{Policy}
 use Rattle.aa_profiles.specs.declared.policy.Profile.{Profile}
 use Rattle.aa_profiles.specs.declared.policy.PassedOver.{PassedOver}
 use Rattle.aa_requests.specs.declared.label.Label.{Label}
+use Rattle.aa_requests.specs.declared.request.Request.{Request}
 use Rattle.aa_requests.specs.declared.answer.Answer.{Answer}
 use Rattle.aa_jobs.specs.declared.job.Task.{Task}
-use Rattle.aa_answers.specs.declared.tasks.Answered.{Answered}
 use Rattle.aa_audit.specs.Values.{is_shown, value}
 use Rattle.aa_labels.specs.Labels.{label_name, policy_number}
 use Rattle.aa_audit.specs.Lines.{line}
-use Rattle.aa_answers.specs.Answers.{task_label, answers_from, ◌>>=◌}
+use Rattle.aa_answers.specs.Answers.{Answered, task_label, next_label, answers_by, ◌>>=◌}
+use Rattle.aa_mediate.specs.Reply.{reply}
 
 abbrev pub verdict_word : Bool → List ℕ
 verdict_word granted = if granted then codes " granted" else codes " denied"
@@ -30,30 +31,31 @@ outcome_text several policies answer =
     verdict_word answer.granted ++ codes " label=" ++ value (label_name policies answer.label) ++ policy_word several answer.label ++ scrub_word answer.scrub
 
 -- TASK NUMBER granted label=V
-unfoldable pub verdict_line : Bool → List Policy → ℕ → Answered → List ℕ
+unfoldable pub verdict_line : {M : Type 0} → Bool → List Policy → ℕ → Answered M → List ℕ
 verdict_line several policies task a = decimal task ++ codes " " ++ decimal a.number ++ outcome_text several policies a.answer ++ codes "\n"
 
 -- the audit line, if there is one, on a line of its own
-unfoldable pub audit_lines : List Policy → Label → Answered → List ℕ
+unfoldable pub audit_lines : {M : Type 0} → List Policy → Label → Answered M → List ℕ
 audit_lines policies before a = option_map_or (λ l. l ++ codes "\n") (line policies before a.request a.answer) []
 
 -- the lines of a task, whose label before the first answer is given
-unfoldable pub task_lines : Bool → List Policy → ℕ → Label → List Answered → List ℕ
+unfoldable pub task_lines : {M : Type 0} → Bool → List Policy → ℕ → Label → List (Answered M) → List ℕ
 task_lines several policies task before [] = []
 task_lines several policies task before (a ∷ answers) =
     verdict_line several policies task a ++ (audit_lines policies before a ++ task_lines several policies task a.answer.label answers)
 
--- the lines of tasks numbered from n on
-unfoldable pub lines_from : Bool → List Policy → ℕ → List Task → Option (List ℕ)
-lines_from several policies n [] = Some []
-lines_from several policies n (task ∷ tasks) = do
-  label ← task_label policies task
-  others ← lines_from several policies (n + 1) tasks
-  Some (task_lines several policies n label (answers_from policies task label) ++ others)
+-- the lines of tasks numbered from n on, where a machine answers them
+module _ {M : Type 0} (next : M → Label → Request → Label) (decide : M → Label → Request → Answer) (machine : M) where
+  unfoldable pub lines_from : Bool → List Policy → ℕ → List Task → Option (List ℕ)
+  lines_from several policies n [] = Some []
+  lines_from several policies n (task ∷ tasks) = do
+    label ← task_label policies task
+    others ← lines_from several policies (n + 1) tasks
+    Some (task_lines several policies n label (answers_by next decide machine task label) ++ others)
 
 -- what `run` writes
 abbrev pub run_text : Bool → List Policy → List Task → Option (List ℕ)
-run_text several policies tasks = lines_from several policies 0 tasks
+run_text several policies tasks = lines_from next_label reply policies several policies 0 tasks
 
 -- a keyword is visible ASCII and stands as it is; other bytes would be written as a name is
 unfoldable pub keyword_text : List ℕ → List ℕ

@@ -20,7 +20,7 @@ use Rattle.aa_lane.specs.declared.event.Reply.TheVariants.{Accepted, Unsent, Tak
 use Rattle.aa_answers.specs.declared.replay.Said.{Said}
 use Rattle.aa_answers.specs.declared.replay.Said.TheVariants as say
 use Rattle.aa_mediate.specs.Reply.{reply}
-use Rattle.aa_answers.specs.Answers.{task_label, ◌>>=◌}
+use Rattle.aa_answers.specs.Answers.{task_label, next_label, ◌>>=◌}
 use Rattle.aa_answers.specs.Output.{outcome_text}
 
 -- the lane of a task as plain lists
@@ -37,10 +37,6 @@ TaskReply = Reply (List Policy) Label Request Answer
 pub record TaskState : Type 0 where
   pub world : TaskWorld
   pub left : List Work
-
--- the label after a request
-abbrev pub next_label : List Policy → Label → Request → Label
-next_label policies label request = (reply policies label request).label
 
 -- an item that is offered: a request is sent, an exit shuts the lane
 abbrev pub offered : Work → TaskEvent

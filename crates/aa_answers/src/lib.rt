@@ -1,10 +1,13 @@
 //! What the tasks of a job are answered, and the texts that tell it.
 #![tactic(auto)]
 
+mod deciding;
 mod output;
 mod replay;
 mod tasks;
 
+pub use aa_feed::Answered;
+pub use deciding::mediate;
 pub use output::{check_output, run_output};
 pub use replay::replay_output;
-pub use tasks::{Answered, MediateFault, mediate, unknown_task};
+pub use tasks::{MediateFault, unknown_task};

@@ -3,16 +3,16 @@
 ghost use Rattle.std.specs.Prelude.{◌≡◌, ◌++◌, ◌^◌, ◌<◌, ◌*◌, OnOk, IfOk, Some, decimal, flat_map, length, map, option_map, sum_by};
 ghost use Rattle.std.specs.String.{string_bytes};
 ghost use Rattle.aa_labels.specs.Labels.{label_name, policy_number};
-ghost use Rattle.aa_answers.specs.Answers.{job_answers};
-ghost use Rattle.aa_answers.specs.Output.{verdict_word, policy_word, outcome_text, verdict_line, audit_lines, task_lines, lines_from, run_text, keyword_text, profile_name, passed_over_line, counts_line, rules_of, policy_text, number_line, policies_from, check_text};
-ghost use Rattle.aa_answers.specs.declared.tasks.Answered.{Answered};
+ghost use Rattle.aa_answers.specs.Answers.{job_answers_by};
+ghost use Rattle.aa_answers.specs.Output.{verdict_word, policy_word, outcome_text, verdict_line, audit_lines, task_lines, lines_from, keyword_text, profile_name, passed_over_line, counts_line, rules_of, policy_text, number_line, policies_from, check_text};
 
-use crate::tasks::{Answered, opening_label};
+use crate::tasks::opening_label;
 use aa_audit::{plain_text, push_audit_line, push_value};
 use aa_jobs::{Job, Task};
 use aa_labels::{Compiled, name_of_label};
+use aa_lane::{Answered, Machine};
 use aa_profiles::{PassedOver, Policy, Profile};
-use aa_requests::{Answer, Label};
+use aa_requests::{Answer, Label, Request};
 use itoa::{Buffer, Integer};
 use std::alloc::{AllocError, Global};
 
@@ -68,12 +68,12 @@ pub(crate) fn push_outcome(
 
 /// Appends the verdict on a request.
 #[tactic(auto, unfolding(crate::specs::Output::verdict_line))]
-fn push_verdict(
+fn push_verdict<M: Machine<State = Label, Request = Request, Answer = Answer>>(
     out: &mut String,
     several: bool,
     policies: &[Compiled],
     task: u64,
-    answered: &Answered,
+    answered: &Answered<M>,
 ) -> Result<(), AllocError>
     ensures { OnOk result (string_bytes out.new ≡ string_bytes out.old ++ verdict_line several policies.now task answered.now) }
 {
@@ -86,11 +86,11 @@ fn push_verdict(
 
 /// Appends the audit line of an answer, if it has one.
 #[tactic(auto, unfolding(crate::specs::Output::audit_lines))]
-fn push_audit(
+fn push_audit<M: Machine<State = Label, Request = Request, Answer = Answer>>(
     out: &mut String,
     policies: &[Compiled],
     before: Label,
-    answered: &Answered,
+    answered: &Answered<M>,
 ) -> Result<(), AllocError>
     ensures { OnOk result (string_bytes out.new ≡ string_bytes out.old ++ audit_lines policies.now before answered.now) }
 {
@@ -101,13 +101,13 @@ fn push_audit(
 }
 
 /// Appends the lines of a task that opened with a label.
-fn push_task(
+fn push_task<M: Machine<State = Label, Request = Request, Answer = Answer>>(
     out: &mut String,
     several: bool,
     policies: &[Compiled],
     task: u64,
     opening: Label,
-    answers: &[Answered],
+    answers: &[Answered<M>],
 ) -> Result<(), AllocError>
     ensures { OnOk result (string_bytes out.new ≡ string_bytes out.old ++ task_lines several policies.now task opening answers.now) }
 {
@@ -120,17 +120,19 @@ fn push_task(
     Ok(())
 }
 
-/// The text of `run`, where the tasks of a job are answered so.
-pub fn run_output(
+/// The text of `run` for the tasks of a job, where a machine answers them so.
+pub fn run_output<M: Machine<State = Label, Request = Request, Answer = Answer>>(
     alloc: Global,
     several: bool,
     tasks: &[Task],
     policies: &[Compiled],
-    rows: &[Vec<Answered>],
+    machine: &M,
+    rows: &[Vec<Answered<M>>],
 ) -> Result<String, AllocError>
-    requires { job_answers policies.now tasks.now ≡ Some (map (λ row. row.items) rows.now) }
-    ensures { IfOk result (λ text. run_text several policies.now tasks.now ≡ Some (string_bytes text)) }
+    requires { job_answers_by M.next M.reply machine.now policies.now tasks.now ≡ Some (map (λ row. row.items) rows.now) }
+    ensures { IfOk result (λ text. lines_from M.next M.reply machine.now several policies.now 0 tasks.now ≡ Some (string_bytes text)) }
 {
+    let _ = machine;
     let mut out = String::new(alloc);
     for (n, row) in rows.iter().enumerate() {
         let Some(task) = tasks.get(n) else {

@@ -1,17 +1,24 @@
 //! The engines: a job's bytes in, lines out.
 
-ghost use Rattle.std.specs.Prelude.{◌≡◌, ◌≢◌, ◌<◌, ◌≤◌, ℕ, List, [], length, take, IfOk, IfErr, OnOk, IsErrOf};
+ghost use Rattle.std.specs.Prelude.{◌≡◌, ◌≢◌, ◌<◌, ◌≤◌, ℕ, List, [], Some, length, take, IfOk, IfErr, OnOk, IsErrOf};
 ghost use Rattle.std.specs.Io.KnownBytes.{Appends, Keeps};
 ghost use Rattle.std.specs.String.{string_bytes};
+ghost use Rattle.aa_answers.specs.Answers.{first_unknown};
+ghost use Rattle.aa_answers.specs.Output.{lines_from};
 ghost use Rattle.aa_engine.specs.Engines.{HandsIn, IsCheckOutput, IsRunOutput, IsReplayOutput, Explains, IsInput, IsExplained};
 
 use crate::fault::{RunFault, job_fault, mediate_fault, policy_fault};
 use crate::stream::{read_input, write_text};
-use aa_answers::{check_output, mediate, replay_output, run_output, unknown_task};
+use aa_answers::{MediateFault, check_output, mediate, replay_output, run_output, unknown_task};
 use aa_jobs::{Job, read_job};
+use aa_machine::Machine;
+use aa_mediate::Mediator;
 use aa_policies::{Compiled, compile_policies};
+use aa_requests::{Answer, Label, Request};
 use std::alloc::Global;
 use std::io::{Read, Write};
+use std::sync::Wait;
+use std::thread::Threads;
 
 /// A job with its policies, compiled.
 #[derive(Drop)]
@@ -54,25 +61,55 @@ fn check_text_of(alloc: Global, bytes: Vec<u8>) -> Result<String, RunFault>
     Ok(check_output(alloc, asked.job.several, asked.policies.as_slice())?)
 }
 
+/// The text of `run` for a job whose tasks a machine answers, by that many workers.
+fn answered_text<
+    M: Machine<State = Label, Request = Request, Answer = Answer> + Sync,
+    R: Threads + Wait + Sync,
+>(
+    rt: &R,
+    alloc: Global,
+    job: &Job,
+    policies: &[Compiled],
+    machine: &M,
+    workers: u32,
+) -> Result<String, MediateFault>
+    requires { (0 < workers) × (workers ≤ 16) }
+    ensures text { IfOk result (λ text. lines_from M.next M.reply machine.now job.now.several policies.now 0 job.now.tasks ≡ Some (string_bytes text)) }
+    ensures unknown { (task : ℕ) → IsErrOf result (MediateFault.UnknownProfile task) → first_unknown policies.now job.now.tasks ≡ Some task }
+{
+    let rows = match mediate(rt, alloc, job, policies, machine, workers) {
+        Ok(rows) => rows,
+        Err(fault) => return Err(fault),
+    };
+    Ok(run_output(
+        alloc,
+        job.several,
+        job.tasks.as_slice(),
+        policies,
+        machine,
+        rows.as_slice(),
+    )?)
+}
+
 /// The text of `run` for the bytes of a job.
-fn run_text_of(alloc: Global, bytes: Vec<u8>, workers: u32) -> Result<String, RunFault>
+fn run_text_of<R: Threads + Wait + Sync>(
+    rt: &R,
+    alloc: Global,
+    bytes: Vec<u8>,
+    workers: u32,
+) -> Result<String, RunFault>
     requires { (0 < workers) × (workers ≤ 16) }
     ensures text { IfOk result (λ text. IsRunOutput bytes.items (string_bytes text)) }
     ensures cause { IfErr result (λ e. Explains e bytes.items) }
     ensures unwritten { IfErr result (λ e. e ≢ RunFault.Write) }
 {
     let asked = compile_job(alloc, bytes)?;
-    let rows = match mediate(alloc, &asked.job, asked.policies.as_slice(), workers) {
-        Ok(rows) => rows,
-        Err(fault) => return Err(mediate_fault(fault)),
-    };
-    Ok(run_output(
-        alloc,
-        asked.job.several,
-        asked.job.tasks.as_slice(),
-        asked.policies.as_slice(),
-        rows.as_slice(),
-    )?)
+    let policies = asked.policies.as_slice();
+    let mediator = Mediator::new(policies);
+    match answered_text(rt, alloc, &asked.job, policies, &mediator, workers) {
+        Ok(text) => Ok(text),
+        Err(fault) => Err(mediate_fault(fault)),
+    }
 }
 
 /// The text of `replay` for the bytes of a job.
@@ -112,11 +149,12 @@ pub fn check_job<R: Read, W: Write>(
     write_text(writer, text.as_bytes())
 }
 
-/// Reads a job, decides the requests of its tasks, and writes the verdicts, with the audit lines where there are some.
+/// Reads a job, has the requests of its tasks decided by that many workers, each task through a lane of its own, and writes
+/// the verdicts, with the audit lines where there are some. The text is the same for every number of workers.
 ///
-/// Faults as those of `check_job`, and `UnknownProfile` with the first task whose label names no profile. The requests are
-/// decided on the calling thread, whatever the number of workers.
-pub fn run_job<R: Read, W: Write>(
+/// Faults as those of `check_job`, and `UnknownProfile` with the first task whose label names no profile.
+pub fn run_job<R: Read, W: Write, H: Threads + Wait + Sync>(
+    rt: &H,
     alloc: Global,
     reader: &mut R,
     writer: &mut W,
@@ -131,7 +169,7 @@ pub fn run_job<R: Read, W: Write>(
     ensures cause { IfErr result (λ e. IsExplained (R.remaining reader.old) e) }
 {
     let bytes = read_input(alloc, reader)?;
-    let text = run_text_of(alloc, bytes, workers)?;
+    let text = run_text_of(rt, alloc, bytes, workers)?;
     write_text(writer, text.as_bytes())
 }
 

@@ -7,10 +7,12 @@ use aa_jobs::JobFault;
 use aa_policies::RefusedPolicy;
 use std::alloc::Global;
 use std::process::Abort;
+use std::sync::Wait;
 use std::test::Fail;
+use std::thread::Threads;
 
 // Whatever the command, and nothing is written.
-fn refused(rt: &impl Abort, alloc: Global, job: &[u8], fault: RunFault) {
+fn refused<R: Abort + Threads + Wait + Sync>(rt: &R, alloc: Global, job: &[u8], fault: RunFault) {
     for command in COMMANDS {
         gives(rt, alloc, command, job, Err(fault), b"");
     }

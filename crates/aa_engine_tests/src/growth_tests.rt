@@ -5,17 +5,25 @@ use crate::jobs::{COMMANDS, Command, FIRST_JOB, MOVED, MOVING_JOB, answer, first
 use aa_engine::RunFault;
 use std::alloc::Global;
 use std::process::Abort;
+use std::sync::Wait;
+use std::thread::Threads;
 
 /// More than any of the texts has.
 const ROOM: usize = 1000;
 
 // One try: whether the command wrote its text, where there was memory.
-fn is_answered(rt: &impl Abort, alloc: Global, command: Command, job: &[u8], text: &[u8]) -> bool {
+fn is_answered<R: Abort + Threads + Wait + Sync>(
+    rt: &R,
+    alloc: Global,
+    command: Command,
+    job: &[u8],
+    text: &[u8],
+) -> bool {
     let Ok(mut written) = Vec::with_capacity(alloc, ROOM) else {
         return false;
     };
     let mut reader = job;
-    let given = answer(alloc, command, &mut reader, &mut written);
+    let given = answer(rt, alloc, command, &mut reader, &mut written);
     if given == Ok(()) {
         assert!(rt; written.as_slice() == text);
         return true;
@@ -26,7 +34,13 @@ fn is_answered(rt: &impl Abort, alloc: Global, command: Command, job: &[u8], tex
 }
 
 // Tries again where a growth is refused.
-fn is_answered_at_last(rt: &impl Abort, alloc: Global, command: Command, job: &[u8], text: &[u8]) {
+fn is_answered_at_last<R: Abort + Threads + Wait + Sync>(
+    rt: &R,
+    alloc: Global,
+    command: Command,
+    job: &[u8],
+    text: &[u8],
+) {
     for _ in 0..3 {
         if is_answered(rt, alloc, command, job, text) {
             return;

@@ -6,6 +6,8 @@ use aa_engine::{RunFault, check_job, replay_job, run_job};
 use std::alloc::Global;
 use std::io::{Read, Write};
 use std::process::Abort;
+use std::sync::Wait;
+use std::thread::Threads;
 
 /// A command, of `run` with its number of workers.
 #[derive(Clone, Copy)]
@@ -48,7 +50,8 @@ pub const MOVED: &[u8] =
     b"0 0 denied label=\"p\"\napparmor=\"DENIED\" operation=\"file\" profile=\"p\" name=\"/g\" requested_mask=\"r\" denied_mask=\"r\"\n0 1 granted label=\"q\"\n0 2 granted label=\"q\"\n1 0 granted label=\"q\"\n1 1 denied label=\"q\"\napparmor=\"DENIED\" operation=\"file\" profile=\"q\" name=\"/f\" requested_mask=\"r\" denied_mask=\"r\"\n";
 
 /// Lets the command answer what the reader gives.
-pub fn answer<R: Read, W: Write>(
+pub fn answer<R: Read, W: Write, H: Threads + Wait + Sync>(
+    rt: &H,
     alloc: Global,
     command: Command,
     reader: &mut R,
@@ -56,14 +59,14 @@ pub fn answer<R: Read, W: Write>(
 ) -> Result<(), RunFault> {
     match command {
         Command::Check => check_job(alloc, reader, writer),
-        Command::Run(workers) => run_job(alloc, reader, writer, workers.clamp(1, 16)),
+        Command::Run(workers) => run_job(rt, alloc, reader, writer, workers.clamp(1, 16)),
         Command::Replay => replay_job(alloc, reader, writer),
     }
 }
 
 /// The command answers the job so, and writes that text.
-pub fn gives(
-    rt: &impl Abort,
+pub fn gives<H: Abort + Threads + Wait + Sync>(
+    rt: &H,
     alloc: Global,
     command: Command,
     job: &[u8],
@@ -72,7 +75,7 @@ pub fn gives(
 ) {
     let mut reader = job;
     let mut written = Vec::new(alloc);
-    let given = answer(alloc, command, &mut reader, &mut written);
+    let given = answer(rt, alloc, command, &mut reader, &mut written);
     assert!(rt; given == wanted);
     assert!(rt; written.as_slice() == text);
 }

@@ -6,6 +6,8 @@ mod check_tests;
 #[cfg(test)]
 mod fault_tests;
 #[cfg(test)]
+mod gate_tests;
+#[cfg(test)]
 mod growth_tests;
 #[cfg(test)]
 mod jobs;

@@ -3,10 +3,12 @@
 use crate::jobs::{Command, FIRST_JOB, MOVED, MOVING_JOB, first_text, gives};
 use std::alloc::{AllocError, Global};
 use std::process::Abort;
+use std::sync::Wait;
 use std::test::Fail;
+use std::thread::Threads;
 
 // With several numbers of workers.
-fn runs(rt: &impl Abort, alloc: Global, job: &[u8], text: &[u8]) {
+fn runs<R: Abort + Threads + Wait + Sync>(rt: &R, alloc: Global, job: &[u8], text: &[u8]) {
     for workers in [1, 2, 16] {
         gives(rt, alloc, Command::Run(workers), job, Ok(()), text);
     }

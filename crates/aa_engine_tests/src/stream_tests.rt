@@ -38,7 +38,7 @@ fn nothing_is_written_where_the_reader_fails(rt: HostRuntime) {
                 calls,
             };
             let mut written = Vec::new(rt.alloc());
-            let given = answer(rt.alloc(), command, &mut reader, &mut written);
+            let given = answer(&rt, rt.alloc(), command, &mut reader, &mut written);
             assert!(rt; given == Err(RunFault::Read));
             assert!(rt; written.is_empty());
         }
@@ -53,7 +53,7 @@ fn a_reader_may_give_bytes_one_by_one(rt: HostRuntime) {
             calls: FIRST_JOB.len() + 1,
         };
         let mut written = Vec::new(rt.alloc());
-        let given = answer(rt.alloc(), command, &mut reader, &mut written);
+        let given = answer(&rt, rt.alloc(), command, &mut reader, &mut written);
         assert!(rt; given == Ok(()));
         assert!(rt; written.as_slice() == first_text(command));
     }
@@ -77,7 +77,7 @@ impl Read for EndlessReader {
 fn a_reader_without_end_is_given_up(rt: HostRuntime) {
     let mut reader = EndlessReader;
     let mut written = Vec::new(rt.alloc());
-    let given = answer(rt.alloc(), Command::Check, &mut reader, &mut written);
+    let given = answer(&rt, rt.alloc(), Command::Check, &mut reader, &mut written);
     assert!(rt; given == Err(RunFault::Read));
     assert!(rt; written.is_empty());
 }
@@ -117,7 +117,7 @@ fn a_front_is_written_where_the_writer_fails(rt: HostRuntime) {
                 taken: Vec::new(rt.alloc()),
                 room,
             };
-            let given = answer(rt.alloc(), command, &mut reader, &mut writer);
+            let given = answer(&rt, rt.alloc(), command, &mut reader, &mut writer);
             assert!(rt; given == Err(RunFault::Write));
             assert!(rt; writer.taken.as_slice() == &text[..room]);
         }
@@ -143,7 +143,7 @@ fn a_writer_that_takes_nothing_failed(rt: HostRuntime) {
     for command in COMMANDS {
         let mut reader = FIRST_JOB;
         let mut writer = IdleWriter;
-        let given = answer(rt.alloc(), command, &mut reader, &mut writer);
+        let given = answer(&rt, rt.alloc(), command, &mut reader, &mut writer);
         assert!(rt; given == Err(RunFault::Write));
     }
 }

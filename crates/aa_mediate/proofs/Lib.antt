@@ -1,3 +1,4 @@
 mod Agreeing
 mod Holding
 mod SameWays
+pub mod Shared

@@ -1,5 +1,5 @@
 -- Policies that are the same give the same texts.
-use Rattle.std.proofs.Common.{◌≡◌, ℕ, ◌+◌, List, [], ◌∷◌, ◌++◌, Bool, cond, Option, Some, None, option_map, refl, ap, ◌∙◌, length}
+use Rattle.std.proofs.Common.{◌≡◌, ℕ, suc, ◌+◌, List, [], ◌∷◌, ◌++◌, Bool, cond, Option, Some, None, option_map, refl, ap, ◌∙◌, length}
 use Rattle.std.specs.Prelude.{codes, decimal, flat_map}
 use Rattle.std.specs.List.{AllZip, fold, slice_get}
 use Rattle.std.specs.Option.{option_and_then, option_map_or}
@@ -18,8 +18,8 @@ use Rattle.aa_audit.specs.Values.{value, mask}
 use Rattle.aa_audit.specs.Keys.{key, denied_key, keys}
 use Rattle.aa_audit.specs.Lines.{head_text, note_line, operation_name}
 use Rattle.aa_jobs.specs.declared.job.Task.{Task}
-use Rattle.aa_answers.specs.declared.tasks.Answered.{Answered}
-use Rattle.aa_answers.specs.Answers.{asked, task_label, answered, answers_from}
+use Rattle.aa_lane.specs.Answers.{answered_from}
+use Rattle.aa_answers.specs.Answers.{Answered, asked, task_label, next_label, answers_by}
 use Rattle.aa_answers.specs.Output.{verdict_word, policy_word, scrub_word, outcome_text, verdict_line, audit_lines, task_lines, lines_from, run_text, keyword_text, passed_over_line, counts_line, rules_of, policy_text, number_line, policies_from, check_text}
 use Rattle.aa_policy.specs.Sameness.{SameProfile, SamePolicy, SameRule}
 use Rattle.aa_sameness.proofs.Rows.{IsAlike, got_alike, long_alike}
@@ -50,7 +50,7 @@ module _ (ps qs : List Policy) (same : AllZip SamePolicy ps qs) where
   outcome_alike several answer =
       ap (λ (name : List ℕ). verdict_word answer.granted ++ codes " label=" ++ value name ++ policy_word several answer.label ++ scrub_word answer.scrub) (label_name_alike answer.label)
 
-  verdict_alike : (several : Bool) (task : ℕ) (a : Answered) → verdict_line several ps task a ≡ verdict_line several qs task a
+  verdict_alike : (several : Bool) (task : ℕ) (a : Answered (List Policy)) → verdict_line several ps task a ≡ verdict_line several qs task a
   unfolding verdict_line
   verdict_alike several task a = ap (λ (text : List ℕ). decimal task ++ codes " " ++ decimal a.number ++ text ++ codes "\n") (outcome_alike several a.answer)
 
@@ -74,18 +74,17 @@ module _ (ps qs : List Policy) (same : AllZip SamePolicy ps qs) where
   by_note before request answer None = refl
   by_note before request answer (Some note) = note_line_alike before request answer note
 
-  audit_alike : (before : Label) (a : Answered) → audit_lines ps before a ≡ audit_lines qs before a
+  audit_alike : (before : Label) (a : Answered (List Policy)) → audit_lines ps before a ≡ audit_lines qs before a
   unfolding audit_lines
   audit_alike before a = ap (λ (o : Option (List ℕ)). option_map_or (λ (l : List ℕ). l ++ codes "\n") o []) (by_note before a.request a.answer a.answer.note)
 
-  answered_alike : (requests : List Request) (label : Label) (n : ℕ) → answered ps label n requests ≡ answered qs label n requests
-  unfolding answered
+  answered_alike : (requests : List Request) (label : Label) (n : ℕ) → answered_from next_label reply ps n label requests ≡ answered_from next_label reply qs n label requests
   answered_alike [] label n = refl
   answered_alike (request ∷ requests) label n =
-      ap (λ (answer : Answer). record { number = n; request = request; answer = answer } ∷ answered ps answer.label (n + 1) requests) (replies_alike ps qs same label request)
-      ∙ ap (λ (rest : List Answered). record { number = n; request = request; answer = reply qs label request } ∷ rest) (answered_alike requests (reply qs label request).label (n + 1))
+      ap (λ (answer : Answer). record { number = n; request = request; answer = answer } ∷ answered_from next_label reply ps (suc n) answer.label requests) (replies_alike ps qs same label request)
+      ∙ ap (λ (rest : List (Answered (List Policy))). record { number = n; request = request; answer = reply qs label request } ∷ rest) (answered_alike requests (reply qs label request).label (suc n))
 
-  task_lines_alike : (several : Bool) (task : ℕ) (answers : List Answered) (before : Label) → task_lines several ps task before answers ≡ task_lines several qs task before answers
+  task_lines_alike : (several : Bool) (task : ℕ) (answers : List (Answered (List Policy))) (before : Label) → task_lines several ps task before answers ≡ task_lines several qs task before answers
   unfolding task_lines
   task_lines_alike several task [] before = refl
   task_lines_alike several task (a ∷ answers) before =
@@ -93,25 +92,25 @@ module _ (ps qs : List Policy) (same : AllZip SamePolicy ps qs) where
       ∙ ap (λ (text : List ℕ). verdict_line several qs task a ++ (text ++ task_lines several ps task a.answer.label answers)) (audit_alike before a)
       ∙ ap (λ (text : List ℕ). verdict_line several qs task a ++ (audit_lines qs before a ++ text)) (task_lines_alike several task answers a.answer.label)
 
-  lines_of_task : (several : Bool) (n : ℕ) (task : Task) (label : Label) → task_lines several ps n label (answers_from ps task label) ≡ task_lines several qs n label (answers_from qs task label)
+  lines_of_task : (several : Bool) (n : ℕ) (task : Task) (label : Label) → task_lines several ps n label (answers_by next_label reply ps task label) ≡ task_lines several qs n label (answers_by next_label reply qs task label)
   lines_of_task several n task label =
-      ap (task_lines several ps n label) (answered_alike (asked task.requests) label 0) ∙ task_lines_alike several n (answers_from qs task label) label
+      ap (task_lines several ps n label) (answered_alike (asked task.requests) label 0) ∙ task_lines_alike several n (answers_by next_label reply qs task label) label
 
   by_label : (several : Bool) (n : ℕ) (task : Task) (before after : Option (List ℕ)) → before ≡ after → (o : Option Label) →
-      option_and_then (λ (label : Label). option_and_then (λ (rest : List ℕ). Some (task_lines several ps n label (answers_from ps task label) ++ rest)) before) o
-      ≡ option_and_then (λ (label : Label). option_and_then (λ (rest : List ℕ). Some (task_lines several qs n label (answers_from qs task label) ++ rest)) after) o
+      option_and_then (λ (label : Label). option_and_then (λ (rest : List ℕ). Some (task_lines several ps n label (answers_by next_label reply ps task label) ++ rest)) before) o
+      ≡ option_and_then (λ (label : Label). option_and_then (λ (rest : List ℕ). Some (task_lines several qs n label (answers_by next_label reply qs task label) ++ rest)) after) o
   by_label several n task before after e None = refl
   by_label several n task before after e (Some label) =
       ap (λ (text : List ℕ). option_and_then (λ (rest : List ℕ). Some (text ++ rest)) before) (lines_of_task several n task label)
-      ∙ ap (option_and_then (λ (rest : List ℕ). Some (task_lines several qs n label (answers_from qs task label) ++ rest))) e
+      ∙ ap (option_and_then (λ (rest : List ℕ). Some (task_lines several qs n label (answers_by next_label reply qs task label) ++ rest))) e
 
-  lines_alike : (several : Bool) (tasks : List Task) (n : ℕ) → lines_from several ps n tasks ≡ lines_from several qs n tasks
+  lines_alike : (several : Bool) (tasks : List Task) (n : ℕ) → lines_from next_label reply ps several ps n tasks ≡ lines_from next_label reply qs several qs n tasks
   unfolding lines_from
   lines_alike several [] n = refl
   lines_alike several (task ∷ tasks) n =
-      ap (λ (o : Option Label). option_and_then (λ (label : Label). option_and_then (λ (rest : List ℕ). Some (task_lines several ps n label (answers_from ps task label) ++ rest)) (lines_from several ps (n + 1) tasks)) o)
+      ap (λ (o : Option Label). option_and_then (λ (label : Label). option_and_then (λ (rest : List ℕ). Some (task_lines several ps n label (answers_by next_label reply ps task label) ++ rest)) (lines_from next_label reply ps several ps (n + 1) tasks)) o)
       (label_named_alike ps qs same task.policy task.label)
-      ∙ by_label several n task (lines_from several ps (n + 1) tasks) (lines_from several qs (n + 1) tasks) (lines_alike several tasks (n + 1)) (task_label qs task)
+      ∙ by_label several n task (lines_from next_label reply ps several ps (n + 1) tasks) (lines_from next_label reply qs several qs (n + 1) tasks) (lines_alike several tasks (n + 1)) (task_label qs task)
 
   pub run_alike : (several : Bool) (tasks : List Task) → run_text several ps tasks ≡ run_text several qs tasks
   run_alike several tasks = lines_alike several tasks 0

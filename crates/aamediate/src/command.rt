@@ -1,6 +1,6 @@
 //! The command line.
 
-use clap::Error;
+use clap::{Arg, ArgAction, ArgMatches, Error, value_parser};
 use std::alloc::{AllocError, Global};
 
 /// What the program is asked to do with the job on its standard input.
@@ -8,8 +8,8 @@ use std::alloc::{AllocError, Global};
 pub enum Command {
     /// To say whether its policies compile.
     Check,
-    /// To decide its requests.
-    Run,
+    /// To have its requests decided by that many workers, 1 to 16.
+    Run(u32),
     /// To make its events happen.
     Replay,
 }
@@ -50,7 +50,7 @@ listed. It doesn't look at the labels of the tasks."#;
 
 const RUN: &str =
     r#"Decides as far as a task's first "exit". Each request gives its verdict, and then its audit line,
-if it has one."#;
+if it has one. Each task has a queue of its own; the output is the same for any number of workers."#;
 
 const REPLAY: &str =
     r#"Each task has a queue of its own. The job's "events" happen at them in order: the task of a
@@ -68,11 +68,22 @@ fn check<'a>(alloc: Global) -> clap::Command<'a> {
         .after_help(CHECK)
 }
 
-fn run<'a>(alloc: Global) -> clap::Command<'a> {
+/// The name of the option.
+const WORKERS: &str = "workers";
+
+fn run<'a>(alloc: Global) -> Result<clap::Command<'a>, AllocError> {
+    let workers = Arg::new(alloc, WORKERS)
+        .long(WORKERS)
+        .value_name("N")
+        .help("How many threads decide, 1 to 16")
+        .value_parser(value_parser!(u32).range(1..=16))
+        .default_value("1")
+        .action(ArgAction::Set);
     clap::Command::new(alloc, "run")
         .about("Decides the requests of a job's tasks")
-        .override_usage("aamediate run < JOB")
+        .override_usage("aamediate run [--workers <N>] < JOB")
         .after_help(RUN)
+        .arg(workers)
 }
 
 fn replay<'a>(alloc: Global) -> clap::Command<'a> {
@@ -90,8 +101,16 @@ fn command_line<'a>(alloc: Global) -> Result<clap::Command<'a>, AllocError> {
         .after_help(JOB)
         .subcommand_required(true)
         .subcommand(check(alloc))?
-        .subcommand(run(alloc))?
+        .subcommand(run(alloc)?)?
         .subcommand(replay(alloc))
+}
+
+/// The number of workers that is given; one where there is none.
+fn workers_of(matches: Option<&ArgMatches>) -> u32 {
+    match matches {
+        Some(matches) => matches.get_one::<u32>(WORKERS).unwrap_or(1),
+        None => 1,
+    }
 }
 
 /// The command that the words of a command line name; the first word is the program's name.
@@ -100,6 +119,6 @@ pub fn command_named(alloc: Global, words: &[String]) -> Result<Command, Error> 
     match matches.subcommand_name() {
         Some("check") => Ok(Command::Check),
         Some("replay") => Ok(Command::Replay),
-        _ => Ok(Command::Run),
+        _ => Ok(Command::Run(workers_of(matches.subcommand_matches("run")))),
     }
 }

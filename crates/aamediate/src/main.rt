@@ -8,6 +8,8 @@ use clap::Error;
 use clap::error::ErrorKind;
 use command::{Command, command_named};
 use std::process::ExitCode;
+use std::sync::Wait;
+use std::thread::Threads;
 use std::{env, io};
 
 /// Says the fault on standard error, and gives its exit status.
@@ -35,7 +37,7 @@ fn refuse_command(rt: &HostRuntime, error: &Error) -> u8 {
 }
 
 /// Does what the command line asks, and gives the exit status.
-fn answer_command(rt: &HostRuntime) -> u8 {
+fn answer_command<H: Threads + Wait + Sync>(rt: &HostRuntime, threads: &H) -> u8 {
     let alloc = rt.alloc();
     let words: Vec<String> = match env::args(rt) {
         Err(error) => return refuse_words(rt, &error),
@@ -46,24 +48,37 @@ fn answer_command(rt: &HostRuntime) -> u8 {
     };
     match command_named(alloc, words.as_slice()) {
         Err(error) => refuse_command(rt, &error),
-        Ok(command) => match answer_job(rt, command) {
+        Ok(command) => match answer_job(rt, threads, command) {
             Ok(()) => 0,
             Err(fault) => refuse(rt, fault),
         },
     }
 }
 
-fn answer_job(rt: &HostRuntime, command: Command) -> Result<(), RunFault> {
+/// Answers the job on standard input. Workers are started by `threads`.
+fn answer_job<H: Threads + Wait + Sync>(
+    rt: &HostRuntime,
+    threads: &H,
+    command: Command,
+) -> Result<(), RunFault> {
     let alloc = rt.alloc();
     let mut reader = rt.reader();
     let mut writer = io::writer(rt);
     match command {
         Command::Check => check_job(alloc, &mut reader, &mut writer),
-        Command::Run => run_job(alloc, &mut reader, &mut writer, 1),
+        Command::Run(workers) => {
+            run_job(
+                threads,
+                alloc,
+                &mut reader,
+                &mut writer,
+                workers.clamp(1, 16),
+            )
+        },
         Command::Replay => replay_job(alloc, &mut reader, &mut writer),
     }
 }
 
 fn main(rt: HostRuntime) -> ExitCode {
-    ExitCode::from(answer_command(&rt))
+    ExitCode::from(answer_command(&rt, &rt))
 }

@@ -1,0 +1,124 @@
+//! Two tasks whose requests wait for one another, so that one thread alone can't decide them.
+
+ghost use Rattle.std.specs.Prelude.{◌<◌, ◌≤◌};
+ghost use Rattle.aa_mediate.specs.Reply.{reply};
+
+use aa_engine::{Answered, mediate};
+use aa_jobs::{Job, read_job};
+use aa_machine::Machine;
+use aa_mediate::Mediator;
+use aa_policies::{Compiled, compile_policies};
+use aa_requests::{Answer, Label, Request};
+use std::alloc::Global;
+use std::sync::Wait;
+use std::sync::atomic::{AtomicU64, Ordering};
+use std::test::Fail;
+use std::thread;
+use std::thread::Threads;
+
+/// Decides as the policies do. A step of a confined task and one of an unconfined task wait a while for each other, and that
+/// one of them gave up is noted.
+#[derive(Drop)]
+struct Gates<'p> {
+    mediator: Mediator<'p>,
+    confined: AtomicU64,
+    unconfined: AtomicU64,
+    given_up: AtomicU64,
+}
+
+impl<'p> Gates<'p> {
+    fn new(policies: &'p [Compiled]) -> Gates<'p> {
+        Gates {
+            mediator: Mediator::new(policies),
+            confined: AtomicU64::new(0),
+            unconfined: AtomicU64::new(0),
+            given_up: AtomicU64::new(0),
+        }
+    }
+
+    fn wait_for_the_other(&self, label: Label) {
+        let (mine, other) = match label {
+            Label::Confined(_, _) => (&self.confined, &self.unconfined),
+            Label::Unconfined(_) => (&self.unconfined, &self.confined),
+        };
+        mine.store(1, Ordering::SeqCst);
+        for _ in 0..10_000_000u32 {
+            if other.load(Ordering::SeqCst) == 1 {
+                return;
+            }
+            thread::yield_now();
+        }
+        self.given_up.store(1, Ordering::SeqCst);
+    }
+}
+
+impl<'p> Machine for Gates<'p> {
+    type State = Label;
+
+    type Request = Request;
+
+    type Answer = Answer;
+
+    ghost next = { λ g label request. (reply g.mediator label request).label };
+
+    ghost reply = { λ g label request. reply g.mediator label request };
+
+    fn step(&self, state: &mut Label, request: &Request) -> Answer {
+        self.wait_for_the_other(*state);
+        self.mediator.step(state, request)
+    }
+}
+
+const TWO_TASKS: &[u8] =
+    b"{\"policy\":\"profile p { /etc/passwd r, }\",\"tasks\":[{\"label\":\"p\",\"requests\":[{\"file\":\"/etc/passwd\",\"mask\":\"r\"}]},{\"label\":\"unconfined\",\"requests\":[{\"file\":\"/etc/passwd\",\"mask\":\"r\"}]}]}";
+
+/// How many answers of all tasks grant.
+fn grants_of<M: Machine<Answer = Answer>>(rows: &[Vec<Answered<M>>]) -> u64 {
+    let mut grants: u64 = 0;
+    for row in rows {
+        for answered in row.as_slice() {
+            grants = grants.wrapping_add(answered.answer.granted as u64);
+        }
+    }
+    grants
+}
+
+fn policies_of(alloc: Global, job: &Job) -> Result<Vec<Compiled>, Fail> {
+    let includes = job.includes.as_slice();
+    let texts = job.policies.as_slice();
+    match compile_policies(alloc, includes, texts, job.states) {
+        Ok(policies) => Ok(policies),
+        Err(_) => Err("they compile".into()),
+    }
+}
+
+/// How many requests are granted by that many workers, and whether a step gave up.
+fn granted_by<R: Threads + Wait + Sync>(
+    rt: &R,
+    alloc: Global,
+    workers: u32,
+) -> Result<(u64, u64), Fail>
+    requires { (0 < workers) × (workers ≤ 16) }
+{
+    let job = read_job(alloc, TWO_TASKS).ok().ok_or("it is a job")?;
+    let policies = policies_of(alloc, &job)?;
+    let gates = Gates::new(policies.as_slice());
+    let answers = mediate(rt, alloc, &job, policies.as_slice(), &gates, workers);
+    let rows = answers.ok().ok_or("it is answered")?;
+    let grants = grants_of(rows.as_slice());
+    Ok((grants, gates.given_up.load(Ordering::SeqCst)))
+}
+
+#[test]
+fn two_workers_decide_two_tasks_at_once(rt: HostRuntime) -> Result<(), Fail> {
+    for workers in [2, 16] {
+        assert_eq!(rt; granted_by(&rt, rt.alloc(), workers)?, (2, 0));
+    }
+    Ok(())
+}
+
+#[test]
+fn one_worker_decides_them_one_after_the_other(rt: HostRuntime) -> Result<(), Fail> {
+    assert_eq!(rt; granted_by(&rt, rt.alloc(), 1)?, (2, 1));
+    Ok(())
+}
