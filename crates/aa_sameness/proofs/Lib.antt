@@ -4,4 +4,5 @@ mod Rules
 mod Profiles
 mod Replies
 mod Texts
+mod Replays
 mod Words

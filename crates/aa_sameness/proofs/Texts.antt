@@ -45,7 +45,7 @@ module _ (ps qs : List Policy) (same : AllZip SamePolicy ps qs) where
   label_name_alike (Unconfined k) = refl
   label_name_alike (Confined k n) = in_policy n (slice_get ps k) (slice_get qs k) (got_alike SamePolicy ps qs k same)
 
-  outcome_alike : (several : Bool) (answer : Answer) → outcome_text several ps answer ≡ outcome_text several qs answer
+  pub outcome_alike : (several : Bool) (answer : Answer) → outcome_text several ps answer ≡ outcome_text several qs answer
   unfolding outcome_text
   outcome_alike several answer =
       ap (λ (name : List ℕ). verdict_word answer.granted ++ codes " label=" ++ value name ++ policy_word several answer.label ++ scrub_word answer.scrub) (label_name_alike answer.label)

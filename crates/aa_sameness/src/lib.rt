@@ -4,6 +4,6 @@
 mod laws;
 
 pub use laws::{
-    same_policies_check_alike, same_policies_reply_alike, same_policies_run_alike,
-    words_decide_texts,
+    same_policies_check_alike, same_policies_replay_alike, same_policies_reply_alike,
+    same_policies_run_alike, words_decide_texts,
 };
