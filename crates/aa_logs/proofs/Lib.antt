@@ -1,3 +1,7 @@
+pub mod Broken
+pub mod Found
 pub mod Hex
 pub mod Letters
 pub mod Pieces
+pub mod Recorded
+pub mod Telling

@@ -53,7 +53,7 @@ first_onward (b ∷ bs) h =
     let one : 0 < 1 = omega arith in
     either_way (is_separator b) _ _ one (λ no. keyed_onward (b ∷ bs) (take (key_len (b ∷ bs)) (b ∷ bs)) (drop (key_len (b ∷ bs)) (b ∷ bs)) (run_so (is_separator b) _ no))
 
-all_behind : (n : ℕ) (s : List ℕ) → take (length s - n) (drop n s) ≡ drop n s
+pub all_behind : (n : ℕ) (s : List ℕ) → take (length s - n) (drop n s) ≡ drop n s
 all_behind n s = take_all (length s - n) (drop n s) (omega (arith, length-drop n s))
 
 pub read_smaller : (s : List ℕ) (n : ℕ) → 0 < length s → n ≡ (first_piece s).bytes → length (take (length s - n) (drop n s)) < length s

@@ -1,3 +1,7 @@
+pub mod Asked
+pub mod Fields
 pub mod Masks
+pub mod Outcomes
+pub mod Records
 pub mod Values
 pub mod Words

@@ -1,6 +1,14 @@
 //! The request that the fields of a line are.
 
-use crate::line::{Reason, Refusal, number_of, raw_of, text_of};
+ghost use Rattle.std.specs.Prelude.{◌≡◌, ◌==◌, ◌||◌, option_map, None, Some, Ok, Err, codes};
+ghost use Rattle.std.specs.Option.{option_and_then, option_or};
+ghost use Rattle.aa_logs.specs.Words.{words_data};
+ghost use Rattle.aa_logs.specs.Masks.{letters_bits};
+ghost use Rattle.aa_logs.specs.Fields.{raw_in, place_of};
+ghost use Rattle.aa_logs.specs.Asked.{Tells, keyword_of, passed_over, halves_by, halves_at, mask_of, asked_mask, owned_in, is_text_there, cap_in, exec_in, link_in, change_in, net_by, file_in, requested, object_in, by_operation, asked_in, because, made_of};
+
+use crate::field::{begins, either_text, is_text, number_in, place_of, raw_of, text_of};
+use crate::line::{Reason, Refusal};
 use crate::mask::{letters_of, owned_by};
 use crate::word::LogWord;
 use aa_requests::{Request, RequestFault};
@@ -8,8 +16,10 @@ use aa_tables::{Cap, Family, Perms, SockType};
 use bitflags::Flags;
 use std::alloc::Global;
 
-/// A reason, behind want of memory.
-fn because(fault: RequestFault) -> Refusal {
+/// Why a request that can't be made is none.
+fn because(fault: RequestFault) -> Refusal
+    ensures { result ≡ because fault }
+{
     match fault {
         RequestFault::NoMemory => Refusal::NoMemory,
         RequestFault::BadPath => Refusal::Skipped(Reason::Path),
@@ -18,34 +28,80 @@ fn because(fault: RequestFault) -> Refusal {
     }
 }
 
-/// The keyword of the rule that never decides here, of a class or an operation.
-fn keyword(operation: &[u8]) -> Option<&'static str> {
-    if operation.starts_with("dbus_".as_bytes()) {
-        return Some("dbus");
-    }
-    if operation.starts_with("uring_".as_bytes()) {
-        return Some("io_uring");
-    }
-    match operation {
-        b"ptrace" => Some("ptrace"),
-        b"signal" => Some("signal"),
-        b"mount" => Some("mount"),
-        b"umount" => Some("umount"),
-        b"remount" => Some("remount"),
-        b"pivotroot" => Some("pivot_root"),
-        b"setrlimit" => Some("set"),
-        b"posix_mqueue" | b"sysv_mqueue" => Some("mqueue"),
-        b"io_uring" => Some("io_uring"),
-        b"namespace" | b"userns_create" => Some("userns"),
-        b"change_hat" => Some("change_hat"),
-        b"change_onexec" => Some("change_profile"),
-        b"stack" | b"stack_onexec" => Some("stack"),
-        _ => None,
+fn made(request: Result<Request, RequestFault>) -> Result<Request, Refusal>
+    ensures { result ≡ made_of request }
+{
+    match request {
+        Ok(request) => Ok(request),
+        Err(fault) => Err(because(fault)),
     }
 }
 
-fn skipped<T>(reason: Reason) -> Result<T, Refusal> {
-    Err(Refusal::Skipped(reason))
+/// The keyword of the rule that never decides here, of a class or an operation.
+#[tactic(auto, unfolding(crate::specs::Asked::keyword_of))]
+fn keyword(operation: &[u8]) -> Option<&'static str>
+    ensures { option_map (λ k. k.now) result ≡ keyword_of operation.now }
+{
+    if begins(operation, "dbus_") {
+        return Some("dbus");
+    }
+    if begins(operation, "uring_") {
+        return Some("io_uring");
+    }
+    if is_text(operation, "ptrace") {
+        return Some("ptrace");
+    }
+    if is_text(operation, "signal") {
+        return Some("signal");
+    }
+    if is_text(operation, "mount") {
+        return Some("mount");
+    }
+    if is_text(operation, "umount") {
+        return Some("umount");
+    }
+    if is_text(operation, "remount") {
+        return Some("remount");
+    }
+    if is_text(operation, "pivotroot") {
+        return Some("pivot_root");
+    }
+    if is_text(operation, "setrlimit") {
+        return Some("set");
+    }
+    if is_text(operation, "posix_mqueue") || is_text(operation, "sysv_mqueue") {
+        return Some("mqueue");
+    }
+    if is_text(operation, "io_uring") {
+        return Some("io_uring");
+    }
+    if is_text(operation, "namespace") || is_text(operation, "userns_create") {
+        return Some("userns");
+    }
+    if is_text(operation, "change_hat") {
+        return Some("change_hat");
+    }
+    if is_text(operation, "change_onexec") {
+        return Some("change_profile");
+    }
+    if is_text(operation, "stack") || is_text(operation, "stack_onexec") {
+        return Some("stack");
+    }
+    None
+}
+
+/// The keyword of the rule that a line is about and that never decides here, by its class or else by its operation.
+fn passed_over(words: &[LogWord<'_>], operation: &[u8]) -> Option<&'static str>
+    ensures { option_map (λ k. k.now) result ≡ passed_over operation.now (words_data words.now) }
+{
+    let by_class = match raw_of(words, "class") {
+        Some(class) => keyword(class),
+        None => None,
+    };
+    match by_class {
+        Some(word) => Some(word),
+        None => keyword(operation),
+    }
 }
 
 /// A requested mask.
@@ -56,169 +112,192 @@ struct Asked {
     owned: Option<bool>,
 }
 
-/// What stands before the two colons of an old mask, and what stands behind them.
-fn halves_of(text: &[u8]) -> Option<(&[u8], &[u8])> {
-    let at = text.windows(2).position(|pair| pair == "::".as_bytes())?;
-    let front = text.get(..at)?;
-    let back = text.get(at.saturating_add(2)..)?;
-    Some((front, back))
+/// The letters of a mask that stand before two colons or behind them, and whose object it is by that.
+fn halves_by<'t>(front: &'t [u8], back: &'t [u8]) -> Option<(&'t [u8], Option<bool>)>
+    ensures { option_map (λ h. (h.0.now, h.1)) result ≡ halves_by front.entry.now back.entry.now }
+{
+    match (front, back) {
+        (_, []) => Some((front, Some(true))),
+        ([], _) => Some((back, Some(false))),
+        _ => None,
+    }
 }
 
-fn asked_by(text: &[u8]) -> Option<Asked> {
-    let (letters, owned) = match halves_of(text) {
-        None => (text, None),
-        Some((front, [])) => (front, Some(true)),
-        Some(([], back)) => (back, Some(false)),
-        Some(_) => return None,
-    };
-    let mask = letters_of(Perms(0), letters)?;
+/// The letters of a mask, and whose object it is by an old mask.
+fn halves_of(text: &[u8]) -> Option<(&[u8], Option<bool>)>
+    ensures { option_map (λ h. (h.0.now, h.1)) result ≡ halves_at text.entry.now (place_of (codes "::") text.entry.now) }
+{
+    match place_of(text, "::") {
+        Some(at) => halves_by(&text[..at], &text[at + 2..]),
+        None => Some((text, None)),
+    }
+}
+
+fn mask_of(mask: Option<Perms>, owned: Option<bool>) -> Option<Asked>
+    ensures { option_map (λ a. (a.mask.0, a.owned)) result ≡ mask_of (option_map (λ p. p.0) mask) owned }
+{
+    let mask = mask?;
     if mask.is_empty() {
         return None;
     }
     Some(Asked { mask, owned })
 }
 
-/// The number that is the value of a field.
-fn number_in(words: &[LogWord<'_>], key: &str) -> Option<u64> {
-    match raw_of(words, key) {
-        Some(text) => number_of(text),
-        None => None,
-    }
+fn asked_by(text: &[u8]) -> Option<Asked>
+    ensures { option_map (λ a. (a.mask.0, a.owned)) result ≡ asked_mask text.now }
+{
+    let (letters, owned) = halves_of(text)?;
+    mask_of(letters_of(Perms(0), letters), owned)
 }
 
-fn is_owned(words: &[LogWord<'_>], by_mask: Option<bool>) -> bool {
+fn is_owned(words: &[LogWord<'_>], by_mask: Option<bool>) -> bool
+    ensures { result ≡ owned_in by_mask (words_data words.now) }
+{
     owned_by(number_in(words, "fsuid"), number_in(words, "ouid"), by_mask)
 }
 
-fn name_in(alloc: Global, words: &[LogWord<'_>], key: &str) -> Result<Option<Vec<u8>>, Refusal> {
-    Ok(text_of(alloc, words, key)?)
-}
-
-/// The first of two names that is there.
-fn either(
-    alloc: Global,
-    words: &[LogWord<'_>],
-    first: &str,
-    second: &str,
-) -> Result<Option<Vec<u8>>, Refusal> {
-    match name_in(alloc, words, first)? {
-        Some(name) => Ok(Some(name)),
-        None => name_in(alloc, words, second),
+/// The name of a capability.
+fn cap_name<'s>(words: &[LogWord<'s>]) -> Option<&'s [u8]>
+    ensures { option_map (λ t. t.now) result ≡ option_or (raw_in (codes "capname") (words_data words.entry.now)) (raw_in (codes "name") (words_data words.entry.now)) }
+{
+    match raw_of(words, "capname") {
+        Some(name) => Some(name),
+        None => raw_of(words, "name"),
     }
 }
 
-fn cap_of(alloc: Global, words: &[LogWord<'_>]) -> Result<Request, Refusal> {
-    let name = match raw_of(words, "capname") {
-        Some(name) => Some(name),
-        None => raw_of(words, "name"),
-    };
-    let _ = alloc;
-    let Some(name) = name else {
-        return skipped(Reason::Capability);
+fn cap_of(words: &[LogWord<'_>]) -> Result<Request, Refusal>
+    ensures { Tells (λ r. r) result (cap_in (words_data words.now)) }
+{
+    let Some(name) = cap_name(words) else {
+        return Err(Refusal::Skipped(Reason::Capability));
     };
     match Cap::from_name(name) {
         Some(cap) => Ok(Request::cap(cap)),
-        None => skipped(Reason::Capability),
+        None => Err(Refusal::Skipped(Reason::Capability)),
     }
 }
 
-fn exec_of(alloc: Global, words: &[LogWord<'_>]) -> Result<Request, Refusal> {
-    let Some(path) = name_in(alloc, words, "name")? else {
-        return skipped(Reason::Path);
+fn exec_of(alloc: Global, words: &[LogWord<'_>]) -> Result<Request, Refusal>
+    ensures { Tells (λ r. r) result (exec_in (words_data words.now)) }
+{
+    let Some(path) = text_of(alloc, words, "name")? else {
+        return Err(Refusal::Skipped(Reason::Path));
     };
-    match Request::exec(alloc, path.as_slice(), is_owned(words, None)) {
-        Ok(request) => Ok(request),
-        Err(fault) => Err(because(fault)),
-    }
+    made(Request::exec(alloc, path.as_slice(), is_owned(words, None)))
 }
 
-fn link_of(alloc: Global, words: &[LogWord<'_>]) -> Result<Request, Refusal> {
-    let Some(link) = name_in(alloc, words, "name")? else {
-        return skipped(Reason::Path);
+fn link_of(alloc: Global, words: &[LogWord<'_>]) -> Result<Request, Refusal>
+    ensures { Tells (λ r. r) result (link_in (words_data words.now)) }
+{
+    let Some(link) = text_of(alloc, words, "name")? else {
+        return Err(Refusal::Skipped(Reason::Path));
     };
-    let Some(target) = either(alloc, words, "target", "name2")? else {
-        return skipped(Reason::Path);
+    let Some(target) = either_text(alloc, words, "target", "name2")? else {
+        return Err(Refusal::Skipped(Reason::Path));
     };
     let owned = is_owned(words, None);
-    match Request::link(alloc, link.as_slice(), target.as_slice(), owned) {
-        Ok(request) => Ok(request),
-        Err(fault) => Err(because(fault)),
-    }
+    made(Request::link(alloc, link.as_slice(), target.as_slice(), owned))
 }
 
-fn change_of(alloc: Global, words: &[LogWord<'_>]) -> Result<Request, Refusal> {
-    let Some(name) = either(alloc, words, "target", "name")? else {
-        return skipped(Reason::Name);
+fn change_of(alloc: Global, words: &[LogWord<'_>]) -> Result<Request, Refusal>
+    ensures { Tells (λ r. r) result (change_in (words_data words.now)) }
+{
+    let Some(name) = either_text(alloc, words, "target", "name")? else {
+        return Err(Refusal::Skipped(Reason::Name));
     };
-    match Request::change(alloc, name.as_slice()) {
-        Ok(request) => Ok(request),
-        Err(fault) => Err(because(fault)),
-    }
+    made(Request::change(alloc, name.as_slice()))
 }
 
-fn net_of(family: &[u8], kind: &[u8]) -> Result<Request, Refusal> {
-    if family == "unix".as_bytes() {
-        return skipped(Reason::Rule("unix"));
+fn net_of(family: &[u8], kind: &[u8]) -> Result<Request, Refusal>
+    ensures { Tells (λ r. r) result (net_by family.now kind.now) }
+{
+    if is_text(family, "unix") {
+        return Err(Refusal::Skipped(Reason::Rule("unix")));
     }
     match (Family::from_name(family), SockType::from_name(kind)) {
         (Some(family), Some(kind)) => Ok(Request::net(family, kind)),
-        _ => skipped(Reason::Socket),
+        _ => Err(Refusal::Skipped(Reason::Socket)),
     }
 }
 
-fn file_of(alloc: Global, words: &[LogWord<'_>], letters: &[u8]) -> Result<Request, Refusal> {
-    let Some(path) = name_in(alloc, words, "name")? else {
-        return skipped(Reason::Operation);
+fn file_of(alloc: Global, words: &[LogWord<'_>], letters: &[u8]) -> Result<Request, Refusal>
+    ensures { Tells (λ r. r) result (file_in (words_data words.now) letters.now) }
+{
+    let Some(path) = text_of(alloc, words, "name")? else {
+        return Err(Refusal::Skipped(Reason::Operation));
     };
-    let is_path = path.as_slice().starts_with("/".as_bytes());
     let Some(asked) = asked_by(letters) else {
-        return skipped(if is_path { Reason::Mask } else { Reason::Path });
+        let is_path = begins(path.as_slice(), "/");
+        return Err(Refusal::Skipped(if is_path { Reason::Mask } else { Reason::Path }));
     };
     let owned = is_owned(words, asked.owned);
-    match Request::file(alloc, path.as_slice(), asked.mask, owned) {
-        Ok(request) => Ok(request),
-        Err(fault) => Err(because(fault)),
+    made(Request::file(alloc, path.as_slice(), asked.mask, owned))
+}
+
+/// The use of a file that a requested mask asks for.
+fn requested(alloc: Global, words: &[LogWord<'_>]) -> Result<Request, Refusal>
+    ensures { Tells (λ r. r) result (requested (words_data words.now)) }
+{
+    match raw_of(words, "requested_mask") {
+        Some(letters) => file_of(alloc, words, letters),
+        None => Err(Refusal::Skipped(Reason::Operation)),
     }
 }
 
 /// The request of an operation that isn't known by its name.
-fn object_of(alloc: Global, words: &[LogWord<'_>]) -> Result<Request, Refusal> {
-    if let (Some(family), Some(kind)) = (raw_of(words, "family"), raw_of(words, "sock_type")) {
-        return net_of(family, kind);
-    }
-    match raw_of(words, "requested_mask") {
-        Some(letters) => file_of(alloc, words, letters),
-        None => skipped(Reason::Operation),
+fn object_of(alloc: Global, words: &[LogWord<'_>]) -> Result<Request, Refusal>
+    ensures { Tells (λ r. r) result (object_in (words_data words.now)) }
+{
+    match (raw_of(words, "family"), raw_of(words, "sock_type")) {
+        (Some(family), Some(kind)) => net_of(family, kind),
+        _ => requested(alloc, words),
     }
 }
 
-/// The keyword of the rule that a line is about and that never decides here, by its class or else by its operation.
-fn passed_over(words: &[LogWord<'_>], operation: &[u8]) -> Option<&'static str> {
-    match raw_of(words, "class") {
-        Some(class) => match keyword(class) {
-            Some(word) => Some(word),
-            None => keyword(operation),
-        },
-        None => keyword(operation),
+/// The request of an operation that rules decide here.
+#[tactic(auto, unfolding(crate::specs::Asked::by_operation))]
+fn by_operation(alloc: Global, words: &[LogWord<'_>], operation: &[u8]) -> Result<Request, Refusal>
+    ensures { Tells (λ r. r) result (by_operation (words_data words.now) operation.now) }
+{
+    if is_text(operation, "capable") {
+        return cap_of(words);
+    }
+    if is_text(operation, "exec") {
+        return exec_of(alloc, words);
+    }
+    if is_text(operation, "link") || is_text(operation, "inode_link") {
+        return link_of(alloc, words);
+    }
+    if is_text(operation, "change_profile") {
+        return change_of(alloc, words);
+    }
+    object_of(alloc, words)
+}
+
+/// Whether a line says that no rule decided, since the task may gain no privileges.
+fn is_without_rule(words: &[LogWord<'_>]) -> bool
+    ensures { result ≡ is_text_there (codes "no new privs") (raw_in (codes "info") (words_data words.now)) }
+{
+    match raw_of(words, "info") {
+        Some(text) => is_text(text, "no new privs"),
+        None => false,
     }
 }
 
 /// The request that the fields of a line are, or why they are none.
-pub(crate) fn asked_of(alloc: Global, words: &[LogWord<'_>]) -> Result<Request, Refusal> {
+#[tactic(auto, unfolding(crate::specs::Asked::asked_in))]
+pub(crate) fn asked_of(alloc: Global, words: &[LogWord<'_>]) -> Result<Request, Refusal>
+    ensures { Tells (λ r. r) result (asked_in (words_data words.now)) }
+{
     let Some(operation) = raw_of(words, "operation") else {
-        return skipped(Reason::Broken);
+        return Err(Refusal::Skipped(Reason::Broken));
     };
-    if raw_of(words, "info") == Some("no new privs".as_bytes()) {
-        return skipped(Reason::NoNewPrivs);
+    if is_without_rule(words) {
+        return Err(Refusal::Skipped(Reason::NoNewPrivs));
     }
     if let Some(word) = passed_over(words, operation) {
-        return skipped(Reason::Rule(word));
+        return Err(Refusal::Skipped(Reason::Rule(word)));
     }
-    match operation {
-        b"capable" => cap_of(alloc, words),
-        b"exec" => exec_of(alloc, words),
-        b"link" | b"inode_link" => link_of(alloc, words),
-        b"change_profile" => change_of(alloc, words),
-        _ => object_of(alloc, words),
-    }
+    by_operation(alloc, words, operation)
 }

@@ -2,6 +2,7 @@
 #![tactic(auto)]
 
 mod asked;
+mod field;
 mod line;
 mod mask;
 mod piece;

@@ -1,8 +1,17 @@
 //! What a line of a log says: whether it is the access control's, and what was asked.
 
+ghost use Rattle.std.specs.Prelude.{◌≡◌, ◌≤◌, ◌||◌, length, codes, count_by, option_map, [], IfOk};
+ghost use Rattle.std.specs.List.{list_any, prefix_len};
+ghost use Rattle.std.specs.Str.{bytes_eq};
+ghost use Rattle.aa_logs.specs.Words.{word_data, words_data};
+ghost use Rattle.aa_logs.specs.Fields.{is_digit};
+ghost use Rattle.aa_logs.specs.Asked.{Tells};
+ghost use Rattle.aa_logs.specs.Outcomes.{record_data, outcome};
+ghost use Rattle.aa_logs.specs.Records.{is_record, told_by_word, is_one_of, told_by_type, is_old_type, told_in, behind_digits, is_time, may_be_stamp, begins_stamp, is_false_stamp, is_open, is_broken, is_other_space, profile_in, record_by, record_in, without_return, outcome_of, line_in};
+
 use crate::asked::asked_of;
-use crate::reading::{last_of, read_line};
-use crate::value::name_of;
+use crate::field::{begins, either_text, has_part, is_digit, is_text, number_in, raw_of, text_of};
+use crate::reading::read_line;
 use crate::word::{Form, LogWord};
 use aa_requests::Request;
 use std::alloc::{AllocError, AllocFailed, Global};
@@ -67,12 +76,22 @@ pub enum Refusal {
 }
 
 impl From<AllocError> for Refusal {
+    ghost use Rattle.std.specs.Prelude.{◌≡◌};
+    ghost use Rattle.aa_logs.specs.declared.line.Refusal.TheVariants.{NoMemory};
+
+    ghost from_gives = { λ _ e. e ≡ NoMemory };
+
     fn from(_e: AllocError) -> Refusal {
         Refusal::NoMemory
     }
 }
 
 impl<T: Drop> From<AllocFailed<T>> for Refusal {
+    ghost use Rattle.std.specs.Prelude.{◌≡◌};
+    ghost use Rattle.aa_logs.specs.declared.line.Refusal.TheVariants.{NoMemory};
+
+    ghost from_gives = { λ _ e. e ≡ NoMemory };
+
     fn from(_e: AllocFailed<T>) -> Refusal {
         Refusal::NoMemory
     }
@@ -85,169 +104,231 @@ enum Told {
     Status,
 }
 
-fn has_part(line: &[u8], part: &[u8]) -> bool {
-    line.windows(part.len().max(1)).any(|window| window == part)
-}
-
 /// Whether a line is one of the access control's.
-fn is_record(line: &[u8]) -> bool {
-    has_part(line, "apparmor=\"".as_bytes())
-        || has_part(line, "type=15".as_bytes())
-        || has_part(line, "type=APPARMOR".as_bytes())
-        || has_part(line, "type=UNKNOWN[15".as_bytes())
+fn is_record(line: &[u8]) -> bool
+    ensures { result ≡ is_record line.now }
+{
+    has_part(line, "apparmor=\"")
+        || has_part(line, "type=15")
+        || has_part(line, "type=APPARMOR")
+        || has_part(line, "type=UNKNOWN[15")
 }
 
-fn told_by_word(word: &[u8]) -> Option<Told> {
-    match word {
-        b"DENIED" | b"KILLED" => Some(Told::Then(Then::Denied)),
-        b"ALLOWED" => Some(Told::Then(Then::Allowed)),
-        b"AUDIT" => Some(Told::Then(Then::Granted)),
-        b"HINT" | b"STATUS" | b"ERROR" => Some(Told::Status),
-        _ => None,
+/// What a record's word tells.
+#[tactic(auto, unfolding(crate::specs::Records::told_by_word))]
+fn told_by_word(word: &[u8]) -> Option<Told>
+    ensures { result ≡ told_by_word word.now }
+{
+    if is_text(word, "DENIED") || is_text(word, "KILLED") {
+        return Some(Told::Then(Then::Denied));
     }
+    if is_text(word, "ALLOWED") {
+        return Some(Told::Then(Then::Allowed));
+    }
+    if is_text(word, "AUDIT") {
+        return Some(Told::Then(Then::Granted));
+    }
+    if is_text(word, "HINT") || is_text(word, "STATUS") || is_text(word, "ERROR") {
+        return Some(Told::Status);
+    }
+    None
+}
+
+fn is_one_of(word: &[u8], first: &str, second: &str, third: &str) -> bool
+    ensures { result ≡ is_one_of first.now second.now third.now word.now }
+{
+    is_text(word, first) || is_text(word, second) || is_text(word, third)
 }
 
 /// What the type of a record tells that has no word.
-fn told_by_type(kind: &[u8]) -> Option<Told> {
-    match kind {
-        b"1501" | b"UNKNOWN[1501]" | b"APPARMOR_AUDIT" => Some(Told::Then(Then::Granted)),
-        b"1502" | b"UNKNOWN[1502]" | b"APPARMOR_ALLOWED" => Some(Told::Then(Then::Allowed)),
-        b"1503" | b"UNKNOWN[1503]" | b"APPARMOR_DENIED" => Some(Told::Then(Then::Denied)),
-        b"1504" | b"UNKNOWN[1504]" | b"APPARMOR_HINT" => Some(Told::Status),
-        b"1505" | b"UNKNOWN[1505]" | b"APPARMOR_STATUS" => Some(Told::Status),
-        b"1506" | b"UNKNOWN[1506]" | b"APPARMOR_ERROR" => Some(Told::Status),
+#[tactic(auto, unfolding(crate::specs::Records::told_by_type))]
+fn told_by_type(kind: &[u8]) -> Option<Told>
+    ensures { result ≡ told_by_type kind.now }
+{
+    if is_one_of(kind, "1501", "UNKNOWN[1501]", "APPARMOR_AUDIT") {
+        return Some(Told::Then(Then::Granted));
+    }
+    if is_one_of(kind, "1502", "UNKNOWN[1502]", "APPARMOR_ALLOWED") {
+        return Some(Told::Then(Then::Allowed));
+    }
+    if is_one_of(kind, "1503", "UNKNOWN[1503]", "APPARMOR_DENIED") {
+        return Some(Told::Then(Then::Denied));
+    }
+    if is_one_of(kind, "1504", "UNKNOWN[1504]", "APPARMOR_HINT")
+        || is_one_of(kind, "1505", "UNKNOWN[1505]", "APPARMOR_STATUS")
+        || is_one_of(kind, "1506", "UNKNOWN[1506]", "APPARMOR_ERROR")
+    {
+        return Some(Told::Status);
+    }
+    None
+}
+
+/// Whether the type is that of a record of before 2007.
+fn is_old_type(kind: &[u8]) -> bool
+    ensures { result ≡ is_old_type kind.now }
+{
+    is_one_of(kind, "APPARMOR", "1500", "UNKNOWN[1500]")
+}
+
+/// How many digits stand first.
+fn digits(text: &[u8]) -> usize
+    ensures count { result ≡ prefix_len is_digit text.now }
+    ensures within { result ≤ length text.now }
+{
+    text.iter().take_while(|b| is_digit(**b)).count()
+}
+
+/// What stands behind the digits of a stamp that stand first, and behind the byte that ends them.
+#[tactic(auto, unfolding(crate::specs::Records::behind_digits))]
+fn behind_digits(text: &[u8], most: usize, end: u8) -> Option<&[u8]>
+    ensures { option_map (λ t. t.now) result ≡ behind_digits most end text.entry.now }
+{
+    let length = digits(text);
+    match &text[length..] {
+        [b, rest @ ..] if 0 < length && length <= most && *b == end => Some(rest),
         _ => None,
     }
 }
 
-fn is_old_type(kind: &[u8]) -> bool {
-    matches!(kind, b"APPARMOR" | b"1500" | b"UNKNOWN[1500]")
+fn is_end(rest: &[u8]) -> bool
+    ensures { result ≡ (bytes_eq rest.now [] || bytes_eq rest.now (codes ":")) }
+{
+    matches!(rest, [] | b":")
 }
 
-/// The digits of a stamp that stand first, and what stands behind the byte that ends them.
-fn digits_before(text: &[u8], most: usize, end: u8) -> Option<&[u8]> {
-    let length = text.iter().take_while(|b| b.is_ascii_digit()).count();
-    if length == 0 || length > most || text.get(length).copied() != Some(end) {
-        return None;
-    }
-    text.get(length.saturating_add(1)..)
-}
-
-/// Whether a text is `audit(SECONDS.PART:NUMBER)`, a colon behind it or not.
-fn is_stamp(text: &[u8]) -> bool {
-    let Some(numbers) = text.strip_prefix("audit(".as_bytes()) else {
+/// Whether a text is `SECONDS.PART:NUMBER)`, a colon behind it or not.
+#[tactic(auto, unfolding(crate::specs::Records::is_time))]
+fn is_time(text: &[u8]) -> bool
+    ensures { result ≡ is_time text.now }
+{
+    let Some(part) = behind_digits(text, 19, b'.') else {
         return false;
     };
-    let Some(part) = digits_before(numbers, 19, b'.') else {
+    let Some(number) = behind_digits(part, 9, b':') else {
         return false;
     };
-    let Some(number) = digits_before(part, 9, b':') else {
-        return false;
-    };
-    match digits_before(number, 19, b')') {
-        Some(rest) => rest.is_empty() || rest == ":".as_bytes(),
+    match behind_digits(number, 19, b')') {
+        Some(rest) => is_end(rest),
         None => false,
     }
 }
 
-/// The text of a word that may be a stamp.
-fn stamp_text<'s>(word: &LogWord<'s>) -> Option<&'s [u8]> {
-    let may_be = word.form == Form::Run
-        || (word.form == Form::Plain && word.key == "msg".as_bytes());
-    if may_be && word.text.starts_with("audit(".as_bytes()) {
-        Some(word.text)
-    } else {
-        None
+/// Whether a word can be a stamp: a run, or the run that is the value of `msg`.
+fn may_be_stamp(form: Form, key: &[u8]) -> bool
+    ensures { result ≡ may_be_stamp form key.now }
+{
+    match form {
+        Form::Run => true,
+        Form::Plain => is_text(key, "msg"),
+        Form::Quoted | Form::Open => false,
     }
+}
+
+fn begins_stamp(word: &LogWord<'_>) -> bool
+    ensures { result ≡ begins_stamp (word_data word.now) }
+{
+    may_be_stamp(word.form, word.key) && begins(word.text, "audit(")
+}
+
+/// Whether a word begins as a stamp does, and is none.
+fn is_false_stamp(word: &LogWord<'_>) -> bool
+    ensures { result ≡ is_false_stamp (word_data word.now) }
+{
+    begins_stamp(word) && !is_time(&word.text[6..])
+}
+
+fn is_open(word: &LogWord<'_>) -> bool
+    ensures { result ≡ is_open (word_data word.now) }
+{
+    match word.form {
+        Form::Open => true,
+        Form::Quoted | Form::Plain | Form::Run => false,
+    }
+}
+
+fn has_open(words: &[LogWord<'_>]) -> bool
+    ensures { result ≡ list_any (λ w. is_open (word_data w)) words.now }
+{
+    words.iter().any(|word| is_open(word))
+}
+
+fn has_false_stamp(words: &[LogWord<'_>]) -> bool
+    ensures { result ≡ list_any (λ w. is_false_stamp (word_data w)) words.now }
+{
+    words.iter().any(|word| is_false_stamp(word))
+}
+
+/// How many words begin as a stamp does.
+fn stamps(words: &[LogWord<'_>]) -> usize
+    ensures { result ≡ count_by (λ w. begins_stamp (word_data w)) words.now }
+{
+    words.iter().filter(|word| begins_stamp(word)).count()
 }
 
 /// Whether what a line's words are can't be: a quote that isn't closed, a stamp that is none, two stamps.
-fn are_broken(words: &[LogWord<'_>]) -> bool {
-    let mut stamps: usize = 0;
-    for word in words {
-        if word.form == Form::Open {
-            return true;
-        }
-        if let Some(stamp) = stamp_text(word) {
-            stamps = stamps.saturating_add(1);
-            if !is_stamp(stamp) || stamps > 1 {
-                return true;
-            }
-        }
+fn are_broken(words: &[LogWord<'_>]) -> bool
+    ensures { result ≡ is_broken (words_data words.now) }
+{
+    if has_open(words) {
+        return true;
     }
-    false
+    if has_false_stamp(words) {
+        return true;
+    }
+    stamps(words) > 1
 }
 
-/// The value of a field as it stands.
-pub(crate) fn raw_of<'s>(words: &[LogWord<'s>], key: &str) -> Option<&'s [u8]> {
-    match last_of(words, key.as_bytes()) {
-        Some(word) => Some(word.text),
-        None => None,
-    }
-}
-
-/// The bytes that the value of a field stands for which is a name.
-pub(crate) fn text_of(
-    alloc: Global,
-    words: &[LogWord<'_>],
-    key: &str,
-) -> Result<Option<Vec<u8>>, AllocError> {
-    match last_of(words, key.as_bytes()) {
-        Some(word) => Ok(Some(name_of(alloc, word)?)),
-        None => Ok(None),
-    }
-}
-
-/// A decimal number.
-pub(crate) fn number_of(text: &[u8]) -> Option<u64> {
-    match std::str::from_utf8(text) {
-        Ok(text) => text.parse::<u64>().ok(),
-        Err(_) => None,
+/// Whether a namespace is named that isn't the first one.
+fn is_elsewhere(space: Option<Vec<u8>>) -> bool
+    ensures { result ≡ is_other_space (option_map (λ s. s.items) space) }
+{
+    match space {
+        Some(space) => !is_text(space.as_slice(), "root") && !is_text(space.as_slice(), "default"),
+        None => false,
     }
 }
 
 /// The profile that asked, by its full name.
-fn profile_of(alloc: Global, words: &[LogWord<'_>]) -> Result<Vec<u8>, Refusal> {
-    let named = match text_of(alloc, words, "profile")? {
-        Some(name) => Some(name),
-        None => text_of(alloc, words, "label")?,
-    };
-    let Some(name) = named else {
+#[tactic(auto, unfolding(crate::specs::Records::profile_in))]
+fn profile_of(alloc: Global, words: &[LogWord<'_>]) -> Result<Vec<u8>, Refusal>
+    ensures { Tells (λ name. name.items) result (profile_in (words_data words.now)) }
+{
+    let Some(name) = either_text(alloc, words, "profile", "label")? else {
         return Err(Refusal::Skipped(Reason::NoProfile));
     };
-    if name.as_slice().starts_with(":".as_bytes()) {
+    let is_elsewhere = is_elsewhere(text_of(alloc, words, "namespace")?);
+    if begins(name.as_slice(), ":") || is_elsewhere {
         return Err(Refusal::Skipped(Reason::Namespace));
     }
-    if let Some(space) = text_of(alloc, words, "namespace")? {
-        if space.as_slice() != "root".as_bytes() && space.as_slice() != "default".as_bytes() {
-            return Err(Refusal::Skipped(Reason::Namespace));
-        }
-    }
-    if has_part(name.as_slice(), "//&".as_bytes()) {
+    if has_part(name.as_slice(), "//&") {
         return Err(Refusal::Skipped(Reason::Stacked));
     }
     Ok(name)
 }
 
 /// What the words of a record tell, if it is one.
-fn told_of(words: &[LogWord<'_>]) -> Result<Option<Told>, Refusal> {
-    let kind = raw_of(words, "type").unwrap_or(&[]);
-    match raw_of(words, "apparmor") {
-        Some(word) => match told_by_word(word) {
+#[tactic(auto, unfolding(crate::specs::Records::told_in))]
+fn told_of(words: &[LogWord<'_>]) -> Result<Option<Told>, Refusal>
+    ensures { Tells (λ t. t) result (told_in (words_data words.now)) }
+{
+    if let Some(word) = raw_of(words, "apparmor") {
+        return match told_by_word(word) {
             Some(told) => Ok(Some(told)),
             None => Err(Refusal::Skipped(Reason::Broken)),
-        },
-        None if is_old_type(kind) => Err(Refusal::Skipped(Reason::OldForm)),
-        None => Ok(told_by_type(kind)),
+        };
+    }
+    match raw_of(words, "type") {
+        Some(kind) if is_old_type(kind) => Err(Refusal::Skipped(Reason::OldForm)),
+        Some(kind) => Ok(told_by_type(kind)),
+        None => Ok(None),
     }
 }
 
-fn record_of(alloc: Global, line: &[u8]) -> Result<Option<Record>, Refusal> {
-    if line.len() > MAX_LINE {
-        return Err(Refusal::Skipped(Reason::Broken));
-    }
-    let words = read_line(alloc, line)?;
-    let words = words.as_slice();
+/// What a record's words say.
+#[tactic(auto, unfolding(crate::specs::Records::record_by))]
+fn record_by(alloc: Global, words: &[LogWord<'_>]) -> Result<Option<Record>, Refusal>
+    ensures { Tells (option_map record_data) result (record_by (words_data words.now)) }
+{
     if are_broken(words) {
         return Err(Refusal::Skipped(Reason::Broken));
     }
@@ -258,24 +339,38 @@ fn record_of(alloc: Global, line: &[u8]) -> Result<Option<Record>, Refusal> {
     };
     let profile = profile_of(alloc, words)?;
     let request = asked_of(alloc, words)?;
-    let pid = match raw_of(words, "pid") {
-        Some(text) => number_of(text),
-        None => None,
-    };
     Ok(Some(Record {
         then,
         profile,
         request,
-        pid,
+        pid: number_in(words, "pid"),
     }))
 }
 
-/// What a line of a log says, without its end. A CR at its end is none of its bytes.
-pub fn line_of(alloc: Global, line: &[u8]) -> Result<Line, AllocError> {
-    let line = match line {
+#[tactic(auto, unfolding(crate::specs::Records::record_in))]
+fn record_of(alloc: Global, line: &[u8]) -> Result<Option<Record>, Refusal>
+    ensures { Tells (option_map record_data) result (record_in line.now) }
+{
+    if line.len() > MAX_LINE {
+        return Err(Refusal::Skipped(Reason::Broken));
+    }
+    let words = read_line(alloc, line)?;
+    record_by(alloc, words.as_slice())
+}
+
+/// A line without the CR that it may end in.
+fn without_return(line: &[u8]) -> &[u8]
+    ensures { result.now ≡ without_return line.entry.now }
+{
+    match line {
         [front @ .., b'\r'] => front,
         _ => line,
-    };
+    }
+}
+
+fn outcome_of(alloc: Global, line: &[u8]) -> Result<Line, AllocError>
+    ensures { IfOk result (λ l. outcome l ≡ outcome_of line.now) }
+{
     if !is_record(line) {
         return Ok(Line::Other);
     }
@@ -285,4 +380,12 @@ pub fn line_of(alloc: Global, line: &[u8]) -> Result<Line, AllocError> {
         Err(Refusal::Skipped(reason)) => Ok(Line::Skipped(reason)),
         Err(Refusal::NoMemory) => Err(AllocError),
     }
+}
+
+/// What a line of a log says, without its end. A CR at its end is none of its bytes.
+#[tactic(auto, unfolding(crate::specs::Records::line_in))]
+pub fn line_of(alloc: Global, line: &[u8]) -> Result<Line, AllocError>
+    ensures { IfOk result (λ l. outcome l ≡ line_in line.now) }
+{
+    outcome_of(alloc, without_return(line))
 }

@@ -1,0 +1,128 @@
+//! What the fields of a line tell: texts, names, numbers.
+
+ghost use Rattle.std.specs.Prelude.{◌≡◌, ◌≤◌, ◌<◌, ◌+◌, ◌&&◌, length, nat_eq, option_map, nat_lt, ◌-◌, ◌*◌, ◌^◌, if◌then◌else◌, Some, None, IfOk, IfSome};
+ghost use Rattle.std.specs.List.{starts_with};
+ghost use Rattle.std.specs.Option.{is_some, option_and_then, option_or};
+ghost use Rattle.std.specs.Str.{bytes_eq};
+ghost use Rattle.aa_logs.specs.Words.{words_data};
+ghost use Rattle.aa_logs.specs.Fields.{raw_in, text_in, place_of, is_digit, number_from, number_in};
+
+use crate::reading::last_of;
+use crate::value::name_of;
+use crate::word::LogWord;
+use std::alloc::{AllocError, Global};
+
+/// Whether a text is that one.
+pub(crate) fn is_text(text: &[u8], wanted: &str) -> bool
+    ensures { result ≡ bytes_eq text.now wanted.now }
+{
+    text == wanted.as_bytes()
+}
+
+/// Whether a text begins so.
+pub(crate) fn begins(text: &[u8], front: &str) -> bool
+    ensures value { result ≡ starts_with nat_eq text.now front.now }
+{
+    text.starts_with(front.as_bytes())
+}
+
+/// The first place at which a part stands in a text.
+pub(crate) fn place_of(text: &[u8], part: &str) -> Option<usize>
+    ensures value { result ≡ place_of part.now text.now }
+    ensures within { IfSome result (λ n. n + length part.now ≤ length text.now) }
+{
+    for at in 0..text.len() {
+        if begins(&text[at..], part) {
+            return Some(at);
+        }
+    }
+    None
+}
+
+pub(crate) fn has_part(text: &[u8], part: &str) -> bool
+    ensures { result ≡ is_some (place_of part.now text.now) }
+{
+    place_of(text, part).is_some()
+}
+
+/// The value of a field as it stands.
+pub(crate) fn raw_of<'s>(words: &[LogWord<'s>], key: &str) -> Option<&'s [u8]>
+    ensures { option_map (λ t. t.now) result ≡ raw_in key.now (words_data words.entry.now) }
+{
+    match last_of(words, key.as_bytes()) {
+        Some(word) => Some(word.text),
+        None => None,
+    }
+}
+
+/// The bytes that the value of a field stands for which is a name.
+pub(crate) fn text_of(
+    alloc: Global,
+    words: &[LogWord<'_>],
+    key: &str,
+) -> Result<Option<Vec<u8>>, AllocError>
+    ensures { IfOk result (λ name. option_map (λ t. t.items) name ≡ text_in key.now (words_data words.now)) }
+{
+    match last_of(words, key.as_bytes()) {
+        Some(word) => Ok(Some(name_of(alloc, word)?)),
+        None => Ok(None),
+    }
+}
+
+/// The first of two names that is there.
+pub(crate) fn either_text(
+    alloc: Global,
+    words: &[LogWord<'_>],
+    first: &str,
+    second: &str,
+) -> Result<Option<Vec<u8>>, AllocError>
+    ensures { IfOk result (λ name. option_map (λ t. t.items) name ≡ option_or (text_in first.now (words_data words.now)) (text_in second.now (words_data words.now))) }
+{
+    match text_of(alloc, words, first)? {
+        Some(name) => Ok(Some(name)),
+        None => text_of(alloc, words, second),
+    }
+}
+
+pub(crate) fn is_digit(b: u8) -> bool
+    ensures { result ≡ is_digit b }
+{
+    b >= b'0' && b <= b'9'
+}
+
+/// The number that a digit behind it makes, if it is below 2^64.
+fn with_digit(number: u64, b: u8) -> Option<u64>
+    ensures { result ≡ (if is_digit b && nat_lt (10 * number + (b - 48)) (2 ^ 64) then Some (10 * number + (b - 48)) else None) }
+{
+    if !is_digit(b) {
+        return None;
+    }
+    number.checked_mul(10)?.checked_add(u64::from(b - b'0'))
+}
+
+/// A decimal number.
+pub(crate) fn number_of(text: &[u8]) -> Option<u64>
+    ensures { result ≡ number_in text.now }
+{
+    if text.is_empty() {
+        return None;
+    }
+    let mut number: u64 = 0;
+    for b in text {
+        let Some(after) = with_digit(number, *b) else {
+            return None;
+        };
+        number = after;
+    }
+    Some(number)
+}
+
+/// The number that is the value of a field.
+pub(crate) fn number_in(words: &[LogWord<'_>], key: &str) -> Option<u64>
+    ensures { result ≡ option_and_then number_in (raw_in key.now (words_data words.now)) }
+{
+    match raw_of(words, key) {
+        Some(text) => number_of(text),
+        None => None,
+    }
+}
