@@ -3,5 +3,4 @@ pub mod Found
 pub mod Hex
 pub mod Letters
 pub mod Pieces
-pub mod Recorded
 pub mod Telling

@@ -2,7 +2,7 @@ use Rattle.std.proofs.Common.{◌≡◌, Bool, true, false, ℕ, List, drop, ap,
 use Rattle.std.specs.Prelude.{nat_eq}
 use Rattle.std.specs.List.{starts_with}
 use Rattle.aa_logs.proofs.Pieces.{all_behind}
-use Rattle.aa_logs.proofs.Found.{place_found, place_onward, place_nowhere, place_begins}
+use Rattle.aa_logs.proofs.Found.{place_found, place_onward, place_nowhere}
 use Rattle.aa_logs.proofs.field.place_of.Goals as goal
 
 pub returns-then-begins-clause-value : goal.returns-then-begins-clause-value
