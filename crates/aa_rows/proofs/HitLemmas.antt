@@ -68,10 +68,10 @@ module _ (number : Exec → Way) (rules : List FileRule) (patterns : List Patter
   pub rows_are : (r : RowTable) → IsAutomaton patterns r.table → r.rows ≡ rows_by marks r.table.lists → AreRowsOf number rules r
   rows_are r auto rows path owned text =
       let place = place_of r.table path in
-      let number = list_number r.table place in
+      let found = list_number r.table place in
       let list = list_at r.table place in
-      let stored : slice_get r.rows number ≡ Some (row_by (picked marks list)) =
-      ap (λ l. slice_get l number) rows ∙ slice_get-map (λ (l : List ℕ). row_by (picked marks l)) r.table.lists number
-      ∙ ap (option_map (λ (l : List ℕ). row_by (picked marks l))) (slice_get-get_or r.table.lists number [] (auto.numbered path text)) in
+      let stored : slice_get r.rows found ≡ Some (row_by (picked marks list)) =
+      ap (λ l. slice_get l found) rows ∙ slice_get-map (λ (l : List ℕ). row_by (picked marks l)) r.table.lists found
+      ∙ ap (option_map (λ (l : List ℕ). row_by (picked marks l))) (slice_get-get_or r.table.lists found [] (auto.numbered path text)) in
       let is : verdict_at r path owned ≡ settled (side_by owned (picked marks list)) = ap (λ o. option_map_or (verdict_of owned) o (settled none_said)) stored ∙ row_side owned (picked marks list) in
       subst (IsVerdictOf number rules path owned) (sym is) (side_at_list path owned list (auto.matching path text))
