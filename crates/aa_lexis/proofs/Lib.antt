@@ -1,0 +1,5 @@
+mod Firsts
+mod Quoting
+mod Paths
+mod RunEnds
+mod OpenSigns
