@@ -1,5 +1,5 @@
 -- A run that goes on byte by byte, up to where a test ends it, ends at the first place that ends.
-use Rattle.std.proofs.Common.{◌≡◌, ℕ, zero, suc, ◌<◌, Bool, true, false, cond, List, [], ◌∷◌, ◌++◌, take, drop, reverse, refl, sym, subst, arith}
+use Rattle.std.proofs.Common.{◌≡◌, ℕ, zero, suc, ◌<◌, Bool, true, false, cond, List, [], ◌∷◌, ◌++◌, take, drop, reverse, refl, arith}
 use Rattle.std.proofs.lemmas.List.{reverse-append, append-nil, append_assoc}
 use Rattle.aa_lexis.specs.Places.{IsFirst, EndsFirst}
 
@@ -21,14 +21,14 @@ module _ (F : List ℕ → List ℕ → ℕ) (E : List ℕ → ℕ → List ℕ 
     (at_end : (back : List ℕ) → Ends back [])
     (yes : (back : List ℕ) (b : ℕ) (bs : List ℕ) → E back b bs ≡ true → Ends back (b ∷ bs))
     (no : (back : List ℕ) (b : ℕ) (bs : List ℕ) → E back b bs ≡ false → Ends back (b ∷ bs) → ⊥) where
-
   later : (back : List ℕ) (b : ℕ) (bs : List ℕ) → E back b bs ≡ false → EndsBehind Ends (b ∷ back) bs (F (b ∷ back) bs) → EndsBehind Ends back (b ∷ bs) (suc (F (b ∷ back) bs))
   unfolding EndsBehind
   later back b bs e h = record {
     here = rw reverse_onto h.here;
     none_before = λ n. elim n as (λ m. m < suc (F (b ∷ back) bs) → Ends (reverse (take m (b ∷ bs)) ++ back) (drop m (b ∷ bs)) → ⊥) [
-      zero ↦ λ lt ends. no back b bs e ends
-    | suc m ↦ λ lt ends. h.none_before m (omega arith) (rw reverse_onto at ends) ];
+      | zero ↦ λ lt ends. no back b bs e ends
+      | suc m ↦ λ lt ends. h.none_before m (omega arith) (rw reverse_onto at ends)
+    ];
   }
 
   one_more : (back : List ℕ) (b : ℕ) (bs : List ℕ) (v : Bool) → E back b bs ≡ v → EndsBehind Ends (b ∷ back) bs (F (b ∷ back) bs) → EndsBehind Ends back (b ∷ bs) (cond v 0 (suc (F (b ∷ back) bs)))

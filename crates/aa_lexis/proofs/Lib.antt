@@ -3,3 +3,6 @@ mod Quoting
 mod Paths
 mod RunEnds
 mod OpenSigns
+mod Fronts
+mod Modes
+mod VariableNames

@@ -49,7 +49,7 @@ unfolding is_in_brackets Unclosed
 open_is [] earlier q h = ap (λ (v : Bool). cond (not v) true (is_in_brackets earlier)) q
 open_is (b ∷ inner) earlier q h =
     opens_or_not b (is_quoted (inner ++ (91 ∷ earlier))) (λ e. h [] inner (ap (λ (x : ℕ). x ∷ inner) e)) _
-      (open_is inner earlier q (λ later between e. h (b ∷ later) between (ap (λ (x : List ℕ). b ∷ x) e)))
+    (open_is inner earlier q (λ later between e. h (b ∷ later) between (ap (λ (x : List ℕ). b ∷ x) e)))
 
 pub brackets_lack : (back : List ℕ) → (is_in_brackets back ≡ true) ↔ OpenBracket back
 unfolding Unclosed

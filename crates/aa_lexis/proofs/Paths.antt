@@ -1,10 +1,9 @@
 -- What is open at a place in a path, byte by byte, and where a path ends.
-use Rattle.std.proofs.Common.{◌≡◌, ℕ, zero, suc, ◌+◌, ◌-◌, ◌<◌, ◌≤◌, ◌==◌, ◌&&◌, ◌||◌, Bool, true, false, not, cond, List, [], ◌∷◌, refl, sym, ap, ◌∙◌, ◌⊎◌, ⊎_elim, arith, inl, inr}
-use Rattle.std.proofs.lemmas.Bool.{or_cases, and_parts, not-true, eqb-true, eqb-false}
+use Rattle.std.proofs.Common.{◌≡◌, ℕ, zero, suc, ◌+◌, ◌≤◌, ◌==◌, ◌&&◌, ◌||◌, Bool, true, false, not, cond, List, [], ◌∷◌, refl, sym, ap, ◌∙◌, ◌⊎◌, arith, inl, inr}
 use Rattle.std.proofs.lemmas.Bool.Decides.{nat_tests}
 use Rattle.aa_extents.specs.Runs.{path_start, path_next, path_len, ends_path, is_white, ends_after_comma}
 use Rattle.aa_lexis.specs.Places.{is_quoted, EndsFirst}
-use Rattle.aa_lexis.specs.Paths.{is_in_brackets, counts, count_of, IsInBraces, CommaEnds, ByteEnds, PathEnds}
+use Rattle.aa_lexis.specs.Paths.{is_in_brackets, count_of, IsInBraces, PathEnds}
 use Rattle.aa_lexis.proofs.Firsts.{behind, first}
 use Rattle.aa_lexis.proofs.Quoting.{quoted_step, quoted_none}
 

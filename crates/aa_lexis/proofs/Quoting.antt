@@ -1,5 +1,5 @@
 -- Whether a backslash quotes a byte, byte by byte.
-use Rattle.std.proofs.Common.{◌≡◌, ℕ, ◌+◌, ◌==◌, ◌&&◌, Bool, true, false, not, List, [], ◌∷◌, refl, cond, ap, ◌∙◌}
+use Rattle.std.proofs.Common.{◌≡◌, ℕ, ◌+◌, ◌==◌, ◌&&◌, Bool, true, false, not, List, [], ◌∷◌, refl, cond, ap}
 use Rattle.std.specs.List.{prefix_len}
 use Rattle.std.proofs.Math.Numerals.{one-add}
 use Rattle.aa_lexis.specs.Places.{is_odd, is_quoted}

@@ -2,3 +2,5 @@ pub mod Places
 pub mod Paths
 pub mod Quotes
 pub mod RunEnds
+pub mod ModeParts
+pub mod Assigned

@@ -4,4 +4,7 @@
 
 mod laws;
 
-pub use laws::{open_brackets_lack_their_own, paths_end_first, quotes_close_first, runs_end_first};
+pub use laws::{
+    modes_are_their_parts, open_brackets_lack_their_own, paths_end_first, quotes_close_first,
+    runs_end_first, variables_are_alike,
+};
