@@ -6,3 +6,4 @@ mod OpenSigns
 mod Fronts
 mod Modes
 mod VariableNames
+mod PassedOver

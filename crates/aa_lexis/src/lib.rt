@@ -5,6 +5,6 @@
 mod laws;
 
 pub use laws::{
-    modes_are_their_parts, open_brackets_lack_their_own, paths_end_first, quotes_close_first,
+    modes_are_their_parts, open_brackets_lack_their_own, passed_over_rules_end_first, paths_end_first, quotes_close_first,
     runs_end_first, variables_are_alike,
 };
