@@ -7,3 +7,4 @@ mod Fronts
 mod Modes
 mod VariableNames
 mod PassedOver
+mod Examples

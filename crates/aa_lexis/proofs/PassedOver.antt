@@ -1,12 +1,12 @@
 -- What the lexer knows at a place in a rule that is passed over.
-use Rattle.std.proofs.Common.{◌≡◌, ℕ, zero, suc, ◌+◌, ◌<◌, ◌≤◌, ◌==◌, ◌&&◌, ◌||◌, ◌⊎◌, Bool, true, false, not, cond, List, [], ◌∷◌, ◌++◌, take, drop, ◌-◌, refl, sym, ap, ◌∙◌, arith, inl, inr}
+use Rattle.std.proofs.Common.{◌≡◌, ℕ, zero, suc, ◌+◌, ◌≤◌, ◌==◌, ◌&&◌, ◌||◌, ◌⊎◌, Bool, true, false, not, cond, List, [], ◌∷◌, ◌++◌, take, drop, ◌-◌, refl, sym, ap, ◌∙◌, arith, inl, inr}
 use Rattle.std.specs.List.{count_by, list_any}
 use Rattle.std.proofs.lemmas.Bool.{and_parts, or_parts, eqb-true}
 use Rattle.std.proofs.lemmas.Bool.Decides.{nat_tests}
 use Rattle.std.proofs.lemmas.List.Sums.{sum_by-cons}
 use Rattle.aa_extents.specs.Runs.{is_white, is_sign, begins_with, skip_start, skip_next, skip_len, ends_skip, mode_next, outside_next, is_outside, depth_next, name_len, skipped_len}
 use Rattle.aa_lexis.specs.Places.{is_quoted, EndsFirst}
-use Rattle.aa_lexis.specs.PassedOver.{begins_word, IsQuoteInner, IsOutside, at_keyword, behind_byte, behind_quotes, behind_comment, IsOpen, IsBare, RuleEnds}
+use Rattle.aa_lexis.specs.PassedOver.{begins_word, IsOutside, at_keyword, behind_byte, behind_quotes, behind_comment, IsOpen, IsBare, RuleEnds}
 use Rattle.aa_lexis.proofs.Firsts.{behind, first}
 use Rattle.aa_lexis.proofs.Quoting.{quoted_step, quoted_none}
 
@@ -117,7 +117,6 @@ one_counted sign b bs = sum_by-cons (λ x. cond (x == sign) 1 0) b bs
 
 module _ (opening closing : ℕ) (apart : opening == closing ≡ false)
     (quote : (n : ℕ) → depth_next opening closing n 34 ≡ n) (hash : (n : ℕ) → depth_next opening closing n 35 ≡ n) (line : (n : ℕ) → depth_next opening closing n 10 ≡ n) where
-
   not_kept : (b n : ℕ) (fresh : Bool) → (b == 34 || (b == 35 && fresh)) ≡ true → (b ≡ 34) ⊎ (b ≡ 35)
   not_kept b n fresh e = grind (arith, nat_tests)
 
@@ -258,6 +257,7 @@ unfolding Holds
 byte_behind b back plain fresh dash o f d q h = by_word (is_white b || is_sign b || (b == 62 && dash)) refl (b == 45) refl where
   out : IsOutside (b ∷ back) (b ∷ plain)
   out = behind_byte b back plain o (λ e. grind (arith, nat_tests)) (λ e. grind (arith, nat_tests))
+
   by_word : (v : Bool) → (is_white b || is_sign b || (b == 62 && dash)) ≡ v → (w : Bool) → (b == 45) ≡ w → Holds (cond v Fresh (cond w Dash Word)) (b ∷ back) (b ∷ plain)
   by_word true e w k = (out, grind (arith, nat_tests), grind (arith, nat_tests))
   by_word false e true k = (out, grind (arith, nat_tests), k)
@@ -353,6 +353,7 @@ quote_stage b false plain h = (by_tests (b == 92) (b == 34) refl, ap (λ (v : Bo
   by_quote : (v : Bool) → (b == 34) ≡ v → (b == 34) ≡ false
   by_quote true e = absurd (true_and_false true refl (sym (h (eqb-true b 34 e))))
   by_quote false e = e
+
   by_tests : (v w : Bool) → (b == 34) ≡ w → cond v (Quote true) (cond w Fresh (Quote false)) ≡ Quote (v && true)
   by_tests true w e = refl
   by_tests false true e = absurd (true_and_false true refl (sym (h (eqb-true b 34 e))))
@@ -364,9 +365,10 @@ unfolding stage_of left_of
 in_quotes [] back o h = let q = quote_opens (stage_of back) (left_of back) o in (q.0 ∙ ap Quote (sym quoted_none), q.1)
 in_quotes (b ∷ inner) back o h =
     let i = in_quotes inner back o (λ later between e. h (b ∷ later) between (ap (λ (x : List ℕ). b ∷ x) e)) in
-    let s = quote_stage b (is_quoted inner) (left_of back) (λ e. h [] inner (ap (λ (x : ℕ). x ∷ inner) e)) in
-    (ap (λ (x : Stage). next x b) i.0 ∙ s.0 ∙ ap Quote (sym (quoted_step b inner)),
-     ap (λ (x : Stage). left x b (left_of (inner ++ (34 ∷ back)))) i.0 ∙ ap (left (Quote (is_quoted inner)) b) i.1 ∙ s.1)
+    let s = quote_stage b (is_quoted inner) (left_of back) (λ e. h [] inner (ap (λ (x : ℕ). x ∷ inner) e)) in (
+      ap (λ (x : Stage). next x b) i.0 ∙ s.0 ∙ ap Quote (sym (quoted_step b inner)),
+      ap (λ (x : Stage). left x b (left_of (inner ++ (34 ∷ back)))) i.0 ∙ ap (left (Quote (is_quoted inner)) b) i.1 ∙ s.1,
+    )
 
 in_comment : (inner back : List ℕ) → is_out (stage_of back) ≡ true → begins_word (left_of back) ≡ true → list_any (λ b. b == 10) inner ≡ false
     → (stage_of (inner ++ (35 ∷ back)) ≡ Comment) × (left_of (inner ++ (35 ∷ back)) ≡ left_of back)
@@ -374,9 +376,10 @@ unfolding stage_of left_of next left
 in_comment [] back o w h = comment_opens (stage_of back) back (left_of back) o (holds back) w
 in_comment (b ∷ inner) back o w h =
     let p = or_parts (b == 10) (list_any (λ b. b == 10) inner) h in
-    let i = in_comment inner back o w p.1 in
-    (ap (λ (x : Stage). next x b) i.0 ∙ ap (λ (v : Bool). cond v Fresh Comment) p.0,
-     ap (λ (x : Stage). left x b (left_of (inner ++ (35 ∷ back)))) i.0 ∙ ap (λ (v : Bool). cond v (10 ∷ left_of (inner ++ (35 ∷ back))) (left_of (inner ++ (35 ∷ back)))) p.0 ∙ i.1)
+    let i = in_comment inner back o w p.1 in (
+      ap (λ (x : Stage). next x b) i.0 ∙ ap (λ (v : Bool). cond v Fresh Comment) p.0,
+      ap (λ (x : Stage). left x b (left_of (inner ++ (35 ∷ back)))) i.0 ∙ ap (λ (v : Bool). cond v (10 ∷ left_of (inner ++ (35 ∷ back))) (left_of (inner ++ (35 ∷ back)))) p.0 ∙ i.1,
+    )
 
 -- where a place stands outside quotes and comments, the lexer knows it, and knows what is left
 outside_known : (back plain : List ℕ) → IsOutside back plain → (plain ≡ left_of back) × (is_out (stage_of back) ≡ true)
@@ -469,12 +472,15 @@ rule_counted : (back : List ℕ) (b : ℕ) (bs : List ℕ) → RuleEnds back (b 
 rule_counted back b bs (inl e) = inl e
 rule_counted back b bs (inr (e, h)) =
     let k = outside_known back h.plain h.outside in
-    inr (e, stage_tells back ∙ k.1,
+    inr (
+      e,
+      stage_tells back ∙ k.1,
       round_is back ∙ ap (depth 40 41) (sym k.0) ∙ none_deep 40 41 refl (λ n. refl) (λ n. refl) (λ n. refl) h.plain h.round,
       curly_is back ∙ ap (depth 123 125) (sym k.0) ∙ none_deep 123 125 refl (λ n. refl) (λ n. refl) (λ n. refl) h.plain h.curly,
-      square_is back ∙ ap (depth 91 93) (sym k.0) ∙ none_deep 91 93 refl (λ n. refl) (λ n. refl) (λ n. refl) h.plain h.square)
+      square_is back ∙ ap (depth 91 93) (sym k.0) ∙ none_deep 91 93 refl (λ n. refl) (λ n. refl) (λ n. refl) h.plain h.square,
+    )
 
-skips_first : (text : List ℕ) → EndsFirst RuleEnds text (skip_len skip_start text)
+pub skips_first : (text : List ℕ) → EndsFirst RuleEnds text (skip_len skip_start text)
 unfolding behind skip_len
 skips_first = first (λ back text. skip_len (behind skip_start skip_next back) text) (λ back b bs. ends_skip (behind skip_start skip_next back) b) RuleEnds
     (λ back. refl) (λ back b bs. refl) (λ back. tt)
