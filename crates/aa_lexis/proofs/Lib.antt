@@ -6,3 +6,5 @@ mod OpenSigns
 mod Fronts
 mod Modes
 mod VariableNames
+mod PassedOver
+mod Examples

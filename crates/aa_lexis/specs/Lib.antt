@@ -4,3 +4,4 @@ pub mod Quotes
 pub mod RunEnds
 pub mod ModeParts
 pub mod Assigned
+pub mod PassedOver

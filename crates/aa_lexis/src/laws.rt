@@ -1,7 +1,7 @@
 //! What the definitions of the lexer say, in the words of the language.
 
-ghost use Rattle.std.specs.Prelude.{ℕ, List, [], ◌∷◌, Bool, true, ◌≡◌, ◌↔◌, Some};
-ghost use Rattle.aa_extents.specs.Runs.{path_len, path_start, quoted_len, is_variable, assigned_len, ends_name, name_len, ends_comment, comment_len, ends_value, value_len, ends_variable, variable_len};
+ghost use Rattle.std.specs.Prelude.{ℕ, List, drop, ◌-◌, [], ◌∷◌, Bool, true, ◌≡◌, ◌↔◌, Some};
+ghost use Rattle.aa_extents.specs.Runs.{path_len, path_start, quoted_len, skipped_len, is_variable, assigned_len, ends_name, name_len, ends_comment, comment_len, ends_value, value_len, ends_variable, variable_len};
 ghost use Rattle.aa_glob.specs.Pieces.{pieces, Use};
 ghost use Rattle.aa_heads.specs.Preamble.{Names};
 ghost use Rattle.aa_rules.specs.declared.modes.Mode.{Mode};
@@ -10,6 +10,7 @@ ghost use Rattle.aa_lexis.specs.Places.{EndsFirst};
 ghost use Rattle.aa_lexis.specs.Paths.{PathEnds, is_in_brackets, OpenBracket};
 ghost use Rattle.aa_lexis.specs.Assigned.{IsAssigned};
 ghost use Rattle.aa_lexis.specs.ModeParts.{IsModeOf};
+ghost use Rattle.aa_lexis.specs.PassedOver.{RuleEnds};
 ghost use Rattle.aa_lexis.specs.Quotes.{Closes};
 ghost use Rattle.aa_lexis.specs.RunEnds.{RunEnds};
 
@@ -38,6 +39,12 @@ pub fn runs_end_first()
     ensures comments { (text : List ℕ) → EndsFirst (RunEnds (λ b bs. ends_comment b)) text (comment_len text) }
     ensures values { (text : List ℕ) → EndsFirst (RunEnds ends_value) text (value_len text) }
     ensures variables { (text : List ℕ) → EndsFirst (RunEnds (λ b bs. ends_variable b)) text (variable_len text) }
+{}
+
+/// Behind its keyword a rule that is passed over goes on up to the first comma outside quotes, comments, parentheses, braces and
+/// brackets. It does nothing: its contract is a law of the definitions.
+pub fn passed_over_rules_end_first()
+    ensures { (text : List ℕ) → EndsFirst RuleEnds (drop (name_len text) text) (skipped_len text - name_len text) }
 {}
 
 /// A text is a mode exactly where it is put together of access letters, an exec part of the table or none, and access letters,
