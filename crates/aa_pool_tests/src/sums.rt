@@ -40,3 +40,8 @@ pub fn collected(owner: &mut Owner<Sum>, lane: &Lane<Sum>) -> Option<u64>
 {
     owner.collect(lane).map(|given| given.answer)
 }
+
+/// The sum of the numbers up to `last`, modulo 1,000, without adding them up.
+pub fn sum_up_to(last: u64) -> u64 {
+    (last % 2000).wrapping_mul(last.wrapping_add(1) % 2000) / 2 % 1000
+}

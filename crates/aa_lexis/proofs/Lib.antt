@@ -1,0 +1,10 @@
+mod Firsts
+mod Quoting
+mod Paths
+mod RunEnds
+mod OpenSigns
+mod Fronts
+mod Modes
+mod VariableNames
+mod PassedOver
+mod Examples
