@@ -13,7 +13,7 @@ ghost use Rattle.aa_profiles.specs.declared.policy.Policy.{Policy};
 
 use crate::expansion::profiles;
 use crate::items::tree_of;
-use crate::limits::{check_names, is_within_limits};
+use crate::limits::check_names;
 use crate::listing::passed_over;
 use aa_lists::Seq;
 use aa_profiles::Policy;
@@ -57,14 +57,14 @@ pub fn parse(alloc: Global, words: &WordList) -> Result<Policy, PolicyFault>
     ensures exact { (fault : PolicyFault) → IsFault (words_data words.now.list.items) fault → IsRefusedWith fault result }
 {
     let tree = tree_of(alloc, words.list.as_slice(), words.end)?;
-    let profiles = profiles(alloc, &tree.vars, tree.profiles.as_slice())?;
-    check_names(alloc, profiles.as_slice())?;
-    if !is_within_limits(profiles.as_slice()) {
+    let kept = profiles(alloc, &tree.vars, tree.profiles.as_slice())?;
+    check_names(alloc, kept.profiles.as_slice())?;
+    if kept.over {
         return Err(PolicyFault::at_start(PolicyKind::TooLarge));
     }
     let listed = passed_over(alloc, tree.profiles.as_slice())?;
     Ok(Policy {
-        profiles: Seq::from_vec(profiles),
+        profiles: Seq::from_vec(kept.profiles),
         passed_over: Seq::from_vec(listed),
     })
 }
