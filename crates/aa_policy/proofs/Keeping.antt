@@ -1,12 +1,12 @@
 -- The limits with one profile more, and what is kept of profiles.
-use Rattle.std.proofs.Common.{◌≡◌, ℕ, ◌+◌, ◌-◌, ◌≤◌, arith, List, [], ◌∷◌, ◌++◌, length, Bool, true, false, Option, Some, None, refl, sym, ap, subst, ◌∙◌, ◌⊎◌, inl, inr}
-use Rattle.std.specs.Prelude.{if◌then◌else◌}
+use Rattle.std.proofs.Common.{◌≡◌, ℕ, ◌+◌, ◌-◌, ◌≤◌, arith, List, [], ◌∷◌, ◌++◌, length, Bool, true, false, Option, Some, None, refl, sym, ap, subst, ◌∙◌, ◌⊎◌, inl, inr, append_assoc}
+use Rattle.std.specs.Prelude.{◌↔◌, IsTrue, if◌then◌else◌}
 use Rattle.std.specs.List.{All, AllByRecursion, AllZip, IsDistinct, list_any, sum_by}
 use Rattle.std.specs.Option.{option_eq}
 use Rattle.std.specs.Bool.{nat_eq}
 use Rattle.std.specs.Str.{bytes_eq}
 use Rattle.std.proofs.lemmas.Bool.{eq-eqb}
-use Rattle.std.proofs.lemmas.List.{length-append}
+use Rattle.std.proofs.lemmas.List.{length-append, append-nil}
 use Rattle.std.proofs.lemmas.List.Elements.{All-append, All-cons, All-nil, All-from_recursion, recursion_from_All}
 use Rattle.std.proofs.lemmas.List.Sums.{sum_by-append, sum_by-cons}
 use Rattle.aa_faults.specs.declared.fault.Spot.{Spot}
@@ -19,7 +19,7 @@ use Rattle.aa_profiles.specs.Lawful.{IsWithinLimits, names_of, file_patterns, at
 use Rattle.aa_policy.specs.declared.limits.KeptRules.{KeptRules}
 use Rattle.aa_policy.specs.declared.limits.ReadProfile.{ReadProfile}
 use Rattle.aa_policy.specs.declared.limits.KeptProfiles.{KeptProfiles}
-use Rattle.aa_policy.specs.Keeping.{FitsBeside, HasRoom, IsNamedAs, KeepsRules, KeepsProfile, KeepsProfiles}
+use Rattle.aa_policy.specs.Keeping.{FitsBeside, HasRoom, HasNoPatterns, IsNamedAs, KeepsRules, KeepsProfile, KeepsProfiles}
 use Rattle.aa_policy.specs.Spelling.{IsRepeated}
 use Rattle.aa_policy.proofs.Attachments.{same_parent}
 use Rattle.aa_policy.proofs.Meaning.{zip_append, zip_same}
@@ -67,16 +67,6 @@ room_left ps p room h few = λ parent.
     subst (λ (n : ℕ). n + (room - length p.attachments) ≤ 65535) (sym (sum_more (attachments_with parent) ps p))
     (less_room (option_eq nat_eq p.parent parent) (length p.attachments) room (attachment_patterns parent ps)
     (λ e. subst (λ (o : Option ℕ). attachment_patterns o ps + length p.attachments ≤ 65535) (same_parent p.parent parent e) few) (h parent))
-
-same_room : (b : Bool) (more room there : ℕ) → more ≡ 0 → there + room ≤ 65535 → there + (if b then more else 0) + room ≤ 65535
-same_room true more room there none h = omega (arith, none, h)
-same_room false more room there none h = omega (arith, h)
-
--- a profile without attachments leaves all of it
-room_same : (ps : List Profile) (p : Profile) (room : ℕ) → HasRoom ps room → p.attachments ≡ [] → HasRoom (ps ++ p ∷ []) room
-room_same ps p room h none = λ parent.
-    subst (λ (n : ℕ). n + room ≤ 65535) (sym (sum_more (attachments_with parent) ps p))
-    (same_room (option_eq nat_eq p.parent parent) (length p.attachments) room (attachment_patterns parent ps) (ap length none) (h parent))
 
 -- ---- the limits
 
@@ -126,36 +116,37 @@ same_named p q r a b = record { at = b.at ∙ a.at; name = b.name ∙ a.name }
 
 -- its name alone is kept, and a limit is passed
 pub name_kept : (spelled : List Profile) (p : Profile) (kept new : KeptProfiles) (q : Profile) → KeepsProfiles spelled kept
-    → new.profiles.items ≡ kept.profiles.items ++ q ∷ [] → new.room ≡ kept.room → new.over ≡ true
-    → IsNamedAs p q → q.attachments ≡ [] → q.files ≡ [] → (IsWithinLimits (spelled ++ p ∷ []) → ⊥) → KeepsProfiles (spelled ++ p ∷ []) new
-name_kept spelled p kept new q k items room over named none empty past =
-    let no_patterns : file_patterns q ≡ 0 = ap (λ (rs : List FileRule). sum_by (λ r. length r.patterns) rs) empty in
-    record {
-      named = subst (λ (qs : List Profile). AllZip IsNamedAs (spelled ++ p ∷ []) qs) (sym items) (zip_append IsNamedAs spelled (p ∷ []) kept.profiles.items (q ∷ []) k.named (named, tt));
-      whole = λ e. absurd (true_false (sym over ∙ e));
-      within = λ e. absurd (true_false (sym over ∙ e));
-      noticed = λ e. past;
-      few_patterns = subst (λ (qs : List Profile). All HasFewPatterns qs) (sym items) (all_more HasFewPatterns kept.profiles.items q k.few_patterns (omega (arith, no_patterns)));
-      room = subst (λ (qs : List Profile). HasRoom qs new.room) (sym items) (subst (λ (n : ℕ). HasRoom (kept.profiles.items ++ q ∷ []) n) (sym room) (room_same kept.profiles.items q kept.room k.room none));
-    }
+    → new.profiles.items ≡ kept.profiles.items ++ q ∷ [] → new.over ≡ true → IsNamedAs p q → HasNoPatterns q → (IsWithinLimits (spelled ++ p ∷ []) → ⊥) → KeepsProfiles (spelled ++ p ∷ []) new
+name_kept spelled p kept new q k items over named none past = record {
+  named = subst (λ (qs : List Profile). AllZip IsNamedAs (spelled ++ p ∷ []) qs) (sym items) (zip_append IsNamedAs spelled (p ∷ []) kept.profiles.items (q ∷ []) k.named (named, tt));
+  whole = λ e. absurd (true_false (sym over ∙ e));
+  within = λ e. absurd (true_false (sym over ∙ e));
+  noticed = λ e. past;
+  bounded = record {
+    before = k.bounded.before;
+    behind = k.bounded.behind ++ q ∷ [];
+    cut = items ∙ ap (λ (ps : List Profile). ps ++ q ∷ []) k.bounded.cut ∙ append_assoc k.bounded.before k.bounded.behind (q ∷ []);
+    within = k.bounded.within;
+    empty = all_more HasNoPatterns k.bounded.behind q k.bounded.empty none;
+  };
+  room = λ e. absurd (true_false (sym over ∙ e));
+}
 
 -- it is kept, and no limit is passed
 pub profile_kept : (spelled : List Profile) (p : Profile) (kept new : KeptProfiles) (read : ReadProfile) → KeepsProfiles spelled kept → KeepsProfile p read
-    → kept.over ≡ false → read.over ≡ false → FitsBeside kept.profiles.items read.profile
-    → new.profiles.items ≡ kept.profiles.items ++ read.profile ∷ [] → new.room ≡ kept.room - length read.profile.attachments → new.over ≡ kept.over → KeepsProfiles (spelled ++ p ∷ []) new
+    → kept.over ≡ false → read.over ≡ false → FitsBeside spelled p
+    → new.profiles.items ≡ kept.profiles.items ++ read.profile ∷ [] → new.room ≡ kept.room - length p.attachments → new.over ≡ kept.over → KeepsProfiles (spelled ++ p ∷ []) new
 profile_kept spelled p kept new read k r whole alone fits items room over =
-    let q = read.profile in
-    let same : kept.profiles.items ++ q ∷ [] ≡ spelled ++ p ∷ [] = ap (λ (ps : List Profile). ps ++ q ∷ []) (k.whole whole) ∙ ap (λ (x : Profile). spelled ++ x ∷ []) (r.whole alone) in
-    let left : HasRoom (kept.profiles.items ++ q ∷ []) new.room = subst (λ (n : ℕ). HasRoom (kept.profiles.items ++ q ∷ []) n) (sym room) (room_left kept.profiles.items q kept.room k.room fits.few_attachments) in
-    let limits : IsWithinLimits (kept.profiles.items ++ q ∷ []) =
-    within_more kept.profiles.items q new.room (subst (λ (ps : List Profile). IsWithinLimits ps) (sym (k.whole whole)) (k.within whole)) fits r.few_patterns left in
+    let same : new.profiles.items ≡ spelled ++ p ∷ [] = items ∙ ap (λ (ps : List Profile). ps ++ read.profile ∷ []) (k.whole whole) ∙ ap (λ (x : Profile). spelled ++ x ∷ []) (r.whole alone) in
+    let left : HasRoom (spelled ++ p ∷ []) new.room = subst (λ (n : ℕ). HasRoom (spelled ++ p ∷ []) n) (sym room) (room_left spelled p kept.room (k.room whole) fits.few_attachments) in
+    let limits : IsWithinLimits (spelled ++ p ∷ []) = within_more spelled p new.room (k.within whole) fits (r.few_patterns alone) left in
     record {
-      named = subst (λ (qs : List Profile). AllZip IsNamedAs (spelled ++ p ∷ []) qs) (sym items) (zip_append IsNamedAs spelled (p ∷ []) kept.profiles.items (q ∷ []) k.named (r.named, tt));
-      whole = λ e. items ∙ same;
-      within = λ e. subst (λ (ps : List Profile). IsWithinLimits ps) same limits;
+      named = subst (λ (qs : List Profile). AllZip IsNamedAs (spelled ++ p ∷ []) qs) (sym items) (zip_append IsNamedAs spelled (p ∷ []) kept.profiles.items (read.profile ∷ []) k.named (r.named, tt));
+      whole = λ e. same;
+      within = λ e. limits;
       noticed = λ e. absurd (true_false (sym e ∙ over ∙ whole));
-      few_patterns = subst (λ (qs : List Profile). All HasFewPatterns qs) (sym items) (all_more HasFewPatterns kept.profiles.items q k.few_patterns r.few_patterns);
-      room = subst (λ (qs : List Profile). HasRoom qs new.room) (sym items) left;
+      bounded = record { before = spelled ++ p ∷ []; behind = []; cut = same ∙ sym (append-nil (spelled ++ p ∷ [])); within = limits; empty = All-nil HasNoPatterns };
+      room = λ e. left;
     }
 
 -- why a limit is passed with it: one was passed before, it has too many patterns itself, or it does not fit
@@ -168,10 +159,15 @@ past_alone spelled p read r over l =
     let few = few_within spelled p l in
     absurd (omega (arith, many, few))
 
-pub past_beside : (spelled : List Profile) (p : Profile) (kept : KeptProfiles) (read : ReadProfile) → KeepsProfiles spelled kept → KeepsProfile p read → kept.over ≡ false → read.over ≡ false
-    → (FitsBeside kept.profiles.items read.profile → ⊥) → IsWithinLimits (spelled ++ p ∷ []) → ⊥
-past_beside spelled p kept read k r whole alone never l =
-    never (subst (λ (ps : List Profile). FitsBeside ps read.profile) (sym (k.whole whole)) (subst (λ (q : Profile). FitsBeside spelled q) (sym (r.whole alone)) (fits_within spelled p l)))
+pub past_beside : (spelled : List Profile) (p : Profile) → (FitsBeside spelled p → ⊥) → IsWithinLimits (spelled ++ p ∷ []) → ⊥
+past_beside spelled p never l = never (fits_within spelled p l)
+
+-- whether the profile that is read fits beside those that are kept, where all are kept
+pub same_fit : (spelled : List Profile) (p : Profile) (kept : KeptProfiles) (read : ReadProfile) (b : Bool) → KeepsProfiles spelled kept → KeepsProfile p read → kept.over ≡ false → read.over ≡ false
+    → (HasRoom kept.profiles.items kept.room → (IsTrue b ↔ FitsBeside kept.profiles.items read.profile)) → (IsTrue b ↔ FitsBeside spelled p)
+same_fit spelled p kept read b k r whole alone h =
+    subst (λ (ps : List Profile). IsTrue b ↔ FitsBeside ps p) (k.whole whole)
+    (subst (λ (q : Profile). IsTrue b ↔ FitsBeside kept.profiles.items q) (r.whole alone) (h (subst (λ (ps : List Profile). HasRoom ps kept.room) (sym (k.whole whole)) (k.room whole))))
 
 -- ---- names
 
@@ -216,8 +212,8 @@ pub keeps_read : (p : Profile) (spelled : List FileRule) (kept : KeptRules) (rul
 keeps_read p spelled kept rules k same = record {
   named = record { at = refl; name = refl };
   whole = λ e. ap (λ (rs : List FileRule). record p { files = rs }) (same ∙ k.whole e);
-  noticed = k.noticed;
-  few_patterns =
+  few_patterns = λ e.
       let room = k.room in
-      subst (λ (rs : List FileRule). sum_by (λ r. length r.patterns) rs ≤ 65535) (sym same) (omega (arith, room));
+      subst (λ (rs : List FileRule). sum_by (λ r. length r.patterns) rs ≤ 65535) (k.whole e) (omega (arith, room));
+  noticed = k.noticed;
 }

@@ -1,5 +1,5 @@
 -- What is kept of profiles while they are read: all of them, or their names alone from where a limit is passed.
-use Rattle.std.specs.Prelude.{ℕ, ◌+◌, ◌≡◌, ◌<◌, ◌≤◌, List, length, Option, true, false}
+use Rattle.std.specs.Prelude.{ℕ, ◌+◌, ◌≡◌, ◌<◌, ◌≤◌, List, [], ◌++◌, length, Option, true, false}
 use Rattle.std.specs.List.{All, AllZip, sum_by}
 use Rattle.aa_profiles.specs.declared.rule.FileRule.{FileRule}
 use Rattle.aa_profiles.specs.declared.policy.Profile.{Profile}
@@ -23,14 +23,14 @@ pub record IsNamedAs (p q : Profile) : Type 0 where
   pub at : q.at ≡ p.at
   pub name : q.name ≡ p.name
 
--- what is kept of a profile that is spelled: all of it, unless it is noticed that its file rules have too many patterns
+-- what is kept of a profile that is spelled: all of it, unless it is noticed that its file rules have more patterns than a profile may have
 pub record KeepsProfile (spelled : Profile) (read : ReadProfile) : Type 0 where
   pub named : IsNamedAs spelled read.profile
   pub whole : read.over ≡ false → read.profile ≡ spelled
+  pub few_patterns : read.over ≡ false → file_patterns spelled ≤ 65535
   pub noticed : read.over ≡ true → 65535 < file_patterns spelled
-  pub few_patterns : file_patterns read.profile ≤ 65535
 
--- a policy within its limits may have the profile beside the others, as far as its file rules let it
+-- a policy within its limits may have the profile beside those, as far as its file rules let it
 pub record FitsBeside (profiles : List Profile) (p : Profile) : Type 0 where
   pub few : length profiles < 4096
   pub short_name : length p.name ≤ 1024
@@ -40,11 +40,24 @@ pub record FitsBeside (profiles : List Profile) (p : Profile) : Type 0 where
 abbrev pub HasRoom : List Profile → ℕ → Type 0
 HasRoom profiles room = (parent : Option ℕ) → attachment_patterns parent profiles + room ≤ 65535
 
--- what is kept of the profiles that are spelled: all of them, unless it is noticed that a limit is passed; their names in any case, and never more patterns than the limits let profiles have
+-- of the profile no pattern is kept, of an attachment or of a file rule
+pub record HasNoPatterns (p : Profile) : Type 0 where
+  pub no_attachments : p.attachments ≡ []
+  pub no_files : p.files ≡ []
+
+-- profiles within the limits, and behind them such as have no patterns
+pub record IsBounded (profiles : List Profile) : Type 0 where
+  pub before : List Profile
+  pub behind : List Profile
+  pub cut : profiles ≡ before ++ behind
+  pub within : IsWithinLimits before
+  pub empty : All HasNoPatterns behind
+
+-- what is kept of the profiles that are spelled: all of them, unless it is noticed that a limit is passed; then their names, and no more patterns than the limits let a policy have
 pub record KeepsProfiles (spelled : List Profile) (kept : KeptProfiles) : Type 0 where
   pub named : AllZip IsNamedAs spelled kept.profiles.items
   pub whole : kept.over ≡ false → kept.profiles.items ≡ spelled
   pub within : kept.over ≡ false → IsWithinLimits spelled
   pub noticed : kept.over ≡ true → IsWithinLimits spelled → ⊥
-  pub few_patterns : All (λ p. file_patterns p ≤ 65535) kept.profiles.items
-  pub room : HasRoom kept.profiles.items kept.room
+  pub bounded : IsBounded kept.profiles.items
+  pub room : kept.over ≡ false → HasRoom spelled kept.room

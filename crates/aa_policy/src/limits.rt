@@ -7,7 +7,7 @@ ghost use Rattle.aa_faults.specs.Kinds.{no_memory};
 ghost use Rattle.aa_profiles.specs.declared.rule.FileRule.{FileRule};
 ghost use Rattle.aa_profiles.specs.declared.policy.Profile.{Profile};
 ghost use Rattle.aa_profiles.specs.Lawful.{names_of, file_patterns, attachments_with, attachment_patterns};
-ghost use Rattle.aa_policy.specs.Keeping.{KeepsRules, KeepsProfile, KeepsProfiles, FitsBeside, HasRoom, IsNamedAs};
+ghost use Rattle.aa_policy.specs.Keeping.{KeepsRules, KeepsProfile, KeepsProfiles, FitsBeside, HasRoom, HasNoPatterns, IsNamedAs};
 ghost use Rattle.aa_policy.specs.Spelling.{IsRepeated};
 
 use aa_lists::Seq;
@@ -135,8 +135,7 @@ fn fits(kept: &KeptProfiles, profile: &Profile) -> bool
 /// A profile without its patterns.
 fn without_patterns(alloc: Global, profile: Profile) -> Profile
     ensures named { IsNamedAs profile result }
-    ensures attachments { result.attachments ≡ [] }
-    ensures files { result.files ≡ [] }
+    ensures none { HasNoPatterns result }
 {
     let mut profile = profile;
     profile.attachments = Seq::from_vec(Vec::new(alloc));
