@@ -33,7 +33,8 @@ use std::alloc::Global;
 /// looks at the profiles together: `DuplicateProfile` at the later name, then `TooLarge` at the start
 /// of the main text, for more than 4,096 profiles, a full name of more than 1,024 bytes, or more than
 /// 65,535 patterns of a profile's rules, of the top-level profiles' attachments, or of those of one
-/// parent's children. `NoMemory` can come at any point.
+/// parent's children. A limit is noticed where it is passed: from there on patterns of attachments
+/// and file rules are let go, but what stands behind is read. `NoMemory` can come at any point.
 pub fn parse(alloc: Global, words: &WordList) -> Result<Policy, PolicyFault>
     // The policy that is given is spelled by the words.
     ensures spelled { IfOk result (λ p. Spells (words_data words.now.list.items) p) }

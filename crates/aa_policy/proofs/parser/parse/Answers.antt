@@ -60,7 +60,7 @@ returns-in_err-check_names-clause-refused c = λ h.
     no_names here vars tree read.0 _ found means (unless_memory _ _ repeated (refused_by r.result _ _ q.1 q.2 h)).1
 
 pub returns-in_err-check_names-clause-duplicate : goal.returns-in_err-check_names-clause-duplicate
-returns-in_err-check_names-clause-duplicate c =     let r = c.from_residual-in_err-check_names in
+returns-in_err-check_names-clause-duplicate c = let r = c.from_residual-in_err-check_names in
     let q = err_from_is_err_and r.result r.ensures.1 in
     let vars = c.in_ok-tree.tree.vars in
     let here = words_data c.args.words.now.list.items in
@@ -119,7 +119,7 @@ returns-then-kept-clause-exact c = λ fault f.
     inr (c.at_start.ensures ∙ (exact_limits here vars tree read.0 fault found named means distinct f).0)
 
 pub passed_over-requires : goal.passed_over-requires
-passed_over-requires c =     let vars = c.in_ok-tree.tree.vars in
+passed_over-requires c = let vars = c.in_ok-tree.tree.vars in
     let here = words_data c.args.words.now.list.items in
     let tree = tree_data c.in_ok-tree.tree.profiles.items in
     let found : IsPolicy here vars tree = subst (λ (ws : List Word). IsPolicy (words_data ws) vars tree) c.as_slice.ensures.value c.in_ok-tree.ensures.found in
@@ -131,7 +131,7 @@ passed_over-requires c =     let vars = c.in_ok-tree.tree.vars in
     }
 
 pub invariant_of-result : goal.invariant_of-result
-invariant_of-result c =     let vars = c.in_ok-tree.tree.vars in
+invariant_of-result c = let vars = c.in_ok-tree.tree.vars in
     let here = words_data c.args.words.now.list.items in
     let tree = tree_data c.in_ok-tree.tree.profiles.items in
     let found : IsPolicy here vars tree = subst (λ (ws : List Word). IsPolicy (words_data ws) vars tree) c.as_slice.ensures.value c.in_ok-tree.ensures.found in
