@@ -8,6 +8,7 @@ use Rattle.aa_lane.specs.Ends.{ServerOk, BusyOk}
 use Rattle.aa_lane.specs.Steps.{CanFinish}
 use Rattle.aa_lane.specs.declared.cells.Cell.{Cell}
 use Rattle.aa_lane.specs.declared.cells.Cell.TheVariants.{Vacant}
+use Rattle.aa_lane.specs.declared.cells.Entry.{Entry}
 use Rattle.aa_lane.specs.declared.cells.View.{View}
 use Rattle.aa_lane.proofs.Runs.{state_after-snoc}
 use Rattle.aa_lane.proofs.Rows.{same_terms}
@@ -26,9 +27,9 @@ module _ {X : Type 0} where
   front_and_last (y ∷ xs) x (suc n) e h = ap (λ l. y ∷ l) (front_and_last xs x n (omega arith) h)
 
 module _ {M S Q A : Type 0} (next : M → S → Q → S) (reply : M → S → Q → A) where
-  pub server_took : (z : TableId) (v : View M S Q A) (held : List (ℕ × Cell M S Q A)) (c done : ℕ) (state : S) (q : Q) (n : ℕ) → ServerOk next reply z v held c done state → done < 2 ^ 63
-      → BusyOk next reply z (taken_view v n q) ((done % c, Vacant) ∷ []) c done state q
-  server_took z v held c done state q n ok small =
+  pub server_took : (z : TableId) (v : View M S Q A) (held : List (ℕ × Cell M S Q A)) (c done : ℕ) (state : S) (q : Q) (n : ℕ) (log : List (Entry M S Q A)) → ServerOk next reply z v held c done state → done < 2 ^ 63
+      → BusyOk next reply z (taken_view v n q log) ((done % c, Vacant) ∷ []) c done state q
+  server_took z v held c done state q n log ok small =
       let i = ok.idle in
       record {
         serves = ok.serves;
@@ -44,9 +45,9 @@ module _ {M S Q A : Type 0} (next : M → S → Q → S) (reply : M → S → Q 
         held_is = refl;
       }
 
-  pub server_finished : (z : TableId) (v : View M S Q A) (held : List (ℕ × Cell M S Q A)) (c done : ℕ) (state : S) (q : Q) (m : M) (start : S) → v.terms ≡ Some (m, start) → BusyOk next reply z v held c done state q
-      → ServerOk next reply z (finished_view v) [] c (done + 1) (next m state q)
-  server_finished z v held c done state q m start terms ok =
+  pub server_finished : (z : TableId) (v : View M S Q A) (held : List (ℕ × Cell M S Q A)) (c done : ℕ) (state : S) (q : Q) (m : M) (start : S) (log : List (Entry M S Q A)) → v.terms ≡ Some (m, start) → BusyOk next reply z v held c done state q
+      → ServerOk next reply z (finished_view v log) [] c (done + 1) (next m state q)
+  server_finished z v held c done state q m start log terms ok =
       let s = ok.small in
       record {
         serves = ok.serves;
