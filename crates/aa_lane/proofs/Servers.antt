@@ -1,10 +1,15 @@
 -- What a server is after each call.
-use Rattle.std.proofs.Common.{◌≡◌, ℕ, zero, suc, ◌+◌, ◌%◌, ◌<◌, ◌^◌, List, [], ◌∷◌, ◌++◌, length, refl, sym, ap, ◌∙◌, arith, length-append, take, slice_get, Some}
+use Rattle.std.proofs.Common.{◌≡◌, ℕ, zero, suc, ◌+◌, ◌%◌, ◌<◌, ◌^◌, List, [], ◌∷◌, ◌++◌, length, refl, sym, ap, ◌∙◌, subst, arith, length-append, take, slice_get, Some}
 use Rattle.std.proofs.Math.Seq.{take-append_seam}
 use Rattle.atomic_table.specs.Seated.{TableId}
 use Rattle.aa_machine.specs.Run.{state_after}
-use Rattle.aa_lane.specs.Plays.{taken_view, finished_view}
-use Rattle.aa_lane.specs.Ends.{ServerOk, BusyOk}
+use Rattle.aa_lane.specs.Plays.{Makes, taken_view, finished_view}
+use Rattle.aa_lane.specs.Ends.{LaneId, LaneSeen, ServerSeen, known, server_seen, ServerOk, BusyOk}
+use Rattle.aa_lane.specs.Log.{Happens}
+use Rattle.aa_lane.specs.Answers.{HappensAt}
+use Rattle.aa_lane.specs.declared.cells.Who.TheVariants.{ByServer}
+use Rattle.aa_lane.specs.declared.event.Event.{Event}
+use Rattle.aa_lane.specs.declared.event.Reply.{Reply}
 use Rattle.aa_lane.specs.Steps.{CanFinish}
 use Rattle.aa_lane.specs.declared.cells.Cell.{Cell}
 use Rattle.aa_lane.specs.declared.cells.Cell.TheVariants.{Vacant}
@@ -80,3 +85,14 @@ module _ {M S Q A : Type 0} (next : M → S → Q → S) (reply : M → S → Q 
         slot_is = ap (λ i. done % i) (sym slots);
         held = ok.held_is;
       }
+
+  -- what a step of the server's seat tells, said of the server
+  pub told_of : (z : TableId) (v v' : View M S Q A) (s : ServerSeen M S Q A) (l : LaneSeen M S) (c t : ℕ) (e : Event M S Q A) (r r' : Reply M S Q A) → server_seen z v c t ≡ s → s.lane ≡ known l → z.slots ≡ c → r ≡ r'
+      → Makes next reply z.slots v ByServer e r v' → HappensAt next reply l ByServer s.log e r' v'.server.log
+  told_of z v v' s l c t e r r' is of slots says told =
+      let terms : v.terms ≡ Some (l.machine, l.start) = ap (λ (x : ServerSeen M S Q A). x.lane.terms) is ∙ ap (λ (x : LaneId M S). x.terms) of in
+      let capacity : z.slots ≡ l.capacity = slots ∙ ap (λ (x : ServerSeen M S Q A). x.lane.capacity) is ∙ ap (λ (x : LaneId M S). x.capacity) of in
+      let log : v.server.log ≡ s.log = ap (λ (x : ServerSeen M S Q A). x.log) is in
+      subst (λ i. Happens next reply l.machine l.start l.capacity ByServer s.log e i v'.server.log) says
+      (subst (λ i. Happens next reply l.machine l.start l.capacity ByServer i e r v'.server.log) log
+      (subst (λ i. Happens next reply l.machine l.start i ByServer v.server.log e r v'.server.log) capacity (told l.machine l.start terms)))
