@@ -1,9 +1,9 @@
 -- Logs with one entry more.
-use Rattle.std.proofs.Common.{◌≡◌, ℕ, ◌==◌, nat_lt, Bool, true, false, cond, List, [], ◌∷◌, ◌++◌, length, refl, sym, ap, ◌∙◌, All, Option, Some, None, slice_get, append_assoc}
+use Rattle.std.proofs.Common.{◌≡◌, ℕ, ◌==◌, nat_lt, Bool, true, false, cond, List, [], ◌∷◌, ◌++◌, length, refl, sym, ap, ◌∙◌, subst, Option, Some, None, slice_get, append_assoc}
 use Rattle.std.proofs.lemmas.List.{append-nil}
 use Rattle.std.proofs.lemmas.List.Elements.{All-append, All-cons, All-nil}
 use Rattle.aa_lane.specs.WorldState.{WorldState, opening, after, after_all, answer_to, answers_to, is_spent, is_full, decided}
-use Rattle.aa_lane.specs.Log.{same, events, replied, by, may_make, GoesOn, leaves, Told, IsLog}
+use Rattle.aa_lane.specs.Log.{same, events, replied, by, may_make, GoesOn, leaves, Told, IsLog, LogLaws}
 use Rattle.aa_lane.specs.declared.cells.Who.{Who}
 use Rattle.aa_lane.specs.declared.cells.Who.TheVariants.{ByOwner, ByServer, ByShutter}
 use Rattle.aa_lane.specs.declared.cells.Entry.{Entry}
@@ -23,6 +23,11 @@ same_eq ByServer ByShutter e = cc
 same_eq ByShutter ByOwner e = cc
 same_eq ByShutter ByServer e = cc
 same_eq ByShutter ByShutter e = refl
+
+same_self : (a : Who) → same a a ≡ true
+same_self ByOwner = refl
+same_self ByServer = refl
+same_self ByShutter = refl
 
 module _ {X : Type 0} where
   cond_swap : (b c : Bool) (p q : X) (l : List X) → cond b (p ∷ cond c (l ++ q ∷ []) l) (cond c (l ++ q ∷ []) l) ≡ cond c (cond b (p ∷ l) l ++ q ∷ []) (cond b (p ∷ l) l)
@@ -46,6 +51,16 @@ module _ {M S Q A : Type 0} where
       let p : Event M S Q A × Reply M S Q A = (x.event, x.reply) in
       let q : Event M S Q A × Reply M S Q A = (e.event, e.reply) in
       ap (λ (k : List (Event M S Q A × Reply M S Q A)). cond (same a x.who) (p ∷ k) k) (by_snoc a l e) ∙ cond_swap (same a x.who) (same a e.who) p q (by a l)
+
+  by_append : (a : Who) (l k : List (Entry M S Q A)) → by a (l ++ k) ≡ by a l ++ by a k
+  by_append a [] k = refl
+  by_append a (x ∷ l) k = elim (same a x.who) as (λ b. cond b ((x.event, x.reply) ∷ by a (l ++ k)) (by a (l ++ k)) ≡ cond b ((x.event, x.reply) ∷ by a l) (by a l) ++ by a k) [
+    | true ↦ ap (λ (r : List (Event M S Q A × Reply M S Q A)). (x.event, x.reply) ∷ r) (by_append a l k)
+    | false ↦ by_append a l k
+  ]
+
+  goes_all : (a : Who) (seen log : List (Entry M S Q A)) → GoesOn a seen log → by a log ≡ by a seen
+  goes_all a seen log g = ap (by a) g.is ∙ by_append a seen g.more ∙ ap (λ (r : List (Event M S Q A × Reply M S Q A)). by a seen ++ r) g.others ∙ append-nil (by a seen)
 
   -- an end has seen the log that it left, and what others make is none of its own
   pub goes_itself : (a : Who) (log : List (Entry M S Q A)) → GoesOn a log log
@@ -107,3 +122,15 @@ module _ {M S Q A : Type 0} (next : M → S → Q → S) (reply : M → S → Q 
 
   pub leaves_terms : (m : M) (t : S) (c : ℕ) (l : List (Entry M S Q A)) → SameTerms (opening m t c) (leaves next reply m t c l)
   leaves_terms m t c l = all_terms (opening m t c) (events l)
+
+  pub log_laws : LogLaws next reply
+  log_laws = record {
+    begins = λ m t c a before now e r h. (
+      h.goes_on.more ++ record { who = a; event = e; reply = r } ∷ [],
+      h.seen ∙ ap (λ (l : List (Entry M S Q A)). l ++ record { who = a; event = e; reply = r } ∷ []) h.goes_on.is ∙ append_assoc before h.goes_on.more (record { who = a; event = e; reply = r } ∷ []),
+    );
+    once = λ m t c a before now e r h. ap (by a) h.seen ∙ by_snoc a h.log (record { who = a; event = e; reply = r })
+        ∙ ap (λ b. cond b (by a h.log ++ (e, r) ∷ []) (by a h.log)) (same_self a) ∙ ap (λ (l : List (Event M S Q A × Reply M S Q A)). l ++ (e, r) ∷ []) (goes_all a before h.log h.goes_on);
+    stays = λ m t c a before now e r h may. subst (IsLog next reply m t c) (sym h.seen) (is_log_snoc m t c h.log (record { who = a; event = e; reply = r }) h.is may h.replies);
+    all = goes_all;
+  }

@@ -1,5 +1,5 @@
 -- What the calls on a lane's ends answer, and what the end is afterwards.
-use Rattle.std.specs.Prelude.{◌≡◌, ℕ, ◌+◌, ◌<◌, ◌≤◌, true, take, Option, Some, None, Result, Ok, Err, List, suc, [], ◌∷◌, ◌++◌, length, slice_get}
+use Rattle.std.specs.Prelude.{◌≡◌, ℕ, ◌+◌, ◌<◌, ◌≤◌, true, take, Option, Some, None, Result, Ok, Err, List, suc, [], ◌∷◌, ◌++◌, slice_get}
 use Rattle.aa_machine.specs.Run.{replies}
 use Rattle.aa_lane.specs.Ends.{LaneSeen, OwnerSeen, ServerSeen, ShutterSeen}
 use Rattle.aa_lane.specs.Log.{Happens}

@@ -1,5 +1,5 @@
 -- What clauses see of a lane and its ends.
-use Rattle.std.specs.Prelude.{◌≡◌, ℕ, ◌+◌, ◌-◌, ◌%◌, ◌<◌, ◌≤◌, ◌^◌, ◌⊎◌, zero, suc, Bool, true, false, Option, None, List, [], ◌∷◌, ◌++◌, length}
+use Rattle.std.specs.Prelude.{◌≡◌, ℕ, ◌+◌, ◌-◌, ◌%◌, ◌<◌, ◌≤◌, ◌^◌, ◌⊎◌, zero, suc, Bool, true, false, Option, None, List, [], ◌∷◌, length}
 use Rattle.std.specs.Prelude.{take, slice_get, Some}
 use Rattle.atomic_table.specs.Seated.{TableId}
 use Rattle.aa_machine.specs.Run.{state_after}

@@ -66,3 +66,14 @@ module _ {M S Q A : Type 0} (next : M → S → Q → S) (reply : M → S → Q 
     pub goes_on : GoesOn a before log
     pub replies : r ≡ answer_to next reply (leaves m s c log) e
     pub seen : now ≡ log ++ record { who = a; event = e; reply = r } ∷ []
+
+  -- what such an event does to the log that an end has seen
+  pub record LogLaws : Type 0 where
+    -- it begins with all that the end had seen before, so the end's events stand in it in the order of its calls
+    pub begins : (m : M) (s : S) (c : ℕ) (a : Who) (before now : List (Entry M S Q A)) (e : Event M S Q A) (r : Reply M S Q A) → Happens m s c a before e r now → (more : List (Entry M S Q A)) × (now ≡ before ++ more)
+    -- the event stands in it once more, with its reply, and no other one of that end's
+    pub once : (m : M) (s : S) (c : ℕ) (a : Who) (before now : List (Entry M S Q A)) (e : Event M S Q A) (r : Reply M S Q A) → Happens m s c a before e r now → by a now ≡ by a before ++ (e, r) ∷ []
+    -- it is a log of the lane again, where the end may make the event
+    pub stays : (m : M) (s : S) (c : ℕ) (a : Who) (before now : List (Entry M S Q A)) (e : Event M S Q A) (r : Reply M S Q A) → Happens m s c a before e r now → may_make a e ≡ true → IsLog m s c now
+    -- a log that goes on from what an end has seen has just the events of that end that the end has seen
+    pub all : (a : Who) (seen log : List (Entry M S Q A)) → GoesOn a seen log → by a log ≡ by a seen

@@ -5,6 +5,7 @@ ghost use Rattle.atomic_table.specs.Table.{rest, turned};
 ghost use Rattle.aa_lane.specs.Ends.{vacant};
 ghost use Rattle.aa_lane.specs.Plays.{Gives, Makes, StillSettled, ready_view, sent_view, unsent_view, taken_view, idle_view, finished_view, collected_view, uncollected_view, shut_view, left_view};
 ghost use Rattle.aa_lane.specs.Law.{StepsAreEvents, NotesStayTrue};
+ghost use Rattle.aa_lane.specs.Log.{LogLaws};
 ghost use Rattle.aa_lane.specs.Totals.{LastState, joined};
 ghost use Rattle.std.specs.Slots.{IsFull};
 ghost use Rattle.aa_lane.specs.Steps.{CanReady, CanSend, CanTake, CanFinish, CanCollect};
@@ -216,4 +217,10 @@ pub fn steps_are_events<M: Machine>()
 /// What an end has noted of its lane holds at every moment from then on.
 pub fn notes_stay_true<M: Machine>()
     ensures { NotesStayTrue M.next M.reply }
+{}
+
+/// What each event that a call makes happen does to the log that its end has seen: it begins with all that the end had seen
+/// before, and has this event more of the end's, and no other.
+pub fn log_laws<M: Machine>()
+    ensures { LogLaws M.next M.reply }
 {}
