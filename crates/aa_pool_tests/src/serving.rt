@@ -3,7 +3,7 @@ ghost use Rattle.std.specs.Prelude.{◌≡◌, ◌<◌, ◌≤◌, length, map};
 ghost use Rattle.aa_lane.specs.Ends.{known};
 
 use crate::sums::{Sum, accepts, collected, sum_up_to};
-use aa_lane::{Lane, Owner};
+use aa_lane::{Lane, Machine, Owner};
 use aa_pool::{Engine, EngineFault, serve_all, shut_all};
 use std::alloc::Global;
 use std::sync::Wait;
@@ -11,7 +11,12 @@ use std::test::Fail;
 use std::thread::Threads;
 
 /// Whether lane i accepted the request.
-fn accepts_at(lanes: &[Lane<Sum>], owners: &mut [Owner<Sum>], i: usize, request: u64) -> bool
+pub fn accepts_at<M: Machine>(
+    lanes: &[Lane<M>],
+    owners: &mut [Owner<M>],
+    i: usize,
+    request: M::Request,
+) -> bool
     requires lanes { map (λ o. o.lane) owners.old ≡ map known lanes.now }
     requires within { i < length lanes.now }
     ensures { map (λ o. o.lane) owners.new ≡ map known lanes.now }
@@ -20,7 +25,11 @@ fn accepts_at(lanes: &[Lane<Sum>], owners: &mut [Owner<Sum>], i: usize, request:
 }
 
 /// The next answer of lane i, if there is one.
-fn collected_at(lanes: &[Lane<Sum>], owners: &mut [Owner<Sum>], i: usize) -> Option<u64>
+pub fn collected_at<M: Machine>(
+    lanes: &[Lane<M>],
+    owners: &mut [Owner<M>],
+    i: usize,
+) -> Option<M::Answer>
     requires lanes { map (λ o. o.lane) owners.old ≡ map known lanes.now }
     requires within { i < length lanes.now }
     ensures { map (λ o. o.lane) owners.new ≡ map known lanes.now }
