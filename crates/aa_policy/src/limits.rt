@@ -6,7 +6,7 @@ ghost use Rattle.std.specs.Str.{bytes_eq};
 ghost use Rattle.aa_faults.specs.Kinds.{no_memory};
 ghost use Rattle.aa_profiles.specs.declared.rule.FileRule.{FileRule};
 ghost use Rattle.aa_profiles.specs.declared.policy.Profile.{Profile};
-ghost use Rattle.aa_profiles.specs.Lawful.{names_of, file_patterns, attachments_with, attachment_patterns};
+ghost use Rattle.aa_profiles.specs.Lawful.{names_of, attachments_with, attachment_patterns};
 ghost use Rattle.aa_policy.specs.Keeping.{KeepsRules, KeepsProfile, KeepsProfiles, FitsBeside, HasRoom, HasNoPatterns, IsNamedAs};
 ghost use Rattle.aa_policy.specs.Spelling.{IsRepeated};
 

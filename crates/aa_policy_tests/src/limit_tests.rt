@@ -131,14 +131,18 @@ fn refusal_behind(
     alloc: Global,
     front: &[u8],
     back: &str,
-) -> Result<Option<(&'static str, u16, u32)>, AllocError> {
+) -> Result<Option<(&'static str, u16, u64)>, AllocError> {
     let mut text = Vec::from_slice(alloc, front)?;
     text.extend_from_slice(back.as_bytes())?;
-    Ok(named_refusal(alloc, text.as_slice()))
+    let found = match named_refusal(alloc, text.as_slice()) {
+        Some((kind, file, byte)) => Some((kind, file, byte as u64)),
+        None => None,
+    };
+    Ok(found)
 }
 
 /// Rows of what stands behind a text, with its refusal: the kind, and the byte, of the whole or of what stands behind.
-type BehindRow = (&'static str, &'static str, Option<u32>);
+type BehindRow = (&'static str, &'static str, Option<u64>);
 
 /// The text is refused so with each of these behind it.
 fn refuses_behind(
@@ -149,7 +153,7 @@ fn refuses_behind(
 ) -> Result<(), AllocError> {
     for (back, kind, byte) in rows {
         let at = match byte {
-            Some(byte) => front.len() as u32 + *byte,
+            Some(byte) => (front.len() as u64).saturating_add(*byte),
             None => 0,
         };
         let found = refusal_behind(alloc, front, back)?;
@@ -184,10 +188,10 @@ fn all_of_65535_patterns_are_kept(rt: HostRuntime) -> Result<(), Fail> {
     let mut text = ruled(rt.alloc(), 1022)?;
     text.extend_from_slice(b"/last w, }")?;
     let policy = read(rt.alloc(), text.as_slice())?;
-    let mut count = 0;
+    let mut count: u64 = 0;
     for profile in policy.profiles.as_slice() {
         for rule in profile.files.as_slice() {
-            count += rule.patterns.as_slice().len() as u64 % 65536;
+            count = count.saturating_add(rule.patterns.as_slice().len() as u64);
         }
     }
     assert_eq!(rt; count, 65535);
