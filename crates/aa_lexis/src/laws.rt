@@ -7,7 +7,7 @@ ghost use Rattle.aa_heads.specs.Preamble.{Names};
 ghost use Rattle.aa_rules.specs.declared.modes.Mode.{Mode};
 ghost use Rattle.aa_rules.specs.Modes.{mode_of};
 ghost use Rattle.aa_lexis.specs.Places.{EndsFirst};
-ghost use Rattle.aa_lexis.specs.Paths.{PathEnds, is_in_brackets, OpenBracket};
+ghost use Rattle.aa_lexis.specs.Paths.{PathEnds, is_in_brackets, OpenBracket, IsInBraces, OpenBrace};
 ghost use Rattle.aa_lexis.specs.Assigned.{IsAssigned};
 ghost use Rattle.aa_lexis.specs.ModeParts.{IsModeOf};
 ghost use Rattle.aa_lexis.specs.PassedOver.{RuleEnds};
@@ -24,6 +24,12 @@ pub fn paths_end_first()
 /// is a law of the definitions.
 pub fn open_brackets_lack_their_own()
     ensures { (back : List ℕ) → (is_in_brackets back ≡ true) ↔ OpenBracket back }
+{}
+
+/// It stands in braces exactly where an opening one lacks its own closing one. It does nothing: its contract is a law of the
+/// definitions.
+pub fn open_braces_lack_their_own()
+    ensures { (back : List ℕ) → IsInBraces back ↔ OpenBrace back }
 {}
 
 /// A quoted text is closed by the first quote that no backslash quotes. It does nothing: its contract is a law of the
