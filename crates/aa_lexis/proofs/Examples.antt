@@ -12,7 +12,7 @@ use Rattle.aa_lexis.specs.Places.{EndsFirst}
 use Rattle.aa_lexis.specs.Paths.{PathEnds}
 use Rattle.aa_lexis.specs.ModeParts.{IsModeOf}
 use Rattle.aa_lexis.specs.PassedOver.{RuleEnds}
-use Rattle.aa_lexis.specs.Quotes.{Closes}
+use Rattle.aa_lexis.specs.Quotes.{ClosesQuote}
 use Rattle.aa_lexis.proofs.Paths.{paths_first}
 use Rattle.aa_lexis.proofs.RunEnds.{closes}
 use Rattle.aa_lexis.proofs.PassedOver.{skips_first}
@@ -35,7 +35,7 @@ pub letter : EndsFirst PathEnds (codes "a,b r") 3
 unfolding path_len
 letter = paths_first (codes "a,b r")
 
-pub quote : Closes (codes "a\\\"b\" r") 5
+pub quote : ClosesQuote (codes "a\\\"b\" r") 5
 unfolding quoted_len quote_len
 quote = (closes (codes "a\\\"b\" r") 5).0 refl
 

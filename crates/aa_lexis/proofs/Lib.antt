@@ -8,3 +8,4 @@ mod Modes
 mod VariableNames
 mod PassedOver
 mod Examples
+mod OpenBraces

@@ -4,7 +4,7 @@ use Rattle.std.proofs.lemmas.Bool.{cases_order, false≢true}
 use Rattle.std.proofs.lemmas.Bool.Decides.{nat_tests}
 use Rattle.aa_extents.specs.Runs.{begins_with, quote_len, quoted_len, quote_next, ends_quote, ends_name, name_len, ends_comment, comment_len, ends_value, value_len, ends_variable, variable_len}
 use Rattle.aa_lexis.specs.Places.{is_quoted, IsFirst, EndsFirst}
-use Rattle.aa_lexis.specs.Quotes.{QuoteEnds, Closes}
+use Rattle.aa_lexis.specs.Quotes.{QuoteEnds, ClosesQuote}
 use Rattle.aa_lexis.specs.RunEnds.{RunEnds}
 use Rattle.aa_lexis.proofs.Firsts.{behind, first}
 use Rattle.aa_lexis.proofs.Quoting.{quoted_step, quoted_none}
@@ -58,11 +58,11 @@ one_first P m n a b = one_of (cases_order m n) where
   one_of (inr (inl lt)) = absurd (b.none_before m lt a.here)
   one_of (inr (inr lt)) = absurd (a.none_before n lt b.here)
 
-closed : (text : List ℕ) (long : ℕ) (v : Bool) → begins_with 34 (drop (quote_len false text) text) ≡ v → cond v (Some (suc (quote_len false text))) None ≡ Some long → Closes text long
+closed : (text : List ℕ) (long : ℕ) (v : Bool) → begins_with 34 (drop (quote_len false text) text) ≡ v → cond v (Some (suc (quote_len false text))) None ≡ Some long → ClosesQuote text long
 closed text long true e h = record { at = quote_len false text; first = quote_first text; quote = e; long_is = cc }
 closed text long false e h = absurd cc
 
-closing : (text : List ℕ) (long : ℕ) → Closes text long → quoted_len text ≡ Some long
+closing : (text : List ℕ) (long : ℕ) → ClosesQuote text long → quoted_len text ≡ Some long
 unfolding quoted_len
 closing text long c =
     let same = one_first _ _ _ c.first (quote_first text) in
@@ -70,6 +70,6 @@ closing text long c =
     let long_is : long ≡ suc (quote_len false text) = c.long_is ∙ ap suc same in
     ap (λ (v : Bool). cond v (Some (suc (quote_len false text))) None) quote ∙ ap Some (sym long_is)
 
-pub closes : (text : List ℕ) (long : ℕ) → (quoted_len text ≡ Some long) ↔ Closes text long
+pub closes : (text : List ℕ) (long : ℕ) → (quoted_len text ≡ Some long) ↔ ClosesQuote text long
 unfolding quoted_len
 closes text long = (closed text long _ refl, closing text long)

@@ -1,5 +1,5 @@
 -- Where a path ends.
-use Rattle.std.specs.Prelude.{⊤, ℕ, zero, suc, ◌+◌, ◌<◌, ◌≡◌, ◌==◌, ◌&&◌, ◌||◌, ◌⊎◌, Bool, true, false, not, List, [], ◌∷◌, ◌++◌, if◌then◌else◌}
+use Rattle.std.specs.Prelude.{⊤, ℕ, zero, suc, ◌+◌, ◌<◌, ◌≤◌, ◌≡◌, ◌==◌, ◌&&◌, ◌||◌, ◌⊎◌, Bool, true, false, not, List, [], ◌∷◌, ◌++◌, drop, if◌then◌else◌}
 use Rattle.aa_extents.specs.Runs.{is_white, ends_after_comma}
 use Rattle.aa_lexis.specs.Places.{is_quoted}
 
@@ -29,6 +29,15 @@ count_of c (suc n) (b ∷ back) = (if b == c && counts back then 1 else 0) + cou
 -- the place behind these bytes stands in { }: some number of the nearest opens more braces than it closes
 abbrev pub IsInBraces : List ℕ → Type 0
 IsInBraces back = (n : ℕ) × (count_of 125 n back < count_of 123 n back)
+
+-- An opening brace that counts, behind which no more braces close than open, up to whatever place: so many bytes stand between it
+-- and this one, and the n nearest of them are behind that place.
+pub record OpenBrace (back : List ℕ) : Type 0 where
+  pub between : ℕ
+  pub earlier : List ℕ
+  pub stands : drop between back ≡ 123 ∷ earlier
+  pub opens : counts earlier ≡ true
+  pub unclosed : (n k : ℕ) → n + k ≡ between → count_of 125 k (drop n back) ≤ count_of 123 k (drop n back)
 
 -- a comma behind these bytes, and before those, ends a path: it stands outside braces and brackets, and white space, # or } follows, or nothing
 pub record CommaEnds (back bs : List ℕ) : Type 0 where

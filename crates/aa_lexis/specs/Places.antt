@@ -3,8 +3,8 @@ use Rattle.std.specs.Prelude.{ℕ, zero, suc, ◌<◌, ◌==◌, Bool, false, no
 use Rattle.std.specs.List.{prefix_len}
 
 -- the bytes before a place, the nearest first
-abbrev pub before : List ℕ → ℕ → List ℕ
-before text at = reverse (take at text)
+abbrev pub bytes_before : List ℕ → ℕ → List ℕ
+bytes_before text at = reverse (take at text)
 
 -- it is so at this place, and at none before it
 pub record IsFirst (P : ℕ → Type 0) (at : ℕ) : Type 0 where
@@ -13,7 +13,7 @@ pub record IsFirst (P : ℕ → Type 0) (at : ℕ) : Type 0 where
 
 -- the first place that ends, by the bytes before it, the nearest first, and those from it on
 abbrev pub EndsFirst : (List ℕ → List ℕ → Type 0) → List ℕ → ℕ → Type 0
-EndsFirst Ends text at = IsFirst (λ n. Ends (before text n) (drop n text)) at
+EndsFirst Ends text at = IsFirst (λ n. Ends (bytes_before text n) (drop n text)) at
 
 abbrev pub is_odd : ℕ → Bool
 is_odd zero = false

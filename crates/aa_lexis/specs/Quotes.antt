@@ -9,7 +9,7 @@ QuoteEnds back [] = ⊤
 QuoteEnds back (b ∷ bs) = (b ≡ 0) ⊎ ((b ≡ 34) × (is_quoted back ≡ false))
 
 -- with the quote that closes it, the text in quotes is so long: that quote stands where it first ends
-pub record Closes (text : List ℕ) (long : ℕ) : Type 0 where
+pub record ClosesQuote (text : List ℕ) (long : ℕ) : Type 0 where
   pub at : ℕ
   pub first : EndsFirst QuoteEnds text at
   pub quote : begins_with 34 (drop at text) ≡ true

@@ -7,11 +7,11 @@ ghost use Rattle.aa_heads.specs.Preamble.{Names};
 ghost use Rattle.aa_rules.specs.declared.modes.Mode.{Mode};
 ghost use Rattle.aa_rules.specs.Modes.{mode_of};
 ghost use Rattle.aa_lexis.specs.Places.{EndsFirst};
-ghost use Rattle.aa_lexis.specs.Paths.{PathEnds, is_in_brackets, OpenBracket};
+ghost use Rattle.aa_lexis.specs.Paths.{PathEnds, is_in_brackets, OpenBracket, IsInBraces, OpenBrace};
 ghost use Rattle.aa_lexis.specs.Assigned.{IsAssigned};
 ghost use Rattle.aa_lexis.specs.ModeParts.{IsModeOf};
 ghost use Rattle.aa_lexis.specs.PassedOver.{RuleEnds};
-ghost use Rattle.aa_lexis.specs.Quotes.{Closes};
+ghost use Rattle.aa_lexis.specs.Quotes.{ClosesQuote};
 ghost use Rattle.aa_lexis.specs.RunEnds.{RunEnds};
 
 /// Behind its first byte a path goes on up to the first place where one ends. It does nothing: its contract is a law of the
@@ -26,10 +26,16 @@ pub fn open_brackets_lack_their_own()
     ensures { (back : List ℕ) → (is_in_brackets back ≡ true) ↔ OpenBracket back }
 {}
 
+/// It stands in braces exactly where an opening one lacks its own closing one. It does nothing: its contract is a law of the
+/// definitions.
+pub fn open_braces_lack_their_own()
+    ensures { (back : List ℕ) → IsInBraces back ↔ OpenBrace back }
+{}
+
 /// A quoted text is closed by the first quote that no backslash quotes. It does nothing: its contract is a law of the
 /// definitions.
 pub fn quotes_close_first()
-    ensures { (text : List ℕ) (long : ℕ) → (quoted_len text ≡ Some long) ↔ Closes text long }
+    ensures { (text : List ℕ) (long : ℕ) → (quoted_len text ≡ Some long) ↔ ClosesQuote text long }
 {}
 
 /// Names, comments, values and the names of variables go on up to the first byte that ends them. It does nothing: its

@@ -11,7 +11,7 @@ ghost use Rattle.aa_lexis.specs.Places.{EndsFirst};
 ghost use Rattle.aa_lexis.specs.Paths.{PathEnds};
 ghost use Rattle.aa_lexis.specs.ModeParts.{IsModeOf};
 ghost use Rattle.aa_lexis.specs.PassedOver.{RuleEnds};
-ghost use Rattle.aa_lexis.specs.Quotes.{Closes};
+ghost use Rattle.aa_lexis.specs.Quotes.{ClosesQuote};
 
 /// Paths behind their first byte: commas in braces, in brackets, behind a backslash and before a letter end none. It does
 /// nothing: its contract shows a definition at work.
@@ -24,7 +24,7 @@ pub fn worked_paths()
 
 /// A quote behind a backslash closes no text in quotes. It does nothing: its contract shows a definition at work.
 pub fn worked_quotes()
-    ensures { Closes (codes "a\\\"b\" r") 5 }
+    ensures { ClosesQuote (codes "a\\\"b\" r") 5 }
 {}
 
 /// Behind their keyword rules that are passed over go on over commas in parentheses, quotes, comments, brackets and braces. It
