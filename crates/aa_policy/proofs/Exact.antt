@@ -18,7 +18,7 @@ use Rattle.aa_rules.specs.Faults.{is_word_fault, IsPlaceIn}
 use Rattle.aa_profiles.specs.declared.policy.Profile.{Profile}
 use Rattle.aa_policy.specs.Bodies.{ProfileData, IsPolicy}
 use Rattle.aa_policy.specs.Expansion.{IsFirstRefused}
-use Rattle.aa_policy.specs.Faults.{IsPathRefusal, is_path_fault}
+use Rattle.aa_policy.specs.Faults.{IsPathRefusal, is_path_fault, is_parse_fault}
 use Rattle.aa_profiles.specs.Lawful.{IsWithinLimits, names_of}
 use Rattle.aa_policy.specs.Refusals.{IsStop, IsUnwritten, is_word_only, IsFault, SetTwice, NeverSet, AtPath, NamedTwice, PastLimits}
 use Rattle.aa_policy.specs.Sameness.{SameProfile}
@@ -81,7 +81,7 @@ answer_is : (e f g : PolicyFault) → g.kind ≡ f.kind → g.at ≡ f.at → An
 answer_is e f g k a (inl h) = inl h
 answer_is e f g k a (inr h) = inr (h ∙ same_fault g f k a)
 
-abbrev IsNotMisnamed : List WordData → Type 0
+abbrev pub IsNotMisnamed : List WordData → Type 0
 IsNotMisnamed ws = (adds : Bool) (spot : Spot) → IsMisnamed adds ws spot → ⊥
 
 -- where the words are written wrong
@@ -159,6 +159,9 @@ word_only kind h = λ e. false_true (sym (ap is_word_only e) ∙ h)
 
 pub unsupported : (kind : PolicyKind) → kind ≡ Unsupported → kind ≢ NoMemory
 unsupported kind h = λ e. false_true (sym (ap is_word_fault e) ∙ ap is_word_fault h)
+
+pub duplicate : (kind : PolicyKind) → kind ≡ DuplicateProfile → kind ≢ NoMemory
+duplicate kind h = λ e. false_true (sym (ap is_parse_fault e) ∙ ap is_parse_fault h)
 
 -- ---- where reading stops
 

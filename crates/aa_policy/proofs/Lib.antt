@@ -10,3 +10,4 @@ pub mod Profiles
 pub mod Parents
 pub mod Attachments
 pub mod Exact
+pub mod Keeping

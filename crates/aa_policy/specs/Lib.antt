@@ -6,6 +6,7 @@ pub use Rattle.aa_profiles.specs.Lawful
 pub mod Bodies
 pub mod Expansion
 pub mod Faults
+pub mod Keeping
 pub mod Refusals
 pub mod Sameness
 pub mod Spelling

@@ -3,8 +3,10 @@
 ghost use Rattle.std.specs.Prelude.{◌≡◌, ◌≢◌, ◌++◌, List, flat_map, map, option_map, IfOk, IfErr, OnOk};
 ghost use Rattle.std.specs.List.{AllZip};
 ghost use Rattle.aa_profiles.specs.declared.rule.FileRule.{FileRule};
+ghost use Rattle.aa_profiles.specs.declared.policy.Profile.{Profile};
 ghost use Rattle.aa_policy.specs.Expansion.{AsPath, StandsFor, IsRefused, IsFirstRefused};
 ghost use Rattle.aa_policy.specs.Faults.{IsPathRefusal};
+ghost use Rattle.aa_policy.specs.Keeping.{KeepsRules, KeepsProfile, KeepsProfiles};
 ghost use Rattle.aa_policy.specs.Bodies.{full_name, profile_data, tree_data};
 ghost use Rattle.aa_heads.specs.Heads.{attachment_data};
 ghost use Rattle.aa_rules.specs.Reading.{target_data, exec_data, file_data, rule_data};
@@ -12,6 +14,9 @@ ghost use Rattle.aa_policy.specs.Spelling.{AttachesTo, MeansRule, MeansChange, M
 
 use crate::access::{cap_rules, net_rules};
 use crate::changes::change_rules;
+use crate::limits::{
+    KeptProfiles, KeptRules, ReadProfile, no_profiles, no_rules, push_profile, push_rule,
+};
 use crate::refusal::refusal_at;
 use crate::tree::ProfileTree;
 use aa_glob::{Pattern, Vars, expand};
@@ -86,15 +91,16 @@ fn push_file_rule(
     alloc: Global,
     vars: &Vars,
     rule: &RuleTree,
-    found: &mut Vec<FileRule>,
+    found: &mut KeptRules,
 ) -> Result<(), PolicyFault>
-    ensures rule { OnOk result ((rs : List FileRule) × (found.new.items ≡ found.old.items ++ rs) × AllZip (MeansRule vars.now) (on_file (rule_data rule.now)) rs) }
+    ensures rule { OnOk result ((rs : List FileRule) × AllZip (MeansRule vars.now) (on_file (rule_data rule.now)) rs
+        × ((spelled : List FileRule) → KeepsRules spelled found.old → KeepsRules (spelled ++ rs) found.new)) }
     ensures refused { IfErr result (λ e. e.kind ≢ PolicyKind.NoMemory → IsFirstRefused vars.now (rule_paths (rule_data rule.now)) e) }
     ensures cause { IfErr result IsPathRefusal }
 {
     match rule {
         RuleTree::File(file) => {
-            found.push(file_rule(alloc, vars, file)?)?;
+            push_rule(found, file_rule(alloc, vars, file)?)?;
             Ok(())
         }
         RuleTree::Cap(_) | RuleTree::Net(_) | RuleTree::Change(_) | RuleTree::PassedOver(_) => {
@@ -103,13 +109,13 @@ fn push_file_rule(
     }
 }
 
-/// What the file rules of a profile say.
-fn file_rules(alloc: Global, vars: &Vars, rules: &[RuleTree]) -> Result<Vec<FileRule>, PolicyFault>
-    ensures rules { IfOk result (λ rs. AllZip (MeansRule vars.now) (files_of (map rule_data rules.now)) rs.items) }
+/// What the file rules of a profile say, as far as it is kept.
+fn file_rules(alloc: Global, vars: &Vars, rules: &[RuleTree]) -> Result<KeptRules, PolicyFault>
+    ensures rules { IfOk result (λ k. (rs : List FileRule) × AllZip (MeansRule vars.now) (files_of (map rule_data rules.now)) rs × KeepsRules rs k) }
     ensures refused { IfErr result (λ e. e.kind ≢ PolicyKind.NoMemory → IsFirstRefused vars.now (flat_map rule_paths (map rule_data rules.now)) e) }
     ensures cause { IfErr result IsPathRefusal }
 {
-    let mut found = Vec::with_capacity(alloc, rules.len())?;
+    let mut found = no_rules(alloc, rules.len())?;
     for rule in rules {
         push_file_rule(alloc, vars, rule, &mut found)?;
     }
@@ -148,13 +154,13 @@ fn full_name(alloc: Global, tree: &ProfileTree) -> Result<Text, AllocError>
 /// What the rules of a body say whose texts are read.
 #[derive(Drop)]
 struct Read {
-    files: Vec<FileRule>,
+    files: KeptRules,
     changes: Vec<ChangeRule>,
 }
 
 /// What the file rules and the rules on changes of profile of a body say.
 fn read_rules(alloc: Global, vars: &Vars, rules: &[RuleTree]) -> Result<Read, PolicyFault>
-    ensures files { IfOk result (λ r. AllZip (MeansRule vars.now) (files_of (map rule_data rules.now)) r.files.items) }
+    ensures files { IfOk result (λ r. (rs : List FileRule) × AllZip (MeansRule vars.now) (files_of (map rule_data rules.now)) rs × KeepsRules rs r.files) }
     ensures changes { IfOk result (λ r. AllZip MeansChange (changes_of (map rule_data rules.now)) r.changes.items) }
     ensures refused { IfErr result (λ e. e.kind ≢ PolicyKind.NoMemory → IsFirstRefused vars.now (paths_of_rules (map rule_data rules.now)) e) }
     ensures cause { IfErr result IsPathRefusal }
@@ -164,9 +170,9 @@ fn read_rules(alloc: Global, vars: &Vars, rules: &[RuleTree]) -> Result<Read, Po
     Ok(Read { files, changes })
 }
 
-/// What a profile says.
-fn profile(alloc: Global, vars: &Vars, tree: &ProfileTree) -> Result<Profile, PolicyFault>
-    ensures profile { IfOk result (λ p. MeansProfile vars.now (profile_data tree.now) p) }
+/// What a profile says, as far as it is kept.
+fn profile(alloc: Global, vars: &Vars, tree: &ProfileTree) -> Result<ReadProfile, PolicyFault>
+    ensures profile { IfOk result (λ r. (p : Profile) × MeansProfile vars.now (profile_data tree.now) p × KeepsProfile p r) }
     ensures refused { IfErr result (λ e. e.kind ≢ PolicyKind.NoMemory → IsFirstRefused vars.now (profile_paths (profile_data tree.now)) e) }
     ensures cause { IfErr result IsPathRefusal }
 {
@@ -174,33 +180,37 @@ fn profile(alloc: Global, vars: &Vars, tree: &ProfileTree) -> Result<Profile, Po
     let Read { files, changes } = read_rules(alloc, vars, tree.rules.as_slice())?;
     let caps = cap_rules(alloc, tree.rules.as_slice())?;
     let nets = net_rules(alloc, tree.rules.as_slice())?;
-    Ok(Profile {
+    let profile = Profile {
         at: tree.head.title.at,
         name: full_name(alloc, tree)?,
         parent: tree.parent.and_then(|parent| parent.number),
         attachments,
         complain: tree.head.flags.complain,
         audit: tree.head.flags.audit,
-        files: Seq::from_vec(files),
+        files: Seq::from_vec(files.rules),
         caps: Seq::from_vec(caps),
         nets: Seq::from_vec(nets),
         changes: Seq::from_vec(changes),
+    };
+    Ok(ReadProfile {
+        profile,
+        over: files.over,
     })
 }
 
-/// What the profiles say.
+/// What the profiles say, as far as it is kept.
 pub fn profiles(
     alloc: Global,
     vars: &Vars,
     tree: &[ProfileTree],
-) -> Result<Vec<Profile>, PolicyFault>
-    ensures profiles { IfOk result (λ ps. MeansProfiles vars.now (tree_data tree.now) ps.items) }
+) -> Result<KeptProfiles, PolicyFault>
+    ensures profiles { IfOk result (λ k. (ps : List Profile) × MeansProfiles vars.now (tree_data tree.now) ps × KeepsProfiles ps k) }
     ensures refused { IfErr result (λ e. e.kind ≢ PolicyKind.NoMemory → IsFirstRefused vars.now (paths_of (tree_data tree.now)) e) }
     ensures cause { IfErr result IsPathRefusal }
 {
-    let mut found = Vec::with_capacity(alloc, tree.len())?;
+    let mut found = no_profiles(alloc, tree.len())?;
     for one in tree {
-        found.push(profile(alloc, vars, one)?)?;
+        push_profile(alloc, &mut found, profile(alloc, vars, one)?)?;
     }
     Ok(found)
 }

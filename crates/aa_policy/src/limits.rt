@@ -1,15 +1,19 @@
-//! The third pass: what holds of the profiles together.
+//! The limits, noticed while profiles are read: past one nothing is kept of a profile but its name. And the third pass.
 
-ghost use Rattle.std.specs.Prelude.{ℕ, Option, ◌≡◌, ◌⊎◌, ◌≤◌, ◌↔◌, IsTrue, length, IfErr, OnOk};
-ghost use Rattle.std.specs.List.{All, IsDistinct, sum_by};
+ghost use Rattle.std.specs.Prelude.{◌≡◌, ◌⊎◌, ◌+◌, ◌≤◌, ◌↔◌, ◌++◌, ◌∷◌, [], List, IsTrue, length, IfOk, IfErr, OnOk};
+ghost use Rattle.std.specs.List.{IsDistinct};
 ghost use Rattle.std.specs.Str.{bytes_eq};
 ghost use Rattle.aa_faults.specs.Kinds.{no_memory};
-ghost use Rattle.aa_profiles.specs.Lawful.{names_of, file_patterns, attachments_with, attachment_patterns, IsWithinLimits};
+ghost use Rattle.aa_profiles.specs.declared.rule.FileRule.{FileRule};
+ghost use Rattle.aa_profiles.specs.declared.policy.Profile.{Profile};
+ghost use Rattle.aa_profiles.specs.Lawful.{names_of, attachments_with, attachment_patterns};
+ghost use Rattle.aa_policy.specs.Keeping.{KeepsRules, KeepsProfile, KeepsProfiles, FitsBeside, HasRoom, HasNoPatterns, IsNamedAs};
 ghost use Rattle.aa_policy.specs.Spelling.{IsRepeated};
 
+use aa_lists::Seq;
 use aa_profiles::{FileRule, Profile};
 use aa_words::{PolicyFault, PolicyKind};
-use std::alloc::Global;
+use std::alloc::{AllocError, Global};
 use std::collections::BTreeSet;
 
 /// The most profiles of a policy.
@@ -23,6 +27,141 @@ const MAX_PATTERNS: usize = 65535;
 
 /// The most attachment patterns of the profiles below one parent, or of the top-level profiles.
 const MAX_ATTACHMENTS: usize = 65535;
+
+/// The file rules of a profile, kept while they have no more patterns than a profile may have.
+#[derive(Drop)]
+pub struct KeptRules {
+    pub rules: Vec<FileRule>,
+    /// How many patterns more they may have.
+    pub room: usize,
+    /// Whether the rules that were read have more patterns than that.
+    pub over: bool,
+}
+
+/// A profile as it is read.
+#[derive(Drop)]
+pub struct ReadProfile {
+    pub profile: Profile,
+    /// Whether the file rules that were read have more patterns than a profile may have.
+    pub over: bool,
+}
+
+/// Profiles, kept while no limit is passed; from then on their names alone.
+#[derive(Drop)]
+pub struct KeptProfiles {
+    pub profiles: Vec<Profile>,
+    /// How many attachment patterns more the profiles below each parent may have, or less than that.
+    pub room: usize,
+    /// Whether the profiles that were read are past a limit.
+    pub over: bool,
+}
+
+/// Room for that many rules, of which none is read.
+pub fn no_rules(alloc: Global, count: usize) -> Result<KeptRules, AllocError>
+    ensures { IfOk result (λ k. KeepsRules [] k) }
+{
+    Ok(KeptRules {
+        rules: Vec::with_capacity(alloc, count)?,
+        room: MAX_PATTERNS,
+        over: false,
+    })
+}
+
+/// Keeps a rule more, unless a profile may not have its patterns beside those before it.
+pub fn push_rule(kept: &mut KeptRules, rule: FileRule) -> Result<(), AllocError>
+    ensures { OnOk result ((spelled : List FileRule) → KeepsRules spelled kept.old → KeepsRules (spelled ++ rule ∷ []) kept.new) }
+{
+    let more = rule.patterns.as_slice().len();
+    if kept.over || more > kept.room {
+        kept.over = true;
+        return Ok(());
+    }
+    kept.rules.push(rule)?;
+    kept.room -= more;
+    Ok(())
+}
+
+/// Room for that many profiles, of which none is read.
+pub fn no_profiles(alloc: Global, count: usize) -> Result<KeptProfiles, AllocError>
+    ensures { IfOk result (λ k. KeepsProfiles [] k) }
+{
+    Ok(KeptProfiles {
+        profiles: Vec::with_capacity(alloc, count)?,
+        room: MAX_ATTACHMENTS,
+        over: false,
+    })
+}
+
+/// How many attachment patterns a profile has, if it has that parent.
+fn attachments_with(profile: &Profile, parent: Option<u16>) -> usize
+    ensures { result ≡ attachments_with parent profile.now }
+{
+    if profile.parent == parent {
+        profile.attachments.as_slice().len()
+    } else {
+        0
+    }
+}
+
+/// Whether the profiles below a parent may have so many attachment patterns more.
+fn has_room_below(profiles: &[Profile], parent: Option<u16>, more: usize) -> bool
+    ensures { IsTrue result ↔ (attachment_patterns parent profiles.now + more ≤ 65535) }
+{
+    if more > MAX_ATTACHMENTS {
+        return false;
+    }
+    let mut room = MAX_ATTACHMENTS - more;
+    for profile in profiles {
+        let taken = attachments_with(profile, parent);
+        if taken > room {
+            return false;
+        }
+        room -= taken;
+    }
+    true
+}
+
+/// Whether a policy may have a profile beside the others; those below its parent are counted only where there may be no
+/// room for its attachment patterns.
+fn fits(kept: &KeptProfiles, profile: &Profile) -> bool
+    ensures { HasRoom kept.now.profiles.items kept.now.room → (IsTrue result ↔ FitsBeside kept.now.profiles.items profile.now) }
+{
+    let more = profile.attachments.as_slice().len();
+    kept.profiles.len() < MAX_PROFILES
+        && profile.name.as_slice().len() <= MAX_NAME
+        && (more <= kept.room || has_room_below(kept.profiles.as_slice(), profile.parent, more))
+}
+
+/// A profile without its patterns.
+fn without_patterns(alloc: Global, profile: Profile) -> Profile
+    ensures named { IsNamedAs profile result }
+    ensures none { HasNoPatterns result }
+{
+    let mut profile = profile;
+    profile.attachments = Seq::from_vec(Vec::new(alloc));
+    profile.files = Seq::from_vec(Vec::new(alloc));
+    profile
+}
+
+/// Keeps a profile more, or its name alone from where a limit is passed.
+pub fn push_profile(
+    alloc: Global,
+    kept: &mut KeptProfiles,
+    read: ReadProfile,
+) -> Result<(), AllocError>
+    ensures { OnOk result ((spelled : List Profile) (p : Profile) → KeepsProfiles spelled kept.old → KeepsProfile p read → KeepsProfiles (spelled ++ p ∷ []) kept.new) }
+{
+    let ReadProfile { profile, over } = read;
+    if kept.over || over || !fits(kept, &profile) {
+        kept.profiles.push(without_patterns(alloc, profile))?;
+        kept.over = true;
+        return Ok(());
+    }
+    let more = profile.attachments.as_slice().len();
+    kept.profiles.push(profile)?;
+    kept.room = kept.room.saturating_sub(more);
+    Ok(())
+}
 
 /// Refuses the first profile whose name an earlier one has. Names are looked up in their order, so
 /// that it takes no longer with names that their author chose.
@@ -41,90 +180,4 @@ pub fn check_names(alloc: Global, profiles: &[Profile]) -> Result<(), PolicyFaul
         }
     }
     Ok(())
-}
-
-/// Whether the file rules of a profile have no more patterns than a profile may have.
-fn has_few_patterns(rules: &[FileRule]) -> bool
-    ensures { IsTrue result ↔ (sum_by (λ r. length r.patterns) rules.now ≤ 65535) }
-{
-    let mut count = 0;
-    for rule in rules {
-        count += rule.patterns.as_slice().len();
-        if count > MAX_PATTERNS {
-            return false;
-        }
-    }
-    true
-}
-
-/// How many attachment patterns a profile has, if it has that parent.
-fn attachments_with(profile: &Profile, parent: Option<u16>) -> usize
-    ensures { result ≡ attachments_with parent profile.now }
-{
-    if profile.parent == parent {
-        profile.attachments.as_slice().len()
-    } else {
-        0
-    }
-}
-
-/// Whether all profiles together have no more attachment patterns than those below one parent may have.
-fn has_few_in_all(profiles: &[Profile]) -> bool
-    ensures { IsTrue result ↔ (sum_by (λ p. length p.attachments) profiles.now ≤ 65535) }
-{
-    let mut count = 0;
-    for profile in profiles {
-        count += profile.attachments.as_slice().len();
-        if count > MAX_ATTACHMENTS {
-            return false;
-        }
-    }
-    true
-}
-
-/// Whether the profiles below a parent have no more attachment patterns than they may have.
-fn has_few_below(profiles: &[Profile], parent: Option<u16>) -> bool
-    ensures { IsTrue result ↔ (attachment_patterns parent profiles.now ≤ 65535) }
-{
-    let mut count = 0;
-    for profile in profiles {
-        let more = attachments_with(profile, parent);
-        if more > MAX_ATTACHMENTS - count {
-            return false;
-        }
-        count += more;
-    }
-    true
-}
-
-/// Whether the profiles below the parent of each profile have no more attachment patterns than they may have.
-fn has_few_below_each(profiles: &[Profile]) -> bool
-    ensures { IsTrue result ↔ All (λ p. attachment_patterns p.parent profiles.now ≤ 65535) profiles.now }
-{
-    for profile in profiles {
-        if !has_few_below(profiles, profile.parent) {
-            return false;
-        }
-    }
-    true
-}
-
-/// Whether the profiles below each parent have no more attachment patterns than they may have; so it is where all
-/// together have few, and only otherwise is each parent looked at.
-fn has_few_attachments(profiles: &[Profile]) -> bool
-    ensures { IsTrue result ↔ ((parent : Option ℕ) → attachment_patterns parent profiles.now ≤ 65535) }
-{
-    has_few_in_all(profiles) || has_few_below_each(profiles)
-}
-
-/// Whether no count and no length is beyond its limit.
-pub fn is_within_limits(profiles: &[Profile]) -> bool
-    ensures { IsTrue result ↔ IsWithinLimits profiles.now }
-{
-    profiles.len() <= MAX_PROFILES
-        && profiles.iter().all(|p| p.name.as_slice().len() <= MAX_NAME)
-        && profiles
-            .iter()
-            .all(|p| has_few_patterns(p.files.as_slice()))
-        && has_few_attachments(profiles)
 }

@@ -13,7 +13,7 @@ ghost use Rattle.aa_profiles.specs.declared.policy.Policy.{Policy};
 
 use crate::expansion::profiles;
 use crate::items::tree_of;
-use crate::limits::{check_names, is_within_limits};
+use crate::limits::check_names;
 use crate::listing::passed_over;
 use aa_lists::Seq;
 use aa_profiles::Policy;
@@ -33,7 +33,8 @@ use std::alloc::Global;
 /// looks at the profiles together: `DuplicateProfile` at the later name, then `TooLarge` at the start
 /// of the main text, for more than 4,096 profiles, a full name of more than 1,024 bytes, or more than
 /// 65,535 patterns of a profile's rules, of the top-level profiles' attachments, or of those of one
-/// parent's children. `NoMemory` can come at any point.
+/// parent's children. A limit is noticed where it is passed: from there on patterns of attachments
+/// and file rules are let go, but what stands behind is read. `NoMemory` can come at any point.
 pub fn parse(alloc: Global, words: &WordList) -> Result<Policy, PolicyFault>
     // The policy that is given is spelled by the words.
     ensures spelled { IfOk result (λ p. Spells (words_data words.now.list.items) p) }
@@ -57,14 +58,14 @@ pub fn parse(alloc: Global, words: &WordList) -> Result<Policy, PolicyFault>
     ensures exact { (fault : PolicyFault) → IsFault (words_data words.now.list.items) fault → IsRefusedWith fault result }
 {
     let tree = tree_of(alloc, words.list.as_slice(), words.end)?;
-    let profiles = profiles(alloc, &tree.vars, tree.profiles.as_slice())?;
-    check_names(alloc, profiles.as_slice())?;
-    if !is_within_limits(profiles.as_slice()) {
+    let kept = profiles(alloc, &tree.vars, tree.profiles.as_slice())?;
+    check_names(alloc, kept.profiles.as_slice())?;
+    if kept.over {
         return Err(PolicyFault::at_start(PolicyKind::TooLarge));
     }
     let listed = passed_over(alloc, tree.profiles.as_slice())?;
     Ok(Policy {
-        profiles: Seq::from_vec(profiles),
+        profiles: Seq::from_vec(kept.profiles),
         passed_over: Seq::from_vec(listed),
     })
 }

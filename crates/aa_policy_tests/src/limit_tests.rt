@@ -1,7 +1,8 @@
 //! The most of everything, and one more.
 
-use crate::reading::refusal;
+use crate::reading::{named_refusal, read, refusal};
 use std::alloc::{AllocError, Global};
+use std::process::Abort;
 use std::test::Fail;
 
 /// Parts, each so many times over.
@@ -92,6 +93,185 @@ fn attachments_of_the_top_level_are_at_most_65535(rt: HostRuntime) -> Result<(),
     for (more, found) in [(1023, None), (1024, Some((18, 0, 0)))] {
         let text = attached(rt.alloc(), more)?;
         assert_eq!(rt; refusal(rt.alloc(), text.as_slice()), found, "{more}");
+    }
+    Ok(())
+}
+
+/// A variable of 32 values, and one of so many.
+fn variables(alloc: Global, more: u32) -> Result<Vec<u8>, AllocError> {
+    repeated(
+        alloc,
+        &[
+            ("@{A}=", 1),
+            ("/a ", 32),
+            ("\n@{B}=", 1),
+            ("/b ", more),
+            ("\n", 1),
+        ],
+    )
+}
+
+/// A profile whose first rules have 64,512 patterns, and a rule of as many more.
+fn ruled(alloc: Global, more: u32) -> Result<Vec<u8>, AllocError> {
+    let mut text = variables(alloc, more)?;
+    let rules = repeated(
+        alloc,
+        &[
+            ("profile p {\n", 1),
+            ("@{A}@{A} r,\n", 63),
+            ("@{B} r,\n", 1),
+        ],
+    )?;
+    text.extend_from_slice(rules.as_slice())?;
+    Ok(text)
+}
+
+/// What a text is refused with that goes on like that behind another, and at which byte of the two.
+fn refusal_behind(
+    alloc: Global,
+    front: &[u8],
+    back: &str,
+) -> Result<Option<(&'static str, u16, u64)>, AllocError> {
+    let mut text = Vec::from_slice(alloc, front)?;
+    text.extend_from_slice(back.as_bytes())?;
+    let found = match named_refusal(alloc, text.as_slice()) {
+        Some((kind, file, byte)) => Some((kind, file, byte as u64)),
+        None => None,
+    };
+    Ok(found)
+}
+
+/// Rows of what stands behind a text, with its refusal: the kind, and the byte, of the whole or of what stands behind.
+type BehindRow = (&'static str, &'static str, Option<u64>);
+
+/// The text is refused so with each of these behind it.
+fn refuses_behind(
+    rt: &impl Abort,
+    alloc: Global,
+    front: &[u8],
+    rows: &[BehindRow],
+) -> Result<(), AllocError> {
+    for (back, kind, byte) in rows {
+        let at = match byte {
+            Some(byte) => (front.len() as u64).saturating_add(*byte),
+            None => 0,
+        };
+        let found = refusal_behind(alloc, front, back)?;
+        assert_eq!(rt; found, Some((*kind, 0, at)), "{back}");
+    }
+    Ok(())
+}
+
+#[test]
+fn each_profile_has_at_most_65535_patterns(rt: HostRuntime) -> Result<(), Fail> {
+    for (more, back, found) in [
+        // Those of another profile are counted anew.
+        (1023, "} profile q { @{A}@{A} r, }", None),
+        (1024, "}", Some(("TooLarge", 0, 0))),
+    ] {
+        let text = ruled(rt.alloc(), more)?;
+        assert_eq!(rt;
+            refusal_behind(rt.alloc(), text.as_slice(), back)?,
+            found,
+            "{more}"
+        );
+    }
+    Ok(())
+}
+
+#[test]
+fn all_of_65535_patterns_are_kept(rt: HostRuntime) -> Result<(), Fail> {
+    let mut text = ruled(rt.alloc(), 1023)?;
+    text.extend_from_slice(b"/last w, }")?;
+    let refused = read(rt.alloc(), text.as_slice()).is_err();
+    assert!(rt; refused);
+    let mut text = ruled(rt.alloc(), 1022)?;
+    text.extend_from_slice(b"/last w, }")?;
+    let policy = read(rt.alloc(), text.as_slice())?;
+    let mut count: u64 = 0;
+    for profile in policy.profiles.as_slice() {
+        for rule in profile.files.as_slice() {
+            count = count.saturating_add(rule.patterns.as_slice().len() as u64);
+        }
+    }
+    assert_eq!(rt; count, 65535);
+    Ok(())
+}
+
+#[test]
+fn what_stands_behind_too_many_patterns_is_read(rt: HostRuntime) -> Result<(), Fail> {
+    let text = ruled(rt.alloc(), 1024)?;
+    refuses_behind(
+        &rt,
+        rt.alloc(),
+        text.as_slice(),
+        &[
+            ("/a r, @{C} r, }", "UndefinedVariable", Some(6)),
+            ("} profile q { /{ r, }", "BadPattern", Some(14)),
+            (
+                "} profile q { } profile p { }",
+                "DuplicateProfile",
+                Some(24),
+            ),
+        ],
+    )?;
+    Ok(())
+}
+
+#[test]
+fn what_stands_behind_too_many_attachments_is_read(rt: HostRuntime) -> Result<(), Fail> {
+    let text = attached(rt.alloc(), 1024)?;
+    refuses_behind(
+        &rt,
+        rt.alloc(),
+        text.as_slice(),
+        &[
+            ("profile q { }", "DuplicateProfile", Some(8)),
+            ("profile q { /{ r, }", "BadPattern", Some(12)),
+            ("profile r @{C} { }", "UndefinedVariable", Some(10)),
+        ],
+    )?;
+    Ok(())
+}
+
+#[test]
+fn what_stands_behind_too_many_profiles_is_read(rt: HostRuntime) -> Result<(), Fail> {
+    let text = many_profiles(rt.alloc(), b"", 4097, b" { }\n")?;
+    refuses_behind(
+        &rt,
+        rt.alloc(),
+        text.as_slice(),
+        &[
+            ("profile q { /a r, }", "TooLarge", None),
+            ("profile q { /{ r, }", "BadPattern", Some(12)),
+            ("profile q { } profile q { }", "DuplicateProfile", Some(22)),
+        ],
+    )?;
+    Ok(())
+}
+
+/// A profile with 63 children that have 1,024 attachment patterns each, and one that has as many as are wanted more.
+fn with_children(alloc: Global, more: u32) -> Result<Vec<u8>, AllocError> {
+    let mut front = variables(alloc, more)?;
+    front.extend_from_slice(b"profile t @{A}@{A} {\n")?;
+    let mut text = many_profiles(alloc, front.as_slice(), 63, b" @{A}@{A} { }\n")?;
+    text.extend_from_slice(b"profile c @{B} { }\n}\n")?;
+    Ok(text)
+}
+
+#[test]
+fn attachments_are_counted_below_each_parent(rt: HostRuntime) -> Result<(), Fail> {
+    for (more, back, found) in [
+        // Those of the top level, and those below another parent, are counted by themselves.
+        (1023, "profile u @{A}@{A} { profile c @{A}@{A} { } }", None),
+        (1024, "", Some(("TooLarge", 0, 0))),
+    ] {
+        let text = with_children(rt.alloc(), more)?;
+        assert_eq!(rt;
+            refusal_behind(rt.alloc(), text.as_slice(), back)?,
+            found,
+            "{more}"
+        );
     }
     Ok(())
 }

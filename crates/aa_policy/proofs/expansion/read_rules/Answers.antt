@@ -17,4 +17,4 @@ returns-in_err-changes-clause-refused c =
     let vars = c.args.vars.now in
     let r = c.from_residual-in_err-changes in
     let q = err_from_is_err_and r.result r.ensures.1 in
-    handed_on r.result _ _ _ q.1 q.2 (λ h. expanding_then vars _ _ _ (rules_expand vars (map rule_data c.args.rules.now) c.in_ok-files.files.items c.in_ok-files.ensures.rules) (c.in_err-changes.ensures.refused h vars))
+    handed_on r.result _ _ _ q.1 q.2 (λ h. expanding_then vars _ _ _ (rules_expand vars (map rule_data c.args.rules.now) c.in_ok-files.ensures.rules.0 c.in_ok-files.ensures.rules.1) (c.in_err-changes.ensures.refused h vars))
