@@ -1,6 +1,6 @@
 //! Small hostile texts by construct: each word, place, mode, name and path that is refused, with its number and byte.
 
-use crate::reading::{named_refusal, refuses_each};
+use crate::reading::{named_refusal, refusal, refuses_each};
 
 #[test]
 fn words_that_do_not_end_or_stand_too_close(rt: HostRuntime) {
@@ -355,6 +355,11 @@ fn paths_that_do_not_expand(rt: HostRuntime) {
         ("@{A}=@{A}\nprofile p { /@{A} r, }", 12, 22),
         ("@{A}=@{B}\n@{B}=@{A}\nprofile p { /@{A} r, }", 12, 32),
         ("@{A}=x\n@{A}+=@{A}\nprofile p { /@{A} r, }", 12, 30),
+        (
+            "@{A}=x y\nprofile p { /@{A}@{A}@{A}@{A}@{A}@{A}@{A}@{A}@{A}@{A}@{A} r, }",
+            13,
+            21,
+        ),
         ("profile p { \"x\" r, }", 14, 13),
         ("profile p { \"\" r, }", 14, 13),
         ("@{A}=x\nprofile p { @{A} r, }", 14, 19),
@@ -370,6 +375,12 @@ fn paths_that_do_not_expand(rt: HostRuntime) {
         ("profile p { /a r, } profile q { /b r, \"a\" r, }", 14, 39),
     ];
     refuses_each(&rt, rt.alloc(), &rows);
+}
+
+#[test]
+fn a_variable_of_two_values_may_stand_ten_times(rt: HostRuntime) {
+    let text = b"@{A}=x y\nprofile p { /@{A}@{A}@{A}@{A}@{A}@{A}@{A}@{A}@{A}@{A} r, }";
+    assert_eq!(rt; refusal(rt.alloc(), text), None);
 }
 
 #[test]

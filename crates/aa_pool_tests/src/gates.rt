@@ -1,10 +1,16 @@
 //! Lanes whose requests wait for one another, so that one thread alone can't serve them.
-use aa_lane::Machine;
+ghost use Rattle.std.specs.Prelude.{◌≡◌, ◌<◌, ◌≤◌, map};
+ghost use Rattle.aa_lane.specs.Ends.{known};
+
+use crate::serving::{accepts_at, collected_at};
+use aa_lane::{Lane, Machine, Owner};
 use aa_pool::{Engine, serve_all, shut_all};
+use std::alloc::Global;
 use std::sync::Wait;
 use std::sync::atomic::{AtomicU64, Ordering};
-use std::test::*;
+use std::test::Fail;
 use std::thread;
+use std::thread::Threads;
 
 /// Each request says which of two gates to open, and the step waits for the other for a while. Whether it gave up is noted.
 #[derive(Drop)]
@@ -53,33 +59,67 @@ impl Machine for Gates {
     }
 }
 
+/// How many lanes accepted a request, the first one for the first gate and each other one for the second.
+fn asked_of_each(lanes: &[Lane<Gates>], owners: &mut [Owner<Gates>]) -> u64
+    requires { map (λ o. o.lane) owners.old ≡ map known lanes.now }
+    ensures { map (λ o. o.lane) owners.new ≡ map known lanes.now }
+{
+    let mut asked: u64 = 0;
+    for i in 0..lanes.len() {
+        if accepts_at(lanes, owners, i, i == 0) {
+            asked = asked.wrapping_add(1);
+        }
+    }
+    asked
+}
+
+/// How many lanes have an answer.
+fn answered_by_each(lanes: &[Lane<Gates>], owners: &mut [Owner<Gates>]) -> u64
+    requires { map (λ o. o.lane) owners.old ≡ map known lanes.now }
+{
+    let mut answered: u64 = 0;
+    for i in 0..lanes.len() {
+        if collected_at(lanes, owners, i).is_some() {
+            answered = answered.wrapping_add(1);
+        }
+    }
+    answered
+}
+
+/// How many requests two lanes accepted, how many servers came back, how many answers there are, and whether a step gave up,
+/// where so many workers serve.
+fn served_by<R: Threads + Wait + Sync>(
+    rt: &R,
+    alloc: Global,
+    workers: u32,
+) -> Option<(u64, usize, u64, u64)>
+    requires { (0 < workers) × (workers ≤ 16) }
+{
+    let gates = Gates::new();
+    let Ok(engine) = Engine::open(alloc, &gates, &[(), ()], 1) else {
+        return None;
+    };
+    let Engine {
+        lanes,
+        mut owners,
+        servers,
+        mut shutters,
+    } = engine;
+    let asked = asked_of_each(&lanes, &mut owners);
+    let mut counts = vec![in alloc; 0; lanes.len()].ok()?;
+    shut_all(&lanes, &mut shutters, &mut counts);
+    let Ok(served) = serve_all(rt, alloc, &lanes, servers, workers) else {
+        return None;
+    };
+    let answered = answered_by_each(&lanes, &mut owners);
+    let given_up = gates.given_up.load(Ordering::SeqCst);
+    Some((asked, served.len(), answered, given_up))
+}
+
 #[test]
 fn two_workers_serve_two_lanes_at_once(rt: HostRuntime) -> Result<(), Fail> {
     for workers in [2, 16] {
-        let gates = Gates::new();
-        let Engine {
-            lanes,
-            mut owners,
-            servers,
-            mut shutters,
-        } = Engine::open(rt.alloc(), &gates, &[(), ()], 1)?;
-        assert_eq!(rt; owners[0].send(&lanes[0], true).is_ok(), true);
-        assert_eq!(rt; owners[1].send(&lanes[1], false).is_ok(), true);
-        let mut counts = [7, 7];
-        shut_all(&lanes, &mut shutters, &mut counts);
-        assert_eq!(rt; counts, [1, 1]);
-        let served = serve_all(&rt, rt.alloc(), &lanes, servers, workers);
-        let served = match served {
-            Ok(served) => served,
-            Err(refused) => {
-                assert!(rt; false, "{:?}", refused.fault);
-                refused.servers
-            }
-        };
-        assert_eq!(rt; served.len(), 2);
-        assert_eq!(rt; owners[0].collect(&lanes[0]).is_some(), true);
-        assert_eq!(rt; owners[1].collect(&lanes[1]).is_some(), true);
-        assert_eq!(rt; gates.given_up.load(Ordering::SeqCst), 0);
+        assert_eq!(rt; served_by(&rt, rt.alloc(), workers), Some((2, 2, 2, 0)));
     }
     Ok(())
 }

@@ -2,9 +2,13 @@
 #![tactic(auto)]
 
 #[cfg(test)]
+mod closing;
+#[cfg(test)]
 mod gates;
 #[cfg(test)]
 mod opening;
+#[cfg(test)]
+mod schedules;
 #[cfg(test)]
 mod serving;
 #[cfg(test)]

@@ -26,7 +26,7 @@ impl Machine for Sum {
 }
 
 /// Whether the lane accepted the request.
-pub fn accepts(owner: &mut Owner<Sum>, lane: &Lane<Sum>, request: u64) -> bool
+pub fn accepts<M: Machine>(owner: &mut Owner<M>, lane: &Lane<M>, request: M::Request) -> bool
     requires { owner.old.lane ≡ known lane.now }
     ensures { owner.new.lane ≡ owner.old.lane }
 {
@@ -34,9 +34,14 @@ pub fn accepts(owner: &mut Owner<Sum>, lane: &Lane<Sum>, request: u64) -> bool
 }
 
 /// The next answer, if there is one.
-pub fn collected(owner: &mut Owner<Sum>, lane: &Lane<Sum>) -> Option<u64>
+pub fn collected<M: Machine>(owner: &mut Owner<M>, lane: &Lane<M>) -> Option<M::Answer>
     requires { owner.old.lane ≡ known lane.now }
     ensures { owner.new.lane ≡ owner.old.lane }
 {
     owner.collect(lane).map(|given| given.answer)
+}
+
+/// The sum of the numbers up to `last`, modulo 1,000, without adding them up.
+pub fn sum_up_to(last: u64) -> u64 {
+    (last % 2000).wrapping_mul(last.wrapping_add(1) % 2000) / 2 % 1000
 }

@@ -5,7 +5,7 @@ use Rattle.aa_pool.proofs.Pairs.{at_both}
 use Rattle.aa_pool_tests.proofs.serving.accepts_at.Goals as goal
 
 pub accepts-requires : goal.accepts-requires
-accepts-requires c = at_both (λ o. o.lane) known c.args.owners.now c.args.lanes.now c.requires.lanes c.args.i c.index-owners-i.result c.index-lanes-i.result c.requires.within c.index-lanes-i.is
+accepts-requires g c = at_both (λ o. o.lane) known c.args.owners.now c.args.lanes.now c.requires.lanes c.args.i c.index-owners-i.result c.index-lanes-i.result c.requires.within c.index-lanes-i.is
 
 pub returns : goal.returns
-returns c = map-set_same (λ o. o.lane) c.args.owners.now c.args.i c.accepts.new.owner c.index-owners-i.result (c.accepts.ensures) ∙ c.requires.lanes
+returns g c = map-set_same (λ o. o.lane) c.args.owners.now c.args.i c.accepts.new.owner c.index-owners-i.result (c.accepts.ensures) ∙ c.requires.lanes

@@ -5,7 +5,7 @@ use Rattle.aa_pool.proofs.Pairs.{at_both}
 use Rattle.aa_pool_tests.proofs.serving.collected_at.Goals as goal
 
 pub collected-requires : goal.collected-requires
-collected-requires c = at_both (λ o. o.lane) known c.args.owners.now c.args.lanes.now c.requires.lanes c.args.i c.index-owners-i.result c.index-lanes-i.result c.requires.within c.index-lanes-i.is
+collected-requires g c = at_both (λ o. o.lane) known c.args.owners.now c.args.lanes.now c.requires.lanes c.args.i c.index-owners-i.result c.index-lanes-i.result c.requires.within c.index-lanes-i.is
 
 pub returns : goal.returns
-returns c = map-set_same (λ o. o.lane) c.args.owners.now c.args.i c.collected.new.owner c.index-owners-i.result (c.collected.ensures) ∙ c.requires.lanes
+returns g c = map-set_same (λ o. o.lane) c.args.owners.now c.args.i c.collected.new.owner c.index-owners-i.result (c.collected.ensures) ∙ c.requires.lanes

@@ -1,0 +1,11 @@
+mod Firsts
+mod Quoting
+mod Paths
+mod RunEnds
+mod OpenSigns
+mod Fronts
+mod Modes
+mod VariableNames
+mod PassedOver
+mod Examples
+mod OpenBraces
