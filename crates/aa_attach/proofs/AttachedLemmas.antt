@@ -1,4 +1,4 @@
--- The answers of rows are the attached profiles.
+-- The answers of lists are the attached profiles.
 use Rattle.std.proofs.Common.{◌≡◌, ℕ, ◌+◌, ◌<◌, length, take, get_or, List, [], ◌∷◌, ◌++◌, map, Option, Some, None, refl, ap, ◌∙◌, subst}
 use Rattle.std.specs.List.{filter, slice_get}
 use Rattle.std.specs.Option.{option_map, option_map_or}
@@ -8,7 +8,7 @@ use Rattle.std.proofs.lemmas.Option.{slice_get-map, slice_get-get_or}
 use Rattle.aa_patterns.specs.declared.pattern.Pattern.{Pattern}
 use Rattle.aa_profiles.specs.declared.policy.Profile.{Profile}
 use Rattle.aa_patterns.specs.Matching.{is_match}
-use Rattle.aa_auto.specs.Tables.{IsAutomaton, ListsMatching, list_at, place_of}
+use Rattle.aa_auto.specs.Tables.{IsAutomaton, ListsMatching, list_at, list_number, place_of}
 use Rattle.aa_attach.specs.declared.attach.Attachment.{Attachment}
 use Rattle.aa_said.specs.Gathered.{picked}
 use Rattle.aa_attach.specs.Attached.{AnswerTable, answers_by, attached_by, attachment_by, attachment_of, at_number, attachments_at, attachments_by, pattern_of, Attaches}
@@ -31,11 +31,12 @@ pub answers_are : (profiles : List Profile) (numbers : List ℕ) (patterns : Lis
 answers_are profiles numbers patterns as' t flat are auto answers path text =
     let hits = attachments_by profiles numbers in
     let place = place_of t.table path in
+    let number = list_number t.table place in
     let list = list_at t.table place in
     let lists : ListsMatching (map pattern_of hits) path list = subst (λ ps. ListsMatching ps path list) flat (auto.matching path text) in
-    let stored : slice_get t.answers place ≡ Some (attached_by (picked as' list)) =
-    ap (λ l. slice_get l place) answers ∙ slice_get-map (λ (l : List ℕ). attached_by (picked as' l)) t.table.lists place
-    ∙ ap (option_map (λ (l : List ℕ). attached_by (picked as' l))) (slice_get-get_or t.table.lists place [] (auto.within path text)) in
+    let stored : slice_get t.answers number ≡ Some (attached_by (picked as' list)) =
+    ap (λ l. slice_get l number) answers ∙ slice_get-map (λ (l : List ℕ). attached_by (picked as' l)) t.table.lists number
+    ∙ ap (option_map (λ (l : List ℕ). attached_by (picked as' l))) (slice_get-get_or t.table.lists number [] (auto.numbered path text)) in
     let marked : picked as' list ≡ map attachment_of (filter (λ h. is_match h.1.items.items path) hits) =
     ap (λ l. picked l list) are ∙ picked-map attachment_of hits list ∙ ap (map attachment_of) (hits_at hits path list lists) in
     ap (λ o. option_map_or (λ (a : Option ℕ). a) o None) stored ∙ ap attached_by marked

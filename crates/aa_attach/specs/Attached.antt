@@ -7,7 +7,7 @@ use Rattle.aa_patterns.specs.declared.pattern.Pattern.{Pattern}
 use Rattle.aa_items.specs.Globs.{is_byte}
 use Rattle.aa_profiles.specs.declared.policy.Profile.{Profile}
 use Rattle.aa_patterns.specs.Matching.{is_match}
-use Rattle.aa_auto.specs.Tables.{Table, IsText, place_of}
+use Rattle.aa_auto.specs.Tables.{Table, IsText, list_number, place_of}
 use Rattle.aa_attach.specs.declared.attach.Attachment.{Attachment}
 use Rattle.aa_said.specs.Gathered.{picked}
 use Rattle.aa_said.specs.Patterns.{is_literal}
@@ -56,14 +56,14 @@ pattern_of h = h.1
 abbrev pub attachment_of : ℕ × Pattern → Attachment
 attachment_of h = attachment_by h.0 h.1
 
--- an automaton, and an answer for each of its rows
+-- an automaton, and an answer for each of its lists
 pub record AnswerTable : Type 0 where
   pub table : Table
   pub answers : List (Option ℕ)
 
 -- the answer that a path leads to
 abbrev pub answer_at : AnswerTable → List ℕ → Option ℕ
-answer_at t path = option_map_or (λ (a : Option ℕ). a) (slice_get t.answers (place_of t.table path)) None
+answer_at t path = option_map_or (λ (a : Option ℕ). a) (slice_get t.answers (list_number t.table (place_of t.table path))) None
 
 abbrev pub answers_by : List Attachment → List (List ℕ) → List (Option ℕ)
 answers_by as' lists = map (λ list. attached_by (picked as' list)) lists

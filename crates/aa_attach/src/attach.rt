@@ -117,8 +117,8 @@ fn answers_of(
     ensures { IfOk result (λ answers. answers.items ≡ answers_by attachments.now automaton.now.lists) }
 {
     let mut answers = Vec::new(alloc);
-    for row in 0..automaton.rows() {
-        answers.push(attached_at(attachments, automaton.at_row(row)))?;
+    for number in 0..automaton.lists() {
+        answers.push(attached_at(attachments, automaton.list(number)))?;
     }
     Ok(answers)
 }
@@ -175,19 +175,19 @@ fn attachments_of<'a>(
 #[derive(Drop)]
 pub struct AttachRows {
     automaton: Automaton,
+    /// One for each list.
     answers: Vec<Option<u16>>,
 }
 
 impl Model for AttachRows {
     ghost use Rattle.std.specs.Prelude.{◌≡◌, length};
-    ghost use Rattle.aa_auto.specs.Tables.{rows_of};
     ghost use Rattle.aa_attach.specs.Attached.{AnswerTable};
 
     ghost Value = { AnswerTable };
 
     ghost view = { λ r. record { table = r.automaton; answers = r.answers.items } };
 
-    ghost invariant = { λ r. length r.answers.items ≡ rows_of r.automaton };
+    ghost invariant = { λ r. length r.answers.items ≡ length r.automaton.lists };
 }
 
 impl AttachRows {
@@ -215,6 +215,6 @@ impl AttachRows {
     pub fn attached(&self, path: &[u8]) -> Option<u16>
         ensures { result ≡ answer_at self.now path.now }
     {
-        self.answers[self.automaton.place(path)]
+        self.answers[self.automaton.list_of(self.automaton.place(path))]
     }
 }

@@ -7,19 +7,21 @@ use Rattle.aa_auto.specs.Nets.{IsNetOf, patterns_of, kept_of}
 use Rattle.aa_auto.specs.Classes.{IsSame}
 use Rattle.aa_auto.specs.Division.{AreClassesOf}
 use Rattle.aa_auto.specs.Spots.{IsSpotsOf}
-use Rattle.aa_auto.specs.Tables.{Table, IsTable, IsText, IsAutomaton, HasClasses, row_after, place_of, rows_of}
+use Rattle.aa_auto.specs.Tables.{Table, IsTable, IsText, IsAutomaton, HasClasses, ListsMatching, row_after, place_of, list_number, rows_of}
 use Rattle.aa_auto.specs.Explored.{IsExplored, Goes}
+use Rattle.aa_auto.specs.Listed.{Listing}
 use Rattle.aa_auto.proofs.CellLemmas.{cell_below}
 use Rattle.aa_auto.proofs.LawLemmas.{same_bytes}
+use Rattle.aa_auto.proofs.ListedLemmas.{row_list, some_row, number_within}
 use Rattle.aa_auto.proofs.ExploredLemmas.{same_sets, same_places, spots_same}
 
 row_after-append : (t : Table) (row : ℕ) (s u : List ℕ) → row_after t row (s ++ u) ≡ row_after t (row_after t row s) u
 row_after-append t row [] u = refl
 row_after-append t row (b ∷ s) u = row_after-append t (get_or t.cells (t.width * row + get_or t.classes b 0) 0) s u
 
-module _ (net : Net) (is : IsNetOf net) (sets : List (List ℕ)) (of bytes cells : List ℕ) (lists : List (List ℕ)) (classes : AreClassesOf (patterns_of net) of bytes) (all : IsExplored net sets bytes cells lists) where
+module _ (net : Net) (is : IsNetOf net) (sets : List (List ℕ)) (of bytes cells : List ℕ) (l : Listing) (classes : AreClassesOf (patterns_of net) of bytes) (all : IsExplored net sets bytes cells l) where
   abbrev made : Table
-  made = record { classes = of; width = length bytes; cells = cells; lists = lists }
+  made = record { classes = of; width = length bytes; cells = cells; listed = l.listed; lists = l.lists }
 
   cell : (row b : ℕ) → row < length sets → b < 256 → Goes net sets row (get_or bytes (get_or of b 0) 0) (get_or cells (length bytes * row + get_or of b 0) 0)
   cell row b lt few =
@@ -64,27 +66,38 @@ module _ (net : Net) (is : IsNetOf net) (sets : List (List ℕ)) (of bytes cells
         (get_or of b 0, lt, (classes.same b (get_or bytes (get_or of b 0) 0) few p.0).0 (sym p.1));
   }
 
-  pub automaton : IsAutomaton (patterns_of net) (record { classes = of; width = length bytes; cells = cells; lists = lists })
+  reached : (row : ℕ) → row < rows_of made → (s : List ℕ) × IsText s × (place_of made s ≡ row)
+  reached row lt =
+      let w = all.reached.reached row (omega (arith, all.listed.many)) in (
+        w.0,
+        w.1,
+        all.reached.apart (row_after made 0 w.0) row (at w.0 w.1).0 (omega (arith, all.listed.many))
+            (same_sets net is (get_or sets (row_after made 0 w.0) []) (get_or sets row []) w.0 w.0 (at w.0 w.1).1 w.2 (λ n q. (λ p. p, λ p. p))),
+      )
+
+  automaton : IsAutomaton (patterns_of net) (record { classes = of; width = length bytes; cells = cells; listed = l.listed; lists = l.lists })
   automaton = record {
-    matching = λ s text. all.listed.exact (row_after made 0 s) s (at s text).0 (at s text).1;
+    matching = λ s text.
+        let row = row_after made 0 s in
+        subst (ListsMatching (patterns_of net) s) (row_list l row (omega (arith, (at s text).0, all.listed.many))) (all.listed.exact row s (at s text).0 (at s text).1);
     places = λ s u st ut. (
       λ e. same_places net is (get_or sets (row_after made 0 s) []) s u (at s st).1 (subst (λ k. IsSpotsOf (kept_of net) (get_or sets k []) u) (sym e) (at u ut).1),
       λ same. all.reached.apart (row_after made 0 s) (row_after made 0 u) (at s st).0 (at u ut).0 (same_sets net is (get_or sets (row_after made 0 s) []) (get_or sets (row_after made 0 u) []) s u (at s st).1 (at u ut).1 same),
     );
-    reached = λ row lt.
-        let w = all.reached.reached row (omega (arith, all.listed.many)) in (
-          w.0,
-          w.1,
-          all.reached.apart (row_after made 0 w.0) row (at w.0 w.1).0 (omega (arith, all.listed.many))
-              (same_sets net is (get_or sets (row_after made 0 w.0) []) (get_or sets row []) w.0 w.0 (at w.0 w.1).1 w.2 (λ n q. (λ p. p, λ p. p))),
-        );
+    reached = reached;
     within = λ s text. omega (arith, (at s text).0, all.listed.many);
     appended = λ s u b st ut few e. appended s u b e;
     classes = has_classes;
+    numbered = λ s text. number_within l all.listed.listing (row_after made 0 s) (omega (arith, (at s text).0, all.listed.many));
+    apart = all.listed.listing.apart;
+    used = λ n lt.
+        let r = some_row l all.listed.listing n lt in
+        let w = reached r.0 r.1 in
+        (w.0, w.1, ap (list_number made) w.2 ∙ r.2);
   }
 
   -- what a run of the automaton needs
-  pub table : IsTable (record { classes = of; width = length bytes; cells = cells; lists = lists })
+  table : IsTable (record { classes = of; width = length bytes; cells = cells; listed = l.listed; lists = l.lists })
   table = record {
     some = omega (arith, all.reached.some, all.listed.many);
     wide = omega (arith, classes.division.within 0 (omega arith));
@@ -95,7 +108,24 @@ module _ (net : Net) (is : IsNetOf net) (sets : List (List ℕ)) (of bytes cells
     within = λ row class lt few.
         let lt' : row < length sets = omega (arith, lt, all.listed.many) in
         omega (arith, (all.filled row class few (subst (λ n. length bytes * row + class < n) (sym all.whole) (cell_below (length bytes) row (length sets) class lt' few))).within, all.listed.many);
+    numbered = number_within l all.listed.listing;
   }
+
+abbrev pub table_of : List ℕ → ℕ → List ℕ → List ℕ → List (List ℕ) → Table
+table_of of w cells listed lists = record { classes = of; width = w; cells = cells; listed = listed; lists = lists }
+
+-- tables with the same parts
+same_table : (of : List ℕ) (w v : ℕ) (xs ys ls ms : List ℕ) (us vs : List (List ℕ)) → w ≡ v → xs ≡ ys → ls ≡ ms → us ≡ vs → table_of of w xs ls us ≡ table_of of v ys ms vs
+same_table of w v xs ys ls ms us vs e f g h =
+    ap (λ z. table_of of z xs ls us) e ∙ ap (λ z. table_of of v z ls us) f ∙ ap (λ z. table_of of v ys z us) g ∙ ap (λ z. table_of of v ys ms z) h
+
+-- both of a table whose parts were copied
+pub built : (net : Net) (is : IsNetOf net) (sets : List (List ℕ)) (of bytes cells : List ℕ) (l : Listing) → AreClassesOf (patterns_of net) of bytes → IsExplored net sets bytes cells l →
+    (v : ℕ) (ys ms : List ℕ) (vs : List (List ℕ)) → length bytes ≡ v → ys ≡ cells → ms ≡ l.listed → vs ≡ l.lists →
+    IsTable (table_of of v ys ms vs) × IsAutomaton (patterns_of net) (table_of of v ys ms vs)
+built net is sets of bytes cells l classes all v ys ms vs e f g h =
+    let same = same_table of (length bytes) v cells ys l.listed ms l.lists vs e (sym f) (sym g) (sym h) in
+    (subst IsTable same (table net is sets of bytes cells l classes all), subst (IsAutomaton (patterns_of net)) same (automaton net is sets of bytes cells l classes all))
 
 -- one more byte of the text
 pub row_on : (t : Table) (text : List ℕ) (k row class next : ℕ) → IsTable t → k < length text → get_or text k 0 < 256 → row < rows_of t →

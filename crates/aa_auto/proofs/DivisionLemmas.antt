@@ -3,8 +3,11 @@ use Rattle.std.proofs.Common.{◌≡◌, ◌≢◌, ℕ, ◌+◌, ◌<◌, ◌�
 use Rattle.std.proofs.lemmas.List.{get_or_append_left, get_or_push, length_push, take_more}
 use Rattle.std.proofs.lemmas.Bool.{cases_lt}
 use Rattle.aa_items.specs.declared.item.Item.{Item}
+use Rattle.aa_items.specs.Steps.{Begins}
 use Rattle.aa_auto.specs.declared.nodes.Node.{Node}
-use Rattle.aa_auto.specs.Division.{GivesClass, Divides, IsDivision, IsSameItem, IsKey, AreKeys, Refines, RefinesBy, AreClasses}
+use Rattle.aa_auto.specs.declared.nodes.Node.TheVariants.{Start, After, Same, Join}
+use Rattle.aa_auto.specs.Nodes.{IsSameNode}
+use Rattle.aa_auto.specs.Division.{GivesClass, Divides, IsDivision, IsSameItem, IsKey, AreKeys, Refines, RefinesBy, AreClasses, TakesAlone, AreAlone, NotesAlone}
 use Rattle.aa_auto.proofs.SameLemmas.{AreSameNodes-append}
 
 module _ (keys : List ℕ) (n : ℕ) (of bytes : List ℕ) (class : ℕ) (all : Divides keys n of bytes) where
@@ -159,3 +162,15 @@ classes_more nodes k node old olds of bytes lt is front one =
 pub if_ok : {T E : Type 0} (r : Result T E) {P Q : T → Type 0} → ((x : T) → P x → Q x) → IfOk r P → IfOk r Q
 if_ok (Ok x) f p = f x p
 if_ok (Err e) f p = tt
+
+taken : (node : Node) (a b : ℕ) → TakesAlone node a → IsSameNode node b a → b ≡ a
+taken (After item) a b t s = (subst (λ (i : Item). Begins i a → Begins i b) t.0 s.0.1 (refl, t.1)).0
+taken Start a b t s = absurd t
+taken (Same k) a b t s = absurd t
+taken (Join k) a b t s = absurd t
+
+-- bytes that were alone are alone, and so is one that was told from all others
+pub alone_more : (node : Node) (old of bytes : List ℕ) (was alone : List Bool) → AreAlone old was → RefinesBy old of bytes node → NotesAlone node was alone → AreAlone of alone
+alone_more node old of bytes was alone before one notes a b la lb flag same =
+    let s = (one.same b a lb la).0 same in
+    ⊎_elim (λ e. before a b la lb e s.0) (λ t. taken node a b t s.1) (notes.flags a flag)

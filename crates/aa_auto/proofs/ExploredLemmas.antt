@@ -9,9 +9,11 @@ use Rattle.aa_auto.specs.Nets.{IsNetOf, patterns_of, heads_of, kept_of}
 use Rattle.aa_items.specs.Globs.{Matches}
 use Rattle.aa_patterns.specs.Places.{SamePlaces}
 use Rattle.aa_auto.specs.Apart.{IsApart}
+use Rattle.aa_auto.specs.Listed.{Listing, AddsRow, row_lists}
 use Rattle.aa_auto.specs.Spots.{IsSpotsOf}
 use Rattle.aa_auto.specs.Tables.{IsText, HasPlaces, ListsMatching}
 use Rattle.aa_auto.specs.Explored.{Follows, Lists, TakesSet, AreReached, AreListed, Goes}
+use Rattle.aa_auto.proofs.ListedLemmas.{many_rows}
 use Rattle.aa_auto.proofs.SortedLemmas.{same_rising}
 use Rattle.aa_auto.proofs.SpotsLemmas.{same_spots}
 use Rattle.aa_auto.proofs.MergeLemmas.{kept_at}
@@ -102,16 +104,20 @@ module _ (net : Net) where
       only zero lt = ([], All-nil (λ b. b < 256), set)
       only (suc row) lt = absurd (omega arith)
 
-  pub first_found : (was sets was_lists lists : List (List ℕ)) (x : List ℕ) (i : ℕ) → was ≡ [] → was_lists ≡ [] → Follows net None [] x → slice_get sets i ≡ Some x →
+  pub first_found : (was sets : List (List ℕ)) (was_lists lists : Listing) (x : List ℕ) (i : ℕ) → was ≡ [] → was_lists ≡ record { lists = []; listed = [] } → Follows net None [] x → slice_get sets i ≡ Some x →
       TakesSet net x was sets was_lists lists → IsApart sets → AreReached net sets × AreListed net sets lists × (length sets ≡ 1)
   first_found was sets was_lists lists x i none none_lists follows found takes apart =
       ⊎_elim
       (λ (e : (sets ≡ was) × (lists ≡ was_lists)). absurd (cc (subst (λ z. slice_get z i ≡ Some x) (e.0 ∙ none) found)))
-      (λ (e : (numbers : List ℕ) × (sets ≡ was ++ x ∷ []) × (lists ≡ was_lists ++ numbers ∷ []) × Lists net x numbers).
+      (λ (e : (numbers : List ℕ) × (sets ≡ was ++ x ∷ []) × AddsRow was_lists lists numbers × Lists net x numbers).
       let one : sets ≡ x ∷ [] = e.1 ∙ ap (λ z. z ++ x ∷ []) none in
-      let one_list : lists ≡ e.0 ∷ [] = e.2 ∙ ap (λ z. z ++ e.0 ∷ []) none_lists in (
+      let one_list : row_lists lists ≡ e.0 ∷ [] = e.2.lists ∙ ap (λ z. row_lists z ++ e.0 ∷ []) none_lists in (
         first_reached sets x one apart (start_set x follows),
-        subst (λ z. AreListed net z lists) (sym one) (subst (λ z. AreListed net (x ∷ []) z) (sym one_list) (record { many = refl; exact = only e.0 e.3 })),
+        subst (λ z. AreListed net z lists) (sym one) (record {
+          many = sym (many_rows lists) ∙ ap length one_list;
+          listing = e.2.listing;
+          exact = λ row s lt set. subst (λ z. ListsMatching (patterns_of net) s (get_or z row [])) (sym one_list) (only e.0 e.3 row s lt set);
+        }),
         ap length one,
       ))
       takes
@@ -171,26 +177,33 @@ module _ (net : Net) where
             grows)
             (cases_lt r (length old))
 
-    pub still_listed : (was_lists lists : List (List ℕ)) → AreListed net old was_lists → TakesSet net x old new was_lists lists → AreListed net new lists
+    pub still_listed : (was_lists lists : Listing) → AreListed net old was_lists → TakesSet net x old new was_lists lists → AreListed net new lists
     still_listed was_lists lists listed either =
         ⊎_elim
         (λ (e : (new ≡ old) × (lists ≡ was_lists)). subst (λ z. AreListed net z lists) (sym e.0) (subst (λ z. AreListed net old z) (sym e.1) listed))
-        (λ (e : (numbers : List ℕ) × (new ≡ old ++ x ∷ []) × (lists ≡ was_lists ++ numbers ∷ []) × Lists net x numbers).
-        subst (λ z. AreListed net z lists) (sym e.1) (subst (λ z. AreListed net (old ++ x ∷ []) z) (sym e.2) (record { many = many e.0; exact = exact e.0 e.3 })))
+        (λ (e : (numbers : List ℕ) × (new ≡ old ++ x ∷ []) × AddsRow was_lists lists numbers × Lists net x numbers).
+        subst (λ z. AreListed net z lists) (sym e.1) (record {
+          many = sym (many_rows lists) ∙ ap length e.2.lists ∙ many e.0;
+          listing = e.2.listing;
+          exact = λ r s lt set. subst (λ z. ListsMatching (patterns_of net) s (get_or z r [])) (sym e.2.lists) (exact e.0 e.3 r s lt set);
+        }))
         either
       where
-        many : (numbers : List ℕ) → length (was_lists ++ numbers ∷ []) ≡ length (old ++ x ∷ [])
-        many numbers = omega (arith, listed.many, length-append was_lists (numbers ∷ []), length-append old (x ∷ []))
+        as_many : length (row_lists was_lists) ≡ length old
+        as_many = many_rows was_lists ∙ listed.many
 
-        exact : (numbers : List ℕ) → Lists net x numbers → (r : ℕ) (s : List ℕ) → r < length (old ++ x ∷ []) → IsSpotsOf (kept_of net) (get_or (old ++ x ∷ []) r []) s → ListsMatching (patterns_of net) s (get_or (was_lists ++ numbers ∷ []) r [])
+        many : (numbers : List ℕ) → length (row_lists was_lists ++ numbers ∷ []) ≡ length (old ++ x ∷ [])
+        many numbers = omega (arith, as_many, length-append (row_lists was_lists) (numbers ∷ []), length-append old (x ∷ []))
+
+        exact : (numbers : List ℕ) → Lists net x numbers → (r : ℕ) (s : List ℕ) → r < length (old ++ x ∷ []) → IsSpotsOf (kept_of net) (get_or (old ++ x ∷ []) r []) s → ListsMatching (patterns_of net) s (get_or (row_lists was_lists ++ numbers ∷ []) r [])
         exact numbers of_x r s lt set =
             ⊎_elim
             (λ (l : r < length old).
-            subst (ListsMatching (patterns_of net) s) (sym (get_or_append_left was_lists (numbers ∷ []) [] r (omega (arith, listed.many))))
+            subst (ListsMatching (patterns_of net) s) (sym (get_or_append_left (row_lists was_lists) (numbers ∷ []) [] r (omega (arith, as_many))))
             (listed.exact r s l (subst (λ z. IsSpotsOf (kept_of net) z s) (get_or_append_left old (x ∷ []) [] r l) set)))
             (λ (g : length old ≤ r).
             let last : length old ≡ r = omega (arith, length-append old (x ∷ [])) in
-            subst (ListsMatching (patterns_of net) s) (sym (get_or_push was_lists numbers [] r (listed.many ∙ last)))
+            subst (ListsMatching (patterns_of net) s) (sym (get_or_push (row_lists was_lists) numbers [] r (as_many ∙ last)))
             (of_x.lists s (subst (λ z. IsSpotsOf (kept_of net) z s) (get_or_push old x [] r last) set)))
             (cases_lt r (length old))
 
@@ -224,7 +237,7 @@ module _ (net : Net) where
       is_set : (i : ℕ) → i < length sets → IsSpotsOf (kept_of net) (get_or sets i []) (get_or (listed text (length sets)) i [])
       is_set i lt = subst (IsSpotsOf (kept_of net) (get_or sets i [])) (sym (get_or-listed text (length sets) i lt)) ((pick i).1 lt).1
 
-pub grown_sets : (net : Net) (x : List ℕ) (old new was_lists lists : List (List ℕ)) → TakesSet net x old new was_lists lists → (new ≡ old) ⊎ (new ≡ old ++ x ∷ [])
+pub grown_sets : (net : Net) (x : List ℕ) (old new : List (List ℕ)) (was_lists lists : Listing) → TakesSet net x old new was_lists lists → (new ≡ old) ⊎ (new ≡ old ++ x ∷ [])
 grown_sets net x old new was_lists lists s =
     ⊎_elim (λ (p : (new ≡ old) × (lists ≡ was_lists)). inl p.0)
-    (λ (p : (numbers : List ℕ) × (new ≡ old ++ x ∷ []) × (lists ≡ was_lists ++ numbers ∷ []) × Lists net x numbers). inr p.1) s
+    (λ (p : (numbers : List ℕ) × (new ≡ old ++ x ∷ []) × AddsRow was_lists lists numbers × Lists net x numbers). inr p.1) s

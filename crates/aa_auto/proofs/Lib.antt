@@ -16,6 +16,7 @@ pub mod NotedLemmas
 pub mod NetLemmas
 pub mod NetParts
 pub mod SetsLemmas
+pub mod ListedLemmas
 pub mod ExploredLemmas
 pub mod CellLemmas
 pub mod AutomatonLemmas

@@ -1,8 +1,10 @@
 -- Bytes that are divided into classes.
-use Rattle.std.specs.Prelude.{◌≡◌, ◌≢◌, ◌↔◌, ◌⊎◌, ℕ, ◌+◌, ◌*◌, ◌<◌, ◌≤◌, Bool, IsTrue, if◌then◌else◌, List, [], ◌∷◌, ◌++◌, length, slice_index}
-use Rattle.aa_items.specs.declared.item.Item.{Item}
+use Rattle.std.specs.Prelude.{◌≡◌, ◌≢◌, ◌↔◌, ◌⊎◌, ℕ, ◌+◌, ◌*◌, ◌<◌, ◌≤◌, Bool, false, true, IsTrue, if◌then◌else◌, List, [], ◌∷◌, ◌++◌, length, slice_index, slice_index_or}
+use Rattle.aa_items.specs.declared.item.Item.{Item, Byte}
+use Rattle.aa_items.specs.Globs.{IsNonzeroByte}
 use Rattle.aa_patterns.specs.declared.pattern.Pattern.{Pattern}
 use Rattle.aa_auto.specs.declared.nodes.Node.{Node}
+use Rattle.aa_auto.specs.declared.nodes.Node.TheVariants.{After}
 use Rattle.aa_items.specs.Steps.{Begins, Continues}
 use Rattle.aa_auto.specs.Classes.{IsSame}
 use Rattle.aa_auto.specs.Nodes.{IsSameNode, AreSameNodes}
@@ -61,3 +63,17 @@ pub record AreClasses (nodes : List Node) (of bytes : List ℕ) : Type 0 where
 pub record AreClassesOf (ps : List Pattern) (of bytes : List ℕ) : Type 0 where
   pub division : IsDivision of bytes
   pub same : (a b : ℕ) → a < 256 → b < 256 → (slice_index of a ≡ slice_index of b) ↔ IsSame ps a b
+
+-- the item before the position takes this byte and no other
+abbrev pub TakesAlone : Node → ℕ → Type 0
+TakesAlone (After item) b = (item.now ≡ Byte b) × IsNonzeroByte b
+TakesAlone _ b = ⊥
+
+-- each byte with a flag is the only one of its class
+abbrev pub AreAlone : List ℕ → List Bool → Type 0
+AreAlone of alone = (a b : ℕ) → a < 256 → b < 256 → slice_index_or alone a false ≡ true → slice_index of b ≡ slice_index of a → b ≡ a
+
+-- the byte that the item before the position takes alone may have a flag, too
+pub record NotesAlone (node : Node) (old new : List Bool) : Type 0 where
+  pub many : length new ≡ length old
+  pub flags : (b : ℕ) → slice_index_or new b false ≡ true → (slice_index_or old b false ≡ true) ⊎ TakesAlone node b

@@ -2,6 +2,7 @@
 use Rattle.std.specs.Prelude.{◌≡◌, ℕ, ◌+◌, ◌*◌, ◌<◌, ◌⊎◌, Option, List, [], ◌∷◌, ◌++◌, length, slice_index, slice_index_or}
 use Rattle.aa_auto.specs.declared.net.Net.{Net}
 use Rattle.aa_auto.specs.Apart.{IsApart}
+use Rattle.aa_auto.specs.Listed.{Listing, IsListing, AddsRow, row_lists}
 use Rattle.aa_auto.specs.Nets.{patterns_of, kept_of}
 use Rattle.aa_auto.specs.Spots.{IsSpotsOf, Leads, Stood}
 use Rattle.aa_auto.specs.Tables.{IsText, ListsMatching}
@@ -15,10 +16,10 @@ pub record Lists (net : Net) (set numbers : List ℕ) : Type 0 where
   pub lists : (t : List ℕ) → IsSpotsOf (kept_of net) set t → ListsMatching (patterns_of net) t numbers
 
 -- the set was there, or it was added with its numbers
-abbrev pub TakesSet : Net → List ℕ → List (List ℕ) → List (List ℕ) → List (List ℕ) → List (List ℕ) → Type 0
+abbrev pub TakesSet : Net → List ℕ → List (List ℕ) → List (List ℕ) → Listing → Listing → Type 0
 TakesSet net set old new was_lists lists =
     ((new ≡ old) × (lists ≡ was_lists))
-    ⊎ ((numbers : List ℕ) × (new ≡ old ++ set ∷ []) × (lists ≡ was_lists ++ numbers ∷ []) × Lists net set numbers)
+    ⊎ ((numbers : List ℕ) × (new ≡ old ++ set ∷ []) × AddsRow was_lists lists numbers × Lists net set numbers)
 
 -- different sets, each of some text, the first one of the empty text
 pub record AreReached (net : Net) (sets : List (List ℕ)) : Type 0 where
@@ -43,13 +44,14 @@ abbrev pub Extends : List (List ℕ) → List (List ℕ) → Type 0
 Extends old new = (more : List (List ℕ)) × (new ≡ old ++ more)
 
 -- of each set, the numbers of the patterns that match
-pub record AreListed (net : Net) (sets lists : List (List ℕ)) : Type 0 where
-  pub many : length lists ≡ length sets
-  pub exact : (row : ℕ) (s : List ℕ) → row < length sets → IsSpotsOf (kept_of net) (slice_index_or sets row []) s → ListsMatching (patterns_of net) s (slice_index_or lists row [])
+pub record AreListed (net : Net) (sets : List (List ℕ)) (l : Listing) : Type 0 where
+  pub many : length l.listed ≡ length sets
+  pub listing : IsListing l
+  pub exact : (row : ℕ) (s : List ℕ) → row < length sets → IsSpotsOf (kept_of net) (slice_index_or sets row []) s → ListsMatching (patterns_of net) s (slice_index_or (row_lists l) row [])
 
 -- each set has its cells and its list
-pub record IsExplored (net : Net) (sets : List (List ℕ)) (bytes cells : List ℕ) (lists : List (List ℕ)) : Type 0 where
+pub record IsExplored (net : Net) (sets : List (List ℕ)) (bytes cells : List ℕ) (l : Listing) : Type 0 where
   pub reached : AreReached net sets
   pub filled : AreFilled net sets bytes cells
-  pub listed : AreListed net sets lists
+  pub listed : AreListed net sets l
   pub whole : length cells ≡ length bytes * length sets

@@ -7,7 +7,7 @@ pub mod Closed
 pub mod Division
 pub mod Explored
 pub mod Finals
-pub mod Found
+pub mod Listed
 pub mod Merged
 pub mod Nets
 pub mod Nodes

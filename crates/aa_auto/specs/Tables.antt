@@ -4,24 +4,30 @@ use Rattle.std.specs.List.Sorted.{IsStrictlyIncreasing}
 use Rattle.aa_patterns.specs.declared.pattern.Pattern.{Pattern}
 use Rattle.aa_items.specs.Globs.{Matches}
 use Rattle.aa_patterns.specs.Places.{SamePlaces}
+use Rattle.aa_auto.specs.Apart.{IsApart}
 use Rattle.aa_auto.specs.Classes.{IsSame}
 
--- the class of each byte; `width` cells a row, the row after the bytes of each class; and of each row, the numbers of the patterns that match
+-- the class of each byte; `width` cells a row, the row after the bytes of each class; of each row, the number of its list; and the lists, each of
+-- the numbers of the patterns that match
 pub record Table : Type 0 where
   pub classes : List ℕ
   pub width : ℕ
   pub cells : List ℕ
+  pub listed : List ℕ
   pub lists : List (List ℕ)
 
 abbrev pub rows_of : Table → ℕ
-rows_of t = length t.lists
+rows_of t = length t.listed
 
 -- how many classes of bytes there are
 abbrev pub classes_of : Table → ℕ
 classes_of t = t.width
 
+abbrev pub list_number : Table → ℕ → ℕ
+list_number t row = slice_index_or t.listed row 0
+
 abbrev pub list_at : Table → ℕ → List ℕ
-list_at t row = slice_index_or t.lists row []
+list_at t row = slice_index_or t.lists (list_number t row) []
 
 -- the row that the text leads to
 abbrev pub row_after : Table → ℕ → List ℕ → ℕ
@@ -61,6 +67,10 @@ pub record IsAutomaton (ps : List Pattern) (t : Table) : Type 0 where
   pub appended : (s u : List ℕ) (b : ℕ) → IsText s → IsText u → b < 256 → place_of t s ≡ place_of t u → place_of t (s ++ b ∷ []) ≡ place_of t (u ++ b ∷ [])
   -- as many classes as the items tell apart
   pub classes : HasClasses ps (classes_of t)
+  -- each text's row has a list; rows with equal lists share one, and each list is some text's
+  pub numbered : (s : List ℕ) → IsText s → list_number t (place_of t s) < length t.lists
+  pub apart : IsApart t.lists
+  pub used : (n : ℕ) → n < length t.lists → (s : List ℕ) × IsText s × (list_number t (place_of t s) ≡ n)
 
 -- bytes that no item tells apart lead from each text to the same places
 abbrev pub BytesLeadAlike : List Pattern → Type 0
@@ -73,7 +83,7 @@ pub record HasPlaces (ps : List Pattern) (n : ℕ) : Type 0 where
   pub bytes : All IsText texts
   pub apart : (i j : ℕ) → i < n → j < n → SamePlaces ps (slice_index_or texts i []) (slice_index_or texts j []) → i ≡ j
 
--- whole rows, whose cells name rows
+-- whole rows, whose cells name rows, each with a list
 pub record IsTable (t : Table) : Type 0 where
   pub some : 0 < rows_of t
   pub wide : 0 < t.width
@@ -82,3 +92,4 @@ pub record IsTable (t : Table) : Type 0 where
   pub classed : (b : ℕ) → b < 256 → slice_index t.classes b < t.width
   pub whole : length t.cells ≡ t.width * rows_of t
   pub within : (row class : ℕ) → row < rows_of t → class < t.width → slice_index t.cells (t.width * row + class) < rows_of t
+  pub numbered : (row : ℕ) → row < rows_of t → list_number t row < length t.lists

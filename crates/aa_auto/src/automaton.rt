@@ -1,9 +1,9 @@
 //! The automaton: a table of rows over classes of bytes, and what it answers of a text.
 
-ghost use Rattle.std.specs.Prelude.{◌≡◌, ◌+◌, ◌<◌, ◌≤◌, IfOk, Err, length};
+ghost use Rattle.std.specs.Prelude.{◌≡◌, ◌+◌, ◌<◌, ◌≤◌, IfOk, Err, [], length, slice_index_or};
 ghost use Rattle.aa_patterns.specs.Places.{DecideNext};
 ghost use Rattle.aa_auto.specs.Nodes.{pointed};
-ghost use Rattle.aa_auto.specs.Tables.{IsAutomaton, BytesLeadAlike, HasPlaces, rows_of, classes_of, place_of, list_at};
+ghost use Rattle.aa_auto.specs.Tables.{IsAutomaton, BytesLeadAlike, HasPlaces, rows_of, classes_of, place_of, list_number, list_at};
 
 use crate::build::{BuildFault, Found, explore};
 use crate::classes::Classes;
@@ -21,7 +21,9 @@ pub struct Automaton {
     width: usize,
     /// The row after a byte of each class, row by row.
     cells: Vec<u32>,
-    /// The patterns that match where a text leads to the row.
+    /// Of each row, the number of its list.
+    listed: Vec<u32>,
+    /// Lists of the patterns that match where a text leads to a row; rows with equal ones share it.
     lists: Vec<Vec<u16>>,
 }
 
@@ -31,9 +33,9 @@ impl Model for Automaton {
 
     ghost Value = { Table };
 
-    ghost view = { λ a. record { classes = a.classes.items; width = a.width; cells = a.cells.items; lists = map (λ v. v.items) a.lists.items } };
+    ghost view = { λ a. record { classes = a.classes.items; width = a.width; cells = a.cells.items; listed = a.listed.items; lists = map (λ v. v.items) a.lists.items } };
 
-    ghost invariant = { λ a. IsTable (record { classes = a.classes.items; width = a.width; cells = a.cells.items; lists = map (λ v. v.items) a.lists.items }) };
+    ghost invariant = { λ a. IsTable (record { classes = a.classes.items; width = a.width; cells = a.cells.items; listed = a.listed.items; lists = map (λ v. v.items) a.lists.items }) };
 }
 
 impl Automaton {
@@ -73,13 +75,16 @@ impl Automaton {
     {
         let net = net_of(alloc, patterns)?;
         let classes = net.classes(alloc)?;
-        let (found, cells) = explore(alloc, &net, classes.bytes.as_slice(), limit)?;
+        let (found, mut cells) = explore(alloc, &net, classes.bytes.as_slice(), limit)?;
         let Found { lists, .. } = found;
+        let (lists, listed) = lists.into_parts(alloc)?;
+        cells.shrink_to_fit();
         let Classes { of, bytes } = classes;
         Ok(Automaton {
             classes: of,
             width: bytes.len(),
             cells,
+            listed,
             lists,
         })
     }
@@ -109,14 +114,38 @@ impl Automaton {
         requires { row < rows_of self.now }
         ensures { result.now ≡ list_at self.now row }
     {
-        self.lists[row].as_slice()
+        self.list(self.list_of(row))
+    }
+
+    /// The number of the row's list. Rows have one where `matching` gives the same for their texts.
+    pub fn list_of(&self, row: usize) -> usize
+        requires { row < rows_of self.now }
+        ensures number { result ≡ list_number self.now row }
+        ensures within { result < length self.now.lists }
+    {
+        self.listed[row] as usize
+    }
+
+    /// How many different lists `matching` gives.
+    pub fn lists(&self) -> usize
+        ensures { result ≡ length self.now.lists }
+    {
+        self.lists.len()
+    }
+
+    /// The list with this number.
+    pub fn list(&self, number: usize) -> &[u16]
+        requires { number < length self.now.lists }
+        ensures { result.now ≡ slice_index_or self.now.lists number [] }
+    {
+        self.lists[number].as_slice()
     }
 
     /// How many rows there are: one for each set of places that a text has, also for the empty one.
     pub fn rows(&self) -> usize
         ensures { result ≡ rows_of self.now }
     {
-        self.lists.len()
+        self.listed.len()
     }
 
     /// How many classes of bytes the patterns tell apart.

@@ -3,11 +3,12 @@
 ghost use Rattle.std.specs.Prelude.{◌≡◌, ◌+◌, ◌*◌, ◌<◌, ◌≤◌, ◌++◌, ℕ, Contains, IfOk, IfErr, OnOk, Err, length, slice_get, slice_index_or, [], Some};
 ghost use Rattle.aa_auto.specs.Apart.{IsApart};
 ghost use Rattle.aa_auto.specs.Explored.{AreReached, AreFilled, AreListed, Goes, Extends, IsExplored, TakesSet};
-ghost use Rattle.aa_auto.specs.Found.{numbers_of};
+ghost use Rattle.aa_auto.specs.Listed.{IsListing};
 ghost use Rattle.aa_auto.specs.Nets.{IsNetOf, patterns_of};
 ghost use Rattle.aa_auto.specs.Noted.{AreNoted};
 ghost use Rattle.aa_auto.specs.Tables.{HasPlaces};
 
+use crate::lists::Lists;
 use crate::net::Net;
 use crate::noted::Noted;
 use crate::sets::Sets;
@@ -51,7 +52,7 @@ impl<T: Drop> From<AllocFailed<T>> for BuildFault {
 #[derive(Drop)]
 pub(crate) struct Found {
     pub(crate) sets: Sets,
-    pub(crate) lists: Vec<Vec<u16>>,
+    pub(crate) lists: Lists,
 }
 
 impl Found {
@@ -59,8 +60,10 @@ impl Found {
     fn add(&mut self, alloc: Global, net: &Net, set: Vec<u32>) -> Result<usize, BuildFault>
         requires net { IsNetOf net.now }
         requires set { (n : ℕ) → Contains set.items n → n < length net.now.nodes.items }
+        requires listing { IsListing self.old.lists }
+        requires few { length self.old.lists.listed < 4294967295 }
         ensures found { IfOk result (λ next. slice_get self.new.sets next ≡ Some set.items) }
-        ensures grows { OnOk result (TakesSet net.now set.items self.old.sets self.new.sets (numbers_of self.old) (numbers_of self.new)) }
+        ensures grows { OnOk result (TakesSet net.now set.items self.old.sets self.new.sets self.old.lists self.new.lists) }
         ensures apart { OnOk result (IsApart self.new.sets) }
         ensures err { IfErr result (λ e. e ≡ BuildFault.NoMemory) }
     {
@@ -72,7 +75,7 @@ impl Found {
             unreachable!()
         };
         let numbers = net.numbers(alloc, added)?;
-        self.lists.push(numbers)?;
+        self.lists.add(numbers)?;
         Ok(next)
     }
 }
@@ -88,11 +91,12 @@ fn next_row(
 ) -> Result<usize, BuildFault>
     requires net { IsNetOf net.now }
     requires reached { AreReached net.now found.old.sets }
-    requires listed { AreListed net.now found.old.sets (numbers_of found.old) }
+    requires listed { AreListed net.now found.old.sets found.old.lists }
     requires row { row < length found.old.sets }
     requires few { length found.old.sets ≤ limit }
+    requires limit { limit ≤ 1000000 }
     ensures reached { OnOk result (AreReached net.now found.new.sets) }
-    ensures listed { OnOk result (AreListed net.now found.new.sets (numbers_of found.new)) }
+    ensures listed { OnOk result (AreListed net.now found.new.sets found.new.lists) }
     ensures goes { IfOk result (λ next. Goes net.now found.new.sets row byte next) }
     ensures extends { OnOk result (Extends found.old.sets found.new.sets) }
     ensures few { OnOk result (length found.new.sets ≤ limit) }
@@ -138,13 +142,14 @@ fn cell_of(
 ) -> Result<usize, BuildFault>
     requires net { IsNetOf net.now }
     requires reached { AreReached net.now found.old.sets }
-    requires listed { AreListed net.now found.old.sets (numbers_of found.old) }
+    requires listed { AreListed net.now found.old.sets found.old.lists }
     requires row { row < length found.old.sets }
     requires few { length found.old.sets ≤ limit }
+    requires limit { limit ≤ 1000000 }
     requires usual { Goes net.now found.old.sets row 255 next }
     requires noted { AreNoted net.now.nodes.items (slice_index_or found.old.sets row []) noted.now.named.items noted.now.asked.items }
     ensures reached { OnOk result (AreReached net.now found.new.sets) }
-    ensures listed { OnOk result (AreListed net.now found.new.sets (numbers_of found.new)) }
+    ensures listed { OnOk result (AreListed net.now found.new.sets found.new.lists) }
     ensures goes { IfOk result (λ cell. Goes net.now found.new.sets row byte cell) }
     ensures extends { OnOk result (Extends found.old.sets found.new.sets) }
     ensures few { OnOk result (length found.new.sets ≤ limit) }
@@ -168,14 +173,14 @@ fn fill_row(
 ) -> Result<(), BuildFault>
     requires net { IsNetOf net.now }
     requires reached { AreReached net.now found.old.sets }
-    requires listed { AreListed net.now found.old.sets (numbers_of found.old) }
+    requires listed { AreListed net.now found.old.sets found.old.lists }
     requires row { row < length found.old.sets }
     requires few { length found.old.sets ≤ limit }
     requires limit { limit ≤ 1000000 }
     requires filled { AreFilled net.now found.old.sets bytes.now cells.old.items }
     requires cells { length cells.old.items ≡ length bytes.now * row }
     ensures reached { OnOk result (AreReached net.now found.new.sets) }
-    ensures listed { OnOk result (AreListed net.now found.new.sets (numbers_of found.new)) }
+    ensures listed { OnOk result (AreListed net.now found.new.sets found.new.lists) }
     ensures filled { OnOk result (AreFilled net.now found.new.sets bytes.now cells.new.items) }
     ensures cells { OnOk result (length cells.new.items ≡ length bytes.now * (row + 1)) }
     ensures row { OnOk result (row < length found.new.sets) }
@@ -201,13 +206,13 @@ pub(crate) fn explore(
     requires net { IsNetOf net.now }
     requires some { 0 < limit }
     requires limit { limit ≤ 1000000 }
-    ensures explored { IfOk result (λ r. IsExplored net.now r.0.sets bytes.now r.1.items (numbers_of r.0)) }
+    ensures explored { IfOk result (λ r. IsExplored net.now r.0.sets bytes.now r.1.items r.0.lists) }
     ensures few { IfOk result (λ r. length r.0.sets ≤ limit) }
     ensures too_many { result ≡ Err BuildFault.TooManyStates → HasPlaces (patterns_of net.now) (limit + 1) }
 {
     let mut found = Found {
         sets: Sets::new(alloc),
-        lists: Vec::new(alloc),
+        lists: Lists::new(alloc),
     };
     let mut cells = Vec::new(alloc);
     let start = net.start(alloc)?;

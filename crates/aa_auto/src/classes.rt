@@ -1,7 +1,7 @@
 //! Bytes that no item of the patterns tells apart.
 
-ghost use Rattle.std.specs.Prelude.{◌≡◌, ◌≢◌, ◌↔◌, ◌+◌, ◌<◌, ◌≤◌, ℕ, All, IsTrue, IfOk, length, slice_index, if◌then◌else◌};
-ghost use Rattle.aa_auto.specs.Division.{GivesClass, Divides, IsKey, AreKeys, IsSameItem, IsDivision, Refines, RefinesBy, AreClasses};
+ghost use Rattle.std.specs.Prelude.{◌≡◌, ◌≢◌, ◌↔◌, ◌+◌, ◌<◌, ◌≤◌, ℕ, All, IsTrue, IfOk, length, slice_index, if◌then◌else◌, false};
+ghost use Rattle.aa_auto.specs.Division.{GivesClass, Divides, IsKey, AreKeys, IsSameItem, IsDivision, Refines, RefinesBy, AreClasses, AreAlone, NotesAlone};
 
 use crate::nodes::Node;
 use aa_items::{Item, begins, continues};
@@ -108,18 +108,31 @@ fn refine(alloc: Global, of: &[u8], item: &Item) -> Result<Classes, AllocError>
     divide(alloc, keys.as_slice())
 }
 
-/// Whether no other byte is of the byte's class.
-fn is_alone(of: &[u8], byte: u8) -> bool
-    requires { length of.now ≡ 256 }
-    ensures { IsTrue result → (b : ℕ) → b < 256 → slice_index of.now b ≡ slice_index of.now byte → b ≡ byte }
+/// No flag for any byte.
+fn no_flags(alloc: Global) -> Result<Vec<bool>, AllocError>
+    ensures many { IfOk result (λ flags. length flags.items ≡ 256) }
+    ensures none { IfOk result (λ flags. All (λ f. f ≡ false) flags.items) }
 {
-    let class = of[byte as usize];
-    for (other, own) in of.iter().enumerate() {
-        if *own == class && other != byte as usize {
-            return false;
+    let mut flags = Vec::new(alloc);
+    for _byte in 0..256u16 {
+        flags.push(false)?;
+    }
+    Ok(flags)
+}
+
+/// Notes the byte that the item before the position takes alone, if there is one.
+fn note_alone(alone: &mut Vec<bool>, node: &Node)
+    requires { length alone.old.items ≡ 256 }
+    ensures { NotesAlone node.now alone.old.items alone.new.items }
+{
+    let Node::After(item) = node else {
+        return;
+    };
+    if let Item::Byte(own) = item {
+        if *own != 0 {
+            alone[*own as usize] = true;
         }
     }
-    true
 }
 
 /// Whether the item accepts both bytes or neither.
@@ -143,13 +156,15 @@ fn agrees_on_all(of: &[u8], bytes: &[u8], item: &Item) -> bool
     true
 }
 
-/// Whether the item tells no bytes of one class apart.
-fn is_refined(of: &[u8], bytes: &[u8], item: &Item) -> bool
-    requires { IsDivision of.now bytes.now }
+/// Whether the item tells no bytes of one class apart, where the flags say which bytes are alone in theirs.
+fn is_refined(of: &[u8], bytes: &[u8], alone: &[bool], item: &Item) -> bool
+    requires division { IsDivision of.now bytes.now }
+    requires many { length alone.now ≡ 256 }
+    requires alone { AreAlone of.now alone.now }
     ensures { IsTrue result → (a b : ℕ) → a < 256 → b < 256 → slice_index of.now a ≡ slice_index of.now b → IsSameItem item.now a b }
 {
     if let Item::Byte(byte) = item {
-        if is_alone(of, *byte) {
+        if alone[*byte as usize] {
             return true;
         }
     }
@@ -157,14 +172,21 @@ fn is_refined(of: &[u8], bytes: &[u8], item: &Item) -> bool
 }
 
 /// The classes, each divided by what the item before the position tells apart.
-fn refined(alloc: Global, classes: Classes, node: &Node) -> Result<Classes, AllocError>
-    requires { IsDivision classes.of.items classes.bytes.items }
+fn refined(
+    alloc: Global,
+    classes: Classes,
+    alone: &[bool],
+    node: &Node,
+) -> Result<Classes, AllocError>
+    requires division { IsDivision classes.of.items classes.bytes.items }
+    requires many { length alone.now ≡ 256 }
+    requires alone { AreAlone classes.of.items alone.now }
     ensures { IfOk result (λ new. RefinesBy classes.of.items new.of.items new.bytes.items node.now) }
 {
     let Node::After(item) = node else {
         return Ok(classes);
     };
-    if is_refined(classes.of.as_slice(), classes.bytes.as_slice(), item) {
+    if is_refined(classes.of.as_slice(), classes.bytes.as_slice(), alone, item) {
         return Ok(classes);
     }
     refine(alloc, classes.of.as_slice(), item)
@@ -176,8 +198,10 @@ pub(crate) fn classes_of(alloc: Global, nodes: &[Node]) -> Result<Classes, Alloc
 {
     let keys = equal_keys(alloc)?;
     let mut classes = divide(alloc, keys.as_slice())?;
+    let mut alone = no_flags(alloc)?;
     for node in nodes {
-        classes = refined(alloc, classes, node)?;
+        classes = refined(alloc, classes, alone.as_slice(), node)?;
+        note_alone(&mut alone, node);
     }
     Ok(classes)
 }

@@ -7,6 +7,7 @@ mod classes;
 mod closing;
 mod finals;
 mod jumps;
+mod lists;
 mod merging;
 mod moves;
 mod net;

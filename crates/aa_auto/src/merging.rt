@@ -54,6 +54,20 @@ fn agree_on_all(a: &Item, b: &Item) -> bool
     true
 }
 
+/// Whether both are the same star, or question marks.
+fn are_same_stars(a: &Item, b: &Item) -> bool
+    ensures { IsTrue result → IsAlike a.now b.now }
+{
+    match a {
+        Item::One => matches!(b, Item::One),
+        Item::Run => matches!(b, Item::Run),
+        Item::RunOne => matches!(b, Item::RunOne),
+        Item::Deep => matches!(b, Item::Deep),
+        Item::DeepOne => matches!(b, Item::DeepOne),
+        _ => false,
+    }
+}
+
 /// Whether the items, which are no choices, allow the same parts.
 fn is_alike(a: &Item, b: &Item) -> bool
     ensures { IsTrue result → IsAlike a.now b.now }
@@ -63,7 +77,7 @@ fn is_alike(a: &Item, b: &Item) -> bool
             return own == other;
         }
     }
-    is_skippable(a) == is_skippable(b) && agree_on_all(a, b)
+    are_same_stars(a, b) || is_skippable(a) == is_skippable(b) && agree_on_all(a, b)
 }
 
 /// Whether the position is the other, or is named as the same.
@@ -109,12 +123,9 @@ fn has_start(nodes: &[Node]) -> bool
     }
 }
 
-/// A number that differs for most items.
-fn code_of(item: &Item) -> u64 {
-    if let Item::Byte(byte) = item {
-        return *byte as u64;
-    }
-    let mut code: u64 = 256;
+/// A number that differs for most sets of bytes that items allow.
+fn code_of_bytes(item: &Item) -> u64 {
+    let mut code: u64 = 512;
     for byte in 0..256u16 {
         if begins(item, byte as u8) {
             code = code.wrapping_mul(31).wrapping_add(byte as u64);
@@ -124,6 +135,19 @@ fn code_of(item: &Item) -> u64 {
         }
     }
     code
+}
+
+/// A number that differs for most items.
+fn code_of(item: &Item) -> u64 {
+    match item {
+        Item::Byte(byte) => *byte as u64,
+        Item::One => 256,
+        Item::Run => 257,
+        Item::RunOne => 258,
+        Item::Deep => 259,
+        Item::DeepOne => 260,
+        _ => code_of_bytes(item),
+    }
 }
 
 /// Where a head with the source and the code may be found.

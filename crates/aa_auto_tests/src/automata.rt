@@ -39,6 +39,24 @@ fn lists_all_patterns_that_match(rt: HostRuntime) -> Result<(), Fail> {
 }
 
 #[test]
+fn rows_with_equal_lists_share_one(rt: HostRuntime) -> Result<(), Fail> {
+    let plain = automaton(&rt, rt.alloc(), &[b"/etc/passwd"], 13)?;
+    assert_eq!(rt; plain.lists(), 2);
+    assert_eq!(rt;
+        plain.list_of(plain.place(b"/etc")),
+        plain.list_of(plain.place(b"/e"))
+    );
+    let nested = automaton(&rt, rt.alloc(), &[b"/a*", b"/ab", b"/**"], 100)?;
+    assert_eq!(rt; nested.lists(), 4);
+    assert_eq!(rt;
+        nested.list_of(nested.place(b"/abc")),
+        nested.list_of(nested.place(b"/ac"))
+    );
+    assert!(rt; nested.list_of(nested.place(b"/ab")) != nested.list_of(nested.place(b"/abc")));
+    Ok(())
+}
+
+#[test]
 fn no_pattern_has_one_row(rt: HostRuntime) -> Result<(), Fail> {
     let automaton = automaton(&rt, rt.alloc(), &[], 1)?;
     assert_eq!(rt; automaton.rows(), 1);

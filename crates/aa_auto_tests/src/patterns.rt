@@ -71,11 +71,13 @@ pub fn are_too_many(rt: &impl Abort, alloc: Global, texts: &[&[u8]], limit: usiz
     )
 }
 
-/// Each path is matched by just these of the patterns, by `matching`, and by its row.
+/// Each path is matched by just these of the patterns, by `matching`, by its row, and by its row's list.
 pub fn matches_just(rt: &impl Abort, automaton: &Automaton, rows: &[(&[u8], &[u16])]) {
     for row in rows {
+        let place = automaton.place(row.0);
         assert_eq!(rt; automaton.matching(row.0), row.1);
-        assert_eq!(rt; automaton.at_row(automaton.place(row.0)), row.1);
+        assert_eq!(rt; automaton.at_row(place), row.1);
+        assert_eq!(rt; automaton.list(automaton.list_of(place)), row.1);
     }
 }
 

@@ -1,5 +1,5 @@
 -- What sending and collecting keep of a lane that is fed.
-use Rattle.std.proofs.Common.{◌≡◌, ℕ, suc, ◌+◌, ◌<◌, ◌≤◌, List, [], ◌∷◌, ◌++◌, map, length, take, Option, Some, None, true, sym, refl, ap, ◌∙◌, arith, length-append}
+use Rattle.std.proofs.Common.{◌≡◌, ℕ, suc, ◌+◌, ◌<◌, ◌≤◌, List, [], ◌∷◌, ◌++◌, map, length, take, Option, Some, None, true, sym, refl, ap, ◌∙◌, subst, arith, length-append}
 use Rattle.std.proofs.lemmas.List.{length-map, map-append}
 use Rattle.std.proofs.lemmas.Option.{slice_get_within}
 use Rattle.std.proofs.Math.Seq.{take-length, take-append_seam}
@@ -24,7 +24,7 @@ module _ {M S Q A : Type 0} (next : M → S → Q → S) (reply : M → S → Q 
       → collected_by next reply l o' ≡ collected_by next reply l o ++ a ∷ [] → IsFed next reply l o' (answered ++ a ∷ [])
   collected l o o' answered a h c more =
       let w : o.got < length o.sent = slice_get_within o.sent o.got a.request c.2 in
-      let e : o' ≡ collected_of o o'.found = c.4 in
+      let e : o' ≡ collected_of o o'.found o'.log = c.4 in
       let got : o'.got ≡ o.got + 1 = ap (λ (x : OwnerSeen M S Q A). x.got) e in
       let sent : o'.sent ≡ o.sent = ap (λ (x : OwnerSeen M S Q A). x.sent) e in
       record {
@@ -35,7 +35,7 @@ module _ {M S Q A : Type 0} (next : M → S → Q → S) (reply : M → S → Q 
       }
 
   -- a request more is accepted
-  pub accepted : (l : LaneSeen M S) (o o' : OwnerSeen M S Q A) (answered : List (Answered M S Q A)) (q : Q) → IsFed next reply l o answered → o' ≡ sent_of o q
+  pub accepted : (l : LaneSeen M S) (o o' : OwnerSeen M S Q A) (answered : List (Answered M S Q A)) (q : Q) → IsFed next reply l o answered → o' ≡ sent_of o q o'.log
       → collected_by next reply l o' ≡ collected_by next reply l o → IsFed next reply l o' answered
   accepted l o o' answered q h e same =
       let got : o'.got ≡ o.got = ap (λ (x : OwnerSeen M S Q A). x.got) e in
@@ -48,13 +48,13 @@ module _ {M S Q A : Type 0} (next : M → S → Q → S) (reply : M → S → Q 
       }
 
   -- as many answers as were sent are all
-  pub has_left : (l : LaneSeen M S) (o o' : OwnerSeen M S Q A) (answered : List (Answered M S Q A)) → IsFed next reply l o answered → length answered ≡ length o.sent → o' ≡ left_of o → HasLeft next reply l o' answered
+  pub has_left : (l : LaneSeen M S) (o o' : OwnerSeen M S Q A) (answered : List (Answered M S Q A)) → IsFed next reply l o answered → length answered ≡ length o.sent → o' ≡ left_of o o'.log → HasLeft next reply l o' answered
   has_left l o o' answered h e is =
       let all : List (Answered M S Q A) = answered_from next reply l.machine 0 l.start o.sent in
       let n : o.got ≡ length all = omega (arith, answered-length l.machine 0 l.start o.sent, h.count) in
       let right : answered ≡ all = h.right ∙ ap (λ k. take k all) n ∙ take-length all in
       let count : o.got ≡ length o.sent = omega (arith, h.count) in
-      rw is (record { of = h.of; count = count; requests = ap (map (λ (a : Answered M S Q A). a.request)) right ∙ requests_of l.machine 0 l.start o.sent; right = right })
+      subst (λ p. HasLeft next reply l p answered) (sym is) (record { of = h.of; count = count; requests = ap (map (λ (a : Answered M S Q A). a.request)) right ∙ requests_of l.machine 0 l.start o.sent; right = right })
 
   -- a feed without an owner has the one that left
   pub is_left : (l : LaneSeen M S) (owner leaver : Option (OwnerSeen M S Q A)) (answered : List (Answered M S Q A)) (left : List Q) (sent room : ℕ) (o : OwnerSeen M S Q A)

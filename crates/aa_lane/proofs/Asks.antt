@@ -25,9 +25,9 @@ module _ {M S Q A : Type 0} (next : M → S → Q → S) (reply : M → S → Q 
       subst P (sym can.held) (readies_step next reply k z'.slots id m.0 can.owns can.before)
 
   pub can_take : (z z' : TableId) (id n slot : ℕ) (m : Me (Cell M S Q A) (View M S Q A)) → CanTake z m n slot → z ≡ z'
-      → Allows (HasLog next reply k) z'.slots id m 0 (λ n. n) (took (step z'.slots 0 0 0 none) m)
+      → Allows (HasLog next reply k) z'.slots id m 0 (λ n. n) (took next reply (step z'.slots 0 0 0 none) m)
   can_take z z' id n slot m can same =
-      let P : List (ℕ × Cell M S Q A) → Type 0 = λ l. Allows (HasLog next reply k) z'.slots id (m.0, l) 0 (λ n. n) (took (step z'.slots 0 0 0 none) (m.0, l)) in
+      let P : List (ℕ × Cell M S Q A) → Type 0 = λ l. Allows (HasLog next reply k) z'.slots id (m.0, l) 0 (λ n. n) (took next reply (step z'.slots 0 0 0 none) (m.0, l)) in
       subst P (sym can.held) (takes_step next reply k z'.slots id m.0 can.serves (can.idle ∙ sym can.done))
 
   pub can_collect : (z z' : TableId) (id n slot : ℕ) (m : Me (Cell M S Q A) (View M S Q A)) → CanCollect z m n slot → z ≡ z'
@@ -35,10 +35,10 @@ module _ {M S Q A : Type 0} (next : M → S → Q → S) (reply : M → S → Q 
   can_collect z z' id n slot m can same = collects_step next reply k z'.slots id m.0 m.1 can.owns can.ready
 
   pub can_finish : (z z' : TableId) (id n slot : ℕ) (m : Me (Cell M S Q A) (View M S Q A)) (q : Q) (a : A) → CanFinish next reply z m n slot q a → z ≡ z'
-      → Allows (HasLog next reply k) z'.slots id (m.0, (slot, Answered q a) ∷ rest m.1) 16 (λ _. n + 1) (λ _. finished (step z'.slots 16 (n + 1) 0 none) (m.0, (slot, Answered q a) ∷ rest m.1) (n + 1))
+      → Allows (HasLog next reply k) z'.slots id (m.0, (slot, Answered q a) ∷ rest m.1) 16 (λ _. n + 1) (λ _. finished next reply (step z'.slots 16 (n + 1) 0 none) (m.0, (slot, Answered q a) ∷ rest m.1) (n + 1))
   can_finish z z' id n slot m q a can same =
       let at_slot : slot ≡ m.0.server.done % z'.slots = can.slot_is ∙ ap (λ (y : TableId). n % y.slots) same ∙ ap (λ i. i % z'.slots) (sym can.done) in
-      let P : ℕ → List (ℕ × Cell M S Q A) → Type 0 = λ i l. Allows (HasLog next reply k) z'.slots id (m.0, l) 16 (λ _. i + 1) (λ _. finished (step z'.slots 16 (i + 1) 0 none) (m.0, l) (i + 1)) in
+      let P : ℕ → List (ℕ × Cell M S Q A) → Type 0 = λ i l. Allows (HasLog next reply k) z'.slots id (m.0, l) 16 (λ _. i + 1) (λ _. finished next reply (step z'.slots 16 (i + 1) 0 none) (m.0, l) (i + 1)) in
       let held : (slot, Answered q a) ∷ rest m.1 ≡ (m.0.server.done % z'.slots, Answered q a) ∷ [] = ap (λ l. (slot, Answered q a) ∷ rest l) can.held ∙ ap (λ i. (i, Answered q a) ∷ []) at_slot in
       let busy : length m.0.server.taken ≡ m.0.server.done + 1 = can.busy ∙ ap (λ i. i + 1) (sym can.done) in
       let job : slice_get m.0.server.taken m.0.server.done ≡ Some q = subst (λ i. slice_get m.0.server.taken i ≡ Some q) (sym can.done) can.job in
@@ -53,8 +53,7 @@ module _ {M S Q A : Type 0} (next : M → S → Q → S) (reply : M → S → Q 
       (Answered h.0 h.1, subst P (ap (λ (n : Me (Cell M S Q A) (View M S Q A)). n.1) (sym h.3)) (ap (λ i. (i, Answered h.0 h.1) ∷ m.1) (sym is)))
   collected_one false slots r slot m m' e is h = let z : false ≡ true = e in cc
 
-module _ {M S Q A : Type 0} where
-  pub took_one : (b : Bool) (slots n slot : ℕ) (odd : Bool) (m m' : Me (Cell M S Q A) (View M S Q A)) → b ≡ true → slot ≡ m.0.server.done % slots → is_taken b slots n odd m m'
+  pub took_one : (b : Bool) (slots n slot : ℕ) (odd : Bool) (m m' : Me (Cell M S Q A) (View M S Q A)) → b ≡ true → slot ≡ m.0.server.done % slots → is_taken next reply b slots n odd m m'
       → (x : Cell M S Q A) × (m'.1 ≡ (slot, x) ∷ rest m'.1)
   took_one true slots n slot odd m m' e is h =
       let P : List (ℕ × Cell M S Q A) → Type 0 = λ l. l ≡ (slot, Asked h.0) ∷ rest l in

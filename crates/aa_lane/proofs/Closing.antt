@@ -1,5 +1,5 @@
 -- What the last state of a lane's table tells.
-use Rattle.std.proofs.Common.{◌≡◌, ℕ, true, is_some, List, length, take, refl, sym, ap, ◌∙◌, arith, length-take, Some}
+use Rattle.std.proofs.Common.{◌≡◌, ℕ, true, is_some, List, length, take, refl, sym, ap, ◌∙◌, subst, arith, length-take, Some}
 use mathlib.Core.Option.{some}
 use lib.ListN.{get_elem?}
 use Rattle.atomic_table.specs.Table.{Final, Seen}
@@ -7,10 +7,12 @@ use Rattle.aa_lane.specs.declared.cells.Cell.{Cell}
 use Rattle.atomic_table.specs.Seated.{TableId}
 use Rattle.aa_machine.specs.Run.{state_after}
 use Rattle.aa_lane.specs.WorldState.{WorldState}
-use Rattle.aa_lane.specs.Log.{ByOwner, ByServer, ByShutter, leaves}
+use Rattle.aa_lane.specs.Log.{leaves, GoesOn}
+use Rattle.aa_lane.specs.declared.cells.Entry.{Entry}
+use Rattle.aa_lane.specs.declared.cells.Who.TheVariants.{ByOwner, ByServer, ByShutter}
 use Rattle.aa_lane.specs.Shows.{HasLog, OwnerFits, ServerFits, ShutterFits}
 use Rattle.aa_lane.specs.Ends.{LaneId, LaneSeen, OwnerSeen, ServerSeen, ShutterSeen, known, owner_seen, server_seen, shutter_seen}
-use Rattle.aa_lane.specs.Totals.{joined, LastState, Agrees, IsLinearized}
+use Rattle.aa_lane.specs.Totals.{joined, LastState, Agrees, HasOneOrder}
 use Rattle.aa_lane.specs.declared.cells.View.{View}
 use Rattle.aa_lane.specs.declared.cells.Key.{Key}
 use Rattle.aa_lane.specs.declared.lane.Ends.{Ends}
@@ -25,7 +27,7 @@ module _ {M S Q A : Type 0} (next : M → S → Q → S) (reply : M → S → Q 
       → o.owns ≡ true → o.owner.left ≡ true → length s.server.taken ≡ s.server.done
       → t.accepted ≡ length o.owner.sent → t.answered ≡ s.server.done → t.collected ≡ o.owner.got
       → ((m : M) (b : S) → s.terms ≡ Some (m, b) → t.state ≡ state_after (next m) (reply m) b s.server.taken)
-      → IsLinearized next reply l e t
+      → HasOneOrder next reply l e t
   tells k o s u l e t z1 z2 z3 c1 c2 c3 t1 t2 t3 last lm ls lc eo es eu lane_o lane_s owns left idle accepted answered collected state =
       let id : ℕ = last.1 in
       let h : HasLog next reply k last.0 = last.2 in
@@ -66,10 +68,10 @@ module _ {M S Q A : Type 0} (next : M → S → Q → S) (reply : M → S → Q 
       } in
       record {
         log = h.log;
-        told = rw (lm, ls, lc) h.told;
-        owner = ap (λ (x : OwnerSeen M S Q A). x.made) eo ∙ h.makes ByOwner id j at owns;
-        server = ap (λ (x : ServerSeen M S Q A). x.made) es ∙ h.makes ByServer id j at refl;
-        shutter = ap (λ (x : ShutterSeen M S Q A). x.made) eu ∙ h.makes ByShutter id j at refl;
+        is = rw (lm, ls, lc) h.is;
+        owner = subst (λ (l : List (Entry M S Q A)). GoesOn ByOwner l h.log) (ap (λ (x : OwnerSeen M S Q A). x.log) (sym eo)) (h.seen ByOwner id j at owns);
+        server = subst (λ (l : List (Entry M S Q A)). GoesOn ByServer l h.log) (ap (λ (x : ServerSeen M S Q A). x.log) (sym es)) (h.seen ByServer id j at refl);
+        shutter = subst (λ (l : List (Entry M S Q A)). GoesOn ByShutter l h.log) (ap (λ (x : ShutterSeen M S Q A). x.log) (sym eu)) (h.seen ByShutter id j at refl);
         shown = rw (lm, ls, lc) shown;
       }
 

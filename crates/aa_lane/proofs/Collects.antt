@@ -7,16 +7,18 @@ use lib.ListN.{get_elem?}
 use Rattle.atomic_table.specs.Table.{State, step, Act, keeps, takes, Valid, stepped, Allows, carried_after}
 use Rattle.atomic_table.proofs.Lists.{set_else, set_here, one_turn}
 use Rattle.aa_lane.specs.WorldState.{WorldState, after, answer_to}
-use Rattle.aa_lane.specs.Log.{ByOwner, ByServer, ByShutter, same}
+use Rattle.aa_lane.specs.Log.{same}
+use Rattle.aa_lane.specs.declared.cells.Who.TheVariants.{ByOwner, ByServer, ByShutter}
 use Rattle.aa_lane.specs.Shows.{Shows, HasLog, Fits, OwnerFits, role}
 use Rattle.aa_lane.specs.declared.event.Event.TheVariants.{Collect}
 use Rattle.aa_lane.specs.declared.event.Reply.TheVariants.{Given, Nothing}
 use Rattle.aa_lane.specs.declared.cells.Cell.{Cell}
 use Rattle.aa_lane.specs.declared.cells.Cell.TheVariants.{Answered}
+use Rattle.aa_lane.specs.declared.cells.Entry.{Entry}
 use Rattle.aa_lane.specs.declared.cells.View.{View}
 use Rattle.aa_lane.specs.declared.cells.Key.{Key}
 use Rattle.aa_lane.proofs.ShutBy.{step_shut_by}
-use Rattle.aa_lane.proofs.Stays.{keep_filled, keep_seats, stays, logged, world}
+use Rattle.aa_lane.proofs.Stays.{keep_filled, keep_seats, stays, logged, makes, log_with, world}
 use Rattle.aa_lane.specs.Plays.{collected, is_collected, collected_view, uncollected_view, Gives}
 use Rattle.aa_lane.proofs.Lawful.{collecting_lawful}
 use Rattle.aa_lane.proofs.Rows.{there, same_terms, split_eq}
@@ -36,13 +38,13 @@ module _ {M S Q A : Type 0} (next : M → S → Q → S) (reply : M → S → Q 
     fits : OwnerFits s.homes w v.owner
     fits = (h.seats ByOwner id v at owns).2
 
-    pub collect_none : (held : List (ℕ × Cell M S Q A)) → x ≤ v.owner.got → Shows next reply (stepped s 16 x id held (uncollected_view v x) keeps) w
-    collect_none held le =
+    pub collect_none : (log : List (Entry M S Q A)) (held : List (ℕ × Cell M S Q A)) → x ≤ v.owner.got → Shows next reply (stepped s 16 x id held (uncollected_view v x log) keeps) w
+    collect_none log held le =
         let d = h.done in
-        stays next reply s w h 16 x id held ByOwner v (uncollected_view v x) is at owns
-        (λ a. elim a as (λ a. role a (uncollected_view v x) ≡ role a v) [ ByOwner ↦ refl | ByServer ↦ refl | ByShutter ↦ refl ]) refl
-        (step_shut_by s.views id v (uncollected_view v x) w.shut at (λ o. o) (λ o. o) (λ e. e) (λ e. e) (λ e. e) h.shut_by)
-        (λ a. elim a as (λ a. Fits a s.homes w v → Fits a s.homes w (uncollected_view v x)) [
+        stays next reply s w h 16 x id held ByOwner v (uncollected_view v x log) is at owns
+        (λ a. elim a as (λ a. role a (uncollected_view v x log) ≡ role a v) [ ByOwner ↦ refl | ByServer ↦ refl | ByShutter ↦ refl ]) refl
+        (step_shut_by s.views id v (uncollected_view v x log) w.shut at (λ o. o) (λ o. o) (λ e. e) (λ e. e) (λ e. e) h.shut_by)
+        (λ a. elim a as (λ a. Fits a s.homes w v → Fits a s.homes w (uncollected_view v x log)) [
           | ByOwner ↦ λ f. record { sent = f.sent; got = f.got; found = omega arith; closed = f.closed; left = f.left; free = f.free; fresh = f.fresh }
           | ByServer ↦ λ f. f
           | ByShutter ↦ λ f. f
@@ -59,10 +61,10 @@ module _ {M S Q A : Type 0} (next : M → S → Q → S) (reply : M → S → Q 
           (subst (λ l. slice_get l w.collected ≡ Some a) h.lawful.answered ea));
     }
 
-    pub collect_one : (held : List (ℕ × Cell M S Q A)) (q : Q) (a : A) → v.owner.got < x → slice_get w.accepted w.collected ≡ Some q → slice_get w.answers w.collected ≡ Some a
+    pub collect_one : (log : List (Entry M S Q A)) (held : List (ℕ × Cell M S Q A)) (q : Q) (a : A) → v.owner.got < x → slice_get w.accepted w.collected ≡ Some q → slice_get w.answers w.collected ≡ Some a
         → (get_elem? s.homes (v.owner.got % length s.homes) ≡ some (some (Answered q a)))
-        × Shows next reply (stepped s 16 x id held (collected_view v x) (takes (v.owner.got % length s.homes) (Answered q a))) (collecting w)
-    collect_one held q a more eq ea =
+        × Shows next reply (stepped s 16 x id held (collected_view v x log) (takes (v.owner.got % length s.homes) (Answered q a))) (collecting w)
+    collect_one log held q a more eq ea =
         let dn = h.done in let gt = fits.got in
         let t = h.lawful.sent in let g = h.lawful.gotten in let b = h.lawful.begun in let room = h.lawful.room in let c = h.capacity in
         let lt : w.collected < length w.answers = omega arith in
@@ -94,10 +96,10 @@ module _ {M S Q A : Type 0} (next : M → S → Q → S) (reply : M → S → Q 
                 ∙ h.answered m r y (omega arith) e' f');
             in_hand = λ m low high. rw homes (set_else s.homes slot (m % length s.homes) none (λ k. let y : v.owner.got ≡ m = one_turn v.owner.got m (length s.homes) (omega arith) (omega arith) (sym k) in omega arith) ∙ h.in_hand m low high);
             seat = h.seat;
-            filled = keep_filled s.views h.seat id v (collected_view v x) h.filled at (λ a. elim a as (λ a. role a (collected_view v x) ≡ role a v) [ ByOwner ↦ refl | ByServer ↦ refl | ByShutter ↦ refl ]);
-            seats = keep_seats s.views h.seat s.homes hs w (collecting w) ByOwner id v (collected_view v x) h.seats at owns
-                (λ a. elim a as (λ a. role a (collected_view v x) ≡ role a v) [ ByOwner ↦ refl | ByServer ↦ refl | ByShutter ↦ refl ]) refl refl refl
-                (λ a. elim a as (λ a. Fits a s.homes w v → Fits a hs (collecting w) (collected_view v x)) [
+            filled = keep_filled s.views h.seat id v (collected_view v x log) h.filled at (λ a. elim a as (λ a. role a (collected_view v x log) ≡ role a v) [ ByOwner ↦ refl | ByServer ↦ refl | ByShutter ↦ refl ]);
+            seats = keep_seats s.views h.seat s.homes hs w (collecting w) ByOwner id v (collected_view v x log) h.seats at owns
+                (λ a. elim a as (λ a. role a (collected_view v x log) ≡ role a v) [ ByOwner ↦ refl | ByServer ↦ refl | ByShutter ↦ refl ]) refl refl refl
+                (λ a. elim a as (λ a. Fits a s.homes w v → Fits a hs (collecting w) (collected_view v x log)) [
                   | ByOwner ↦ λ f. record { sent = f.sent; got = omega arith; found = omega arith; closed = f.closed; left = f.left; free = λ r i low high. rw homes (out f i low high); fresh = λ r. let z : true ≡ false = sym ready ∙ r in cc }
                   | ByServer ↦ λ f. record { taken = f.taken; done = f.done; seen = f.seen; settled = f.settled }
                   | ByShutter ↦ λ f. record { count = f.count }
@@ -107,7 +109,7 @@ module _ {M S Q A : Type 0} (next : M → S → Q → S) (reply : M → S → Q 
                   | ByServer ↦ λ u e f. record { taken = f.taken; done = f.done; seen = f.seen; settled = f.settled }
                   | ByShutter ↦ λ u e f. record { count = f.count }
                 ]);
-            shut_by = step_shut_by s.views id v (collected_view v x) w.shut at (λ o. o) (λ o. o) (λ e. e) (λ e. e) (λ e. e) h.shut_by;
+            shut_by = step_shut_by s.views id v (collected_view v x log) w.shut at (λ o. o) (λ o. o) (λ e. e) (λ e. e) (λ e. e) h.shut_by;
           },
         )
 
@@ -127,22 +129,24 @@ module _ {M S Q A : Type 0} (next : M → S → Q → S) (reply : M → S → Q 
             let dn = h.done in let gt = f.got in let bg = h.lawful.begun in let t = h.lawful.sent in
             let q = there w.accepted w.collected (omega arith) in
             let a = there w.answers w.collected (omega arith) in
-            let r = collect_one next reply s w h id v at owns ready x refl held q.0 a.0 lt q.1 a.1 in
+            let log : List (Entry M S Q A) = log_with next reply k s all ByOwner Collect (Given v.owner.got) in
+            let r = collect_one next reply s w h id v at owns ready x refl log held q.0 a.0 lt q.1 a.1 in
             let told = collect_tells next reply s w h id v at owns ready x refl q.0 a.0 q.1 a.1 in
             let z : w.collected < length w.answers = omega arith in
             let does = after_collect next reply w true (lt-ltb w.collected (length w.answers) z) in
-            let kept = logged next reply k s all _ _ id v (collected_view v x) ByOwner Collect (Given v.owner.got) (collecting next reply w) at owns
-            (λ a. elim a as (λ a. role a (collected_view v x) ≡ role a v) [ ByOwner ↦ refl | ByServer ↦ refl | ByShutter ↦ refl ])
-            (elim [ ByOwner ↦ refl | ByServer ↦ refl | ByShutter ↦ refl ]) (sym does.0) (ap Given gt ∙ sym does.1) r.1 in
-            (collected_view v x, takes (v.owner.got % length s.homes) (Answered q.0 a.0), r.0, kept, (q.0, a.0, told, rw len refl))
+            let kept = logged next reply k s all _ _ id v (collected_view v x log) ByOwner Collect (Given v.owner.got) (collecting next reply w) at owns
+            (λ a. elim a as (λ a. role a (collected_view v x log) ≡ role a v) [ ByOwner ↦ refl | ByServer ↦ refl | ByShutter ↦ refl ])
+            (elim [ ByOwner ↦ refl | ByServer ↦ refl | ByShutter ↦ refl ]) refl (sym does.0) (ap Given gt ∙ sym does.1) r.1 in
+            (collected_view v x log, takes (v.owner.got % length s.homes) (Answered q.0 a.0), r.0, kept, (q.0, a.0, told, rw len refl, makes next reply k s all c id v (collected_view v x log) ByOwner Collect (Given v.owner.got) len at owns (ap Given gt ∙ sym does.1) refl))
         | false ↦ λ e.
             let le : x ≤ v.owner.got = ltb-false _ _ e in
             let dn = h.done in let gt = f.got in
             let z : length w.answers ≤ w.collected = omega arith in
             let does = after_collect next reply w false (le-ltb w.collected (length w.answers) z) in
-            let kept = logged next reply k s all _ _ id v (uncollected_view v x) ByOwner Collect Nothing w at owns
-            (λ a. elim a as (λ a. role a (uncollected_view v x) ≡ role a v) [ ByOwner ↦ refl | ByServer ↦ refl | ByShutter ↦ refl ])
-            (elim [ ByOwner ↦ refl | ByServer ↦ refl | ByShutter ↦ refl ]) (sym does.0) (sym does.1) (collect_none next reply s w h id v at owns ready x refl held le) in
-            (uncollected_view v x, keeps, tt, kept, refl)
+            let log : List (Entry M S Q A) = log_with next reply k s all ByOwner Collect Nothing in
+            let kept = logged next reply k s all _ _ id v (uncollected_view v x log) ByOwner Collect Nothing w at owns
+            (λ a. elim a as (λ a. role a (uncollected_view v x log) ≡ role a v) [ ByOwner ↦ refl | ByServer ↦ refl | ByShutter ↦ refl ])
+            (elim [ ByOwner ↦ refl | ByServer ↦ refl | ByShutter ↦ refl ]) refl (sym does.0) (sym does.1) (collect_none next reply s w h id v at owns ready x refl log held le) in
+            (uncollected_view v x log, keeps, tt, kept, (refl, makes next reply k s all c id v (uncollected_view v x log) ByOwner Collect Nothing len at owns (sym does.1) refl))
       ] in
       by (nat_lt v.owner.got x) refl

@@ -2,7 +2,7 @@
 use Rattle.std.proofs.Common.{◌≡◌, ◌≢◌, ℕ, ◌+◌, ◌*◌, ◌/◌, ◌%◌, ◌<◌, ◌≤◌, ◌==◌, cond, lt-ltb, le-ltb, true, false, length, refl, sym, ap, ◌∙◌, subst, arith, slice_index, Some, eq-eqb, ne_eqb}
 use Rattle.atomic_table.specs.Table.{State}
 use Rattle.aa_lane.specs.WorldState.{WorldState, after, answer_to}
-use Rattle.aa_lane.specs.Log.{ByOwner, ByServer, ByShutter}
+use Rattle.aa_lane.specs.declared.cells.Who.TheVariants.{ByOwner, ByServer, ByShutter}
 use Rattle.aa_lane.specs.Shows.{Shows, Fits, role, bit}
 use Rattle.aa_lane.specs.declared.event.SendFault.TheVariants.{Closed}
 use Rattle.aa_lane.specs.declared.event.Event.{Event}
@@ -50,20 +50,20 @@ module _ {M S Q A : Type 0} (next : M → S → Q → S) (reply : M → S → Q 
     splits_shutter = λ s w id v st is. splits_shutter_one next reply s w st.shows id v st.at is;
     joins_server = λ s w id v other u st there apart owns is alone. joins_server_one next reply s w st.shows id v other u st.at there apart owns is alone;
     joins_shutter = λ s w id v other u st there apart owns is alone. joins_shutter_one next reply s w st.shows id v other u st.at there apart owns is alone;
-    sends = λ s w id v q held st owns ready spent gotten room gate.
+    sends = λ s w id v log q held st owns ready spent gotten room gate.
         let h = st.shows in
         let count : length w.accepted ≡ length v.owner.sent = ap length (sym (h.seats ByOwner id v st.at owns).2.sent) in
         let unshut = gate_open s w (length v.owner.sent) h count gate in
         let d = after_send next reply w q (not_spent next reply s w h id v q held st.at owns ready spent gotten room) (not_full next reply s w h id v q held st.at owns ready spent gotten room) false unshut in
-        event_of _ w (sending next reply w q) (Send q) (Accepted (length v.owner.sent)) (sym d.0) (ap Accepted (sym count) ∙ sym d.1) (sent_unshut next reply s w h id v q held st.at owns ready spent gotten room unshut (2 * length v.owner.sent + 2) refl);
-    closed = λ s w id v q held st owns stayed ready spent gotten room gate.
+        event_of _ w (sending next reply w q) (Send q) (Accepted (length v.owner.sent)) (sym d.0) (ap Accepted (sym count) ∙ sym d.1) (sent_unshut next reply s w h id v q held st.at owns ready spent gotten room log unshut (2 * length v.owner.sent + 2) refl);
+    closed = λ s w id v log q held st owns stayed ready spent gotten room gate.
         let h = st.shows in
         let count : length w.accepted ≡ length v.owner.sent = ap length (sym (h.seats ByOwner id v st.at owns).2.sent) in
         let is = gate_shut s w (length v.owner.sent) h count gate in
         let d = after_send next reply w q (not_spent next reply s w h id v q held st.at owns ready spent gotten room) (not_full next reply s w h id v q held st.at owns ready spent gotten room) true is in
         event_of _ w w (Send q) (Unsent Closed q) (sym d.0) (sym d.1)
-        (sent_shut next reply s w h id v q held st.at owns ready spent gotten room is stayed);
-    takes_one = λ s w id v st serves idle more.
+        (sent_shut next reply s w h id v q held st.at owns ready spent gotten room log is stayed);
+    takes_one = λ s w id v log st serves idle more.
         let h = st.shows in
         let d = (h.seats ByServer id v st.at serves).2.done in
         let f = free next reply s w h id v st.at serves idle in
@@ -72,9 +72,9 @@ module _ {M S Q A : Type 0} (next : M → S → Q → S) (reply : M → S → Q 
         let q = there w.accepted w.taken z in
         let number : v.server.done ≡ w.taken = omega arith in
         let does = after_take next reply w (omega arith) true (lt-ltb w.taken (length w.accepted) z) in
-        let r = take_more_one next reply s w h id v st.at serves idle (slice_index s.words 0) (slice_index s.words 0 / 2) q.0 refl count more q.1 in
+        let r = take_more_one next reply s w h id v st.at serves idle log (slice_index s.words 0) (slice_index s.words 0 / 2) q.0 refl count more q.1 in
         (q.0, r.0, event_of _ w (taking next reply w) Take (Taken v.server.done) (sym does.0) (ap Taken number ∙ sym does.1) r.1);
-    takes_none = λ s w id v st serves idle none_now.
+    takes_none = λ s w id v log st serves idle none_now.
         let h = st.shows in
         let d = (h.seats ByServer id v st.at serves).2.done in
         let f = free next reply s w h id v st.at serves idle in
@@ -83,15 +83,15 @@ module _ {M S Q A : Type 0} (next : M → S → Q → S) (reply : M → S → Q 
         let z : length w.accepted ≤ w.taken = omega arith in
         let does = after_take next reply w (omega arith) false (le-ltb w.taken (length w.accepted) z) in
         event_of _ w w Take (cond (slice_index s.words 0 % 2 == 1) Settled Idle) (sym does.0) (rw odd (sym does.1))
-        (take_none next reply s w h id v st.at serves idle (slice_index s.words 0) (slice_index s.words 0 / 2) (slice_index s.words 0 % 2 == 1) refl count none_now (λ o. sym odd ∙ o));
-    finishes = λ s w id v q a st serves busy job decided.
+        (take_none next reply s w h id v st.at serves idle log (slice_index s.words 0) (slice_index s.words 0 / 2) (slice_index s.words 0 % 2 == 1) refl count none_now (λ o. sym odd ∙ o));
+    finishes = λ s w id v log q a st serves busy job decided.
         let h = st.shows in
         let b = began next reply s w h id v q a st.at serves busy job decided in
         let ne : w.taken ≢ length w.answers = λ e. omega arith in
         let d = (h.seats ByServer id v st.at serves).2.done in
         event_of _ w (answering next reply w q) Finish (Finished v.server.done) (finishes next reply w q ne (there_is next reply s w h id v q a st.at serves busy job decided))
-        (rw (ne_eqb w.taken (length w.answers) ne) (ap Finished d)) (finish_one next reply s w h id v q a st.at serves busy job decided);
-    collects_one = λ s w id v held st owns ready more.
+        (rw (ne_eqb w.taken (length w.answers) ne) (ap Finished d)) (finish_one next reply s w h id v q a st.at serves busy job decided log);
+    collects_one = λ s w id v log held st owns ready more.
         let h = st.shows in
         let f = (h.seats ByOwner id v st.at owns).2 in
         let dn = h.done in let gt = f.got in let bg = h.lawful.begun in let t = h.lawful.sent in
@@ -99,34 +99,34 @@ module _ {M S Q A : Type 0} (next : M → S → Q → S) (reply : M → S → Q 
         let y : w.collected < length w.accepted = omega arith in
         let q = there w.accepted w.collected y in
         let a = there w.answers w.collected z in
-        let r = collect_one next reply s w h id v st.at owns ready (slice_index s.words 16) refl held q.0 a.0 more q.1 a.1 in
+        let r = collect_one next reply s w h id v st.at owns ready (slice_index s.words 16) refl log held q.0 a.0 more q.1 a.1 in
         let does = after_collect next reply w true (lt-ltb w.collected (length w.answers) z) in
         (q.0, a.0, r.0, event_of _ w (collecting next reply w) Collect (Given v.owner.got) (sym does.0) (ap Given gt ∙ sym does.1) r.1);
-    collects_none = λ s w id v held st owns ready le.
+    collects_none = λ s w id v log held st owns ready le.
         let h = st.shows in
         let dn = h.done in let gt = (h.seats ByOwner id v st.at owns).2.got in
         let z : length w.answers ≤ w.collected = omega arith in
         let does = after_collect next reply w false (le-ltb w.collected (length w.answers) z) in
-        event_of _ w w Collect Nothing (sym does.0) (sym does.1) (collect_none next reply s w h id v st.at owns ready (slice_index s.words 16) refl held le);
-    shuts = λ s w id v held st is.
+        event_of _ w w Collect Nothing (sym does.0) (sym does.1) (collect_none next reply s w h id v st.at owns ready (slice_index s.words 16) refl log held le);
+    shuts = λ s w id v log held st is.
         let h = st.shows in
         let n : ℕ = slice_index s.words 0 / 2 in
         let count : n ≡ length w.accepted = half next reply s w h in
         event_of _ w (shutting next reply w) Shut (Count n) refl (ap Count count)
-        (shut_one next reply s w h id held ByShutter v (shut_view v n) st.at is
-        (λ a. elim a as (λ a. role a (shut_view v n) ≡ role a v) [ ByOwner ↦ refl | ByServer ↦ refl | ByShutter ↦ refl ]) refl refl (λ e. e) (λ _. refl) (λ e. e)
-        (λ a. elim a as (λ a. Fits a s.homes w v → Fits a s.homes (shutting next reply w) (shut_view v n)) [
+        (shut_one next reply s w h id held ByShutter v (shut_view v n log) st.at is
+        (λ a. elim a as (λ a. role a (shut_view v n log) ≡ role a v) [ ByOwner ↦ refl | ByServer ↦ refl | ByShutter ↦ refl ]) refl refl (λ e. e) (λ _. refl) (λ e. e)
+        (λ a. elim a as (λ a. Fits a s.homes w v → Fits a s.homes (shutting next reply w) (shut_view v n log)) [
           | ByOwner ↦ λ f. shut_fits next reply s.homes w ByOwner v f
           | ByServer ↦ λ f. shut_fits next reply s.homes w ByServer v f
           | ByShutter ↦ λ f. record { count = λ c e. (refl, let z : Some n ≡ Some c = e in let y : n ≡ c = cc in sym y ∙ count) }
         ]));
-    exits = λ s w id v held st is.
+    exits = λ s w id v log held st is.
         let h = st.shows in
         let count : length v.owner.sent ≡ length w.accepted = ap length (h.seats ByOwner id v st.at is).2.sent in
         event_of _ w (shutting next reply w) Shut (Count (length v.owner.sent)) refl (ap Count count)
-        (shut_one next reply s w h id held ByOwner v (left_view v) st.at is
-        (λ a. elim a as (λ a. role a (left_view v) ≡ role a v) [ ByOwner ↦ refl | ByServer ↦ refl | ByShutter ↦ refl ]) refl refl (λ _. refl) (λ e. e) (λ e. e)
-        (λ a. elim a as (λ a. Fits a s.homes w v → Fits a s.homes (shutting next reply w) (left_view v)) [
+        (shut_one next reply s w h id held ByOwner v (left_view v log) st.at is
+        (λ a. elim a as (λ a. role a (left_view v log) ≡ role a v) [ ByOwner ↦ refl | ByServer ↦ refl | ByShutter ↦ refl ]) refl refl (λ _. refl) (λ e. e) (λ e. e)
+        (λ a. elim a as (λ a. Fits a s.homes w v → Fits a s.homes (shutting next reply w) (left_view v log)) [
           | ByOwner ↦ λ f. record { sent = f.sent; got = f.got; found = f.found; closed = λ _. refl; left = λ _. refl; free = f.free; fresh = f.fresh }
           | ByServer ↦ λ f. shut_fits next reply s.homes w ByServer v f
           | ByShutter ↦ λ f. shut_fits next reply s.homes w ByShutter v f

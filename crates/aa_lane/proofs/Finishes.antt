@@ -7,16 +7,18 @@ use lib.ListN.{get_elem?}
 use Rattle.atomic_table.specs.Table.{State, step, gives, stepped, Allows}
 use Rattle.atomic_table.proofs.Lists.{set_else, set_here, one_turn}
 use Rattle.aa_lane.specs.WorldState.{WorldState, answer_to}
-use Rattle.aa_lane.specs.Log.{ByOwner, ByServer, ByShutter, same}
+use Rattle.aa_lane.specs.Log.{same}
+use Rattle.aa_lane.specs.declared.cells.Who.TheVariants.{ByOwner, ByServer, ByShutter}
 use Rattle.aa_lane.specs.Shows.{Shows, HasLog, Fits, OwnerFits, ServerFits, role}
 use Rattle.aa_lane.specs.declared.event.Event.TheVariants.{Finish}
 use Rattle.aa_lane.specs.declared.event.Reply.TheVariants.{Finished}
 use Rattle.aa_lane.specs.declared.cells.Cell.{Cell}
 use Rattle.aa_lane.specs.declared.cells.Cell.TheVariants.{Answered}
+use Rattle.aa_lane.specs.declared.cells.Entry.{Entry}
 use Rattle.aa_lane.specs.declared.cells.View.{View}
 use Rattle.aa_lane.specs.declared.cells.Key.{Key}
 use Rattle.aa_lane.proofs.ShutBy.{step_shut_by}
-use Rattle.aa_lane.proofs.Stays.{keep_filled, keep_seats, logged, world}
+use Rattle.aa_lane.proofs.Stays.{keep_filled, keep_seats, logged, makes, log_with, world}
 use Rattle.aa_machine.specs.Run.{state_after}
 use Rattle.aa_lane.specs.Plays.{finished, finished_view}
 use Rattle.aa_lane.proofs.Rows.{snoc_cases, get_take, take_take}
@@ -45,8 +47,8 @@ module _ {M S Q A : Type 0} (next : M → S → Q → S) (reply : M → S → Q 
     answer_is : a ≡ reply w.machine w.state q
     answer_is = decided w.machine w.start (h.seats ByServer id v at serves).1 ∙ rw (taken_part, ← h.lawful.reached) refl
 
-    pub finish_one : Shows next reply (stepped s 16 (v.server.done + 1) id ((v.server.done % length s.homes, Answered q a) ∷ []) (finished_view v) gives) (answering next reply w q)
-    finish_one =
+    pub finish_one : (log : List (Entry M S Q A)) → Shows next reply (stepped s 16 (v.server.done + 1) id ((v.server.done % length s.homes, Answered q a) ∷ []) (finished_view v log) gives) (answering next reply w q)
+    finish_one log =
         let b = began in let d = fits.done in
         let t = h.lawful.sent in let g = h.lawful.gotten in let room = h.lawful.room in let c = h.capacity in
         let w' : WorldState M S Q A = answering next reply w q in
@@ -79,10 +81,10 @@ module _ {M S Q A : Type 0} (next : M → S → Q → S) (reply : M → S → Q 
           ]);
           in_hand = λ m low high. absurd (omega arith);
           seat = h.seat;
-          filled = keep_filled s.views h.seat id v (finished_view v) h.filled at (λ a. elim a as (λ a. role a (finished_view v) ≡ role a v) [ ByOwner ↦ refl | ByServer ↦ refl | ByShutter ↦ refl ]);
-          seats = keep_seats s.views h.seat s.homes hs w w' ByServer id v (finished_view v) h.seats at serves
-              (λ a. elim a as (λ a. role a (finished_view v) ≡ role a v) [ ByOwner ↦ refl | ByServer ↦ refl | ByShutter ↦ refl ]) refl refl refl
-              (λ a. elim a as (λ a. Fits a s.homes w v → Fits a hs w' (finished_view v)) [
+          filled = keep_filled s.views h.seat id v (finished_view v log) h.filled at (λ a. elim a as (λ a. role a (finished_view v log) ≡ role a v) [ ByOwner ↦ refl | ByServer ↦ refl | ByShutter ↦ refl ]);
+          seats = keep_seats s.views h.seat s.homes hs w w' ByServer id v (finished_view v log) h.seats at serves
+              (λ a. elim a as (λ a. role a (finished_view v log) ≡ role a v) [ ByOwner ↦ refl | ByServer ↦ refl | ByShutter ↦ refl ]) refl refl refl
+              (λ a. elim a as (λ a. Fits a s.homes w v → Fits a hs w' (finished_view v log)) [
                 | ByOwner ↦ owner v
                 | ByServer ↦ λ f. record { taken = f.taken; done = omega arith; seen = f.seen; settled = λ e. let z = (f.settled e).1 in absurd (omega arith) }
                 | ByShutter ↦ λ f. record { count = f.count }
@@ -92,14 +94,14 @@ module _ {M S Q A : Type 0} (next : M → S → Q → S) (reply : M → S → Q 
                 | ByServer ↦ λ u e f. let z : true ≡ false = e in cc
                 | ByShutter ↦ λ u e f. record { count = f.count }
               ]);
-          shut_by = step_shut_by s.views id v (finished_view v) w.shut at (λ o. o) (λ o. o) (λ e. e) (λ e. e) (λ e. e) h.shut_by;
+          shut_by = step_shut_by s.views id v (finished_view v log) w.shut at (λ o. o) (λ o. o) (λ e. e) (λ e. e) (λ e. e) h.shut_by;
         }
 
 module _ {M S Q A : Type 0} (next : M → S → Q → S) (reply : M → S → Q → A) (k : Key M S Q A) where
   -- the store of the done word
   pub finishes_step : (c id : ℕ) (v : View M S Q A) (q : Q) (a : A) → v.serves ≡ true → length v.server.taken ≡ v.server.done + 1 → slice_get v.server.taken v.server.done ≡ Some q
       → ((m : M) (t : S) → v.terms ≡ Some (m, t) → a ≡ reply m (state_after (next m) (reply m) t (take v.server.done v.server.taken)) q)
-      → Allows (HasLog next reply k) c id (v, (v.server.done % c, Answered q a) ∷ []) 16 (λ _. v.server.done + 1) (λ _. finished (step c 16 (v.server.done + 1) 0 none) (v, (v.server.done % c, Answered q a) ∷ []) (v.server.done + 1))
+      → Allows (HasLog next reply k) c id (v, (v.server.done % c, Answered q a) ∷ []) 16 (λ _. v.server.done + 1) (λ _. finished next reply (step c 16 (v.server.done + 1) 0 none) (v, (v.server.done % c, Answered q a) ∷ []) (v.server.done + 1))
   finishes_step c id v q a serves busy job decided s held len at small =
       let w : WorldState M S Q A = world next reply k s held in
       let h : Shows next reply s w = held.shows in
@@ -107,8 +109,9 @@ module _ {M S Q A : Type 0} (next : M → S → Q → S) (reply : M → S → Q 
       let ne : w.taken ≢ length w.answers = λ e. omega arith in
       let d = (h.seats ByServer id v at serves).2.done in
       let told : Finished v.server.done ≡ answer_to next reply w Finish = rw (ne_eqb w.taken (length w.answers) ne) (ap Finished d) in
-      let kept = logged next reply k s held _ _ id v (finished_view v) ByServer Finish (Finished v.server.done) (answering next reply w q) at serves
-      (λ a. elim a as (λ a. role a (finished_view v) ≡ role a v) [ ByOwner ↦ refl | ByServer ↦ refl | ByShutter ↦ refl ])
-      (elim [ ByOwner ↦ refl | ByServer ↦ refl | ByShutter ↦ refl ])
-      (finishes next reply w q ne (there_is next reply s w h id v q a at serves busy job decided)) told (finish_one next reply s w h id v q a at serves busy job decided) in
-      (finished_view v, gives, tt, rw (← len) kept, refl)
+      let log : List (Entry M S Q A) = log_with next reply k s held ByServer Finish (Finished v.server.done) in
+      let kept = logged next reply k s held _ _ id v (finished_view v log) ByServer Finish (Finished v.server.done) (answering next reply w q) at serves
+      (λ a. elim a as (λ a. role a (finished_view v log) ≡ role a v) [ ByOwner ↦ refl | ByServer ↦ refl | ByShutter ↦ refl ])
+      (elim [ ByOwner ↦ refl | ByServer ↦ refl | ByShutter ↦ refl ]) refl
+      (finishes next reply w q ne (there_is next reply s w h id v q a at serves busy job decided)) told (finish_one next reply s w h id v q a at serves busy job decided log) in
+      (finished_view v log, gives, tt, rw (← len) kept, (refl, makes next reply k s held c id v (finished_view v log) ByServer Finish (Finished v.server.done) len at serves told refl))

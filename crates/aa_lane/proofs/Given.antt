@@ -5,6 +5,7 @@ use Rattle.aa_machine.specs.Run.{replies}
 use Rattle.aa_lane.specs.Ends.{LaneSeen, OwnerSeen, MaySend, Refuses}
 use Rattle.aa_lane.specs.declared.event.SendFault.TheVariants.{Spent, Full, Closed}
 use Rattle.aa_lane.specs.declared.lane.Unsent.{Unsent}
+use Rattle.aa_lane.specs.declared.cells.Entry.{Entry}
 use Rattle.aa_lane.specs.Answers.{Collects, answered_from, collected_by, look, sent_of}
 use Rattle.aa_lane.specs.declared.lane.Answered.{Answered}
 
@@ -34,8 +35,8 @@ module _ {M S Q A : Type 0} (next : M → S → Q → S) (reply : M → S → Q 
   take_answered m n s (x ∷ xs) ys zero h = refl
   take_answered m n s (x ∷ xs) ys (suc i) h = ap (λ k. record { number = n; request = x; answer = reply m s x } ∷ k) (take_answered m (suc n) (next m s x) xs ys i (omega arith))
 
-  pub sent_collected : (l : LaneSeen M S) (o : OwnerSeen M S Q A) (q : Q) → o.got ≤ length o.sent → collected_by next reply l (sent_of o q) ≡ collected_by next reply l o
-  sent_collected l o q h = take_answered l.machine 0 l.start o.sent (q ∷ []) o.got h
+  pub sent_collected : (l : LaneSeen M S) (o : OwnerSeen M S Q A) (q : Q) (log : List (Entry M S Q A)) → o.got ≤ length o.sent → collected_by next reply l (sent_of o q log) ≡ collected_by next reply l o
+  sent_collected l o q log h = take_answered l.machine 0 l.start o.sent (q ∷ []) o.got h
 
   pub look_collected : (l : LaneSeen M S) (o o' : OwnerSeen M S Q A) (r : Option (Answered M S Q A)) → Collects next reply l o o' r → collected_by next reply l o' ≡ collected_by next reply l o ++ look r
   look_collected l o o' None h = ap (collected_by next reply l) h.1 ∙ sym (append-nil _)
@@ -45,9 +46,9 @@ module _ {M S Q A : Type 0} (next : M → S → Q → S) (reply : M → S → Q 
       let more : take (o.got + 1) all ≡ take o.got all ++ a ∷ [] = rw add-one (take_snoc all o.got a at) in
       ap (collected_by next reply l) h.4 ∙ more
 
-  pub send_collected : (l : LaneSeen M S) (o o' : OwnerSeen M S Q A) (q : Q) (r : Result ℕ (Unsent M S Q A)) → IfOk r (λ n. MaySend o × (n ≡ length o.sent) × (o' ≡ sent_of o q)) → IfErr r (λ u. (u.request ≡ q) × Refuses u.fault q o o')
+  pub send_collected : (l : LaneSeen M S) (o o' : OwnerSeen M S Q A) (q : Q) (r : Result ℕ (Unsent M S Q A)) → IfOk r (λ n. MaySend o × (n ≡ length o.sent) × (o' ≡ sent_of o q o'.log)) → IfErr r (λ u. (u.request ≡ q) × Refuses u.fault q o o')
       → o.got ≤ length o.sent → collected_by next reply l o' ≡ collected_by next reply l o
-  send_collected l o o' q (Ok n) done refused le = ap (collected_by next reply l) done.2 ∙ sent_collected l o q le
+  send_collected l o o' q (Ok n) done refused le = ap (collected_by next reply l) done.2 ∙ sent_collected l o q o'.log le
   send_collected l o o' q (Err u) done refused le =
       elim u.fault as (λ f. Refuses f q o o' → collected_by next reply l o' ≡ collected_by next reply l o) [
         | Spent ↦ λ h. ap (collected_by next reply l) h.1

@@ -7,7 +7,9 @@ use lib.ListN.{get_elem?}
 use Rattle.atomic_table.specs.Table.{State, step, Valid, stepped, Allows, rest, carried_after, homes_after}
 use Rattle.atomic_table.proofs.Lists.{set_else, set_here}
 use Rattle.aa_lane.specs.WorldState.{WorldState, opening}
-use Rattle.aa_lane.specs.Log.{Who, ByOwner, ByServer, ByShutter, same}
+use Rattle.aa_lane.specs.Log.{same}
+use Rattle.aa_lane.specs.declared.cells.Who.{Who}
+use Rattle.aa_lane.specs.declared.cells.Who.TheVariants.{ByOwner, ByServer, ByShutter}
 use Rattle.aa_lane.specs.Shows.{Shows, HasLog, Fits, OwnerFits, ServerFits, ShutterFits, role}
 use Rattle.aa_lane.specs.declared.cells.Cell.{Cell}
 use Rattle.aa_lane.specs.declared.cells.Cell.TheVariants.{Vacant}
@@ -16,8 +18,10 @@ use Rattle.aa_lane.specs.declared.cells.Key.{Key}
 use Rattle.aa_lane.proofs.Stays.{keep_filled, keep_seats, world}
 use Rattle.std.proofs.Math.Nat.{mod-eq_of_lt, mod-lt}
 use Rattle.atomic_table.specs.Table.{opening as table_opening, Splits, Joins}
-use Rattle.aa_lane.specs.Log.{by}
-use Rattle.aa_lane.specs.Shows.{ShutBy, made, first_view, spent_view}
+use Rattle.aa_lane.specs.Log.{may_make, GoesOn}
+use Rattle.aa_lane.specs.declared.cells.Entry.{Entry}
+use Rattle.std.proofs.lemmas.List.Elements.{All-nil}
+use Rattle.aa_lane.specs.Shows.{ShutBy, log_of, first_view, spent_view}
 use Rattle.aa_lane.specs.declared.cells.OwnerNotes.{OwnerNotes}
 use Rattle.aa_lane.specs.declared.cells.ServerNotes.{ServerNotes}
 use Rattle.aa_lane.specs.declared.cells.ShutterNotes.{ShutterNotes}
@@ -26,7 +30,7 @@ use Rattle.aa_lane.specs.Plays.{readied, ready_view, take_slots, without_server,
 use Rattle.aa_lane.proofs.ShutBy.{OwnerFrom, ShutterFrom, keep_shut_by, step_shut_by}
 use Rattle.aa_lane.proofs.Lawful.{opening_lawful}
 use Rattle.aa_lane.proofs.Rows.{each_set, at_here, split_eq}
-use Rattle.aa_lane.proofs.Logs.{same_eq}
+use Rattle.aa_lane.proofs.Logs.{same_eq, goes_itself}
 
 module _ {X : Type 0} (x : X) where
   vacant_homes : (n i : ℕ) → i < n → get_elem? (map some (replicate n x)) i ≡ some (some x)
@@ -193,10 +197,10 @@ module _ {M S Q A : Type 0} (next : M → S → Q → S) (reply : M → S → Q 
   fits_same hs w v l e ByServer f = subst (ServerFits w) (sym e.1) f
   fits_same hs w v l e ByShutter f = subst (ShutterFits w) (sym e.2) f
 
-  made_same : (v l : View M S Q A) → (l.owner ≡ v.owner) × (l.server ≡ v.server) × (l.shutter ≡ v.shutter) → (a : Who) → made a l ≡ made a v
-  made_same v l e ByOwner = ap (λ (n : OwnerNotes M S Q A). n.made) e.0
-  made_same v l e ByServer = ap (λ (n : ServerNotes M S Q A). n.made) e.1
-  made_same v l e ByShutter = ap (λ (n : ShutterNotes M S Q A). n.made) e.2
+  log_same : (v l : View M S Q A) → (l.owner ≡ v.owner) × (l.server ≡ v.server) × (l.shutter ≡ v.shutter) → (a : Who) → log_of a v ≡ log_of a l
+  log_same v l e ByOwner = ap (λ (n : OwnerNotes M S Q A). n.log) (sym e.0)
+  log_same v l e ByServer = ap (λ (n : ServerNotes M S Q A). n.log) (sym e.1)
+  log_same v l e ByShutter = ap (λ (n : ShutterNotes M S Q A). n.log) (sym e.2)
 
   whose : (who : Who) (v l r : View M S Q A) → Parts who v l r → (a : Who) → role a r ≡ true → role a v ≡ true
   whose who v l r p a o = subst (λ b. role b v ≡ true) (sym (same_eq a who (p.rights a o))) p.is
@@ -302,7 +306,7 @@ module _ {M S Q A : Type 0} (next : M → S → Q → S) (reply : M → S → Q 
     alone : (a : Who) → same a who ≡ false → role a u ≡ false
     terms : b.terms ≡ v.terms
     fits : (hs : List (Option (Cell M S Q A))) (w : WorldState M S Q A) (a : Who) → cond (same a who) (Fits a hs w u) (Fits a hs w v) → Fits a hs w b
-    lists : (a : Who) → made a b ≡ cond (same a who) (made a u) (made a v)
+    logs : (a : Who) → cond (same a who) (log_of a u) (log_of a v) ≡ log_of a b
     owner_from : (views : List (View M S Q A)) (id other : ℕ) → get_elem? views id ≡ some v → get_elem? views other ≡ some u → OwnerFrom views b
     shutter_from : (views : List (View M S Q A)) (id other : ℕ) → get_elem? views id ≡ some v → get_elem? views other ≡ some u → ShutterFrom views b
 
@@ -369,7 +373,7 @@ module _ {M S Q A : Type 0} (next : M → S → Q → S) (reply : M → S → Q 
     alone = λ a. elim a as (λ a. same a ByServer ≡ false → role a u ≡ false) [ ByOwner ↦ λ e. alone.0 | ByServer ↦ λ e. let z : true ≡ false = e in cc | ByShutter ↦ λ e. alone.1 ];
     terms = refl;
     fits = λ hs w a. elim a as (λ a. cond (same a ByServer) (Fits a hs w u) (Fits a hs w v) → Fits a hs w (with_server v u)) [ ByOwner ↦ λ f. f | ByServer ↦ λ f. f | ByShutter ↦ λ f. f ];
-    lists = λ a. elim a as (λ a. made a (with_server v u) ≡ cond (same a ByServer) (made a u) (made a v)) [ ByOwner ↦ refl | ByServer ↦ refl | ByShutter ↦ refl ];
+    logs = λ a. elim a as (λ a. cond (same a ByServer) (log_of a u) (log_of a v) ≡ log_of a (with_server v u)) [ ByOwner ↦ refl | ByServer ↦ refl | ByShutter ↦ refl ];
     owner_from = λ views id other at there o. (id, v, at, o, λ e. e, λ e. e);
     shutter_from = λ views id other at there o. (id, v, at, o, λ e. e);
   }
@@ -384,7 +388,7 @@ module _ {M S Q A : Type 0} (next : M → S → Q → S) (reply : M → S → Q 
     alone = λ a. elim a as (λ a. same a ByShutter ≡ false → role a u ≡ false) [ ByOwner ↦ λ e. alone.0 | ByServer ↦ λ e. alone.1 | ByShutter ↦ λ e. let z : true ≡ false = e in cc ];
     terms = refl;
     fits = λ hs w a. elim a as (λ a. cond (same a ByShutter) (Fits a hs w u) (Fits a hs w v) → Fits a hs w (with_shutter v u)) [ ByOwner ↦ λ f. f | ByServer ↦ λ f. f | ByShutter ↦ λ f. f ];
-    lists = λ a. elim a as (λ a. made a (with_shutter v u) ≡ cond (same a ByShutter) (made a u) (made a v)) [ ByOwner ↦ refl | ByServer ↦ refl | ByShutter ↦ refl ];
+    logs = λ a. elim a as (λ a. cond (same a ByShutter) (log_of a u) (log_of a v) ≡ log_of a (with_shutter v u)) [ ByOwner ↦ refl | ByServer ↦ refl | ByShutter ↦ refl ];
     owner_from = λ views id other at there o. (id, v, at, o, λ e. e, λ e. e);
     shutter_from = λ views id other at there o. (other, u, there, is, λ e. e);
   }
@@ -401,10 +405,10 @@ module _ {M S Q A : Type 0} (next : M → S → Q → S) (reply : M → S → Q 
   pub opens : 0 < k.capacity → HasLog next reply k (table_opening (replicate 17 0) (replicate k.capacity Vacant) (first_view k))
   opens roomy = record {
     log = [];
-    told = refl;
+    is = record { told = refl; able = All-nil (λ (x : Entry M S Q A). may_make x.who x.event ≡ true) };
     shows = opens_one next reply k roomy;
-    makes = λ a j v e o. let f = first_only next reply j v (first_view k) e in
-        subst (λ (u : View M S Q A). made a u ≡ []) f.1 (elim a as (λ a. made a (first_view k) ≡ []) [ ByOwner ↦ refl | ByServer ↦ refl | ByShutter ↦ refl ]);
+    seen = λ a j v e o. let f = first_only next reply j v (first_view k) e in
+        subst (λ (u : View M S Q A). GoesOn a (log_of a u) []) f.1 (elim a as (λ a. GoesOn a (log_of a (first_view k)) []) [ ByOwner ↦ goes_itself ByOwner [] | ByServer ↦ goes_itself ByServer [] | ByShutter ↦ goes_itself ByShutter [] ]);
   }
 
   -- the load at which the owner takes all slots
@@ -413,15 +417,15 @@ module _ {M S Q A : Type 0} (next : M → S → Q → S) (reply : M → S → Q 
       let v' : View M S Q A = ready_view v in
       let new = readies_one next reply s (world next reply k s all) all.shows id c v at owns ready len in
       let roles : (a : Who) → role a v' ≡ role a v = λ a. elim a as (λ a. role a (ready_view v) ≡ role a v) [ ByOwner ↦ refl | ByServer ↦ refl | ByShutter ↦ refl ] in
-      let lists : (a : Who) → made a v' ≡ made a v = λ a. elim a as (λ a. made a (ready_view v) ≡ made a v) [ ByOwner ↦ refl | ByServer ↦ refl | ByShutter ↦ refl ] in (
+      let logs : (a : Who) → log_of a v ≡ log_of a v' = λ a. elim a as (λ a. log_of a v ≡ log_of a (ready_view v)) [ ByOwner ↦ refl | ByServer ↦ refl | ByShutter ↦ refl ] in (
         v',
         take_slots c,
         new.0,
         record {
           log = all.log;
-          told = all.told;
+          is = all.is;
           shows = new.1;
-          makes = λ a. each_set (λ j u. role a u ≡ true → made a u ≡ by a all.log) s.views id v' (λ o. lists a ∙ all.makes a id v at (sym (roles a) ∙ o)) (λ j u _ there o. all.makes a j u there o);
+          seen = λ a. each_set (λ j u. role a u ≡ true → GoesOn a (log_of a u) all.log) s.views id v' (λ o. subst (λ l. GoesOn a l all.log) (logs a) (all.seen a id v at (sym (roles a) ∙ o))) (λ j u _ there o. all.seen a j u there o);
         },
         ap (λ (l : List (ℕ × Cell M S Q A)). (v', l)) (taken_carried c 0 ∙ ap (plain 0) (omega arith) ∙ plain_vacant c 0 c (omega arith)),
       )
@@ -429,12 +433,12 @@ module _ {M S Q A : Type 0} (next : M → S → Q → S) (reply : M → S → Q 
   split_off : (who : Who) (id : ℕ) (v l r : View M S Q A) → Parts next reply who v l r → Splits (HasLog next reply k) id v l r
   split_off who id v l r p s all at = record {
     log = all.log;
-    told = all.told;
+    is = all.is;
     shows = split_one next reply s (world next reply k s all) all.shows who id v l r p at;
-    makes = λ a. split_rows (λ j u. role a u ≡ true → made a u ≡ by a all.log) s.views id l r
-        (λ o. made_same next reply v l p.left_notes a ∙ all.makes a id v at (p.lefts a o).0)
-        (λ j u ne there o. all.makes a j u there o)
-        (λ o. made_same next reply v r p.right_notes a ∙ all.makes a id v at (whose next reply who v l r p a o));
+    seen = λ a. split_rows (λ j u. role a u ≡ true → GoesOn a (log_of a u) all.log) s.views id l r
+        (λ o. subst (λ i. GoesOn a i all.log) (log_same next reply v l p.left_notes a) (all.seen a id v at (p.lefts a o).0))
+        (λ j u ne there o. all.seen a j u there o)
+        (λ o. subst (λ i. GoesOn a i all.log) (log_same next reply v r p.right_notes a) (all.seen a id v at (whose next reply who v l r p a o)));
   }
 
   pub splits_server : (id : ℕ) (v : View M S Q A) → v.serves ≡ true → Splits (HasLog next reply k) id v (without_server v) (only_server v)
@@ -448,15 +452,15 @@ module _ {M S Q A : Type 0} (next : M → S → Q → S) (reply : M → S → Q 
       let there : get_elem? s.views other ≡ some u = sym (set_else s.views id other b apart) ∙ at_other in
       record {
         log = all.log;
-        told = all.told;
+        is = all.is;
         shows = join_one next reply s (world next reply k s all) all.shows who id v other u b p at there apart;
-        makes = λ a. join_rows (λ j x. role a x ≡ true → made a x ≡ by a all.log) s.views id other b spent_view
-            (λ o. p.lists a ∙ elim (same a who) as (λ c. same a who ≡ c → cond c (made a u) (made a v) ≡ by a all.log) [
-              | true ↦ λ e. all.makes a other u there (of_other next reply who v u b p a e)
-              | false ↦ λ e. all.makes a id v at (p.roles a e o)
-            ] refl)
+        seen = λ a. join_rows (λ j x. role a x ≡ true → GoesOn a (log_of a x) all.log) s.views id other b spent_view
+            (λ o. subst (λ i. GoesOn a i all.log) (p.logs a) (elim (same a who) as (λ c. same a who ≡ c → GoesOn a (cond c (log_of a u) (log_of a v)) all.log) [
+              | true ↦ λ e. all.seen a other u there (of_other next reply who v u b p a e)
+              | false ↦ λ e. all.seen a id v at (p.roles a e o)
+            ] refl))
             (λ o. let z : false ≡ true = spent_has_none next reply a o in cc)
-            (λ j x nid ne at_j o. all.makes a j x at_j o);
+            (λ j x nid ne at_j o. all.seen a j x at_j o);
       }
 
   pub joins_server : (id : ℕ) (v : View M S Q A) (other : ℕ) (u : View M S Q A) → v.owns ≡ true → u.serves ≡ true → (u.owns ≡ false) × (u.shuts ≡ false) → Joins (HasLog next reply k) id v other u (with_server v u) spent_view

@@ -9,6 +9,7 @@ use Rattle.aa_lane.specs.Steps.{CanSend}
 use Rattle.aa_lane.specs.Plays.{sent_view, unsent_view, collected_view}
 use Rattle.aa_lane.specs.declared.cells.Cell.{Cell}
 use Rattle.aa_lane.specs.declared.cells.Cell.TheVariants.{Vacant}
+use Rattle.aa_lane.specs.declared.cells.Entry.{Entry}
 use Rattle.aa_lane.specs.declared.cells.View.{View}
 use Rattle.aa_lane.proofs.Vacant.{vacant-first, vacant-last}
 
@@ -38,9 +39,9 @@ module _ {M S Q A : Type 0} where
         held = first ∙ ap (λ l. (sent % c, Vacant) ∷ rest l) (sym first);
       }
 
-  pub owner_sent : (z : TableId) (v : View M S Q A) (held : List (ℕ × Cell M S Q A)) (c sent got : ℕ) (q : Q) → OwnerOk z v held c sent got → sent ≢ 4611686018427387903 → (sent - got) ≢ c
-      → OwnerOk z (sent_view v q) (rest held) c (sent + 1) got
-  owner_sent z v held c sent got q ok spent full =
+  pub owner_sent : (z : TableId) (v : View M S Q A) (held : List (ℕ × Cell M S Q A)) (c sent got : ℕ) (q : Q) (log : List (Entry M S Q A)) → OwnerOk z v held c sent got → sent ≢ 4611686018427387903 → (sent - got) ≢ c
+      → OwnerOk z (sent_view v q log) (rest held) c (sent + 1) got
+  owner_sent z v held c sent got q log ok spent full =
       let room = has_room c sent got ok.room ok.gotten full in
       let l = ok.gotten in let s = ok.spent in let i = ok.sent_is in
       let first = first_held held c sent got ok.held_is room in
@@ -59,8 +60,8 @@ module _ {M S Q A : Type 0} where
         held_is = ap rest first ∙ rw add-one refl;
       }
 
-  pub owner_closed : (z : TableId) (v : View M S Q A) (held : List (ℕ × Cell M S Q A)) (c sent got : ℕ) (q : Q) → OwnerOk z v held c sent got → OwnerOk z (unsent_view v q) held c sent got
-  owner_closed z v held c sent got q ok = record {
+  pub owner_closed : (z : TableId) (v : View M S Q A) (held : List (ℕ × Cell M S Q A)) (c sent got : ℕ) (log : List (Entry M S Q A)) → OwnerOk z v held c sent got → OwnerOk z (unsent_view v log) held c sent got
+  owner_closed z v held c sent got log ok = record {
     owns = ok.owns;
     ready = ok.ready;
     words = ok.words;
@@ -75,9 +76,9 @@ module _ {M S Q A : Type 0} where
     held_is = ok.held_is;
   }
 
-  pub owner_collected : (z : TableId) (v : View M S Q A) (held : List (ℕ × Cell M S Q A)) (c sent got n : ℕ) (q : Q) → OwnerOk z v held c sent got → slice_get v.owner.sent got ≡ Some q
-      → OwnerOk z (collected_view v n) (held ++ (got % c, Vacant) ∷ []) c sent (got + 1)
-  owner_collected z v held c sent got n q ok there =
+  pub owner_collected : (z : TableId) (v : View M S Q A) (held : List (ℕ × Cell M S Q A)) (c sent got n : ℕ) (q : Q) (log : List (Entry M S Q A)) → OwnerOk z v held c sent got → slice_get v.owner.sent got ≡ Some q
+      → OwnerOk z (collected_view v n log) (held ++ (got % c, Vacant) ∷ []) c sent (got + 1)
+  owner_collected z v held c sent got n q log ok there =
       let i = ok.sent_is in let lt = slice_get_within v.owner.sent got q there in
       let g = ok.gotten in let r = ok.room in
       let m : ℕ = (got + c) - sent in

@@ -1,13 +1,19 @@
 -- What a server is after each call.
-use Rattle.std.proofs.Common.{◌≡◌, ℕ, zero, suc, ◌+◌, ◌%◌, ◌<◌, ◌^◌, List, [], ◌∷◌, ◌++◌, length, refl, sym, ap, ◌∙◌, arith, length-append, take, slice_get, Some}
+use Rattle.std.proofs.Common.{◌≡◌, ℕ, zero, suc, ◌+◌, ◌%◌, ◌<◌, ◌^◌, List, [], ◌∷◌, ◌++◌, length, refl, sym, ap, ◌∙◌, subst, arith, length-append, take, slice_get, Some}
 use Rattle.std.proofs.Math.Seq.{take-append_seam}
 use Rattle.atomic_table.specs.Seated.{TableId}
 use Rattle.aa_machine.specs.Run.{state_after}
-use Rattle.aa_lane.specs.Plays.{taken_view, finished_view}
-use Rattle.aa_lane.specs.Ends.{ServerOk, BusyOk}
+use Rattle.aa_lane.specs.Plays.{Makes, taken_view, finished_view}
+use Rattle.aa_lane.specs.Ends.{LaneId, LaneSeen, ServerSeen, known, server_seen, ServerOk, BusyOk}
+use Rattle.aa_lane.specs.Log.{Happens}
+use Rattle.aa_lane.specs.Answers.{HappensAt}
+use Rattle.aa_lane.specs.declared.cells.Who.TheVariants.{ByServer}
+use Rattle.aa_lane.specs.declared.event.Event.{Event}
+use Rattle.aa_lane.specs.declared.event.Reply.{Reply}
 use Rattle.aa_lane.specs.Steps.{CanFinish}
 use Rattle.aa_lane.specs.declared.cells.Cell.{Cell}
 use Rattle.aa_lane.specs.declared.cells.Cell.TheVariants.{Vacant}
+use Rattle.aa_lane.specs.declared.cells.Entry.{Entry}
 use Rattle.aa_lane.specs.declared.cells.View.{View}
 use Rattle.aa_lane.proofs.Runs.{state_after-snoc}
 use Rattle.aa_lane.proofs.Rows.{same_terms}
@@ -26,9 +32,9 @@ module _ {X : Type 0} where
   front_and_last (y ∷ xs) x (suc n) e h = ap (λ l. y ∷ l) (front_and_last xs x n (omega arith) h)
 
 module _ {M S Q A : Type 0} (next : M → S → Q → S) (reply : M → S → Q → A) where
-  pub server_took : (z : TableId) (v : View M S Q A) (held : List (ℕ × Cell M S Q A)) (c done : ℕ) (state : S) (q : Q) (n : ℕ) → ServerOk next reply z v held c done state → done < 2 ^ 63
-      → BusyOk next reply z (taken_view v n q) ((done % c, Vacant) ∷ []) c done state q
-  server_took z v held c done state q n ok small =
+  pub server_took : (z : TableId) (v : View M S Q A) (held : List (ℕ × Cell M S Q A)) (c done : ℕ) (state : S) (q : Q) (n : ℕ) (log : List (Entry M S Q A)) → ServerOk next reply z v held c done state → done < 2 ^ 63
+      → BusyOk next reply z (taken_view v n q log) ((done % c, Vacant) ∷ []) c done state q
+  server_took z v held c done state q n log ok small =
       let i = ok.idle in
       record {
         serves = ok.serves;
@@ -44,9 +50,9 @@ module _ {M S Q A : Type 0} (next : M → S → Q → S) (reply : M → S → Q 
         held_is = refl;
       }
 
-  pub server_finished : (z : TableId) (v : View M S Q A) (held : List (ℕ × Cell M S Q A)) (c done : ℕ) (state : S) (q : Q) (m : M) (start : S) → v.terms ≡ Some (m, start) → BusyOk next reply z v held c done state q
-      → ServerOk next reply z (finished_view v) [] c (done + 1) (next m state q)
-  server_finished z v held c done state q m start terms ok =
+  pub server_finished : (z : TableId) (v : View M S Q A) (held : List (ℕ × Cell M S Q A)) (c done : ℕ) (state : S) (q : Q) (m : M) (start : S) (log : List (Entry M S Q A)) → v.terms ≡ Some (m, start) → BusyOk next reply z v held c done state q
+      → ServerOk next reply z (finished_view v log) [] c (done + 1) (next m state q)
+  server_finished z v held c done state q m start log terms ok =
       let s = ok.small in
       record {
         serves = ok.serves;
@@ -79,3 +85,14 @@ module _ {M S Q A : Type 0} (next : M → S → Q → S) (reply : M → S → Q 
         slot_is = ap (λ i. done % i) (sym slots);
         held = ok.held_is;
       }
+
+  -- what a step of the server's seat tells, said of the server
+  pub told_of : (z : TableId) (v v' : View M S Q A) (s : ServerSeen M S Q A) (l : LaneSeen M S) (c t : ℕ) (e : Event M S Q A) (r r' : Reply M S Q A) → server_seen z v c t ≡ s → s.lane ≡ known l → z.slots ≡ c → r ≡ r'
+      → Makes next reply z.slots v ByServer e r v' → HappensAt next reply l ByServer s.log e r' v'.server.log
+  told_of z v v' s l c t e r r' is of slots says told =
+      let terms : v.terms ≡ Some (l.machine, l.start) = ap (λ (x : ServerSeen M S Q A). x.lane.terms) is ∙ ap (λ (x : LaneId M S). x.terms) of in
+      let capacity : z.slots ≡ l.capacity = slots ∙ ap (λ (x : ServerSeen M S Q A). x.lane.capacity) is ∙ ap (λ (x : LaneId M S). x.capacity) of in
+      let log : v.server.log ≡ s.log = ap (λ (x : ServerSeen M S Q A). x.log) is in
+      subst (λ i. Happens next reply l.machine l.start l.capacity ByServer s.log e i v'.server.log) says
+      (subst (λ i. Happens next reply l.machine l.start l.capacity ByServer i e r v'.server.log) log
+      (subst (λ i. Happens next reply l.machine l.start i ByServer v.server.log e r v'.server.log) capacity (told l.machine l.start terms)))

@@ -2,7 +2,7 @@
 use Rattle.std.proofs.Common.{◌≡◌, ℕ, ◌≤◌, Bool, true, false, List, length, take, refl, sym, ap, ◌∙◌, arith, length-take}
 use Rattle.atomic_table.specs.Table.{State}
 use Rattle.aa_lane.specs.WorldState.{WorldState}
-use Rattle.aa_lane.specs.Log.{ByOwner, ByServer}
+use Rattle.aa_lane.specs.declared.cells.Who.TheVariants.{ByOwner, ByServer}
 use Rattle.aa_lane.specs.Shows.{Shows, OwnerFits, ServerFits, bit}
 use Rattle.aa_lane.specs.declared.cells.Cell.{Cell}
 use Rattle.aa_lane.specs.declared.cells.View.{View}

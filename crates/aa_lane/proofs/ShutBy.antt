@@ -3,7 +3,8 @@ use Rattle.std.proofs.Common.{◌≡◌, ℕ, ◌||◌, inl, inr, is_some, Bool,
 use mathlib.Core.Option.{Option, some}
 use lib.ListN.{get_elem?}
 use Rattle.aa_lane.specs.WorldState.{WorldState}
-use Rattle.aa_lane.specs.Log.{Who, ByOwner, ByServer, ByShutter}
+use Rattle.aa_lane.specs.declared.cells.Who.{Who}
+use Rattle.aa_lane.specs.declared.cells.Who.TheVariants.{ByOwner, ByServer, ByShutter}
 use Rattle.aa_lane.specs.Shows.{ShutBy, Seats, role}
 use Rattle.aa_lane.specs.declared.cells.Cell.{Cell}
 use Rattle.aa_lane.specs.declared.cells.View.{View}

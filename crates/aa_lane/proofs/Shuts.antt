@@ -5,15 +5,17 @@ use mathlib.Core.Option.{Option, some, none}
 use lib.ListN.{get_elem?}
 use Rattle.atomic_table.specs.Table.{State, Me, step, keeps, stepped, Allows}
 use Rattle.aa_lane.specs.WorldState.{WorldState}
-use Rattle.aa_lane.specs.Log.{Who, ByOwner, ByServer, ByShutter}
+use Rattle.aa_lane.specs.declared.cells.Who.{Who}
+use Rattle.aa_lane.specs.declared.cells.Who.TheVariants.{ByOwner, ByServer, ByShutter}
 use Rattle.aa_lane.specs.Shows.{Shows, HasLog, Fits, role, bit}
 use Rattle.aa_lane.specs.declared.event.Event.TheVariants.{Shut}
 use Rattle.aa_lane.specs.declared.event.Reply.TheVariants.{Count}
 use Rattle.aa_lane.specs.declared.cells.Cell.{Cell}
+use Rattle.aa_lane.specs.declared.cells.Entry.{Entry}
 use Rattle.aa_lane.specs.declared.cells.View.{View}
 use Rattle.aa_lane.specs.declared.cells.Key.{Key}
 use Rattle.aa_lane.proofs.ShutBy.{NotedBy, self_shut_by, step_shut_by}
-use Rattle.aa_lane.proofs.Stays.{keep_filled, keep_seats, logged, world}
+use Rattle.aa_lane.proofs.Stays.{keep_filled, keep_seats, logged, makes, log_with, world}
 use Rattle.std.proofs.Common.{◌^◌}
 use Rattle.std.specs.Prelude.{bit_or}
 use Rattle.std.proofs.lemmas.Nat.{or_shifted, or_block}
@@ -70,38 +72,40 @@ module _ {M S Q A : Type 0} (next : M → S → Q → S) (reply : M → S → Q 
 
 module _ {M S Q A : Type 0} (next : M → S → Q → S) (reply : M → S → Q → A) (k : Key M S Q A) where
   -- the shutter shuts
-  pub shuts_step : (c id : ℕ) (m : Me (Cell M S Q A) (View M S Q A)) → m.0.shuts ≡ true → Allows (HasLog next reply k) c id m 0 (λ n. bit_or n 1) (shut_told (step c 0 1 0 none) m)
+  pub shuts_step : (c id : ℕ) (m : Me (Cell M S Q A) (View M S Q A)) → m.0.shuts ≡ true → Allows (HasLog next reply k) c id m 0 (λ n. bit_or n 1) (shut_told next reply (step c 0 1 0 none) m)
   shuts_step c id m is s all len at small =
       let v : View M S Q A = m.0 in
       let w : WorldState M S Q A = world next reply k s all in
       let h : Shows next reply s w = all.shows in
       let n : ℕ = slice_index s.words 0 / 2 in
       let count : n ≡ length w.accepted = half next reply s w h in
-      let v' : View M S Q A = shut_view v n in
-      let roles : (a : Who) → role a v' ≡ role a v = λ a. elim a as (λ a. role a (shut_view v n) ≡ role a v) [ ByOwner ↦ refl | ByServer ↦ refl | ByShutter ↦ refl ] in
-      let here : (a : Who) → Fits a s.homes w v → Fits a s.homes (shutting next reply w) v' = λ a. elim a as (λ a. Fits a s.homes w v → Fits a s.homes (shutting next reply w) (shut_view v n)) [
+      let log : List (Entry M S Q A) = log_with next reply k s all ByShutter Shut (Count n) in
+      let v' : View M S Q A = shut_view v n log in
+      let roles : (a : Who) → role a v' ≡ role a v = λ a. elim a as (λ a. role a (shut_view v n log) ≡ role a v) [ ByOwner ↦ refl | ByServer ↦ refl | ByShutter ↦ refl ] in
+      let here : (a : Who) → Fits a s.homes w v → Fits a s.homes (shutting next reply w) v' = λ a. elim a as (λ a. Fits a s.homes w v → Fits a s.homes (shutting next reply w) (shut_view v n log)) [
         | ByOwner ↦ λ f. shut_fits next reply s.homes w ByOwner v f
         | ByServer ↦ λ f. shut_fits next reply s.homes w ByServer v f
         | ByShutter ↦ λ f. record { count = λ c e. (refl, let z : Some n ≡ Some c = e in let y : n ≡ c = cc in sym y ∙ count) }
       ] in
       let new = shut_one next reply s w h id m.1 ByShutter v v' at is roles refl refl (λ e. e) (λ _. refl) (λ e. e) here in
-      let kept = logged next reply k s all _ _ id v v' ByShutter Shut (Count n) (shutting next reply w) at is roles (elim [ ByOwner ↦ refl | ByServer ↦ refl | ByShutter ↦ refl ]) refl (ap Count count) new in
-      (v', keeps, tt, kept, (refl, λ c e. count ∙ sym ((h.seats ByShutter id v at is).2.count c e).1))
+      let kept = logged next reply k s all _ _ id v v' ByShutter Shut (Count n) (shutting next reply w) at is roles (elim [ ByOwner ↦ refl | ByServer ↦ refl | ByShutter ↦ refl ]) refl refl (ap Count count) new in
+      (v', keeps, tt, kept, (refl, λ c e. count ∙ sym ((h.seats ByShutter id v at is).2.count c e).1, makes next reply k s all c id v v' ByShutter Shut (Count n) len at is (ap Count count) refl))
 
   -- the owner leaves
-  pub exits_step : (c id : ℕ) (m : Me (Cell M S Q A) (View M S Q A)) → m.0.owns ≡ true → Allows (HasLog next reply k) c id m 0 (λ n. bit_or n 1) (exited (step c 0 1 0 none) m)
+  pub exits_step : (c id : ℕ) (m : Me (Cell M S Q A) (View M S Q A)) → m.0.owns ≡ true → Allows (HasLog next reply k) c id m 0 (λ n. bit_or n 1) (exited next reply (step c 0 1 0 none) m)
   exits_step c id m is s all len at small =
       let v : View M S Q A = m.0 in
       let w : WorldState M S Q A = world next reply k s all in
       let h : Shows next reply s w = all.shows in
-      let v' : View M S Q A = left_view v in
-      let roles : (a : Who) → role a v' ≡ role a v = λ a. elim a as (λ a. role a (left_view v) ≡ role a v) [ ByOwner ↦ refl | ByServer ↦ refl | ByShutter ↦ refl ] in
-      let here : (a : Who) → Fits a s.homes w v → Fits a s.homes (shutting next reply w) v' = λ a. elim a as (λ a. Fits a s.homes w v → Fits a s.homes (shutting next reply w) (left_view v)) [
+      let log : List (Entry M S Q A) = log_with next reply k s all ByOwner Shut (Count (length v.owner.sent)) in
+      let v' : View M S Q A = left_view v log in
+      let roles : (a : Who) → role a v' ≡ role a v = λ a. elim a as (λ a. role a (left_view v log) ≡ role a v) [ ByOwner ↦ refl | ByServer ↦ refl | ByShutter ↦ refl ] in
+      let here : (a : Who) → Fits a s.homes w v → Fits a s.homes (shutting next reply w) v' = λ a. elim a as (λ a. Fits a s.homes w v → Fits a s.homes (shutting next reply w) (left_view v log)) [
         | ByOwner ↦ λ f. record { sent = f.sent; got = f.got; found = f.found; closed = λ _. refl; left = λ _. refl; free = f.free; fresh = f.fresh }
         | ByServer ↦ λ f. shut_fits next reply s.homes w ByServer v f
         | ByShutter ↦ λ f. shut_fits next reply s.homes w ByShutter v f
       ] in
       let new = shut_one next reply s w h id m.1 ByOwner v v' at is roles refl refl (λ _. refl) (λ e. e) (λ e. e) here in
       let count : length v.owner.sent ≡ length w.accepted = ap length (h.seats ByOwner id v at is).2.sent in
-      let kept = logged next reply k s all _ _ id v v' ByOwner Shut (Count (length v.owner.sent)) (shutting next reply w) at is roles (elim [ ByOwner ↦ refl | ByServer ↦ refl | ByShutter ↦ refl ]) refl (ap Count count) new in
-      (v', keeps, tt, kept, refl)
+      let kept = logged next reply k s all _ _ id v v' ByOwner Shut (Count (length v.owner.sent)) (shutting next reply w) at is roles (elim [ ByOwner ↦ refl | ByServer ↦ refl | ByShutter ↦ refl ]) refl refl (ap Count count) new in
+      (v', keeps, tt, kept, (refl, makes next reply k s all c id v v' ByOwner Shut (Count (length v.owner.sent)) len at is (ap Count count) refl))

@@ -1,20 +1,23 @@
 -- Each step keeps the rule.
-use Rattle.std.proofs.Common.{◌≡◌, ◌≢◌, ◌==◌, inl, inr, eqb-true, false-eqb, set, ℕ, true, false, cond, List, [], ◌∷◌, ◌++◌, refl, sym, ap, ◌∙◌, subst, slice_set, slice_index, Some}
+use Rattle.std.proofs.Common.{◌≡◌, ◌≢◌, ◌==◌, inl, inr, eqb-true, false-eqb, set, ℕ, length, true, false, cond, List, [], ◌∷◌, ◌++◌, refl, sym, ap, ◌∙◌, subst, slice_set, slice_index, Some}
 use Rattle.std.proofs.lemmas.List.{set-get_or}
 use mathlib.Core.Option.{Option, some}
 use lib.ListN.{get_elem?}
 use Rattle.atomic_table.specs.Table.{State, keeps, stepped}
 use Rattle.aa_lane.specs.WorldState.{WorldState, after, answer_to}
-use Rattle.aa_lane.specs.Log.{Who, same, Entry, by, leaves}
-use Rattle.aa_lane.specs.Shows.{Shows, HasLog, Seats, Filled, ShutBy, Fits, role, made}
+use Rattle.aa_lane.specs.Log.{same, may_make, GoesOn, leaves}
+use Rattle.aa_lane.specs.declared.cells.Who.{Who}
+use Rattle.aa_lane.specs.declared.cells.Entry.{Entry}
+use Rattle.aa_lane.specs.Shows.{Shows, HasLog, Seats, Filled, ShutBy, Fits, role, log_of}
+use Rattle.aa_lane.specs.Plays.{Makes}
 use Rattle.aa_lane.specs.declared.event.Event.{Event}
 use Rattle.aa_lane.specs.declared.event.Reply.{Reply}
 use Rattle.aa_lane.specs.declared.cells.Cell.{Cell}
 use Rattle.aa_lane.specs.declared.cells.View.{View}
 use Rattle.aa_lane.specs.declared.cells.Key.{Key}
-use Rattle.aa_lane.proofs.Rows.{each_set, at_here, split_eq}
+use Rattle.aa_lane.proofs.Rows.{each_set, at_here, split_eq, same_terms}
 use Rattle.atomic_table.proofs.Lists.{set_else}
-use Rattle.aa_lane.proofs.Logs.{same_eq, by_snoc, leaves_snoc, told_snoc}
+use Rattle.aa_lane.proofs.Logs.{same_eq, leaves_snoc, is_log_snoc, goes_itself, goes_further, leaves_terms}
 
 module _ {M S Q A : Type 0} where
   -- no role is lost
@@ -78,25 +81,43 @@ module _ {M S Q A : Type 0} (next : M → S → Q → S) (reply : M → S → Q 
   abbrev pub world : (s : State (Cell M S Q A) (View M S Q A)) → HasLog next reply k s → WorldState M S Q A
   world s h = leaves next reply k.machine.now k.start k.capacity h.log
 
+  -- the log with one entry more
+  abbrev pub log_with : (s : State (Cell M S Q A) (View M S Q A)) → HasLog next reply k s → Who → Event M S Q A → Reply M S Q A → List (Entry M S Q A)
+  log_with s h who e r = h.log ++ record { who = who; event = e; reply = r } ∷ []
+
   -- a step that is an event of the world
   pub logged : (s : State (Cell M S Q A) (View M S Q A)) (h : HasLog next reply k s) (ws : List ℕ) (hs : List (Option (Cell M S Q A))) (id : ℕ) (v v' : View M S Q A) (who : Who) (e : Event M S Q A) (r : Reply M S Q A)
       (w' : WorldState M S Q A) → get_elem? s.views id ≡ some v → role who v ≡ true → ((a : Who) → role a v' ≡ role a v)
-      → ((a : Who) → made a v' ≡ cond (same a who) (made a v ++ (e, r) ∷ []) (made a v))
+      → ((a : Who) → log_of a v' ≡ cond (same a who) (log_with s h who e r) (log_of a v)) → may_make who e ≡ true
       → w' ≡ after next reply (world s h) e → r ≡ answer_to next reply (world s h) e
       → Shows next reply record { words = ws; homes = hs; views = slice_set s.views id v' } w'
       → HasLog next reply k record { words = ws; homes = hs; views = slice_set s.views id v' }
-  logged s h ws hs id v v' who e r w' at is roles lists left told shows =
+  logged s h ws hs id v v' who e r w' at is roles logs may left told shows =
       let x : Entry M S Q A = record { who = who; event = e; reply = r } in
+      let log : List (Entry M S Q A) = h.log ++ x ∷ [] in
       record {
-        log = h.log ++ x ∷ [];
-        told = told_snoc next reply k.machine.now k.start k.capacity h.log x h.told told;
+        log = log;
+        is = is_log_snoc next reply k.machine.now k.start k.capacity h.log x h.is may told;
         shows = subst (Shows next reply record { words = ws; homes = hs; views = slice_set s.views id v' }) (left ∙ sym (leaves_snoc next reply k.machine.now k.start k.capacity h.log x)) shows;
-        makes = λ a. each_set (λ j u. role a u ≡ true → made a u ≡ by a (h.log ++ x ∷ [])) s.views id v'
-            (λ o. lists a ∙ ap (λ (l : List (Event M S Q A × Reply M S Q A)). cond (same a who) (l ++ (e, r) ∷ []) l) (h.makes a id v at (sym (roles a) ∙ o)) ∙ sym (by_snoc a h.log x))
-            (λ j u ne there o.
-            let old : made a u ≡ by a h.log = h.makes a j u there o in
-            elim (same a who) as (λ b. same a who ≡ b → made a u ≡ by a (h.log ++ x ∷ [])) [
+        seen = λ a. each_set (λ j u. role a u ≡ true → GoesOn a (log_of a u) log) s.views id v'
+            (λ o. subst (λ (l : List (Entry M S Q A)). GoesOn a l log) (sym (logs a)) (elim (same a who) as (λ b. same a who ≡ b → GoesOn a (cond b log (log_of a v)) log) [
+              | true ↦ λ _. goes_itself a log
+              | false ↦ λ b. goes_further a (log_of a v) h.log x b (h.seen a id v at (sym (roles a) ∙ o))
+            ] refl))
+            (λ j u ne there o. elim (same a who) as (λ b. same a who ≡ b → GoesOn a (log_of a u) log) [
               | true ↦ λ b. absurd (ne ((h.shows.seats a j u there o).0 ∙ ap h.shows.seat (same_eq a who b) ∙ sym (h.shows.seats who id v at is).0))
-              | false ↦ λ b. old ∙ sym (by_snoc a h.log x ∙ rw b refl)
+              | false ↦ λ b. goes_further a (log_of a u) h.log x b (h.seen a j u there o)
             ] refl);
       }
+
+  -- the seat that made the event knows so
+  pub makes : (s : State (Cell M S Q A) (View M S Q A)) (h : HasLog next reply k s) (c id : ℕ) (v v' : View M S Q A) (who : Who) (e : Event M S Q A) (r : Reply M S Q A)
+      → length s.homes ≡ c → get_elem? s.views id ≡ some v → role who v ≡ true → r ≡ answer_to next reply (world s h) e → log_of who v' ≡ log_with s h who e r
+      → Makes next reply c v who e r v'
+  makes s h c id v v' who e r len at is told logs m t terms =
+      let kept = leaves_terms next reply k.machine.now k.start k.capacity h.log in
+      let both = same_terms v.terms m (world s h).machine t (world s h).start terms (h.shows.seats who id v at is).1 in
+      let machine : m ≡ k.machine.now = both.0 ∙ kept.0 in
+      let start : t ≡ k.start = both.1 ∙ kept.1 in
+      let capacity : c ≡ k.capacity = sym len ∙ sym h.shows.capacity ∙ kept.2 in
+      rw (machine, start, capacity) record { log = h.log; is = h.is; goes_on = h.seen who id v at is; replies = told; seen = logs }

@@ -7,16 +7,18 @@ use lib.ListN.{get_elem?}
 use Rattle.atomic_table.specs.Table.{State, step, Act, keeps, takes, Valid, stepped, Allows, carried_after}
 use Rattle.atomic_table.proofs.Lists.{set_else, set_here, one_turn}
 use Rattle.aa_lane.specs.WorldState.{WorldState, after, answer_to}
-use Rattle.aa_lane.specs.Log.{ByOwner, ByServer, ByShutter, same}
+use Rattle.aa_lane.specs.Log.{same}
+use Rattle.aa_lane.specs.declared.cells.Who.TheVariants.{ByOwner, ByServer, ByShutter}
 use Rattle.aa_lane.specs.Shows.{Shows, HasLog, Fits, OwnerFits, ServerFits, role, bit}
 use Rattle.aa_lane.specs.declared.event.Event.TheVariants.{Take}
 use Rattle.aa_lane.specs.declared.event.Reply.TheVariants.{Taken, Idle, Settled}
 use Rattle.aa_lane.specs.declared.cells.Cell.{Cell}
 use Rattle.aa_lane.specs.declared.cells.Cell.TheVariants.{Asked}
+use Rattle.aa_lane.specs.declared.cells.Entry.{Entry}
 use Rattle.aa_lane.specs.declared.cells.View.{View}
 use Rattle.aa_lane.specs.declared.cells.Key.{Key}
 use Rattle.aa_lane.proofs.ShutBy.{step_shut_by}
-use Rattle.aa_lane.proofs.Stays.{keep_filled, keep_seats, stays, logged, world}
+use Rattle.aa_lane.proofs.Stays.{keep_filled, keep_seats, stays, logged, makes, log_with, world}
 use Rattle.aa_lane.specs.Plays.{took, is_taken, StillSettled, taken_view, idle_view}
 use Rattle.aa_lane.proofs.Lawful.{taking_lawful}
 use Rattle.aa_lane.proofs.Rows.{there, or_cases}
@@ -40,14 +42,14 @@ module _ {M S Q A : Type 0} (next : M → S → Q → S) (reply : M → S → Q 
         let t = h.lawful.sent in let d = fits.done in
         omega (arith, length-take w.taken w.accepted)
 
-    pub take_none : (x n : ℕ) (odd : Bool) → x ≡ slice_index s.words 0 → n ≡ length w.accepted → n ≤ v.server.done → (odd ≡ true → w.shut ≡ true)
-        → Shows next reply (stepped s 0 x id [] (idle_view v n odd) keeps) w
-    take_none x n odd is count none_now shut =
+    pub take_none : (log : List (Entry M S Q A)) (x n : ℕ) (odd : Bool) → x ≡ slice_index s.words 0 → n ≡ length w.accepted → n ≤ v.server.done → (odd ≡ true → w.shut ≡ true)
+        → Shows next reply (stepped s 0 x id [] (idle_view v n odd log) keeps) w
+    take_none log x n odd is count none_now shut =
         let f0 = free in let d = fits.done in let t = h.lawful.sent in
-        stays next reply s w h 0 x id [] ByServer v (idle_view v n odd) is at serves
-        (λ a. elim a as (λ a. role a (idle_view v n odd) ≡ role a v) [ ByOwner ↦ refl | ByServer ↦ refl | ByShutter ↦ refl ]) refl
-        (step_shut_by s.views id v (idle_view v n odd) w.shut at (λ o. o) (λ o. o) (λ e. e) (λ e. e) (λ e. e) h.shut_by)
-        (λ a. elim a as (λ a. Fits a s.homes w v → Fits a s.homes w (idle_view v n odd)) [
+        stays next reply s w h 0 x id [] ByServer v (idle_view v n odd log) is at serves
+        (λ a. elim a as (λ a. role a (idle_view v n odd log) ≡ role a v) [ ByOwner ↦ refl | ByServer ↦ refl | ByShutter ↦ refl ]) refl
+        (step_shut_by s.views id v (idle_view v n odd log) w.shut at (λ o. o) (λ o. o) (λ e. e) (λ e. e) (λ e. e) h.shut_by)
+        (λ a. elim a as (λ a. Fits a s.homes w v → Fits a s.homes w (idle_view v n odd log)) [
           | ByOwner ↦ λ f. f
           | ByServer ↦ λ f. record {
             taken = f.taken;
@@ -58,10 +60,10 @@ module _ {M S Q A : Type 0} (next : M → S → Q → S) (reply : M → S → Q 
           | ByShutter ↦ λ f. f
         ])
 
-    pub take_more_one : (x n : ℕ) (q : Q) → x ≡ slice_index s.words 0 → n ≡ length w.accepted → v.server.done < n → slice_get w.accepted w.taken ≡ Some q
+    pub take_more_one : (log : List (Entry M S Q A)) (x n : ℕ) (q : Q) → x ≡ slice_index s.words 0 → n ≡ length w.accepted → v.server.done < n → slice_get w.accepted w.taken ≡ Some q
         → (get_elem? s.homes (v.server.done % length s.homes) ≡ some (some (Asked q)))
-        × Shows next reply (stepped s 0 x id [] (taken_view v n q) (takes (v.server.done % length s.homes) (Asked q))) (taking w)
-    take_more_one x n q is count more e =
+        × Shows next reply (stepped s 0 x id [] (taken_view v n q log) (takes (v.server.done % length s.homes) (Asked q))) (taking w)
+    take_more_one log x n q is count more e =
         let f0 = free in let d = fits.done in
         let t = h.lawful.sent in let g = h.lawful.gotten in let room = h.lawful.room in let c = h.capacity in
         let lt : w.taken < length w.accepted = omega arith in
@@ -89,10 +91,10 @@ module _ {M S Q A : Type 0} (next : M → S → Q → S) (reply : M → S → Q 
                 ∙ h.answered m r a low e' f');
             in_hand = λ m low high. rw homes (let is : m % length s.homes ≡ slot = ap (λ i. i % length s.homes) (let y : m ≡ v.server.done = omega arith in y) in rw is (set_here s.homes slot none (let r = h.roomy in omega arith)));
             seat = h.seat;
-            filled = keep_filled s.views h.seat id v (taken_view v n q) h.filled at (λ a. elim a as (λ a. role a (taken_view v n q) ≡ role a v) [ ByOwner ↦ refl | ByServer ↦ refl | ByShutter ↦ refl ]);
-            seats = keep_seats s.views h.seat s.homes hs w (taking w) ByServer id v (taken_view v n q) h.seats at serves
-                (λ a. elim a as (λ a. role a (taken_view v n q) ≡ role a v) [ ByOwner ↦ refl | ByServer ↦ refl | ByShutter ↦ refl ]) refl refl refl
-                (λ a. elim a as (λ a. Fits a s.homes w v → Fits a hs (taking w) (taken_view v n q)) [
+            filled = keep_filled s.views h.seat id v (taken_view v n q log) h.filled at (λ a. elim a as (λ a. role a (taken_view v n q log) ≡ role a v) [ ByOwner ↦ refl | ByServer ↦ refl | ByShutter ↦ refl ]);
+            seats = keep_seats s.views h.seat s.homes hs w (taking w) ByServer id v (taken_view v n q log) h.seats at serves
+                (λ a. elim a as (λ a. role a (taken_view v n q log) ≡ role a v) [ ByOwner ↦ refl | ByServer ↦ refl | ByShutter ↦ refl ]) refl refl refl
+                (λ a. elim a as (λ a. Fits a s.homes w v → Fits a hs (taking w) (taken_view v n q log)) [
                   | ByOwner ↦ owner v
                   | ByServer ↦ λ f. record {
                     taken = ap (λ l. l ++ q ∷ []) f.taken ∙ ap (λ y. take w.taken w.accepted ++ y ∷ []) (sym (get_or_from_slice_get w.accepted w.taken q q e)) ∙ sym (take_more w.accepted w.taken q lt);
@@ -107,13 +109,13 @@ module _ {M S Q A : Type 0} (next : M → S → Q → S) (reply : M → S → Q 
                   | ByServer ↦ λ u e f. let z : true ≡ false = e in cc
                   | ByShutter ↦ λ u e f. record { count = f.count }
                 ]);
-            shut_by = step_shut_by s.views id v (taken_view v n q) w.shut at (λ o. o) (λ o. o) (λ e. e) (λ e. e) (λ e. e) h.shut_by;
+            shut_by = step_shut_by s.views id v (taken_view v n q log) w.shut at (λ o. o) (λ o. o) (λ e. e) (λ e. e) (λ e. e) h.shut_by;
           },
         )
 
 module _ {M S Q A : Type 0} (next : M → S → Q → S) (reply : M → S → Q → A) (k : Key M S Q A) where
   -- a load of the gate
-  pub takes_step : (c id : ℕ) (v : View M S Q A) → v.serves ≡ true → length v.server.taken ≡ v.server.done → Allows (HasLog next reply k) c id (v, []) 0 (λ n. n) (took (step c 0 0 0 none) (v, []))
+  pub takes_step : (c id : ℕ) (v : View M S Q A) → v.serves ≡ true → length v.server.taken ≡ v.server.done → Allows (HasLog next reply k) c id (v, []) 0 (λ n. n) (took next reply (step c 0 0 0 none) (v, []))
   takes_step c id v serves idle s held len at small =
       let w : WorldState M S Q A = world next reply k s held in
       let h : Shows next reply s w = held.shows in
@@ -125,28 +127,30 @@ module _ {M S Q A : Type 0} (next : M → S → Q → S) (reply : M → S → Q 
       ] h.gate in
       let free' = free next reply s w h id v at serves idle in
       let d = (h.seats ByServer id v at serves).2.done in
-      let P : Bool → Type 0 = λ b. (v' : View M S Q A) × (a : Act (Cell M S Q A)) × Valid s.homes [] a × HasLog next reply k (stepped s 0 g id [] v' a) × (is_taken b c (g / 2) (g % 2 == 1) (v, []) (v', carried_after [] a) × StillSettled v g) in
+      let P : Bool → Type 0 = λ b. (v' : View M S Q A) × (a : Act (Cell M S Q A)) × Valid s.homes [] a × HasLog next reply k (stepped s 0 g id [] v' a) × (is_taken next reply b c (g / 2) (g % 2 == 1) (v, []) (v', carried_after [] a) × StillSettled v g) in
       let still : StillSettled v g = λ e. let t = (h.seats ByServer id v at serves).2.settled e in let a = t.1 in let o : (g % 2 == 1) ≡ true = odd ∙ t.0 in (omega arith, eqb-true _ _ o) in
       let by : (b : Bool) → nat_lt v.server.done (g / 2) ≡ b → P b = elim [
         | true ↦ λ e.
             let lt : v.server.done < g / 2 = ltb-true _ _ e in
             let q = there w.accepted w.taken (omega arith) in
-            let r = take_more_one next reply s w h id v at serves idle g (g / 2) q.0 refl count lt q.1 in
+            let log : List (Entry M S Q A) = log_with next reply k s held ByServer Take (Taken v.server.done) in
+            let r = take_more_one next reply s w h id v at serves idle log g (g / 2) q.0 refl count lt q.1 in
             let z : w.taken < length w.accepted = omega arith in
             let does = after_take next reply w (omega arith) true (lt-ltb w.taken (length w.accepted) z) in
             let number : v.server.done ≡ w.taken = omega arith in
-            let kept = logged next reply k s held _ _ id v (taken_view v (g / 2) q.0) ByServer Take (Taken v.server.done) (taking next reply w) at serves
-            (λ a. elim a as (λ a. role a (taken_view v (g / 2) q.0) ≡ role a v) [ ByOwner ↦ refl | ByServer ↦ refl | ByShutter ↦ refl ])
-            (elim [ ByOwner ↦ refl | ByServer ↦ refl | ByShutter ↦ refl ]) (sym does.0) (ap Taken number ∙ sym does.1) r.1 in
-            (taken_view v (g / 2) q.0, takes (v.server.done % length s.homes) (Asked q.0), r.0, kept, ((q.0, rw len refl), still))
+            let kept = logged next reply k s held _ _ id v (taken_view v (g / 2) q.0 log) ByServer Take (Taken v.server.done) (taking next reply w) at serves
+            (λ a. elim a as (λ a. role a (taken_view v (g / 2) q.0 log) ≡ role a v) [ ByOwner ↦ refl | ByServer ↦ refl | ByShutter ↦ refl ])
+            (elim [ ByOwner ↦ refl | ByServer ↦ refl | ByShutter ↦ refl ]) refl (sym does.0) (ap Taken number ∙ sym does.1) r.1 in
+            (taken_view v (g / 2) q.0 log, takes (v.server.done % length s.homes) (Asked q.0), r.0, kept, ((q.0, rw len refl, makes next reply k s held c id v (taken_view v (g / 2) q.0 log) ByServer Take (Taken v.server.done) len at serves (ap Taken number ∙ sym does.1) refl), still))
         | false ↦ λ e.
             let le : g / 2 ≤ v.server.done = ltb-false _ _ e in
             let z : length w.accepted ≤ w.taken = omega arith in
             let does = after_take next reply w (omega arith) false (le-ltb w.taken (length w.accepted) z) in
-            let new = take_none next reply s w h id v at serves idle g (g / 2) (g % 2 == 1) refl count le (λ o. sym odd ∙ o) in
-            let kept = logged next reply k s held _ _ id v (idle_view v (g / 2) (g % 2 == 1)) ByServer Take (cond (g % 2 == 1) Settled Idle) w at serves
-            (λ a. elim a as (λ a. role a (idle_view v (g / 2) (g % 2 == 1)) ≡ role a v) [ ByOwner ↦ refl | ByServer ↦ refl | ByShutter ↦ refl ])
-            (elim [ ByOwner ↦ refl | ByServer ↦ refl | ByShutter ↦ refl ]) (sym does.0) (rw odd (sym does.1)) new in
-            (idle_view v (g / 2) (g % 2 == 1), keeps, tt, kept, (refl, still))
+            let log : List (Entry M S Q A) = log_with next reply k s held ByServer Take (cond (g % 2 == 1) Settled Idle) in
+            let new = take_none next reply s w h id v at serves idle log g (g / 2) (g % 2 == 1) refl count le (λ o. sym odd ∙ o) in
+            let kept = logged next reply k s held _ _ id v (idle_view v (g / 2) (g % 2 == 1) log) ByServer Take (cond (g % 2 == 1) Settled Idle) w at serves
+            (λ a. elim a as (λ a. role a (idle_view v (g / 2) (g % 2 == 1) log) ≡ role a v) [ ByOwner ↦ refl | ByServer ↦ refl | ByShutter ↦ refl ])
+            (elim [ ByOwner ↦ refl | ByServer ↦ refl | ByShutter ↦ refl ]) refl (sym does.0) (rw odd (sym does.1)) new in
+            (idle_view v (g / 2) (g % 2 == 1) log, keeps, tt, kept, ((refl, makes next reply k s held c id v (idle_view v (g / 2) (g % 2 == 1) log) ByServer Take (cond (g % 2 == 1) Settled Idle) len at serves (rw odd (sym does.1)) refl), still))
       ] in
       by (nat_lt v.server.done (g / 2)) refl

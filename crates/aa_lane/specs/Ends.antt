@@ -1,5 +1,5 @@
 -- What clauses see of a lane and its ends.
-use Rattle.std.specs.Prelude.{◌≡◌, ℕ, ◌+◌, ◌-◌, ◌%◌, ◌<◌, ◌≤◌, ◌^◌, ◌⊎◌, zero, suc, Bool, true, false, Option, None, List, [], ◌∷◌, ◌++◌, length}
+use Rattle.std.specs.Prelude.{◌≡◌, ℕ, ◌+◌, ◌-◌, ◌%◌, ◌<◌, ◌≤◌, ◌^◌, ◌⊎◌, zero, suc, Bool, true, false, Option, None, List, [], ◌∷◌, length}
 use Rattle.std.specs.Prelude.{take, slice_get, Some}
 use Rattle.atomic_table.specs.Seated.{TableId}
 use Rattle.aa_machine.specs.Run.{state_after}
@@ -11,10 +11,7 @@ use Rattle.aa_lane.specs.declared.event.LaneFault.{LaneFault}
 use Rattle.aa_lane.specs.declared.event.LaneFault.TheVariants.{NoMemory, BadCapacity}
 use Rattle.aa_lane.specs.declared.event.SendFault.{SendFault}
 use Rattle.aa_lane.specs.declared.event.SendFault.TheVariants.{Spent, Full, Closed}
-use Rattle.aa_lane.specs.declared.event.Event.{Event}
-use Rattle.aa_lane.specs.declared.event.Event.TheVariants.{Send}
-use Rattle.aa_lane.specs.declared.event.Reply.{Reply}
-use Rattle.aa_lane.specs.declared.event.Reply.TheVariants.{Unsent}
+use Rattle.aa_lane.specs.declared.cells.Entry.{Entry}
 
 -- which lane an end is of, and its terms: the machine and the opening state
 pub record LaneId (M S : Type 0) : Type 0 where
@@ -33,7 +30,7 @@ pub record LaneSeen (M S : Type 0) : Type 0 where
 abbrev pub known : {M S : Type 0} → LaneSeen M S → LaneId M S
 known l = record { table = l.table; terms = Some (l.machine, l.start); capacity = l.capacity; tag = l.tag }
 
--- an owner: its lane, what it sent, how many answers it has, how many its last look found, whether it found the lane shut, whether it has left, and its events
+-- an owner: its lane, what it sent, how many answers it has, how many its last look found, whether it found the lane shut, whether it has left, and the log of the lane up to its last event
 pub record OwnerSeen (M S Q A : Type 0) : Type 0 where
   pub lane : LaneId M S
   pub sent : List Q
@@ -41,22 +38,22 @@ pub record OwnerSeen (M S Q A : Type 0) : Type 0 where
   pub found : ℕ
   pub closed : Bool
   pub left : Bool
-  pub made : List (Event M S Q A × Reply M S Q A)
+  pub log : List (Entry M S Q A)
 
--- a server: its lane, the requests that it took, how many it answered, how many requests its last look found, whether it found the lane settled, and its events
+-- a server: its lane, the requests that it took, how many it answered, how many requests its last look found, whether it found the lane settled, and the log of the lane up to its last event
 pub record ServerSeen (M S Q A : Type 0) : Type 0 where
   pub lane : LaneId M S
   pub taken : List Q
   pub done : ℕ
   pub seen : ℕ
   pub settled : Bool
-  pub made : List (Event M S Q A × Reply M S Q A)
+  pub log : List (Entry M S Q A)
 
--- a shutter: its lane, the count that it was given, and its events
+-- a shutter: its lane, the count that it was given, and the log of the lane up to its last event
 pub record ShutterSeen (M S Q A : Type 0) : Type 0 where
   pub lane : LaneId M S
   pub count : Option ℕ
-  pub made : List (Event M S Q A × Reply M S Q A)
+  pub log : List (Entry M S Q A)
 
 module _ {M S Q A : Type 0} where
   -- n slots from that of request `from` on, all empty
@@ -68,13 +65,13 @@ module _ {M S Q A : Type 0} where
   lane_of z v c t = record { table = z; terms = v.terms; capacity = c; tag = t }
 
   abbrev pub owner_seen : TableId → View M S Q A → ℕ → ℕ → OwnerSeen M S Q A
-  owner_seen z v c t = record { lane = lane_of z v c t; sent = v.owner.sent; got = v.owner.got; found = v.owner.found; closed = v.owner.closed; left = v.owner.left; made = v.owner.made }
+  owner_seen z v c t = record { lane = lane_of z v c t; sent = v.owner.sent; got = v.owner.got; found = v.owner.found; closed = v.owner.closed; left = v.owner.left; log = v.owner.log }
 
   abbrev pub server_seen : TableId → View M S Q A → ℕ → ℕ → ServerSeen M S Q A
-  server_seen z v c t = record { lane = lane_of z v c t; taken = v.server.taken; done = v.server.done; seen = v.server.seen; settled = v.server.settled; made = v.server.made }
+  server_seen z v c t = record { lane = lane_of z v c t; taken = v.server.taken; done = v.server.done; seen = v.server.seen; settled = v.server.settled; log = v.server.log }
 
   abbrev pub shutter_seen : TableId → View M S Q A → ℕ → ℕ → ShutterSeen M S Q A
-  shutter_seen z v c t = record { lane = lane_of z v c t; count = v.shutter.count; made = v.shutter.made }
+  shutter_seen z v c t = record { lane = lane_of z v c t; count = v.shutter.count; log = v.shutter.log }
 
   -- the seat z with the view v and the slots held is an owner's, whose counts are sent and got
   pub record OwnerOk (z : TableId) (v : View M S Q A) (held : List (ℕ × Cell M S Q A)) (c sent got : ℕ) : Type 0 where
@@ -143,13 +140,13 @@ Denies BadCapacity c = (c ≡ 0) ⊎ (1024 < c)
 
 module _ {M S Q A : Type 0} where
   abbrev pub new_owner : LaneSeen M S → OwnerSeen M S Q A
-  new_owner l = record { lane = known l; sent = []; got = 0; found = 0; closed = false; left = false; made = [] }
+  new_owner l = record { lane = known l; sent = []; got = 0; found = 0; closed = false; left = false; log = [] }
 
   abbrev pub new_server : LaneSeen M S → ServerSeen M S Q A
-  new_server l = record { lane = known l; taken = []; done = 0; seen = 0; settled = false; made = [] }
+  new_server l = record { lane = known l; taken = []; done = 0; seen = 0; settled = false; log = [] }
 
   abbrev pub new_shutter : LaneSeen M S → ShutterSeen M S Q A
-  new_shutter l = record { lane = known l; count = None; made = [] }
+  new_shutter l = record { lane = known l; count = None; log = [] }
 
   -- its own counts let the owner send
   abbrev pub MaySend : OwnerSeen M S Q A → Type 0
@@ -159,4 +156,4 @@ module _ {M S Q A : Type 0} where
   abbrev pub Refuses : SendFault → Q → OwnerSeen M S Q A → OwnerSeen M S Q A → Type 0
   Refuses Spent q o o' = (length o.sent ≡ most_accepted) × (o' ≡ o)
   Refuses Full q o o' = (length o.sent < most_accepted) × (length o.sent ≡ o.got + o.lane.capacity) × (o' ≡ o)
-  Refuses Closed q o o' = MaySend o × (o' ≡ record o { closed = true; made = o.made ++ (Send q, Unsent Closed q) ∷ [] })
+  Refuses Closed q o o' = MaySend o × (o' ≡ record o { closed = true; log = o'.log })

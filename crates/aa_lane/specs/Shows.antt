@@ -6,9 +6,10 @@ use mathlib.Core.Option.{Option, some, none}
 use lib.ListN.{get_elem?}
 use Rattle.atomic_table.specs.Table.{State}
 use Rattle.aa_lane.specs.WorldState.{WorldState, IsLawful, IsSettled}
-use Rattle.aa_lane.specs.Log.{Who, ByOwner, ByServer, ByShutter, Entry, by, leaves, Told}
-use Rattle.aa_lane.specs.declared.event.Event.{Event}
-use Rattle.aa_lane.specs.declared.event.Reply.{Reply}
+use Rattle.aa_lane.specs.Log.{GoesOn, leaves, IsLog}
+use Rattle.aa_lane.specs.declared.cells.Who.{Who}
+use Rattle.aa_lane.specs.declared.cells.Who.TheVariants.{ByOwner, ByServer, ByShutter}
+use Rattle.aa_lane.specs.declared.cells.Entry.{Entry}
 use Rattle.aa_lane.specs.declared.cells.Cell.{Cell}
 use Rattle.aa_lane.specs.declared.cells.Cell.TheVariants.{Vacant, Asked, Answered}
 use Rattle.aa_lane.specs.declared.cells.OwnerNotes.{OwnerNotes}
@@ -22,13 +23,13 @@ bit b = cond b 1 0
 
 module _ {M S Q A : Type 0} where
   abbrev pub no_owner : OwnerNotes M S Q A
-  no_owner = record { ready = false; sent = []; got = 0; found = 0; closed = false; left = false; made = [] }
+  no_owner = record { ready = false; sent = []; got = 0; found = 0; closed = false; left = false; log = [] }
 
   abbrev pub no_server : ServerNotes M S Q A
-  no_server = record { taken = []; done = 0; seen = 0; settled = false; made = [] }
+  no_server = record { taken = []; done = 0; seen = 0; settled = false; log = [] }
 
   abbrev pub no_shutter : ShutterNotes M S Q A
-  no_shutter = record { count = None; made = [] }
+  no_shutter = record { count = None; log = [] }
 
   -- the first seat is owner, server and shutter
   abbrev pub first_view : Key M S Q A → View M S Q A
@@ -43,10 +44,11 @@ module _ {M S Q A : Type 0} where
   role ByServer v = v.serves
   role ByShutter v = v.shuts
 
-  abbrev pub made : Who → View M S Q A → List (Event M S Q A × Reply M S Q A)
-  made ByOwner v = v.owner.made
-  made ByServer v = v.server.made
-  made ByShutter v = v.shutter.made
+  -- the log up to the last event that the seat made in a role
+  abbrev pub log_of : Who → View M S Q A → List (Entry M S Q A)
+  log_of ByOwner v = v.owner.log
+  log_of ByServer v = v.server.log
+  log_of ByShutter v = v.shutter.log
 
   -- the owner knows what was accepted and collected
   pub record OwnerFits (homes : List (Option (Cell M S Q A))) (w : WorldState M S Q A) (n : OwnerNotes M S Q A) : Type 0 where
@@ -88,6 +90,10 @@ module _ {M S Q A : Type 0} where
     pub either : shut ≡ true → (j k : ℕ) (o u : View M S Q A) → get_elem? views j ≡ some o → o.owns ≡ true → get_elem? views k ≡ some u → u.shuts ≡ true → (o.owner.left || is_some u.shutter.count) ≡ true
     pub closed : (j k : ℕ) (o u : View M S Q A) → get_elem? views j ≡ some o → o.owns ≡ true → get_elem? views k ≡ some u → u.shuts ≡ true → o.owner.closed ≡ true → is_some u.shutter.count ≡ true
 
+  -- the log goes on from what each seat has seen of it, by other seats' doing
+  abbrev pub HasSeen : List (View M S Q A) → List (Entry M S Q A) → Type 0
+  HasSeen views log = (a : Who) (j : ℕ) (v : View M S Q A) → get_elem? views j ≡ some v → role a v ≡ true → GoesOn a (log_of a v) log
+
 module _ {M S Q A : Type 0} (next : M → S → Q → S) (reply : M → S → Q → A) where
   -- words, slots and views show the world
   pub record Shows (s : State (Cell M S Q A) (View M S Q A)) (w : WorldState M S Q A) : Type 0 where
@@ -106,9 +112,9 @@ module _ {M S Q A : Type 0} (next : M → S → Q → S) (reply : M → S → Q 
     pub filled : Filled s.views seat
     pub shut_by : ShutBy s.views w.shut
 
-  -- some log leaves the world that is shown, with the world's replies, and each seat knows what it made
+  -- some log leaves the world that is shown, and each seat has seen it up to the last event of its own
   pub record HasLog (k : Key M S Q A) (s : State (Cell M S Q A) (View M S Q A)) : Type 0 where
     pub log : List (Entry M S Q A)
-    pub told : Told next reply k.machine.now k.start k.capacity log
+    pub is : IsLog next reply k.machine.now k.start k.capacity log
     pub shows : Shows s (leaves next reply k.machine.now k.start k.capacity log)
-    pub makes : (a : Who) (j : ℕ) (v : View M S Q A) → get_elem? s.views j ≡ some v → role a v ≡ true → made a v ≡ by a log
+    pub seen : HasSeen s.views log

@@ -4,7 +4,9 @@ use lib.ListN.{get_elem?}
 use mathlib.Core.Option.{some}
 use Rattle.atomic_table.specs.Table.{State}
 use Rattle.aa_lane.specs.WorldState.{WorldState, IsLawful}
-use Rattle.aa_lane.specs.Log.{ByOwner, ByServer, ByShutter, Entry, by, leaves, Told}
+use Rattle.aa_lane.specs.Log.{GoesOn, leaves, IsLog}
+use Rattle.aa_lane.specs.declared.cells.Who.TheVariants.{ByOwner, ByServer, ByShutter}
+use Rattle.aa_lane.specs.declared.cells.Entry.{Entry}
 use Rattle.aa_lane.specs.Shows.{HasLog}
 use Rattle.aa_lane.specs.Plays.{with_server, with_shutter}
 use Rattle.aa_lane.specs.Ends.{LaneSeen}
@@ -42,11 +44,11 @@ module _ {M S Q A : Type 0} (next : M → S → Q → S) (reply : M → S → Q 
     pub within : (t.collected ≤ t.answered) × (t.answered ≤ t.accepted)
     pub settled : e.server.settled ≡ true → t.answered ≡ t.accepted
 
-  -- all that happened at the lane, in order, each event with its reply: the ends made these events, and no others happened
-  pub record IsLinearized (l : LaneSeen M S) (e : Ends M S Q A) (t : Totals M S Q A) : Type 0 where
+  -- all that happened at the lane, in one order, which goes on from what each end has seen: the ends made these events, and no others happened
+  pub record HasOneOrder (l : LaneSeen M S) (e : Ends M S Q A) (t : Totals M S Q A) : Type 0 where
     pub log : List (Entry M S Q A)
-    pub told : Told next reply l.machine l.start l.capacity log
-    pub owner : e.owner.made ≡ by ByOwner log
-    pub server : e.server.made ≡ by ByServer log
-    pub shutter : e.shutter.made ≡ by ByShutter log
+    pub is : IsLog next reply l.machine l.start l.capacity log
+    pub owner : GoesOn ByOwner e.owner.log log
+    pub server : GoesOn ByServer e.server.log log
+    pub shutter : GoesOn ByShutter e.shutter.log log
     pub shown : Agrees e t (leaves next reply l.machine l.start l.capacity log)

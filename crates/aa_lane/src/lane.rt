@@ -4,7 +4,10 @@ ghost use Rattle.std.specs.Prelude.{◌≡◌, ◌≢◌, ℕ, ◌<◌, ◌≤�
 ghost use Rattle.aa_lane.specs.Shows.{first_view};
 ghost use Rattle.aa_lane.specs.Ends.{known, IsCapacity, Denies, MaySend, Refuses, new_owner, new_server, new_shutter};
 ghost use Rattle.aa_lane.specs.Answers as answers;
-ghost use Rattle.aa_lane.specs.Totals.{IsLinearized};
+ghost use Rattle.aa_lane.specs.Totals.{HasOneOrder};
+ghost use Rattle.aa_lane.specs.declared.cells.Who.TheVariants.{ByOwner, ByServer, ByShutter};
+ghost use Rattle.aa_lane.specs.declared.event.Event.TheVariants as event;
+ghost use Rattle.aa_lane.specs.declared.event.Reply.TheVariants as says;
 
 use crate::cells::{Cell, Key, View};
 use crate::event::{LaneFault, MOST_ACCEPTED, MOST_SLOTS, SendFault};
@@ -97,9 +100,10 @@ impl<M: Machine> Sending<M> {
     fn send(&mut self, lane: &Lane<M>, request: M::Request) -> Result<u64, Unsent<M>>
         requires lane { self.old.lane ≡ known lane.now }
         requires stays { self.old.left ≡ false }
-        ensures accepted { IfOk result (λ n. MaySend self.old × (n ≡ length self.old.sent) × (self.new ≡ answers.sent_of self.old request)) }
+        ensures accepted { IfOk result (λ n. MaySend self.old × (n ≡ length self.old.sent) × (self.new ≡ answers.sent_of self.old request self.new.log)) }
         ensures open { OnOk result (self.old.closed ≢ true) }
         ensures unsent { IfErr result (λ u. (u.request ≡ request) × Refuses u.fault request self.old self.new) }
+        ensures happens { answers.SendHappens M.next M.reply lane.now self.old request self.new result }
         ensures gotten { self.old.got ≤ length self.old.sent }
     {
         if self.sent == MOST_ACCEPTED {
@@ -130,7 +134,8 @@ impl<M: Machine> Sending<M> {
 
     fn collect(&mut self, lane: &Lane<M>) -> Option<Answered<M>>
         requires { self.old.lane ≡ known lane.now }
-        ensures { answers.Collects M.next M.reply lane.now self.old self.new result }
+        ensures look { answers.Collects M.next M.reply lane.now self.old self.new result }
+        ensures happens { answers.CollectHappens M.next M.reply lane.now self.old self.new result }
     {
         let slot = (self.got % self.capacity) as usize;
         let number = self.got;
@@ -150,7 +155,8 @@ impl<M: Machine> Sending<M> {
 
     fn exit(&mut self, lane: &Lane<M>)
         requires { self.old.lane ≡ known lane.now }
-        ensures { self.new ≡ answers.left_of self.old }
+        ensures left { self.new ≡ answers.left_of self.old self.new.log }
+        ensures happens { answers.HappensAt M.next M.reply lane.now ByOwner self.old.log event.Shut (says.Count (length self.old.sent)) self.new.log }
     {
         steps::exit(&lane.table.shared, &mut self.seat);
     }
@@ -171,9 +177,10 @@ impl<M: Machine> Owner<M> {
     /// decide the first two, without a step. A request that isn't accepted comes back.
     pub fn send(&mut self, lane: &Lane<M>, request: M::Request) -> Result<u64, Unsent<M>>
         requires { self.old.lane ≡ known lane.now }
-        ensures accepted { IfOk result (λ n. MaySend self.old × (n ≡ length self.old.sent) × (self.new ≡ answers.sent_of self.old request)) }
+        ensures accepted { IfOk result (λ n. MaySend self.old × (n ≡ length self.old.sent) × (self.new ≡ answers.sent_of self.old request self.new.log)) }
         ensures open { OnOk result (self.old.closed ≢ true) }
         ensures unsent { IfErr result (λ u. (u.request ≡ request) × Refuses u.fault request self.old self.new) }
+        ensures happens { answers.SendHappens M.next M.reply lane.now self.old request self.new result }
         ensures collected { answers.collected_by M.next M.reply lane.now self.new ≡ answers.collected_by M.next M.reply lane.now self.old }
     {
         self.end.send(lane, request)
@@ -183,6 +190,7 @@ impl<M: Machine> Owner<M> {
     pub fn collect(&mut self, lane: &Lane<M>) -> Option<Answered<M>>
         requires { self.old.lane ≡ known lane.now }
         ensures look { answers.Collects M.next M.reply lane.now self.old self.new result }
+        ensures happens { answers.CollectHappens M.next M.reply lane.now self.old self.new result }
         ensures collected { answers.collected_by M.next M.reply lane.now self.new ≡ answers.collected_by M.next M.reply lane.now self.old ++ answers.look result }
     {
         self.end.collect(lane)
@@ -191,7 +199,8 @@ impl<M: Machine> Owner<M> {
     /// Shuts the lane and leaves it. No request is accepted any more; the answers to come can still be collected.
     pub fn exit(self, lane: &Lane<M>) -> Leaver<M>
         requires { self.lane ≡ known lane.now }
-        ensures { result ≡ answers.left_of self }
+        ensures left { result ≡ answers.left_of self result.log }
+        ensures happens { answers.HappensAt M.next M.reply lane.now ByOwner self.log event.Shut (says.Count (length self.sent)) result.log }
     {
         let Owner { mut end } = self;
         end.exit(lane);
@@ -228,6 +237,7 @@ impl<M: Machine> Leaver<M> {
     pub fn collect(&mut self, lane: &Lane<M>) -> Option<Answered<M>>
         requires { self.old.lane ≡ known lane.now }
         ensures look { answers.Collects M.next M.reply lane.now self.old self.new result }
+        ensures happens { answers.CollectHappens M.next M.reply lane.now self.old self.new result }
         ensures collected { answers.collected_by M.next M.reply lane.now self.new ≡ answers.collected_by M.next M.reply lane.now self.old ++ answers.look result }
     {
         self.owner.collect(lane)
@@ -317,6 +327,7 @@ impl<M: Machine> Server<M> {
     pub fn take(self, lane: &Lane<M>) -> Taken<M>
         requires { self.lane ≡ known lane.now }
         ensures taken { answers.Takes self result }
+        ensures happens { answers.TakeHappens M.next M.reply lane.now self result }
         ensures settled { self.settled ≡ true → answers.SaysSettled result }
     {
         let Server {
@@ -356,6 +367,7 @@ impl<M: Machine> Server<M> {
     pub fn serve(self, lane: &Lane<M>) -> Served<M>
         requires { self.lane ≡ known lane.now }
         ensures served { answers.Serves self result }
+        ensures happens { answers.ServeHappens M.next M.reply lane.now self result }
         ensures settled { self.settled ≡ true → answers.StaysSettled result }
     {
         match self.take(lane) {
@@ -385,7 +397,8 @@ impl<M: Machine> Busy<M> {
     /// Decides the request by the lane's machine, and publishes the answer by one store of the number of answers.
     pub fn finish(self, lane: &Lane<M>) -> Server<M>
         requires { self.server.lane ≡ known lane.now }
-        ensures { result ≡ answers.finished_of self.server }
+        ensures finished { result ≡ answers.finished_of self.server result.log }
+        ensures happens { answers.HappensAt M.next M.reply lane.now ByServer self.server.log event.Finish (says.Finished self.server.done) result.log }
     {
         let Busy {
             mut seat,
@@ -438,7 +451,8 @@ impl<M: Machine> Shutter<M> {
     /// Shuts the lane, and gives the number of all requests that it accepted, the same each time.
     pub fn shut(&mut self, lane: &Lane<M>) -> u64
         requires { self.old.lane ≡ known lane.now }
-        ensures shut { self.new ≡ answers.shut_of self.old result }
+        ensures shut { self.new ≡ answers.shut_of self.old result self.new.log }
+        ensures happens { answers.HappensAt M.next M.reply lane.now ByShutter self.old.log event.Shut (says.Count result) self.new.log }
         ensures again { (c : ℕ) → self.old.count ≡ Some c → result ≡ c }
     {
         steps::shut(&lane.table.shared, &mut self.seat)
@@ -564,7 +578,7 @@ impl<'m, M: Machine> Lane<'m, M> {
     /// Closes the lane, and tells what became of it. What wasn't answered or collected is dropped.
     pub fn close(self, ends: Ends<M>) -> Totals<M>
         requires { (ends.owner.lane ≡ known self) × (ends.server.lane ≡ known self) × (ends.shutter.lane ≡ known self) }
-        ensures { IsLinearized M.next M.reply self.entry ends result }
+        ensures { HasOneOrder M.next M.reply self.entry ends result }
     {
         let Lane { table, .. } = self;
         let Ends {

@@ -17,5 +17,5 @@ pub use event::{Event, LaneFault, NoMemory, Reply, SendFault, Unapplied};
 pub use lane::{
     Answered, Busy, Ends, Lane, Leaver, Owner, Served, Server, Shutter, Taken, Totals, Unsent,
 };
-pub use steps::{notes_stay_true, steps_are_events};
+pub use steps::{log_laws, notes_stay_true, steps_are_events};
 pub use world::{World, always_lawful, replay, world_laws, worlds_apart};

@@ -16,19 +16,19 @@ impl<M: Machine> Play<Cell<M>, View<M>> for Readies {
 pub struct Sends;
 
 impl<M: Machine> Play<Cell<M>, View<M>> for Sends {
-    ghost then = { sent };
+    ghost then = { sent M.next M.reply };
 }
 
 pub struct Takes;
 
 impl<M: Machine> Play<Cell<M>, View<M>> for Takes {
-    ghost then = { took };
+    ghost then = { took M.next M.reply };
 }
 
 pub struct Finishes;
 
 impl<M: Machine> Play<Cell<M>, View<M>> for Finishes {
-    ghost then = { finished };
+    ghost then = { finished M.next M.reply };
 }
 
 pub struct Collects;
@@ -40,13 +40,13 @@ impl<M: Machine> Play<Cell<M>, View<M>> for Collects {
 pub struct Shuts;
 
 impl<M: Machine> Play<Cell<M>, View<M>> for Shuts {
-    ghost then = { shut_told };
+    ghost then = { shut_told M.next M.reply };
 }
 
 pub struct Exits;
 
 impl<M: Machine> Play<Cell<M>, View<M>> for Exits {
-    ghost then = { exited };
+    ghost then = { exited M.next M.reply };
 }
 
 // The server's part is cut off, and put back.

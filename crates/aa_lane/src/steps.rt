@@ -1,14 +1,19 @@
 //! The steps of a seat at a lane's table.
 
-ghost use Rattle.std.specs.Prelude.{◌≡◌, ◌≢◌, OnOk, ◌+◌, ◌^◌, ◌/◌, ◌%◌, ◌<◌, ◌≤◌, ◌==◌, ◌||◌, ◌∷◌, ◌++◌, ℕ, MatchResult, MatchOption, true, false, [], slice_get, Some};
+ghost use Rattle.std.specs.Prelude.{◌≡◌, ◌≢◌, OnOk, cond, length, ◌+◌, ◌^◌, ◌/◌, ◌%◌, ◌<◌, ◌≤◌, ◌==◌, ◌||◌, ◌∷◌, ◌++◌, ℕ, MatchResult, MatchOption, true, false, [], slice_get, Some};
 ghost use Rattle.atomic_table.specs.Table.{rest, turned};
 ghost use Rattle.aa_lane.specs.Ends.{vacant};
-ghost use Rattle.aa_lane.specs.Plays.{Gives, StillSettled, ready_view, sent_view, unsent_view, taken_view, idle_view, finished_view, collected_view, uncollected_view, shut_view, left_view};
+ghost use Rattle.aa_lane.specs.Plays.{Gives, Makes, StillSettled, ready_view, sent_view, unsent_view, taken_view, idle_view, finished_view, collected_view, uncollected_view, shut_view, left_view};
 ghost use Rattle.aa_lane.specs.Law.{StepsAreEvents, NotesStayTrue};
+ghost use Rattle.aa_lane.specs.Log.{LogLaws};
 ghost use Rattle.aa_lane.specs.Totals.{LastState, joined};
 ghost use Rattle.std.specs.Slots.{IsFull};
 ghost use Rattle.aa_lane.specs.Steps.{CanReady, CanSend, CanTake, CanFinish, CanCollect};
 ghost use Rattle.aa_lane.specs.declared.cells.Cell.TheVariants.{Vacant};
+ghost use Rattle.aa_lane.specs.declared.cells.Who.TheVariants.{ByOwner, ByServer, ByShutter};
+ghost use Rattle.aa_lane.specs.declared.event.SendFault.TheVariants.{Closed as ClosedFault};
+ghost use Rattle.aa_lane.specs.declared.event.Event.TheVariants as event;
+ghost use Rattle.aa_lane.specs.declared.event.Reply.TheVariants as says;
 
 use crate::cells::{Cell, Key, View};
 use crate::plays::{Collects, Exits, Finishes, Readies, Sends, Serves, Shuts, Shutting, Takes};
@@ -49,8 +54,11 @@ pub fn take<M: Machine>(
     ensures table { (seat.new.table_id ≡ seat.old.table_id) × (seat.new.id ≡ seat.old.id) }
     ensures small { result.0 < 2 ^ 64 }
     ensures taken { MatchOption result.1
-        ((result.0 / 2 ≤ done) × (seat.new.me ≡ (idle_view seat.old.me.0 (result.0 / 2) (result.0 % 2 == 1), [])))
-        (λ q. (done < result.0 / 2) × (seat.new.me ≡ (taken_view seat.old.me.0 (result.0 / 2) q, (slot, Vacant) ∷ []))) }
+        ((result.0 / 2 ≤ done) × (seat.new.me ≡ (idle_view seat.old.me.0 (result.0 / 2) (result.0 % 2 == 1) seat.new.me.0.server.log, [])))
+        (λ q. (done < result.0 / 2) × (seat.new.me ≡ (taken_view seat.old.me.0 (result.0 / 2) q seat.new.me.0.server.log, (slot, Vacant) ∷ []))) }
+    ensures happens { MatchOption result.1
+        (Makes M.next M.reply seat.old.table_id.slots seat.old.me.0 ByServer event.Take (cond (result.0 % 2 == 1) says.Settled says.Idle) seat.new.me.0)
+        (λ _. Makes M.next M.reply seat.old.table_id.slots seat.old.me.0 ByServer event.Take (says.Taken done) seat.new.me.0) }
     ensures settled { StillSettled seat.old.me.0 result.0 }
 {
     let gate = shared.load::<Takes>(seat, GATE);
@@ -75,7 +83,8 @@ pub fn finish<M: Machine>(
     requires table { seat.old.table_id ≡ shared.now.table_id }
     requires ready { CanFinish M.next M.reply seat.old.table_id seat.old.me done slot request answer }
     ensures table { (seat.new.table_id ≡ seat.old.table_id) × (seat.new.id ≡ seat.old.id) }
-    ensures done { seat.new.me ≡ (finished_view seat.old.me.0, []) }
+    ensures done { seat.new.me ≡ (finished_view seat.old.me.0 seat.new.me.0.server.log, []) }
+    ensures happens { Makes M.next M.reply seat.old.table_id.slots seat.old.me.0 ByServer event.Finish (says.Finished done) seat.new.me.0 }
 {
     drop(shared.exchange(seat, slot, Cell::Answered(request, answer)));
     shared.store::<Finishes>(seat, DONE, done + 1);
@@ -92,8 +101,11 @@ pub fn collect<M: Machine>(
     requires ready { CanCollect seat.old.table_id seat.old.me got slot }
     ensures table { (seat.new.table_id ≡ seat.old.table_id) × (seat.new.id ≡ seat.old.id) }
     ensures collected { MatchOption result.1
-        ((result.0 ≤ got) × (seat.new.me ≡ (uncollected_view seat.old.me.0 result.0, seat.old.me.1)))
-        (λ p. (got < result.0) × Gives M.next M.reply seat.old.me.0 got p.0 p.1 × (seat.new.me ≡ (collected_view seat.old.me.0 result.0, seat.old.me.1 ++ (slot, Vacant) ∷ []))) }
+        ((result.0 ≤ got) × (seat.new.me ≡ (uncollected_view seat.old.me.0 result.0 seat.new.me.0.owner.log, seat.old.me.1)))
+        (λ p. (got < result.0) × Gives M.next M.reply seat.old.me.0 got p.0 p.1 × (seat.new.me ≡ (collected_view seat.old.me.0 result.0 seat.new.me.0.owner.log, seat.old.me.1 ++ (slot, Vacant) ∷ []))) }
+    ensures happens { MatchOption result.1
+        (Makes M.next M.reply seat.old.table_id.slots seat.old.me.0 ByOwner event.Collect says.Nothing seat.new.me.0)
+        (λ _. Makes M.next M.reply seat.old.table_id.slots seat.old.me.0 ByOwner event.Collect (says.Given got) seat.new.me.0) }
 {
     let found = shared.load::<Collects>(seat, DONE);
     if found <= got {
@@ -119,7 +131,8 @@ pub fn send<M: Machine>(
     requires table { seat.old.table_id ≡ shared.now.table_id }
     requires ready { CanSend seat.old.table_id seat.old.me number slot }
     ensures table { (seat.new.table_id ≡ seat.old.table_id) × (seat.new.id ≡ seat.old.id) }
-    ensures sent { MatchResult result (λ _. seat.new.me ≡ (sent_view seat.old.me.0 request, rest seat.old.me.1)) (λ q. (q ≡ request) × (seat.new.me ≡ (unsent_view seat.old.me.0 request, seat.old.me.1))) }
+    ensures sent { MatchResult result (λ _. seat.new.me ≡ (sent_view seat.old.me.0 request seat.new.me.0.owner.log, rest seat.old.me.1)) (λ q. (q ≡ request) × (seat.new.me ≡ (unsent_view seat.old.me.0 seat.new.me.0.owner.log, seat.old.me.1))) }
+    ensures happens { MatchResult result (λ _. Makes M.next M.reply seat.old.table_id.slots seat.old.me.0 ByOwner (event.Send request) (says.Accepted number) seat.new.me.0) (λ _. Makes M.next M.reply seat.old.table_id.slots seat.old.me.0 ByOwner (event.Send request) (says.Unsent ClosedFault request) seat.new.me.0) }
     ensures open { OnOk result (seat.old.me.0.owner.closed ≢ true) }
 {
     drop(shared.exchange(seat, slot, Cell::Asked(request)));
@@ -141,7 +154,8 @@ pub fn shut<M: Machine>(
     requires table { seat.old.table_id ≡ shared.now.table_id }
     requires ready { (seat.old.me.0.shuts ≡ true) × (seat.old.table_id.words ≡ 17) }
     ensures table { (seat.new.table_id ≡ seat.old.table_id) × (seat.new.id ≡ seat.old.id) }
-    ensures shut { seat.new.me ≡ (shut_view seat.old.me.0 result, seat.old.me.1) }
+    ensures shut { seat.new.me ≡ (shut_view seat.old.me.0 result seat.new.me.0.shutter.log, seat.old.me.1) }
+    ensures happens { Makes M.next M.reply seat.old.table_id.slots seat.old.me.0 ByShutter event.Shut (says.Count result) seat.new.me.0 }
     ensures again { (c : ℕ) → seat.old.me.0.shutter.count ≡ Some c → result ≡ c }
 {
     shared.fetch_or::<Shuts>(seat, GATE, 1) / 2
@@ -155,7 +169,8 @@ pub fn exit<M: Machine>(
     requires table { seat.old.table_id ≡ shared.now.table_id }
     requires ready { (seat.old.me.0.owns ≡ true) × (seat.old.table_id.words ≡ 17) }
     ensures table { (seat.new.table_id ≡ seat.old.table_id) × (seat.new.id ≡ seat.old.id) }
-    ensures left { seat.new.me ≡ (left_view seat.old.me.0, seat.old.me.1) }
+    ensures left { seat.new.me ≡ (left_view seat.old.me.0 seat.new.me.0.owner.log, seat.old.me.1) }
+    ensures happens { Makes M.next M.reply seat.old.table_id.slots seat.old.me.0 ByOwner event.Shut (says.Count (length seat.old.me.0.owner.sent)) seat.new.me.0 }
 {
     shared.fetch_or::<Exits>(seat, GATE, 1);
 }
@@ -202,4 +217,10 @@ pub fn steps_are_events<M: Machine>()
 /// What an end has noted of its lane holds at every moment from then on.
 pub fn notes_stay_true<M: Machine>()
     ensures { NotesStayTrue M.next M.reply }
+{}
+
+/// What each event that a call makes happen does to the log that its end has seen: it begins with all that the end had seen
+/// before, and has this event more of the end's, and no other.
+pub fn log_laws<M: Machine>()
+    ensures { LogLaws M.next M.reply }
 {}

@@ -1,10 +1,14 @@
 //! Generic use of lanes: a machine that borrows, bounds that name a machine's types, ends that other threads may have, and
 //! what callers prove of a shutter that they never use.
-ghost use Rattle.std.specs.Prelude.{◌≡◌, ◌≢◌, ◌+◌, ◌%◌, None, true};
+ghost use Rattle.std.specs.Prelude.{◌≡◌, ◌≢◌, ◌+◌, ◌%◌, ◌++◌, ◌∷◌, [], None, true, IfOk, length};
 ghost use Rattle.aa_lane.specs.Ends.{known};
+ghost use Rattle.aa_lane.specs.Log.{by};
+ghost use Rattle.aa_lane.specs.declared.cells.Who.TheVariants.{ByOwner};
+ghost use Rattle.aa_lane.specs.declared.event.Event.TheVariants.{Send, Shut};
+ghost use Rattle.aa_lane.specs.declared.event.Reply.TheVariants.{Accepted, Count};
 
 use crate::bench::open;
-use aa_lane::{Ends, Lane, Machine, Owner, Served, Server, Shutter, Totals};
+use aa_lane::{Ends, Lane, Leaver, Machine, Owner, Served, Server, Shutter, Totals, Unsent};
 use std::test::Fail;
 
 /// Adds the request and a number that stands elsewhere to the state, modulo 1,000, and answers the new state.
@@ -132,5 +136,34 @@ fn an_unused_shutter_closed_nothing(rt: HostRuntime) -> Result<(), Fail> {
         },
     );
     assert_eq!(rt; (totals.accepted, totals.state), (0, 7));
+    Ok(())
+}
+
+// Sends a request and leaves. What the owner has then seen of the lane's log has these two events of its own more, in this
+// order, and no others.
+fn sends_and_leaves<M: Machine>(
+    lane: &Lane<M>,
+    owner: Owner<M>,
+    request: M::Request,
+) -> Result<Leaver<M>, Unsent<M>>
+    requires { owner.lane ≡ known lane.now }
+    ensures { IfOk result (λ l. by ByOwner l.log ≡ (by ByOwner owner.log ++ (Send request, Accepted (length owner.sent)) ∷ []) ++ (Shut, Count (length owner.sent + 1)) ∷ []) }
+{
+    let mut owner = owner;
+    match owner.send(lane, request) {
+        Ok(_) => Ok(owner.exit(lane)),
+        Err(unsent) => Err(unsent),
+    }
+}
+
+#[test]
+fn two_events_of_one_end_stand_in_one_order(rt: HostRuntime) -> Result<(), Fail> {
+    let by = 1;
+    let machine = Offset { by: &by };
+    let (lane, owner, _server, _shutter) = open(rt.alloc(), &machine, 3, 2, 7)?;
+    match sends_and_leaves(&lane, owner, 10) {
+        Ok(leaver) => assert_eq!(rt; leaver.accepted(), 1),
+        Err(_) => assert!(rt; false),
+    }
     Ok(())
 }

@@ -1,7 +1,10 @@
 -- What an engine is when it is opened, and what shutting all lanes does.
 use Rattle.std.specs.Prelude.{◌≡◌, ℕ, ◌<◌, ◌≤◌, ◌⊎◌, List, map, length, All, slice_index_or}
 use Rattle.aa_lane.specs.Ends.{LaneSeen, OwnerSeen, ServerSeen, ShutterSeen, IsCapacity, known, new_owner, new_server, new_shutter}
-use Rattle.aa_lane.specs.Answers.{shut_of}
+use Rattle.aa_lane.specs.Answers.{HappensAt, shut_of}
+use Rattle.aa_lane.specs.declared.cells.Who.TheVariants.{ByShutter}
+use Rattle.aa_lane.specs.declared.event.Event.TheVariants.{Shut}
+use Rattle.aa_lane.specs.declared.event.Reply.TheVariants.{Count}
 use Rattle.aa_pool.specs.declared.engine.EngineFault.{EngineFault}
 use Rattle.aa_pool.specs.declared.engine.EngineFault.TheVariants.{NoMemory, BadCapacity, TooManyLanes}
 
@@ -27,6 +30,12 @@ Denies NoMemory n c = (n ≤ 1024) × IsCapacity c
 Denies BadCapacity n c = (n ≤ 1024) × ((c ≡ 0) ⊎ (1024 < c))
 Denies TooManyLanes n c = 1024 < n
 
--- each shutter has shut its lane, and was given that count
-abbrev pub AreShut : {M S Q A : Type 0} → List (ShutterSeen M S Q A) → List (ShutterSeen M S Q A) → List ℕ → Type 0
-AreShut {M} {S} {Q} {A} old new counts = (i : ℕ) (d : ShutterSeen M S Q A) → i < length old → slice_index_or new i d ≡ shut_of (slice_index_or old i d) (slice_index_or counts i 0)
+module _ {M S Q A : Type 0} (next : M → S → Q → S) (reply : M → S → Q → A) where
+  -- a shutter has shut its lane, and was given this count
+  pub record HasShut (l : LaneSeen M S) (old new : ShutterSeen M S Q A) (n : ℕ) : Type 0 where
+    pub is : new ≡ shut_of old n new.log
+    pub happens : HappensAt next reply l ByShutter old.log Shut (Count n) new.log
+
+  -- each has, and that is its count
+  abbrev pub AreShut : List (LaneSeen M S) → List (ShutterSeen M S Q A) → List (ShutterSeen M S Q A) → List ℕ → Type 0
+  AreShut lanes old new counts = (i : ℕ) (l : LaneSeen M S) (d : ShutterSeen M S Q A) → i < length old → HasShut (slice_index_or lanes i l) (slice_index_or old i d) (slice_index_or new i d) (slice_index_or counts i 0)

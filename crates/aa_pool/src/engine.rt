@@ -99,7 +99,7 @@ pub fn shut_all<'m, M: Machine>(
 )
     requires shutters { map (λ s. s.lane) shutters.old ≡ map known lanes.now }
     requires counts { length counts.old ≡ length lanes.now }
-    ensures shut { AreShut shutters.old shutters.new counts.new }
+    ensures shut { AreShut M.next M.reply lanes.now shutters.old shutters.new counts.new }
     ensures len { (length shutters.new ≡ length shutters.old) × (length counts.new ≡ length counts.old) }
 {
     for i in 0..lanes.len() {

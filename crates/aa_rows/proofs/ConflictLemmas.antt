@@ -12,7 +12,7 @@ use Rattle.aa_profiles.specs.declared.rule.Exec.{Exec}
 use Rattle.aa_profiles.specs.declared.rule.FileRule.{FileRule}
 use Rattle.aa_patterns.specs.Matching.{is_match}
 use Rattle.aa_patterns.proofs.Decided.{decided}
-use Rattle.aa_auto.specs.Tables.{Table, IsAutomaton, ListsMatching, list_at, place_of}
+use Rattle.aa_auto.specs.Tables.{Table, IsAutomaton, ListsMatching, list_at, list_number, place_of}
 use Rattle.aa_rows.specs.declared.mark.Way.{Way}
 use Rattle.aa_said.specs.Patterns.{is_literal}
 use Rattle.aa_rows.specs.Marks.{marks_by}
@@ -155,12 +155,12 @@ module _ (number : Exec → Way) (rules : List FileRule) (patterns : List Patter
         is = x.2;
       }
 
-  -- a conflict of marks at a row is one of rules
+  -- a conflict of marks in a list is one of rules
   pub rules_conflict : HasConflict (marks_by rules ways) t.lists → Conflicts rules
   rules_conflict d =
-      let reached = auto.reached d.0 d.2 in
+      let reached = auto.used d.0 d.2 in
       let list = get_or t.lists d.0 [] in
-      let lists : ListsMatching patterns reached.0 list = subst (λ row. ListsMatching patterns reached.0 (get_or t.lists row [])) reached.2 (auto.matching reached.0 reached.1) in
+      let lists : ListsMatching patterns reached.0 list = subst (λ number. ListsMatching patterns reached.0 (get_or t.lists number [])) reached.2 (auto.matching reached.0 reached.1) in
       let a = named d.1 d.3.one reached.0 list d.3.i lists d.3.within.0 d.3.first in
       let b = named d.1 d.3.other reached.0 list d.3.j lists d.3.within.1 d.3.second in (
         record { rule = a.rule; pattern = a.pattern },
@@ -209,9 +209,9 @@ module _ (number : Exec → Way) (rules : List FileRule) (patterns : List Patter
       let lists = auto.matching text bytes in
       let p = listed (is_literal b.pattern) text list a.rule a.pattern c.one lists c.rules_are.0 c.patterns_are.0 c.match.0 c.sort c.allow.0 c.say.0 in
       let q = listed (is_literal b.pattern) text list b.rule b.pattern c.other lists c.rules_are.1 c.patterns_are.1 c.match.1 refl c.allow.1 c.say.1 in (
-        row,
+        list_number t row,
         is_literal b.pattern,
-        auto.within text bytes,
+        auto.numbered text bytes,
         record {
           i = p.i;
           j = q.i;

@@ -8,7 +8,7 @@ use Rattle.aa_patterns.specs.declared.pattern.Pattern.{Pattern}
 use Rattle.aa_profiles.specs.declared.rule.Exec.{Exec}
 use Rattle.aa_profiles.specs.declared.rule.FileRule.{FileRule}
 use Rattle.aa_patterns.specs.Matching.{is_match}
-use Rattle.aa_auto.specs.Tables.{IsAutomaton, ListsMatching, list_at, place_of}
+use Rattle.aa_auto.specs.Tables.{IsAutomaton, ListsMatching, list_at, list_number, place_of}
 use Rattle.aa_rows.specs.declared.mark.Way.{Way}
 use Rattle.aa_rows.specs.declared.mark.Mark.{Mark}
 use Rattle.aa_said.specs.Gathered.{gather, picked}
@@ -68,9 +68,10 @@ module _ (number : Exec → Way) (rules : List FileRule) (patterns : List Patter
   pub rows_are : (r : RowTable) → IsAutomaton patterns r.table → r.rows ≡ rows_by marks r.table.lists → AreRowsOf number rules r
   rows_are r auto rows path owned text =
       let place = place_of r.table path in
+      let found = list_number r.table place in
       let list = list_at r.table place in
-      let stored : slice_get r.rows place ≡ Some (row_by (picked marks list)) =
-      ap (λ l. slice_get l place) rows ∙ slice_get-map (λ (l : List ℕ). row_by (picked marks l)) r.table.lists place
-      ∙ ap (option_map (λ (l : List ℕ). row_by (picked marks l))) (slice_get-get_or r.table.lists place [] (auto.within path text)) in
+      let stored : slice_get r.rows found ≡ Some (row_by (picked marks list)) =
+      ap (λ l. slice_get l found) rows ∙ slice_get-map (λ (l : List ℕ). row_by (picked marks l)) r.table.lists found
+      ∙ ap (option_map (λ (l : List ℕ). row_by (picked marks l))) (slice_get-get_or r.table.lists found [] (auto.numbered path text)) in
       let is : verdict_at r path owned ≡ settled (side_by owned (picked marks list)) = ap (λ o. option_map_or (verdict_of owned) o (settled none_said)) stored ∙ row_side owned (picked marks list) in
       subst (IsVerdictOf number rules path owned) (sym is) (side_at_list path owned list (auto.matching path text))

@@ -1,11 +1,11 @@
--- What is kept for each row of an automaton.
+-- What is kept for each list of an automaton.
 use Rattle.std.specs.Prelude.{◌≡◌, ℕ, List, Bool, true, false, if◌then◌else◌, map, Option, Some, Contains, is_some}
 use Rattle.std.specs.Option.{option_map, option_map_or}
 use Rattle.std.specs.List.{slice_get, list_any, flat_map}
 use Rattle.aa_patterns.specs.declared.pattern.Pattern.{Pattern}
 use Rattle.aa_profiles.specs.declared.rule.Exec.{Exec}
 use Rattle.aa_profiles.specs.declared.rule.FileRule.{FileRule}
-use Rattle.aa_auto.specs.Tables.{Table, IsText, place_of}
+use Rattle.aa_auto.specs.Tables.{Table, IsText, list_number, place_of}
 use Rattle.aa_auto.specs.declared.build.BuildFault.{BuildFault}
 use Rattle.aa_auto.specs.declared.build.BuildFault.TheVariants.{NoMemory, TooManyStates}
 use Rattle.aa_rows.specs.declared.rows.RowsFault.{RowsFault}
@@ -20,7 +20,7 @@ use Rattle.aa_said.specs.Gathered.{picked}
 use Rattle.aa_rows.specs.Sides.{side_by, none_said}
 use Rattle.aa_rows.specs.FileRules.{file_verdict, chosen, way_of}
 
--- an automaton, and a value for each of its rows
+-- an automaton, and a value for each of its lists
 pub record RowTable : Type 0 where
   pub table : Table
   pub rows : List Row
@@ -39,13 +39,13 @@ row_by marks = record { owned = settled (side_by true marks); other = settled (s
 abbrev pub rows_by : List Mark → List (List ℕ) → List Row
 rows_by marks lists = map (λ list. row_by (picked marks list)) lists
 
--- what a row says of owned objects, or of others
+-- what it says of owned objects, or of others
 abbrev pub verdict_of : Bool → Row → Verdict
 verdict_of owned row = if owned then row.owned else row.other
 
--- what the row says that a path leads to
+-- what is said at the list of the row that a path leads to
 abbrev pub verdict_at : RowTable → List ℕ → Bool → Verdict
-verdict_at r path owned = option_map_or (verdict_of owned) (slice_get r.rows (place_of r.table path)) (settled none_said)
+verdict_at r path owned = option_map_or (verdict_of owned) (slice_get r.rows (list_number r.table (place_of r.table path))) (settled none_said)
 
 -- it is what the rules say of the object; `number` numbers the ways to execute
 pub record IsVerdictOf (number : Exec → Way) (rules : List FileRule) (path : List ℕ) (owned : Bool) (verdict : Verdict) : Type 0 where

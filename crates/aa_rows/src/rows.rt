@@ -1,4 +1,4 @@
-//! The automaton of a profile's file rules, and what they say at each row.
+//! The automaton of a profile's file rules, and what they say at each of its lists.
 
 ghost use Rattle.std.specs.Prelude.{◌≡◌, ◌+◌, ◌<◌, ◌≤◌, ◌++◌, IfOk, OnOk, Err, length};
 ghost use Rattle.aa_auto.specs.Nodes.{pointed};
@@ -20,7 +20,7 @@ use aa_profiles::FileRule;
 use std::alloc::{AllocError, Global};
 use std::marker::Model;
 
-/// What the rules say where a path leads to a row.
+/// What the rules say where a path leads to a row with a list of patterns.
 #[derive(Clone, Copy, Debug, PartialEq, Eq)]
 pub struct Row {
     /// Of objects that the task's user owns.
@@ -73,8 +73,8 @@ fn rows_of(alloc: Global, automaton: &Automaton, marks: &[Mark]) -> Result<Vec<R
     ensures { IfOk result (λ rows. rows.items ≡ rows_by marks.now automaton.now.lists) }
 {
     let mut rows = Vec::new(alloc);
-    for row in 0..automaton.rows() {
-        rows.push(Row::of(marks, automaton.at_row(row)))?;
+    for number in 0..automaton.lists() {
+        rows.push(Row::of(marks, automaton.list(number)))?;
     }
     Ok(rows)
 }
@@ -118,19 +118,19 @@ impl From<BuildFault> for RowsFault {
 #[derive(Drop)]
 pub struct FileRows {
     automaton: Automaton,
+    /// One for each list.
     rows: Vec<Row>,
 }
 
 impl Model for FileRows {
     ghost use Rattle.std.specs.Prelude.{◌≡◌, length};
-    ghost use Rattle.aa_auto.specs.Tables.{rows_of};
     ghost use Rattle.aa_rows.specs.Rows.{RowTable};
 
     ghost Value = { RowTable };
 
     ghost view = { λ r. record { table = r.automaton; rows = r.rows.items } };
 
-    ghost invariant = { λ r. length r.rows.items ≡ rows_of r.automaton };
+    ghost invariant = { λ r. length r.rows.items ≡ length r.automaton.lists };
 }
 
 impl FileRows {
@@ -161,7 +161,7 @@ impl FileRows {
     pub fn verdict(&self, path: &[u8], owned: bool) -> Verdict
         ensures { result ≡ verdict_at self.now path.now owned }
     {
-        let row = self.automaton.place(path);
-        self.rows[row].verdict(owned)
+        let list = self.automaton.list_of(self.automaton.place(path));
+        self.rows[list].verdict(owned)
     }
 }

@@ -2,5 +2,5 @@ use Rattle.std.proofs.Common.{◌≡◌, take}
 use Rattle.aa_attach.specs.Attached.{answers_by}
 use Rattle.aa_attach.proofs.attach.answers_of.Given as goal
 
-abbrev pub invariant-loop-row : goal.invariant-loop-row
-invariant-loop-row l = l.answers.items ≡ answers_by l.attachments (take l.row l.automaton.lists)
+abbrev pub invariant-loop-number : goal.invariant-loop-number
+invariant-loop-number l = l.answers.items ≡ answers_by l.attachments (take l.number l.automaton.lists)

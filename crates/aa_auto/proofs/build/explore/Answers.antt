@@ -1,7 +1,5 @@
 use Rattle.std.proofs.Common.{[], arith, ap, sym, ◌∙◌, length}
 use Rattle.std.proofs.Math.Nat.{mul-zero}
-use Rattle.aa_auto.specs.Found.{numbers_of}
-use Rattle.aa_auto.proofs.JumpLemmas.{lists}
 use Rattle.aa_auto.proofs.NetLemmas.{spots_below}
 use Rattle.aa_auto.proofs.ExploredLemmas.{start_set, first_found}
 use Rattle.aa_auto.proofs.build.explore.Goals as goal
@@ -13,8 +11,8 @@ add-requires-clause-set c =
 
 pub loop-row-init : goal.loop-row-init
 loop-row-init c =
-    let first = first_found c.args.net.now c.new.result c.add.new.self.sets (lists c.new-2.result.items) (numbers_of c.add.new.self) c.in_ok-start.start.items
-    c.in_ok-add.field-0 c.new.ensures (ap lists c.new-2.ensures.items) c.in_ok-start.ensures c.in_ok-add.ensures.found c.in_ok-add.ensures.grows c.in_ok-add.ensures.apart in
+    let first = first_found c.args.net.now c.new.result c.add.new.self.sets c.new-2.result c.add.new.self.lists c.in_ok-start.start.items
+    c.in_ok-add.field-0 c.new.ensures c.new-2.ensures c.in_ok-start.ensures c.in_ok-add.ensures.found c.in_ok-add.ensures.grows c.in_ok-add.ensures.apart in
     record {
       reached = first.0;
       listed = first.1;

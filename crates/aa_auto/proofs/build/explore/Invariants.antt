@@ -1,12 +1,11 @@
 use Rattle.std.proofs.Common.{◌≡◌, ◌*◌, ◌≤◌, length}
 use Rattle.aa_auto.specs.Explored.{AreReached, AreFilled, AreListed}
-use Rattle.aa_auto.specs.Found.{numbers_of}
 use Rattle.aa_auto.proofs.build.explore.Given as goal
 
 abbrev pub invariant-loop-row : goal.invariant-loop-row
 invariant-loop-row l = record {
   reached : AreReached l.net l.found.sets;
-  listed : AreListed l.net l.found.sets (numbers_of l.found);
+  listed : AreListed l.net l.found.sets l.found.lists;
   filled : AreFilled l.net l.found.sets l.bytes l.cells.items;
   many : length l.cells.items ≡ length l.bytes * l.row;
   row : l.row ≤ length l.found.sets;

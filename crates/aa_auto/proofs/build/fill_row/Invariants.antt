@@ -1,13 +1,12 @@
 use Rattle.std.proofs.Common.{◌≡◌, ◌+◌, ◌*◌, ◌<◌, ◌≤◌, [], length, get_or}
 use Rattle.aa_auto.specs.Explored.{AreReached, AreFilled, AreListed, Goes}
 use Rattle.aa_auto.specs.Noted.{AreNoted}
-use Rattle.aa_auto.specs.Found.{numbers_of}
 use Rattle.aa_auto.proofs.build.fill_row.Given as goal
 
 abbrev pub invariant-loop-byte : goal.invariant-loop-byte
 invariant-loop-byte l = record {
   reached : AreReached l.net l.found.sets;
-  listed : AreListed l.net l.found.sets (numbers_of l.found);
+  listed : AreListed l.net l.found.sets l.found.lists;
   filled : AreFilled l.net l.found.sets l.bytes l.cells.items;
   usual : Goes l.net l.found.sets l.row 255 l.usual;
   noted : AreNoted l.net.nodes.items (get_or l.found.sets l.row []) l.noted.named.items l.noted.asked.items;

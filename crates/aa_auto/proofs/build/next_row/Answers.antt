@@ -1,6 +1,5 @@
 use Rattle.std.proofs.Common.{◌≡◌, ◌+◌, length, sym, subst, arith}
 use Rattle.aa_auto.specs.Tables.{HasPlaces}
-use Rattle.aa_auto.specs.Found.{numbers_of}
 use Rattle.aa_auto.proofs.NetLemmas.{spots_below}
 use Rattle.aa_auto.proofs.ExploredLemmas.{row_set, next_set, one_longer, still_reached, still_listed, goes_next, many_places, grown_sets}
 use Rattle.aa_auto.specs.Nets.{patterns_of}
@@ -18,7 +17,7 @@ add-requires-clause-set c =
 
 pub returns-then-len-limit-clause-too_many : goal.returns-then-len-limit-clause-too_many
 returns-then-len-limit-clause-too_many c =
-    let grown = grown_sets c.args.net.now c.in_ok-new.new.items c.args.found.now.sets c.add.new.self.sets (numbers_of c.args.found.now) (numbers_of c.add.new.self) c.in_ok-next.ensures.grows in
+    let grown = grown_sets c.args.net.now c.in_ok-new.new.items c.args.found.now.sets c.add.new.self.sets c.args.found.now.lists c.add.new.self.lists c.in_ok-next.ensures.grows in
     let reached = still_reached c.args.net.now c.args.found.now.sets c.add.new.self.sets c.args.row c.args.byte c.in_ok-new.new.items c.in-Some.old.now c.ranges.byte.fits (sym c.in-Some.ensures) c.in_ok-new.ensures grown c.requires.reached c.in_ok-next.ensures.apart in
     let longer = one_longer c.args.net.now c.args.found.now.sets c.add.new.self.sets c.args.row c.args.byte c.in_ok-new.new.items c.in-Some.old.now c.ranges.byte.fits (sym c.in-Some.ensures) c.in_ok-new.ensures grown in
     let many : length c.add.new.self.sets ≡ c.args.limit + 1 = omega (arith, longer, c.if-len-limit.true, c.len.ensures, c.requires.few) in
@@ -27,17 +26,17 @@ returns-then-len-limit-clause-too_many c =
 pub returns-clause-reached : goal.returns-clause-reached
 returns-clause-reached c =
     still_reached c.args.net.now c.args.found.now.sets c.add.new.self.sets c.args.row c.args.byte c.in_ok-new.new.items c.in-Some.old.now c.ranges.byte.fits (sym c.in-Some.ensures) c.in_ok-new.ensures
-    (grown_sets c.args.net.now c.in_ok-new.new.items c.args.found.now.sets c.add.new.self.sets (numbers_of c.args.found.now) (numbers_of c.add.new.self) c.in_ok-next.ensures.grows)
+    (grown_sets c.args.net.now c.in_ok-new.new.items c.args.found.now.sets c.add.new.self.sets c.args.found.now.lists c.add.new.self.lists c.in_ok-next.ensures.grows)
     c.requires.reached c.in_ok-next.ensures.apart
 
 pub returns-clause-listed : goal.returns-clause-listed
 returns-clause-listed c =
     still_listed c.args.net.now c.args.found.now.sets c.add.new.self.sets c.args.row c.args.byte c.in_ok-new.new.items c.in-Some.old.now c.ranges.byte.fits (sym c.in-Some.ensures) c.in_ok-new.ensures
-    (grown_sets c.args.net.now c.in_ok-new.new.items c.args.found.now.sets c.add.new.self.sets (numbers_of c.args.found.now) (numbers_of c.add.new.self) c.in_ok-next.ensures.grows)
-    (numbers_of c.args.found.now) (numbers_of c.add.new.self) c.requires.listed c.in_ok-next.ensures.grows
+    (grown_sets c.args.net.now c.in_ok-new.new.items c.args.found.now.sets c.add.new.self.sets c.args.found.now.lists c.add.new.self.lists c.in_ok-next.ensures.grows)
+    c.args.found.now.lists c.add.new.self.lists c.requires.listed c.in_ok-next.ensures.grows
 
 pub returns-clause-goes : goal.returns-clause-goes
 returns-clause-goes c =
     goes_next c.args.net.now c.args.found.now.sets c.add.new.self.sets c.args.row c.args.byte c.in_ok-new.new.items c.in-Some.old.now c.ranges.byte.fits (sym c.in-Some.ensures) c.in_ok-new.ensures
-    (grown_sets c.args.net.now c.in_ok-new.new.items c.args.found.now.sets c.add.new.self.sets (numbers_of c.args.found.now) (numbers_of c.add.new.self) c.in_ok-next.ensures.grows)
+    (grown_sets c.args.net.now c.in_ok-new.new.items c.args.found.now.sets c.add.new.self.sets c.args.found.now.lists c.add.new.self.lists c.in_ok-next.ensures.grows)
     c.in_ok-next.next c.in_ok-next.ensures.found

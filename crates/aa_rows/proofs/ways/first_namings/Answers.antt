@@ -1,4 +1,4 @@
-use Rattle.std.proofs.Common.{ap, ◌∙◌, sym, cond, Some, None, take}
+use Rattle.std.proofs.Common.{ap, ◌∙◌, sym, cond, Some, None}
 use Rattle.std.specs.Option.{option_or}
 use Rattle.aa_rows.specs.Ways.{names}
 use Rattle.aa_rows.proofs.Named.{position_more}

@@ -1,10 +1,10 @@
-use Rattle.std.proofs.Common.{length, ◌≡◌, subst, arith}
-use Rattle.aa_auto.specs.Found.{numbers_of}
+use Rattle.std.proofs.Common.{subst, arith}
 use Rattle.aa_auto.specs.Explored.{IsExplored}
-use Rattle.aa_auto.specs.Tables.{IsTable, IsAutomaton}
+use Rattle.aa_auto.specs.Tables.{IsAutomaton}
 use Rattle.aa_patterns.proofs.PlaceLaws.{decide_next}
 use Rattle.aa_auto.proofs.LawLemmas.{same_bytes}
-use Rattle.aa_auto.proofs.AutomatonLemmas.{automaton, table}
+use Rattle.aa_auto.proofs.AutomatonLemmas.{table_of, built}
+use Rattle.aa_auto.proofs.JumpLemmas.{lists}
 use Rattle.aa_auto.specs.Nodes.{pointed}
 use Rattle.aa_auto.proofs.automaton.Automaton.of.Goals as goal
 
@@ -22,18 +22,20 @@ returns-clause-bytes_lead_alike c = same_bytes (pointed c.args.patterns.now)
 
 pub invariant_of-result : goal.invariant_of-result
 invariant_of-result c =
-    let wide : length c.in_ok-classes.classes.bytes.items ≡ c.len.result = omega (arith, c.len.ensures, c.in_ok-classes.classes.bytes.ok) in
-    let explored = subst (λ bs. IsExplored c.in_ok-net.net c.in_ok-found.found.sets bs c.in_ok-found.cells.items (numbers_of c.in_ok-found.found)) c.as_slice.ensures.value c.in_ok-found.ensures.explored in
-    subst (λ n. IsTable (record { classes = c.in_ok-classes.classes.of.items; width = n; cells = c.in_ok-found.cells.items; lists = numbers_of c.in_ok-found.found })) wide
-    (table c.in_ok-net.net c.in_ok-net.ensures.net c.in_ok-found.found.sets c.in_ok-classes.classes.of.items c.in_ok-classes.classes.bytes.items c.in_ok-found.cells.items (numbers_of c.in_ok-found.found) c.in_ok-classes.ensures explored)
+    (built (c.in_ok-net.net) c.in_ok-net.ensures.net c.in_ok-found.found.sets c.in_ok-classes.classes.of.items c.in_ok-classes.classes.bytes.items c.in_ok-found.cells.items c.in_ok-found.found.lists
+    c.in_ok-classes.ensures
+    (subst (λ bs. IsExplored c.in_ok-net.net c.in_ok-found.found.sets bs c.in_ok-found.cells.items c.in_ok-found.found.lists) c.as_slice.ensures.value c.in_ok-found.ensures.explored)
+    c.len.result c.shrink_to_fit.new.self.items c.in_ok-lists.listed.items (lists c.in_ok-lists.lists.items)
+    (omega (arith, c.len.ensures, c.in_ok-classes.classes.bytes.ok)) c.shrink_to_fit.ensures.items c.in_ok-lists.ensures.listed c.in_ok-lists.ensures.lists).0
 
 pub returns-clause-automaton : goal.returns-clause-automaton
 returns-clause-automaton c =
-    let wide : length c.in_ok-classes.classes.bytes.items ≡ c.len.result = omega (arith, c.len.ensures, c.in_ok-classes.classes.bytes.ok) in
-    let explored = subst (λ bs. IsExplored c.in_ok-net.net c.in_ok-found.found.sets bs c.in_ok-found.cells.items (numbers_of c.in_ok-found.found)) c.as_slice.ensures.value c.in_ok-found.ensures.explored in
-    subst (λ n. IsAutomaton (pointed c.args.patterns.now) (record { classes = c.in_ok-classes.classes.of.items; width = n; cells = c.in_ok-found.cells.items; lists = numbers_of c.in_ok-found.found })) wide
-    (subst (λ ps. IsAutomaton ps (record { classes = c.in_ok-classes.classes.of.items; width = length c.in_ok-classes.classes.bytes.items; cells = c.in_ok-found.cells.items; lists = numbers_of c.in_ok-found.found })) c.in_ok-net.ensures.patterns
-    (automaton c.in_ok-net.net c.in_ok-net.ensures.net c.in_ok-found.found.sets c.in_ok-classes.classes.of.items c.in_ok-classes.classes.bytes.items c.in_ok-found.cells.items (numbers_of c.in_ok-found.found) c.in_ok-classes.ensures explored))
+    subst (λ ps. IsAutomaton ps (table_of c.in_ok-classes.classes.of.items c.len.result c.shrink_to_fit.new.self.items c.in_ok-lists.listed.items (lists c.in_ok-lists.lists.items))) c.in_ok-net.ensures.patterns
+    (built (c.in_ok-net.net) c.in_ok-net.ensures.net c.in_ok-found.found.sets c.in_ok-classes.classes.of.items c.in_ok-classes.classes.bytes.items c.in_ok-found.cells.items c.in_ok-found.found.lists
+    c.in_ok-classes.ensures
+    (subst (λ bs. IsExplored c.in_ok-net.net c.in_ok-found.found.sets bs c.in_ok-found.cells.items c.in_ok-found.found.lists) c.as_slice.ensures.value c.in_ok-found.ensures.explored)
+    c.len.result c.shrink_to_fit.new.self.items c.in_ok-lists.listed.items (lists c.in_ok-lists.lists.items)
+    (omega (arith, c.len.ensures, c.in_ok-classes.classes.bytes.ok)) c.shrink_to_fit.ensures.items c.in_ok-lists.ensures.listed c.in_ok-lists.ensures.lists).1
 
 pub returns-in_err-net-clause-places_stay : goal.returns-in_err-net-clause-places_stay
 returns-in_err-net-clause-places_stay c = decide_next (pointed c.args.patterns.now)
@@ -46,3 +48,9 @@ returns-in_err-found-clause-places_stay c = decide_next (pointed c.args.patterns
 
 pub returns-clause-places_stay : goal.returns-clause-places_stay
 returns-clause-places_stay c = decide_next (pointed c.args.patterns.now)
+
+pub returns-in_err-lists-clause-places_stay : goal.returns-in_err-lists-clause-places_stay
+returns-in_err-lists-clause-places_stay c = decide_next (pointed c.args.patterns.now)
+
+pub returns-in_err-lists-clause-bytes_lead_alike : goal.returns-in_err-lists-clause-bytes_lead_alike
+returns-in_err-lists-clause-bytes_lead_alike c = same_bytes (pointed c.args.patterns.now)

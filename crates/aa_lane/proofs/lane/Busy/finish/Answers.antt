@@ -16,4 +16,4 @@ invariant_of-result g c =
     let its : c.lane.inside.machine.now ≡ c.args.lane.now.machine = ap (λ (l : LaneSeen g.row.M.Denot g.row.M-State.Denot). l.machine) c.lane.view_is in
     let own : c.self.inside.seat.me.0.terms ≡ c.args.self.server.lane.terms = ap (λ (b : BusySeen g.row.M.Denot g.row.M-State.Denot g.row.M-Request.Denot g.row.M-Answer.Denot). b.server.lane.terms) c.self.view_is in
     let one : c.args.self.server.lane.terms ≡ Some (c.args.lane.now.machine, c.args.lane.now.start) = ap (λ (l : LaneId g.row.M.Denot g.row.M-State.Denot). l.terms) c.requires in
-    rw (e.table.0, e.done, c.step-answer.ensures.state, its) (server_finished g.M.Machine.next g.M.Machine.reply _ _ _ _ _ _ c.self.inside.request c.args.lane.now.machine c.args.lane.now.start (own ∙ one) c.self.invariant)
+    rw (e.table.0, e.done, c.step-answer.ensures.state, its) (server_finished g.M.Machine.next g.M.Machine.reply _ _ _ _ _ _ c.self.inside.request c.args.lane.now.machine c.args.lane.now.start _ (own ∙ one) c.self.invariant)
