@@ -17,7 +17,7 @@ module _ {M S Q A : Type 0} where
   rooms_more (x ∷ ts) (y ∷ rs) t r h e w = (h.0, h.1, rooms_more ts rs t r h.2 e w)
 
 module _ {M S Q A : Type 0} (next : M → S → Q → S) (reply : M → S → Q → A) where
-  opened : (m : M) (c : ℕ) (ls : List (LaneSeen M S)) (os : List (Outcome M S Q A)) → All (λ l. (l.machine ≡ m) × (l.capacity ≡ c)) ls → WereClosed next reply ls os → AreOutcomes next reply m c (map (λ (l : LaneSeen M S). l.start) ls) os
+  opened : (m : M) (c : ℕ) (ls : List (LaneSeen M S)) (os : List (Outcome M S Q A)) → All (λ l. (l.machine ≡ m) × (l.table.slots ≡ c)) ls → WereClosed next reply ls os → AreOutcomes next reply m c (map (λ (l : LaneSeen M S). l.start) ls) os
   opened m c [] [] terms h = tt
   opened m c [] (o ∷ os) terms h = absurd h
   opened m c (l ∷ ls) [] terms h = absurd h
@@ -26,5 +26,5 @@ module _ {M S Q A : Type 0} (next : M → S → Q → S) (reply : M → S → Q 
       (record { lane = l; machine = t.0; start = refl; capacity = t.1; closed = h.0 }, opened m c ls os (λ k d below. terms (suc k) d (omega (arith, below))) h.1)
 
   -- lanes of a machine, a capacity and opening states that were closed
-  pub outcomes : (m : M) (c : ℕ) (ls : List (LaneSeen M S)) (ss : List S) (os : List (Outcome M S Q A)) → map (λ (l : LaneSeen M S). l.start) ls ≡ ss → All (λ l. (l.machine ≡ m) × (l.capacity ≡ c)) ls → WereClosed next reply ls os → AreOutcomes next reply m c ss os
+  pub outcomes : (m : M) (c : ℕ) (ls : List (LaneSeen M S)) (ss : List S) (os : List (Outcome M S Q A)) → map (λ (l : LaneSeen M S). l.start) ls ≡ ss → All (λ l. (l.machine ≡ m) × (l.table.slots ≡ c)) ls → WereClosed next reply ls os → AreOutcomes next reply m c ss os
   outcomes m c ls ss os e terms h = rw e at (opened m c ls os terms h)

@@ -27,7 +27,7 @@ module _ {M S Q A : Type 0} (next : M → S → Q → S) (reply : M → S → Q 
     pub lane : LaneSeen M S
     pub machine : lane.machine ≡ m
     pub start : lane.start ≡ s
-    pub capacity : lane.capacity ≡ c
+    pub capacity : lane.table.slots ≡ c
     pub closed : WasClosed next reply lane o
 
   -- each is, from these opening states on

@@ -20,15 +20,15 @@ use Rattle.aa_lane.specs.declared.lane.Totals.{Totals}
 use Rattle.aa_lane.proofs.Rows.{same_terms}
 
 module _ {M S Q A : Type 0} (next : M → S → Q → S) (reply : M → S → Q → A) where
-  pub tells : (k : Key M S Q A) (o s u : View M S Q A) (l : LaneSeen M S) (e : Ends M S Q A) (t : Totals M S Q A) (z1 z2 z3 : TableId) (c1 c2 c3 t1 t2 t3 : ℕ)
-      → LastState next reply k (joined o s u) → l.machine ≡ k.machine.now → l.start ≡ k.start → l.capacity ≡ k.capacity
-      → e.owner ≡ owner_seen z1 o c1 t1 → e.server ≡ server_seen z2 s c2 t2 → e.shutter ≡ shutter_seen z3 u c3 t3
+  pub tells : (k : Key M S Q A) (o s u : View M S Q A) (l : LaneSeen M S) (e : Ends M S Q A) (t : Totals M S Q A) (z1 z2 z3 : TableId) (t1 t2 t3 : ℕ)
+      → LastState next reply k (joined o s u) → l.machine ≡ k.machine.now → l.start ≡ k.start → l.table.slots ≡ k.capacity
+      → e.owner ≡ owner_seen z1 o t1 → e.server ≡ server_seen z2 s t2 → e.shutter ≡ shutter_seen z3 u t3
       → e.owner.lane ≡ known l → e.server.lane ≡ known l
       → o.owns ≡ true → o.owner.left ≡ true → length s.server.taken ≡ s.server.done
       → t.accepted ≡ length o.owner.sent → t.answered ≡ s.server.done → t.collected ≡ o.owner.got
       → ((m : M) (b : S) → s.terms ≡ Some (m, b) → t.state ≡ state_after (next m) (reply m) b s.server.taken)
       → HasOneOrder next reply l e t
-  tells k o s u l e t z1 z2 z3 c1 c2 c3 t1 t2 t3 last lm ls lc eo es eu lane_o lane_s owns left idle accepted answered collected state =
+  tells k o s u l e t z1 z2 z3 t1 t2 t3 last lm ls lc eo es eu lane_o lane_s owns left idle accepted answered collected state =
       let id : ℕ = last.1 in
       let h : HasLog next reply k last.0 = last.2 in
       let j : View M S Q A = joined o s u in

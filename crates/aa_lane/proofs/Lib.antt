@@ -17,6 +17,7 @@ pub mod Opens
 pub mod Asks
 pub mod Servers
 pub mod Shuts
+pub mod Slots
 pub mod Closing
 pub mod Shown
 pub mod Events

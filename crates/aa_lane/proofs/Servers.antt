@@ -32,15 +32,14 @@ module _ {X : Type 0} where
   front_and_last (y ∷ xs) x (suc n) e h = ap (λ l. y ∷ l) (front_and_last xs x n (omega arith) h)
 
 module _ {M S Q A : Type 0} (next : M → S → Q → S) (reply : M → S → Q → A) where
-  pub server_took : (z : TableId) (v : View M S Q A) (held : List (ℕ × Cell M S Q A)) (c done : ℕ) (state : S) (q : Q) (n : ℕ) (log : List (Entry M S Q A)) → ServerOk next reply z v held c done state → done < 2 ^ 63
-      → BusyOk next reply z (taken_view v n q log) ((done % c, Vacant) ∷ []) c done state q
-  server_took z v held c done state q n log ok small =
+  pub server_took : (z : TableId) (v : View M S Q A) (held : List (ℕ × Cell M S Q A)) (done : ℕ) (state : S) (q : Q) (n : ℕ) (log : List (Entry M S Q A)) → ServerOk next reply z v held done state → done < 2 ^ 63
+      → BusyOk next reply z (taken_view v n q log) ((done % z.slots, Vacant) ∷ []) done state q
+  server_took z v held done state q n log ok small =
       let i = ok.idle in
       record {
         serves = ok.serves;
         alone = ok.alone;
         words = ok.words;
-        slots = ok.slots;
         roomy = ok.roomy;
         done_is = ok.done_is;
         small = small;
@@ -50,15 +49,14 @@ module _ {M S Q A : Type 0} (next : M → S → Q → S) (reply : M → S → Q 
         held_is = refl;
       }
 
-  pub server_finished : (z : TableId) (v : View M S Q A) (held : List (ℕ × Cell M S Q A)) (c done : ℕ) (state : S) (q : Q) (m : M) (start : S) (log : List (Entry M S Q A)) → v.terms ≡ Some (m, start) → BusyOk next reply z v held c done state q
-      → ServerOk next reply z (finished_view v log) [] c (done + 1) (next m state q)
-  server_finished z v held c done state q m start log terms ok =
+  pub server_finished : (z : TableId) (v : View M S Q A) (held : List (ℕ × Cell M S Q A)) (done : ℕ) (state : S) (q : Q) (m : M) (start : S) (log : List (Entry M S Q A)) → v.terms ≡ Some (m, start) → BusyOk next reply z v held done state q
+      → ServerOk next reply z (finished_view v log) [] (done + 1) (next m state q)
+  server_finished z v held done state q m start log terms ok =
       let s = ok.small in
       record {
         serves = ok.serves;
         alone = ok.alone;
         words = ok.words;
-        slots = ok.slots;
         roomy = ok.roomy;
         done_is = ap (λ i. i + 1) ok.done_is;
         small = omega arith;
@@ -69,10 +67,9 @@ module _ {M S Q A : Type 0} (next : M → S → Q → S) (reply : M → S → Q 
         held_is = refl;
       }
 
-  pub busy_can_finish : (z : TableId) (v : View M S Q A) (held : List (ℕ × Cell M S Q A)) (c done : ℕ) (state : S) (q : Q) (m : M) (start : S) → v.terms ≡ Some (m, start) → BusyOk next reply z v held c done state q
-      → CanFinish next reply z (v, held) done (done % c) q (reply m state q)
-  busy_can_finish z v held c done state q m start terms ok =
-      let slots = ok.slots in
+  pub busy_can_finish : (z : TableId) (v : View M S Q A) (held : List (ℕ × Cell M S Q A)) (done : ℕ) (state : S) (q : Q) (m : M) (start : S) → v.terms ≡ Some (m, start) → BusyOk next reply z v held done state q
+      → CanFinish next reply z (v, held) done (done % z.slots) q (reply m state q)
+  busy_can_finish z v held done state q m start terms ok =
       record {
         serves = ok.serves;
         words = ok.words;
@@ -82,17 +79,17 @@ module _ {M S Q A : Type 0} (next : M → S → Q → S) (reply : M → S → Q 
         job = ok.job;
         decided = λ n t e. let one : m ≡ n = (same_terms v.terms m n start t terms e).0 in
             ap (λ i. reply i state q) one ∙ ap (λ x. reply n x q) (ok.state_is n t e);
-        slot_is = ap (λ i. done % i) (sym slots);
+        slot_is = refl;
         held = ok.held_is;
       }
 
   -- what a step of the server's seat tells, said of the server
-  pub told_of : (z : TableId) (v v' : View M S Q A) (s : ServerSeen M S Q A) (l : LaneSeen M S) (c t : ℕ) (e : Event M S Q A) (r r' : Reply M S Q A) → server_seen z v c t ≡ s → s.lane ≡ known l → z.slots ≡ c → r ≡ r'
+  pub told_of : (z : TableId) (v v' : View M S Q A) (s : ServerSeen M S Q A) (l : LaneSeen M S) (t : ℕ) (e : Event M S Q A) (r r' : Reply M S Q A) → server_seen z v t ≡ s → s.lane ≡ known l → r ≡ r'
       → Makes next reply z.slots v ByServer e r v' → HappensAt next reply l ByServer s.log e r' v'.server.log
-  told_of z v v' s l c t e r r' is of slots says told =
+  told_of z v v' s l t e r r' is of says told =
       let terms : v.terms ≡ Some (l.machine, l.start) = ap (λ (x : ServerSeen M S Q A). x.lane.terms) is ∙ ap (λ (x : LaneId M S). x.terms) of in
-      let capacity : z.slots ≡ l.capacity = slots ∙ ap (λ (x : ServerSeen M S Q A). x.lane.capacity) is ∙ ap (λ (x : LaneId M S). x.capacity) of in
+      let table : z ≡ l.table = ap (λ (x : ServerSeen M S Q A). x.lane.table) is ∙ ap (λ (x : LaneId M S). x.table) of in
       let log : v.server.log ≡ s.log = ap (λ (x : ServerSeen M S Q A). x.log) is in
-      subst (λ i. Happens next reply l.machine l.start l.capacity ByServer s.log e i v'.server.log) says
-      (subst (λ i. Happens next reply l.machine l.start l.capacity ByServer i e r v'.server.log) log
-      (subst (λ i. Happens next reply l.machine l.start i ByServer v.server.log e r v'.server.log) capacity (told l.machine l.start terms)))
+      subst (λ i. Happens next reply l.machine l.start l.table.slots ByServer s.log e i v'.server.log) says
+      (subst (λ i. Happens next reply l.machine l.start l.table.slots ByServer i e r v'.server.log) log
+      (subst (λ (i : TableId). Happens next reply l.machine l.start i.slots ByServer v.server.log e r v'.server.log) table (told l.machine l.start terms)))

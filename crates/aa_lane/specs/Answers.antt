@@ -88,7 +88,7 @@ module _ {M S Q A : Type 0} (next : M → S → Q → S) (reply : M → S → Q 
 
   -- this end of the lane makes an event
   abbrev pub HappensAt : LaneSeen M S → Who → List (Entry M S Q A) → Event M S Q A → Reply M S Q A → List (Entry M S Q A) → Type 0
-  HappensAt l a before e r now = Happens next reply l.machine l.start l.capacity a before e r now
+  HappensAt l a before e r now = Happens next reply l.machine l.start l.table.slots a before e r now
 
   -- the event that each answer is: a send that its own counts refuse is none
   abbrev pub SendHappens : LaneSeen M S → OwnerSeen M S Q A → Q → OwnerSeen M S Q A → Result ℕ (Unsent M S Q A) → Type 0

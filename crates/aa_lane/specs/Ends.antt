@@ -13,22 +13,20 @@ use Rattle.aa_lane.specs.declared.event.SendFault.{SendFault}
 use Rattle.aa_lane.specs.declared.event.SendFault.TheVariants.{Spent, Full, Closed}
 use Rattle.aa_lane.specs.declared.cells.Entry.{Entry}
 
--- which lane an end is of, and its terms: the machine and the opening state
+-- which lane an end is of, and its terms: the machine and the opening state. Its capacity is the number of its table's slots.
 pub record LaneId (M S : Type 0) : Type 0 where
   pub table : TableId
   pub terms : Option (M × S)
-  pub capacity : ℕ
   pub tag : ℕ
 
 pub record LaneSeen (M S : Type 0) : Type 0 where
   pub table : TableId
   pub machine : M
   pub start : S
-  pub capacity : ℕ
   pub tag : ℕ
 
 abbrev pub known : {M S : Type 0} → LaneSeen M S → LaneId M S
-known l = record { table = l.table; terms = Some (l.machine, l.start); capacity = l.capacity; tag = l.tag }
+known l = record { table = l.table; terms = Some (l.machine, l.start); tag = l.tag }
 
 -- an owner: its lane, what it sent, how many answers it has, how many its last look found, whether it found the lane shut, whether it has left, and the log of the lane up to its last event
 pub record OwnerSeen (M S Q A : Type 0) : Type 0 where
@@ -61,39 +59,37 @@ module _ {M S Q A : Type 0} where
   vacant c from zero = []
   vacant c from (suc n) = (from % c, Vacant) ∷ vacant c (suc from) n
 
-  abbrev pub lane_of : TableId → View M S Q A → ℕ → ℕ → LaneId M S
-  lane_of z v c t = record { table = z; terms = v.terms; capacity = c; tag = t }
+  abbrev pub lane_of : TableId → View M S Q A → ℕ → LaneId M S
+  lane_of z v t = record { table = z; terms = v.terms; tag = t }
 
-  abbrev pub owner_seen : TableId → View M S Q A → ℕ → ℕ → OwnerSeen M S Q A
-  owner_seen z v c t = record { lane = lane_of z v c t; sent = v.owner.sent; got = v.owner.got; found = v.owner.found; closed = v.owner.closed; left = v.owner.left; log = v.owner.log }
+  abbrev pub owner_seen : TableId → View M S Q A → ℕ → OwnerSeen M S Q A
+  owner_seen z v t = record { lane = lane_of z v t; sent = v.owner.sent; got = v.owner.got; found = v.owner.found; closed = v.owner.closed; left = v.owner.left; log = v.owner.log }
 
-  abbrev pub server_seen : TableId → View M S Q A → ℕ → ℕ → ServerSeen M S Q A
-  server_seen z v c t = record { lane = lane_of z v c t; taken = v.server.taken; done = v.server.done; seen = v.server.seen; settled = v.server.settled; log = v.server.log }
+  abbrev pub server_seen : TableId → View M S Q A → ℕ → ServerSeen M S Q A
+  server_seen z v t = record { lane = lane_of z v t; taken = v.server.taken; done = v.server.done; seen = v.server.seen; settled = v.server.settled; log = v.server.log }
 
-  abbrev pub shutter_seen : TableId → View M S Q A → ℕ → ℕ → ShutterSeen M S Q A
-  shutter_seen z v c t = record { lane = lane_of z v c t; count = v.shutter.count; log = v.shutter.log }
+  abbrev pub shutter_seen : TableId → View M S Q A → ℕ → ShutterSeen M S Q A
+  shutter_seen z v t = record { lane = lane_of z v t; count = v.shutter.count; log = v.shutter.log }
 
   -- the seat z with the view v and the slots held is an owner's, whose counts are sent and got
-  pub record OwnerOk (z : TableId) (v : View M S Q A) (held : List (ℕ × Cell M S Q A)) (c sent got : ℕ) : Type 0 where
+  pub record OwnerOk (z : TableId) (v : View M S Q A) (held : List (ℕ × Cell M S Q A)) (sent got : ℕ) : Type 0 where
     pub owns : v.owns ≡ true
     pub ready : v.owner.ready ≡ true
     pub words : z.words ≡ 17
-    pub slots : z.slots ≡ c
-    pub roomy : 0 < c
-    pub small : c ≤ 1024
+    pub roomy : 0 < z.slots
+    pub small : z.slots ≤ 1024
     pub sent_is : sent ≡ length v.owner.sent
     pub got_is : got ≡ v.owner.got
     pub gotten : got ≤ sent
-    pub room : sent ≤ got + c
+    pub room : sent ≤ got + z.slots
     pub spent : sent < 2 ^ 62
-    pub held_is : held ≡ vacant c sent ((got + c) - sent)
+    pub held_is : held ≡ vacant z.slots sent ((got + z.slots) - sent)
 
   -- the seat z is a shutter's
-  pub record ShutterOk (z : TableId) (v : View M S Q A) (held : List (ℕ × Cell M S Q A)) (c : ℕ) : Type 0 where
+  pub record ShutterOk (z : TableId) (v : View M S Q A) (held : List (ℕ × Cell M S Q A)) : Type 0 where
     pub shuts : v.shuts ≡ true
     pub alone : (v.owns ≡ false) × (v.serves ≡ false)
     pub words : z.words ≡ 17
-    pub slots : z.slots ≡ c
     pub held_is : held ≡ []
 
 -- a server with a request in hand
@@ -103,12 +99,11 @@ pub record BusySeen (M S Q A : Type 0) : Type 0 where
 
 module _ {M S Q A : Type 0} (next : M → S → Q → S) (reply : M → S → Q → A) where
   -- the seat z is a server's that has answered all that it took, and this is the state that they leave
-  pub record ServerOk (z : TableId) (v : View M S Q A) (held : List (ℕ × Cell M S Q A)) (c done : ℕ) (state : S) : Type 0 where
+  pub record ServerOk (z : TableId) (v : View M S Q A) (held : List (ℕ × Cell M S Q A)) (done : ℕ) (state : S) : Type 0 where
     pub serves : v.serves ≡ true
     pub alone : (v.owns ≡ false) × (v.shuts ≡ false)
     pub words : z.words ≡ 17
-    pub slots : z.slots ≡ c
-    pub roomy : 0 < c
+    pub roomy : 0 < z.slots
     pub done_is : v.server.done ≡ done
     pub small : done ≤ 2 ^ 63
     pub idle : length v.server.taken ≡ done
@@ -116,18 +111,17 @@ module _ {M S Q A : Type 0} (next : M → S → Q → S) (reply : M → S → Q 
     pub held_is : held ≡ []
 
   -- the seat z is a server's with one request in hand
-  pub record BusyOk (z : TableId) (v : View M S Q A) (held : List (ℕ × Cell M S Q A)) (c done : ℕ) (state : S) (q : Q) : Type 0 where
+  pub record BusyOk (z : TableId) (v : View M S Q A) (held : List (ℕ × Cell M S Q A)) (done : ℕ) (state : S) (q : Q) : Type 0 where
     pub serves : v.serves ≡ true
     pub alone : (v.owns ≡ false) × (v.shuts ≡ false)
     pub words : z.words ≡ 17
-    pub slots : z.slots ≡ c
-    pub roomy : 0 < c
+    pub roomy : 0 < z.slots
     pub done_is : v.server.done ≡ done
     pub small : done < 2 ^ 63
     pub busy : length v.server.taken ≡ done + 1
     pub job : slice_get v.server.taken done ≡ Some q
     pub state_is : (m : M) (t : S) → v.terms ≡ Some (m, t) → state ≡ state_after (next m) (reply m) t (take done v.server.taken)
-    pub held_is : held ≡ (done % c, Vacant) ∷ []
+    pub held_is : held ≡ (done % z.slots, Vacant) ∷ []
 
 -- a lane may have so many slots
 abbrev pub IsCapacity : ℕ → Type 0
@@ -150,10 +144,10 @@ module _ {M S Q A : Type 0} where
 
   -- its own counts let the owner send
   abbrev pub MaySend : OwnerSeen M S Q A → Type 0
-  MaySend o = (length o.sent < most_accepted) × (length o.sent < o.got + o.lane.capacity)
+  MaySend o = (length o.sent < most_accepted) × (length o.sent < o.got + o.lane.table.slots)
 
   -- why a request was not accepted, and the owner after it
   abbrev pub Refuses : SendFault → Q → OwnerSeen M S Q A → OwnerSeen M S Q A → Type 0
   Refuses Spent q o o' = (length o.sent ≡ most_accepted) × (o' ≡ o)
-  Refuses Full q o o' = (length o.sent < most_accepted) × (length o.sent ≡ o.got + o.lane.capacity) × (o' ≡ o)
+  Refuses Full q o o' = (length o.sent < most_accepted) × (length o.sent ≡ o.got + o.lane.table.slots) × (o' ≡ o)
   Refuses Closed q o o' = MaySend o × (o' ≡ record o { closed = true; log = o'.log })

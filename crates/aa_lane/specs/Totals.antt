@@ -47,8 +47,8 @@ module _ {M S Q A : Type 0} (next : M → S → Q → S) (reply : M → S → Q 
   -- all that happened at the lane, in one order, which goes on from what each end has seen: the ends made these events, and no others happened
   pub record HasOneOrder (l : LaneSeen M S) (e : Ends M S Q A) (t : Totals M S Q A) : Type 0 where
     pub log : List (Entry M S Q A)
-    pub is : IsLog next reply l.machine l.start l.capacity log
+    pub is : IsLog next reply l.machine l.start l.table.slots log
     pub owner : GoesOn ByOwner e.owner.log log
     pub server : GoesOn ByServer e.server.log log
     pub shutter : GoesOn ByShutter e.shutter.log log
-    pub shown : Agrees e t (leaves next reply l.machine l.start l.capacity log)
+    pub shown : Agrees e t (leaves next reply l.machine l.start l.table.slots log)

@@ -39,7 +39,7 @@ impl<'m, M: Machine> Model for Lane<'m, M> {
 
     ghost Value = { LaneSeen M M.State };
 
-    ghost view = { λ l. record { table = l.table.shared.table_id; machine = l.machine.now; start = l.table.shared.key.start; capacity = l.capacity; tag = l.tag } };
+    ghost view = { λ l. record { table = l.table.shared.table_id; machine = l.machine.now; start = l.table.shared.key.start; tag = l.tag } };
 
     ghost invariant = { λ l. (l.table.shared.key.machine.now ≡ l.machine.now) × (l.table.shared.key.capacity ≡ l.capacity) × (l.table.shared.table_id.slots ≡ l.capacity) × (l.table.shared.table_id.words ≡ 17) × (0 < l.capacity) };
 }
@@ -49,7 +49,6 @@ impl<'m, M: Machine> Model for Lane<'m, M> {
 struct Sending<M: Machine> {
     seat: Seat<Cell<M>, View<M>>,
     tag: u32,
-    capacity: u64,
     sent: u64,
     got: u64,
 }
@@ -59,9 +58,9 @@ impl<M: Machine> Model for Sending<M> {
 
     ghost Value = { OwnerSeen M M.State M.Request M.Answer };
 
-    ghost view = { λ o. owner_seen o.seat.table_id o.seat.me.0 o.capacity o.tag };
+    ghost view = { λ o. owner_seen o.seat.table_id o.seat.me.0 o.tag };
 
-    ghost invariant = { λ o. OwnerOk o.seat.table_id o.seat.me.0 o.seat.me.1 o.capacity o.sent o.got };
+    ghost invariant = { λ o. OwnerOk o.seat.table_id o.seat.me.0 o.seat.me.1 o.sent o.got };
 }
 
 /// The end that sends requests and collects the answers to them.
@@ -112,13 +111,13 @@ impl<M: Machine> Sending<M> {
                 request,
             });
         }
-        if self.sent - self.got == self.capacity {
+        if self.sent - self.got == lane.capacity {
             return Err(Unsent {
                 fault: SendFault::Full,
                 request,
             });
         }
-        let slot = (self.sent % self.capacity) as usize;
+        let slot = (self.sent % lane.capacity) as usize;
         match steps::send(&lane.table.shared, &mut self.seat, self.sent, slot, request) {
             Ok(()) => {
                 let number = self.sent;
@@ -137,7 +136,7 @@ impl<M: Machine> Sending<M> {
         ensures look { answers.Collects M.next M.reply lane.now self.old self.new result }
         ensures happens { answers.CollectHappens M.next M.reply lane.now self.old self.new result }
     {
-        let slot = (self.got % self.capacity) as usize;
+        let slot = (self.got % lane.capacity) as usize;
         let number = self.got;
         let (_found, pair) = steps::collect(&lane.table.shared, &mut self.seat, number, slot);
         match pair {
@@ -256,7 +255,6 @@ impl<M: Machine> Leaver<M> {
 pub struct Server<M: Machine> {
     seat: Seat<Cell<M>, View<M>>,
     tag: u32,
-    capacity: u64,
     done: u64,
     state: M::State,
 }
@@ -266,9 +264,9 @@ impl<M: Machine> Model for Server<M> {
 
     ghost Value = { ServerSeen M M.State M.Request M.Answer };
 
-    ghost view = { λ o. server_seen o.seat.table_id o.seat.me.0 o.capacity o.tag };
+    ghost view = { λ o. server_seen o.seat.table_id o.seat.me.0 o.tag };
 
-    ghost invariant = { λ o. ServerOk M.next M.reply o.seat.table_id o.seat.me.0 o.seat.me.1 o.capacity o.done o.state };
+    ghost invariant = { λ o. ServerOk M.next M.reply o.seat.table_id o.seat.me.0 o.seat.me.1 o.done o.state };
 }
 
 /// A server with a request in hand. Where it is dropped, so is the request, and the lane answers no more.
@@ -276,7 +274,6 @@ impl<M: Machine> Model for Server<M> {
 pub struct Busy<M: Machine> {
     seat: Seat<Cell<M>, View<M>>,
     tag: u32,
-    capacity: u64,
     done: u64,
     state: M::State,
     request: M::Request,
@@ -287,9 +284,9 @@ impl<M: Machine> Model for Busy<M> {
 
     ghost Value = { BusySeen M M.State M.Request M.Answer };
 
-    ghost view = { λ o. record { server = server_seen o.seat.table_id o.seat.me.0 o.capacity o.tag; request = o.request } };
+    ghost view = { λ o. record { server = server_seen o.seat.table_id o.seat.me.0 o.tag; request = o.request } };
 
-    ghost invariant = { λ o. BusyOk M.next M.reply o.seat.table_id o.seat.me.0 o.seat.me.1 o.capacity o.done o.state o.request };
+    ghost invariant = { λ o. BusyOk M.next M.reply o.seat.table_id o.seat.me.0 o.seat.me.1 o.done o.state o.request };
 }
 
 /// What a look for the next request found.
@@ -333,17 +330,15 @@ impl<M: Machine> Server<M> {
         let Server {
             mut seat,
             tag,
-            capacity,
             done,
             state,
         } = self;
-        let slot = (done % capacity) as usize;
+        let slot = (done % lane.capacity) as usize;
         let (gate, request) = steps::take(&lane.table.shared, &mut seat, done, slot);
         if let Some(request) = request {
             return Taken::Job(Busy {
                 seat,
                 tag,
-                capacity,
                 done,
                 state,
                 request,
@@ -352,7 +347,6 @@ impl<M: Machine> Server<M> {
         let server = Server {
             seat,
             tag,
-            capacity,
             done,
             state,
         };
@@ -403,18 +397,16 @@ impl<M: Machine> Busy<M> {
         let Busy {
             mut seat,
             tag,
-            capacity,
             done,
             mut state,
             request,
         } = self;
-        let slot = (done % capacity) as usize;
+        let slot = (done % lane.capacity) as usize;
         let answer = lane.machine.step(&mut state, &request);
         steps::finish(&lane.table.shared, &mut seat, done, slot, request, answer);
         Server {
             seat,
             tag,
-            capacity,
             done: done + 1,
             state,
         }
@@ -426,7 +418,6 @@ impl<M: Machine> Busy<M> {
 pub struct Shutter<M: Machine> {
     seat: Seat<Cell<M>, View<M>>,
     tag: u32,
-    capacity: u64,
 }
 
 impl<M: Machine> Model for Shutter<M> {
@@ -434,9 +425,9 @@ impl<M: Machine> Model for Shutter<M> {
 
     ghost Value = { ShutterSeen M M.State M.Request M.Answer };
 
-    ghost view = { λ o. shutter_seen o.seat.table_id o.seat.me.0 o.capacity o.tag };
+    ghost view = { λ o. shutter_seen o.seat.table_id o.seat.me.0 o.tag };
 
-    ghost invariant = { λ o. ShutterOk o.seat.table_id o.seat.me.0 o.seat.me.1 o.capacity };
+    ghost invariant = { λ o. ShutterOk o.seat.table_id o.seat.me.0 o.seat.me.1 };
 }
 
 impl<M: Machine> Shutter<M> {
@@ -525,7 +516,7 @@ impl<'m, M: Machine> Lane<'m, M> {
         capacity: u32,
         start: M::State,
     ) -> Result<(Lane<'m, M>, Owner<M>, Server<M>, Shutter<M>), LaneFault>
-        ensures lane { IfOk result (λ r. (r.0.machine ≡ machine.now) × (r.0.start ≡ start) × (r.0.capacity ≡ capacity) × (r.0.tag ≡ tag)) }
+        ensures lane { IfOk result (λ r. (r.0.machine ≡ machine.now) × (r.0.start ≡ start) × (r.0.table.slots ≡ capacity) × (r.0.tag ≡ tag)) }
         ensures ends { IfOk result (λ r. (r.1 ≡ new_owner r.0) × (r.2 ≡ new_server r.0) × (r.3 ≡ new_shutter r.0)) }
         ensures capacity { MatchResult result (λ _. IsCapacity capacity) (λ f. Denies f capacity) }
     {
@@ -538,23 +529,19 @@ impl<'m, M: Machine> Lane<'m, M> {
         steps::ready(&table.shared, &mut seat);
         let second = table.shared.split_seat::<Serves>(&mut seat);
         let third = table.shared.split_seat::<Shutting>(&mut seat);
-        let capacity = u64::from(capacity);
         let server = Server {
             seat: second,
             tag,
-            capacity,
             done: 0,
             state: start,
         };
         let shutter = Shutter {
             seat: third,
             tag,
-            capacity,
         };
         let end = Sending {
             seat,
             tag,
-            capacity,
             sent: 0,
             got: 0,
         };
@@ -562,7 +549,7 @@ impl<'m, M: Machine> Lane<'m, M> {
         let lane = Lane {
             machine,
             tag,
-            capacity,
+            capacity: u64::from(capacity),
             table,
         };
         Ok((lane, owner, server, shutter))

@@ -19,10 +19,10 @@ through f g k e (x ∷ xs) = λ i. e x i ∷ through f g k e xs i
 
 module _ {M S Q A : Type 0} where
   pub opened_more : (m : M) (ss : List S) (c at : ℕ) (ls : List (LaneSeen M S)) (os : List (OwnerSeen M S Q A)) (vs : List (ServerSeen M S Q A)) (us : List (ShutterSeen M S Q A)) (l : LaneSeen M S) (s : S)
-      → AreOpened m (take at ss) c ls os vs us → at < length ss → length ls ≡ at → s ≡ get_or ss at s → l.machine ≡ m → l.start ≡ s → l.capacity ≡ c → l.tag ≡ at
+      → AreOpened m (take at ss) c ls os vs us → at < length ss → length ls ≡ at → s ≡ get_or ss at s → l.machine ≡ m → l.start ≡ s → l.table.slots ≡ c → l.tag ≡ at
       → AreOpened m (take (at + 1) ss) c (ls ++ l ∷ []) (os ++ new_owner l ∷ []) (vs ++ new_server l ∷ []) (us ++ new_shutter l ∷ [])
   opened_more m ss c at ls os vs us l s h within len here machine start capacity tag = record {
-    terms = All-push (λ (k : LaneSeen M S). (k.machine ≡ m) × (k.capacity ≡ c)) ls l h.terms (machine, capacity);
+    terms = All-push (λ (k : LaneSeen M S). (k.machine ≡ m) × (k.table.slots ≡ c)) ls l h.terms (machine, capacity);
     starts_are = map-append (λ (k : LaneSeen M S). k.start) ls (l ∷ []) ∙ (λ i. h.starts_are i ++ start i ∷ []) ∙ ap (λ x. take at ss ++ x ∷ []) here ∙ sym (take_more ss at s within);
     tags = λ i d e. ⊎_elim (λ t. ap (λ (k : LaneSeen M S). k.tag) t.1 ∙ h.tags i d t.0) (λ t. ap (λ (k : LaneSeen M S). k.tag) t.1 ∙ tag ∙ sym len ∙ sym t.0) (at_end ls l d i e);
     owners_are = (λ i. h.owners_are i ++ new_owner l ∷ []) ∙ sym (map-append new_owner ls (l ∷ []));

@@ -11,7 +11,7 @@ use Rattle.aa_pool.specs.declared.engine.EngineFault.TheVariants.{NoMemory, BadC
 module _ {M S Q A : Type 0} (machine : M) (starts : List S) (capacity : ℕ) where
   -- lane i has the tag i and the opening state i
   pub record AreOpened (lanes : List (LaneSeen M S)) (owners : List (OwnerSeen M S Q A)) (servers : List (ServerSeen M S Q A)) (shutters : List (ShutterSeen M S Q A)) : Type 0 where
-    pub terms : All (λ l. (l.machine ≡ machine) × (l.capacity ≡ capacity)) lanes
+    pub terms : All (λ l. (l.machine ≡ machine) × (l.table.slots ≡ capacity)) lanes
     pub starts_are : map (λ l. l.start) lanes ≡ starts
     pub tags : (i : ℕ) (d : LaneSeen M S) → i < length lanes → (slice_index_or lanes i d).tag ≡ i
     pub owners_are : owners ≡ map new_owner lanes
