@@ -1,2 +1,3 @@
 mod Inputs
 mod Streams
+mod Decided

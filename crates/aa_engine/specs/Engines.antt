@@ -36,6 +36,10 @@ IsRunOutput = IsOutput (λ job policies text. run_text job.several policies job.
 abbrev pub IsReplayOutput : List ℕ → List ℕ → Type 0
 IsReplayOutput = IsOutput (λ job policies text. replay_text job.several policies job.capacity job.tasks job.events ≡ Some text)
 
+-- the bytes decide the text: no two texts are what a command writes for the same bytes
+abbrev pub IsDecided : (List ℕ → List ℕ → Type 0) → Type 0
+IsDecided IsText = (input text other : List ℕ) → IsText input text → IsText input other → text ≡ other
+
 -- the bytes are a job, and its policies are refused so, not for want of memory
 pub record HasBadPolicy (input : List ℕ) (refused : RefusedPolicy) : Type 0 where
   pub job : Job

@@ -5,7 +5,7 @@ ghost use Rattle.std.specs.Io.KnownBytes.{Appends, Keeps};
 ghost use Rattle.std.specs.String.{string_bytes};
 ghost use Rattle.aa_answers.specs.Answers.{first_unknown};
 ghost use Rattle.aa_answers.specs.Output.{lines_from};
-ghost use Rattle.aa_engine.specs.Engines.{HandsIn, IsCheckOutput, IsRunOutput, IsReplayOutput, Explains, IsInput, IsExplained};
+ghost use Rattle.aa_engine.specs.Engines.{HandsIn, IsCheckOutput, IsRunOutput, IsReplayOutput, IsDecided, Explains, IsInput, IsExplained};
 
 use crate::fault::{RunFault, job_fault, mediate_fault, policy_fault};
 use crate::stream::{read_input, write_text};
@@ -140,6 +140,7 @@ pub fn check_job<R: Read, W: Write>(
         × IsCheckOutput input text × Appends (W.contents writer.old) (W.contents writer.new) text) }
     ensures front { IsErrOf result RunFault.Write → (input : List ℕ) × (text : List ℕ) × (n : ℕ) × IsInput (R.remaining reader.old) input
         × IsCheckOutput input text × (n ≤ length text) × Appends (W.contents writer.old) (W.contents writer.new) (take n text) }
+    ensures decided { IsDecided IsCheckOutput }
     ensures nothing { IfErr result (λ e. e ≢ RunFault.Write → Keeps (W.contents writer.old) (W.contents writer.new)) }
     ensures cause { IfErr result (λ e. IsExplained (R.remaining reader.old) e) }
     ensures labels { (t : ℕ) → IsErrOf result (RunFault.UnknownProfile t) → ⊥ }
@@ -165,6 +166,7 @@ pub fn run_job<R: Read, W: Write, H: Threads + Wait + Sync>(
         × IsRunOutput input text × Appends (W.contents writer.old) (W.contents writer.new) text) }
     ensures front { IsErrOf result RunFault.Write → (input : List ℕ) × (text : List ℕ) × (n : ℕ) × IsInput (R.remaining reader.old) input
         × IsRunOutput input text × (n ≤ length text) × Appends (W.contents writer.old) (W.contents writer.new) (take n text) }
+    ensures decided { IsDecided IsRunOutput }
     ensures nothing { IfErr result (λ e. e ≢ RunFault.Write → Keeps (W.contents writer.old) (W.contents writer.new)) }
     ensures cause { IfErr result (λ e. IsExplained (R.remaining reader.old) e) }
 {
@@ -185,6 +187,7 @@ pub fn replay_job<R: Read, W: Write>(
         × IsReplayOutput input text × Appends (W.contents writer.old) (W.contents writer.new) text) }
     ensures front { IsErrOf result RunFault.Write → (input : List ℕ) × (text : List ℕ) × (n : ℕ) × IsInput (R.remaining reader.old) input
         × IsReplayOutput input text × (n ≤ length text) × Appends (W.contents writer.old) (W.contents writer.new) (take n text) }
+    ensures decided { IsDecided IsReplayOutput }
     ensures nothing { IfErr result (λ e. e ≢ RunFault.Write → Keeps (W.contents writer.old) (W.contents writer.new)) }
     ensures cause { IfErr result (λ e. IsExplained (R.remaining reader.old) e) }
 {

@@ -3,6 +3,6 @@ mod Patterns
 mod Rules
 mod Profiles
 mod Replies
-mod Texts
-mod Replays
+pub mod Texts
+pub mod Replays
 mod Words

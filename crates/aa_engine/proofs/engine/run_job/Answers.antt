@@ -1,6 +1,7 @@
 use Rattle.std.proofs.lemmas.Result.{err_from_is_err_and}
 use Rattle.aa_engine.specs.Engines.{IsExplained}
 use Rattle.aa_engine.proofs.Inputs.{unread, explained, wrote, wrote_front, unwritten, handed_on, on_ok, on_err, if_err}
+use Rattle.aa_engine.proofs.Decided.{run_decided}
 use Rattle.aa_engine.proofs.engine.run_job.Goals as goal
 
 pub returns-in_err-bytes-clause-cause : goal.returns-in_err-bytes-clause-cause
@@ -38,3 +39,12 @@ pub returns-clause-cause : goal.returns-clause-cause
 returns-clause-cause g c =
     let known = g.R.Read.remaining c.args.reader.now in
     if_err c.write_text.result (λ e. IsExplained known e) (unwritten known) c.write_text.ensures.cause
+
+pub returns-clause-decided : goal.returns-clause-decided
+returns-clause-decided g c = run_decided
+
+pub returns-in_err-bytes-clause-decided : goal.returns-in_err-bytes-clause-decided
+returns-in_err-bytes-clause-decided g c = run_decided
+
+pub returns-in_err-text-clause-decided : goal.returns-in_err-text-clause-decided
+returns-in_err-text-clause-decided g c = run_decided
