@@ -1,6 +1,9 @@
 -- Lists of numbers as keys.
-use Rattle.std.proofs.Common.{◌≡◌, ℕ, ◌<◌, ◌≤◌, true, List, [], ◌∷◌, length, get_or, map, suc, zero, slice_get, Option, Some, None, Vec, Global, refl, sym, ap, ◌∙◌, ⊎_elim, arith, true≢false, nat_eq}
-use Rattle.std.specs.List.{IsDistinct}
+use Rattle.std.proofs.Common.{◌++◌, cond, false, ◌≡◌, ℕ, ◌<◌, ◌≤◌, true, List, [], ◌∷◌, length, get_or, map, suc, zero, slice_get, Option, Some, None, Vec, Global, refl, sym, ap, ◌∙◌, ⊎_elim, arith, true≢false, nat_eq}
+use Rattle.std.specs.List.{IsDistinct, position, list_any}
+use Rattle.std.proofs.lemmas.List.{get_or_push, length_push, map-append}
+use Rattle.std.proofs.lemmas.List.Quantifiers.{position-Some}
+use Rattle.std.proofs.lemmas.Option.{slice_get-get_or}
 use Rattle.std.specs.Cmp.Lexicographic.{pointwise, same_text}
 use Rattle.std.proofs.lemmas.Bool.{cases_lt, eq-eqb}
 use Rattle.std.proofs.lemmas.Map.Keys.{apart_from_distinct}
@@ -30,12 +33,12 @@ get_or-map [] i d lt = absurd (omega arith)
 get_or-map (v ∷ vs) zero d lt = refl
 get_or-map (v ∷ vs) (suc i) d lt = get_or-map vs i d (omega arith)
 
-length_map : (vs : List Numbers) → length (map (λ (v : Numbers). v.items) vs) ≡ length vs
+pub length_map : (vs : List Numbers) → length (map (λ (v : Numbers). v.items) vs) ≡ length vs
 length_map [] = refl
 length_map (v ∷ vs) = ap suc (length_map vs)
 
-pub apart_sets : (vs : List Numbers) (d : Numbers) → IsDistinct (λ (x y : Numbers). pointwise nat_eq x.items y.items) vs → IsApart (map (λ (v : Numbers). v.items) vs)
-apart_sets vs d distinct i j li lj e =
+apart_by : (vs : List Numbers) (d : Numbers) → IsDistinct (λ (x y : Numbers). pointwise nat_eq x.items y.items) vs → IsApart (map (λ (v : Numbers). v.items) vs)
+apart_by vs d distinct i j li lj e =
     let li' : i < length vs = omega (arith, length_map vs) in
     let lj' : j < length vs = omega (arith, length_map vs) in
     let same : (get_or vs i d).items ≡ (get_or vs j d).items = sym (get_or-map vs i d li') ∙ e ∙ get_or-map vs j d lj' in
@@ -48,3 +51,29 @@ apart_sets vs d distinct i j li lj e =
     clash a b lt lb e = true≢false
         (sym (numbers_same (get_or vs a d).items) ∙ ap (λ z. pointwise nat_eq (get_or vs a d).items z) e
         ∙ apart_from_distinct (λ (x y : Numbers). pointwise nat_eq x.items y.items) vs a b d distinct lt lb)
+
+pub apart_sets : (vs : List Numbers) → IsDistinct (λ (x y : Numbers). pointwise nat_eq x.items y.items) vs → IsApart (map (λ (v : Numbers). v.items) vs)
+apart_sets [] distinct = λ i j li lj e. absurd (omega arith)
+apart_sets (w ∷ vs) distinct = apart_by (w ∷ vs) w distinct
+
+-- what was looked up stands where it was found
+pub found_by : (vs : List Numbers) (i : ℕ) (x : List ℕ) → position (λ (v : Numbers). pointwise nat_eq x v.items) vs ≡ Some i → slice_get (map (λ (v : Numbers). v.items) vs) i ≡ Some x
+found_by [] i x e = absurd (cc e)
+found_by (w ∷ vs) i x e =
+    let at = position-Some (λ (v : Numbers). pointwise nat_eq x v.items) (w ∷ vs) i w e in
+    found_at (w ∷ vs) i x (get_or (w ∷ vs) i w, slice_get-get_or (w ∷ vs) i w at.0, at.1)
+
+-- what wasn't found is added last
+pub added_last : (vs new : List Numbers) (x : List ℕ) (v : Numbers) → v.items ≡ x → false ≡ list_any (λ (k : Numbers). pointwise nat_eq x k.items) vs →
+    new ≡ cond (list_any (λ (k : Numbers). pointwise nat_eq v.items k.items) vs) vs (vs ++ v ∷ []) → map (λ (v : Numbers). v.items) new ≡ map (λ (v : Numbers). v.items) vs ++ x ∷ []
+added_last vs new x v same none is =
+    let fresh : list_any (λ (k : Numbers). pointwise nat_eq v.items k.items) vs ≡ false =
+    ap (λ z. list_any (λ (k : Numbers). pointwise nat_eq z k.items) vs) same ∙ sym none in
+    ap (map (λ (v : Numbers). v.items)) (is ∙ ap (λ b. cond b vs (vs ++ v ∷ [])) fresh) ∙ map-append (λ (v : Numbers). v.items) vs (v ∷ []) ∙ ap (λ z. map (λ (v : Numbers). v.items) vs ++ z ∷ []) same
+
+-- and stands there
+pub found_last : (sets all : List (List ℕ)) (x : List ℕ) (n : ℕ) → all ≡ sets ++ x ∷ [] → n ≡ length sets → slice_get all n ≡ Some x
+found_last sets all x n e is =
+    ap (λ z. slice_get z n) e
+    ∙ slice_get-get_or (sets ++ x ∷ []) n [] (omega (arith, is, length_push sets x))
+    ∙ ap Some (get_or_push sets x [] n (sym is))

@@ -9,7 +9,7 @@ ghost use Rattle.aa_auto.specs.Noted.{AreNoted};
 ghost use Rattle.aa_auto.specs.Tables.{HasPlaces};
 
 use crate::lists::Lists;
-use crate::net::Net;
+use crate::net::{Net, Scratch};
 use crate::noted::Noted;
 use crate::sets::Sets;
 use std::alloc::{AllocError, AllocFailed, Global};
@@ -53,29 +53,26 @@ impl<T: Drop> From<AllocFailed<T>> for BuildFault {
 pub(crate) struct Found {
     pub(crate) sets: Sets,
     pub(crate) lists: Lists,
+    scratch: Scratch,
 }
 
 impl Found {
-    /// Takes a set. The answer is its number.
-    fn add(&mut self, alloc: Global, net: &Net, set: Vec<u32>) -> Result<usize, BuildFault>
+    /// Takes the set of `scratch`. The answer is its number.
+    fn add(&mut self, alloc: Global, net: &Net) -> Result<usize, BuildFault>
         requires net { IsNetOf net.now }
-        requires set { (n : ℕ) → Contains set.items n → n < length net.now.nodes.items }
+        requires set { (n : ℕ) → Contains self.old.scratch.set.items n → n < length net.now.nodes.items }
         requires listing { IsListing self.old.lists }
         requires few { length self.old.lists.listed < 4294967295 }
-        ensures found { IfOk result (λ next. slice_get self.new.sets next ≡ Some set.items) }
-        ensures grows { OnOk result (TakesSet net.now set.items self.old.sets self.new.sets self.old.lists self.new.lists) }
+        ensures found { IfOk result (λ next. slice_get self.new.sets next ≡ Some self.old.scratch.set.items) }
+        ensures grows { OnOk result (TakesSet net.now self.old.scratch.set.items self.old.sets self.new.sets self.old.lists self.new.lists) }
         ensures apart { OnOk result (IsApart self.new.sets) }
         ensures err { IfErr result (λ e. e ≡ BuildFault.NoMemory) }
     {
-        let (next, is_new) = self.sets.add(set)?;
-        if !is_new {
-            return Ok(next);
+        let (next, is_new) = self.sets.add(alloc, self.scratch.set.as_slice())?;
+        if is_new {
+            net.numbers(&mut self.scratch)?;
+            self.lists.add(alloc, self.scratch.numbers.as_slice())?;
         }
-        let Some(added) = self.sets.get(next) else {
-            unreachable!()
-        };
-        let numbers = net.numbers(alloc, added)?;
-        self.lists.add(numbers)?;
         Ok(next)
     }
 }
@@ -105,8 +102,8 @@ fn next_row(
     let Some(old) = found.sets.get(row) else {
         unreachable!()
     };
-    let new = net.next(alloc, byte, old)?;
-    let next = found.add(alloc, net, new)?;
+    net.next(byte, old, &mut found.scratch)?;
+    let next = found.add(alloc, net)?;
     if found.sets.len() > limit {
         return Err(BuildFault::TooManyStates);
     }
@@ -213,10 +210,11 @@ pub(crate) fn explore(
     let mut found = Found {
         sets: Sets::new(alloc),
         lists: Lists::new(alloc),
+        scratch: Scratch::new(alloc),
     };
     let mut cells = Vec::new(alloc);
-    let start = net.start(alloc)?;
-    found.add(alloc, net, start)?;
+    net.start(&mut found.scratch)?;
+    found.add(alloc, net)?;
     for row in 0..limit {
         if row == found.sets.len() {
             return Ok((found, cells));

@@ -1,12 +1,12 @@
 //! Sets of positions with those that are reached from them without a byte.
 
-ghost use Rattle.std.specs.Prelude.{◌<◌, ◌≤◌, ◌++◌, ◌∷◌, [], OnOk, IfOk, ℕ, List, length, map, Contains};
+ghost use Rattle.std.specs.Prelude.{◌<◌, ◌≤◌, ◌++◌, ◌∷◌, [], OnOk, ℕ, List, length, map, Contains};
 ghost use Rattle.std.specs.List.Sorted.{IsStrictlyIncreasing};
 ghost use Rattle.aa_auto.specs.Sorted.{InsertsAll};
 ghost use Rattle.aa_auto.specs.Closed.{IsUpward, IsClosure, IsClosing};
 
 use crate::sorted::{count_below, insert, is_at};
-use std::alloc::{AllocError, Global};
+use std::alloc::AllocError;
 
 /// Adds the values to rising numbers, where they aren't there.
 fn insert_all(set: &mut Vec<u32>, values: &[u32]) -> Result<(), AllocError>
@@ -53,19 +53,19 @@ fn add_closed(jumps: &[Vec<u32>], set: &mut Vec<u32>, seed: u32) -> Result<(), A
     close_from(jumps, set, count)
 }
 
-/// The seeds, which rise, and the positions that are reached from them by `jumps`, without a byte.
+/// Makes `set` the seeds, which rise, and the positions that are reached from them by `jumps`, without a byte.
 pub(crate) fn closed(
-    alloc: Global,
     jumps: &[Vec<u32>],
     seeds: &[u32],
-) -> Result<Vec<u32>, AllocError>
+    set: &mut Vec<u32>,
+) -> Result<(), AllocError>
     requires within { (n : ℕ) → Contains seeds.now n → n < length jumps.now }
     requires upward { IsUpward (map (λ v. v.items) jumps.now) }
-    ensures { IfOk result (λ set. IsClosure (map (λ v. v.items) jumps.now) seeds.now set.items) }
+    ensures { OnOk result (IsClosure (map (λ v. v.items) jumps.now) seeds.now set.new.items) }
 {
-    let mut set = Vec::new(alloc);
+    set.clear();
     for seed in seeds {
-        add_closed(jumps, &mut set, *seed)?;
+        add_closed(jumps, set, *seed)?;
     }
-    Ok(set)
+    Ok(())
 }

@@ -46,18 +46,18 @@ fn push_number(numbers: &mut Vec<u16>, number: Option<u16>) -> Result<(), AllocE
     Ok(())
 }
 
-/// The numbers of the patterns that end at one of the positions, rising.
+/// Makes `numbers` those of the patterns that end at one of the positions, rising.
 pub(crate) fn numbers_at(
-    alloc: Global,
     finals: &[Option<u16>],
     set: &[u32],
-) -> Result<Vec<u16>, AllocError>
+    numbers: &mut Vec<u16>,
+) -> Result<(), AllocError>
     requires { (n : ℕ) → Contains set.now n → n < length finals.now }
-    ensures { IfOk result (λ numbers. (ends : List ℕ) → IsStrictlyIncreasing ends → IsStrictlyIncreasing set.now → AreFinals ends (length ends) (length finals.now) finals.now → ListsFinals ends set.now numbers.items) }
+    ensures { OnOk result ((ends : List ℕ) → IsStrictlyIncreasing ends → IsStrictlyIncreasing set.now → AreFinals ends (length ends) (length finals.now) finals.now → ListsFinals ends set.now numbers.new.items) }
 {
-    let mut numbers = Vec::new(alloc);
+    numbers.clear();
     for position in set {
-        push_number(&mut numbers, finals[*position as usize])?;
+        push_number(numbers, finals[*position as usize])?;
     }
-    Ok(numbers)
+    Ok(())
 }

@@ -34,24 +34,29 @@ impl Lists {
         }
     }
 
-    /// The number of the list, and whether it was added, since it wasn't there.
-    fn insert(&mut self, numbers: Vec<u16>) -> Result<(usize, bool), AllocError>
-        ensures found { IfOk result (λ r. slice_get self.new.lists r.0 ≡ Some numbers.items) }
-        ensures grows { IfOk result (λ r. self.new.lists ≡ (if r.1 then self.old.lists ++ numbers.items ∷ [] else self.old.lists)) }
+    /// The number of the list, and whether it was added, since it wasn't there. It is copied only then.
+    fn insert(&mut self, alloc: Global, numbers: &[u16]) -> Result<(usize, bool), AllocError>
+        ensures found { IfOk result (λ r. slice_get self.new.lists r.0 ≡ Some numbers.now) }
+        ensures grows { IfOk result (λ r. self.new.lists ≡ (if r.1 then self.old.lists ++ numbers.now ∷ [] else self.old.lists)) }
         ensures apart { OnOk result (IsApart self.new.lists) }
         ensures listed { self.new.listed ≡ self.old.listed }
     {
-        let (number, is_new) = self.keys.insert_full(numbers)?;
-        Ok((number, is_new))
+        let many = self.keys.len();
+        if let Some(number) = self.keys.get_index_of(numbers) {
+            return Ok((number, false));
+        }
+        let numbers = Vec::from_slice(alloc, numbers)?;
+        self.keys.insert(numbers)?;
+        Ok((many, true))
     }
 
     /// Adds a row with this list.
-    pub(crate) fn add(&mut self, numbers: Vec<u16>) -> Result<(), AllocError>
+    pub(crate) fn add(&mut self, alloc: Global, numbers: &[u16]) -> Result<(), AllocError>
         requires listing { IsListing self.old }
         requires few { length self.old.listed < 4294967295 }
-        ensures { OnOk result (AddsRow self.old self.new numbers.items) }
+        ensures { OnOk result (AddsRow self.old self.new numbers.now) }
     {
-        let (number, _) = self.insert(numbers)?;
+        let (number, _) = self.insert(alloc, numbers)?;
         self.listed.push(number as u32)?;
         Ok(())
     }

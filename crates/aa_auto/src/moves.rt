@@ -1,6 +1,6 @@
 //! Where a byte leads from a position, and from a set of them.
 
-ghost use Rattle.std.specs.Prelude.{◌↔◌, ◌<◌, ℕ, IsTrue, IfOk, OnOk, Contains, None, [], length};
+ghost use Rattle.std.specs.Prelude.{◌↔◌, ◌<◌, ℕ, IsTrue, OnOk, Contains, None, [], length};
 ghost use Rattle.std.specs.List.Sorted.{IsStrictlyIncreasing};
 ghost use Rattle.aa_auto.specs.Sorted.{InsertsIf};
 ghost use Rattle.aa_auto.specs.Spots.{AddsMoves, AreSeeds, MovesFrom, BeginsAt, ContinuesAt, IsStart, LeadsAlike, LeadAlike};
@@ -8,7 +8,7 @@ ghost use Rattle.aa_auto.specs.Spots.{AddsMoves, AreSeeds, MovesFrom, BeginsAt, 
 use crate::nodes::Node;
 use crate::sorted::insert;
 use aa_items::{begins, continues};
-use std::alloc::{AllocError, Global};
+use std::alloc::AllocError;
 
 /// Whether the item before the position may begin with the byte.
 fn begins_at(nodes: &[Node], position: usize, byte: u8) -> bool
@@ -66,22 +66,22 @@ fn move_from(nodes: &[Node], byte: u8, start: u32, set: &mut Vec<u32>) -> Result
     Ok(())
 }
 
-/// The positions that the byte leads to from those of the set.
+/// Makes `seeds` the positions that the byte leads to from those of the set.
 pub(crate) fn moved(
-    alloc: Global,
     nodes: &[Node],
     byte: u8,
     old: &[u32],
-) -> Result<Vec<u32>, AllocError>
+    seeds: &mut Vec<u32>,
+) -> Result<(), AllocError>
     requires within { (n : ℕ) → Contains old.now n → n < length nodes.now }
     requires few { length nodes.now < 4294967296 }
-    ensures { IfOk result (λ new. MovesFrom nodes.now byte old.now new.items) }
+    ensures { OnOk result (MovesFrom nodes.now byte old.now seeds.new.items) }
 {
-    let mut new = Vec::new(alloc);
+    seeds.clear();
     for start in old {
-        move_from(nodes, byte, *start, &mut new)?;
+        move_from(nodes, byte, *start, seeds)?;
     }
-    Ok(new)
+    Ok(())
 }
 
 /// Whether two bytes lead to the same positions from this one.
@@ -109,14 +109,14 @@ pub(crate) fn lead_alike(nodes: &[Node], a: u8, b: u8, set: &[u32]) -> bool
     true
 }
 
-/// The positions that nothing stands before.
-pub(crate) fn beginnings(alloc: Global, nodes: &[Node]) -> Result<Vec<u32>, AllocError>
+/// Makes `new` the positions that nothing stands before.
+pub(crate) fn beginnings(nodes: &[Node], new: &mut Vec<u32>) -> Result<(), AllocError>
     requires { length nodes.now < 4294967296 }
-    ensures { IfOk result (λ new. AreSeeds nodes.now None [] new.items) }
+    ensures { OnOk result (AreSeeds nodes.now None [] new.new.items) }
 {
-    let mut new = Vec::new(alloc);
+    new.clear();
     for (position, node) in nodes.iter().enumerate() {
-        insert_if(&mut new, position as u32, is_start(node))?;
+        insert_if(new, position as u32, is_start(node))?;
     }
-    Ok(new)
+    Ok(())
 }

@@ -32,6 +32,27 @@ pub(crate) struct Net<'a> {
     pub(crate) finals: Vec<Option<u16>>,
 }
 
+/// Vectors for the set that is looked for, which keep their room from one to the next.
+#[derive(Drop)]
+pub(crate) struct Scratch {
+    /// Where the byte leads, before what is reached without one.
+    pub(crate) seeds: Vec<u32>,
+    /// The positions of the set.
+    pub(crate) set: Vec<u32>,
+    /// The numbers of the patterns that match there.
+    pub(crate) numbers: Vec<u16>,
+}
+
+impl Scratch {
+    pub(crate) fn new(alloc: Global) -> Self {
+        Scratch {
+            seeds: Vec::new(alloc),
+            set: Vec::new(alloc),
+            numbers: Vec::new(alloc),
+        }
+    }
+}
+
 /// The most positions that there can be.
 const POSITIONS: usize = 4294967295;
 
@@ -64,7 +85,7 @@ pub(crate) fn net_of<'a>(alloc: Global, patterns: &'a [&'a Pattern]) -> Result<N
 }
 
 impl Net<'_> {
-    ghost use Rattle.std.specs.Prelude.{ℕ, ◌≡◌, ◌<◌, IfOk, IsTrue, List, Some, None, [], Contains, length};
+    ghost use Rattle.std.specs.Prelude.{ℕ, ◌≡◌, ◌<◌, IfOk, OnOk, IsTrue, List, Some, None, [], Contains, length};
     ghost use Rattle.aa_auto.specs.Nets.{IsNetOf, patterns_of};
     ghost use Rattle.aa_auto.specs.Explored.{Follows, Lists};
     ghost use Rattle.aa_auto.specs.Noted.{AreNoted};
@@ -79,23 +100,36 @@ impl Net<'_> {
         classes_of(alloc, self.plain.as_slice())
     }
 
-    /// The positions where the empty text stands.
-    pub(crate) fn start(&self, alloc: Global) -> Result<Vec<u32>, AllocError>
+    /// Makes `scratch.set` the positions where the empty text stands.
+    pub(crate) fn start(&self, scratch: &mut Scratch) -> Result<(), AllocError>
         requires { IsNetOf self.now }
-        ensures { IfOk result (λ new. Follows self.now None [] new.items) }
+        ensures { OnOk result (Follows self.now None [] scratch.new.set.items) }
     {
-        let seeds = beginnings(alloc, self.nodes.as_slice())?;
-        closed(alloc, self.jumps.as_slice(), seeds.as_slice())
+        beginnings(self.nodes.as_slice(), &mut scratch.seeds)?;
+        closed(
+            self.jumps.as_slice(),
+            scratch.seeds.as_slice(),
+            &mut scratch.set,
+        )
     }
 
-    /// The positions where a text stands that ends in the byte, where `old` is where it stands without.
-    pub(crate) fn next(&self, alloc: Global, byte: u8, old: &[u32]) -> Result<Vec<u32>, AllocError>
+    /// Makes `scratch.set` the positions where a text stands that ends in the byte, where `old` is where it stands without.
+    pub(crate) fn next(
+        &self,
+        byte: u8,
+        old: &[u32],
+        scratch: &mut Scratch,
+    ) -> Result<(), AllocError>
         requires net { IsNetOf self.now }
         requires old { (n : ℕ) → Contains old.now n → n < length self.now.nodes.items }
-        ensures { IfOk result (λ new. Follows self.now (Some byte) old.now new.items) }
+        ensures { OnOk result (Follows self.now (Some byte) old.now scratch.new.set.items) }
     {
-        let seeds = moved(alloc, self.nodes.as_slice(), byte, old)?;
-        closed(alloc, self.jumps.as_slice(), seeds.as_slice())
+        moved(self.nodes.as_slice(), byte, old, &mut scratch.seeds)?;
+        closed(
+            self.jumps.as_slice(),
+            scratch.seeds.as_slice(),
+            &mut scratch.set,
+        )
     }
 
     /// What is noted of the positions of a set.
@@ -117,12 +151,16 @@ impl Net<'_> {
         noted.lead_alike(self.nodes.as_slice(), a, b)
     }
 
-    /// The numbers of the patterns that match a text that stands at the positions, rising.
-    pub(crate) fn numbers(&self, alloc: Global, set: &[u32]) -> Result<Vec<u16>, AllocError>
+    /// Makes `scratch.numbers` those of the patterns that match a text that stands at the positions of `scratch.set`, rising.
+    pub(crate) fn numbers(&self, scratch: &mut Scratch) -> Result<(), AllocError>
         requires net { IsNetOf self.now }
-        requires set { (n : ℕ) → Contains set.now n → n < length self.now.nodes.items }
-        ensures { IfOk result (λ numbers. Lists self.now set.now numbers.items) }
+        requires set { (n : ℕ) → Contains scratch.old.set.items n → n < length self.now.nodes.items }
+        ensures { OnOk result (Lists self.now scratch.old.set.items scratch.new.numbers.items) }
     {
-        numbers_at(alloc, self.finals.as_slice(), set)
+        numbers_at(
+            self.finals.as_slice(),
+            scratch.set.as_slice(),
+            &mut scratch.numbers,
+        )
     }
 }

@@ -44,14 +44,19 @@ impl Sets {
         Some(set.as_slice())
     }
 
-    /// The number of the list, and whether it was added, since it wasn't there.
-    pub(crate) fn add(&mut self, set: Vec<u32>) -> Result<(usize, bool), AllocError>
-        ensures found { IfOk result (λ r. slice_get self.new r.0 ≡ Some set.items) }
-        ensures grows { IfOk result (λ r. self.new ≡ (if r.1 then self.old ++ set.items ∷ [] else self.old)) }
+    /// The number of the list, and whether it was added, since it wasn't there. It is copied only then.
+    pub(crate) fn add(&mut self, alloc: Global, set: &[u32]) -> Result<(usize, bool), AllocError>
+        ensures found { IfOk result (λ r. slice_get self.new r.0 ≡ Some set.now) }
+        ensures grows { IfOk result (λ r. self.new ≡ (if r.1 then self.old ++ set.now ∷ [] else self.old)) }
         ensures apart { OnOk result (IsApart self.new) }
         ensures err { OnErr result (self.new ≡ self.old) }
     {
-        let (index, is_new) = self.keys.insert_full(set)?;
-        Ok((index, is_new))
+        let many = self.keys.len();
+        if let Some(index) = self.keys.get_index_of(set) {
+            return Ok((index, false));
+        }
+        let set = Vec::from_slice(alloc, set)?;
+        self.keys.insert(set)?;
+        Ok((many, true))
     }
 }

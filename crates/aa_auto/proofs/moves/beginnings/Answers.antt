@@ -7,7 +7,7 @@ use Rattle.aa_auto.proofs.MoveLemmas.{starts_none, starts_more, starts_all}
 use Rattle.aa_auto.proofs.moves.beginnings.Goals as goal
 
 pub loop-position-init : goal.loop-position-init
-loop-position-init c = starts_none c.args.nodes.now c.new-new.result.items c.new-new.ensures.items
+loop-position-init c = starts_none c.args.nodes.now c.clear.new.self.items c.clear.ensures.items
 
 pub insert_if-requires : goal.insert_if-requires
 insert_if-requires c = c.loop-position.invariant.rising

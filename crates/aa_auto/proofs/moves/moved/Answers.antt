@@ -8,4 +8,4 @@ move_from-requires-clause-start c = c.requires.within _ (contains_at c.args.old.
 
 pub loop-start-preserved : goal.loop-start-preserved
 loop-start-preserved c =
-    moves_more c.args.nodes.now c.args.byte c.args.old.now c.loop-start.new.items c.move_from.new.set.items c.loop-start.start-index _ c.loop-start-test.true refl c.loop-start.invariant c.in_ok-move_from.ensures
+    moves_more c.args.nodes.now c.args.byte c.args.old.now c.loop-start.seeds.items c.move_from.new.set.items c.loop-start.start-index _ c.loop-start-test.true refl c.loop-start.invariant c.in_ok-move_from.ensures
