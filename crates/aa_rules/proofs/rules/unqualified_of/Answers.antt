@@ -5,7 +5,7 @@ use Rattle.aa_words.specs.declared.word.WordKind.TheVariants.{Skipped}
 use Rattle.aa_rules.specs.Grammar.{Lacks, Keyword, LacksKeyword}
 use Rattle.aa_rules.specs.Reading.{rest_of}
 use Rattle.aa_rules.proofs.Productions.{says_no_cap, says_no_net, says_no_change, says_none}
-use Rattle.aa_rules.proofs.reading.unqualified_of.Goals as goal
+use Rattle.aa_rules.proofs.rules.unqualified_of.Goals as goal
 
 pub returns-in_err-rule-clause-refused : goal.returns-in_err-rule-clause-refused
 returns-in_err-rule-clause-refused c =

@@ -4,7 +4,7 @@ use Rattle.aa_words.specs.declared.word.WordKind.TheVariants.{Comma}
 use Rattle.aa_rules.specs.Grammar.{Lacks}
 use Rattle.aa_rules.specs.Reading.{rest_of}
 use Rattle.aa_rules.proofs.Productions.{no_meaning, no_comma}
-use Rattle.aa_rules.proofs.reading.rule_of.Goals as goal
+use Rattle.aa_rules.proofs.rules.rule_of.Goals as goal
 
 pub returns-in_err-rule-clause-refused : goal.returns-in_err-rule-clause-refused
 returns-in_err-rule-clause-refused c =
