@@ -4,7 +4,7 @@ use Rattle.aa_rules.specs.declared.tree.RuleTree.{RuleTree}
 use Rattle.aa_rules.specs.Reading.{rule_data}
 use Rattle.aa_policy.specs.Spelling.{listed_at}
 use Rattle.aa_policy.proofs.Growth.{added, profile_step, profile_end}
-use Rattle.aa_policy.proofs.listing.passed_over.Goals as goal
+use Rattle.aa_policy.proofs.listing.rules_passed_over.Goals as goal
 
 pub loop-number-preserved : goal.loop-number-preserved
 loop-number-preserved c =
