@@ -9,7 +9,7 @@ use Rattle.aa_words.specs.Stops.{IsFaultOf}
 use Rattle.aa_profiles.specs.declared.policy.Policy.{Policy}
 use Rattle.aa_policy.specs.Faults.{IsParseRefusal, is_path_only}
 use Rattle.aa_heads.specs.Preamble.{IsTwice, IsUndefined}
-use Rattle.aa_policy.specs.Spelling.{Spells, IsPathFault, IsDuplicate, IsOverLimits, start}
+use Rattle.aa_policy.specs.Spelling.{Spells, IsPathFault, IsDuplicate, IsOverLimits, text_start}
 use Rattle.aa_compile.specs.Checks.{IsAccepted, IsRefused}
 use Rattle.aa_jobs.specs.declared.job.Include.{Include}
 use Rattle.aa_policies.specs.declared.refused.RefusedPolicy.{RefusedPolicy}
@@ -67,7 +67,7 @@ pub record IsFaultOfWords (words : List WordData) (e : PolicyFault) : Type 0 whe
   pub undefined : e.kind ≡ PolicyKind.UndefinedVariable → IsUndefined words e.at ⊎ IsPathFault words e
   pub at_path : is_path_only e.kind ≡ true → IsPathFault words e
   pub duplicate : e.kind ≡ PolicyKind.DuplicateProfile → IsDuplicate words e.at
-  pub too_large : e.kind ≡ PolicyKind.TooLarge → IsPathFault words e ⊎ ((e.at ≡ start) × IsOverLimits words)
+  pub too_large : e.kind ≡ PolicyKind.TooLarge → IsPathFault words e ⊎ ((e.at ≡ text_start) × IsOverLimits words)
   pub kind : IsParseRefusal e
 
 -- why a text is no policy that compiles: it has no words, they spell none, or what they spell is refused

@@ -8,7 +8,7 @@ use Rattle.std.proofs.lemmas.List.Concat.{flat_map-cons}
 use Rattle.std.proofs.lemmas.Slice.Eq.{bytes_eq-Decides}
 use Rattle.aa_words.specs.Splits.{WordData}
 use Rattle.aa_glob.specs.Variables.{Variable}
-use Rattle.aa_policy.specs.Bodies.{ChildData, FamilyData, ProfileData, PartData, Stated, Held, IsStatement, IsChild, IsPart, IsProfile, IsItem, IsPolicy, if_any, rules_in, children_in, child_name, child_profile, family, row_from}
+use Rattle.aa_policy.specs.Bodies.{ChildData, FamilyData, ProfileData, PartData, Stated, Held, IsStatement, IsChild, IsBodyPart, IsProfile, IsItem, IsPolicy, if_any, rules_in, children_in, child_name, child_profile, family, row_from}
 use Rattle.aa_rules.specs.Grammar.{Production, Ending, Many, IsRule, Closes, IsEnd}
 use Rattle.aa_heads.specs.Heads.{TitleData, IsTitle}
 use Rattle.aa_rules.specs.Names.{is_full_name, is_right_name, is_plain_name}
@@ -124,7 +124,7 @@ child_lawful ws c rest i =
 abbrev PartLawful : PartData → Type 0
 PartLawful p = AllByRecursion RuleLawful (rules_in p) × AllByRecursion ChildLawful (children_in p)
 
-part_lawful : (ws : List WordData) (p : PartData) (rest : List WordData) → IsPart ws p rest → PartLawful p
+part_lawful : (ws : List WordData) (p : PartData) (rest : List WordData) → IsBodyPart ws p rest → PartLawful p
 part_lawful ws (Stated s) rest i = (statement_lawful ws s rest i, tt)
 part_lawful ws (Held c) rest i = (tt, (child_lawful ws c rest i, tt))
 
@@ -143,7 +143,7 @@ FamilyKept f = (number : ℕ) → AllByRecursion IsKept (family number f)
 
 family_kept : (ws : List WordData) (f : FamilyData) (rest : List WordData) → IsProfile ws f rest → FamilyKept f
 family_kept ws f rest i = λ number.
-    let parts = all_both (λ p. AllByRecursion RuleLawful (rules_in p)) (λ p. AllByRecursion ChildLawful (children_in p)) i.parts (many_all IsPart Closes PartLawful part_lawful i.after i.parts rest i.body_stands) in
+    let parts = all_both (λ p. AllByRecursion RuleLawful (rules_in p)) (λ p. AllByRecursion ChildLawful (children_in p)) i.parts (many_all IsBodyPart Closes PartLawful part_lawful i.after i.parts rest i.body_stands) in
     let rules : AreLawful f.rules = all_flat IsLawfulFile on_file f.rules (subst (AllByRecursion RuleLawful) (sym i.rules_are) (all_flat RuleLawful rules_in i.parts parts.0)) in
     let children : AllByRecursion ChildLawful f.children = subst (AllByRecursion ChildLawful) (sym i.children_are) (all_flat ChildLawful children_in i.parts parts.1) in
     (record { confined = title_confined ws f.head.title i.head_stands.after i.head_stands.title; lawful = rules }, all_map IsKept ChildLawful (child_profile number f.head.title.name) (child_kept number f.head.title.name) f.children children)

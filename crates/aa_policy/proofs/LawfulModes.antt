@@ -97,19 +97,19 @@ entry_lawful deny ws e r (inl a) = mode_lawful deny _ e.mode a.says
 entry_lawful deny ws e r (inr a) = pair_lawful deny a.bare e r a.pair
 
 -- what is meant says how where what is written does
-said_same : (target : Option (List ℕ)) (exec : Option ExecMode) → is_some (option_map spelling.exec_of (exec_with target exec)) ≡ is_some exec
+said_same : (target : Option (List ℕ)) (exec : Option ExecMode) → is_some (option_map spelling.exec_meant (exec_with target exec)) ≡ is_some exec
 said_same target None = refl
 said_same target (Some e) = refl
 
 -- a file rule as written permits execution exactly where it says how, and one with deny doesn't say how
 pub record IsLawfulFile (f : FileData) : Type 0 where
-  pub allowed : f.qualifiers.deny ≡ false → has_exec f.perms ≡ is_some (option_map spelling.exec_of f.exec)
-  pub denied : f.qualifiers.deny ≡ true → is_some (option_map spelling.exec_of f.exec) ≡ false
+  pub allowed : f.qualifiers.deny ≡ false → has_exec f.perms ≡ is_some (option_map spelling.exec_meant f.exec)
+  pub denied : f.qualifiers.deny ≡ true → is_some (option_map spelling.exec_meant f.exec) ≡ false
 
 pub file_lawful : (q : Qualifiers) (ws : List WordData) (f : FileData) (r : List WordData) → IsFile q ws f r → IsLawfulFile f
 file_lawful q ws f r a =
     let l = entry_lawful q.deny a.bare a.entry a.after a.entry_stands in
     let deny : f.qualifiers.deny ≡ q.deny = ap (λ (x : Qualifiers). x.deny) a.qualifiers_are in
-    let said : is_some (option_map spelling.exec_of f.exec) ≡ is_some a.entry.mode.exec =
-    ap (λ (x : Option ExecData). is_some (option_map spelling.exec_of x)) a.exec_is ∙ said_same a.target a.entry.mode.exec in
+    let said : is_some (option_map spelling.exec_meant f.exec) ≡ is_some a.entry.mode.exec =
+    ap (λ (x : Option ExecData). is_some (option_map spelling.exec_meant x)) a.exec_is ∙ said_same a.target a.entry.mode.exec in
     record { allowed = λ h. ap has_exec a.perms_are ∙ l.allowed (sym deny ∙ h) ∙ sym said; denied = λ h. said ∙ l.denied (sym deny ∙ h) }

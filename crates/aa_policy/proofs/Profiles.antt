@@ -12,7 +12,7 @@ use Rattle.aa_rules.specs.Grammar.{Keyword, LacksKeyword, LacksAll, Many, IsRule
 use Rattle.aa_heads.specs.Heads.{HeadData, IsHead, BeginsProfile}
 use Rattle.aa_heads.specs.Preamble.{PreambleData, IsAbi, IsPreamble, variables_of}
 use Rattle.aa_rules.specs.Reading.{RuleData}
-use Rattle.aa_policy.specs.Bodies.{ChildData, FamilyData, ProfileData, PartData, Stated, Held, IsStatement, IsChild, IsPart, IsProfile, IsItem, IsPolicy, if_any, rules_in, children_in, row_from, row_of, family}
+use Rattle.aa_policy.specs.Bodies.{ChildData, FamilyData, ProfileData, PartData, Stated, Held, IsStatement, IsChild, IsBodyPart, IsProfile, IsItem, IsPolicy, if_any, rules_in, children_in, row_from, row_of, family}
 use Rattle.aa_rules.proofs.Phrases.{keyword_apart, keyword_or_path}
 use Rattle.aa_rules.proofs.Productions.{rule_once, closes_once, rule_apart, end_once, keyword_or_close}
 use Rattle.aa_rules.proofs.Repetition.{Reads, many_once}
@@ -107,28 +107,28 @@ no_child_body ws head after h none c rest a =
 
 -- ---- parts
 
-part_once : (ws : List WordData) (x y : PartData) (r s : List WordData) → IsPart ws x r → IsPart ws y s → (x ≡ y) × (r ≡ s)
+part_once : (ws : List WordData) (x y : PartData) (r s : List WordData) → IsBodyPart ws x r → IsBodyPart ws y s → (x ≡ y) × (r ≡ s)
 part_once ws (Stated x) (Stated y) r s a b = let p = statement_once ws x y r s a b in (ap Stated p.0, p.1)
 part_once ws (Stated x) (Held y) r s a b = absurd (statement_or_profile ws (head_begins false ws y.head b.after b.head_stands) x r a)
 part_once ws (Held x) (Stated y) r s a b = absurd (statement_or_profile ws (head_begins false ws x.head a.after a.head_stands) y s b)
 part_once ws (Held x) (Held y) r s a b = let p = child_once ws x y r s a b in (ap Held p.0, p.1)
 
-part_apart : (ws : List WordData) (x : PartData) (r s : List WordData) → IsPart ws x r → Closes ws s → ⊥
+part_apart : (ws : List WordData) (x : PartData) (r s : List WordData) → IsBodyPart ws x r → Closes ws s → ⊥
 part_apart ws (Stated x) r s a b = statement_apart ws x r s a b
 part_apart ws (Held x) r s a b = profile_or_closes ws s (head_begins false ws x.head a.after a.head_stands) b
 
 -- the parts of a top-level profile
-pub part_reads : Reads IsPart Closes
+pub part_reads : Reads IsBodyPart Closes
 part_reads = record { once = part_once; ends_once = closes_once; apart = part_apart }
 
 -- where a profile begins, only a child goes on; elsewhere only a statement
 pub no_child_part : (ws : List WordData) → BeginsProfile ws → ((c : ChildData) (rest : List WordData) → IsChild ws c rest → ⊥)
-    → (e : PartData) (rest : List WordData) → IsPart ws e rest → ⊥
+    → (e : PartData) (rest : List WordData) → IsBodyPart ws e rest → ⊥
 no_child_part ws b h (Stated s) rest a = statement_or_profile ws b s rest a
 no_child_part ws b h (Held c) rest a = h c rest a
 
 pub no_part : (ws : List WordData) → (BeginsProfile ws → ⊥) → ((s : Option RuleData) (rest : List WordData) → IsStatement ws s rest → ⊥)
-    → (e : PartData) (rest : List WordData) → IsPart ws e rest → ⊥
+    → (e : PartData) (rest : List WordData) → IsBodyPart ws e rest → ⊥
 no_part ws b h (Stated s) rest a = h s rest a
 no_part ws b h (Held c) rest a = b (head_begins false ws c.head a.after a.head_stands)
 
@@ -140,7 +140,7 @@ profile head rules children = record { head = head; rules = rules; children = ch
 pub profile_once : (ws : List WordData) (x y : FamilyData) (r s : List WordData) → IsProfile ws x r → IsProfile ws y s → (x ≡ y) × (r ≡ s)
 profile_once ws x y r s a b =
     let h = head_once true ws x.head y.head a.after b.after a.head_stands b.head_stands in
-    let i = many_once IsPart Closes part_reads b.after a.parts b.parts r s (subst (λ (z : List WordData). Many IsPart Closes z a.parts r) h.1 a.body_stands) b.body_stands in
+    let i = many_once IsBodyPart Closes part_reads b.after a.parts b.parts r s (subst (λ (z : List WordData). Many IsBodyPart Closes z a.parts r) h.1 a.body_stands) b.body_stands in
     let rules : x.rules ≡ y.rules = a.rules_are ∙ ap (flat_map rules_in) i.0 ∙ sym b.rules_are in
     let children : x.children ≡ y.children = a.children_are ∙ ap (flat_map children_in) i.0 ∙ sym b.children_are in
     (ap (λ (z : HeadData). profile z x.rules x.children) h.0 ∙ ap (λ (z : List RuleData). profile y.head z x.children) rules ∙ ap (profile y.head y.rules) children, i.1)
@@ -149,10 +149,10 @@ pub no_profile_head : (ws : List WordData) → ((h : HeadData) (r : List WordDat
 no_profile_head ws h p rest a = h p.head a.after a.head_stands
 
 pub no_profile_body : (ws : List WordData) (head : HeadData) (after : List WordData) → IsHead true ws head after
-    → ((es : List PartData) (r : List WordData) → Many IsPart Closes after es r → ⊥) → (p : FamilyData) (rest : List WordData) → IsProfile ws p rest → ⊥
+    → ((es : List PartData) (r : List WordData) → Many IsBodyPart Closes after es r → ⊥) → (p : FamilyData) (rest : List WordData) → IsProfile ws p rest → ⊥
 no_profile_body ws head after h none p rest a =
     let q = head_once true ws p.head head a.after after a.head_stands h in
-    none a.parts rest (subst (λ (z : List WordData). Many IsPart Closes z a.parts rest) q.1 a.body_stands)
+    none a.parts rest (subst (λ (z : List WordData). Many IsBodyPart Closes z a.parts rest) q.1 a.body_stands)
 
 -- ---- items
 

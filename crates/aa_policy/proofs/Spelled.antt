@@ -27,7 +27,7 @@ use Rattle.aa_heads.specs.Heads.{AttachmentData}
 use Rattle.aa_rules.specs.Reading.{FileData, NameData, ChangeData}
 use Rattle.aa_profiles.specs.Lawful.{IsLawful, IsLawfulRule, IsWithinLimits, IsWithinCounts, file_patterns, has_exec, names_of}
 use Rattle.aa_policy.specs.Sameness.{SamePatterns, SameIfAny, SameRule, SameChange, SameProfile, SamePolicy}
-use Rattle.aa_policy.specs.Spelling.{Spells, IsRepeated, AttachesTo, Aims, MeansRule, MeansChange, MeansProfile, MeansProfiles, exec_of, files_of, changes_of, paths_of, passed_over_from}
+use Rattle.aa_policy.specs.Spelling.{Spells, IsRepeated, AttachesTo, Aims, MeansRule, MeansChange, MeansProfile, MeansProfiles, exec_meant, files_of, changes_of, paths_of, passed_over_from}
 use Rattle.aa_policy.proofs.Attachments.{same_sum, same_attachments}
 use Rattle.aa_policy.proofs.Expanded.{never_refused}
 use Rattle.aa_policy.proofs.Kept.{IsKept, policy_kept}
@@ -163,7 +163,7 @@ profile_confined vars d p m k = ap (λ (n : List ℕ). bytes_eq n (codes "unconf
 
 rule_lawful : (vars : List Variable) (f : FileData) (r : FileRule) → MeansRule vars f r → IsLawfulFile f → IsLawfulRule r
 rule_lawful vars f r m l =
-    let said : is_some r.exec ≡ is_some (option_map exec_of f.exec) = ap (λ (o : Option Exec). is_some o) m.exec_is in
+    let said : is_some r.exec ≡ is_some (option_map exec_meant f.exec) = ap (λ (o : Option Exec). is_some o) m.exec_is in
     record { allowed = λ h. ap has_exec m.perms_are ∙ l.allowed (sym m.deny_is ∙ h) ∙ sym said; denied = λ h. said ∙ l.denied (sym m.deny_is ∙ h) }
 
 abbrev HasLawfulRules : Profile → Type 0

@@ -61,9 +61,9 @@ pub data PartData : Type 0 where
   Held : ChildData → PartData
 
 -- part = statement | child
-abbrev pub IsPart : Production PartData
-IsPart ws (Stated statement) rest = IsStatement ws statement rest
-IsPart ws (Held child) rest = IsChild ws child rest
+abbrev pub IsBodyPart : Production PartData
+IsBodyPart ws (Stated statement) rest = IsStatement ws statement rest
+IsBodyPart ws (Held child) rest = IsChild ws child rest
 
 abbrev pub part_data : PartTree → PartData
 part_data (States statement) = Stated (option_map rule_data statement)
@@ -83,7 +83,7 @@ pub record IsProfile (ws : List WordData) (profile : FamilyData) (rest : List Wo
   pub after : List WordData
   pub parts : List PartData
   pub head_stands : IsHead true ws profile.head after
-  pub body_stands : Many IsPart Closes after parts rest
+  pub body_stands : Many IsBodyPart Closes after parts rest
   pub rules_are : profile.rules ≡ flat_map rules_in parts
   pub children_are : profile.children ≡ flat_map children_in parts
 

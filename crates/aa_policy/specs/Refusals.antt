@@ -10,7 +10,7 @@ use Rattle.aa_glob.specs.Variables.{Variable}
 use Rattle.aa_rules.specs.Faults.{IsPlaceIn}
 use Rattle.aa_heads.specs.Preamble.{IsTwice, IsUndefined}
 use Rattle.aa_policy.specs.Bodies.{ProfileData, IsPolicy}
-use Rattle.aa_policy.specs.Spelling.{IsPathFault, IsDuplicate, IsOverLimits, start}
+use Rattle.aa_policy.specs.Spelling.{IsPathFault, IsDuplicate, IsOverLimits, text_start}
 
 -- by the grammar they are no policy
 abbrev pub IsUnwritten : List WordData → Type 0
@@ -35,4 +35,4 @@ pub data IsFault (ws : List WordData) (fault : PolicyFault) : Type 0 where
   NeverSet : fault.kind ≡ UndefinedVariable → IsUndefined ws fault.at → IsFault ws fault
   AtPath : IsPathFault ws fault → IsFault ws fault
   NamedTwice : fault.kind ≡ DuplicateProfile → IsDuplicate ws fault.at → IsFault ws fault
-  PastLimits : fault.kind ≡ TooLarge → fault.at ≡ start → IsOverLimits ws → IsFault ws fault
+  PastLimits : fault.kind ≡ TooLarge → fault.at ≡ text_start → IsOverLimits ws → IsFault ws fault

@@ -57,8 +57,8 @@ on_change (OnChange c) = c ∷ []
 on_change (Listed keyword) = []
 
 -- how a program may be executed
-abbrev pub exec_of : ExecData → Exec
-exec_of e = record { kind = e.mode.kind; scrub = e.mode.scrub; fallback = e.mode.fallback; target = e.target }
+abbrev pub exec_meant : ExecData → Exec
+exec_meant e = record { kind = e.mode.kind; scrub = e.mode.scrub; fallback = e.mode.fallback; target = e.target }
 
 abbrev pub files_of : List RuleData → List FileData
 files_of rules = flat_map on_file rules
@@ -72,7 +72,7 @@ pub record MeansRule (vars : List Variable) (f : FileData) (r : FileRule) : Type
   pub deny_is : r.deny ≡ f.qualifiers.deny
   pub owner_is : r.owner ≡ f.owner
   pub perms_are : r.perms ≡ f.perms
-  pub exec_is : r.exec ≡ option_map exec_of f.exec
+  pub exec_is : r.exec ≡ option_map exec_meant f.exec
   pub stands : StandsFor vars f.path r.patterns
 
 -- the pattern is what the name behind the arrow is read as; without a name there is none
@@ -176,8 +176,8 @@ pub record Spells (ws : List WordData) (policy : Policy) : Type 0 where
 -- ---- what a refusal behind the first pass says
 
 -- the start of the main text
-abbrev pub start : Spot
-start = record { file = 0; byte = 0 }
+abbrev pub text_start : Spot
+text_start = record { file = 0; byte = 0 }
 
 -- the words are written right, and this is the first refusal of a path or a name
 pub record IsPathFault (ws : List WordData) (fault : PolicyFault) : Type 0 where

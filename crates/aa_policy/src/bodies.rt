@@ -5,7 +5,7 @@ ghost use Rattle.aa_faults.specs.Kinds.{IsRefusal};
 ghost use Rattle.aa_words.specs.Splits.{WordData};
 ghost use Rattle.aa_rules.specs.Faults.{is_word_fault, IsWordRefusal, IsPlaceIn, IsPlaced};
 ghost use Rattle.aa_rules.specs.Grammar.{Closes, Many};
-ghost use Rattle.aa_policy.specs.Bodies.{ChildData, FamilyData, PartData, IsStatement, IsChild, IsPart, IsProfile, if_any, rules_in, children_in, child_data, family_data, part_data};
+ghost use Rattle.aa_policy.specs.Bodies.{ChildData, FamilyData, PartData, IsStatement, IsChild, IsBodyPart, IsProfile, if_any, rules_in, children_in, child_data, family_data, part_data};
 ghost use Rattle.aa_rules.specs.Reading.{RuleData, rest_of, rule_data};
 
 use crate::tree::{ChildTree, FamilyTree};
@@ -53,7 +53,7 @@ fn child_statement_of<'s>(
 }
 
 /// Adds a statement's rule to those before it, if it has one.
-fn push_any<'s>(
+fn push_statement<'s>(
     rules: &mut Vec<RuleTree<'s>>,
     statement: Option<RuleTree<'s>>,
 ) -> Result<(), AllocError>
@@ -85,7 +85,7 @@ fn child_body_of<'s>(
     let mut at = start;
     'statements: while !closes(words, at) {
         let (statement, next) = child_statement_of(words, at, end)?;
-        push_any(&mut rules, statement)?;
+        push_statement(&mut rules, statement)?;
         at = next;
     }
     Ok((rules, at + 1))
@@ -119,14 +119,14 @@ enum PartTree<'s> {
 }
 
 /// An part of a top-level profile's body, and the place behind it.
-fn part_of<'s>(
+fn body_part_of<'s>(
     alloc: Global,
     words: &[Word<'s>],
     at: usize,
     end: Spot,
 ) -> Result<(PartTree<'s>, usize), PolicyFault>
-    ensures found { IfOk result (λ r. IsPart (rest_of words.now at) (part_data r.0) (rest_of words.now r.1)) }
-    ensures refused { IsRefusal result → (e : PartData) (rest : List WordData) → IsPart (rest_of words.now at) e rest → ⊥ }
+    ensures found { IfOk result (λ r. IsBodyPart (rest_of words.now at) (part_data r.0) (rest_of words.now r.1)) }
+    ensures refused { IsRefusal result → (e : PartData) (rest : List WordData) → IsBodyPart (rest_of words.now at) e rest → ⊥ }
     ensures cause { IfErr result (λ e. IsWordRefusal e) }
     ensures place { IfErr result (IsPlaced words.now end) }
     ensures within { IfOk result (λ r. (at < r.1) × (r.1 ≤ length words.now)) }
@@ -152,7 +152,7 @@ fn push_part<'s>(body: &mut Body<'s>, part: PartTree<'s>) -> Result<(), AllocErr
     ensures children { OnOk result (map child_data body.new.children.items ≡ map child_data body.old.children.items ++ children_in (part_data part.entry)) }
 {
     match part {
-        PartTree::States(statement) => push_any(&mut body.rules, statement),
+        PartTree::States(statement) => push_statement(&mut body.rules, statement),
         PartTree::Holds(child) => {
             body.children.push(child)?;
             Ok(())
@@ -167,9 +167,9 @@ fn body_of<'s>(
     start: usize,
     end: Spot,
 ) -> Result<(Body<'s>, usize), PolicyFault>
-    ensures found { IfOk result (λ r. (es : List PartData) × Many IsPart Closes (rest_of words.now start) es (rest_of words.now r.1)
+    ensures found { IfOk result (λ r. (es : List PartData) × Many IsBodyPart Closes (rest_of words.now start) es (rest_of words.now r.1)
         × (map rule_data r.0.rules.items ≡ flat_map rules_in es) × (map child_data r.0.children.items ≡ flat_map children_in es)) }
-    ensures refused { IsRefusal result → (es : List PartData) (rest : List WordData) → Many IsPart Closes (rest_of words.now start) es rest → ⊥ }
+    ensures refused { IsRefusal result → (es : List PartData) (rest : List WordData) → Many IsBodyPart Closes (rest_of words.now start) es rest → ⊥ }
     ensures cause { IfErr result (λ e. IsWordRefusal e) }
     ensures place { IfErr result (IsPlaced words.now end) }
     ensures within { IfOk result (λ r. (start < r.1) × (r.1 ≤ length words.now)) }
@@ -180,7 +180,7 @@ fn body_of<'s>(
     };
     let mut at = start;
     'parts: while !closes(words, at) {
-        let (part, next) = part_of(alloc, words, at, end)?;
+        let (part, next) = body_part_of(alloc, words, at, end)?;
         push_part(&mut body, part)?;
         at = next;
     }

@@ -30,7 +30,7 @@ fn pattern_of(alloc: Global, name: &NameTree) -> Result<Pattern, PolicyFault>
 }
 
 /// The pattern that the name behind an arrow is read as, if there is one.
-fn aim_of(alloc: Global, name: &Option<NameTree>) -> Result<Option<Pattern>, PolicyFault>
+fn aimed_pattern(alloc: Global, name: &Option<NameTree>) -> Result<Option<Pattern>, PolicyFault>
     ensures aims { IfOk result (λ p. Aims (option_map name_data name.now) p) }
     ensures refused { IfErr result (λ e. e.kind ≢ PolicyKind.NoMemory → (vars : List Variable) → IsFirstRefused vars (named_paths (option_map name_data name.now)) e) }
     ensures cause { IfErr result IsPathRefusal }
@@ -50,7 +50,7 @@ fn change_rule(alloc: Global, change: &ChangeTree) -> Result<ChangeRule, PolicyF
     Ok(ChangeRule {
         audit: change.qualifiers.audit,
         deny: change.qualifiers.deny,
-        pattern: aim_of(alloc, &change.name)?,
+        pattern: aimed_pattern(alloc, &change.name)?,
     })
 }
 

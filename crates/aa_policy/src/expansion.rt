@@ -10,7 +10,7 @@ ghost use Rattle.aa_policy.specs.Keeping.{KeepsRules, KeepsProfile, KeepsProfile
 ghost use Rattle.aa_policy.specs.Bodies.{full_name, profile_data, tree_data};
 ghost use Rattle.aa_heads.specs.Heads.{attachment_data};
 ghost use Rattle.aa_rules.specs.Reading.{target_data, exec_data, file_data, rule_data};
-ghost use Rattle.aa_policy.specs.Spelling.{AttachesTo, MeansRule, MeansChange, MeansProfile, MeansProfiles, exec_of, on_file, files_of, changes_of, paths_of_rules, attachment_paths, rule_paths, profile_paths, paths_of};
+ghost use Rattle.aa_policy.specs.Spelling.{AttachesTo, MeansRule, MeansChange, MeansProfile, MeansProfiles, exec_meant, on_file, files_of, changes_of, paths_of_rules, attachment_paths, rule_paths, profile_paths, paths_of};
 
 use crate::access::{cap_rules, net_rules};
 use crate::changes::change_rules;
@@ -45,7 +45,7 @@ fn patterns_of(
 }
 
 /// The name behind an arrow.
-fn target_of(alloc: Global, target: Option<&[u8]>) -> Result<Option<Text>, AllocError>
+fn copied_target(alloc: Global, target: Option<&[u8]>) -> Result<Option<Text>, AllocError>
     ensures { IfOk result (λ t. t ≡ target_data target.entry) }
 {
     match target {
@@ -55,8 +55,8 @@ fn target_of(alloc: Global, target: Option<&[u8]>) -> Result<Option<Text>, Alloc
 }
 
 /// How a rule lets a program be executed.
-fn exec_of(alloc: Global, exec: Option<ExecTree>) -> Result<Option<Exec>, AllocError>
-    ensures { IfOk result (λ e. e ≡ option_map exec_of (option_map exec_data exec.entry)) }
+fn exec_meant(alloc: Global, exec: Option<ExecTree>) -> Result<Option<Exec>, AllocError>
+    ensures { IfOk result (λ e. e ≡ option_map exec_meant (option_map exec_data exec.entry)) }
 {
     let Some(exec) = exec else {
         return Ok(None);
@@ -65,7 +65,7 @@ fn exec_of(alloc: Global, exec: Option<ExecTree>) -> Result<Option<Exec>, AllocE
         kind: exec.mode.kind,
         scrub: exec.mode.scrub,
         fallback: exec.mode.fallback,
-        target: target_of(alloc, exec.target)?,
+        target: copied_target(alloc, exec.target)?,
     }))
 }
 
@@ -81,7 +81,7 @@ fn file_rule(alloc: Global, vars: &Vars, file: &FileTree) -> Result<FileRule, Po
         deny: file.qualifiers.deny,
         owner: file.owner,
         perms: file.perms,
-        exec: exec_of(alloc, file.exec)?,
+        exec: exec_meant(alloc, file.exec)?,
         patterns,
     })
 }

@@ -19,7 +19,7 @@ use aa_words::{PolicyFault, PolicyKind, Spot, Word};
 use std::alloc::{AllocError, Global};
 
 /// An item behind the preamble: a profile, or an abi rule; and the place behind it.
-fn item_of<'s>(
+fn top_item_of<'s>(
     alloc: Global,
     words: &[Word<'s>],
     at: usize,
@@ -46,7 +46,7 @@ fn item_of<'s>(
 }
 
 /// Adds an item's profile and its children to those before it, if it is one.
-fn push_any<'s>(
+fn push_item<'s>(
     row: &mut Vec<ProfileTree<'s>>,
     item: Option<FamilyTree<'s>>,
 ) -> Result<(), AllocError>
@@ -76,8 +76,8 @@ pub fn tree_of<'s>(
     let mut profiles = Vec::new(alloc);
     let mut at = start;
     'items: while at < words.len() {
-        let (item, next) = item_of(alloc, words, at, end)?;
-        push_any(&mut profiles, item)?;
+        let (item, next) = top_item_of(alloc, words, at, end)?;
+        push_item(&mut profiles, item)?;
         at = next;
     }
     Ok(PolicyTree { vars, profiles })

@@ -123,7 +123,7 @@ fn has_room_below(profiles: &[Profile], parent: Option<u16>, more: usize) -> boo
 
 /// Whether a policy may have a profile beside the others; those below its parent are counted only where there may be no
 /// room for its attachment patterns.
-fn fits(kept: &KeptProfiles, profile: &Profile) -> bool
+fn fits_beside(kept: &KeptProfiles, profile: &Profile) -> bool
     ensures { HasRoom kept.now.profiles.items kept.now.room → (IsTrue result ↔ FitsBeside kept.now.profiles.items profile.now) }
 {
     let more = profile.attachments.as_slice().len();
@@ -152,7 +152,7 @@ pub fn push_profile(
     ensures { OnOk result ((spelled : List Profile) (p : Profile) → KeepsProfiles spelled kept.old → KeepsProfile p read → KeepsProfiles (spelled ++ p ∷ []) kept.new) }
 {
     let ReadProfile { profile, over } = read;
-    if kept.over || over || !fits(kept, &profile) {
+    if kept.over || over || !fits_beside(kept, &profile) {
         kept.profiles.push(without_patterns(alloc, profile))?;
         kept.over = true;
         return Ok(());

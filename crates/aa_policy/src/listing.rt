@@ -49,7 +49,7 @@ fn push_all_listed(
 }
 
 /// The rules that are passed over, each under the number of its profile.
-pub fn passed_over(alloc: Global, tree: &[ProfileTree]) -> Result<Vec<PassedOver>, AllocError>
+pub fn rules_passed_over(alloc: Global, tree: &[ProfileTree]) -> Result<Vec<PassedOver>, AllocError>
     requires few { length tree.now ≤ 65536 }
     ensures { IfOk result (λ v. v.items ≡ passed_over_from 0 (tree_data tree.now)) }
 {

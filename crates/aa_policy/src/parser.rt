@@ -8,13 +8,13 @@ ghost use Rattle.aa_policy.specs.Faults.{IsParseRefusal, is_path_only};
 ghost use Rattle.aa_heads.specs.Preamble.{IsTwice, IsUndefined, IsRefusedWith};
 ghost use Rattle.aa_policy.specs.Refusals.{IsStop, IsFault, is_word_only};
 ghost use Rattle.aa_policy.specs.Sameness.{SamePolicy};
-ghost use Rattle.aa_policy.specs.Spelling.{Spells, IsPathFault, IsDuplicate, IsOverLimits, start};
+ghost use Rattle.aa_policy.specs.Spelling.{Spells, IsPathFault, IsDuplicate, IsOverLimits, text_start};
 ghost use Rattle.aa_profiles.specs.declared.policy.Policy.{Policy};
 
 use crate::expansion::profiles;
 use crate::items::tree_of;
 use crate::limits::check_names;
-use crate::listing::passed_over;
+use crate::listing::rules_passed_over;
 use aa_lists::Seq;
 use aa_profiles::Policy;
 use aa_words::{PolicyFault, PolicyKind, WordList};
@@ -48,7 +48,7 @@ pub fn parse(alloc: Global, words: &WordList) -> Result<Policy, PolicyFault>
     ensures at_path { IfErr result (λ e. is_path_only e.kind ≡ true → IsPathFault (words_data words.now.list.items) e) }
     ensures duplicate { IfErr result (λ e. e.kind ≡ PolicyKind.DuplicateProfile → IsDuplicate (words_data words.now.list.items) e.at) }
     ensures too_large { IfErr result (λ e. e.kind ≡ PolicyKind.TooLarge
-        → IsPathFault (words_data words.now.list.items) e ⊎ ((e.at ≡ start) × IsOverLimits (words_data words.now.list.items))) }
+        → IsPathFault (words_data words.now.list.items) e ⊎ ((e.at ≡ text_start) × IsOverLimits (words_data words.now.list.items))) }
     ensures unwritten { IfErr result (λ e. is_word_only e.kind ≡ true → IsStop words.now.list.items words.now.end e.at) }
     ensures unsupported { IfErr result (λ e. e.kind ≡ PolicyKind.Unsupported
         → IsStop words.now.list.items words.now.end e.at ⊎ IsPathFault (words_data words.now.list.items) e) }
@@ -63,7 +63,7 @@ pub fn parse(alloc: Global, words: &WordList) -> Result<Policy, PolicyFault>
     if kept.over {
         return Err(PolicyFault::at_start(PolicyKind::TooLarge));
     }
-    let listed = passed_over(alloc, tree.profiles.as_slice())?;
+    let listed = rules_passed_over(alloc, tree.profiles.as_slice())?;
     Ok(Policy {
         profiles: Seq::from_vec(kept.profiles),
         passed_over: Seq::from_vec(listed),

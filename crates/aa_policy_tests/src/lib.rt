@@ -17,3 +17,5 @@ mod refusal_tests;
 mod rule_tests;
 #[cfg(test)]
 mod set_tests;
+#[cfg(test)]
+mod worked_tests;

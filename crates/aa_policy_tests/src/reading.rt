@@ -110,6 +110,7 @@ fn qualifiers_of(rule: &FileRule) -> &'static str {
         (true, false, false) => "audit",
         (false, true, false) => "deny",
         (false, false, true) => "owner",
+        (true, true, false) => "audit deny",
         (true, true, true) => "audit deny owner",
         _ => "others",
     }

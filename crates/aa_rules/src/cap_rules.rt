@@ -7,8 +7,7 @@ ghost use Rattle.aa_rules.specs.Faults.{is_word_fault, IsPlaceIn};
 ghost use Rattle.aa_rules.specs.Grammar.{Many};
 ghost use Rattle.aa_rules.specs.Reading.{rest_of};
 
-use crate::faults::fault;
-use crate::reading::word_at;
+use crate::lookahead::{fault, word_at};
 use crate::tree::Qualifiers;
 use aa_profiles::CapRule;
 use aa_tables::{Cap, Caps};

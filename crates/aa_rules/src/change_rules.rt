@@ -6,9 +6,9 @@ ghost use Rattle.aa_rules.specs.ChangeRules.{IsAim, IsAnyAim, IsChanges};
 ghost use Rattle.aa_rules.specs.Faults.{is_word_fault, IsPlaceIn};
 ghost use Rattle.aa_rules.specs.Reading.{NameData, name_data, ChangeData, change_data, rest_of};
 
-use crate::faults::{no_name_fault, spot_of};
+use crate::faults::no_name_fault;
+use crate::lookahead::{name_at, spot_of, word_at};
 use crate::names::is_target_name;
-use crate::reading::{name_at, word_at};
 use crate::tree::{ChangeTree, NameTree, Qualifiers};
 use aa_words::{PolicyFault, Spot, Word, WordKind};
 

@@ -1,8 +1,7 @@
 //! Why reading can't go on at a word.
 
 ghost use Rattle.std.specs.Prelude.{◌≡◌, true, false, List, None};
-ghost use Rattle.aa_words.specs.Splits.{WordData, word_data};
-ghost use Rattle.aa_rules.specs.Grammar.{spot_of, place_of};
+ghost use Rattle.aa_words.specs.Splits.{WordData};
 ghost use Rattle.aa_rules.specs.Reading.{EntryData, rest_of};
 ghost use Rattle.aa_rules.specs.Faults.{is_word_fault, IsPlaceIn};
 ghost use Rattle.aa_rules.specs.FileRules.{IsMode, IsPair, IsEntry};
@@ -10,47 +9,13 @@ ghost use Rattle.aa_rules.specs.Modes.{mode_of};
 ghost use Rattle.aa_rules.specs.Names.{is_left_out};
 ghost use Rattle.aa_rules.specs.declared.modes.Mode.{Mode};
 
-use crate::file_rules::takes_target;
-use crate::modes::{Mode, mode_fault};
+use crate::lookahead::{fault, is_keyword, is_name_kind, path_at, word_at};
+use crate::modes::{Mode, mode_fault, takes_target};
 use crate::names::{is_left_out, name_fault};
-use crate::reading::{is_keyword, is_name_kind, path_at, word_at};
 use crate::tree::RuleTree;
 use aa_tables::Perms;
 use aa_words::{PolicyFault, PolicyKind, Spot, Word, WordKind};
 use bitflags::Flags;
-
-/// Where a word stands.
-pub fn spot_of(word: &Word) -> Spot
-    ensures { result ≡ spot_of (word_data word.now) }
-{
-    Spot {
-        file: word.span.file,
-        byte: word.span.start,
-    }
-}
-
-/// Where a word stands, or the end of the text where no word is left.
-#[tactic(auto, using(crate::proofs::Places::here, crate::proofs::Places::nothing_here))]
-fn spot_at(words: &[Word], at: usize, end: Spot) -> Spot
-    ensures { result ≡ place_of (rest_of words.now at) end }
-{
-    match words.get(at) {
-        Some(word) => spot_of(word),
-        None => end,
-    }
-}
-
-/// A refusal at a word, or behind the text where no word is left.
-pub fn fault(kind: PolicyKind, words: &[Word], at: usize, end: Spot) -> PolicyFault
-    ensures kind { result.kind ≡ kind }
-    ensures spot { result.at ≡ place_of (rest_of words.now at) end }
-    ensures place { IsPlaceIn words.now end result.at }
-{
-    PolicyFault {
-        kind,
-        at: spot_at(words, at, end),
-    }
-}
 
 /// Whether a word of this kind stands at a place.
 fn is_kind_at(words: &[Word], at: usize, kind: WordKind) -> bool {

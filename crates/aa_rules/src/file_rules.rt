@@ -5,16 +5,15 @@ ghost use Rattle.std.specs.Bool.{OnTrue, OnFalse};
 ghost use Rattle.aa_words.specs.Splits.{WordData, word_data};
 ghost use Rattle.aa_rules.specs.Faults.{is_word_fault, IsPlaceIn};
 ghost use Rattle.aa_rules.specs.Phrases.{StartsAs, LacksAll};
-ghost use Rattle.aa_rules.specs.FileRules.{IsMode, IsPathFirst, IsModeFirst, IsPair, IsWhole, IsLeftOut, IsNamed, IsEntry, names_profile, takes_target, IsArrow, IsTarget, exec_with, IsFile, whole_mode};
+ghost use Rattle.aa_rules.specs.FileRules.{IsMode, IsPathFirst, IsModeFirst, IsPair, IsWhole, IsLeftOut, IsNamed, IsEntry, IsArrow, IsTarget, exec_with, IsFile, whole_mode};
 ghost use Rattle.aa_rules.specs.Reading.{EntryData, entry_data, FileData, file_data, target_data, exec_data, rest_of};
 ghost use Rattle.aa_rules.specs.declared.modes.Mode.{Mode};
 
-use crate::faults::{RulePlace, no_entry_fault, no_target_fault, spot_of};
-use crate::modes::{ExecMode, Mode, mode_of};
+use crate::faults::{RulePlace, no_entry_fault, no_target_fault};
+use crate::lookahead::{name_at, optional, path_at, spot_of, word_at};
+use crate::modes::{ExecMode, Mode, mode_of, takes_target};
 use crate::names::{is_left_out, is_target_name};
-use crate::reading::{name_at, optional, path_at, word_at};
 use crate::tree::{EntryTree, ExecTree, FileTree, Qualifiers};
-use aa_profiles::ExecKind;
 use aa_words::{PolicyFault, Spot, Word, WordKind};
 
 /// The mode at a place.
@@ -134,23 +133,6 @@ fn entry_of<'s>(words: &[Word<'s>], at: usize, deny: bool) -> Option<(EntryTree<
         return None;
     };
     Some((entry, bare + 2))
-}
-
-/// Whether a program goes on under a profile of the policy.
-fn names_profile(kind: ExecKind) -> bool
-    ensures { result ≡ names_profile kind }
-{
-    matches!(kind, ExecKind::Profile | ExecKind::Child)
-}
-
-/// Whether a profile may be named behind a mode.
-pub fn takes_target(exec: Option<ExecMode>) -> bool
-    ensures { result ≡ takes_target exec }
-{
-    match exec {
-        Some(mode) => names_profile(mode.kind),
-        None => false,
-    }
 }
 
 /// The name behind an arrow.

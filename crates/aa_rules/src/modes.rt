@@ -3,6 +3,7 @@
 ghost use Rattle.std.specs.Prelude.{◌≡◌, ◌≤◌, ◌&&◌, ◌++◌, true, None, length, is_some, IfSome, IfNone, OnSome, option_map};
 ghost use Rattle.std.specs.List.{prefix_len};
 ghost use Rattle.aa_rules.specs.Faults.{is_word_fault};
+ghost use Rattle.aa_rules.specs.FileRules.{names_profile, takes_target};
 ghost use Rattle.aa_rules.specs.Modes.{letter_bits, letters_bits, has_letter, is_access_letter, is_exec_letter, how, exec_of, with_part, parts_of, writes_and_appends, mode_of, begins_mixed, ends_part, is_mixed, mode_fault};
 
 use crate::names::begins_with_all;
@@ -263,4 +264,21 @@ pub fn mode_fault(mode: &[u8], deny: bool) -> Option<PolicyKind>
         return Some(PolicyKind::Unsupported);
     }
     Some(PolicyKind::BadMode)
+}
+
+/// Whether a program goes on under a profile of the policy.
+fn names_profile(kind: ExecKind) -> bool
+    ensures { result ≡ names_profile kind }
+{
+    matches!(kind, ExecKind::Profile | ExecKind::Child)
+}
+
+/// Whether a profile may be named behind a mode.
+pub fn takes_target(exec: Option<ExecMode>) -> bool
+    ensures { result ≡ takes_target exec }
+{
+    match exec {
+        Some(mode) => names_profile(mode.kind),
+        None => false,
+    }
 }

@@ -7,8 +7,7 @@ ghost use Rattle.aa_rules.specs.NetRules.{transport_kinds, one_in, one_name, is_
 ghost use Rattle.aa_rules.specs.Reading.{rest_of};
 ghost use Rattle.aa_tables.specs.Tables.{family_names, sock_type_names};
 
-use crate::faults::fault;
-use crate::reading::word_at;
+use crate::lookahead::{fault, word_at};
 use crate::tree::Qualifiers;
 use aa_profiles::NetRule;
 use aa_tables::{Family, SockType};

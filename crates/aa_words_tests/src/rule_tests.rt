@@ -170,6 +170,32 @@ fn a_change_of_profile_is_no_rule_that_is_passed_over(rt: HostRuntime) -> Result
 }
 
 #[test]
+fn the_words_of_a_change_of_profile_are_words_like_others(rt: HostRuntime) -> Result<(), Fail> {
+    let alloc = rt.alloc();
+    let expected = [
+        (WordKind::Name, "deny", 0, 4),
+        (WordKind::Name, "change_profile", 5, 19),
+        (WordKind::Path, "/bin/sh", 20, 27),
+        (WordKind::Arrow, "->", 28, 30),
+        (WordKind::Quoted, "a,b", 32, 35),
+        (WordKind::Comma, ",", 36, 37),
+        (WordKind::Name, "allow", 38, 43),
+        (WordKind::Name, "change_profile", 44, 58),
+        (WordKind::Arrow, "->", 59, 61),
+        (WordKind::Path, "/x{a,b}", 62, 69),
+        (WordKind::Comma, ",", 69, 70),
+        // No comma is looked for, and none is missing.
+        (WordKind::Name, "change_profile", 71, 85),
+    ];
+    expect_words(
+        &rt,
+        alloc,
+        "deny change_profile /bin/sh -> \"a,b\", allow change_profile -> /x{a,b}, change_profile",
+        expected.as_slice(),
+    )
+}
+
+#[test]
 fn a_comma_in_parentheses_begins_no_rule(rt: HostRuntime) -> Result<(), Fail> {
     let alloc = rt.alloc();
     let expected = [

@@ -17,7 +17,7 @@ pub statements-preserved : goal.statements-preserved
 statements-preserved c = record {
   found = c.statements.invariant.found ++ option_map rule_data c.in_ok-statement.statement ∷ [];
   reach = reaches_next IsStatement Closes statement_reads _ _ (rest_of c.args.words.now c.statements.at) _ _ c.in_ok-statement.ensures.found c.statements.invariant.reach;
-  rules = more_given if_any c.statements.invariant.found (option_map rule_data c.in_ok-statement.statement) _ _ c.in_ok-push_any.ensures c.statements.invariant.rules;
+  rules = more_given if_any c.statements.invariant.found (option_map rule_data c.in_ok-statement.statement) _ _ c.in_ok-push_statement.ensures c.statements.invariant.rules;
   behind = omega (arith, c.in_ok-statement.ensures.within.0);
 }
 

@@ -30,7 +30,7 @@ pub items-preserved : goal.items-preserved
 items-preserved c = record {
   found = c.items.invariant.found ++ option_map family_data c.in_ok-item.item ∷ [];
   reach = reaches_next IsItem IsEnd item_reads _ _ (rest_of c.args.words.now c.items.at) _ _ c.in_ok-item.ensures.found c.items.invariant.reach;
-  profiles = row_next c.items.invariant.found (option_map family_data c.in_ok-item.item) _ _ _ (sym (length-map c.items.profiles.items profile_data)) c.in_ok-push_any.ensures c.items.invariant.profiles;
+  profiles = row_next c.items.invariant.found (option_map family_data c.in_ok-item.item) _ _ _ (sym (length-map c.items.profiles.items profile_data)) c.in_ok-push_item.ensures c.items.invariant.profiles;
   within = c.in_ok-item.ensures.within.1;
 }
 

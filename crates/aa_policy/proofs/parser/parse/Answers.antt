@@ -118,8 +118,8 @@ returns-then-kept-clause-exact c = λ fault f.
     let named = subst (λ (ws : List Word). IsNotMisnamed (words_data ws)) c.as_slice.ensures.value c.in_ok-tree.ensures.misnamed in
     inr (c.at_start.ensures ∙ (exact_limits here vars tree read.0 fault found named means distinct f).0)
 
-pub passed_over-requires : goal.passed_over-requires
-passed_over-requires c = let vars = c.in_ok-tree.tree.vars in
+pub rules_passed_over-requires : goal.rules_passed_over-requires
+rules_passed_over-requires c = let vars = c.in_ok-tree.tree.vars in
     let here = words_data c.args.words.now.list.items in
     let tree = tree_data c.in_ok-tree.tree.profiles.items in
     let found : IsPolicy here vars tree = subst (λ (ws : List Word). IsPolicy (words_data ws) vars tree) c.as_slice.ensures.value c.in_ok-tree.ensures.found in

@@ -1,4 +1,0 @@
-use Rattle.aa_rules.proofs.faults.fault.Goals as goal
-
-pub returns-clause-place : goal.returns-clause-place
-returns-clause-place c = (c.args.at, c.spot_at.ensures)

@@ -1,0 +1,38 @@
+use Rattle.std.proofs.Common.{◌+◌, ℕ, List, subst, rules}
+use Rattle.std.specs.Prelude.{codes}
+use Rattle.std.proofs.lemmas.Result.{err_from_is_err_and}
+use Rattle.aa_words.specs.declared.word.WordKind.TheVariants.{Skipped}
+use Rattle.aa_rules.specs.Grammar.{Lacks, Keyword, LacksKeyword}
+use Rattle.aa_rules.specs.Reading.{rest_of}
+use Rattle.aa_rules.proofs.Productions.{says_no_cap, says_no_net, says_no_change, says_none}
+use Rattle.aa_rules.proofs.rules.unqualified_of.Goals as goal
+
+pub returns-in_err-rule-clause-refused : goal.returns-in_err-rule-clause-refused
+returns-in_err-rule-clause-refused c =
+    let q = err_from_is_err_and c.from_residual.result c.from_residual.ensures.1 in
+    let at = c.args.at in
+    let keyword : Keyword (codes "capability") (rest_of c.args.words.now at) (rest_of c.args.words.now (at + 1)) = search rules in
+    rw (q.1) (says_no_cap _ _ _ keyword c.in_err-rule.ensures.refused)
+
+pub returns-in_err-rule-2-clause-refused : goal.returns-in_err-rule-2-clause-refused
+returns-in_err-rule-2-clause-refused c =
+    let q = err_from_is_err_and c.from_residual-in_err-rule-2.result c.from_residual-in_err-rule-2.ensures.1 in
+    let at = c.args.at in
+    let keyword : Keyword (codes "network") (rest_of c.args.words.now at) (rest_of c.args.words.now (at + 1)) = search rules in
+    rw (q.1) (says_no_net _ _ _ keyword c.in_err-rule-2.ensures.refused)
+
+pub returns-in_err-rule-3-clause-refused : goal.returns-in_err-rule-3-clause-refused
+returns-in_err-rule-3-clause-refused c =
+    let q = err_from_is_err_and c.from_residual-in_err-rule-3.result c.from_residual-in_err-rule-3.ensures.1 in
+    let at = c.args.at in
+    let keyword : Keyword (codes "change_profile") (rest_of c.args.words.now at) (rest_of c.args.words.now (at + 1)) = search rules in
+    rw (q.1) (says_no_change _ _ _ keyword c.in_err-rule-3.ensures.refused)
+
+pub returns-in_err-file-clause-refused : goal.returns-in_err-file-clause-refused
+returns-in_err-file-clause-refused c =
+    let q = err_from_is_err_and c.from_residual-in_err-file.result c.from_residual-in_err-file.ensures.1 in
+    let no_cap : LacksKeyword (codes "capability") (rest_of c.args.words.now c.args.at) = search rules in
+    let no_net : LacksKeyword (codes "network") (rest_of c.args.words.now c.args.at) = subst (λ (t : List ℕ). LacksKeyword t (rest_of c.args.words.now c.args.at)) c.as_bytes-2.ensures.value c.if-is_keyword-2.ensures.no in
+    let no_change : LacksKeyword (codes "change_profile") (rest_of c.args.words.now c.args.at) = subst (λ (t : List ℕ). LacksKeyword t (rest_of c.args.words.now c.args.at)) c.as_bytes-3.ensures.value c.if-is_keyword-3.ensures.no in
+    let none : Lacks Skipped (rest_of c.args.words.now c.args.at) = search rules in
+    rw (q.1) (says_none _ _ c.in_err-file.ensures.refused no_cap no_net no_change none)
