@@ -4,7 +4,7 @@ use Rattle.std.proofs.lemmas.List.{get_or_append_left, get_or_push, length_push,
 use Rattle.std.proofs.lemmas.Bool.{cases_lt}
 use Rattle.aa_items.specs.declared.item.Item.{Item, Byte, One, Run, RunOne, Deep, DeepOne, Class, Choice'}
 use Rattle.aa_items.specs.Globs.{IsNameByte}
-use Rattle.aa_items.specs.Steps.{Begins, Continues}
+use Rattle.aa_items.specs.Steps.{Begins}
 use Rattle.aa_auto.specs.declared.nodes.Node.{Node}
 use Rattle.aa_auto.specs.declared.nodes.Node.TheVariants.{Start, After, Same, Join}
 use Rattle.aa_auto.specs.Nodes.{IsSameNode}
@@ -190,16 +190,6 @@ ends_wild (Byte k) w b = absurd w
 ends_wild (Class k) w b = absurd w
 ends_wild (Choice' k l) w b = absurd w
 
-goes_wild : (item : Item) (a b : ℕ) → IsWild item → IsNameByte b → Continues item a → Continues item b
-goes_wild One a b w n c = c
-goes_wild Run a b w n c = n
-goes_wild RunOne a b w n c = n
-goes_wild Deep a b w n c = n.0
-goes_wild DeepOne a b w n c = n.0
-goes_wild (Byte k) a b w n c = absurd w
-goes_wild (Class k) a b w n c = absurd w
-goes_wild (Choice' k l) a b w n c = absurd w
-
 -- a byte is 0, `/`, or one of the others, which stars take for one
 name_byte : (b : ℕ) → b < 256 → (b ≡ 0) ⊎ (b ≡ 47) ⊎ IsNameByte b
 name_byte b lt =
@@ -210,27 +200,6 @@ name_byte b lt =
     (cases_lt b 47))
     (λ (none : b ≤ 0). inl (omega arith))
     (cases_lt 0 b)
-
-same_item : (item : Item) (a b : ℕ) → b ≡ a → IsSameItem item a b
-same_item item a b e = subst (λ z. IsSameItem item a z) (sym e) ((λ x. x, λ x. x), (λ x. x, λ x. x))
-
--- where 0 and `/` are alone, stars tell no bytes of one class apart
-pub wild_same : (item : Item) (of : List ℕ) (alone : List Bool) → AreAlone of alone → IsWild item → get_or alone 0 false ≡ true → get_or alone 47 false ≡ true →
-    (a b : ℕ) → a < 256 → b < 256 → get_or of a 0 ≡ get_or of b 0 → IsSameItem item a b
-wild_same item of alone are wild zero slash a b la lb same =
-    ⊎_elim
-    (λ (e : a ≡ 0). same_item item a b (are a b la lb (subst (λ z. get_or alone z false ≡ true) (sym e) zero) (sym same)))
-    (λ (r : (a ≡ 47) ⊎ IsNameByte a). ⊎_elim
-    (λ (e : a ≡ 47). same_item item a b (are a b la lb (subst (λ z. get_or alone z false ≡ true) (sym e) slash) (sym same)))
-    (λ (n : IsNameByte a). ⊎_elim
-    (λ (e : b ≡ 0). same_item item a b (sym (are b a lb la (subst (λ z. get_or alone z false ≡ true) (sym e) zero) same)))
-    (λ (q : (b ≡ 47) ⊎ IsNameByte b). ⊎_elim
-    (λ (e : b ≡ 47). same_item item a b (sym (are b a lb la (subst (λ z. get_or alone z false ≡ true) (sym e) slash) same)))
-    (λ (m : IsNameByte b). ((λ x. begins_wild item b wild m, λ x. begins_wild item a wild n), (goes_wild item a b wild m, goes_wild item b a wild n)))
-    q)
-    (name_byte b lb))
-    r)
-    (name_byte a la)
 
 told_zero : (node : Node) (of : List ℕ) (was : List Bool) (a b : ℕ) → AreAlone of was → TellsZero node was a → b < 256 → get_or of b 0 ≡ get_or of a 0 → IsSameNode node b a → b ≡ a
 told_zero Start of was a b are t lb same s = absurd t
