@@ -1,13 +1,14 @@
 -- Bytes that are divided into classes, one more byte or item at a time.
-use Rattle.std.proofs.Common.{◌≡◌, ◌≢◌, ℕ, ◌+◌, ◌<◌, ◌≤◌, ◌↔◌, Bool, true, false, cond, Result, Ok, Err, IfOk, List, [], ◌∷◌, ◌++◌, length, get_or, take, IsTrue, refl, sym, ap, ◌∙◌, subst, ⊎_elim, arith, true≢false}
+use Rattle.std.proofs.Common.{◌≡◌, ◌≢◌, ℕ, ◌+◌, ◌<◌, ◌≤◌, ◌↔◌, Bool, true, false, cond, Result, Ok, Err, IfOk, List, [], ◌∷◌, ◌++◌, length, get_or, take, IsTrue, inl, inr, ◌⊎◌, refl, sym, ap, ◌∙◌, subst, ⊎_elim, arith, true≢false}
 use Rattle.std.proofs.lemmas.List.{get_or_append_left, get_or_push, length_push, take_more}
 use Rattle.std.proofs.lemmas.Bool.{cases_lt}
-use Rattle.aa_items.specs.declared.item.Item.{Item}
+use Rattle.aa_items.specs.declared.item.Item.{Item, Byte, One, Run, RunOne, Deep, DeepOne, Class, Choice'}
+use Rattle.aa_items.specs.Globs.{IsNameByte}
 use Rattle.aa_items.specs.Steps.{Begins}
 use Rattle.aa_auto.specs.declared.nodes.Node.{Node}
 use Rattle.aa_auto.specs.declared.nodes.Node.TheVariants.{Start, After, Same, Join}
 use Rattle.aa_auto.specs.Nodes.{IsSameNode}
-use Rattle.aa_auto.specs.Division.{GivesClass, Divides, IsDivision, IsSameItem, IsKey, AreKeys, Refines, RefinesBy, AreClasses, TakesAlone, AreAlone, NotesAlone}
+use Rattle.aa_auto.specs.Division.{GivesClass, Divides, IsDivision, IsSameItem, IsKey, AreKeys, Refines, RefinesBy, AreClasses, TakesAlone, AreAlone, NotesAlone, IsWild, TellsZero}
 use Rattle.aa_auto.proofs.SameLemmas.{AreSameNodes-append}
 
 module _ (keys : List ℕ) (n : ℕ) (of bytes : List ℕ) (class : ℕ) (all : Divides keys n of bytes) where
@@ -169,8 +170,55 @@ taken Start a b t s = absurd t
 taken (Same k) a b t s = absurd t
 taken (Join k) a b t s = absurd t
 
+begins_wild : (item : Item) (b : ℕ) → IsWild item → IsNameByte b → Begins item b
+begins_wild One b w n = n
+begins_wild Run b w n = n
+begins_wild RunOne b w n = n
+begins_wild Deep b w n = n.0
+begins_wild DeepOne b w n = n
+begins_wild (Byte k) b w n = absurd w
+begins_wild (Class k) b w n = absurd w
+begins_wild (Choice' k l) b w n = absurd w
+
+ends_wild : (item : Item) → IsWild item → Begins item 0 → ⊥
+ends_wild One w b = omega (arith, b.0.0)
+ends_wild Run w b = omega (arith, b.0.0)
+ends_wild RunOne w b = omega (arith, b.0.0)
+ends_wild Deep w b = omega (arith, b.0)
+ends_wild DeepOne w b = omega (arith, b.0.0)
+ends_wild (Byte k) w b = absurd w
+ends_wild (Class k) w b = absurd w
+ends_wild (Choice' k l) w b = absurd w
+
+-- a byte is 0, `/`, or one of the others, which stars take for one
+name_byte : (b : ℕ) → b < 256 → (b ≡ 0) ⊎ (b ≡ 47) ⊎ IsNameByte b
+name_byte b lt =
+    ⊎_elim
+    (λ (some : 0 < b). ⊎_elim
+    (λ (below : b < 47). inr (inr ((some, lt), λ e. omega (arith, e, below))))
+    (λ (from : 47 ≤ b). ⊎_elim (λ (above : 47 < b). inr (inr ((some, lt), λ e. omega (arith, e, above)))) (λ (to : b ≤ 47). inr (inl (omega arith))) (cases_lt 47 b))
+    (cases_lt b 47))
+    (λ (none : b ≤ 0). inl (omega arith))
+    (cases_lt 0 b)
+
+told_zero : (node : Node) (of : List ℕ) (was : List Bool) (a b : ℕ) → AreAlone of was → TellsZero node was a → b < 256 → get_or of b 0 ≡ get_or of a 0 → IsSameNode node b a → b ≡ a
+told_zero Start of was a b are t lb same s = absurd t
+told_zero (Same k) of was a b are t lb same s = absurd t
+told_zero (Join k) of was a b are t lb same s = absurd t
+told_zero (After item) of was a b are t lb same s =
+    ⊎_elim
+    (λ (e : b ≡ 0). e ∙ sym t.0)
+    (λ (r : (b ≡ 47) ⊎ IsNameByte b). ⊎_elim
+    (λ (e : b ≡ 47). sym (are b a lb (omega (arith, t.0)) (subst (λ z. get_or was z false ≡ true) (sym e) t.2) (sym same)))
+    (λ (n : IsNameByte b). absurd (ends_wild item.now t.1 (subst (Begins item.now) t.0 (s.0.0 (begins_wild item.now b t.1 n)))))
+    r)
+    (name_byte b lb)
+
 -- bytes that were alone are alone, and so is one that was told from all others
 pub alone_more : (node : Node) (old of bytes : List ℕ) (was alone : List Bool) → AreAlone old was → RefinesBy old of bytes node → NotesAlone node was alone → AreAlone of alone
 alone_more node old of bytes was alone before one notes a b la lb flag same =
     let s = (one.same b a lb la).0 same in
-    ⊎_elim (λ e. before a b la lb e s.0) (λ t. taken node a b t s.1) (notes.flags a flag)
+    ⊎_elim
+    (λ e. before a b la lb e s.0)
+    (λ (r : TakesAlone node a ⊎ TellsZero node was a). ⊎_elim (λ t. taken node a b t s.1) (λ t. told_zero node old was a b before t lb s.0 s.1) r)
+    (notes.flags a flag)

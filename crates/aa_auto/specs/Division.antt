@@ -1,6 +1,6 @@
 -- Bytes that are divided into classes.
 use Rattle.std.specs.Prelude.{◌≡◌, ◌≢◌, ◌↔◌, ◌⊎◌, ℕ, ◌+◌, ◌*◌, ◌<◌, ◌≤◌, Bool, false, true, IsTrue, if◌then◌else◌, List, [], ◌∷◌, ◌++◌, length, slice_index, slice_index_or}
-use Rattle.aa_items.specs.declared.item.Item.{Item, Byte}
+use Rattle.aa_items.specs.declared.item.Item.{Item, Byte, One, Run, RunOne, Deep, DeepOne}
 use Rattle.aa_items.specs.Globs.{IsNonzeroByte}
 use Rattle.aa_patterns.specs.declared.pattern.Pattern.{Pattern}
 use Rattle.aa_auto.specs.declared.nodes.Node.{Node}
@@ -73,7 +73,21 @@ TakesAlone _ b = ⊥
 abbrev pub AreAlone : List ℕ → List Bool → Type 0
 AreAlone of alone = (a b : ℕ) → a < 256 → b < 256 → slice_index_or alone a false ≡ true → slice_index of b ≡ slice_index of a → b ≡ a
 
--- the byte that the item before the position takes alone may have a flag, too
+-- a star or a question mark, which tells 0 and `/` from other bytes, and none of those apart
+abbrev pub IsWild : Item → Type 0
+IsWild One = Unit {0}
+IsWild Run = Unit {0}
+IsWild RunOne = Unit {0}
+IsWild Deep = Unit {0}
+IsWild DeepOne = Unit {0}
+IsWild _ = ⊥
+
+-- the item before the position tells 0 from all bytes but `/`, which has a flag
+abbrev pub TellsZero : Node → List Bool → ℕ → Type 0
+TellsZero (After item) alone b = (b ≡ 0) × IsWild item.now × (slice_index_or alone 47 false ≡ true)
+TellsZero _ alone b = ⊥
+
+-- the byte that the item before the position takes alone, or 0, may have a flag, too
 pub record NotesAlone (node : Node) (old new : List Bool) : Type 0 where
   pub many : length new ≡ length old
-  pub flags : (b : ℕ) → slice_index_or new b false ≡ true → (slice_index_or old b false ≡ true) ⊎ TakesAlone node b
+  pub flags : (b : ℕ) → slice_index_or new b false ≡ true → (slice_index_or old b false ≡ true) ⊎ TakesAlone node b ⊎ TellsZero node old b

@@ -1,7 +1,7 @@
 //! Bytes that no item of the patterns tells apart.
 
 ghost use Rattle.std.specs.Prelude.{◌≡◌, ◌≢◌, ◌↔◌, ◌+◌, ◌<◌, ◌≤◌, ℕ, All, IsTrue, IfOk, length, slice_index, if◌then◌else◌, false};
-ghost use Rattle.aa_auto.specs.Division.{GivesClass, Divides, IsKey, AreKeys, IsSameItem, IsDivision, Refines, RefinesBy, AreClasses, AreAlone, NotesAlone};
+ghost use Rattle.aa_auto.specs.Division.{GivesClass, Divides, IsKey, AreKeys, IsSameItem, IsDivision, Refines, RefinesBy, AreClasses, AreAlone, NotesAlone, IsWild};
 
 use crate::nodes::Node;
 use aa_items::{Item, begins, continues};
@@ -120,7 +120,18 @@ fn no_flags(alloc: Global) -> Result<Vec<bool>, AllocError>
     Ok(flags)
 }
 
-/// Notes the byte that the item before the position takes alone, if there is one.
+/// Whether the item is a star or a question mark: it tells 0 and `/` from the other bytes, and none of those apart.
+fn is_wild(item: &Item) -> bool
+    ensures { IsTrue result → IsWild item.now }
+{
+    match item {
+        Item::One | Item::Run | Item::RunOne | Item::Deep | Item::DeepOne => true,
+        _ => false,
+    }
+}
+
+/// Notes the byte that the item before the position takes alone, if there is one, or 0 where the item tells that from all but `/`,
+/// which is noted.
 fn note_alone(alone: &mut Vec<bool>, node: &Node)
     requires { length alone.old.items ≡ 256 }
     ensures { NotesAlone node.now alone.old.items alone.new.items }
@@ -132,6 +143,10 @@ fn note_alone(alone: &mut Vec<bool>, node: &Node)
         if *own != 0 {
             alone[*own as usize] = true;
         }
+        return;
+    }
+    if is_wild(item) && alone[b'/' as usize] {
+        alone[0] = true;
     }
 }
 
@@ -167,6 +182,9 @@ fn is_refined(of: &[u8], bytes: &[u8], alone: &[bool], item: &Item) -> bool
         if alone[*byte as usize] {
             return true;
         }
+    }
+    if is_wild(item) && alone[0] && alone[b'/' as usize] {
+        return true;
     }
     agrees_on_all(of, bytes, item)
 }
