@@ -3,7 +3,7 @@
 ghost use Rattle.std.specs.Prelude.{◌<◌, ◌≤◌, ◌≡◌, length, IfOk};
 
 use aa_heads::{abi_of, begins_profile, head_of, preamble_of};
-use aa_rules::{RuleTree, closes, is_keyword, rule_of, spot_of};
+use aa_rules::{RuleTree, closes, keyword_stands, rule_of, spot_of};
 use aa_words::{PolicyFault, Spot, Word, WordKind, WordList};
 use std::alloc::{AllocError, Global};
 
@@ -80,7 +80,7 @@ fn push_statement<'s>(
 ) -> Result<usize, PolicyFault>
     ensures { IfOk result (λ next. (at < next) × (next ≤ length words.now)) }
 {
-    if is_keyword(words, at, "abi".as_bytes()) {
+    if keyword_stands(words, at, "abi".as_bytes()) {
         return abi_of(words, at, end);
     }
     let (rule, next) = rule_of(words, at, end)?;
@@ -166,7 +166,7 @@ fn push_item<'s>(
 ) -> Result<usize, PolicyFault>
     ensures { IfOk result (λ next. (at < next) × (next ≤ length words.now)) }
 {
-    if is_keyword(words, at, "abi".as_bytes()) {
+    if keyword_stands(words, at, "abi".as_bytes()) {
         return abi_of(words, at, end);
     }
     let (head, body) = head_of(words, at, true, end)?;

@@ -16,12 +16,12 @@ use Rattle.aa_rules.specs.Faults.{is_word_fault}
 use Rattle.aa_rules.specs.Grammar.{Ending, Many, Starts, Lacks, Keyword, LacksKeyword, spot_of}
 
 -- a variable's name: a letter, and then letters, digits and underscores
-abbrev pub is_name_byte : ℕ → Bool
-is_name_byte b = is_letter_or_digit b || b == 95
+abbrev pub is_variable_byte : ℕ → Bool
+is_variable_byte b = is_letter_or_digit b || b == 95
 
 abbrev pub is_variable_name : List ℕ → Bool
 is_variable_name [] = false
-is_variable_name (b ∷ bs) = is_letter b && list_all is_name_byte bs
+is_variable_name (b ∷ bs) = is_letter b && list_all is_variable_byte bs
 
 -- the text is @{NAME}
 pub record Names (text : List ℕ) (name : List ℕ) : Type 0 where

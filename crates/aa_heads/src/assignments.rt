@@ -10,26 +10,26 @@ ghost use Rattle.aa_faults.specs.Kinds.{no_memory, IsRefusal};
 ghost use Rattle.aa_words.specs.Splits.{WordData};
 ghost use Rattle.aa_rules.specs.Faults.{IsPlaced};
 ghost use Rattle.aa_rules.specs.Grammar.{Starts, Lacks, Many};
-ghost use Rattle.aa_heads.specs.Preamble.{is_name_byte, is_variable_name, Names, sign_of, Assigning, LacksAssignment, IsValue, NoValue, AssignmentData, assignment, IsAssignment, assigned, Misfits, Misnames, misnamed, IsRefusedWith, IsPreambleRefusal};
+ghost use Rattle.aa_heads.specs.Preamble.{is_variable_byte, is_variable_name, Names, sign_of, Assigning, LacksAssignment, IsValue, NoValue, AssignmentData, assignment, IsAssignment, assigned, Misfits, Misnames, misnamed, IsRefusedWith, IsPreambleRefusal};
 ghost use Rattle.aa_rules.specs.Reading.{rest_of};
 
 use aa_glob::Vars;
-use aa_rules::{fault, spot_of, word_at};
+use aa_rules::{fault, spot_of, word_of_kind};
 use aa_words::{PolicyFault, PolicyKind, Spot, Word, WordKind};
 use std::alloc::Global;
 
 /// Whether a byte may stand in a variable's name, behind the first.
-fn is_name_byte(b: u8) -> bool
-    ensures { result ≡ is_name_byte b }
+fn is_variable_byte(b: u8) -> bool
+    ensures { result ≡ is_variable_byte b }
 {
     b.is_ascii_alphanumeric() || b == b'_'
 }
 
 /// Whether all bytes may stand in a variable's name, behind the first.
 fn has_name_bytes(text: &[u8]) -> bool
-    ensures { result ≡ list_all is_name_byte text.now }
+    ensures { result ≡ list_all is_variable_byte text.now }
 {
-    text.iter().all(|b| is_name_byte(*b))
+    text.iter().all(|b| is_variable_byte(*b))
 }
 
 /// Whether a text is the name of a variable.
@@ -59,10 +59,10 @@ fn sign_at(words: &[Word], at: usize) -> Option<bool>
     ensures missing { IfNone result ((adds : Bool) → Lacks (sign_of adds) (rest_of words.now at)) }
     ensures within { OnSome result (at < length words.now) }
 {
-    if word_at(words, at, WordKind::Equals).is_some() {
+    if word_of_kind(words, at, WordKind::Equals).is_some() {
         return Some(false);
     }
-    if word_at(words, at, WordKind::PlusEquals).is_some() {
+    if word_of_kind(words, at, WordKind::PlusEquals).is_some() {
         return Some(true);
     }
     None
@@ -85,7 +85,7 @@ fn head_at<'s>(words: &[Word<'s>], at: usize) -> Option<Head<'s>>
     ensures missing { IfNone result (LacksAssignment (rest_of words.now at)) }
     ensures within { OnSome result (at + 2 ≤ length words.now) }
 {
-    let Some(variable) = word_at(words, at, WordKind::Path) else {
+    let Some(variable) = word_of_kind(words, at, WordKind::Path) else {
         return None;
     };
     let Some(name) = variable_name(variable.text) else {
@@ -122,7 +122,7 @@ fn values_at<'s>(
 {
     let mut values = Vec::new(alloc);
     let mut at = start;
-    'values: while let Some(word) = word_at(words, at, WordKind::Value) {
+    'values: while let Some(word) = word_of_kind(words, at, WordKind::Value) {
         values.push(word.text)?;
         at += 1;
     }
@@ -137,7 +137,7 @@ fn is_reserved(name: &[u8]) -> bool
 }
 
 /// A refusal at a variable, or want of memory.
-fn fault_at(kind: PolicyKind, at: Spot) -> PolicyFault
+fn refused_at(kind: PolicyKind, at: Spot) -> PolicyFault
     ensures kind { result.kind ≡ kind }
     ensures place { kind ≢ PolicyKind.NoMemory → result.at ≡ at }
     ensures memory { kind ≡ PolicyKind.NoMemory → result ≡ no_memory }
@@ -160,7 +160,7 @@ fn assign(vars: &mut Vars, head: Head, values: &[&[u8]]) -> Result<(), PolicyFau
     ensures misfits { (adds : Bool) → Misfits adds vars.old head.entry.name.now head.entry.adds → IsRefusedWith (misnamed adds head.entry.at) result }
 {
     if is_reserved(head.name) {
-        return Err(fault_at(PolicyKind::Unsupported, head.at));
+        return Err(refused_at(PolicyKind::Unsupported, head.at));
     }
     let done = if head.adds {
         vars.add(head.name, values)
@@ -169,7 +169,7 @@ fn assign(vars: &mut Vars, head: Head, values: &[&[u8]]) -> Result<(), PolicyFau
     };
     match done {
         Ok(()) => Ok(()),
-        Err(kind) => Err(fault_at(kind, head.at)),
+        Err(kind) => Err(refused_at(kind, head.at)),
     }
 }
 

@@ -9,8 +9,8 @@ ghost use Rattle.aa_heads.specs.Heads.{HeadData, TitleData, AttachmentData, head
 ghost use Rattle.aa_rules.specs.Reading.{rest_of};
 
 use aa_rules::{
-    begins_with, fault, is_keyword, is_plain_name, is_right_name, name_at, name_fault, path_at,
-    spot_of, word_at,
+    begins_with, fault, is_plain_name, is_right_name, keyword_stands, name_fault, path_at,
+    profile_name_at, spot_of, word_of_kind,
 };
 use aa_words::{PolicyFault, PolicyKind, Spot, Word, WordKind};
 
@@ -91,7 +91,7 @@ fn head_fault(words: &[Word], at: usize, end: Spot) -> PolicyFault
     ensures kind { is_word_fault result.kind ≡ true }
     ensures place { IsPlaceIn words.now end result.at }
 {
-    let kind = if is_keyword(words, at, "xattrs".as_bytes()) {
+    let kind = if keyword_stands(words, at, "xattrs".as_bytes()) {
         PolicyKind::Unsupported
     } else {
         PolicyKind::Syntax
@@ -112,7 +112,7 @@ fn named_of<'s>(
     ensures place { IfErr result (λ e. IsPlaceIn words.now end e.at) }
     ensures within { IfOk result (λ r. (at < r.1) × (r.1 ≤ length words.now)) }
 {
-    let Some(name) = name_at(words, at) else {
+    let Some(name) = profile_name_at(words, at) else {
         return Err(fault(PolicyKind::Syntax, words, at, end));
     };
     if !is_plain_name(name.text, top) {
@@ -167,7 +167,7 @@ fn title_of<'s>(
     ensures place { IfErr result (λ e. IsPlaceIn words.now end e.at) }
     ensures within { IfOk result (λ r. (at < r.1) × (r.1 ≤ length words.now)) }
 {
-    if is_keyword(words, at, "profile".as_bytes()) {
+    if keyword_stands(words, at, "profile".as_bytes()) {
         return named_of(words, at + 1, top, end);
     }
     path_named_of(words, at, top, end)
@@ -303,7 +303,7 @@ fn flag_list_of(words: &[Word], start: usize, end: Spot) -> Result<(HeadFlags, u
 {
     let mut flags = HeadFlags::none();
     let mut at = start;
-    'flags: while word_at(words, at, WordKind::RightParen).is_none() {
+    'flags: while word_of_kind(words, at, WordKind::RightParen).is_none() {
         let Some(word) = flag_at(words, at) else {
             return Err(flag_fault(words, start, at, end));
         };
@@ -325,18 +325,18 @@ fn flags_start(words: &[Word], at: usize, end: Spot) -> Result<usize, PolicyFaul
     ensures place { IfErr result (λ e. IsPlaceIn words.now end e.at) }
     ensures within { IfOk result (λ r. (at < r) × (r ≤ length words.now)) }
 {
-    if word_at(words, at, WordKind::LeftParen).is_some() {
+    if word_of_kind(words, at, WordKind::LeftParen).is_some() {
         return Ok(at + 1);
     }
-    if !is_keyword(words, at, "flags".as_bytes()) {
+    if !keyword_stands(words, at, "flags".as_bytes()) {
         return Err(head_fault(words, at, end));
     }
     let equals = at + 1;
-    let Some(_) = word_at(words, equals, WordKind::Equals) else {
+    let Some(_) = word_of_kind(words, equals, WordKind::Equals) else {
         return Err(head_fault(words, equals, end));
     };
     let paren = equals + 1;
-    let Some(_) = word_at(words, paren, WordKind::LeftParen) else {
+    let Some(_) = word_of_kind(words, paren, WordKind::LeftParen) else {
         return Err(head_fault(words, paren, end));
     };
     Ok(paren + 1)
@@ -362,11 +362,11 @@ fn opening_of(words: &[Word], at: usize, end: Spot) -> Result<(HeadFlags, usize)
     ensures place { IfErr result (λ e. IsPlaceIn words.now end e.at) }
     ensures within { IfOk result (λ r. (at < r.1) × (r.1 ≤ length words.now)) }
 {
-    if word_at(words, at, WordKind::Open).is_some() {
+    if word_of_kind(words, at, WordKind::Open).is_some() {
         return Ok((HeadFlags::none(), at + 1));
     }
     let (flags, brace) = flags_of(words, at, end)?;
-    let Some(_) = word_at(words, brace, WordKind::Open) else {
+    let Some(_) = word_of_kind(words, brace, WordKind::Open) else {
         return Err(head_fault(words, brace, end));
     };
     Ok((flags, brace + 1))
@@ -422,7 +422,7 @@ pub fn begins_profile(words: &[Word], at: usize) -> bool
     ensures yes { OnTrue result (BeginsProfile (rest_of words.now at)) }
     ensures no { OnFalse result (BeginsProfile (rest_of words.now at) → ⊥) }
 {
-    if is_keyword(words, at, "profile".as_bytes()) {
+    if keyword_stands(words, at, "profile".as_bytes()) {
         return true;
     }
     if path_at(words, at).is_none() {

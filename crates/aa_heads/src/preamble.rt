@@ -12,7 +12,7 @@ ghost use Rattle.aa_rules.specs.Reading.{rest_of};
 
 use crate::assignments::{assignment_of, begins_assignment};
 use aa_glob::Vars;
-use aa_rules::{fault, is_keyword, word_at};
+use aa_rules::{fault, keyword_stands, word_of_kind};
 use aa_words::{PolicyFault, PolicyKind, Spot, Word, WordKind};
 use std::alloc::Global;
 
@@ -61,13 +61,13 @@ pub fn abi_of(words: &[Word], at: usize, end: Spot) -> Result<usize, PolicyFault
     ensures place { IfErr result (λ e. IsPlaceIn words.now end e.at) }
     ensures within { IfOk result (λ next. (at < next) × (next ≤ length words.now)) }
 {
-    if !is_keyword(words, at, "abi".as_bytes()) {
+    if !keyword_stands(words, at, "abi".as_bytes()) {
         return Err(fault(PolicyKind::Syntax, words, at, end));
     }
     let Some(_) = abi_name_at(words, at + 1) else {
         return Err(fault(PolicyKind::Syntax, words, at + 1, end));
     };
-    let Some(_) = word_at(words, at + 2, WordKind::Comma) else {
+    let Some(_) = word_of_kind(words, at + 2, WordKind::Comma) else {
         return Err(fault(PolicyKind::Syntax, words, at + 2, end));
     };
     Ok(at + 3)
@@ -78,7 +78,7 @@ fn begins_item(words: &[Word], at: usize) -> bool
     ensures yes { OnTrue result (PreambleEnds (rest_of words.now at) (rest_of words.now at) → ⊥) }
     ensures no { OnFalse result (PreambleEnds (rest_of words.now at) (rest_of words.now at)) }
 {
-    begins_assignment(words, at) || is_keyword(words, at, "abi".as_bytes())
+    begins_assignment(words, at) || keyword_stands(words, at, "abi".as_bytes())
 }
 
 /// Reads an assignment into the variables, or an abi rule, and gives the place behind it.
@@ -99,7 +99,7 @@ fn item_of(
     ensures misnames { (adds : Bool) (spot : Spot) → Misnames adds vars.old (rest_of words.now at) spot → IsRefusedWith (misnamed adds spot) result }
     ensures within { IfOk result (λ next. (at < next) × (next ≤ length words.now)) }
 {
-    if is_keyword(words, at, "abi".as_bytes()) {
+    if keyword_stands(words, at, "abi".as_bytes()) {
         return abi_of(words, at, end);
     }
     assignment_of(alloc, words, at, vars, end)

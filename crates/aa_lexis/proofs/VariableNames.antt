@@ -13,7 +13,7 @@ use Rattle.aa_extents.specs.Runs as lexer
 use Rattle.aa_reader.specs.Signs as signs
 use Rattle.aa_glob.specs.Pieces.{Piece, Plain, Use, Broken, pieces, pieces_from, name_at, behind_name}
 use Rattle.aa_glob.specs.Pieces as glob
-use Rattle.aa_heads.specs.Preamble.{Names, is_name_byte, is_variable_name}
+use Rattle.aa_heads.specs.Preamble.{Names, is_variable_byte, is_variable_name}
 use Rattle.aa_rules.specs.Modes.{behind}
 use Rattle.aa_lexis.specs.Assigned.{IsAssigned}
 use Rattle.aa_lexis.proofs.Fronts.{left_cons, all_taken, up_to, put_together}
@@ -21,34 +21,34 @@ use Rattle.aa_lexis.proofs.Fronts.{left_cons, all_taken, up_to, put_together}
 same_letter : (b : ℕ) → lexer.is_letter b ≡ signs.is_letter b
 same_letter b = grind (arith, nat_tests)
 
-same_byte : (b : ℕ) → lexer.ends_variable b ≡ not (is_name_byte b)
+same_byte : (b : ℕ) → lexer.ends_variable b ≡ not (is_variable_byte b)
 same_byte b = grind (arith, nat_tests)
 
-letter_fits : (b : ℕ) → signs.is_letter b ≡ true → is_name_byte b ≡ true
+letter_fits : (b : ℕ) → signs.is_letter b ≡ true → is_variable_byte b ≡ true
 letter_fits b h = grind (arith, nat_tests)
 
 one_long : (t v : Bool) (m n : ℕ) → t ≡ not v → m ≡ n → cond t 0 (suc m) ≡ cond v (1 + n) 0
 one_long t v m n e h = grind (arith, nat_tests)
 
-lexer_long : (bs : List ℕ) → lexer.variable_len bs ≡ prefix_len is_name_byte bs
+lexer_long : (bs : List ℕ) → lexer.variable_len bs ≡ prefix_len is_variable_byte bs
 unfolding lexer.variable_len
 lexer_long [] = refl
-lexer_long (b ∷ bs) = one_long (lexer.ends_variable b) (is_name_byte b) _ _ (same_byte b) (lexer_long bs)
+lexer_long (b ∷ bs) = one_long (lexer.ends_variable b) (is_variable_byte b) _ _ (same_byte b) (lexer_long bs)
 
 one_more : (v : Bool) (m n : ℕ) → m ≡ n → cond v (suc m) 0 ≡ cond v (1 + n) 0
 one_more v m n h = grind (arith, nat_tests)
 
-glob_long : (bs : List ℕ) → glob.name_len bs ≡ prefix_len is_name_byte bs
+glob_long : (bs : List ℕ) → glob.name_len bs ≡ prefix_len is_variable_byte bs
 unfolding glob.name_len
 glob_long [] = refl
-glob_long (b ∷ bs) = one_more (is_name_byte b) _ _ (glob_long bs)
+glob_long (b ∷ bs) = one_more (is_variable_byte b) _ _ (glob_long bs)
 
 -- behind its first letter the name goes on, and then stands what is behind it
-lexer_behind : (c : ℕ) (cs : List ℕ) → signs.is_letter c ≡ true → drop (lexer.variable_len (c ∷ cs)) (c ∷ cs) ≡ behind is_name_byte cs
-lexer_behind c cs h = ap (λ (n : ℕ). drop n (c ∷ cs)) (lexer_long (c ∷ cs)) ∙ left_cons is_name_byte c cs true (letter_fits c h)
+lexer_behind : (c : ℕ) (cs : List ℕ) → signs.is_letter c ≡ true → drop (lexer.variable_len (c ∷ cs)) (c ∷ cs) ≡ behind is_variable_byte cs
+lexer_behind c cs h = ap (λ (n : ℕ). drop n (c ∷ cs)) (lexer_long (c ∷ cs)) ∙ left_cons is_variable_byte c cs true (letter_fits c h)
 
-lexer_count : (c : ℕ) (cs : List ℕ) → signs.is_letter c ≡ true → lexer.variable_len (c ∷ cs) ≡ 1 + prefix_len is_name_byte cs
-lexer_count c cs h = lexer_long (c ∷ cs) ∙ ap (λ (v : Bool). cond v (1 + prefix_len is_name_byte cs) 0) (letter_fits c h)
+lexer_count : (c : ℕ) (cs : List ℕ) → signs.is_letter c ≡ true → lexer.variable_len (c ∷ cs) ≡ 1 + prefix_len is_variable_byte cs
+lexer_count c cs h = lexer_long (c ∷ cs) ∙ ap (λ (v : Bool). cond v (1 + prefix_len is_variable_byte cs) 0) (letter_fits c h)
 
 four : (p q r s : Bool) → (p && (q && r && s)) ≡ true → (p ≡ true) × (q ≡ true) × (r ≡ true) × (s ≡ true)
 four p q r s e = grind (arith, nat_tests)
@@ -57,10 +57,10 @@ from_four : (p q r s : Bool) → p ≡ true → q ≡ true → r ≡ true → s 
 from_four p q r s a b c d = grind (arith, nat_tests)
 
 -- the text is a variable whose name begins with that letter
-named : (c : ℕ) (cs rest : List ℕ) → signs.is_letter c ≡ true → behind is_name_byte cs ≡ 125 ∷ [] → Names (64 ∷ 123 ∷ c ∷ cs) (c ∷ take_while is_name_byte cs)
+named : (c : ℕ) (cs rest : List ℕ) → signs.is_letter c ≡ true → behind is_variable_byte cs ≡ 125 ∷ [] → Names (64 ∷ 123 ∷ c ∷ cs) (c ∷ take_while is_variable_byte cs)
 named c cs rest l e = record {
-  text_is = ap (λ (x : List ℕ). 64 ∷ 123 ∷ c ∷ x) (sym (put_together is_name_byte cs) ∙ ap (λ (x : List ℕ). take_while is_name_byte cs ++ x) e);
-  is_name = and_from (signs.is_letter c) _ l (all_taken is_name_byte cs);
+  text_is = ap (λ (x : List ℕ). 64 ∷ 123 ∷ c ∷ x) (sym (put_together is_variable_byte cs) ∙ ap (λ (x : List ℕ). take_while is_variable_byte cs ++ x) e);
+  is_name = and_from (signs.is_letter c) _ l (all_taken is_variable_byte cs);
 }
 
 some_variable : (text : List ℕ) → lexer.is_variable text ≡ true → (name : List ℕ) × Names text name
@@ -73,14 +73,14 @@ some_variable (b ∷ d ∷ c ∷ cs) e =
     let l = sym (same_letter c) ∙ f.2 in
     let closed = sym (lexer_behind c cs l) ∙ (bytes_eq-Decides (drop (lexer.variable_len (c ∷ cs)) (c ∷ cs)) (codes "}")).0 f.3 in
     let n = named c cs [] l closed in
-    (c ∷ take_while is_name_byte cs, record { text_is = ap (λ (x : ℕ). x ∷ d ∷ c ∷ cs) (eqb-true b 64 f.0) ∙ ap (λ (x : ℕ). 64 ∷ x ∷ c ∷ cs) (eqb-true d 123 f.1) ∙ n.text_is; is_name = n.is_name })
+    (c ∷ take_while is_variable_byte cs, record { text_is = ap (λ (x : ℕ). x ∷ d ∷ c ∷ cs) (eqb-true b 64 f.0) ∙ ap (λ (x : ℕ). 64 ∷ x ∷ c ∷ cs) (eqb-true d 123 f.1) ∙ n.text_is; is_name = n.is_name })
 
 named_variable : (text name : List ℕ) → Names text name → lexer.is_variable text ≡ true
 unfolding lexer.is_variable
 named_variable text [] n = absurd (grind (arith, nat_tests, n.is_name))
 named_variable text (c ∷ cs) n =
-    let p = and_parts (signs.is_letter c) (list_all is_name_byte cs) n.is_name in
-    let closed = lexer_behind c (cs ++ (125 ∷ [])) p.0 ∙ (up_to is_name_byte 125 refl cs [] p.1).1 in
+    let p = and_parts (signs.is_letter c) (list_all is_variable_byte cs) n.is_name in
+    let closed = lexer_behind c (cs ++ (125 ∷ [])) p.0 ∙ (up_to is_variable_byte 125 refl cs [] p.1).1 in
     ap lexer.is_variable n.text_is
     ∙ from_four true true (lexer.is_letter c) (bytes_eq (drop (lexer.variable_len (c ∷ (cs ++ (125 ∷ [])))) (c ∷ (cs ++ (125 ∷ [])))) (codes "}")) refl refl (same_letter c ∙ p.0)
     ((bytes_eq-Decides (drop (lexer.variable_len (c ∷ (cs ++ (125 ∷ [])))) (c ∷ (cs ++ (125 ∷ [])))) (codes "}")).1 closed)
@@ -122,12 +122,12 @@ all_skipped zero (b ∷ bs) e = absurd (some_piece b bs _ (name_at (drop 1 bs)) 
 all_skipped (suc n) (b ∷ bs) e = let h = all_skipped n bs e in omega arith
 
 -- a name that a closing brace ends is found behind its first letter
-name_found : (c : ℕ) (cs rest : List ℕ) → signs.is_letter c ≡ true → behind is_name_byte cs ≡ 125 ∷ rest → name_at (c ∷ cs) ≡ Some (c ∷ take_while is_name_byte cs)
+name_found : (c : ℕ) (cs rest : List ℕ) → signs.is_letter c ≡ true → behind is_variable_byte cs ≡ 125 ∷ rest → name_at (c ∷ cs) ≡ Some (c ∷ take_while is_variable_byte cs)
 name_found c cs rest l e =
     let n = glob_long cs in
     ap (λ (v : Bool). cond (v && glob.begins_with 125 (drop (glob.name_len cs) cs)) (Some (c ∷ take (glob.name_len cs) cs)) None) l
     ∙ ap (λ (m : ℕ). cond (glob.begins_with 125 (drop m cs)) (Some (c ∷ take m cs)) None) n
-    ∙ ap (λ (x : List ℕ). cond (glob.begins_with 125 x) (Some (c ∷ take_while is_name_byte cs)) None) e
+    ∙ ap (λ (x : List ℕ). cond (glob.begins_with 125 x) (Some (c ∷ take_while is_variable_byte cs)) None) e
 
 begun : (x : List ℕ) → glob.begins_with 125 x ≡ true → (rest : List ℕ) × (x ≡ 125 ∷ rest)
 begun [] e = absurd cc
@@ -135,7 +135,7 @@ begun (b ∷ bs) e = (bs, ap (λ (x : ℕ). x ∷ bs) (eqb-true b 125 e))
 
 found_by : (c : ℕ) (cs name : List ℕ) (v : Bool) → (signs.is_letter c && glob.begins_with 125 (drop (glob.name_len cs) cs)) ≡ v
     → cond v (Some (c ∷ take (glob.name_len cs) cs)) None ≡ Some name
-    → (signs.is_letter c ≡ true) × ((rest : List ℕ) × (behind is_name_byte cs ≡ 125 ∷ rest)) × (name ≡ c ∷ take_while is_name_byte cs)
+    → (signs.is_letter c ≡ true) × ((rest : List ℕ) × (behind is_variable_byte cs ≡ 125 ∷ rest)) × (name ≡ c ∷ take_while is_variable_byte cs)
 found_by c cs name true t e =
     let p = and_parts (signs.is_letter c) (glob.begins_with 125 (drop (glob.name_len cs) cs)) t in
     let n = glob_long cs in
@@ -145,11 +145,11 @@ found_by c cs name true t e =
 found_by c cs name false t e = absurd cc
 
 -- what is behind a name and its closing brace
-long_enough : (c : ℕ) (cs rest : List ℕ) → behind is_name_byte cs ≡ 125 ∷ rest → length (123 ∷ c ∷ cs) ≤ length (c ∷ take_while is_name_byte cs) + 2 → rest ≡ []
+long_enough : (c : ℕ) (cs rest : List ℕ) → behind is_variable_byte cs ≡ 125 ∷ rest → length (123 ∷ c ∷ cs) ≤ length (c ∷ take_while is_variable_byte cs) + 2 → rest ≡ []
 long_enough c cs [] e h = refl
 long_enough c cs (b ∷ bs) e h =
-    let whole = ap length (put_together is_name_byte cs) in
-    let parts = length-append (take_while is_name_byte cs) (behind is_name_byte cs) in
+    let whole = ap length (put_together is_variable_byte cs) in
+    let parts = length-append (take_while is_variable_byte cs) (behind is_variable_byte cs) in
     let more = ap length e in
     absurd (omega arith)
 
@@ -185,8 +185,8 @@ named_use : (text name : List ℕ) → Names text name → pieces text ≡ Use n
 unfolding pieces_from
 named_use text [] n = absurd (grind (arith, nat_tests, n.is_name))
 named_use text (c ∷ cs) n =
-    let p = and_parts (signs.is_letter c) (list_all is_name_byte cs) n.is_name in
-    let u = up_to is_name_byte 125 refl cs [] p.1 in
+    let p = and_parts (signs.is_letter c) (list_all is_variable_byte cs) n.is_name in
+    let u = up_to is_variable_byte 125 refl cs [] p.1 in
     let f = name_found c (cs ++ (125 ∷ [])) [] p.0 u.1 ∙ ap (λ (x : List ℕ). Some (c ∷ x)) u.0 in
     let few : length (123 ∷ c ∷ (cs ++ (125 ∷ []))) ≤ length (c ∷ cs) + 2 = omega (arith, length-append cs (125 ∷ [])) in
     ap pieces n.text_is
@@ -216,11 +216,11 @@ assigned_by c cs long d true t e =
     let l = sym (same_letter c) ∙ p.1 in
     let q = closes (drop (lexer.variable_len (c ∷ cs)) (c ∷ cs)) o.1 in
     let rest = sym (lexer_behind c cs l) ∙ q.1 in
-    let whole : c ∷ (take_while is_name_byte cs ++ (125 ∷ q.0)) ≡ c ∷ cs =
-    ap (λ (x : List ℕ). c ∷ (take_while is_name_byte cs ++ x)) (sym rest) ∙ ap (λ (x : List ℕ). c ∷ x) (put_together is_name_byte cs) in
-    let count : length (c ∷ take_while is_name_byte cs) + 2 ≡ long =
-    omega (arith, lexer_count c cs l, length-prefix_len is_name_byte cs, some_same _ _ e) in
-    let a = assigned_name (c ∷ take_while is_name_byte cs) q.0 (and_from (signs.is_letter c) _ l (all_taken is_name_byte cs)) q.2 in
+    let whole : c ∷ (take_while is_variable_byte cs ++ (125 ∷ q.0)) ≡ c ∷ cs =
+    ap (λ (x : List ℕ). c ∷ (take_while is_variable_byte cs ++ x)) (sym rest) ∙ ap (λ (x : List ℕ). c ∷ x) (put_together is_variable_byte cs) in
+    let count : length (c ∷ take_while is_variable_byte cs) + 2 ≡ long =
+    omega (arith, lexer_count c cs l, length-prefix_len is_variable_byte cs, some_same _ _ e) in
+    let a = assigned_name (c ∷ take_while is_variable_byte cs) q.0 (and_from (signs.is_letter c) _ l (all_taken is_variable_byte cs)) q.2 in
     let b : IsAssigned (123 ∷ c ∷ cs) long = rw (whole, count) at a in
     rw (eqb-true d 123 p.0) b
 assigned_by c cs long d false t e = absurd cc
@@ -238,11 +238,11 @@ named_assigned : (name rest : List ℕ) → is_variable_name name ≡ true → l
 unfolding lexer.assigned_len
 named_assigned [] rest n a = absurd cc
 named_assigned (c ∷ cs) rest n a =
-    let p = and_parts (signs.is_letter c) (list_all is_name_byte cs) n in
-    let u = up_to is_name_byte 125 refl cs rest p.1 in
+    let p = and_parts (signs.is_letter c) (list_all is_variable_byte cs) n in
+    let u = up_to is_variable_byte 125 refl cs rest p.1 in
     let b = lexer_behind c (cs ++ (125 ∷ rest)) p.0 ∙ u.1 in
     let k : lexer.variable_len (c ∷ (cs ++ (125 ∷ rest))) ≡ length (c ∷ cs) =
-    omega (arith, lexer_count c (cs ++ (125 ∷ rest)) p.0, length-prefix_len is_name_byte (cs ++ (125 ∷ rest)), ap length u.0) in
+    omega (arith, lexer_count c (cs ++ (125 ∷ rest)) p.0, length-prefix_len is_variable_byte (cs ++ (125 ∷ rest)), ap length u.0) in
     ap (λ (v : Bool). cond (v && lexer.closes_before_sign (drop (lexer.variable_len (c ∷ (cs ++ (125 ∷ rest)))) (c ∷ (cs ++ (125 ∷ rest))))) (Some (lexer.variable_len (c ∷ (cs ++ (125 ∷ rest))) + 2)) None) (same_letter c ∙ p.0)
     ∙ ap (λ (x : List ℕ). cond (lexer.closes_before_sign x) (Some (lexer.variable_len (c ∷ (cs ++ (125 ∷ rest))) + 2)) None) b
     ∙ ap (λ (v : Bool). cond v (Some (lexer.variable_len (c ∷ (cs ++ (125 ∷ rest))) + 2)) None) a

@@ -10,7 +10,7 @@ ghost use Rattle.aa_rules.specs.Reading.{RuleData, rest_of, rule_data};
 
 use crate::tree::{ChildTree, FamilyTree};
 use aa_heads::{abi_of, begins_profile, head_of};
-use aa_rules::{RuleTree, closes, fault, is_keyword, rule_of};
+use aa_rules::{RuleTree, closes, fault, keyword_stands, rule_of};
 use aa_words::{PolicyFault, PolicyKind, Spot, Word};
 use std::alloc::{AllocError, Global};
 
@@ -26,7 +26,7 @@ fn statement_of<'s>(
     ensures place { IfErr result (λ e. IsPlaceIn words.now end e.at) }
     ensures within { IfOk result (λ r. (at < r.1) × (r.1 ≤ length words.now)) }
 {
-    if is_keyword(words, at, "abi".as_bytes()) {
+    if keyword_stands(words, at, "abi".as_bytes()) {
         let next = abi_of(words, at, end)?;
         return Ok((None, next));
     }

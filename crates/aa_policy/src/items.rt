@@ -14,7 +14,7 @@ use crate::bodies::profile_of;
 use crate::families::push_family;
 use crate::tree::{FamilyTree, PolicyTree, ProfileTree};
 use aa_heads::{abi_of, begins_assignment, preamble_of};
-use aa_rules::{fault, is_keyword, item_fault, path_at};
+use aa_rules::{fault, item_fault, keyword_stands, path_at};
 use aa_words::{PolicyFault, PolicyKind, Spot, Word};
 use std::alloc::{AllocError, Global};
 
@@ -31,14 +31,14 @@ fn top_item_of<'s>(
     ensures place { IfErr result (IsPlaced words.now end) }
     ensures within { IfOk result (λ r. (at < r.1) × (r.1 ≤ length words.now)) }
 {
-    if is_keyword(words, at, "abi".as_bytes()) {
+    if keyword_stands(words, at, "abi".as_bytes()) {
         let next = abi_of(words, at, end)?;
         return Ok((None, next));
     }
     if begins_assignment(words, at) {
         return Err(fault(PolicyKind::Syntax, words, at, end));
     }
-    if !is_keyword(words, at, "profile".as_bytes()) && path_at(words, at).is_none() {
+    if !keyword_stands(words, at, "profile".as_bytes()) && path_at(words, at).is_none() {
         return Err(item_fault(words, at, end));
     }
     let (profile, next) = profile_of(alloc, words, at, end)?;

@@ -12,7 +12,7 @@ use Rattle.aa_rules.specs.declared.modes.ExecMode.{ExecMode}
 use Rattle.aa_rules.specs.declared.modes.Mode.{Mode}
 use Rattle.aa_rules.specs.declared.tree.Qualifiers.{Qualifiers}
 use Rattle.aa_rules.specs.Modes.{mode_of}
-use Rattle.aa_rules.specs.FileRules.{IsPath, IsMode, IsPathFirst, IsModeFirst, IsPair, IsWhole, IsLeftOut, IsNamed, IsEntry, IsArrow, IsTarget, exec_with, IsFile}
+use Rattle.aa_rules.specs.FileRules.{IsPath, IsMode, IsPathFirst, IsModeFirst, IsPair, IsWhole, IsLeftOut, IsPathAndMode, IsEntry, IsArrow, IsTarget, exec_with, IsFile}
 use Rattle.aa_rules.specs.Names.{is_left_out}
 use Rattle.aa_rules.specs.Phrases.{Starts, StartsAs, Lacks, Optional, spot_of, is_path_kind}
 use Rattle.aa_rules.specs.Reading.{EntryData, ExecData, FileData}
@@ -160,13 +160,13 @@ no_mode_first deny ws m after h none e rest a =
     none a.2.word rest (subst (λ (z : List WordData). StartsAs is_path_kind z a.2.word rest) w.1 a.2.stands)
 
 pub no_named : (deny : Bool) (ws : List WordData) (named : Bool) (bare : List WordData) → Optional (codes "file") ws named bare
-    → ((e : EntryData) (r : List WordData) → IsPair deny bare e r → ⊥) → (e : EntryData) (rest : List WordData) → IsNamed deny ws e rest → ⊥
+    → ((e : EntryData) (r : List WordData) → IsPair deny bare e r → ⊥) → (e : EntryData) (rest : List WordData) → IsPathAndMode deny ws e rest → ⊥
 no_named deny ws named bare h none e rest a =
     let o = optional_once (codes "file") ws a.named named a.bare bare a.file_stands h in
     none e rest (subst (λ (z : List WordData). IsPair deny z e rest) o.1 a.pair)
 
 -- a word that is left out begins no path and mode
-pub none_left_out : (deny : Bool) (ws : List WordData) → IsLeftOut ws → (e : EntryData) (rest : List WordData) → IsNamed deny ws e rest → ⊥
+pub none_left_out : (deny : Bool) (ws : List WordData) → IsLeftOut ws → (e : EntryData) (rest : List WordData) → IsPathAndMode deny ws e rest → ⊥
 none_left_out deny ws h e rest a = a.read h
 
 -- a name is left out where it stands, or it isn't

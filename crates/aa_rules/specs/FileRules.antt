@@ -63,7 +63,7 @@ pub record IsLeftOut (ws : List WordData) : Type 0 where
   pub left_out : is_left_out word.text ≡ true
 
 -- ["file"] (path mode | mode path), where no word that is left out is read as a mode
-pub record IsNamed (deny : Bool) (ws : List WordData) (entry : EntryData) (rest : List WordData) : Type 0 where
+pub record IsPathAndMode (deny : Bool) (ws : List WordData) (entry : EntryData) (rest : List WordData) : Type 0 where
   pub read : IsLeftOut ws → ⊥
   pub named : Bool
   pub bare : List WordData
@@ -72,7 +72,7 @@ pub record IsNamed (deny : Bool) (ws : List WordData) (entry : EntryData) (rest 
 
 -- "file" | ["file"] (path mode | mode path)
 abbrev pub IsEntry : Bool → List WordData → EntryData → List WordData → Type 0
-IsEntry deny ws entry rest = IsWhole deny ws entry rest ⊎ IsNamed deny ws entry rest
+IsEntry deny ws entry rest = IsWhole deny ws entry rest ⊎ IsPathAndMode deny ws entry rest
 
 -- whether the program goes on under a profile or a child profile of the policy
 abbrev pub names_profile : ExecKind → Bool

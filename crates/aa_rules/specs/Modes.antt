@@ -102,13 +102,13 @@ begins_mixed text =
     || starts_with nat_eq text (codes "cUx") || starts_with nat_eq text (codes "Cux")
 
 -- behind the letter an exec part may begin: it is the x at the end of one, or stands in none
-abbrev pub ends_part : ℕ → Bool
-ends_part c = c == 120 || not (is_exec_letter c)
+abbrev pub frees_part : ℕ → Bool
+frees_part c = c == 120 || not (is_exec_letter c)
 
 -- an exec part of mixed case stands in the letters, each beginning where one may; whether one may at the first of them
 unfoldable pub holds_mixed : Bool → List ℕ → Bool
 holds_mixed may_begin [] = false
-holds_mixed may_begin (c ∷ cs) = (may_begin && begins_mixed (c ∷ cs)) || holds_mixed (ends_part c) cs
+holds_mixed may_begin (c ∷ cs) = (may_begin && begins_mixed (c ∷ cs)) || holds_mixed (frees_part c) cs
 
 -- an exec part of mixed case stands in the mode
 abbrev pub is_mixed : List ℕ → Bool

@@ -7,7 +7,7 @@ ghost use Rattle.aa_rules.specs.Faults.{is_word_fault, IsPlaceIn};
 ghost use Rattle.aa_rules.specs.Grammar.{Many};
 ghost use Rattle.aa_rules.specs.Reading.{rest_of};
 
-use crate::lookahead::{fault, word_at};
+use crate::lookahead::{fault, word_of_kind};
 use crate::tree::Qualifiers;
 use aa_profiles::CapRule;
 use aa_tables::{Cap, Caps};
@@ -28,7 +28,7 @@ fn caps_named(words: &[Word], start: usize, end: Spot) -> Result<(Caps, usize), 
 {
     let mut caps = Caps(0);
     let mut at = start;
-    'names: while let Some(word) = word_at(words, at, WordKind::Name) {
+    'names: while let Some(word) = word_of_kind(words, at, WordKind::Name) {
         let Some(cap) = Cap::from_name(word.text) else {
             return Err(fault(PolicyKind::UnknownWord, words, at, end));
         };

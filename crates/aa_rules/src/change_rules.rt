@@ -7,7 +7,7 @@ ghost use Rattle.aa_rules.specs.Faults.{is_word_fault, IsPlaceIn};
 ghost use Rattle.aa_rules.specs.Reading.{NameData, name_data, ChangeData, change_data, rest_of};
 
 use crate::faults::no_name_fault;
-use crate::lookahead::{name_at, spot_of, word_at};
+use crate::lookahead::{profile_name_at, spot_of, word_of_kind};
 use crate::names::is_target_name;
 use crate::tree::{ChangeTree, NameTree, Qualifiers};
 use aa_words::{PolicyFault, Spot, Word, WordKind};
@@ -18,8 +18,8 @@ fn aim_of<'s>(words: &[Word<'s>], at: usize) -> Option<NameTree<'s>>
     ensures missing { IfNone result ((n : NameData) (rest : List WordData) → IsAim (rest_of words.now at) n rest → ⊥) }
     ensures within { OnSome result (at + 1 < length words.now) }
 {
-    let _arrow = word_at(words, at, WordKind::Arrow)?;
-    let word = name_at(words, at + 1)?;
+    let _arrow = word_of_kind(words, at, WordKind::Arrow)?;
+    let word = profile_name_at(words, at + 1)?;
     if !is_target_name(word.text) {
         return None;
     }
@@ -36,7 +36,7 @@ fn any_aim_of<'s>(words: &[Word<'s>], at: usize) -> Option<(Option<NameTree<'s>>
     ensures missing { IfNone result ((n : Option NameData) (rest : List WordData) → IsAnyAim (rest_of words.now at) n rest → ⊥) }
     ensures onward { IfSome result (λ r. (at ≤ r.1) × (r.1 ≤ length words.now)) }
 {
-    if word_at(words, at, WordKind::Arrow).is_none() {
+    if word_of_kind(words, at, WordKind::Arrow).is_none() {
         return Some((None, at));
     }
     let Some(name) = aim_of(words, at) else {

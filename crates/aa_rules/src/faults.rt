@@ -9,7 +9,7 @@ ghost use Rattle.aa_rules.specs.Modes.{mode_of};
 ghost use Rattle.aa_rules.specs.Names.{is_left_out};
 ghost use Rattle.aa_rules.specs.declared.modes.Mode.{Mode};
 
-use crate::lookahead::{fault, is_keyword, is_name_kind, path_at, word_at};
+use crate::lookahead::{fault, is_name_kind, keyword_stands, path_at, word_of_kind};
 use crate::modes::{Mode, mode_fault, takes_target};
 use crate::names::{is_left_out, name_fault};
 use crate::tree::RuleTree;
@@ -43,29 +43,29 @@ fn wrong_mode(name: &[u8], deny: bool) -> PolicyKind
 
 /// What stands before a word at which no rule goes on.
 #[derive(Clone, Copy, Debug, PartialEq, Eq)]
-pub struct RulePlace {
+pub struct Preceding {
     /// `audit`, `allow` or `deny`.
     qualified: bool,
     /// `owner`.
     owner: bool,
 }
 
-impl RulePlace {
+impl Preceding {
     /// Where a rule's qualifiers end, if it has any.
-    pub fn behind_qualifiers(qualified: bool) -> RulePlace {
-        RulePlace {
+    pub fn behind_qualifiers(qualified: bool) -> Preceding {
+        Preceding {
             qualified,
             owner: false,
         }
     }
 
     /// Behind `owner`, if it stands there.
-    pub fn behind_owner(self, owner: bool) -> RulePlace {
-        RulePlace { owner, ..self }
+    pub fn behind_owner(self, owner: bool) -> Preceding {
+        Preceding { owner, ..self }
     }
 
     /// Why no rule goes on with a name here.
-    fn name_fault(self, name: &[u8], deny: bool, path_follows: bool) -> PolicyKind
+    fn fault_of_name(self, name: &[u8], deny: bool, path_follows: bool) -> PolicyKind
         requires wrong { is_left_out name.now ≡ false → path_follows ≡ true → mode_of deny name.now ≡ None }
         ensures { is_word_fault result ≡ true }
     {
@@ -153,7 +153,7 @@ pub fn no_comma_fault(words: &[Word], at: usize, rule: &RuleTree, end: Spot) -> 
 pub fn no_entry_fault(
     words: &[Word],
     at: usize,
-    place: RulePlace,
+    place: Preceding,
     deny: bool,
     end: Spot,
 ) -> PolicyFault
@@ -168,11 +168,11 @@ pub fn no_entry_fault(
     if path_at(words, at).is_some() {
         return wrong_mode_fault(words, next, deny, end);
     }
-    if is_keyword(words, at, "file".as_bytes()) {
+    if keyword_stands(words, at, "file".as_bytes()) {
         return behind_file_fault(words, next, deny, end);
     }
-    let kind = match word_at(words, at, WordKind::Name) {
-        Some(word) => place.name_fault(word.text, deny, path_at(words, next).is_some()),
+    let kind = match word_of_kind(words, at, WordKind::Name) {
+        Some(word) => place.fault_of_name(word.text, deny, path_at(words, next).is_some()),
         None => place.word_fault(words[at].kind),
     };
     fault(kind, words, at, end)
@@ -187,7 +187,7 @@ fn behind_file_fault(words: &[Word], at: usize, deny: bool, end: Spot) -> Policy
     if path_at(words, at).is_some() {
         return wrong_mode_fault(words, at + 1, deny, end);
     }
-    match word_at(words, at, WordKind::Name) {
+    match word_of_kind(words, at, WordKind::Name) {
         Some(word) => match mode_fault(word.text, deny) {
             Some(kind) => fault(kind, words, at, end),
             None => fault(PolicyKind::Syntax, words, at + 1, end),
@@ -202,7 +202,7 @@ fn wrong_mode_fault(words: &[Word], at: usize, deny: bool, end: Spot) -> PolicyF
     ensures kind { is_word_fault result.kind ≡ true }
     ensures place { IsPlaceIn words.now end result.at }
 {
-    let kind = match word_at(words, at, WordKind::Name) {
+    let kind = match word_of_kind(words, at, WordKind::Name) {
         Some(word) => wrong_mode(word.text, deny),
         None => PolicyKind::Syntax,
     };

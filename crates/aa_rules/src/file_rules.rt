@@ -5,12 +5,12 @@ ghost use Rattle.std.specs.Bool.{OnTrue, OnFalse};
 ghost use Rattle.aa_words.specs.Splits.{WordData, word_data};
 ghost use Rattle.aa_rules.specs.Faults.{is_word_fault, IsPlaceIn};
 ghost use Rattle.aa_rules.specs.Phrases.{StartsAs, LacksAll};
-ghost use Rattle.aa_rules.specs.FileRules.{IsMode, IsPathFirst, IsModeFirst, IsPair, IsWhole, IsLeftOut, IsNamed, IsEntry, IsArrow, IsTarget, exec_with, IsFile, whole_mode};
+ghost use Rattle.aa_rules.specs.FileRules.{IsMode, IsPathFirst, IsModeFirst, IsPair, IsWhole, IsLeftOut, IsPathAndMode, IsEntry, IsArrow, IsTarget, exec_with, IsFile, whole_mode};
 ghost use Rattle.aa_rules.specs.Reading.{EntryData, entry_data, FileData, file_data, target_data, exec_data, rest_of};
 ghost use Rattle.aa_rules.specs.declared.modes.Mode.{Mode};
 
-use crate::faults::{RulePlace, no_entry_fault, no_target_fault};
-use crate::lookahead::{name_at, optional, path_at, spot_of, word_at};
+use crate::faults::{Preceding, no_entry_fault, no_target_fault};
+use crate::lookahead::{optional, path_at, profile_name_at, spot_of, word_of_kind};
 use crate::modes::{ExecMode, Mode, mode_of, takes_target};
 use crate::names::{is_left_out, is_target_name};
 use crate::tree::{EntryTree, ExecTree, FileTree, Qualifiers};
@@ -22,7 +22,7 @@ fn mode_at(words: &[Word], at: usize, deny: bool) -> Option<Mode>
     ensures missing { IfNone result ((m : Mode) (rest : List WordData) → IsMode deny (rest_of words.now at) m rest → ⊥) }
     ensures within { OnSome result (at < length words.now) }
 {
-    let word = word_at(words, at, WordKind::Name)?;
+    let word = word_of_kind(words, at, WordKind::Name)?;
     mode_of(word.text, deny)
 }
 
@@ -91,11 +91,11 @@ fn whole_of<'s>(words: &[Word<'s>], at: usize, deny: bool) -> Option<EntryTree<'
     ensures missing { IfNone result ((e : EntryData) (rest : List WordData) → IsWhole deny (rest_of words.now at) e rest → ⊥) }
     ensures within { OnSome result (at < length words.now) }
 {
-    let word = word_at(words, at, WordKind::Name)?;
+    let word = word_of_kind(words, at, WordKind::Name)?;
     if word.text != "file".as_bytes() {
         return None;
     }
-    let _comma = word_at(words, at + 1, WordKind::Comma)?;
+    let _comma = word_of_kind(words, at + 1, WordKind::Comma)?;
     let mode = mode_of(whole_mode(deny), deny)?;
     Some(EntryTree {
         at: spot_of(word),
@@ -110,7 +110,7 @@ fn is_left_out_at(words: &[Word], at: usize) -> bool
     ensures yes { OnTrue result (IsLeftOut (rest_of words.now at)) }
     ensures no { OnFalse result (IsLeftOut (rest_of words.now at) → ⊥) }
 {
-    match word_at(words, at, WordKind::Name) {
+    match word_of_kind(words, at, WordKind::Name) {
         Some(word) => is_left_out(word.text),
         None => false,
     }
@@ -144,8 +144,8 @@ fn arrow_of<'s>(words: &[Word<'s>], at: usize, exec: Option<ExecMode>) -> Option
     if !takes_target(exec) {
         return None;
     }
-    let _arrow = word_at(words, at, WordKind::Arrow)?;
-    let word = name_at(words, at + 1)?;
+    let _arrow = word_of_kind(words, at, WordKind::Arrow)?;
+    let word = profile_name_at(words, at + 1)?;
     if !is_target_name(word.text) {
         return None;
     }
@@ -163,7 +163,7 @@ fn target_of<'s>(
     ensures missing { IfNone result ((target : Option (List ℕ)) (rest : List WordData) → IsTarget exec (rest_of words.now at) target rest → ⊥) }
     ensures onward { IfSome result (λ r. (at ≤ r.1) × (r.1 ≤ length words.now)) }
 {
-    if word_at(words, at, WordKind::Arrow).is_none() {
+    if word_of_kind(words, at, WordKind::Arrow).is_none() {
         return Some((None, at));
     }
     let Some(name) = arrow_of(words, at, exec) else {
@@ -187,7 +187,7 @@ pub fn file_of<'s>(
     words: &[Word<'s>],
     at: usize,
     qualifiers: Qualifiers,
-    place: RulePlace,
+    place: Preceding,
     end: Spot,
 ) -> Result<(FileTree<'s>, usize), PolicyFault>
     ensures found { IfOk result (λ r. IsFile qualifiers (rest_of words.now at) (file_data r.0) (rest_of words.now r.1)) }

@@ -14,7 +14,9 @@ mod tree;
 
 pub use aa_profiles::{CapRule, ExecKind, Fallback, NetRule};
 pub use faults::item_fault;
-pub use lookahead::{closes, fault, is_keyword, name_at, path_at, spot_of, word_at};
+pub use lookahead::{
+    closes, fault, keyword_stands, path_at, profile_name_at, spot_of, word_of_kind,
+};
 pub use modes::ExecMode;
 pub use names::{begins_with, is_plain_name, is_right_name, name_fault};
 pub use rules::rule_of;

@@ -44,7 +44,11 @@ pub fn fault(kind: PolicyKind, words: &[Word], at: usize, end: Spot) -> PolicyFa
 
 /// The word at a place, if it is of this kind.
 #[tactic(auto, using(crate::proofs::Places::stands_here, crate::proofs::Places::lacks_other, crate::proofs::Places::lacks_past))]
-pub fn word_at<'w, 's>(words: &'w [Word<'s>], at: usize, kind: WordKind) -> Option<&'w Word<'s>>
+pub fn word_of_kind<'w, 's>(
+    words: &'w [Word<'s>],
+    at: usize,
+    kind: WordKind,
+) -> Option<&'w Word<'s>>
     ensures found { IfSome result (λ w. Starts kind (rest_of words.now at) (word_data w.now) (rest_of words.now (at + 1))) }
     ensures missing { IfNone result (Lacks kind (rest_of words.now at)) }
     ensures within { OnSome result (at < length words.now) }
@@ -92,7 +96,7 @@ pub fn is_name_kind(kind: WordKind) -> bool
 
 /// The word at a place, if it is of a kind that can be a profile's name.
 #[tactic(auto, using(crate::proofs::Places::fits_here, crate::proofs::Places::lacks_here, crate::proofs::Places::lacks_all_past))]
-pub fn name_at<'w, 's>(words: &'w [Word<'s>], at: usize) -> Option<&'w Word<'s>>
+pub fn profile_name_at<'w, 's>(words: &'w [Word<'s>], at: usize) -> Option<&'w Word<'s>>
     ensures found { IfSome result (λ w. StartsAs is_name_kind (rest_of words.now at) (word_data w.now) (rest_of words.now (at + 1))) }
     ensures missing { IfNone result (LacksAll is_name_kind (rest_of words.now at)) }
     ensures within { OnSome result (at < length words.now) }
@@ -108,12 +112,12 @@ pub fn name_at<'w, 's>(words: &'w [Word<'s>], at: usize) -> Option<&'w Word<'s>>
 }
 
 /// Whether a keyword stands at a place.
-pub fn is_keyword(words: &[Word], at: usize, text: &[u8]) -> bool
+pub fn keyword_stands(words: &[Word], at: usize, text: &[u8]) -> bool
     ensures yes { OnTrue result (Keyword text.now (rest_of words.now at) (rest_of words.now (at + 1))) }
     ensures no { OnFalse result (LacksKeyword text.now (rest_of words.now at)) }
     ensures within { OnTrue result (at < length words.now) }
 {
-    let Some(word) = word_at(words, at, WordKind::Name) else {
+    let Some(word) = word_of_kind(words, at, WordKind::Name) else {
         return false;
     };
     word.text == text
@@ -124,7 +128,7 @@ pub fn optional(words: &[Word], at: usize, text: &[u8]) -> (bool, usize)
     ensures read { Optional text.now (rest_of words.now at) result.0 (rest_of words.now result.1) }
     ensures onward { at ≤ result.1 }
 {
-    if is_keyword(words, at, text) {
+    if keyword_stands(words, at, text) {
         return (true, at + 1);
     }
     (false, at)
@@ -136,5 +140,5 @@ pub fn closes(words: &[Word], at: usize) -> bool
     ensures no { OnFalse result ((rest : List WordData) → Closes (rest_of words.now at) rest → ⊥) }
     ensures within { OnTrue result (at < length words.now) }
 {
-    word_at(words, at, WordKind::Close).is_some()
+    word_of_kind(words, at, WordKind::Close).is_some()
 }

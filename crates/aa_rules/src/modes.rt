@@ -4,7 +4,7 @@ ghost use Rattle.std.specs.Prelude.{◌≡◌, ◌≤◌, ◌&&◌, ◌++◌, tr
 ghost use Rattle.std.specs.List.{prefix_len};
 ghost use Rattle.aa_rules.specs.Faults.{is_word_fault};
 ghost use Rattle.aa_rules.specs.FileRules.{names_profile, takes_target};
-ghost use Rattle.aa_rules.specs.Modes.{letter_bits, letters_bits, has_letter, is_access_letter, is_exec_letter, how, exec_of, with_part, parts_of, writes_and_appends, mode_of, begins_mixed, ends_part, is_mixed, mode_fault};
+ghost use Rattle.aa_rules.specs.Modes.{letter_bits, letters_bits, has_letter, is_access_letter, is_exec_letter, how, exec_of, with_part, parts_of, writes_and_appends, mode_of, begins_mixed, frees_part, is_mixed, mode_fault};
 
 use crate::names::begins_with_all;
 use aa_profiles::{ExecKind, Fallback};
@@ -225,8 +225,8 @@ fn is_mixed_here(may_begin: bool, text: &[u8]) -> bool
 }
 
 /// Whether an exec part may begin behind a letter: it is the `x` at the end of one, or stands in none.
-fn ends_part(b: u8) -> bool
-    ensures { result ≡ ends_part b }
+fn frees_part(b: u8) -> bool
+    ensures { result ≡ frees_part b }
 {
     b == b'x' || !is_exec_letter(b)
 }
@@ -240,7 +240,7 @@ fn is_mixed(mode: &[u8]) -> bool
         if is_mixed_here(may_begin, &mode[i..]) {
             return true;
         }
-        may_begin = ends_part(*b);
+        may_begin = frees_part(*b);
     }
     false
 }

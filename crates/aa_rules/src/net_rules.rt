@@ -7,7 +7,7 @@ ghost use Rattle.aa_rules.specs.NetRules.{transport_kinds, one_in, one_name, is_
 ghost use Rattle.aa_rules.specs.Reading.{rest_of};
 ghost use Rattle.aa_tables.specs.Tables.{family_names, sock_type_names};
 
-use crate::lookahead::{fault, word_at};
+use crate::lookahead::{fault, word_of_kind};
 use crate::tree::Qualifiers;
 use aa_profiles::NetRule;
 use aa_tables::{Family, SockType};
@@ -122,7 +122,7 @@ fn two_names(first: &[u8], second: &[u8]) -> Option<Sockets>
 
 /// Why a name can't stand where it stands: it is of a condition, or a family or type out of its
 /// place, or none of these.
-fn name_fault(name: &[u8]) -> PolicyKind
+fn socket_name_fault(name: &[u8]) -> PolicyKind
     ensures { is_word_fault result ≡ true }
 {
     if matches!(name, b"icmp" | b"ip" | b"port" | b"peer") {
@@ -141,9 +141,9 @@ fn names_fault(words: &[Word], at: usize, first: &[u8], second: &[u8], end: Spot
     ensures place { IsPlaceIn words.now end result.at }
 {
     if one_name(first).is_none() {
-        return fault(name_fault(first), words, at, end);
+        return fault(socket_name_fault(first), words, at, end);
     }
-    fault(name_fault(second), words, at + 1, end)
+    fault(socket_name_fault(second), words, at + 1, end)
 }
 
 /// The sockets that are named from a place on, and the place behind them.
@@ -155,7 +155,7 @@ fn sockets_of(words: &[Word], at: usize, end: Spot) -> Result<(Sockets, usize), 
     ensures place { IfErr result (λ e. IsPlaceIn words.now end e.at) }
     ensures within { IfOk result (λ r. (at ≤ r.1) × (r.1 ≤ length words.now)) }
 {
-    let Some(first) = word_at(words, at, WordKind::Name) else {
+    let Some(first) = word_of_kind(words, at, WordKind::Name) else {
         let all = Sockets {
             families: ALL_FAMILIES,
             kinds: ALL_KINDS,
@@ -163,9 +163,9 @@ fn sockets_of(words: &[Word], at: usize, end: Spot) -> Result<(Sockets, usize), 
         return Ok((all, at));
     };
     let next = at + 1;
-    let Some(second) = word_at(words, next, WordKind::Name) else {
+    let Some(second) = word_of_kind(words, next, WordKind::Name) else {
         let Some(sockets) = one_name(first.text) else {
-            return Err(fault(name_fault(first.text), words, at, end));
+            return Err(fault(socket_name_fault(first.text), words, at, end));
         };
         return Ok((sockets, next));
     };
@@ -173,8 +173,8 @@ fn sockets_of(words: &[Word], at: usize, end: Spot) -> Result<(Sockets, usize), 
         return Err(names_fault(words, at, first.text, second.text, end));
     };
     let behind = next + 1;
-    if let Some(third) = word_at(words, behind, WordKind::Name) {
-        return Err(fault(name_fault(third.text), words, behind, end));
+    if let Some(third) = word_of_kind(words, behind, WordKind::Name) {
+        return Err(fault(socket_name_fault(third.text), words, behind, end));
     }
     Ok((sockets, behind))
 }

@@ -8,9 +8,9 @@ ghost use Rattle.aa_rules.specs.Reading.{RuleData, rule_data, rest_of};
 
 use crate::cap_rules::cap_rule_of;
 use crate::change_rules::change_rule_of;
-use crate::faults::{RulePlace, no_comma_fault};
+use crate::faults::{Preceding, no_comma_fault};
 use crate::file_rules::file_of;
-use crate::lookahead::{is_keyword, optional, word_at};
+use crate::lookahead::{keyword_stands, optional, word_of_kind};
 use crate::net_rules::net_rule_of;
 use crate::tree::{Qualifiers, RuleTree};
 use aa_words::{PolicyFault, Spot, Word, WordKind};
@@ -20,7 +20,7 @@ fn permission_of(words: &[Word], at: usize) -> (bool, usize)
     ensures read { IsPermission (rest_of words.now at) result.0 (rest_of words.now result.1) }
     ensures onward { at ≤ result.1 }
 {
-    if is_keyword(words, at, "deny".as_bytes()) {
+    if keyword_stands(words, at, "deny".as_bytes()) {
         return (true, at + 1);
     }
     let (_, next) = optional(words, at, "allow".as_bytes());
@@ -61,7 +61,7 @@ fn unqualified_of<'s>(
     words: &[Word<'s>],
     at: usize,
     qualifiers: Qualifiers,
-    place: RulePlace,
+    place: Preceding,
     end: Spot,
 ) -> Result<(RuleTree<'s>, usize), PolicyFault>
     ensures found { IfOk result (λ r. Says qualifiers (rest_of words.now at) (rule_data r.0) (rest_of words.now r.1)) }
@@ -70,18 +70,18 @@ fn unqualified_of<'s>(
     ensures place { IfErr result (λ e. IsPlaceIn words.now end e.at) }
     ensures within { IfOk result (λ r. (at < r.1) × (r.1 ≤ length words.now)) }
 {
-    if let Some(skipped) = word_at(words, at, WordKind::Skipped) {
+    if let Some(skipped) = word_of_kind(words, at, WordKind::Skipped) {
         return Ok((RuleTree::PassedOver(keyword_of(skipped.text)), at + 1));
     }
-    if is_keyword(words, at, "capability".as_bytes()) {
+    if keyword_stands(words, at, "capability".as_bytes()) {
         let (rule, next) = cap_rule_of(words, at + 1, qualifiers, end)?;
         return Ok((RuleTree::Cap(rule), next));
     }
-    if is_keyword(words, at, "network".as_bytes()) {
+    if keyword_stands(words, at, "network".as_bytes()) {
         let (rule, next) = net_rule_of(words, at + 1, qualifiers, end)?;
         return Ok((RuleTree::Net(rule), next));
     }
-    if is_keyword(words, at, "change_profile".as_bytes()) {
+    if keyword_stands(words, at, "change_profile".as_bytes()) {
         let (rule, next) = change_rule_of(words, at + 1, qualifiers, end)?;
         return Ok((RuleTree::Change(rule), next));
     }
@@ -102,9 +102,9 @@ pub fn rule_of<'s>(
     ensures within { IfOk result (λ r. (at < r.1) × (r.1 ≤ length words.now)) }
 {
     let (qualifiers, unqualified) = qualifiers_of(words, at);
-    let place = RulePlace::behind_qualifiers(at < unqualified);
+    let place = Preceding::behind_qualifiers(at < unqualified);
     let (rule, next) = unqualified_of(words, unqualified, qualifiers, place, end)?;
-    let Some(_) = word_at(words, next, WordKind::Comma) else {
+    let Some(_) = word_of_kind(words, next, WordKind::Comma) else {
         return Err(no_comma_fault(words, next, &rule, end));
     };
     Ok((rule, next + 1))

@@ -6,8 +6,8 @@ use Rattle.aa_rules.specs.Reading.{rest_of}
 use Rattle.aa_heads.proofs.HeadProductions.{no_named, no_title}
 use Rattle.aa_heads.proofs.heads.title_of.Goals as goal
 
-pub returns-then-is_keyword-clause-refused : goal.returns-then-is_keyword-clause-refused
-returns-then-is_keyword-clause-refused c =
+pub returns-then-keyword_stands-clause-refused : goal.returns-then-keyword_stands-clause-refused
+returns-then-keyword_stands-clause-refused c =
     let yes : Keyword (codes "profile") (rest_of c.args.words.now c.args.at) _ = search rules in
     on_err_weaker c.named_of.result (no_named _ _ _ yes) c.named_of.ensures.refused
 

@@ -14,8 +14,8 @@ behind_file_fault-requires c =
     let file : Keyword (codes "file") (rest_of c.args.words.now c.args.at) (rest_of c.args.words.now (c.args.at + 1)) = search rules in
     record { wrong = behind_file _ _ _ file c.requires.wrong }
 
-pub name_fault-kind-requires : goal.name_fault-kind-requires
-name_fault-kind-requires c =
+pub fault_of_name-kind-requires : goal.fault_of_name-kind-requires
+fault_of_name-kind-requires c =
     let lacks : LacksKeyword (codes "file") (rest_of c.args.words.now c.args.at) = search rules in
     record {
       wrong = λ read follows.

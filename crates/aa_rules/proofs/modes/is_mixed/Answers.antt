@@ -10,7 +10,7 @@ returns-then-is_mixed_here c = pair_found _ _ _ _ (mixed_step c.loop-i.may_begin
 pub loop-i-preserved : goal.loop-i-preserved
 loop-i-preserved c =
     pair_passed _ _ _ _ (mixed_step c.loop-i.may_begin c.args.mode.now c.loop-i.i c.loop-i-test.true) (sym c.is_mixed_here.ensures ∙ c.if-is_mixed_here.false) c.loop-i.invariant
-    ∙ ap (λ (b : Bool). holds_mixed b (drop (c.loop-i.i + 1) c.args.mode.now)) (sym c.ends_part-may_begin.ensures)
+    ∙ ap (λ (b : Bool). holds_mixed b (drop (c.loop-i.i + 1) c.args.mode.now)) (sym c.frees_part-may_begin.ensures)
 
 pub returns : goal.returns
 returns c = mixed_none c.loop-i.may_begin c.args.mode.now c.loop-i.i c.loop-i-test.false c.loop-i.invariant

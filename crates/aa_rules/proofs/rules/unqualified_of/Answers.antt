@@ -32,7 +32,7 @@ pub returns-in_err-file-clause-refused : goal.returns-in_err-file-clause-refused
 returns-in_err-file-clause-refused c =
     let q = err_from_is_err_and c.from_residual-in_err-file.result c.from_residual-in_err-file.ensures.1 in
     let no_cap : LacksKeyword (codes "capability") (rest_of c.args.words.now c.args.at) = search rules in
-    let no_net : LacksKeyword (codes "network") (rest_of c.args.words.now c.args.at) = subst (λ (t : List ℕ). LacksKeyword t (rest_of c.args.words.now c.args.at)) c.as_bytes-2.ensures.value c.if-is_keyword-2.ensures.no in
-    let no_change : LacksKeyword (codes "change_profile") (rest_of c.args.words.now c.args.at) = subst (λ (t : List ℕ). LacksKeyword t (rest_of c.args.words.now c.args.at)) c.as_bytes-3.ensures.value c.if-is_keyword-3.ensures.no in
+    let no_net : LacksKeyword (codes "network") (rest_of c.args.words.now c.args.at) = subst (λ (t : List ℕ). LacksKeyword t (rest_of c.args.words.now c.args.at)) c.as_bytes-2.ensures.value c.if-keyword_stands-2.ensures.no in
+    let no_change : LacksKeyword (codes "change_profile") (rest_of c.args.words.now c.args.at) = subst (λ (t : List ℕ). LacksKeyword t (rest_of c.args.words.now c.args.at)) c.as_bytes-3.ensures.value c.if-keyword_stands-3.ensures.no in
     let none : Lacks Skipped (rest_of c.args.words.now c.args.at) = search rules in
     rw (q.1) (says_none _ _ c.in_err-file.ensures.refused no_cap no_net no_change none)
