@@ -1,5 +1,8 @@
 //! What `ask` answers.
 
+ghost use Rattle.std.specs.Prelude.{◌≡◌, not};
+ghost use Rattle.std.specs.List.{list_any};
+
 use crate::verdict::{Decided, DeciderLine, Verdict, decide, push_reasons};
 use aa_asks::{WordFault, read_word};
 use aa_mediate::{Label, label_of};
@@ -114,7 +117,9 @@ pub fn ask(
 }
 
 /// Whether one of them is refused.
-pub fn is_one_denied(verdicts: &[Verdict]) -> bool {
+pub fn is_one_denied(verdicts: &[Verdict]) -> bool
+    ensures { result ≡ list_any (λ v. not v.granted) verdicts.now }
+{
     verdicts.iter().any(|verdict| !verdict.granted)
 }
 

@@ -1,8 +1,15 @@
 //! The answer to one request, and the rules that decided it.
 
+ghost use Rattle.std.specs.Prelude.{◌≡◌, option_map, OnOk, IfOk};
+ghost use Rattle.std.specs.List.{slice_get};
+ghost use Rattle.aa_mediate.specs.Reply.{reply};
+ghost use Rattle.aa_verdicts.specs.Verdicts.{is_by_complain, IsVerdict, profile_at, spots_of};
+
 use aa_asks::{Decider, Deciders, Listed, ProfilePlaces, deciders_of, push_word, target_deciders};
 use aa_audit::push_mask;
-use aa_mediate::{Answer, Compiled, Label, Machine, Mediator, NoteWord, Request, name_of_label};
+use aa_mediate::{
+    Answer, Compiled, Label, Machine, Mediator, NoteWord, Request, name_of_label, profile_of,
+};
 use aa_output::push_where;
 use aa_policy::{Perms, Profile};
 use aa_units::{PlaceAt, Unit, place_at, push_text, text_at};
@@ -121,7 +128,10 @@ fn letters_of(alloc: Global, listed: Listed, perms: Perms) -> Result<Vec<u8>, Al
     Ok(letters)
 }
 
-fn spot_in(places: &ProfilePlaces<'_>, listed: Listed, rule: usize) -> Option<Spot> {
+/// Where the rule of that number in that list stands.
+fn spot_in(places: &ProfilePlaces<'_>, listed: Listed, rule: usize) -> Option<Spot>
+    ensures { result ≡ slice_get (spots_of listed places.now) rule }
+{
     let spots = match listed {
         Listed::Files => &places.files,
         Listed::Caps => &places.caps,
@@ -215,11 +225,11 @@ fn explain(
     alloc: Global,
     decided: Decided<'_>,
     profile: &Profile,
-    number: u16,
+    number: usize,
     request: &Request,
     verdict: &mut Verdict,
 ) -> Result<(), AllocError> {
-    let Some(places) = decided.places.get(number as usize) else {
+    let Some(places) = decided.places.get(number) else {
         return Ok(());
     };
     if let Some(deciders) = deciders_of(alloc, profile, request)? {
@@ -231,7 +241,10 @@ fn explain(
     Ok(())
 }
 
-fn is_by_complain(answer: &Answer) -> bool {
+/// Whether an answer is granted by complain mode alone.
+fn is_by_complain(answer: &Answer) -> bool
+    ensures { result ≡ is_by_complain answer.now }
+{
     match answer.note {
         Some(note) => note.word == NoteWord::Allowed,
         None => false,
@@ -250,18 +263,49 @@ fn name_after(
     Ok(Some(Vec::from_slice(alloc, name_of_label(policies, after))?))
 }
 
-/// The profile of a label, with its number.
-fn profile_at(policies: &[Compiled], label: Label) -> Option<(u16, &Profile)> {
+/// The profile of a label.
+fn profile_at(policies: &[Compiled], label: Label) -> Option<&Profile>
+    ensures { option_map (λ p. p.now) result ≡ profile_at policies.now label }
+{
     match label {
         Label::Unconfined(_) => None,
-        Label::Confined(_, number) => match policies.first() {
-            Some(compiled) => match compiled.policy().profiles.as_slice().get(number as usize) {
-                Some(profile) => Some((number, profile)),
-                None => None,
-            },
-            None => None,
-        },
+        Label::Confined(policy, number) => profile_of(policies, policy, number),
     }
+}
+
+/// The number of a label's profile.
+fn number_of(label: Label) -> usize {
+    match label {
+        Label::Unconfined(_) => 0,
+        Label::Confined(_, number) => number as usize,
+    }
+}
+
+/// What the mediator answers a task with that label, which moves to the answer's, without what decided it.
+fn told(
+    alloc: Global,
+    policies: &[Compiled],
+    label: &mut Label,
+    request: &Request,
+) -> Result<(Verdict, Answer), AllocError>
+    ensures told { IfOk result (λ r. IsVerdict (reply policies.now label.old request.now) r.0) }
+    ensures moved { OnOk result (label.new ≡ (reply policies.now label.old request.now).label) }
+{
+    let before = *label;
+    let mut word = Vec::new(alloc);
+    push_word(&mut word, request)?;
+    let answer = Mediator::new(policies).step(label, request);
+    let verdict = Verdict {
+        word,
+        granted: answer.granted,
+        label: name_after(alloc, policies, before, answer.label)?,
+        scrub: answer.scrub,
+        complain: is_by_complain(&answer),
+        deciders: Vec::new(alloc),
+        lacking: Vec::new(alloc),
+        unfound: None,
+    };
+    Ok((verdict, answer))
 }
 
 /// The answer to a request of a task with that label, which moves to the answer's, and the rules that decided it.
@@ -272,21 +316,16 @@ pub fn decide(
     request: &Request,
 ) -> Result<Verdict, AllocError> {
     let before = *label;
-    let mut word = Vec::new(alloc);
-    push_word(&mut word, request)?;
-    let answer = Mediator::new(decided.policies).step(label, request);
-    let mut verdict = Verdict {
-        word,
-        granted: answer.granted,
-        label: name_after(alloc, decided.policies, before, answer.label)?,
-        scrub: answer.scrub,
-        complain: is_by_complain(&answer),
-        deciders: Vec::new(alloc),
-        lacking: Vec::new(alloc),
-        unfound: None,
-    };
-    if let Some((number, profile)) = profile_at(decided.policies, before) {
-        explain(alloc, decided, profile, number, request, &mut verdict)?;
+    let (mut verdict, answer) = told(alloc, decided.policies, label, request)?;
+    if let Some(profile) = profile_at(decided.policies, before) {
+        explain(
+            alloc,
+            decided,
+            profile,
+            number_of(before),
+            request,
+            &mut verdict,
+        )?;
         verdict.unfound = unfound(request, &answer, &verdict);
     }
     Ok(verdict)
