@@ -50,13 +50,20 @@ def workloads():
     for n in (100, 1000, 10000):
         paths = [f"/dir{i}/**" for i in range(n)]
         yield f"{n} trees", "", paths, paths
-    paths = [f"/**/lib{i}.so" for i in range(300)]
-    yield "300 libraries", "", paths, paths
+    for n in (300, 3000):
+        paths = [f"/**/lib{i}.so" for i in range(n)]
+        yield f"{n} libraries", "", paths, paths
+    paths = [f"/{{,usr/}}**/lib{i}.so" for i in range(300)]
+    yield "300 behind usr", "", paths, paths
+    paths = [f"/run/[0-9]*/app{i}/**" for i in range(300)]
+    yield "300 behind run", "", paths, paths
     for k in range(8, 15):
         paths = [free(k)]
         yield f"free bytes {k}", "", paths, paths
     before, rules, patterns = mixed(1000)
     yield "1000 mixed", before, rules, patterns
+    paths = [f"/{i:04x}" for i in range(65535)]
+    yield "65535 numbers", "", paths, paths
 
 
 def timed(command, data):
