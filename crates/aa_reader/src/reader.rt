@@ -1,6 +1,6 @@
 //! Reads the text of a pattern.
 
-ghost use Rattle.std.specs.Prelude.{◌≡◌, ◌≢◌, ◌+◌, ◌≤◌, ◌<◌, ℕ, length, drop, IfOk, IfErr, Ok, Err, Some, false, List, [], ◌∷◌, ◌++◌};
+ghost use Rattle.std.specs.Prelude.{◌≡◌, ◌≢◌, ◌+◌, ◌≤◌, ◌<◌, ℕ, length, drop, IfOk, IfErr, OnOk, Ok, Err, Some, false, List, [], ◌∷◌, ◌++◌};
 ghost use Rattle.aa_reader.specs.Signs.{signs, is_left_out, is_letter_or_digit, is_unsupported};
 ghost use Rattle.aa_reader.specs.Reading.{stars, ends_part, star_item, class_after, class_at, token_at, tokens_from, tokens, spelled, spelled_item, is_slash, depth_after, Gives, Finds};
 ghost use Rattle.std.specs.List.{list_any};
@@ -13,6 +13,7 @@ use aa_faults::PolicyKind;
 use aa_items::Item;
 use aa_patterns::Pattern;
 use std::alloc::Global;
+use std::mem;
 
 fn is_left_out_sign(sign: Sign) -> bool
     ensures { result ≡ is_left_out sign }
@@ -185,25 +186,27 @@ struct OpenChoice {
 #[tactic(auto, using(crate::proofs::Tokens::put_single, crate::proofs::Tokens::put_comma, crate::proofs::Tokens::put_close))]
 fn put(
     alloc: Global,
-    mut stack: Vec<OpenChoice>,
-    mut items: Vec<Item>,
+    stack: &mut Vec<OpenChoice>,
+    items: &mut Vec<Item>,
     token: Token,
-) -> Result<(Vec<OpenChoice>, Vec<Item>), PolicyKind>
-    requires { IsFit (length stack.items) token }
-    ensures spelled { IfOk result (λ r. (so_far r.0.items r.1.items ≡ so_far stack.items items.items ++ token ∷ []) × (length r.0.items ≡ depth_after (length stack.items) token)) }
+) -> Result<(), PolicyKind>
+    requires { IsFit (length stack.old.items) token }
+    ensures spelled { OnOk result (so_far stack.new.items items.new.items ≡ so_far stack.old.items items.old.items ++ token ∷ []) }
+    ensures depth { OnOk result (length stack.new.items ≡ depth_after (length stack.old.items) token) }
     ensures cause { IfErr result (λ e. e ≡ PolicyKind.NoMemory) }
 {
     match token {
         Token::Single(item) => {
             items.push(item)?;
-            Ok((stack, items))
+            Ok(())
         }
         Token::Open => {
+            let before = mem::replace(items, Vec::new(alloc));
             stack.push(OpenChoice {
-                before: items,
+                before,
                 branches: Vec::new(alloc),
             })?;
-            Ok((stack, Vec::new(alloc)))
+            Ok(())
         }
         Token::Comma => match stack.pop() {
             Some(open) => {
@@ -211,9 +214,9 @@ fn put(
                     before,
                     mut branches,
                 } = open;
-                branches.push(items)?;
+                branches.push(mem::replace(items, Vec::new(alloc)))?;
                 stack.push(OpenChoice { before, branches })?;
-                Ok((stack, Vec::new(alloc)))
+                Ok(())
             }
             None => unreachable!(),
         },
@@ -223,9 +226,10 @@ fn put(
                     mut before,
                     mut branches,
                 } = open;
-                branches.push(items)?;
+                branches.push(mem::replace(items, Vec::new(alloc)))?;
                 before.push(Item::Choice(branches))?;
-                Ok((stack, before))
+                *items = before;
+                Ok(())
             }
             None => unreachable!(),
         },
@@ -263,9 +267,7 @@ fn items_of(alloc: Global, list: &[Sign]) -> Result<Pattern, PolicyKind>
             Err(fault) => return Err(fault),
         };
         slash = is_slash_token(&token);
-        let (new_stack, new_items) = put(alloc, stack, items, token)?;
-        stack = new_stack;
-        items = new_items;
+        put(alloc, &mut stack, &mut items, token)?;
         at = at + 1 + more;
     }
     if depth_of(&stack) == 0 {
