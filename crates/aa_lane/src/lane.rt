@@ -535,10 +535,7 @@ impl<'m, M: Machine> Lane<'m, M> {
             done: 0,
             state: start,
         };
-        let shutter = Shutter {
-            seat: third,
-            tag,
-        };
+        let shutter = Shutter { seat: third, tag };
         let end = Sending {
             seat,
             tag,
