@@ -1,5 +1,6 @@
 -- Expansions, one byte and one text on.
-use Rattle.std.proofs.Common.{◌≡◌, ◌≢◌, ℕ, ◌+◌, ◌<◌, ◌≤◌, ◌⊎◌, ◌↔◌, Bool, true, false, ◌&&◌, ◌==◌, cond, List, [], ◌∷◌, ◌++◌, drop, get_or, length, Result, Ok, Err, IfOk, IfErr, refl, sym, ap, ◌∙◌, subst, inl, inr, ⊎_elim, arith, append_assoc, lt-ltb, IsTrue, true≢false}
+use Rattle.std.proofs.Common.{◌≡◌, ◌≢◌, ℕ, ◌+◌, ◌<◌, ◌≤◌, ◌⊎◌, ◌↔◌, Bool, true, false, not, ◌&&◌, ◌||◌, ◌==◌, cond, List, [], ◌∷◌, ◌++◌, drop, get_or, length, Result, Ok, Err, IfOk, IfErr, refl, sym, ap, ◌∙◌, subst, inl, inr, ⊎_elim, arith, append_assoc, lt-ltb, IsTrue, true≢false}
+use Rattle.std.specs.List.{list_any}
 use Rattle.std.proofs.lemmas.Bool.{cases_lt}
 use Rattle.std.proofs.lemmas.List.{append-nil, at_drop_more, at_drop_all}
 use Rattle.aa_faults.specs.declared.fault.PolicyKind.{PolicyKind}
@@ -9,15 +10,28 @@ use Rattle.aa_glob.specs.declared.summary.Summary.{Summary}
 use Rattle.aa_glob.specs.declared.building.Rest.{Rest}
 use Rattle.aa_glob.specs.Variables.{Variable}
 use Rattle.aa_reader.specs.Reading.{tokens, Gives}
-use Rattle.aa_glob.specs.Expansions.{Texts, outcome_of, squeezed, pattern_text, expansion, of_path, expansions, and_more, Expands, in_walk, in_circle, too_many, as_texts, joined, outcome}
+use Rattle.aa_glob.specs.Expansions.{Outcome, Texts, alone, followed, outcome_of, squeezed, pattern_text, expansion, of_path, expansions, and_more, Expands, in_walk, in_circle, too_many, as_texts, joined, outcome}
+use Rattle.aa_glob.specs.Pieces.{Plain, begins_with, pieces_from}
 use Rattle.aa_glob.specs.Settled.{Settled}
 use Rattle.aa_glob.specs.Ways.{IsWalkFault}
 use Rattle.aa_glob.specs.Built.{IsBuilt, Stands, pieces_of, text_at}
+use Rattle.aa_glob.proofs.PieceSteps.{part_plain}
 
 pub squeezed_step : (after : Bool) (s : List ℕ) (i d : ℕ) → i < length s →
     squeezed after (drop i s) ≡ cond (after && (get_or s i d == 47)) (squeezed true (drop (i + 1) s)) (get_or s i d ∷ squeezed (get_or s i d == 47) (drop (i + 1) s))
 unfolding squeezed
 squeezed_step after s i d h = at_drop_more (squeezed after) s i d h
+
+or_left : (a b : Bool) → (a || b) ≡ false → a ≡ false
+or_left true b e = e
+or_left false b e = refl
+
+or_right : (a b : Bool) → (a || b) ≡ false → b ≡ false
+or_right true b e = absurd (true≢false e)
+or_right false b e = e
+
+plain_sign : (b : ℕ) (s : List ℕ) → (b == 64) ≡ false → (not false && (b == 64) && begins_with 123 s) ≡ false
+plain_sign b s e = ap (λ c. not false && c && begins_with 123 s) e
 
 and_right : (a b : Bool) → (a && b) ≡ true → b ≡ true
 and_right true b e = e
@@ -76,9 +90,29 @@ pub read_start : (ts : List (List ℕ)) (r : Result (List (List Token)) PolicyKi
 read_start ts (Ok qs) = refl
 read_start ts (Err e) = refl
 
+pub one_read : (t : List ℕ) (p : List Token) → expansion t ≡ Ok p → expansions (t ∷ []) ≡ Ok (p ∷ [])
+unfolding expansions
+one_read t p e = ap (λ r. and_more r (Ok [])) e
+
+pub one_refused : (t : List ℕ) (fault : PolicyKind) → expansion t ≡ Err fault → expansions (t ∷ []) ≡ Err fault
+unfolding expansions
+one_refused t fault e = ap (λ r. and_more r (Ok [])) e
+
 pub stands_start : (depth : ℕ) (vars : List Variable) (f : Rest) (most : ℕ) (ts : List (List ℕ)) → joined (outcome depth vars) (pieces_of f) ≡ Texts most ts → most ≤ 1024 → length ts ≡ f.count → f.number < f.count →
     Stands depth vars f (text_at depth vars f)
 stands_start depth vars f most ts e few count within = grind (arith)
+
+-- a text without @ is its one text
+pub plain_texts : (of : List ℕ → Outcome) (kept : Bool) (s : List ℕ) → list_any (λ b. b == 64) s ≡ false → joined of (pieces_from kept 0 s) ≡ Texts 0 (s ∷ [])
+unfolding pieces_from joined
+plain_texts of kept [] h = refl
+plain_texts of true (b ∷ s) h = ap (followed (alone of (Plain b))) (plain_texts of false s (or_right (b == 64) (list_any (λ c. c == 64) s) h))
+plain_texts of false (b ∷ s) h =
+    ap (joined of) (part_plain false b s (b == 92) (plain_sign b s (or_left (b == 64) (list_any (λ c. c == 64) s) h)) refl)
+    ∙ ap (followed (alone of (Plain b))) (plain_texts of (b == 92) s (or_right (b == 64) (list_any (λ c. c == 64) s) h))
+
+pub plain_expands : (vars : List Variable) (raw : List ℕ) (r : Result (List (List Token)) PolicyKind) → list_any (λ b. b == 64) raw ≡ false → expansions (raw ∷ []) ≡ r → Expands vars raw r
+plain_expands vars raw r h e = subst (Expands vars raw) e (as_texts 0 0 (raw ∷ []) (plain_texts (outcome 0 vars) false raw h) (omega arith))
 
 -- the whole
 pub fault_expands : (vars : List Variable) (raw : List ℕ) (e : PolicyKind) → IsWalkFault vars raw e → Expands vars raw (Err e)

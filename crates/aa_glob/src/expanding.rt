@@ -1,6 +1,7 @@
 //! Expands a word with variables to patterns.
 
-ghost use Rattle.std.specs.Prelude.{◌≡◌, ◌≢◌, ◌≤◌, ◌==◌, ◌&&◌, ℕ, List, length, map, IfOk, IfErr, Ok, Err};
+ghost use Rattle.std.specs.Prelude.{◌≡◌, ◌≢◌, ◌≤◌, ◌==◌, ◌&&◌, ◌∷◌, ℕ, List, [], length, map, IfOk, IfErr, Ok, Err};
+ghost use Rattle.std.specs.List.{list_any};
 ghost use Rattle.aa_glob.specs.Known.{IsWalked};
 ghost use Rattle.aa_reader.specs.Reading.{Gives, spelled};
 ghost use Rattle.aa_glob.specs.Expansions.{pattern_text, expansion, expansions, outcome_of, Texts, Expands};
@@ -59,6 +60,26 @@ fn read_expansion(alloc: Global, text: &[u8]) -> Result<Pattern, PolicyKind>
     }
 }
 
+/// Whether a variable may be used somewhere in the text.
+fn may_use(text: &[u8]) -> bool
+    ensures { result ≡ list_any (λ b. b == 64) text.now }
+{
+    text.contains(&b'@')
+}
+
+/// Reads a text that is its only expansion.
+fn read_alone(alloc: Global, text: &[u8]) -> Result<Vec<Pattern>, PolicyKind>
+    ensures { Gives (λ v. map (λ p. spelled p.items.items) v.items) result (expansions (text.now ∷ [])) }
+{
+    let pattern = match read_expansion(alloc, text) {
+        Ok(pattern) => pattern,
+        Err(fault) => return Err(fault),
+    };
+    let mut patterns: Vec<Pattern> = Vec::with_capacity(alloc, 1)?;
+    patterns.push(pattern)?;
+    Ok(patterns)
+}
+
 /// Builds and reads the expansions in turn.
 fn read_all<'t>(
     alloc: Global,
@@ -99,6 +120,9 @@ pub fn expand(alloc: Global, vars: &Vars, raw: &[u8]) -> Result<Vec<Pattern>, Po
     ensures expanded { IfOk result (λ v. Expands vars.now raw.now (Ok (map (λ p. spelled p.items.items) v.items))) }
     ensures refused { IfErr result (λ e. e ≢ PolicyKind.NoMemory → Expands vars.now raw.now (Err e)) }
 {
+    if !may_use(raw) {
+        return read_alone(alloc, raw);
+    }
     let done = match walk(alloc, vars, raw) {
         Ok(done) => done,
         Err(fault) => return Err(fault),

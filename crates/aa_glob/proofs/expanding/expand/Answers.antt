@@ -1,8 +1,20 @@
+use Rattle.std.specs.Prelude.{ℕ, ◌≡◌, ◌==◌, false}
+use Rattle.std.specs.List.{list_any}
 use Rattle.std.proofs.lemmas.Grind.{common_steps}
-use Rattle.std.proofs.Common.{arith, inl, inr, length}
+use Rattle.std.proofs.Common.{arith, inl, inr, length, ◌∷◌, []}
 use Rattle.aa_glob.specs.Expansions.{Expands, expansions}
-use Rattle.aa_glob.proofs.ExpandSteps.{fault_expands, many_expands, texts_expand, gives_ok, gives_err, few_most}
+use Rattle.aa_glob.proofs.ExpandSteps.{plain_expands, fault_expands, many_expands, texts_expand, gives_ok, gives_err, few_most}
 use Rattle.aa_glob.proofs.expanding.expand.Goals as goal
+
+pub returns-then-not-may_use-clause-expanded : goal.returns-then-not-may_use-clause-expanded
+returns-then-not-may_use-clause-expanded c =
+    let none : list_any (λ (b : ℕ). b == 64) c.args.raw.now ≡ false = grind (arith, common_steps) in
+    gives_ok _ (Expands c.args.vars.now c.args.raw.now) c.read_alone.result (expansions (c.args.raw.now ∷ [])) c.read_alone.ensures (λ x e. plain_expands c.args.vars.now c.args.raw.now x none e)
+
+pub returns-then-not-may_use-clause-refused : goal.returns-then-not-may_use-clause-refused
+returns-then-not-may_use-clause-refused c =
+    let none : list_any (λ (b : ℕ). b == 64) c.args.raw.now ≡ false = grind (arith, common_steps) in
+    gives_err _ (Expands c.args.vars.now c.args.raw.now) c.read_alone.result (expansions (c.args.raw.now ∷ [])) c.read_alone.ensures (λ x e. plain_expands c.args.vars.now c.args.raw.now x none e)
 
 pub text_summary-summary-requires : goal.text_summary-summary-requires
 text_summary-summary-requires c = grind (arith, common_steps)

@@ -1,7 +1,6 @@
-use Rattle.std.proofs.Common.{◌∙◌, ◌++◌, ap, cond, map, sym, List, ℕ, Vec, Global}
+use Rattle.std.proofs.Common.{◌∙◌, ◌++◌, ap, cond, map, List, ℕ, Vec, Global}
 use Rattle.std.proofs.lemmas.List.{map-append}
-use Rattle.aa_glob.specs.Variables.{variable}
-use Rattle.aa_glob.proofs.VarSteps.{Entry, more_at, same_at, at_ok, at_err}
+use Rattle.aa_glob.proofs.VarSteps.{more_at, same_at, at_ok, at_err}
 use Rattle.aa_glob.proofs.vars.add_values.Goals as goal
 
 pub returns-clause-ok : goal.returns-clause-ok

@@ -1,4 +1,4 @@
-use Rattle.std.proofs.Common.{◌≡◌, ◌+◌, ◌∙◌, ap, arith, refl, Some, None, suc, sym}
+use Rattle.std.proofs.Common.{◌≡◌, ◌+◌, ◌∙◌, ap, arith, refl, Some, None, suc}
 use Rattle.aa_glob.specs.Ways.{items_of, unread, unread_all}
 use Rattle.aa_glob.proofs.Tables.{IsPut, put_in, told}
 use Rattle.aa_glob.proofs.Walks.{walk_known, walk_into, walk_circle, walk_refused, unseen_new, unread_push}

@@ -1,8 +1,7 @@
-use Rattle.std.proofs.Common.{◌≡◌, ℕ, ◌∙◌, ap, arith, map, List, Some, sym, Vec, Global}
+use Rattle.std.proofs.Common.{ℕ, ◌∙◌, ap, arith, map, List, Some, sym, Vec, Global}
 use Rattle.std.proofs.lemmas.Grind.{common_steps}
-use Rattle.std.proofs.lemmas.List.{length-map}
 use Rattle.aa_glob.specs.NamePlaces.{place_of}
-use Rattle.aa_glob.specs.Variables.{variable, values_of}
+use Rattle.aa_glob.specs.Variables.{values_of}
 use Rattle.aa_glob.proofs.VarSteps.{Entry, value_there, none_there, is_within}
 use Rattle.aa_glob.proofs.vars.Vars.get.Goals as goal
 
