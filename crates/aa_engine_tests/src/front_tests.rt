@@ -21,8 +21,7 @@ fn no_front_of_a_job_is_one(rt: HostRuntime) {
 }
 
 /// A policy with each fallback.
-const EXECUTING: &[u8] =
-    b"profile p { /a pix, /b px, /c pux, /d Px -> q, /e PUx, } profile q { }";
+const EXECUTING: &[u8] = b"profile p { /a pix, /b px, /c pux, /d Px -> q, /e PUx, } profile q { }";
 
 /// The job of a policy, without tasks.
 fn job_of(alloc: Global, policy: &[u8]) -> Result<Vec<u8>, AllocError> {

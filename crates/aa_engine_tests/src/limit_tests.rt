@@ -4,10 +4,33 @@ use crate::jobs::{Command, gives};
 use aa_engine::RunFault;
 use aa_jobs::JobFault;
 use std::alloc::{AllocError, Global};
+use std::process::Abort;
+use std::sync::Wait;
 use std::test::Fail;
+use std::thread::Threads;
 
-/// What a refused job answers.
-const TOO_LARGE: Result<(), RunFault> = Err(RunFault::Job(JobFault::TooLarge));
+// `run` by that many workers writes that text.
+fn is_decided<R: Abort + Threads + Wait + Sync>(
+    rt: &R,
+    alloc: Global,
+    workers: u32,
+    job: &str,
+    text: &str,
+) {
+    let command = Command::Run(workers);
+    gives(rt, alloc, command, job.as_bytes(), Ok(()), text.as_bytes());
+}
+
+// The job is refused for its size, and nothing is written.
+fn is_too_large<R: Abort + Threads + Wait + Sync>(
+    rt: &R,
+    alloc: Global,
+    command: Command,
+    job: &str,
+) {
+    let wanted = Err(RunFault::Job(JobFault::TooLarge));
+    gives(rt, alloc, command, job.as_bytes(), wanted, b"");
+}
 
 fn number_of(alloc: Global, number: u32) -> Result<String, Fail> {
     Ok(format!(in alloc; "{number}")?)
@@ -100,27 +123,23 @@ fn sixteen_workers_decide_as_many_tasks_as_there_may_be(rt: HostRuntime) -> Resu
         let job = job_of(rt.alloc(), 1024, requests, capacity)?;
         let text = verdicts_of(rt.alloc(), 1024, requests)?;
         for workers in [1, 16] {
-            let command = Command::Run(workers);
-            gives(&rt, rt.alloc(), command, job.as_bytes(), Ok(()), text.as_bytes());
+            is_decided(&rt, rt.alloc(), workers, job.as_str(), text.as_str());
         }
     }
     let job = job_of(rt.alloc(), 1025, 1, "1")?;
-    gives(&rt, rt.alloc(), Command::Run(16), job.as_bytes(), TOO_LARGE, b"");
+    is_too_large(&rt, rt.alloc(), Command::Run(16), job.as_str());
     Ok(())
 }
 
 #[test]
 fn a_task_asks_as_often_as_it_may(rt: HostRuntime) -> Result<(), Fail> {
     let text = verdicts_of(rt.alloc(), 1, 65_536)?;
-    for capacity in ["1", "1024"] {
+    for (capacity, workers) in [("1", 1), ("1024", 1), ("1024", 2)] {
         let job = job_of(rt.alloc(), 1, 65_536, capacity)?;
-        for workers in [1, 2] {
-            let command = Command::Run(workers);
-            gives(&rt, rt.alloc(), command, job.as_bytes(), Ok(()), text.as_bytes());
-        }
+        is_decided(&rt, rt.alloc(), workers, job.as_str(), text.as_str());
     }
     let job = job_of(rt.alloc(), 1, 65_537, "1")?;
-    gives(&rt, rt.alloc(), Command::Run(2), job.as_bytes(), TOO_LARGE, b"");
+    is_too_large(&rt, rt.alloc(), Command::Run(2), job.as_str());
     Ok(())
 }
 
@@ -149,8 +168,16 @@ fn repeated(alloc: Global, line: &str, count: u32) -> Result<String, AllocError>
 fn as_many_events_happen_as_there_may_be(rt: HostRuntime) -> Result<(), Fail> {
     let job = job_of_events(rt.alloc(), 1_000_000)?;
     let text = repeated(rt.alloc(), "0 take idle\n", 1_000_000)?;
-    gives(&rt, rt.alloc(), Command::Replay, job.as_bytes(), Ok(()), text.as_bytes());
+    let wanted = text.as_bytes();
+    gives(
+        &rt,
+        rt.alloc(),
+        Command::Replay,
+        job.as_bytes(),
+        Ok(()),
+        wanted,
+    );
     let job = job_of_events(rt.alloc(), 1_000_001)?;
-    gives(&rt, rt.alloc(), Command::Replay, job.as_bytes(), TOO_LARGE, b"");
+    is_too_large(&rt, rt.alloc(), Command::Replay, job.as_str());
     Ok(())
 }

@@ -12,17 +12,18 @@ use std::process::Abort;
 use std::sync::Wait;
 use std::thread::Threads;
 
-/// Gives the bytes of a text one by one, and fails at a call.
+/// Gives the bytes of a text one by one, and fails so at a call.
 #[derive(Drop)]
 struct FailingReader<'a> {
     text: &'a [u8],
     calls: usize,
+    how: ErrorKind,
 }
 
 impl Read for FailingReader<'_> {
     fn read(&mut self, buf: &mut [u8]) -> io::Result<usize> {
         if self.calls == 0 {
-            return Err(io::Error::from(ErrorKind::Other));
+            return Err(io::Error::from(self.how));
         }
         self.calls -= 1;
         let (Some(byte), Some(place)) = (self.text.first(), buf.first_mut()) else {
@@ -34,18 +35,31 @@ impl Read for FailingReader<'_> {
     }
 }
 
+// Where the reader fails so at a call, the command says it, and writes nothing.
+fn is_not_read<R: Abort + Threads + Wait + Sync>(
+    rt: &R,
+    alloc: Global,
+    command: Command,
+    calls: usize,
+    how: ErrorKind,
+) {
+    let mut reader = FailingReader {
+        text: FIRST_JOB,
+        calls,
+        how,
+    };
+    let mut written = Vec::new(alloc);
+    let given = answer(rt, alloc, command, &mut reader, &mut written);
+    assert!(rt; given == Err(RunFault::Read));
+    assert!(rt; written.is_empty());
+}
+
 #[test]
 fn nothing_is_written_where_the_reader_fails(rt: HostRuntime) {
     for command in COMMANDS {
         for calls in 0..=FIRST_JOB.len() {
-            let mut reader = FailingReader {
-                text: FIRST_JOB,
-                calls,
-            };
-            let mut written = Vec::new(rt.alloc());
-            let given = answer(&rt, rt.alloc(), command, &mut reader, &mut written);
-            assert!(rt; given == Err(RunFault::Read));
-            assert!(rt; written.is_empty());
+            is_not_read(&rt, rt.alloc(), command, calls, ErrorKind::Other);
+            is_not_read(&rt, rt.alloc(), command, calls, ErrorKind::Interrupted);
         }
     }
 }
@@ -56,6 +70,7 @@ fn a_reader_may_give_bytes_one_by_one(rt: HostRuntime) {
         let mut reader = FailingReader {
             text: FIRST_JOB,
             calls: FIRST_JOB.len() + 1,
+            how: ErrorKind::Other,
         };
         let mut written = Vec::new(rt.alloc());
         let given = answer(&rt, rt.alloc(), command, &mut reader, &mut written);
@@ -103,7 +118,7 @@ impl Read for DoublingReader<'_> {
             let n = self.blanks.min(self.portion).min(buf.len());
             buf[..n].fill(b' ');
             self.blanks -= n;
-            self.portion = self.portion.wrapping_mul(2);
+            self.portion = self.portion.saturating_mul(2);
             return Ok(n);
         }
         let n = self.text.len().min(buf.len());
