@@ -137,6 +137,10 @@ names_moved n (p ∷ ps) = ap (λ (l : List (List ℕ)). p.name ∷ l) (names_mo
 
 -- ---- distinct names
 
+pub distinct_none : IsDistinct bytes_eq []
+unfolding IsDistinct
+distinct_none = tt
+
 -- a name that differs from all differs from each
 apart_at : (q : List ℕ) (ps : List Profile) (i : ℕ) (d : Profile) → AllByRecursion (λ y. bytes_eq q y ≡ false) (names_of ps) → i < length ps
     → bytes_eq q (get_or ps i d).name ≡ false
@@ -167,6 +171,6 @@ distinct_joined [] ys a b new = b
 distinct_joined (x ∷ xs) ys a b new =
     IsDistinct-cons bytes_eq x.name (names_of (xs ++ ys))
     (all_apart x.name xs ys (IsDistinct-head bytes_eq x.name (names_of xs) a)
-        (λ i d lt. flipped (get_or ys i d).name x.name false (not_first (bytes_eq (get_or ys i d).name x.name) (number_of (get_or ys i d).name xs) (new i d lt))))
+    (λ i d lt. flipped (get_or ys i d).name x.name false (not_first (bytes_eq (get_or ys i d).name x.name) (number_of (get_or ys i d).name xs) (new i d lt))))
     (distinct_joined xs ys (IsDistinct-tail bytes_eq x.name (names_of xs) a) b
-        (λ i d lt. not_later (bytes_eq (get_or ys i d).name x.name) (number_of (get_or ys i d).name xs) (new i d lt)))
+    (λ i d lt. not_later (bytes_eq (get_or ys i d).name x.name) (number_of (get_or ys i d).name xs) (new i d lt)))
