@@ -125,6 +125,18 @@ large_is first second n near is =
     ∙ ap (λ (m : ℕ). nat_lt 4096 (count + length second.profiles) || nat_lt 65535 m || list_any test (joined first second).passed_over) (sym is)
     ∙ ap (λ (b : Bool). nat_lt 4096 (count + length second.profiles) || nat_lt 65535 n || b) rules
 
+-- the same, where there are neither too many profiles nor too many attachment patterns
+pub large_by_rules : (first second : Rows) (n before more : ℕ) (rules : List PassedOver) (over far : Bool) → All (λ r. r.profile ≤ 65535) first.passed_over
+    → n ≡ attachment_patterns None (joined first second).profiles → before ≡ length first.profiles → more ≡ length second.profiles → rules ≡ second.passed_over
+    → over ≡ (nat_lt 4096 (before + more) || nat_lt 65535 n) → over ≡ false → far ≡ list_any (λ r. nat_lt 65535 (r.profile + before)) rules → far ≡ is_too_large (joined first second)
+large_by_rules first second n before more rules over far near count is there these over_is none far_is =
+    let count_of = λ (m : ℕ). nat_lt 4096 (m + length second.profiles) || nat_lt 65535 n in
+    let within : (nat_lt 4096 (length first.profiles + length second.profiles) || nat_lt 65535 n) ≡ false =
+    ap count_of (sym is) ∙ ap (λ (m : ℕ). nat_lt 4096 (before + m) || nat_lt 65535 n) (sym there) ∙ sym over_is ∙ none in
+    far_is ∙ ap (list_any (λ (r : PassedOver). nat_lt 65535 (r.profile + before))) these
+    ∙ ap (λ (m : ℕ). list_any (λ (r : PassedOver). nat_lt 65535 (r.profile + m)) second.passed_over) is
+    ∙ sym (large_is first second n near count ∙ ap (λ (b : Bool). b || list_any (λ r. nat_lt 65535 (r.profile + length first.profiles)) second.passed_over) within)
+
 -- ---- parents
 
 get_front : {X : Type 0} (xs ys : List X) (k : ℕ) → k < length xs → slice_get (xs ++ ys) k ≡ slice_get xs k
@@ -163,9 +175,10 @@ parents_joined xs ys a b k n p at is = ⊎_elim
     child j here q e (Some i) f g =
         let there = b j i q e f in
         let less : i < j = there.0 in
-        let number : i + length xs ≡ n = cc in
-        (omega (arith, less, number, here),
-            ap (option_and_then (λ (x : Profile). x.parent)) (get_behind xs behind n i (sym number) ∙ slice_get-map (moved (length xs)) ys i) ∙ still_top (length xs) (slice_get ys i) there.1)
+        let number : i + length xs ≡ n = cc in (
+          omega (arith, less, number, here),
+          ap (option_and_then (λ (x : Profile). x.parent)) (get_behind xs behind n i (sym number) ∙ slice_get-map (moved (length xs)) ys i) ∙ still_top (length xs) (slice_get ys i) there.1,
+        )
 
     second : (j : ℕ) → k ≡ j + length xs → (o : Option Profile) → slice_get ys j ≡ o → option_map (moved (length xs)) o ≡ Some p
         → (n < k) × (option_and_then (λ (x : Profile). x.parent) (slice_get (xs ++ behind) n) ≡ None)
@@ -232,10 +245,10 @@ none_lawful = record {
 
 -- no policy yet
 pub nothing_kept : (k : Kept) → k.profiles.items ≡ [] → k.passed_over.items ≡ [] → k.numbers.entries ≡ [] → k.attachments ≡ 0 → IsKept k
-nothing_kept k ps rs ns as = record {
+nothing_kept k ps rs ns count = record {
   lawful = subst (λ (l : List Profile). IsLawful l) (sym ps) none_lawful;
   numbered = λ name. ap (noted name) ns ∙ sym (ap (number_of name) ps);
-  counted = as ∙ sym (ap (attachment_patterns None) ps);
+  counted = count ∙ sym (ap (attachment_patterns None) ps);
   near = subst (λ (l : List PassedOver). All (λ r. r.profile ≤ 65535) l) (sym rs) (All-nil (λ (r : PassedOver). r.profile ≤ 65535));
 }
 

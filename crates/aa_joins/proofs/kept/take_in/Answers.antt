@@ -1,5 +1,6 @@
-use Rattle.std.proofs.Common.{arith, ◌∙◌, refl}
-use Rattle.aa_joins.specs.Joined.{rows_of}
+use Rattle.std.proofs.Common.{◌≡◌, arith, ◌∙◌, refl}
+use Rattle.std.proofs.lemmas.Grind.{common_steps}
+use Rattle.aa_joins.specs.Joined.{rows_of, joined}
 use Rattle.aa_joins.specs.Kept.{kept_rows}
 use Rattle.aa_joins.proofs.Joins.{parents_ready, rules_ready, more_kept}
 use Rattle.aa_joins.proofs.kept.take_in.Goals as goal
@@ -15,4 +16,4 @@ move_rules-requires c =
     (c.deref_mut-2.ensures.value ∙ c.into_vec-rules.ensures) (omega (arith, c.len-before.ensures, c.args.kept.now.profiles.ok))
 
 pub returns-clause-kept : goal.returns-clause-kept
-returns-clause-kept c = more_kept c.args.kept.now _ c.args.policy c.requires.ready ? refl c.requires.count
+returns-clause-kept c = more_kept c.args.kept.now _ c.args.policy c.requires.ready (grind (arith, common_steps)) refl c.requires.count

@@ -15,4 +15,4 @@ pub loop-profile-preserved : goal.loop-profile-preserved
 loop-profile-preserved c =
     rw add-one (one_more (moved c.args.before) c.args.profiles.now c.loop-profile.profiles c.loop-profile.profile-index c.profile-item.result c.move_profile.new.profile c.loop-profile.invariant c.loop-profile-test.true
     (c.move_profile.ensures ∙ ap (moved c.args.before)
-        (not_yet (moved c.args.before) c.args.profiles.now c.loop-profile.profiles c.loop-profile.profile-index c.profile-item.result c.loop-profile.invariant c.loop-profile-test.true)))
+    (not_yet (moved c.args.before) c.args.profiles.now c.loop-profile.profiles c.loop-profile.profile-index c.profile-item.result c.loop-profile.invariant c.loop-profile-test.true)))

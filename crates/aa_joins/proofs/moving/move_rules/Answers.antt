@@ -15,4 +15,4 @@ pub loop-rule-preserved : goal.loop-rule-preserved
 loop-rule-preserved c =
     rw add-one (one_more (moved_rule c.args.before) c.args.rules.now c.loop-rule.rules c.loop-rule.rule-index c.rule-item.result _ c.loop-rule.invariant c.loop-rule-test.true
     (ap (moved_rule c.args.before)
-        (not_yet (moved_rule c.args.before) c.args.rules.now c.loop-rule.rules c.loop-rule.rule-index c.rule-item.result c.loop-rule.invariant c.loop-rule-test.true)))
+    (not_yet (moved_rule c.args.before) c.args.rules.now c.loop-rule.rules c.loop-rule.rule-index c.rule-item.result c.loop-rule.invariant c.loop-rule-test.true)))
