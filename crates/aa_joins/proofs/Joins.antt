@@ -16,7 +16,6 @@ use Rattle.aa_profiles.specs.Lawful.{names_of, file_patterns, attachment_pattern
 use Rattle.aa_profiles.specs.declared.policy.Policy.{Policy}
 use Rattle.aa_joins.specs.declared.kept.Kept.{Kept}
 use Rattle.aa_joins.specs.declared.fault.Repeated.{Repeated}
-use Rattle.aa_joins.specs.declared.fault.JoinFault.{JoinFault}
 use Rattle.aa_joins.specs.declared.fault.JoinFault.TheVariants.{DuplicateProfile, TooLarge}
 use Rattle.aa_joins.specs.Rows.{Rows}
 use Rattle.aa_joins.specs.Joined.{rows_of, moved, moved_rule, joined}

@@ -1,4 +1,4 @@
-use Rattle.std.proofs.Common.{arith, ap, ◌∙◌, length, List}
+use Rattle.std.proofs.Common.{arith, ap, length}
 use Rattle.aa_joins.specs.Joined.{rows_of}
 use Rattle.aa_joins.specs.Kept.{kept_rows}
 use Rattle.aa_joins.proofs.Joins.{large_by_rules}

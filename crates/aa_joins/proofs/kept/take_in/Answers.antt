@@ -1,6 +1,6 @@
-use Rattle.std.proofs.Common.{◌≡◌, arith, ◌∙◌, refl}
+use Rattle.std.proofs.Common.{arith, ◌∙◌, refl}
 use Rattle.std.proofs.lemmas.Grind.{common_steps}
-use Rattle.aa_joins.specs.Joined.{rows_of, joined}
+use Rattle.aa_joins.specs.Joined.{rows_of}
 use Rattle.aa_joins.specs.Kept.{kept_rows}
 use Rattle.aa_joins.proofs.Joins.{parents_ready, rules_ready, more_kept}
 use Rattle.aa_joins.proofs.kept.take_in.Goals as goal

@@ -1,4 +1,4 @@
-use Rattle.std.proofs.Common.{ap, ◌∙◌, sym, arith, add-one}
+use Rattle.std.proofs.Common.{ap, arith, add-one}
 use Rattle.aa_profiles.specs.declared.policy.PassedOver.{PassedOver}
 use Rattle.aa_joins.specs.Joined.{moved_rule}
 use Rattle.aa_joins.proofs.Moves.{not_yet, one_more}
