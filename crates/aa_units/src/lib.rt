@@ -11,7 +11,10 @@ mod trail;
 mod tree;
 mod unit;
 
-pub use described::{FaultReport, Link, PlaceAt, describe, place_at, unreadable};
+pub use described::{
+    FaultReport, Link, PlaceAt, describe, describe_repeated, describe_together, place_at,
+    unreadable,
+};
 pub use policy::{compile_unit, sources_of};
 pub use roots::{Roots, roots_of};
 pub use text::{push_number, push_place, push_text};

@@ -95,7 +95,14 @@ fn ask_command<'a>(alloc: Global) -> Result<Command<'a>, AllocError> {
     let profile = Arg::new(alloc, "PROFILE")
         .required(true)
         .action(ArgAction::Set)
-        .help("A file with profiles; - is standard input");
+        .help("A file with profiles, or a folder of such files; - is standard input");
+    let also = option(
+        alloc,
+        "also",
+        "PROFILE",
+        "More files with profiles, whose profiles are there too",
+    )
+    .action(ArgAction::Append);
     let words = Arg::new(alloc, "WORD").action(ArgAction::Append).help(
         "LETTERS:PATH, x:PATH, l:PATH->PATH, cap:NAME, net:FAMILY/TYPE or change:NAME; owned: before the first three where the object is the task's user's",
     );
@@ -117,6 +124,7 @@ fn ask_command<'a>(alloc: Global) -> Result<Command<'a>, AllocError> {
         .about(ASK)
         .arg(profile)?
         .arg(words)?
+        .arg(also)?
         .arg(name)?
         .arg(from)?
         .arg(flag(alloc, "owned", "Every object is the task's user's"))?
@@ -157,9 +165,9 @@ fn log_command<'a>(alloc: Global) -> Result<Command<'a>, AllocError> {
         alloc,
         "against",
         "PROFILE",
-        "A policy that answers what was asked",
+        "A file or folder whose profiles answer what was asked; all of them together, where there are several",
     )
-    .action(ArgAction::Set);
+    .action(ArgAction::Append);
     let command = Command::new(alloc, "log")
         .about(LOG)
         .arg(files)?
