@@ -2,57 +2,14 @@
 
 use crate::left_out::{left_out, word_at};
 use crate::policy::sources_of;
-use crate::text::{push_number, push_place, push_text};
 use crate::trail::trail_to;
 use crate::tree::Unread;
 use crate::unit::{Unit, node_of, paths_of, text_at, text_of_node};
 use aa_asks::{profile_before, variable_before};
-use aa_places::{excerpt, place_of};
+use aa_places::excerpt;
+use aa_texts::{FaultReport, Link, place_at, push_number, push_place, push_text};
 use aa_words::{PolicyFault, PolicyKind, Spot, WordList, includes_of, words};
 use std::alloc::{AllocError, Global};
-
-/// A place in a text, as people count, and its byte from 0.
-#[derive(Clone, Copy, Debug)]
-pub struct PlaceAt {
-    pub line: usize,
-    pub column: usize,
-    pub byte: usize,
-}
-
-/// An include on the way to a text.
-#[derive(Drop)]
-pub struct Link {
-    pub path: Vec<u8>,
-    pub place: PlaceAt,
-}
-
-/// What is said of a fault.
-#[derive(Drop)]
-pub struct FaultReport {
-    pub kind: &'static str,
-    /// The file that it lies in.
-    pub path: Vec<u8>,
-    /// Where in that file, unless it stands for the whole.
-    pub place: Option<PlaceAt>,
-    /// What is wrong, in one sentence.
-    pub message: Vec<u8>,
-    /// The line with a caret, where there is a place.
-    pub excerpt: Vec<u8>,
-    /// The includes by which the file was first reached, innermost first.
-    pub chain: Vec<Link>,
-    /// What else helps, each without a line end.
-    pub further: Vec<Vec<u8>>,
-}
-
-/// A byte's place in its text.
-pub fn place_at(text: &[u8], byte: usize) -> PlaceAt {
-    let place = place_of(text, byte);
-    PlaceAt {
-        line: place.line,
-        column: place.column,
-        byte,
-    }
-}
 
 /// What is wrong, in one sentence.
 fn sentence(kind: PolicyKind) -> &'static str {

@@ -1,5 +1,6 @@
 //! The command line.
 
+use aa_units::searched_folders;
 use clap::error::Error;
 use clap::{Arg, ArgAction, ArgMatches, Command};
 use std::alloc::{AllocError, Global};
@@ -205,14 +206,8 @@ pub fn folders_of<'a>(
     alloc: Global,
     matches: &ArgMatches<'a>,
 ) -> Result<Vec<&'a [u8]>, AllocError> {
-    let mut folders = Vec::new(alloc);
-    if let Some(named) = matches.get_strs("Include") {
-        for folder in named {
-            folders.push(folder.as_bytes())?;
-        }
-    }
-    folders.push(base_of(matches))?;
-    Ok(folders)
+    let named = values_of(alloc, matches, "Include")?;
+    searched_folders(alloc, named.as_slice(), base_of(matches))
 }
 
 /// The values of an argument, as bytes.
