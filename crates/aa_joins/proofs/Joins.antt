@@ -1,0 +1,1 @@
+-- A joined policy is lawful.
