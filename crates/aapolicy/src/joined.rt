@@ -109,7 +109,7 @@ impl<'u> Reading<'u> {
         wanted: &Wanted<'_>,
         number: usize,
         unit: &'u Unit,
-        sources: &'u Sources,
+        sources: &'u Result<Sources, PolicyFault>,
     ) -> Result<(), Stop> {
         let (policy, mut places) = match read_unit(alloc, unit, sources) {
             Ok(read) => read,
@@ -131,8 +131,12 @@ impl<'u> Reading<'u> {
 fn read_unit<'u>(
     alloc: Global,
     unit: &'u Unit,
-    sources: &'u Sources,
+    sources: &'u Result<Sources, PolicyFault>,
 ) -> Result<(Policy, Vec<ProfilePlaces<'u>>), PolicyFault> {
+    let sources = match sources {
+        Ok(sources) => sources,
+        Err(fault) => return Err(*fault),
+    };
     let list = words(alloc, sources, unit.text.as_slice())?;
     let policy = parse(alloc, &list)?;
     let places = rule_places(alloc, &list)?;
@@ -179,7 +183,7 @@ fn with_sources<U: Use>(
     alloc: Global,
     wanted: &Wanted<'_>,
     units: &[Unit],
-    sources: &[Sources],
+    sources: &[Result<Sources, PolicyFault>],
     user: &mut U,
 ) -> Result<Output, Stop> {
     let mut reading = Reading {
@@ -216,10 +220,7 @@ fn with_units<U: Use>(
 ) -> Result<Output, Stop> {
     let mut sources = Vec::new(alloc);
     for unit in units {
-        match sources_of(alloc, unit) {
-            Ok(known) => sources.push(known)?,
-            Err(fault) => return Err(stop(policy_refused(alloc, wanted, unit, fault))),
-        }
+        sources.push(sources_of(alloc, unit))?;
     }
     with_sources(alloc, wanted, units, sources.as_slice(), user)
 }
