@@ -114,6 +114,14 @@ fn ask_command<'a>(alloc: Global) -> Result<Command<'a>, AllocError> {
         "The profile that asks, or unconfined",
     )
     .action(ArgAction::Set);
+    let program = option(
+        alloc,
+        "program",
+        "PATH",
+        "The program that asks, under the profile that it gets where an unconfined task executes it",
+    )
+    .action(ArgAction::Set)
+    .conflicts_with("profile")?;
     let from = option(
         alloc,
         "from",
@@ -127,6 +135,7 @@ fn ask_command<'a>(alloc: Global) -> Result<Command<'a>, AllocError> {
         .arg(words)?
         .arg(also)?
         .arg(name)?
+        .arg(program)?
         .arg(from)?
         .arg(flag(alloc, "owned", "Every object is the task's user's"))?
         .arg(flag(

@@ -64,6 +64,10 @@ fn answer_words(
             Some(name) => Some(name.as_bytes()),
             None => None,
         },
+        program: match matches.get_str("program") {
+            Some(path) => Some(path.as_bytes()),
+            None => None,
+        },
         owned: matches.get_flag("owned"),
         is_sequence: matches.get_flag("sequence"),
     };
