@@ -1,10 +1,10 @@
 -- How many attachment patterns joined profiles have.
-use Rattle.std.proofs.Common.{◌≡◌, ℕ, zero, suc, ◌+◌, ◌-◌, ◌<◌, ◌≤◌, Bool, true, false, cond, List, [], ◌∷◌, ◌++◌, map, length, Option, Some, None, option_map, refl, sym, ap, subst, ◌∙◌, arith, ⊎_elim}
+use Rattle.std.proofs.Common.{◌≡◌, ℕ, suc, ◌+◌, ◌-◌, ◌<◌, ◌≤◌, Bool, cond, List, [], ◌∷◌, ◌++◌, map, length, Option, Some, None, option_map, refl, sym, ap, ◌∙◌, arith, ⊎_elim}
 use Rattle.std.specs.Prelude.{if◌then◌else◌}
 use Rattle.std.specs.List.{sum_by, slice_get}
 use Rattle.std.specs.Option.{option_eq}
 use Rattle.std.specs.Bool.{nat_eq}
-use Rattle.std.proofs.lemmas.Bool.{cases_lt, eqb-true, ne_eqb, eq-eqb}
+use Rattle.std.proofs.lemmas.Bool.{cases_lt, ne_eqb, eq-eqb}
 use Rattle.std.proofs.lemmas.Option.{slice_get_within}
 use Rattle.std.proofs.lemmas.List.Sums.{sum_by-cons, sum_by-append}
 use Rattle.aa_profiles.specs.declared.policy.Profile.{Profile}
@@ -53,9 +53,9 @@ same_number : (before k n : ℕ) → nat_eq (k + before) (n + before) ≡ nat_eq
 same_number before k n = ⊎_elim
     (λ (lt : k < n). ne_eqb (k + before) (n + before) (λ e. absurd (omega arith)) ∙ sym (ne_eqb k n (λ e. absurd (omega arith))))
     (λ (le : n ≤ k). ⊎_elim
-        (λ (lt : n < k). ne_eqb (k + before) (n + before) (λ e. absurd (omega arith)) ∙ sym (ne_eqb k n (λ e. absurd (omega arith))))
-        (λ (ge : k ≤ n). eq-eqb (k + before) (n + before) (omega arith) ∙ sym (eq-eqb k n (omega arith)))
-        (cases_lt n k))
+    (λ (lt : n < k). ne_eqb (k + before) (n + before) (λ e. absurd (omega arith)) ∙ sym (ne_eqb k n (λ e. absurd (omega arith))))
+    (λ (ge : k ≤ n). eq-eqb (k + before) (n + before) (omega arith) ∙ sym (eq-eqb k n (omega arith)))
+    (cases_lt n k))
     (cases_lt k n)
 
 same_child : (before n : ℕ) (o : Option ℕ) (m : ℕ)
@@ -78,7 +78,7 @@ tops_joined xs ys =
 parents_within : (xs : List Profile) → ParentsComeFirst xs → (n : ℕ) → length xs ≤ n → attachment_patterns (Some n) xs ≡ 0
 parents_within xs first n le =
     sum_zero (attachments_with (Some n)) xs (λ k p e. other_parent p.parent n (length p.attachments) (λ is.
-        let lt : n < k = (first k n p e is).0 in let within = slice_get_within xs k p e in absurd (omega (arith, lt, within))))
+    let lt : n < k = (first k n p e is).0 in let within = slice_get_within xs k p e in absurd (omega (arith, lt, within))))
 
 pub few_joined : (xs ys : List Profile) → ParentsComeFirst xs → ((o : Option ℕ) → attachment_patterns o xs ≤ 65535) → ((o : Option ℕ) → attachment_patterns o ys ≤ 65535)
     → attachment_patterns None (xs ++ map (moved (length xs)) ys) ≤ 65535 → (o : Option ℕ) → attachment_patterns o (xs ++ map (moved (length xs)) ys) ≤ 65535

@@ -1,7 +1,8 @@
 -- Numbers of profiles, in a map and in a list.
-use Rattle.std.proofs.Common.{◌≡◌, ℕ, zero, suc, ◌+◌, ◌<◌, Bool, true, false, ◌||◌, cond, List, [], ◌∷◌, ◌++◌, map, length, take, get_or, Option, Some, None, is_some, option_map, Vec, Global, refl, sym, ap, subst, ◌∙◌, arith}
+use Rattle.std.proofs.Common.{◌≡◌, ℕ, ◌+◌, zero, suc, ◌<◌, Bool, true, false, ◌||◌, cond, List, [], ◌∷◌, ◌++◌, map, length, take, get_or, Option, Some, None, is_some, option_map, Vec, Global, refl, sym, ap, ◌∙◌, arith}
 use Rattle.std.specs.Map.{lookup, KeepsOthers}
 use Rattle.std.specs.List.{IsDistinct, AllByRecursion}
+use Rattle.std.specs.Option.{option_or}
 use Rattle.std.specs.Ordering.{is_eq, eq_by_cmp, nat_cmp}
 use Rattle.std.specs.Cmp.Lexicographic.{nat_list_eq_equiv, slice_cmp, texts_ties}
 use Rattle.std.specs.Str.{bytes_eq}
@@ -131,11 +132,31 @@ number_moved q n [] [] = refl
 number_moved q n [] (y ∷ ys) = ap (λ (o : Option ℕ). cond (bytes_eq q y.name) (Some 0) (option_map suc o)) (number_moved q n [] ys)
 number_moved q n (x ∷ xs) ys = ap (λ (o : Option ℕ). cond (bytes_eq q x.name) (Some 0) (option_map suc o)) (number_moved q n xs ys)
 
+-- a name is that of one before, or else of one behind
+pub number_joined : (q : List ℕ) (xs ys : List Profile) → number_of q (xs ++ ys) ≡ option_or (number_of q xs) (option_map (λ n. n + length xs) (number_of q ys))
+number_joined q [] ys = by (number_of q ys)
+  where
+    by : (o : Option ℕ) → o ≡ option_map (λ n. n + 0) o
+    by None = refl
+    by (Some n) = ap (λ (k : ℕ). Some k) (omega arith)
+number_joined q (x ∷ xs) ys = by (bytes_eq q x.name) (number_of q xs) (number_of q ys) (number_joined q xs ys)
+  where
+    by : (b : Bool) (o p : Option ℕ) → number_of q (xs ++ ys) ≡ option_or o (option_map (λ n. n + length xs) p)
+        → cond b (Some 0) (option_map suc (number_of q (xs ++ ys))) ≡ option_or (cond b (Some 0) (option_map suc o)) (option_map (λ n. n + suc (length xs)) p)
+    by true o p rest = refl
+    by false (Some k) p rest = ap (option_map suc) rest
+    by false None None rest = ap (option_map suc) rest
+    by false None (Some m) rest = ap (option_map suc) rest ∙ ap (λ (k : ℕ). Some k) (omega arith)
+
 pub names_moved : (n : ℕ) (ps : List Profile) → names_of (map (moved n) ps) ≡ names_of ps
 names_moved n [] = refl
 names_moved n (p ∷ ps) = ap (λ (l : List (List ℕ)). p.name ∷ l) (names_moved n ps)
 
 -- ---- distinct names
+
+pub distinct_none : IsDistinct bytes_eq []
+unfolding IsDistinct
+distinct_none = tt
 
 -- a name that differs from all differs from each
 apart_at : (q : List ℕ) (ps : List Profile) (i : ℕ) (d : Profile) → AllByRecursion (λ y. bytes_eq q y ≡ false) (names_of ps) → i < length ps
@@ -167,6 +188,6 @@ distinct_joined [] ys a b new = b
 distinct_joined (x ∷ xs) ys a b new =
     IsDistinct-cons bytes_eq x.name (names_of (xs ++ ys))
     (all_apart x.name xs ys (IsDistinct-head bytes_eq x.name (names_of xs) a)
-        (λ i d lt. flipped (get_or ys i d).name x.name false (not_first (bytes_eq (get_or ys i d).name x.name) (number_of (get_or ys i d).name xs) (new i d lt))))
+    (λ i d lt. flipped (get_or ys i d).name x.name false (not_first (bytes_eq (get_or ys i d).name x.name) (number_of (get_or ys i d).name xs) (new i d lt))))
     (distinct_joined xs ys (IsDistinct-tail bytes_eq x.name (names_of xs) a) b
-        (λ i d lt. not_later (bytes_eq (get_or ys i d).name x.name) (number_of (get_or ys i d).name xs) (new i d lt)))
+    (λ i d lt. not_later (bytes_eq (get_or ys i d).name x.name) (number_of (get_or ys i d).name xs) (new i d lt)))

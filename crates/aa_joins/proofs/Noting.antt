@@ -1,13 +1,23 @@
 -- Numbers that are noted one after another.
-use Rattle.std.proofs.Common.{◌≡◌, ℕ, suc, ◌+◌, ◌<◌, ◌≤◌, Bool, true, false, ◌||◌, cond, List, [], ◌∷◌, ◌++◌, length, take, get_or, Option, Some, None, is_some, refl, sym, ap, subst, ◌∙◌, arith, append_assoc}
+use Rattle.std.proofs.Common.{◌≡◌, ℕ, ◌+◌, ◌<◌, ◌≤◌, Bool, true, false, ◌||◌, cond, List, [], ◌∷◌, ◌++◌, length, take, get_or, Option, Some, None, is_some, Result, Ok, Err, OnOk, OnErr, refl, sym, ap, subst, ◌∙◌, arith, append_assoc}
+use Rattle.std.specs.Result.{is_err}
 use Rattle.std.specs.Str.{bytes_eq}
 use Rattle.std.specs.Cmp.Lexicographic.{nat_list_eq_equiv}
 use Rattle.std.proofs.lemmas.List.{append-nil, length-append, length-take-le, take_more, take_all}
 use Rattle.aa_profiles.specs.declared.policy.Profile.{Profile}
-use Rattle.aa_joins.specs.Faults.{number_of, repeated}
+use Rattle.aa_joins.specs.Faults.{number_of}
 use Rattle.aa_joins.specs.Numbers.{Noted, noted, AreNumbers, NotesNumber, AreNew}
 use Rattle.aa_joins.proofs.Names.{numbers_pushed, known_pushed, number_before, none_of_front, distinct_at}
 use Rattle.aa_joins.proofs.Places.{unknown_at, unknown_name}
+
+-- what holds where it went well, and where it was refused
+pub when_ok : {A E P : Type 0} (r : Result A E) → is_err r ≡ false → OnOk r P → P
+when_ok (Ok x) e p = p
+when_ok (Err x) e p = absurd cc
+
+pub when_err : {A E P : Type 0} (r : Result A E) → is_err r ≡ true → OnErr r P → P
+when_err (Ok x) e p = absurd cc
+when_err (Err x) e p = p
 
 -- the front of a list with one more, as it is
 front_more : (ps : List Profile) (i : ℕ) (p : Profile) → i < length ps → p ≡ get_or ps i p → take (i + 1) ps ≡ take i ps ++ p ∷ []

@@ -1,5 +1,5 @@
 -- Policies that become one.
-use Rattle.std.specs.Prelude.{ℕ, ◌+◌, List, ◌++◌, map, length, option_map}
+use Rattle.std.specs.Prelude.{ℕ, ◌+◌, ◌++◌, map, length, option_map}
 use Rattle.aa_profiles.specs.declared.policy.Profile.{Profile}
 use Rattle.aa_profiles.specs.declared.policy.PassedOver.{PassedOver}
 use Rattle.aa_profiles.specs.declared.policy.Policy.{Policy}

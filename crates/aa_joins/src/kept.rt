@@ -1,10 +1,10 @@
 //! What is kept of the policies so far.
 
-ghost use Rattle.std.specs.Prelude.{◌≡◌, ◌+◌, ◌≤◌, ◌<◌, ◌↔◌, IsTrue, None, Some, length, nat_lt, IfOk, IfErr, OnOk, OnErr};
+ghost use Rattle.std.specs.Prelude.{◌≡◌, ◌||◌, ◌+◌, ◌≤◌, None, Some, length, nat_lt, IfOk, IfErr, OnOk, OnErr};
 ghost use Rattle.std.specs.List.{list_any};
 ghost use Rattle.aa_profiles.specs.Lawful.{attachments_with, attachment_patterns};
 ghost use Rattle.aa_joins.specs.Joined.{rows_of, joined};
-ghost use Rattle.aa_joins.specs.Faults.{repeated, fault_of};
+ghost use Rattle.aa_joins.specs.Faults.{is_too_large, fault_of};
 ghost use Rattle.aa_joins.specs.Kept.{kept_rows, IsKept, IsReady};
 
 use crate::fault::JoinFault;
@@ -55,6 +55,13 @@ fn count_attachments(profiles: &[Profile]) -> usize
     count
 }
 
+/// Whether there are more profiles than a policy may have, or more attachment patterns than its top-level profiles may.
+fn is_over(profiles: usize, attachments: usize) -> bool
+    ensures { result ≡ (nat_lt 4096 profiles || nat_lt 65535 attachments) }
+{
+    profiles > MAX_PROFILES || attachments > MAX_ATTACHMENTS
+}
+
 /// Whether behind so many profiles a rule would be one of a profile whose number is too large.
 fn has_far_rule(rules: &[PassedOver], before: usize) -> bool
     requires { before ≤ 4096 }
@@ -63,6 +70,18 @@ fn has_far_rule(rules: &[PassedOver], before: usize) -> bool
     rules
         .iter()
         .any(|rule| rule.profile as usize + before > u16::MAX as usize)
+}
+
+/// Whether a limit is passed with the profiles and rules of a policy, where the top-level profiles then have so many
+/// attachment patterns.
+fn is_too_large(kept: &Kept, policy: &Policy, attachments: usize) -> bool
+    requires kept { IsKept kept.now }
+    requires count { attachments ≡ attachment_patterns None (joined (kept_rows kept.now) (rows_of policy.now)).profiles }
+    ensures { result ≡ is_too_large (joined (kept_rows kept.now) (rows_of policy.now)) }
+{
+    let before = kept.profiles.len();
+    is_over(before + policy.profiles.as_slice().len(), attachments)
+        || has_far_rule(policy.passed_over.as_slice(), before)
 }
 
 /// How many attachment patterns the top-level profiles have together with those of a policy, if it can be added.
@@ -77,12 +96,8 @@ pub fn check(kept: &Kept, policy: &Policy) -> Result<usize, JoinFault>
     if let Some(repeated) = first_repeated(&kept.numbers, profiles) {
         return Err(JoinFault::DuplicateProfile(repeated));
     }
-    let before = kept.profiles.len();
     let attachments = kept.attachments + count_attachments(profiles);
-    if before + profiles.len() > MAX_PROFILES
-        || attachments > MAX_ATTACHMENTS
-        || has_far_rule(policy.passed_over.as_slice(), before)
-    {
+    if is_too_large(kept, policy, attachments) {
         return Err(JoinFault::TooLarge);
     }
     Ok(attachments)

@@ -4,9 +4,11 @@
 mod fault;
 mod joining;
 mod kept;
+mod laws;
 mod moving;
 mod numbers;
 
 pub use aa_profiles::Policy;
 pub use fault::{JoinFault, Refused, Repeated};
 pub use joining::Joining;
+pub use laws::joined_policies_find_both;
