@@ -4,7 +4,7 @@ use crate::checked::{push_faults, push_json_report, push_report};
 use crate::checking::{Wanted, check};
 use crate::command::{base_of, copies_of, folders_of, states_of, values_of};
 use crate::joined::{Use, with_policy};
-use crate::output::{Output, Stop, path_refused, policy_refused, refused, stop, unit_refused};
+use crate::output::{Output, Stop, path_refused, policy_refused, refused, stop_with, unit_refused};
 use aa_compile::Compiled;
 use aa_output::NoMemory;
 use aa_reports::{
@@ -140,7 +140,7 @@ fn run_ask(
     let text = match matches.get_str("from") {
         Some(from) => match main_text(rt, from.as_bytes()) {
             Ok(text) => text,
-            Err(why) => return Err(stop(path_refused(alloc, from.as_bytes(), why))),
+            Err(why) => return Err(stop_with(path_refused(alloc, from.as_bytes(), why))),
         },
         None => Vec::new(alloc),
     };
@@ -164,7 +164,7 @@ fn run_log(
     for (number, path) in logs.iter().enumerate() {
         report.log = number;
         if let Err(why) = read_log(rt, path, &mut report) {
-            return Err(stop(path_refused(alloc, path, why)));
+            return Err(stop_with(path_refused(alloc, path, why)));
         }
     }
     let against = copies_of(alloc, matches, "against")?;
@@ -245,16 +245,16 @@ fn run_job(
     let path = matches.get_str("PROFILE").unwrap_or("").as_bytes();
     let unit = match load(rt, wanted.folders, path) {
         Ok(unit) => unit,
-        Err(fault) => return Err(stop(unit_refused(alloc, fault))),
+        Err(fault) => return Err(stop_with(unit_refused(alloc, fault))),
     };
     let names = match compile_unit(alloc, &unit, wanted.states) {
         Ok(compiled) => names_of(alloc, &compiled)?,
-        Err(fault) => return Err(stop(policy_refused(alloc, wanted, &unit, fault))),
+        Err(fault) => return Err(stop_with(policy_refused(alloc, wanted, &unit, fault))),
     };
     let mut tasks = JobTasks::new(alloc, names);
     for log in &values_of(alloc, matches, "log")? {
         if let Err(why) = read_log(rt, log, &mut tasks) {
-            return Err(stop(path_refused(alloc, log, why)));
+            return Err(stop_with(path_refused(alloc, log, why)));
         }
     }
     Ok(print_job(alloc, &unit, &tasks, wanted.states)?)

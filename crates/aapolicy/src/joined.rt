@@ -1,7 +1,7 @@
 //! The one policy that files make.
 
 use crate::checking::Wanted;
-use crate::output::{Output, Stop, fault_refused, policy_refused, stop, unit_refused};
+use crate::output::{Output, Stop, fault_refused, policy_refused, stop_with, unit_refused};
 use aa_asks::{ProfilePlaces, rule_places};
 use aa_compile::{Compiled, compile};
 use aa_joins::{JoinFault, Joining, Policy, Refused, Repeated};
@@ -28,13 +28,13 @@ pub fn load_units(
     let alloc = rt.alloc();
     let roots = match roots_of(rt, wanted.base, arguments) {
         Ok(roots) => roots,
-        Err(fault) => return Err(stop(unit_refused(alloc, fault))),
+        Err(fault) => return Err(stop_with(unit_refused(alloc, fault))),
     };
     let mut units = Vec::new(alloc);
     for path in &roots.paths {
         match load(rt, wanted.folders, path.as_slice()) {
             Ok(unit) => units.push(unit)?,
-            Err(fault) => return Err(stop(unit_refused(alloc, fault))),
+            Err(fault) => return Err(stop_with(unit_refused(alloc, fault))),
         }
     }
     Ok(units)
@@ -113,11 +113,11 @@ impl<'u> Reading<'u> {
     ) -> Result<(), Stop> {
         let (policy, mut places) = match read_unit(alloc, unit, sources) {
             Ok(read) => read,
-            Err(fault) => return Err(stop(policy_refused(alloc, wanted, unit, fault))),
+            Err(fault) => return Err(stop_with(policy_refused(alloc, wanted, unit, fault))),
         };
         if let Err(Refused { fault, .. }) = self.joining.add(policy) {
             let refused = self.join_refused(alloc, wanted, unit, places.as_slice(), fault);
-            return Err(stop(refused));
+            return Err(stop_with(refused));
         }
         for _place in &places {
             self.owners.push(number)?;
@@ -175,7 +175,7 @@ fn compile_all(
 ) -> Result<Compiled, Stop> {
     match compile(alloc, policy, wanted.states.clamp(1, 1_000_000)) {
         Ok(compiled) => Ok(compiled),
-        Err(refusal) => Err(stop(compile_refused(alloc, wanted, units, refusal.fault))),
+        Err(refusal) => Err(stop_with(compile_refused(alloc, wanted, units, refusal.fault))),
     }
 }
 

@@ -97,7 +97,7 @@ pub fn path_refused(alloc: Global, path: &[u8], why: Unread) -> Result<Output, N
 }
 
 /// Nothing is answered, but this is printed.
-pub fn stop(refused: Result<Output, NoMemory>) -> Stop {
+pub fn stop_with(refused: Result<Output, NoMemory>) -> Stop {
     match refused {
         Ok(output) => Stop::Refused(output),
         Err(_) => Stop::NoMemory,
