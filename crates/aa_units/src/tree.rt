@@ -1,6 +1,6 @@
 //! What lies at a path.
 
-use aa_trees::{can_be_included, folder_text, joined_path};
+use aa_trees::{can_be_included, folder_text, joined_path, put_in_byte_order};
 use std::alloc::{AllocError, AllocFailed};
 use std::fs::{self, File};
 use std::io::{self, ErrorKind, Read};
@@ -130,7 +130,7 @@ pub(crate) fn names_in(rt: &HostRuntime, folder: &[u8]) -> Result<Vec<Vec<u8>>, 
             names.push(Vec::from_slice(alloc, entry.file_name().as_bytes())?)?;
         }
     }
-    names.sort()?;
+    put_in_byte_order(&mut names)?;
     Ok(names)
 }
 

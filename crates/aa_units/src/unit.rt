@@ -1,8 +1,8 @@
 //! A file of the command line with all that it includes.
 
-use crate::described::{FaultReport, place_at};
 use crate::tree::{Found, Unread, read_input, what_lies_at};
 use aa_places::excerpt;
+use aa_texts::{FaultReport, place_at};
 use aa_trees::candidates;
 use aa_words::{IncludeAt, includes_of};
 use std::alloc::{AllocError, AllocFailed, Global};
