@@ -17,8 +17,13 @@ pub enum Command {
     Replay,
 }
 
-/// Each command once.
-pub const COMMANDS: [Command; 3] = [Command::Check, Command::Run(1), Command::Replay];
+/// Each command once, and `run` by several workers too.
+pub const COMMANDS: [Command; 4] = [
+    Command::Check,
+    Command::Run(1),
+    Command::Run(2),
+    Command::Replay,
+];
 
 /// A job that reads and writes a file.
 pub const FIRST_JOB: &[u8] =

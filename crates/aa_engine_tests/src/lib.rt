@@ -6,11 +6,15 @@ mod check_tests;
 #[cfg(test)]
 mod fault_tests;
 #[cfg(test)]
+mod front_tests;
+#[cfg(test)]
 mod gate_tests;
 #[cfg(test)]
 mod growth_tests;
 #[cfg(test)]
 mod jobs;
+#[cfg(test)]
+mod limit_tests;
 #[cfg(test)]
 mod replay_tests;
 #[cfg(test)]

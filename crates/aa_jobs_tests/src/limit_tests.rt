@@ -221,3 +221,22 @@ fn nesting_is_read_to_its_depth(rt: HostRuntime) -> Result<(), Fail> {
     }
     Ok(())
 }
+
+/// A job that is nothing but this text over and over, as often as there is room for it.
+fn filled_with(alloc: Global, item: &str) -> Result<String, AllocError> {
+    let count = 16_777_216 / item.len().max(1);
+    run_of(alloc, item, count as u32)
+}
+
+#[test]
+fn what_only_opens_is_given_up_at_its_depth(rt: HostRuntime) -> Result<(), Fail> {
+    for item in ["[", r#"{"":"#, "[{\"tasks\":"] {
+        let text = filled_with(rt.alloc(), item)?;
+        assert_eq!(rt;
+            fault(rt.alloc(), text.as_str()),
+            Some(JobFault::NotJson),
+            "at {item}"
+        );
+    }
+    Ok(())
+}
