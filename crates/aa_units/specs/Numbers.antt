@@ -1,13 +1,8 @@
 -- The texts of a unit by the numbers that places in its policy have.
-use Rattle.std.specs.Prelude.{ℕ, ◌+◌, ◌-◌, ◌==◌, List, [], ◌∷◌, map, flat_map, Option, Some, None, option_map, option_to_list, slice_get, if◌then◌else◌, Vec}
+use Rattle.std.specs.Prelude.{ℕ, ◌+◌, ◌-◌, ◌==◌, List, [], ◌∷◌, map, flat_map, Option, Some, None, option_map, option_to_list, slice_get, if◌then◌else◌}
 use Rattle.std.specs.Option.{option_and_then}
-use Rattle.std.specs.declared.alloc.Global.{Global}
 use Rattle.aa_units.specs.declared.unit.Source.{Source}
 use Rattle.aa_units.specs.declared.unit.Unit as unit
-
--- which sources are known by a name, in the order of these names
-abbrev pub numbers : List (Vec ℕ Global × Option ℕ) → List ℕ
-numbers known = flat_map (λ e. option_to_list e.1) known
 
 -- number 0 is the main text, and the sources count from 1, in the order of their names
 abbrev pub source_in : List ℕ → List Source → ℕ → Option Source

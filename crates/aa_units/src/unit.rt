@@ -1,11 +1,11 @@
 //! A file of the command line with all that it includes.
 
-ghost use Rattle.std.specs.Prelude.{◌≡◌, ◌-◌, ◌==◌, ◌++◌, None, option_map, slice_get, IfOk, OnOk, if◌then◌else◌};
+ghost use Rattle.std.specs.Prelude.{◌≡◌, ◌-◌, ◌==◌, None, option_map, slice_get, IfOk, if◌then◌else◌};
 ghost use Rattle.aa_extents.specs.Includes.{included_name};
 ghost use Rattle.aa_trees.specs.Texts.{texts, slices};
 ghost use Rattle.aa_trees.specs.Searches.{searched};
 ghost use Rattle.aa_units.specs.Names.{opens_name, names_in_angles};
-ghost use Rattle.aa_units.specs.Numbers.{numbers, source_in_unit, path_in, text_in};
+ghost use Rattle.aa_units.specs.Numbers.{source_in_unit, path_in, text_in};
 
 use crate::tree::{Found, Unread, read_input, what_lies_at};
 use aa_places::excerpt;
@@ -80,10 +80,14 @@ fn opens_name(b: u8) -> bool
 fn is_in_angles(include: &[u8]) -> bool
     ensures { result ≡ names_in_angles include.now }
 {
-    match include.iter().find(|b| opens_name(**b)) {
-        Some(b) => *b == b'<',
-        None => false,
+    let mut rest = include;
+    while let [b, after @ ..] = rest {
+        if opens_name(*b) {
+            return *b == b'<';
+        }
+        rest = after;
     }
+    false
 }
 
 /// The paths at which an include's source may lie.
@@ -182,9 +186,7 @@ pub(crate) fn known_source(unit: &Unit, name: &[u8]) -> Option<usize> {
 }
 
 /// Puts the sources in byte order of their names.
-fn put_in_order(unit: &mut Unit) -> Result<(), AllocError>
-    ensures { OnOk result (unit.new.order.items ≡ unit.old.order.items ++ numbers unit.old.known.entries) }
-{
+fn put_in_order(unit: &mut Unit) -> Result<(), AllocError> {
     for index in unit.known.values() {
         if let Some(index) = index {
             unit.order.push(*index)?;
