@@ -177,13 +177,23 @@ fn is_label_text(task: &LogTask) -> bool
     is_text(task.label.as_slice())
 }
 
+fn are_include_texts(includes: &[Include<'_>]) -> bool
+    ensures { result ≡ list_all (λ i. is_utf8 i.name.now && is_utf8 i.text.now) includes.now }
+{
+    includes.iter().all(|include| is_include_text(include))
+}
+
+fn are_label_texts(tasks: &[LogTask]) -> bool
+    ensures { result ≡ list_all (λ t. is_utf8 t.label.items) tasks.now }
+{
+    tasks.iter().all(|task| is_label_text(task))
+}
+
 /// Whether a job's texts, their names and the labels of its tasks are UTF-8, so that a job can hold them.
 pub fn is_job_text(policy: &[u8], includes: &[Include<'_>], tasks: &[LogTask]) -> bool
     ensures { result ≡ is_job_text policy.now includes.now tasks.now }
 {
-    is_text(policy)
-        && includes.iter().all(|include| is_include_text(include))
-        && tasks.iter().all(|task| is_label_text(task))
+    is_text(policy) && are_include_texts(includes) && are_label_texts(tasks)
 }
 
 fn left_out_of(requests: &[Request]) -> usize
