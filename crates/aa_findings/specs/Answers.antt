@@ -41,3 +41,15 @@ abbrev pub is_newly_denied : Then → Now → Bool
 is_newly_denied was.Denied after = false
 is_newly_denied before is.Denied = true
 is_newly_denied before after = false
+
+-- the order in which what was and what is now are printed
+abbrev pub row_of : Then → ℕ
+row_of was.Denied = 0
+row_of was.Allowed = 1
+row_of was.Granted = 2
+
+abbrev pub column_of : Now → ℕ
+column_of is.Denied = 0
+column_of is.Allowed = 1
+column_of is.Granted = 2
+column_of is.NoProfile = 3

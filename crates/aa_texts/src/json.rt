@@ -1,6 +1,7 @@
 //! JSON texts.
 
 ghost use Rattle.std.specs.Prelude.{◌≡◌, ◌<◌, ◌++◌, flat_map, OnOk};
+ghost use Rattle.std.specs.Str.{is_utf8};
 ghost use Rattle.aa_texts.specs.Jsons.{json_text, hex_digit, hex_pair, in_digits, json_bytes, key_text, bool_text};
 
 use crate::text::push_text;
@@ -32,6 +33,17 @@ fn push_hex(out: &mut Vec<u8>, bytes: &[u8]) -> Result<(), AllocError>
         out.push(digit(*b % 16))?;
     }
     Ok(())
+}
+
+/// Whether bytes are UTF-8.
+#[tactic(auto, using(crate::proofs::Utf8::is_text, crate::proofs::Utf8::is_no_text))]
+pub fn is_text(bytes: &[u8]) -> bool
+    ensures { result ≡ is_utf8 bytes.now }
+{
+    match std::str::from_utf8(bytes) {
+        Ok(_) => true,
+        Err(_) => false,
+    }
 }
 
 /// Appends an object with the hexadecimal digits of bytes.

@@ -7,6 +7,6 @@ mod place;
 mod text;
 
 pub use fault::{FaultReport, Link, push_fault, push_json_fault};
-pub use json::{push_bool, push_json_bytes, push_json_text, push_key};
+pub use json::{is_text, push_bool, push_json_bytes, push_json_text, push_key};
 pub use place::{PlaceAt, place_at, push_json_place, push_place, push_where};
 pub use text::{push_number, push_text};
