@@ -1,112 +1,18 @@
 //! How a policy answers now what logs say.
 
 use crate::listed::{push_count_member, push_entry_members, push_json_rest, push_word_member};
-use crate::logging::{Entry, LogReport, push_rest, push_skipped_lines, then_text};
+use crate::logging::{Entry, LogReport, push_rest, push_skipped_lines};
+use aa_findings::{Counts, Now, answered, is_change, now_name, then_name};
 use aa_logs::Then;
 use aa_mediate::label_of;
 use aa_units::{push_number, push_text};
 use aa_verdicts::{Decided, Verdict, decide, push_json_verdict, push_reasons};
 use std::alloc::{AllocError, Global};
 
-/// What a request is answered now.
-#[derive(Clone, Copy, Debug, PartialEq, Eq)]
-pub enum Now {
-    Denied,
-    Allowed,
-    Granted,
-    /// No profile of the policy has that name.
-    NoProfile,
-}
-
-/// How often each answer came for each that came then: rows and columns in the order in which they are printed.
-#[derive(Clone, Copy, Debug)]
-pub struct Counts {
-    rows: [[u64; 4]; 3],
-}
-
-fn row_of(then: Then) -> usize {
-    match then {
-        Then::Denied => 0,
-        Then::Allowed => 1,
-        Then::Granted => 2,
-    }
-}
-
-fn column_of(now: Now) -> usize {
-    match now {
-        Now::Denied => 0,
-        Now::Allowed => 1,
-        Now::Granted => 2,
-        Now::NoProfile => 3,
-    }
-}
-
-fn now_text(column: usize) -> &'static str {
-    match column {
-        0 => "DENIED",
-        1 => "ALLOWED",
-        2 => "GRANTED",
-        _ => "NO-PROFILE",
-    }
-}
-
-fn then_of(row: usize) -> Then {
-    match row {
-        0 => Then::Denied,
-        1 => Then::Allowed,
-        _ => Then::Granted,
-    }
-}
-
-impl Counts {
-    pub fn none() -> Counts {
-        Counts { rows: [[0; 4]; 3] }
-    }
-
-    fn add(&mut self, then: Then, now: Now) {
-        if let Some(row) = self.rows.get_mut(row_of(then)) {
-            if let Some(count) = row.get_mut(column_of(now)) {
-                *count = count.saturating_add(1);
-            }
-        }
-    }
-
-    fn at(&self, row: usize, column: usize) -> u64 {
-        match self.rows.get(row) {
-            Some(row) => row.get(column).copied().unwrap_or(0),
-            None => 0,
-        }
-    }
-
-    /// Whether something is denied now that wasn't.
-    pub fn has_newly_denied(&self) -> bool {
-        self.at(1, 0) > 0 || self.at(2, 0) > 0
-    }
-}
-
-fn now_of(verdict: &Verdict) -> Now {
-    if !verdict.granted {
-        Now::Denied
-    } else if verdict.complain {
-        Now::Allowed
-    } else {
-        Now::Granted
-    }
-}
-
-fn is_same(then: Then, now: Now) -> bool {
-    row_of(then) == column_of(now)
-}
-
-/// Whether it is answered otherwise now, by a profile that is there.
-fn is_change(then: Then, now: Now) -> bool {
-    now != Now::NoProfile && !is_same(then, now)
-}
-
 fn push_arrow(out: &mut Vec<u8>, then: Then, now: Now) -> Result<(), AllocError> {
-    push_text(out, then_text(then))?;
+    push_text(out, then_name(then))?;
     push_text(out, " -> ")?;
-    push_text(out, now_text(column_of(now)))
+    push_text(out, now_name(now))
 }
 
 /// What a request of a log is answered now at its own profile, by itself, and why; no reasons where no profile has that name.
@@ -119,7 +25,7 @@ fn answer_now(
         Some(opening) => {
             let mut label = opening;
             let verdict = decide(alloc, decided, &mut label, &entry.request)?;
-            Ok((now_of(&verdict), Some(verdict)))
+            Ok((answered(verdict.granted, verdict.complain), Some(verdict)))
         }
         None => Ok((Now::NoProfile, None)),
     }
@@ -141,18 +47,27 @@ fn push_change(
     }
 }
 
+/// What was, in the order in which it is printed.
+const THEN: [Then; 3] = [Then::Denied, Then::Allowed, Then::Granted];
+
+/// What is now, in the order in which it is printed.
+const NOW: [Now; 4] = [Now::Denied, Now::Allowed, Now::Granted, Now::NoProfile];
+
+fn push_count(out: &mut Vec<u8>, counts: &Counts, then: Then, now: Now) -> Result<(), AllocError> {
+    let count = counts.count(then, now);
+    if count == 0 {
+        return Ok(());
+    }
+    push_arrow(out, then, now)?;
+    push_text(out, " ")?;
+    push_number(out, count)?;
+    push_text(out, "\n")
+}
+
 fn push_counts(out: &mut Vec<u8>, counts: &Counts) -> Result<(), AllocError> {
-    for row in 0..3 {
-        for column in 0..4 {
-            let count = counts.at(row, column);
-            if count > 0 {
-                push_text(out, then_text(then_of(row)))?;
-                push_text(out, " -> ")?;
-                push_text(out, now_text(column))?;
-                push_text(out, " ")?;
-                push_number(out, count)?;
-                push_text(out, "\n")?;
-            }
+    for then in &THEN {
+        for now in &NOW {
+            push_count(out, counts, *then, *now)?;
         }
     }
     Ok(())
@@ -195,7 +110,7 @@ fn push_json_change(
     push_text(out, "{")?;
     push_entry_members(out, alloc, logs, entry)?;
     push_text(out, ",")?;
-    push_word_member(out, "now", now_text(column_of(now)))?;
+    push_word_member(out, "now", now_name(now))?;
     if let Some(verdict) = verdict {
         push_text(out, ",\"answer\":")?;
         push_json_verdict(out, alloc, &verdict)?;
@@ -203,21 +118,33 @@ fn push_json_change(
     push_text(out, "}")
 }
 
+/// Appends a count as a JSON object, unless it is 0, and gives whether one stands there now.
+fn push_json_count(
+    out: &mut Vec<u8>,
+    counts: &Counts,
+    then: Then,
+    now: Now,
+    is_later: bool,
+) -> Result<bool, AllocError> {
+    let count = counts.count(then, now);
+    if count == 0 {
+        return Ok(is_later);
+    }
+    push_text(out, if is_later { ",{" } else { "{" })?;
+    push_word_member(out, "then", then_name(then))?;
+    push_text(out, ",")?;
+    push_word_member(out, "now", now_name(now))?;
+    push_count_member(out, "count", count)?;
+    push_text(out, "}")?;
+    Ok(true)
+}
+
 fn push_json_counts(out: &mut Vec<u8>, counts: &Counts) -> Result<(), AllocError> {
     push_text(out, "],\"counts\":[")?;
     let mut is_later = false;
-    for row in 0..3 {
-        for column in 0..4 {
-            let count = counts.at(row, column);
-            if count > 0 {
-                push_text(out, if is_later { ",{" } else { "{" })?;
-                push_word_member(out, "then", then_text(then_of(row)))?;
-                push_text(out, ",")?;
-                push_word_member(out, "now", now_text(column))?;
-                push_count_member(out, "count", count)?;
-                push_text(out, "}")?;
-                is_later = true;
-            }
+    for then in &THEN {
+        for now in &NOW {
+            is_later = push_json_count(out, counts, *then, *now, is_later)?;
         }
     }
     push_text(out, "]")

@@ -7,11 +7,12 @@ mod lines;
 mod listed;
 mod logging;
 
-pub use against::{Counts, Now, push_against, push_json_against};
-pub use job::{JobFault, JobTask, JobTasks, push_job};
+pub use aa_findings::{Counts, LogTask, Now};
+pub use against::{push_against, push_json_against};
+pub use job::{JobFault, JobTasks, push_job};
 pub use lines::{Lines, read_log};
 pub use listed::push_json_report;
 pub use logging::{
     Entry, LinePlace, LogReport, SkippedLines, push_counts, push_entry, push_line_place,
-    push_report, push_rest, push_skipped_lines, then_text,
+    push_report, push_rest, push_skipped_lines,
 };

@@ -1,6 +1,7 @@
 //! What `log` finds, in JSON.
 
-use crate::logging::{Entry, LinePlace, LogReport, SkippedLines, push_reason, then_text};
+use crate::logging::{Entry, LinePlace, LogReport, SkippedLines, push_reason};
+use aa_findings::then_name;
 use aa_output::{push_json_bytes, push_key};
 use aa_units::{push_number, push_text};
 use std::alloc::{AllocError, Global};
@@ -53,7 +54,7 @@ pub(crate) fn push_entry_members(
     logs: &[&[u8]],
     entry: &Entry,
 ) -> Result<(), AllocError> {
-    push_word_member(out, "then", then_text(entry.then))?;
+    push_word_member(out, "then", then_name(entry.then))?;
     push_bytes_member(out, alloc, "profile", entry.profile.as_slice())?;
     push_bytes_member(out, alloc, "request", entry.word.as_slice())?;
     push_count_member(out, "count", entry.count)?;

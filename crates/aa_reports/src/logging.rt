@@ -2,6 +2,7 @@
 
 use crate::lines::Lines;
 use aa_asks::push_word;
+use aa_findings::{named, then_name};
 use aa_logs::{Line, Reason, Record, Then, line_of};
 use aa_output::push_name;
 use aa_requests::Request;
@@ -56,35 +57,6 @@ pub struct LogReport {
     pub other: u64,
 }
 
-/// A reason's name, and its place in the order in which reasons are printed.
-fn named(reason: Reason) -> (u8, &'static str) {
-    match reason {
-        Reason::Rule(keyword) => (0, keyword),
-        Reason::NoProfile => (1, "no-profile"),
-        Reason::Namespace => (2, "namespace"),
-        Reason::Stacked => (3, "stacked"),
-        Reason::NoNewPrivs => (4, "no-new-privs"),
-        Reason::Path => (5, "path"),
-        Reason::Mask => (6, "mask"),
-        Reason::Name => (7, "name"),
-        Reason::Capability => (8, "capability"),
-        Reason::Socket => (9, "socket"),
-        Reason::Operation => (10, "operation"),
-        Reason::Status => (11, "status"),
-        Reason::OldForm => (12, "old-form"),
-        Reason::Broken => (13, "broken"),
-    }
-}
-
-/// How what became of a request is called.
-pub fn then_text(then: Then) -> &'static str {
-    match then {
-        Then::Denied => "DENIED",
-        Then::Allowed => "ALLOWED",
-        Then::Granted => "GRANTED",
-    }
-}
-
 impl LogReport {
     pub fn new(alloc: Global, wants_each: bool) -> LogReport {
         LogReport {
@@ -114,7 +86,7 @@ impl LogReport {
         let mut word = Vec::new(alloc);
         push_word(&mut word, &request)?;
         let mut key = Vec::new(alloc);
-        push_text(&mut key, then_text(then))?;
+        push_text(&mut key, then_name(then))?;
         push_text(&mut key, " ")?;
         push_name(&mut key, alloc, profile.as_slice())?;
         push_text(&mut key, " ")?;
@@ -231,7 +203,7 @@ pub fn push_entry(
     logs: &[&[u8]],
     entry: &Entry,
 ) -> Result<(), AllocError> {
-    push_text(out, then_text(entry.then))?;
+    push_text(out, then_name(entry.then))?;
     push_rest(out, alloc, logs, entry)
 }
 

@@ -3,3 +3,4 @@ pub mod Names
 pub mod Searches
 pub mod Folders
 pub mod Texts
+pub mod Orders

@@ -4,9 +4,11 @@
 mod folder;
 mod laws;
 mod names;
+mod order;
 mod search;
 
 pub use folder::{can_be_included, folder_text};
 pub use laws::lines_include_their_paths;
 pub use names::{is_passed_over, leaves_a_warning};
-pub use search::{candidates, joined_path};
+pub use order::put_in_byte_order;
+pub use search::{candidates, joined_path, searched_folders};

@@ -1,7 +1,7 @@
 //! Where an include is looked for.
 
 ghost use Rattle.std.specs.Prelude.{◌≡◌, ◌++◌, ◌∷◌, [], codes, map, take, IfOk, if◌then◌else◌};
-ghost use Rattle.aa_trees.specs.Searches.{path_in, searched};
+ghost use Rattle.aa_trees.specs.Searches.{path_in, searched, named_before};
 ghost use Rattle.aa_trees.specs.Texts.{texts, slices};
 
 use crate::names::has_ending;
@@ -17,6 +17,19 @@ pub fn joined_path(alloc: Global, folder: &[u8], name: &[u8]) -> Result<Vec<u8>,
     }
     path.extend_from_slice(name)?;
     Ok(path)
+}
+
+/// The folders in which a name in `< >` is searched: those that the command line names, in their order, and the base folder last.
+pub fn searched_folders<'f>(
+    alloc: Global,
+    named: &[&'f [u8]],
+    base: &'f [u8],
+) -> Result<Vec<&'f [u8]>, AllocError>
+    ensures { IfOk result (λ folders. slices folders.items ≡ named_before (slices named.entry.now) base.entry.now) }
+{
+    let mut folders = Vec::from_slice(alloc, named)?;
+    folders.push(base)?;
+    Ok(folders)
 }
 
 fn in_each(alloc: Global, name: &[u8], folders: &[&[u8]]) -> Result<Vec<Vec<u8>>, AllocError>

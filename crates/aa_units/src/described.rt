@@ -2,57 +2,14 @@
 
 use crate::left_out::{left_out, word_at};
 use crate::policy::sources_of;
-use crate::text::{push_place, push_text};
 use crate::trail::trail_to;
 use crate::tree::Unread;
-use crate::unit::{Unit, node_of, paths_of, text_of_node};
+use crate::unit::{Unit, node_of, paths_of, text_at, text_of_node};
 use aa_asks::{profile_before, variable_before};
-use aa_places::{excerpt, place_of};
+use aa_places::excerpt;
+use aa_texts::{FaultReport, Link, place_at, push_number, push_place, push_text};
 use aa_words::{PolicyFault, PolicyKind, Spot, WordList, includes_of, words};
 use std::alloc::{AllocError, Global};
-
-/// A place in a text, as people count, and its byte from 0.
-#[derive(Clone, Copy, Debug)]
-pub struct PlaceAt {
-    pub line: usize,
-    pub column: usize,
-    pub byte: usize,
-}
-
-/// An include on the way to a text.
-#[derive(Drop)]
-pub struct Link {
-    pub path: Vec<u8>,
-    pub place: PlaceAt,
-}
-
-/// What is said of a fault.
-#[derive(Drop)]
-pub struct FaultReport {
-    pub kind: &'static str,
-    /// The file that it lies in.
-    pub path: Vec<u8>,
-    /// Where in that file, unless it stands for the whole.
-    pub place: Option<PlaceAt>,
-    /// What is wrong, in one sentence.
-    pub message: Vec<u8>,
-    /// The line with a caret, where there is a place.
-    pub excerpt: Vec<u8>,
-    /// The includes by which the file was first reached, innermost first.
-    pub chain: Vec<Link>,
-    /// What else helps, each without a line end.
-    pub further: Vec<Vec<u8>>,
-}
-
-/// A byte's place in its text.
-pub fn place_at(text: &[u8], byte: usize) -> PlaceAt {
-    let place = place_of(text, byte);
-    PlaceAt {
-        line: place.line,
-        column: place.column,
-        byte,
-    }
-}
 
 /// What is wrong, in one sentence.
 fn sentence(kind: PolicyKind) -> &'static str {
@@ -74,18 +31,33 @@ fn sentence(kind: PolicyKind) -> &'static str {
         PolicyKind::DuplicateProfile => "an earlier profile has this name",
         PolicyKind::ConflictingExec =>
             "two rules of this profile say otherwise how one program runs",
-        PolicyKind::TooManyStates =>
-            "more states are needed than the limit; --states N raises the limit",
+        PolicyKind::TooManyStates => "more states are needed than the limit",
         PolicyKind::TooLarge => "a limit on bytes, names or counts is passed",
     }
+}
+
+/// What is wrong where an automaton needs more than so many states.
+fn too_many_states(alloc: Global, states: u32) -> Result<Vec<u8>, AllocError> {
+    let mut message = Vec::new(alloc);
+    push_text(&mut message, "more than ")?;
+    push_number(&mut message, states)?;
+    push_text(
+        &mut message,
+        " states are needed; --states N raises the limit",
+    )?;
+    Ok(message)
 }
 
 fn message_of(
     alloc: Global,
     kind: PolicyKind,
+    states: u32,
     text: &[u8],
     byte: usize,
 ) -> Result<Vec<u8>, AllocError> {
+    if kind == PolicyKind::TooManyStates {
+        return too_many_states(alloc, states);
+    }
     let mut message = Vec::new(alloc);
     if kind == PolicyKind::Syntax && byte >= text.len() {
         push_text(&mut message, "the text ends too early")?;
@@ -186,23 +158,19 @@ fn links_to(alloc: Global, unit: &Unit, node: usize) -> Result<Vec<Link>, AllocE
     Ok(links)
 }
 
-/// What is said of a fault of a unit's policy: in which file it lies and where, why, and what else helps.
-pub fn describe(
+/// What is said of a fault: in which file it lies and where, and why.
+fn report_of(
     alloc: Global,
-    folders: &[&[u8]],
     unit: &Unit,
     fault: PolicyFault,
+    states: u32,
+    further: Vec<Vec<u8>>,
 ) -> Result<FaultReport, AllocError> {
     let node = node_of(unit, fault.at.file);
     let (path, text, is_folder) = text_of_node(unit, node);
     let byte = fault.at.byte as usize;
     let at_whole = fault.kind == PolicyKind::TooLarge && node == 0 && byte == 0;
     let has_place = !is_folder && !at_whole;
-    let mut further = Vec::new(alloc);
-    if fault.kind == PolicyKind::MissingInclude {
-        push_tried(alloc, folders, text, byte, &mut further)?;
-    }
-    push_earlier(alloc, unit, fault, &mut further)?;
     Ok(FaultReport {
         kind: fault.kind.name(),
         path: Vec::from_slice(alloc, path)?,
@@ -211,7 +179,7 @@ pub fn describe(
         } else {
             None
         },
-        message: message_of(alloc, fault.kind, text, byte)?,
+        message: message_of(alloc, fault.kind, states, text, byte)?,
         excerpt: if has_place {
             excerpt(alloc, text, byte)?
         } else {
@@ -219,6 +187,58 @@ pub fn describe(
         },
         chain: links_to(alloc, unit, node)?,
         further,
+    })
+}
+
+/// What is said of a fault of a unit's policy, of which an automaton may have so many states: in which file it lies and where, why,
+/// and what else helps.
+pub fn describe(
+    alloc: Global,
+    folders: &[&[u8]],
+    states: u32,
+    unit: &Unit,
+    fault: PolicyFault,
+) -> Result<FaultReport, AllocError> {
+    let (_, text) = text_at(unit, fault.at.file);
+    let mut further = Vec::new(alloc);
+    if fault.kind == PolicyKind::MissingInclude {
+        push_tried(alloc, folders, text, fault.at.byte as usize, &mut further)?;
+    }
+    push_earlier(alloc, unit, fault, &mut further)?;
+    report_of(alloc, unit, fault, states, further)
+}
+
+/// What is said of a profile whose name an earlier profile of another unit has.
+pub fn describe_repeated(
+    alloc: Global,
+    unit: &Unit,
+    at: Spot,
+    earlier: &Unit,
+    earlier_at: Spot,
+) -> Result<FaultReport, AllocError> {
+    let mut further = Vec::new(alloc);
+    further.push(spot_line(alloc, earlier, "earlier at ", earlier_at)?)?;
+    let kind = PolicyKind::DuplicateProfile;
+    report_of(alloc, unit, PolicyFault { kind, at }, 0, further)
+}
+
+/// What is said of a limit that units pass together and none of them alone: it lies in no one place of the first.
+pub fn describe_together(
+    alloc: Global,
+    first: &Unit,
+    kind: PolicyKind,
+    states: u32,
+) -> Result<FaultReport, AllocError> {
+    let mut message = message_of(alloc, kind, states, &[], 0)?;
+    push_text(&mut message, " (all files together)")?;
+    Ok(FaultReport {
+        kind: kind.name(),
+        path: first.path.clone()?,
+        place: None,
+        message,
+        excerpt: Vec::new(alloc),
+        chain: Vec::new(alloc),
+        further: Vec::new(alloc),
     })
 }
 

@@ -6,14 +6,14 @@ mod described;
 mod left_out;
 mod policy;
 mod roots;
-mod text;
 mod trail;
 mod tree;
 mod unit;
 
-pub use described::{FaultReport, Link, PlaceAt, describe, place_at, unreadable};
+pub use aa_texts::{FaultReport, Link, PlaceAt, place_at, push_number, push_place, push_text};
+pub use aa_trees::searched_folders;
+pub use described::{describe, describe_repeated, describe_together, unreadable};
 pub use policy::{compile_unit, sources_of};
 pub use roots::{Roots, roots_of};
-pub use text::{push_number, push_place, push_text};
 pub use tree::Unread;
 pub use unit::{Source, Unit, UnitFault, load, main_text, text_at};

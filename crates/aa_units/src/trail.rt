@@ -1,6 +1,6 @@
 //! The way on which a source is first read.
 
-use crate::unit::{Unit, text_of_node};
+use crate::unit::{Unit, known_source, text_of_node};
 use aa_words::includes_of;
 use std::alloc::{AllocError, Global};
 
@@ -22,7 +22,7 @@ fn push_includes(
 ) -> Result<(), AllocError> {
     let (_, text, _) = text_of_node(unit, from);
     for include in includes_of(alloc, text)?.iter().rev() {
-        if let Some(Some(index)) = unit.known.get(include.name()) {
+        if let Some(index) = known_source(unit, include.name()) {
             let to = index.saturating_add(1);
             open.push(Step {
                 to,

@@ -1,6 +1,9 @@
 //! What lies at a path.
 
-use aa_trees::{can_be_included, folder_text, joined_path};
+ghost use Rattle.std.specs.Prelude.{IfOk};
+ghost use Rattle.aa_trees.specs.Orders.{AreInByteOrder};
+
+use aa_trees::{can_be_included, folder_text, joined_path, put_in_byte_order};
 use std::alloc::{AllocError, AllocFailed};
 use std::fs::{self, File};
 use std::io::{self, ErrorKind, Read};
@@ -121,7 +124,9 @@ fn is_read(rt: &HostRuntime, path: &str) -> bool {
 }
 
 /// The names in a folder, in byte order, without those of folders.
-pub(crate) fn names_in(rt: &HostRuntime, folder: &[u8]) -> Result<Vec<Vec<u8>>, Unread> {
+pub(crate) fn names_in(rt: &HostRuntime, folder: &[u8]) -> Result<Vec<Vec<u8>>, Unread>
+    ensures { IfOk result (λ names. AreInByteOrder names.items) }
+{
     let alloc = rt.alloc();
     let mut names = Vec::new(alloc);
     for entry in fs::read_dir(rt, path_text(folder)?)? {
@@ -130,7 +135,7 @@ pub(crate) fn names_in(rt: &HostRuntime, folder: &[u8]) -> Result<Vec<Vec<u8>>, 
             names.push(Vec::from_slice(alloc, entry.file_name().as_bytes())?)?;
         }
     }
-    names.sort()?;
+    put_in_byte_order(&mut names)?;
     Ok(names)
 }
 

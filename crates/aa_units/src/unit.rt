@@ -1,8 +1,15 @@
 //! A file of the command line with all that it includes.
 
-use crate::described::{FaultReport, place_at};
+ghost use Rattle.std.specs.Prelude.{◌≡◌, ◌-◌, ◌==◌, None, option_map, slice_get, IfOk, if◌then◌else◌};
+ghost use Rattle.aa_extents.specs.Includes.{included_name};
+ghost use Rattle.aa_trees.specs.Texts.{texts, slices};
+ghost use Rattle.aa_trees.specs.Searches.{searched};
+ghost use Rattle.aa_units.specs.Names.{opens_name, names_in_angles};
+ghost use Rattle.aa_units.specs.Numbers.{source_in_unit, path_in, text_in};
+
 use crate::tree::{Found, Unread, read_input, what_lies_at};
 use aa_places::excerpt;
+use aa_texts::{FaultReport, place_at};
 use aa_trees::candidates;
 use aa_words::{IncludeAt, includes_of};
 use std::alloc::{AllocError, AllocFailed, Global};
@@ -30,6 +37,8 @@ pub struct Unit {
     pub sources: Vec<Source>,
     /// Which source has a name, if something lies at one of its paths.
     pub known: BTreeMap<Vec<u8>, Option<usize>>,
+    /// The sources by the numbers that places in the policy have, from 1: in byte order of their names.
+    pub order: Vec<usize>,
 }
 
 /// Why a unit can't be read.
@@ -61,12 +70,22 @@ fn fault_at(path: Vec<u8>, why: Unread) -> UnitFault {
     }
 }
 
+fn opens_name(b: u8) -> bool
+    ensures { result ≡ opens_name b }
+{
+    b == b'<' || b == b'"'
+}
+
 /// Whether an include's name stands in `< >`.
-fn is_in_angles(include: &IncludeAt<'_>) -> bool {
-    for b in include.text {
-        if *b == b'<' || *b == b'"' {
+fn is_in_angles(include: &[u8]) -> bool
+    ensures { result ≡ names_in_angles include.now }
+{
+    let mut rest = include;
+    while let [b, after @ ..] = rest {
+        if opens_name(*b) {
             return *b == b'<';
         }
+        rest = after;
     }
     false
 }
@@ -76,8 +95,10 @@ pub(crate) fn paths_of(
     alloc: Global,
     include: &IncludeAt<'_>,
     folders: &[&[u8]],
-) -> Result<Vec<Vec<u8>>, AllocError> {
-    candidates(alloc, is_in_angles(include), include.name(), folders)
+) -> Result<Vec<Vec<u8>>, AllocError>
+    ensures { IfOk result (λ paths. texts paths.items ≡ searched (names_in_angles include.now.text.now) (included_name include.now.text.now) (slices folders.now)) }
+{
+    candidates(alloc, is_in_angles(include.text), include.name(), folders)
 }
 
 /// A name that is included, and the paths at which its source may lie.
@@ -117,24 +138,61 @@ pub(crate) fn text_of_node(unit: &Unit, node: usize) -> (&[u8], &[u8], bool) {
     }
 }
 
+/// The number of a source among those of the unit, by the number that places in the policy have.
+fn index_of(order: &[usize], number: u16) -> Option<usize>
+    ensures { result ≡ (if number == 0 then None else slice_get order.now (number - 1)) }
+{
+    if number == 0 {
+        return None;
+    }
+    order.get(number as usize - 1).copied()
+}
+
+/// The source of a number that places in the policy have; none where that is the main text's.
+fn source_at(unit: &Unit, number: u16) -> Option<&Source>
+    ensures { option_map (λ s. s.now) result ≡ source_in_unit unit.now number }
+{
+    match index_of(unit.order.as_slice(), number) {
+        Some(index) => unit.sources.get(index),
+        None => None,
+    }
+}
+
 /// The node of a fault's file: number 0 is the main text, and the sources count from 1 in byte order of their names.
 pub(crate) fn node_of(unit: &Unit, number: u16) -> usize {
-    let mut left = number;
-    for index in unit.known.values() {
-        if let Some(index) = index {
-            if left == 1 {
-                return index.saturating_add(1);
-            }
-            left = left.saturating_sub(1);
-        }
+    match index_of(unit.order.as_slice(), number) {
+        Some(index) => index.saturating_add(1),
+        None => 0,
     }
-    0
 }
 
 /// The path and the text of a file of a unit, by the number that places in it have.
-pub fn text_at(unit: &Unit, number: u16) -> (&[u8], &[u8]) {
-    let (path, text, _) = text_of_node(unit, node_of(unit, number));
-    (path, text)
+pub fn text_at(unit: &Unit, number: u16) -> (&[u8], &[u8])
+    ensures path { result.0.now ≡ path_in unit.now number }
+    ensures text { result.1.now ≡ text_in unit.now number }
+{
+    match source_at(unit, number) {
+        Some(source) => (source.path.as_slice(), source.text.as_slice()),
+        None => (unit.path.as_slice(), unit.text.as_slice()),
+    }
+}
+
+/// Which source a name leads to, if something lies at one of its paths.
+pub(crate) fn known_source(unit: &Unit, name: &[u8]) -> Option<usize> {
+    match unit.known.get(name) {
+        Some(index) => *index,
+        None => None,
+    }
+}
+
+/// Puts the sources in byte order of their names.
+fn put_in_order(unit: &mut Unit) -> Result<(), AllocError> {
+    for index in unit.known.values() {
+        if let Some(index) = index {
+            unit.order.push(*index)?;
+        }
+    }
+    Ok(())
 }
 
 /// What lies at the first of the paths at which something lies.
@@ -285,9 +343,11 @@ pub fn load(rt: &HostRuntime, folders: &[&[u8]], path: &[u8]) -> Result<Unit, Un
         text,
         sources: Vec::new(alloc),
         known: BTreeMap::new(alloc),
+        order: Vec::new(alloc),
     };
     for number in 0..=MAX_SOURCES {
         look_up_all(rt, folders, &mut unit, number)?;
     }
+    put_in_order(&mut unit)?;
     Ok(unit)
 }

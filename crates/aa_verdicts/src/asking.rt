@@ -2,10 +2,11 @@
 
 ghost use Rattle.std.specs.Prelude.{◌≡◌, not};
 ghost use Rattle.std.specs.List.{list_any};
+ghost use Rattle.aa_mediate.specs.Reply.{reply};
 
 use crate::verdict::{Decided, DeciderLine, Verdict, decide, push_reasons};
 use aa_asks::{WordFault, read_word};
-use aa_mediate::{Label, label_of};
+use aa_mediate::{Compiled, Label, Machine, Mediator, Request, label_of};
 use aa_output::{NoMemory, push_bool, push_json_bytes, push_json_place, push_key, push_name};
 use aa_units::push_text;
 use std::alloc::{AllocError, Global};
@@ -41,6 +42,8 @@ impl From<NoMemory> for AskFault {
 pub struct Manner<'a> {
     /// The name of the profile that asks, where it is given.
     pub profile: Option<&'a [u8]>,
+    /// The path of the program that asks, where it is given and the profile isn't.
+    pub program: Option<&'a [u8]>,
     /// Whether every object is the task's user's.
     pub owned: bool,
     /// Whether the requests are one task's.
@@ -59,7 +62,10 @@ fn refused(alloc: Global, parts: &[&[u8]]) -> Result<AskFault, AllocError> {
 /// What is said where it isn't told which of several profiles asks.
 fn which_profile(alloc: Global, decided: Decided<'_>) -> Result<AskFault, AllocError> {
     let mut line = Vec::new(alloc);
-    push_text(&mut line, "error: --profile NAME tells which profile asks:")?;
+    push_text(
+        &mut line,
+        "error: --profile NAME tells which profile asks, or --program PATH:",
+    )?;
     for compiled in decided.policies {
         for profile in compiled.policy().profiles.as_slice() {
             push_text(&mut line, " ")?;
@@ -68,6 +74,30 @@ fn which_profile(alloc: Global, decided: Decided<'_>) -> Result<AskFault, AllocE
     }
     push_text(&mut line, "\n")?;
     Ok(AskFault::Refused(line))
+}
+
+/// The label of an unconfined task that has executed a program.
+fn label_after(policies: &[Compiled], request: &Request) -> Label
+    ensures { result ≡ (reply policies.now (Label.Unconfined 0) request.now).label }
+{
+    let mut label = Label::Unconfined(0);
+    Mediator::new(policies).step(&mut label, request).label
+}
+
+/// The label under which a program runs that an unconfined task has executed.
+fn label_of_program(alloc: Global, decided: Decided<'_>, path: &[u8]) -> Result<Label, AskFault> {
+    let mut word = Vec::from_slice(alloc, "x:".as_bytes())?;
+    word.extend_from_slice(path)?;
+    match read_word(alloc, word.as_slice(), false) {
+        Ok(request) => Ok(label_after(decided.policies, &request)),
+        Err(WordFault::NoMemory) => Err(AskFault::NoMemory),
+        Err(WordFault::NoRequest) => {
+            Err(refused(
+                alloc,
+                &["error: no program has this path: ".as_bytes(), path],
+            )?)
+        }
+    }
 }
 
 fn opening_label(
@@ -80,6 +110,9 @@ fn opening_label(
             Some(label) => Ok(label),
             None => Err(refused(alloc, &["error: no profile is called ".as_bytes(), name])?),
         };
+    }
+    if let Some(path) = manner.program {
+        return label_of_program(alloc, decided, path);
     }
     if decided.places.len() == 1 {
         return Ok(Label::Confined(0, 0));

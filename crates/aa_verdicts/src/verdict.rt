@@ -1,6 +1,6 @@
 //! The answer to one request, and the rules that decided it.
 
-ghost use Rattle.std.specs.Prelude.{◌≡◌, option_map, OnOk, IfOk};
+ghost use Rattle.std.specs.Prelude.{◌≡◌, option_map, option_and_then, OnOk, IfOk};
 ghost use Rattle.std.specs.List.{slice_get};
 ghost use Rattle.aa_mediate.specs.Reply.{reply};
 ghost use Rattle.aa_verdicts.specs.Verdicts.{is_by_complain, IsVerdict, profile_at, spots_of};
@@ -17,11 +17,13 @@ use aa_words::Spot;
 use bitflags::Flags;
 use std::alloc::{AllocError, Global};
 
-/// A compiled unit, and where its rules stand.
+/// Units that are compiled as one policy, and where its rules stand.
 #[derive(Clone, Copy)]
 pub struct Decided<'u> {
-    pub unit: &'u Unit,
-    /// The one policy that the unit is.
+    pub units: &'u [Unit],
+    /// Of each profile, the number of its unit.
+    pub owners: &'u [usize],
+    /// The one policy that the units are.
     pub policies: &'u [Compiled],
     pub places: &'u [ProfilePlaces<'u>],
 }
@@ -221,6 +223,16 @@ fn unfound(request: &Request, answer: &Answer, verdict: &Verdict) -> Option<&'st
     }
 }
 
+/// The unit of a profile, where each profile has the number of its unit.
+fn unit_of<'u>(units: &'u [Unit], owners: &[usize], profile: usize) -> Option<&'u Unit>
+    ensures { option_map (λ u. u.now) result ≡ option_and_then (slice_get units.now) (slice_get owners.now profile) }
+{
+    match owners.get(profile) {
+        Some(number) => units.get(*number),
+        None => None,
+    }
+}
+
 fn explain(
     alloc: Global,
     decided: Decided<'_>,
@@ -232,11 +244,14 @@ fn explain(
     let Some(places) = decided.places.get(number) else {
         return Ok(());
     };
+    let Some(unit) = unit_of(decided.units, decided.owners, number) else {
+        return Ok(());
+    };
     if let Some(deciders) = deciders_of(alloc, profile, request)? {
-        push_deciders(alloc, decided.unit, places, &deciders, false, verdict)?;
+        push_deciders(alloc, unit, places, &deciders, false, verdict)?;
     }
     if let Some(deciders) = target_deciders(alloc, profile, request)? {
-        push_deciders(alloc, decided.unit, places, &deciders, true, verdict)?;
+        push_deciders(alloc, unit, places, &deciders, true, verdict)?;
     }
     Ok(())
 }

@@ -157,7 +157,13 @@ fn check_unit(
     match compile_unit(alloc, unit, wanted.states) {
         Ok(compiled) => count_rules(alloc, unit, &compiled, report)?,
         Err(fault) if fault.kind == PolicyKind::NoMemory => return Err(NoMemory),
-        Err(fault) => report.fault = Some(describe(alloc, wanted.folders, unit, fault)?),
+        Err(fault) => report.fault = Some(describe(
+            alloc,
+            wanted.folders,
+            wanted.states,
+            unit,
+            fault,
+        )?),
     }
     Ok(())
 }

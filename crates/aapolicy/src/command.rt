@@ -1,5 +1,6 @@
 //! The command line.
 
+use aa_units::searched_folders;
 use clap::error::Error;
 use clap::{Arg, ArgAction, ArgMatches, Command};
 use std::alloc::{AllocError, Global};
@@ -95,7 +96,14 @@ fn ask_command<'a>(alloc: Global) -> Result<Command<'a>, AllocError> {
     let profile = Arg::new(alloc, "PROFILE")
         .required(true)
         .action(ArgAction::Set)
-        .help("A file with profiles; - is standard input");
+        .help("A file with profiles, or a folder of such files; - is standard input");
+    let also = option(
+        alloc,
+        "also",
+        "PROFILE",
+        "More files with profiles, whose profiles are there too",
+    )
+    .action(ArgAction::Append);
     let words = Arg::new(alloc, "WORD").action(ArgAction::Append).help(
         "LETTERS:PATH, x:PATH, l:PATH->PATH, cap:NAME, net:FAMILY/TYPE or change:NAME; owned: before the first three where the object is the task's user's",
     );
@@ -106,6 +114,14 @@ fn ask_command<'a>(alloc: Global) -> Result<Command<'a>, AllocError> {
         "The profile that asks, or unconfined",
     )
     .action(ArgAction::Set);
+    let program = option(
+        alloc,
+        "program",
+        "PATH",
+        "The program that asks, under the profile that it gets where an unconfined task executes it",
+    )
+    .action(ArgAction::Set)
+    .conflicts_with("profile")?;
     let from = option(
         alloc,
         "from",
@@ -117,7 +133,9 @@ fn ask_command<'a>(alloc: Global) -> Result<Command<'a>, AllocError> {
         .about(ASK)
         .arg(profile)?
         .arg(words)?
+        .arg(also)?
         .arg(name)?
+        .arg(program)?
         .arg(from)?
         .arg(flag(alloc, "owned", "Every object is the task's user's"))?
         .arg(flag(
@@ -157,9 +175,9 @@ fn log_command<'a>(alloc: Global) -> Result<Command<'a>, AllocError> {
         alloc,
         "against",
         "PROFILE",
-        "A policy that answers what was asked",
+        "A file or folder whose profiles answer what was asked; all of them together, where there are several",
     )
-    .action(ArgAction::Set);
+    .action(ArgAction::Append);
     let command = Command::new(alloc, "log")
         .about(LOG)
         .arg(files)?
@@ -197,14 +215,8 @@ pub fn folders_of<'a>(
     alloc: Global,
     matches: &ArgMatches<'a>,
 ) -> Result<Vec<&'a [u8]>, AllocError> {
-    let mut folders = Vec::new(alloc);
-    if let Some(named) = matches.get_strs("Include") {
-        for folder in named {
-            folders.push(folder.as_bytes())?;
-        }
-    }
-    folders.push(base_of(matches))?;
-    Ok(folders)
+    let named = values_of(alloc, matches, "Include")?;
+    searched_folders(alloc, named.as_slice(), base_of(matches))
 }
 
 /// The values of an argument, as bytes.

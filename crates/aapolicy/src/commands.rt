@@ -1,53 +1,22 @@
 //! What each command does.
 
 use crate::checked::{push_faults, push_json_report, push_report};
-use crate::checking::{Wanted, check, fault_of_unit};
+use crate::checking::{Wanted, check};
 use crate::command::{base_of, copies_of, folders_of, states_of, values_of};
-use aa_asks::rule_places;
+use crate::joined::{Use, with_policy};
+use crate::output::{Output, Stop, path_refused, policy_refused, refused, stop_with, unit_refused};
 use aa_compile::Compiled;
-use aa_output::{NoMemory, push_fault};
+use aa_output::NoMemory;
 use aa_reports::{
     JobFault, JobTasks, LogReport, push_against, push_job, push_json_against,
     push_json_report as push_json_log, push_report as push_log_report, read_log,
 };
-use aa_units::{
-    Unit, Unread, compile_unit, describe, load, main_text, push_number, push_text, sources_of,
-    unreadable,
-};
+use aa_units::{Unit, compile_unit, load, main_text, push_number, push_text};
 use aa_verdicts::{
     AskFault, Decided, Manner, ask, is_one_denied, push_json_verdicts, push_verdicts,
 };
-use aa_words::{PolicyFault, PolicyKind, words};
 use clap::ArgMatches;
 use std::alloc::{AllocError, Global};
-
-/// What is printed, and the exit status.
-#[derive(Drop)]
-pub struct Output {
-    /// For standard output.
-    pub answers: Vec<u8>,
-    /// For standard error.
-    pub faults: Vec<u8>,
-    pub status: u8,
-}
-
-impl Output {
-    fn new(alloc: Global) -> Output {
-        Output {
-            answers: Vec::new(alloc),
-            faults: Vec::new(alloc),
-            status: 0,
-        }
-    }
-}
-
-/// Says why, with a status of its own.
-fn refused(alloc: Global, line: &str, status: u8) -> Result<Output, NoMemory> {
-    let mut output = Output::new(alloc);
-    push_text(&mut output.faults, line)?;
-    output.status = status;
-    Ok(output)
-}
 
 fn run_check(
     rt: &HostRuntime,
@@ -74,55 +43,6 @@ fn run_check(
     Ok(output)
 }
 
-/// A unit that is loaded, or what is printed instead.
-#[derive(Drop)]
-enum Loaded {
-    Unit(Unit),
-    Refused(Output),
-}
-
-fn load_unit(rt: &HostRuntime, wanted: &Wanted<'_>, path: &[u8]) -> Result<Loaded, NoMemory> {
-    let alloc = rt.alloc();
-    match load(rt, wanted.folders, path) {
-        Ok(unit) => Ok(Loaded::Unit(unit)),
-        Err(fault) => {
-            let (fault, is_unread) = fault_of_unit(alloc, fault)?;
-            let mut output = Output::new(alloc);
-            output.status = if is_unread { 3 } else { 1 };
-            push_fault(&mut output.faults, &fault)?;
-            Ok(Loaded::Refused(output))
-        }
-    }
-}
-
-fn policy_refused(
-    alloc: Global,
-    wanted: &Wanted<'_>,
-    unit: &Unit,
-    fault: PolicyFault,
-) -> Result<Output, NoMemory> {
-    if fault.kind == PolicyKind::NoMemory {
-        return Err(NoMemory);
-    }
-    let mut output = Output::new(alloc);
-    output.status = 1;
-    push_fault(
-        &mut output.faults,
-        &describe(alloc, wanted.folders, unit, fault)?,
-    )?;
-    Ok(output)
-}
-
-fn log_unread(alloc: Global, path: &[u8], why: Unread) -> Result<Output, NoMemory> {
-    if why == Unread::NoMemory {
-        return Err(NoMemory);
-    }
-    let mut output = Output::new(alloc);
-    output.status = 3;
-    push_fault(&mut output.faults, &unreadable(alloc, path, why)?)?;
-    Ok(output)
-}
-
 /// Adds the lines of a text without their ends.
 fn push_lines(alloc: Global, text: &[u8], words: &mut Vec<Vec<u8>>) -> Result<(), AllocError> {
     for line in text.split(|b| *b == b'\n') {
@@ -142,6 +62,10 @@ fn answer_words(
     let manner = Manner {
         profile: match matches.get_str("profile") {
             Some(name) => Some(name.as_bytes()),
+            None => None,
+        },
+        program: match matches.get_str("program") {
+            Some(path) => Some(path.as_bytes()),
             None => None,
         },
         owned: matches.get_flag("owned"),
@@ -166,11 +90,6 @@ fn answer_words(
             Ok(output)
         }
     }
-}
-
-/// What is done with a compiled unit.
-trait Use {
-    fn use_policy(&mut self, alloc: Global, decided: Decided<'_>) -> Result<Output, NoMemory>;
 }
 
 /// Answers the requests of a command line.
@@ -210,64 +129,18 @@ impl Use for Replaying<'_> {
     }
 }
 
-fn with_places<U: Use>(
-    alloc: Global,
-    wanted: &Wanted<'_>,
-    unit: &Unit,
-    policies: &[Compiled],
-    user: &mut U,
-) -> Result<Output, NoMemory> {
-    let sources = match sources_of(alloc, unit) {
-        Ok(sources) => sources,
-        Err(fault) => return policy_refused(alloc, wanted, unit, fault),
-    };
-    let list = match words(alloc, &sources, unit.text.as_slice()) {
-        Ok(list) => list,
-        Err(fault) => return policy_refused(alloc, wanted, unit, fault),
-    };
-    let places = match rule_places(alloc, &list) {
-        Ok(places) => places,
-        Err(fault) => return policy_refused(alloc, wanted, unit, fault),
-    };
-    let decided = Decided {
-        unit,
-        policies,
-        places: places.as_slice(),
-    };
-    user.use_policy(alloc, decided)
-}
-
-/// Compiles the unit of a path, and does something with it.
-fn with_policy<U: Use>(
-    rt: &HostRuntime,
-    wanted: &Wanted<'_>,
-    path: &[u8],
-    user: &mut U,
-) -> Result<Output, NoMemory> {
-    let alloc = rt.alloc();
-    let unit = match load_unit(rt, wanted, path)? {
-        Loaded::Unit(unit) => unit,
-        Loaded::Refused(output) => return Ok(output),
-    };
-    let mut policies = Vec::new(alloc);
-    match compile_unit(alloc, &unit, wanted.states) {
-        Ok(compiled) => policies.push(compiled)?,
-        Err(fault) => return policy_refused(alloc, wanted, &unit, fault),
-    }
-    with_places(alloc, wanted, &unit, policies.as_slice(), user)
-}
-
 fn run_ask(
     rt: &HostRuntime,
     matches: &ArgMatches<'_>,
     wanted: &Wanted<'_>,
-) -> Result<Output, NoMemory> {
+) -> Result<Output, Stop> {
     let alloc = rt.alloc();
-    let path = matches.get_str("PROFILE").unwrap_or("").as_bytes();
+    let mut files = copies_of(alloc, matches, "PROFILE")?;
+    files.append(&mut copies_of(alloc, matches, "also")?)?;
     let text = match matches.get_str("from") {
         Some(from) => match main_text(rt, from.as_bytes()) {
             Ok(text) => text,
-            Err(why) => return log_unread(alloc, from.as_bytes(), why),
+            Err(why) => return Err(stop_with(path_refused(alloc, from.as_bytes(), why))),
         },
         None => Vec::new(alloc),
     };
@@ -277,24 +150,25 @@ fn run_ask(
         matches,
         words: words.as_slice(),
     };
-    with_policy(rt, wanted, path, &mut answering)
+    with_policy(rt, wanted, files.as_slice(), &mut answering)
 }
 
 fn run_log(
     rt: &HostRuntime,
     matches: &ArgMatches<'_>,
     wanted: &Wanted<'_>,
-) -> Result<Output, NoMemory> {
+) -> Result<Output, Stop> {
     let alloc = rt.alloc();
     let logs = values_of(alloc, matches, "FILE")?;
     let mut report = LogReport::new(alloc, matches.get_flag("skipped"));
     for (number, path) in logs.iter().enumerate() {
         report.log = number;
         if let Err(why) = read_log(rt, path, &mut report) {
-            return log_unread(alloc, path, why);
+            return Err(stop_with(path_refused(alloc, path, why)));
         }
     }
-    let Some(against) = matches.get_str("against") else {
+    let against = copies_of(alloc, matches, "against")?;
+    if against.is_empty() {
         let mut output = Output::new(alloc);
         if matches.get_flag("json") {
             push_json_log(&mut output.answers, alloc, logs.as_slice(), &report)?;
@@ -302,14 +176,14 @@ fn run_log(
             push_log_report(&mut output.answers, alloc, logs.as_slice(), &report)?;
         }
         return Ok(output);
-    };
+    }
     let mut replaying = Replaying {
         report: &report,
         logs: logs.as_slice(),
         wants_all: matches.get_flag("all"),
         is_json: matches.get_flag("json"),
     };
-    with_policy(rt, wanted, against.as_bytes(), &mut replaying)
+    with_policy(rt, wanted, against.as_slice(), &mut replaying)
 }
 
 fn push_left_out(out: &mut Vec<u8>, count: u64, what: &str) -> Result<(), AllocError> {
@@ -366,24 +240,39 @@ fn run_job(
     rt: &HostRuntime,
     matches: &ArgMatches<'_>,
     wanted: &Wanted<'_>,
-) -> Result<Output, NoMemory> {
+) -> Result<Output, Stop> {
     let alloc = rt.alloc();
     let path = matches.get_str("PROFILE").unwrap_or("").as_bytes();
-    let unit = match load_unit(rt, wanted, path)? {
-        Loaded::Unit(unit) => unit,
-        Loaded::Refused(output) => return Ok(output),
+    let unit = match load(rt, wanted.folders, path) {
+        Ok(unit) => unit,
+        Err(fault) => return Err(stop_with(unit_refused(alloc, fault))),
     };
     let names = match compile_unit(alloc, &unit, wanted.states) {
         Ok(compiled) => names_of(alloc, &compiled)?,
-        Err(fault) => return policy_refused(alloc, wanted, &unit, fault),
+        Err(fault) => return Err(stop_with(policy_refused(alloc, wanted, &unit, fault))),
     };
     let mut tasks = JobTasks::new(alloc, names);
     for log in &values_of(alloc, matches, "log")? {
         if let Err(why) = read_log(rt, log, &mut tasks) {
-            return log_unread(alloc, log, why);
+            return Err(stop_with(path_refused(alloc, log, why)));
         }
     }
-    print_job(alloc, &unit, &tasks, wanted.states)
+    Ok(print_job(alloc, &unit, &tasks, wanted.states)?)
+}
+
+/// Does what the command line asks, or says why not.
+fn run_wanted(
+    rt: &HostRuntime,
+    name: &str,
+    matches: &ArgMatches<'_>,
+    wanted: &Wanted<'_>,
+) -> Result<Output, Stop> {
+    match name {
+        "check" => Ok(run_check(rt, matches, wanted)?),
+        "ask" => run_ask(rt, matches, wanted),
+        "job" => run_job(rt, matches, wanted),
+        _ => run_log(rt, matches, wanted),
+    }
 }
 
 /// Does what the command line asks.
@@ -401,10 +290,9 @@ pub fn run_named(rt: &HostRuntime, matches: &ArgMatches<'_>) -> Result<Output, N
         folders: folders.as_slice(),
         states,
     };
-    match name {
-        "check" => run_check(rt, matches, &wanted),
-        "ask" => run_ask(rt, matches, &wanted),
-        "job" => run_job(rt, matches, &wanted),
-        _ => run_log(rt, matches, &wanted),
+    match run_wanted(rt, name, matches, &wanted) {
+        Ok(output) => Ok(output),
+        Err(Stop::Refused(output)) => Ok(output),
+        Err(Stop::NoMemory) => Err(NoMemory),
     }
 }

@@ -5,10 +5,13 @@ mod checked;
 mod checking;
 mod command;
 mod commands;
+mod joined;
+mod output;
 
 use clap::error::{Error, ErrorKind};
 use command::matches_of;
-use commands::{Output, run_named};
+use commands::run_named;
+use output::Output;
 use std::io::Write;
 use std::process::ExitCode;
 use std::{env, io};

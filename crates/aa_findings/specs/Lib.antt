@@ -1,0 +1,4 @@
+pub mod Tasks
+pub mod Answers
+pub mod Counts
+pub mod Reasons
