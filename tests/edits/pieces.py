@@ -1,7 +1,11 @@
 """Cuts a .rt source into pieces: what stands outside functions, and of each function what stands before `fn`, its head and its body."""
+import copy
 import re
 import subprocess
 import tempfile
+
+# The attributes that a function of another name may have as well.
+PLAIN = ("tactic", "inline", "must_use", "allow", "cold", "doc")
 
 
 class Function:
@@ -9,16 +13,25 @@ class Function:
 
     def __init__(self, modules, scopes, name, attributes, words, head):
         self.modules = modules + [word for kind, word in scopes if kind == "mod"]
-        self.types = next((word for kind, word in reversed(scopes) if kind == "impl"), [""])
+        self.types = next((word for kind, word in reversed(scopes) if kind.endswith("impl")), [""])
         self.name = name
         self.cycle = next((it[2] for it in attributes if it[:2] == ["cycle", "("]), None)
         # A constant function's value, and a type that a body decides, can change what other proofs say.
         is_seen_through = "const" in words or re.search(r"-> impl\b", head.replace("- >", "->"))
-        self.stands_alone = not is_seen_through and all(kind in ("mod", "impl") for kind, _ in scopes)
+        self.stands_alone = not is_seen_through and all(kind in ("mod", "impl", "trait impl") for kind, _ in scopes)
+        # Whether a function of another name may stand beside it and be proved by itself.
+        is_plain = all(it[0] in PLAIN for it in attributes) and all(kind != "trait impl" for kind, _ in scopes)
+        self.is_copied = self.stands_alone and is_plain
 
     def unit(self):
         """Returns what has one proof: the function, or the cycle of calls that it is in."""
         return (*self.modules, f"+{self.cycle}") if self.cycle else (*self.modules, self.types[0], self.name)
+
+    def named(self, name):
+        """Returns a function like this one under another name."""
+        other = copy.copy(self)
+        other.name = name
+        return other
 
     def is_named(self, printed):
         """Tells whether rattle prints the function so, or a closure of it, in the words between `::` below the crate's name. (A method stands
@@ -126,7 +139,7 @@ def scope_of(words):
     if "mod" in rest and is_word(rest[-1]):
         return "mod", rest[-1]
     if "impl" in rest:
-        return "impl", impl_names(rest)
+        return "trait impl" if ("for", True) in outside_angles(rest) else "impl", impl_names(rest)
     return "other", ""
 
 

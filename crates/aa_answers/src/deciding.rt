@@ -17,7 +17,7 @@ use std::thread::Threads;
 fn requests_of(alloc: Global, works: &[Work]) -> Result<VecDeque<Request>, AllocError>
     ensures { IfOk result (λ q. q.items ≡ asked works.now) }
 {
-    let mut requests = VecDeque::new(alloc);
+    let mut requests = VecDeque::with_capacity(alloc, works.len())?;
     for work in works {
         let Work::Ask(request) = work else {
             return Ok(requests);

@@ -1,5 +1,6 @@
 mod GroupLemmas
 mod Counts
+mod StateLemmas
 mod CheckLemmas
 pub mod Transitions
 mod Bytes

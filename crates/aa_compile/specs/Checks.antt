@@ -8,7 +8,7 @@ use Rattle.aa_faults.specs.declared.fault.Spot.{Spot}
 use Rattle.aa_faults.specs.Kinds.{no_memory}
 use Rattle.aa_patterns.specs.declared.pattern.Pattern.{Pattern}
 use Rattle.aa_profiles.specs.declared.policy.Profile.{Profile}
-use Rattle.aa_auto.specs.Tables.{HasPlaces}
+use Rattle.aa_auto.specs.Tables.{HasPlaces, IsAutomaton}
 use Rattle.aa_auto.specs.declared.build.BuildFault.{BuildFault}
 use Rattle.aa_auto.specs.declared.build.BuildFault.TheVariants.{NoMemory, TooManyStates}
 use Rattle.aa_rows.specs.declared.rows.RowsFault.{RowsFault}
@@ -79,6 +79,7 @@ pub record IsAccepted (profiles : List Profile) (limit : ℕ) : Type 0 where
 -- what is kept for a profile says what its rules say
 pub record IsRight (profiles : List Profile) (number : ℕ) (p : Profile) (r : ProfileRows) : Type 0 where
   pub files : AreRowsOf (way_by p.files) p.files r.files
+  pub automaton : IsAutomaton (patterns_of p.files) r.files.table
   pub below : Attaches profiles (children profiles number) r.children
   pub targets : r.targets.items ≡ targets_by profiles p
 

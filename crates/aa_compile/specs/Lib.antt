@@ -8,3 +8,4 @@ pub mod Groups
 pub mod Transitions
 pub mod Found
 pub mod Checks
+pub mod States

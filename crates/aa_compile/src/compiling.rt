@@ -1,16 +1,17 @@
 //! Compiling a policy.
 
-ghost use Rattle.std.specs.Prelude.{◌≡◌, ◌≤◌, ◌<◌, ◌⊎◌, ℕ, Some, length, IfOk, IfErr};
+ghost use Rattle.std.specs.Prelude.{◌≡◌, ◌≤◌, ◌<◌, ◌↔◌, ◌⊎◌, ℕ, Some, length, IfOk, IfErr};
 ghost use Rattle.std.specs.List.{slice_get};
 ghost use Rattle.std.specs.Option.{is_some};
 ghost use Rattle.aa_faults.specs.Kinds.{no_memory};
 ghost use Rattle.aa_profiles.specs.declared.policy.Profile.{Profile};
 ghost use Rattle.aa_profiles.specs.Lawful.{IsWithinLimits, ParentsComeFirst};
 ghost use Rattle.aa_attach.specs.Attached.{attached, Attaches};
-ghost use Rattle.aa_rows.specs.Rows.{IsVerdictOf};
+ghost use Rattle.aa_rows.specs.Rows.{IsVerdictOf, patterns_of};
 ghost use Rattle.aa_rows.specs.Ways.{way_by};
 ghost use Rattle.aa_compile.specs.Found.{found_in};
 ghost use Rattle.aa_compile.specs.Numbering.{IsNumbering};
+ghost use Rattle.aa_compile.specs.States.{HasStates};
 ghost use Rattle.aa_compile.specs.Transitions.{named, transition};
 ghost use Rattle.aa_compile.specs.Checks.{tops, children, first_spot, IsRight, AreRight, IsRefused, IsAccepted};
 
@@ -157,6 +158,17 @@ impl Compiled {
             return None;
         }
         self.rows_at(parent).children.attached(path)
+    }
+
+    /// How many states the automaton of a profile's file rules has; none where there is no such profile.
+    pub fn states(&self, number: u16) -> usize
+        ensures states { (p : Profile) (n : ℕ) → slice_get self.now.profiles number ≡ Some p → HasStates (patterns_of p.files) n ↔ (n ≡ result) }
+        ensures none { length self.now.profiles ≤ number → result ≡ 0 }
+    {
+        if number as usize >= self.policy.profiles.as_slice().len() {
+            return 0;
+        }
+        self.rows_at(number).files.states()
     }
 
     /// What the file rules of a profile say of an object: one walk, and one look at a row.

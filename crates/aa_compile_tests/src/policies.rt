@@ -66,6 +66,11 @@ pub fn attached_child(compiled: &Compiled, parent: u16, path: &str) -> Option<u1
     compiled.attach_child(parent, path.as_bytes())
 }
 
+/// How many states the automaton of the profile's file rules has.
+pub fn states(compiled: &Compiled, profile: u16) -> usize {
+    compiled.states(profile)
+}
+
 /// Where an execution of the path leads from a profile, where that is there. Nobody's path is owned.
 pub fn execution(compiled: &Compiled, profile: u16, path: &str) -> Option<Transition> {
     if (profile as usize) < compiled.policy().profiles.as_slice().len() {

@@ -13,11 +13,12 @@ use std::marker::Model;
 // How many turns a burst has at most: as many answers are collected and requests sent as the widest lane has slots.
 const MOST_TURNS: u32 = 2048;
 
-// Collects an answer, if there is one.
+// Collects an answer, if there is one; where all that was sent is answered, there is none.
 fn collect<'m, M: Machine>(
     lane: &Lane<'m, M>,
     owner: &mut Owner<M>,
     answered: &mut Vec<Answered<M>>,
+    sent: u64,
 ) -> bool
     requires fed { IsFed M.next M.reply lane.now owner.old answered.old.items }
     requires room { length owner.old.sent ≤ vec_capacity answered.old }
@@ -25,6 +26,9 @@ fn collect<'m, M: Machine>(
     ensures sent { owner.new.sent ≡ owner.old.sent }
     ensures room { vec_capacity answered.new ≡ vec_capacity answered.old }
 {
+    if sent == answered.len() as u64 {
+        return false;
+    }
     match owner.collect(lane) {
         Some(given) => {
             answered.push_reserved(given);
@@ -97,15 +101,30 @@ fn leave<'m, M: Machine>(
     }
 }
 
-/// What a turn at a lane came to.
+/// What a turn at a lane came to, or a burst of them.
 #[derive(Clone, Copy, PartialEq, Eq)]
 pub enum Turned {
     /// An answer was collected, or a request sent.
     Did,
+    /// A request was sent, and the lane has room for no other.
+    Filled,
     /// There is nothing to do before the lane is served.
     Waits,
     /// The owner has left.
     Left,
+}
+
+// What a turn came to that sent a request, where there was room for so many and maybe an answer was collected before.
+fn turned_by(sending: Sending, collected: bool, room: u64) -> Turned
+    ensures { result ≢ Turned.Left }
+{
+    if sending == Sending::Accepted && room == 1 {
+        return Turned::Filled;
+    }
+    if sending == Sending::Full && !collected {
+        return Turned::Waits;
+    }
+    Turned::Did
 }
 
 /// An owner that has left its lane, with the answers to all that the lane was to be fed.
@@ -123,6 +142,7 @@ pub struct Feed<'l, 'm, M: Machine> {
     owner: Option<Owner<M>>,
     leaver: Option<Leaver<M>>,
     open: bool,
+    capacity: u64,
     sent: u64,
     start: M::State,
     left: VecDeque<M::Request>,
@@ -142,9 +162,11 @@ impl<'l, 'm, M: Machine> Model for Feed<'l, 'm, M> {
 }
 
 impl<'l, 'm, M: Machine> Feed<'l, 'm, M> {
-    /// A lane that is to be fed these requests. There is to be room for all answers: nothing takes memory later.
+    /// A lane that is to be fed these requests, at most that many on their way at a time. There is to be room for all answers:
+    /// nothing takes memory later.
     pub fn new(
         lane: &'l Lane<'m, M>,
+        capacity: u32,
         owner: Owner<M>,
         start: M::State,
         left: VecDeque<M::Request>,
@@ -161,6 +183,7 @@ impl<'l, 'm, M: Machine> Feed<'l, 'm, M> {
             owner: Some(owner),
             leaver: None,
             open: true,
+            capacity: u64::from(capacity),
             sent: 0,
             start,
             left,
@@ -168,19 +191,33 @@ impl<'l, 'm, M: Machine> Feed<'l, 'm, M> {
         }
     }
 
-    /// Collects an answer, or else sends a request, or else leaves the lane, if there is nothing more to come.
+    /// How many requests are on their way: sent, and their answers not collected yet.
+    pub fn on_their_way(&self) -> u64 {
+        self.sent.saturating_sub(self.answered.len() as u64)
+    }
+
+    // How many requests more the lane has room for, as far as is known.
+    fn room(&self) -> u64 {
+        if self.open {
+            self.capacity.saturating_sub(self.on_their_way())
+        } else {
+            0
+        }
+    }
+
+    /// Collects an answer, if there is one, and sends a request, if there is room for one; or leaves the lane, if there is nothing
+    /// more to come. No answer is looked for where none is to come, and no request is sent to a full lane.
     pub fn turn(&mut self) -> Turned
         ensures same { (self.new.lane ≡ self.old.lane) × (self.new.all ≡ self.old.all) }
         ensures finished { result ≡ Turned.Left → self.new.finished ≡ true }
     {
+        let room = self.room();
         let Some(mut owner) = self.owner.take() else {
             return Turned::Left;
         };
-        if collect(self.lane, &mut owner, &mut self.answered) {
-            self.owner = Some(owner);
-            return Turned::Did;
-        }
-        if self.open {
+        let collected = collect(self.lane, &mut owner, &mut self.answered, self.sent);
+        let room = room.saturating_add(u64::from(collected));
+        if room > 0 {
             if let Some(request) = self.left.pop_front() {
                 let sending = send(
                     self.lane,
@@ -192,11 +229,7 @@ impl<'l, 'm, M: Machine> Feed<'l, 'm, M> {
                 );
                 self.open = sending != Sending::Closed;
                 self.owner = Some(owner);
-                return if sending == Sending::Full {
-                    Turned::Waits
-                } else {
-                    Turned::Did
-                };
+                return turned_by(sending, collected, room);
             }
         }
         match leave(self.lane, owner, &self.answered, self.sent) {
@@ -206,24 +239,30 @@ impl<'l, 'm, M: Machine> Feed<'l, 'm, M> {
             }
             Err(owner) => {
                 self.owner = Some(owner);
-                Turned::Waits
+                if collected {
+                    Turned::Did
+                } else {
+                    Turned::Waits
+                }
             }
         }
     }
 
-    /// Turns at the lane, until there is nothing to do before it is served. Whether the owner has left.
-    pub fn burst(&mut self) -> bool
+    /// Turns at the lane, until there is nothing to do before it is served. `Waits` where no turn did anything.
+    pub fn burst(&mut self) -> Turned
         ensures same { (self.new.lane ≡ self.old.lane) × (self.new.all ≡ self.old.all) }
-        ensures finished { result ≡ true → self.new.finished ≡ true }
+        ensures finished { result ≡ Turned.Left → self.new.finished ≡ true }
     {
+        let mut did = false;
         'turns: for _ in 0..MOST_TURNS {
             match self.turn() {
-                Turned::Did => {}
-                Turned::Waits => return false,
-                Turned::Left => return true,
+                Turned::Did => did = true,
+                Turned::Filled => return Turned::Filled,
+                Turned::Waits => return if did { Turned::Did } else { Turned::Waits },
+                Turned::Left => return Turned::Left,
             }
         }
-        false
+        Turned::Did
     }
 
     /// The owner, once it has left, with all answers. What the lane didn't accept is decided here, from the state that the
@@ -269,6 +308,9 @@ fn decide_rest<M: Machine>(
     requires room { vec_len answered + deque_len left ≤ vec_capacity answered }
     ensures { result.items ≡ answered_from M.next M.reply machine.now 0 start (map (λ a. a.request) answered.items ++ left.items) }
 {
+    if left.is_empty() {
+        return answered;
+    }
     let mut answered = answered;
     let mut left = left;
     let mut state = state_behind(machine, start, answered.as_slice());

@@ -5,7 +5,7 @@ ghost use Rattle.aa_lane.specs.Ends.{known};
 ghost use Rattle.aa_feed.specs.Fed.{AreSame, AreAllFed, answers_of};
 
 use crate::beside::{Work, side_by_side};
-use crate::feed::{Feed, Finished};
+use crate::feed::{Feed, Finished, Turned};
 use aa_lane::{Lane, Machine, Served, Server};
 use aa_pool::serve_all;
 use std::alloc::Global;
@@ -13,31 +13,35 @@ use std::sync::Wait;
 use std::thread;
 use std::thread::Threads;
 
-// How many requests are answered in a burst at most: as many as the widest lane has slots.
-const MOST_SERVED: u32 = 1024;
-
-// A burst at each lane. Whether all have finished.
-fn round<'l, 'm, M: Machine>(feeds: &mut [Feed<'l, 'm, M>]) -> bool
+// A burst at each lane. Whether all have finished, and whether there was nothing to do at any.
+fn round<'l, 'm, M: Machine>(feeds: &mut [Feed<'l, 'm, M>]) -> (bool, bool)
     ensures same { AreSame feeds.old feeds.new }
-    ensures finished { result ≡ true → All (λ f. f.finished ≡ true) feeds.new }
+    ensures finished { result.0 ≡ true → All (λ f. f.finished ≡ true) feeds.new }
 {
     let mut finished = true;
+    let mut idle = true;
     for i in 0..feeds.len() {
-        let done = feeds[i].burst();
+        let turned = feeds[i].burst();
+        let done = turned == Turned::Left;
+        let nothing = turned == Turned::Waits;
         finished = finished && done;
+        idle = idle && (done || nothing);
     }
-    finished
+    (finished, idle)
 }
 
-// All lanes are fed by turns, until each owner has left.
+// All lanes are fed by turns, until each owner has left. Where there is nothing to do at any, others come first.
 fn feed_all<'l, 'm, M: Machine, R: Wait>(rt: &R, feeds: &mut [Feed<'l, 'm, M>])
     ensures { AreAllFed feeds.old feeds.new }
 {
     'feeding: for _ in rt.forever() {
-        if round(feeds) {
+        let (finished, idle) = round(feeds);
+        if finished {
             return;
         }
-        thread::yield_now();
+        if idle {
+            thread::yield_now();
+        }
     }
     unreachable!()
 }
@@ -193,13 +197,13 @@ where
     }
 }
 
-// Serves until there is no request, or as many as the lane may have were answered.
-fn serve_burst<'m, M: Machine>(lane: &Lane<'m, M>, server: Server<M>) -> Server<M>
+// Serves so many requests, or fewer where there is none left.
+fn serve_burst<'m, M: Machine>(lane: &Lane<'m, M>, server: Server<M>, count: u64) -> Server<M>
     requires { server.lane ≡ known lane.now }
     ensures { result.lane ≡ server.lane }
 {
     let mut server = server;
-    'requests: for _ in 0..MOST_SERVED {
+    'requests: for _ in 0..count {
         match server.serve(lane) {
             Served::Did(next) => server = next,
             Served::Idle(next) | Served::Settled(next) => return next,
@@ -222,10 +226,10 @@ fn alone<'l, 'm, M: Machine, R: Wait>(
 {
     let mut server = server;
     'bursts: for _ in rt.forever() {
-        if feed.burst() {
+        if feed.burst() == Turned::Left {
             return server;
         }
-        server = serve_burst(lane, server);
+        server = serve_burst(lane, server, feed.on_their_way());
     }
     unreachable!()
 }

@@ -56,9 +56,10 @@ fn rooms_of<M: Machine>(
     Ok(rooms)
 }
 
-// A feed for a lane.
+// A feed for a lane of that capacity.
 fn feed_of<'l, 'm, M: Machine>(
     lane: &'l Lane<'m, M>,
+    capacity: u32,
     owner: Owner<M>,
     task: Task<M>,
     room: Vec<Answered<M>>,
@@ -70,12 +71,13 @@ fn feed_of<'l, 'm, M: Machine>(
     ensures { (result.lane ≡ lane.now) × (result.all ≡ task.requests.items) }
 {
     let Task { start, requests } = task;
-    Feed::new(lane, owner, start, requests, room)
+    Feed::new(lane, capacity, owner, start, requests, room)
 }
 
-// A feed for each lane.
+// A feed for each lane, all of that capacity.
 fn feeds_of<'l, 'm, M: Machine>(
     lanes: &'l [Lane<'m, M>],
+    capacity: u32,
     owners: Vec<Owner<M>>,
     tasks: Vec<Task<M>>,
     rooms: Vec<Vec<Answered<M>>>,
@@ -99,7 +101,7 @@ fn feeds_of<'l, 'm, M: Machine>(
         let Some(room) = rooms.next() else {
             unreachable!()
         };
-        feeds.push_reserved(feed_of(&lanes[at], owner, task, room));
+        feeds.push_reserved(feed_of(&lanes[at], capacity, owner, task, room));
         at += 1;
     }
     feeds
@@ -215,6 +217,7 @@ where
     ensures refused { IfErr result (λ r. r ≡ tasks) }
 {
     let Stage {
+        capacity,
         lanes,
         owners,
         servers,
@@ -223,12 +226,11 @@ where
         served,
         finished,
         outcomes,
-        ..
     } = stage;
     let Ok(feeds) = Vec::with_capacity(alloc, lanes.len()) else {
         return Err(tasks);
     };
-    let feeds = feeds_of(lanes.as_slice(), owners, tasks, rooms, feeds);
+    let feeds = feeds_of(lanes.as_slice(), capacity, owners, tasks, rooms, feeds);
     let service = Service {
         servers,
         room: served,

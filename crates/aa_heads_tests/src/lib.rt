@@ -8,6 +8,8 @@ mod mode_tests;
 #[cfg(test)]
 mod preamble_tests;
 #[cfg(test)]
+mod reading;
+#[cfg(test)]
 mod rule_tests;
 #[cfg(test)]
 mod table_tests;

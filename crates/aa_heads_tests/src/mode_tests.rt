@@ -1,8 +1,9 @@
 //! Modes: letters, exec parts, and whether anything is wrong with them.
 
 use aa_rules::{ExecKind, ExecMode, Fallback, RuleTree, rule_of};
-use aa_words::{Span, Spot, Word, WordKind};
+use aa_words::{PolicyFault, Span, Spot, Word, WordKind};
 use bitflags::Flags;
+use std::process::Abort;
 
 /// A word that stands at its number.
 fn word(kind: WordKind, text: &[u8], number: u32) -> Word<'_> {
@@ -20,6 +21,12 @@ fn qualifier(deny: bool) -> &'static [u8] {
     if deny { b"deny" } else { b"allow" }
 }
 
+/// The rule that the words are, and the place behind it.
+fn rule_in<'s>(words: &[Word<'s>], end: u32) -> Result<(RuleTree<'s>, usize), PolicyFault> {
+    let end = Spot { file: 0, byte: end };
+    rule_of(words, 0, end)
+}
+
 /// What a rule with that mode grants, and how it lets a program be executed, if the rule is read.
 fn mode_of(mode: &[u8], deny: bool) -> Option<(u8, Option<ExecMode>)> {
     let words = [
@@ -28,7 +35,7 @@ fn mode_of(mode: &[u8], deny: bool) -> Option<(u8, Option<ExecMode>)> {
         word(WordKind::Name, mode, 2),
         word(WordKind::Comma, b",", 3),
     ];
-    match rule_of(&words, 0, Spot { file: 0, byte: 4 }) {
+    match rule_in(&words, 4) {
         Ok((RuleTree::File(file), _)) => {
             let exec = match file.exec {
                 Some(exec) => Some(exec.mode),
@@ -47,15 +54,39 @@ fn is_faulty(mode: &[u8], deny: bool) -> bool {
         word(WordKind::Name, b"file", 1),
         word(WordKind::Name, mode, 2),
     ];
-    match rule_of(&words, 0, Spot { file: 0, byte: 3 }) {
+    match rule_in(&words, 3) {
         Ok(_) => false,
         Err(fault) => fault.at.byte == 2,
     }
 }
 
+/// A mode of that exec part alone lets a program be executed so, and is refused behind `deny`.
+fn says_how(rt: &impl Abort, part: &str, exec: ExecMode) {
+    let mode = mode_of(part.as_bytes(), false);
+    assert_eq!(rt; mode, Some((64, Some(exec))), "{part}");
+    assert_eq!(rt; mode_of(part.as_bytes(), true), None, "{part}");
+    assert!(rt; !is_faulty(part.as_bytes(), false), "{part}");
+    assert!(rt; is_faulty(part.as_bytes(), true), "{part}");
+}
+
+/// An exec part: how it lets a program be executed, whether it scrubs, and where to else.
+type PartRow = (&'static str, ExecKind, bool, Fallback);
+
+/// Each exec part says what stands beside it.
+fn say_how(rt: &impl Abort, rows: &[PartRow]) {
+    for (part, kind, scrub, fallback) in rows {
+        let exec = ExecMode {
+            kind: *kind,
+            scrub: *scrub,
+            fallback: *fallback,
+        };
+        says_how(rt, part, exec);
+    }
+}
+
 #[test]
 fn exec_parts_say_how(rt: HostRuntime) {
-    for (part, kind, scrub, fallback) in [
+    const PARTS: &[PartRow] = &[
         ("ix", ExecKind::Inherit, false, Fallback::Refuse),
         ("ux", ExecKind::Unconfined, false, Fallback::Refuse),
         ("Ux", ExecKind::Unconfined, true, Fallback::Refuse),
@@ -71,23 +102,36 @@ fn exec_parts_say_how(rt: HostRuntime) {
         ("PUx", ExecKind::Profile, true, Fallback::Unconfined),
         ("cux", ExecKind::Child, false, Fallback::Unconfined),
         ("CUx", ExecKind::Child, true, Fallback::Unconfined),
-    ] {
-        let exec = ExecMode {
-            kind,
-            scrub,
-            fallback,
-        };
-        let mode = mode_of(part.as_bytes(), false);
-        assert_eq!(rt; mode, Some((64, Some(exec))), "{part}");
-        assert_eq!(rt; mode_of(part.as_bytes(), true), None, "{part}");
-        assert!(rt; !is_faulty(part.as_bytes(), false), "{part}");
-        assert!(rt; is_faulty(part.as_bytes(), true), "{part}");
+    ];
+    say_how(&rt, PARTS);
+}
+
+/// The bits that a mode grants, if it is read.
+fn bits_of(mode: &[u8], deny: bool) -> Option<u8> {
+    match mode_of(mode, deny) {
+        Some((bits, _)) => Some(bits),
+        None => None,
+    }
+}
+
+/// Whether a mode grants these bits, or, without bits, is faulty.
+fn grants(mode: &[u8], deny: bool, bits: Option<u8>) -> bool {
+    bits_of(mode, deny) == bits && is_faulty(mode, deny) == bits.is_none()
+}
+
+/// A mode, whether it stands behind `deny`, and the bits that it grants, if it isn't faulty.
+type ModeRow = (&'static str, bool, Option<u8>);
+
+/// Each mode grants its bits, or is faulty.
+fn grants_each(rt: &impl Abort, rows: &[ModeRow]) {
+    for (text, deny, bits) in rows {
+        assert!(rt; grants(text.as_bytes(), *deny, *bits), "{text}");
     }
 }
 
 #[test]
 fn modes_grant_their_letters_and_one_exec_part(rt: HostRuntime) {
-    for (text, deny, bits) in [
+    const MODES: &[ModeRow] = &[
         ("", false, Some(0)),
         ("rwlkm", false, Some(63)),
         ("rix", false, Some(65)),
@@ -106,11 +150,8 @@ fn modes_grant_their_letters_and_one_exec_part(rt: HostRuntime) {
         ("wa", false, None),
         ("wixa", false, None),
         ("z", false, None),
-    ] {
-        let mode = mode_of(text.as_bytes(), deny);
-        assert_eq!(rt; mode.map(|m| m.0), bits, "{text}");
-        assert_eq!(rt; is_faulty(text.as_bytes(), deny), bits.is_none(), "{text}");
-    }
+    ];
+    grants_each(&rt, MODES);
 }
 
 /// The number of a mode's fault, if a rule that ends there is refused at it.
@@ -120,15 +161,25 @@ fn fault_of(mode: &[u8], deny: bool) -> Option<u8> {
         word(WordKind::Name, b"file", 1),
         word(WordKind::Name, mode, 2),
     ];
-    match rule_of(&words, 0, Spot { file: 0, byte: 3 }) {
+    match rule_in(&words, 3) {
         Err(fault) if fault.at.byte == 2 => Some(fault.kind.number()),
         _ => None,
     }
 }
 
+/// A mode, whether it stands behind `deny`, and the number of its fault, if it has one.
+type FaultRow = (&'static str, bool, Option<u8>);
+
+/// Each mode has its fault, or none.
+fn has_faults(rt: &impl Abort, rows: &[FaultRow]) {
+    for (text, deny, number) in rows {
+        assert_eq!(rt; fault_of(text.as_bytes(), *deny), *number, "{text}");
+    }
+}
+
 #[test]
 fn a_mode_has_the_first_of_its_faults(rt: HostRuntime) {
-    for (text, deny, number) in [
+    const MODES: &[FaultRow] = &[
         ("r", false, None),
         ("rpx", false, None),
         ("pUx", false, Some(5)),
@@ -149,7 +200,6 @@ fn a_mode_has_the_first_of_its_faults(rt: HostRuntime) {
         ("awix", false, Some(8)),
         ("wixa", false, Some(8)),
         ("waix", true, Some(7)),
-    ] {
-        assert_eq!(rt; fault_of(text.as_bytes(), deny), number, "{text}");
-    }
+    ];
+    has_faults(&rt, MODES);
 }

@@ -1,7 +1,8 @@
 //! File rules as they are written.
 
+use crate::reading::words_of;
 use aa_rules::{FileTree, RuleTree, rule_of};
-use aa_words::{PolicyFault, Sources, Spot, WordList, words};
+use aa_words::{PolicyFault, Sources, Spot, WordList};
 use bitflags::Flags;
 use std::alloc::Global;
 use std::process::Abort;
@@ -28,17 +29,21 @@ fn behind(list: &WordList, at: usize, row: &Row) -> Option<usize> {
     }
 }
 
+/// The place behind the file rules from a place on, if they are these.
+fn behind_all(list: &WordList, start: usize, rows: &[Row]) -> Option<usize> {
+    let mut at = start;
+    for row in rows {
+        at = behind(list, at, row)?;
+    }
+    Some(at)
+}
+
 /// The body of a text that is `profile p {`, rules and `}` has these file rules, and no others.
 fn has_files(rt: &impl Abort, alloc: Global, text: &str, rows: &[Row]) -> Result<(), PolicyFault> {
     let sources = Sources::new(alloc);
-    let list = words(alloc, &sources, text.as_bytes())?;
-    let mut at = 3;
-    for row in rows {
-        let next = behind(&list, at, row);
-        assert!(rt; next.is_some(), "at {at}");
-        at = next.unwrap_or(at);
-    }
-    assert_eq!(rt; at.saturating_add(1), list.list.len());
+    let list = words_of(alloc, &sources, text.as_bytes())?;
+    let closing = behind_all(&list, 3, rows);
+    assert_eq!(rt; closing, Some(list.list.len().saturating_sub(1)));
     Ok(())
 }
 

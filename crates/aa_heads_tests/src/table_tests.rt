@@ -3,6 +3,7 @@
 use aa_tables::{Cap, Caps, Family, SockType};
 use bitflags::Flags;
 use std::alloc::{AllocError, Global};
+use std::process::Abort;
 use std::test::Fail;
 
 const FAMILIES: &str = "unix inet ax25 ipx appletalk netrom bridge atmpvc x25 inet6 rose netbeui \
@@ -27,50 +28,74 @@ fn sock_type_of(name: &[u8]) -> Option<(usize, &'static str)> {
     Some((kind.number() as usize, kind.name()))
 }
 
+/// The capabilities with these names have these numbers, and are named so.
+fn has_capabilities(rt: &impl Abort, rows: &[(&str, usize)]) {
+    for (name, number) in rows {
+        assert_eq!(rt; cap_of(name.as_bytes()), Some((*number, *name)));
+    }
+}
+
 #[test]
 fn capabilities_have_their_numbers(rt: HostRuntime) {
-    for (name, number) in [
-        ("chown", 0),
-        ("dac_override", 1),
-        ("kill", 5),
-        ("net_admin", 12),
-        ("sys_admin", 21),
-        ("mac_admin", 33),
-        ("bpf", 39),
-        ("checkpoint_restore", 40),
-    ] {
-        assert_eq!(rt; cap_of(name.as_bytes()), Some((number, name)));
+    has_capabilities(
+        &rt,
+        &[
+            ("chown", 0),
+            ("dac_override", 1),
+            ("kill", 5),
+            ("net_admin", 12),
+            ("sys_admin", 21),
+            ("mac_admin", 33),
+            ("bpf", 39),
+            ("checkpoint_restore", 40),
+        ],
+    );
+}
+
+/// The families with these names have these numbers, and are named so.
+fn has_families(rt: &impl Abort, rows: &[(&str, usize)]) {
+    for (name, number) in rows {
+        assert_eq!(rt; family_of(name.as_bytes()), Some((*number, *name)));
     }
 }
 
 #[test]
 fn families_have_their_numbers(rt: HostRuntime) {
-    for (name, number) in [
-        ("unix", 0),
-        ("inet", 1),
-        ("inet6", 9),
-        ("netlink", 14),
-        ("packet", 15),
-        ("bluetooth", 29),
-        ("xdp", 42),
-        ("mctp", 43),
-    ] {
-        assert_eq!(rt; family_of(name.as_bytes()), Some((number, name)));
+    has_families(
+        &rt,
+        &[
+            ("unix", 0),
+            ("inet", 1),
+            ("inet6", 9),
+            ("netlink", 14),
+            ("packet", 15),
+            ("bluetooth", 29),
+            ("xdp", 42),
+            ("mctp", 43),
+        ],
+    );
+}
+
+/// The types of sockets with these names have these numbers, and are named so.
+fn has_types(rt: &impl Abort, rows: &[(&str, usize)]) {
+    for (name, number) in rows {
+        assert_eq!(rt; sock_type_of(name.as_bytes()), Some((*number, *name)));
     }
 }
 
 #[test]
 fn types_of_sockets_have_their_numbers(rt: HostRuntime) {
-    for (name, number) in [
-        ("stream", 0),
-        ("dgram", 1),
-        ("seqpacket", 2),
-        ("rdm", 3),
-        ("raw", 4),
-        ("packet", 5),
-    ] {
-        assert_eq!(rt; sock_type_of(name.as_bytes()), Some((number, name)));
-    }
+    has_types(
+        &rt,
+        &[
+            ("stream", 0),
+            ("dgram", 1),
+            ("seqpacket", 2),
+            ("rdm", 3),
+            ("raw", 4),
+            ("packet", 5),
+        ],
+    );
 }
 
 /// The bit of the capability with that name.
@@ -100,11 +125,16 @@ fn every_capability_stands_at_its_bit(rt: HostRuntime) -> Result<(), Fail> {
     Ok(())
 }
 
+/// Whether the family with that name has that number, and is named so.
+fn is_at_its_place(number: usize, name: &str) -> bool {
+    family_of(name.as_bytes()) == Some((number, name))
+}
+
 #[test]
 fn every_family_stands_at_its_place(rt: HostRuntime) {
     let mut count = 0;
     for (n, name) in FAMILIES.split(' ').enumerate() {
-        assert_eq!(rt; family_of(name.as_bytes()), Some((n, name)));
+        assert!(rt; is_at_its_place(n, name), "{name}");
         count = n + 1;
     }
     assert_eq!(rt; count, 44);
@@ -119,39 +149,60 @@ fn numbers_of(name: &[u8]) -> (Option<usize>, Option<usize>, Option<usize>) {
     )
 }
 
-#[test]
-fn other_names_have_no_entry(rt: HostRuntime) {
-    let names: [&[u8]; 20] = [
-        b"",
-        b" ",
-        b"\0",
-        b"\xff",
-        b"CHOWN",
-        b"Kill",
-        b"cap_kill",
-        b"chow",
-        b"hown",
-        b"chownx",
-        b"chown ",
-        b" chown",
-        b"chown\0",
-        b"ch\0wn",
-        b"chow\xee",
-        b"inet4",
-        b"INET",
-        b"ine",
-        b"streams",
-        b"tcp",
-    ];
+/// No table has any of the names.
+fn has_none(rt: &impl Abort, names: &[&[u8]]) {
     for name in names {
         assert_eq!(rt; numbers_of(name), (None, None, None));
     }
 }
 
 #[test]
+fn other_names_have_no_entry(rt: HostRuntime) {
+    has_none(
+        &rt,
+        &[
+            b"",
+            b" ",
+            b"\0",
+            b"\xff",
+            b"CHOWN",
+            b"Kill",
+            b"cap_kill",
+            b"chow",
+            b"hown",
+            b"chownx",
+            b"chown ",
+            b" chown",
+            b"chown\0",
+            b"ch\0wn",
+            b"chow\xee",
+            b"inet4",
+            b"INET",
+            b"ine",
+            b"streams",
+            b"tcp",
+        ],
+    );
+}
+
+/// A name, and its number in each table.
+type Row = (&'static str, Option<usize>, Option<usize>, Option<usize>);
+
+/// Each name has these numbers in the three tables.
+fn has_numbers(rt: &impl Abort, rows: &[Row]) {
+    for (name, cap, family, kind) in rows {
+        assert_eq!(rt;
+            numbers_of(name.as_bytes()),
+            (*cap, *family, *kind),
+            "{name}"
+        );
+    }
+}
+
+#[test]
 fn each_table_has_its_own_names(rt: HostRuntime) {
     // One name stands in two tables.
-    for (name, cap, family, kind) in [
+    const NAMES: &[Row] = &[
         ("kill", Some(5), None, None),
         ("chown", Some(0), None, None),
         ("sys_admin", Some(21), None, None),
@@ -162,7 +213,6 @@ fn each_table_has_its_own_names(rt: HostRuntime) {
         ("rdm", None, None, Some(3)),
         ("raw", None, None, Some(4)),
         ("packet", None, Some(15), Some(5)),
-    ] {
-        assert_eq!(rt; numbers_of(name.as_bytes()), (cap, family, kind), "{name}");
-    }
+    ];
+    has_numbers(&rt, NAMES);
 }

@@ -1,11 +1,12 @@
 -- A job as a JSON text.
-use Rattle.std.specs.Prelude.{ℕ, List, [], ◌∷◌, ◌++◌, ◌&&◌, ◌||◌, codes, decimal, Bool, true, false, not, if◌then◌else◌, ◌-◌, ◌^◌, min, count_by, sum_by}
-use Rattle.std.specs.List.{list_all}
-use Rattle.std.specs.Str.{is_utf8}
+use Rattle.std.specs.Prelude.{ℕ, nat_le, List, [], ◌∷◌, ◌++◌, ◌&&◌, ◌||◌, codes, decimal, length, Bool, true, false, not, Option, Some, None, if◌then◌else◌, ◌==◌, ◌-◌, ◌^◌, min, count_by, sum_by}
+use Rattle.std.specs.List.{list_all, list_any, position}
+use Rattle.std.specs.Str.{is_utf8, bytes_eq}
 use Rattle.aa_requests.specs.declared.request.Request.{Request}
 use Rattle.aa_texts.specs.Jsons.{json_bytes, key_text}
 use Rattle.aa_findings.specs.declared.task.LogTask.{LogTask}
 use Rattle.aa_job_texts.specs.declared.job.Include.{Include}
+use Rattle.aa_job_texts.specs.declared.job.JobPolicy.{JobPolicy}
 use Rattle.aa_job_texts.specs.Requests.{member, request_text, has_text}
 
 abbrev pub comma_if : Bool → List ℕ
@@ -19,12 +20,28 @@ unfoldable pub requests_text : Bool → List Request → List ℕ
 requests_text later [] = []
 requests_text later (r ∷ rs) = if_text later r ++ requests_text (later || has_text r) rs
 
-unfoldable pub task_text : LogTask → List ℕ
-task_text t = codes "{" ++ member (codes "label") t.label.items ++ codes "," ++ key_text (codes "requests") ++ codes "[" ++ requests_text false t.requests.items ++ codes "]}"
+-- a policy has a profile of that full name
+abbrev pub has_profile : List ℕ → JobPolicy → Bool
+has_profile label p = list_any (λ name. bytes_eq name.items label) p.names.now
 
-unfoldable pub tasks_text : Bool → List LogTask → List ℕ
-tasks_text later [] = []
-tasks_text later (t ∷ ts) = (comma_if later ++ task_text t) ++ tasks_text true ts
+-- the number of the first policy that has a profile of that name
+abbrev pub policy_of : List ℕ → List JobPolicy → Option ℕ
+policy_of label ps = position (has_profile label) ps
+
+abbrev pub number_text : Option ℕ → List ℕ
+number_text None = []
+number_text (Some n) = codes "," ++ key_text (codes "policy") ++ decimal n
+
+-- where there is not one policy alone, a task names the first that has its profile
+unfoldable pub decider_text : List JobPolicy → List ℕ → List ℕ
+decider_text ps label = if length ps == 1 then [] else number_text (policy_of label ps)
+
+unfoldable pub task_text : List JobPolicy → LogTask → List ℕ
+task_text ps t = codes "{" ++ member (codes "label") t.label.items ++ codes "," ++ key_text (codes "requests") ++ codes "[" ++ requests_text false t.requests.items ++ codes "]" ++ decider_text ps t.label.items ++ codes "}"
+
+unfoldable pub tasks_text : List JobPolicy → Bool → List LogTask → List ℕ
+tasks_text ps later [] = []
+tasks_text ps later (t ∷ ts) = (comma_if later ++ task_text ps t) ++ tasks_text ps true ts
 
 unfoldable pub include_text : Include → List ℕ
 include_text i = json_bytes i.name.now ++ codes ":" ++ json_bytes i.text.now
@@ -33,21 +50,36 @@ unfoldable pub includes_text : Bool → List Include → List ℕ
 includes_text later [] = []
 includes_text later (i ∷ is) = (comma_if later ++ include_text i) ++ includes_text true is
 
--- the policy's text and those that it includes
-unfoldable pub policy_text : List ℕ → List Include → List ℕ
-policy_text policy includes = codes "{" ++ member (codes "policy") policy ++ codes "," ++ key_text (codes "includes") ++ codes "{" ++ includes_text false includes ++ codes "},"
+-- the texts of policies with a comma between two
+unfoldable pub texts_text : Bool → List JobPolicy → List ℕ
+texts_text later [] = []
+texts_text later (p ∷ ps) = (comma_if later ++ json_bytes p.text.now) ++ texts_text true ps
+
+-- one policy stands by itself, others as a list
+unfoldable pub policies_text : List JobPolicy → List ℕ
+policies_text [] = key_text (codes "policies") ++ codes "[" ++ texts_text false [] ++ codes "]"
+policies_text (p ∷ []) = member (codes "policy") p.text.now
+policies_text (p ∷ q ∷ ps) = key_text (codes "policies") ++ codes "[" ++ texts_text false (p ∷ q ∷ ps) ++ codes "]"
+
+-- the policies' texts and those that they include
+unfoldable pub given_text : List JobPolicy → List Include → List ℕ
+given_text ps includes = codes "{" ++ policies_text ps ++ codes "," ++ key_text (codes "includes") ++ codes "{" ++ includes_text false includes ++ codes "},"
 
 -- the tasks with what they ask, and the most states
-unfoldable pub asked_text : List LogTask → ℕ → List ℕ
-asked_text tasks states = key_text (codes "tasks") ++ codes "[" ++ tasks_text false tasks ++ codes "]," ++ key_text (codes "states") ++ decimal states ++ codes "}\n"
+unfoldable pub asked_text : List JobPolicy → List LogTask → ℕ → List ℕ
+asked_text ps tasks states = key_text (codes "tasks") ++ codes "[" ++ tasks_text ps false tasks ++ codes "]," ++ key_text (codes "states") ++ decimal states ++ codes "}\n"
 
 -- a job, as the engine reads it
-abbrev pub job_text : List ℕ → List Include → List LogTask → ℕ → List ℕ
-job_text policy includes tasks states = policy_text policy includes ++ asked_text tasks states
+abbrev pub job_text : List JobPolicy → List Include → List LogTask → ℕ → List ℕ
+job_text ps includes tasks states = given_text ps includes ++ asked_text ps tasks states
+
+-- how many policies a job may have
+abbrev pub is_policy_count : ℕ → Bool
+is_policy_count n = nat_le 1 n && nat_le n 16
 
 -- its texts, their names and the tasks' labels are UTF-8
-abbrev pub is_job_text : List ℕ → List Include → List LogTask → Bool
-is_job_text policy includes tasks = is_utf8 policy && list_all (λ (i : Include). is_utf8 i.name.now && is_utf8 i.text.now) includes && list_all (λ (t : LogTask). is_utf8 t.label.items) tasks
+abbrev pub is_job_text : List JobPolicy → List Include → List LogTask → Bool
+is_job_text ps includes tasks = list_all (λ (p : JobPolicy). is_utf8 p.text.now) ps && list_all (λ (i : Include). is_utf8 i.name.now && is_utf8 i.text.now) includes && list_all (λ (t : LogTask). is_utf8 t.label.items) tasks
 
 -- how many of the tasks' requests are no UTF-8, up to the greatest number of 64 bits
 abbrev pub left_out : List LogTask → ℕ

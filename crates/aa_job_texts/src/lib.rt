@@ -4,4 +4,6 @@
 mod job;
 mod request;
 
-pub use job::{Include, is_job_text, left_out, push_job_text};
+pub use job::{
+    Include, JobPolicy, is_job_text, is_policy_count, left_out, policy_of, push_job_text,
+};

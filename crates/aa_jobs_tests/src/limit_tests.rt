@@ -1,31 +1,45 @@
 //! How large a job may be.
 
-use crate::texts::{asking, fault, fault_of, repeated, with};
+use crate::texts::{asking, fault, fault_of, fault_with, repeated, with};
 use aa_jobs::JobFault;
 use std::alloc::{AllocError, Global};
+use std::process::Abort;
 use std::test::Fail;
+
+/// A job with each of these members besides is read, or refused with the fault beside them.
+fn read_so(
+    rt: &impl Abort,
+    alloc: Global,
+    rows: &[(&str, Option<JobFault>)],
+) -> Result<(), AllocError> {
+    for (members, want) in rows {
+        assert_eq!(rt; fault_with(alloc, members)?, *want, "at {members}");
+    }
+    Ok(())
+}
 
 #[test]
 fn numbers_have_limits(rt: HostRuntime) -> Result<(), Fail> {
-    for (members, want) in [
-        (r#","states":0"#, Some(JobFault::TooLarge)),
-        (r#","states":1"#, None),
-        (r#","states":65535"#, None),
-        (r#","states":65536"#, None),
-        (r#","states":1000000"#, None),
-        (r#","states":1000001"#, Some(JobFault::TooLarge)),
-        (
-            r#","states":18446744073709551615"#,
-            Some(JobFault::TooLarge),
-        ),
-        (r#","capacity":0"#, Some(JobFault::TooLarge)),
-        (r#","capacity":1"#, None),
-        (r#","capacity":1024"#, None),
-        (r#","capacity":1025"#, Some(JobFault::TooLarge)),
-    ] {
-        let text = with(rt.alloc(), members)?;
-        assert_eq!(rt; fault(rt.alloc(), text.as_str()), want, "at {members}");
-    }
+    read_so(
+        &rt,
+        rt.alloc(),
+        &[
+            (r#","states":0"#, Some(JobFault::TooLarge)),
+            (r#","states":1"#, None),
+            (r#","states":65535"#, None),
+            (r#","states":65536"#, None),
+            (r#","states":1000000"#, None),
+            (r#","states":1000001"#, Some(JobFault::TooLarge)),
+            (
+                r#","states":18446744073709551615"#,
+                Some(JobFault::TooLarge),
+            ),
+            (r#","capacity":0"#, Some(JobFault::TooLarge)),
+            (r#","capacity":1"#, None),
+            (r#","capacity":1024"#, None),
+            (r#","capacity":1025"#, Some(JobFault::TooLarge)),
+        ],
+    )?;
     Ok(())
 }
 

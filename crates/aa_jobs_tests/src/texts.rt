@@ -2,6 +2,7 @@
 
 use aa_jobs::{Job, JobFault, read_job};
 use std::alloc::{AllocError, Global};
+use std::process::Abort;
 use std::test::Fail;
 
 pub const WORKED: &str =
@@ -57,4 +58,49 @@ pub fn repeated(alloc: Global, item: &str, count: u32) -> Result<String, AllocEr
         text.push_str(item)?;
     }
     Ok(text)
+}
+
+/// Each text is refused as a job, with this fault.
+pub fn refuses_each(rt: &impl Abort, alloc: Global, want: JobFault, texts: &[&str]) {
+    for text in texts {
+        assert_eq!(rt; fault(alloc, text), Some(want), "at {text}");
+    }
+}
+
+/// Why a job with these members besides is refused, if it is.
+pub fn fault_with(alloc: Global, members: &str) -> Result<Option<JobFault>, AllocError> {
+    let text = with(alloc, members)?;
+    Ok(fault(alloc, text.as_str()))
+}
+
+/// A job with each of these members besides is refused, with this fault.
+pub fn refuses_members(
+    rt: &impl Abort,
+    alloc: Global,
+    want: JobFault,
+    rows: &[&str],
+) -> Result<(), AllocError> {
+    for members in rows {
+        assert_eq!(rt; fault_with(alloc, members)?, Some(want), "at {members}");
+    }
+    Ok(())
+}
+
+/// Why a job of one task with these items is refused, if it is.
+pub fn fault_asking(alloc: Global, items: &str) -> Result<Option<JobFault>, AllocError> {
+    let text = asking(alloc, items)?;
+    Ok(fault(alloc, text.as_str()))
+}
+
+/// A job of one task with each of these items is refused, with this fault.
+pub fn refuses_items(
+    rt: &impl Abort,
+    alloc: Global,
+    want: JobFault,
+    rows: &[&str],
+) -> Result<(), AllocError> {
+    for item in rows {
+        assert_eq!(rt; fault_asking(alloc, item)?, Some(want), "at {item}");
+    }
+    Ok(())
 }

@@ -1,4 +1,5 @@
 pub mod Broken
+pub mod Choosing
 pub mod Found
 pub mod Hex
 pub mod Letters

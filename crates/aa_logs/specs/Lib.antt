@@ -1,4 +1,5 @@
 pub mod Asked
+pub mod Chosen
 pub mod Fields
 pub mod Masks
 pub mod Outcomes

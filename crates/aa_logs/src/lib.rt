@@ -2,6 +2,7 @@
 #![tactic(auto)]
 
 mod asked;
+mod chosen;
 mod field;
 mod line;
 mod mask;
@@ -10,6 +11,7 @@ mod reading;
 mod value;
 mod word;
 
+pub use chosen::{Choice, is_chosen};
 pub use line::{Line, Reason, Record, Then, line_of};
 pub use reading::{last_of, read_line};
 pub use value::name_of;

@@ -171,7 +171,7 @@ fn is_old_type(kind: &[u8]) -> bool
 }
 
 /// How many digits stand first.
-fn digits(text: &[u8]) -> usize
+pub(crate) fn digits(text: &[u8]) -> usize
     ensures count { result ≡ prefix_len is_digit text.now }
     ensures within { result ≤ length text.now }
 {
@@ -198,7 +198,7 @@ fn is_end(rest: &[u8]) -> bool
 
 /// Whether a text is `SECONDS.PART:NUMBER)`, a colon behind it or not.
 #[tactic(auto, unfolding(crate::specs::Records::is_time))]
-fn is_time(text: &[u8]) -> bool
+pub(crate) fn is_time(text: &[u8]) -> bool
     ensures { result ≡ is_time text.now }
 {
     let Some(part) = behind_digits(text, 19, b'.') else {
@@ -224,7 +224,7 @@ fn may_be_stamp(form: Form, key: &[u8]) -> bool
     }
 }
 
-fn begins_stamp(word: &LogWord<'_>) -> bool
+pub(crate) fn begins_stamp(word: &LogWord<'_>) -> bool
     ensures { result ≡ begins_stamp (word_data word.now) }
 {
     may_be_stamp(word.form, word.key) && begins(word.text, "audit(")
@@ -359,7 +359,7 @@ fn record_of(alloc: Global, line: &[u8]) -> Result<Option<Record>, Refusal>
 }
 
 /// A line without the CR that it may end in.
-fn without_return(line: &[u8]) -> &[u8]
+pub(crate) fn without_return(line: &[u8]) -> &[u8]
     ensures { result.now ≡ without_return line.entry.now }
 {
     match line {

@@ -2,6 +2,8 @@
 #![tactic(auto)]
 
 #[cfg(test)]
+mod choice_tests;
+#[cfg(test)]
 mod line_tests;
 #[cfg(test)]
 mod value_tests;

@@ -1,6 +1,7 @@
 //! The most of everything, and one more.
 
 use crate::reading::{named_refusal, read, refusal};
+use aa_policy::{FileRule, Policy};
 use std::alloc::{AllocError, Global};
 use std::process::Abort;
 use std::test::Fail;
@@ -16,21 +17,38 @@ fn repeated(alloc: Global, parts: &[(&str, u32)]) -> Result<Vec<u8>, AllocError>
     Ok(text)
 }
 
+/// What a text is refused with, if it is: the kind's number, the file and the byte.
+type Refusal = Option<(u8, u16, u32)>;
+
+/// Each text, a front, a part so many times and a back, is read or refused so.
+fn reads_or_refuses(
+    rt: &impl Abort,
+    alloc: Global,
+    rows: &[(&str, &str, u32, &str, Refusal)],
+) -> Result<(), AllocError> {
+    for (front, part, count, back, found) in rows {
+        let text = repeated(alloc, &[(front, 1), (part, *count), (back, 1)])?;
+        assert_eq!(rt; refusal(alloc, text.as_slice()), *found, "{count}");
+    }
+    Ok(())
+}
+
 #[test]
 fn the_longest_path_and_name_and_the_most_patterns_of_a_profile(
     rt: HostRuntime,
 ) -> Result<(), Fail> {
-    for (front, part, count, back, found) in [
-        ("profile p { /", "a", 16383, " r, }", None),
-        ("profile p { /", "a", 16384, " r, }", Some((18, 0, 12))),
-        ("profile ", "a", 1024, " { }", None),
-        ("profile ", "a", 1025, " { }", Some((18, 0, 0))),
-        ("profile p {", "/a r,\n", 65535, "}", None),
-        ("profile p {", "/a r,\n", 65536, "}", Some((18, 0, 0))),
-    ] {
-        let text = repeated(rt.alloc(), &[(front, 1), (part, count), (back, 1)])?;
-        assert_eq!(rt; refusal(rt.alloc(), text.as_slice()), found, "{count}");
-    }
+    reads_or_refuses(
+        &rt,
+        rt.alloc(),
+        &[
+            ("profile p { /", "a", 16383, " r, }", None),
+            ("profile p { /", "a", 16384, " r, }", Some((18, 0, 12))),
+            ("profile ", "a", 1024, " { }", None),
+            ("profile ", "a", 1025, " { }", Some((18, 0, 0))),
+            ("profile p {", "/a r,\n", 65535, "}", None),
+            ("profile p {", "/a r,\n", 65536, "}", Some((18, 0, 0))),
+        ],
+    )?;
     Ok(())
 }
 
@@ -59,17 +77,31 @@ fn many_profiles(
     Ok(text)
 }
 
+/// So many profiles with names of their own are read or refused so.
+fn reads_profiles(
+    rt: &impl Abort,
+    alloc: Global,
+    rows: &[(u32, Refusal)],
+) -> Result<(), AllocError> {
+    for (count, found) in rows {
+        let text = many_profiles(alloc, b"", *count, b" { }\n")?;
+        assert_eq!(rt; refusal(alloc, text.as_slice()), *found, "{count}");
+    }
+    Ok(())
+}
+
 #[test]
 fn the_most_profiles(rt: HostRuntime) -> Result<(), Fail> {
-    for (count, found) in [
-        (4096, None),
-        (4097, Some((18, 0, 0))),
-        // A name that is there twice is found first: the profile after 17,576 others.
-        (17577, Some((15, 0, 17576 * 17 + 8))),
-    ] {
-        let text = many_profiles(rt.alloc(), b"", count, b" { }\n")?;
-        assert_eq!(rt; refusal(rt.alloc(), text.as_slice()), found, "{count}");
-    }
+    reads_profiles(
+        &rt,
+        rt.alloc(),
+        &[
+            (4096, None),
+            (4097, Some((18, 0, 0))),
+            // A name that is there twice is found first: the profile after 17,576 others.
+            (17577, Some((15, 0, 17576 * 17 + 8))),
+        ],
+    )?;
     Ok(())
 }
 
@@ -88,12 +120,22 @@ fn attached(alloc: Global, more: u32) -> Result<Vec<u8>, AllocError> {
     many_profiles(alloc, front.as_slice(), 63, b" @{A}@{A} { }\n")
 }
 
+/// So many attachment patterns more at the top level are read or refused so.
+fn reads_attachments(
+    rt: &impl Abort,
+    alloc: Global,
+    rows: &[(u32, Refusal)],
+) -> Result<(), AllocError> {
+    for (more, found) in rows {
+        let text = attached(alloc, *more)?;
+        assert_eq!(rt; refusal(alloc, text.as_slice()), *found, "{more}");
+    }
+    Ok(())
+}
+
 #[test]
 fn attachments_of_the_top_level_are_at_most_65535(rt: HostRuntime) -> Result<(), Fail> {
-    for (more, found) in [(1023, None), (1024, Some((18, 0, 0)))] {
-        let text = attached(rt.alloc(), more)?;
-        assert_eq!(rt; refusal(rt.alloc(), text.as_slice()), found, "{more}");
-    }
+    reads_attachments(&rt, rt.alloc(), &[(1023, None), (1024, Some((18, 0, 0)))])?;
     Ok(())
 }
 
@@ -162,17 +204,16 @@ fn refuses_behind(
     Ok(())
 }
 
-#[test]
-fn each_profile_has_at_most_65535_patterns(rt: HostRuntime) -> Result<(), Fail> {
-    for (more, back, found) in [
-        // Those of another profile are counted anew.
-        (1023, "} profile q { @{A}@{A} r, }", None),
-        (1024, "}", Some(("TooLarge", 0, 0))),
-    ] {
-        let text = ruled(rt.alloc(), more)?;
+/// A number of patterns, what stands behind them, and what the whole is refused with, if it is.
+type CountRow = (u32, &'static str, Option<(&'static str, u16, u64)>);
+
+/// A profile of so many patterns more, and what stands behind them, are read or refused so.
+fn reads_rules(rt: &impl Abort, alloc: Global, rows: &[CountRow]) -> Result<(), AllocError> {
+    for (more, back, found) in rows {
+        let text = ruled(alloc, *more)?;
         assert_eq!(rt;
-            refusal_behind(rt.alloc(), text.as_slice(), back)?,
-            found,
+            refusal_behind(alloc, text.as_slice(), back)?,
+            *found,
             "{more}"
         );
     }
@@ -180,21 +221,52 @@ fn each_profile_has_at_most_65535_patterns(rt: HostRuntime) -> Result<(), Fail> 
 }
 
 #[test]
-fn all_of_65535_patterns_are_kept(rt: HostRuntime) -> Result<(), Fail> {
-    let mut text = ruled(rt.alloc(), 1023)?;
-    text.extend_from_slice(b"/last w, }")?;
-    let refused = read(rt.alloc(), text.as_slice()).is_err();
-    assert!(rt; refused);
-    let mut text = ruled(rt.alloc(), 1022)?;
-    text.extend_from_slice(b"/last w, }")?;
-    let policy = read(rt.alloc(), text.as_slice())?;
+fn each_profile_has_at_most_65535_patterns(rt: HostRuntime) -> Result<(), Fail> {
+    reads_rules(
+        &rt,
+        rt.alloc(),
+        &[
+            // Those of another profile are counted anew.
+            (1023, "} profile q { @{A}@{A} r, }", None),
+            (1024, "}", Some(("TooLarge", 0, 0))),
+        ],
+    )?;
+    Ok(())
+}
+
+/// How many patterns the file rules of a policy have.
+fn count_of(policy: &Policy) -> u64 {
     let mut count: u64 = 0;
     for profile in policy.profiles.as_slice() {
-        for rule in profile.files.as_slice() {
-            count = count.saturating_add(rule.patterns.as_slice().len() as u64);
-        }
+        count = count.saturating_add(count_in(profile.files.as_slice()));
     }
-    assert_eq!(rt; count, 65535);
+    count
+}
+
+/// How many patterns these file rules have.
+fn count_in(rules: &[FileRule]) -> u64 {
+    let mut count: u64 = 0;
+    for rule in rules {
+        count = count.saturating_add(rule.patterns.as_slice().len() as u64);
+    }
+    count
+}
+
+/// How many patterns the file rules have of a profile of so many patterns and one more, where it is read.
+fn count_with_last(alloc: Global, more: u32) -> Result<Option<u64>, AllocError> {
+    let mut text = ruled(alloc, more)?;
+    text.extend_from_slice(b"/last w, }")?;
+    let count = match read(alloc, text.as_slice()) {
+        Ok(policy) => Some(count_of(&policy)),
+        Err(_) => None,
+    };
+    Ok(count)
+}
+
+#[test]
+fn all_of_65535_patterns_are_kept(rt: HostRuntime) -> Result<(), Fail> {
+    assert_eq!(rt; count_with_last(rt.alloc(), 1023)?, None);
+    assert_eq!(rt; count_with_last(rt.alloc(), 1022)?, Some(65535));
     Ok(())
 }
 
@@ -259,19 +331,29 @@ fn with_children(alloc: Global, more: u32) -> Result<Vec<u8>, AllocError> {
     Ok(text)
 }
 
-#[test]
-fn attachments_are_counted_below_each_parent(rt: HostRuntime) -> Result<(), Fail> {
-    for (more, back, found) in [
-        // Those of the top level, and those below another parent, are counted by themselves.
-        (1023, "profile u @{A}@{A} { profile c @{A}@{A} { } }", None),
-        (1024, "", Some(("TooLarge", 0, 0))),
-    ] {
-        let text = with_children(rt.alloc(), more)?;
+/// The same of a profile with children, of which the last has so many patterns.
+fn reads_children(rt: &impl Abort, alloc: Global, rows: &[CountRow]) -> Result<(), AllocError> {
+    for (more, back, found) in rows {
+        let text = with_children(alloc, *more)?;
         assert_eq!(rt;
-            refusal_behind(rt.alloc(), text.as_slice(), back)?,
-            found,
+            refusal_behind(alloc, text.as_slice(), back)?,
+            *found,
             "{more}"
         );
     }
+    Ok(())
+}
+
+#[test]
+fn attachments_are_counted_below_each_parent(rt: HostRuntime) -> Result<(), Fail> {
+    reads_children(
+        &rt,
+        rt.alloc(),
+        &[
+            // Those of the top level, and those below another parent, are counted by themselves.
+            (1023, "profile u @{A}@{A} { profile c @{A}@{A} { } }", None),
+            (1024, "", Some(("TooLarge", 0, 0))),
+        ],
+    )?;
     Ok(())
 }

@@ -4,6 +4,7 @@ use crate::reading::{has_flags, has_profiles, lists, matches_each};
 use aa_policy::{Seq, Text, matching_is_decided, parse, spelled_once};
 use aa_words::{Span, Spot, Word, WordKind, WordList};
 use std::alloc::{AllocError, Global};
+use std::process::Abort;
 use std::test::Fail;
 
 const FAMILIES: &str =
@@ -163,20 +164,33 @@ fn refusal_of(alloc: Global, list: &WordList) -> (u8, u32) {
     }
 }
 
+/// A name, a path, and the refusal of the words that have them: its number and its byte.
+type Row = (&'static str, &'static str, (u8, u32));
+
+/// The words of each row are refused as it says.
+fn refuses_each(rt: &impl Abort, alloc: Global, rows: &[Row]) -> Result<(), AllocError> {
+    for (name, path, found) in rows {
+        let list = words_by_hand(alloc, name.as_bytes(), path.as_bytes())?;
+        assert_eq!(rt; refusal_of(alloc, &list), *found, "{name} {path}");
+    }
+    Ok(())
+}
+
 #[test]
 fn names_and_paths_of_words_that_no_text_has(rt: HostRuntime) -> Result<(), Fail> {
-    for (name, path, found) in [
-        ("a@{b", "/x", (5, 1)),
-        ("/a", "/x", (0, 0)),
-        ("", "/x", (4, 1)),
-        ("a", "/x", (0, 0)),
-        ("p", "@{HOME}/x", (10, 3)),
-        ("p", "x", (14, 3)),
-        ("p", "", (14, 3)),
-    ] {
-        let list = words_by_hand(rt.alloc(), name.as_bytes(), path.as_bytes())?;
-        assert_eq!(rt; refusal_of(rt.alloc(), &list), found, "{name} {path}");
-    }
+    refuses_each(
+        &rt,
+        rt.alloc(),
+        &[
+            ("a@{b", "/x", (5, 1)),
+            ("/a", "/x", (0, 0)),
+            ("", "/x", (4, 1)),
+            ("a", "/x", (0, 0)),
+            ("p", "@{HOME}/x", (10, 3)),
+            ("p", "x", (14, 3)),
+            ("p", "", (14, 3)),
+        ],
+    )?;
     Ok(())
 }
 
@@ -186,15 +200,30 @@ fn bytes_of_text(alloc: Global, bytes: &[u8]) -> Result<Vec<u8>, AllocError> {
     Ok(Text::from_vec(text.into_vec()).into_vec())
 }
 
+/// Whether a text of these bytes has them as its slice.
+fn text_is(bytes: Vec<u8>, wanted: &[u8]) -> bool {
+    let text = Text::from_vec(bytes);
+    text.as_slice() == wanted
+}
+
+/// Whether a list of these numbers has them as its slice.
+fn list_is(list: &Seq<i32>, wanted: &[i32]) -> bool {
+    list.as_slice() == wanted
+}
+
+/// The numbers of a list.
+fn numbers_of(list: Seq<i32>) -> Vec<i32> {
+    list.into_vec()
+}
+
 #[test]
 fn lists_and_texts_give_back_what_they_hold(rt: HostRuntime) -> Result<(), Fail> {
     let bytes = bytes_of_text(rt.alloc(), b"ab")?;
-    assert_eq!(rt; bytes.as_slice(), b"ab".as_slice());
-    let text = Text::from_vec(bytes);
-    assert_eq!(rt; text.as_slice(), b"ab".as_slice());
-    let row = Seq::from_vec([1, 2].to_vec(rt.alloc())?);
-    assert_eq!(rt; row.as_slice(), [1, 2].as_slice());
-    assert_eq!(rt; row.into_vec().as_slice(), [1, 2].as_slice());
+    assert!(rt; bytes.as_slice() == b"ab".as_slice());
+    assert!(rt; text_is(bytes, b"ab"));
+    let list = Seq::from_vec([1, 2].to_vec(rt.alloc())?);
+    assert!(rt; list_is(&list, &[1, 2]));
+    assert!(rt; numbers_of(list).as_slice() == [1, 2].as_slice());
     Ok(())
 }
 

@@ -2,11 +2,12 @@
 
 use aa_glob::Pattern;
 use aa_policy::{
-    ChangeRule, Exec, ExecKind, Fallback, FileRule, PassedOver, Policy, Profile, parse,
+    CapRule, ChangeRule, Exec, ExecKind, Fallback, FileRule, NetRule, PassedOver, Policy, Profile,
+    parse,
 };
 use aa_words::{PolicyFault, Sources, words};
 use bitflags::Flags;
-use std::alloc::Global;
+use std::alloc::{AllocError, Global};
 use std::process::Abort;
 
 /// The policy that a text spells.
@@ -46,9 +47,31 @@ pub fn refuses_each(rt: &impl Abort, alloc: Global, rows: &[Row]) {
     }
 }
 
+/// A text, the name of its refusal, and the byte that this points at.
+pub type NamedRow = (&'static str, &'static str, u32);
+
+/// Each of the texts is refused as it says, by the kind's name.
+pub fn refuses_each_by_name(rt: &impl Abort, alloc: Global, rows: &[NamedRow]) {
+    for (text, kind, byte) in rows {
+        assert_eq!(rt;
+            named_refusal(alloc, text.as_bytes()),
+            Some((*kind, 0, *byte)),
+            "{text}"
+        );
+    }
+}
+
 /// A profile: its name, the byte at which that stands, its parent, and how many attachments, file
 /// rules, rules on capabilities and rules on sockets it has.
 pub type ProfileRow = (&'static str, u32, Option<u16>, [usize; 4]);
+
+fn have_flags(profiles: &[Profile], rows: &[(bool, bool)]) -> bool {
+    profiles.len() == rows.len()
+        && profiles
+            .iter()
+            .zip(rows)
+            .all(|(profile, row)| (profile.complain, profile.audit) == *row)
+}
 
 /// The profiles of the text have these flags: `complain`, `audit`.
 pub fn has_flags(
@@ -58,10 +81,7 @@ pub fn has_flags(
     rows: &[(bool, bool)],
 ) -> Result<(), PolicyFault> {
     let policy = read(alloc, text.as_bytes())?;
-    assert_eq!(rt; policy.profiles.as_slice().len(), rows.len(), "{text}");
-    for (profile, row) in policy.profiles.as_slice().iter().zip(rows) {
-        assert!(rt; (profile.complain, profile.audit) == *row, "{text}");
-    }
+    assert!(rt; have_flags(policy.profiles.as_slice(), rows), "{text}");
     Ok(())
 }
 
@@ -79,6 +99,14 @@ fn is_profile(profile: &Profile, row: &ProfileRow) -> bool {
         && counts == row.3
 }
 
+fn are_profiles(profiles: &[Profile], rows: &[ProfileRow]) -> bool {
+    profiles.len() == rows.len()
+        && profiles
+            .iter()
+            .zip(rows)
+            .all(|(profile, row)| is_profile(profile, row))
+}
+
 /// The text has these profiles.
 pub fn has_profiles(
     rt: &impl Abort,
@@ -87,10 +115,7 @@ pub fn has_profiles(
     rows: &[ProfileRow],
 ) -> Result<(), PolicyFault> {
     let policy = read(alloc, text.as_bytes())?;
-    assert_eq!(rt; policy.profiles.as_slice().len(), rows.len(), "{text}");
-    for (profile, row) in policy.profiles.as_slice().iter().zip(rows) {
-        assert!(rt; is_profile(profile, row), "{text}");
-    }
+    assert!(rt; are_profiles(policy.profiles.as_slice(), rows), "{text}");
     Ok(())
 }
 
@@ -124,6 +149,21 @@ fn is_file_rule(rule: &FileRule, row: &FileRow) -> bool {
         && items_of_the_first(patterns) == row.3
 }
 
+fn first_has_files(policy: &Policy, rows: &[FileRow]) -> bool {
+    match policy.profiles.as_slice().first() {
+        Some(profile) => are_file_rules(profile.files.as_slice(), rows),
+        None => false,
+    }
+}
+
+fn are_file_rules(rules: &[FileRule], rows: &[FileRow]) -> bool {
+    rules.len() == rows.len()
+        && rules
+            .iter()
+            .zip(rows)
+            .all(|(rule, row)| is_file_rule(rule, row))
+}
+
 /// The text's first profile has these file rules.
 pub fn has_files(
     rt: &impl Abort,
@@ -132,12 +172,7 @@ pub fn has_files(
     rows: &[FileRow],
 ) -> Result<(), PolicyFault> {
     let policy = read(alloc, text.as_bytes())?;
-    for profile in policy.profiles.as_slice().iter().take(1) {
-        assert_eq!(rt; profile.files.as_slice().len(), rows.len(), "{text}");
-        for (rule, row) in profile.files.as_slice().iter().zip(rows) {
-            assert!(rt; is_file_rule(rule, row), "{text}");
-        }
-    }
+    assert!(rt; first_has_files(&policy, rows), "{text}");
     Ok(())
 }
 
@@ -164,6 +199,21 @@ fn is_exec(exec: &Option<Exec>, row: &ExecRow) -> bool {
     }
 }
 
+fn first_has_execs(policy: &Policy, rows: &[ExecRow]) -> bool {
+    match policy.profiles.as_slice().first() {
+        Some(profile) => are_execs(profile.files.as_slice(), rows),
+        None => false,
+    }
+}
+
+fn are_execs(rules: &[FileRule], rows: &[ExecRow]) -> bool {
+    rules.len() == rows.len()
+        && rules
+            .iter()
+            .zip(rows)
+            .all(|(rule, row)| is_exec(&rule.exec, row))
+}
+
 /// The file rules of the text's first profile let programs be executed like this.
 pub fn has_execs(
     rt: &impl Abort,
@@ -172,11 +222,29 @@ pub fn has_execs(
     rows: &[ExecRow],
 ) -> Result<(), PolicyFault> {
     let policy = read(alloc, text.as_bytes())?;
-    for profile in policy.profiles.as_slice().iter().take(1) {
-        assert_eq!(rt; profile.files.as_slice().len(), rows.len(), "{text}");
-        for (number, (rule, row)) in profile.files.as_slice().iter().zip(rows).enumerate() {
-            assert!(rt; is_exec(&rule.exec, row), "rule {number}");
-        }
+    assert!(rt; first_has_execs(&policy, rows), "{text}");
+    Ok(())
+}
+
+fn push_matches(
+    matched: &mut Vec<bool>,
+    patterns: &[Pattern],
+    path: &[u8],
+) -> Result<(), AllocError> {
+    for pattern in patterns {
+        matched.push(pattern.matches(path))?;
+    }
+    Ok(())
+}
+
+fn push_matches_of(
+    matched: &mut Vec<bool>,
+    profile: &Profile,
+    path: &[u8],
+) -> Result<(), AllocError> {
+    push_matches(matched, profile.attachments.as_slice(), path)?;
+    for rule in profile.files.as_slice() {
+        push_matches(matched, rule.patterns.as_slice(), path)?;
     }
     Ok(())
 }
@@ -186,14 +254,7 @@ pub fn matching(alloc: Global, text: &str, path: &str) -> Result<Vec<bool>, Poli
     let policy = read(alloc, text.as_bytes())?;
     let mut matched = Vec::new(alloc);
     for profile in policy.profiles.as_slice() {
-        for pattern in profile.attachments.as_slice() {
-            matched.push(pattern.matches(path.as_bytes()))?;
-        }
-        for rule in profile.files.as_slice() {
-            for pattern in rule.patterns.as_slice() {
-                matched.push(pattern.matches(path.as_bytes()))?;
-            }
-        }
+        push_matches_of(&mut matched, profile, path.as_bytes())?;
     }
     Ok(matched)
 }
@@ -216,6 +277,14 @@ fn is_listed(rule: &PassedOver, profile: u16, keyword: &str) -> bool {
     rule.profile == profile && rule.kind.as_slice() == keyword.as_bytes()
 }
 
+fn are_listed(rules: &[PassedOver], rows: &[(u16, &str)]) -> bool {
+    rules.len() == rows.len()
+        && rules
+            .iter()
+            .zip(rows)
+            .all(|(rule, row)| is_listed(rule, row.0, row.1))
+}
+
 /// The rules of the text that are passed over are these, each by its profile and its keyword.
 pub fn lists(
     rt: &impl Abort,
@@ -224,49 +293,69 @@ pub fn lists(
     rows: &[(u16, &str)],
 ) -> Result<(), PolicyFault> {
     let policy = read(alloc, text.as_bytes())?;
-    let listed = policy.passed_over.as_slice();
-    assert_eq!(rt; listed.len(), rows.len(), "{text}");
-    for (rule, (profile, keyword)) in listed.iter().zip(rows) {
-        assert!(rt; is_listed(rule, *profile, keyword), "{text}");
-    }
+    assert!(rt; are_listed(policy.passed_over.as_slice(), rows), "{text}");
     Ok(())
 }
 
-/// The rules on capabilities of the text's first profile: whether each has `audit`, whether it has `deny`, and its
-/// capabilities.
+/// A rule on capabilities: whether it has `audit`, whether it has `deny`, and its capabilities.
+pub type CapRow = (bool, bool, u64);
+
+fn first_has_caps(policy: &Policy, rows: &[CapRow]) -> bool {
+    match policy.profiles.as_slice().first() {
+        Some(profile) => are_cap_rules(profile.caps.as_slice(), rows),
+        None => false,
+    }
+}
+
+fn are_cap_rules(rules: &[CapRule], rows: &[CapRow]) -> bool {
+    rules.len() == rows.len()
+        && rules
+            .iter()
+            .zip(rows)
+            .all(|(rule, row)| (rule.audit, rule.deny, rule.caps.0) == *row)
+}
+
+/// The text's first profile has these rules on capabilities.
 pub fn has_caps(
     rt: &impl Abort,
     alloc: Global,
     text: &str,
-    rows: &[(bool, bool, u64)],
+    rows: &[CapRow],
 ) -> Result<(), PolicyFault> {
     let policy = read(alloc, text.as_bytes())?;
-    for profile in policy.profiles.as_slice().iter().take(1) {
-        assert_eq!(rt; profile.caps.as_slice().len(), rows.len(), "{text}");
-        for (number, (rule, row)) in profile.caps.as_slice().iter().zip(rows).enumerate() {
-            let said = (rule.audit, rule.deny, rule.caps.0);
-            assert!(rt; said == *row, "rule {number}");
-        }
-    }
+    assert!(rt; first_has_caps(&policy, rows), "{text}");
     Ok(())
 }
 
-/// The rules on sockets of the text's first profile: whether each has `audit`, whether it has `deny`, its families
-/// and its types.
+/// A rule on sockets: whether it has `audit`, whether it has `deny`, its families and its types.
+pub type NetRow = (bool, bool, u64, u8);
+
+fn first_has_nets(policy: &Policy, rows: &[NetRow]) -> bool {
+    match policy.profiles.as_slice().first() {
+        Some(profile) => are_net_rules(profile.nets.as_slice(), rows),
+        None => false,
+    }
+}
+
+fn are_net_rules(rules: &[NetRule], rows: &[NetRow]) -> bool {
+    rules.len() == rows.len()
+        && rules.iter().zip(rows).all(|(rule, row)| (
+            rule.audit,
+            rule.deny,
+            rule.families,
+            rule.kinds,
+        ) == *row)
+}
+
+/// The text's first profile has these rules on sockets.
 pub fn has_nets(
     rt: &impl Abort,
     alloc: Global,
     text: &str,
-    rows: &[(bool, bool, u64, u8)],
+    rows: &[NetRow],
 ) -> Result<(), PolicyFault> {
     let policy = read(alloc, text.as_bytes())?;
-    for profile in policy.profiles.as_slice().iter().take(1) {
-        assert_eq!(rt; profile.nets.as_slice().len(), rows.len(), "{text}");
-        for (number, (rule, row)) in profile.nets.as_slice().iter().zip(rows).enumerate() {
-            let said = (rule.audit, rule.deny, rule.families, rule.kinds);
-            assert!(rt; said == *row, "rule {number}");
-        }
-    }
+    assert!(rt; first_has_nets(&policy, rows), "{text}");
     Ok(())
 }
 
@@ -296,6 +385,21 @@ fn is_change_rule(rule: &ChangeRule, row: &ChangeRow) -> bool {
         && !holds_for(rule, row.2)
 }
 
+fn first_has_changes(policy: &Policy, rows: &[ChangeRow]) -> bool {
+    match policy.profiles.as_slice().first() {
+        Some(profile) => are_change_rules(profile.changes.as_slice(), rows),
+        None => false,
+    }
+}
+
+fn are_change_rules(rules: &[ChangeRule], rows: &[ChangeRow]) -> bool {
+    rules.len() == rows.len()
+        && rules
+            .iter()
+            .zip(rows)
+            .all(|(rule, row)| is_change_rule(rule, row))
+}
+
 /// The text's first profile has these rules on changes of profile, each with a name.
 pub fn has_changes(
     rt: &impl Abort,
@@ -304,13 +408,28 @@ pub fn has_changes(
     rows: &[ChangeRow],
 ) -> Result<(), PolicyFault> {
     let policy = read(alloc, text.as_bytes())?;
-    for profile in policy.profiles.as_slice().iter().take(1) {
-        assert_eq!(rt; profile.changes.as_slice().len(), rows.len(), "{text}");
-        for (number, (rule, row)) in profile.changes.as_slice().iter().zip(rows).enumerate() {
-            assert!(rt; is_change_rule(rule, row), "rule {number} of {text}");
-        }
-    }
+    assert!(rt; first_has_changes(&policy, rows), "{text}");
     Ok(())
+}
+
+fn is_bare_change(rule: &ChangeRule, qualifiers: &str) -> bool {
+    rule.pattern.is_none() && qualifiers_of_change(rule) == qualifiers
+}
+
+fn are_bare_changes(rules: &[ChangeRule], rows: &[&'static str]) -> bool {
+    rules.len() == rows.len()
+        && rules
+            .iter()
+            .zip(rows)
+            .all(|(rule, qualifiers)| is_bare_change(rule, qualifiers))
+}
+
+fn have_bare_changes(profiles: &[Profile], rows: &[&[&'static str]]) -> bool {
+    profiles.len() == rows.len()
+        && profiles.iter().zip(rows).all(|(profile, row)| are_bare_changes(
+            profile.changes.as_slice(),
+            row,
+        ))
 }
 
 /// What stands before each rule on changes of profile of the text that holds for every name, profile by profile.
@@ -321,13 +440,9 @@ pub fn has_bare_changes(
     rows: &[&[&'static str]],
 ) -> Result<(), PolicyFault> {
     let policy = read(alloc, text.as_bytes())?;
-    assert_eq!(rt; policy.profiles.as_slice().len(), rows.len(), "{text}");
-    for (profile, row) in policy.profiles.as_slice().iter().zip(rows) {
-        assert_eq!(rt; profile.changes.as_slice().len(), row.len(), "{text}");
-        for (rule, qualifiers) in profile.changes.as_slice().iter().zip(*row) {
-            assert!(rt; rule.pattern.is_none(), "{text}");
-            assert!(rt; qualifiers_of_change(rule) == *qualifiers, "{text}");
-        }
-    }
+    assert!(rt;
+        have_bare_changes(policy.profiles.as_slice(), rows),
+        "{text}"
+    );
     Ok(())
 }

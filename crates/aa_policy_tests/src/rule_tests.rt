@@ -2,6 +2,9 @@
 
 use crate::reading::{has_execs, has_files, has_profiles, lists, matches_each};
 use aa_policy::{ExecKind, Fallback};
+use aa_words::PolicyFault;
+use std::alloc::Global;
+use std::process::Abort;
 use std::test::Fail;
 
 #[test]
@@ -35,8 +38,12 @@ fn a_path_matches_itself(rt: HostRuntime) -> Result<(), Fail> {
 fn names_and_paths_may_stand_in_quotes(rt: HostRuntime) -> Result<(), Fail> {
     let text = "profile \"p, q\" { \"/a b\" r, }";
     has_profiles(&rt, rt.alloc(), text, &[("p, q", 9, None, [0, 1, 0, 0])])?;
-    let rows: [(&str, &[bool]); 2] = [("/a b", &[true]), ("\"/a b\"", &[false])];
-    matches_each(&rt, rt.alloc(), text, &rows)?;
+    matches_each(
+        &rt,
+        rt.alloc(),
+        text,
+        &[("/a b", &[true]), ("\"/a b\"", &[false])],
+    )?;
     Ok(())
 }
 
@@ -164,30 +171,42 @@ fn rules_say_how_a_program_is_executed(rt: HostRuntime) -> Result<(), Fail> {
     Ok(())
 }
 
+/// A text, and its rules that are passed over: the profile and the keyword of each.
+type ListedRow = (&'static str, &'static [(u16, &'static str)]);
+
+/// The rules of each text that are passed over are these.
+fn lists_each(rt: &impl Abort, alloc: Global, table: &[ListedRow]) -> Result<(), PolicyFault> {
+    for (text, rows) in table {
+        lists(rt, alloc, text, rows)?;
+    }
+    Ok(())
+}
+
 #[test]
 fn rules_that_are_passed_over_are_listed(rt: HostRuntime) -> Result<(), Fail> {
-    let table: [(&str, &[(u16, &str)]); 5] = [
-        (
-            "profile p { signal (send, receive) peer=\"a,b\", /x r, }",
-            &[(0, "signal")],
-        ),
-        (
-            "profile p { audit deny mount options=(rw, bind), }",
-            &[(0, "mount")],
-        ),
-        (
-            "profile p { /a r, change_profile -> q, ptrace, } profile q { } profile r { allow io_uring, deny /b r, dbus, }",
-            &[(0, "ptrace"), (2, "io_uring"), (2, "dbus")],
-        ),
-        (
-            "profile p { set rlimit nofile <= 4, userns, mqueue, umount{a,b}, }",
-            &[(0, "set"), (0, "userns"), (0, "mqueue"), (0, "umount")],
-        ),
-        ("profile p { }", &[]),
-    ];
-    for (text, rows) in table {
-        lists(&rt, rt.alloc(), text, rows)?;
-    }
+    lists_each(
+        &rt,
+        rt.alloc(),
+        &[
+            (
+                "profile p { signal (send, receive) peer=\"a,b\", /x r, }",
+                &[(0, "signal")],
+            ),
+            (
+                "profile p { audit deny mount options=(rw, bind), }",
+                &[(0, "mount")],
+            ),
+            (
+                "profile p { /a r, change_profile -> q, ptrace, } profile q { } profile r { allow io_uring, deny /b r, dbus, }",
+                &[(0, "ptrace"), (2, "io_uring"), (2, "dbus")],
+            ),
+            (
+                "profile p { set rlimit nofile <= 4, userns, mqueue, umount{a,b}, }",
+                &[(0, "set"), (0, "userns"), (0, "mqueue"), (0, "umount")],
+            ),
+            ("profile p { }", &[]),
+        ],
+    )?;
     Ok(())
 }
 

@@ -17,19 +17,23 @@ fn rules_on_capabilities_give_their_sets(rt: HostRuntime) -> Result<(), Fail> {
         checkpoint_restore, }";
     has_profiles(&rt, rt.alloc(), text, &[("p", 8, None, [0, 1, 10, 1])])?;
     lists(&rt, rt.alloc(), text, &[(0, "signal")])?;
-    let rows = [
-        (false, false, 0x1),
-        (false, false, 0x80_0000_0020),
-        (false, false, 0x1),
-        (true, false, 0x20),
-        (false, true, 0x2_0000_0000),
-        (true, true, 0x100_0000_0001),
-        (false, false, 0x1ff_ffff_ffff),
-        (false, true, 0x1ff_ffff_ffff),
-        (false, false, 0x20_3000),
-        (false, false, 0x1ff_ffff_ffff),
-    ];
-    has_caps(&rt, rt.alloc(), text, &rows)?;
+    has_caps(
+        &rt,
+        rt.alloc(),
+        text,
+        &[
+            (false, false, 0x1),
+            (false, false, 0x80_0000_0020),
+            (false, false, 0x1),
+            (true, false, 0x20),
+            (false, true, 0x2_0000_0000),
+            (true, true, 0x100_0000_0001),
+            (false, false, 0x1ff_ffff_ffff),
+            (false, true, 0x1ff_ffff_ffff),
+            (false, false, 0x20_3000),
+            (false, false, 0x1ff_ffff_ffff),
+        ],
+    )?;
     Ok(())
 }
 
@@ -41,27 +45,31 @@ fn rules_on_sockets_give_their_sets(rt: HostRuntime) -> Result<(), Fail> {
         network inet udp, audit network inet6 udp, deny network bluetooth,
         audit deny network inet, allow network unix dgram, }";
     has_profiles(&rt, rt.alloc(), text, &[("p", 8, None, [0, 0, 0, 19])])?;
-    let rows = [
-        (false, false, 0xfff_ffff_ffff, 0x3f),
-        (false, false, 0x1, 0x3f),
-        (false, false, 0x8000, 0x3f),
-        (false, false, 0x800_0000_0000, 0x3f),
-        (false, false, 0xfff_ffff_ffff, 0x01),
-        (false, false, 0xfff_ffff_ffff, 0x10),
-        (false, false, 0x202, 0x01),
-        (false, false, 0x202, 0x02),
-        (false, false, 0x2, 0x01),
-        (false, false, 0x200, 0x02),
-        (false, false, 0x8000, 0x20),
-        (false, false, 0x4000, 0x10),
-        (false, false, 0x2, 0x01),
-        (false, false, 0x200, 0x01),
-        (false, false, 0x2, 0x02),
-        (true, false, 0x200, 0x02),
-        (false, true, 0x2000_0000, 0x3f),
-        (true, true, 0x2, 0x3f),
-        (false, false, 0x1, 0x02),
-    ];
-    has_nets(&rt, rt.alloc(), text, &rows)?;
+    has_nets(
+        &rt,
+        rt.alloc(),
+        text,
+        &[
+            (false, false, 0xfff_ffff_ffff, 0x3f),
+            (false, false, 0x1, 0x3f),
+            (false, false, 0x8000, 0x3f),
+            (false, false, 0x800_0000_0000, 0x3f),
+            (false, false, 0xfff_ffff_ffff, 0x01),
+            (false, false, 0xfff_ffff_ffff, 0x10),
+            (false, false, 0x202, 0x01),
+            (false, false, 0x202, 0x02),
+            (false, false, 0x2, 0x01),
+            (false, false, 0x200, 0x02),
+            (false, false, 0x8000, 0x20),
+            (false, false, 0x4000, 0x10),
+            (false, false, 0x2, 0x01),
+            (false, false, 0x200, 0x01),
+            (false, false, 0x2, 0x02),
+            (true, false, 0x200, 0x02),
+            (false, true, 0x2000_0000, 0x3f),
+            (true, true, 0x2, 0x3f),
+            (false, false, 0x1, 0x02),
+        ],
+    )?;
     Ok(())
 }

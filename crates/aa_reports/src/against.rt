@@ -1,5 +1,10 @@
 //! How a policy answers now what logs say.
 
+ghost use Rattle.std.specs.Prelude.{◌≡◌, ◌++◌, OnOk};
+ghost use Rattle.aa_findings.specs.Answers.{row_of, column_of};
+ghost use Rattle.aa_findings.specs.Counts.{count_in};
+ghost use Rattle.aa_reports.specs.Printed.{arrow_text, count_line};
+
 use crate::listed::{push_count_member, push_entry_members, push_json_rest, push_word_member};
 use crate::logging::{Entry, LogReport, push_rest, push_skipped_lines};
 use aa_findings::{Counts, Now, answered, is_change, now_name, then_name};
@@ -9,7 +14,9 @@ use aa_units::{push_number, push_text};
 use aa_verdicts::{Decided, Verdict, decide, push_json_verdict, push_reasons};
 use std::alloc::{AllocError, Global};
 
-fn push_arrow(out: &mut Vec<u8>, then: Then, now: Now) -> Result<(), AllocError> {
+fn push_arrow(out: &mut Vec<u8>, then: Then, now: Now) -> Result<(), AllocError>
+    ensures { OnOk result (out.new.items ≡ out.old.items ++ arrow_text then now) }
+{
     push_text(out, then_name(then))?;
     push_text(out, " -> ")?;
     push_text(out, now_name(now))
@@ -53,7 +60,9 @@ const THEN: [Then; 3] = [Then::Denied, Then::Allowed, Then::Granted];
 /// What is now, in the order in which it is printed.
 const NOW: [Now; 4] = [Now::Denied, Now::Allowed, Now::Granted, Now::NoProfile];
 
-fn push_count(out: &mut Vec<u8>, counts: &Counts, then: Then, now: Now) -> Result<(), AllocError> {
+fn push_count(out: &mut Vec<u8>, counts: &Counts, then: Then, now: Now) -> Result<(), AllocError>
+    ensures { OnOk result (out.new.items ≡ out.old.items ++ count_line then now (count_in (row_of then) (column_of now) counts.now.rows)) }
+{
     let count = counts.count(then, now);
     if count == 0 {
         return Ok(());
@@ -79,7 +88,7 @@ pub fn push_against(
     out: &mut Vec<u8>,
     alloc: Global,
     logs: &[&[u8]],
-    report: &LogReport,
+    report: &LogReport<'_>,
     decided: Decided<'_>,
     wants_all: bool,
 ) -> Result<Counts, AllocError> {
@@ -155,7 +164,7 @@ pub fn push_json_against(
     out: &mut Vec<u8>,
     alloc: Global,
     logs: &[&[u8]],
-    report: &LogReport,
+    report: &LogReport<'_>,
     decided: Decided<'_>,
     wants_all: bool,
 ) -> Result<Counts, AllocError> {

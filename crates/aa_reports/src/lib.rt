@@ -6,8 +6,11 @@ mod job;
 mod lines;
 mod listed;
 mod logging;
+mod shared;
 
 pub use aa_findings::{Counts, LogTask, Now};
+pub use aa_job_texts::{JobPolicy, is_policy_count};
+pub use aa_logs::Choice;
 pub use against::{push_against, push_json_against};
 pub use job::{JobFault, JobTasks, push_job};
 pub use lines::{Lines, read_log};
@@ -16,3 +19,4 @@ pub use logging::{
     Entry, LinePlace, LogReport, SkippedLines, push_counts, push_entry, push_line_place,
     push_report, push_rest, push_skipped_lines,
 };
+pub use shared::shared_sources;

@@ -96,7 +96,7 @@ pub(crate) fn push_json_rest(
     out: &mut Vec<u8>,
     alloc: Global,
     logs: &[&[u8]],
-    report: &LogReport,
+    report: &LogReport<'_>,
 ) -> Result<(), AllocError> {
     push_text(out, ",\"skipped\":[")?;
     for (number, skipped) in report.skipped.values().enumerate() {
@@ -110,6 +110,9 @@ pub(crate) fn push_json_rest(
     push_count_member(out, "lines", report.lines)?;
     push_count_member(out, "asking", report.requests)?;
     push_count_member(out, "other", report.other)?;
+    if let Some(left_out) = report.left_out {
+        push_count_member(out, "left_out", left_out)?;
+    }
     push_text(out, "}\n")
 }
 
@@ -118,7 +121,7 @@ pub fn push_json_report(
     out: &mut Vec<u8>,
     alloc: Global,
     logs: &[&[u8]],
-    report: &LogReport,
+    report: &LogReport<'_>,
 ) -> Result<(), AllocError> {
     push_text(out, "{\"requests\":[")?;
     let mut is_later = false;

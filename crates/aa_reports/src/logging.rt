@@ -1,9 +1,12 @@
 //! What `log` finds in logs.
 
+ghost use Rattle.std.specs.Prelude.{◌≡◌, ◌++◌, [], map, flat_map, decimal, slice_get, unwrap_or, option_map, OnOk};
+ghost use Rattle.aa_reports.specs.Printed.{place_text, rest_text, entry_line, reason_text, skipped_line, skipped_at};
+
 use crate::lines::Lines;
 use aa_asks::push_word;
 use aa_findings::{named, then_name};
-use aa_logs::{Line, Reason, Record, Then, line_of};
+use aa_logs::{Choice, Line, Reason, Record, Then, is_chosen, line_of};
 use aa_output::push_name;
 use aa_requests::Request;
 use aa_units::{push_number, push_text};
@@ -42,7 +45,8 @@ pub struct SkippedLines {
 
 /// What is found in logs.
 #[derive(Drop)]
-pub struct LogReport {
+pub struct LogReport<'a> {
+    choice: Choice<'a>,
     /// The log that is read.
     pub log: usize,
     pub entries: Vec<Entry>,
@@ -55,11 +59,18 @@ pub struct LogReport {
     pub requests: u64,
     pub skipped_count: u64,
     pub other: u64,
+    /// How many lines aren't wanted, where not all are.
+    pub left_out: Option<u64>,
 }
 
-impl LogReport {
-    pub fn new(alloc: Global, wants_each: bool) -> LogReport {
+impl<'a> LogReport<'a> {
+    /// Nothing yet, of the lines that are wanted.
+    pub fn new(alloc: Global, choice: Choice<'a>, wants_each: bool) -> LogReport<'a> {
+        let wants_all = choice.profiles.is_empty()
+            && choice.since.is_none()
+            && choice.until.is_none();
         LogReport {
+            choice,
             log: 0,
             entries: Vec::new(alloc),
             numbers: HashMap::new(alloc),
@@ -73,6 +84,7 @@ impl LogReport {
             requests: 0,
             skipped_count: 0,
             other: 0,
+            left_out: if wants_all { None } else { Some(0) },
         }
     }
 
@@ -137,13 +149,30 @@ impl LogReport {
         Ok(())
     }
 
+    /// Whether a line is left out; it is counted then.
+    fn leaves_out(&mut self, alloc: Global, line: &[u8]) -> Result<bool, AllocError> {
+        let Some(left_out) = self.left_out else {
+            return Ok(false);
+        };
+        if is_chosen(alloc, &self.choice, line)? {
+            return Ok(false);
+        }
+        self.left_out = Some(left_out.saturating_add(1));
+        Ok(true)
+    }
+
     fn count_line(&mut self, alloc: Global, line: &[u8], number: u64) -> Result<(), AllocError> {
         self.lines = self.lines.saturating_add(1);
-        match line_of(alloc, line)? {
-            Line::Other => {
-                self.other = self.other.saturating_add(1);
-                Ok(())
-            }
+        let found = line_of(alloc, line)?;
+        if let Line::Other = found {
+            self.other = self.other.saturating_add(1);
+            return Ok(());
+        }
+        if self.leaves_out(alloc, line)? {
+            return Ok(());
+        }
+        match found {
+            Line::Other => Ok(()),
             Line::Skipped(reason) => {
                 self.skipped_count = self.skipped_count.saturating_add(1);
                 self.count_skipped(reason, number)
@@ -176,9 +205,19 @@ impl LogReport {
     }
 }
 
-impl Lines for LogReport {
+impl Lines for LogReport<'_> {
     fn take_line(&mut self, alloc: Global, line: &[u8], number: u64) -> bool {
         self.count_line(alloc, line, number).is_ok()
+    }
+}
+
+/// Appends a log's path, by its number.
+fn push_path(out: &mut Vec<u8>, logs: &[&[u8]], log: usize) -> Result<(), AllocError>
+    ensures { OnOk result (out.new.items ≡ out.old.items ++ unwrap_or (slice_get (map (λ log. log.now) logs.now) log) []) }
+{
+    match logs.get(log) {
+        Some(path) => out.extend_from_slice(path),
+        None => Ok(()),
     }
 }
 
@@ -187,11 +226,10 @@ pub fn push_line_place(
     out: &mut Vec<u8>,
     logs: &[&[u8]],
     place: &LinePlace,
-) -> Result<(), AllocError> {
-    match logs.get(place.log) {
-        Some(path) => out.extend_from_slice(path)?,
-        None => {}
-    }
+) -> Result<(), AllocError>
+    ensures { OnOk result (out.new.items ≡ out.old.items ++ place_text (map (λ log. log.now) logs.now) place.now) }
+{
+    push_path(out, logs, place.log)?;
     push_text(out, ":")?;
     push_number(out, place.line)
 }
@@ -202,7 +240,9 @@ pub fn push_entry(
     alloc: Global,
     logs: &[&[u8]],
     entry: &Entry,
-) -> Result<(), AllocError> {
+) -> Result<(), AllocError>
+    ensures { OnOk result (out.new.items ≡ out.old.items ++ entry_line (map (λ log. log.now) logs.now) entry.now) }
+{
     push_text(out, then_name(entry.then))?;
     push_rest(out, alloc, logs, entry)
 }
@@ -213,7 +253,9 @@ pub fn push_rest(
     alloc: Global,
     logs: &[&[u8]],
     entry: &Entry,
-) -> Result<(), AllocError> {
+) -> Result<(), AllocError>
+    ensures { OnOk result (out.new.items ≡ out.old.items ++ rest_text (map (λ log. log.now) logs.now) entry.now) }
+{
     push_text(out, " ")?;
     push_name(out, alloc, entry.profile.as_slice())?;
     push_text(out, " ")?;
@@ -226,17 +268,17 @@ pub fn push_rest(
 }
 
 /// Appends a reason as it is printed.
-pub(crate) fn push_reason(out: &mut Vec<u8>, reason: (u8, &'static str)) -> Result<(), AllocError> {
+pub(crate) fn push_reason(out: &mut Vec<u8>, reason: (u8, &'static str)) -> Result<(), AllocError>
+    ensures { OnOk result (out.new.items ≡ out.old.items ++ reason_text reason.entry.0 reason.entry.1.now) }
+{
     let (order, name) = reason;
     push_text(out, if order == 0 { "rule:" } else { "" })?;
     push_text(out, name)
 }
 
-fn push_skipped(
-    out: &mut Vec<u8>,
-    logs: &[&[u8]],
-    skipped: &SkippedLines,
-) -> Result<(), AllocError> {
+fn push_skipped(out: &mut Vec<u8>, logs: &[&[u8]], skipped: &SkippedLines) -> Result<(), AllocError>
+    ensures { OnOk result (out.new.items ≡ out.old.items ++ skipped_line (map (λ log. log.now) logs.now) skipped.now) }
+{
     push_text(out, "skipped ")?;
     push_reason(out, skipped.reason)?;
     push_text(out, " ")?;
@@ -246,24 +288,49 @@ fn push_skipped(
     push_text(out, "\n")
 }
 
-/// Appends the place of each skipped line and why it is skipped, where these are wanted.
-pub fn push_skipped_lines(
+fn push_skipped_at(
     out: &mut Vec<u8>,
     logs: &[&[u8]],
-    report: &LogReport,
-) -> Result<(), AllocError> {
-    if let Some(each) = &report.each_skipped {
-        for one in each {
-            push_line_place(out, logs, &one.first)?;
-            push_text(out, ": skipped ")?;
-            push_reason(out, one.reason)?;
-            push_text(out, "\n")?;
-        }
+    skipped: &SkippedLines,
+) -> Result<(), AllocError>
+    ensures { OnOk result (out.new.items ≡ out.old.items ++ skipped_at (map (λ log. log.now) logs.now) skipped.now) }
+{
+    push_line_place(out, logs, &skipped.first)?;
+    push_text(out, ": skipped ")?;
+    push_reason(out, skipped.reason)?;
+    push_text(out, "\n")
+}
+
+fn push_each_skipped(
+    out: &mut Vec<u8>,
+    logs: &[&[u8]],
+    each: &[SkippedLines],
+) -> Result<(), AllocError>
+    ensures { OnOk result (out.new.items ≡ out.old.items ++ flat_map (skipped_at (map (λ log. log.now) logs.now)) each.now) }
+{
+    for one in each {
+        push_skipped_at(out, logs, one)?;
     }
     Ok(())
 }
 
-fn push_count(out: &mut Vec<u8>, what: &str, count: u64) -> Result<(), AllocError> {
+/// Appends the place of each skipped line and why it is skipped, where these are wanted.
+pub fn push_skipped_lines(
+    out: &mut Vec<u8>,
+    logs: &[&[u8]],
+    report: &LogReport<'_>,
+) -> Result<(), AllocError>
+    ensures { OnOk result (out.new.items ≡ out.old.items ++ unwrap_or (option_map (λ each. flat_map (skipped_at (map (λ log. log.now) logs.now)) each.items) report.now.each_skipped) []) }
+{
+    match &report.each_skipped {
+        Some(each) => push_each_skipped(out, logs, each.as_slice()),
+        None => Ok(()),
+    }
+}
+
+fn push_count(out: &mut Vec<u8>, what: &str, count: u64) -> Result<(), AllocError>
+    ensures { OnOk result (out.new.items ≡ out.old.items ++ (what.now ++ decimal count)) }
+{
     push_text(out, what)?;
     push_number(out, count)
 }
@@ -272,7 +339,7 @@ fn push_count(out: &mut Vec<u8>, what: &str, count: u64) -> Result<(), AllocErro
 pub fn push_counts(
     out: &mut Vec<u8>,
     logs: &[&[u8]],
-    report: &LogReport,
+    report: &LogReport<'_>,
 ) -> Result<(), AllocError> {
     push_skipped_lines(out, logs, report)?;
     for skipped in report.skipped.values() {
@@ -283,6 +350,9 @@ pub fn push_counts(
     push_count(out, " distinct ", report.entries.len() as u64)?;
     push_count(out, " skipped ", report.skipped_count)?;
     push_count(out, " other ", report.other)?;
+    if let Some(left_out) = report.left_out {
+        push_count(out, " left out ", left_out)?;
+    }
     push_text(out, "\n")
 }
 
@@ -291,7 +361,7 @@ pub fn push_report(
     out: &mut Vec<u8>,
     alloc: Global,
     logs: &[&[u8]],
-    report: &LogReport,
+    report: &LogReport<'_>,
 ) -> Result<(), AllocError> {
     for number in &report.order(alloc)? {
         if let Some(entry) = report.entries.get(*number) {

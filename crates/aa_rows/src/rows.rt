@@ -2,7 +2,7 @@
 
 ghost use Rattle.std.specs.Prelude.{◌≡◌, ◌+◌, ◌<◌, ◌≤◌, ◌++◌, IfOk, OnOk, Err, length};
 ghost use Rattle.aa_auto.specs.Nodes.{pointed};
-ghost use Rattle.aa_auto.specs.Tables.{HasPlaces};
+ghost use Rattle.aa_auto.specs.Tables.{HasPlaces, IsAutomaton, rows_of as states_of};
 ghost use Rattle.aa_rows.specs.Ways.{way_by};
 ghost use Rattle.aa_said.specs.Gathered.{picked};
 ghost use Rattle.aa_rows.specs.Marks.{marks_by};
@@ -140,6 +140,7 @@ impl FileRows {
         requires some { 0 < limit }
         requires limit { limit ≤ 1000000 }
         ensures ok { IfOk result (λ r. AreRowsOf (way_by rules.now) rules.now r) }
+        ensures automaton { IfOk result (λ r. IsAutomaton (patterns_of rules.now) r.table) }
         ensures free { IfOk result (λ _. Conflicts rules.now → ⊥) }
         ensures conflict { result ≡ Err RowsFault.Conflict → Conflicts rules.now }
         ensures fits { IfOk result (λ _. HasAutomaton (patterns_of rules.now) limit) }
@@ -155,6 +156,13 @@ impl FileRows {
         }
         let rows = rows_of(alloc, &automaton, marks.as_slice())?;
         Ok(FileRows { automaton, rows })
+    }
+
+    /// How many rows the automaton of the rules has.
+    pub fn states(&self) -> usize
+        ensures { result ≡ states_of self.now.table }
+    {
+        self.automaton.rows()
     }
 
     /// What the rules say of an object.

@@ -1,7 +1,8 @@
 //! Texts that include others.
 
 use crate::reading::{
-    expect_kinds, expect_refused, expect_same_refusal, expect_splice_refused, expect_spliced,
+    Spliced, expect_kinds, expect_refused, expect_same_refusal, expect_splice_refused,
+    expect_spliced,
 };
 use aa_words::WordKind;
 use std::test::Fail;
@@ -9,35 +10,45 @@ use std::test::Fail;
 #[test]
 fn includes_without_a_source_are_missing(rt: HostRuntime) -> Result<(), Fail> {
     let alloc = rt.alloc();
-    let texts = [
-        "include <m>",
-        "include \"a b\"",
-        "include\"m\"",
-        "include <>",
-        "include\r\n\t<m>",
-        "#include <m>",
-        "#include\"m\"",
-    ];
-    expect_same_refusal(&rt, alloc, texts.as_slice(), "refused 2 MissingInclude 0:0")?;
-    let rows = [
-        ("{ include <m>", "refused 2 MissingInclude 0:2"),
-        ("a, #include <m>", "refused 2 MissingInclude 0:3"),
-    ];
-    expect_refused(&rt, alloc, rows.as_slice())?;
-    let optional = [
-        "include if exists <m>",
-        "include if\nexists\n<m>,",
-        "include if exists\"m\"",
-        "#include if exists <m>",
-    ];
-    expect_kinds(&rt, alloc, optional.as_slice(), [].as_slice())
+    expect_same_refusal(
+        &rt,
+        alloc,
+        &[
+            "include <m>",
+            "include \"a b\"",
+            "include\"m\"",
+            "include <>",
+            "include\r\n\t<m>",
+            "#include <m>",
+            "#include\"m\"",
+        ],
+        "refused 2 MissingInclude 0:0",
+    )?;
+    expect_refused(
+        &rt,
+        alloc,
+        &[
+            ("{ include <m>", "refused 2 MissingInclude 0:2"),
+            ("a, #include <m>", "refused 2 MissingInclude 0:3"),
+        ],
+    )?;
+    expect_kinds(
+        &rt,
+        alloc,
+        &[
+            "include if exists <m>",
+            "include if\nexists\n<m>,",
+            "include if exists\"m\"",
+            "#include if exists <m>",
+        ],
+        &[],
+    )
 }
 
 #[test]
 fn includes_stand_for_the_words_of_their_sources(rt: HostRuntime) -> Result<(), Fail> {
     let alloc = rt.alloc();
-    let texts = [("a", "/y w,"), ("b c", "#include <a>\n\"q r\""), ("", "")];
-    let expected = [
+    const WORDS: &[Spliced] = &[
         (WordKind::Name, "p", 0, 0, 0),
         (WordKind::Open, "{", 0, 0, 2),
         (WordKind::Path, "/y", 2, 1, 0),
@@ -52,9 +63,9 @@ fn includes_stand_for_the_words_of_their_sources(rt: HostRuntime) -> Result<(), 
     expect_spliced(
         &rt,
         alloc,
-        texts.as_slice(),
+        &[("a", "/y w,"), ("b c", "#include <a>\n\"q r\""), ("", "")],
         "p { include \"b c\", include if exists <a>#include <>,include if exists <z>} ",
-        expected.as_slice(),
+        WORDS,
     )
 }
 
@@ -62,7 +73,7 @@ fn includes_stand_for_the_words_of_their_sources(rt: HostRuntime) -> Result<(), 
 fn a_rule_begins_behind_an_include(rt: HostRuntime) -> Result<(), Fail> {
     let alloc = rt.alloc();
     let texts = [("a", "b, set c,"), ("q", "deny")];
-    let expected = [
+    const WORDS: &[Spliced] = &[
         (WordKind::LeftParen, "(", 0, 0, 0),
         (WordKind::Open, "{", 0, 0, 1),
         (WordKind::Name, "b", 1, 1, 0),
@@ -73,99 +84,100 @@ fn a_rule_begins_behind_an_include(rt: HostRuntime) -> Result<(), Fail> {
         (WordKind::Comma, ",", 0, 0, 16),
         (WordKind::Name, "set", 0, 0, 17),
     ];
-    expect_spliced(
-        &rt,
-        alloc,
-        texts.as_slice(),
-        "({include <a>set,set",
-        expected.as_slice(),
-    )?;
-    let comma = [
-        (WordKind::Name, "deny", 1, 2, 0),
-        (WordKind::Comma, ",", 0, 0, 12),
-    ];
+    expect_spliced(&rt, alloc, texts.as_slice(), "({include <a>set,set", WORDS)?;
     expect_spliced(
         &rt,
         alloc,
         texts.as_slice(),
         "include <q> ,",
-        comma.as_slice(),
+        &[
+            (WordKind::Name, "deny", 1, 2, 0),
+            (WordKind::Comma, ",", 0, 0, 12),
+        ],
     )?;
-    let quoted = [
-        (WordKind::Name, "deny", 1, 2, 0),
-        (WordKind::Quoted, "b", 0, 0, 12),
-    ];
     expect_spliced(
         &rt,
         alloc,
         texts.as_slice(),
         "include <q>\"b\"",
-        quoted.as_slice(),
+        &[
+            (WordKind::Name, "deny", 1, 2, 0),
+            (WordKind::Quoted, "b", 0, 0, 12),
+        ],
     )
 }
 
 #[test]
 fn the_first_fault_in_reading_order_is_answered(rt: HostRuntime) -> Result<(), Fail> {
     let alloc = rt.alloc();
-    let texts = [
+    let sources = &[
         ("a", "b\0"),
         ("b", "  include <z>"),
         ("c", "\"q"),
         ("d", "include <b>"),
     ];
-    let sources = texts.as_slice();
-    let rows = [
-        ("include <a> \0", "refused 4 Syntax 1:1"),
-        ("\0 include <a>", "refused 4 Syntax 0:0"),
-        ("include <b> include <a>", "refused 2 MissingInclude 2:2"),
-        ("\n include <d>", "refused 2 MissingInclude 2:2"),
-        ("include <c>", "refused 4 Syntax 3:0"),
-        ("x, signal include <a>", "refused 4 Syntax 0:3"),
-    ];
-    expect_splice_refused(&rt, alloc, sources, rows.as_slice())
+    expect_splice_refused(
+        &rt,
+        alloc,
+        sources,
+        &[
+            ("include <a> \0", "refused 4 Syntax 1:1"),
+            ("\0 include <a>", "refused 4 Syntax 0:0"),
+            ("include <b> include <a>", "refused 2 MissingInclude 2:2"),
+            ("\n include <d>", "refused 2 MissingInclude 2:2"),
+            ("include <c>", "refused 4 Syntax 3:0"),
+            ("x, signal include <a>", "refused 4 Syntax 0:3"),
+        ],
+    )
 }
 
 #[test]
 fn includes_of_another_form(rt: HostRuntime) -> Result<(), Fail> {
     let alloc = rt.alloc();
-    let texts = [
-        "include",
-        "include m",
-        "include =",
-        "include <m",
-        "include <m\n>",
-        "include \"m\n\"",
-        "include \"m",
-        "include if <m>",
-        "include ifexists <m>",
-        "include if exists<m>",
-        "include exists <m>",
-        "include <m\"",
-    ];
-    expect_same_refusal(&rt, alloc, texts.as_slice(), "refused 4 Syntax 0:0")?;
-    let comments = [
-        "#include",
-        "#include m",
-        "#include<m>",
-        "#includes <m>",
-        "# include <m>",
-        "#include <m",
-    ];
-    expect_kinds(&rt, alloc, comments.as_slice(), [].as_slice())?;
-    let names = [WordKind::Name, WordKind::Name];
-    let texts = [
-        "include<m> a",
-        "includes <m>",
-        "deny include",
-        "deny a # include <m>",
-        "deny a #include <m>",
-    ];
-    expect_kinds(&rt, alloc, texts.as_slice(), names.as_slice())?;
-    let deny = [WordKind::Name];
+    expect_same_refusal(
+        &rt,
+        alloc,
+        &[
+            "include",
+            "include m",
+            "include =",
+            "include <m",
+            "include <m\n>",
+            "include \"m\n\"",
+            "include \"m",
+            "include if <m>",
+            "include ifexists <m>",
+            "include if exists<m>",
+            "include exists <m>",
+            "include <m\"",
+        ],
+        "refused 4 Syntax 0:0",
+    )?;
     expect_kinds(
         &rt,
         alloc,
-        ["deny #include <m>"].as_slice(),
-        deny.as_slice(),
-    )
+        &[
+            "#include",
+            "#include m",
+            "#include<m>",
+            "#includes <m>",
+            "# include <m>",
+            "#include <m",
+        ],
+        &[],
+    )?;
+    expect_kinds(
+        &rt,
+        alloc,
+        &[
+            "include<m> a",
+            "includes <m>",
+            "deny include",
+            "deny a # include <m>",
+            "deny a #include <m>",
+        ],
+        &[WordKind::Name, WordKind::Name],
+    )?;
+    let deny = [WordKind::Name];
+    expect_kinds(&rt, alloc, &["deny #include <m>"], deny.as_slice())
 }

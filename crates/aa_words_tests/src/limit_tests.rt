@@ -81,9 +81,12 @@ fn ended_chain(alloc: Global, links: u32, end: &[u8]) -> Result<Sources, PolicyF
 #[test]
 fn includes_in_a_circle_go_at_most_16_deep(rt: HostRuntime) -> Result<(), Fail> {
     let alloc = rt.alloc();
-    let circle = [("a", "include <a>")];
-    let rows = [("include <a>", "refused 3 IncludeDepth 1:0")];
-    expect_splice_refused(&rt, alloc, circle.as_slice(), rows.as_slice())
+    expect_splice_refused(
+        &rt,
+        alloc,
+        &[("a", "include <a>")],
+        &[("include <a>", "refused 3 IncludeDepth 1:0")],
+    )
 }
 
 #[test]

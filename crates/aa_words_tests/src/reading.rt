@@ -162,7 +162,7 @@ fn expect_line(
 
 /// Each text is refused with the line beside it.
 pub(crate) fn expect_refused(rt: &impl Abort, alloc: Global, rows: &[Refused]) -> Result<(), Fail> {
-    expect_splice_refused(rt, alloc, [].as_slice(), rows)
+    expect_splice_refused(rt, alloc, &[], rows)
 }
 
 /// Each of these texts is refused with this line.

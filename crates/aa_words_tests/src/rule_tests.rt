@@ -1,6 +1,6 @@
 //! Rules that are passed over, and where rules begin.
 
-use crate::reading::{expect_kinds, expect_refused, expect_same_refusal, expect_words};
+use crate::reading::{Expected, expect_kinds, expect_refused, expect_same_refusal, expect_words};
 use aa_words::WordKind;
 use std::alloc::Global;
 use std::process::Abort;
@@ -27,7 +27,7 @@ fn rules_that_are_passed_over_are_words(rt: HostRuntime) -> Result<(), Fail> {
     for keyword in keywords {
         expect_keyword(&rt, alloc, keyword)?;
     }
-    let expected = [
+    const WORDS: &[Expected] = &[
         (WordKind::Name, "profile", 0, 7),
         (WordKind::Name, "p", 8, 9),
         (WordKind::Open, "{", 10, 11),
@@ -47,7 +47,7 @@ fn rules_that_are_passed_over_are_words(rt: HostRuntime) -> Result<(), Fail> {
         &rt,
         alloc,
         "profile p { signal (send, receive) peer=\"a,b\", /x r, }",
-        expected.as_slice(),
+        WORDS,
     )?;
     let mount = [
         (WordKind::Name, "audit", 0, 5),
@@ -71,7 +71,7 @@ fn expect_kinds_around(
     kinds: &[WordKind],
 ) -> Result<(), Fail> {
     let text = format!(in alloc; "{front}{keyword}{behind}")?;
-    expect_kinds(rt, alloc, [text.as_str()].as_slice(), kinds)
+    expect_kinds(rt, alloc, &[text.as_str()], kinds)
 }
 
 /// The keyword with a letter behind it, and then itself, give words of these kinds.
@@ -82,26 +82,29 @@ fn expect_kinds_longer(
     kinds: &[WordKind],
 ) -> Result<(), Fail> {
     let text = format!(in alloc; "{keyword}s {keyword}")?;
-    expect_kinds(rt, alloc, [text.as_str()].as_slice(), kinds)
+    expect_kinds(rt, alloc, &[text.as_str()], kinds)
 }
 
 /// A rule that is passed over begins with the keyword, also behind qualifiers, but not behind `owner`, and not where more
 /// letters stand behind the keyword.
 fn expect_keyword(rt: &impl Abort, alloc: Global, keyword: &str) -> Result<(), Fail> {
-    let skipped = [WordKind::Skipped, WordKind::Comma];
-    let behind = [
-        WordKind::Name,
-        WordKind::Name,
-        WordKind::Skipped,
-        WordKind::Comma,
-    ];
     let names = [WordKind::Name, WordKind::Name];
-    expect_kinds_around(rt, alloc, ["", keyword, ","], skipped.as_slice())?;
+    expect_kinds_around(
+        rt,
+        alloc,
+        ["", keyword, ","],
+        &[WordKind::Skipped, WordKind::Comma],
+    )?;
     expect_kinds_around(
         rt,
         alloc,
         ["audit deny ", keyword, " a,"],
-        behind.as_slice(),
+        &[
+            WordKind::Name,
+            WordKind::Name,
+            WordKind::Skipped,
+            WordKind::Comma,
+        ],
     )?;
     expect_kinds_around(rt, alloc, ["owner ", keyword, ""], names.as_slice())?;
     expect_kinds_longer(rt, alloc, keyword, names.as_slice())
@@ -139,20 +142,23 @@ fn passed_over_rules_end_at_the_first_comma_outside(rt: HostRuntime) -> Result<(
     for rule in rules {
         expect_skipped(&rt, alloc, rule)?;
     }
-    let rows = [
-        ("signal (send,", "refused 4 Syntax 0:0"),
-        ("signal [,) }", "refused 4 Syntax 0:0"),
-        ("deny signal \"a,", "refused 4 Syntax 0:5"),
-        ("a, signal # ,", "refused 4 Syntax 0:3"),
-        ("} allow set", "refused 4 Syntax 0:8"),
-    ];
-    expect_refused(&rt, alloc, rows.as_slice())
+    expect_refused(
+        &rt,
+        alloc,
+        &[
+            ("signal (send,", "refused 4 Syntax 0:0"),
+            ("signal [,) }", "refused 4 Syntax 0:0"),
+            ("deny signal \"a,", "refused 4 Syntax 0:5"),
+            ("a, signal # ,", "refused 4 Syntax 0:3"),
+            ("} allow set", "refused 4 Syntax 0:8"),
+        ],
+    )
 }
 
 #[test]
 fn a_change_of_profile_is_no_rule_that_is_passed_over(rt: HostRuntime) -> Result<(), Fail> {
     let alloc = rt.alloc();
-    let expected = [
+    const WORDS: &[Expected] = &[
         (WordKind::Name, "audit", 0, 5),
         (WordKind::Name, "change_profile", 6, 20),
         (WordKind::Arrow, "->", 20, 22),
@@ -165,14 +171,14 @@ fn a_change_of_profile_is_no_rule_that_is_passed_over(rt: HostRuntime) -> Result
         &rt,
         alloc,
         "audit change_profile-> q*, change_profile,",
-        expected.as_slice(),
+        WORDS,
     )
 }
 
 #[test]
 fn the_words_of_a_change_of_profile_are_words_like_others(rt: HostRuntime) -> Result<(), Fail> {
     let alloc = rt.alloc();
-    let expected = [
+    const WORDS: &[Expected] = &[
         (WordKind::Name, "deny", 0, 4),
         (WordKind::Name, "change_profile", 5, 19),
         (WordKind::Path, "/bin/sh", 20, 27),
@@ -191,48 +197,55 @@ fn the_words_of_a_change_of_profile_are_words_like_others(rt: HostRuntime) -> Re
         &rt,
         alloc,
         "deny change_profile /bin/sh -> \"a,b\", allow change_profile -> /x{a,b}, change_profile",
-        expected.as_slice(),
+        WORDS,
     )
 }
 
 #[test]
 fn a_comma_in_parentheses_begins_no_rule(rt: HostRuntime) -> Result<(), Fail> {
     let alloc = rt.alloc();
-    let expected = [
-        WordKind::Name,
-        WordKind::LeftParen,
-        WordKind::Name,
-        WordKind::Comma,
-        WordKind::Name,
-        WordKind::RightParen,
-        WordKind::Comma,
-        WordKind::Skipped,
-        WordKind::Comma,
-    ];
     expect_kinds(
         &rt,
         alloc,
-        ["a (b, signal), signal d,"].as_slice(),
-        expected.as_slice(),
+        &["a (b, signal), signal d,"],
+        &[
+            WordKind::Name,
+            WordKind::LeftParen,
+            WordKind::Name,
+            WordKind::Comma,
+            WordKind::Name,
+            WordKind::RightParen,
+            WordKind::Comma,
+            WordKind::Skipped,
+            WordKind::Comma,
+        ],
     )?;
-    let below = [
-        WordKind::RightParen,
-        WordKind::RightParen,
-        WordKind::LeftParen,
-        WordKind::Comma,
-        WordKind::Name,
-        WordKind::RightParen,
-        WordKind::Comma,
-        WordKind::Skipped,
-        WordKind::Comma,
-    ];
-    expect_kinds(&rt, alloc, ["))(,set),set,"].as_slice(), below.as_slice())?;
-    let braces = [
-        WordKind::LeftParen,
-        WordKind::Open,
-        WordKind::Skipped,
-        WordKind::Comma,
-        WordKind::Name,
-    ];
-    expect_kinds(&rt, alloc, ["({set,set"].as_slice(), braces.as_slice())
+    expect_kinds(
+        &rt,
+        alloc,
+        &["))(,set),set,"],
+        &[
+            WordKind::RightParen,
+            WordKind::RightParen,
+            WordKind::LeftParen,
+            WordKind::Comma,
+            WordKind::Name,
+            WordKind::RightParen,
+            WordKind::Comma,
+            WordKind::Skipped,
+            WordKind::Comma,
+        ],
+    )?;
+    expect_kinds(
+        &rt,
+        alloc,
+        &["({set,set"],
+        &[
+            WordKind::LeftParen,
+            WordKind::Open,
+            WordKind::Skipped,
+            WordKind::Comma,
+            WordKind::Name,
+        ],
+    )
 }

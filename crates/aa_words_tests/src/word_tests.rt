@@ -1,6 +1,6 @@
 //! Words of one text.
 
-use crate::reading::{end_of, expect_kinds, expect_words, second_of_two, two_words};
+use crate::reading::{Expected, end_of, expect_kinds, expect_words, second_of_two, two_words};
 use aa_words::{Sources, Spot, WordKind};
 use std::test::Fail;
 
@@ -8,7 +8,7 @@ use std::test::Fail;
 fn a_text_that_ends_too_early_gives_its_words(rt: HostRuntime) -> Result<(), Fail> {
     let alloc = rt.alloc();
     let text = "profile p { /x r,";
-    let expected = [
+    const WORDS: &[Expected] = &[
         (WordKind::Name, "profile", 0, 7),
         (WordKind::Name, "p", 8, 9),
         (WordKind::Open, "{", 10, 11),
@@ -16,7 +16,7 @@ fn a_text_that_ends_too_early_gives_its_words(rt: HostRuntime) -> Result<(), Fai
         (WordKind::Name, "r", 15, 16),
         (WordKind::Comma, ",", 16, 17),
     ];
-    expect_words(&rt, alloc, text, expected.as_slice())?;
+    expect_words(&rt, alloc, text, WORDS)?;
     let sources = Sources::new(alloc);
     let end = end_of(alloc, &sources, text.as_bytes());
     assert_eq!(rt; end, Some(Spot { file: 0, byte: 17 }));
@@ -26,41 +26,57 @@ fn a_text_that_ends_too_early_gives_its_words(rt: HostRuntime) -> Result<(), Fai
 #[test]
 fn blanks_and_comments_are_no_words(rt: HostRuntime) -> Result<(), Fail> {
     let alloc = rt.alloc();
-    let blanks = ["", " \t\r\n", "# a { , \" } /b"];
-    expect_kinds(&rt, alloc, blanks.as_slice(), [].as_slice())?;
-    let expected = [(WordKind::Name, "a", 4, 5), (WordKind::Name, "b#", 6, 8)];
-    expect_words(&rt, alloc, "#c\r\na\tb# # d", expected.as_slice())
+    expect_kinds(&rt, alloc, &["", " \t\r\n", "# a { , \" } /b"], &[])?;
+    expect_words(
+        &rt,
+        alloc,
+        "#c\r\na\tb# # d",
+        &[(WordKind::Name, "a", 4, 5), (WordKind::Name, "b#", 6, 8)],
+    )
 }
 
 #[test]
 fn commas_end_a_path_only_where_a_rule_ends(rt: HostRuntime) -> Result<(), Fail> {
     let alloc = rt.alloc();
-    let comma = [WordKind::Path, WordKind::Comma];
-    let texts = [
-        "/a,", "/a, # c", "/a,#c", "/a}, ", "/a\\\\, ", "/[a], ", "/{a}}, ",
-    ];
-    expect_kinds(&rt, alloc, texts.as_slice(), comma.as_slice())?;
-    let path = [WordKind::Path];
-    let texts = [
-        "/a,b", "/{a,b}", "/{a, ", "/[,] ", "/[, ", "/a\\, ", "/a\\ b", "/a#b", "/[{,]a}",
-    ];
-    expect_kinds(&rt, alloc, texts.as_slice(), path.as_slice())?;
-    let close = [WordKind::Path, WordKind::Comma, WordKind::Close];
-    expect_kinds(&rt, alloc, ["/a,}"].as_slice(), close.as_slice())?;
-    let names = [WordKind::Path, WordKind::Name];
-    expect_kinds(&rt, alloc, ["/{a, b"].as_slice(), names.as_slice())?;
-    let expected = [
-        (WordKind::Path, "/{a,b}c", 0, 7),
-        (WordKind::Name, "rw", 8, 10),
-        (WordKind::Comma, ",", 10, 11),
-    ];
-    expect_words(&rt, alloc, "/{a,b}c rw,", expected.as_slice())
+    expect_kinds(
+        &rt,
+        alloc,
+        &[
+            "/a,", "/a, # c", "/a,#c", "/a}, ", "/a\\\\, ", "/[a], ", "/{a}}, ",
+        ],
+        &[WordKind::Path, WordKind::Comma],
+    )?;
+    expect_kinds(
+        &rt,
+        alloc,
+        &[
+            "/a,b", "/{a,b}", "/{a, ", "/[,] ", "/[, ", "/a\\, ", "/a\\ b", "/a#b", "/[{,]a}",
+        ],
+        &[WordKind::Path],
+    )?;
+    expect_kinds(
+        &rt,
+        alloc,
+        &["/a,}"],
+        &[WordKind::Path, WordKind::Comma, WordKind::Close],
+    )?;
+    expect_kinds(&rt, alloc, &["/{a, b"], &[WordKind::Path, WordKind::Name])?;
+    expect_words(
+        &rt,
+        alloc,
+        "/{a,b}c rw,",
+        &[
+            (WordKind::Path, "/{a,b}c", 0, 7),
+            (WordKind::Name, "rw", 8, 10),
+            (WordKind::Comma, ",", 10, 11),
+        ],
+    )
 }
 
 #[test]
 fn names_end_at_signs(rt: HostRuntime) -> Result<(), Fail> {
     let alloc = rt.alloc();
-    let expected = [
+    const WORDS: &[Expected] = &[
         (WordKind::Name, "a-b", 0, 3),
         (WordKind::Comma, ",", 3, 4),
         (WordKind::Name, "<c/d>", 4, 9),
@@ -69,7 +85,7 @@ fn names_end_at_signs(rt: HostRuntime) -> Result<(), Fail> {
         (WordKind::Close, "}", 12, 13),
         (WordKind::Name, "+f", 13, 15),
     ];
-    expect_words(&rt, alloc, "a-b,<c/d>{@e}+f", expected.as_slice())
+    expect_words(&rt, alloc, "a-b,<c/d>{@e}+f", WORDS)
 }
 
 #[test]
@@ -86,32 +102,49 @@ fn bytes_that_are_no_utf8_stand_in_words(rt: HostRuntime) -> Result<(), Fail> {
 #[test]
 fn variables_begin_a_path(rt: HostRuntime) -> Result<(), Fail> {
     let alloc = rt.alloc();
-    let expected = [
-        (WordKind::Path, "@{HOME}/.x", 0, 10),
-        (WordKind::Name, "r", 11, 12),
-        (WordKind::Comma, ",", 12, 13),
-    ];
-    expect_words(&rt, alloc, "@{HOME}/.x r,", expected.as_slice())?;
-    let path = [WordKind::Path];
-    let texts = [
-        "@{A}b=c", "@{1A}=c", "@{}=c", "@{A", "@{A}+b", "@{A=b}=c", "/@{A}=b",
-    ];
-    expect_kinds(&rt, alloc, texts.as_slice(), path.as_slice())?;
-    let assigned = [WordKind::Path, WordKind::Equals, WordKind::Value];
-    let texts = ["@{A}=b", "@{A} = b", "@{A} #\n=b"];
-    expect_kinds(&rt, alloc, texts.as_slice(), assigned.as_slice())?;
-    let added = [WordKind::Path, WordKind::PlusEquals, WordKind::Value];
-    expect_kinds(&rt, alloc, ["@{A_9z}+=b"].as_slice(), added.as_slice())?;
-    let other = [WordKind::Path, WordKind::Equals, WordKind::Name];
-    let texts = ["@{1A} = b", "@{A}/ = b", "@{A = b", "@{A.} = b"];
-    expect_kinds(&rt, alloc, texts.as_slice(), other.as_slice())?;
+    expect_words(
+        &rt,
+        alloc,
+        "@{HOME}/.x r,",
+        &[
+            (WordKind::Path, "@{HOME}/.x", 0, 10),
+            (WordKind::Name, "r", 11, 12),
+            (WordKind::Comma, ",", 12, 13),
+        ],
+    )?;
+    expect_kinds(
+        &rt,
+        alloc,
+        &[
+            "@{A}b=c", "@{1A}=c", "@{}=c", "@{A", "@{A}+b", "@{A=b}=c", "/@{A}=b",
+        ],
+        &[WordKind::Path],
+    )?;
+    expect_kinds(
+        &rt,
+        alloc,
+        &["@{A}=b", "@{A} = b", "@{A} #\n=b"],
+        &[WordKind::Path, WordKind::Equals, WordKind::Value],
+    )?;
+    expect_kinds(
+        &rt,
+        alloc,
+        &["@{A_9z}+=b"],
+        &[WordKind::Path, WordKind::PlusEquals, WordKind::Value],
+    )?;
+    expect_kinds(
+        &rt,
+        alloc,
+        &["@{1A} = b", "@{A}/ = b", "@{A = b", "@{A.} = b"],
+        &[WordKind::Path, WordKind::Equals, WordKind::Name],
+    )?;
     Ok(())
 }
 
 #[test]
 fn signs_are_words(rt: HostRuntime) -> Result<(), Fail> {
     let alloc = rt.alloc();
-    let expected = [
+    const WORDS: &[Expected] = &[
         (WordKind::Name, "a", 0, 1),
         (WordKind::Equals, "=", 1, 2),
         (WordKind::Name, "b", 2, 3),
@@ -125,23 +158,31 @@ fn signs_are_words(rt: HostRuntime) -> Result<(), Fail> {
         (WordKind::PlusEquals, "+=", 12, 14),
         (WordKind::Name, "-f", 14, 16),
     ];
-    expect_words(&rt, alloc, "a=b(c)d->e+=+=-f", expected.as_slice())?;
-    let arrow = [
-        WordKind::Path,
-        WordKind::Name,
-        WordKind::Arrow,
-        WordKind::Name,
-        WordKind::Comma,
-    ];
-    expect_kinds(&rt, alloc, ["/a px -> b,"].as_slice(), arrow.as_slice())?;
-    let paths = [WordKind::Path, WordKind::Path];
-    expect_kinds(&rt, alloc, ["/a->b /c=(d)"].as_slice(), paths.as_slice())
+    expect_words(&rt, alloc, "a=b(c)d->e+=+=-f", WORDS)?;
+    expect_kinds(
+        &rt,
+        alloc,
+        &["/a px -> b,"],
+        &[
+            WordKind::Path,
+            WordKind::Name,
+            WordKind::Arrow,
+            WordKind::Name,
+            WordKind::Comma,
+        ],
+    )?;
+    expect_kinds(
+        &rt,
+        alloc,
+        &["/a->b /c=(d)"],
+        &[WordKind::Path, WordKind::Path],
+    )
 }
 
 #[test]
 fn quoted_words_stand_between_their_quotes(rt: HostRuntime) -> Result<(), Fail> {
     let alloc = rt.alloc();
-    let expected = [
+    const WORDS: &[Expected] = &[
         (WordKind::Name, "profile", 0, 7),
         (WordKind::Quoted, "a b", 9, 12),
         (WordKind::Quoted, "", 15, 15),
@@ -150,18 +191,17 @@ fn quoted_words_stand_between_their_quotes(rt: HostRuntime) -> Result<(), Fail> 
         (WordKind::Name, "r", 26, 27),
         (WordKind::Comma, ",", 27, 28),
     ];
+    expect_words(&rt, alloc, "profile \"a b\" \"\" {\"/x\\\"y\" r,", WORDS)?;
     expect_words(
         &rt,
         alloc,
-        "profile \"a b\" \"\" {\"/x\\\"y\" r,",
-        expected.as_slice(),
+        "\"a\\\\\"b \"#{\n\"",
+        &[
+            (WordKind::Quoted, "a\\\\", 1, 4),
+            (WordKind::Name, "b", 5, 6),
+            (WordKind::Quoted, "#{\n", 8, 11),
+        ],
     )?;
-    let names = [
-        (WordKind::Quoted, "a\\\\", 1, 4),
-        (WordKind::Name, "b", 5, 6),
-        (WordKind::Quoted, "#{\n", 8, 11),
-    ];
-    expect_words(&rt, alloc, "\"a\\\\\"b \"#{\n\"", names.as_slice())?;
     let texts = [
         "{\"a\"", "}\"a\"", ",\"a\"", "=\"a\"", "(\"a\"", ")\"a\"", "+=\"a\"", "->\"a\"",
     ];
@@ -175,20 +215,15 @@ fn quoted_words_stand_between_their_quotes(rt: HostRuntime) -> Result<(), Fail> 
 #[test]
 fn values_go_up_to_the_line_end(rt: HostRuntime) -> Result<(), Fail> {
     let alloc = rt.alloc();
-    let expected = [
+    const PLAIN: &[Expected] = &[
         (WordKind::Path, "@{HOME}", 0, 7),
         (WordKind::Equals, "=", 7, 8),
         (WordKind::Value, "/home/*/", 8, 16),
         (WordKind::Value, "/root/", 17, 23),
         (WordKind::Name, "profile", 24, 31),
     ];
-    expect_words(
-        &rt,
-        alloc,
-        "@{HOME}=/home/*/ /root/\nprofile",
-        expected.as_slice(),
-    )?;
-    let quoted = [
+    expect_words(&rt, alloc, "@{HOME}=/home/*/ /root/\nprofile", PLAIN)?;
+    const QUOTED: &[Expected] = &[
         (WordKind::Path, "@{XDG_DESKTOP_DIR}", 0, 18),
         (WordKind::Equals, "=", 18, 19),
         (WordKind::Value, "Desk\ntop", 20, 28),
@@ -199,9 +234,9 @@ fn values_go_up_to_the_line_end(rt: HostRuntime) -> Result<(), Fail> {
         &rt,
         alloc,
         "@{XDG_DESKTOP_DIR}=\"Desk\ntop\"a\"b \"\"",
-        quoted.as_slice(),
+        QUOTED,
     )?;
-    let joined = [
+    const JOINED: &[Expected] = &[
         (WordKind::Path, "@{A}", 0, 4),
         (WordKind::PlusEquals, "+=", 4, 6),
         (WordKind::Value, "a\\", 6, 8),
@@ -209,13 +244,13 @@ fn values_go_up_to_the_line_end(rt: HostRuntime) -> Result<(), Fail> {
         (WordKind::Value, "c", 12, 13),
         (WordKind::Name, "d", 14, 15),
     ];
-    expect_words(&rt, alloc, "@{A}+=a\\ b\\\nc\nd", joined.as_slice())
+    expect_words(&rt, alloc, "@{A}+=a\\ b\\\nc\nd", JOINED)
 }
 
 #[test]
 fn values_may_be_any_bytes(rt: HostRuntime) -> Result<(), Fail> {
     let alloc = rt.alloc();
-    let expected = [
+    const WORDS: &[Expected] = &[
         (WordKind::Path, "@{A}", 0, 4),
         (WordKind::Equals, "=", 4, 5),
         (WordKind::Value, "{b,c}", 5, 10),
@@ -226,12 +261,7 @@ fn values_may_be_any_bytes(rt: HostRuntime) -> Result<(), Fail> {
         (WordKind::Skipped, "signal", 31, 37),
         (WordKind::Comma, ",", 37, 38),
     ];
-    expect_words(
-        &rt,
-        alloc,
-        "@{A}={b,c} , ->= signal d#e #f\nsignal,",
-        expected.as_slice(),
-    )?;
+    expect_words(&rt, alloc, "@{A}={b,c} , ->= signal d#e #f\nsignal,", WORDS)?;
     let behind = [
         WordKind::Path,
         WordKind::Equals,
@@ -239,16 +269,6 @@ fn values_may_be_any_bytes(rt: HostRuntime) -> Result<(), Fail> {
         WordKind::Skipped,
         WordKind::Comma,
     ];
-    expect_kinds(
-        &rt,
-        alloc,
-        ["@{A}=\"b\"#c\nset,"].as_slice(),
-        behind.as_slice(),
-    )?;
-    expect_kinds(
-        &rt,
-        alloc,
-        ["@{A} = b\\\r\nset,"].as_slice(),
-        behind.as_slice(),
-    )
+    expect_kinds(&rt, alloc, &["@{A}=\"b\"#c\nset,"], behind.as_slice())?;
+    expect_kinds(&rt, alloc, &["@{A} = b\\\r\nset,"], behind.as_slice())
 }

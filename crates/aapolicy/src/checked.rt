@@ -23,6 +23,7 @@ fn push_profile(
     push_count(out, profile.caps, " capability")?;
     push_count(out, profile.nets, " network")?;
     push_count(out, profile.patterns, " patterns")?;
+    push_count(out, profile.states, " states")?;
     push_count(out, profile.passed_over, " passed over\n")
 }
 
@@ -115,6 +116,7 @@ fn push_json_profile(
     push_member(out, "caps", profile.caps)?;
     push_member(out, "nets", profile.nets)?;
     push_member(out, "patterns", profile.patterns)?;
+    push_member(out, "states", profile.states)?;
     push_member(out, "passed_over", profile.passed_over)?;
     push_text(out, "}")
 }

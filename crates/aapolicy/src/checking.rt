@@ -31,6 +31,8 @@ pub struct ProfileReport {
     pub caps: usize,
     pub nets: usize,
     pub patterns: usize,
+    /// How many states the automaton of its file rules has.
+    pub states: usize,
     pub passed_over: usize,
 }
 
@@ -80,10 +82,17 @@ fn passed_over_in(policy: &Policy, number: usize) -> usize {
     count
 }
 
+fn states_of(compiled: &Compiled, number: usize) -> usize {
+    match u16::try_from(number) {
+        Ok(number) => compiled.states(number),
+        Err(_) => 0,
+    }
+}
+
 fn profile_report(
     alloc: Global,
     unit: &Unit,
-    policy: &Policy,
+    compiled: &Compiled,
     number: usize,
     profile: &Profile,
 ) -> Result<ProfileReport, AllocError> {
@@ -95,7 +104,8 @@ fn profile_report(
         caps: profile.caps.as_slice().len(),
         nets: profile.nets.as_slice().len(),
         patterns: patterns_of(profile),
-        passed_over: passed_over_in(policy, number),
+        states: states_of(compiled, number),
+        passed_over: passed_over_in(compiled.policy(), number),
     })
 }
 
@@ -131,7 +141,7 @@ fn count_rules(
     for (number, profile) in policy.profiles.as_slice().iter().enumerate() {
         report
             .profiles
-            .push(profile_report(alloc, unit, policy, number, profile)?)?;
+            .push(profile_report(alloc, unit, compiled, number, profile)?)?;
     }
     for rule in policy.passed_over.as_slice() {
         count_keyword(alloc, rule.kind.as_slice(), &mut report.passed_over)?;

@@ -147,11 +147,39 @@ fn ask_command<'a>(alloc: Global) -> Result<Command<'a>, AllocError> {
     with_common(alloc, command)
 }
 
+/// The options that choose lines of logs.
+fn with_choice<'a>(alloc: Global, command: Command<'a>) -> Result<Command<'a>, AllocError> {
+    let profile = option(
+        alloc,
+        "profile",
+        "NAME",
+        "Read lines of the profile with this full name alone; of each of these, where there are several",
+    )
+    .action(ArgAction::Append);
+    let since = option(
+        alloc,
+        "since",
+        "SECONDS",
+        "Read lines alone whose stamp has this second since 1970 or a later one",
+    )
+    .action(ArgAction::Set);
+    let until = option(
+        alloc,
+        "until",
+        "SECONDS",
+        "Read lines alone whose stamp has this second since 1970 or an earlier one",
+    )
+    .action(ArgAction::Set);
+    command.arg(profile)?.arg(since)?.arg(until)
+}
+
 fn job_command<'a>(alloc: Global) -> Result<Command<'a>, AllocError> {
     let profiles = Arg::new(alloc, "PROFILE")
         .required(true)
-        .action(ArgAction::Set)
-        .help("A file with profiles; - is standard input");
+        .action(ArgAction::Append)
+        .help(
+            "A file with profiles, or a folder of such files, each a policy of its own; - is standard input",
+        );
     let logs = option(
         alloc,
         "log",
@@ -163,6 +191,7 @@ fn job_command<'a>(alloc: Global) -> Result<Command<'a>, AllocError> {
         .about(JOB)
         .arg(profiles)?
         .arg(logs)?;
+    let command = with_choice(alloc, command)?;
     with_common(alloc, command)
 }
 
@@ -189,6 +218,7 @@ fn log_command<'a>(alloc: Global) -> Result<Command<'a>, AllocError> {
             "Print the place of each line that is skipped",
         ))?
         .arg(json_flag(alloc))?;
+    let command = with_choice(alloc, command)?;
     with_common(alloc, command)
 }
 
@@ -257,5 +287,16 @@ pub fn states_of(matches: &ArgMatches<'_>) -> Option<u32> {
     match text.parse::<u32>() {
         Ok(states) if states >= 1 && states <= MOST_STATES => Some(states),
         _ => None,
+    }
+}
+
+/// The second that an option gives, if it is there; none where it is no number.
+pub fn second_of(matches: &ArgMatches<'_>, id: &str) -> Option<Option<u64>> {
+    match matches.get_str(id) {
+        Some(text) => match text.parse::<u64>() {
+            Ok(second) => Some(Some(second)),
+            Err(_) => None,
+        },
+        None => Some(None),
     }
 }

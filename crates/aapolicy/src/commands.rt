@@ -2,16 +2,16 @@
 
 use crate::checked::{push_faults, push_json_report, push_report};
 use crate::checking::{Wanted, check};
-use crate::command::{base_of, copies_of, folders_of, states_of, values_of};
+use crate::command::{base_of, copies_of, folders_of, second_of, states_of, values_of};
+use crate::job::run_job;
 use crate::joined::{Use, with_policy};
-use crate::output::{Output, Stop, path_refused, policy_refused, refused, stop_with, unit_refused};
-use aa_compile::Compiled;
+use crate::output::{Output, Stop, path_refused, refused, stop_with};
 use aa_output::NoMemory;
 use aa_reports::{
-    JobFault, JobTasks, LogReport, push_against, push_job, push_json_against,
-    push_json_report as push_json_log, push_report as push_log_report, read_log,
+    Choice, LogReport, push_against, push_json_against, push_json_report as push_json_log,
+    push_report as push_log_report, read_log,
 };
-use aa_units::{Unit, compile_unit, load, main_text, push_number, push_text};
+use aa_units::main_text;
 use aa_verdicts::{
     AskFault, Decided, Manner, ask, is_one_denied, push_json_verdicts, push_verdicts,
 };
@@ -108,7 +108,7 @@ impl Use for Answering<'_, '_> {
 /// Answers what logs say.
 #[derive(Drop)]
 struct Replaying<'a> {
-    report: &'a LogReport,
+    report: &'a LogReport<'a>,
     logs: &'a [&'a [u8]],
     wants_all: bool,
     is_json: bool,
@@ -157,10 +157,11 @@ fn run_log(
     rt: &HostRuntime,
     matches: &ArgMatches<'_>,
     wanted: &Wanted<'_>,
+    choice: Choice<'_>,
 ) -> Result<Output, Stop> {
     let alloc = rt.alloc();
     let logs = values_of(alloc, matches, "FILE")?;
-    let mut report = LogReport::new(alloc, matches.get_flag("skipped"));
+    let mut report = LogReport::new(alloc, choice, matches.get_flag("skipped"));
     for (number, path) in logs.iter().enumerate() {
         report.log = number;
         if let Err(why) = read_log(rt, path, &mut report) {
@@ -186,78 +187,32 @@ fn run_log(
     with_policy(rt, wanted, against.as_slice(), &mut replaying)
 }
 
-fn push_left_out(out: &mut Vec<u8>, count: u64, what: &str) -> Result<(), AllocError> {
-    if count > 0 {
-        push_number(out, count)?;
-        push_text(out, what)?;
-    }
-    Ok(())
+/// Which lines of logs the command line wants, of profiles of these names; none where a second is no number.
+fn choice_of<'a>(matches: &ArgMatches<'_>, profiles: &'a [Vec<u8>]) -> Option<Choice<'a>> {
+    Some(Choice {
+        profiles,
+        since: second_of(matches, "since")?,
+        until: second_of(matches, "until")?,
+    })
 }
 
-fn print_job(
-    alloc: Global,
-    unit: &Unit,
-    tasks: &JobTasks,
-    states: u32,
-) -> Result<Output, NoMemory> {
-    if tasks.is_too_large {
-        let line = "TooLarge: a job has at most 1,024 tasks, and a task 65,536 requests\n";
-        return refused(alloc, line, 1);
-    }
-    let mut output = Output::new(alloc);
-    match push_job(
-        &mut output.answers,
-        alloc,
-        unit,
-        tasks.tasks.as_slice(),
-        states,
-    ) {
-        Ok(left_out) => {
-            let faults = &mut output.faults;
-            push_left_out(faults, left_out, " requests left out: they are no UTF-8\n")?;
-            let what = " requests left out: no profile here asks them\n";
-            push_left_out(faults, tasks.strangers, what)?;
-            Ok(output)
-        }
-        Err(JobFault::NoMemory) => Err(NoMemory),
-        Err(JobFault::NotText) => {
-            let line = "NotText: a job holds UTF-8 text alone\n";
-            refused(alloc, line, 1)
-        }
-    }
-}
-
-/// The names of a policy's profiles.
-fn names_of(alloc: Global, compiled: &Compiled) -> Result<Vec<Vec<u8>>, AllocError> {
-    let mut names = Vec::new(alloc);
-    for profile in compiled.policy().profiles.as_slice() {
-        names.push(Vec::from_slice(alloc, profile.name.as_slice())?)?;
-    }
-    Ok(names)
-}
-
-fn run_job(
+/// Does what a command that reads logs asks, or says why not.
+fn run_with_logs(
     rt: &HostRuntime,
+    name: &str,
     matches: &ArgMatches<'_>,
     wanted: &Wanted<'_>,
 ) -> Result<Output, Stop> {
     let alloc = rt.alloc();
-    let path = matches.get_str("PROFILE").unwrap_or("").as_bytes();
-    let unit = match load(rt, wanted.folders, path) {
-        Ok(unit) => unit,
-        Err(fault) => return Err(stop_with(unit_refused(alloc, fault))),
+    let profiles = copies_of(alloc, matches, "profile")?;
+    let Some(choice) = choice_of(matches, profiles.as_slice()) else {
+        let line = "error: --since and --until take a number of seconds\n";
+        return Ok(refused(alloc, line, 2)?);
     };
-    let names = match compile_unit(alloc, &unit, wanted.states) {
-        Ok(compiled) => names_of(alloc, &compiled)?,
-        Err(fault) => return Err(stop_with(policy_refused(alloc, wanted, &unit, fault))),
-    };
-    let mut tasks = JobTasks::new(alloc, names);
-    for log in &values_of(alloc, matches, "log")? {
-        if let Err(why) = read_log(rt, log, &mut tasks) {
-            return Err(stop_with(path_refused(alloc, log, why)));
-        }
+    match name {
+        "job" => run_job(rt, matches, wanted, choice),
+        _ => run_log(rt, matches, wanted, choice),
     }
-    Ok(print_job(alloc, &unit, &tasks, wanted.states)?)
 }
 
 /// Does what the command line asks, or says why not.
@@ -270,8 +225,7 @@ fn run_wanted(
     match name {
         "check" => Ok(run_check(rt, matches, wanted)?),
         "ask" => run_ask(rt, matches, wanted),
-        "job" => run_job(rt, matches, wanted),
-        _ => run_log(rt, matches, wanted),
+        _ => run_with_logs(rt, name, matches, wanted),
     }
 }
 

@@ -19,19 +19,27 @@ pub trait Use {
     fn use_policy(&mut self, alloc: Global, decided: Decided<'_>) -> Result<Output, NoMemory>;
 }
 
-/// Reads the files that these arguments stand for, with all that they include.
-pub fn load_units(
+/// The paths of the files that these arguments stand for.
+pub fn paths_of(
     rt: &HostRuntime,
     wanted: &Wanted<'_>,
     arguments: &[Vec<u8>],
+) -> Result<Vec<Vec<u8>>, Stop> {
+    match roots_of(rt, wanted.base, arguments) {
+        Ok(roots) => Ok(roots.paths),
+        Err(fault) => Err(stop_with(unit_refused(rt.alloc(), fault))),
+    }
+}
+
+/// Reads the files at these paths, with all that they include.
+pub fn load_units(
+    rt: &HostRuntime,
+    wanted: &Wanted<'_>,
+    paths: &[Vec<u8>],
 ) -> Result<Vec<Unit>, Stop> {
     let alloc = rt.alloc();
-    let roots = match roots_of(rt, wanted.base, arguments) {
-        Ok(roots) => roots,
-        Err(fault) => return Err(stop_with(unit_refused(alloc, fault))),
-    };
     let mut units = Vec::new(alloc);
-    for path in &roots.paths {
+    for path in paths {
         match load(rt, wanted.folders, path.as_slice()) {
             Ok(unit) => units.push(unit)?,
             Err(fault) => return Err(stop_with(unit_refused(alloc, fault))),
@@ -232,6 +240,7 @@ pub fn with_policy<U: Use>(
     arguments: &[Vec<u8>],
     user: &mut U,
 ) -> Result<Output, Stop> {
-    let units = load_units(rt, wanted, arguments)?;
+    let paths = paths_of(rt, wanted, arguments)?;
+    let units = load_units(rt, wanted, paths.as_slice())?;
     with_units(rt.alloc(), wanted, units.as_slice(), user)
 }

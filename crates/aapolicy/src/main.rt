@@ -5,6 +5,7 @@ mod checked;
 mod checking;
 mod command;
 mod commands;
+mod job;
 mod joined;
 mod output;
 

@@ -4,7 +4,7 @@ use Rattle.aa_answers.proofs.Answering.{asking_more, asking_exit, asking_end}
 use Rattle.aa_answers.proofs.deciding.requests_of.Goals as goal
 
 pub loop-work-init : goal.loop-work-init
-loop-work-init c = record { goes_on = ap (λ f. f ++ asked c.args.works.now) c.new-requests.ensures.items }
+loop-work-init c = record { goes_on = ap (λ f. f ++ asked c.args.works.now) c.in_ok-requests.ensures.items }
 
 pub returns-in_default : goal.returns-in_default
 returns-in_default c =

@@ -47,3 +47,15 @@ returns g c =
       lanes_are = i.lanes ∙ ap (λ n. take n lanes) at ∙ take-length lanes;
       requests_are = sym (append-nil _) ∙ ap (λ l. map (λ f. f.all) c.loop-task.feeds.items ++ map (λ t. t.requests.items) l) (sym e) ∙ i.requests;
     }
+
+pub feed_of-requires-clause-owner : goal.feed_of-requires-clause-owner
+feed_of-requires-clause-owner g c =
+    let e = (c.in-Some-next.ensures {u = tt}).items in
+    let o = stepped new_owner c.in-Some-next.owner c.next-in-loop-task.new.self.rest.items c.args.lanes.now c.loop-task.at (sym e ∙ c.loop-task.invariant.owners) in
+    o.here c.index-lanes-at.result c.index-lanes-at.is
+
+pub feed_of-requires-clause-start : goal.feed_of-requires-clause-start
+feed_of-requires-clause-start g c =
+    let s = (c.in-Some.ensures {u = tt}).steps in
+    let t = stepped (λ a. a.start) c.in-Some.task.start (map (λ t. t.start) c.next.new.self.rest.items) c.args.lanes.now c.loop-task.at (ap (map (λ t. t.start)) (sym s.0) ∙ c.loop-task.invariant.starts) in
+    t.here c.index-lanes-at.result c.index-lanes-at.is

@@ -3,7 +3,7 @@ use Rattle.aa_job_texts.specs.Jobs.{tasks_text}
 use Rattle.aa_job_texts.proofs.job.push_tasks.Given as goal
 
 abbrev pub invariant-loop-rest : goal.invariant-loop-rest
-invariant-loop-rest l = l.out.items ++ tasks_text l.is_later l.rest ≡ l.initial.out.items ++ tasks_text false l.tasks
+invariant-loop-rest l = l.out.items ++ tasks_text l.policies l.is_later l.rest ≡ l.initial.out.items ++ tasks_text l.policies false l.tasks
 
 abbrev pub decreases-loop-rest : goal.decreases-loop-rest
 decreases-loop-rest l = length l.rest

@@ -1,0 +1,4 @@
+pub mod Loops
+pub mod Paths
+pub mod Reading
+pub mod Splits

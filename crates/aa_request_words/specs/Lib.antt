@@ -1,0 +1,4 @@
+pub mod Again
+pub mod Parts
+pub mod Read
+pub mod Written

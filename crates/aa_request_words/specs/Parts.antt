@@ -1,0 +1,16 @@
+-- Parts of a word.
+use Rattle.std.specs.Prelude.{ℕ, ◌+◌, nat_eq, List, [], ◌∷◌, length, take, drop, if◌then◌else◌, Option, Some, None, option_map}
+use Rattle.std.specs.List.{starts_with}
+
+-- the first place at which a part stands in a text
+unfoldable pub place_of : List ℕ → List ℕ → Option ℕ
+place_of part [] = None
+place_of part (b ∷ bs) = if starts_with nat_eq (b ∷ bs) part then Some 0 else option_map (λ n. n + 1) (place_of part bs)
+
+-- what stands before the first such part, and what stands behind it
+abbrev pub split_in : List ℕ → List ℕ → Option (List ℕ × List ℕ)
+split_in part text = option_map (λ n. (take n text, drop (n + length part) text)) (place_of part text)
+
+-- what stands behind a front, where the text begins so
+abbrev pub behind : List ℕ → List ℕ → Option (List ℕ)
+behind front text = if starts_with nat_eq text front then Some (drop (length front) text) else None
