@@ -8,11 +8,13 @@ sometimes left alone by the machine, a long one hardly ever.)
 import json
 import math
 import os
+import re
 import shutil
 import statistics
 import subprocess
 import sys
 import tempfile
+import time
 
 TOP = os.path.dirname(os.path.dirname(os.path.abspath(__file__)))
 PROGRAM = os.path.join(TOP, "crates", "aamediate", "out", "aamediate")
@@ -51,6 +53,21 @@ def seconds_of(command, given, refused=False):
     if status and not (refused and os.waitstatus_to_exitcode(status) == 1):
         sys.exit(f"{command} ended with {status}")
     return used.ru_utime + used.ru_stime
+
+
+def peak_of(command):
+    """The most memory that a command has at a time, in bytes, as looked at every few milliseconds. (What the system counts for a child that
+    has ended takes in what its parent had.)"""
+    peak = 0
+    with subprocess.Popen(command, stdin=subprocess.DEVNULL, stdout=subprocess.DEVNULL, stderr=subprocess.DEVNULL) as child:
+        while child.poll() is None:
+            with open(f"/proc/{child.pid}/status") as file:
+                found = re.search(r"VmHWM:\s+(\d+) kB", file.read())
+            peak = max(peak, int(found[1]) * 1024) if found else peak
+            time.sleep(0.002)
+    if child.returncode:
+        sys.exit(f"{command} ended with {child.returncode}")
+    return peak
 
 
 def median_seconds(runs, repeats, refused=False):

@@ -38,6 +38,12 @@ first_unknown policies tasks = position (λ (t : Task). is_none (task_label poli
 abbrev pub Answered : Type 0 → Type 0
 Answered M = AnsweredBy M Label Request Answer
 
+-- lanes of this capacity, which opened in these states, were closed, and these are the answers that they gave
+pub record AreClosed {M S Q A : Type 0} (next : M → S → Q → S) (reply : M → S → Q → A) (machine : M) (capacity : ℕ) (starts : List S) (rows : List (List (AnsweredBy M S Q A))) : Type 0 where
+  pub outcomes : List (Outcome M S Q A)
+  pub answers : map (λ (o : Outcome M S Q A). o.answers.items) outcomes ≡ rows
+  pub closed : AreOutcomes next reply machine capacity starts outcomes
+
 module _ {M : Type 0} (next : M → Label → Request → Label) (decide : M → Label → Request → Answer) (machine : M) where
   -- what a machine answers a task from its label on: the requests with their numbers from 0, each at the label that the one before it left
   abbrev pub answers_by : Task → Label → List (Answered M)

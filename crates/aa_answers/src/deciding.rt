@@ -1,7 +1,8 @@
 //! Answers the tasks of a job, each through a lane of its own.
 
-ghost use Rattle.std.specs.Prelude.{◌≡◌, ◌↔◌, ◌<◌, ◌≤◌, ℕ, [], map, Some, None, IfOk, IsErrOf, vec_len, vec_capacity};
-ghost use Rattle.aa_answers.specs.Answers.{asked, task_label, job_answers_by, first_unknown, WereClosed};
+ghost use Rattle.std.specs.Prelude.{◌≡◌, ◌↔◌, ◌<◌, ◌≤◌, ℕ, [], map, Some, None, IfOk, IfErr, IsErrOf, length, vec_len, vec_capacity};
+ghost use Rattle.aa_feed.specs.Answers.{answers_to};
+ghost use Rattle.aa_answers.specs.Answers.{asked, task_label, job_answers_by, first_unknown, AreClosed, WereClosed};
 
 use crate::tasks::{MediateFault, opening_label, unknown_task};
 use aa_feed::{Answered, EngineFault, Machine, Outcome, Refusal, Task as Asking, answer_all};
@@ -27,23 +28,37 @@ fn requests_of(alloc: Global, works: &[Work]) -> Result<VecDeque<Request>, Alloc
     Ok(requests)
 }
 
-/// What each task asks, and the label that it begins with.
-fn askings_of<M: Machine<State = Label, Request = Request, Answer = Answer>>(
+/// Copies of the requests of each task.
+fn copies_of(alloc: Global, tasks: &[Task]) -> Result<Vec<VecDeque<Request>>, AllocError>
+    ensures { IfOk result (λ v. map (λ q. q.items) v.items ≡ map (λ t. asked t.requests) tasks.now) }
+{
+    let mut copies = Vec::with_capacity(alloc, tasks.len())?;
+    for task in tasks {
+        copies.push(requests_of(alloc, task.requests.as_slice())?)?;
+    }
+    Ok(copies)
+}
+
+/// What each task asks, in a machine's own requests, and the label that it begins with.
+pub fn askings_of<M: Machine<State = Label>>(
     alloc: Global,
     policies: &[Compiled],
     tasks: &[Task],
+    rows: Vec<VecDeque<M::Request>>,
 ) -> Result<Vec<Asking<M>>, AllocError>
-    requires { first_unknown policies.now tasks.now ≡ None }
+    requires known { first_unknown policies.now tasks.now ≡ None }
+    requires len { vec_len rows ≡ length tasks.now }
     ensures labels { IfOk result (λ v. map (λ t. Some t.start) v.items ≡ map (task_label policies.now) tasks.now) }
-    ensures requests { IfOk result (λ v. map (λ t. t.requests.items) v.items ≡ map (λ t. asked t.requests) tasks.now) }
+    ensures requests { IfOk result (λ v. map (λ t. t.requests.items) v.items ≡ map (λ q. q.items) rows.items) }
 {
     let mut askings = Vec::with_capacity(alloc, tasks.len())?;
-    for task in tasks {
-        let Some(start) = opening_label(policies, task) else {
+    let mut at = 0;
+    for requests in rows {
+        let Some(start) = opening_label(policies, &tasks[at]) else {
             unreachable!()
         };
-        let requests = requests_of(alloc, task.requests.as_slice())?;
         askings.push(Asking { start, requests })?;
+        at += 1;
     }
     Ok(askings)
 }
@@ -76,6 +91,32 @@ fn lane_fault(fault: EngineFault) -> MediateFault
     }
 }
 
+/// The answers to what is asked, by that many workers, through lanes of that capacity, which are closed.
+pub fn answered<M: Machine + Sync, R: Threads + Wait + Sync>(
+    rt: &R,
+    alloc: Global,
+    machine: &M,
+    askings: Vec<Asking<M>>,
+    capacity: u32,
+    workers: u32,
+) -> Result<Vec<Vec<Answered<M>>>, MediateFault>
+where
+    M::State: Send,
+    M::Request: Send,
+    M::Answer: Send,
+    requires workers { (0 < workers) × (workers ≤ 16) }
+    requires fits { (vec_len askings ≤ 1024) × (0 < capacity) × (capacity ≤ 1024) }
+    ensures answers { IfOk result (λ rows. map (λ row. row.items) rows.items ≡ map (λ t. answers_to M.next M.reply machine.now t.start t.requests.items) askings.items) }
+    ensures closed { IfOk result (λ rows. AreClosed M.next M.reply machine.now capacity (map (λ t. t.start) askings.items) (map (λ row. row.items) rows.items)) }
+    ensures fault { IfErr result (λ f. f ≡ MediateFault.NoMemory) }
+{
+    let rows = Vec::with_capacity(alloc, askings.len())?;
+    match answer_all(rt, alloc, machine, askings, capacity, workers) {
+        Ok(outcomes) => Ok(rows_of(outcomes, rows)),
+        Err(Refusal { fault, .. }) => Err(lane_fault(fault)),
+    }
+}
+
 /// The answers that a machine gives to each task of a job, in order, by that many workers: each task goes through a lane of its
 /// own of the job's capacity, which opens with the task's label and is closed in the end.
 ///
@@ -104,10 +145,10 @@ pub fn mediate<
     if let Some(task) = unknown_task(policies, tasks) {
         return Err(MediateFault::UnknownProfile(task));
     }
-    let rows = Vec::with_capacity(alloc, tasks.len())?;
-    let askings = askings_of(alloc, policies, tasks)?;
-    match answer_all(rt, alloc, machine, askings, job.capacity, workers) {
-        Ok(outcomes) => Ok(rows_of(outcomes, rows)),
-        Err(Refusal { fault, .. }) => Err(lane_fault(fault)),
+    let copies = copies_of(alloc, tasks)?;
+    let askings = askings_of(alloc, policies, tasks, copies)?;
+    match answered(rt, alloc, machine, askings, job.capacity, workers) {
+        Ok(rows) => Ok(rows),
+        Err(fault) => Err(fault),
     }
 }

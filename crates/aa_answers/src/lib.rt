@@ -2,12 +2,14 @@
 #![tactic(auto)]
 
 mod deciding;
+mod lending;
 mod output;
 mod replay;
 mod tasks;
 
 pub use aa_feed::Answered;
 pub use deciding::mediate;
+pub use lending::{Lent, LentRequest, mediate_lent};
 pub use output::{check_output, run_output};
 pub use replay::replay_output;
 pub use tasks::{MediateFault, unknown_task};

@@ -6,6 +6,7 @@ ghost use Rattle.aa_labels.specs.Labels.{label_name, policy_number};
 ghost use Rattle.aa_answers.specs.Answers.{job_answers_by};
 ghost use Rattle.aa_answers.specs.Output.{verdict_word, policy_word, outcome_text, verdict_line, audit_lines, task_lines, lines_from, keyword_text, profile_name, passed_over_line, counts_line, rules_of, policy_text, number_line, policies_from, check_text};
 
+use crate::lending::Lent;
 use crate::tasks::opening_label;
 use aa_audit::{plain_text, push_audit_line, push_value};
 use aa_jobs::{Job, Task};
@@ -73,7 +74,7 @@ fn push_verdict<M: Machine<State = Label, Request = Request, Answer = Answer>>(
     several: bool,
     policies: &[Compiled],
     task: u64,
-    answered: &Answered<M>,
+    answered: &Answered<Lent<M>>,
 ) -> Result<(), AllocError>
     ensures { OnOk result (string_bytes out.new ≡ string_bytes out.old ++ verdict_line several policies.now task answered.now) }
 {
@@ -90,11 +91,17 @@ fn push_audit<M: Machine<State = Label, Request = Request, Answer = Answer>>(
     out: &mut String,
     policies: &[Compiled],
     before: Label,
-    answered: &Answered<M>,
+    answered: &Answered<Lent<M>>,
 ) -> Result<(), AllocError>
     ensures { OnOk result (string_bytes out.new ≡ string_bytes out.old ++ audit_lines policies.now before answered.now) }
 {
-    if push_audit_line(out, policies, before, &answered.request, &answered.answer)? {
+    if push_audit_line(
+        out,
+        policies,
+        before,
+        answered.request.get(),
+        &answered.answer,
+    )? {
         out.push_str("\n")?;
     }
     Ok(())
@@ -107,7 +114,7 @@ fn push_task<M: Machine<State = Label, Request = Request, Answer = Answer>>(
     policies: &[Compiled],
     task: u64,
     opening: Label,
-    answers: &[Answered<M>],
+    answers: &[Answered<Lent<M>>],
 ) -> Result<(), AllocError>
     ensures { OnOk result (string_bytes out.new ≡ string_bytes out.old ++ task_lines several policies.now task opening answers.now) }
 {
@@ -120,14 +127,14 @@ fn push_task<M: Machine<State = Label, Request = Request, Answer = Answer>>(
     Ok(())
 }
 
-/// The text of `run` for the tasks of a job, where a machine answers them so.
+/// The text of `run` for the tasks of a job, where a machine answers them so, lent their requests.
 pub fn run_output<M: Machine<State = Label, Request = Request, Answer = Answer>>(
     alloc: Global,
     several: bool,
     tasks: &[Task],
     policies: &[Compiled],
     machine: &M,
-    rows: &[Vec<Answered<M>>],
+    rows: &[Vec<Answered<Lent<M>>>],
 ) -> Result<String, AllocError>
     requires { job_answers_by M.next M.reply machine.now policies.now tasks.now ≡ Some (map (λ row. row.items) rows.now) }
     ensures { IfOk result (λ text. lines_from M.next M.reply machine.now several policies.now 0 tasks.now ≡ Some (string_bytes text)) }

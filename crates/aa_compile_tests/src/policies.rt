@@ -1,17 +1,10 @@
 //! Policies that are read from their texts and compiled, and what they say, as plain data.
 
+use crate::reading::read;
 use aa_compile::{Compiled, Transition, compile};
-use aa_policy::{Policy, parse};
-use aa_words::{PolicyFault, Sources, words};
+use aa_words::PolicyFault;
 use std::alloc::Global;
 use std::process::Abort;
-
-/// The policy that a text spells.
-fn read(alloc: Global, text: &str) -> Result<Policy, PolicyFault> {
-    let sources = Sources::new(alloc);
-    let list = words(alloc, &sources, text.as_bytes())?;
-    parse(alloc, &list)
-}
 
 /// The policy that a text spells, compiled, or the fault for which it isn't. The limit is from 1 to 1,000,000.
 pub fn compiled(alloc: Global, text: &str, limit: u32) -> Result<Compiled, PolicyFault> {

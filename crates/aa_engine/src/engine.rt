@@ -9,7 +9,9 @@ ghost use Rattle.aa_engine.specs.Engines.{HandsIn, IsCheckOutput, IsRunOutput, I
 
 use crate::fault::{RunFault, job_fault, mediate_fault, policy_fault};
 use crate::stream::{read_input, write_text};
-use aa_answers::{MediateFault, check_output, mediate, replay_output, run_output, unknown_task};
+use aa_answers::{
+    MediateFault, check_output, mediate_lent, replay_output, run_output, unknown_task,
+};
 use aa_jobs::{Job, read_job};
 use aa_machine::Machine;
 use aa_mediate::Mediator;
@@ -77,7 +79,7 @@ fn answered_text<
     ensures text { IfOk result (λ text. lines_from M.next M.reply machine.now job.now.several policies.now 0 job.now.tasks ≡ Some (string_bytes text)) }
     ensures unknown { (task : ℕ) → IsErrOf result (MediateFault.UnknownProfile task) → first_unknown policies.now job.now.tasks ≡ Some task }
 {
-    let rows = match mediate(rt, alloc, job, policies, machine, workers) {
+    let rows = match mediate_lent(rt, alloc, job, policies, machine, workers) {
         Ok(rows) => rows,
         Err(fault) => return Err(fault),
     };

@@ -3,7 +3,7 @@
 ghost use Rattle.std.specs.Prelude.{◌<◌, ◌≤◌};
 ghost use Rattle.aa_mediate.specs.Reply.{reply};
 
-use aa_engine::{Answered, mediate};
+use aa_engine::{Answered, mediate, mediate_lent};
 use aa_jobs::{Job, read_job};
 use aa_machine::Machine;
 use aa_mediate::Mediator;
@@ -109,6 +109,23 @@ fn granted_by<R: Threads + Wait + Sync>(
     Ok((grants, gates.given_up.load(Ordering::SeqCst)))
 }
 
+/// The same, with requests that are lent.
+fn granted_lent_by<R: Threads + Wait + Sync>(
+    rt: &R,
+    alloc: Global,
+    workers: u32,
+) -> Result<(u64, u64), Fail>
+    requires { (0 < workers) × (workers ≤ 16) }
+{
+    let job = read_job(alloc, TWO_TASKS).ok().ok_or("it is a job")?;
+    let policies = policies_of(alloc, &job)?;
+    let gates = Gates::new(policies.as_slice());
+    let answers = mediate_lent(rt, alloc, &job, policies.as_slice(), &gates, workers);
+    let rows = answers.ok().ok_or("it is answered")?;
+    let grants = grants_of(rows.as_slice());
+    Ok((grants, gates.given_up.load(Ordering::SeqCst)))
+}
+
 #[test]
 fn two_workers_decide_two_tasks_at_once(rt: HostRuntime) -> Result<(), Fail> {
     for workers in [2, 16] {
@@ -120,5 +137,13 @@ fn two_workers_decide_two_tasks_at_once(rt: HostRuntime) -> Result<(), Fail> {
 #[test]
 fn one_worker_decides_them_one_after_the_other(rt: HostRuntime) -> Result<(), Fail> {
     assert_eq!(rt; granted_by(&rt, rt.alloc(), 1)?, (2, 1));
+    Ok(())
+}
+
+#[test]
+fn two_workers_decide_lent_requests_of_two_tasks_at_once(rt: HostRuntime) -> Result<(), Fail> {
+    for workers in [2, 16] {
+        assert_eq!(rt; granted_lent_by(&rt, rt.alloc(), workers)?, (2, 0));
+    }
     Ok(())
 }

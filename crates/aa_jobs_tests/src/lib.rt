@@ -14,4 +14,6 @@ mod refusal_tests;
 #[cfg(test)]
 mod request_tests;
 #[cfg(test)]
+mod shown;
+#[cfg(test)]
 mod texts;

@@ -1,211 +1,232 @@
 //! How large a job may be.
 
-use crate::texts::{asking, fault, fault_of, fault_with, repeated, with};
+use crate::texts::{Answer, Frame, MEMBERS, answers_each, fault, fault_of, framed};
 use aa_jobs::JobFault;
 use std::alloc::{AllocError, Global};
 use std::process::Abort;
 use std::test::Fail;
 
-/// A job with each of these members besides is read, or refused with the fault beside them.
-fn read_so(
-    rt: &impl Abort,
-    alloc: Global,
-    rows: &[(&str, Option<JobFault>)],
-) -> Result<(), AllocError> {
-    for (members, want) in rows {
-        assert_eq!(rt; fault_with(alloc, members)?, *want, "at {members}");
-    }
-    Ok(())
-}
-
 #[test]
 fn numbers_have_limits(rt: HostRuntime) -> Result<(), Fail> {
-    read_so(
-        &rt,
-        rt.alloc(),
-        &[
-            (r#","states":0"#, Some(JobFault::TooLarge)),
-            (r#","states":1"#, None),
-            (r#","states":65535"#, None),
-            (r#","states":65536"#, None),
-            (r#","states":1000000"#, None),
-            (r#","states":1000001"#, Some(JobFault::TooLarge)),
-            (
-                r#","states":18446744073709551615"#,
-                Some(JobFault::TooLarge),
-            ),
-            (r#","capacity":0"#, Some(JobFault::TooLarge)),
-            (r#","capacity":1"#, None),
-            (r#","capacity":1024"#, None),
-            (r#","capacity":1025"#, Some(JobFault::TooLarge)),
-        ],
-    )?;
+    const ROWS: &[Answer] = &[
+        (r#","states":0"#, Some(JobFault::TooLarge)),
+        (r#","states":1"#, None),
+        (r#","states":65535"#, None),
+        (r#","states":65536"#, None),
+        (r#","states":1000000"#, None),
+        (r#","states":1000001"#, Some(JobFault::TooLarge)),
+        (
+            r#","states":18446744073709551615"#,
+            Some(JobFault::TooLarge),
+        ),
+        (r#","capacity":0"#, Some(JobFault::TooLarge)),
+        (r#","capacity":1"#, None),
+        (r#","capacity":1024"#, None),
+        (r#","capacity":1025"#, Some(JobFault::TooLarge)),
+    ];
+    answers_each(&rt, rt.alloc(), &MEMBERS, ROWS)?;
     Ok(())
 }
 
-/// The text so many times, without anything between.
-fn run_of(alloc: Global, item: &str, count: u32) -> Result<String, AllocError> {
-    let mut text = String::new(alloc);
-    for _ in 0..count {
-        text.push_str(item)?;
+/// A text with an item so many times: what stands before them, the item, what stands between two of them, and what stands
+/// behind.
+#[derive(Clone, Copy)]
+struct Repetition {
+    front: &'static str,
+    item: &'static str,
+    between: &'static str,
+    end: &'static str,
+}
+
+fn push_items(text: &mut String, list: &Repetition, count: u32) -> Result<(), AllocError> {
+    for i in 0..count {
+        if 0 < i {
+            text.push_str(list.between)?;
+        }
+        text.push_str(list.item)?;
     }
+    Ok(())
+}
+
+/// The text with so many items.
+fn repeated(alloc: Global, list: &Repetition, count: u32) -> Result<String, AllocError> {
+    let mut text = String::from_str(alloc, list.front)?;
+    push_items(&mut text, list, count)?;
+    text.push_str(list.end)?;
     Ok(text)
 }
 
-fn joined(alloc: Global, front: &str, middle: &str, end: &str) -> Result<String, AllocError> {
-    let mut text = String::from_str(alloc, front)?;
-    text.push_str(middle)?;
-    text.push_str(end)?;
-    Ok(text)
+/// How many items there are, and the fault of the text with them, or that it is a job.
+type Row = (u32, Option<JobFault>);
+
+fn has_limit(
+    rt: &impl Abort,
+    alloc: Global,
+    list: &Repetition,
+    count: u32,
+    want: Option<JobFault>,
+) -> Result<(), AllocError> {
+    let text = repeated(alloc, list, count)?;
+    assert_eq!(rt; fault(alloc, text.as_str()), want, "of {count}");
+    Ok(())
 }
 
-/// A job that asks for a path of a slash and so many letters.
-fn asking_for(alloc: Global, letters: u32) -> Result<String, AllocError> {
-    let path = run_of(alloc, "a", letters)?;
-    let item = joined(alloc, r#"{"mask":"r","file":"/"#, path.as_str(), r#""}"#)?;
-    asking(alloc, item.as_str())
+/// The text with each number of items is a job, or refused with the fault beside it.
+fn has_limits(
+    rt: &impl Abort,
+    alloc: Global,
+    list: &Repetition,
+    rows: &[Row],
+) -> Result<(), AllocError> {
+    for (count, want) in rows {
+        has_limit(rt, alloc, list, *count, *want)?;
+    }
+    Ok(())
 }
 
-/// A job that asks to change to a name of so many letters.
-fn changing_to(alloc: Global, letters: u32) -> Result<String, AllocError> {
-    let name = run_of(alloc, "a", letters)?;
-    let item = joined(alloc, r#"{"change":""#, name.as_str(), r#""}"#)?;
-    asking(alloc, item.as_str())
-}
+/// A job that asks to change to a name.
+const NAME: Repetition = Repetition {
+    front: r#"{"policy":"","tasks":[{"label":"p","requests":[{"change":""#,
+    item: "a",
+    between: "",
+    end: r#""}]}]}"#,
+};
 
 #[test]
 fn a_name_has_1_to_1024_bytes(rt: HostRuntime) -> Result<(), Fail> {
-    for (letters, want) in [
-        (0u32, Some(JobFault::BadRequest)),
+    const ROWS: &[Row] = &[
+        (0, Some(JobFault::BadRequest)),
         (1, None),
         (1024, None),
         (1025, Some(JobFault::BadRequest)),
-    ] {
-        let text = changing_to(rt.alloc(), letters)?;
-        assert_eq!(rt; fault(rt.alloc(), text.as_str()), want);
-    }
+    ];
+    has_limits(&rt, rt.alloc(), &NAME, ROWS)?;
     Ok(())
 }
+
+/// A job that asks for a path of a slash and letters.
+const PATH: Repetition = Repetition {
+    front: r#"{"policy":"","tasks":[{"label":"p","requests":[{"mask":"r","file":"/"#,
+    item: "a",
+    between: "",
+    end: r#""}]}]}"#,
+};
 
 #[test]
 fn a_path_has_at_most_4095_bytes(rt: HostRuntime) -> Result<(), Fail> {
-    for (letters, want) in [(4094u32, None), (4095, Some(JobFault::BadRequest))] {
-        let text = asking_for(rt.alloc(), letters)?;
-        assert_eq!(rt; fault(rt.alloc(), text.as_str()), want);
-    }
+    const ROWS: &[Row] = &[(4094, None), (4095, Some(JobFault::BadRequest))];
+    has_limits(&rt, rt.alloc(), &PATH, ROWS)?;
     Ok(())
 }
 
-fn with_tasks(alloc: Global, count: u32) -> Result<String, AllocError> {
-    let tasks = repeated(alloc, r#"{"label":"p","requests":[]}"#, count)?;
-    joined(alloc, r#"{"policy":"","tasks":["#, tasks.as_str(), "]}")
+const POLICIES: Repetition = Repetition {
+    front: r#"{"tasks":[],"policies":["#,
+    item: r#""""#,
+    between: ",",
+    end: "]}",
+};
+
+#[test]
+fn a_job_has_1_to_16_policies(rt: HostRuntime) -> Result<(), Fail> {
+    const ROWS: &[Row] = &[
+        (0, Some(JobFault::TooLarge)),
+        (1, None),
+        (16, None),
+        (17, Some(JobFault::TooLarge)),
+    ];
+    has_limits(&rt, rt.alloc(), &POLICIES, ROWS)?;
+    Ok(())
 }
 
-fn member_of(alloc: Global, i: u32) -> Result<String, Fail> {
-    Ok(format!(in alloc; ",\"{i}\":\"\"")?)
+const TASKS: Repetition = Repetition {
+    front: r#"{"policy":"","tasks":["#,
+    item: r#"{"label":"p","requests":[]}"#,
+    between: ",",
+    end: "]}",
+};
+
+const ITEMS: Repetition = Repetition {
+    front: r#"{"policy":"","tasks":[{"label":"p","requests":["#,
+    item: r#""exit""#,
+    between: ",",
+    end: "]}]}",
+};
+
+fn push_member(alloc: Global, members: &mut String, number: u32) -> Result<(), AllocError> {
+    let member = format!(in alloc; ",\"{number}\":\"\"")?;
+    members.push_str(member.as_str())
 }
 
 /// So many included texts, with the names of numbers but for the first.
-fn members_of(alloc: Global, count: u32) -> Result<String, Fail> {
+fn members_of(alloc: Global, count: u32) -> Result<String, AllocError> {
     let mut members = String::new(alloc);
-    for i in 1..count {
-        let member = member_of(alloc, i)?;
-        members.push_str(member.as_str())?;
+    for number in 1..count {
+        push_member(alloc, &mut members, number)?;
     }
     Ok(members)
 }
 
-fn with_includes(alloc: Global, count: u32) -> Result<String, Fail> {
+/// A job with included texts, of which the first has no name.
+const INCLUDES: Frame = Frame {
+    front: r#"{"policy":"","tasks":[],"includes":{"":"""#,
+    end: "}}",
+};
+
+/// A job with so many included texts is one, or refused with that fault.
+fn has_include_limit(
+    rt: &impl Abort,
+    alloc: Global,
+    count: u32,
+    want: Option<JobFault>,
+) -> Result<(), AllocError> {
     let members = members_of(alloc, count)?;
-    let members = joined(alloc, r#","includes":{"":"""#, members.as_str(), "}")?;
-    Ok(with(alloc, members.as_str())?)
-}
-
-fn with_items(alloc: Global, count: u32) -> Result<String, AllocError> {
-    let items = repeated(alloc, r#""exit""#, count)?;
-    asking(alloc, items.as_str())
-}
-
-fn with_policies(alloc: Global, count: u32) -> Result<String, AllocError> {
-    let policies = repeated(alloc, r#""""#, count)?;
-    joined(
-        alloc,
-        r#"{"tasks":[],"policies":["#,
-        policies.as_str(),
-        "]}",
-    )
-}
-
-#[test]
-fn a_job_has_1_to_16_policies(rt: HostRuntime) -> Result<(), Fail> {
-    for (count, want) in [
-        (0u32, Some(JobFault::TooLarge)),
-        (1, None),
-        (16, None),
-        (17, Some(JobFault::TooLarge)),
-    ] {
-        let text = with_policies(rt.alloc(), count)?;
-        assert_eq!(rt; fault(rt.alloc(), text.as_str()), want);
-    }
+    let text = framed(alloc, &INCLUDES, members.as_str())?;
+    assert_eq!(rt; fault(alloc, text.as_str()), want, "of {count}");
     Ok(())
 }
 
 #[test]
 fn lists_have_limits(rt: HostRuntime) -> Result<(), Fail> {
-    for (count, want) in [(1024u32, None), (1025, Some(JobFault::TooLarge))] {
-        let text = with_tasks(rt.alloc(), count)?;
-        assert_eq!(rt; fault(rt.alloc(), text.as_str()), want);
-    }
-    for (count, want) in [(4095u32, None), (4096, Some(JobFault::TooLarge))] {
-        let text = with_includes(rt.alloc(), count)?;
-        assert_eq!(rt; fault(rt.alloc(), text.as_str()), want);
-    }
-    for (count, want) in [(65_536u32, None), (65_537, Some(JobFault::TooLarge))] {
-        let text = with_items(rt.alloc(), count)?;
-        assert_eq!(rt; fault(rt.alloc(), text.as_str()), want);
-    }
+    let alloc = rt.alloc();
+    const TASK_ROWS: &[Row] = &[(1024, None), (1025, Some(JobFault::TooLarge))];
+    has_limits(&rt, alloc, &TASKS, TASK_ROWS)?;
+    has_include_limit(&rt, alloc, 4095, None)?;
+    has_include_limit(&rt, alloc, 4096, Some(JobFault::TooLarge))?;
+    const ITEM_ROWS: &[Row] = &[(65_536, None), (65_537, Some(JobFault::TooLarge))];
+    has_limits(&rt, alloc, &ITEMS, ITEM_ROWS)?;
     Ok(())
 }
 
-/// A job whose policy's text has so many bytes.
-fn with_policy(alloc: Global, count: u32) -> Result<String, AllocError> {
-    let blanks = run_of(alloc, " ", count)?;
-    joined(alloc, r#"{"tasks":[],"policy":""#, blanks.as_str(), r#""}"#)
-}
+/// A job with a policy of blanks.
+const POLICY: Repetition = Repetition {
+    front: r#"{"tasks":[],"policy":""#,
+    item: " ",
+    between: "",
+    end: r#""}"#,
+};
 
-/// A job of two policies, of which the last has so many bytes.
-fn with_last_policy(alloc: Global, count: u32) -> Result<String, AllocError> {
-    let blanks = run_of(alloc, " ", count)?;
-    joined(
-        alloc,
-        r#"{"tasks":[],"policies":["",""#,
-        blanks.as_str(),
-        r#""]}"#,
-    )
-}
+/// A job of two policies, of which the last has the blanks.
+const LAST_POLICY: Repetition = Repetition {
+    front: r#"{"tasks":[],"policies":["",""#,
+    item: " ",
+    between: "",
+    end: r#""]}"#,
+};
 
-/// A job with an included text of so many bytes.
-fn with_include(alloc: Global, count: u32) -> Result<String, AllocError> {
-    let blanks = run_of(alloc, " ", count)?;
-    let members = joined(
-        alloc,
-        r#","includes":{"a":"","b":""#,
-        blanks.as_str(),
-        r#""}"#,
-    )?;
-    with(alloc, members.as_str())
-}
+/// A job with an included text of blanks.
+const INCLUDE: Repetition = Repetition {
+    front: r#"{"policy":"","tasks":[],"includes":{"a":"","b":""#,
+    item: " ",
+    between: "",
+    end: r#""}}"#,
+};
 
 #[test]
 fn texts_have_limits(rt: HostRuntime) -> Result<(), Fail> {
-    for (count, want) in [(1_048_576u32, None), (1_048_577, Some(JobFault::TooLarge))] {
-        let text = with_policy(rt.alloc(), count)?;
-        assert_eq!(rt; fault(rt.alloc(), text.as_str()), want);
-        let text = with_include(rt.alloc(), count)?;
-        assert_eq!(rt; fault(rt.alloc(), text.as_str()), want);
-        let text = with_last_policy(rt.alloc(), count)?;
-        assert_eq!(rt; fault(rt.alloc(), text.as_str()), want);
-    }
+    const ROWS: &[Row] = &[(1_048_576, None), (1_048_577, Some(JobFault::TooLarge))];
+    has_limits(&rt, rt.alloc(), &POLICY, ROWS)?;
+    has_limits(&rt, rt.alloc(), &INCLUDE, ROWS)?;
+    has_limits(&rt, rt.alloc(), &LAST_POLICY, ROWS)?;
     Ok(())
 }
 
@@ -221,36 +242,63 @@ fn a_job_has_at_most_16777216_bytes(rt: HostRuntime) -> Result<(), Fail> {
     Ok(())
 }
 
+fn push_times(text: &mut String, item: &str, count: u32) -> Result<(), AllocError> {
+    for _ in 0..count {
+        text.push_str(item)?;
+    }
+    Ok(())
+}
+
+/// A list in a list, and so on, down to the depth.
 fn nested(alloc: Global, depth: u32) -> Result<String, AllocError> {
-    let opened = run_of(alloc, "[", depth)?;
-    let closed = run_of(alloc, "]", depth)?;
-    joined(alloc, opened.as_str(), closed.as_str(), "")
+    let mut text = String::new(alloc);
+    push_times(&mut text, "[", depth)?;
+    push_times(&mut text, "]", depth)?;
+    Ok(text)
+}
+
+/// Lists so deep are refused with that fault.
+fn is_refused_at(
+    rt: &impl Abort,
+    alloc: Global,
+    depth: u32,
+    want: JobFault,
+) -> Result<(), AllocError> {
+    let text = nested(alloc, depth)?;
+    assert_eq!(rt; fault(alloc, text.as_str()), Some(want), "at {depth}");
+    Ok(())
 }
 
 #[test]
 fn nesting_is_read_to_its_depth(rt: HostRuntime) -> Result<(), Fail> {
-    for (depth, want) in [(127u32, JobFault::BadShape), (128, JobFault::NotJson)] {
-        let text = nested(rt.alloc(), depth)?;
-        assert_eq!(rt; fault(rt.alloc(), text.as_str()), Some(want));
-    }
+    is_refused_at(&rt, rt.alloc(), 127, JobFault::BadShape)?;
+    is_refused_at(&rt, rt.alloc(), 128, JobFault::NotJson)?;
     Ok(())
 }
 
 /// A job that is nothing but this text over and over, as often as there is room for it.
 fn filled_with(alloc: Global, item: &str) -> Result<String, AllocError> {
+    let mut text = String::new(alloc);
     let count = 16_777_216 / item.len().max(1);
-    run_of(alloc, item, count as u32)
+    push_times(&mut text, item, count as u32)?;
+    Ok(text)
+}
+
+/// A text of nothing but this is no JSON.
+fn is_given_up(rt: &impl Abort, alloc: Global, item: &str) -> Result<(), AllocError> {
+    let text = filled_with(alloc, item)?;
+    assert_eq!(rt;
+        fault(alloc, text.as_str()),
+        Some(JobFault::NotJson),
+        "at {item}"
+    );
+    Ok(())
 }
 
 #[test]
 fn what_only_opens_is_given_up_at_its_depth(rt: HostRuntime) -> Result<(), Fail> {
-    for item in ["[", r#"{"":"#, "[{\"tasks\":"] {
-        let text = filled_with(rt.alloc(), item)?;
-        assert_eq!(rt;
-            fault(rt.alloc(), text.as_str()),
-            Some(JobFault::NotJson),
-            "at {item}"
-        );
-    }
+    is_given_up(&rt, rt.alloc(), "[")?;
+    is_given_up(&rt, rt.alloc(), r#"{"":"#)?;
+    is_given_up(&rt, rt.alloc(), "[{\"tasks\":")?;
     Ok(())
 }

@@ -1,6 +1,6 @@
 //! What is refused as a job, and why.
 
-use crate::texts::{WORKED, fault_of, refuses_each, refuses_items, refuses_members};
+use crate::texts::{ITEMS, MEMBERS, WORKED, fault_of, refuses_each, refuses_framed};
 use aa_jobs::JobFault;
 use std::test::Fail;
 
@@ -85,9 +85,10 @@ fn another_shape_is_refused(rt: HostRuntime) {
 
 #[test]
 fn a_member_of_another_kind_is_refused(rt: HostRuntime) -> Result<(), Fail> {
-    refuses_members(
+    refuses_framed(
         &rt,
         rt.alloc(),
+        &MEMBERS,
         JobFault::BadShape,
         &[
             r#","includes":[]"#,
@@ -121,9 +122,10 @@ fn a_member_of_another_kind_is_refused(rt: HostRuntime) -> Result<(), Fail> {
 
 #[test]
 fn an_item_of_another_shape_is_refused(rt: HostRuntime) -> Result<(), Fail> {
-    refuses_items(
+    refuses_framed(
         &rt,
         rt.alloc(),
+        &ITEMS,
         JobFault::BadShape,
         &[
             r#""Exit""#,
@@ -179,9 +181,10 @@ fn an_item_of_another_shape_is_refused(rt: HostRuntime) -> Result<(), Fail> {
 
 #[test]
 fn a_request_that_cannot_be_made_is_refused(rt: HostRuntime) -> Result<(), Fail> {
-    refuses_items(
+    refuses_framed(
         &rt,
         rt.alloc(),
+        &ITEMS,
         JobFault::BadRequest,
         &[
             r#"{"file":"etc","mask":"r"}"#,
@@ -214,9 +217,10 @@ fn a_request_that_cannot_be_made_is_refused(rt: HostRuntime) -> Result<(), Fail>
             r#"{"reload":18446744073709551615}"#,
         ],
     )?;
-    refuses_members(
+    refuses_framed(
         &rt,
         rt.alloc(),
+        &MEMBERS,
         JobFault::BadRequest,
         &[
             r#","events":[[0,"send"]]"#,

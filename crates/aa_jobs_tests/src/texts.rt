@@ -1,4 +1,4 @@
-//! Texts of jobs, and what is read from them.
+//! Texts of jobs, and whether they are refused. The helpers have no clauses, so that a test's proof stays short.
 
 use aa_jobs::{Job, JobFault, read_job};
 use std::alloc::{AllocError, Global};
@@ -8,13 +8,26 @@ use std::test::Fail;
 pub const WORKED: &str =
     r#"{"policy":"profile p { /etc/passwd r, }","tasks":[{"label":"p","requests":[{"file":"/etc/passwd","mask":"r"},{"file":"/etc/passwd","mask":"w"}]}]}"#;
 
-/// Why a job is refused, if it is.
-pub fn fault(alloc: Global, text: &str) -> Option<JobFault> {
-    match read_job(alloc, text.as_bytes()) {
-        Ok(_) => None,
-        Err(fault) => Some(fault),
-    }
+/// What stands before and behind a part of a job.
+pub struct Frame {
+    pub front: &'static str,
+    pub end: &'static str,
 }
+
+/// A job with further members.
+pub const MEMBERS: Frame = Frame {
+    front: r#"{"policy":"","tasks":[]"#,
+    end: "}",
+};
+
+/// A job of one task with items.
+pub const ITEMS: Frame = Frame {
+    front: r#"{"policy":"","tasks":[{"label":"p","requests":["#,
+    end: "]}]}",
+};
+
+/// The fault of a row, or that its text is a job.
+pub type Answer<'a> = (&'a str, Option<JobFault>);
 
 /// The job that a text is.
 pub fn job_of(alloc: Global, text: &str) -> Result<Job, Fail> {
@@ -32,32 +45,17 @@ pub fn fault_of(alloc: Global, bytes: &[u8]) -> Option<JobFault> {
     }
 }
 
-/// A job with these members besides.
-pub fn with(alloc: Global, members: &str) -> Result<String, AllocError> {
-    let mut text = String::from_str(alloc, r#"{"policy":"","tasks":[]"#)?;
-    text.push_str(members)?;
-    text.push_str("}")?;
-    Ok(text)
+/// Why a text is refused as a job, if it is.
+pub fn fault(alloc: Global, text: &str) -> Option<JobFault> {
+    fault_of(alloc, text.as_bytes())
 }
 
-/// A job of one task with these items.
-pub fn asking(alloc: Global, items: &str) -> Result<String, AllocError> {
-    let mut text = String::from_str(alloc, r#"{"policy":"","tasks":[{"label":"p","requests":["#)?;
-    text.push_str(items)?;
-    text.push_str("]}]}")?;
-    Ok(text)
-}
-
-/// The text so many times, with commas between.
-pub fn repeated(alloc: Global, item: &str, count: u32) -> Result<String, AllocError> {
-    let mut text = String::new(alloc);
-    for i in 0..count {
-        if 0 < i {
-            text.push_str(",")?;
-        }
-        text.push_str(item)?;
-    }
-    Ok(text)
+/// The text in its frame.
+pub fn framed(alloc: Global, frame: &Frame, text: &str) -> Result<String, AllocError> {
+    let mut whole = String::from_str(alloc, frame.front)?;
+    whole.push_str(text)?;
+    whole.push_str(frame.end)?;
+    Ok(whole)
 }
 
 /// Each text is refused as a job, with this fault.
@@ -67,40 +65,42 @@ pub fn refuses_each(rt: &impl Abort, alloc: Global, want: JobFault, texts: &[&st
     }
 }
 
-/// Why a job with these members besides is refused, if it is.
-pub fn fault_with(alloc: Global, members: &str) -> Result<Option<JobFault>, AllocError> {
-    let text = with(alloc, members)?;
-    Ok(fault(alloc, text.as_str()))
-}
-
-/// A job with each of these members besides is refused, with this fault.
-pub fn refuses_members(
+/// The text in its frame is a job, or refused with that fault.
+fn answers(
     rt: &impl Abort,
     alloc: Global,
-    want: JobFault,
-    rows: &[&str],
+    frame: &Frame,
+    text: &str,
+    want: Option<JobFault>,
 ) -> Result<(), AllocError> {
-    for members in rows {
-        assert_eq!(rt; fault_with(alloc, members)?, Some(want), "at {members}");
+    let whole = framed(alloc, frame, text)?;
+    assert_eq!(rt; fault(alloc, whole.as_str()), want, "at {text}");
+    Ok(())
+}
+
+/// Each text in the frame is a job, or refused with the fault beside it.
+pub fn answers_each(
+    rt: &impl Abort,
+    alloc: Global,
+    frame: &Frame,
+    rows: &[Answer],
+) -> Result<(), AllocError> {
+    for (text, want) in rows {
+        answers(rt, alloc, frame, text, *want)?;
     }
     Ok(())
 }
 
-/// Why a job of one task with these items is refused, if it is.
-pub fn fault_asking(alloc: Global, items: &str) -> Result<Option<JobFault>, AllocError> {
-    let text = asking(alloc, items)?;
-    Ok(fault(alloc, text.as_str()))
-}
-
-/// A job of one task with each of these items is refused, with this fault.
-pub fn refuses_items(
+/// Each text in the frame is refused as a job, with this fault.
+pub fn refuses_framed(
     rt: &impl Abort,
     alloc: Global,
+    frame: &Frame,
     want: JobFault,
-    rows: &[&str],
+    texts: &[&str],
 ) -> Result<(), AllocError> {
-    for item in rows {
-        assert_eq!(rt; fault_asking(alloc, item)?, Some(want), "at {item}");
+    for text in texts {
+        answers(rt, alloc, frame, text, Some(want))?;
     }
     Ok(())
 }

@@ -18,11 +18,13 @@ pub struct Worker<T: Serving + Drop> {
 }
 
 // Serves what was taken last for one turn, and puts it back, unless it has settled. Where the queue refuses it, another turn follows.
+// Says whether there was nothing to do.
 pub fn serve_on<T: Serving, R: Wait>(
     rt: &R,
     queue: &Queue<T>,
     pass: &mut Hold<T>,
     taken: T,
+    idle: &mut bool,
 ) -> Option<T>
     requires queue { IsPassOf queue.now pass.old }
     requires part { 0 < (view pass.old).parts }
@@ -32,7 +34,7 @@ pub fn serve_on<T: Serving, R: Wait>(
 {
     let mut taken = taken;
     'turns: for _ in rt.forever() {
-        match taken.serve() {
+        match taken.serve(idle) {
             Turn::Settled(done) => return Some(done),
             Turn::GoesOn(next) => match queue.push_as::<Puts, R>(rt, pass, next) {
                 Ok(()) => return None,
@@ -43,11 +45,25 @@ pub fn serve_on<T: Serving, R: Wait>(
     unreachable!()
 }
 
+// How many turns in a row had nothing to do, after one more. After as many as make a round, others come first.
+fn rest(idle_turns: usize, idle: bool, round: usize) -> usize {
+    if !idle {
+        return 0;
+    }
+    let idle_turns = idle_turns.saturating_add(1);
+    if idle_turns < round {
+        return idle_turns;
+    }
+    thread::yield_now();
+    0
+}
+
 // Takes, serves and puts back, until there is nothing to take. What settles is kept.
 pub fn work<T: Serving + Drop, R: Wait>(rt: &R, queue: &Queue<T>, worker: &mut Worker<T>)
     requires { IsWorking T.place T.is_settled queue.now worker.old.pass worker.old.kept.items }
     ensures { IsWorking T.place T.is_settled queue.now worker.new.pass worker.new.kept.items }
 {
+    let mut idle_turns = 0;
     'serving: for _ in rt.forever() {
         if worker.kept.len() >= worker.kept.capacity() {
             break;
@@ -55,9 +71,11 @@ pub fn work<T: Serving + Drop, R: Wait>(rt: &R, queue: &Queue<T>, worker: &mut W
         let Some(taken) = queue.pop_as::<Takes, R>(rt, &mut worker.pass) else {
             break;
         };
-        if let Some(done) = serve_on(rt, queue, &mut worker.pass, taken) {
+        let mut idle = false;
+        if let Some(done) = serve_on(rt, queue, &mut worker.pass, taken, &mut idle) {
             worker.kept.push_reserved(done);
         }
+        idle_turns = rest(idle_turns, idle, worker.kept.capacity());
     }
 }
 

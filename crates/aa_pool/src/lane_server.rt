@@ -4,7 +4,6 @@ ghost use Rattle.aa_lane.specs.Ends.{known};
 
 use crate::serving::{Serving, Turn};
 use aa_lane::{Lane, Machine, Served, Server};
-use std::thread;
 
 /// How many requests are answered in one turn at most.
 const MOST_A_TURN: u32 = 64;
@@ -24,16 +23,17 @@ impl<'l, 'm, M: Machine> Serving for LaneServer<'l, 'm, M> {
 
     ghost is_settled = { λ s. s.server.settled };
 
-    fn serve(self) -> Turn<LaneServer<'l, 'm, M>> {
+    fn serve(self, idle: &mut bool) -> Turn<LaneServer<'l, 'm, M>> {
         let LaneServer { lane, server } = self;
         let mut server = server;
+        *idle = true;
         'requests: for _ in 0..MOST_A_TURN {
             match server.serve(lane) {
-                Served::Did(next) => server = next,
-                Served::Idle(server) => {
-                    thread::yield_now();
-                    return Turn::GoesOn(LaneServer { lane, server });
+                Served::Did(next) => {
+                    *idle = false;
+                    server = next;
                 }
+                Served::Idle(server) => return Turn::GoesOn(LaneServer { lane, server }),
                 Served::Settled(server) => return Turn::Settled(LaneServer { lane, server }),
             }
         }

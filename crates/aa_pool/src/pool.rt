@@ -11,6 +11,7 @@ use crate::serving::{Serving, Turn};
 use std::alloc::{AllocError, Global};
 use std::marker::Model;
 use std::sync::Wait;
+use std::thread;
 use std::thread::Threads;
 
 // Serves until it has settled.
@@ -19,8 +20,12 @@ fn settle<T: Serving, R: Wait>(rt: &R, taken: T) -> T
     ensures settled { T.is_settled result ≡ true }
 {
     let mut taken = taken;
+    let mut idle = false;
     'turns: for _ in rt.forever() {
-        match taken.serve() {
+        if idle {
+            thread::yield_now();
+        }
+        match taken.serve(&mut idle) {
             Turn::Settled(done) => return done,
             Turn::GoesOn(next) => taken = next,
         }

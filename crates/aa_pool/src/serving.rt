@@ -20,6 +20,7 @@ pub trait Serving {
 
     ghost is_settled: { Self → Bool };
 
-    fn serve(self) -> Turn<Self>
+    /// Serves for one turn, and says whether there was nothing to do in it.
+    fn serve(self, idle: &mut bool) -> Turn<Self>
         ensures { Turns place is_settled self result };
 }

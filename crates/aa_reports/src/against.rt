@@ -1,9 +1,10 @@
 //! How a policy answers now what logs say.
 
-ghost use Rattle.std.specs.Prelude.{◌≡◌, ◌++◌, OnOk};
+ghost use Rattle.std.specs.Prelude.{◌≡◌, ◌++◌, OnOk, IfOk};
 ghost use Rattle.aa_findings.specs.Answers.{row_of, column_of};
 ghost use Rattle.aa_findings.specs.Counts.{count_in};
 ghost use Rattle.aa_reports.specs.Printed.{arrow_text, count_line};
+ghost use Rattle.aa_reports.specs.Replayed.{now_for};
 
 use crate::listed::{push_count_member, push_entry_members, push_json_rest, push_word_member};
 use crate::logging::{Entry, LogReport, push_rest, push_skipped_lines};
@@ -27,7 +28,9 @@ fn answer_now(
     alloc: Global,
     decided: Decided<'_>,
     entry: &Entry,
-) -> Result<(Now, Option<Verdict>), AllocError> {
+) -> Result<(Now, Option<Verdict>), AllocError>
+    ensures { IfOk result (λ r. r.0 ≡ now_for decided.entry.policies.now entry.now.profile.items entry.now.request) }
+{
     match label_of(decided.policies, 0, entry.profile.as_slice()) {
         Some(opening) => {
             let mut label = opening;

@@ -4,7 +4,7 @@ use crate::lines::Lines;
 use aa_findings::{LogTask, take_record};
 use aa_job_texts::{Include, JobPolicy, is_job_text, left_out, policy_of, push_job_text};
 use aa_logs::{Choice, Line, Record, is_chosen, line_of};
-use aa_units::Source;
+use aa_units::{Source, Unread};
 use std::alloc::{AllocError, AllocFailed, Global};
 
 /// The tasks that logs give.
@@ -71,8 +71,8 @@ impl<'a> JobTasks<'a> {
 }
 
 impl Lines for JobTasks<'_> {
-    fn take_line(&mut self, alloc: Global, line: &[u8], _number: u64) -> bool {
-        self.add_line(alloc, line).is_ok()
+    fn take_line(&mut self, alloc: Global, line: &[u8], _number: u64) -> Result<(), Unread> {
+        Ok(self.add_line(alloc, line)?)
     }
 }
 

@@ -10,8 +10,8 @@ const MOST: u64 = 65537;
 
 /// What is done with each line of a log.
 pub trait Lines {
-    /// Takes a line without its end, by its number from 1; false where memory runs out.
-    fn take_line(&mut self, alloc: Global, line: &[u8], number: u64) -> bool;
+    /// Takes a line without its end, by its number from 1. Refused where memory runs out, and where the lines ask too much.
+    fn take_line(&mut self, alloc: Global, line: &[u8], number: u64) -> Result<(), Unread>;
 }
 
 /// Reads up to the next line end, and gives whether one was found within the limit or the log's end was reached.
@@ -48,9 +48,7 @@ fn read_lines<R: BufRead, L: Lines>(
                 whole
             }
         };
-        if !lines.take_line(alloc, line, number) {
-            return Err(Unread::NoMemory);
-        }
+        lines.take_line(alloc, line, number)?;
     }
     Ok(())
 }

@@ -1,6 +1,6 @@
 //! What `log` finds in logs.
 
-ghost use Rattle.std.specs.Prelude.{◌≡◌, ◌++◌, [], map, flat_map, decimal, slice_get, unwrap_or, option_map, OnOk};
+ghost use Rattle.std.specs.Prelude.{◌≡◌, ◌<◌, ◌≤◌, ◌++◌, [], map, flat_map, decimal, slice_get, unwrap_or, option_map, vec_len, OnOk, IfErr};
 ghost use Rattle.aa_reports.specs.Printed.{place_text, rest_text, entry_line, reason_text, skipped_line, skipped_at};
 
 use crate::lines::Lines;
@@ -9,9 +9,12 @@ use aa_findings::{named, then_name};
 use aa_logs::{Choice, Line, Reason, Record, Then, is_chosen, line_of};
 use aa_output::push_name;
 use aa_requests::Request;
-use aa_units::{push_number, push_text};
+use aa_units::{Unread, push_number, push_text};
 use std::alloc::{AllocError, Global};
 use std::collections::{BTreeMap, HashMap};
+
+/// The most distinct requests of the logs of a call.
+const MAX_DISTINCT: usize = 1_000_000;
 
 /// Where a line stands.
 #[derive(Drop)]
@@ -88,7 +91,11 @@ impl<'a> LogReport<'a> {
         }
     }
 
-    fn count_record(&mut self, alloc: Global, record: Record, line: u64) -> Result<(), AllocError> {
+    /// Counts a request once more, or notes it as a new one if there are few enough.
+    fn count_record(&mut self, alloc: Global, record: Record, line: u64) -> Result<(), Unread>
+        ensures within { OnOk result (vec_len self.old.entries ≤ MAX_DISTINCT → vec_len self.new.entries ≤ MAX_DISTINCT) }
+        ensures room { vec_len self.old.entries < MAX_DISTINCT → IfErr result (λ why. why ≡ Unread.NoMemory) }
+    {
         let Record {
             then,
             profile,
@@ -108,6 +115,9 @@ impl<'a> LogReport<'a> {
                 entry.count = entry.count.saturating_add(1);
             }
             return Ok(());
+        }
+        if self.entries.len() >= MAX_DISTINCT {
+            return Err(Unread::TooLarge);
         }
         let _ = self.numbers.insert(key, self.entries.len())?;
         self.entries.push(Entry {
@@ -161,7 +171,7 @@ impl<'a> LogReport<'a> {
         Ok(true)
     }
 
-    fn count_line(&mut self, alloc: Global, line: &[u8], number: u64) -> Result<(), AllocError> {
+    fn count_line(&mut self, alloc: Global, line: &[u8], number: u64) -> Result<(), Unread> {
         self.lines = self.lines.saturating_add(1);
         let found = line_of(alloc, line)?;
         if let Line::Other = found {
@@ -175,7 +185,7 @@ impl<'a> LogReport<'a> {
             Line::Other => Ok(()),
             Line::Skipped(reason) => {
                 self.skipped_count = self.skipped_count.saturating_add(1);
-                self.count_skipped(reason, number)
+                Ok(self.count_skipped(reason, number)?)
             }
             Line::Asks(record) => {
                 self.requests = self.requests.saturating_add(1);
@@ -206,8 +216,8 @@ impl<'a> LogReport<'a> {
 }
 
 impl Lines for LogReport<'_> {
-    fn take_line(&mut self, alloc: Global, line: &[u8], number: u64) -> bool {
-        self.count_line(alloc, line, number).is_ok()
+    fn take_line(&mut self, alloc: Global, line: &[u8], number: u64) -> Result<(), Unread> {
+        self.count_line(alloc, line, number)
     }
 }
 

@@ -1,5 +1,5 @@
 -- The texts of a unit by the numbers that places in its policy have.
-use Rattle.std.specs.Prelude.{ℕ, ◌+◌, ◌-◌, ◌==◌, List, [], ◌∷◌, map, flat_map, Option, Some, None, option_map, option_to_list, slice_get, if◌then◌else◌}
+use Rattle.std.specs.Prelude.{ℕ, ◌-◌, ◌==◌, List, flat_map, Option, Some, None, option_map, option_to_list, slice_get, if◌then◌else◌}
 use Rattle.std.specs.Option.{option_and_then}
 use Rattle.aa_units.specs.declared.unit.Source.{Source}
 use Rattle.aa_units.specs.declared.unit.Unit as unit

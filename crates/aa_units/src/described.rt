@@ -1,5 +1,6 @@
 //! What is said of a fault.
 
+use crate::conflict::push_conflict;
 use crate::left_out::{left_out, word_at};
 use crate::policy::sources_of;
 use crate::trail::trail_to;
@@ -107,16 +108,32 @@ fn spot_line(alloc: Global, unit: &Unit, what: &str, at: Spot) -> Result<Vec<u8>
     Ok(line)
 }
 
-/// The place of the earlier one, of two that can't be there both.
-fn earlier(alloc: Global, list: &WordList, fault: PolicyFault) -> Option<Spot> {
-    match fault.kind {
-        PolicyKind::VariableTwice => variable_before(list.list.as_slice(), fault.at),
-        PolicyKind::DuplicateProfile => match profile_before(alloc, list, fault.at) {
-            Ok(at) => at,
-            Err(_) => None,
-        },
-        _ => None,
+/// What was found; none where it was refused for another cause than memory.
+fn unless_refused<T: Drop>(found: Result<T, PolicyFault>) -> Result<Option<T>, AllocError> {
+    match found {
+        Ok(found) => Ok(Some(found)),
+        Err(fault) if fault.kind == PolicyKind::NoMemory => Err(AllocError),
+        Err(_) => Ok(None),
     }
+}
+
+/// The place of the earlier one, of two that can't be there both.
+fn earlier(
+    alloc: Global,
+    list: &WordList,
+    fault: PolicyFault,
+) -> Result<Option<Spot>, PolicyFault> {
+    match fault.kind {
+        PolicyKind::VariableTwice => Ok(variable_before(list.list.as_slice(), fault.at)),
+        PolicyKind::DuplicateProfile => profile_before(alloc, list, fault.at),
+        _ => Ok(None),
+    }
+}
+
+fn earlier_in(alloc: Global, unit: &Unit, fault: PolicyFault) -> Result<Option<Spot>, PolicyFault> {
+    let sources = sources_of(alloc, unit)?;
+    let list = words(alloc, &sources, unit.text.as_slice())?;
+    earlier(alloc, &list, fault)
 }
 
 /// Where the earlier one stands, of two variables or profiles of one name.
@@ -131,13 +148,7 @@ fn push_earlier(
         PolicyKind::DuplicateProfile => "earlier at ",
         _ => return Ok(()),
     };
-    let Ok(sources) = sources_of(alloc, unit) else {
-        return Ok(());
-    };
-    let Ok(list) = words(alloc, &sources, unit.text.as_slice()) else {
-        return Ok(());
-    };
-    if let Some(at) = earlier(alloc, &list, fault) {
+    if let Some(Some(at)) = unless_refused(earlier_in(alloc, unit, fault))? {
         further.push(spot_line(alloc, unit, what, at)?)?;
     }
     Ok(())
@@ -205,6 +216,7 @@ pub fn describe(
         push_tried(alloc, folders, text, fault.at.byte as usize, &mut further)?;
     }
     push_earlier(alloc, unit, fault, &mut further)?;
+    push_conflict(alloc, unit, fault, states, &mut further)?;
     report_of(alloc, unit, fault, states, further)
 }
 

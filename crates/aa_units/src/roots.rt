@@ -1,9 +1,14 @@
 //! The files that the command line names.
 
-use crate::tree::{Unread, is_folder, names_in, what_may_lie_at};
-use crate::unit::UnitFault;
+ghost use Rattle.std.specs.Prelude.{◌≡◌, ◌++◌, ◌∷◌, [], ◌<◌, ◌≤◌, vec_len, OnOk, IfOk, IfErr};
+
+use crate::tree::{Unread, is_folder, is_taken, names_in};
+use crate::unit::{UnitFault, fault_at};
 use aa_trees::{is_passed_over, joined_path, leaves_a_warning};
 use std::alloc::{AllocError, Global};
+
+/// The most files that a command line stands for.
+const MAX_FILES: usize = 4096;
 
 /// The files to be read, in order, and what people should know of those that aren't.
 #[derive(Drop)]
@@ -25,7 +30,23 @@ fn is_in(rt: &HostRuntime, base: &[u8], folder: &str, name: &[u8]) -> Result<boo
     let alloc = rt.alloc();
     let inner = joined_path(alloc, base, folder.as_bytes())?;
     let path = joined_path(alloc, inner.as_slice(), name)?;
-    Ok(what_may_lie_at(rt, path.as_slice()))
+    match is_taken(rt, path.as_slice()) {
+        Ok(is_taken) => Ok(is_taken),
+        Err(why) => Err(fault_at(path, why)),
+    }
+}
+
+/// Adds a file that is read, unless there are too many.
+fn push_path(path: Vec<u8>, roots: &mut Roots) -> Result<(), UnitFault>
+    ensures added { OnOk result (roots.new.paths.items ≡ roots.old.paths.items ++ path ∷ []) }
+    ensures within { OnOk result (vec_len roots.old.paths < MAX_FILES) }
+    ensures room { vec_len roots.old.paths < MAX_FILES → IfErr result (λ why. why ≡ UnitFault.NoMemory) }
+{
+    if roots.paths.len() >= MAX_FILES {
+        return Err(fault_at(path, Unread::TooLarge));
+    }
+    roots.paths.push(path)?;
+    Ok(())
 }
 
 fn push_file(
@@ -34,7 +55,9 @@ fn push_file(
     folder: &[u8],
     name: &[u8],
     roots: &mut Roots,
-) -> Result<(), UnitFault> {
+) -> Result<(), UnitFault>
+    ensures { OnOk result (vec_len roots.old.paths ≤ MAX_FILES → vec_len roots.new.paths ≤ MAX_FILES) }
+{
     let alloc = rt.alloc();
     let path = joined_path(alloc, folder, name)?;
     if leaves_a_warning(name) {
@@ -47,8 +70,7 @@ fn push_file(
         let what = "force-complain isn't applied, the text decides";
         roots.warnings.push(warning(alloc, path.as_slice(), what)?)?;
     }
-    roots.paths.push(path)?;
-    Ok(())
+    push_path(path, roots)
 }
 
 fn push_folder(
@@ -56,16 +78,12 @@ fn push_folder(
     base: &[u8],
     folder: &[u8],
     roots: &mut Roots,
-) -> Result<(), UnitFault> {
+) -> Result<(), UnitFault>
+    ensures { OnOk result (vec_len roots.old.paths ≤ MAX_FILES → vec_len roots.new.paths ≤ MAX_FILES) }
+{
     let names = match names_in(rt, folder) {
         Ok(names) => names,
-        Err(Unread::NoMemory) => return Err(UnitFault::NoMemory),
-        Err(why) => {
-            return Err(UnitFault::At {
-                path: Vec::from_slice(rt.alloc(), folder)?,
-                why,
-            });
-        }
+        Err(why) => return Err(fault_at(Vec::from_slice(rt.alloc(), folder)?, why)),
     };
     for name in &names {
         push_file(rt, base, folder, name.as_slice(), roots)?;
@@ -73,20 +91,38 @@ fn push_folder(
     Ok(())
 }
 
+/// Adds the files that an argument stands for. What can't be looked at is taken for a file, and refused when it is read.
+fn push_argument(
+    rt: &HostRuntime,
+    base: &[u8],
+    argument: &[u8],
+    roots: &mut Roots,
+) -> Result<(), UnitFault>
+    ensures { OnOk result (vec_len roots.old.paths ≤ MAX_FILES → vec_len roots.new.paths ≤ MAX_FILES) }
+{
+    if argument != "-".as_bytes() {
+        match is_folder(rt, argument) {
+            Ok(true) => return push_folder(rt, base, argument, roots),
+            Err(Unread::NoMemory) => return Err(UnitFault::NoMemory),
+            Ok(false) | Err(_) => {}
+        }
+    }
+    push_path(Vec::from_slice(rt.alloc(), argument)?, roots)
+}
+
 /// The files that these arguments stand for: a folder stands for those directly in it, in byte order of their names, without those
-/// that are passed over or disabled in the base folder. A file that is named itself is read in any case; `-` is standard input.
-pub fn roots_of(rt: &HostRuntime, base: &[u8], arguments: &[Vec<u8>]) -> Result<Roots, UnitFault> {
+/// that are passed over or disabled in the base folder. A file that is named itself is read in any case; `-` is standard input. The
+/// first file beyond 4,096 is refused as too large.
+pub fn roots_of(rt: &HostRuntime, base: &[u8], arguments: &[Vec<u8>]) -> Result<Roots, UnitFault>
+    ensures { IfOk result (λ roots. vec_len roots.paths ≤ MAX_FILES) }
+{
     let alloc = rt.alloc();
     let mut roots = Roots {
         paths: Vec::new(alloc),
         warnings: Vec::new(alloc),
     };
     for argument in arguments {
-        if is_folder(rt, argument.as_slice()) {
-            push_folder(rt, base, argument.as_slice(), &mut roots)?;
-        } else {
-            roots.paths.push(argument.clone()?)?;
-        }
+        push_argument(rt, base, argument.as_slice(), &mut roots)?;
     }
     Ok(roots)
 }

@@ -1,11 +1,15 @@
 //! What lies at a path.
 
-ghost use Rattle.std.specs.Prelude.{IfOk};
+ghost use Rattle.std.specs.Prelude.{◌≡◌, ◌≢◌, Option, Some, None, IfOk, IfErr};
+ghost use Rattle.aa_trees.specs.Folders.{folder_lines};
 ghost use Rattle.aa_trees.specs.Orders.{AreInByteOrder};
+ghost use Rattle.aa_trees.specs.Texts.{texts};
+ghost use Rattle.aa_units.specs.Files.{Files};
+ghost use Rattle.aa_units.specs.FilesData.{IsLooked, IsRead};
 
 use aa_trees::{can_be_included, folder_text, joined_path, put_in_byte_order};
-use std::alloc::{AllocError, AllocFailed};
-use std::fs::{self, File};
+use std::alloc::{AllocError, AllocFailed, Global};
+use std::fs::{self, File, Metadata};
 use std::io::{self, ErrorKind, Read};
 
 /// The most bytes of a text.
@@ -23,12 +27,20 @@ pub enum Unread {
 }
 
 impl From<AllocError> for Unread {
+    ghost use Rattle.aa_units.specs.declared.tree.Unread.TheVariants.{NoMemory};
+
+    ghost from_gives = { λ _ e. e ≡ NoMemory };
+
     fn from(_e: AllocError) -> Unread {
         Unread::NoMemory
     }
 }
 
 impl<T: Drop> From<AllocFailed<T>> for Unread {
+    ghost use Rattle.aa_units.specs.declared.tree.Unread.TheVariants.{NoMemory};
+
+    ghost from_gives = { λ _ e. e ≡ NoMemory };
+
     fn from(_e: AllocFailed<T>) -> Unread {
         Unread::NoMemory
     }
@@ -61,6 +73,23 @@ impl Unread {
 }
 
 /// What lies at a path.
+#[derive(Drop)]
+pub enum Content {
+    File(Vec<u8>),
+    /// The names in a folder, in byte order, without those of folders.
+    Folder(Vec<Vec<u8>>),
+}
+
+/// Where files lie. What lies at its paths may be known to contracts; of the host's files nothing is.
+pub trait Tree {
+    ghost files: { Self → Option Files };
+
+    /// What lies at a path. `NotFound` says that nothing does, and any other error that this can't be told or read.
+    fn content_at(&self, alloc: Global, path: &[u8]) -> Result<Content, Unread>
+        ensures { IsLooked (files self.now) path.now result };
+}
+
+/// What is read at a path.
 #[derive(Drop)]
 pub enum Found {
     Text(Vec<u8>),
@@ -96,30 +125,46 @@ pub(crate) fn read_input(rt: &HostRuntime) -> Result<Vec<u8>, Unread> {
     within_limit(bytes)
 }
 
+/// What a look-up found, if something is there. That it failed otherwise isn't that nothing is there.
+fn if_there(looked: Result<Metadata, Unread>) -> Result<Option<Metadata>, Unread>
+    ensures there { IfOk looked (λ found. result ≡ Ok (Some found)) }
+    ensures nothing { looked ≡ Err Unread.NotFound → result ≡ Ok None }
+    ensures failed { IfErr looked (λ why. why ≢ Unread.NotFound → result ≡ Err why) }
+{
+    match looked {
+        Ok(found) => Ok(Some(found)),
+        Err(Unread::NotFound) => Ok(None),
+        Err(why) => Err(why),
+    }
+}
+
+/// What lies at a path, if something does: what a link leads to.
+fn found_at(rt: &HostRuntime, path: &str) -> Result<Option<Metadata>, Unread> {
+    if_there(fs::metadata(rt, path).map_err(Unread::from))
+}
+
 /// Whether a folder lies at a path.
-pub(crate) fn is_folder(rt: &HostRuntime, path: &[u8]) -> bool {
-    let Ok(text) = path_text(path) else {
-        return false;
-    };
-    match fs::metadata(rt, text) {
-        Ok(found) => found.is_dir(),
-        Err(_) => false,
+pub(crate) fn is_folder(rt: &HostRuntime, path: &[u8]) -> Result<bool, Unread> {
+    match found_at(rt, path_text(path)?)? {
+        Some(found) => Ok(found.is_dir()),
+        None => Ok(false),
     }
 }
 
 /// Whether something lies at a path, be it a link that leads nowhere.
-pub(crate) fn what_may_lie_at(rt: &HostRuntime, path: &[u8]) -> bool {
+pub(crate) fn is_taken(rt: &HostRuntime, path: &[u8]) -> Result<bool, Unread> {
     let Ok(text) = path_text(path) else {
-        return false;
+        return Ok(false);
     };
-    fs::symlink_metadata(rt, text).is_ok()
+    let looked = fs::symlink_metadata(rt, text).map_err(Unread::from);
+    Ok(if_there(looked)?.is_some())
 }
 
 /// Whether a folder's entry is read where the folder is included: all but folders are, a link that leads nowhere too.
-fn is_read(rt: &HostRuntime, path: &str) -> bool {
-    match fs::metadata(rt, path) {
-        Ok(found) => !found.is_dir(),
-        Err(_) => true,
+fn is_read(rt: &HostRuntime, path: &str) -> Result<bool, Unread> {
+    match found_at(rt, path)? {
+        Some(found) => Ok(!found.is_dir()),
+        None => Ok(true),
     }
 }
 
@@ -131,7 +176,7 @@ pub(crate) fn names_in(rt: &HostRuntime, folder: &[u8]) -> Result<Vec<Vec<u8>>, 
     let mut names = Vec::new(alloc);
     for entry in fs::read_dir(rt, path_text(folder)?)? {
         let entry = entry?;
-        if is_read(rt, entry.path().as_str()) {
+        if is_read(rt, entry.path().as_str())? {
             names.push(Vec::from_slice(alloc, entry.file_name().as_bytes())?)?;
         }
     }
@@ -139,11 +184,31 @@ pub(crate) fn names_in(rt: &HostRuntime, folder: &[u8]) -> Result<Vec<Vec<u8>>, 
     Ok(names)
 }
 
-fn read_folder(rt: &HostRuntime, folder: &[u8]) -> Result<Vec<u8>, Unread> {
-    let alloc = rt.alloc();
-    let names = names_in(rt, folder)?;
+impl Tree for HostRuntime {
+    ghost use Rattle.std.specs.Prelude.{None};
+
+    ghost files = { λ _. None };
+
+    fn content_at(&self, _alloc: Global, path: &[u8]) -> Result<Content, Unread> {
+        let text = path_text(path)?;
+        let found = fs::metadata(self, text)?;
+        if found.is_dir() {
+            return Ok(Content::Folder(names_in(self, path)?));
+        }
+        if !found.is_file() {
+            return Err(Unread::NotAFile);
+        }
+        Ok(Content::File(read_file(self, text)?))
+    }
+}
+
+/// The text that a folder stands for, unless a line of it couldn't name its file.
+fn read_folder(alloc: Global, folder: &[u8], names: &[Vec<u8>]) -> Result<Vec<u8>, Unread>
+    ensures text { IfOk result (λ text. text.items ≡ folder_lines folder.now (texts names.now)) }
+    ensures there { IfErr result (λ why. why ≢ Unread.NotFound) }
+{
     let mut slices = Vec::new(alloc);
-    for name in &names {
+    for name in names {
         if !can_be_included(joined_path(alloc, folder, name.as_slice())?.as_slice()) {
             return Err(Unread::Failed);
         }
@@ -153,14 +218,11 @@ fn read_folder(rt: &HostRuntime, folder: &[u8]) -> Result<Vec<u8>, Unread> {
 }
 
 /// The file's text, or the text that a folder stands for.
-pub(crate) fn what_lies_at(rt: &HostRuntime, path: &[u8]) -> Result<Found, Unread> {
-    let text = path_text(path)?;
-    let found = fs::metadata(rt, text)?;
-    if found.is_dir() {
-        return Ok(Found::Folder(read_folder(rt, path)?));
+pub(crate) fn what_lies_at<T: Tree>(alloc: Global, tree: &T, path: &[u8]) -> Result<Found, Unread>
+    ensures { IsRead (T.files tree.now) path.now result }
+{
+    match tree.content_at(alloc, path)? {
+        Content::File(text) => Ok(Found::Text(text)),
+        Content::Folder(names) => Ok(Found::Folder(read_folder(alloc, path, names.as_slice())?)),
     }
-    if !found.is_file() {
-        return Err(Unread::NotAFile);
-    }
-    Ok(Found::Text(read_file(rt, text)?))
 }

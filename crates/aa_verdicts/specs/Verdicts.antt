@@ -1,5 +1,5 @@
 -- What a verdict has of the mediator's answer, and where the rules that it names stand.
-use Rattle.std.specs.Prelude.{◌≡◌, List, Bool, true, false, Option, None}
+use Rattle.std.specs.Prelude.{ℕ, ◌≡◌, List, Bool, true, false, Option, None}
 use Rattle.std.specs.Option.{option_map_or}
 use Rattle.aa_faults.specs.declared.fault.Spot.{Spot}
 use Rattle.aa_profiles.specs.declared.policy.Policy.{Policy}
@@ -34,6 +34,11 @@ pub record IsVerdict (a : Answer) (v : Verdict) : Type 0 where
 abbrev pub profile_at : List Policy → Label → Option Profile
 profile_at policies (Unconfined k) = None
 profile_at policies (Confined k n) = profile_in policies k n
+
+-- the number of a label's profile in its policy
+abbrev pub number_in : Label → ℕ
+number_in (Unconfined k) = 0
+number_in (Confined k n) = n
 
 -- the places of the rules of a list
 abbrev pub spots_of : Listed → ProfilePlaces → List Spot

@@ -4,7 +4,8 @@ ghost use Rattle.std.specs.Prelude.{◌≡◌, not};
 ghost use Rattle.std.specs.List.{list_any};
 ghost use Rattle.aa_mediate.specs.Reply.{reply};
 
-use crate::verdict::{Decided, DeciderLine, Verdict, decide, push_reasons};
+use crate::explained::{Decided, DeciderLine};
+use crate::verdict::{Verdict, decide, push_reasons};
 use aa_asks::{WordFault, read_word};
 use aa_mediate::{Compiled, Label, Machine, Mediator, Request, label_of};
 use aa_output::{NoMemory, push_bool, push_json_bytes, push_json_place, push_key, push_name};

@@ -32,8 +32,15 @@ fn refuse_command(rt: &HostRuntime, error: &Error) -> u8 {
     if error.kind() == ErrorKind::OutOfMemory {
         return refuse(rt, RunFault::NoMemory);
     }
-    let _ = error.print(rt);
-    if error.exit_code() == 0 { 0 } else { 2 }
+    let is_written = error.print(rt).is_ok();
+    if error.use_stderr() {
+        return 2;
+    }
+    if is_written {
+        0
+    } else {
+        refuse(rt, RunFault::Write)
+    }
 }
 
 /// Does what the command line asks, and gives the exit status.

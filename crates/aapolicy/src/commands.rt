@@ -1,22 +1,22 @@
 //! What each command does.
 
-use crate::checked::{push_faults, push_json_report, push_report};
-use crate::checking::{Wanted, check};
 use crate::command::{base_of, copies_of, folders_of, second_of, states_of, values_of};
 use crate::job::run_job;
 use crate::joined::{Use, with_policy};
 use crate::output::{Output, Stop, path_refused, refused, stop_with};
+use aa_checks::{Wanted, check, push_faults, push_json_report, push_report};
 use aa_output::NoMemory;
 use aa_reports::{
     Choice, LogReport, push_against, push_json_against, push_json_report as push_json_log,
     push_report as push_log_report, read_log,
 };
-use aa_units::main_text;
+use aa_units::{Unread, main_text};
 use aa_verdicts::{
-    AskFault, Decided, Manner, ask, is_one_denied, push_json_verdicts, push_verdicts,
+    AskFault, Decided, MAX_WORDS, Manner, ask, is_one_denied, push_json_verdicts, push_verdicts,
+    push_words,
 };
 use clap::ArgMatches;
-use std::alloc::{AllocError, Global};
+use std::alloc::Global;
 
 fn run_check(
     rt: &HostRuntime,
@@ -43,14 +43,10 @@ fn run_check(
     Ok(output)
 }
 
-/// Adds the lines of a text without their ends.
-fn push_lines(alloc: Global, text: &[u8], words: &mut Vec<Vec<u8>>) -> Result<(), AllocError> {
-    for line in text.split(|b| *b == b'\n') {
-        if !line.is_empty() {
-            words.push(Vec::from_slice(alloc, line)?)?;
-        }
-    }
-    Ok(())
+/// Adds the lines of a file without their ends, but for empty ones.
+fn push_words_from(rt: &HostRuntime, path: &[u8], words: &mut Vec<Vec<u8>>) -> Result<(), Unread> {
+    let text = main_text(rt, path)?;
+    push_words(rt.alloc(), text.as_slice(), words)
 }
 
 fn answer_words(
@@ -129,6 +125,22 @@ impl Use for Replaying<'_> {
     }
 }
 
+/// The request words of the command line, and of the file that it names.
+fn words_of(rt: &HostRuntime, matches: &ArgMatches<'_>) -> Result<Vec<Vec<u8>>, Stop> {
+    let alloc = rt.alloc();
+    let mut words = copies_of(alloc, matches, "WORD")?;
+    if words.len() > MAX_WORDS {
+        let line = "error: ask takes at most 65536 words\n";
+        return Err(stop_with(refused(alloc, line, 2)));
+    }
+    if let Some(from) = matches.get_str("from") {
+        if let Err(why) = push_words_from(rt, from.as_bytes(), &mut words) {
+            return Err(stop_with(path_refused(alloc, from.as_bytes(), why)));
+        }
+    }
+    Ok(words)
+}
+
 fn run_ask(
     rt: &HostRuntime,
     matches: &ArgMatches<'_>,
@@ -137,15 +149,7 @@ fn run_ask(
     let alloc = rt.alloc();
     let mut files = copies_of(alloc, matches, "PROFILE")?;
     files.append(&mut copies_of(alloc, matches, "also")?)?;
-    let text = match matches.get_str("from") {
-        Some(from) => match main_text(rt, from.as_bytes()) {
-            Ok(text) => text,
-            Err(why) => return Err(stop_with(path_refused(alloc, from.as_bytes(), why))),
-        },
-        None => Vec::new(alloc),
-    };
-    let mut words = copies_of(alloc, matches, "WORD")?;
-    push_lines(alloc, text.as_slice(), &mut words)?;
+    let words = words_of(rt, matches)?;
     let mut answering = Answering {
         matches,
         words: words.as_slice(),

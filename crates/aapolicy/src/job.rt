@@ -1,9 +1,9 @@
 //! The job that `job` prints.
 
-use crate::checking::Wanted;
 use crate::command::{copies_of, values_of};
 use crate::joined::{load_units, paths_of};
 use crate::output::{Output, Stop, path_refused, policy_refused, refused, stop_with, unit_refused};
+use aa_checks::Wanted;
 use aa_compile::Compiled;
 use aa_output::NoMemory;
 use aa_reports::{

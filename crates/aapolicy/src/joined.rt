@@ -1,8 +1,8 @@
 //! The one policy that files make.
 
-use crate::checking::Wanted;
 use crate::output::{Output, Stop, fault_refused, policy_refused, stop_with, unit_refused};
 use aa_asks::{ProfilePlaces, rule_places};
+use aa_checks::Wanted;
 use aa_compile::{Compiled, compile};
 use aa_joins::{JoinFault, Joining, Policy, Refused, Repeated};
 use aa_output::NoMemory;

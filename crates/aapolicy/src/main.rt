@@ -1,8 +1,6 @@
 //! Reads policies as they lie in files and logs of what was asked, and says what is wrong and where, and which rules decide.
 #![tactic(auto)]
 
-mod checked;
-mod checking;
 mod command;
 mod commands;
 mod job;
@@ -28,13 +26,21 @@ fn say_no_memory(rt: &HostRuntime) -> u8 {
     FAILED
 }
 
-/// Says what the command line is refused for, or the help that it asks for, and gives the exit status.
+fn say_unwritten(rt: &HostRuntime) -> u8 {
+    let _ = eprintln!(rt; "the output can't be written");
+    FAILED
+}
+
+/// Says what the command line is refused for, or the help or the version that it asks for, and gives the exit status.
 fn refuse_command(rt: &HostRuntime, error: &Error) -> u8 {
     if error.kind() == ErrorKind::OutOfMemory {
         return say_no_memory(rt);
     }
-    let _ = error.print(rt);
-    if error.exit_code() == 0 { 0 } else { REFUSED }
+    let is_written = error.print(rt).is_ok();
+    if error.use_stderr() {
+        return REFUSED;
+    }
+    if is_written { 0 } else { say_unwritten(rt) }
 }
 
 /// Writes what was found, and gives the exit status.
@@ -45,8 +51,7 @@ fn write_output(rt: &HostRuntime, output: &Output) -> u8 {
         return FAILED;
     }
     if answers.write_all(output.answers.as_slice()).is_err() {
-        let _ = eprintln!(rt; "the output can't be written");
-        return FAILED;
+        return say_unwritten(rt);
     }
     output.status
 }

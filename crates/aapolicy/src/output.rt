@@ -1,6 +1,6 @@
 //! What is printed.
 
-use crate::checking::{Wanted, fault_of_unit};
+use aa_checks::{Wanted, fault_of_unit};
 use aa_output::{NoMemory, push_fault};
 use aa_units::{FaultReport, Unit, UnitFault, Unread, describe, push_text, unreadable};
 use aa_words::{PolicyFault, PolicyKind};

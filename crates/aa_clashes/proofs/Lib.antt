@@ -1,0 +1,4 @@
+pub mod Conflicting
+pub mod Owning
+pub mod Leading
+pub mod Searching

@@ -1,0 +1,5 @@
+pub mod Items
+pub mod Jobs
+pub mod Regrouped
+pub mod Requests
+pub mod Tasks

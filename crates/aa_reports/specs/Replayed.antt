@@ -1,0 +1,23 @@
+-- What a request of a log is answered now.
+use Rattle.std.specs.Prelude.{ℕ, List, Option, Some, None}
+use Rattle.aa_profiles.specs.declared.policy.Policy.{Policy}
+use Rattle.aa_requests.specs.declared.label.Label.{Label}
+use Rattle.aa_requests.specs.declared.request.Request.{Request}
+use Rattle.aa_requests.specs.declared.answer.Answer.{Answer}
+use Rattle.aa_labels.specs.Labels.{label_named}
+use Rattle.aa_mediate.specs.Reply.{reply}
+use Rattle.aa_findings.specs.declared.answer.Now.{Now}
+use Rattle.aa_findings.specs.declared.answer.Now.TheVariants as is
+use Rattle.aa_findings.specs.Answers.{answered}
+use Rattle.aa_verdicts.specs.Verdicts.{is_by_complain}
+
+abbrev pub now_by : Answer → Now
+now_by a = answered a.granted (is_by_complain a)
+
+abbrev pub now_at : List Policy → Request → Option Label → Now
+now_at policies request (Some label) = now_by (reply policies label request)
+now_at policies request None = is.NoProfile
+
+-- what the mediator answers a task in the profile of that name, if there is one
+abbrev pub now_for : List Policy → List ℕ → Request → Now
+now_for policies profile request = now_at policies request (label_named policies 0 profile)

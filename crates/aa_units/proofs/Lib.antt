@@ -1,0 +1,6 @@
+mod Shown
+mod Known
+mod Walking
+mod Lists
+mod Taken
+mod Walked

@@ -1,0 +1,21 @@
+-- What lies at the paths of a tree of files.
+use Rattle.std.specs.Prelude.{ℕ, List, Bool, true, false, Option, is_some, find}
+use Rattle.aa_trees.specs.Folders.{folder_lines}
+
+-- a file's bytes, or the names in a folder
+pub data Lying : Type 0 where
+  File : List ℕ → Lying
+  Folder : List (List ℕ) → Lying
+
+-- what lies at each path, if something does
+abbrev pub Files : Type 0
+Files = List ℕ → Option Lying
+
+-- the text that is read there, and whether it stands for a folder
+abbrev pub read_at : List ℕ → Lying → List ℕ × Bool
+read_at path (File bytes) = (bytes, false)
+read_at path (Folder names) = (folder_lines path names, true)
+
+-- of some paths, the first at which something lies
+abbrev pub first_taken : Files → List (List ℕ) → Option (List ℕ)
+first_taken files paths = find (λ path. is_some (files path)) paths

@@ -1,0 +1,81 @@
+-- A walk over the includes of a main text.
+use Rattle.std.specs.Prelude.{ℕ, ◌≡◌, ◌+◌, ◌≤◌, List, ◌∷◌, length, take, map, flat_map, Option, Some, None, option_map, option_to_list, slice_get, Bool, IsSome, IfSome, All, Contains, Vec}
+use Rattle.std.specs.Map.{lookup}
+use Rattle.std.specs.declared.alloc.Global.{Global}
+use Rattle.std.specs.declared.cmp.Ordering.{Ordering}
+use Rattle.std.specs.Ordering.{nat_cmp, is_eq}
+use Rattle.std.specs.Cmp.Lexicographic.{slice_cmp}
+use Rattle.aa_extents.specs.Includes.{included_name}
+use Rattle.aa_words.specs.Found.{IncludeData, HasIncludes}
+use Rattle.aa_trees.specs.Searches.{searched}
+use Rattle.aa_units.specs.declared.unit.Source.{Source}
+use Rattle.aa_units.specs.Names.{names_in_angles}
+use Rattle.aa_units.specs.Files.{Files, read_at, first_taken}
+
+abbrev pub Name : Type 0
+Name = Vec ℕ Global
+
+-- a name that was looked up, and the number of its source if it has one
+abbrev pub Entry : Type 0
+Entry = Name × Option ℕ
+
+abbrev pub by_bytes : Name → Name → Ordering
+by_bytes a b = slice_cmp nat_cmp a.items b.items
+
+-- what is known of a name
+abbrev pub known_of : List Entry → List ℕ → Option (Option ℕ)
+known_of entries name = lookup (λ k. is_eq (slice_cmp nat_cmp name k.items)) entries
+
+-- what an include asks for: its name, and the paths at which its source is searched
+abbrev pub Asked : Type 0
+Asked = List ℕ × List (List ℕ)
+
+abbrev pub asked_by : List (List ℕ) → IncludeData → Asked
+asked_by folders i = (included_name i.text, searched (names_in_angles i.text) (included_name i.text) folders)
+
+-- what the includes of a text ask for
+pub record Asks (folders : List (List ℕ)) (text : List ℕ) (asked : List Asked) : Type 0 where
+  pub includes : List IncludeData
+  pub of_text : HasIncludes text includes
+  pub each : asked ≡ map (asked_by folders) includes
+
+-- each name that a text includes was looked up
+pub record IsClosed (folders : List (List ℕ)) (entries : List Entry) (text : List ℕ) : Type 0 where
+  pub asked : List Asked
+  pub asks : Asks folders text asked
+  pub known : All (λ a. IsSome (known_of entries a.0)) asked
+
+-- an include of one of the texts asks for this
+pub record IsIncluded (folders texts : List (List ℕ)) (a : Asked) : Type 0 where
+  pub text : List ℕ
+  pub among : Contains texts text
+  pub asked : List Asked
+  pub asks : Asks folders text asked
+  pub has : Contains asked a
+
+-- the main text, and behind it those of the sources in the order in which they were found
+abbrev pub walked_texts : List ℕ → List Source → List (List ℕ)
+walked_texts main sources = main ∷ map (λ s. s.text.items) sources
+
+-- This is read at one of these paths: where it is known what lies where, at the first at which something lies, and it is that.
+pub record LiesAt (files : Option Files) (paths : List (List ℕ)) (path : List ℕ) (read : List ℕ × Bool) : Type 0 where
+  pub searched : Contains paths path
+  pub first : IfSome files (λ f. first_taken f paths ≡ Some path)
+  pub is : IfSome files (λ f. option_map (read_at path) (f path) ≡ Some read)
+
+-- nothing lies at any of these paths, where that is known
+abbrev pub NothingAt : Option Files → List (List ℕ) → Type 0
+NothingAt files paths = IfSome files (λ f. first_taken f paths ≡ None)
+
+-- The sources and the names so far: each source has a name of its own and lies where an include of the main text or of a source
+-- before it is searched, and a name without a source is that of an include for which nothing lies anywhere.
+pub record IsWalk (files : Option Files) (folders : List (List ℕ)) (main : List ℕ) (sources : List Source) (entries : List Entry) : Type 0 where
+  pub few : length sources ≤ 4095
+  pub named : (n : ℕ) (s : Source) → slice_get sources n ≡ Some s → known_of entries s.name.items ≡ Some (Some n)
+  pub led : (name : List ℕ) (n : ℕ) → known_of entries name ≡ Some (Some n) → (s : Source) × (slice_get sources n ≡ Some s) × (s.name.items ≡ name)
+  pub reached : (n : ℕ) (s : Source) → slice_get sources n ≡ Some s → (paths : List (List ℕ)) × IsIncluded folders (take (n + 1) (walked_texts main sources)) (s.name.items, paths) × LiesAt files paths s.path.items (s.text.items, s.is_folder)
+  pub missing : (name : List ℕ) → known_of entries name ≡ Some None → (paths : List (List ℕ)) × IsIncluded folders (walked_texts main sources) (name, paths) × NothingAt files paths
+
+-- the sources by their names
+abbrev pub in_order : List Entry → List ℕ
+in_order entries = flat_map (λ e. option_to_list e.1) entries

@@ -1,0 +1,309 @@
+//! A main text with all that it includes, breadth first.
+
+ghost use Rattle.std.specs.Prelude.{◌≡◌, ◌+◌, Option, Some, None, IfOk, OnOk, MatchOption, length, map, slice_index_or};
+ghost use Rattle.std.specs.BTreeMap.{IsOrdered, insert_entry};
+ghost use Rattle.aa_trees.specs.Texts.{texts, slices};
+ghost use Rattle.aa_units.specs.FilesData.{read};
+ghost use Rattle.aa_units.specs.Walks.{Entry, by_bytes, known_of, asked_by, Asks, walked_texts, LiesAt, NothingAt, in_order};
+ghost use Rattle.aa_units.specs.WalkData.{asked, IsAdded, LooksUp, IsWalkedTo, IsUnit};
+ghost use Rattle.aa_words.specs.FoundData.{include_data};
+
+use crate::tree::{Found, Tree, Unread, read_input, what_lies_at};
+use crate::unit::{Source, Unit, UnitFault, fault_at, paths_of, text_of_node};
+use aa_places::excerpt;
+use aa_texts::{FaultReport, place_at};
+use aa_words::{IncludeAt, includes_of};
+use std::alloc::{AllocError, Global};
+use std::collections::BTreeMap;
+
+/// The most sources of a unit.
+const MAX_SOURCES: usize = 4095;
+
+/// A name that is included, and the paths at which its source may lie.
+#[derive(Drop)]
+struct Wanted {
+    /// Its include's first byte.
+    byte: usize,
+    name: Vec<u8>,
+    paths: Vec<Vec<u8>>,
+}
+
+fn wanted_at(
+    alloc: Global,
+    include: &IncludeAt<'_>,
+    folders: &[&[u8]],
+) -> Result<Wanted, AllocError>
+    ensures { IfOk result (λ w. asked w ≡ asked_by (slices folders.now) (include_data include.now)) }
+{
+    Ok(Wanted {
+        byte: include.byte,
+        name: Vec::from_slice(alloc, include.name())?,
+        paths: paths_of(alloc, include, folders)?,
+    })
+}
+
+/// What the includes of a text want.
+fn wanted_by(alloc: Global, text: &[u8], folders: &[&[u8]]) -> Result<Vec<Wanted>, AllocError>
+    ensures { IfOk result (λ ws. Asks (slices folders.now) text.now (map asked ws.items)) }
+{
+    let includes = includes_of(alloc, text)?;
+    let mut wanted = Vec::new(alloc);
+    for include in &includes {
+        wanted.push(wanted_at(alloc, include, folders)?)?;
+    }
+    Ok(wanted)
+}
+
+/// The text of a number: 0 is the main text, and the sources count from 1 in the order in which they were found.
+fn walked_text(unit: &Unit, number: usize) -> &[u8]
+    ensures { result.now ≡ slice_index_or (walked_texts unit.now.text.items unit.now.sources.items) number unit.now.text.items }
+{
+    if number == 0 {
+        return unit.text.as_slice();
+    }
+    match unit.sources.get(number - 1) {
+        Some(source) => source.text.as_slice(),
+        None => unit.text.as_slice(),
+    }
+}
+
+/// What lies at the first of the paths at which something lies.
+fn first_found<T: Tree>(
+    alloc: Global,
+    tree: &T,
+    paths: Vec<Vec<u8>>,
+) -> Result<Option<(Vec<u8>, Found)>, UnitFault>
+    ensures { IfOk result (λ found. MatchOption found (NothingAt (T.files tree.now) (texts paths.items))
+        (λ f. LiesAt (T.files tree.now) (texts paths.items) f.0.items (read f.1))) }
+{
+    for path in paths {
+        match what_lies_at(alloc, tree, path.as_slice()) {
+            Ok(found) => return Ok(Some((path, found))),
+            Err(Unread::NotFound) => {}
+            Err(why) => return Err(fault_at(path, why)),
+        }
+    }
+    Ok(None)
+}
+
+/// What is said of a name that is included in both forms and lies at two paths.
+fn ambiguous(
+    alloc: Global,
+    unit: &Unit,
+    node: usize,
+    byte: usize,
+    first: &[u8],
+    second: &[u8],
+) -> Result<FaultReport, AllocError> {
+    let (path, text, _) = text_of_node(unit, node);
+    let mut message = Vec::from_slice(alloc, first)?;
+    message.extend_from_slice(" and ".as_bytes())?;
+    message.extend_from_slice(second)?;
+    message.extend_from_slice(" both have this name".as_bytes())?;
+    Ok(FaultReport {
+        kind: "AmbiguousInclude",
+        path: Vec::from_slice(alloc, path)?,
+        place: Some(place_at(text, byte)),
+        message,
+        excerpt: excerpt(alloc, text, byte)?,
+        chain: Vec::new(alloc),
+        further: Vec::new(alloc),
+    })
+}
+
+fn has_path(paths: &[Vec<u8>], path: &[u8]) -> bool {
+    paths.iter().any(|one| one.as_slice() == path)
+}
+
+/// Whether a name that is known leads elsewhere in the form in which it is wanted now.
+fn check_known<T: Tree>(
+    alloc: Global,
+    tree: &T,
+    unit: &Unit,
+    node: usize,
+    index: usize,
+    wanted: Wanted,
+) -> Result<(), UnitFault> {
+    let Some(source) = unit.sources.get(index) else {
+        return Ok(());
+    };
+    if has_path(wanted.paths.as_slice(), source.path.as_slice()) {
+        return Ok(());
+    }
+    let byte = wanted.byte;
+    match first_found(alloc, tree, wanted.paths)? {
+        Some((path, _)) => {
+            let (first, second) = (source.path.as_slice(), path.as_slice());
+            let fault = ambiguous(alloc, unit, node, byte, first, second)?;
+            Err(UnitFault::Ambiguous(fault))
+        }
+        None => Ok(()),
+    }
+}
+
+/// Enters a name that has no source.
+fn enter_missing(unit: &mut Unit, name: Vec<u8>) -> Result<(), AllocError>
+    ensures path { unit.new.path.items ≡ unit.old.path.items }
+    ensures text { unit.new.text.items ≡ unit.old.text.items }
+    ensures sources { unit.new.sources.items ≡ unit.old.sources.items }
+    ensures entries { OnOk result (unit.new.known.entries ≡ insert_entry by_bytes unit.old.known.entries name None) }
+{
+    let _ = unit.known.insert(name, None)?;
+    Ok(())
+}
+
+/// The text of what was found, and whether it stands for a folder.
+fn text_of(found: Found) -> (Vec<u8>, bool)
+    ensures text { result.0.items ≡ (read found).0 }
+    ensures folder { result.1 ≡ (read found).1 }
+{
+    match found {
+        Found::Text(text) => (text, false),
+        Found::Folder(text) => (text, true),
+    }
+}
+
+/// Enters a name with its source.
+fn enter_source(
+    unit: &mut Unit,
+    name: Vec<u8>,
+    path: Vec<u8>,
+    found: Found,
+) -> Result<(), UnitFault>
+    ensures path { OnOk result (unit.new.path.items ≡ unit.old.path.items) }
+    ensures text { OnOk result (unit.new.text.items ≡ unit.old.text.items) }
+    ensures added { OnOk result (IsAdded name.items path.items (read found) unit.old.sources.items unit.old.known.entries unit.new.sources.items unit.new.known.entries) }
+{
+    if unit.sources.len() >= MAX_SOURCES {
+        return Err(fault_at(path, Unread::TooLarge));
+    }
+    let (text, is_folder) = text_of(found);
+    let key = name.clone()?;
+    let _ = unit.known.insert(key, Some(unit.sources.len()))?;
+    unit.sources.push(Source {
+        name,
+        path,
+        text,
+        is_folder,
+    })?;
+    Ok(())
+}
+
+/// Looks for the source of a name that isn't known.
+fn look_up_new<T: Tree>(
+    alloc: Global,
+    tree: &T,
+    unit: &mut Unit,
+    wanted: Wanted,
+) -> Result<(), UnitFault>
+    requires { known_of unit.old.known.entries wanted.name.items ≡ None }
+    ensures { OnOk result (LooksUp (T.files tree.now) (asked wanted) unit.old unit.new) }
+{
+    let Wanted { name, paths, .. } = wanted;
+    match first_found(alloc, tree, paths)? {
+        Some((path, found)) => Ok(enter_source(unit, name, path, found)?),
+        None => Ok(enter_missing(unit, name)?),
+    }
+}
+
+/// Looks for the source of a name that a node includes, unless that was done before.
+fn look_up<T: Tree>(
+    alloc: Global,
+    tree: &T,
+    unit: &mut Unit,
+    node: usize,
+    wanted: Wanted,
+) -> Result<(), UnitFault>
+    ensures { OnOk result (LooksUp (T.files tree.now) (asked wanted) unit.old unit.new) }
+{
+    let known = unit.known.get(wanted.name.as_slice()).copied();
+    match known {
+        Some(Some(index)) => check_known(alloc, tree, unit, node, index, wanted),
+        Some(None) => Ok(()),
+        None => look_up_new(alloc, tree, unit, wanted),
+    }
+}
+
+/// Looks for the sources of all names that a text of the unit includes: number 0 is the main text.
+fn walk_text<T: Tree>(
+    alloc: Global,
+    tree: &T,
+    folders: &[&[u8]],
+    unit: &mut Unit,
+    number: usize,
+) -> Result<(), UnitFault>
+    requires { IsWalkedTo (T.files tree.now) (slices folders.now) unit.old.path.items unit.old.text.items number unit.old }
+    ensures { OnOk result (IsWalkedTo (T.files tree.now) (slices folders.now) unit.old.path.items unit.old.text.items (number + 1) unit.new) }
+{
+    if number > unit.sources.len() {
+        return Ok(());
+    }
+    let wanted = wanted_by(alloc, walked_text(unit, number), folders)?;
+    for one in wanted {
+        look_up(alloc, tree, unit, number, one)?;
+    }
+    Ok(())
+}
+
+/// The sources in byte order of their names.
+fn ordered(
+    alloc: Global,
+    known: &BTreeMap<Vec<u8>, Option<usize>>,
+) -> Result<Vec<usize>, AllocError>
+    ensures sorted { IsOrdered by_bytes known.now }
+    ensures order { IfOk result (λ order. order.items ≡ in_order known.now.entries) }
+{
+    let mut order = Vec::new(alloc);
+    for index in known.values() {
+        if let Some(index) = index {
+            order.push(*index)?;
+        }
+    }
+    Ok(order)
+}
+
+/// A main text with all that it includes, breadth first.
+pub fn load_text<T: Tree>(
+    alloc: Global,
+    tree: &T,
+    folders: &[&[u8]],
+    path: Vec<u8>,
+    text: Vec<u8>,
+) -> Result<Unit, UnitFault>
+    ensures { IfOk result (λ unit. IsUnit (T.files tree.now) (slices folders.now) path.items text.items unit) }
+{
+    let mut unit = Unit {
+        path,
+        text,
+        sources: Vec::new(alloc),
+        known: BTreeMap::new(alloc),
+        order: Vec::new(alloc),
+    };
+    for number in 0..MAX_SOURCES + 1 {
+        walk_text(alloc, tree, folders, &mut unit, number)?;
+    }
+    unit.order = ordered(alloc, &unit.known)?;
+    Ok(unit)
+}
+
+/// The text of a file; the path `-` is standard input.
+pub fn main_text(rt: &HostRuntime, path: &[u8]) -> Result<Vec<u8>, Unread> {
+    if path == "-".as_bytes() {
+        return read_input(rt);
+    }
+    match what_lies_at(rt.alloc(), rt, path)? {
+        Found::Text(text) => Ok(text),
+        Found::Folder(_) => Err(Unread::NotAFile),
+    }
+}
+
+/// Reads a file, and breadth first all that it includes. The path `-` is standard input.
+pub fn load(rt: &HostRuntime, folders: &[&[u8]], path: &[u8]) -> Result<Unit, UnitFault>
+    ensures { IfOk result (λ unit. IsUnit None (slices folders.now) path.now unit.text.items unit) }
+{
+    let path = Vec::from_slice(rt.alloc(), path)?;
+    match main_text(rt, path.as_slice()) {
+        Ok(text) => load_text(rt.alloc(), rt, folders, path, text),
+        Err(why) => Err(fault_at(path, why)),
+    }
+}
