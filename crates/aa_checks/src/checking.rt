@@ -4,11 +4,10 @@ ghost use Rattle.std.specs.Prelude.{◌≡◌, ◌==◌, if◌then◌else◌};
 
 use crate::lines::LineCount;
 use aa_compile::Compiled;
+use aa_diagnostics::{describe, unreadable};
 use aa_output::{NoMemory, push_name};
 use aa_policy::Profile;
-use aa_units::{
-    FaultReport, Unit, UnitFault, compile_unit, describe, load, push_text, roots_of, unreadable,
-};
+use aa_units::{FaultReport, Unit, UnitFault, compile_unit, load, push_text, roots_of};
 use aa_words::PolicyKind;
 use std::alloc::{AllocError, Global};
 use std::collections::HashMap;

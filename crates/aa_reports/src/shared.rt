@@ -1,6 +1,7 @@
 //! What several files include, taken together.
 
-use aa_units::{FaultReport, Source, Unit, UnitFault, describe, push_text, text_at};
+use aa_diagnostics::describe;
+use aa_units::{FaultReport, Source, Unit, UnitFault, push_text, text_at};
 use aa_words::{PolicyFault, PolicyKind, Spot, includes_of};
 use std::alloc::{AllocError, Global};
 use std::collections::BTreeMap;

@@ -1,4 +1,3 @@
-mod Shown
 mod Known
 mod Walking
 mod Lists

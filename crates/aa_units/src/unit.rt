@@ -6,6 +6,7 @@ ghost use Rattle.aa_trees.specs.Texts.{texts, slices};
 ghost use Rattle.aa_trees.specs.Searches.{searched};
 ghost use Rattle.aa_units.specs.Names.{opens_name, names_in_angles};
 ghost use Rattle.aa_units.specs.Numbers.{source_in_unit, path_in, text_in};
+ghost use Rattle.aa_units.specs.Nodes.{source_of_node, path_of_node, text_of_node, is_folder_node, is_folder_in, node_among, node_in, node_named};
 
 use crate::tree::Unread;
 use aa_texts::FaultReport;
@@ -96,7 +97,7 @@ fn is_in_angles(include: &[u8]) -> bool
 }
 
 /// The paths at which an include's source may lie.
-pub(crate) fn paths_of(
+pub fn paths_of(
     alloc: Global,
     include: &IncludeAt<'_>,
     folders: &[&[u8]],
@@ -106,13 +107,23 @@ pub(crate) fn paths_of(
     candidates(alloc, is_in_angles(include.text), include.name(), folders)
 }
 
-/// The text of a node, its path, and whether it stands for a folder. Node 0 is the main text, and node `n + 1` the source `n`.
-pub(crate) fn text_of_node(unit: &Unit, node: usize) -> (&[u8], &[u8], bool) {
-    let source = match node.checked_sub(1) {
-        Some(index) => unit.sources.get(index),
-        None => None,
-    };
-    match source {
+/// The source of a node; none where that is the main text. Node 0 is the main text, and node `n + 1` the source `n`.
+fn source_of_node(unit: &Unit, node: usize) -> Option<&Source>
+    ensures { option_map (λ s. s.now) result ≡ source_of_node unit.now node }
+{
+    if node == 0 {
+        return None;
+    }
+    unit.sources.get(node - 1)
+}
+
+/// The path of a node, its text, and whether it stands for a folder.
+pub fn text_of_node(unit: &Unit, node: usize) -> (&[u8], &[u8], bool)
+    ensures path { result.0.now ≡ path_of_node unit.now node }
+    ensures text { result.1.now ≡ text_of_node unit.now node }
+    ensures folder { result.2 ≡ is_folder_node unit.now node }
+{
+    match source_of_node(unit, node) {
         Some(source) => (
             source.path.as_slice(),
             source.text.as_slice(),
@@ -142,10 +153,23 @@ fn source_at(unit: &Unit, number: u16) -> Option<&Source>
     }
 }
 
-/// The node of a fault's file: number 0 is the main text, and the sources count from 1 in byte order of their names.
-pub(crate) fn node_of(unit: &Unit, number: u16) -> usize {
+/// The node of the source of that number, if there are so many.
+fn node_among(count: usize, number: usize) -> Option<usize>
+    ensures { result ≡ node_among count number }
+{
+    if number < count {
+        Some(number + 1)
+    } else {
+        None
+    }
+}
+
+/// The node of a number that places have: 0 is the main text's, and the sources count from 1 in byte order of their names.
+pub fn node_of(unit: &Unit, number: u16) -> usize
+    ensures { result ≡ node_in unit.now number }
+{
     match index_of(unit.order.as_slice(), number) {
-        Some(index) => index.saturating_add(1),
+        Some(index) => node_among(unit.sources.len(), index).unwrap_or(0),
         None => 0,
     }
 }
@@ -161,10 +185,22 @@ pub fn text_at(unit: &Unit, number: u16) -> (&[u8], &[u8])
     }
 }
 
-/// Which source a name leads to, if something lies at one of its paths.
-pub(crate) fn known_source(unit: &Unit, name: &[u8]) -> Option<usize> {
-    match unit.known.get(name) {
-        Some(index) => *index,
-        None => None,
+/// Whether a number that places have is that of a source that stands for a folder.
+pub fn is_folder_at(unit: &Unit, number: u16) -> bool
+    ensures { result ≡ is_folder_in unit.now number }
+{
+    match source_at(unit, number) {
+        Some(source) => source.is_folder,
+        None => false,
+    }
+}
+
+/// The node of the source that a name leads to, if something lies at one of its paths.
+pub fn node_named(unit: &Unit, name: &[u8]) -> Option<usize>
+    ensures { result ≡ node_named unit.now name.now }
+{
+    match unit.known.get(name).copied() {
+        Some(Some(index)) => node_among(unit.sources.len(), index),
+        _ => None,
     }
 }

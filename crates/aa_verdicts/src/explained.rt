@@ -10,8 +10,9 @@ ghost use Rattle.aa_verdicts.specs.Named.{named, lacked, letters_for, named_at, 
 use aa_asks::{Decider, Deciders, Listed, ProfilePlaces, deciders_of, target_deciders};
 use aa_audit::push_mask;
 use aa_mediate::{Compiled, Label, Request, profile_of};
+use aa_places::rule_text;
 use aa_policy::{Perms, Profile};
-use aa_units::{PlaceAt, Unit, place_at, rule_text, text_at};
+use aa_units::{PlaceAt, Unit, place_at, text_at};
 use aa_words::Spot;
 use bitflags::Flags;
 use std::alloc::{AllocError, Global};

@@ -4,12 +4,11 @@ use crate::output::{Output, Stop, fault_refused, policy_refused, stop_with, unit
 use aa_asks::{ProfilePlaces, rule_places};
 use aa_checks::Wanted;
 use aa_compile::{Compiled, compile};
+use aa_diagnostics::{describe_repeated, describe_together};
 use aa_joins::{JoinFault, Joining, Policy, Refused, Repeated};
 use aa_output::NoMemory;
 use aa_policy::parse;
-use aa_units::{
-    Unit, compile_unit, describe_repeated, describe_together, load, roots_of, sources_of,
-};
+use aa_units::{Unit, compile_unit, load, roots_of, sources_of};
 use aa_verdicts::Decided;
 use aa_words::{PolicyFault, PolicyKind, Sources, Spot, words};
 use std::alloc::Global;

@@ -1,8 +1,9 @@
 //! What is printed.
 
 use aa_checks::{Wanted, fault_of_unit};
+use aa_diagnostics::{describe, unreadable};
 use aa_output::{NoMemory, push_fault};
-use aa_units::{FaultReport, Unit, UnitFault, Unread, describe, push_text, unreadable};
+use aa_units::{FaultReport, Unit, UnitFault, Unread, push_text};
 use aa_words::{PolicyFault, PolicyKind};
 use std::alloc::{AllocError, AllocFailed, Global};
 

@@ -1,0 +1,4 @@
+mod Shown
+pub mod Readings
+pub mod Steps
+pub mod Ways

@@ -1,0 +1,47 @@
+-- The lines that name the two rules of a conflict.
+use Rattle.std.specs.Prelude.{◌≡◌, ◌⊎◌, ℕ, ◌<◌, List, [], ◌∷◌, ◌++◌, codes, MatchOption, slice_get}
+use Rattle.aa_faults.specs.declared.fault.Spot.{Spot}
+use Rattle.aa_profiles.specs.declared.policy.Profile.{Profile}
+use Rattle.aa_auto.specs.Tables.{HasPlaces}
+use Rattle.aa_rows.specs.Rows.{patterns_of}
+use Rattle.aa_clashes.specs.Clashes.{Conflict, IsFree}
+use Rattle.aa_audit.specs.Values.{value}
+use Rattle.aa_places.specs.Places.{place_in}
+use Rattle.aa_places.specs.RuleTexts.{IsRuleText}
+use Rattle.aa_texts.specs.Texts.{line_and_column}
+use Rattle.aa_units.specs.declared.unit.Unit as unit
+use Rattle.aa_units.specs.Numbers.{path_in, text_in}
+
+-- a file's path, a place in it, and the rule that begins there
+abbrev pub IsRuleLine : unit.Unit → Spot → List ℕ → Type 0
+IsRuleLine u at line =
+    (rule : List ℕ) × IsRuleText (text_in u at.file) at.byte rule
+    × (line ≡ path_in u at.file ++ (line_and_column ((place_in (text_in u at.file) at.byte).line) ((place_in (text_in u at.file) at.byte).column) ++ (codes ": " ++ rule)))
+
+-- a line for the rule with that number, if it is known where it stands
+abbrev pub AreRuleLines : unit.Unit → List Spot → ℕ → List (List ℕ) → Type 0
+AreRuleLines u places number lines = MatchOption (slice_get places number) (lines ≡ []) (λ at. (line : List ℕ) × (lines ≡ line ∷ []) × IsRuleLine u at line)
+
+abbrev pub both_match : List ℕ → List ℕ
+both_match text = codes "both match " ++ value text
+
+-- the first rule, the second, and the text that both match
+pub record ShowsRules (u : unit.Unit) (places : List Spot) (first second : ℕ) (text : List ℕ) (lines : List (List ℕ)) : Type 0 where
+  pub ones : List (List ℕ)
+  pub others : List (List ℕ)
+  pub one : AreRuleLines u places first ones
+  pub other : AreRuleLines u places second others
+  pub are : lines ≡ ones ++ (others ++ both_match text ∷ [])
+
+-- two rules of the profile that conflict at a text are shown, the earlier one first
+pub record ShowsConflict (u : unit.Unit) (profile : Profile) (places : List Spot) (lines : List (List ℕ)) : Type 0 where
+  pub first : ℕ
+  pub second : ℕ
+  pub text : List ℕ
+  pub ordered : first < second
+  pub conflict : Conflict profile.files first second text
+  pub shows : ShowsRules u places first second text lines
+
+-- no text has two rules of the profile that conflict, or their automaton needs more rows than the limit
+abbrev pub HasNone : Profile → ℕ → Type 0
+HasNone profile limit = IsFree profile.files ⊎ HasPlaces (patterns_of profile.files) limit

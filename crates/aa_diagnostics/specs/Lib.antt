@@ -1,0 +1,8 @@
+pub mod Words
+pub mod Sentences
+pub mod Trails
+pub mod Unread
+pub mod Conflicts
+pub mod Earlier
+pub mod Further
+pub mod Reports

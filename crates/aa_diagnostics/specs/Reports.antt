@@ -1,0 +1,97 @@
+-- What is said of a fault.
+use Rattle.std.specs.Prelude.{ℕ, ◌==◌, ◌≡◌, ◌&&◌, List, [], ◌∷◌, ◌++◌, map, flat_map, codes, Bool, true, false, not, Option, Some, None, if◌then◌else◌}
+use Rattle.aa_faults.specs.declared.fault.Spot.{Spot}
+use Rattle.aa_faults.specs.declared.fault.PolicyFault.{PolicyFault}
+use Rattle.aa_faults.specs.declared.fault.PolicyKind.{PolicyKind}
+use Rattle.aa_faults.specs.declared.fault.PolicyKind.TheVariants.{TooLarge}
+use Rattle.aa_faults.specs.Kinds.{kind_name}
+use Rattle.aa_places.specs.Places.{place_in}
+use Rattle.aa_places.specs.Excerpts.{excerpt_of}
+use Rattle.aa_trees.specs.Texts.{texts}
+use Rattle.aa_texts.specs.declared.place.PlaceAt.{PlaceAt}
+use Rattle.aa_texts.specs.declared.fault.Link.{Link}
+use Rattle.aa_texts.specs.declared.fault.FaultReport.{FaultReport}
+use Rattle.aa_units.specs.declared.tree.Unread.{Unread}
+use Rattle.aa_units.specs.declared.tree.Unread.TheVariants as unread
+use Rattle.aa_units.specs.declared.unit.Unit as unit
+use Rattle.aa_units.specs.Numbers.{path_in, text_in}
+use Rattle.aa_units.specs.Nodes.{path_of_node, text_of_node, is_folder_node, is_folder_in, node_in}
+use Rattle.aa_diagnostics.specs.declared.trail.Step.{Step}
+use Rattle.aa_diagnostics.specs.Trails.{IsTrail}
+use Rattle.aa_diagnostics.specs.Sentences.{message}
+use Rattle.aa_diagnostics.specs.Further.{spot_line, IsFurther}
+
+-- a byte of a text with its line and column
+abbrev pub stands_at : List ℕ → ℕ → PlaceAt
+stands_at text byte = record { line = (place_in text byte).line; column = (place_in text byte).column; byte = byte }
+
+abbrev pub is_too_large : PolicyKind → Bool
+is_too_large TooLarge = true
+is_too_large _ = false
+
+-- TooLarge at the start of the main text is said of the whole
+abbrev pub is_of_whole : unit.Unit → PolicyFault → Bool
+is_of_whole u f = is_too_large f.kind && node_in u f.at.file == 0 && f.at.byte == 0
+
+-- a fault has a place, unless it is of the whole or lies in the text that a folder stands for
+abbrev pub has_place : unit.Unit → PolicyFault → Bool
+has_place u f = not (is_folder_in u f.at.file) && not (is_of_whole u f)
+
+abbrev pub place_if : Bool → List ℕ → ℕ → Option PlaceAt
+place_if there text byte = if there then Some (stands_at text byte) else None
+
+-- the line with a caret, where there is a place
+abbrev pub excerpt_if : Bool → List ℕ → ℕ → List ℕ
+excerpt_if there text byte = if there then excerpt_of text byte else []
+
+abbrev pub link_data : Link → List ℕ × PlaceAt
+link_data l = (l.path.items, l.place)
+
+-- a step's include with its file, unless it stands in the text of a folder
+abbrev pub link_at : unit.Unit → Step → List (List ℕ × PlaceAt)
+link_at u s = if is_folder_node u s.from then [] else (path_of_node u s.from, stands_at (text_of_node u s.from) s.byte) ∷ []
+
+-- the includes by which a reading first comes to a node, innermost first
+pub record AreLinks (u : unit.Unit) (node : ℕ) (links : List Link) : Type 0 where
+  pub way : List Step
+  pub trail : IsTrail u node way
+  pub each : map link_data links ≡ flat_map (link_at u) way
+
+-- what is said of a fault of a unit: in which file it lies and where, why, and with these lines behind it
+pub record IsReport (u : unit.Unit) (states : ℕ) (f : PolicyFault) (lines : List (List ℕ)) (r : FaultReport) : Type 0 where
+  pub kind : r.kind.now ≡ kind_name f.kind
+  pub path : r.path.items ≡ path_in u f.at.file
+  pub place : r.place ≡ place_if (has_place u f) (text_in u f.at.file) f.at.byte
+  pub message : r.message.items ≡ message states (text_in u f.at.file) f.at.byte f.kind
+  pub excerpt : r.excerpt.items ≡ excerpt_if (has_place u f) (text_in u f.at.file) f.at.byte
+  pub chain : AreLinks u (node_in u f.at.file) r.chain.items
+  pub further : texts r.further.items ≡ lines
+
+-- the same with what else helps
+pub record IsDescribed (u : unit.Unit) (folders : List (List ℕ)) (states : ℕ) (f : PolicyFault) (r : FaultReport) : Type 0 where
+  pub lines : List (List ℕ)
+  pub are : IsFurther u folders f.at lines f.kind
+  pub report : IsReport u states f lines r
+
+-- what is said of a path as a whole
+pub record IsOfWhole (kind path message : List ℕ) (r : FaultReport) : Type 0 where
+  pub kind_is : r.kind.now ≡ kind
+  pub path_is : r.path.items ≡ path
+  pub place : r.place ≡ None
+  pub message_is : r.message.items ≡ message
+  pub excerpt : r.excerpt.items ≡ []
+  pub chain : r.chain.items ≡ []
+  pub further : r.further.items ≡ []
+
+-- why a path can't be read
+abbrev pub unread_kind : Unread → List ℕ
+unread_kind unread.TooLarge = codes "TooLarge"
+unread_kind _ = codes "Unreadable"
+
+abbrev pub unread_message : Unread → List ℕ
+unread_message unread.NoMemory = codes "it can't be read (no memory)"
+unread_message unread.NotFound = codes "it can't be read (not found)"
+unread_message unread.NotAllowed = codes "it can't be read (not allowed)"
+unread_message unread.NotAFile = codes "it can't be read (not a file)"
+unread_message unread.Failed = codes "it can't be read (failed)"
+unread_message unread.TooLarge = codes "a limit on bytes, names or counts is passed"

@@ -1,0 +1,37 @@
+-- What is said of a kind of fault.
+use Rattle.std.specs.Prelude.{ℕ, length, nat_le, nat_lt, ◌++◌, List, [], codes, decimal, Option, Some, None, if◌then◌else◌}
+use Rattle.aa_faults.specs.declared.fault.PolicyKind.{PolicyKind}
+use Rattle.aa_faults.specs.declared.fault.PolicyKind.TheVariants.{NoMemory, MissingInclude, IncludeDepth, Syntax, Unsupported, UnknownWord, BadMode, WriteWithAppend, BadPattern, UndefinedVariable, VariableTwice, VariableCircle, TooManyExpansions, RelativePath, DuplicateProfile, ConflictingExec, TooManyStates, TooLarge}
+use Rattle.aa_diagnostics.specs.Words.{word_in, left_out}
+
+abbrev pub behind_colon : Option (List ℕ) → List ℕ
+behind_colon None = []
+behind_colon (Some part) = codes ": " ++ part
+
+unfoldable pub too_many_states : ℕ → List ℕ
+too_many_states states = codes "more than " ++ decimal states ++ codes " states are needed; --states N raises the limit"
+
+-- the part of the language that is left out, where the word at a byte tells
+unfoldable pub unsupported : List ℕ → ℕ → List ℕ
+unsupported text byte = codes "this part of the language is left out" ++ behind_colon (left_out (word_in text byte))
+
+-- what is wrong at a byte of a text, in one sentence; an automaton may have so many states
+abbrev pub message : ℕ → List ℕ → ℕ → PolicyKind → List ℕ
+message states text byte NoMemory = codes "no memory"
+message states text byte MissingInclude = codes "nothing of that name is there"
+message states text byte IncludeDepth = codes "includes go more than 16 deep here"
+message states text byte Syntax = if nat_le (length text) byte then codes "the text ends too early" else codes "this can't stand here"
+message states text byte Unsupported = unsupported text byte
+message states text byte UnknownWord = codes "no table has this word"
+message states text byte BadMode = codes "this is no mode that can stand here"
+message states text byte WriteWithAppend = codes "a mode has w or a, not both"
+message states text byte BadPattern = codes "this pattern can't be read"
+message states text byte RelativePath = codes "this path doesn't begin with /"
+message states text byte UndefinedVariable = codes "a variable here is not set"
+message states text byte VariableTwice = codes "this variable is set already, += adds to it"
+message states text byte VariableCircle = codes "a variable here leads back to itself"
+message states text byte TooManyExpansions = codes "this stands for more than 1,024 patterns"
+message states text byte DuplicateProfile = codes "an earlier profile has this name"
+message states text byte ConflictingExec = codes "two rules of this profile say otherwise how one program runs"
+message states text byte TooManyStates = too_many_states states
+message states text byte TooLarge = if nat_lt 0 byte then codes "this expands to more than 16,384 bytes" else codes "a limit on bytes, names or counts is passed"

@@ -1,0 +1,148 @@
+//! What else helps: where includes were looked for, and where the earlier one stands, of two that can't be there both.
+
+ghost use Rattle.std.specs.Prelude.{◌≡◌, ◌⊎◌, ◌++◌, [], map, option_to_list, OnOk, IfOk};
+ghost use Rattle.aa_trees.specs.Texts.{texts, slices};
+ghost use Rattle.aa_words.specs.FoundData.{include_data};
+ghost use Rattle.aa_diagnostics.specs.Further.{spot_line, tried, tried_at, AreTried, ShowsFirstSet, ShowsFirstNamed, IsFurther};
+
+use crate::conflict::conflict_lines;
+use crate::earlier::{profile_before, variable_before};
+use aa_asks::rule_places;
+use aa_texts::{push_place, push_text};
+use aa_units::{Unit, paths_of, sources_of, text_at};
+use aa_words::{IncludeAt, PolicyFault, PolicyKind, Spot, includes_of, words};
+use std::alloc::{AllocError, Global};
+
+/// What stands before it, a file's path, and a place in it.
+fn spot_line(alloc: Global, unit: &Unit, what: &str, at: Spot) -> Result<Vec<u8>, AllocError>
+    ensures { IfOk result (λ line. line.items ≡ spot_line unit.now what.now at) }
+{
+    let (path, text) = text_at(unit, at.file);
+    let mut line = Vec::new(alloc);
+    push_text(&mut line, what)?;
+    line.extend_from_slice(path)?;
+    push_place(&mut line, text, at.byte as usize)?;
+    Ok(line)
+}
+
+/// A line for that place, if there is one.
+pub(crate) fn spot_lines(
+    alloc: Global,
+    unit: &Unit,
+    what: &str,
+    at: Option<Spot>,
+) -> Result<Vec<Vec<u8>>, AllocError>
+    ensures { IfOk result (λ lines. texts lines.items ≡ map (spot_line unit.now what.now) (option_to_list at)) }
+{
+    let mut lines = Vec::new(alloc);
+    if let Some(at) = at {
+        lines.push(spot_line(alloc, unit, what, at)?)?;
+    }
+    Ok(lines)
+}
+
+fn tried_line(alloc: Global, path: &[u8]) -> Result<Vec<u8>, AllocError>
+    ensures { IfOk result (λ line. line.items ≡ tried path.now) }
+{
+    let mut line = Vec::new(alloc);
+    push_text(&mut line, "tried ")?;
+    line.extend_from_slice(path)?;
+    Ok(line)
+}
+
+fn push_tried(alloc: Global, paths: &[Vec<u8>], lines: &mut Vec<Vec<u8>>) -> Result<(), AllocError>
+    ensures { OnOk result (texts lines.new.items ≡ texts lines.old.items ++ map tried (texts paths.now)) }
+{
+    for path in paths {
+        lines.push(tried_line(alloc, path.as_slice())?)?;
+    }
+    Ok(())
+}
+
+fn push_tried_at(
+    alloc: Global,
+    folders: &[&[u8]],
+    byte: usize,
+    include: &IncludeAt<'_>,
+    lines: &mut Vec<Vec<u8>>,
+) -> Result<(), AllocError>
+    ensures { OnOk result (texts lines.new.items ≡ texts lines.old.items ++ tried_at (slices folders.now) byte (include_data include.now)) }
+{
+    if include.byte != byte {
+        return Ok(());
+    }
+    push_tried(alloc, paths_of(alloc, include, folders)?.as_slice(), lines)
+}
+
+/// Where the include at a byte of a text was looked for.
+fn tried(
+    alloc: Global,
+    folders: &[&[u8]],
+    text: &[u8],
+    byte: usize,
+) -> Result<Vec<Vec<u8>>, AllocError>
+    ensures { IfOk result (λ lines. AreTried (slices folders.now) text.now byte (texts lines.items)) }
+{
+    let includes = includes_of(alloc, text)?;
+    let mut lines = Vec::new(alloc);
+    for include in &includes {
+        push_tried_at(alloc, folders, byte, include, &mut lines)?;
+    }
+    Ok(lines)
+}
+
+/// What was found; nothing where it was refused for another cause than memory.
+fn unless_refused(
+    alloc: Global,
+    lines: Result<Vec<Vec<u8>>, PolicyFault>,
+) -> Result<Vec<Vec<u8>>, AllocError>
+    ensures { IfOk result (λ found. (texts found.items ≡ []) ⊎ (lines ≡ Ok found)) }
+{
+    match lines {
+        Ok(lines) => Ok(lines),
+        Err(fault) if fault.kind == PolicyKind::NoMemory => Err(AllocError),
+        Err(_) => Ok(Vec::new(alloc)),
+    }
+}
+
+/// Where the variable is set first that the word at a place sets again.
+fn set_lines(alloc: Global, unit: &Unit, at: Spot) -> Result<Vec<Vec<u8>>, PolicyFault>
+    ensures { IfOk result (λ lines. ShowsFirstSet unit.now at (texts lines.items)) }
+{
+    let sources = sources_of(alloc, unit)?;
+    let list = words(alloc, &sources, unit.text.as_slice())?;
+    let first = variable_before(list.list.as_slice(), at);
+    Ok(spot_lines(alloc, unit, "set at ", first)?)
+}
+
+/// Where the first profile stands that has the full name of the one whose name stands at a place.
+fn earlier_lines(alloc: Global, unit: &Unit, at: Spot) -> Result<Vec<Vec<u8>>, PolicyFault>
+    ensures { IfOk result (λ lines. ShowsFirstNamed unit.now at (texts lines.items)) }
+{
+    let sources = sources_of(alloc, unit)?;
+    let list = words(alloc, &sources, unit.text.as_slice())?;
+    let found = rule_places(alloc, &list)?;
+    let first = profile_before(alloc, found.as_slice(), at)?;
+    Ok(spot_lines(alloc, unit, "earlier at ", first)?)
+}
+
+/// The lines behind a fault of a unit, whose includes are searched in these folders.
+pub(crate) fn further_of(
+    alloc: Global,
+    folders: &[&[u8]],
+    states: u32,
+    unit: &Unit,
+    kind: PolicyKind,
+    at: Spot,
+) -> Result<Vec<Vec<u8>>, AllocError>
+    ensures { IfOk result (λ lines. IsFurther unit.now (slices folders.now) at (texts lines.items) kind) }
+{
+    let (_, text) = text_at(unit, at.file);
+    match kind {
+        PolicyKind::MissingInclude => tried(alloc, folders, text, at.byte as usize),
+        PolicyKind::VariableTwice => unless_refused(alloc, set_lines(alloc, unit, at)),
+        PolicyKind::DuplicateProfile => unless_refused(alloc, earlier_lines(alloc, unit, at)),
+        PolicyKind::ConflictingExec => conflict_lines(alloc, unit, at, states),
+        _ => Ok(Vec::new(alloc)),
+    }
+}

@@ -1,0 +1,12 @@
+//! What is said of a fault of policy files: where it lies, why, on which way that place is reached, and what else helps.
+#![tactic(auto)]
+
+mod conflict;
+mod described;
+mod earlier;
+mod further;
+mod left_out;
+mod sentence;
+mod trail;
+
+pub use described::{describe, describe_repeated, describe_together, unreadable};
