@@ -1,5 +1,5 @@
 -- What else helps: the lines behind a fault.
-use Rattle.std.specs.Prelude.{ℕ, ◌==◌, ◌≡◌, ◌⊎◌, List, [], ◌∷◌, ◌++◌, map, flat_map, codes, Contains, Option, option_to_list, if◌then◌else◌}
+use Rattle.std.specs.Prelude.{ℕ, ◌==◌, ◌≡◌, ◌⊎◌, List, [], ◌++◌, map, flat_map, codes, Contains, Option, option_to_list, if◌then◌else◌}
 use Rattle.aa_faults.specs.declared.fault.Spot.{Spot}
 use Rattle.aa_faults.specs.declared.fault.PolicyKind.{PolicyKind}
 use Rattle.aa_faults.specs.declared.fault.PolicyKind.TheVariants.{MissingInclude, VariableTwice, DuplicateProfile, ConflictingExec}

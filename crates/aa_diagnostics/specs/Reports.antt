@@ -1,6 +1,5 @@
 -- What is said of a fault.
-use Rattle.std.specs.Prelude.{ℕ, ◌==◌, ◌≡◌, ◌&&◌, List, [], ◌∷◌, ◌++◌, map, flat_map, codes, Bool, true, false, not, Option, Some, None, if◌then◌else◌}
-use Rattle.aa_faults.specs.declared.fault.Spot.{Spot}
+use Rattle.std.specs.Prelude.{ℕ, ◌==◌, ◌≡◌, ◌&&◌, List, [], ◌∷◌, map, flat_map, codes, Bool, true, false, not, Option, Some, None, if◌then◌else◌}
 use Rattle.aa_faults.specs.declared.fault.PolicyFault.{PolicyFault}
 use Rattle.aa_faults.specs.declared.fault.PolicyKind.{PolicyKind}
 use Rattle.aa_faults.specs.declared.fault.PolicyKind.TheVariants.{TooLarge}
@@ -19,7 +18,7 @@ use Rattle.aa_units.specs.Nodes.{path_of_node, text_of_node, is_folder_node, is_
 use Rattle.aa_diagnostics.specs.declared.trail.Step.{Step}
 use Rattle.aa_diagnostics.specs.Trails.{IsTrail}
 use Rattle.aa_diagnostics.specs.Sentences.{message}
-use Rattle.aa_diagnostics.specs.Further.{spot_line, IsFurther}
+use Rattle.aa_diagnostics.specs.Further.{IsFurther}
 
 -- a byte of a text with its line and column
 abbrev pub stands_at : List ℕ → ℕ → PlaceAt

@@ -1,5 +1,5 @@
 -- The way on which a reading of a unit's main text first comes to a source.
-use Rattle.std.specs.Prelude.{ℕ, zero, suc, ◌≡◌, ◌==◌, ◌&&◌, not, is_some, Bool, true, false, ◌≢◌, All, Contains, List, [], ◌∷◌, flat_map, Option, Some, None, option_map, option_to_list, if◌then◌else◌}
+use Rattle.std.specs.Prelude.{ℕ, zero, suc, ◌≡◌, ◌==◌, ◌&&◌, not, is_some, Bool, true, false, ◌≢◌, All, Contains, List, [], ◌∷◌, flat_map, Option, option_map, option_to_list, if◌then◌else◌}
 use Rattle.std.specs.List.{list_any}
 use Rattle.aa_extents.specs.Includes.{included_name}
 use Rattle.aa_words.specs.Found.{IncludeData, HasIncludes}

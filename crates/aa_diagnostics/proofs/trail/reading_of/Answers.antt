@@ -1,4 +1,4 @@
-use Rattle.std.proofs.Common.{◌≡◌, ℕ, ◌-◌, List, [], ◌++◌, Some, None, take, reverse, sym, ap, subst, ◌∙◌}
+use Rattle.std.proofs.Common.{◌≡◌, ℕ, ◌-◌, List, [], ◌++◌, None, take, reverse, sym, ap, subst, ◌∙◌}
 use Rattle.aa_diagnostics.specs.declared.trail.Step.{Step}
 use Rattle.aa_diagnostics.proofs.Readings.{GoesOn, goes_end}
 use Rattle.aa_diagnostics.proofs.Steps.{taken, kept_again, kept_new, fewer_again, fewer_new}
