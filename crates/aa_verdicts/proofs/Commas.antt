@@ -3,7 +3,7 @@ use Rattle.std.proofs.Common.{◌≡◌, ℕ, List, [], ◌∷◌, ◌++◌, map
 use Rattle.std.specs.List.{filter}
 use Rattle.aa_texts.specs.Faults.{behind_commas, with_commas}
 use Rattle.aa_verdicts.specs.declared.explained.DeciderLine.{DeciderLine}
-use Rattle.aa_verdicts.specs.Named.{Named, named}
+use Rattle.aa_verdicts.specs.Named.{named}
 use Rattle.aa_verdicts.specs.Json.{comma_if, decides_so, json_decider, json_if, json_each}
 
 -- texts with a comma before each, or before each but the first

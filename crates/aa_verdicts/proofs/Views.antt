@@ -1,10 +1,9 @@
 -- What is found among the rules of a verdict, and among what it says that no rule allows.
-use Rattle.std.proofs.Common.{◌≡◌, List, [], ◌∷◌, map, refl, ap, sym, ◌∙◌, Bool, true, false, ◌||◌, ◌&&◌, not, Option, Some, None, option_map, if◌then◌else◌}
-use Rattle.std.specs.List.{list_any, find, filter}
+use Rattle.std.proofs.Common.{◌≡◌, List, [], ◌∷◌, map, refl, ap, Bool, ◌||◌}
+use Rattle.std.specs.List.{list_any}
 use Rattle.aa_verdicts.specs.declared.explained.DeciderLine.{DeciderLine}
 use Rattle.aa_verdicts.specs.declared.explained.Lack.{Lack}
 use Rattle.aa_verdicts.specs.Named.{Named, Lacked, named, lacked}
-use Rattle.aa_verdicts.specs.Json.{lacks_there}
 
 any_of_map : {A B : Type 0} (p : B → Bool) (f : A → B) (xs : List A) → list_any p (map f xs) ≡ list_any (λ x. p (f x)) xs
 any_of_map p f [] = refl

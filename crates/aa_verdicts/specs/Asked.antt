@@ -1,7 +1,5 @@
 -- What `ask` answers: the label under which is asked, the requests, and the verdict on each.
-use Rattle.std.specs.Prelude.{ℕ, ◌≡◌, ◌==◌, List, [], ◌∷◌, ◌++◌, length, map, flat_map, codes, Bool, false, if◌then◌else◌, Option, Some, None, option_map, Result, Ok, Err, MatchResult, Vec}
-use Rattle.std.specs.Option.{option_map_or}
-use Rattle.std.specs.declared.alloc.Global.{Global}
+use Rattle.std.specs.Prelude.{ℕ, ◌≡◌, ◌==◌, List, [], ◌∷◌, ◌++◌, length, map, flat_map, codes, Bool, false, if◌then◌else◌, Option, Some, None, option_map, Result, Ok, Err, MatchResult}
 use Rattle.aa_audit.specs.Values.{value}
 use Rattle.aa_profiles.specs.declared.policy.Policy.{Policy}
 use Rattle.aa_profiles.specs.declared.policy.Profile.{Profile}

@@ -1,5 +1,5 @@
 -- Verdicts as they are printed in JSON.
-use Rattle.std.specs.Prelude.{ℕ, List, [], ◌∷◌, ◌++◌, ◌||◌, map, find, codes, Bool, true, false, not, if◌then◌else◌, Option, Some, None}
+use Rattle.std.specs.Prelude.{ℕ, List, [], ◌++◌, ◌||◌, map, find, codes, Bool, true, false, not, if◌then◌else◌, Option, Some, None}
 use Rattle.std.specs.List.{filter, list_any}
 use Rattle.aa_texts.specs.Jsons.{json_bytes, json_place, key_text, bool_text}
 use Rattle.aa_texts.specs.Faults.{with_commas}

@@ -1,5 +1,5 @@
 -- The rules that a verdict names, and what it says that no rule allows, as the reasons of the answer have them.
-use Rattle.std.specs.Prelude.{ℕ, List, [], ◌∷◌, ◌++◌, ◌==◌, Bool, true, false, Option, Some, None, option_map, option_to_list, option_and_then, if◌then◌else◌, slice_get, flat_map}
+use Rattle.std.specs.Prelude.{ℕ, List, [], ◌∷◌, ◌++◌, ◌==◌, Bool, true, false, Option, Some, option_map, option_to_list, option_and_then, if◌then◌else◌, slice_get, flat_map}
 use Rattle.aa_faults.specs.declared.fault.Spot.{Spot}
 use Rattle.aa_profiles.specs.declared.policy.Policy.{Policy}
 use Rattle.aa_profiles.specs.declared.policy.Profile.{Profile}

@@ -1,4 +1,4 @@
-use Rattle.std.proofs.Common.{◌≡◌, ◌==◌, ◌++◌, ◌⊎◌, inl, inr, Result, Ok, Err, ◌<◌, ◌≤◌, ◌+◌, Vec, take, arith, ℕ, Option, Some, None, List, length, get_or, map, flat_map, rules, tests, sym, ap, ◌∙◌}
+use Rattle.std.proofs.Common.{◌≡◌, ◌==◌, ◌++◌, ◌⊎◌, inl, inr, Result, Ok, Err, ◌<◌, ◌≤◌, ◌+◌, Vec, take, arith, ℕ, Option, Some, None, List, length, get_or, map, flat_map, rules, tests, ap, ◌∙◌}
 use Rattle.std.specs.Iterator.{Yields}
 use Rattle.std.specs.List.{slice_split}
 use Rattle.std.specs.declared.alloc.Global.{Global}
@@ -10,7 +10,7 @@ use Rattle.std.proofs.lemmas.Iterator.Consumers.{YieldsList-at, YieldsList-so_fa
 use Rattle.std.specs.Result.{IfErr, IsErrAnd}
 use Rattle.aa_units.specs.declared.tree.Unread.{Unread}
 use Rattle.aa_units.specs.declared.tree.Unread.TheVariants.{NoMemory, TooLarge}
-use Rattle.aa_verdicts.specs.Words.{texts, word_of, word_lines}
+use Rattle.aa_verdicts.specs.Words.{texts, word_of}
 use Rattle.aa_verdicts.proofs.words.push_words.Goals as goal
 
 ended : {S A B : Type 0} {steps : S → Option A → S → Type 0} {v : A → B} {s : S} {all : List B} (xs : List A) (t : S) (y : Yields steps s xs t) → (r : Option A) (u : S) → r ≡ None → steps t r u → (e : YieldsList steps v s all) → map v xs ≡ all
