@@ -2,7 +2,7 @@
 
 ghost use Rattle.std.specs.Prelude.{◌≡◌, ◌++◌, ◌∷◌, [], ◌<◌, ◌≤◌, vec_len, OnOk, IfOk, IfErr};
 
-use crate::tree::{Unread, is_folder, is_taken, names_in};
+use crate::tree::{Tree, Unread};
 use crate::unit::{UnitFault, fault_at};
 use aa_trees::{is_passed_over, joined_path, leaves_a_warning};
 use std::alloc::{AllocError, Global};
@@ -26,11 +26,16 @@ fn warning(alloc: Global, path: &[u8], what: &str) -> Result<Vec<u8>, AllocError
 }
 
 /// Whether something of that name lies in a folder of the base folder.
-fn is_in(rt: &HostRuntime, base: &[u8], folder: &str, name: &[u8]) -> Result<bool, UnitFault> {
-    let alloc = rt.alloc();
+fn is_in<T: Tree>(
+    alloc: Global,
+    tree: &T,
+    base: &[u8],
+    folder: &str,
+    name: &[u8],
+) -> Result<bool, UnitFault> {
     let inner = joined_path(alloc, base, folder.as_bytes())?;
     let path = joined_path(alloc, inner.as_slice(), name)?;
-    match is_taken(rt, path.as_slice()) {
+    match tree.is_taken(path.as_slice()) {
         Ok(is_taken) => Ok(is_taken),
         Err(why) => Err(fault_at(path, why)),
     }
@@ -49,8 +54,9 @@ fn push_path(path: Vec<u8>, roots: &mut Roots) -> Result<(), UnitFault>
     Ok(())
 }
 
-fn push_file(
-    rt: &HostRuntime,
+fn push_file<T: Tree>(
+    alloc: Global,
+    tree: &T,
     base: &[u8],
     folder: &[u8],
     name: &[u8],
@@ -58,42 +64,43 @@ fn push_file(
 ) -> Result<(), UnitFault>
     ensures { OnOk result (vec_len roots.old.paths ≤ MAX_FILES → vec_len roots.new.paths ≤ MAX_FILES) }
 {
-    let alloc = rt.alloc();
     let path = joined_path(alloc, folder, name)?;
     if leaves_a_warning(name) {
         roots.warnings.push(warning(alloc, path.as_slice(), "passed over, by its name")?)?;
     }
-    if is_passed_over(name) || is_in(rt, base, "disable", name)? {
+    if is_passed_over(name) || is_in(alloc, tree, base, "disable", name)? {
         return Ok(());
     }
-    if is_in(rt, base, "force-complain", name)? {
+    if is_in(alloc, tree, base, "force-complain", name)? {
         let what = "force-complain isn't applied, the text decides";
         roots.warnings.push(warning(alloc, path.as_slice(), what)?)?;
     }
     push_path(path, roots)
 }
 
-fn push_folder(
-    rt: &HostRuntime,
+fn push_folder<T: Tree>(
+    alloc: Global,
+    tree: &T,
     base: &[u8],
     folder: &[u8],
     roots: &mut Roots,
 ) -> Result<(), UnitFault>
     ensures { OnOk result (vec_len roots.old.paths ≤ MAX_FILES → vec_len roots.new.paths ≤ MAX_FILES) }
 {
-    let names = match names_in(rt, folder) {
+    let names = match tree.names_in(alloc, folder) {
         Ok(names) => names,
-        Err(why) => return Err(fault_at(Vec::from_slice(rt.alloc(), folder)?, why)),
+        Err(why) => return Err(fault_at(Vec::from_slice(alloc, folder)?, why)),
     };
     for name in &names {
-        push_file(rt, base, folder, name.as_slice(), roots)?;
+        push_file(alloc, tree, base, folder, name.as_slice(), roots)?;
     }
     Ok(())
 }
 
 /// Adds the files that an argument stands for. What can't be looked at is taken for a file, and refused when it is read.
-fn push_argument(
-    rt: &HostRuntime,
+fn push_argument<T: Tree>(
+    alloc: Global,
+    tree: &T,
     base: &[u8],
     argument: &[u8],
     roots: &mut Roots,
@@ -101,28 +108,32 @@ fn push_argument(
     ensures { OnOk result (vec_len roots.old.paths ≤ MAX_FILES → vec_len roots.new.paths ≤ MAX_FILES) }
 {
     if argument != "-".as_bytes() {
-        match is_folder(rt, argument) {
-            Ok(true) => return push_folder(rt, base, argument, roots),
+        match tree.is_folder(argument) {
+            Ok(true) => return push_folder(alloc, tree, base, argument, roots),
             Err(Unread::NoMemory) => return Err(UnitFault::NoMemory),
             Ok(false) | Err(_) => {}
         }
     }
-    push_path(Vec::from_slice(rt.alloc(), argument)?, roots)
+    push_path(Vec::from_slice(alloc, argument)?, roots)
 }
 
 /// The files that these arguments stand for: a folder stands for those directly in it, in byte order of their names, without those
 /// that are passed over or disabled in the base folder. A file that is named itself is read in any case; `-` is standard input. The
 /// first file beyond 4,096 is refused as too large.
-pub fn roots_of(rt: &HostRuntime, base: &[u8], arguments: &[Vec<u8>]) -> Result<Roots, UnitFault>
+pub fn roots_of<T: Tree>(
+    alloc: Global,
+    tree: &T,
+    base: &[u8],
+    arguments: &[Vec<u8>],
+) -> Result<Roots, UnitFault>
     ensures { IfOk result (λ roots. vec_len roots.paths ≤ MAX_FILES) }
 {
-    let alloc = rt.alloc();
     let mut roots = Roots {
         paths: Vec::new(alloc),
         warnings: Vec::new(alloc),
     };
     for argument in arguments {
-        push_argument(rt, base, argument.as_slice(), &mut roots)?;
+        push_argument(alloc, tree, base, argument.as_slice(), &mut roots)?;
     }
     Ok(roots)
 }

@@ -3,12 +3,12 @@
 ghost use Rattle.std.specs.Prelude.{◌≡◌, ◌+◌, Option, Some, None, IfOk, OnOk, MatchOption, length, map, slice_index_or};
 ghost use Rattle.std.specs.BTreeMap.{IsOrdered, insert_entry};
 ghost use Rattle.aa_trees.specs.Texts.{texts, slices};
-ghost use Rattle.aa_units.specs.FilesData.{read};
+ghost use Rattle.aa_units.specs.FilesData.{read, IsMain, IsMainText};
 ghost use Rattle.aa_units.specs.Walks.{Entry, by_bytes, known_of, asked_by, Asks, walked_texts, LiesAt, NothingAt, in_order};
 ghost use Rattle.aa_units.specs.WalkData.{asked, IsAdded, LooksUp, IsWalkedTo, IsUnit};
 ghost use Rattle.aa_words.specs.FoundData.{include_data};
 
-use crate::tree::{Found, Tree, Unread, read_input, what_lies_at};
+use crate::tree::{Found, Tree, Unread, what_lies_at};
 use crate::unit::{Source, Unit, UnitFault, fault_at, paths_of, text_of_node};
 use aa_places::excerpt;
 use aa_texts::{FaultReport, place_at};
@@ -287,23 +287,31 @@ pub fn load_text<T: Tree>(
 }
 
 /// The text of a file; the path `-` is standard input.
-pub fn main_text(rt: &HostRuntime, path: &[u8]) -> Result<Vec<u8>, Unread> {
+pub fn main_text<T: Tree>(alloc: Global, tree: &T, path: &[u8]) -> Result<Vec<u8>, Unread>
+    ensures { IsMain (T.files tree.now) (T.input tree.now) path.now result }
+{
     if path == "-".as_bytes() {
-        return read_input(rt);
+        return tree.input_text(alloc);
     }
-    match what_lies_at(rt.alloc(), rt, path)? {
+    match what_lies_at(alloc, tree, path)? {
         Found::Text(text) => Ok(text),
         Found::Folder(_) => Err(Unread::NotAFile),
     }
 }
 
 /// Reads a file, and breadth first all that it includes. The path `-` is standard input.
-pub fn load(rt: &HostRuntime, folders: &[&[u8]], path: &[u8]) -> Result<Unit, UnitFault>
-    ensures { IfOk result (λ unit. IsUnit None (slices folders.now) path.now unit.text.items unit) }
+pub fn load<T: Tree>(
+    alloc: Global,
+    tree: &T,
+    folders: &[&[u8]],
+    path: &[u8],
+) -> Result<Unit, UnitFault>
+    ensures main { IfOk result (λ unit. IsMainText (T.files tree.now) (T.input tree.now) path.now unit.text.items) }
+    ensures unit { IfOk result (λ unit. IsUnit (T.files tree.now) (slices folders.now) path.now unit.text.items unit) }
 {
-    let path = Vec::from_slice(rt.alloc(), path)?;
-    match main_text(rt, path.as_slice()) {
-        Ok(text) => load_text(rt.alloc(), rt, folders, path, text),
+    let path = Vec::from_slice(alloc, path)?;
+    match main_text(alloc, tree, path.as_slice()) {
+        Ok(text) => load_text(alloc, tree, folders, path, text),
         Err(why) => Err(fault_at(path, why)),
     }
 }
