@@ -4,3 +4,5 @@ mod Walking
 mod Lists
 mod Taken
 mod Walked
+mod Faulted
+mod Rooted

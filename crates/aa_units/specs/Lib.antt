@@ -5,3 +5,5 @@ pub mod Files
 pub mod FilesData
 pub mod Walks
 pub mod WalkData
+pub mod UnitFaults
+pub mod Roots
