@@ -199,7 +199,7 @@ fn check_file(
         passed_over: Vec::new(alloc),
         warnings: Vec::new(alloc),
     };
-    match load(rt, wanted.folders, path) {
+    match load(alloc, rt, wanted.folders, path) {
         Ok(unit) => {
             check_unit(alloc, wanted, &unit, &mut report)?;
             Ok((report, false))
@@ -267,7 +267,7 @@ pub fn check(
         profiles: 0,
         is_unread: false,
     };
-    let roots = match roots_of(rt, wanted.base, arguments) {
+    let roots = match roots_of(alloc, rt, wanted.base, arguments) {
         Ok(roots) => roots,
         Err(fault) => {
             let (fault, is_unread) = fault_of_unit(alloc, fault)?;

@@ -3,3 +3,5 @@ mod Walking
 mod Lists
 mod Taken
 mod Walked
+mod Faulted
+mod Rooted

@@ -1,21 +1,21 @@
 -- The texts of a unit are walked one after the other.
-use Rattle.std.proofs.Common.{◌≡◌, ℕ, ◌+◌, ◌<◌, ◌≤◌, List, ◌∷◌, ◌++◌, length, take, map, get_or, All, Option, IsSome, sym, ap, subst, ◌∙◌, arith, length-append}
+use Rattle.std.proofs.Common.{◌≡◌, ℕ, ◌+◌, ◌<◌, ◌≤◌, List, ◌∷◌, ◌++◌, length, take, map, get_or, All, Option, sym, ap, subst, ◌∙◌, arith, length-append}
 use Rattle.std.proofs.lemmas.List.{take-append-le, take_all, get_or_append_left, map-append}
 use Rattle.std.proofs.lemmas.List.Elements.{All-weaker, All-more, Contains-get_or}
 use Rattle.aa_units.specs.declared.unit.Source.{Source}
 use Rattle.aa_units.specs.declared.unit.Unit as unit
 use Rattle.aa_units.specs.declared.walk.Wanted.{Wanted}
 use Rattle.aa_units.specs.Files.{Files}
-use Rattle.aa_units.specs.Walks.{Entry, known_of, Asked, Asks, IsClosed, IsIncluded, walked_texts}
+use Rattle.aa_units.specs.Walks.{Entry, Asked, Asks, IsLookedUp, IsClosed, IsIncluded, walked_texts}
 use Rattle.aa_units.specs.WalkData.{asked, LooksUp, IsWalkedTo}
 use Rattle.aa_units.proofs.Lists.{contains_map}
-use Rattle.aa_units.proofs.Walking.{count_texts, walk_more, adds_keeps, adds_behind}
+use Rattle.aa_units.proofs.Walking.{count_texts, walk_more, adds_behind, looked_kept}
 
 texts_append : (main : List ℕ) (xs ys : List Source) → walked_texts main (xs ++ ys) ≡ walked_texts main xs ++ map (λ s. s.text.items) ys
 texts_append main xs ys = ap (λ (ts : List (List ℕ)). main ∷ ts) (map-append (λ (s : Source). s.text.items) xs ys)
 
-closed_kept : (folders : List (List ℕ)) (es es' : List Entry) → ((q : List ℕ) → IsSome (known_of es q) → IsSome (known_of es' q)) → (t : List ℕ) → IsClosed folders es t → IsClosed folders es' t
-closed_kept folders es es' keeps t h = record { asked = h.asked; asks = h.asks; known = All-weaker (λ a. IsSome (known_of es a.0)) (λ a. IsSome (known_of es' a.0)) (λ a k. keeps a.0 k) h.asked h.known }
+closed_kept : (files : Option Files) (folders : List (List ℕ)) (ss ss' : List Source) (es es' : List Entry) → ((a : Asked) → IsLookedUp files ss es a → IsLookedUp files ss' es' a) → (t : List ℕ) → IsClosed files folders ss es t → IsClosed files folders ss' es' t
+closed_kept files folders ss ss' es es' keeps t h = record { asked = h.asked; asks = h.asks; each = All-weaker (IsLookedUp files ss es) (IsLookedUp files ss' es') keeps h.asked h.each }
 
 module _ (files : Option Files) (folders : List (List ℕ)) (path main : List ℕ) where
   -- one look-up
@@ -29,15 +29,15 @@ module _ (files : Option Files) (folders : List (List ℕ)) (path main : List �
         path_is = looks.path ∙ w.path_is;
         text_is = looks.text ∙ w.text_is;
         walk = walk_more files folders main a u.sources.items u.known.entries u'.sources.items u'.known.entries inc looks.adds w.walk;
-        closed = subst (λ (ts : List (List ℕ)). All (IsClosed folders u'.known.entries) ts) (sym same)
-            (All-weaker (IsClosed folders u.known.entries) (IsClosed folders u'.known.entries) (closed_kept folders u.known.entries u'.known.entries (adds_keeps files a u.sources.items u.known.entries u'.sources.items u'.known.entries looks.adds)) (take n (walked_texts main u.sources.items)) w.closed);
+        closed = subst (λ (ts : List (List ℕ)). All (IsClosed files folders u'.sources.items u'.known.entries) ts) (sym same)
+            (All-weaker (IsClosed files folders u.sources.items u.known.entries) (IsClosed files folders u'.sources.items u'.known.entries) (closed_kept files folders u.sources.items u'.sources.items u.known.entries u'.known.entries (looked_kept files folders main a u.sources.items u.known.entries u'.sources.items u'.known.entries w.walk looks.adds)) (take n (walked_texts main u.sources.items)) w.closed);
       }
 
   -- a text whose names are all looked up
-  pub walked_closed : (n : ℕ) (u : unit.Unit) → n ≤ length u.sources.items → IsClosed folders u.known.entries (get_or (walked_texts main u.sources.items) n main) → IsWalkedTo files folders path main n u → IsWalkedTo files folders path main (n + 1) u
+  pub walked_closed : (n : ℕ) (u : unit.Unit) → n ≤ length u.sources.items → IsClosed files folders u.sources.items u.known.entries (get_or (walked_texts main u.sources.items) n main) → IsWalkedTo files folders path main n u → IsWalkedTo files folders path main (n + 1) u
   walked_closed n u h c w =
       let within : n < length (walked_texts main u.sources.items) = omega (arith, count_texts main u.sources.items) in
-      record { path_is = w.path_is; text_is = w.text_is; walk = w.walk; closed = All-more (IsClosed folders u.known.entries) (walked_texts main u.sources.items) n main within w.closed c }
+      record { path_is = w.path_is; text_is = w.text_is; walk = w.walk; closed = All-more (IsClosed files folders u.sources.items u.known.entries) (walked_texts main u.sources.items) n main within w.closed c }
 
   -- behind the last text
   pub walked_past : (n : ℕ) (u : unit.Unit) → length u.sources.items < n → IsWalkedTo files folders path main n u → IsWalkedTo files folders path main (n + 1) u
@@ -48,13 +48,13 @@ module _ (files : Option Files) (folders : List (List ℕ)) (path main : List �
         path_is = w.path_is;
         text_is = w.text_is;
         walk = w.walk;
-        closed = subst (λ (ts : List (List ℕ)). All (IsClosed folders u.known.entries) ts) (take_all n (walked_texts main u.sources.items) all ∙ sym (take_all (n + 1) (walked_texts main u.sources.items) all')) w.closed;
+        closed = subst (λ (ts : List (List ℕ)). All (IsClosed files folders u.sources.items u.known.entries) ts) (take_all n (walked_texts main u.sources.items) all ∙ sym (take_all (n + 1) (walked_texts main u.sources.items) all')) w.closed;
       }
 
-  pub walked_all : (n : ℕ) (u : unit.Unit) → length u.sources.items < n → IsWalkedTo files folders path main n u → All (IsClosed folders u.known.entries) (walked_texts main u.sources.items)
+  pub walked_all : (n : ℕ) (u : unit.Unit) → length u.sources.items < n → IsWalkedTo files folders path main n u → All (IsClosed files folders u.sources.items u.known.entries) (walked_texts main u.sources.items)
   walked_all n u h w =
       let all : length (walked_texts main u.sources.items) ≤ n = omega (arith, count_texts main u.sources.items) in
-      subst (λ (ts : List (List ℕ)). All (IsClosed folders u.known.entries) ts) (take_all n (walked_texts main u.sources.items) all) w.closed
+      subst (λ (ts : List (List ℕ)). All (IsClosed files folders u.sources.items u.known.entries) ts) (take_all n (walked_texts main u.sources.items) all) w.closed
 
 -- the text of a number stays, whatever sources come behind
 pub text_kept : (files : Option Files) (main : List ℕ) (n : ℕ) (a : Asked) (u u' : unit.Unit) → n ≤ length u.sources.items → LooksUp files a u u' → get_or (walked_texts main u'.sources.items) n main ≡ get_or (walked_texts main u.sources.items) n main

@@ -1,5 +1,6 @@
 -- What lies at the paths of a tree of files.
-use Rattle.std.specs.Prelude.{ℕ, List, Bool, true, false, Option, is_some, find}
+use Rattle.std.specs.Prelude.{ℕ, List, Bool, true, false, Option, Some, None, is_some, find, codes}
+use Rattle.std.specs.Str.{bytes_eq}
 use Rattle.aa_trees.specs.Folders.{folder_lines}
 
 -- a file's bytes, or the names in a folder
@@ -10,6 +11,20 @@ pub data Lying : Type 0 where
 -- what lies at each path, if something does
 abbrev pub Files : Type 0
 Files = List ℕ → Option Lying
+
+-- whether something has that path, be it a link that leads nowhere
+abbrev pub Taken : Type 0
+Taken = List ℕ → Bool
+
+-- the names in a folder, if one lies there
+abbrev pub listed : Option Lying → Option (List (List ℕ))
+listed None = None
+listed (Some (File bytes)) = None
+listed (Some (Folder names)) = Some names
+
+-- the path of the command line that stands for standard input
+abbrev pub is_input : List ℕ → Bool
+is_input path = bytes_eq path (codes "-")
 
 -- the text that is read there, and whether it stands for a folder
 abbrev pub read_at : List ℕ → Lying → List ℕ × Bool

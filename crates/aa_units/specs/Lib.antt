@@ -5,3 +5,5 @@ pub mod FilesData
 pub mod Walks
 pub mod WalkData
 pub mod Nodes
+pub mod UnitFaults
+pub mod Roots

@@ -1,5 +1,5 @@
 -- A walk, as the code has it.
-use Rattle.std.specs.Prelude.{ℕ, ◌≡◌, ◌<◌, List, [], ◌∷◌, ◌++◌, length, take, Bool, Option, Some, None, All}
+use Rattle.std.specs.Prelude.{ℕ, ◌≡◌, ◌⊎◌, ◌<◌, List, [], ◌∷◌, ◌++◌, length, take, Bool, Option, Some, None, All, Contains, slice_get}
 use Rattle.std.specs.BTreeMap.{insert_entry, IsOrdered}
 use Rattle.aa_trees.specs.Texts.{texts}
 use Rattle.aa_units.specs.declared.unit.Source.{Source}
@@ -24,9 +24,9 @@ pub record IsAdded (name path : List ℕ) (read : List ℕ × Bool) (sources : L
   pub pushed : sources' ≡ sources ++ source ∷ []
   pub entered : entries' ≡ insert_entry by_bytes entries key (Some (length sources))
 
--- what a look-up adds: nothing where the name is known, else the name, and its source if there is one
+-- what a look-up adds: nothing where the name is known and leads to no other source, else the name, and its source if there is one
 pub data Adds (files : Option Files) (a : Asked) (sources : List Source) (entries : List Entry) (sources' : List Source) (entries' : List Entry) : Type 0 where
-  Old : (was : Option ℕ) → known_of entries a.0 ≡ Some was → sources' ≡ sources → entries' ≡ entries → Adds files a sources entries sources' entries'
+  Old : (was : Option ℕ) → known_of entries a.0 ≡ Some was → ((n : ℕ) (s : Source) → was ≡ Some n → slice_get sources n ≡ Some s → Contains a.1 s.path.items ⊎ NothingAt files a.1) → sources' ≡ sources → entries' ≡ entries → Adds files a sources entries sources' entries'
   Missing : (key : Name) → key.items ≡ a.0 → known_of entries a.0 ≡ None → NothingAt files a.1 → sources' ≡ sources → entries' ≡ insert_entry by_bytes entries key None → Adds files a sources entries sources' entries'
   New : (path : List ℕ) (read : List ℕ × Bool) → known_of entries a.0 ≡ None → LiesAt files a.1 path read → IsAdded a.0 path read sources entries sources' entries' → Adds files a sources entries sources' entries'
 
@@ -41,7 +41,7 @@ pub record IsWalkedTo (files : Option Files) (folders : List (List ℕ)) (path m
   pub path_is : u.path.items ≡ path
   pub text_is : u.text.items ≡ main
   pub walk : IsWalk files folders main u.sources.items u.known.entries
-  pub closed : All (IsClosed folders u.known.entries) (take number (walked_texts main u.sources.items))
+  pub closed : All (IsClosed files folders u.sources.items u.known.entries) (take number (walked_texts main u.sources.items))
 
 -- What a unit is: its texts are walked to the end, so that each name that one of them includes is known, and the sources are
 -- numbered in byte order of their names.
@@ -49,6 +49,6 @@ pub record IsUnit (files : Option Files) (folders : List (List ℕ)) (path main 
   pub path_is : u.path.items ≡ path
   pub text_is : u.text.items ≡ main
   pub walk : IsWalk files folders main u.sources.items u.known.entries
-  pub closed : All (IsClosed folders u.known.entries) (walked_texts main u.sources.items)
+  pub closed : All (IsClosed files folders u.sources.items u.known.entries) (walked_texts main u.sources.items)
   pub sorted : IsOrdered by_bytes u.known
   pub order : u.order.items ≡ in_order u.known.entries

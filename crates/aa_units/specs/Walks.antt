@@ -1,5 +1,5 @@
 -- A walk over the includes of a main text.
-use Rattle.std.specs.Prelude.{ℕ, ◌≡◌, ◌+◌, ◌≤◌, List, ◌∷◌, length, take, map, flat_map, Option, Some, None, option_map, option_to_list, slice_get, Bool, IsSome, IfSome, All, Contains, Vec}
+use Rattle.std.specs.Prelude.{ℕ, ◌≡◌, ◌⊎◌, ◌+◌, ◌≤◌, List, ◌∷◌, length, take, map, flat_map, Option, Some, None, option_map, option_to_list, slice_get, Bool, IsSome, IfSome, All, Contains, Vec}
 use Rattle.std.specs.Map.{lookup}
 use Rattle.std.specs.declared.alloc.Global.{Global}
 use Rattle.std.specs.declared.cmp.Ordering.{Ordering}
@@ -39,12 +39,6 @@ pub record Asks (folders : List (List ℕ)) (text : List ℕ) (asked : List Aske
   pub of_text : HasIncludes text includes
   pub each : asked ≡ map (asked_by folders) includes
 
--- each name that a text includes was looked up
-pub record IsClosed (folders : List (List ℕ)) (entries : List Entry) (text : List ℕ) : Type 0 where
-  pub asked : List Asked
-  pub asks : Asks folders text asked
-  pub known : All (λ a. IsSome (known_of entries a.0)) asked
-
 -- an include of one of the texts asks for this
 pub record IsIncluded (folders texts : List (List ℕ)) (a : Asked) : Type 0 where
   pub text : List ℕ
@@ -66,6 +60,18 @@ pub record LiesAt (files : Option Files) (paths : List (List ℕ)) (path : List 
 -- nothing lies at any of these paths, where that is known
 abbrev pub NothingAt : Option Files → List (List ℕ) → Type 0
 NothingAt files paths = IfSome files (λ f. first_taken f paths ≡ None)
+
+-- An include was looked up: its name is known, and where the name has a source, that lies at one of the include's own paths, or
+-- nothing lies at any of them.
+pub record IsLookedUp (files : Option Files) (sources : List Source) (entries : List Entry) (a : Asked) : Type 0 where
+  pub known : IsSome (known_of entries a.0)
+  pub leads : (n : ℕ) (s : Source) → known_of entries a.0 ≡ Some (Some n) → slice_get sources n ≡ Some s → Contains a.1 s.path.items ⊎ NothingAt files a.1
+
+-- each include of a text was looked up
+pub record IsClosed (files : Option Files) (folders : List (List ℕ)) (sources : List Source) (entries : List Entry) (text : List ℕ) : Type 0 where
+  pub asked : List Asked
+  pub asks : Asks folders text asked
+  pub each : All (IsLookedUp files sources entries) asked
 
 -- The sources and the names so far: each source has a name of its own and lies where an include of the main text or of a source
 -- before it is searched, and a name without a source is that of an include for which nothing lies anywhere.

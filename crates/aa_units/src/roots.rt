@@ -1,8 +1,12 @@
 //! The files that the command line names.
 
-ghost use Rattle.std.specs.Prelude.{◌≡◌, ◌++◌, ◌∷◌, [], ◌<◌, ◌≤◌, vec_len, OnOk, IfOk, IfErr};
+ghost use Rattle.std.specs.Prelude.{◌≡◌, ◌++◌, ◌∷◌, [], ◌<◌, ◌≤◌, List, ℕ, Option, Some, is_some, vec_len, codes, OnOk, IfOk, IfErr, IfSome, if◌then◌else◌};
+ghost use Rattle.aa_trees.specs.Names.{is_leftover};
+ghost use Rattle.aa_trees.specs.Texts.{texts};
+ghost use Rattle.aa_units.specs.Files.{Files, Taken, listed};
+ghost use Rattle.aa_units.specs.Roots.{is_named_in, is_wanted, wanted_path, leftover_line, complain_line, warning_lines, folder_of, paths_among, lines_among, root_paths, root_lines};
 
-use crate::tree::{Unread, is_folder, is_taken, names_in};
+use crate::tree::{Tree, Unread};
 use crate::unit::{UnitFault, fault_at};
 use aa_trees::{is_passed_over, joined_path, leaves_a_warning};
 use std::alloc::{AllocError, Global};
@@ -17,28 +21,87 @@ pub struct Roots {
     pub warnings: Vec<Vec<u8>>,
 }
 
-fn warning(alloc: Global, path: &[u8], what: &str) -> Result<Vec<u8>, AllocError> {
-    let mut line = Vec::new(alloc);
-    line.extend_from_slice(path)?;
-    line.extend_from_slice(": ".as_bytes())?;
+/// Adds a line on a file, if that is so of it.
+fn push_line_if(
+    alloc: Global,
+    is_so: bool,
+    path: &[u8],
+    what: &str,
+    lines: &mut Vec<Vec<u8>>,
+) -> Result<(), AllocError>
+    ensures { OnOk result (texts lines.new.items ≡ texts lines.old.items ++ (if is_so then (path.now ++ what.now) ∷ [] else [])) }
+{
+    if !is_so {
+        return Ok(());
+    }
+    let mut line = Vec::from_slice(alloc, path)?;
     line.extend_from_slice(what.as_bytes())?;
-    Ok(line)
+    lines.push(line)?;
+    Ok(())
+}
+
+/// Says of a leftover that it is passed over.
+fn warn_of_leftover(
+    alloc: Global,
+    path: &[u8],
+    name: &[u8],
+    lines: &mut Vec<Vec<u8>>,
+) -> Result<(), AllocError>
+    ensures { OnOk result (texts lines.new.items ≡ texts lines.old.items ++ leftover_line path.now name.now) }
+{
+    let what = ": passed over, by its name";
+    push_line_if(alloc, leaves_a_warning(name), path, what, lines)
 }
 
 /// Whether something of that name lies in a folder of the base folder.
-fn is_in(rt: &HostRuntime, base: &[u8], folder: &str, name: &[u8]) -> Result<bool, UnitFault> {
-    let alloc = rt.alloc();
+fn is_in<T: Tree>(
+    alloc: Global,
+    tree: &T,
+    base: &[u8],
+    folder: &str,
+    name: &[u8],
+) -> Result<bool, UnitFault>
+    ensures { IfOk result (λ b. IfSome (T.taken tree.now) (λ t. b ≡ is_named_in t base.now folder.now name.now)) }
+{
     let inner = joined_path(alloc, base, folder.as_bytes())?;
     let path = joined_path(alloc, inner.as_slice(), name)?;
-    match is_taken(rt, path.as_slice()) {
+    match tree.is_taken(path.as_slice()) {
         Ok(is_taken) => Ok(is_taken),
         Err(why) => Err(fault_at(path, why)),
     }
 }
 
+/// Whether a folder's file is read: it isn't passed over by its name, and isn't disabled.
+fn is_wanted<T: Tree>(alloc: Global, tree: &T, base: &[u8], name: &[u8]) -> Result<bool, UnitFault>
+    ensures { IfOk result (λ b. IfSome (T.taken tree.now) (λ t. b ≡ is_wanted t base.now name.now)) }
+{
+    if is_passed_over(name) {
+        return Ok(false);
+    }
+    Ok(!is_in(alloc, tree, base, "disable", name)?)
+}
+
+/// Says of a file that is read that its name in the base folder's `force-complain` changes nothing.
+fn warn_of_complain<T: Tree>(
+    alloc: Global,
+    tree: &T,
+    base: &[u8],
+    path: &[u8],
+    name: &[u8],
+    lines: &mut Vec<Vec<u8>>,
+) -> Result<(), UnitFault>
+    ensures { OnOk result (IfSome (T.taken tree.now) (λ t. texts lines.new.items ≡ texts lines.old.items ++ complain_line t base.now path.now name.now)) }
+{
+    let is_named = is_in(alloc, tree, base, "force-complain", name)?;
+    let what = ": force-complain isn't applied, the text decides";
+    push_line_if(alloc, is_named, path, what, lines)?;
+    Ok(())
+}
+
 /// Adds a file that is read, unless there are too many.
 fn push_path(path: Vec<u8>, roots: &mut Roots) -> Result<(), UnitFault>
     ensures added { OnOk result (roots.new.paths.items ≡ roots.old.paths.items ++ path ∷ []) }
+    ensures warnings { OnOk result (roots.new.warnings.items ≡ roots.old.warnings.items) }
     ensures within { OnOk result (vec_len roots.old.paths < MAX_FILES) }
     ensures room { vec_len roots.old.paths < MAX_FILES → IfErr result (λ why. why ≡ UnitFault.NoMemory) }
 {
@@ -49,80 +112,126 @@ fn push_path(path: Vec<u8>, roots: &mut Roots) -> Result<(), UnitFault>
     Ok(())
 }
 
-fn push_file(
-    rt: &HostRuntime,
+/// Adds a folder's file that is read.
+fn push_wanted<T: Tree>(
+    alloc: Global,
+    tree: &T,
+    base: &[u8],
+    path: Vec<u8>,
+    name: &[u8],
+    roots: &mut Roots,
+) -> Result<(), UnitFault>
+    ensures few { OnOk result (vec_len roots.new.paths ≤ MAX_FILES) }
+    ensures paths { OnOk result (texts roots.new.paths.items ≡ texts roots.old.paths.items ++ path.items ∷ []) }
+    ensures warnings { OnOk result (IfSome (T.taken tree.now) (λ t. texts roots.new.warnings.items ≡ texts roots.old.warnings.items ++ complain_line t base.now path.items name.now)) }
+{
+    warn_of_complain(
+        alloc,
+        tree,
+        base,
+        path.as_slice(),
+        name,
+        &mut roots.warnings,
+    )?;
+    push_path(path, roots)
+}
+
+/// Adds a folder's file, if it is read, and what people should know of it.
+fn push_file<T: Tree>(
+    alloc: Global,
+    tree: &T,
     base: &[u8],
     folder: &[u8],
     name: &[u8],
     roots: &mut Roots,
 ) -> Result<(), UnitFault>
-    ensures { OnOk result (vec_len roots.old.paths ≤ MAX_FILES → vec_len roots.new.paths ≤ MAX_FILES) }
+    ensures few { OnOk result (vec_len roots.old.paths ≤ MAX_FILES → vec_len roots.new.paths ≤ MAX_FILES) }
+    ensures paths { OnOk result (IfSome (T.taken tree.now) (λ t. texts roots.new.paths.items ≡ texts roots.old.paths.items ++ wanted_path t base.now folder.now name.now)) }
+    ensures warnings { OnOk result (IfSome (T.taken tree.now) (λ t. texts roots.new.warnings.items ≡ texts roots.old.warnings.items ++ warning_lines t base.now folder.now name.now)) }
 {
-    let alloc = rt.alloc();
     let path = joined_path(alloc, folder, name)?;
-    if leaves_a_warning(name) {
-        roots.warnings.push(warning(alloc, path.as_slice(), "passed over, by its name")?)?;
+    warn_of_leftover(alloc, path.as_slice(), name, &mut roots.warnings)?;
+    let is_read = is_wanted(alloc, tree, base, name)?;
+    if is_read {
+        Ok(push_wanted(alloc, tree, base, path, name, roots)?)
+    } else {
+        Ok(())
     }
-    if is_passed_over(name) || is_in(rt, base, "disable", name)? {
-        return Ok(());
-    }
-    if is_in(rt, base, "force-complain", name)? {
-        let what = "force-complain isn't applied, the text decides";
-        roots.warnings.push(warning(alloc, path.as_slice(), what)?)?;
-    }
-    push_path(path, roots)
 }
 
-fn push_folder(
-    rt: &HostRuntime,
+fn push_folder<T: Tree>(
+    alloc: Global,
+    tree: &T,
     base: &[u8],
     folder: &[u8],
     roots: &mut Roots,
 ) -> Result<(), UnitFault>
-    ensures { OnOk result (vec_len roots.old.paths ≤ MAX_FILES → vec_len roots.new.paths ≤ MAX_FILES) }
+    ensures few { OnOk result (vec_len roots.old.paths ≤ MAX_FILES → vec_len roots.new.paths ≤ MAX_FILES) }
+    ensures paths { OnOk result (IfSome (T.files tree.now) (λ f. IfSome (T.taken tree.now) (λ t. texts roots.new.paths.items ≡ texts roots.old.paths.items ++ paths_among t base.now folder.now (listed (f folder.now))))) }
+    ensures warnings { OnOk result (IfSome (T.files tree.now) (λ f. IfSome (T.taken tree.now) (λ t. texts roots.new.warnings.items ≡ texts roots.old.warnings.items ++ lines_among t base.now folder.now (listed (f folder.now))))) }
 {
-    let names = match names_in(rt, folder) {
+    let names = match tree.names_in(alloc, folder) {
         Ok(names) => names,
-        Err(why) => return Err(fault_at(Vec::from_slice(rt.alloc(), folder)?, why)),
+        Err(why) => return Err(fault_at(Vec::from_slice(alloc, folder)?, why)),
     };
     for name in &names {
-        push_file(rt, base, folder, name.as_slice(), roots)?;
+        push_file(alloc, tree, base, folder, name.as_slice(), roots)?;
     }
     Ok(())
 }
 
-/// Adds the files that an argument stands for. What can't be looked at is taken for a file, and refused when it is read.
-fn push_argument(
-    rt: &HostRuntime,
+/// Whether an argument stands for the files in a folder. What can't be looked at is taken for a file, and refused when it is read.
+fn is_for_files<T: Tree>(tree: &T, argument: &[u8]) -> Result<bool, UnitFault>
+    ensures { IfOk result (λ b. IfSome (T.files tree.now) (λ f. b ≡ is_some (folder_of f argument.now))) }
+{
+    if argument == "-".as_bytes() {
+        return Ok(false);
+    }
+    match tree.is_folder(argument) {
+        Ok(is_folder) => Ok(is_folder),
+        Err(Unread::NoMemory) => Err(UnitFault::NoMemory),
+        Err(_) => Ok(false),
+    }
+}
+
+/// Adds the files that an argument stands for.
+fn push_argument<T: Tree>(
+    alloc: Global,
+    tree: &T,
     base: &[u8],
     argument: &[u8],
     roots: &mut Roots,
 ) -> Result<(), UnitFault>
-    ensures { OnOk result (vec_len roots.old.paths ≤ MAX_FILES → vec_len roots.new.paths ≤ MAX_FILES) }
+    ensures few { OnOk result (vec_len roots.old.paths ≤ MAX_FILES → vec_len roots.new.paths ≤ MAX_FILES) }
+    ensures paths { OnOk result (IfSome (T.files tree.now) (λ f. IfSome (T.taken tree.now) (λ t. texts roots.new.paths.items ≡ texts roots.old.paths.items ++ paths_among t base.now argument.now (folder_of f argument.now)))) }
+    ensures warnings { OnOk result (IfSome (T.files tree.now) (λ f. IfSome (T.taken tree.now) (λ t. texts roots.new.warnings.items ≡ texts roots.old.warnings.items ++ lines_among t base.now argument.now (folder_of f argument.now)))) }
 {
-    if argument != "-".as_bytes() {
-        match is_folder(rt, argument) {
-            Ok(true) => return push_folder(rt, base, argument, roots),
-            Err(Unread::NoMemory) => return Err(UnitFault::NoMemory),
-            Ok(false) | Err(_) => {}
-        }
+    if is_for_files(tree, argument)? {
+        push_folder(alloc, tree, base, argument, roots)
+    } else {
+        push_path(Vec::from_slice(alloc, argument)?, roots)
     }
-    push_path(Vec::from_slice(rt.alloc(), argument)?, roots)
 }
 
 /// The files that these arguments stand for: a folder stands for those directly in it, in byte order of their names, without those
 /// that are passed over or disabled in the base folder. A file that is named itself is read in any case; `-` is standard input. The
 /// first file beyond 4,096 is refused as too large.
-pub fn roots_of(rt: &HostRuntime, base: &[u8], arguments: &[Vec<u8>]) -> Result<Roots, UnitFault>
-    ensures { IfOk result (λ roots. vec_len roots.paths ≤ MAX_FILES) }
+pub fn roots_of<T: Tree>(
+    alloc: Global,
+    tree: &T,
+    base: &[u8],
+    arguments: &[Vec<u8>],
+) -> Result<Roots, UnitFault>
+    ensures few { IfOk result (λ roots. vec_len roots.paths ≤ MAX_FILES) }
+    ensures paths { IfOk result (λ roots. IfSome (T.files tree.now) (λ f. IfSome (T.taken tree.now) (λ t. texts roots.paths.items ≡ root_paths f t base.now (texts arguments.now)))) }
+    ensures warnings { IfOk result (λ roots. IfSome (T.files tree.now) (λ f. IfSome (T.taken tree.now) (λ t. texts roots.warnings.items ≡ root_lines f t base.now (texts arguments.now)))) }
 {
-    let alloc = rt.alloc();
     let mut roots = Roots {
         paths: Vec::new(alloc),
         warnings: Vec::new(alloc),
     };
     for argument in arguments {
-        push_argument(rt, base, argument.as_slice(), &mut roots)?;
+        push_argument(alloc, tree, base, argument.as_slice(), &mut roots)?;
     }
     Ok(roots)
 }

@@ -1,11 +1,11 @@
 //! What lies at a path.
 
-ghost use Rattle.std.specs.Prelude.{◌≡◌, ◌≢◌, Option, Some, None, IfOk, IfErr};
+ghost use Rattle.std.specs.Prelude.{◌≡◌, ◌≢◌, ℕ, List, Option, Some, None, IfOk, IfErr};
 ghost use Rattle.aa_trees.specs.Folders.{folder_lines};
 ghost use Rattle.aa_trees.specs.Orders.{AreInByteOrder};
 ghost use Rattle.aa_trees.specs.Texts.{texts};
-ghost use Rattle.aa_units.specs.Files.{Files};
-ghost use Rattle.aa_units.specs.FilesData.{IsLooked, IsRead};
+ghost use Rattle.aa_units.specs.Files.{Files, Taken};
+ghost use Rattle.aa_units.specs.FilesData.{IsInOrder, IsLooked, IsRead, IsFolderTold, IsListed, IsTakenTold, IsInput};
 
 use aa_trees::{can_be_included, folder_text, joined_path, put_in_byte_order};
 use std::alloc::{AllocError, AllocFailed, Global};
@@ -84,9 +84,31 @@ pub enum Content {
 pub trait Tree {
     ghost files: { Self → Option Files };
 
+    ghost taken: { Self → Option Taken };
+
+    ghost input: { Self → Option (List ℕ) };
+
     /// What lies at a path. `NotFound` says that nothing does, and any other error that this can't be told or read.
     fn content_at(&self, alloc: Global, path: &[u8]) -> Result<Content, Unread>
-        ensures { IsLooked (files self.now) path.now result };
+        ensures looked { IsLooked (files self.now) path.now result }
+        ensures ordered { IfOk result (λ content. IsInOrder content) };
+
+    /// Whether a folder lies at a path.
+    fn is_folder(&self, path: &[u8]) -> Result<bool, Unread>
+        ensures { IsFolderTold (files self.now) path.now result };
+
+    /// The names in a folder, in byte order, without those of folders.
+    fn names_in(&self, alloc: Global, folder: &[u8]) -> Result<Vec<Vec<u8>>, Unread>
+        ensures listed { IsListed (files self.now) folder.now result }
+        ensures ordered { IfOk result (λ names. AreInByteOrder names.items) };
+
+    /// Whether something lies at a path, be it a link that leads nowhere.
+    fn is_taken(&self, path: &[u8]) -> Result<bool, Unread>
+        ensures { IsTakenTold (taken self.now) path.now result };
+
+    /// The text on standard input.
+    fn input_text(&self, alloc: Global) -> Result<Vec<u8>, Unread>
+        ensures { IsInput (input self.now) result };
 }
 
 /// What is read at a path.
@@ -118,13 +140,6 @@ fn read_file(rt: &HostRuntime, path: &str) -> Result<Vec<u8>, Unread> {
     within_limit(bytes)
 }
 
-/// The text on standard input.
-pub(crate) fn read_input(rt: &HostRuntime) -> Result<Vec<u8>, Unread> {
-    let mut bytes = Vec::new(rt.alloc());
-    let _ = rt.reader().take(MAX_TEXT + 1).read_to_end(&mut bytes)?;
-    within_limit(bytes)
-}
-
 /// What a look-up found, if something is there. That it failed otherwise isn't that nothing is there.
 fn if_there(looked: Result<Metadata, Unread>) -> Result<Option<Metadata>, Unread>
     ensures there { IfOk looked (λ found. result ≡ Ok (Some found)) }
@@ -143,23 +158,6 @@ fn found_at(rt: &HostRuntime, path: &str) -> Result<Option<Metadata>, Unread> {
     if_there(fs::metadata(rt, path).map_err(Unread::from))
 }
 
-/// Whether a folder lies at a path.
-pub(crate) fn is_folder(rt: &HostRuntime, path: &[u8]) -> Result<bool, Unread> {
-    match found_at(rt, path_text(path)?)? {
-        Some(found) => Ok(found.is_dir()),
-        None => Ok(false),
-    }
-}
-
-/// Whether something lies at a path, be it a link that leads nowhere.
-pub(crate) fn is_taken(rt: &HostRuntime, path: &[u8]) -> Result<bool, Unread> {
-    let Ok(text) = path_text(path) else {
-        return Ok(false);
-    };
-    let looked = fs::symlink_metadata(rt, text).map_err(Unread::from);
-    Ok(if_there(looked)?.is_some())
-}
-
 /// Whether a folder's entry is read where the folder is included: all but folders are, a link that leads nowhere too.
 fn is_read(rt: &HostRuntime, path: &str) -> Result<bool, Unread> {
     match found_at(rt, path)? {
@@ -168,8 +166,8 @@ fn is_read(rt: &HostRuntime, path: &str) -> Result<bool, Unread> {
     }
 }
 
-/// The names in a folder, in byte order, without those of folders.
-pub(crate) fn names_in(rt: &HostRuntime, folder: &[u8]) -> Result<Vec<Vec<u8>>, Unread>
+/// The names in a folder of the host, in byte order, without those of folders.
+fn host_names(rt: &HostRuntime, folder: &[u8]) -> Result<Vec<Vec<u8>>, Unread>
     ensures { IfOk result (λ names. AreInByteOrder names.items) }
 {
     let alloc = rt.alloc();
@@ -189,16 +187,45 @@ impl Tree for HostRuntime {
 
     ghost files = { λ _. None };
 
+    ghost taken = { λ _. None };
+
+    ghost input = { λ _. None };
+
     fn content_at(&self, _alloc: Global, path: &[u8]) -> Result<Content, Unread> {
         let text = path_text(path)?;
         let found = fs::metadata(self, text)?;
         if found.is_dir() {
-            return Ok(Content::Folder(names_in(self, path)?));
+            return Ok(Content::Folder(host_names(self, path)?));
         }
         if !found.is_file() {
             return Err(Unread::NotAFile);
         }
         Ok(Content::File(read_file(self, text)?))
+    }
+
+    fn is_folder(&self, path: &[u8]) -> Result<bool, Unread> {
+        match found_at(self, path_text(path)?)? {
+            Some(found) => Ok(found.is_dir()),
+            None => Ok(false),
+        }
+    }
+
+    fn names_in(&self, _alloc: Global, folder: &[u8]) -> Result<Vec<Vec<u8>>, Unread> {
+        host_names(self, folder)
+    }
+
+    fn is_taken(&self, path: &[u8]) -> Result<bool, Unread> {
+        let Ok(text) = path_text(path) else {
+            return Ok(false);
+        };
+        let looked = fs::symlink_metadata(self, text).map_err(Unread::from);
+        Ok(if_there(looked)?.is_some())
+    }
+
+    fn input_text(&self, alloc: Global) -> Result<Vec<u8>, Unread> {
+        let mut bytes = Vec::new(alloc);
+        let _ = self.reader().take(MAX_TEXT + 1).read_to_end(&mut bytes)?;
+        within_limit(bytes)
     }
 }
 

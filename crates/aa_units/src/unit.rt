@@ -5,6 +5,7 @@ ghost use Rattle.aa_extents.specs.Includes.{included_name};
 ghost use Rattle.aa_trees.specs.Texts.{texts, slices};
 ghost use Rattle.aa_trees.specs.Searches.{searched};
 ghost use Rattle.aa_units.specs.Names.{opens_name, names_in_angles};
+ghost use Rattle.aa_units.specs.UnitFaults.{fault_of};
 ghost use Rattle.aa_units.specs.Numbers.{source_in_unit, path_in, text_in};
 ghost use Rattle.aa_units.specs.Nodes.{source_of_node, path_of_node, text_of_node, is_folder_node, is_folder_in, node_among, node_in, node_named};
 
@@ -69,7 +70,9 @@ impl<T: Drop> From<AllocFailed<T>> for UnitFault {
 }
 
 /// Why what lies at a path can't be read.
-pub(crate) fn fault_at(path: Vec<u8>, why: Unread) -> UnitFault {
+pub(crate) fn fault_at(path: Vec<u8>, why: Unread) -> UnitFault
+    ensures { result ≡ fault_of path why }
+{
     match why {
         Unread::NoMemory => UnitFault::NoMemory,
         _ => UnitFault::At { path, why },

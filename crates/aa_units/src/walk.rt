@@ -1,14 +1,17 @@
 //! A main text with all that it includes, breadth first.
 
-ghost use Rattle.std.specs.Prelude.{◌≡◌, ◌+◌, Option, Some, None, IfOk, OnOk, MatchOption, length, map, slice_index_or};
+ghost use Rattle.std.specs.Prelude.{◌≡◌, ◌≢◌, ◌⊎◌, ◌+◌, Option, Some, None, IfOk, IfErr, OnOk, MatchOption, IfSome, Contains, length, map, slice_get, slice_index_or};
+ghost use Rattle.std.specs.List.{list_any};
+ghost use Rattle.std.specs.Str.{bytes_eq};
 ghost use Rattle.std.specs.BTreeMap.{IsOrdered, insert_entry};
 ghost use Rattle.aa_trees.specs.Texts.{texts, slices};
-ghost use Rattle.aa_units.specs.FilesData.{read};
+ghost use Rattle.aa_units.specs.FilesData.{read, IsMain, IsMainText};
 ghost use Rattle.aa_units.specs.Walks.{Entry, by_bytes, known_of, asked_by, Asks, walked_texts, LiesAt, NothingAt, in_order};
 ghost use Rattle.aa_units.specs.WalkData.{asked, IsAdded, LooksUp, IsWalkedTo, IsUnit};
+ghost use Rattle.aa_units.specs.UnitFaults.{IsLookFault, IsLookUpFault, IsWalkFault, IsLoadFault};
 ghost use Rattle.aa_words.specs.FoundData.{include_data};
 
-use crate::tree::{Found, Tree, Unread, read_input, what_lies_at};
+use crate::tree::{Found, Tree, Unread, what_lies_at};
 use crate::unit::{Source, Unit, UnitFault, fault_at, paths_of, text_of_node};
 use aa_places::excerpt;
 use aa_texts::{FaultReport, place_at};
@@ -73,14 +76,17 @@ fn first_found<T: Tree>(
     tree: &T,
     paths: Vec<Vec<u8>>,
 ) -> Result<Option<(Vec<u8>, Found)>, UnitFault>
-    ensures { IfOk result (λ found. MatchOption found (NothingAt (T.files tree.now) (texts paths.items))
+    ensures found { IfOk result (λ found. MatchOption found (NothingAt (T.files tree.now) (texts paths.items))
         (λ f. LiesAt (T.files tree.now) (texts paths.items) f.0.items (read f.1))) }
+    ensures fault { IfErr result (IsLookFault (texts paths.items)) }
 {
     for path in paths {
         match what_lies_at(alloc, tree, path.as_slice()) {
             Ok(found) => return Ok(Some((path, found))),
-            Err(Unread::NotFound) => {}
-            Err(why) => return Err(fault_at(path, why)),
+            Err(why) => match why {
+                Unread::NotFound => {}
+                _ => return Err(fault_at(path, why)),
+            },
         }
     }
     Ok(None)
@@ -111,7 +117,9 @@ fn ambiguous(
     })
 }
 
-fn has_path(paths: &[Vec<u8>], path: &[u8]) -> bool {
+fn has_path(paths: &[Vec<u8>], path: &[u8]) -> bool
+    ensures { result ≡ list_any (λ one. bytes_eq one.items path.now) paths.now }
+{
     paths.iter().any(|one| one.as_slice() == path)
 }
 
@@ -123,7 +131,12 @@ fn check_known<T: Tree>(
     node: usize,
     index: usize,
     wanted: Wanted,
-) -> Result<(), UnitFault> {
+) -> Result<(), UnitFault>
+    requires { known_of unit.now.known.entries wanted.name.items ≡ Some (Some index) }
+    ensures agrees { OnOk result (IfSome (slice_get unit.now.sources.items index)
+        (λ s. Contains (texts wanted.paths.items) s.path.items ⊎ NothingAt (T.files tree.now) (texts wanted.paths.items))) }
+    ensures fault { IfErr result (IsLookUpFault (T.files tree.now) unit.now.sources.items unit.now.known.entries (asked wanted)) }
+{
     let Some(source) = unit.sources.get(index) else {
         return Ok(());
     };
@@ -172,6 +185,7 @@ fn enter_source(
 ) -> Result<(), UnitFault>
     ensures path { OnOk result (unit.new.path.items ≡ unit.old.path.items) }
     ensures text { OnOk result (unit.new.text.items ≡ unit.old.text.items) }
+    ensures fault { IfErr result (λ e. e ≢ UnitFault.NoMemory → e ≡ UnitFault.At path Unread.TooLarge) }
     ensures added { OnOk result (IsAdded name.items path.items (read found) unit.old.sources.items unit.old.known.entries unit.new.sources.items unit.new.known.entries) }
 {
     if unit.sources.len() >= MAX_SOURCES {
@@ -197,7 +211,8 @@ fn look_up_new<T: Tree>(
     wanted: Wanted,
 ) -> Result<(), UnitFault>
     requires { known_of unit.old.known.entries wanted.name.items ≡ None }
-    ensures { OnOk result (LooksUp (T.files tree.now) (asked wanted) unit.old unit.new) }
+    ensures adds { OnOk result (LooksUp (T.files tree.now) (asked wanted) unit.old unit.new) }
+    ensures fault { IfErr result (IsLookFault (texts wanted.paths.items)) }
 {
     let Wanted { name, paths, .. } = wanted;
     match first_found(alloc, tree, paths)? {
@@ -214,7 +229,8 @@ fn look_up<T: Tree>(
     node: usize,
     wanted: Wanted,
 ) -> Result<(), UnitFault>
-    ensures { OnOk result (LooksUp (T.files tree.now) (asked wanted) unit.old unit.new) }
+    ensures adds { OnOk result (LooksUp (T.files tree.now) (asked wanted) unit.old unit.new) }
+    ensures fault { IfErr result (IsLookUpFault (T.files tree.now) unit.old.sources.items unit.old.known.entries (asked wanted)) }
 {
     let known = unit.known.get(wanted.name.as_slice()).copied();
     match known {
@@ -233,7 +249,8 @@ fn walk_text<T: Tree>(
     number: usize,
 ) -> Result<(), UnitFault>
     requires { IsWalkedTo (T.files tree.now) (slices folders.now) unit.old.path.items unit.old.text.items number unit.old }
-    ensures { OnOk result (IsWalkedTo (T.files tree.now) (slices folders.now) unit.old.path.items unit.old.text.items (number + 1) unit.new) }
+    ensures walked { OnOk result (IsWalkedTo (T.files tree.now) (slices folders.now) unit.old.path.items unit.old.text.items (number + 1) unit.new) }
+    ensures fault { IfErr result (λ e. e ≢ UnitFault.NoMemory → IsWalkFault (T.files tree.now) (slices folders.now) unit.old.text.items e) }
 {
     if number > unit.sources.len() {
         return Ok(());
@@ -270,7 +287,8 @@ pub fn load_text<T: Tree>(
     path: Vec<u8>,
     text: Vec<u8>,
 ) -> Result<Unit, UnitFault>
-    ensures { IfOk result (λ unit. IsUnit (T.files tree.now) (slices folders.now) path.items text.items unit) }
+    ensures unit { IfOk result (λ unit. IsUnit (T.files tree.now) (slices folders.now) path.items text.items unit) }
+    ensures fault { IfErr result (λ e. e ≢ UnitFault.NoMemory → IsWalkFault (T.files tree.now) (slices folders.now) text.items e) }
 {
     let mut unit = Unit {
         path,
@@ -287,23 +305,32 @@ pub fn load_text<T: Tree>(
 }
 
 /// The text of a file; the path `-` is standard input.
-pub fn main_text(rt: &HostRuntime, path: &[u8]) -> Result<Vec<u8>, Unread> {
+pub fn main_text<T: Tree>(alloc: Global, tree: &T, path: &[u8]) -> Result<Vec<u8>, Unread>
+    ensures { IsMain (T.files tree.now) (T.input tree.now) path.now result }
+{
     if path == "-".as_bytes() {
-        return read_input(rt);
+        return tree.input_text(alloc);
     }
-    match what_lies_at(rt.alloc(), rt, path)? {
+    match what_lies_at(alloc, tree, path)? {
         Found::Text(text) => Ok(text),
         Found::Folder(_) => Err(Unread::NotAFile),
     }
 }
 
 /// Reads a file, and breadth first all that it includes. The path `-` is standard input.
-pub fn load(rt: &HostRuntime, folders: &[&[u8]], path: &[u8]) -> Result<Unit, UnitFault>
-    ensures { IfOk result (λ unit. IsUnit None (slices folders.now) path.now unit.text.items unit) }
+pub fn load<T: Tree>(
+    alloc: Global,
+    tree: &T,
+    folders: &[&[u8]],
+    path: &[u8],
+) -> Result<Unit, UnitFault>
+    ensures main { IfOk result (λ unit. IsMainText (T.files tree.now) (T.input tree.now) path.now unit.text.items) }
+    ensures unit { IfOk result (λ unit. IsUnit (T.files tree.now) (slices folders.now) path.now unit.text.items unit) }
+    ensures fault { IfErr result (λ e. e ≢ UnitFault.NoMemory → IsLoadFault (T.files tree.now) (T.input tree.now) (slices folders.now) path.now e) }
 {
-    let path = Vec::from_slice(rt.alloc(), path)?;
-    match main_text(rt, path.as_slice()) {
-        Ok(text) => load_text(rt.alloc(), rt, folders, path, text),
+    let path = Vec::from_slice(alloc, path)?;
+    match main_text(alloc, tree, path.as_slice()) {
+        Ok(text) => load_text(alloc, tree, folders, path, text),
         Err(why) => Err(fault_at(path, why)),
     }
 }

@@ -45,7 +45,7 @@ fn run_check(
 
 /// Adds the lines of a file without their ends, but for empty ones.
 fn push_words_from(rt: &HostRuntime, path: &[u8], words: &mut Vec<Vec<u8>>) -> Result<(), Unread> {
-    let text = main_text(rt, path)?;
+    let text = main_text(rt.alloc(), rt, path)?;
     push_words(rt.alloc(), text.as_slice(), words)
 }
 

@@ -24,7 +24,7 @@ pub fn paths_of(
     wanted: &Wanted<'_>,
     arguments: &[Vec<u8>],
 ) -> Result<Vec<Vec<u8>>, Stop> {
-    match roots_of(rt, wanted.base, arguments) {
+    match roots_of(rt.alloc(), rt, wanted.base, arguments) {
         Ok(roots) => Ok(roots.paths),
         Err(fault) => Err(stop_with(unit_refused(rt.alloc(), fault))),
     }
@@ -39,7 +39,7 @@ pub fn load_units(
     let alloc = rt.alloc();
     let mut units = Vec::new(alloc);
     for path in paths {
-        match load(rt, wanted.folders, path.as_slice()) {
+        match load(alloc, rt, wanted.folders, path.as_slice()) {
             Ok(unit) => units.push(unit)?,
             Err(fault) => return Err(stop_with(unit_refused(alloc, fault))),
         }

@@ -3,8 +3,8 @@ use Rattle.aa_trees.specs.Texts.{slices}
 use Rattle.aa_units.proofs.Walked.{walked_all}
 use Rattle.aa_units.proofs.walk.load_text.Goals as goal
 
-pub returns : goal.returns
-returns g c =
+pub returns-clause-unit : goal.returns-clause-unit
+returns-clause-unit g c =
     let inv = c.loop-number.invariant in
     let u = c.loop-number.unit in
     let past : length u.sources.items < c.loop-number.number = omega (arith, inv.walk.few, c.loop-number-test.false) in

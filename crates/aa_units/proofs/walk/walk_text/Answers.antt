@@ -1,14 +1,19 @@
-use Rattle.std.proofs.Common.{◌≡◌, ℕ, ◌<◌, ◌≤◌, List, length, get_or, map, All, IsSome, sym, subst, ◌∙◌, arith, rules}
+use Rattle.std.proofs.Common.{◌≡◌, ℕ, ◌<◌, ◌≤◌, List, length, get_or, map, All, sym, subst, ◌∙◌, arith, rules}
 use Rattle.std.proofs.lemmas.Iterator.Consumers.{YieldsList-turn, YieldsList-end}
 use Rattle.std.proofs.lemmas.Iterator.Adapters.{YieldsList-from_vec}
 use Rattle.std.proofs.lemmas.List.{map-id}
 use Rattle.std.proofs.lemmas.List.Elements.{All-weaker, All-push, All-map}
 use Rattle.aa_trees.specs.Texts.{slices}
 use Rattle.aa_units.specs.declared.walk.Wanted.{Wanted}
-use Rattle.aa_units.specs.Walks.{Asked, known_of, walked_texts, IsClosed}
+use Rattle.aa_units.specs.Walks.{IsLookedUp, walked_texts, IsClosed}
 use Rattle.aa_units.specs.WalkData.{asked}
-use Rattle.aa_units.proofs.Walking.{adds_keeps, adds_known}
+use Rattle.aa_units.proofs.Walking.{looked_kept, looked_new}
 use Rattle.aa_units.proofs.Walked.{walked_more, walked_closed, walked_past, text_kept, no_fewer, asked_there}
+use Rattle.std.specs.Prelude.{◌≢◌}
+use Rattle.std.proofs.lemmas.Result.{err_from_is_err_and}
+use Rattle.aa_units.specs.declared.unit.UnitFault.TheVariants.{NoMemory}
+use Rattle.aa_units.specs.UnitFaults.{IsWalkFault}
+use Rattle.aa_units.proofs.Faulted.{handed_on}
 use Rattle.aa_units.proofs.walk.walk_text.Goals as goal
 
 pub loop-one-preserved : goal.loop-one-preserved
@@ -18,7 +23,7 @@ loop-one-preserved g c =
     let v = c.look_up.new.unit in
     let main = c.args.unit.now.text.items in
     let inv = c.loop-one.invariant in
-    let looks = c.in_ok-look_up.ensures in
+    let looks = c.in_ok-look_up.ensures.adds in
     let turn = YieldsList-turn (YieldsList-from_vec {s = c.into_iter-one-iterator.result} c.in_ok-wanted.wanted.items (search rules) (search rules)) c.loop-one.yielded c.loop-one.one-iterator c.loop-one.yielded_by c.next.result c.next.new.self c.in-Some.one c.in-Some.is c.next.ensures.steps in
     let text-is : c.walked_text.result.now ≡ get_or (walked_texts main u.sources.items) c.args.number main = c.walked_text.ensures ∙ sym inv.same in
     let inc = asked_there (slices c.args.folders.now) main c.walked_text.result.now c.args.number u.sources.items c.in_ok-wanted.wanted.items (length c.loop-one.yielded) c.in-Some.one inv.within text-is c.in_ok-wanted.ensures turn.0 turn.1 in
@@ -27,25 +32,40 @@ loop-one-preserved g c =
       walked = walked_more files (slices c.args.folders.now) c.args.unit.now.path.items main c.args.number (asked c.in-Some.one) u v inv.within inc looks inv.walked;
       within = within;
       same = text_kept files main c.args.number (asked c.in-Some.one) u v inv.within looks ∙ inv.same;
-      known = All-push (λ w. IsSome (known_of v.known.entries w.name.items)) c.loop-one.yielded c.in-Some.one
-          (All-weaker (λ w. IsSome (known_of u.known.entries w.name.items)) (λ w. IsSome (known_of v.known.entries w.name.items))
-          (λ w h. adds_keeps files (asked c.in-Some.one) u.sources.items u.known.entries v.sources.items v.known.entries looks.adds w.name.items h) c.loop-one.yielded inv.known)
-          (adds_known files (asked c.in-Some.one) u.sources.items u.known.entries v.sources.items v.known.entries looks.adds);
+      each = All-push (λ w. IsLookedUp files v.sources.items v.known.entries (asked w)) c.loop-one.yielded c.in-Some.one
+          (All-weaker (λ w. IsLookedUp files u.sources.items u.known.entries (asked w)) (λ w. IsLookedUp files v.sources.items v.known.entries (asked w))
+          (λ w h. looked_kept files (slices c.args.folders.now) main (asked c.in-Some.one) u.sources.items u.known.entries v.sources.items v.known.entries inv.walked.walk looks.adds (asked w) h) c.loop-one.yielded inv.each)
+          (looked_new files (slices c.args.folders.now) main (asked c.in-Some.one) u.sources.items u.known.entries v.sources.items v.known.entries looks.adds);
     }
 
-pub returns : goal.returns
-returns g c =
+pub returns-clause-walked : goal.returns-clause-walked
+returns-clause-walked g c =
     let u = c.loop-one.unit in
     let main = c.args.unit.now.text.items in
     let inv = c.loop-one.invariant in
     let end = YieldsList-end (YieldsList-from_vec {s = c.into_iter-one-iterator.result} c.in_ok-wanted.wanted.items (search rules) (search rules)) c.loop-one.yielded c.loop-one.one-iterator c.loop-one.yielded_by c.next.result c.next.new.self c.in-None.is c.next.ensures.steps in
     let all : c.loop-one.yielded ≡ c.in_ok-wanted.wanted.items = sym (map-id c.loop-one.yielded) ∙ end.0 in
-    let known : All (λ w. IsSome (known_of u.known.entries w.name.items)) c.in_ok-wanted.wanted.items = subst (λ (ws : List Wanted). All (λ w. IsSome (known_of u.known.entries w.name.items)) ws) all inv.known in
-    let closed : IsClosed (slices c.args.folders.now) u.known.entries c.walked_text.result.now = record { asked = map asked c.in_ok-wanted.wanted.items; asks = c.in_ok-wanted.ensures; known = All-map (λ (a : Asked). IsSome (known_of u.known.entries a.0)) asked c.in_ok-wanted.wanted.items known } in
+    let files = g.T.Tree.files c.args.tree.now in
+    let each : All (λ w. IsLookedUp files u.sources.items u.known.entries (asked w)) c.in_ok-wanted.wanted.items = subst (λ (ws : List Wanted). All (λ w. IsLookedUp files u.sources.items u.known.entries (asked w)) ws) all inv.each in
+    let closed : IsClosed files (slices c.args.folders.now) u.sources.items u.known.entries c.walked_text.result.now = record { asked = map asked c.in_ok-wanted.wanted.items; asks = c.in_ok-wanted.ensures; each = All-map (IsLookedUp files u.sources.items u.known.entries) asked c.in_ok-wanted.wanted.items each } in
     let text-is : c.walked_text.result.now ≡ get_or (walked_texts main u.sources.items) c.args.number main = c.walked_text.ensures ∙ sym inv.same in
-    walked_closed (g.T.Tree.files c.args.tree.now) (slices c.args.folders.now) c.args.unit.now.path.items main c.args.number u inv.within (subst (λ (t : List ℕ). IsClosed (slices c.args.folders.now) u.known.entries t) text-is closed) inv.walked
+    walked_closed (g.T.Tree.files c.args.tree.now) (slices c.args.folders.now) c.args.unit.now.path.items main c.args.number u inv.within (subst (λ (t : List ℕ). IsClosed files (slices c.args.folders.now) u.sources.items u.known.entries t) text-is closed) inv.walked
 
-pub returns-then-number-len : goal.returns-then-number-len
-returns-then-number-len g c =
+pub returns-then-number-len-clause-walked : goal.returns-then-number-len-clause-walked
+returns-then-number-len-clause-walked g c =
     let past : length c.args.unit.now.sources.items < c.args.number = omega (arith, c.len.ensures) in
     walked_past (g.T.Tree.files c.args.tree.now) (slices c.args.folders.now) c.args.unit.now.path.items c.args.unit.now.text.items c.args.number c.args.unit.now past c.requires
+
+pub returns-in_err-look_up-clause-fault : goal.returns-in_err-look_up-clause-fault
+returns-in_err-look_up-clause-fault g c =
+    let files = g.T.Tree.files c.args.tree.now in
+    let folders = slices c.args.folders.now in
+    let u = c.loop-one.unit in
+    let main = c.args.unit.now.text.items in
+    let inv = c.loop-one.invariant in
+    let turn = YieldsList-turn (YieldsList-from_vec {s = c.into_iter-one-iterator.result} c.in_ok-wanted.wanted.items (search rules) (search rules)) c.loop-one.yielded c.loop-one.one-iterator c.loop-one.yielded_by c.next.result c.next.new.self c.in-Some.one c.in-Some.is c.next.ensures.steps in
+    let text-is : c.walked_text.result.now ≡ get_or (walked_texts main u.sources.items) c.args.number main = c.walked_text.ensures ∙ sym inv.same in
+    let inc = asked_there folders main c.walked_text.result.now c.args.number u.sources.items c.in_ok-wanted.wanted.items (length c.loop-one.yielded) c.in-Some.one inv.within text-is c.in_ok-wanted.ensures turn.0 turn.1 in
+    let p = err_from_is_err_and c.from_residual-in_err-look_up.result c.from_residual-in_err-look_up.ensures.1 in
+    handed_on c.from_residual-in_err-look_up.result _ _ (λ e. e ≢ NoMemory → IsWalkFault files folders main e) p.1 p.2
+    (λ other. record { sources = u.sources.items; entries = u.known.entries; walk = inv.walked.walk; asked = asked c.in-Some.one; included = inc; stopped = c.in_err-look_up.ensures.fault })

@@ -1,7 +1,7 @@
-use Rattle.std.proofs.Common.{◌≡◌, ◌≤◌, length, get_or, All, IsSome}
+use Rattle.std.proofs.Common.{◌≡◌, ◌≤◌, length, get_or, All}
 use Rattle.aa_trees.specs.Texts.{slices}
-use Rattle.aa_units.specs.Walks.{known_of, walked_texts}
-use Rattle.aa_units.specs.WalkData.{IsWalkedTo}
+use Rattle.aa_units.specs.Walks.{IsLookedUp, walked_texts}
+use Rattle.aa_units.specs.WalkData.{asked, IsWalkedTo}
 use Rattle.aa_units.proofs.walk.walk_text.Given as goal
 
 abbrev pub invariant-loop-one : goal.invariant-loop-one
@@ -9,5 +9,5 @@ invariant-loop-one g l = record {
   walked : IsWalkedTo (g.T.Tree.files l.tree) (slices l.folders) l.initial.unit.path.items l.initial.unit.text.items l.number l.unit;
   within : l.number ≤ length l.unit.sources.items;
   same : get_or (walked_texts l.initial.unit.text.items l.unit.sources.items) l.number l.initial.unit.text.items ≡ get_or (walked_texts l.initial.unit.text.items l.initial.unit.sources.items) l.number l.initial.unit.text.items;
-  known : All (λ w. IsSome (known_of l.unit.known.entries w.name.items)) l.yielded;
+  each : All (λ w. IsLookedUp (g.T.Tree.files l.tree) l.unit.sources.items l.unit.known.entries (asked w)) l.yielded;
 }

@@ -1,0 +1,20 @@
+use Rattle.std.proofs.Common.{◌≡◌, ℕ, List, Err, subst, ◌∙◌}
+use Rattle.aa_trees.specs.Texts.{slices}
+use Rattle.aa_units.specs.FilesData.{IsMain, IsMainText}
+use Rattle.aa_units.specs.UnitFaults.IsLoadFault.{OfMain}
+use Rattle.aa_units.proofs.Faulted.{load_fault}
+use Rattle.aa_units.proofs.walk.load.Goals as goal
+
+pub returns-in-Ok-clause-fault : goal.returns-in-Ok-clause-fault
+returns-in-Ok-clause-fault g c =
+    let files = g.T.Tree.files c.args.tree.now in
+    let input = g.T.Tree.input c.args.tree.now in
+    let same : c.as_slice.result.now ≡ c.args.path.now = c.as_slice.ensures.value ∙ c.in_ok-path.ensures.items in
+    load_fault files input (slices c.args.folders.now) c.args.path.now c.in-Ok.text.items c.load_text.result (subst (λ (p : List ℕ). IsMainText files input p c.in-Ok.text.items) same c.in-Ok.ensures) c.load_text.ensures.fault
+
+pub returns-in-Err-clause-fault : goal.returns-in-Err-clause-fault
+returns-in-Err-clause-fault g c =
+    let files = g.T.Tree.files c.args.tree.now in
+    let input = g.T.Tree.input c.args.tree.now in
+    let same : c.as_slice.result.now ≡ c.args.path.now = c.as_slice.ensures.value ∙ c.in_ok-path.ensures.items in
+    λ other. OfMain c.in_ok-path.path c.in-Err.why c.in_ok-path.ensures.items c.fault_at.ensures (subst (λ (p : List ℕ). IsMain files input p (Err c.in-Err.why)) same c.in-Err.ensures)
