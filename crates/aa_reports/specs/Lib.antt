@@ -1,2 +1,4 @@
 pub mod Printed
 pub mod Replayed
+pub mod Jobs
+pub mod Shared

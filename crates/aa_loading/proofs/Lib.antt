@@ -1,0 +1,5 @@
+pub mod Cuts
+pub mod Adding
+pub mod Gathering
+pub mod Alone
+pub mod Streams
