@@ -1,5 +1,4 @@
 pub mod Cuts
 pub mod Adding
-pub mod Gathering
-pub mod Alone
+pub mod Single
 pub mod Streams

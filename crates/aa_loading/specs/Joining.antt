@@ -5,9 +5,8 @@ use Rattle.aa_compile.specs.Checks.{IsAccepted}
 use Rattle.aa_joins.specs.Rows.{Rows, no_rows}
 use Rattle.aa_joins.specs.Joined.{rows_of, joined}
 use Rattle.aa_joins.specs.Faults.{fault_of}
-use Rattle.aa_asks.specs.Places.{PlacesData, places_data}
-use Rattle.aa_units.specs.declared.unit.Unit as unit
-use Rattle.aa_verdicts.specs.declared.explained.Decided.{Decided}
+use Rattle.aa_asks.specs.Places.{PlacesData}
+use Rattle.aa_loading.specs.declared.texts.Texts.{Texts}
 use Rattle.aa_loading.specs.Spelled.{IsRead}
 
 -- what was joined: the profiles, of each the number of its unit, and where it and its rules stand there
@@ -28,11 +27,11 @@ added number policy places j = record {
 }
 
 -- the unit of that number is added: it spells a policy, which can be joined to what was, and is
-abbrev pub Adds : ℕ → unit.Unit → JoinedData → JoinedData → Type 0
+abbrev pub Adds : ℕ → Texts → JoinedData → JoinedData → Type 0
 Adds number u j k = (policy : Policy) × (places : List PlacesData) × IsRead u policy places × (fault_of j.rows (rows_of policy) ≡ None) × (k ≡ added number policy places j)
 
 -- units, of which the first has that number, are added one after another
-abbrev pub Joins : ℕ → JoinedData → List unit.Unit → JoinedData → Type 0
+abbrev pub Joins : ℕ → JoinedData → List Texts → JoinedData → Type 0
 Joins number j [] k = k ≡ j
 Joins number j (u ∷ us) k = (next : JoinedData) × Adds number u j next × Joins (number + 1) next us k
 
@@ -41,12 +40,8 @@ abbrev pub limit_of : ℕ → ℕ
 limit_of states = min (max states 1) 1000000
 
 -- the units are one policy, which compiles
-pub record IsOnePolicy (units : List unit.Unit) (limit : ℕ) (owners : List ℕ) (places : List PlacesData) (policies : List Policy) : Type 0 where
+pub record IsOnePolicy (units : List Texts) (limit : ℕ) (owners : List ℕ) (places : List PlacesData) (policies : List Policy) : Type 0 where
   pub policy : Policy
   pub joined : Joins 0 nothing units (record { rows = rows_of policy; owners = owners; places = places })
   pub accepted : IsAccepted policy.profiles limit
   pub policies_are : policies ≡ policy ∷ []
-
--- what requests are decided by is the one policy of its units
-abbrev pub IsDecided : ℕ → Decided → Type 0
-IsDecided limit d = IsOnePolicy d.units.now limit d.owners.now (map places_data d.places.now) d.policies.now

@@ -4,4 +4,3 @@ pub mod Spelled
 pub mod Joining
 pub mod Refused
 pub mod Loadings
-pub mod Outputs

@@ -1,33 +1,33 @@
-//! Why units are no policy.
+//! Why texts are no policy.
 
-ghost use Rattle.std.specs.Prelude.{◌≡◌};
+ghost use Rattle.std.specs.Prelude.{◌≡◌, ◌≢◌, ◌⊎◌};
 
 use aa_words::{PolicyFault, PolicyKind, Spot};
 use std::alloc::{AllocError, AllocFailed};
 
-/// A profile that has the name of one of an earlier unit.
+/// A profile that has the name of one of earlier texts.
 #[derive(Clone, Copy, Debug, PartialEq, Eq)]
 pub struct RepeatedName {
-    /// The number of its unit.
-    pub unit: usize,
+    /// The number of its texts.
+    pub number: usize,
     /// Where its name stands.
     pub at: Spot,
-    /// The number of the earlier unit.
+    /// The number of the earlier ones.
     pub earlier: usize,
     /// Where the name stands there.
     pub earlier_at: Spot,
 }
 
-/// Why units are no policy. Units count from 0.
+/// Why main texts with their sources are no policy. They count from 0.
 #[derive(Clone, Copy, Debug, PartialEq, Eq)]
 pub enum LoadingFault {
     NoMemory,
-    /// A unit spells no policy, or is refused by itself.
-    OfUnit(usize, PolicyFault),
+    /// These spell no policy, or are refused by themselves.
+    OfTexts(usize, PolicyFault),
     Repeated(RepeatedName),
-    /// With that unit a count passes a limit.
+    /// With these a count passes a limit.
     TooLarge(usize),
-    /// No unit is refused by itself, but all together are.
+    /// None are refused by themselves, but all together are.
     Together(PolicyFault),
 }
 
@@ -51,13 +51,12 @@ impl<T: Drop> From<AllocFailed<T>> for LoadingFault {
     }
 }
 
-/// The fault of a unit, unless memory ran out.
-pub(crate) fn of_unit(number: usize, fault: PolicyFault) -> LoadingFault
-    ensures memory { fault.kind ≡ PolicyKind.NoMemory → result ≡ LoadingFault.NoMemory }
-    ensures other { (fault.kind ≡ PolicyKind.NoMemory → ⊥) → result ≡ LoadingFault.OfUnit number fault }
+/// The fault of texts, unless memory ran out.
+pub(crate) fn of_texts(number: usize, fault: PolicyFault) -> LoadingFault
+    ensures { ((fault.kind ≡ PolicyKind.NoMemory) × (result ≡ LoadingFault.NoMemory)) ⊎ ((fault.kind ≢ PolicyKind.NoMemory) × (result ≡ LoadingFault.OfTexts number fault)) }
 {
     if fault.kind == PolicyKind::NoMemory {
         return LoadingFault::NoMemory;
     }
-    LoadingFault::OfUnit(number, fault)
+    LoadingFault::OfTexts(number, fault)
 }

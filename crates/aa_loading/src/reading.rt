@@ -1,28 +1,26 @@
-//! Units that are read and joined one after another.
+//! Texts that are read and joined one after another.
 
 ghost use Rattle.std.specs.Prelude.{◌≡◌, ◌≢◌, ◌⊎◌, ◌++◌, map, option_map, slice_get, None, OnOk, IfErr};
 ghost use Rattle.aa_joins.specs.Joined.{rows_of};
 ghost use Rattle.aa_joins.specs.Faults.{fault_of};
 ghost use Rattle.aa_asks.specs.Places.{places_data};
-ghost use Rattle.aa_loading.specs.Spelled.{texts_of};
 ghost use Rattle.aa_loading.specs.Joining.{nothing, added, Adds};
-ghost use Rattle.aa_loading.specs.Refused.{TellsBoth, IsTold, IsUnjoined, IsRefusedAt};
-ghost use Rattle.aa_loading.specs.Loadings.{reading_data, IsGathered};
+ghost use Rattle.aa_loading.specs.Refused.{IsTold, IsUnjoined, IsRefusedAt};
+ghost use Rattle.aa_loading.specs.Loadings.{reading_data};
 
-use crate::fault::{LoadingFault, RepeatedName, of_unit};
-use crate::gathered::read_unit;
+use crate::fault::{LoadingFault, RepeatedName, of_texts};
+use crate::texts::{Texts, read_text};
 use aa_asks::ProfilePlaces;
-use aa_joins::{JoinFault, Joining, Policy, Refused, Repeated};
-use aa_units::Unit;
-use aa_words::{PolicyFault, Sources, Spot};
+use aa_joins::{JoinFault, Joining, Policy, Repeated};
+use aa_words::Spot;
 use std::alloc::{AllocError, Global};
 
-/// The policies of units that are joined so far, and where what they say stands.
+/// The policies that are joined so far, and where what they say stands.
 #[derive(Drop)]
 pub(crate) struct Reading<'u> {
     pub joining: Joining,
     pub places: Vec<ProfilePlaces<'u>>,
-    /// Of each profile, the number of its unit.
+    /// Of each profile, the number of its texts.
     pub owners: Vec<usize>,
 }
 
@@ -36,51 +34,7 @@ fn spot_of(places: &[ProfilePlaces<'_>], number: u16) -> Option<Spot>
     }
 }
 
-/// Both places of a name, where they are known.
-fn repeated(
-    number: usize,
-    owners: &[usize],
-    before: &[ProfilePlaces<'_>],
-    places: &[ProfilePlaces<'_>],
-    repeated: Repeated,
-) -> LoadingFault
-    ensures { (result ≡ LoadingFault.NoMemory) ⊎ IsTold number owners.now (map places_data before.now) (map places_data places.now) (JoinFault.DuplicateProfile repeated) result }
-{
-    let Some(at) = spot_of(places, repeated.later) else {
-        return LoadingFault::NoMemory;
-    };
-    let Some(earlier_at) = spot_of(before, repeated.earlier) else {
-        return LoadingFault::NoMemory;
-    };
-    let Some(earlier) = owners.get(repeated.earlier as usize).copied() else {
-        return LoadingFault::NoMemory;
-    };
-    LoadingFault::Repeated(RepeatedName {
-        unit: number,
-        at,
-        earlier,
-        earlier_at,
-    })
-}
-
-/// What is said of the unit of that number, whose policy can't be joined to those before it.
-fn told(
-    number: usize,
-    owners: &[usize],
-    before: &[ProfilePlaces<'_>],
-    places: &[ProfilePlaces<'_>],
-    fault: JoinFault,
-) -> LoadingFault
-    ensures { (result ≡ LoadingFault.NoMemory) ⊎ IsTold number owners.now (map places_data before.now) (map places_data places.now) fault result }
-{
-    match fault {
-        JoinFault::DuplicateProfile(twice) => repeated(number, owners, before, places, twice),
-        JoinFault::TooLarge => LoadingFault::TooLarge(number),
-        JoinFault::NoMemory => LoadingFault::NoMemory,
-    }
-}
-
-/// Adds the number of a unit for each of its profiles.
+/// Adds the number of texts for each of their profiles.
 fn push_owners(
     owners: &mut Vec<usize>,
     number: usize,
@@ -106,7 +60,7 @@ impl<'u> Reading<'u> {
         }
     }
 
-    /// Notes of which unit the profiles that were joined last are, and where they stand.
+    /// Notes of which texts the profiles that were joined last are, and where they stand.
     fn note(
         &mut self,
         number: usize,
@@ -121,7 +75,49 @@ impl<'u> Reading<'u> {
         Ok(())
     }
 
-    /// Joins the policy of the unit of that number.
+    /// Both places of a name, where they are known.
+    fn repeated(
+        &self,
+        number: usize,
+        places: &[ProfilePlaces<'_>],
+        repeated: Repeated,
+    ) -> LoadingFault
+        ensures { (result ≡ LoadingFault.NoMemory) ⊎ IsTold number self.now.owners.items (map places_data self.now.places.items) (map places_data places.now) (JoinFault.DuplicateProfile repeated) result }
+    {
+        let Some(at) = spot_of(places, repeated.later) else {
+            return LoadingFault::NoMemory;
+        };
+        let Some(earlier_at) = spot_of(self.places.as_slice(), repeated.earlier) else {
+            return LoadingFault::NoMemory;
+        };
+        let Some(earlier) = self.owners.get(repeated.earlier as usize).copied() else {
+            return LoadingFault::NoMemory;
+        };
+        LoadingFault::Repeated(RepeatedName {
+            number,
+            at,
+            earlier,
+            earlier_at,
+        })
+    }
+
+    /// What is said of the texts of that number, whose policy can't be joined to those before it.
+    fn told(
+        &self,
+        number: usize,
+        places: &[ProfilePlaces<'_>],
+        fault: JoinFault,
+    ) -> LoadingFault
+        ensures { (result ≡ LoadingFault.NoMemory) ⊎ IsTold number self.now.owners.items (map places_data self.now.places.items) (map places_data places.now) fault result }
+    {
+        match fault {
+            JoinFault::DuplicateProfile(twice) => self.repeated(number, places, twice),
+            JoinFault::TooLarge => LoadingFault::TooLarge(number),
+            JoinFault::NoMemory => LoadingFault::NoMemory,
+        }
+    }
+
+    /// Joins the policy of the texts of that number.
     fn join(
         &mut self,
         number: usize,
@@ -134,47 +130,31 @@ impl<'u> Reading<'u> {
     {
         match self.joining.add(policy) {
             Ok(()) => Ok(self.note(number, places)?),
-            Err(Refused { fault, .. }) => {
-                let owners = self.owners.as_slice();
-                let before = self.places.as_slice();
-                Err(told(number, owners, before, places.as_slice(), fault))
-            }
+            Err(refused) => Err(self.told(number, places.as_slice(), refused.fault)),
         }
     }
 
-    /// Reads the unit of that number with its sources, and joins its policy.
-    fn add(
+    /// Reads the texts of that number, and joins the policy that they spell.
+    pub(crate) fn add(
         &mut self,
         alloc: Global,
         number: usize,
-        unit: &'u Unit,
-        sources: &'u Sources,
+        texts: Texts<'u>,
     ) -> Result<(), LoadingFault>
-        requires { sources.now ≡ texts_of unit.now }
-        ensures ok { OnOk result (Adds number unit.now (reading_data self.old) (reading_data self.new)) }
-        ensures cause { IfErr result (λ f. f ≢ LoadingFault.NoMemory → IsRefusedAt number unit.now (reading_data self.old) f) }
+        ensures ok { OnOk result (Adds number texts.entry (reading_data self.old) (reading_data self.new)) }
+        ensures cause { IfErr result (λ f. f ≢ LoadingFault.NoMemory → IsRefusedAt number texts.entry (reading_data self.old) f) }
     {
-        match read_unit(alloc, unit, sources) {
-            Ok((policy, places)) => self.join(number, policy, places),
-            Err(fault) => Err(of_unit(number, fault)),
-        }
-    }
-
-    /// The same where its sources may be refused.
-    pub(crate) fn add_unit(
-        &mut self,
-        alloc: Global,
-        number: usize,
-        unit: &'u Unit,
-        sources: &'u Result<Sources, PolicyFault>,
-    ) -> Result<(), LoadingFault>
-        requires { IsGathered unit.now sources.now }
-        ensures ok { OnOk result (Adds number unit.now (reading_data self.old) (reading_data self.new)) }
-        ensures cause { IfErr result (λ f. f ≢ LoadingFault.NoMemory → IsRefusedAt number unit.now (reading_data self.old) f) }
-    {
-        match sources {
-            Ok(sources) => self.add(alloc, number, unit, sources),
-            Err(fault) => Err(of_unit(number, *fault)),
+        let sources = match texts.sources {
+            Ok(sources) => sources,
+            Err(fault) => return Err(of_texts(number, *fault)),
+        };
+        let (policy, places) = match read_text(alloc, sources, texts.main) {
+            Ok(read) => read,
+            Err(fault) => return Err(of_texts(number, fault)),
+        };
+        match self.join(number, policy, places) {
+            Ok(()) => Ok(()),
+            Err(fault) => Err(fault),
         }
     }
 }

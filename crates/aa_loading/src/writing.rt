@@ -3,8 +3,11 @@
 ghost use Rattle.std.specs.Prelude.{◌≡◌, ℕ, ◌≤◌, length, take, OnOk, OnErr, IfOk, IfErr, MatchResult};
 ghost use Rattle.std.specs.Io.KnownBytes.{Appends, WriteAppends};
 
-use crate::output::{FAILED, Output};
+use crate::output::Output;
 use std::io::{ErrorKind, Write};
+
+/// Something can't be written.
+const FAILED: u8 = 3;
 
 /// What of an output can't be written.
 #[derive(Clone, Copy, Debug, PartialEq, Eq)]
@@ -18,6 +21,7 @@ pub enum Unwritten {
 struct Cut;
 
 /// Writes some of a text, again where a signal interrupts it, and gives how many bytes.
+#[tactic(auto, using(crate::proofs::Streams::kept_on))]
 fn write_some<W: Write>(writer: &mut W, text: &[u8]) -> Result<usize, Cut>
     ensures bound { IfOk result (λ n. n ≤ length text.now) }
     ensures bytes { WriteAppends (W.contents writer.old) (W.contents writer.new) result text.now }

@@ -1,4 +1,2 @@
 pub mod Printed
 pub mod Replayed
-pub mod Jobs
-pub mod Shared

@@ -1,12 +1,5 @@
 //! The job that `job` prints.
 
-ghost use Rattle.std.specs.Prelude.{◌≡◌, map, if◌then◌else◌, OnOk, IfOk, IfErr};
-ghost use Rattle.aa_findings.specs.Tasks.{fits};
-ghost use Rattle.aa_logs.specs.Outcomes.{record_data};
-ghost use Rattle.aa_units.specs.Numbers.{named_text};
-ghost use Rattle.aa_job_texts.specs.Jobs.{left_out};
-ghost use Rattle.aa_reports.specs.Jobs.{one_asked, one_over, with_asked, with_line, no_lines, given, named_include, IsJobWritten, IsNoText};
-
 use crate::lines::Lines;
 use aa_findings::{LogTask, take_record};
 use aa_job_texts::{Include, JobPolicy, is_job_text, left_out, policy_of, push_job_text};
@@ -35,20 +28,12 @@ pub enum JobFault {
 }
 
 impl From<AllocError> for JobFault {
-    ghost use Rattle.aa_reports.specs.declared.job.JobFault.TheVariants.{NoMemory};
-
-    ghost from_gives = { λ _ e. e ≡ NoMemory };
-
     fn from(_e: AllocError) -> JobFault {
         JobFault::NoMemory
     }
 }
 
 impl<T: Drop> From<AllocFailed<T>> for JobFault {
-    ghost use Rattle.aa_reports.specs.declared.job.JobFault.TheVariants.{NoMemory};
-
-    ghost from_gives = { λ _ e. e ≡ NoMemory };
-
     fn from(_e: AllocFailed<T>) -> JobFault {
         JobFault::NoMemory
     }
@@ -56,11 +41,7 @@ impl<T: Drop> From<AllocFailed<T>> for JobFault {
 
 impl<'a> JobTasks<'a> {
     /// No tasks yet, for these policies and what is wanted of the logs.
-    pub fn new(alloc: Global, policies: &'a [JobPolicy<'a>], choice: Choice<'a>) -> JobTasks<'a>
-        ensures none { given result ≡ no_lines }
-        ensures policies { result.policies.now ≡ policies.now }
-        ensures choice { result.choice ≡ choice.entry }
-    {
+    pub fn new(alloc: Global, policies: &'a [JobPolicy<'a>], choice: Choice<'a>) -> JobTasks<'a> {
         JobTasks {
             tasks: Vec::new(alloc),
             policies,
@@ -70,40 +51,22 @@ impl<'a> JobTasks<'a> {
         }
     }
 
-    /// Adds a record to the task that asks it.
-    fn add_asked(&mut self, alloc: Global, asked: Record) -> Result<(), AllocError>
-        ensures ok { OnOk result (given self.new ≡ (if fits (record_data asked) (given self.old).tasks then one_asked (record_data asked) (given self.old) else one_over (given self.old))) }
-        ensures stays { (self.new.policies ≡ self.old.policies) × (self.new.choice ≡ self.old.choice) }
-    {
+    fn add(&mut self, alloc: Global, asked: Record) -> Result<(), AllocError> {
+        if policy_of(self.policies, asked.profile.as_slice()).is_none() {
+            self.strangers = self.strangers.saturating_add(1);
+            return Ok(());
+        }
         if !take_record(&mut self.tasks, alloc, asked)? {
             self.is_too_large = true;
         }
         Ok(())
     }
 
-    fn add(&mut self, alloc: Global, asked: Record) -> Result<(), AllocError>
-        ensures ok { OnOk result (given self.new ≡ with_asked self.old.policies.now (record_data asked) (given self.old)) }
-        ensures stays { (self.new.policies ≡ self.old.policies) × (self.new.choice ≡ self.old.choice) }
-    {
-        if policy_of(self.policies, asked.profile.as_slice()).is_none() {
-            self.strangers = self.strangers.saturating_add(1);
-            return Ok(());
+    fn add_line(&mut self, alloc: Global, line: &[u8]) -> Result<(), AllocError> {
+        match line_of(alloc, line)? {
+            Line::Asks(asked) if is_chosen(alloc, &self.choice, line)? => self.add(alloc, asked),
+            Line::Asks(_) | Line::Other | Line::Skipped(_) => Ok(()),
         }
-        self.add_asked(alloc, asked)
-    }
-
-    /// Adds what a line without its end asks, if it is chosen.
-    pub fn add_line(&mut self, alloc: Global, line: &[u8]) -> Result<(), AllocError>
-        ensures ok { OnOk result (given self.new ≡ with_line self.old.policies.now self.old.choice line.now (given self.old)) }
-        ensures stays { (self.new.policies ≡ self.old.policies) × (self.new.choice ≡ self.old.choice) }
-    {
-        let Line::Asks(asked) = line_of(alloc, line)? else {
-            return Ok(());
-        };
-        if !is_chosen(alloc, &self.choice, line)? {
-            return Ok(());
-        }
-        self.add(alloc, asked)
     }
 }
 
@@ -113,9 +76,7 @@ impl Lines for JobTasks<'_> {
     }
 }
 
-fn includes_of<'a>(alloc: Global, sources: &[&'a Source]) -> Result<Vec<Include<'a>>, AllocError>
-    ensures { IfOk result (λ v. map named_include v.items ≡ map named_text (map (λ s. s.now) sources.now)) }
-{
+fn includes_of<'a>(alloc: Global, sources: &[&'a Source]) -> Result<Vec<Include<'a>>, AllocError> {
     let mut includes = Vec::new(alloc);
     for source in sources {
         includes.push(Include {
@@ -127,7 +88,7 @@ fn includes_of<'a>(alloc: Global, sources: &[&'a Source]) -> Result<Vec<Include<
 }
 
 /// Appends the job of policies, the sources that they include and tasks, and a line end, and gives how many requests are no UTF-8
-/// and left out. Refused as `NotText` where a text, a name or a label is no UTF-8.
+/// and left out.
 pub fn push_job(
     out: &mut Vec<u8>,
     alloc: Global,
@@ -135,12 +96,7 @@ pub fn push_job(
     sources: &[&Source],
     tasks: &[LogTask],
     states: u32,
-) -> Result<u64, JobFault>
-    ensures written { OnOk result (IsJobWritten policies.now (map (λ s. s.now) sources.now) tasks.now states out.old.items out.new.items) }
-    ensures left_out { IfOk result (λ n. n ≡ left_out tasks.now) }
-    ensures refused { IfErr result (λ e. e ≡ JobFault.NotText → IsNoText policies.now (map (λ s. s.now) sources.now) tasks.now) }
-    ensures stays { IfErr result (λ e. e ≡ JobFault.NotText → out.new.items ≡ out.old.items) }
-{
+) -> Result<u64, JobFault> {
     let includes = includes_of(alloc, sources)?;
     let includes = includes.as_slice();
     if !is_job_text(policies, includes, tasks) {

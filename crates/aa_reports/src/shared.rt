@@ -1,9 +1,5 @@
 //! What several files include, taken together.
 
-ghost use Rattle.std.specs.Prelude.{◌≡◌, ◌≢◌, map, flat_map, option_to_list, OnOk, IfOk, IfErr};
-ghost use Rattle.aa_units.specs.declared.unit.UnitFault.TheVariants.{NoMemory};
-ghost use Rattle.aa_reports.specs.Shared.{source_of, is_same, meant, AddsName, NameStays, AddsNames, IsOtherwise, AreShared, IsTakenOtherwise};
-
 use aa_units::{FaultReport, Source, Unit, UnitFault, describe, push_text, text_at};
 use aa_words::{PolicyFault, PolicyKind, Spot, includes_of};
 use std::alloc::{AllocError, Global};
@@ -18,9 +14,7 @@ struct Meaning<'u> {
 }
 
 /// Whether a name stands for one text in two units, or for none in both.
-fn is_same(first: Option<&Source>, second: Option<&Source>) -> bool
-    ensures { result ≡ is_same (meant first) (meant second) }
-{
+fn is_same(first: Option<&Source>, second: Option<&Source>) -> bool {
     match (first, second) {
         (None, None) => true,
         (Some(first), Some(second)) => first.text.as_slice() == second.text.as_slice(),
@@ -89,63 +83,39 @@ fn ambiguous(
     Ok(report)
 }
 
-/// The source of that number, if it is one.
-fn source_at(sources: &[Source], index: Option<usize>) -> Option<&Source>
-    ensures { meant result ≡ source_of sources.now index }
-{
-    match index {
-        Some(index) => sources.get(index),
-        None => None,
-    }
-}
-
-/// Adds a name of a unit, unless it stands for something else already.
-fn add_name<'u>(
-    alloc: Global,
-    unit: &'u Unit,
-    name: &'u [u8],
-    source: Option<&'u Source>,
-    meanings: &mut BTreeMap<&'u [u8], Meaning<'u>>,
-) -> Result<(), UnitFault>
-    ensures ok { OnOk result (AddsName name.now (meant source) meanings.old.entries meanings.new.entries) }
-    ensures refused { IfErr result (λ why. why ≢ NoMemory → NameStays name.now (meant source) meanings.old.entries) }
-{
-    match meanings.get(name) {
-        Some(known) if is_same(known.source, source) => Ok(()),
-        Some(known) => {
-            let fault = ambiguous(alloc, *known, unit, name, source)?;
-            Err(UnitFault::Ambiguous(fault))
-        }
-        None => {
-            let _ = meanings.insert(name, Meaning { unit, source })?;
-            Ok(())
-        }
-    }
-}
-
 /// Adds the names of a unit, unless one stands for something else already.
 fn add_names<'u>(
     alloc: Global,
     unit: &'u Unit,
     meanings: &mut BTreeMap<&'u [u8], Meaning<'u>>,
-) -> Result<(), UnitFault>
-    ensures ok { OnOk result (AddsNames unit.now meanings.old.entries meanings.new.entries) }
-    ensures refused { IfErr result (λ why. why ≢ NoMemory → IsOtherwise unit.now meanings.old.entries) }
-{
+) -> Result<(), UnitFault> {
     for (name, index) in unit.known.iter() {
-        let source = source_at(unit.sources.as_slice(), *index);
-        add_name(alloc, unit, name.as_slice(), source, meanings)?;
+        let source = match index {
+            Some(index) => unit.sources.get(*index),
+            None => None,
+        };
+        let name = name.as_slice();
+        match meanings.get(name) {
+            Some(known) if is_same(known.source, source) => {}
+            Some(known) => {
+                let fault = ambiguous(alloc, *known, unit, name, source)?;
+                return Err(UnitFault::Ambiguous(fault));
+            }
+            None => {
+                let _ = meanings.insert(name, Meaning { unit, source })?;
+            }
+        }
     }
     Ok(())
 }
 
-/// The sources that names stand for, in byte order of the names.
-fn sources_of<'u>(
-    alloc: Global,
-    meanings: &BTreeMap<&'u [u8], Meaning<'u>>,
-) -> Result<Vec<&'u Source>, AllocError>
-    ensures { IfOk result (λ v. map (λ s. s.now) v.items ≡ flat_map (λ e. option_to_list (meant e.1.source)) meanings.now.entries) }
-{
+/// The sources of all units, in byte order of their names. Refused where a name stands for one text in a unit, and in a later one for
+/// another or for none, or for one where it stood for none.
+pub fn shared_sources(alloc: Global, units: &[Unit]) -> Result<Vec<&Source>, UnitFault> {
+    let mut meanings = BTreeMap::new(alloc);
+    for unit in units {
+        add_names(alloc, unit, &mut meanings)?;
+    }
     let mut sources = Vec::new(alloc);
     for meaning in meanings.values() {
         if let Some(source) = meaning.source {
@@ -153,17 +123,4 @@ fn sources_of<'u>(
         }
     }
     Ok(sources)
-}
-
-/// The sources of all units, in byte order of their names. Refused where a name stands for one text in a unit, and in a later one for
-/// another or for none, or for one where it stood for none.
-pub fn shared_sources(alloc: Global, units: &[Unit]) -> Result<Vec<&Source>, UnitFault>
-    ensures shared { IfOk result (λ v. AreShared units.now (map (λ s. s.now) v.items)) }
-    ensures refused { IfErr result (λ why. why ≢ NoMemory → IsTakenOtherwise units.now) }
-{
-    let mut meanings = BTreeMap::new(alloc);
-    for unit in units {
-        add_names(alloc, unit, &mut meanings)?;
-    }
-    Ok(sources_of(alloc, &meanings)?)
 }

@@ -2,8 +2,9 @@
 
 use crate::command::{base_of, copies_of, folders_of, second_of, states_of, values_of};
 use crate::job::run_job;
+use crate::joined::{Use, with_policy};
+use crate::output::{Output, Stop, path_refused, refused, stop_with};
 use aa_checks::{Wanted, check, push_faults, push_json_report, push_report};
-use aa_loading::{Output, Stop, Use, path_refused, refused, stop_with, with_policy};
 use aa_output::NoMemory;
 use aa_reports::{
     Choice, LogReport, push_against, push_json_against, push_json_report as push_json_log,
@@ -153,7 +154,7 @@ fn run_ask(
         matches,
         words: words.as_slice(),
     };
-    with_policy(alloc, rt, wanted, files.as_slice(), &mut answering)
+    with_policy(rt, wanted, files.as_slice(), &mut answering)
 }
 
 fn run_log(
@@ -187,7 +188,7 @@ fn run_log(
         wants_all: matches.get_flag("all"),
         is_json: matches.get_flag("json"),
     };
-    with_policy(alloc, rt, wanted, against.as_slice(), &mut replaying)
+    with_policy(rt, wanted, against.as_slice(), &mut replaying)
 }
 
 /// Which lines of logs the command line wants, of profiles of these names; none where a second is no number.

@@ -1,12 +1,10 @@
 //! The job that `job` prints.
 
 use crate::command::{copies_of, values_of};
+use crate::joined::{load_units, paths_of};
+use crate::output::{Output, Stop, path_refused, policy_refused, refused, stop_with, unit_refused};
 use aa_checks::Wanted;
 use aa_compile::Compiled;
-use aa_loading::{
-    Output, Stop, load_units, path_refused, paths_of, policy_refused, refused, stop_with,
-    unit_refused,
-};
 use aa_output::NoMemory;
 use aa_reports::{
     Choice, JobFault, JobPolicy, JobTasks, is_policy_count, push_job, read_log, shared_sources,
@@ -122,7 +120,7 @@ fn units_of(
 ) -> Result<Vec<Unit>, Stop> {
     let alloc = rt.alloc();
     let arguments = copies_of(alloc, matches, "PROFILE")?;
-    let paths = paths_of(alloc, rt, wanted, arguments.as_slice())?;
+    let paths = paths_of(rt, wanted, arguments.as_slice())?;
     if paths.is_empty() {
         let line = "error: no file with profiles is there\n";
         return Err(stop_with(refused(alloc, line, 1)));
@@ -131,7 +129,7 @@ fn units_of(
         let line = "TooLarge: a job has at most 16 policies\n";
         return Err(stop_with(refused(alloc, line, 1)));
     }
-    load_units(alloc, rt, wanted, paths.as_slice())
+    load_units(rt, wanted, paths.as_slice())
 }
 
 /// The units as policies of a job.

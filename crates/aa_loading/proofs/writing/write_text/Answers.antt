@@ -13,6 +13,6 @@ writes-preserved g c =
     let at = c.writes.at in
     let n = c.in-Ok.n in
     record {
-      written = subst (λ (bs : List ℕ). Appends (contents c.args.writer.now) (contents c.write.new.self) bs) (sym (more text at n)) (Appends-trans _ _ _ _ _ c.writes.invariant.written c.in-Ok.ensures.bytes);
+      written = subst (λ (bs : List ℕ). Appends (contents c.args.writer.now) (contents c.write_some.new.writer) bs) (sym (more text at n)) (Appends-trans _ _ _ _ _ c.writes.invariant.written c.in-Ok.ensures.bytes);
       within = omega (arith, c.in-Ok.ensures.bound, length-take (length text - at) (drop at text), length-drop at text);
     }
