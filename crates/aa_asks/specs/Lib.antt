@@ -1,2 +1,3 @@
 pub mod Deciders
 pub mod Sayings
+pub mod Places

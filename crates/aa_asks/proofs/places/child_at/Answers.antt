@@ -1,0 +1,22 @@
+use Rattle.std.proofs.Common.{refl, ap, ◌∙◌}
+use Rattle.std.specs.Prelude.{flat_map}
+use Rattle.aa_heads.specs.Heads.{head_data}
+use Rattle.aa_policy.specs.Bodies.{if_any}
+use Rattle.aa_rules.specs.Reading.{rest_of}
+use Rattle.aa_asks.specs.Places.{PlacedProfile, PlacesData, with_rules}
+use Rattle.aa_asks.proofs.places.child_at.Goals as goal
+
+pub returns-clause-found : goal.returns-clause-found
+returns-clause-found c =
+    let body = c.in_ok-next.ensures.found in
+    let child : PlacedProfile = record { head = head_data c.in_ok-head.head; rules = flat_map if_any body.0 } in (
+      child,
+      record {
+        after = rest_of c.args.words.now c.in_ok-head.body;
+        statements = body.0;
+        head_stands = c.in_ok-head.ensures.found;
+        body_stands = body.1;
+        rules_are = refl;
+      },
+      body.2 ∙ ap (λ (p : PlacesData). with_rules p (flat_map if_any body.0)) c.no_rules-places.ensures,
+    )

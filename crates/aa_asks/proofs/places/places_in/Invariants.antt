@@ -1,0 +1,19 @@
+use Rattle.std.proofs.Common.{◌≡◌, ◌≤◌, List, Option, length, ◌-◌, map}
+use Rattle.std.specs.Prelude.{flat_map}
+use Rattle.aa_policy.specs.Bodies.{if_any}
+use Rattle.aa_rules.specs.Grammar.{IsEnd}
+use Rattle.aa_rules.specs.Reading.{rest_of}
+use Rattle.aa_asks.specs.Places.{PlacedFamily, IsPlacedItem, family_row, places_of, places_data}
+use Rattle.aa_asks.proofs.Placing.{Goes}
+use Rattle.aa_asks.proofs.places.places_in.Given as goal
+
+abbrev pub invariant-items : goal.invariant-items
+invariant-items l = record {
+  found : List (Option PlacedFamily);
+  goes : Goes IsPlacedItem IsEnd (rest_of l.words l.start) found (rest_of l.words l.at);
+  placed : map places_data l.found.items ≡ map places_of (flat_map (λ i. flat_map family_row (if_any i)) found);
+  within : l.at ≤ length l.words;
+}
+
+abbrev pub decreases-items : goal.decreases-items
+decreases-items l = length l.words - l.at

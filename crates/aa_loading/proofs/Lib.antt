@@ -1,0 +1,4 @@
+pub mod Cuts
+pub mod Adding
+pub mod Single
+pub mod Streams
