@@ -1,0 +1,4 @@
+pub mod Printed
+pub mod Jsons
+pub mod Counts
+pub mod Names
