@@ -2,3 +2,4 @@ pub mod Printed
 pub mod Jsons
 pub mod Counts
 pub mod Names
+pub mod Checked

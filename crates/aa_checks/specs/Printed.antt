@@ -1,5 +1,5 @@
 -- What `check` finds, as it is printed.
-use Rattle.std.specs.Prelude.{ℕ, List, [], ◌∷◌, ◌++◌, length, flat_map, codes, decimal, Bool, if◌then◌else◌, is_some, Option, Some, None, Vec}
+use Rattle.std.specs.Prelude.{ℕ, List, [], ◌++◌, ◌==◌, length, flat_map, codes, decimal, Bool, if◌then◌else◌, is_some, Option, Some, None, Vec}
 use Rattle.std.specs.declared.alloc.Global.{Global}
 use Rattle.aa_audit.specs.Values.{value}
 use Rattle.aa_texts.specs.declared.fault.FaultReport.{FaultReport}
@@ -30,9 +30,8 @@ unfoldable pub passed_text : Passed → List ℕ
 passed_text p = codes " " ++ p.keyword.items ++ count_text p.count []
 
 -- the line of the keywords, where there are any
-abbrev pub passed_line : List Passed → List ℕ
-passed_line [] = []
-passed_line (p ∷ ps) = codes "  passed over" ++ flat_map passed_text (p ∷ ps) ++ codes "\n"
+unfoldable pub passed_line : List Passed → List ℕ
+passed_line passed = if length passed == 0 then [] else codes "  passed over" ++ flat_map passed_text passed ++ codes "\n"
 
 -- whether a file is refused, and its path
 unfoldable pub file_line : FileReport → List ℕ

@@ -82,12 +82,13 @@ fn push_keywords(out: &mut Vec<u8>, passed_over: &[Passed]) -> Result<(), AllocE
 }
 
 /// Appends the line of the keywords whose rules are passed over, where there are any.
+#[tactic(auto, unfolding(crate::specs::Printed::passed_line))]
 fn push_passed(out: &mut Vec<u8>, passed_over: &[Passed]) -> Result<(), AllocError>
     ensures { OnOk result (out.new.items ≡ out.old.items ++ passed_line passed_over.now) }
 {
-    let [_, ..] = passed_over else {
+    if passed_over.len() == 0 {
         return Ok(());
-    };
+    }
     push_text(out, "  passed over")?;
     push_keywords(out, passed_over)?;
     push_text(out, "\n")

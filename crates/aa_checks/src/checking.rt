@@ -1,17 +1,19 @@
 //! What `check` finds.
 
-ghost use Rattle.std.specs.Prelude.{◌≡◌, ◌≤◌, ◌*◌, length, count_by, sum_by, is_some};
+ghost use Rattle.std.specs.Prelude.{◌≡◌, ◌↔◌, ◌≤◌, [], None, false, length, count_by, sum_by, is_some, All, IsTrue, IfOk};
 ghost use Rattle.std.specs.List.{list_any};
+ghost use Rattle.aa_faults.specs.declared.fault.PolicyKind.TheVariants.{NoMemory as WantOfMemory};
+ghost use Rattle.aa_trees.specs.Texts.{texts};
+ghost use Rattle.aa_checks.specs.Checked.{HasOnly, IsFoundOf, IsSaid, setting_of, IsFound, AreFound, CountsFiles, IsUntold, IsChecked};
 
+use crate::compiling::compile_unit;
 use crate::counting::{PolicyCounts, count_policy};
 use crate::naming::warned;
 use crate::report::{CheckReport, FileReport};
 use aa_output::NoMemory;
-use aa_units::{
-    FaultReport, Unit, UnitFault, compile_unit, describe, load, roots_of, unreadable,
-};
-use aa_words::PolicyKind;
-use std::alloc::{AllocError, Global};
+use aa_units::{FaultReport, Unit, UnitFault, describe, load, roots_of, unreadable};
+use aa_words::{PolicyFault, PolicyKind};
+use std::alloc::Global;
 use std::collections::HashMap;
 
 /// Which files are read, and how.
@@ -25,7 +27,11 @@ pub struct Wanted<'a> {
 }
 
 /// A file that is refused.
-fn refused(alloc: Global, path: Vec<u8>, fault: FaultReport, is_unread: bool) -> FileReport {
+fn refused(alloc: Global, path: Vec<u8>, fault: FaultReport, is_unread: bool) -> FileReport
+    ensures path { result.path ≡ path }
+    ensures only { HasOnly fault result }
+    ensures unread { result.is_unread ≡ is_unread }
+{
     FileReport {
         path,
         fault: Some(fault),
@@ -37,7 +43,13 @@ fn refused(alloc: Global, path: Vec<u8>, fault: FaultReport, is_unread: bool) ->
 }
 
 /// A file that is accepted.
-fn accepted(alloc: Global, path: Vec<u8>, counts: PolicyCounts) -> FileReport {
+fn accepted(alloc: Global, path: Vec<u8>, counts: PolicyCounts) -> FileReport
+    ensures path { result.path ≡ path }
+    ensures fault { result.fault ≡ None }
+    ensures unread { result.is_unread ≡ false }
+    ensures profiles { result.profiles ≡ counts.profiles }
+    ensures passed_over { result.passed_over ≡ counts.passed_over }
+{
     let PolicyCounts {
         profiles,
         passed_over,
@@ -52,8 +64,10 @@ fn accepted(alloc: Global, path: Vec<u8>, counts: PolicyCounts) -> FileReport {
     }
 }
 
-/// The fault of a unit that can't be read; none for want of memory.
-pub fn fault_of_unit(alloc: Global, fault: UnitFault) -> Result<(FaultReport, bool), NoMemory> {
+/// The fault of a unit that can't be read, and whether that is why; none for want of memory.
+pub fn fault_of_unit(alloc: Global, fault: UnitFault) -> Result<(FaultReport, bool), NoMemory>
+    ensures { IfOk result (λ r. IsSaid fault r.0 r.1) }
+{
     match fault {
         UnitFault::NoMemory => Err(NoMemory),
         UnitFault::At { path, why } => Ok((unreadable(alloc, path.as_slice(), why)?, true)),
@@ -61,16 +75,28 @@ pub fn fault_of_unit(alloc: Global, fault: UnitFault) -> Result<(FaultReport, bo
     }
 }
 
+fn is_want_of_memory(fault: PolicyFault) -> bool
+    ensures { IsTrue result ↔ (fault.kind ≡ WantOfMemory) }
+{
+    fault.kind == PolicyKind::NoMemory
+}
+
 fn check_unit(
     alloc: Global,
     wanted: &Wanted<'_>,
     unit: &Unit,
     path: Vec<u8>,
-) -> Result<FileReport, NoMemory> {
+) -> Result<FileReport, NoMemory>
+    ensures path { IfOk result (λ f. f.path ≡ path) }
+    ensures found { IfOk result (λ f. IsFoundOf wanted.now.states unit.now f) }
+    ensures unread { IfOk result (λ f. f.is_unread ≡ false) }
+{
     match compile_unit(alloc, unit, wanted.states) {
         Ok(compiled) => Ok(accepted(alloc, path, count_policy(alloc, unit, &compiled)?)),
-        Err(fault) if fault.kind == PolicyKind::NoMemory => Err(NoMemory),
         Err(fault) => {
+            if is_want_of_memory(fault) {
+                return Err(NoMemory);
+            }
             let fault = describe(alloc, wanted.folders, wanted.states, unit, fault)?;
             Ok(refused(alloc, path, fault, false))
         }
@@ -81,11 +107,14 @@ fn check_file(
     rt: &HostRuntime,
     wanted: &Wanted<'_>,
     path: &[u8],
-) -> Result<FileReport, NoMemory> {
+) -> Result<FileReport, NoMemory>
+    ensures path { IfOk result (λ f. f.path.items ≡ path.now) }
+    ensures found { IfOk result (λ f. IsFound (setting_of None wanted.now) path.now f) }
+{
     let alloc = rt.alloc();
     let own = Vec::from_slice(alloc, path)?;
     match load(rt, wanted.folders, path) {
-        Ok(unit) => check_unit(alloc, wanted, &unit, own),
+        Ok(unit) => Ok(check_unit(alloc, wanted, &unit, own)?),
         Err(fault) => {
             let (fault, is_unread) = fault_of_unit(alloc, fault)?;
             Ok(refused(alloc, own, fault, is_unread))
@@ -93,17 +122,21 @@ fn check_file(
     }
 }
 
+/// What is found of the files at these paths, in order.
 fn check_files(
     rt: &HostRuntime,
     wanted: &Wanted<'_>,
     paths: &[Vec<u8>],
-) -> Result<Vec<FileReport>, NoMemory> {
+) -> Result<Vec<FileReport>, NoMemory>
+    ensures { IfOk result (λ files. AreFound (setting_of None wanted.now) [] (texts paths.now) files.items) }
+{
     let alloc = rt.alloc();
     let mut files = Vec::new(alloc);
     let mut first = HashMap::new(alloc);
     for path in paths {
-        let file = check_file(rt, wanted, path.as_slice())?;
-        files.push(warned(alloc, files.as_slice(), file, &mut first)?)?;
+        let found = check_file(rt, wanted, path.as_slice())?;
+        let file = warned(alloc, files.as_slice(), found, &mut first)?;
+        files.push(file)?;
     }
     Ok(files)
 }
@@ -115,11 +148,15 @@ fn refused_of(files: &[FileReport]) -> usize
     files.iter().filter(|file| file.fault.is_some()).count()
 }
 
-/// How many profiles they have.
-fn profiles_of(files: &[FileReport]) -> usize {
+/// How many profiles they have. A file has at most 4,096, as any policy.
+fn profiles_of(files: &[FileReport]) -> usize
+    requires few { length files.now ≤ 4096 }
+    requires each { All (λ f. length f.profiles.items ≤ 4096) files.now }
+    ensures { result ≡ sum_by (λ f. length f.profiles.items) files.now }
+{
     let mut count: usize = 0;
     for file in files {
-        count = count.saturating_add(file.profiles.len());
+        count += file.profiles.len();
     }
     count
 }
@@ -132,7 +169,13 @@ fn is_one_unread(files: &[FileReport]) -> bool
 }
 
 /// What is found of these files, with what people should know of others.
-fn report_of(files: Vec<FileReport>, warnings: Vec<Vec<u8>>) -> CheckReport {
+fn report_of(files: Vec<FileReport>, warnings: Vec<Vec<u8>>) -> CheckReport
+    requires few { length files.items ≤ 4096 }
+    requires each { All (λ f. length f.profiles.items ≤ 4096) files.items }
+    ensures files { result.files ≡ files }
+    ensures warnings { result.warnings ≡ warnings }
+    ensures counts { CountsFiles result }
+{
     let refused = refused_of(files.as_slice());
     let profiles = profiles_of(files.as_slice());
     let is_unread = is_one_unread(files.as_slice());
@@ -146,10 +189,14 @@ fn report_of(files: Vec<FileReport>, warnings: Vec<Vec<u8>>) -> CheckReport {
 }
 
 /// What is found where the files can't be told.
-fn untold(alloc: Global, fault: UnitFault) -> Result<CheckReport, NoMemory> {
+fn untold(alloc: Global, fault: UnitFault) -> Result<CheckReport, NoMemory>
+    ensures untold { IfOk result (λ r. IsUntold r) }
+    ensures counts { IfOk result (λ r. CountsFiles r) }
+{
     let (fault, is_unread) = fault_of_unit(alloc, fault)?;
+    let path = Vec::from_slice(alloc, fault.path.as_slice())?;
     let mut files = Vec::new(alloc);
-    files.push(refused(alloc, fault.path.clone()?, fault, is_unread))?;
+    files.push(refused(alloc, path, fault, is_unread))?;
     Ok(report_of(files, Vec::new(alloc)))
 }
 
@@ -158,7 +205,9 @@ pub fn check(
     rt: &HostRuntime,
     wanted: &Wanted<'_>,
     arguments: &[Vec<u8>],
-) -> Result<CheckReport, NoMemory> {
+) -> Result<CheckReport, NoMemory>
+    ensures { IfOk result (λ r. IsChecked (setting_of None wanted.now) r) }
+{
     match roots_of(rt, wanted.base, arguments) {
         Ok(roots) => {
             let files = check_files(rt, wanted, roots.paths.as_slice())?;

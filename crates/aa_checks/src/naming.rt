@@ -1,6 +1,6 @@
 //! Profiles whose names come twice.
 
-ghost use Rattle.std.specs.Prelude.{◌≡◌, ◌++◌, ◌∷◌, [], Some, None, length, option_map, OnOk, IfOk, if◌then◌else◌};
+ghost use Rattle.std.specs.Prelude.{◌≡◌, ◌++◌, ◌∷◌, [], Some, None, length, option_map, slice_get, OnOk, IfOk, if◌then◌else◌};
 ghost use Rattle.aa_trees.specs.Texts.{texts};
 ghost use Rattle.aa_compile.specs.Numbering.{AddsNumber};
 ghost use Rattle.aa_checks.specs.Names.{first_with, twice_by, warning_of, warnings_of, IsFirst, AddsNames, IsWarned};
@@ -33,6 +33,12 @@ fn twice(
     Ok(line)
 }
 
+fn file_at(files: &[FileReport], number: usize) -> Option<&FileReport>
+    ensures { option_map (λ f. f.now) result ≡ slice_get files.entry.now number }
+{
+    files.get(number)
+}
+
 /// The first file that has a profile of that name.
 fn first_with<'f>(
     files: &'f [FileReport],
@@ -43,7 +49,7 @@ fn first_with<'f>(
     ensures { option_map (λ f. f.now) result ≡ first_with name.now files.entry.now }
 {
     match first.get(name) {
-        Some(number) => files.get(*number),
+        Some(number) => file_at(files, *number),
         None => None,
     }
 }

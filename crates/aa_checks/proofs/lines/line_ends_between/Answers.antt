@@ -6,5 +6,5 @@ use Rattle.aa_checks.proofs.lines.line_ends_between.Goals as goal
 
 pub returns : goal.returns
 returns c =
-    ap (λ n. count_by is_line_end (take c.args.from c.args.text.now) + n) (c.line_ends.ensures.count ∙ ap (count_by is_line_end) (c.behind.ensures ∙ ap (drop c.args.from) c.before.ensures))
+    ap (λ n. count_by is_line_end (take c.args.from c.args.text.now) + n) (c.line_ends.ensures.count ∙ ap (count_by is_line_end) (c.behind.ensures ∙ ap (drop c.args.from) c.before-2.ensures))
     ∙ split_counts is_line_end c.args.text.now c.args.from c.args.to c.requires
