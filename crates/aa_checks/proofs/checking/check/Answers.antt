@@ -9,7 +9,7 @@ pub report_of-requires-clause-few : goal.report_of-requires-clause-few
 report_of-requires-clause-few c =
     let s = setting_of None c.args.wanted.now in
     let many = found_many s [] (texts c.as_slice.result.now) c.in_ok-files-in-Ok.files.items c.in_ok-files-in-Ok.ensures in
-    let paths = length-map (λ v. v.items) c.as_slice.result.now in
+    let paths = length-map c.as_slice.result.now (λ v. v.items) in
     let slice = ap length c.as_slice.ensures.value in
     let few = c.in-Ok.ensures in
     omega arith
