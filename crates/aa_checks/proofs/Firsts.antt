@@ -1,5 +1,5 @@
 -- The first element that passes a test.
-use Rattle.std.proofs.Common.{◌≡◌, ℕ, ◌+◌, ◌<◌, ◌≤◌, List, [], ◌∷◌, ◌++◌, length, take, get_or, Bool, true, false, cond, Option, Some, None, refl, sym, ap, ◌∙◌, ⊎_elim, arith, length-append}
+use Rattle.std.proofs.Common.{◌≡◌, ℕ, ◌+◌, ◌<◌, ◌≤◌, List, [], ◌∷◌, ◌++◌, length, Bool, true, false, cond, Option, Some, None, refl, sym, ap, ◌∙◌, ⊎_elim, arith, length-append}
 use Rattle.std.specs.Prelude.{position, find, nat_lt, slice_get, option_and_then, ◌||◌}
 use Rattle.std.specs.List.{position_or_len}
 use Rattle.std.specs.Option.{option_or}
@@ -15,10 +15,10 @@ use Rattle.aa_rows.proofs.Named.{position_more}
 pub found_at : {X : Type 0} (p : X → Bool) (xs : List X) → option_and_then (slice_get xs) (position p xs) ≡ find p xs
 found_at p xs = ⊎_elim
     (λ (lt : position_or_len p xs < length xs).
-        ap (option_and_then (slice_get xs)) (cond-true (nat_lt (position_or_len p xs) (length xs)) (Some (position_or_len p xs)) None (lt-ltb (position_or_len p xs) (length xs) lt)) ∙ sym (find_at p xs))
+    ap (option_and_then (slice_get xs)) (cond-true (nat_lt (position_or_len p xs) (length xs)) (Some (position_or_len p xs)) None (lt-ltb (position_or_len p xs) (length xs) lt)) ∙ sym (find_at p xs))
     (λ (ge : length xs ≤ position_or_len p xs).
-        ap (option_and_then (slice_get xs)) (cond-false (nat_lt (position_or_len p xs) (length xs)) (Some (position_or_len p xs)) None (le-ltb (position_or_len p xs) (length xs) ge))
-        ∙ sym (find_at p xs ∙ slice_get_past xs (position_or_len p xs) ge))
+    ap (option_and_then (slice_get xs)) (cond-false (nat_lt (position_or_len p xs) (length xs)) (Some (position_or_len p xs)) None (le-ltb (position_or_len p xs) (length xs) ge))
+    ∙ sym (find_at p xs ∙ slice_get_past xs (position_or_len p xs) ge))
     (cases_lt (position_or_len p xs) (length xs))
 
 -- one that is added for some, and then for others

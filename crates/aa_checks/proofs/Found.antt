@@ -1,5 +1,5 @@
 -- What is found of files, one behind another.
-use Rattle.std.proofs.Common.{◌≡◌, ℕ, ◌+◌, ◌<◌, ◌≤◌, List, [], ◌∷◌, ◌++◌, length, map, flat_map, take, get_or, All, Option, None, Vec, refl, sym, ap, subst, ◌∙◌, arith, append_assoc}
+use Rattle.std.proofs.Common.{◌≡◌, ℕ, ◌+◌, ◌<◌, ◌≤◌, List, [], ◌∷◌, ◌++◌, length, flat_map, take, get_or, All, Vec, refl, sym, ap, subst, ◌∙◌, arith, append_assoc}
 use Rattle.std.specs.Prelude.{option_map, option_to_list}
 use Rattle.std.specs.declared.alloc.Global.{Global}
 use Rattle.std.proofs.lemmas.List.{append-nil, take_more, map-append}
@@ -21,7 +21,7 @@ only_warned files f g w only = record {
 of_warned : (files : List FileReport) (f g : FileReport) (w : IsWarned files f g) {states : ℕ} {u : _} → IsFoundOf states u f → IsFoundOf states u g
 of_warned files f g w {states} {u} (Accepted policy is none counts) =
     Accepted policy is (w.fault ∙ none)
-        (subst (λ v. CountsPolicy u policy v.items g.passed_over.items) (sym w.profiles) (subst (λ v. CountsPolicy u policy f.profiles.items v.items) (sym w.passed_over) counts))
+    (subst (λ v. CountsPolicy u policy v.items g.passed_over.items) (sym w.profiles) (subst (λ v. CountsPolicy u policy f.profiles.items v.items) (sym w.passed_over) counts))
 of_warned files f g w (Refused e fault why only) = Refused e fault why (only_warned files f g w only)
 
 -- the warnings change nothing else of what is found
@@ -81,6 +81,6 @@ found_next s paths i path name files slice more f g lt item is_name is_slice is_
       warned = w.warnings ∙ same_warnings files f g w;
     } in
     let one : texts (take (i + 1) paths) ≡ texts (take i paths) ++ path.items ∷ [] =
-        ap texts (take_more paths i path lt ∙ ap (λ (x : Vec ℕ Global). take i paths ++ x ∷ []) (sym item)) ∙ map-append (λ (v : Vec ℕ Global). v.items) (take i paths) (path ∷ []) in
+    ap texts (take_more paths i path lt ∙ ap (λ (x : Vec ℕ Global). take i paths ++ x ∷ []) (sym item)) ∙ map-append (λ (v : Vec ℕ Global). v.items) (take i paths) (path ∷ []) in
     subst (λ (l : List FileReport). AreFound s [] (texts (take (i + 1) paths)) l) (sym is_more)
     (subst (λ (l : List (List ℕ)). AreFound s [] l (files ++ g ∷ [])) (sym one) (found_more s [] (texts (take i paths)) files path.items g so_far next))

@@ -1,5 +1,5 @@
 -- Each keyword with how many rules have it, one rule more.
-use Rattle.std.proofs.Common.{◌≡◌, ℕ, ◌+◌, ◌<◌, List, [], ◌∷◌, ◌++◌, length, map, take, get_or, Bool, true, false, cond, Vec, refl, sym, ap, ◌∙◌}
+use Rattle.std.proofs.Common.{◌≡◌, ℕ, ◌+◌, ◌<◌, List, [], ◌∷◌, ◌++◌, length, map, take, get_or, Bool, true, false, Vec, refl, sym, ap, ◌∙◌}
 use Rattle.std.specs.Prelude.{◌||◌}
 use Rattle.std.specs.List.{list_any}
 use Rattle.std.specs.Str.{bytes_eq}
@@ -41,8 +41,8 @@ pub tallied_old : (rules : List PassedOver) (i : ℕ) (r : PassedOver) (seen : L
 tallied_old rules i r seen lt item so_far old =
     let ks = keywords_of (take i rules) in
     so_far ∙ ap (map (counted_keyword rules)) (sym (
-        ap distinct (keywords_more rules i r lt item) ∙ distinct_push ks r.kind
-        ∙ cond-true (is_among r.kind (distinct ks)) (distinct ks) (distinct ks ++ r.kind ∷ []) (same_seen rules ks seen r.kind so_far ∙ old)))
+    ap distinct (keywords_more rules i r lt item) ∙ distinct_push ks r.kind
+    ∙ cond-true (is_among r.kind (distinct ks)) (distinct ks) (distinct ks ++ r.kind ∷ []) (same_seen rules ks seen r.kind so_far ∙ old)))
 
 -- one that didn't
 pub tallied_new : (rules : List PassedOver) (i : ℕ) (r : PassedOver) (seen more : List Passed) (count : ℕ) (key : Vec ℕ Global) → i < length rules → r ≡ get_or rules i r → map passed_data seen ≡ tally rules (keywords_of (take i rules))
@@ -57,5 +57,5 @@ tallied_new rules i r seen more count key lt item so_far new is_key is_count is_
     ∙ ap (λ (d : List ℕ × ℕ). tally rules ks ++ d ∷ []) same
     ∙ sym (map-append (counted_keyword rules) (distinct ks) (r.kind ∷ []))
     ∙ ap (map (counted_keyword rules)) (sym (
-        ap distinct (keywords_more rules i r lt item) ∙ distinct_push ks r.kind
-        ∙ cond-false (is_among r.kind (distinct ks)) (distinct ks) (distinct ks ++ r.kind ∷ []) (same_seen rules ks seen r.kind so_far ∙ new)))
+    ap distinct (keywords_more rules i r lt item) ∙ distinct_push ks r.kind
+    ∙ cond-false (is_among r.kind (distinct ks)) (distinct ks) (distinct ks ++ r.kind ∷ []) (same_seen rules ks seen r.kind so_far ∙ new)))

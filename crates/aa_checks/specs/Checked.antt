@@ -1,5 +1,5 @@
 -- What is found of each file that the command line names.
-use Rattle.std.specs.Prelude.{ℕ, ◌≡◌, ◌≢◌, ◌≤◌, List, [], ◌∷◌, ◌++◌, length, count_by, sum_by, max, min, is_some, Bool, true, false, Option, Some, None, Result, Ok, Err, MatchResult, map, ◌⊎◌}
+use Rattle.std.specs.Prelude.{ℕ, ◌≡◌, ◌≤◌, List, [], ◌∷◌, ◌++◌, length, count_by, sum_by, max, min, is_some, Bool, true, false, Option, Some, None, map, ◌⊎◌}
 use Rattle.std.specs.List.{list_any}
 use Rattle.std.specs.Borrow.{Bor}
 use Rattle.aa_faults.specs.declared.fault.PolicyFault.{PolicyFault}

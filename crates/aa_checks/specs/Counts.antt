@@ -1,5 +1,5 @@
 -- What is counted of a file's profiles.
-use Rattle.std.specs.Prelude.{ℕ, ◌≡◌, ◌==◌, List, [], ◌∷◌, map, length, filter, count_by, not, Option, Some, slice_get}
+use Rattle.std.specs.Prelude.{ℕ, ◌≡◌, ◌==◌, List, [], ◌∷◌, map, length, filter, count_by, not, Some, slice_get}
 use Rattle.std.specs.Str.{bytes_eq}
 use Rattle.aa_faults.specs.declared.fault.Spot.{Spot}
 use Rattle.aa_profiles.specs.declared.policy.Policy.{Policy}

@@ -37,11 +37,7 @@ fn push_sizes(out: &mut Vec<u8>, profile: &ProfileReport) -> Result<(), AllocErr
 
 /// Appends the line of a profile.
 #[tactic(auto, unfolding(crate::specs::Printed::profile_line))]
-fn push_profile(
-    out: &mut Vec<u8>,
-    alloc: Global,
-    profile: &ProfileReport,
-) -> Result<(), AllocError>
+fn push_profile(out: &mut Vec<u8>, alloc: Global, profile: &ProfileReport) -> Result<(), AllocError>
     ensures { OnOk result (out.new.items ≡ out.old.items ++ profile_line profile.now) }
 {
     push_text(out, "  profile ")?;
@@ -137,11 +133,7 @@ fn push_last_line(out: &mut Vec<u8>, report: &CheckReport) -> Result<(), AllocEr
 }
 
 /// Appends what is found of each file, and the counts of all.
-pub fn push_report(
-    out: &mut Vec<u8>,
-    alloc: Global,
-    report: &CheckReport,
-) -> Result<(), AllocError>
+pub fn push_report(out: &mut Vec<u8>, alloc: Global, report: &CheckReport) -> Result<(), AllocError>
     ensures { OnOk result (out.new.items ≡ out.old.items ++ report_text report.now) }
 {
     push_files(out, alloc, report.files.as_slice())?;
@@ -166,11 +158,7 @@ fn push_each_warning(out: &mut Vec<u8>, warnings: &[Vec<u8>]) -> Result<(), Allo
 }
 
 /// Appends warnings, but none where quiet is wanted.
-fn push_warnings(
-    out: &mut Vec<u8>,
-    warnings: &[Vec<u8>],
-    is_quiet: bool,
-) -> Result<(), AllocError>
+fn push_warnings(out: &mut Vec<u8>, warnings: &[Vec<u8>], is_quiet: bool) -> Result<(), AllocError>
     ensures { OnOk result (out.new.items ≡ out.old.items ++ warning_lines is_quiet warnings.now) }
 {
     if is_quiet {
@@ -189,11 +177,7 @@ fn push_fault_if(out: &mut Vec<u8>, fault: &Option<FaultReport>) -> Result<(), A
     }
 }
 
-fn push_file_faults(
-    out: &mut Vec<u8>,
-    file: &FileReport,
-    is_quiet: bool,
-) -> Result<(), AllocError>
+fn push_file_faults(out: &mut Vec<u8>, file: &FileReport, is_quiet: bool) -> Result<(), AllocError>
     ensures { OnOk result (out.new.items ≡ out.old.items ++ file_faults is_quiet file.now) }
 {
     push_fault_if(out, &file.fault)?;

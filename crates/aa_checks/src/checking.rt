@@ -103,11 +103,7 @@ fn check_unit(
     }
 }
 
-fn check_file(
-    rt: &HostRuntime,
-    wanted: &Wanted<'_>,
-    path: &[u8],
-) -> Result<FileReport, NoMemory>
+fn check_file(rt: &HostRuntime, wanted: &Wanted<'_>, path: &[u8]) -> Result<FileReport, NoMemory>
     ensures path { IfOk result (λ f. f.path.items ≡ path.now) }
     ensures found { IfOk result (λ f. IsFound (setting_of None wanted.now) path.now f) }
 {

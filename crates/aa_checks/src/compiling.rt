@@ -45,11 +45,7 @@ fn limit_of(states: u32) -> u32
 }
 
 /// The policy of a unit. An automaton of it may have at most so many states, which are 1 to 1,000,000.
-pub(crate) fn compile_unit(
-    alloc: Global,
-    unit: &Unit,
-    states: u32,
-) -> Result<Compiled, PolicyFault>
+pub(crate) fn compile_unit(alloc: Global, unit: &Unit, states: u32) -> Result<Compiled, PolicyFault>
     ensures compiled { IfOk result (λ c. IsPolicyOfUnit (limit_of states) unit.now c) }
     ensures cause { IfErr result (λ e. e.kind ≢ NoMemory → IsFaultOfUnit (limit_of states) unit.now e) }
 {

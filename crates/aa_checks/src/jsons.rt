@@ -195,11 +195,7 @@ fn push_each_file(out: &mut Vec<u8>, alloc: Global, files: &[FileReport]) -> Res
 }
 
 #[tactic(auto, unfolding(crate::specs::Jsons::json_files))]
-fn push_json_files(
-    out: &mut Vec<u8>,
-    alloc: Global,
-    files: &[FileReport],
-) -> Result<(), AllocError>
+fn push_json_files(out: &mut Vec<u8>, alloc: Global, files: &[FileReport]) -> Result<(), AllocError>
     ensures { OnOk result (out.new.items ≡ out.old.items ++ json_files files.now) }
 {
     push_key(out, "files")?;

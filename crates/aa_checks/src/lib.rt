@@ -5,7 +5,6 @@ mod checked;
 mod checking;
 mod compiling;
 mod counting;
-
 mod jsons;
 mod lines;
 mod naming;

@@ -1,4 +1,4 @@
-use Rattle.std.proofs.Common.{None, ap, ◌∙◌, arith, length, []}
+use Rattle.std.proofs.Common.{None, ap, arith, length, []}
 use Rattle.std.proofs.lemmas.List.{length-map}
 use Rattle.aa_trees.specs.Texts.{texts}
 use Rattle.aa_checks.specs.Checked.{setting_of}

@@ -13,7 +13,7 @@ loop-number-preserved c =
     let i = c.loop-number.number in
     let listed = c.as_slice-profile-items.ensures ∙ ap (λ p. p.profiles) c.policy.ensures in
     let there : slice_get policy.profiles i ≡ Some profile =
-        ap (λ l. slice_get l i) (sym listed) ∙ slice_get_read c.as_slice-profile-items.result.now (length c.as_slice-profile-items.result.now) i profile refl c.loop-number-test.true c.profile-item.is in
+    ap (λ l. slice_get l i) (sym listed) ∙ slice_get_read c.as_slice-profile-items.result.now (length c.as_slice-profile-items.result.now) i profile refl c.loop-number-test.true c.profile-item.is in
     let here = c.in_ok-profile_report.ensures u c.moved-count.ensures.line in
     record {
       many = ap length c.in_ok-push.ensures.items ∙ length-append c.loop-number.reports.items _ ∙ ap (λ n. n + 1) c.loop-number.invariant.many;

@@ -1,6 +1,5 @@
-use Rattle.std.proofs.Common.{◌≡◌, ℕ, ap, ◌∙◌, sym, Option, Some, None}
-use Rattle.std.specs.Prelude.{slice_get, option_and_then, position, find}
-use Rattle.aa_checks.specs.declared.report.FileReport.{FileReport}
+use Rattle.std.proofs.Common.{◌≡◌, ℕ, ap, ◌∙◌, Option, Some, None}
+use Rattle.std.specs.Prelude.{slice_get, option_and_then, position}
 use Rattle.aa_checks.specs.Names.{has_name}
 use Rattle.aa_checks.proofs.Firsts.{found_at}
 use Rattle.aa_checks.proofs.naming.first_with.Goals as goal
