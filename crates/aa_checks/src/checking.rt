@@ -1,15 +1,20 @@
 //! What `check` finds.
 
-ghost use Rattle.std.specs.Prelude.{◌≡◌, ◌==◌, if◌then◌else◌};
+ghost use Rattle.std.specs.Prelude.{◌≡◌, ◌↔◌, ◌≤◌, [], None, false, length, count_by, sum_by, is_some, All, IsTrue, IfOk};
+ghost use Rattle.std.specs.List.{list_any};
+ghost use Rattle.aa_faults.specs.declared.fault.PolicyKind.TheVariants.{NoMemory as WantOfMemory};
+ghost use Rattle.aa_trees.specs.Texts.{texts};
+ghost use Rattle.aa_checks.specs.Checked.{HasOnly, IsFoundOf, IsSaid, setting_of, IsFound, AreFound, CountsFiles, IsUntold, IsChecked};
 
-use crate::lines::LineCount;
-use aa_compile::Compiled;
+use crate::compiling::compile_unit;
+use crate::counting::{PolicyCounts, count_policy};
+use crate::naming::warned;
+use crate::report::{CheckReport, FileReport};
 use aa_diagnostics::{describe, unreadable};
-use aa_output::{NoMemory, push_name};
-use aa_policy::Profile;
-use aa_units::{FaultReport, Unit, UnitFault, compile_unit, load, push_text, roots_of};
-use aa_words::PolicyKind;
-use std::alloc::{AllocError, Global};
+use aa_output::NoMemory;
+use aa_units::{FaultReport, Tree, Unit, UnitFault, load, roots_of};
+use aa_words::{PolicyFault, PolicyKind};
+use std::alloc::Global;
 use std::collections::HashMap;
 
 /// Which files are read, and how.
@@ -22,143 +27,48 @@ pub struct Wanted<'a> {
     pub states: u32,
 }
 
-/// What is counted of a profile.
-#[derive(Drop)]
-pub struct ProfileReport {
-    pub name: Vec<u8>,
-    /// The line of its name in its file.
-    pub line: usize,
-    pub files: usize,
-    pub caps: usize,
-    pub nets: usize,
-    pub patterns: usize,
-    /// How many states the automaton of its file rules has.
-    pub states: usize,
-    pub passed_over: usize,
-}
-
-/// How often a keyword comes whose rules never decide.
-#[derive(Drop)]
-pub struct Passed {
-    pub keyword: Vec<u8>,
-    pub count: usize,
-}
-
-/// What is found of a file.
-#[derive(Drop)]
-pub struct FileReport {
-    pub path: Vec<u8>,
-    pub fault: Option<FaultReport>,
-    pub profiles: Vec<ProfileReport>,
-    pub passed_over: Vec<Passed>,
-    pub warnings: Vec<Vec<u8>>,
-}
-
-/// What is found of all files.
-#[derive(Drop)]
-pub struct CheckReport {
-    pub files: Vec<FileReport>,
-    pub warnings: Vec<Vec<u8>>,
-    pub refused: usize,
-    pub profiles: usize,
-    /// Whether something couldn't be read.
-    pub is_unread: bool,
-}
-
-fn patterns_of(profile: &Profile) -> usize {
-    let mut count: usize = 0;
-    for rule in profile.files.as_slice() {
-        count = count.saturating_add(rule.patterns.as_slice().len());
-    }
-    count
-}
-
-fn states_of(compiled: &Compiled, number: usize) -> usize {
-    match u16::try_from(number) {
-        Ok(number) => compiled.states(number),
-        Err(_) => 0,
+/// A file that is refused.
+fn refused(alloc: Global, path: Vec<u8>, fault: FaultReport, is_unread: bool) -> FileReport
+    ensures path { result.path ≡ path }
+    ensures only { HasOnly fault result }
+    ensures unread { result.is_unread ≡ is_unread }
+{
+    FileReport {
+        path,
+        fault: Some(fault),
+        is_unread,
+        profiles: Vec::new(alloc),
+        passed_over: Vec::new(alloc),
+        warnings: Vec::new(alloc),
     }
 }
 
-/// What is counted of a profile, but for its rules that are passed over.
-fn profile_report(
-    alloc: Global,
-    compiled: &Compiled,
-    number: usize,
-    profile: &Profile,
-    line: usize,
-) -> Result<ProfileReport, AllocError> {
-    Ok(ProfileReport {
-        name: Vec::from_slice(alloc, profile.name.as_slice())?,
-        line,
-        files: profile.files.as_slice().len(),
-        caps: profile.caps.as_slice().len(),
-        nets: profile.nets.as_slice().len(),
-        patterns: patterns_of(profile),
-        states: states_of(compiled, number),
-        passed_over: 0,
-    })
-}
-
-/// Counts one more rule of the profile of that number that is passed over.
-fn count_passed_over(profiles: &mut Vec<ProfileReport>, number: u16) {
-    if let Some(profile) = profiles.get_mut(number as usize) {
-        profile.passed_over = profile.passed_over.saturating_add(1);
+/// A file that is accepted.
+fn accepted(alloc: Global, path: Vec<u8>, counts: PolicyCounts) -> FileReport
+    ensures path { result.path ≡ path }
+    ensures fault { result.fault ≡ None }
+    ensures unread { result.is_unread ≡ false }
+    ensures profiles { result.profiles ≡ counts.profiles }
+    ensures passed_over { result.passed_over ≡ counts.passed_over }
+{
+    let PolicyCounts {
+        profiles,
+        passed_over,
+    } = counts;
+    FileReport {
+        path,
+        fault: None,
+        is_unread: false,
+        profiles,
+        passed_over,
+        warnings: Vec::new(alloc),
     }
 }
 
-/// Counts a keyword once more.
-fn count_keyword(
-    alloc: Global,
-    keyword: &[u8],
-    passed: &mut Vec<Passed>,
-) -> Result<(), AllocError> {
-    if let Some(at) = passed
-        .iter()
-        .position(|one| one.keyword.as_slice() == keyword)
-    {
-        if let Some(one) = passed.get_mut(at) {
-            one.count = one.count.saturating_add(1);
-        }
-        return Ok(());
-    }
-    passed.push(Passed {
-        keyword: Vec::from_slice(alloc, keyword)?,
-        count: 1,
-    })?;
-    Ok(())
-}
-
-fn count_profiles(
-    alloc: Global,
-    unit: &Unit,
-    compiled: &Compiled,
-) -> Result<Vec<ProfileReport>, AllocError> {
-    let mut profiles = Vec::new(alloc);
-    let mut count = LineCount::at_start();
-    for (number, profile) in compiled.policy().profiles.as_slice().iter().enumerate() {
-        count = count.moved(unit, profile.at);
-        profiles.push(profile_report(alloc, compiled, number, profile, count.line)?)?;
-    }
-    Ok(profiles)
-}
-
-fn count_rules(
-    alloc: Global,
-    unit: &Unit,
-    compiled: &Compiled,
-    report: &mut FileReport,
-) -> Result<(), AllocError> {
-    report.profiles = count_profiles(alloc, unit, compiled)?;
-    for rule in compiled.policy().passed_over.as_slice() {
-        count_passed_over(&mut report.profiles, rule.profile);
-        count_keyword(alloc, rule.kind.as_slice(), &mut report.passed_over)?;
-    }
-    Ok(())
-}
-
-/// The fault of a unit that can't be read; none for want of memory.
-pub fn fault_of_unit(alloc: Global, fault: UnitFault) -> Result<(FaultReport, bool), NoMemory> {
+/// The fault of a unit that can't be read, and whether that is why; none for want of memory.
+pub fn fault_of_unit(alloc: Global, fault: UnitFault) -> Result<(FaultReport, bool), NoMemory>
+    ensures { IfOk result (λ r. IsSaid fault r.0 r.1) }
+{
     match fault {
         UnitFault::NoMemory => Err(NoMemory),
         UnitFault::At { path, why } => Ok((unreadable(alloc, path.as_slice(), why)?, true)),
@@ -166,149 +76,145 @@ pub fn fault_of_unit(alloc: Global, fault: UnitFault) -> Result<(FaultReport, bo
     }
 }
 
+fn is_want_of_memory(fault: PolicyFault) -> bool
+    ensures { IsTrue result ↔ (fault.kind ≡ WantOfMemory) }
+{
+    fault.kind == PolicyKind::NoMemory
+}
+
 fn check_unit(
     alloc: Global,
     wanted: &Wanted<'_>,
     unit: &Unit,
-    report: &mut FileReport,
-) -> Result<(), NoMemory> {
+    path: Vec<u8>,
+) -> Result<FileReport, NoMemory>
+    ensures path { IfOk result (λ f. f.path ≡ path) }
+    ensures found { IfOk result (λ f. IsFoundOf wanted.now.states unit.now f) }
+    ensures unread { IfOk result (λ f. f.is_unread ≡ false) }
+{
     match compile_unit(alloc, unit, wanted.states) {
-        Ok(compiled) => count_rules(alloc, unit, &compiled, report)?,
-        Err(fault) if fault.kind == PolicyKind::NoMemory => return Err(NoMemory),
-        Err(fault) => report.fault = Some(describe(
-            alloc,
-            wanted.folders,
-            wanted.states,
-            unit,
-            fault,
-        )?),
+        Ok(compiled) => Ok(accepted(alloc, path, count_policy(alloc, unit, &compiled)?)),
+        Err(fault) => {
+            if is_want_of_memory(fault) {
+                return Err(NoMemory);
+            }
+            let fault = describe(alloc, wanted.folders, wanted.states, unit, fault)?;
+            Ok(refused(alloc, path, fault, false))
+        }
     }
-    Ok(())
 }
 
-fn check_file(
-    rt: &HostRuntime,
+fn check_file<T: Tree>(
+    alloc: Global,
+    tree: &T,
     wanted: &Wanted<'_>,
     path: &[u8],
-) -> Result<(FileReport, bool), NoMemory> {
-    let alloc = rt.alloc();
-    let mut report = FileReport {
-        path: Vec::from_slice(alloc, path)?,
-        fault: None,
-        profiles: Vec::new(alloc),
-        passed_over: Vec::new(alloc),
-        warnings: Vec::new(alloc),
-    };
-    match load(alloc, rt, wanted.folders, path) {
-        Ok(unit) => {
-            check_unit(alloc, wanted, &unit, &mut report)?;
-            Ok((report, false))
-        }
+) -> Result<FileReport, NoMemory>
+    ensures path { IfOk result (λ f. f.path.items ≡ path.now) }
+    ensures found { IfOk result (λ f. IsFound (setting_of (T.files tree.now) (T.taken tree.now) (T.input tree.now) wanted.now) path.now f) }
+{
+    let own = Vec::from_slice(alloc, path)?;
+    match load(alloc, tree, wanted.folders, path) {
+        Ok(unit) => Ok(check_unit(alloc, wanted, &unit, own)?),
         Err(fault) => {
             let (fault, is_unread) = fault_of_unit(alloc, fault)?;
-            report.fault = Some(fault);
-            Ok((report, is_unread))
+            Ok(refused(alloc, own, fault, is_unread))
         }
     }
 }
 
-/// Says that a file has a profile whose name one before it has.
-fn repeated(
+/// What is found of the files at these paths, in order.
+fn check_files<T: Tree>(
     alloc: Global,
-    file: &FileReport,
-    name: &[u8],
-    earlier: &FileReport,
-) -> Result<Vec<u8>, AllocError> {
-    let mut line = Vec::from_slice(alloc, file.path.as_slice())?;
-    push_text(&mut line, ": the profile ")?;
-    push_name(&mut line, alloc, name)?;
-    push_text(&mut line, " is in ")?;
-    line.extend_from_slice(earlier.path.as_slice())?;
-    push_text(&mut line, " too")?;
-    Ok(line)
+    tree: &T,
+    wanted: &Wanted<'_>,
+    paths: &[Vec<u8>],
+) -> Result<Vec<FileReport>, NoMemory>
+    ensures { IfOk result (λ files. AreFound (setting_of (T.files tree.now) (T.taken tree.now) (T.input tree.now) wanted.now) [] (texts paths.now) files.items) }
+{
+    let mut files = Vec::new(alloc);
+    let mut first = HashMap::new(alloc);
+    for path in paths {
+        let found = check_file(alloc, tree, wanted, path.as_slice())?;
+        let file = warned(alloc, files.as_slice(), found, &mut first)?;
+        files.push(file)?;
+    }
+    Ok(files)
 }
 
-/// Warns of each profile of a file whose name one of the files before has too. By each name `first` has the number of the file that
-/// has it first, and takes those that are new.
-fn warn_of_names(
-    alloc: Global,
-    files: &[FileReport],
-    file: &FileReport,
-    first: &mut HashMap<Vec<u8>, usize>,
-) -> Result<Vec<Vec<u8>>, AllocError> {
-    let mut warnings = Vec::new(alloc);
-    for profile in &file.profiles {
-        let name = profile.name.as_slice();
-        match first.get(name).copied() {
-            Some(number) => {
-                if let Some(earlier) = files.get(number) {
-                    warnings.push(repeated(alloc, file, name, earlier)?)?;
-                }
-            }
-            None => {
-                let _ = first.insert(Vec::from_slice(alloc, name)?, files.len())?;
-            }
-        }
+/// How many files are refused.
+fn refused_of(files: &[FileReport]) -> usize
+    ensures { result ≡ count_by (λ f. is_some f.fault) files.now }
+{
+    files.iter().filter(|file| file.fault.is_some()).count()
+}
+
+/// How many profiles they have. A file has at most 4,096, as any policy.
+fn profiles_of(files: &[FileReport]) -> usize
+    requires few { length files.now ≤ 4096 }
+    requires each { All (λ f. length f.profiles.items ≤ 4096) files.now }
+    ensures { result ≡ sum_by (λ f. length f.profiles.items) files.now }
+{
+    let mut count: usize = 0;
+    for file in files {
+        count += file.profiles.len();
     }
-    Ok(warnings)
+    count
+}
+
+/// Whether one of them can't be read.
+fn is_one_unread(files: &[FileReport]) -> bool
+    ensures { result ≡ list_any (λ f. f.is_unread) files.now }
+{
+    files.iter().any(|file| file.is_unread)
+}
+
+/// What is found of these files, with what people should know of others.
+fn report_of(files: Vec<FileReport>, warnings: Vec<Vec<u8>>) -> CheckReport
+    requires few { length files.items ≤ 4096 }
+    requires each { All (λ f. length f.profiles.items ≤ 4096) files.items }
+    ensures files { result.files ≡ files }
+    ensures warnings { result.warnings ≡ warnings }
+    ensures counts { CountsFiles result }
+{
+    let refused = refused_of(files.as_slice());
+    let profiles = profiles_of(files.as_slice());
+    let is_unread = is_one_unread(files.as_slice());
+    CheckReport {
+        files,
+        warnings,
+        refused,
+        profiles,
+        is_unread,
+    }
+}
+
+/// What is found where the files can't be told.
+fn untold(alloc: Global, fault: UnitFault) -> Result<CheckReport, NoMemory>
+    ensures untold { IfOk result (λ r. IsUntold r) }
+    ensures counts { IfOk result (λ r. CountsFiles r) }
+{
+    let (fault, is_unread) = fault_of_unit(alloc, fault)?;
+    let path = Vec::from_slice(alloc, fault.path.as_slice())?;
+    let mut files = Vec::new(alloc);
+    files.push(refused(alloc, path, fault, is_unread))?;
+    Ok(report_of(files, Vec::new(alloc)))
 }
 
 /// Reads and compiles each file by itself.
-pub fn check(
-    rt: &HostRuntime,
+pub fn check<T: Tree>(
+    alloc: Global,
+    tree: &T,
     wanted: &Wanted<'_>,
     arguments: &[Vec<u8>],
-) -> Result<CheckReport, NoMemory> {
-    let alloc = rt.alloc();
-    let mut report = CheckReport {
-        files: Vec::new(alloc),
-        warnings: Vec::new(alloc),
-        refused: 0,
-        profiles: 0,
-        is_unread: false,
-    };
-    let roots = match roots_of(alloc, rt, wanted.base, arguments) {
-        Ok(roots) => roots,
-        Err(fault) => {
-            let (fault, is_unread) = fault_of_unit(alloc, fault)?;
-            report.refused = 1;
-            report.is_unread = is_unread;
-            report.files.push(FileReport {
-                path: fault.path.clone()?,
-                fault: Some(fault),
-                profiles: Vec::new(alloc),
-                passed_over: Vec::new(alloc),
-                warnings: Vec::new(alloc),
-            })?;
-            return Ok(report);
+) -> Result<CheckReport, NoMemory>
+    ensures { IfOk result (λ r. IsChecked (setting_of (T.files tree.now) (T.taken tree.now) (T.input tree.now) wanted.now) (texts arguments.now) r) }
+{
+    match roots_of(alloc, tree, wanted.base, arguments) {
+        Ok(roots) => {
+            let files = check_files(alloc, tree, wanted, roots.paths.as_slice())?;
+            Ok(report_of(files, roots.warnings))
         }
-    };
-    report.warnings = roots.warnings;
-    let mut first = HashMap::new(alloc);
-    for path in &roots.paths {
-        let (mut file, is_unread) = check_file(rt, wanted, path.as_slice())?;
-        file.warnings = warn_of_names(alloc, report.files.as_slice(), &file, &mut first)?;
-        report.is_unread = report.is_unread || is_unread;
-        report.profiles = report.profiles.saturating_add(file.profiles.len());
-        if file.fault.is_some() {
-            report.refused = report.refused.saturating_add(1);
-        }
-        report.files.push(file)?;
-    }
-    Ok(report)
-}
-
-impl CheckReport {
-    /// The exit status: of all that is wrong, that something can't be read tells first.
-    pub fn status(&self) -> u8
-        ensures { result ≡ (if self.now.is_unread then 3 else (if self.now.refused == 0 then 0 else 1)) }
-    {
-        if self.is_unread {
-            3
-        } else if self.refused > 0 {
-            1
-        } else {
-            0
-        }
+        Err(fault) => untold(alloc, fault),
     }
 }

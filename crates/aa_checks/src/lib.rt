@@ -3,7 +3,15 @@
 
 mod checked;
 mod checking;
+mod compiling;
+mod counting;
+mod jsons;
 mod lines;
+mod naming;
+mod report;
+mod sources;
 
-pub use checked::{push_faults, push_json_report, push_report};
-pub use checking::{CheckReport, FileReport, Passed, ProfileReport, Wanted, check, fault_of_unit};
+pub use checked::{push_faults, push_report};
+pub use checking::{Wanted, check, fault_of_unit};
+pub use jsons::push_json_report;
+pub use report::{CheckReport, FileReport, Passed, ProfileReport};

@@ -1,0 +1,6 @@
+pub mod Keywords
+pub mod Tally
+pub mod Firsts
+pub mod Counted
+pub mod Found
+pub mod Gathering

@@ -1,0 +1,11 @@
+use Rattle.std.proofs.Common.{[], None, take}
+use Rattle.aa_trees.specs.Texts.{texts}
+use Rattle.aa_checks.specs.Names.{IsFirst}
+use Rattle.aa_checks.specs.Checked.{setting_of, AreFound}
+use Rattle.aa_checks.proofs.checking.check_files.Given as goal
+
+abbrev pub invariant-loop-path : goal.invariant-loop-path
+invariant-loop-path l = record {
+  found : AreFound (setting_of None l.wanted) [] (texts (take l.path-index l.paths)) l.files.items;
+  first : IsFirst l.first l.files.items;
+}

@@ -1,0 +1,116 @@
+-- What is found of each file that the command line names.
+use Rattle.std.specs.Prelude.{ℕ, ◌≡◌, ◌≤◌, List, [], ◌∷◌, ◌++◌, length, count_by, sum_by, max, min, is_some, Bool, true, false, Option, Some, None, map, ◌⊎◌}
+use Rattle.std.specs.List.{list_any}
+use Rattle.std.specs.Borrow.{Bor}
+use Rattle.aa_faults.specs.declared.fault.PolicyFault.{PolicyFault}
+use Rattle.aa_profiles.specs.declared.policy.Policy.{Policy}
+use Rattle.aa_trees.specs.Texts.{texts, slices}
+use Rattle.aa_policies.specs.Policies.{Source, IsPolicyOf, IsFaultOfSources, IsFaultOfText}
+use Rattle.aa_texts.specs.declared.fault.FaultReport.{FaultReport}
+use Rattle.aa_units.specs.declared.unit.Unit as unit
+use Rattle.aa_units.specs.declared.unit.UnitFault.{UnitFault}
+use Rattle.aa_units.specs.declared.unit.UnitFault.TheVariants.{NoMemory, At, Ambiguous}
+use Rattle.aa_units.specs.declared.unit.Source.{Source as Lent}
+use Rattle.aa_units.specs.Numbers.{named_text, named_texts}
+use Rattle.aa_units.specs.Files.{Files}
+use Rattle.aa_units.specs.WalkData.{IsUnit}
+use Rattle.aa_checks.specs.declared.report.FileReport.{FileReport}
+use Rattle.aa_checks.specs.declared.report.CheckReport.{CheckReport}
+use Rattle.aa_checks.specs.declared.checking.Wanted.{Wanted}
+use Rattle.aa_checks.specs.Counts.{CountsPolicy}
+use Rattle.aa_checks.specs.Names.{warnings_of}
+
+-- the names and texts of a unit's sources, as they are numbered
+abbrev pub texts_of : unit.Unit → List Source
+texts_of u = named_texts u.order.items u.sources.items
+
+-- named texts, as they are lent
+abbrev pub named_all : List (Bor Lent) → List Source
+named_all sources = map (λ s. named_text s.now) sources
+
+-- how many states an automaton may have: 1 to 1,000,000
+abbrev pub limit_of : ℕ → ℕ
+limit_of states = min (max states 1) 1000000
+
+-- the unit's text with its sources is that policy, which compiles
+abbrev pub IsPolicyOfUnit : ℕ → unit.Unit → Policy → Type 0
+IsPolicyOfUnit limit u policy = IsPolicyOf (texts_of u) limit u.text.items policy
+
+-- why it is no policy that compiles: its sources can't be handed in, or its text spells none
+pub data IsFaultOfUnit (limit : ℕ) (u : unit.Unit) (e : PolicyFault) : Type 0 where
+  OfSources : IsFaultOfSources (texts_of u) e → IsFaultOfUnit limit u e
+  OfText : IsFaultOfText (texts_of u) limit u.text.items e → IsFaultOfUnit limit u e
+
+-- nothing is found but a fault
+pub record HasOnly (fault : FaultReport) (f : FileReport) : Type 0 where
+  pub fault_is : f.fault ≡ Some fault
+  pub profiles : f.profiles.items ≡ []
+  pub passed_over : f.passed_over.items ≡ []
+
+-- what is found of a unit: its policy is counted, or its fault is told
+pub data IsFoundOf (states : ℕ) (u : unit.Unit) (f : FileReport) : Type 0 where
+  Accepted : (policy : Policy) → IsPolicyOfUnit (limit_of states) u policy → f.fault ≡ None → CountsPolicy u policy f.profiles.items f.passed_over.items → IsFoundOf states u f
+  Refused : (e : PolicyFault) (fault : FaultReport) → IsFaultOfUnit (limit_of states) u e → HasOnly fault f → IsFoundOf states u f
+
+-- what is said of a unit that can't be read, and whether that is why
+abbrev pub IsSaid : UnitFault → FaultReport → Bool → Type 0
+IsSaid NoMemory fault unread = ⊥
+IsSaid (At path why) fault unread = unread ≡ true
+IsSaid (Ambiguous ambiguous) fault unread = (fault ≡ ambiguous) × (unread ≡ false)
+
+-- what is known of the files that lie there, where includes are searched, and how many states an automaton may have
+pub record Setting : Type 0 where
+  pub files : Option Files
+  pub folders : List (List ℕ)
+  pub states : ℕ
+
+abbrev pub setting_of : Option Files → Wanted → Setting
+setting_of files w = record { files = files; folders = slices w.folders.now; states = w.states }
+
+-- what is read at a path, with all that it includes
+abbrev pub IsLoaded : Setting → List ℕ → unit.Unit → Type 0
+IsLoaded s path u = IsUnit s.files s.folders path u.text.items u
+
+-- what is found of the file at a path: what is found of its unit, or why that can't be read
+pub data IsFound (s : Setting) (path : List ℕ) (f : FileReport) : Type 0 where
+  Read : (u : unit.Unit) → IsLoaded s path u → IsFoundOf s.states u f → f.is_unread ≡ false → IsFound s path f
+  Unread : (e : UnitFault) (fault : FaultReport) → IsSaid e fault f.is_unread → HasOnly fault f → IsFound s path f
+
+-- what is found of a file, with the warnings of its names by the files before it
+pub record IsNext (s : Setting) (before : List FileReport) (path : List ℕ) (f : FileReport) : Type 0 where
+  pub path_is : f.path.items ≡ path
+  pub found : IsFound s path f
+  pub warned : texts f.warnings.items ≡ warnings_of before f
+
+-- a file for each path, in order
+abbrev pub AreFound : Setting → List FileReport → List (List ℕ) → List FileReport → Type 0
+AreFound s before [] [] = Unit {0}
+AreFound s before (path ∷ paths) (f ∷ files) = IsNext s before path f × AreFound s (before ++ f ∷ []) paths files
+AreFound s before _ _ = ⊥
+
+-- how many files are refused, how many profiles they have, and whether one can't be read
+pub record CountsFiles (r : CheckReport) : Type 0 where
+  pub refused : r.refused ≡ count_by (λ (f : FileReport). is_some f.fault) r.files.items
+  pub profiles : r.profiles ≡ sum_by (λ (f : FileReport). length f.profiles.items) r.files.items
+  pub is_unread : r.is_unread ≡ list_any (λ (f : FileReport). f.is_unread) r.files.items
+
+-- why the files can't be told, as the one file that is refused
+pub record IsUntold (r : CheckReport) : Type 0 where
+  pub e : UnitFault
+  pub fault : FaultReport
+  pub file : FileReport
+  pub said : IsSaid e fault file.is_unread
+  pub only : HasOnly fault file
+  pub at : file.path.items ≡ fault.path.items
+  pub files_are : r.files.items ≡ file ∷ []
+  pub no_warnings : r.warnings.items ≡ []
+
+-- what is found of the files at some paths, with warnings of others
+pub record AreChecked (s : Setting) (paths warnings : List (List ℕ)) (r : CheckReport) : Type 0 where
+  pub found : AreFound s [] paths r.files.items
+  pub warned : texts r.warnings.items ≡ warnings
+
+-- what is found of the files that some arguments stand for, or why these can't be told; and the counts of all
+pub record IsChecked (s : Setting) (r : CheckReport) : Type 0 where
+  pub each : ((paths warnings : List (List ℕ)) × (length paths ≤ 4096) × AreChecked s paths warnings r) ⊎ IsUntold r
+  pub counts : CountsFiles r

@@ -1,0 +1,5 @@
+pub mod Printed
+pub mod Jsons
+pub mod Counts
+pub mod Names
+pub mod Checked
