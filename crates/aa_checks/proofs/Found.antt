@@ -1,15 +1,22 @@
 -- What is found of files, one behind another.
-use Rattle.std.proofs.Common.{◌≡◌, ℕ, ◌+◌, ◌<◌, ◌≤◌, List, [], ◌∷◌, ◌++◌, length, flat_map, take, get_or, All, Vec, refl, sym, ap, subst, ◌∙◌, arith, append_assoc}
+use Rattle.std.proofs.Common.{◌≡◌, ◌≢◌, ℕ, Bool, ◌+◌, ◌<◌, ◌≤◌, List, [], ◌∷◌, ◌++◌, length, flat_map, take, get_or, All, Vec, refl, sym, ap, subst, ◌∙◌, arith, append_assoc}
 use Rattle.std.specs.Prelude.{option_map, option_to_list}
 use Rattle.std.specs.declared.alloc.Global.{Global}
 use Rattle.std.proofs.lemmas.List.{append-nil, take_more, map-append}
 use Rattle.std.proofs.lemmas.List.Elements.{All-cons}
 use Rattle.aa_trees.specs.Texts.{texts}
+use Rattle.aa_texts.specs.declared.fault.FaultReport.{FaultReport}
+use Rattle.aa_units.specs.declared.unit.UnitFault.{UnitFault}
+use Rattle.aa_units.specs.declared.unit.UnitFault.TheVariants.{NoMemory}
 use Rattle.aa_checks.specs.declared.report.ProfileReport.{ProfileReport}
 use Rattle.aa_checks.specs.declared.report.FileReport.{FileReport}
 use Rattle.aa_checks.specs.Counts.{CountsPolicy}
 use Rattle.aa_checks.specs.Names.{first_with, twice_text, warnings_of, IsWarned}
 use Rattle.aa_checks.specs.Checked.{HasOnly, IsFoundOf, Accepted, Refused, IsSaid, Setting, IsFound, Read, Unread, IsNext, AreFound}
+
+-- what is said of a unit is not want of memory
+pub said_of_more : (e : UnitFault) (fault : FaultReport) (unread : Bool) → IsSaid e fault unread → e ≢ NoMemory
+said_of_more e fault unread said is = subst (λ x. IsSaid x fault unread) is said
 
 only_warned : (files : List FileReport) (f g : FileReport) (w : IsWarned files f g) {fault : _} → HasOnly fault f → HasOnly fault g
 only_warned files f g w only = record {
@@ -18,16 +25,16 @@ only_warned files f g w only = record {
   passed_over = ap (λ v. v.items) w.passed_over ∙ only.passed_over;
 }
 
-of_warned : (files : List FileReport) (f g : FileReport) (w : IsWarned files f g) {states : ℕ} {u : _} → IsFoundOf states u f → IsFoundOf states u g
-of_warned files f g w {states} {u} (Accepted policy is none counts) =
+of_warned : (files : List FileReport) (f g : FileReport) (w : IsWarned files f g) {folders : List (List ℕ)} {states : ℕ} {u : _} → IsFoundOf folders states u f → IsFoundOf folders states u g
+of_warned files f g w {folders} {states} {u} (Accepted policy is none counts) =
     Accepted policy is (w.fault ∙ none)
     (subst (λ v. CountsPolicy u policy v.items g.passed_over.items) (sym w.profiles) (subst (λ v. CountsPolicy u policy f.profiles.items v.items) (sym w.passed_over) counts))
-of_warned files f g w (Refused e fault why only) = Refused e fault why (only_warned files f g w only)
+of_warned files f g w (Refused e fault why told only) = Refused e fault why told (only_warned files f g w only)
 
 -- the warnings change nothing else of what is found
 pub found_warned : (s : Setting) (path : List ℕ) (files : List FileReport) (f g : FileReport) → IsWarned files f g → IsFound s path f → IsFound s path g
 found_warned s path files f g w (Read u loaded of read) = Read u loaded (of_warned files f g w of) (w.is_unread ∙ read)
-found_warned s path files f g w (Unread e fault said only) = Unread e fault (subst (λ b. IsSaid e fault b) (sym w.is_unread) said) (only_warned files f g w only)
+found_warned s path files f g w (Unread e fault why said only) = Unread e fault why (subst (λ b. IsSaid e fault b) (sym w.is_unread) said) (only_warned files f g w only)
 
 -- one file more
 pub found_more : (s : Setting) (before : List FileReport) (paths : List (List ℕ)) (files : List FileReport) (path : List ℕ) (f : FileReport) → AreFound s before paths files → IsNext s (before ++ files) path f → AreFound s before (paths ++ path ∷ []) (files ++ f ∷ [])
@@ -44,14 +51,14 @@ found_many s before [] (g ∷ gs) found = absurd found
 found_many s before (p ∷ ps) [] found = absurd found
 found_many s before (p ∷ ps) (g ∷ gs) found = let rest = found_many s (before ++ g ∷ []) ps gs found.1 in omega arith
 
-few_of : {states : ℕ} {u : _} (f : FileReport) → IsFoundOf states u f → length f.profiles.items ≤ 4096
+few_of : {folders : List (List ℕ)} {states : ℕ} {u : _} (f : FileReport) → IsFoundOf folders states u f → length f.profiles.items ≤ 4096
 few_of f (Accepted policy is none counts) = let few = policy.lawful.limits.counts.few in let many = counts.many in omega arith
-few_of f (Refused e fault why only) = subst (λ (l : List _). length l ≤ 4096) (sym only.profiles) (omega arith)
+few_of f (Refused e fault why told only) = subst (λ (l : List _). length l ≤ 4096) (sym only.profiles) (omega arith)
 
 -- a file has as many profiles as a policy may have
 pub few_found : (s : Setting) (path : List ℕ) (f : FileReport) → IsFound s path f → length f.profiles.items ≤ 4096
 few_found s path f (Read u loaded of read) = few_of f of
-few_found s path f (Unread e fault said only) = subst (λ (l : List _). length l ≤ 4096) (sym only.profiles) (omega arith)
+few_found s path f (Unread e fault why said only) = subst (λ (l : List _). length l ≤ 4096) (sym only.profiles) (omega arith)
 
 -- each of the files has at most so many
 pub few_all : (s : Setting) (before : List FileReport) (paths : List (List ℕ)) (files : List FileReport) → AreFound s before paths files → All (λ (f : FileReport). length f.profiles.items ≤ 4096) files

@@ -1,5 +1,5 @@
 -- What is found of each file that the command line names.
-use Rattle.std.specs.Prelude.{ℕ, ◌≡◌, ◌≤◌, List, [], ◌∷◌, ◌++◌, length, count_by, sum_by, max, min, is_some, Bool, true, false, Option, Some, None, map, ◌⊎◌}
+use Rattle.std.specs.Prelude.{ℕ, ◌≡◌, ◌≤◌, List, [], ◌∷◌, ◌++◌, length, count_by, sum_by, max, min, is_some, IfSome, Bool, true, false, Option, Some, None, map, ◌⊎◌}
 use Rattle.std.specs.List.{list_any}
 use Rattle.std.specs.Borrow.{Bor}
 use Rattle.aa_faults.specs.declared.fault.PolicyFault.{PolicyFault}
@@ -12,7 +12,11 @@ use Rattle.aa_units.specs.declared.unit.UnitFault.{UnitFault}
 use Rattle.aa_units.specs.declared.unit.UnitFault.TheVariants.{NoMemory, At, Ambiguous}
 use Rattle.aa_units.specs.declared.unit.Source.{Source as Lent}
 use Rattle.aa_units.specs.Numbers.{named_text, named_texts}
-use Rattle.aa_units.specs.Files.{Files}
+use Rattle.aa_units.specs.Files.{Files, Taken}
+use Rattle.aa_units.specs.Roots.{root_paths, root_lines}
+use Rattle.aa_units.specs.UnitFaults.{IsLoadFault}
+use Rattle.aa_diagnostics.specs.Reports.{IsDescribed, IsOfWhole, unread_kind, unread_message}
+use Rattle.aa_units.specs.FilesData.{IsMainText}
 use Rattle.aa_units.specs.WalkData.{IsUnit}
 use Rattle.aa_checks.specs.declared.report.FileReport.{FileReport}
 use Rattle.aa_checks.specs.declared.report.CheckReport.{CheckReport}
@@ -48,33 +52,38 @@ pub record HasOnly (fault : FaultReport) (f : FileReport) : Type 0 where
   pub passed_over : f.passed_over.items ≡ []
 
 -- what is found of a unit: its policy is counted, or its fault is told
-pub data IsFoundOf (states : ℕ) (u : unit.Unit) (f : FileReport) : Type 0 where
-  Accepted : (policy : Policy) → IsPolicyOfUnit (limit_of states) u policy → f.fault ≡ None → CountsPolicy u policy f.profiles.items f.passed_over.items → IsFoundOf states u f
-  Refused : (e : PolicyFault) (fault : FaultReport) → IsFaultOfUnit (limit_of states) u e → HasOnly fault f → IsFoundOf states u f
+pub data IsFoundOf (folders : List (List ℕ)) (states : ℕ) (u : unit.Unit) (f : FileReport) : Type 0 where
+  Accepted : (policy : Policy) → IsPolicyOfUnit (limit_of states) u policy → f.fault ≡ None → CountsPolicy u policy f.profiles.items f.passed_over.items → IsFoundOf folders states u f
+  Refused : (e : PolicyFault) (fault : FaultReport) → IsFaultOfUnit (limit_of states) u e → IsDescribed u folders states e fault → HasOnly fault f → IsFoundOf folders states u f
 
 -- what is said of a unit that can't be read, and whether that is why
 abbrev pub IsSaid : UnitFault → FaultReport → Bool → Type 0
 IsSaid NoMemory fault unread = ⊥
-IsSaid (At path why) fault unread = unread ≡ true
+IsSaid (At path why) fault unread = IsOfWhole (unread_kind why) path.items (unread_message why) fault × (unread ≡ true)
 IsSaid (Ambiguous ambiguous) fault unread = (fault ≡ ambiguous) × (unread ≡ false)
 
--- what is known of the files that lie there, where includes are searched, and how many states an automaton may have
+-- what is known of the files that lie there, of which names are taken and of standard input; the base folder, where includes are
+-- searched, and how many states an automaton may have
 pub record Setting : Type 0 where
   pub files : Option Files
+  pub taken : Option Taken
+  pub input : Option (List ℕ)
+  pub base : List ℕ
   pub folders : List (List ℕ)
   pub states : ℕ
 
-abbrev pub setting_of : Option Files → Wanted → Setting
-setting_of files w = record { files = files; folders = slices w.folders.now; states = w.states }
+abbrev pub setting_of : Option Files → Option Taken → Option (List ℕ) → Wanted → Setting
+setting_of files taken input w = record { files = files; taken = taken; input = input; base = w.base.now; folders = slices w.folders.now; states = w.states }
 
 -- what is read at a path, with all that it includes
-abbrev pub IsLoaded : Setting → List ℕ → unit.Unit → Type 0
-IsLoaded s path u = IsUnit s.files s.folders path u.text.items u
+pub record IsLoaded (s : Setting) (path : List ℕ) (u : unit.Unit) : Type 0 where
+  pub main : IsMainText s.files s.input path u.text.items
+  pub unit_is : IsUnit s.files s.folders path u.text.items u
 
 -- what is found of the file at a path: what is found of its unit, or why that can't be read
 pub data IsFound (s : Setting) (path : List ℕ) (f : FileReport) : Type 0 where
-  Read : (u : unit.Unit) → IsLoaded s path u → IsFoundOf s.states u f → f.is_unread ≡ false → IsFound s path f
-  Unread : (e : UnitFault) (fault : FaultReport) → IsSaid e fault f.is_unread → HasOnly fault f → IsFound s path f
+  Read : (u : unit.Unit) → IsLoaded s path u → IsFoundOf s.folders s.states u f → f.is_unread ≡ false → IsFound s path f
+  Unread : (e : UnitFault) (fault : FaultReport) → IsLoadFault s.files s.input s.folders path e → IsSaid e fault f.is_unread → HasOnly fault f → IsFound s path f
 
 -- what is found of a file, with the warnings of its names by the files before it
 pub record IsNext (s : Setting) (before : List FileReport) (path : List ℕ) (f : FileReport) : Type 0 where
@@ -110,7 +119,13 @@ pub record AreChecked (s : Setting) (paths warnings : List (List ℕ)) (r : Chec
   pub found : AreFound s [] paths r.files.items
   pub warned : texts r.warnings.items ≡ warnings
 
--- what is found of the files that some arguments stand for, or why these can't be told; and the counts of all
-pub record IsChecked (s : Setting) (r : CheckReport) : Type 0 where
-  pub each : ((paths warnings : List (List ℕ)) × (length paths ≤ 4096) × AreChecked s paths warnings r) ⊎ IsUntold r
+-- the files that the arguments stand for, and what people are told of others; exactly these, where it is known what lies there
+pub record AreRoots (s : Setting) (arguments paths warnings : List (List ℕ)) : Type 0 where
+  pub few : length paths ≤ 4096
+  pub paths_are : IfSome s.files (λ f. IfSome s.taken (λ t. paths ≡ root_paths f t s.base arguments))
+  pub warnings_are : IfSome s.files (λ f. IfSome s.taken (λ t. warnings ≡ root_lines f t s.base arguments))
+
+-- what is found of the files that the arguments stand for, or why these can't be told; and the counts of all
+pub record IsChecked (s : Setting) (arguments : List (List ℕ)) (r : CheckReport) : Type 0 where
+  pub each : ((paths warnings : List (List ℕ)) × AreRoots s arguments paths warnings × AreChecked s paths warnings r) ⊎ IsUntold r
   pub counts : CountsFiles r

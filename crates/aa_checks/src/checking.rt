@@ -3,7 +3,7 @@
 ghost use Rattle.std.specs.Prelude.{◌≡◌, ◌↔◌, ◌≤◌, [], None, false, length, count_by, sum_by, is_some, All, IsTrue, IfOk};
 ghost use Rattle.std.specs.List.{list_any};
 ghost use Rattle.aa_faults.specs.declared.fault.PolicyKind.TheVariants.{NoMemory as WantOfMemory};
-ghost use Rattle.aa_trees.specs.Texts.{texts};
+ghost use Rattle.aa_trees.specs.Texts.{texts, slices};
 ghost use Rattle.aa_checks.specs.Checked.{HasOnly, IsFoundOf, IsSaid, setting_of, IsFound, AreFound, CountsFiles, IsUntold, IsChecked};
 
 use crate::compiling::compile_unit;
@@ -89,7 +89,7 @@ fn check_unit(
     path: Vec<u8>,
 ) -> Result<FileReport, NoMemory>
     ensures path { IfOk result (λ f. f.path ≡ path) }
-    ensures found { IfOk result (λ f. IsFoundOf wanted.now.states unit.now f) }
+    ensures found { IfOk result (λ f. IsFoundOf (slices wanted.now.folders.now) wanted.now.states unit.now f) }
     ensures unread { IfOk result (λ f. f.is_unread ≡ false) }
 {
     match compile_unit(alloc, unit, wanted.states) {

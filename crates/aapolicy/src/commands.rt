@@ -28,7 +28,7 @@ fn run_check(
     if arguments.is_empty() {
         arguments.push(Vec::from_slice(alloc, wanted.base)?)?;
     }
-    let report = check(rt, wanted, arguments.as_slice())?;
+    let report = check(alloc, rt, wanted, arguments.as_slice())?;
     let mut output = Output::new(alloc);
     output.status = report.status();
     if matches.get_flag("json") {

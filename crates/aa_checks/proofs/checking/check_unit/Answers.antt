@@ -16,4 +16,4 @@ returns-in_ok-count_policy-in-Ok-clause-found c =
 
 pub returns-in_ok-fault-in-Err-clause-found : goal.returns-in_ok-fault-in-Err-clause-found
 returns-in_ok-fault-in-Err-clause-found c =
-    Refused c.in-Err.fault c.in_ok-fault-in-Err.fault (c.in-Err.ensures.cause (iff_false c.is_want_of_memory.ensures c.if-is_want_of_memory.false)) c.refused.ensures.only
+    Refused c.in-Err.fault c.in_ok-fault-in-Err.fault (c.in-Err.ensures.cause (iff_false c.is_want_of_memory.ensures c.if-is_want_of_memory.false)) c.in_ok-fault-in-Err.ensures c.refused.ensures.only
