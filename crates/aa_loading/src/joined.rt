@@ -11,10 +11,7 @@ use crate::texts::Texts;
 use std::alloc::Global;
 
 /// Reads texts, and joins the policies that they spell in their order. Refused for the first whose policy can't be read or joined.
-pub(crate) fn join_all<'u>(
-    alloc: Global,
-    all: &'u [Texts<'u>],
-) -> Result<Reading<'u>, LoadingFault>
+pub(crate) fn join_all<'u>(alloc: Global, all: &'u [Texts<'u>]) -> Result<Reading<'u>, LoadingFault>
     ensures joined { IfOk result (λ r. Joins 0 nothing all.now (reading_data r)) }
     ensures cause { IfErr result (λ f. f ≢ LoadingFault.NoMemory → IsFirstRefused all.now f) }
 {

@@ -61,11 +61,7 @@ impl<'u> Reading<'u> {
     }
 
     /// Notes of which texts the profiles that were joined last are, and where they stand.
-    fn note(
-        &mut self,
-        number: usize,
-        mut places: Vec<ProfilePlaces<'u>>,
-    ) -> Result<(), AllocError>
+    fn note(&mut self, number: usize, mut places: Vec<ProfilePlaces<'u>>) -> Result<(), AllocError>
         ensures joining { self.new.joining ≡ self.old.joining }
         ensures owners { OnOk result (self.new.owners.items ≡ self.old.owners.items ++ map (λ _. number) (map places_data places.entry.items)) }
         ensures places { OnOk result (map places_data self.new.places.items ≡ map places_data self.old.places.items ++ map places_data places.entry.items) }
@@ -102,12 +98,7 @@ impl<'u> Reading<'u> {
     }
 
     /// What is said of the texts of that number, whose policy can't be joined to those before it.
-    fn told(
-        &self,
-        number: usize,
-        places: &[ProfilePlaces<'_>],
-        fault: JoinFault,
-    ) -> LoadingFault
+    fn told(&self, number: usize, places: &[ProfilePlaces<'_>], fault: JoinFault) -> LoadingFault
         ensures { (result ≡ LoadingFault.NoMemory) ⊎ IsTold number self.now.owners.items (map places_data self.now.places.items) (map places_data places.now) fault result }
     {
         match fault {

@@ -20,6 +20,6 @@ returns-clause-found c =
         children_are = refl;
       },
       both_same _ _ _ _
-      (body.2 ∙ ap (λ (p : PlacesData). with_rules p (flat_map rules_in body.0)) c.no_rules.ensures)
-      (body.3 ∙ ap (λ (l : List PlacesData). l ++ map places_of (flat_map children_in body.0)) (ap (map places_data) c.new.ensures.items)),
+          (body.2 ∙ ap (λ (p : PlacesData). with_rules p (flat_map rules_in body.0)) c.no_rules.ensures)
+          (body.3 ∙ ap (λ (l : List PlacesData). l ++ map places_of (flat_map children_in body.0)) (ap (map places_data) c.new.ensures.items)),
     )

@@ -31,7 +31,7 @@ returns c =
       _,
       record {
         preamble = c.in_ok-start.ensures.found.0;
-          after = rest_of c.args.words.now c.in_ok-start.start;
+        after = rest_of c.args.words.now c.in_ok-start.start;
         items = c.items.invariant.found;
         preamble_stands = c.in_ok-start.ensures.found.1;
         variables_are = some_is _ _ c.in_ok-start.ensures.found.2;

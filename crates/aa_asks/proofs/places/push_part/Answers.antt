@@ -17,5 +17,5 @@ returns-clause-found c =
       child.1,
       with_none _,
       ap (map places_data) c.in_ok-push.ensures.items ∙ map-append places_data before (c.in_ok-child.child ∷ [])
-      ∙ ap (λ (p : PlacesData). map places_data before ++ p ∷ []) child.2,
+          ∙ ap (λ (p : PlacesData). map places_data before ++ p ∷ []) child.2,
     )

@@ -20,11 +20,11 @@ returns-in-Err-read_text-clause-cause c other =
 
 pub returns-in-Ok-join-clause-ok : goal.returns-in-Ok-join-clause-ok
 returns-in-Ok-join-clause-ok c = (
-    c.in-Ok-read_text.read.0,
-    map places_data c.in-Ok-read_text.read.1.items,
-    (c.in-Ok.sources, search rules, c.in-Ok-read_text.ensures.read),
-    c.in-Ok-join.ensures.can,
-    c.in-Ok-join.ensures.ok,
+  c.in-Ok-read_text.read.0,
+  map places_data c.in-Ok-read_text.read.1.items,
+  (c.in-Ok.sources, search rules, c.in-Ok-read_text.ensures.read),
+  c.in-Ok-join.ensures.can,
+  c.in-Ok-join.ensures.ok,
 )
 
 pub returns-in-Err-join-clause-cause : goal.returns-in-Err-join-clause-cause
