@@ -1,0 +1,50 @@
+-- How requests of logs are answered now, as it is printed.
+use Rattle.std.specs.Prelude.{ℕ, ◌≡◌, ◌==◌, List, [], ◌∷◌, ◌++◌, codes, if◌then◌else◌}
+use Rattle.std.specs.List.{list_any}
+use Rattle.aa_logs.specs.declared.line.Then.{Then}
+use Rattle.aa_logs.specs.declared.line.Then.TheVariants as was
+use Rattle.aa_findings.specs.declared.answer.Now.{Now}
+use Rattle.aa_findings.specs.declared.answer.Now.TheVariants as is
+use Rattle.aa_findings.specs.declared.counts.Counts.{Counts}
+use Rattle.aa_findings.specs.Answers.{then_name, now_name, is_newly_denied, row_of, column_of}
+use Rattle.aa_findings.specs.Counts.{count_in}
+use Rattle.aa_verdicts.specs.declared.explained.Decided.{Decided}
+use Rattle.aa_reports.specs.declared.logging.Entry.{Entry}
+use Rattle.aa_reports.specs.Replayed.{now_for}
+use Rattle.aa_reports.specs.Printed.{count_line}
+use Rattle.aa_reports.specs.Listed.{word_member, count_member}
+
+-- what a request of a log is answered now by the profile of its name
+abbrev pub now_of : Decided → Entry → Now
+now_of d e = now_for d.policies.now e.profile.items e.request
+
+-- one of these requests is denied now that wasn't
+abbrev pub IsNewlyDenied : Decided → List Entry → Counts → Type 0
+IsNewlyDenied d es counts = counts.has_newly_denied ≡ list_any (λ (e : Entry). is_newly_denied e.then (now_of d e)) es
+
+-- how many became this and are answered that now, and nothing where none are so
+unfoldable pub cell_line : Counts → Then → Now → List ℕ
+cell_line counts before after = count_line before after (count_in (row_of before) (column_of after) counts.rows)
+
+-- those that became this, by what they are now
+unfoldable pub row_text : Counts → Then → List ℕ
+row_text counts before = cell_line counts before is.Denied ++ cell_line counts before is.Allowed ++ cell_line counts before is.Granted ++ cell_line counts before is.NoProfile
+
+unfoldable pub rows_text : Counts → List ℕ
+rows_text counts = row_text counts was.Denied ++ row_text counts was.Allowed ++ row_text counts was.Granted
+
+-- a count as a JSON object; none where there are none
+unfoldable pub json_count : Then → Now → ℕ → List ℕ
+json_count before after count = codes "{" ++ word_member (codes "then") (then_name before) ++ codes "," ++ word_member (codes "now") (now_name after) ++ count_member (codes "count") count ++ codes "}"
+
+abbrev pub json_cell_of : Then → Now → ℕ → List (List ℕ)
+json_cell_of before after count = if count == 0 then [] else json_count before after count ∷ []
+
+abbrev pub json_cell : Counts → Then → Now → List (List ℕ)
+json_cell counts before after = json_cell_of before after (count_in (row_of before) (column_of after) counts.rows)
+
+abbrev pub json_row : Counts → Then → List (List ℕ)
+json_row counts before = json_cell counts before is.Denied ++ json_cell counts before is.Allowed ++ json_cell counts before is.Granted ++ json_cell counts before is.NoProfile
+
+abbrev pub json_cells : Counts → List (List ℕ)
+json_cells counts = json_row counts was.Denied ++ json_row counts was.Allowed ++ json_row counts was.Granted
