@@ -1,5 +1,5 @@
 -- The rules that a verdict names, and what it says that no rule allows, as the reasons of the answer have them.
-use Rattle.std.specs.Prelude.{ℕ, List, [], ◌∷◌, ◌++◌, ◌==◌, Bool, true, false, Option, Some, None, option_map, option_to_list, option_and_then, if◌then◌else◌, slice_get, flat_map}
+use Rattle.std.specs.Prelude.{ℕ, List, [], ◌∷◌, ◌++◌, ◌==◌, Bool, true, false, Option, Some, option_map, option_to_list, option_and_then, if◌then◌else◌, slice_get, flat_map}
 use Rattle.aa_faults.specs.declared.fault.Spot.{Spot}
 use Rattle.aa_profiles.specs.declared.policy.Policy.{Policy}
 use Rattle.aa_profiles.specs.declared.policy.Profile.{Profile}
@@ -20,17 +20,19 @@ use Rattle.aa_verdicts.specs.declared.explained.DeciderLine.{DeciderLine}
 use Rattle.aa_verdicts.specs.declared.explained.Lack.{Lack}
 use Rattle.aa_verdicts.specs.declared.explained.Decided.{Decided}
 use Rattle.aa_verdicts.specs.Verdicts.{profile_at, number_in, spots_of}
+use Rattle.aa_verdicts.specs.Ruled.{rule_text}
 
--- a rule that decided: where it stands, and which permissions it decided; not how its line reads
+-- a rule that decided: where it stands, which permissions it decided, and how its line reads
 pub record Named : Type 0 where
   pub is_target : Bool
   pub denies : Bool
   pub path : List ℕ
   pub place : PlaceAt
   pub letters : List ℕ
+  pub text : List ℕ
 
 abbrev pub named : DeciderLine → Named
-named l = record { is_target = l.is_target; denies = l.denies; path = l.path.items; place = l.place; letters = l.letters.items }
+named l = record { is_target = l.is_target; denies = l.denies; path = l.path.items; place = l.place; letters = l.letters.items; text = l.text.items }
 
 -- what no rule allows
 pub record Lacked : Type 0 where
@@ -57,6 +59,7 @@ named_at u listed target denies bits at = record {
   path = path_in u at.file;
   place = stands_at (text_in u at.file) at.byte;
   letters = letters_for listed bits;
+  text = rule_text (text_in u at.file) at.byte;
 }
 
 -- a decider's rule, where its profile has a place for it

@@ -1,14 +1,18 @@
 //! What `ask` answers.
 
-ghost use Rattle.std.specs.Prelude.{◌≡◌, not};
+ghost use Rattle.std.specs.Prelude.{◌≡◌, ◌++◌, codes, map, flat_map, not, OnOk, IfOk};
 ghost use Rattle.std.specs.List.{list_any};
 ghost use Rattle.aa_mediate.specs.Reply.{reply};
+ghost use Rattle.aa_verdicts.specs.Told.{told, verdict_on};
+ghost use Rattle.aa_verdicts.specs.Asked.{said_of, listed_profile, listed_profiles, which_profile, label_by_name, label_by_program, only_label, opening, request_of, requests_of, in_sequence, verdicts_on, answers, Gives};
+ghost use Rattle.aa_verdicts.specs.Words.{texts};
 
-use crate::explained::{Decided, DeciderLine};
-use crate::verdict::{Verdict, decide, push_reasons};
+use crate::explained::Decided;
+use crate::verdict::{Verdict, decide};
 use aa_asks::{WordFault, read_word};
 use aa_mediate::{Compiled, Label, Machine, Mediator, Request, label_of};
-use aa_output::{NoMemory, push_bool, push_json_bytes, push_json_place, push_key, push_name};
+use aa_output::{NoMemory, push_name};
+use aa_policy::Profile;
 use aa_units::push_text;
 use std::alloc::{AllocError, Global};
 
@@ -21,12 +25,22 @@ pub enum AskFault {
 }
 
 impl From<AllocError> for AskFault {
+    ghost use Rattle.std.specs.Prelude.{◌≡◌};
+    ghost use Rattle.aa_verdicts.specs.declared.asking.AskFault.TheVariants as fault;
+
+    ghost from_gives = { λ _ e. e ≡ fault.NoMemory };
+
     fn from(_e: AllocError) -> AskFault {
         AskFault::NoMemory
     }
 }
 
 impl<T: Drop> From<std::alloc::AllocFailed<T>> for AskFault {
+    ghost use Rattle.std.specs.Prelude.{◌≡◌};
+    ghost use Rattle.aa_verdicts.specs.declared.asking.AskFault.TheVariants as fault;
+
+    ghost from_gives = { λ _ e. e ≡ fault.NoMemory };
+
     fn from(_e: std::alloc::AllocFailed<T>) -> AskFault {
         AskFault::NoMemory
     }
@@ -51,30 +65,73 @@ pub struct Manner<'a> {
     pub is_sequence: bool,
 }
 
-fn refused(alloc: Global, parts: &[&[u8]]) -> Result<AskFault, AllocError> {
-    let mut line = Vec::new(alloc);
-    for part in parts {
-        line.extend_from_slice(part)?;
-    }
+/// A sentence about a name, in one line.
+fn said_of(alloc: Global, sentence: &str, name: &[u8]) -> Result<Vec<u8>, AllocError>
+    ensures { IfOk result (λ line. line.items ≡ said_of sentence.now name.now) }
+{
+    let mut line = Vec::from_slice(alloc, sentence.as_bytes())?;
+    line.extend_from_slice(name)?;
     push_text(&mut line, "\n")?;
-    Ok(AskFault::Refused(line))
+    Ok(line)
+}
+
+fn push_profile(out: &mut Vec<u8>, alloc: Global, profile: &Profile) -> Result<(), AllocError>
+    ensures { OnOk result (out.new.items ≡ out.old.items ++ listed_profile profile.now) }
+{
+    push_text(out, " ")?;
+    push_name(out, alloc, profile.name.as_slice())
+}
+
+fn push_profiles(out: &mut Vec<u8>, alloc: Global, profiles: &[Profile]) -> Result<(), AllocError>
+    ensures { OnOk result (out.new.items ≡ out.old.items ++ flat_map listed_profile profiles.now) }
+{
+    for profile in profiles {
+        push_profile(out, alloc, profile)?;
+    }
+    Ok(())
+}
+
+fn push_profiles_of(out: &mut Vec<u8>, alloc: Global, compiled: &Compiled) -> Result<(), AllocError>
+    ensures { OnOk result (out.new.items ≡ out.old.items ++ listed_profiles compiled.now) }
+{
+    push_profiles(out, alloc, compiled.policy().profiles.as_slice())
+}
+
+fn push_all_profiles(
+    out: &mut Vec<u8>,
+    alloc: Global,
+    policies: &[Compiled],
+) -> Result<(), AllocError>
+    ensures { OnOk result (out.new.items ≡ out.old.items ++ flat_map listed_profiles policies.now) }
+{
+    for compiled in policies {
+        push_profiles_of(out, alloc, compiled)?;
+    }
+    Ok(())
 }
 
 /// What is said where it isn't told which of several profiles asks.
-fn which_profile(alloc: Global, decided: Decided<'_>) -> Result<AskFault, AllocError> {
+fn which_profile(alloc: Global, policies: &[Compiled]) -> Result<Vec<u8>, AllocError>
+    ensures { IfOk result (λ line. line.items ≡ which_profile policies.now) }
+{
     let mut line = Vec::new(alloc);
     push_text(
         &mut line,
         "error: --profile NAME tells which profile asks, or --program PATH:",
     )?;
-    for compiled in decided.policies {
-        for profile in compiled.policy().profiles.as_slice() {
-            push_text(&mut line, " ")?;
-            push_name(&mut line, alloc, profile.name.as_slice())?;
-        }
-    }
+    push_all_profiles(&mut line, alloc, policies)?;
     push_text(&mut line, "\n")?;
-    Ok(AskFault::Refused(line))
+    Ok(line)
+}
+
+/// The label of a profile by its name.
+fn label_by_name(alloc: Global, policies: &[Compiled], name: &[u8]) -> Result<Label, AskFault>
+    ensures { Gives (λ label. label) result (label_by_name policies.now name.now) }
+{
+    match label_of(policies, 0, name) {
+        Some(label) => Ok(label),
+        None => { Err(AskFault::Refused(said_of(alloc, "error: no profile is called ", name)?)) }
+    }
 }
 
 /// The label of an unconfined task that has executed a program.
@@ -85,69 +142,160 @@ fn label_after(policies: &[Compiled], request: &Request) -> Label
     Mediator::new(policies).step(&mut label, request).label
 }
 
-/// The label under which a program runs that an unconfined task has executed.
-fn label_of_program(alloc: Global, decided: Decided<'_>, path: &[u8]) -> Result<Label, AskFault> {
+/// The word that asks to execute a program.
+fn exec_word(alloc: Global, path: &[u8]) -> Result<Vec<u8>, AllocError>
+    ensures { IfOk result (λ word. word.items ≡ codes "x:" ++ path.now) }
+{
     let mut word = Vec::from_slice(alloc, "x:".as_bytes())?;
     word.extend_from_slice(path)?;
+    Ok(word)
+}
+
+/// The label under which a program runs that an unconfined task has executed.
+fn label_by_program(alloc: Global, policies: &[Compiled], path: &[u8]) -> Result<Label, AskFault>
+    ensures { Gives (λ label. label) result (label_by_program policies.now path.now) }
+{
+    let word = exec_word(alloc, path)?;
     match read_word(alloc, word.as_slice(), false) {
-        Ok(request) => Ok(label_after(decided.policies, &request)),
+        Ok(request) => Ok(label_after(policies, &request)),
         Err(WordFault::NoMemory) => Err(AskFault::NoMemory),
         Err(WordFault::NoRequest) => {
-            Err(refused(
-                alloc,
-                &["error: no program has this path: ".as_bytes(), path],
-            )?)
+            Err(AskFault::Refused(said_of(alloc, "error: no program has this path: ", path)?))
         }
     }
 }
 
-fn opening_label(
-    alloc: Global,
-    decided: Decided<'_>,
-    manner: Manner<'_>,
-) -> Result<Label, AskFault> {
-    if let Some(name) = manner.profile {
-        return match label_of(decided.policies, 0, name) {
-            Some(label) => Ok(label),
-            None => Err(refused(alloc, &["error: no profile is called ".as_bytes(), name])?),
-        };
-    }
-    if let Some(path) = manner.program {
-        return label_of_program(alloc, decided, path);
-    }
+/// The label of the only profile.
+fn only_label(alloc: Global, decided: Decided<'_>) -> Result<Label, AskFault>
+    ensures { Gives (λ label. label) result (only_label decided.entry) }
+{
     if decided.places.len() == 1 {
         return Ok(Label::Confined(0, 0));
     }
-    Err(which_profile(alloc, decided)?)
+    Err(AskFault::Refused(which_profile(alloc, decided.policies)?))
 }
 
-/// Decides each request in turn.
+fn opening_label(alloc: Global, decided: Decided<'_>, manner: Manner<'_>) -> Result<Label, AskFault>
+    ensures { Gives (λ label. label) result (opening decided.entry manner.entry) }
+{
+    if let Some(name) = manner.profile {
+        return label_by_name(alloc, decided.policies, name);
+    }
+    if let Some(path) = manner.program {
+        return label_by_program(alloc, decided.policies, path);
+    }
+    only_label(alloc, decided)
+}
+
+/// The request that a word is.
+fn request_of(alloc: Global, word: &[u8], owned: bool) -> Result<Request, AskFault>
+    ensures { Gives (λ request. request) result (request_of owned word.now) }
+{
+    match read_word(alloc, word, owned) {
+        Ok(request) => Ok(request),
+        Err(WordFault::NoMemory) => Err(AskFault::NoMemory),
+        Err(WordFault::NoRequest) => {
+            Err(AskFault::Refused(said_of(alloc, "error: this is no request: ", word)?))
+        }
+    }
+}
+
+/// The requests that words are. Refused at the first that is none.
+fn requests_of(alloc: Global, words: &[Vec<u8>], owned: bool) -> Result<Vec<Request>, AskFault>
+    ensures { Gives (λ requests. requests.items) result (requests_of owned (texts words.now)) }
+{
+    let mut requests = Vec::new(alloc);
+    for word in words {
+        requests.push(request_of(alloc, word.as_slice(), owned)?)?;
+    }
+    Ok(requests)
+}
+
+/// Decides a request by itself.
+fn decide_alone(
+    alloc: Global,
+    decided: Decided<'_>,
+    opening: Label,
+    request: &Request,
+) -> Result<Verdict, AllocError>
+    ensures { IfOk result (λ v. told v ≡ verdict_on decided.entry opening request.now) }
+{
+    let mut label = opening;
+    decide(alloc, decided, &mut label, request)
+}
+
+/// Decides each request by itself.
+fn decide_each(
+    alloc: Global,
+    decided: Decided<'_>,
+    opening: Label,
+    requests: &[Request],
+) -> Result<Vec<Verdict>, AllocError>
+    ensures { IfOk result (λ vs. map told vs.items ≡ map (verdict_on decided.entry opening) requests.now) }
+{
+    let mut verdicts = Vec::new(alloc);
+    for request in requests {
+        verdicts.push(decide_alone(alloc, decided, opening, request)?)?;
+    }
+    Ok(verdicts)
+}
+
+/// Decides the requests of one task, in turn.
+#[tactic(auto, unfolding(crate::specs::Asked::in_sequence))]
+fn decide_in_sequence(
+    alloc: Global,
+    decided: Decided<'_>,
+    opening: Label,
+    requests: &[Request],
+) -> Result<Vec<Verdict>, AllocError>
+    ensures { IfOk result (λ vs. map told vs.items ≡ in_sequence decided.entry opening requests.now) }
+{
+    let mut label = opening;
+    let mut verdicts = Vec::new(alloc);
+    let mut rest = requests;
+    while let [request, after @ ..] = rest {
+        verdicts.push(decide(alloc, decided, &mut label, request)?)?;
+        rest = after;
+    }
+    Ok(verdicts)
+}
+
+fn decide_all(
+    alloc: Global,
+    decided: Decided<'_>,
+    is_sequence: bool,
+    opening: Label,
+    requests: &[Request],
+) -> Result<Vec<Verdict>, AllocError>
+    ensures { IfOk result (λ vs. map told vs.items ≡ verdicts_on decided.entry is_sequence opening requests.now) }
+{
+    if is_sequence {
+        decide_in_sequence(alloc, decided, opening, requests)
+    } else {
+        decide_each(alloc, decided, opening, requests)
+    }
+}
+
+/// Decides the request of each word: by itself, or all as those of one task. Refused where it isn't told which profile asks, where
+/// there is no such profile or program, and at the first word that is no request.
+#[tactic(auto, unfolding(crate::specs::Asked::answers))]
 pub fn ask(
     alloc: Global,
     decided: Decided<'_>,
     manner: Manner<'_>,
     words: &[Vec<u8>],
-) -> Result<Vec<Verdict>, AskFault> {
+) -> Result<Vec<Verdict>, AskFault>
+    ensures { Gives (λ verdicts. map told verdicts.items) result (answers decided.entry manner.entry (texts words.now)) }
+{
     let opening = opening_label(alloc, decided, manner)?;
-    let mut label = opening;
-    let mut verdicts = Vec::new(alloc);
-    for word in words {
-        let request = match read_word(alloc, word.as_slice(), manner.owned) {
-            Ok(request) => request,
-            Err(WordFault::NoMemory) => return Err(AskFault::NoMemory),
-            Err(WordFault::NoRequest) => {
-                return Err(refused(
-                    alloc,
-                    &["error: this is no request: ".as_bytes(), word.as_slice()],
-                )?);
-            }
-        };
-        if !manner.is_sequence {
-            label = opening;
-        }
-        verdicts.push(decide(alloc, decided, &mut label, &request)?)?;
-    }
-    Ok(verdicts)
+    let requests = requests_of(alloc, words, manner.owned)?;
+    Ok(decide_all(
+        alloc,
+        decided,
+        manner.is_sequence,
+        opening,
+        requests.as_slice(),
+    )?)
 }
 
 /// Whether one of them is refused.
@@ -155,164 +303,4 @@ pub fn is_one_denied(verdicts: &[Verdict]) -> bool
     ensures { result ≡ list_any (λ v. not v.granted) verdicts.now }
 {
     verdicts.iter().any(|verdict| !verdict.granted)
-}
-
-fn push_verdict(out: &mut Vec<u8>, alloc: Global, verdict: &Verdict) -> Result<(), AllocError> {
-    push_text(
-        out,
-        if verdict.granted {
-            "granted "
-        } else {
-            "denied "
-        },
-    )?;
-    out.extend_from_slice(verdict.word.as_slice())?;
-    if let Some(label) = &verdict.label {
-        push_text(out, " label=")?;
-        push_name(out, alloc, label.as_slice())?;
-    }
-    push_text(out, if verdict.scrub { " scrub" } else { "" })?;
-    push_text(out, if verdict.complain { " complain" } else { "" })?;
-    push_text(out, "\n")?;
-    push_reasons(out, verdict)
-}
-
-/// Appends each answer with its reasons.
-pub fn push_verdicts(
-    out: &mut Vec<u8>,
-    alloc: Global,
-    verdicts: &[Verdict],
-) -> Result<(), AllocError> {
-    for verdict in verdicts {
-        push_verdict(out, alloc, verdict)?;
-    }
-    Ok(())
-}
-
-fn push_json_decider(
-    out: &mut Vec<u8>,
-    alloc: Global,
-    line: &DeciderLine,
-) -> Result<(), AllocError> {
-    push_text(out, "{")?;
-    push_json_place(out, alloc, line.path.as_slice(), Some(line.place))?;
-    push_text(out, ",")?;
-    push_key(out, "letters")?;
-    push_json_bytes(out, alloc, line.letters.as_slice())?;
-    push_text(
-        out,
-        if line.is_target {
-            ",\"target\":true}"
-        } else {
-            "}"
-        },
-    )
-}
-
-fn push_json_deciders(
-    out: &mut Vec<u8>,
-    alloc: Global,
-    verdict: &Verdict,
-    denies: bool,
-) -> Result<(), AllocError> {
-    push_text(out, ",")?;
-    push_key(out, if denies { "denies" } else { "allows" })?;
-    push_text(out, "[")?;
-    let mut is_later = false;
-    for line in &verdict.deciders {
-        if line.denies == denies {
-            push_text(out, if is_later { "," } else { "" })?;
-            push_json_decider(out, alloc, line)?;
-            is_later = true;
-        }
-    }
-    push_text(out, "]")
-}
-
-/// Whether something was decided at a link's target.
-fn has_target(verdict: &Verdict) -> bool {
-    verdict.deciders.iter().any(|line| line.is_target)
-        || verdict.lacking.iter().any(|lack| lack.is_target)
-}
-
-/// Appends what no rule allows, at the request's object or at a link's target.
-fn push_json_lacking(
-    out: &mut Vec<u8>,
-    alloc: Global,
-    verdict: &Verdict,
-    is_target: bool,
-) -> Result<(), AllocError> {
-    push_text(out, ",")?;
-    push_key(
-        out,
-        if is_target {
-            "target_lacking"
-        } else {
-            "lacking"
-        },
-    )?;
-    for lack in &verdict.lacking {
-        if lack.is_target == is_target {
-            return push_json_bytes(out, alloc, lack.letters.as_slice());
-        }
-    }
-    push_text(out, "\"\"")
-}
-
-/// Appends why all rules allow it and yet it is refused, where that is so, and closes the object.
-fn push_json_unfound(out: &mut Vec<u8>, verdict: &Verdict) -> Result<(), AllocError> {
-    if let Some(what) = verdict.unfound {
-        push_text(out, ",")?;
-        push_key(out, "missing")?;
-        push_text(out, "\"")?;
-        push_text(out, what)?;
-        push_text(out, "\"")?;
-    }
-    push_text(out, "}")
-}
-
-/// Appends an answer as a JSON object.
-pub fn push_json_verdict(
-    out: &mut Vec<u8>,
-    alloc: Global,
-    verdict: &Verdict,
-) -> Result<(), AllocError> {
-    push_text(out, "{")?;
-    push_key(out, "request")?;
-    push_json_bytes(out, alloc, verdict.word.as_slice())?;
-    push_text(out, ",")?;
-    push_key(out, "granted")?;
-    push_bool(out, verdict.granted)?;
-    if let Some(label) = &verdict.label {
-        push_text(out, ",")?;
-        push_key(out, "label")?;
-        push_json_bytes(out, alloc, label.as_slice())?;
-    }
-    push_text(out, ",")?;
-    push_key(out, "scrub")?;
-    push_bool(out, verdict.scrub)?;
-    push_text(out, ",")?;
-    push_key(out, "complain")?;
-    push_bool(out, verdict.complain)?;
-    push_json_deciders(out, alloc, verdict, false)?;
-    push_json_deciders(out, alloc, verdict, true)?;
-    push_json_lacking(out, alloc, verdict, false)?;
-    if has_target(verdict) {
-        push_json_lacking(out, alloc, verdict, true)?;
-    }
-    push_json_unfound(out, verdict)
-}
-
-/// Appends the answers as one JSON list and a line end.
-pub fn push_json_verdicts(
-    out: &mut Vec<u8>,
-    alloc: Global,
-    verdicts: &[Verdict],
-) -> Result<(), AllocError> {
-    push_text(out, "[")?;
-    for (number, verdict) in verdicts.iter().enumerate() {
-        push_text(out, if number > 0 { "," } else { "" })?;
-        push_json_verdict(out, alloc, verdict)?;
-    }
-    push_text(out, "]\n")
 }

@@ -5,6 +5,7 @@ ghost use Rattle.aa_audit.specs.Values.{quoted};
 ghost use Rattle.aa_asks.specs.Deciders.{reasons};
 ghost use Rattle.aa_asks.specs.Sayings.{reasons_of, target_reasons};
 ghost use Rattle.aa_verdicts.specs.Verdicts.{profile_at, number_in, spots_of};
+ghost use Rattle.aa_verdicts.specs.Ruled.{rule_text};
 ghost use Rattle.aa_verdicts.specs.Named.{named, lacked, letters_for, named_at, named_by, names_in, names_of, names_at, lacks_in, lacks_of, unit_in, why_here, why_target, named_for, lacked_for};
 
 use aa_asks::{Decider, Deciders, Listed, ProfilePlaces, deciders_of, target_deciders};
@@ -105,6 +106,13 @@ fn spot_in(places: &ProfilePlaces<'_>, listed: Listed, rule: usize) -> Option<Sp
     spots.get(rule).copied()
 }
 
+/// The text of the rule that begins at a byte.
+fn shown_rule(text: &[u8], byte: usize) -> &[u8]
+    ensures { result.now ≡ rule_text text.now byte }
+{
+    rule_text(text, byte)
+}
+
 /// A rule that stands there, with what it decided.
 fn line_of(
     alloc: Global,
@@ -123,7 +131,7 @@ fn line_of(
         path: Vec::from_slice(alloc, path)?,
         place: place_at(text, byte),
         letters: letters_of(alloc, how.listed, perms)?,
-        text: Vec::from_slice(alloc, rule_text(text, byte))?,
+        text: Vec::from_slice(alloc, shown_rule(text, byte))?,
     })
 }
 

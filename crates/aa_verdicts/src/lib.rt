@@ -3,12 +3,14 @@
 
 mod asking;
 mod explained;
+mod json;
+mod shown;
 mod verdict;
 mod words;
 
-pub use asking::{
-    AskFault, Manner, ask, is_one_denied, push_json_verdict, push_json_verdicts, push_verdicts,
-};
+pub use asking::{AskFault, Manner, ask, is_one_denied};
 pub use explained::{Decided, DeciderLine, Lack};
-pub use verdict::{Verdict, decide, push_reasons};
+pub use json::{push_json_verdict, push_json_verdicts};
+pub use shown::{push_reasons, push_verdicts};
+pub use verdict::{Verdict, decide};
 pub use words::{MAX_WORDS, push_words};

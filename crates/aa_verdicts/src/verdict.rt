@@ -1,15 +1,16 @@
 //! The answer to one request, and the rules that decided it.
 
-ghost use Rattle.std.specs.Prelude.{◌≡◌, map, OnOk, OnErr, IfOk};
+ghost use Rattle.std.specs.Prelude.{◌≡◌, map, option_map, OnOk, OnErr, IfOk};
+ghost use Rattle.std.specs.List.{list_any};
 ghost use Rattle.aa_mediate.specs.Reply.{reply};
+ghost use Rattle.aa_request_words.specs.Written.{word_text};
 ghost use Rattle.aa_verdicts.specs.Verdicts.{is_by_complain, IsVerdict};
-ghost use Rattle.aa_verdicts.specs.Named.{named, lacked, named_for, lacked_for};
+ghost use Rattle.aa_verdicts.specs.Named.{Named, named, lacked};
+ghost use Rattle.aa_verdicts.specs.Told.{told, is_same, label_told, missing, is_allowed, unfound, told_by, verdict_on};
 
 use crate::explained::{Decided, DeciderLine, Explained, Lack, explain};
 use aa_asks::push_word;
 use aa_mediate::{Answer, Compiled, Label, Machine, Mediator, NoteWord, Request, name_of_label};
-use aa_output::push_where;
-use aa_units::push_text;
 use std::alloc::{AllocError, Global};
 
 /// The answer to a request, and why.
@@ -29,23 +30,51 @@ pub struct Verdict {
     pub unfound: Option<&'static str>,
 }
 
-/// What is missing where no rule denies and all that is asked is allowed, and yet it is refused.
-fn unfound(
-    request: &Request,
-    answer: &Answer,
-    deciders: &[DeciderLine],
-    lacking: &[Lack],
-) -> Option<&'static str> {
-    let is_allowed = lacking.is_empty() && !deciders.iter().any(|line| line.denies);
-    if answer.granted || !is_allowed {
-        return None;
-    }
+/// Whether one of these rules denies.
+fn denies_one(deciders: &[DeciderLine]) -> bool
+    ensures { result ≡ list_any (λ (l : DeciderLine). l.denies) deciders.now }
+{
+    deciders.iter().any(|line| line.denies)
+}
+
+fn is_one_denying(deciders: &[DeciderLine]) -> bool
+    ensures { result ≡ list_any (λ (n : Named). n.denies) (map named deciders.now) }
+{
+    denies_one(deciders)
+}
+
+/// Whether all that is asked is allowed, and no rule denies it.
+fn is_allowed(deciders: &[DeciderLine], lacking: &[Lack]) -> bool
+    ensures { result ≡ is_allowed (map named deciders.now) (map lacked lacking.now) }
+{
+    lacking.is_empty() && !is_one_denying(deciders)
+}
+
+/// What can be missing where all that is asked is allowed.
+fn missing(request: &Request) -> Option<&'static str>
+    ensures { option_map (λ what. what.now) result ≡ missing request.now }
+{
     match request {
         Request::Exec(_) => Some("no profile is found to go on in"),
         Request::Change(_) => Some("no profile has this name"),
         Request::Link(_) => Some("the target isn't executed as the link is"),
         _ => None,
     }
+}
+
+/// What is missing where no rule denies and all that is asked is allowed, and yet it is refused.
+fn unfound(
+    request: &Request,
+    granted: bool,
+    deciders: &[DeciderLine],
+    lacking: &[Lack],
+) -> Option<&'static str>
+    ensures { option_map (λ what. what.now) result ≡ unfound request.now granted (map named deciders.now) (map lacked lacking.now) }
+{
+    if granted || !is_allowed(deciders, lacking) {
+        return None;
+    }
+    missing(request)
 }
 
 /// Whether an answer is granted by complain mode alone.
@@ -58,46 +87,74 @@ fn is_by_complain(answer: &Answer) -> bool
     }
 }
 
+fn is_same(before: Label, after: Label) -> bool
+    ensures { result ≡ is_same before after }
+{
+    match (before, after) {
+        (Label::Unconfined(before), Label::Unconfined(after)) => before == after,
+        (Label::Confined(before, first), Label::Confined(after, second)) => {
+            before == after && first == second
+        }
+        _ => false,
+    }
+}
+
 fn name_after(
     alloc: Global,
     policies: &[Compiled],
     before: Label,
     after: Label,
-) -> Result<Option<Vec<u8>>, AllocError> {
-    if before == after {
+) -> Result<Option<Vec<u8>>, AllocError>
+    ensures { IfOk result (λ name. option_map (λ n. n.items) name ≡ label_told policies.now before after) }
+{
+    if is_same(before, after) {
         return Ok(None);
     }
     Ok(Some(Vec::from_slice(alloc, name_of_label(policies, after))?))
 }
 
-/// What the mediator answers a task with that label, without what decided it.
-fn told(
-    alloc: Global,
-    policies: &[Compiled],
-    label: Label,
-    request: &Request,
-) -> Result<(Verdict, Answer), AllocError>
-    ensures told { IfOk result (λ r. IsVerdict (reply policies.now label request.now) r.0) }
-    ensures answer { IfOk result (λ r. r.1 ≡ reply policies.now label request.now) }
+fn word_of(alloc: Global, request: &Request) -> Result<Vec<u8>, AllocError>
+    ensures { IfOk result (λ word. word.items ≡ word_text request.now) }
 {
     let mut word = Vec::new(alloc);
     push_word(&mut word, request)?;
+    Ok(word)
+}
+
+/// What the mediator answers a task with that label.
+fn answer_of(policies: &[Compiled], label: Label, request: &Request) -> Answer
+    ensures { result ≡ reply policies.now label request.now }
+{
     let mut after = label;
-    let answer = Mediator::new(policies).step(&mut after, request);
-    let verdict = Verdict {
+    Mediator::new(policies).step(&mut after, request)
+}
+
+/// What is told of an answer.
+#[tactic(auto, unfolding(crate::specs::Told::told_by))]
+fn verdict_of(
+    word: Vec<u8>,
+    answer: &Answer,
+    label: Option<Vec<u8>>,
+    explained: Explained,
+    unfound: Option<&'static str>,
+) -> Verdict
+    ensures verdict { IsVerdict answer.now result }
+    ensures told { told result ≡ told_by word.items answer.now (option_map (λ n. n.items) label) (map named explained.deciders.items) (map lacked explained.lacking.items) (option_map (λ what. what.now) unfound.entry) }
+{
+    Verdict {
         word,
         granted: answer.granted,
-        label: name_after(alloc, policies, label, answer.label)?,
+        label,
         scrub: answer.scrub,
-        complain: is_by_complain(&answer),
-        deciders: Vec::new(alloc),
-        lacking: Vec::new(alloc),
-        unfound: None,
-    };
-    Ok((verdict, answer))
+        complain: is_by_complain(answer),
+        deciders: explained.deciders,
+        lacking: explained.lacking,
+        unfound,
+    }
 }
 
 /// The answer to a request of a task with that label, which moves to the answer's, and the rules that decided it.
+#[tactic(auto, unfolding(crate::specs::Told::verdict_on))]
 pub fn decide(
     alloc: Global,
     decided: Decided<'_>,
@@ -105,54 +162,20 @@ pub fn decide(
     request: &Request,
 ) -> Result<Verdict, AllocError>
     ensures told { IfOk result (λ v. IsVerdict (reply decided.entry.policies.now label.old request.now) v) }
-    ensures names { IfOk result (λ v. map named v.deciders.items ≡ named_for decided.entry label.old request.now) }
-    ensures lacks { IfOk result (λ v. map lacked v.lacking.items ≡ lacked_for decided.entry label.old request.now) }
+    ensures verdict { IfOk result (λ v. told v ≡ verdict_on decided.entry label.old request.now) }
     ensures moved { OnOk result (label.new ≡ (reply decided.entry.policies.now label.old request.now).label) }
     ensures stays { OnErr result (label.new ≡ label.old) }
 {
-    let Explained { deciders, lacking } = explain(alloc, decided, *label, request)?;
-    let (mut verdict, answer) = told(alloc, decided.policies, *label, request)?;
-    verdict.unfound = unfound(request, &answer, deciders.as_slice(), lacking.as_slice());
-    verdict.deciders = deciders;
-    verdict.lacking = lacking;
+    let explained = explain(alloc, decided, *label, request)?;
+    let word = word_of(alloc, request)?;
+    let answer = answer_of(decided.policies, *label, request);
+    let after = name_after(alloc, decided.policies, *label, answer.label)?;
+    let missing = unfound(
+        request,
+        answer.granted,
+        explained.deciders.as_slice(),
+        explained.lacking.as_slice(),
+    );
     *label = answer.label;
-    Ok(verdict)
-}
-
-fn push_line(out: &mut Vec<u8>, line: &DeciderLine) -> Result<(), AllocError> {
-    push_text(out, "    ")?;
-    push_text(out, if line.is_target { "target: " } else { "" })?;
-    push_where(out, line.path.as_slice(), line.place)?;
-    push_text(out, if line.denies { ": denies" } else { ": allows" })?;
-    if !line.letters.is_empty() {
-        push_text(out, " ")?;
-        out.extend_from_slice(line.letters.as_slice())?;
-    }
-    push_text(out, ": ")?;
-    out.extend_from_slice(line.text.as_slice())?;
-    push_text(out, "\n")
-}
-
-/// Appends why a request was answered so, a line for each reason.
-pub fn push_reasons(out: &mut Vec<u8>, verdict: &Verdict) -> Result<(), AllocError> {
-    for line in &verdict.deciders {
-        push_line(out, line)?;
-    }
-    for lack in &verdict.lacking {
-        push_text(out, "    ")?;
-        push_text(out, if lack.is_target { "target: " } else { "" })?;
-        push_text(out, "no rule allows ")?;
-        if lack.letters.is_empty() {
-            push_text(out, "it")?;
-        } else {
-            out.extend_from_slice(lack.letters.as_slice())?;
-        }
-        push_text(out, "\n")?;
-    }
-    if let Some(what) = verdict.unfound {
-        push_text(out, "    ")?;
-        push_text(out, what)?;
-        push_text(out, "\n")?;
-    }
-    Ok(())
+    Ok(verdict_of(word, &answer, after, explained, missing))
 }

@@ -1,0 +1,4 @@
+pub mod Ruled
+pub mod Commas
+pub mod Views
+pub mod Turns
