@@ -1,13 +1,14 @@
 //! How a policy answers now what logs say.
 
-ghost use Rattle.std.specs.Prelude.{ℕ, ◌≡◌, ◌++◌, ◌||◌, true, false, List, [], map, OnOk, IfOk};
+ghost use Rattle.std.specs.Prelude.{ℕ, ◌≡◌, ◌++◌, ◌||◌, true, false, List, [], map, option_map, OnOk, IfOk};
 ghost use Rattle.aa_texts.specs.Faults.{with_commas};
 ghost use Rattle.aa_findings.specs.Answers.{changes};
+ghost use Rattle.aa_verdicts.specs.Told.{told};
 ghost use Rattle.aa_reports.specs.declared.logging.Entry.{Entry};
 ghost use Rattle.aa_reports.specs.Orders.{profile_of, IsInOrder};
-ghost use Rattle.aa_reports.specs.Printed.{arrow_text};
+ghost use Rattle.aa_reports.specs.Printed.{arrow_text, each_skipped_text};
 ghost use Rattle.aa_reports.specs.Commas.{more_of, is_some_of};
-ghost use Rattle.aa_reports.specs.Against.{now_of, IsNewlyDenied, cell_line, row_text, rows_text, json_count, json_cell, json_row, json_cells};
+ghost use Rattle.aa_reports.specs.Against.{now_of, verdict_of, IsNewlyDenied, reasons_if, change_text, shown_text, changes_text, IsAgainstText, cell_line, row_text, rows_text, json_count, json_cell, json_row, json_cells};
 
 use crate::listed::{
     push_comma, push_count_member, push_entry_members, push_json_rest, push_word_member,
@@ -35,7 +36,8 @@ fn answer_now(
     decided: Decided<'_>,
     entry: &Entry,
 ) -> Result<(Now, Option<Verdict>), AllocError>
-    ensures { IfOk result (λ r. r.0 ≡ now_of decided.entry entry.now) }
+    ensures now { IfOk result (λ r. r.0 ≡ now_of decided.entry entry.now) }
+    ensures why { IfOk result (λ r. option_map told r.1 ≡ verdict_of decided.entry entry.now) }
 {
     match label_of(decided.policies, 0, entry.profile.as_slice()) {
         Some(opening) => {
@@ -48,13 +50,16 @@ fn answer_now(
 }
 
 /// Appends why a request is answered so, where there is a profile that answers it.
-fn push_why(out: &mut Vec<u8>, verdict: &Option<Verdict>) -> Result<(), AllocError> {
+fn push_why(out: &mut Vec<u8>, verdict: &Option<Verdict>) -> Result<(), AllocError>
+    ensures { OnOk result (out.new.items ≡ out.old.items ++ reasons_if (option_map told verdict.now)) }
+{
     match verdict {
         Some(verdict) => push_reasons(out, verdict),
         None => Ok(()),
     }
 }
 
+#[tactic(auto, unfolding(crate::specs::Against::change_text))]
 fn push_change(
     out: &mut Vec<u8>,
     alloc: Global,
@@ -62,7 +67,9 @@ fn push_change(
     entry: &Entry,
     now: Now,
     verdict: &Option<Verdict>,
-) -> Result<(), AllocError> {
+) -> Result<(), AllocError>
+    ensures { OnOk result (out.new.items ≡ out.old.items ++ change_text (map (λ log. log.now) logs.now) entry.now now (option_map told verdict.now)) }
+{
     push_arrow(out, entry.then, now)?;
     push_rest(out, alloc, logs, entry)?;
     push_why(out, verdict)
@@ -76,6 +83,7 @@ fn is_shown(wants_all: bool, then: Then, now: Now) -> bool
 }
 
 /// Appends a request with its answers, where it is shown, and gives what it is answered now.
+#[tactic(auto, unfolding(crate::specs::Against::shown_text))]
 fn push_shown(
     out: &mut Vec<u8>,
     alloc: Global,
@@ -84,7 +92,8 @@ fn push_shown(
     wants_all: bool,
     entry: &Entry,
 ) -> Result<Now, AllocError>
-    ensures { IfOk result (λ now. now ≡ now_of decided.entry entry.now) }
+    ensures now { IfOk result (λ now. now ≡ now_of decided.entry entry.now) }
+    ensures text { OnOk result (out.new.items ≡ out.old.items ++ shown_text (map (λ log. log.now) logs.now) decided.entry wants_all entry.now) }
 {
     let (now, verdict) = answer_now(alloc, decided, entry)?;
     if is_shown(wants_all, entry.then, now) {
@@ -94,6 +103,7 @@ fn push_shown(
 }
 
 /// Appends the requests that are shown, and counts the answers of all.
+#[tactic(auto, unfolding(crate::specs::Against::changes_text))]
 fn push_all_shown(
     out: &mut Vec<u8>,
     alloc: Global,
@@ -102,7 +112,8 @@ fn push_all_shown(
     wants_all: bool,
     entries: &[&Entry],
 ) -> Result<Counts, AllocError>
-    ensures { IfOk result (λ counts. IsNewlyDenied decided.entry (map (λ e. e.now) entries.now) counts) }
+    ensures newly { IfOk result (λ counts. IsNewlyDenied decided.entry (map (λ e. e.now) entries.now) counts) }
+    ensures text { OnOk result (out.new.items ≡ out.old.items ++ changes_text (map (λ log. log.now) logs.now) decided.entry wants_all (map (λ e. e.now) entries.now)) }
 {
     let mut counts = Counts::none();
     for entry in entries {
@@ -145,6 +156,25 @@ fn push_counts(out: &mut Vec<u8>, counts: &Counts) -> Result<(), AllocError>
     push_row(out, counts, Then::Granted)
 }
 
+/// Appends of requests as they stand here those that are shown, the skipped lines where they are wanted, and how many each answer has.
+fn push_found(
+    out: &mut Vec<u8>,
+    alloc: Global,
+    logs: &[&[u8]],
+    report: &LogReport<'_>,
+    decided: Decided<'_>,
+    wants_all: bool,
+    entries: &[&Entry],
+) -> Result<Counts, AllocError>
+    ensures newly { IfOk result (λ counts. IsNewlyDenied decided.entry (map (λ e. e.now) entries.now) counts) }
+    ensures text { IfOk result (λ counts. out.new.items ≡ out.old.items ++ (changes_text (map (λ log. log.now) logs.now) decided.entry wants_all (map (λ e. e.now) entries.now) ++ each_skipped_text (map (λ log. log.now) logs.now) report.now ++ rows_text counts)) }
+{
+    let counts = push_all_shown(out, alloc, logs, decided, wants_all, entries)?;
+    push_skipped_lines(out, logs, report)?;
+    push_counts(out, &counts)?;
+    Ok(counts)
+}
+
 /// Appends which requests of the logs are answered otherwise now, with the rules that decide, the skipped lines where they are
 /// wanted, and how many each answer has.
 pub fn push_against(
@@ -155,13 +185,11 @@ pub fn push_against(
     decided: Decided<'_>,
     wants_all: bool,
 ) -> Result<Counts, AllocError>
-    ensures { IfOk result (λ counts. (ordered : List Entry) × IsInOrder profile_of report.now.entries.items ordered × IsNewlyDenied decided.entry ordered counts) }
+    ensures { IfOk result (λ counts. (text : List ℕ) × IsAgainstText (map (λ log. log.now) logs.now) decided.entry wants_all report.now counts text × (out.new.items ≡ out.old.items ++ text)) }
 {
     let entries = report.in_order(alloc)?;
     let listed = entries.as_slice();
-    let counts = push_all_shown(out, alloc, logs, decided, wants_all, listed)?;
-    push_skipped_lines(out, logs, report)?;
-    push_counts(out, &counts)?;
+    let counts = push_found(out, alloc, logs, report, decided, wants_all, listed)?;
     Ok(counts)
 }
 
