@@ -1,13 +1,20 @@
 //! How a policy answers now what logs say.
 
-ghost use Rattle.std.specs.Prelude.{◌≡◌, ◌++◌, OnOk, IfOk};
-ghost use Rattle.aa_findings.specs.Answers.{row_of, column_of};
-ghost use Rattle.aa_findings.specs.Counts.{count_in};
-ghost use Rattle.aa_reports.specs.Printed.{arrow_text, count_line};
-ghost use Rattle.aa_reports.specs.Replayed.{now_for};
+ghost use Rattle.std.specs.Prelude.{ℕ, ◌≡◌, ◌++◌, ◌||◌, true, false, List, [], map, option_map, OnOk, IfOk};
+ghost use Rattle.aa_texts.specs.Faults.{with_commas};
+ghost use Rattle.aa_findings.specs.Answers.{changes};
+ghost use Rattle.aa_verdicts.specs.Told.{told};
+ghost use Rattle.aa_reports.specs.declared.logging.Entry.{Entry};
+ghost use Rattle.aa_reports.specs.Orders.{profile_of, IsInOrder};
+ghost use Rattle.aa_reports.specs.Printed.{arrow_text, each_skipped_text};
+ghost use Rattle.aa_reports.specs.Commas.{more_of, is_some_of};
+ghost use Rattle.aa_reports.specs.Against.{now_of, verdict_of, IsNewlyDenied, reasons_if, change_text, shown_text, changes_text, IsAgainstText, cell_line, row_text, rows_text, json_count, json_cell, json_row, json_cells};
 
-use crate::listed::{push_count_member, push_entry_members, push_json_rest, push_word_member};
-use crate::logging::{Entry, LogReport, push_rest, push_skipped_lines};
+use crate::listed::{
+    push_comma, push_count_member, push_entry_members, push_json_rest, push_word_member,
+};
+use crate::logging::{Entry, LogReport};
+use crate::printing::{push_rest, push_skipped_lines};
 use aa_findings::{Counts, Now, answered, is_change, now_name, then_name};
 use aa_logs::Then;
 use aa_mediate::label_of;
@@ -29,7 +36,8 @@ fn answer_now(
     decided: Decided<'_>,
     entry: &Entry,
 ) -> Result<(Now, Option<Verdict>), AllocError>
-    ensures { IfOk result (λ r. r.0 ≡ now_for decided.entry.policies.now entry.now.profile.items entry.now.request) }
+    ensures now { IfOk result (λ r. r.0 ≡ now_of decided.entry entry.now) }
+    ensures why { IfOk result (λ r. option_map told r.1 ≡ verdict_of decided.entry entry.now) }
 {
     match label_of(decided.policies, 0, entry.profile.as_slice()) {
         Some(opening) => {
@@ -41,30 +49,83 @@ fn answer_now(
     }
 }
 
+/// Appends why a request is answered so, where there is a profile that answers it.
+fn push_why(out: &mut Vec<u8>, verdict: &Option<Verdict>) -> Result<(), AllocError>
+    ensures { OnOk result (out.new.items ≡ out.old.items ++ reasons_if (option_map told verdict.now)) }
+{
+    match verdict {
+        Some(verdict) => push_reasons(out, verdict),
+        None => Ok(()),
+    }
+}
+
+#[tactic(auto, unfolding(crate::specs::Against::change_text))]
 fn push_change(
     out: &mut Vec<u8>,
     alloc: Global,
     logs: &[&[u8]],
     entry: &Entry,
     now: Now,
-    verdict: Option<Verdict>,
-) -> Result<(), AllocError> {
+    verdict: &Option<Verdict>,
+) -> Result<(), AllocError>
+    ensures { OnOk result (out.new.items ≡ out.old.items ++ change_text (map (λ log. log.now) logs.now) entry.now now (option_map told verdict.now)) }
+{
     push_arrow(out, entry.then, now)?;
     push_rest(out, alloc, logs, entry)?;
-    match verdict {
-        Some(verdict) => push_reasons(out, &verdict),
-        None => Ok(()),
-    }
+    push_why(out, verdict)
 }
 
-/// What was, in the order in which it is printed.
-const THEN: [Then; 3] = [Then::Denied, Then::Allowed, Then::Granted];
+/// Whether a request is shown that is answered so now.
+fn is_shown(wants_all: bool, then: Then, now: Now) -> bool
+    ensures { result ≡ (wants_all || changes then now) }
+{
+    wants_all || is_change(then, now)
+}
 
-/// What is now, in the order in which it is printed.
-const NOW: [Now; 4] = [Now::Denied, Now::Allowed, Now::Granted, Now::NoProfile];
+/// Appends a request with its answers, where it is shown, and gives what it is answered now.
+#[tactic(auto, unfolding(crate::specs::Against::shown_text))]
+fn push_shown(
+    out: &mut Vec<u8>,
+    alloc: Global,
+    logs: &[&[u8]],
+    decided: Decided<'_>,
+    wants_all: bool,
+    entry: &Entry,
+) -> Result<Now, AllocError>
+    ensures now { IfOk result (λ now. now ≡ now_of decided.entry entry.now) }
+    ensures text { OnOk result (out.new.items ≡ out.old.items ++ shown_text (map (λ log. log.now) logs.now) decided.entry wants_all entry.now) }
+{
+    let (now, verdict) = answer_now(alloc, decided, entry)?;
+    if is_shown(wants_all, entry.then, now) {
+        push_change(out, alloc, logs, entry, now, &verdict)?;
+    }
+    Ok(now)
+}
 
+/// Appends the requests that are shown, and counts the answers of all.
+#[tactic(auto, unfolding(crate::specs::Against::changes_text))]
+fn push_all_shown(
+    out: &mut Vec<u8>,
+    alloc: Global,
+    logs: &[&[u8]],
+    decided: Decided<'_>,
+    wants_all: bool,
+    entries: &[&Entry],
+) -> Result<Counts, AllocError>
+    ensures newly { IfOk result (λ counts. IsNewlyDenied decided.entry (map (λ e. e.now) entries.now) counts) }
+    ensures text { OnOk result (out.new.items ≡ out.old.items ++ changes_text (map (λ log. log.now) logs.now) decided.entry wants_all (map (λ e. e.now) entries.now)) }
+{
+    let mut counts = Counts::none();
+    for entry in entries {
+        let now = push_shown(out, alloc, logs, decided, wants_all, entry)?;
+        counts.add(entry.then, now);
+    }
+    Ok(counts)
+}
+
+#[tactic(auto, unfolding(crate::specs::Against::cell_line))]
 fn push_count(out: &mut Vec<u8>, counts: &Counts, then: Then, now: Now) -> Result<(), AllocError>
-    ensures { OnOk result (out.new.items ≡ out.old.items ++ count_line then now (count_in (row_of then) (column_of now) counts.now.rows)) }
+    ensures { OnOk result (out.new.items ≡ out.old.items ++ cell_line counts.now then now) }
 {
     let count = counts.count(then, now);
     if count == 0 {
@@ -76,13 +137,42 @@ fn push_count(out: &mut Vec<u8>, counts: &Counts, then: Then, now: Now) -> Resul
     push_text(out, "\n")
 }
 
-fn push_counts(out: &mut Vec<u8>, counts: &Counts) -> Result<(), AllocError> {
-    for then in &THEN {
-        for now in &NOW {
-            push_count(out, counts, *then, *now)?;
-        }
-    }
-    Ok(())
+#[tactic(auto, unfolding(crate::specs::Against::row_text))]
+fn push_row(out: &mut Vec<u8>, counts: &Counts, then: Then) -> Result<(), AllocError>
+    ensures { OnOk result (out.new.items ≡ out.old.items ++ row_text counts.now then) }
+{
+    push_count(out, counts, then, Now::Denied)?;
+    push_count(out, counts, then, Now::Allowed)?;
+    push_count(out, counts, then, Now::Granted)?;
+    push_count(out, counts, then, Now::NoProfile)
+}
+
+#[tactic(auto, unfolding(crate::specs::Against::rows_text))]
+fn push_counts(out: &mut Vec<u8>, counts: &Counts) -> Result<(), AllocError>
+    ensures { OnOk result (out.new.items ≡ out.old.items ++ rows_text counts.now) }
+{
+    push_row(out, counts, Then::Denied)?;
+    push_row(out, counts, Then::Allowed)?;
+    push_row(out, counts, Then::Granted)
+}
+
+/// Appends of requests as they stand here those that are shown, the skipped lines where they are wanted, and how many each answer has.
+fn push_found(
+    out: &mut Vec<u8>,
+    alloc: Global,
+    logs: &[&[u8]],
+    report: &LogReport<'_>,
+    decided: Decided<'_>,
+    wants_all: bool,
+    entries: &[&Entry],
+) -> Result<Counts, AllocError>
+    ensures newly { IfOk result (λ counts. IsNewlyDenied decided.entry (map (λ e. e.now) entries.now) counts) }
+    ensures text { IfOk result (λ counts. out.new.items ≡ out.old.items ++ (changes_text (map (λ log. log.now) logs.now) decided.entry wants_all (map (λ e. e.now) entries.now) ++ each_skipped_text (map (λ log. log.now) logs.now) report.now ++ rows_text counts)) }
+{
+    let counts = push_all_shown(out, alloc, logs, decided, wants_all, entries)?;
+    push_skipped_lines(out, logs, report)?;
+    push_counts(out, &counts)?;
+    Ok(counts)
 }
 
 /// Appends which requests of the logs are answered otherwise now, with the rules that decide, the skipped lines where they are
@@ -94,21 +184,26 @@ pub fn push_against(
     report: &LogReport<'_>,
     decided: Decided<'_>,
     wants_all: bool,
-) -> Result<Counts, AllocError> {
-    let mut counts = Counts::none();
-    for number in &report.order(alloc)? {
-        let Some(entry) = report.entries.get(*number) else {
-            return Ok(counts);
-        };
-        let (now, verdict) = answer_now(alloc, decided, entry)?;
-        counts.add(entry.then, now);
-        if wants_all || is_change(entry.then, now) {
-            push_change(out, alloc, logs, entry, now, verdict)?;
-        }
-    }
-    push_skipped_lines(out, logs, report)?;
-    push_counts(out, &counts)?;
+) -> Result<Counts, AllocError>
+    ensures { IfOk result (λ counts. (text : List ℕ) × IsAgainstText (map (λ log. log.now) logs.now) decided.entry wants_all report.now counts text × (out.new.items ≡ out.old.items ++ text)) }
+{
+    let entries = report.in_order(alloc)?;
+    let listed = entries.as_slice();
+    let counts = push_found(out, alloc, logs, report, decided, wants_all, listed)?;
     Ok(counts)
+}
+
+/// Appends the member of why a request is answered so, where there is a profile that answers it.
+fn push_json_why(
+    out: &mut Vec<u8>,
+    alloc: Global,
+    verdict: &Option<Verdict>,
+) -> Result<(), AllocError> {
+    let Some(verdict) = verdict else {
+        return Ok(());
+    };
+    push_text(out, ",\"answer\":")?;
+    push_json_verdict(out, alloc, verdict)
 }
 
 fn push_json_change(
@@ -117,16 +212,66 @@ fn push_json_change(
     logs: &[&[u8]],
     entry: &Entry,
     now: Now,
-    verdict: Option<Verdict>,
+    verdict: &Option<Verdict>,
 ) -> Result<(), AllocError> {
     push_text(out, "{")?;
     push_entry_members(out, alloc, logs, entry)?;
     push_text(out, ",")?;
     push_word_member(out, "now", now_name(now))?;
-    if let Some(verdict) = verdict {
-        push_text(out, ",\"answer\":")?;
-        push_json_verdict(out, alloc, &verdict)?;
+    push_json_why(out, alloc, verdict)?;
+    push_text(out, "}")
+}
+
+/// Appends a request with its answers, where it is shown, behind a comma if one stands before, and gives what it is answered now.
+fn push_json_shown(
+    out: &mut Vec<u8>,
+    alloc: Global,
+    logs: &[&[u8]],
+    decided: Decided<'_>,
+    wants_all: bool,
+    is_later: bool,
+    entry: &Entry,
+) -> Result<Now, AllocError>
+    ensures { IfOk result (λ now. now ≡ now_of decided.entry entry.now) }
+{
+    let (now, verdict) = answer_now(alloc, decided, entry)?;
+    if is_shown(wants_all, entry.then, now) {
+        push_comma(out, is_later)?;
+        push_json_change(out, alloc, logs, entry, now, &verdict)?;
     }
+    Ok(now)
+}
+
+/// Appends the requests that are shown with a comma between two of them, and counts the answers of all.
+fn push_json_all_shown(
+    out: &mut Vec<u8>,
+    alloc: Global,
+    logs: &[&[u8]],
+    decided: Decided<'_>,
+    wants_all: bool,
+    entries: &[&Entry],
+) -> Result<Counts, AllocError>
+    ensures { IfOk result (λ counts. IsNewlyDenied decided.entry (map (λ e. e.now) entries.now) counts) }
+{
+    let mut counts = Counts::none();
+    let mut is_later = false;
+    for entry in entries {
+        let now = push_json_shown(out, alloc, logs, decided, wants_all, is_later, entry)?;
+        counts.add(entry.then, now);
+        is_later = is_later || is_shown(wants_all, entry.then, now);
+    }
+    Ok(counts)
+}
+
+#[tactic(auto, unfolding(crate::specs::Against::json_count))]
+fn push_json_number(out: &mut Vec<u8>, then: Then, now: Now, count: u64) -> Result<(), AllocError>
+    ensures { OnOk result (out.new.items ≡ out.old.items ++ json_count then now count) }
+{
+    push_text(out, "{")?;
+    push_word_member(out, "then", then_name(then))?;
+    push_text(out, ",")?;
+    push_word_member(out, "now", now_name(now))?;
+    push_count_member(out, "count", count)?;
     push_text(out, "}")
 }
 
@@ -137,29 +282,42 @@ fn push_json_count(
     then: Then,
     now: Now,
     is_later: bool,
-) -> Result<bool, AllocError> {
+) -> Result<bool, AllocError>
+    ensures later { IfOk result (λ later. later ≡ (is_later || is_some_of (json_cell counts.now then now))) }
+    ensures text { OnOk result (out.new.items ≡ out.old.items ++ more_of is_later (json_cell counts.now then now)) }
+{
     let count = counts.count(then, now);
     if count == 0 {
         return Ok(is_later);
     }
-    push_text(out, if is_later { ",{" } else { "{" })?;
-    push_word_member(out, "then", then_name(then))?;
-    push_text(out, ",")?;
-    push_word_member(out, "now", now_name(now))?;
-    push_count_member(out, "count", count)?;
-    push_text(out, "}")?;
+    push_comma(out, is_later)?;
+    push_json_number(out, then, now, count)?;
     Ok(true)
 }
 
-fn push_json_counts(out: &mut Vec<u8>, counts: &Counts) -> Result<(), AllocError> {
-    push_text(out, "],\"counts\":[")?;
-    let mut is_later = false;
-    for then in &THEN {
-        for now in &NOW {
-            is_later = push_json_count(out, counts, *then, *now, is_later)?;
-        }
-    }
-    push_text(out, "]")
+fn push_json_row(
+    out: &mut Vec<u8>,
+    counts: &Counts,
+    then: Then,
+    is_later: bool,
+) -> Result<bool, AllocError>
+    ensures later { IfOk result (λ later. later ≡ (is_later || is_some_of (json_row counts.now then))) }
+    ensures text { OnOk result (out.new.items ≡ out.old.items ++ more_of is_later (json_row counts.now then)) }
+{
+    let first = push_json_count(out, counts, then, Now::Denied, is_later)?;
+    let second = push_json_count(out, counts, then, Now::Allowed, first)?;
+    let third = push_json_count(out, counts, then, Now::Granted, second)?;
+    let last = push_json_count(out, counts, then, Now::NoProfile, third)?;
+    Ok(last)
+}
+
+fn push_json_counts(out: &mut Vec<u8>, counts: &Counts) -> Result<(), AllocError>
+    ensures { OnOk result (out.new.items ≡ out.old.items ++ with_commas (json_cells counts.now)) }
+{
+    let first = push_json_row(out, counts, Then::Denied, false)?;
+    let second = push_json_row(out, counts, Then::Allowed, first)?;
+    let _ = push_json_row(out, counts, Then::Granted, second)?;
+    Ok(())
 }
 
 /// Appends the same as one JSON object and a line end.
@@ -170,23 +328,17 @@ pub fn push_json_against(
     report: &LogReport<'_>,
     decided: Decided<'_>,
     wants_all: bool,
-) -> Result<Counts, AllocError> {
-    let mut counts = Counts::none();
-    let mut is_later = false;
+) -> Result<Counts, AllocError>
+    ensures { IfOk result (λ counts. (ordered : List Entry) × IsInOrder profile_of report.now.entries.items ordered × IsNewlyDenied decided.entry ordered counts) }
+{
+    let entries = report.in_order(alloc)?;
+    let reasons = report.reasons_in_order(alloc)?;
     push_text(out, "{\"requests\":[")?;
-    for number in &report.order(alloc)? {
-        let Some(entry) = report.entries.get(*number) else {
-            return Ok(counts);
-        };
-        let (now, verdict) = answer_now(alloc, decided, entry)?;
-        counts.add(entry.then, now);
-        if wants_all || is_change(entry.then, now) {
-            push_text(out, if is_later { "," } else { "" })?;
-            push_json_change(out, alloc, logs, entry, now, verdict)?;
-            is_later = true;
-        }
-    }
+    let listed = entries.as_slice();
+    let counts = push_json_all_shown(out, alloc, logs, decided, wants_all, listed)?;
+    push_text(out, "],\"counts\":[")?;
     push_json_counts(out, &counts)?;
-    push_json_rest(out, alloc, logs, report)?;
+    push_text(out, "]")?;
+    push_json_rest(out, alloc, logs, reasons.as_slice(), report)?;
     Ok(counts)
 }

@@ -6,6 +6,7 @@ mod job;
 mod lines;
 mod listed;
 mod logging;
+mod printing;
 mod shared;
 
 pub use aa_findings::{Counts, LogTask, Now};
@@ -15,8 +16,6 @@ pub use against::{push_against, push_json_against};
 pub use job::{JobFault, JobTasks, push_job};
 pub use lines::{Lines, read_log};
 pub use listed::push_json_report;
-pub use logging::{
-    Entry, LinePlace, LogReport, SkippedLines, push_counts, push_entry, push_line_place,
-    push_report, push_rest, push_skipped_lines,
-};
+pub use logging::{Entry, LinePlace, LogReport, SkippedLines};
+pub use printing::{push_entry, push_line_place, push_report, push_rest, push_skipped_lines};
 pub use shared::shared_sources;

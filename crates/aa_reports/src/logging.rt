@@ -1,7 +1,14 @@
 //! What `log` finds in logs.
 
-ghost use Rattle.std.specs.Prelude.{◌≡◌, ◌<◌, ◌≤◌, ◌++◌, [], map, flat_map, decimal, slice_get, unwrap_or, option_map, vec_len, OnOk, IfErr};
-ghost use Rattle.aa_reports.specs.Printed.{place_text, rest_text, entry_line, reason_text, skipped_line, skipped_at};
+ghost use Rattle.std.specs.Prelude.{◌≡◌, ◌+◌, ◌-◌, ◌^◌, ◌<◌, ◌≤◌, ◌++◌, ◌∷◌, [], Some, map, min, length, option_map, option_to_list, slice_get, slice_set, OnOk, IfOk, IfErr, IfSome};
+ghost use Rattle.std.specs.Ordering.{nat_cmp};
+ghost use Rattle.std.specs.Cmp.Lexicographic.{slice_cmp};
+ghost use Rattle.std.specs.HashMap.{get_by};
+ghost use Rattle.std.specs.Str.{bytes_eq};
+ghost use Rattle.aa_request_words.specs.Written.{word_text};
+ghost use Rattle.aa_reports.specs.declared.logging.Entry.{Entry};
+ghost use Rattle.aa_reports.specs.Orders.{up_to, key_at, items_at, profile_of, reason_key, IsOrder, IsInOrder};
+ghost use Rattle.aa_reports.specs.Printed.{key_text};
 
 use crate::lines::Lines;
 use aa_asks::push_word;
@@ -9,15 +16,16 @@ use aa_findings::{named, then_name};
 use aa_logs::{Choice, Line, Reason, Record, Then, is_chosen, line_of};
 use aa_output::push_name;
 use aa_requests::Request;
-use aa_units::{Unread, push_number, push_text};
+use aa_units::{Unread, push_text};
 use std::alloc::{AllocError, Global};
-use std::collections::{BTreeMap, HashMap};
+use std::cmp::Ordering;
+use std::collections::HashMap;
 
 /// The most distinct requests of the logs of a call.
 const MAX_DISTINCT: usize = 1_000_000;
 
 /// Where a line stands.
-#[derive(Drop)]
+#[derive(Clone, Copy, Debug)]
 pub struct LinePlace {
     /// The log's number among those of the command line, from 0.
     pub log: usize,
@@ -54,8 +62,8 @@ pub struct LogReport<'a> {
     pub log: usize,
     pub entries: Vec<Entry>,
     numbers: HashMap<Vec<u8>, usize>,
-    /// By the reason's place in the order in which reasons are printed, and its name.
-    pub skipped: BTreeMap<(u8, &'static str), SkippedLines>,
+    /// The skipped lines by their reasons, in the order in which these came first.
+    pub skipped: Vec<SkippedLines>,
     /// The skipped lines one by one, where they are wanted.
     pub each_skipped: Option<Vec<SkippedLines>>,
     pub lines: u64,
@@ -64,6 +72,149 @@ pub struct LogReport<'a> {
     pub other: u64,
     /// How many lines aren't wanted, where not all are.
     pub left_out: Option<u64>,
+}
+
+/// A request as one word.
+fn word_of(alloc: Global, request: &Request) -> Result<Vec<u8>, AllocError>
+    ensures { IfOk result (λ word. word.items ≡ word_text request.now) }
+{
+    let mut word = Vec::new(alloc);
+    push_word(&mut word, request)?;
+    Ok(word)
+}
+
+/// A request as it is printed.
+#[tactic(auto, unfolding(crate::specs::Printed::key_text))]
+fn key_of(alloc: Global, then: Then, profile: &[u8], word: &[u8]) -> Result<Vec<u8>, AllocError>
+    ensures { IfOk result (λ key. key.items ≡ key_text then profile.now word.now) }
+{
+    let mut key = Vec::new(alloc);
+    push_text(&mut key, then_name(then))?;
+    push_text(&mut key, " ")?;
+    push_name(&mut key, alloc, profile)?;
+    push_text(&mut key, " ")?;
+    key.extend_from_slice(word)?;
+    Ok(key)
+}
+
+/// The number of the entry of that key.
+fn number_of(numbers: &HashMap<Vec<u8>, usize>, key: &[u8]) -> Option<usize>
+    ensures { result ≡ get_by (λ k. bytes_eq key.now k.items) numbers.now }
+{
+    numbers.get(key).copied()
+}
+
+/// Counts an entry once more.
+fn count_again(entries: &mut Vec<Entry>, number: usize)
+    ensures len { length entries.new.items ≡ length entries.old.items }
+    ensures counted { (e : Entry) → slice_get entries.old.items number ≡ Some e → entries.new.items ≡ slice_set entries.old.items number (record e { count = min (e.count + 1) (2 ^ 64 - 1) }) }
+{
+    if number < entries.len() {
+        let entry = &mut entries[number];
+        entry.count = entry.count.saturating_add(1);
+    }
+}
+
+/// Notes a request as a new one, if there are few enough.
+fn add_entry(
+    entries: &mut Vec<Entry>,
+    numbers: &mut HashMap<Vec<u8>, usize>,
+    key: Vec<u8>,
+    entry: Entry,
+) -> Result<(), Unread>
+    ensures entries { OnOk result (entries.new.items ≡ entries.old.items ++ entry ∷ []) }
+    ensures room { length entries.old.items < 1000000 → IfErr result (λ why. why ≡ Unread.NoMemory) }
+    ensures most { OnOk result (length entries.old.items < 1000000) }
+{
+    if entries.len() >= MAX_DISTINCT {
+        return Err(Unread::TooLarge);
+    }
+    let _ = numbers.insert(key, entries.len())?;
+    entries.push(entry)?;
+    Ok(())
+}
+
+/// Counts a request once more, or notes it as a new one if there are few enough.
+fn count_request(
+    alloc: Global,
+    entries: &mut Vec<Entry>,
+    numbers: &mut HashMap<Vec<u8>, usize>,
+    asked: Record,
+    place: LinePlace,
+) -> Result<(), Unread>
+    ensures within { OnOk result (length entries.old.items ≤ 1000000 → length entries.new.items ≤ 1000000) }
+    ensures room { length entries.old.items < 1000000 → IfErr result (λ why. why ≡ Unread.NoMemory) }
+{
+    let Record {
+        then,
+        profile,
+        request,
+        ..
+    } = asked;
+    let word = word_of(alloc, &request)?;
+    let key = key_of(alloc, then, profile.as_slice(), word.as_slice())?;
+    if let Some(number) = number_of(numbers, key.as_slice()) {
+        count_again(entries, number);
+        return Ok(());
+    }
+    let entry = Entry {
+        then,
+        profile,
+        request,
+        word,
+        count: 1,
+        first: place,
+    };
+    add_entry(entries, numbers, key, entry)?;
+    Ok(())
+}
+
+/// Whether lines are skipped for that reason.
+fn is_for(skipped: &SkippedLines, reason: (u8, &'static str)) -> bool {
+    skipped.reason.0 == reason.0 && skipped.reason.1 == reason.1
+}
+
+/// The place of those that are skipped for that reason.
+fn place_of(skipped: &[SkippedLines], reason: (u8, &'static str)) -> Option<usize>
+    ensures { IfSome result (λ n. n < length skipped.now) }
+{
+    skipped.iter().position(|known| is_for(known, reason))
+}
+
+/// Counts a skipped line by its reason.
+fn count_reason(
+    skipped: &mut Vec<SkippedLines>,
+    reason: (u8, &'static str),
+    place: LinePlace,
+) -> Result<(), AllocError> {
+    let Some(number) = place_of(skipped.as_slice(), reason) else {
+        skipped.push(SkippedLines {
+            reason,
+            count: 1,
+            first: place,
+        })?;
+        return Ok(());
+    };
+    let known = &mut skipped[number];
+    known.count = known.count.saturating_add(1);
+    Ok(())
+}
+
+/// Notes a skipped line, where each is wanted.
+fn note_each(
+    each: &mut Option<Vec<SkippedLines>>,
+    reason: (u8, &'static str),
+    place: LinePlace,
+) -> Result<(), AllocError> {
+    let Some(each) = each else {
+        return Ok(());
+    };
+    each.push(SkippedLines {
+        reason,
+        count: 1,
+        first: place,
+    })?;
+    Ok(())
 }
 
 impl<'a> LogReport<'a> {
@@ -77,7 +228,7 @@ impl<'a> LogReport<'a> {
             log: 0,
             entries: Vec::new(alloc),
             numbers: HashMap::new(alloc),
-            skipped: BTreeMap::new(alloc),
+            skipped: Vec::new(alloc),
             each_skipped: if wants_each {
                 Some(Vec::new(alloc))
             } else {
@@ -91,72 +242,26 @@ impl<'a> LogReport<'a> {
         }
     }
 
-    /// Counts a request once more, or notes it as a new one if there are few enough.
-    fn count_record(&mut self, alloc: Global, record: Record, line: u64) -> Result<(), Unread>
-        ensures within { OnOk result (vec_len self.old.entries ≤ MAX_DISTINCT → vec_len self.new.entries ≤ MAX_DISTINCT) }
-        ensures room { vec_len self.old.entries < MAX_DISTINCT → IfErr result (λ why. why ≡ Unread.NoMemory) }
-    {
-        let Record {
-            then,
-            profile,
-            request,
-            ..
-        } = record;
-        let mut word = Vec::new(alloc);
-        push_word(&mut word, &request)?;
-        let mut key = Vec::new(alloc);
-        push_text(&mut key, then_name(then))?;
-        push_text(&mut key, " ")?;
-        push_name(&mut key, alloc, profile.as_slice())?;
-        push_text(&mut key, " ")?;
-        key.extend_from_slice(word.as_slice())?;
-        if let Some(number) = self.numbers.get(key.as_slice()) {
-            if let Some(entry) = self.entries.get_mut(*number) {
-                entry.count = entry.count.saturating_add(1);
-            }
-            return Ok(());
+    /// Where a line of the log that is read stands.
+    fn place(&self, line: u64) -> LinePlace {
+        LinePlace {
+            log: self.log,
+            line,
         }
-        if self.entries.len() >= MAX_DISTINCT {
-            return Err(Unread::TooLarge);
-        }
-        let _ = self.numbers.insert(key, self.entries.len())?;
-        self.entries.push(Entry {
-            then,
-            profile,
-            request,
-            word,
-            count: 1,
-            first: LinePlace {
-                log: self.log,
-                line,
-            },
-        })?;
-        Ok(())
+    }
+
+    fn count_record(&mut self, alloc: Global, asked: Record, line: u64) -> Result<(), Unread> {
+        let place = self.place(line);
+        self.requests = self.requests.saturating_add(1);
+        count_request(alloc, &mut self.entries, &mut self.numbers, asked, place)
     }
 
     fn count_skipped(&mut self, reason: Reason, line: u64) -> Result<(), AllocError> {
+        let place = self.place(line);
         let reason = named(reason);
-        let log = self.log;
-        if let Some(each) = &mut self.each_skipped {
-            each.push(SkippedLines {
-                reason,
-                count: 1,
-                first: LinePlace { log, line },
-            })?;
-        }
-        if let Some(known) = self.skipped.get_mut(&reason) {
-            known.count = known.count.saturating_add(1);
-            return Ok(());
-        }
-        let _ = self.skipped.insert(
-            reason,
-            SkippedLines {
-                reason,
-                count: 1,
-                first: LinePlace { log, line },
-            },
-        )?;
-        Ok(())
+        self.skipped_count = self.skipped_count.saturating_add(1);
+        note_each(&mut self.each_skipped, reason, place)?;
+        count_reason(&mut self.skipped, reason, place)
     }
 
     /// Whether a line is left out; it is counted then.
@@ -183,35 +288,27 @@ impl<'a> LogReport<'a> {
         }
         match found {
             Line::Other => Ok(()),
-            Line::Skipped(reason) => {
-                self.skipped_count = self.skipped_count.saturating_add(1);
-                Ok(self.count_skipped(reason, number)?)
-            }
-            Line::Asks(record) => {
-                self.requests = self.requests.saturating_add(1);
-                self.count_record(alloc, record, number)
-            }
+            Line::Skipped(reason) => Ok(self.count_skipped(reason, number)?),
+            Line::Asks(record) => self.count_record(alloc, record, number),
         }
     }
 
-    /// The numbers of the entries, by profile in byte order, and each profile's in the logs' order.
-    pub fn order(&self, alloc: Global) -> Result<Vec<usize>, AllocError> {
-        let mut by_profile: BTreeMap<&[u8], Vec<usize>> = BTreeMap::new(alloc);
-        for (number, entry) in self.entries.iter().enumerate() {
-            let profile = entry.profile.as_slice();
-            if let Some(numbers) = by_profile.get_mut(profile) {
-                numbers.push(number)?;
-            } else {
-                let mut numbers = Vec::new(alloc);
-                numbers.push(number)?;
-                let _ = by_profile.insert(profile, numbers)?;
-            }
-        }
-        let mut order = Vec::new(alloc);
-        for numbers in by_profile.values() {
-            order.extend_from_slice(numbers.as_slice())?;
-        }
-        Ok(order)
+    /// The entries, by profile in byte order, and each profile's in the logs' order.
+    pub fn in_order(&self, alloc: Global) -> Result<Vec<&Entry>, AllocError>
+        ensures { IfOk result (λ entries. IsInOrder profile_of self.now.entries.items (map (λ e. e.now) entries.items)) }
+    {
+        let entries = self.entries.as_slice();
+        let numbers = order_by_profile(alloc, entries)?;
+        entries_at(alloc, entries, numbers.as_slice())
+    }
+
+    /// The skipped lines by their reasons, in the order in which reasons are printed.
+    pub fn reasons_in_order(&self, alloc: Global) -> Result<Vec<&SkippedLines>, AllocError>
+        ensures { IfOk result (λ reasons. IsInOrder reason_key self.now.skipped.items (map (λ s. s.now) reasons.items)) }
+    {
+        let skipped = self.skipped.as_slice();
+        let numbers = order_by_reason(alloc, skipped)?;
+        skipped_at(alloc, skipped, numbers.as_slice())
     }
 }
 
@@ -221,162 +318,131 @@ impl Lines for LogReport<'_> {
     }
 }
 
-/// Appends a log's path, by its number.
-fn push_path(out: &mut Vec<u8>, logs: &[&[u8]], log: usize) -> Result<(), AllocError>
-    ensures { OnOk result (out.new.items ≡ out.old.items ++ unwrap_or (slice_get (map (λ log. log.now) logs.now) log) []) }
+/// The numbers below one, in order.
+fn up_to(alloc: Global, end: usize) -> Result<Vec<usize>, AllocError>
+    ensures { IfOk result (λ numbers. numbers.items ≡ up_to end) }
 {
-    match logs.get(log) {
-        Some(path) => out.extend_from_slice(path),
-        None => Ok(()),
+    let mut numbers = Vec::new(alloc);
+    for number in 0..end {
+        numbers.push(number)?;
+    }
+    Ok(numbers)
+}
+
+/// The profile of the entry of that number.
+fn profile_at(entries: &[Entry], number: usize) -> &[u8]
+    ensures { result.now ≡ key_at (map profile_of entries.entry.now) number }
+{
+    match entries.get(number) {
+        Some(entry) => entry.profile.as_slice(),
+        None => &[],
     }
 }
 
-/// Appends a log's path and a line's number.
-pub fn push_line_place(
-    out: &mut Vec<u8>,
-    logs: &[&[u8]],
-    place: &LinePlace,
-) -> Result<(), AllocError>
-    ensures { OnOk result (out.new.items ≡ out.old.items ++ place_text (map (λ log. log.now) logs.now) place.now) }
+fn by_profile(entries: &[Entry], a: usize, b: usize) -> Ordering
+    ensures { result ≡ slice_cmp nat_cmp (key_at (map profile_of entries.now) a) (key_at (map profile_of entries.now) b) }
 {
-    push_path(out, logs, place.log)?;
-    push_text(out, ":")?;
-    push_number(out, place.line)
+    profile_at(entries, a).cmp(profile_at(entries, b))
 }
 
-/// Appends a request with its count and its first place.
-pub fn push_entry(
-    out: &mut Vec<u8>,
-    alloc: Global,
-    logs: &[&[u8]],
-    entry: &Entry,
-) -> Result<(), AllocError>
-    ensures { OnOk result (out.new.items ≡ out.old.items ++ entry_line (map (λ log. log.now) logs.now) entry.now) }
+/// The numbers of entries by profile in byte order, and each profile's as they come.
+fn order_by_profile(alloc: Global, entries: &[Entry]) -> Result<Vec<usize>, AllocError>
+    ensures { IfOk result (λ numbers. IsOrder (map profile_of entries.now) numbers.items) }
 {
-    push_text(out, then_name(entry.then))?;
-    push_rest(out, alloc, logs, entry)
+    let mut numbers = up_to(alloc, entries.len())?;
+    numbers.sort_by(|a, b| by_profile(entries, *a, *b))?;
+    Ok(numbers)
 }
 
-/// Appends what stands behind what became of a request.
-pub fn push_rest(
-    out: &mut Vec<u8>,
-    alloc: Global,
-    logs: &[&[u8]],
-    entry: &Entry,
-) -> Result<(), AllocError>
-    ensures { OnOk result (out.new.items ≡ out.old.items ++ rest_text (map (λ log. log.now) logs.now) entry.now) }
+fn entry_at(entries: &[Entry], number: usize) -> Option<&Entry>
+    ensures { option_map (λ e. e.now) result ≡ slice_get entries.entry.now number }
 {
-    push_text(out, " ")?;
-    push_name(out, alloc, entry.profile.as_slice())?;
-    push_text(out, " ")?;
-    out.extend_from_slice(entry.word.as_slice())?;
-    push_text(out, " ")?;
-    push_number(out, entry.count)?;
-    push_text(out, " ")?;
-    push_line_place(out, logs, &entry.first)?;
-    push_text(out, "\n")
+    entries.get(number)
 }
 
-/// Appends a reason as it is printed.
-pub(crate) fn push_reason(out: &mut Vec<u8>, reason: (u8, &'static str)) -> Result<(), AllocError>
-    ensures { OnOk result (out.new.items ≡ out.old.items ++ reason_text reason.entry.0 reason.entry.1.now) }
+/// Adds an entry where there is one.
+fn add_found<'e>(found: &mut Vec<&'e Entry>, one: Option<&'e Entry>) -> Result<(), AllocError>
+    ensures { OnOk result (map (λ e. e.now) found.new.items ≡ map (λ e. e.now) found.old.items ++ option_to_list (option_map (λ e. e.now) one.entry)) }
 {
-    let (order, name) = reason;
-    push_text(out, if order == 0 { "rule:" } else { "" })?;
-    push_text(out, name)
-}
-
-fn push_skipped(out: &mut Vec<u8>, logs: &[&[u8]], skipped: &SkippedLines) -> Result<(), AllocError>
-    ensures { OnOk result (out.new.items ≡ out.old.items ++ skipped_line (map (λ log. log.now) logs.now) skipped.now) }
-{
-    push_text(out, "skipped ")?;
-    push_reason(out, skipped.reason)?;
-    push_text(out, " ")?;
-    push_number(out, skipped.count)?;
-    push_text(out, " ")?;
-    push_line_place(out, logs, &skipped.first)?;
-    push_text(out, "\n")
-}
-
-fn push_skipped_at(
-    out: &mut Vec<u8>,
-    logs: &[&[u8]],
-    skipped: &SkippedLines,
-) -> Result<(), AllocError>
-    ensures { OnOk result (out.new.items ≡ out.old.items ++ skipped_at (map (λ log. log.now) logs.now) skipped.now) }
-{
-    push_line_place(out, logs, &skipped.first)?;
-    push_text(out, ": skipped ")?;
-    push_reason(out, skipped.reason)?;
-    push_text(out, "\n")
-}
-
-fn push_each_skipped(
-    out: &mut Vec<u8>,
-    logs: &[&[u8]],
-    each: &[SkippedLines],
-) -> Result<(), AllocError>
-    ensures { OnOk result (out.new.items ≡ out.old.items ++ flat_map (skipped_at (map (λ log. log.now) logs.now)) each.now) }
-{
-    for one in each {
-        push_skipped_at(out, logs, one)?;
+    if let Some(one) = one {
+        found.push(one)?;
     }
     Ok(())
 }
 
-/// Appends the place of each skipped line and why it is skipped, where these are wanted.
-pub fn push_skipped_lines(
-    out: &mut Vec<u8>,
-    logs: &[&[u8]],
-    report: &LogReport<'_>,
-) -> Result<(), AllocError>
-    ensures { OnOk result (out.new.items ≡ out.old.items ++ unwrap_or (option_map (λ each. flat_map (skipped_at (map (λ log. log.now) logs.now)) each.items) report.now.each_skipped) []) }
-{
-    match &report.each_skipped {
-        Some(each) => push_each_skipped(out, logs, each.as_slice()),
-        None => Ok(()),
-    }
-}
-
-fn push_count(out: &mut Vec<u8>, what: &str, count: u64) -> Result<(), AllocError>
-    ensures { OnOk result (out.new.items ≡ out.old.items ++ (what.now ++ decimal count)) }
-{
-    push_text(out, what)?;
-    push_number(out, count)
-}
-
-/// Appends which lines ask nothing, and the counts of all.
-pub fn push_counts(
-    out: &mut Vec<u8>,
-    logs: &[&[u8]],
-    report: &LogReport<'_>,
-) -> Result<(), AllocError> {
-    push_skipped_lines(out, logs, report)?;
-    for skipped in report.skipped.values() {
-        push_skipped(out, logs, skipped)?;
-    }
-    push_count(out, "lines ", report.lines)?;
-    push_count(out, " requests ", report.requests)?;
-    push_count(out, " distinct ", report.entries.len() as u64)?;
-    push_count(out, " skipped ", report.skipped_count)?;
-    push_count(out, " other ", report.other)?;
-    if let Some(left_out) = report.left_out {
-        push_count(out, " left out ", left_out)?;
-    }
-    push_text(out, "\n")
-}
-
-/// Appends what the logs' lines ask, and what they don't.
-pub fn push_report(
-    out: &mut Vec<u8>,
+/// The entries of those numbers.
+fn entries_at<'e>(
     alloc: Global,
-    logs: &[&[u8]],
-    report: &LogReport<'_>,
-) -> Result<(), AllocError> {
-    for number in &report.order(alloc)? {
-        if let Some(entry) = report.entries.get(*number) {
-            push_entry(out, alloc, logs, entry)?;
-        }
+    entries: &'e [Entry],
+    numbers: &[usize],
+) -> Result<Vec<&'e Entry>, AllocError>
+    ensures { IfOk result (λ found. map (λ e. e.now) found.items ≡ items_at entries.entry.now numbers.now) }
+{
+    let mut found = Vec::new(alloc);
+    for number in numbers {
+        add_found(&mut found, entry_at(entries, *number))?;
     }
-    push_counts(out, logs, report)
+    Ok(found)
+}
+
+/// Reasons by the order in which they are printed: by their places in it, and those of one place by their names.
+fn compare_reasons(a: (u8, &'static str), b: (u8, &'static str)) -> Ordering
+    ensures { result ≡ slice_cmp nat_cmp (a.entry.0 ∷ a.entry.1.now) (b.entry.0 ∷ b.entry.1.now) }
+{
+    match a.0.cmp(&b.0) {
+        Ordering::Equal => a.1.cmp(b.1),
+        unlike => unlike,
+    }
+}
+
+fn by_reason(skipped: &[SkippedLines], a: usize, b: usize) -> Ordering
+    ensures { result ≡ slice_cmp nat_cmp (key_at (map reason_key skipped.now) a) (key_at (map reason_key skipped.now) b) }
+{
+    match (skipped.get(a), skipped.get(b)) {
+        (Some(a), Some(b)) => compare_reasons(a.reason, b.reason),
+        (Some(_), None) => Ordering::Greater,
+        (None, Some(_)) => Ordering::Less,
+        (None, None) => Ordering::Equal,
+    }
+}
+
+fn order_by_reason(alloc: Global, skipped: &[SkippedLines]) -> Result<Vec<usize>, AllocError>
+    ensures { IfOk result (λ numbers. IsOrder (map reason_key skipped.now) numbers.items) }
+{
+    let mut numbers = up_to(alloc, skipped.len())?;
+    numbers.sort_by(|a, b| by_reason(skipped, *a, *b))?;
+    Ok(numbers)
+}
+
+fn reason_at(skipped: &[SkippedLines], number: usize) -> Option<&SkippedLines>
+    ensures { option_map (λ s. s.now) result ≡ slice_get skipped.entry.now number }
+{
+    skipped.get(number)
+}
+
+/// Adds skipped lines where there are some.
+fn add_skipped<'s>(
+    found: &mut Vec<&'s SkippedLines>,
+    one: Option<&'s SkippedLines>,
+) -> Result<(), AllocError>
+    ensures { OnOk result (map (λ s. s.now) found.new.items ≡ map (λ s. s.now) found.old.items ++ option_to_list (option_map (λ s. s.now) one.entry)) }
+{
+    if let Some(one) = one {
+        found.push(one)?;
+    }
+    Ok(())
+}
+
+fn skipped_at<'s>(
+    alloc: Global,
+    skipped: &'s [SkippedLines],
+    numbers: &[usize],
+) -> Result<Vec<&'s SkippedLines>, AllocError>
+    ensures { IfOk result (λ found. map (λ s. s.now) found.items ≡ items_at skipped.entry.now numbers.now) }
+{
+    let mut found = Vec::new(alloc);
+    for number in numbers {
+        add_skipped(&mut found, reason_at(skipped, *number))?;
+    }
+    Ok(found)
 }
