@@ -7,4 +7,4 @@ mod places;
 
 pub use aa_request_words::{WordFault, push_word, read_word};
 pub use deciders::{Decider, Deciders, Listed, deciders_of, target_deciders};
-pub use places::{ProfilePlaces, profile_before, rule_places, variable_before};
+pub use places::{ProfilePlaces, rule_places};

@@ -9,7 +9,7 @@ ghost use Rattle.aa_asks.specs.Places.{PlacedRule, PlacedProfile, PlacedPart, Pl
 
 use aa_heads::{abi_of, begins_profile, head_of, preamble_of};
 use aa_rules::{RuleTree, closes, keyword_stands, rule_of, spot_of};
-use aa_words::{PolicyFault, Spot, Word, WordKind, WordList};
+use aa_words::{PolicyFault, Spot, Word, WordList};
 use std::alloc::{AllocError, Global};
 
 /// Where a profile and its rules stand: a rule at its first word.
@@ -232,6 +232,7 @@ fn places_in<'s>(
     }
     Ok(found)
 }
+<<<<<<< ours
 
 /// Where the profiles that words spell stand, in the order in which a policy numbers them, and where their rules stand, each list in
 /// the order of the policy's.
@@ -296,3 +297,5 @@ pub fn variable_before(words: &[Word<'_>], at: Spot) -> Option<Spot> {
     }
     None
 }
+=======
+>>>>>>> theirs

@@ -1,16 +1,13 @@
 //! The one policy that files make.
 
 use crate::output::{Output, Stop, fault_refused, policy_refused, stop_with, unit_refused};
-use aa_asks::{ProfilePlaces, rule_places};
 use aa_checks::Wanted;
-use aa_compile::{Compiled, compile};
 use aa_diagnostics::{describe_repeated, describe_together};
-use aa_joins::{JoinFault, Joining, Policy, Refused, Repeated};
+use aa_loading::{LoadingFault, RepeatedName, Texts, load_policy};
 use aa_output::NoMemory;
-use aa_policy::parse;
-use aa_units::{Unit, compile_unit, load, roots_of, sources_of};
+use aa_units::{Unit, load, roots_of, sources_of};
 use aa_verdicts::Decided;
-use aa_words::{PolicyFault, PolicyKind, Sources, Spot, words};
+use aa_words::PolicyKind;
 use std::alloc::Global;
 
 /// What is done with the policy of files.
@@ -47,174 +44,75 @@ pub fn load_units(
     Ok(units)
 }
 
-/// The policies of units that are joined so far, and where what they say stands.
-#[derive(Drop)]
-struct Reading<'u> {
-    units: &'u [Unit],
-    joining: Joining,
-    places: Vec<ProfilePlaces<'u>>,
-    /// Of each profile, the number of its unit.
-    owners: Vec<usize>,
-}
-
-/// Where a profile's name stands.
-fn spot_of(places: &[ProfilePlaces<'_>], number: u16) -> Option<Spot> {
-    match places.get(number as usize) {
-        Some(places) => Some(places.at),
-        None => None,
-    }
-}
-
-impl<'u> Reading<'u> {
-    /// Says that a profile has the name of one that was joined before.
-    fn say_repeated(
-        &self,
-        alloc: Global,
-        unit: &Unit,
-        places: &[ProfilePlaces<'_>],
-        repeated: Repeated,
-    ) -> Result<Output, NoMemory> {
-        let number = self.owners.get(repeated.earlier as usize).copied();
-        let owner = number.and_then(|number| self.units.get(number));
-        let earlier = spot_of(self.places.as_slice(), repeated.earlier);
-        let later = spot_of(places, repeated.later);
-        match (owner, earlier, later) {
-            (Some(owner), Some(earlier), Some(later)) => {
-                let fault = describe_repeated(alloc, unit, later, owner, earlier)?;
-                fault_refused(alloc, &fault, 1)
-            }
-            _ => Err(NoMemory),
-        }
-    }
-
-    /// Says why a unit's policy can't be joined to those before it.
-    fn join_refused(
-        &self,
-        alloc: Global,
-        wanted: &Wanted<'_>,
-        unit: &Unit,
-        places: &[ProfilePlaces<'_>],
-        fault: JoinFault,
-    ) -> Result<Output, NoMemory> {
-        match fault {
-            JoinFault::DuplicateProfile(repeated) => {
-                self.say_repeated(alloc, unit, places, repeated)
-            }
-            JoinFault::TooLarge => {
-                let kind = PolicyKind::TooLarge;
-                let fault = describe_together(alloc, unit, kind, wanted.states)?;
-                fault_refused(alloc, &fault, 1)
-            }
-            JoinFault::NoMemory => Err(NoMemory),
-        }
-    }
-
-    /// Joins the policy of the unit of that number.
-    fn add(
-        &mut self,
-        alloc: Global,
-        wanted: &Wanted<'_>,
-        number: usize,
-        unit: &'u Unit,
-        sources: &'u Result<Sources, PolicyFault>,
-    ) -> Result<(), Stop> {
-        let (policy, mut places) = match read_unit(alloc, unit, sources) {
-            Ok(read) => read,
-            Err(fault) => return Err(stop_with(policy_refused(alloc, wanted, unit, fault))),
-        };
-        if let Err(Refused { fault, .. }) = self.joining.add(policy) {
-            let refused = self.join_refused(alloc, wanted, unit, places.as_slice(), fault);
-            return Err(stop_with(refused));
-        }
-        for _place in &places {
-            self.owners.push(number)?;
-        }
-        self.places.append(&mut places)?;
-        Ok(())
-    }
-}
-
-/// The policy of a unit, and where what it says stands.
-fn read_unit<'u>(
+/// Says that a profile has the name of one of an earlier unit.
+fn say_repeated(
     alloc: Global,
-    unit: &'u Unit,
-    sources: &'u Result<Sources, PolicyFault>,
-) -> Result<(Policy, Vec<ProfilePlaces<'u>>), PolicyFault> {
-    let sources = match sources {
-        Ok(sources) => sources,
-        Err(fault) => return Err(*fault),
-    };
-    let list = words(alloc, sources, unit.text.as_slice())?;
-    let policy = parse(alloc, &list)?;
-    let places = rule_places(alloc, &list)?;
-    Ok((policy, places))
+    units: &[Unit],
+    name: RepeatedName,
+) -> Result<Output, NoMemory> {
+    match (units.get(name.number), units.get(name.earlier)) {
+        (Some(unit), Some(earlier)) => {
+            let fault = describe_repeated(alloc, unit, name.at, earlier, name.earlier_at)?;
+            fault_refused(alloc, &fault, 1)
+        }
+        _ => Err(NoMemory),
+    }
 }
 
-/// Says why units can't be compiled as one policy: for a fault that one has by itself, or else one of all together.
-fn compile_refused(
+/// Says which limit units pass together, at the unit of that number.
+fn say_together(
     alloc: Global,
     wanted: &Wanted<'_>,
     units: &[Unit],
-    fault: PolicyFault,
+    number: usize,
+    kind: PolicyKind,
 ) -> Result<Output, NoMemory> {
-    if fault.kind == PolicyKind::NoMemory {
-        return Err(NoMemory);
-    }
-    for unit in units {
-        if let Err(own) = compile_unit(alloc, unit, wanted.states) {
-            return policy_refused(alloc, wanted, unit, own);
-        }
-    }
-    match units.first() {
-        Some(first) => {
-            let fault = describe_together(alloc, first, fault.kind, wanted.states)?;
+    match units.get(number) {
+        Some(unit) => {
+            let fault = describe_together(alloc, unit, kind, wanted.states)?;
             fault_refused(alloc, &fault, 1)
         }
         None => Err(NoMemory),
     }
 }
 
-fn compile_all(
+/// Says why units are no policy.
+fn units_refused(
     alloc: Global,
     wanted: &Wanted<'_>,
     units: &[Unit],
-    policy: Policy,
-) -> Result<Compiled, Stop> {
-    match compile(alloc, policy, wanted.states.clamp(1, 1_000_000)) {
-        Ok(compiled) => Ok(compiled),
-        Err(refusal) => Err(stop_with(compile_refused(alloc, wanted, units, refusal.fault))),
+    fault: LoadingFault,
+) -> Result<Output, NoMemory> {
+    match fault {
+        LoadingFault::NoMemory => Err(NoMemory),
+        LoadingFault::OfTexts(number, fault) => match units.get(number) {
+            Some(unit) => policy_refused(alloc, wanted, unit, fault),
+            None => Err(NoMemory),
+        },
+        LoadingFault::Repeated(name) => say_repeated(alloc, units, name),
+        LoadingFault::TooLarge(number) => {
+            say_together(alloc, wanted, units, number, PolicyKind::TooLarge)
+        }
+        LoadingFault::Together(fault) => say_together(alloc, wanted, units, 0, fault.kind),
     }
 }
 
-fn with_sources<U: Use>(
+fn with_texts<U: Use>(
     alloc: Global,
     wanted: &Wanted<'_>,
     units: &[Unit],
-    sources: &[Result<Sources, PolicyFault>],
+    texts: &[Texts<'_>],
     user: &mut U,
 ) -> Result<Output, Stop> {
-    let mut reading = Reading {
-        units,
-        joining: Joining::new(alloc),
-        places: Vec::new(alloc),
-        owners: Vec::new(alloc),
+    let loaded = match load_policy(alloc, texts, wanted.states) {
+        Ok(loaded) => loaded,
+        Err(fault) => return Err(stop_with(units_refused(alloc, wanted, units, fault))),
     };
-    for (number, (unit, sources)) in units.iter().zip(sources.iter()).enumerate() {
-        reading.add(alloc, wanted, number, unit, sources)?;
-    }
-    let Reading {
-        joining,
-        places,
-        owners,
-        ..
-    } = reading;
-    let mut policies = Vec::new(alloc);
-    policies.push(compile_all(alloc, wanted, units, joining.into_policy())?)?;
     let decided = Decided {
         units,
-        owners: owners.as_slice(),
-        policies: policies.as_slice(),
-        places: places.as_slice(),
+        owners: loaded.owners.as_slice(),
+        policies: loaded.policies.as_slice(),
+        places: loaded.places.as_slice(),
     };
     Ok(user.use_policy(alloc, decided)?)
 }
@@ -229,7 +127,14 @@ fn with_units<U: Use>(
     for unit in units {
         sources.push(sources_of(alloc, unit))?;
     }
-    with_sources(alloc, wanted, units, sources.as_slice(), user)
+    let mut texts = Vec::new(alloc);
+    for (unit, sources) in units.iter().zip(sources.iter()) {
+        texts.push(Texts {
+            sources,
+            main: unit.text.as_slice(),
+        })?;
+    }
+    with_texts(alloc, wanted, units, texts.as_slice(), user)
 }
 
 /// Compiles the files of these arguments as one policy, and does something with it.

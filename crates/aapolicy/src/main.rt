@@ -7,11 +7,11 @@ mod job;
 mod joined;
 mod output;
 
+use aa_loading::{Unwritten, exit_status, write_output};
 use clap::error::{Error, ErrorKind};
 use command::matches_of;
 use commands::run_named;
 use output::Output;
-use std::io::Write;
 use std::process::ExitCode;
 use std::{env, io};
 
@@ -44,16 +44,12 @@ fn refuse_command(rt: &HostRuntime, error: &Error) -> u8 {
 }
 
 /// Writes what was found, and gives the exit status.
-fn write_output(rt: &HostRuntime, output: &Output) -> u8 {
-    let mut errors = rt.stderr();
-    let mut answers = io::writer(rt);
-    if errors.write_all(output.faults.as_slice()).is_err() {
-        return FAILED;
+fn print_output(rt: &HostRuntime, output: &Output) -> u8 {
+    let written = write_output(&mut rt.stderr(), &mut io::writer(rt), output);
+    if matches!(written, Err(Unwritten::Answers)) {
+        let _ = eprintln!(rt; "the output can't be written");
     }
-    if answers.write_all(output.answers.as_slice()).is_err() {
-        return say_unwritten(rt);
-    }
-    output.status
+    exit_status(written)
 }
 
 /// Does what the command line asks, and gives the exit status.
@@ -75,7 +71,7 @@ fn answer_command(rt: &HostRuntime) -> u8 {
         Ok(matches) => matches,
     };
     match run_named(rt, &matches) {
-        Ok(output) => write_output(rt, &output),
+        Ok(output) => print_output(rt, &output),
         Err(_) => say_no_memory(rt),
     }
 }

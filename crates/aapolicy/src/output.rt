@@ -2,20 +2,11 @@
 
 use aa_checks::{Wanted, fault_of_unit};
 use aa_diagnostics::{describe, unreadable};
+pub use aa_loading::Output;
 use aa_output::{NoMemory, push_fault};
 use aa_units::{FaultReport, Unit, UnitFault, Unread, push_text};
 use aa_words::{PolicyFault, PolicyKind};
 use std::alloc::{AllocError, AllocFailed, Global};
-
-/// What is printed, and the exit status.
-#[derive(Drop)]
-pub struct Output {
-    /// For standard output.
-    pub answers: Vec<u8>,
-    /// For standard error.
-    pub faults: Vec<u8>,
-    pub status: u8,
-}
 
 /// Why nothing is answered.
 #[derive(Drop)]
@@ -40,16 +31,6 @@ impl<T: Drop> From<AllocFailed<T>> for Stop {
 impl From<NoMemory> for Stop {
     fn from(_e: NoMemory) -> Stop {
         Stop::NoMemory
-    }
-}
-
-impl Output {
-    pub fn new(alloc: Global) -> Output {
-        Output {
-            answers: Vec::new(alloc),
-            faults: Vec::new(alloc),
-            status: 0,
-        }
     }
 }
 
