@@ -232,7 +232,6 @@ fn places_in<'s>(
     }
     Ok(found)
 }
-<<<<<<< ours
 
 /// Where the profiles that words spell stand, in the order in which a policy numbers them, and where their rules stand, each list in
 /// the order of the policy's.
@@ -244,58 +243,3 @@ pub fn rule_places<'s>(
 {
     places_in(alloc, list.list.as_slice(), list.end)
 }
-
-fn full_name(
-    alloc: Global,
-    found: &[ProfilePlaces<'_>],
-    places: &ProfilePlaces<'_>,
-) -> Result<Vec<u8>, AllocError> {
-    let mut name = Vec::new(alloc);
-    if let Some(parent) = places.parent {
-        if let Some(parent) = found.get(parent) {
-            name.extend_from_slice(parent.name)?;
-            name.extend_from_slice("//".as_bytes())?;
-        }
-    }
-    name.extend_from_slice(places.name)?;
-    Ok(name)
-}
-
-/// Where the first profile stands that has the full name of the profile whose name stands there.
-pub fn profile_before(
-    alloc: Global,
-    list: &WordList<'_>,
-    at: Spot,
-) -> Result<Option<Spot>, PolicyFault> {
-    let found = rule_places(alloc, list)?;
-    let Some(later) = found.iter().find(|places| places.at == at) else {
-        return Ok(None);
-    };
-    let wanted = full_name(alloc, found.as_slice(), later)?;
-    for places in &found {
-        if full_name(alloc, found.as_slice(), places)?.as_slice() == wanted.as_slice() {
-            return Ok(Some(places.at));
-        }
-    }
-    Ok(None)
-}
-
-fn assigns(word: Option<&Word<'_>>) -> bool {
-    match word {
-        Some(word) => matches!(word.kind, WordKind::Equals | WordKind::PlusEquals),
-        None => false,
-    }
-}
-
-/// Where the variable is set first that the word at a place sets again.
-pub fn variable_before(words: &[Word<'_>], at: Spot) -> Option<Spot> {
-    let later = words.iter().find(|word| spot_of(word) == at)?;
-    for (first, second) in words.iter().zip(words.iter().skip(1)) {
-        if first.text == later.text && assigns(Some(second)) {
-            return Some(spot_of(first));
-        }
-    }
-    None
-}
-=======
->>>>>>> theirs
