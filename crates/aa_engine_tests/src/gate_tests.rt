@@ -3,11 +3,11 @@
 ghost use Rattle.std.specs.Prelude.{◌<◌, ◌≤◌};
 ghost use Rattle.aa_mediate.specs.Reply.{reply};
 
+use crate::jobs::{job_of, policies_of};
 use aa_engine::{Answered, mediate, mediate_lent};
-use aa_jobs::{Job, read_job};
 use aa_machine::Machine;
 use aa_mediate::Mediator;
-use aa_policies::{Compiled, compile_policies};
+use aa_policies::Compiled;
 use aa_requests::{Answer, Label, Request};
 use std::alloc::Global;
 use std::sync::Wait;
@@ -83,15 +83,6 @@ fn grants_of<M: Machine<Answer = Answer>>(rows: &[Vec<Answered<M>>]) -> u64 {
     grants
 }
 
-fn policies_of(alloc: Global, job: &Job) -> Result<Vec<Compiled>, Fail> {
-    let includes = job.includes.as_slice();
-    let texts = job.policies.as_slice();
-    match compile_policies(alloc, includes, texts, job.states) {
-        Ok(policies) => Ok(policies),
-        Err(_) => Err("they compile".into()),
-    }
-}
-
 /// How many requests are granted by that many workers, and whether a step gave up.
 fn granted_by<R: Threads + Wait + Sync>(
     rt: &R,
@@ -100,8 +91,8 @@ fn granted_by<R: Threads + Wait + Sync>(
 ) -> Result<(u64, u64), Fail>
     requires { (0 < workers) × (workers ≤ 16) }
 {
-    let job = read_job(alloc, TWO_TASKS).ok().ok_or("it is a job")?;
-    let policies = policies_of(alloc, &job)?;
+    let job = job_of(alloc, TWO_TASKS).ok_or("it is a job")?;
+    let policies = policies_of(alloc, &job).ok_or("they compile")?;
     let gates = Gates::new(policies.as_slice());
     let answers = mediate(rt, alloc, &job, policies.as_slice(), &gates, workers);
     let rows = answers.ok().ok_or("it is answered")?;
@@ -117,8 +108,8 @@ fn granted_lent_by<R: Threads + Wait + Sync>(
 ) -> Result<(u64, u64), Fail>
     requires { (0 < workers) × (workers ≤ 16) }
 {
-    let job = read_job(alloc, TWO_TASKS).ok().ok_or("it is a job")?;
-    let policies = policies_of(alloc, &job)?;
+    let job = job_of(alloc, TWO_TASKS).ok_or("it is a job")?;
+    let policies = policies_of(alloc, &job).ok_or("they compile")?;
     let gates = Gates::new(policies.as_slice());
     let answers = mediate_lent(rt, alloc, &job, policies.as_slice(), &gates, workers);
     let rows = answers.ok().ok_or("it is answered")?;

@@ -3,6 +3,8 @@
 ghost use Rattle.std.specs.Prelude.{◌<◌, ◌≤◌};
 
 use aa_engine::{RunFault, check_job, replay_job, run_job};
+use aa_jobs::{Job, read_job};
+use aa_policies::{Compiled, compile_policies};
 use std::alloc::Global;
 use std::io::{Read, Write};
 use std::process::Abort;
@@ -53,6 +55,18 @@ pub const MOVING_JOB: &[u8] =
 /// What `run` writes for it.
 pub const MOVED: &[u8] =
     b"0 0 denied label=\"p\"\napparmor=\"DENIED\" operation=\"file\" profile=\"p\" name=\"/g\" requested_mask=\"r\" denied_mask=\"r\"\n0 1 granted label=\"q\"\n0 2 granted label=\"q\"\n1 0 granted label=\"q\"\n1 1 denied label=\"q\"\napparmor=\"DENIED\" operation=\"file\" profile=\"q\" name=\"/f\" requested_mask=\"r\" denied_mask=\"r\"\n";
+
+/// The job that a text is.
+pub fn job_of(alloc: Global, text: &[u8]) -> Option<Job> {
+    read_job(alloc, text).ok()
+}
+
+/// A job's policies, where they compile.
+pub fn policies_of(alloc: Global, job: &Job) -> Option<Vec<Compiled>> {
+    let includes = job.includes.as_slice();
+    let texts = job.policies.as_slice();
+    compile_policies(alloc, includes, texts, job.states).ok()
+}
 
 /// Lets the command answer what the reader gives.
 pub fn answer<R: Read, W: Write, H: Threads + Wait + Sync>(

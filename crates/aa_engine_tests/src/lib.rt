@@ -14,7 +14,11 @@ mod growth_tests;
 #[cfg(test)]
 mod jobs;
 #[cfg(test)]
+mod lane_tests;
+#[cfg(test)]
 mod limit_tests;
+#[cfg(test)]
+mod mediate_tests;
 #[cfg(test)]
 mod replay_tests;
 #[cfg(test)]

@@ -104,6 +104,47 @@ fn a_reader_without_end_is_given_up(rt: HostRuntime) {
     }
 }
 
+/// Gives so many blanks, one a call, and then nothing more.
+#[derive(Drop)]
+struct BlankReader {
+    left: u32,
+}
+
+impl Read for BlankReader {
+    fn read(&mut self, buf: &mut [u8]) -> io::Result<usize> {
+        if self.left == 0 {
+            return Ok(0);
+        }
+        let Some(place) = buf.first_mut() else {
+            return Ok(0);
+        };
+        *place = b' ';
+        self.left -= 1;
+        Ok(1)
+    }
+}
+
+// What is read in so many calls and one is no job, for this fault.
+fn is_refused_after<R: Abort + Threads + Wait + Sync>(
+    rt: &R,
+    alloc: Global,
+    calls: u32,
+    fault: RunFault,
+) {
+    let mut reader = BlankReader { left: calls };
+    let mut written = Vec::new(alloc);
+    let given = answer(rt, alloc, Command::Check, &mut reader, &mut written);
+    assert!(rt; given == Err(fault));
+    assert!(rt; written.is_empty());
+}
+
+#[test]
+fn a_reader_is_called_at_most_33554432_times(rt: HostRuntime) {
+    let too_large = RunFault::Job(JobFault::TooLarge);
+    is_refused_after(&rt, rt.alloc(), 33_554_431, too_large);
+    is_refused_after(&rt, rt.alloc(), 33_554_432, RunFault::Read);
+}
+
 /// Gives a text, and then so many blanks in portions that double.
 #[derive(Drop)]
 struct DoublingReader<'a> {

@@ -1,0 +1,195 @@
+//! A lane of one slot over the policy of the first job: each call on its ends, and what it answers.
+
+ghost use Rattle.std.specs.Prelude.{◌≡◌};
+ghost use Rattle.aa_lane.specs.Ends.{known};
+
+use crate::jobs::{FIRST_JOB, job_of, policies_of};
+use aa_jobs::{Job, Work};
+use aa_lane::{Ends, Lane, LaneFault, Owner, SendFault, Served, Server};
+use aa_mediate::Mediator;
+use aa_requests::{Label, Request};
+use std::alloc::Global;
+use std::process::Abort;
+use std::test::Fail;
+
+/// What a call came to: of a request what it asks for, of an answer also its number and whether it grants that.
+#[derive(Clone, Copy, PartialEq, Eq, Debug)]
+enum Outcome {
+    NoRequest,
+    Sent(u64),
+    Unsent(SendFault, u8),
+    Got(u64, u8, bool),
+    Nothing,
+    Did,
+    Idle,
+    Settled,
+}
+
+/// The first job's requests: to read, and to write.
+const READ: usize = 0;
+
+const WRITE: usize = 1;
+
+/// A copy of a request of the job's first task.
+fn request_of(job: &Job, number: usize) -> Option<Request> {
+    let task = job.tasks.as_slice().first()?;
+    match task.requests.as_slice().get(number) {
+        Some(Work::Ask(request)) => request.try_clone().ok(),
+        _ => None,
+    }
+}
+
+/// The permissions that it asks for: 1 is to read, 2 to write.
+fn asked_by(request: &Request) -> u8 {
+    match request {
+        Request::File(file) => file.mask().0,
+        _ => 0,
+    }
+}
+
+fn sends<'p>(
+    lane: &Lane<Mediator<'p>>,
+    owner: &mut Owner<Mediator<'p>>,
+    job: &Job,
+    number: usize,
+) -> Outcome
+    requires { owner.old.lane ≡ known lane.now }
+    ensures { owner.new.lane ≡ owner.old.lane }
+{
+    let Some(request) = request_of(job, number) else {
+        return Outcome::NoRequest;
+    };
+    match owner.send(lane, request) {
+        Ok(number) => Outcome::Sent(number),
+        Err(unsent) => Outcome::Unsent(unsent.fault, asked_by(&unsent.request)),
+    }
+}
+
+fn collects<'p>(lane: &Lane<Mediator<'p>>, owner: &mut Owner<Mediator<'p>>) -> Outcome
+    requires { owner.old.lane ≡ known lane.now }
+    ensures { owner.new.lane ≡ owner.old.lane }
+{
+    match owner.collect(lane) {
+        Some(given) => Outcome::Got(given.number, asked_by(&given.request), given.answer.granted),
+        None => Outcome::Nothing,
+    }
+}
+
+fn serves<'p>(
+    lane: &Lane<Mediator<'p>>,
+    server: Server<Mediator<'p>>,
+) -> (Server<Mediator<'p>>, Outcome)
+    requires { server.lane ≡ known lane.now }
+    ensures { result.0.lane ≡ known lane.now }
+{
+    match server.serve(lane) {
+        Served::Did(server) => (server, Outcome::Did),
+        Served::Idle(server) => (server, Outcome::Idle),
+        Served::Settled(server) => (server, Outcome::Settled),
+    }
+}
+
+/// A request is refused while another is on its way, and the lane is shut with the second in it.
+fn fills<'p>(
+    rt: &impl Abort,
+    lane: &Lane<Mediator<'p>>,
+    owner: &mut Owner<Mediator<'p>>,
+    server: Server<Mediator<'p>>,
+    job: &Job,
+) -> Server<Mediator<'p>>
+    requires owner { owner.old.lane ≡ known lane.now }
+    requires server { server.lane ≡ known lane.now }
+    ensures owner { owner.new.lane ≡ owner.old.lane }
+    ensures server { result.lane ≡ known lane.now }
+{
+    assert_eq!(rt; sends(lane, owner, job, READ), Outcome::Sent(0));
+    assert_eq!(rt;
+        sends(lane, owner, job, WRITE),
+        Outcome::Unsent(SendFault::Full, 2)
+    );
+    let (server, outcome) = serves(lane, server);
+    assert_eq!(rt; outcome, Outcome::Did);
+    assert_eq!(rt; collects(lane, owner), Outcome::Got(0, 1, true));
+    assert_eq!(rt; sends(lane, owner, job, WRITE), Outcome::Sent(1));
+    server
+}
+
+/// Nothing more is accepted by the shut lane, and what it holds is answered.
+fn empties<'p>(
+    rt: &impl Abort,
+    lane: &Lane<Mediator<'p>>,
+    owner: &mut Owner<Mediator<'p>>,
+    server: Server<Mediator<'p>>,
+    job: &Job,
+) -> Server<Mediator<'p>>
+    requires owner { owner.old.lane ≡ known lane.now }
+    requires server { server.lane ≡ known lane.now }
+    ensures owner { owner.new.lane ≡ owner.old.lane }
+    ensures server { result.lane ≡ known lane.now }
+{
+    let (server, outcome) = serves(lane, server);
+    assert_eq!(rt; outcome, Outcome::Did);
+    assert_eq!(rt;
+        sends(lane, owner, job, READ),
+        Outcome::Unsent(SendFault::Full, 1)
+    );
+    assert_eq!(rt; collects(lane, owner), Outcome::Got(1, 2, false));
+    assert_eq!(rt;
+        sends(lane, owner, job, READ),
+        Outcome::Unsent(SendFault::Closed, 1)
+    );
+    let (server, outcome) = serves(lane, server);
+    assert_eq!(rt; outcome, Outcome::Settled);
+    assert_eq!(rt; collects(lane, owner), Outcome::Nothing);
+    server
+}
+
+fn closed<'p>(lane: Lane<Mediator<'p>>, ends: Ends<Mediator<'p>>) -> ([u64; 3], Label)
+    requires { (ends.owner.lane ≡ known lane) × (ends.server.lane ≡ known lane) × (ends.shutter.lane ≡ known lane) }
+{
+    let totals = lane.close(ends);
+    (
+        [totals.accepted, totals.answered, totals.collected],
+        totals.state,
+    )
+}
+
+/// What the lane counts once all that has happened, and the label then.
+fn totals(
+    rt: &impl Abort,
+    alloc: Global,
+    job: &Job,
+    mediator: &Mediator,
+) -> Result<([u64; 3], Label), LaneFault> {
+    let (lane, mut owner, server, mut shutter) = Lane::new(
+        alloc,
+        mediator,
+        0,
+        1,
+        Label::Confined(0, 0),
+    )?;
+    let server = fills(rt, &lane, &mut owner, server, job);
+    assert_eq!(rt; shutter.shut(&lane), 2);
+    let server = empties(rt, &lane, &mut owner, server, job);
+    let owner = owner.exit(&lane);
+    Ok(closed(
+        lane,
+        Ends {
+            owner,
+            server,
+            shutter,
+        },
+    ))
+}
+
+#[test]
+fn a_lane_of_one_slot_over_a_policy_is_filled_and_shut(rt: HostRuntime) -> Result<(), Fail> {
+    let job = job_of(rt.alloc(), FIRST_JOB).ok_or("it is a job")?;
+    let policies = policies_of(rt.alloc(), &job).ok_or("they compile")?;
+    let mediator = Mediator::new(policies.as_slice());
+    assert_eq!(rt;
+        totals(&rt, rt.alloc(), &job, &mediator)?,
+        ([2, 2, 2], Label::Confined(0, 0))
+    );
+    Ok(())
+}

@@ -1,0 +1,177 @@
+//! Tasks that a program has answered by calls of its own.
+
+use crate::jobs::{MOVING_JOB, job_of, policies_of};
+use aa_engine::{Answered, MediateFault, mediate, mediate_lent};
+use aa_jobs::Job;
+use aa_machine::Machine;
+use aa_mediate::Mediator;
+use aa_policies::Compiled;
+use aa_requests::{Answer, Label};
+use std::alloc::Global;
+use std::process::Abort;
+use std::sync::Wait;
+use std::test::Fail;
+use std::thread::Threads;
+
+/// Whether requests are lent to the lanes, or copied.
+#[derive(Clone, Copy)]
+enum Requests {
+    Copied,
+    Lent,
+}
+
+const BOTH: [Requests; 2] = [Requests::Copied, Requests::Lent];
+
+const P: Label = Label::Confined(0, 0);
+
+const Q: Label = Label::Confined(0, 1);
+
+/// Whether each request of the tasks that move is granted, and the label after it.
+const MOVES: [&[(bool, Label)]; 3] = [
+    &[(false, P), (true, Q), (true, Q)],
+    &[(true, Q), (false, Q)],
+    &[],
+];
+
+fn is_answered_so<M: Machine<Answer = Answer>>(
+    row: &[Answered<M>],
+    wanted: &[(bool, Label)],
+) -> bool {
+    if row.len() != wanted.len() {
+        return false;
+    }
+    for (number, answered) in row.iter().enumerate() {
+        let answer = &answered.answer;
+        if answered.number != number as u64
+            || wanted.get(number) != Some(&(answer.granted, answer.label))
+        {
+            return false;
+        }
+    }
+    true
+}
+
+fn are_answered_so<M: Machine<Answer = Answer>>(
+    rows: &[Vec<Answered<M>>],
+    wanted: &[&[(bool, Label)]],
+) -> bool {
+    if rows.len() != wanted.len() {
+        return false;
+    }
+    for (row, wanted) in rows.iter().zip(wanted) {
+        if !is_answered_so(row.as_slice(), wanted) {
+            return false;
+        }
+    }
+    true
+}
+
+/// Whether the answers to the tasks are those of the tasks that move, or why there are none.
+fn moves<R: Threads + Wait + Sync>(
+    rt: &R,
+    alloc: Global,
+    requests: Requests,
+    job: &Job,
+    policies: &[Compiled],
+    workers: u32,
+) -> Result<bool, MediateFault> {
+    let mediator = Mediator::new(policies);
+    let workers = workers.clamp(1, 16);
+    match requests {
+        Requests::Copied => {
+            let rows = mediate(rt, alloc, job, policies, &mediator, workers)?;
+            Ok(are_answered_so(rows.as_slice(), &MOVES))
+        }
+        Requests::Lent => {
+            let rows = mediate_lent(rt, alloc, job, policies, &mediator, workers)?;
+            Ok(are_answered_so(rows.as_slice(), &MOVES))
+        }
+    }
+}
+
+#[test]
+fn three_tasks_are_answered_by_any_number_of_workers(rt: HostRuntime) -> Result<(), Fail> {
+    let job = job_of(rt.alloc(), MOVING_JOB).ok_or("it is a job")?;
+    let policies = policies_of(rt.alloc(), &job).ok_or("they compile")?;
+    for requests in BOTH {
+        for workers in [1, 2, 16] {
+            let given = moves(
+                &rt,
+                rt.alloc(),
+                requests,
+                &job,
+                policies.as_slice(),
+                workers,
+            );
+            assert_eq!(rt; given, Ok(true));
+        }
+    }
+    Ok(())
+}
+
+const UNKNOWN: &[u8] =
+    b"{\"policy\":\"profile p { }\",\"tasks\":[{\"label\":\"p\",\"requests\":[]},{\"label\":\"z\",\"requests\":[]},{\"label\":\"y\",\"requests\":[]}]}";
+
+#[test]
+fn the_first_task_without_a_profile_is_named(rt: HostRuntime) -> Result<(), Fail> {
+    let job = job_of(rt.alloc(), UNKNOWN).ok_or("it is a job")?;
+    let policies = policies_of(rt.alloc(), &job).ok_or("they compile")?;
+    for requests in BOTH {
+        for workers in [1, 2] {
+            let given = moves(
+                &rt,
+                rt.alloc(),
+                requests,
+                &job,
+                policies.as_slice(),
+                workers,
+            );
+            assert_eq!(rt; given, Err(MediateFault::UnknownProfile(1)));
+        }
+    }
+    Ok(())
+}
+
+// One try: whether the tasks were answered, where there was memory.
+fn is_answered<R: Abort + Threads + Wait + Sync>(
+    rt: &R,
+    alloc: Global,
+    requests: Requests,
+    workers: u32,
+) -> bool {
+    let Some(job) = job_of(alloc, MOVING_JOB) else {
+        return false;
+    };
+    let Some(policies) = policies_of(alloc, &job) else {
+        return false;
+    };
+    let given = moves(rt, alloc, requests, &job, policies.as_slice(), workers);
+    if given != Err(MediateFault::NoMemory) {
+        assert_eq!(rt; given, Ok(true));
+    }
+    given.is_ok()
+}
+
+// Tries again where a growth is refused.
+fn is_answered_at_last<R: Abort + Threads + Wait + Sync>(
+    rt: &R,
+    alloc: Global,
+    requests: Requests,
+    workers: u32,
+) {
+    for _ in 0..3 {
+        if is_answered(rt, alloc, requests, workers) {
+            return;
+        }
+    }
+    panic!(rt; "refused each time")
+}
+
+#[test]
+fn a_growth_refused_to_tasks_of_a_job_is_no_memory(rt: HostRuntime) {
+    for requests in BOTH {
+        for workers in [1, 2] {
+            is_answered_at_last(&rt, rt.alloc(), requests, workers);
+        }
+    }
+}
