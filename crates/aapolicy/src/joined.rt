@@ -45,11 +45,7 @@ pub fn load_units(
 }
 
 /// Says that a profile has the name of one of an earlier unit.
-fn say_repeated(
-    alloc: Global,
-    units: &[Unit],
-    name: RepeatedName,
-) -> Result<Output, NoMemory> {
+fn say_repeated(alloc: Global, units: &[Unit], name: RepeatedName) -> Result<Output, NoMemory> {
     match (units.get(name.number), units.get(name.earlier)) {
         (Some(unit), Some(earlier)) => {
             let fault = describe_repeated(alloc, unit, name.at, earlier, name.earlier_at)?;
