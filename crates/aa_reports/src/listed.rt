@@ -14,7 +14,7 @@ use aa_units::{push_number, push_text};
 use std::alloc::{AllocError, Global};
 
 /// Appends a comma, unless nothing stands before.
-pub(crate) fn push_comma(out: &mut Vec<u8>, is_later: bool) -> Result<(), AllocError>
+pub fn push_comma(out: &mut Vec<u8>, is_later: bool) -> Result<(), AllocError>
     ensures { OnOk result (out.new.items ≡ out.old.items ++ comma_if is_later) }
 {
     push_text(out, if is_later { "," } else { "" })
@@ -22,7 +22,7 @@ pub(crate) fn push_comma(out: &mut Vec<u8>, is_later: bool) -> Result<(), AllocE
 
 /// Appends a member whose value is a word that needs no escape.
 #[tactic(auto, unfolding(crate::specs::Listed::word_member))]
-pub(crate) fn push_word_member(out: &mut Vec<u8>, key: &str, word: &str) -> Result<(), AllocError>
+pub fn push_word_member(out: &mut Vec<u8>, key: &str, word: &str) -> Result<(), AllocError>
     ensures { OnOk result (out.new.items ≡ out.old.items ++ word_member key.now word.now) }
 {
     push_key(out, key)?;
@@ -33,7 +33,7 @@ pub(crate) fn push_word_member(out: &mut Vec<u8>, key: &str, word: &str) -> Resu
 
 /// Appends a comma and a member whose value is a number.
 #[tactic(auto, unfolding(crate::specs::Listed::count_member))]
-pub(crate) fn push_count_member(out: &mut Vec<u8>, key: &str, count: u64) -> Result<(), AllocError>
+pub fn push_count_member(out: &mut Vec<u8>, key: &str, count: u64) -> Result<(), AllocError>
     ensures { OnOk result (out.new.items ≡ out.old.items ++ count_member key.now count) }
 {
     push_text(out, ",")?;
@@ -81,7 +81,7 @@ fn push_place_members(
 
 /// Appends a request's members, without the braces.
 #[tactic(auto, unfolding(crate::specs::Listed::entry_members))]
-pub(crate) fn push_entry_members(
+pub fn push_entry_members(
     out: &mut Vec<u8>,
     alloc: Global,
     logs: &[&[u8]],
@@ -269,7 +269,7 @@ fn push_json_totals(out: &mut Vec<u8>, report: &LogReport<'_>) -> Result<(), All
 }
 
 /// Appends which lines ask nothing, the counts of all, and the end of the object and of the line.
-pub(crate) fn push_json_rest(
+pub fn push_json_rest(
     out: &mut Vec<u8>,
     alloc: Global,
     logs: &[&[u8]],

@@ -10,7 +10,7 @@ ghost use Rattle.aa_reports.specs.declared.logging.Entry.{Entry};
 ghost use Rattle.aa_reports.specs.Orders.{up_to, key_at, items_at, profile_of, reason_key, IsOrder, IsInOrder};
 ghost use Rattle.aa_reports.specs.Printed.{key_text};
 
-use crate::lines::Lines;
+use aa_log_lines::Lines;
 use aa_asks::push_word;
 use aa_findings::{named, then_name};
 use aa_logs::{Choice, Line, Reason, Record, Then, is_chosen, line_of};

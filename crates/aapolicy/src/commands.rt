@@ -5,10 +5,11 @@ use crate::job::run_job;
 use crate::joined::{Use, with_policy};
 use crate::output::{Output, Stop, path_refused, refused, stop_with};
 use aa_checks::{Wanted, check, push_faults, push_json_report, push_report};
+use aa_comparisons::{push_against, push_json_against};
+use aa_log_lines::read_log;
 use aa_output::NoMemory;
 use aa_reports::{
-    Choice, LogReport, push_against, push_json_against, push_json_report as push_json_log,
-    push_report as push_log_report, read_log,
+    Choice, LogReport, push_json_report as push_json_log, push_report as push_log_report,
 };
 use aa_units::{Unread, main_text};
 use aa_verdicts::{

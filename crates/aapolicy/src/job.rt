@@ -5,10 +5,11 @@ use crate::joined::{load_units, paths_of};
 use crate::output::{Output, Stop, path_refused, policy_refused, refused, stop_with, unit_refused};
 use aa_checks::Wanted;
 use aa_compile::Compiled;
-use aa_output::NoMemory;
-use aa_reports::{
-    Choice, JobFault, JobPolicy, JobTasks, is_policy_count, push_job, read_log, shared_sources,
+use aa_log_jobs::{
+    Choice, JobFault, JobPolicy, JobTasks, is_policy_count, push_job, shared_sources,
 };
+use aa_log_lines::read_log;
+use aa_output::NoMemory;
 use aa_units::{Source, Unit, compile_unit, push_number, push_text};
 use clap::ArgMatches;
 use std::alloc::{AllocError, Global};
