@@ -1,5 +1,5 @@
 -- The walk goes on.
-use Rattle.std.proofs.Common.{◌≡◌, ◌⊎◌, inl, inr, ℕ, zero, suc, ◌+◌, ◌<◌, ◌≤◌, Bool, List, [], ◌∷◌, ◌++◌, length, take, map, Contains, Option, Some, None, is_some, IsSome, refl, sym, ap, subst, ◌∙◌, arith, length-append, true≢false}
+use Rattle.std.proofs.Common.{◌≡◌, ◌⊎◌, inl, inr, ℕ, zero, suc, ◌+◌, ◌<◌, ◌≤◌, Bool, List, [], ◌∷◌, ◌++◌, length, take, map, Contains, Option, Some, None, IfSome, refl, sym, ap, subst, ◌∙◌, arith, length-append}
 use Rattle.std.specs.List.{slice_get}
 use Rattle.std.specs.BTreeMap.{insert_entry}
 use Rattle.std.proofs.lemmas.Option.{slice_get_within}
@@ -7,7 +7,7 @@ use Rattle.std.proofs.lemmas.List.{take-append-le, take_all, append-nil}
 use Rattle.std.proofs.lemmas.List.Elements.{Contains-append_left}
 use Rattle.aa_units.specs.declared.unit.Source.{Source}
 use Rattle.aa_units.specs.Files.{Files}
-use Rattle.aa_units.specs.Walks.{Name, Entry, by_bytes, known_of, Asked, IsLookedUp, IsIncluded, walked_texts, LiesAt, NothingAt, IsWalk}
+use Rattle.aa_units.specs.Walks.{Name, Entry, by_bytes, known_of, Asked, IsFoundAt, IsLookedUp, IsIncluded, walked_texts, LiesAt, NothingAt, IsWalk}
 use Rattle.aa_units.specs.WalkData.{IsAdded, Adds}
 use Rattle.aa_units.specs.WalkData.Adds.{Old, Missing, New}
 use Rattle.aa_units.proofs.Known.{known_here, known_cases, known_kept}
@@ -122,24 +122,21 @@ module _ (files : Option Files) (folders : List (List ℕ)) (main : List ℕ) wh
       subst (λ (ss : List Source). IsWalk files folders main ss es') (sym add.pushed) (subst (λ (q : List Entry). IsWalk files folders main (sources ++ add.source ∷ []) q) (sym add.entered) more)
 
   pub walk_more : (a : Asked) (sources : List Source) (es : List Entry) (sources' : List Source) (es' : List Entry) → IsIncluded folders (walked_texts main sources) a → Adds files a sources es sources' es' → IsWalk files folders main sources es → IsWalk files folders main sources' es'
-  walk_more a sources es sources' es' inc (Old was e leads s-is es-is) w = subst (λ (ss : List Source). IsWalk files folders main ss es') (sym s-is) (subst (λ (q : List Entry). IsWalk files folders main sources q) (sym es-is) w)
+  walk_more a sources es sources' es' inc (Old was e at s-is es-is) w = subst (λ (ss : List Source). IsWalk files folders main ss es') (sym s-is) (subst (λ (q : List Entry). IsWalk files folders main sources q) (sym es-is) w)
   walk_more a sources es sources' es' inc (Missing key e none nothing s-is es-is) w =
       let none' : known_of es key.items ≡ None = ap (λ (q : List ℕ). known_of es q) e ∙ none in
       let inc' : IsIncluded folders (walked_texts main sources) (key.items, a.1) = subst (λ (q : List ℕ). IsIncluded folders (walked_texts main sources) (q, a.1)) (sym e) inc in
       subst (λ (ss : List Source). IsWalk files folders main ss es') (sym s-is) (subst (λ (q : List Entry). IsWalk files folders main sources q) (sym es-is) (walk_missing sources es key a.1 none' inc' nothing w))
   walk_more a sources es sources' es' inc (New path read none lies add) w = walk_added sources es a path read sources' es' none inc lies add w
 
-is_known : {w : Option (Option ℕ)} {v : Option ℕ} → w ≡ Some v → IsSome w
-is_known {w} e = ap (λ (o : Option (Option ℕ)). is_some o) e
-
 module _ (files : Option Files) (a : Asked) (sources : List Source) (es : List Entry) (sources' : List Source) (es' : List Entry) where
   adds_value : Adds files a sources es sources' es' → (q : List ℕ) (w : Option ℕ) → known_of es q ≡ Some w → known_of es' q ≡ Some w
-  adds_value (Old was e leads s-is es-is) q w h = ap (λ (r : List Entry). known_of r q) es-is ∙ h
+  adds_value (Old was e at s-is es-is) q w h = ap (λ (r : List Entry). known_of r q) es-is ∙ h
   adds_value (Missing key e none nothing s-is es-is) q w h = ap (λ (r : List Entry). known_of r q) es-is ∙ known_kept es key None q w (ap (λ (t : List ℕ). known_of es t) e ∙ none) h
   adds_value (New path read none lies add) q w h = ap (λ (r : List Entry). known_of r q) add.entered ∙ known_kept es add.key (Some (length sources)) q w (ap (λ (t : List ℕ). known_of es t) add.key_is ∙ none) h
 
   pub adds_behind : Adds files a sources es sources' es' → (more : List Source) × (sources' ≡ sources ++ more)
-  adds_behind (Old was e leads s-is es-is) = ([], s-is ∙ sym (append-nil sources))
+  adds_behind (Old was e at s-is es-is) = ([], s-is ∙ sym (append-nil sources))
   adds_behind (Missing key e none nothing s-is es-is) = ([], s-is ∙ sym (append-nil sources))
   adds_behind (New path read none lies add) = (add.source ∷ [], add.pushed)
 
@@ -149,47 +146,41 @@ get_front (x ∷ xs) ys y zero e = e
 get_front (x ∷ xs) ys y (suc n) e = get_front xs ys y n e
 
 module _ (files : Option Files) (folders : List (List ℕ)) (main : List ℕ) (a : Asked) (sources : List Source) (es : List Entry) (sources' : List Source) (es' : List Entry) where
+  found_kept : Adds files a sources es sources' es' → (paths : List (List ℕ)) (v : Option ℕ) → ((n : ℕ) → v ≡ Some n → (s : Source) × (slice_get sources n ≡ Some s)) → IsFoundAt files sources paths v → IsFoundAt files sources' paths v
+  found_kept adds paths None there h = h
+  found_kept adds paths (Some n) there h =
+      let s = there n refl in
+      let more = adds_behind files a sources es sources' es' adds in
+      let now : slice_get sources' n ≡ Some s.0 = ap (λ (ss : List Source). slice_get ss n) more.1 ∙ get_front sources more.0 s.0 n s.1 in
+      subst (λ (o : Option Source). IfSome o (λ t. Contains paths t.path.items)) (sym now) (subst (λ (o : Option Source). IfSome o (λ t. Contains paths t.path.items)) s.1 h)
+
   -- what was looked up before stays so
   pub looked_kept : IsWalk files folders main sources es → Adds files a sources es sources' es' → (b : Asked) → IsLookedUp files sources es b → IsLookedUp files sources' es' b
-  looked_kept w adds b h = by (known_of es b.0) refl h.known
-    where
-      by : (o : Option (Option ℕ)) → known_of es b.0 ≡ o → IsSome o → IsLookedUp files sources' es' b
-      by None e some = absurd (true≢false (sym some))
-      by (Some v) e some =
-          let now : known_of es' b.0 ≡ Some v = adds_value files a sources es sources' es' adds b.0 v e in
-          record { known = is_known now; leads = λ n s is at. leads n s now is at }
-        where
-          leads : (n : ℕ) (s : Source) → known_of es' b.0 ≡ Some v → known_of es' b.0 ≡ Some (Some n) → slice_get sources' n ≡ Some s → Contains b.1 s.path.items ⊎ NothingAt files b.1
-          leads n s now is at =
-              let value : v ≡ Some n = cc in
-              let was : known_of es b.0 ≡ Some (Some n) = e ∙ ap (λ (o : Option ℕ). Some o) value in
-              let g = w.led b.0 n was in
-              let more = adds_behind files a sources es sources' es' adds in
-              let there : slice_get sources' n ≡ Some g.0 = ap (λ (ss : List Source). slice_get ss n) more.1 ∙ get_front sources more.0 g.0 n g.1 in
-              let same : g.0 ≡ s = cc in
-              subst (λ (t : Source). Contains b.1 t.path.items ⊎ NothingAt files b.1) same (h.leads n g.0 was g.1)
+  looked_kept w adds b h = record {
+    number = h.number;
+    known = adds_value files a sources es sources' es' adds b.0 h.number h.known;
+    found = found_kept adds b.1 h.number (λ n is. let g = w.led b.0 n (h.known ∙ ap (λ (o : Option ℕ). Some o) is) in (g.0, g.1)) h.found;
+  }
 
   -- and what is looked up now is
   pub looked_new : Adds files a sources es sources' es' → IsLookedUp files sources' es' a
-  looked_new (Old was e leads s-is es-is) =
-      let now : known_of es' a.0 ≡ Some was = ap (λ (r : List Entry). known_of r a.0) es-is ∙ e in
-      record { known = is_known now; leads = λ n s is at. old n s now is (ap (λ (ss : List Source). slice_get ss n) (sym s-is) ∙ at) }
-    where
-      old : (n : ℕ) (s : Source) → known_of es' a.0 ≡ Some was → known_of es' a.0 ≡ Some (Some n) → slice_get sources n ≡ Some s → Contains a.1 s.path.items ⊎ NothingAt files a.1
-      old n s now is at = let value : was ≡ Some n = cc in leads n s value at
+  looked_new (Old was e at s-is es-is) = record {
+    number = was;
+    known = ap (λ (r : List Entry). known_of r a.0) es-is ∙ e;
+    found = subst (λ (ss : List Source). IsFoundAt files ss a.1 was) (sym s-is) at;
+  }
   looked_new (Missing key e none nothing s-is es-is) =
       let none' : known_of es key.items ≡ None = ap (λ (t : List ℕ). known_of es t) e ∙ none in
-      let now : known_of es' a.0 ≡ Some None = ap (λ (r : List Entry). known_of r a.0) es-is ∙ ap (λ (t : List ℕ). known_of (insert_entry by_bytes es key None) t) (sym e) ∙ known_here es key None none' in
-      record { known = is_known now; leads = λ n s is at. inr nothing }
+      record {
+        number = None;
+        known = ap (λ (r : List Entry). known_of r a.0) es-is ∙ ap (λ (t : List ℕ). known_of (insert_entry by_bytes es key None) t) (sym e) ∙ known_here es key None none';
+        found = nothing;
+      }
   looked_new (New path read none lies add) =
       let none' : known_of es add.key.items ≡ None = ap (λ (t : List ℕ). known_of es t) add.key_is ∙ none in
-      let now : known_of es' a.0 ≡ Some (Some (length sources)) =
-      ap (λ (r : List Entry). known_of r a.0) add.entered ∙ ap (λ (t : List ℕ). known_of (insert_entry by_bytes es add.key (Some (length sources))) t) (sym add.key_is) ∙ known_here es add.key (Some (length sources)) none' in
-      record { known = is_known now; leads = λ n s is at. fresh n s now is (ap (λ (ss : List Source). slice_get ss n) (sym add.pushed) ∙ at) }
-    where
-      fresh : (n : ℕ) (s : Source) → known_of es' a.0 ≡ Some (Some (length sources)) → known_of es' a.0 ≡ Some (Some n) → slice_get (sources ++ add.source ∷ []) n ≡ Some s → Contains a.1 s.path.items ⊎ NothingAt files a.1
-      fresh n s now is at =
-          let number : length sources ≡ n = cc in
-          let last : slice_get (sources ++ add.source ∷ []) n ≡ Some add.source = ap (λ (m : ℕ). slice_get (sources ++ add.source ∷ []) m) (sym number) ∙ get_last sources add.source in
-          let same : add.source ≡ s = cc in
-          inl (subst (λ (p : List ℕ). Contains a.1 p) (sym add.path_is ∙ ap (λ (t : Source). t.path.items) same) lies.searched)
+      let last : slice_get sources' (length sources) ≡ Some add.source = ap (λ (ss : List Source). slice_get ss (length sources)) add.pushed ∙ get_last sources add.source in
+      record {
+        number = Some (length sources);
+        known = ap (λ (r : List Entry). known_of r a.0) add.entered ∙ ap (λ (t : List ℕ). known_of (insert_entry by_bytes es add.key (Some (length sources))) t) (sym add.key_is) ∙ known_here es add.key (Some (length sources)) none';
+        found = subst (λ (o : Option Source). IfSome o (λ t. Contains a.1 t.path.items)) (sym last) (subst (λ (p : List ℕ). Contains a.1 p) (sym add.path_is) lies.searched);
+      }

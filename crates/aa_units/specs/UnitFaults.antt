@@ -1,5 +1,5 @@
 -- Why a unit can't be read.
-use Rattle.std.specs.Prelude.{ℕ, ◌≡◌, ◌≢◌, List, Bool, Option, Some, slice_get, Err, Contains}
+use Rattle.std.specs.Prelude.{ℕ, ◌≡◌, ◌≢◌, List, Bool, Option, Some, None, slice_get, Err, Contains}
 use Rattle.aa_units.specs.declared.tree.Unread.{Unread}
 use Rattle.aa_units.specs.declared.tree.Unread.TheVariants as unread
 use Rattle.aa_units.specs.declared.unit.Source.{Source}
@@ -24,16 +24,10 @@ IsLookFault paths NoMemory = Unit {0}
 IsLookFault paths (At path why) = Contains paths path.items × (why ≢ unread.NotFound)
 IsLookFault paths (Ambiguous report) = ⊥
 
--- The name of an include has a source that lies at none of the include's own paths, and something lies at one of these.
-pub record IsAmbiguous (files : Option Files) (sources : List Source) (entries : List Entry) (a : Asked) : Type 0 where
-  pub number : ℕ
-  pub source : Source
-  pub known : known_of entries a.0 ≡ Some (Some number)
-  pub found : slice_get sources number ≡ Some source
-  pub elsewhere : Contains a.1 source.path.items → ⊥
-  pub path : List ℕ
-  pub read : List ℕ × Bool
-  pub lies : LiesAt files a.1 path read
+-- The name of an include has a source that lies at none of the include's own paths, or it has none, and something lies at one of these.
+pub data IsAmbiguous (files : Option Files) (sources : List Source) (entries : List Entry) (a : Asked) : Type 0 where
+  Elsewhere : (number : ℕ) (source : Source) → known_of entries a.0 ≡ Some (Some number) → slice_get sources number ≡ Some source → (Contains a.1 source.path.items → ⊥) → IsAmbiguous files sources entries a
+  OnlyHere : (path : List ℕ) (read : List ℕ × Bool) → known_of entries a.0 ≡ Some None → LiesAt files a.1 path read → IsAmbiguous files sources entries a
 
 -- why the source of an include can't be told
 abbrev pub IsLookUpFault : Option Files → List Source → List Entry → Asked → UnitFault → Type 0

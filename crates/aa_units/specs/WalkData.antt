@@ -6,7 +6,7 @@ use Rattle.aa_units.specs.declared.unit.Source.{Source}
 use Rattle.aa_units.specs.declared.unit.Unit as unit
 use Rattle.aa_units.specs.declared.walk.Wanted.{Wanted}
 use Rattle.aa_units.specs.Files.{Files}
-use Rattle.aa_units.specs.Walks.{Name, Entry, by_bytes, known_of, Asked, IsClosed, walked_texts, LiesAt, NothingAt, IsWalk, in_order}
+use Rattle.aa_units.specs.Walks.{Name, Entry, by_bytes, known_of, Asked, IsClosed, walked_texts, LiesAt, NothingAt, IsFoundAt, IsWalk, in_order}
 
 abbrev pub asked : Wanted → Asked
 asked w = (w.name.items, texts w.paths.items)
@@ -24,9 +24,9 @@ pub record IsAdded (name path : List ℕ) (read : List ℕ × Bool) (sources : L
   pub pushed : sources' ≡ sources ++ source ∷ []
   pub entered : entries' ≡ insert_entry by_bytes entries key (Some (length sources))
 
--- what a look-up adds: nothing where the name is known and leads to no other source, else the name, and its source if there is one
+-- what a look-up adds: nothing where the name is known and leads to what is found here too, else the name, and its source if there is one
 pub data Adds (files : Option Files) (a : Asked) (sources : List Source) (entries : List Entry) (sources' : List Source) (entries' : List Entry) : Type 0 where
-  Old : (was : Option ℕ) → known_of entries a.0 ≡ Some was → ((n : ℕ) (s : Source) → was ≡ Some n → slice_get sources n ≡ Some s → Contains a.1 s.path.items ⊎ NothingAt files a.1) → sources' ≡ sources → entries' ≡ entries → Adds files a sources entries sources' entries'
+  Old : (was : Option ℕ) → known_of entries a.0 ≡ Some was → IsFoundAt files sources a.1 was → sources' ≡ sources → entries' ≡ entries → Adds files a sources entries sources' entries'
   Missing : (key : Name) → key.items ≡ a.0 → known_of entries a.0 ≡ None → NothingAt files a.1 → sources' ≡ sources → entries' ≡ insert_entry by_bytes entries key None → Adds files a sources entries sources' entries'
   New : (path : List ℕ) (read : List ℕ × Bool) → known_of entries a.0 ≡ None → LiesAt files a.1 path read → IsAdded a.0 path read sources entries sources' entries' → Adds files a sources entries sources' entries'
 

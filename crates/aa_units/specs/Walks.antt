@@ -61,11 +61,16 @@ pub record LiesAt (files : Option Files) (paths : List (List ℕ)) (path : List 
 abbrev pub NothingAt : Option Files → List (List ℕ) → Type 0
 NothingAt files paths = IfSome files (λ f. first_taken f paths ≡ None)
 
--- An include was looked up: its name is known, and where the name has a source, that lies at one of the include's own paths, or
--- nothing lies at any of them.
+-- what a name leads to is found at these paths too: its source lies at one of them, or it has none and nothing lies there
+abbrev pub IsFoundAt : Option Files → List Source → List (List ℕ) → Option ℕ → Type 0
+IsFoundAt files sources paths None = NothingAt files paths
+IsFoundAt files sources paths (Some n) = IfSome (slice_get sources n) (λ s. Contains paths s.path.items)
+
+-- An include was looked up: its name is known, and leads to what is found at the include's own paths.
 pub record IsLookedUp (files : Option Files) (sources : List Source) (entries : List Entry) (a : Asked) : Type 0 where
-  pub known : IsSome (known_of entries a.0)
-  pub leads : (n : ℕ) (s : Source) → known_of entries a.0 ≡ Some (Some n) → slice_get sources n ≡ Some s → Contains a.1 s.path.items ⊎ NothingAt files a.1
+  pub number : Option ℕ
+  pub known : known_of entries a.0 ≡ Some number
+  pub found : IsFoundAt files sources a.1 number
 
 -- each include of a text was looked up
 pub record IsClosed (files : Option Files) (folders : List (List ℕ)) (sources : List Source) (entries : List Entry) (text : List ℕ) : Type 0 where

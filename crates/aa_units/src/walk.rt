@@ -1,6 +1,6 @@
 //! A main text with all that it includes, breadth first.
 
-ghost use Rattle.std.specs.Prelude.{◌≡◌, ◌≢◌, ◌⊎◌, ◌+◌, Option, Some, None, IfOk, IfErr, OnOk, MatchOption, IfSome, Contains, length, map, slice_get, slice_index_or};
+ghost use Rattle.std.specs.Prelude.{◌≡◌, ◌≢◌, ◌+◌, Option, Some, None, IfOk, IfErr, OnOk, MatchOption, IfSome, Contains, length, map, slice_get, slice_index_or};
 ghost use Rattle.std.specs.List.{list_any};
 ghost use Rattle.std.specs.Str.{bytes_eq};
 ghost use Rattle.std.specs.BTreeMap.{IsOrdered, insert_entry};
@@ -92,25 +92,49 @@ fn first_found<T: Tree>(
     Ok(None)
 }
 
-/// What is said of a name that is included in both forms and lies at two paths.
+/// How the two forms of a name differ: the path that each finds, if something lies there.
+fn difference(
+    alloc: Global,
+    before: Option<&[u8]>,
+    here: Option<&[u8]>,
+) -> Result<Vec<u8>, AllocError> {
+    let mut message = Vec::new(alloc);
+    match (before, here) {
+        (Some(before), Some(here)) => {
+            message.extend_from_slice(before)?;
+            message.extend_from_slice(" and ".as_bytes())?;
+            message.extend_from_slice(here)?;
+            message.extend_from_slice(" both have this name".as_bytes())?;
+        }
+        (Some(before), None) => {
+            message.extend_from_slice("nothing has this name here, and ".as_bytes())?;
+            message.extend_from_slice(before)?;
+            message.extend_from_slice(" has it for its other form".as_bytes())?;
+        }
+        (None, Some(here)) => {
+            message.extend_from_slice(here)?;
+            message.extend_from_slice(" has this name, and nothing has it for its other form".as_bytes())?;
+        }
+        (None, None) => {}
+    }
+    Ok(message)
+}
+
+/// What is said of a name that is included in both forms, which find different things.
 fn ambiguous(
     alloc: Global,
     unit: &Unit,
     node: usize,
     byte: usize,
-    first: &[u8],
-    second: &[u8],
+    before: Option<&[u8]>,
+    here: Option<&[u8]>,
 ) -> Result<FaultReport, AllocError> {
     let (path, text, _) = text_of_node(unit, node);
-    let mut message = Vec::from_slice(alloc, first)?;
-    message.extend_from_slice(" and ".as_bytes())?;
-    message.extend_from_slice(second)?;
-    message.extend_from_slice(" both have this name".as_bytes())?;
     Ok(FaultReport {
         kind: "AmbiguousInclude",
         path: Vec::from_slice(alloc, path)?,
         place: Some(place_at(text, byte)),
-        message,
+        message: difference(alloc, before, here)?,
         excerpt: excerpt(alloc, text, byte)?,
         chain: Vec::new(alloc),
         further: Vec::new(alloc),
@@ -123,7 +147,15 @@ fn has_path(paths: &[Vec<u8>], path: &[u8]) -> bool
     paths.iter().any(|one| one.as_slice() == path)
 }
 
-/// Whether a name that is known leads elsewhere in the form in which it is wanted now.
+/// The path of what was found.
+fn path_of(found: &Option<(Vec<u8>, Found)>) -> Option<&[u8]> {
+    match found {
+        Some((path, _)) => Some(path.as_slice()),
+        None => None,
+    }
+}
+
+/// Refuses a name with a source that doesn't lie where the form in which it is wanted now looks.
 fn check_known<T: Tree>(
     alloc: Global,
     tree: &T,
@@ -133,8 +165,7 @@ fn check_known<T: Tree>(
     wanted: Wanted,
 ) -> Result<(), UnitFault>
     requires { known_of unit.now.known.entries wanted.name.items ≡ Some (Some index) }
-    ensures agrees { OnOk result (IfSome (slice_get unit.now.sources.items index)
-        (λ s. Contains (texts wanted.paths.items) s.path.items ⊎ NothingAt (T.files tree.now) (texts wanted.paths.items))) }
+    ensures agrees { OnOk result (IfSome (slice_get unit.now.sources.items index) (λ s. Contains (texts wanted.paths.items) s.path.items)) }
     ensures fault { IfErr result (IsLookUpFault (T.files tree.now) unit.now.sources.items unit.now.known.entries (asked wanted)) }
 {
     let Some(source) = unit.sources.get(index) else {
@@ -144,10 +175,29 @@ fn check_known<T: Tree>(
         return Ok(());
     }
     let byte = wanted.byte;
+    let found = first_found(alloc, tree, wanted.paths)?;
+    let (before, here) = (Some(source.path.as_slice()), path_of(&found));
+    let fault = ambiguous(alloc, unit, node, byte, before, here)?;
+    Err(UnitFault::Ambiguous(fault))
+}
+
+/// Refuses a name without a source where the form in which it is wanted now finds one.
+fn check_missing<T: Tree>(
+    alloc: Global,
+    tree: &T,
+    unit: &Unit,
+    node: usize,
+    wanted: Wanted,
+) -> Result<(), UnitFault>
+    requires { known_of unit.now.known.entries wanted.name.items ≡ Some None }
+    ensures agrees { OnOk result (NothingAt (T.files tree.now) (texts wanted.paths.items)) }
+    ensures fault { IfErr result (IsLookUpFault (T.files tree.now) unit.now.sources.items unit.now.known.entries (asked wanted)) }
+{
+    let byte = wanted.byte;
     match first_found(alloc, tree, wanted.paths)? {
         Some((path, _)) => {
-            let (first, second) = (source.path.as_slice(), path.as_slice());
-            let fault = ambiguous(alloc, unit, node, byte, first, second)?;
+            let here = Some(path.as_slice());
+            let fault = ambiguous(alloc, unit, node, byte, None, here)?;
             Err(UnitFault::Ambiguous(fault))
         }
         None => Ok(()),
@@ -235,7 +285,7 @@ fn look_up<T: Tree>(
     let known = unit.known.get(wanted.name.as_slice()).copied();
     match known {
         Some(Some(index)) => check_known(alloc, tree, unit, node, index, wanted),
-        Some(None) => Ok(()),
+        Some(None) => check_missing(alloc, tree, unit, node, wanted),
         None => look_up_new(alloc, tree, unit, wanted),
     }
 }

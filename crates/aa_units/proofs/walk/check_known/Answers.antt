@@ -1,12 +1,11 @@
-use Rattle.std.proofs.Common.{◌≡◌, ◌⊎◌, inl, ℕ, List, length, refl, Option, Some, IfSome, Contains, Vec, true, false, sym, ap, subst, ◌∙◌}
+use Rattle.std.proofs.Common.{◌≡◌, ℕ, List, length, refl, Option, Some, IfSome, Contains, Vec, true, false, sym, ap, subst, ◌∙◌}
 use Rattle.std.specs.List.{list_any, slice_get}
 use Rattle.std.proofs.lemmas.Option.{slice_get_read}
 use Rattle.std.specs.Str.{bytes_eq}
 use Rattle.std.specs.declared.alloc.Global.{Global}
 use Rattle.aa_trees.specs.Texts.{texts}
 use Rattle.aa_units.specs.declared.unit.Source.{Source}
-use Rattle.aa_units.specs.FilesData.{read}
-use Rattle.aa_units.specs.Walks.{NothingAt}
+use Rattle.aa_units.specs.UnitFaults.IsAmbiguous.{Elsewhere}
 use Rattle.aa_units.proofs.Lists.{contains_path, no_path}
 use Rattle.aa_units.proofs.walk.check_known.Goals as goal
 
@@ -21,10 +20,10 @@ returns-then-has_path-clause-agrees g c =
     ap (λ (p : List ℕ). list_any (λ (v : Vec ℕ Global). bytes_eq v.items p) paths) (sym c.as_slice-2.ensures.value)
     ∙ ap (λ (ws : List (Vec ℕ Global)). list_any (λ (v : Vec ℕ Global). bytes_eq v.items c.as_slice-2.result.now) ws) (sym c.as_slice.ensures.value)
     ∙ sym c.has_path.ensures ∙ c.if-has_path.true in
-    subst (λ (o : Option Source). IfSome o (λ s. Contains (texts paths) s.path.items ⊎ NothingAt (g.T.Tree.files c.args.tree.now) (texts paths))) (sym there) (inl (contains_path paths source.path.items any))
+    subst (λ (o : Option Source). IfSome o (λ s. Contains (texts paths) s.path.items)) (sym there) (contains_path paths source.path.items any)
 
-pub returns-in-Some-2-clause-fault : goal.returns-in-Some-2-clause-fault
-returns-in-Some-2-clause-fault g c =
+pub returns-clause-fault : goal.returns-clause-fault
+returns-clause-fault g c =
     let paths = c.args.wanted.paths.items in
     let source = c.in-Some.source.now in
     let a = c.in-Some.ensures.lookup in
@@ -34,13 +33,4 @@ returns-in-Some-2-clause-fault g c =
     ap (λ (p : List ℕ). list_any (λ (v : Vec ℕ Global). bytes_eq v.items p) paths) (sym c.as_slice-2.ensures.value)
     ∙ ap (λ (ws : List (Vec ℕ Global)). list_any (λ (v : Vec ℕ Global). bytes_eq v.items c.as_slice-2.result.now) ws) (sym c.as_slice.ensures.value)
     ∙ sym c.has_path.ensures ∙ c.if-has_path.false in
-    record {
-      number = c.args.index;
-      source = source;
-      known = c.requires;
-      found = there;
-      elsewhere = no_path paths source.path.items none;
-      path = c.in-Some-2.path.items;
-      read = read c.in-Some-2.field-0-1;
-      lies = rw c.in-Some-2.is at c.in_ok-path.ensures.found;
-    }
+    Elsewhere c.args.index source c.requires there (no_path paths source.path.items none)

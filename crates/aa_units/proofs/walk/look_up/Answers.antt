@@ -1,24 +1,11 @@
-use Rattle.std.proofs.Common.{◌≡◌, ◌⊎◌, List, ℕ, Option, Some, None, Contains, IfSome, refl, sym, ap, subst, ◌∙◌, rules}
-use Rattle.std.specs.List.{slice_get}
+use Rattle.std.proofs.Common.{◌≡◌, List, ℕ, Option, Some, None, refl, sym, ap, ◌∙◌, rules}
 use Rattle.std.proofs.lemmas.Result.{on_ok_weaker}
-use Rattle.aa_trees.specs.Texts.{texts}
 use Rattle.aa_units.specs.declared.unit.Source.{Source}
-use Rattle.aa_units.specs.Walks.{Entry, known_of, NothingAt}
+use Rattle.aa_units.specs.Walks.{Entry, known_of}
 use Rattle.aa_units.specs.WalkData.{asked}
 use Rattle.aa_units.specs.WalkData.Adds.{Old}
-use Rattle.aa_units.specs.Files.{Files}
 use Rattle.aa_units.proofs.Faulted.{look_up_faults}
 use Rattle.aa_units.proofs.walk.look_up.Goals as goal
-
-leads : (files : Option Files) (paths : List (List ℕ)) (sources : List Source) (i n : ℕ) (s : Source) → Some i ≡ Some n → slice_get sources n ≡ Some s
-    → IfSome (slice_get sources i) (λ t. Contains paths t.path.items ⊎ NothingAt files paths) → Contains paths s.path.items ⊎ NothingAt files paths
-leads files paths sources i n s e at h =
-    let number : i ≡ n = cc in
-    let there : slice_get sources i ≡ Some s = ap (λ (m : ℕ). slice_get sources m) number ∙ at in
-    subst (λ (o : Option Source). IfSome o (λ t. Contains paths t.path.items ⊎ NothingAt files paths)) there h
-
-apart : (n : ℕ) → None ≡ Some n → ⊥
-apart n e = cc
 
 pub returns-in-Some-Some-clause-adds : goal.returns-in-Some-Some-clause-adds
 returns-in-Some-Some-clause-adds g c =
@@ -28,7 +15,7 @@ returns-in-Some-Some-clause-adds g c =
     ap (λ (q : List ℕ). known_of unit.known.entries q) (sym c.as_slice.ensures.value) ∙ sym c.get.ensures.value ∙ sym c.copied-known.ensures ∙ c.in-Some-Some.is in
     let known : known_of unit.known.entries c.args.wanted.name.items ≡ Some (Some c.in-Some-Some.index) = name ∙ ap (λ (o : Option ℕ). Some o) (search rules) in
     on_ok_weaker c.check_known.result
-    (λ h. record { path = refl {A = List ℕ}; text = refl {A = List ℕ}; adds = Old (Some c.in-Some-Some.index) known (λ n s e at. leads files (texts c.args.wanted.paths.items) unit.sources.items c.in-Some-Some.index n s e at h) (refl {A = List Source}) (refl {A = List Entry}) })
+    (λ h. record { path = refl {A = List ℕ}; text = refl {A = List ℕ}; adds = Old (Some c.in-Some-Some.index) known h (refl {A = List Source}) (refl {A = List Entry}) })
     c.check_known.ensures.agrees
 
 pub returns-in-Some-None-clause-adds : goal.returns-in-Some-None-clause-adds
@@ -37,7 +24,9 @@ returns-in-Some-None-clause-adds g c =
     let name : known_of unit.known.entries c.args.wanted.name.items ≡ Some c.in-Some-None.field-0 =
     ap (λ (q : List ℕ). known_of unit.known.entries q) (sym c.as_slice.ensures.value) ∙ sym c.get.ensures.value ∙ sym c.copied-known.ensures ∙ c.in-Some-None.is in
     let known : known_of unit.known.entries c.args.wanted.name.items ≡ Some None = name ∙ ap (λ (o : Option ℕ). Some o) (search rules) in
-    record { path = refl {A = List ℕ}; text = refl {A = List ℕ}; adds = Old None known (λ n s e at. absurd (apart n e)) (refl {A = List Source}) (refl {A = List Entry}) }
+    on_ok_weaker c.check_missing.result
+    (λ h. record { path = refl {A = List ℕ}; text = refl {A = List ℕ}; adds = Old None known h (refl {A = List Source}) (refl {A = List Entry}) })
+    c.check_missing.ensures.agrees
 
 pub returns-in-None-clause-fault : goal.returns-in-None-clause-fault
 returns-in-None-clause-fault g c =
@@ -48,4 +37,11 @@ check_known-requires g c =
     let unit = c.args.unit.now in
     let name : known_of unit.known.entries c.args.wanted.name.items ≡ Some c.in-Some-Some.field-0 =
     ap (λ (q : List ℕ). known_of unit.known.entries q) (sym c.as_slice.ensures.value) ∙ sym c.get.ensures.value ∙ sym c.copied-known.ensures ∙ c.in-Some-Some.is in
+    name ∙ ap (λ (o : Option ℕ). Some o) (search rules)
+
+pub check_missing-requires : goal.check_missing-requires
+check_missing-requires g c =
+    let unit = c.args.unit.now in
+    let name : known_of unit.known.entries c.args.wanted.name.items ≡ Some c.in-Some-None.field-0 =
+    ap (λ (q : List ℕ). known_of unit.known.entries q) (sym c.as_slice.ensures.value) ∙ sym c.get.ensures.value ∙ sym c.copied-known.ensures ∙ c.in-Some-None.is in
     name ∙ ap (λ (o : Option ℕ). Some o) (search rules)
