@@ -1,5 +1,5 @@
 -- A walk, as the code has it.
-use Rattle.std.specs.Prelude.{ℕ, ◌≡◌, ◌⊎◌, ◌<◌, List, [], ◌∷◌, ◌++◌, length, take, Bool, Option, Some, None, All, Contains, slice_get}
+use Rattle.std.specs.Prelude.{ℕ, ◌≡◌, ◌<◌, List, [], ◌∷◌, ◌++◌, length, take, Bool, Option, Some, None, All}
 use Rattle.std.specs.BTreeMap.{insert_entry, IsOrdered}
 use Rattle.aa_trees.specs.Texts.{texts}
 use Rattle.aa_units.specs.declared.unit.Source.{Source}

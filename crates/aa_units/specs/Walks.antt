@@ -1,5 +1,5 @@
 -- A walk over the includes of a main text.
-use Rattle.std.specs.Prelude.{ℕ, ◌≡◌, ◌⊎◌, ◌+◌, ◌≤◌, List, ◌∷◌, length, take, map, flat_map, Option, Some, None, option_map, option_to_list, slice_get, Bool, IsSome, IfSome, All, Contains, Vec}
+use Rattle.std.specs.Prelude.{ℕ, ◌≡◌, ◌+◌, ◌≤◌, List, ◌∷◌, length, take, map, flat_map, Option, Some, None, option_map, option_to_list, slice_get, Bool, IfSome, All, Contains, Vec}
 use Rattle.std.specs.Map.{lookup}
 use Rattle.std.specs.declared.alloc.Global.{Global}
 use Rattle.std.specs.declared.cmp.Ordering.{Ordering}

@@ -113,7 +113,9 @@ fn difference(
         }
         (None, Some(here)) => {
             message.extend_from_slice(here)?;
-            message.extend_from_slice(" has this name, and nothing has it for its other form".as_bytes())?;
+            message.extend_from_slice(
+                " has this name, and nothing has it for its other form".as_bytes(),
+            )?;
         }
         (None, None) => {}
     }
