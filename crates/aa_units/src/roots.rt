@@ -1,9 +1,11 @@
 //! The files that the command line names.
 
-ghost use Rattle.std.specs.Prelude.{◌≡◌, ◌++◌, ◌∷◌, [], ◌<◌, ◌≤◌, List, ℕ, Option, Some, is_some, vec_len, codes, OnOk, IfOk, IfErr, IfSome, if◌then◌else◌};
+ghost use Rattle.std.specs.Prelude.{◌≡◌, ◌++◌, ◌∷◌, [], ◌<◌, ◌≤◌, List, ℕ, Option, Some, is_some, vec_len, slice_get, codes, Contains, OnOk, IfOk, IfErr, IfSome, if◌then◌else◌};
+ghost use Rattle.aa_trees.specs.Searches.{path_in};
 ghost use Rattle.aa_trees.specs.Names.{is_leftover};
 ghost use Rattle.aa_trees.specs.Texts.{texts};
 ghost use Rattle.aa_units.specs.Files.{Files, Taken, listed};
+ghost use Rattle.aa_units.specs.RootFaults.{looked_paths, IsFaultOf, IsArgumentFault, IsRootFault};
 ghost use Rattle.aa_units.specs.Roots.{is_named_in, is_wanted, wanted_path, leftover_line, complain_line, warning_lines, folder_of, paths_among, lines_among, root_paths, root_lines};
 
 use crate::tree::{Tree, Unread};
@@ -61,7 +63,8 @@ fn is_in<T: Tree>(
     folder: &str,
     name: &[u8],
 ) -> Result<bool, UnitFault>
-    ensures { IfOk result (λ b. IfSome (T.taken tree.now) (λ t. b ≡ is_named_in t base.now folder.now name.now)) }
+    ensures told { IfOk result (λ b. IfSome (T.taken tree.now) (λ t. b ≡ is_named_in t base.now folder.now name.now)) }
+    ensures fault { IfErr result (IsFaultOf (λ path. path ≡ path_in (path_in base.now folder.now) name.now) (λ _. ⊥)) }
 {
     let inner = joined_path(alloc, base, folder.as_bytes())?;
     let path = joined_path(alloc, inner.as_slice(), name)?;
@@ -73,7 +76,8 @@ fn is_in<T: Tree>(
 
 /// Whether a folder's file is read: it isn't passed over by its name, and isn't disabled.
 fn is_wanted<T: Tree>(alloc: Global, tree: &T, base: &[u8], name: &[u8]) -> Result<bool, UnitFault>
-    ensures { IfOk result (λ b. IfSome (T.taken tree.now) (λ t. b ≡ is_wanted t base.now name.now)) }
+    ensures told { IfOk result (λ b. IfSome (T.taken tree.now) (λ t. b ≡ is_wanted t base.now name.now)) }
+    ensures fault { IfErr result (IsFaultOf (Contains (looked_paths base.now name.now)) (λ _. ⊥)) }
 {
     if is_passed_over(name) {
         return Ok(false);
@@ -90,7 +94,8 @@ fn warn_of_complain<T: Tree>(
     name: &[u8],
     lines: &mut Vec<Vec<u8>>,
 ) -> Result<(), UnitFault>
-    ensures { OnOk result (IfSome (T.taken tree.now) (λ t. texts lines.new.items ≡ texts lines.old.items ++ complain_line t base.now path.now name.now)) }
+    ensures lines { OnOk result (IfSome (T.taken tree.now) (λ t. texts lines.new.items ≡ texts lines.old.items ++ complain_line t base.now path.now name.now)) }
+    ensures fault { IfErr result (IsFaultOf (Contains (looked_paths base.now name.now)) (λ _. ⊥)) }
 {
     let is_named = is_in(alloc, tree, base, "force-complain", name)?;
     let what = ": force-complain isn't applied, the text decides";
@@ -103,7 +108,7 @@ fn push_path(path: Vec<u8>, roots: &mut Roots) -> Result<(), UnitFault>
     ensures added { OnOk result (roots.new.paths.items ≡ roots.old.paths.items ++ path ∷ []) }
     ensures warnings { OnOk result (roots.new.warnings.items ≡ roots.old.warnings.items) }
     ensures within { OnOk result (vec_len roots.old.paths < MAX_FILES) }
-    ensures room { vec_len roots.old.paths < MAX_FILES → IfErr result (λ why. why ≡ UnitFault.NoMemory) }
+    ensures fault { IfErr result (IsFaultOf (λ _. ⊥) (λ at. (at ≡ path.items) × (MAX_FILES ≤ vec_len roots.old.paths))) }
 {
     if roots.paths.len() >= MAX_FILES {
         return Err(fault_at(path, Unread::TooLarge));
@@ -124,6 +129,7 @@ fn push_wanted<T: Tree>(
     ensures few { OnOk result (vec_len roots.new.paths ≤ MAX_FILES) }
     ensures paths { OnOk result (texts roots.new.paths.items ≡ texts roots.old.paths.items ++ path.items ∷ []) }
     ensures warnings { OnOk result (IfSome (T.taken tree.now) (λ t. texts roots.new.warnings.items ≡ texts roots.old.warnings.items ++ complain_line t base.now path.items name.now)) }
+    ensures fault { IfErr result (IsFaultOf (Contains (looked_paths base.now name.now)) (λ at. (at ≡ path.items) × (MAX_FILES ≤ vec_len roots.old.paths))) }
 {
     warn_of_complain(
         alloc,
@@ -148,6 +154,8 @@ fn push_file<T: Tree>(
     ensures few { OnOk result (vec_len roots.old.paths ≤ MAX_FILES → vec_len roots.new.paths ≤ MAX_FILES) }
     ensures paths { OnOk result (IfSome (T.taken tree.now) (λ t. texts roots.new.paths.items ≡ texts roots.old.paths.items ++ wanted_path t base.now folder.now name.now)) }
     ensures warnings { OnOk result (IfSome (T.taken tree.now) (λ t. texts roots.new.warnings.items ≡ texts roots.old.warnings.items ++ warning_lines t base.now folder.now name.now)) }
+    ensures fault { vec_len roots.old.paths ≤ MAX_FILES → IfErr result (IsFaultOf (Contains (looked_paths base.now name.now))
+        (λ at. IfSome (T.taken tree.now) (λ t. slice_get (texts roots.old.paths.items ++ wanted_path t base.now folder.now name.now) MAX_FILES ≡ Some at))) }
 {
     let path = joined_path(alloc, folder, name)?;
     warn_of_leftover(alloc, path.as_slice(), name, &mut roots.warnings)?;
@@ -169,6 +177,7 @@ fn push_folder<T: Tree>(
     ensures few { OnOk result (vec_len roots.old.paths ≤ MAX_FILES → vec_len roots.new.paths ≤ MAX_FILES) }
     ensures paths { OnOk result (IfSome (T.files tree.now) (λ f. IfSome (T.taken tree.now) (λ t. texts roots.new.paths.items ≡ texts roots.old.paths.items ++ paths_among t base.now folder.now (listed (f folder.now))))) }
     ensures warnings { OnOk result (IfSome (T.files tree.now) (λ f. IfSome (T.taken tree.now) (λ t. texts roots.new.warnings.items ≡ texts roots.old.warnings.items ++ lines_among t base.now folder.now (listed (f folder.now))))) }
+    ensures fault { vec_len roots.old.paths ≤ MAX_FILES → IfErr result (IsArgumentFault (T.files tree.now) (T.taken tree.now) (λ a f. listed (f a)) base.now folder.now (texts roots.old.paths.items)) }
 {
     let names = match tree.names_in(alloc, folder) {
         Ok(names) => names,
@@ -182,7 +191,8 @@ fn push_folder<T: Tree>(
 
 /// Whether an argument stands for the files in a folder. What can't be looked at is taken for a file, and refused when it is read.
 fn is_for_files<T: Tree>(tree: &T, argument: &[u8]) -> Result<bool, UnitFault>
-    ensures { IfOk result (λ b. IfSome (T.files tree.now) (λ f. b ≡ is_some (folder_of f argument.now))) }
+    ensures told { IfOk result (λ b. IfSome (T.files tree.now) (λ f. b ≡ is_some (folder_of f argument.now))) }
+    ensures fault { IfErr result (λ why. why ≡ UnitFault.NoMemory) }
 {
     if argument == "-".as_bytes() {
         return Ok(false);
@@ -205,6 +215,7 @@ fn push_argument<T: Tree>(
     ensures few { OnOk result (vec_len roots.old.paths ≤ MAX_FILES → vec_len roots.new.paths ≤ MAX_FILES) }
     ensures paths { OnOk result (IfSome (T.files tree.now) (λ f. IfSome (T.taken tree.now) (λ t. texts roots.new.paths.items ≡ texts roots.old.paths.items ++ paths_among t base.now argument.now (folder_of f argument.now)))) }
     ensures warnings { OnOk result (IfSome (T.files tree.now) (λ f. IfSome (T.taken tree.now) (λ t. texts roots.new.warnings.items ≡ texts roots.old.warnings.items ++ lines_among t base.now argument.now (folder_of f argument.now)))) }
+    ensures fault { vec_len roots.old.paths ≤ MAX_FILES → IfErr result (IsArgumentFault (T.files tree.now) (T.taken tree.now) (λ a f. folder_of f a) base.now argument.now (texts roots.old.paths.items)) }
 {
     if is_for_files(tree, argument)? {
         push_folder(alloc, tree, base, argument, roots)
@@ -225,6 +236,7 @@ pub fn roots_of<T: Tree>(
     ensures few { IfOk result (λ roots. vec_len roots.paths ≤ MAX_FILES) }
     ensures paths { IfOk result (λ roots. IfSome (T.files tree.now) (λ f. IfSome (T.taken tree.now) (λ t. texts roots.paths.items ≡ root_paths f t base.now (texts arguments.now)))) }
     ensures warnings { IfOk result (λ roots. IfSome (T.files tree.now) (λ f. IfSome (T.taken tree.now) (λ t. texts roots.warnings.items ≡ root_lines f t base.now (texts arguments.now)))) }
+    ensures fault { IfErr result (IsRootFault (T.files tree.now) (T.taken tree.now) base.now (texts arguments.now)) }
 {
     let mut roots = Roots {
         paths: Vec::new(alloc),
