@@ -7,3 +7,4 @@ pub mod WalkData
 pub mod Nodes
 pub mod UnitFaults
 pub mod Roots
+pub mod Compiled
