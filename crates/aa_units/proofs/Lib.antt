@@ -5,3 +5,4 @@ mod Taken
 mod Walked
 mod Faulted
 mod Rooted
+mod Gathering

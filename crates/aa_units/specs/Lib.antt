@@ -8,3 +8,4 @@ pub mod Nodes
 pub mod UnitFaults
 pub mod Roots
 pub mod RootFaults
+pub mod Compiled

@@ -9,7 +9,7 @@ mod walk;
 
 pub use aa_texts::{FaultReport, Link, PlaceAt, place_at, push_number, push_place, push_text};
 pub use aa_trees::searched_folders;
-pub use policy::{compile_unit, sources_of};
+pub use policy::{compile_text, compile_unit, sources_of};
 pub use roots::{Roots, roots_of};
 pub use tree::{Content, Tree, Unread};
 pub use unit::{
