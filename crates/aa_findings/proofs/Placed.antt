@@ -1,5 +1,5 @@
 -- Where a record's request is asked: at the first task that takes it, or behind all.
-use Rattle.std.proofs.Common.{◌≡◌, ◌<◌, ◌≤◌, ℕ, zero, suc, ◌+◌, List, [], ◌∷◌, ◌++◌, length, map, find, set, get_or, Bool, true, false, cond, Option, Some, None, refl, sym, ap, ◌∙◌, arith, nat_lt}
+use Rattle.std.proofs.Common.{◌≡◌, ◌<◌, ◌≤◌, ℕ, zero, suc, List, [], ◌∷◌, ◌++◌, length, find, set, get_or, Bool, true, false, cond, Option, Some, None, refl, sym, ap, ◌∙◌, arith, nat_lt}
 use Rattle.std.specs.List.{position, position_or_len}
 use Rattle.std.proofs.lemmas.List.Sums.{fails_before_first}
 use Rattle.std.proofs.lemmas.List.Quantifiers.{position-Some}
@@ -7,7 +7,7 @@ use Rattle.std.proofs.lemmas.Bool.{ltb-false}
 use Rattle.std.proofs.lemmas.List.{length-map, map-append, map-set}
 use Rattle.aa_logs.specs.Outcomes.{RecordData}
 use Rattle.aa_findings.specs.declared.task.LogTask.{LogTask}
-use Rattle.aa_findings.specs.Tasks.{TaskData, task_data, tasks_data, takes, begun, gone_on, with_record, has_room, fits}
+use Rattle.aa_findings.specs.Tasks.{TaskData, task_data, tasks_data, takes, begun, gone_on, with_record, fits}
 
 abbrev takes_it : RecordData → LogTask → Bool
 takes_it r t = takes r (task_data t)

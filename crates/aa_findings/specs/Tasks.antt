@@ -1,5 +1,5 @@
 -- The tasks that a log's requests are asked by.
-use Rattle.std.specs.Prelude.{◌≡◌, ℕ, ◌+◌, nat_lt, ◌&&◌, ◌==◌, not, List, [], ◌∷◌, ◌++◌, length, map, find, Bool, true, false, Option, Some, None, if◌then◌else◌}
+use Rattle.std.specs.Prelude.{ℕ, nat_lt, ◌&&◌, ◌==◌, not, List, [], ◌∷◌, ◌++◌, length, map, find, Bool, true, false, Option, Some, None, if◌then◌else◌}
 use Rattle.std.specs.Str.{bytes_eq}
 use Rattle.aa_requests.specs.declared.request.Request.{Request}
 use Rattle.aa_requests.specs.declared.request.Request.TheVariants.{File, Link, Exec, Cap, Net, Change, Reload}

@@ -1,8 +1,8 @@
 //! How many requests of a log are answered how, then and now.
 
-ghost use Rattle.std.specs.Prelude.{◌≡◌, ◌||◌, false};
+ghost use Rattle.std.specs.Prelude.{◌≡◌, ◌+◌, ◌-◌, ◌^◌, ◌<◌, ◌||◌, false, length, min, slice_index_or, slice_set};
 ghost use Rattle.aa_findings.specs.Answers.{row_of, column_of, is_newly_denied};
-ghost use Rattle.aa_findings.specs.Counts.{count_in, counted};
+ghost use Rattle.aa_findings.specs.Counts.{count_in, counted, AreNone, HasOneMore};
 
 use crate::answer::{Now, is_newly_denied};
 use aa_logs::Then;
@@ -35,10 +35,22 @@ fn column_of(now: Now) -> usize
     }
 }
 
+/// A row with one more in that column.
+fn with_one(row: [u64; 4], column: usize) -> [u64; 4]
+    requires { column < 4 }
+    ensures len { length row ≡ 4 }
+    ensures one { result ≡ slice_set row column (min (slice_index_or row column 0 + 1) (2 ^ 64 - 1)) }
+{
+    let mut more = row;
+    more[column] = more[column].saturating_add(1);
+    more
+}
+
 impl Counts {
     /// No request yet.
     pub fn none() -> Counts
-        ensures { result.has_newly_denied ≡ false }
+        ensures none { AreNone result.rows }
+        ensures newly { result.has_newly_denied ≡ false }
     {
         Counts {
             rows: [[0; 4]; 3],
@@ -49,10 +61,11 @@ impl Counts {
     /// Counts a request more.
     pub fn add(&mut self, then: Then, now: Now)
         ensures counted { self.new.rows ≡ counted (row_of then) (column_of now) self.old.rows }
+        ensures one { HasOneMore then now self.old.rows self.new.rows }
         ensures newly { self.new.has_newly_denied ≡ (self.old.has_newly_denied || is_newly_denied then now) }
     {
         let (row, column) = (row_of(then), column_of(now));
-        self.rows[row][column] = self.rows[row][column].saturating_add(1);
+        self.rows[row] = with_one(self.rows[row], column);
         self.has_newly_denied = self.has_newly_denied || is_newly_denied(then, now);
     }
 

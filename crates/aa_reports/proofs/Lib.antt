@@ -1,2 +1,7 @@
 pub mod Listing
 pub mod Sorting
+pub mod Counting
+pub mod Entries
+pub mod Reasons
+pub mod Results
+pub mod Taking

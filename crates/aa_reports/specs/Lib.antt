@@ -2,3 +2,5 @@ pub mod Orders
 pub mod Printed
 pub mod Commas
 pub mod Listed
+pub mod Counted
+pub mod Found

@@ -1,12 +1,18 @@
 //! What `log` finds in logs.
 
-ghost use Rattle.std.specs.Prelude.{◌≡◌, ◌+◌, ◌-◌, ◌^◌, ◌<◌, ◌≤◌, ◌++◌, ◌∷◌, [], Some, map, min, length, option_map, option_to_list, slice_get, slice_set, OnOk, IfOk, IfErr, IfSome};
+ghost use Rattle.std.specs.Prelude.{◌≡◌, ℕ, ◌+◌, ◌-◌, ◌^◌, ◌<◌, ◌≤◌, ◌++◌, ◌∷◌, ◌&&◌, List, [], Some, None, not, map, min, length, is_some, option_map, option_to_list, slice_get, slice_set, position, OnOk, IfOk, IfErr, IfSome, cond};
 ghost use Rattle.std.specs.Ordering.{nat_cmp};
 ghost use Rattle.std.specs.Cmp.Lexicographic.{slice_cmp};
 ghost use Rattle.std.specs.HashMap.{get_by};
 ghost use Rattle.std.specs.Str.{bytes_eq};
 ghost use Rattle.aa_request_words.specs.Written.{word_text};
 ghost use Rattle.aa_reports.specs.declared.logging.Entry.{Entry};
+ghost use Rattle.aa_log_lines.specs.LogLines.{LogLine, log_line};
+ghost use Rattle.aa_logs.specs.Asked.{cause_of};
+ghost use Rattle.aa_logs.specs.Outcomes.{record_data, outcome};
+ghost use Rattle.aa_logs.specs.Records.{line_in};
+ghost use Rattle.aa_reports.specs.Counted.{greatest, firsts, counted};
+ghost use Rattle.aa_reports.specs.Found.{Asked, Skipped, asked_at, asked_key, skipped_key, skipped_item, skipped_data, skipped_for, is_wanted, wants_all, left_out_of, distinct_in, AddsKey, AreFound, AreEach, IsReport, IsRefused};
 ghost use Rattle.aa_reports.specs.Orders.{up_to, key_at, items_at, profile_of, reason_key, IsOrder, IsInOrder};
 ghost use Rattle.aa_reports.specs.Printed.{key_text};
 
@@ -123,7 +129,8 @@ fn add_entry(
     entry: Entry,
 ) -> Result<(), Unread>
     ensures entries { OnOk result (entries.new.items ≡ entries.old.items ++ entry ∷ []) }
-    ensures room { length entries.old.items < 1000000 → IfErr result (λ why. why ≡ Unread.NoMemory) }
+    ensures numbers { OnOk result (get_by (λ k. bytes_eq key.items k.items) numbers.old ≡ None → AddsKey numbers.old key.items (length entries.old.items) numbers.new) }
+    ensures room { IfErr result (λ why. IsRefused why (1000000 ≤ length entries.old.items)) }
     ensures most { OnOk result (length entries.old.items < 1000000) }
 {
     if entries.len() >= MAX_DISTINCT {
@@ -142,8 +149,8 @@ fn count_request(
     asked: Record,
     place: LinePlace,
 ) -> Result<(), Unread>
-    ensures within { OnOk result (length entries.old.items ≤ 1000000 → length entries.new.items ≤ 1000000) }
-    ensures room { length entries.old.items < 1000000 → IfErr result (λ why. why ≡ Unread.NoMemory) }
+    ensures found { OnOk result ((before : List Asked) → AreFound before entries.old.items numbers.old → AreFound (before ++ asked_at (record_data asked) place ∷ []) entries.new.items numbers.new) }
+    ensures room { IfErr result (λ why. IsRefused why ((before : List Asked) → AreFound before entries.old.items numbers.old → 1000000 < length (firsts asked_key (before ++ asked_at (record_data asked) place ∷ [])))) }
 {
     let Record {
         then,
@@ -165,18 +172,20 @@ fn count_request(
         count: 1,
         first: place,
     };
-    add_entry(entries, numbers, key, entry)?;
-    Ok(())
+    add_entry(entries, numbers, key, entry)
 }
 
 /// Whether lines are skipped for that reason.
-fn is_for(skipped: &SkippedLines, reason: (u8, &'static str)) -> bool {
+fn is_for(skipped: &SkippedLines, reason: (u8, &'static str)) -> bool
+    ensures { result ≡ bytes_eq (reason_key skipped.now) (reason.entry.0 ∷ reason.entry.1.now) }
+{
     skipped.reason.0 == reason.0 && skipped.reason.1 == reason.1
 }
 
 /// The place of those that are skipped for that reason.
 fn place_of(skipped: &[SkippedLines], reason: (u8, &'static str)) -> Option<usize>
-    ensures { IfSome result (λ n. n < length skipped.now) }
+    ensures within { IfSome result (λ n. n < length skipped.now) }
+    ensures place { result ≡ position (λ s. bytes_eq (reason_key s) (reason.entry.0 ∷ reason.entry.1.now)) skipped.now }
 {
     skipped.iter().position(|known| is_for(known, reason))
 }
@@ -186,7 +195,9 @@ fn count_reason(
     skipped: &mut Vec<SkippedLines>,
     reason: (u8, &'static str),
     place: LinePlace,
-) -> Result<(), AllocError> {
+) -> Result<(), AllocError>
+    ensures { OnOk result ((before : List Skipped) → map skipped_data skipped.old.items ≡ counted skipped_key before → map skipped_data skipped.new.items ≡ counted skipped_key (before ++ record { order = reason.entry.0; name = reason.entry.1.now; place = place } ∷ [])) }
+{
     let Some(number) = place_of(skipped.as_slice(), reason) else {
         skipped.push(SkippedLines {
             reason,
@@ -205,7 +216,9 @@ fn note_each(
     each: &mut Option<Vec<SkippedLines>>,
     reason: (u8, &'static str),
     place: LinePlace,
-) -> Result<(), AllocError> {
+) -> Result<(), AllocError>
+    ensures { OnOk result ((before : List Skipped) → AreEach before (option_map (λ e. e.items) each.old) → AreEach (before ++ record { order = reason.entry.0; name = reason.entry.1.now; place = place } ∷ []) (option_map (λ e. e.items) each.new)) }
+{
     let Some(each) = each else {
         return Ok(());
     };
@@ -217,46 +230,79 @@ fn note_each(
     Ok(())
 }
 
+/// No skipped line yet, where each is wanted.
+fn none_noted(alloc: Global, wants_each: bool) -> Option<Vec<SkippedLines>>
+    ensures each { AreEach [] (option_map (λ e. e.items) result) }
+    ensures kept { is_some result ≡ wants_each }
+{
+    if wants_each {
+        return Some(Vec::new(alloc));
+    }
+    None
+}
+
+/// Whether all lines are wanted.
+fn wants_all(choice: &Choice<'_>) -> bool
+    ensures { result ≡ wants_all choice.now }
+{
+    choice.profiles.is_empty() && choice.since.is_none() && choice.until.is_none()
+}
+
+/// No line left out yet, where some may be.
+fn none_left_out(choice: &Choice<'_>) -> Option<u64>
+    ensures { result ≡ left_out_of choice.now 0 }
+{
+    if wants_all(choice) { None } else { Some(0) }
+}
+
 impl<'a> LogReport<'a> {
     /// Nothing yet, of the lines that are wanted.
-    pub fn new(alloc: Global, choice: Choice<'a>, wants_each: bool) -> LogReport<'a> {
-        let wants_all = choice.profiles.is_empty()
-            && choice.since.is_none()
-            && choice.until.is_none();
+    pub fn new(alloc: Global, choice: Choice<'a>, wants_each: bool) -> LogReport<'a>
+        ensures empty { IsReport [] result }
+        ensures choice { result.choice ≡ choice.entry }
+        ensures each { is_some result.each_skipped ≡ wants_each }
+    {
+        let left_out = none_left_out(&choice);
         LogReport {
             choice,
             log: 0,
             entries: Vec::new(alloc),
             numbers: HashMap::new(alloc),
             skipped: Vec::new(alloc),
-            each_skipped: if wants_each {
-                Some(Vec::new(alloc))
-            } else {
-                None
-            },
+            each_skipped: none_noted(alloc, wants_each),
             lines: 0,
             requests: 0,
             skipped_count: 0,
             other: 0,
-            left_out: if wants_all { None } else { Some(0) },
+            left_out,
         }
     }
 
     /// Where a line of the log that is read stands.
-    fn place(&self, line: u64) -> LinePlace {
+    fn place(&self, line: u64) -> LinePlace
+        ensures { result ≡ record { log = self.now.log; line = line } }
+    {
         LinePlace {
             log: self.log,
             line,
         }
     }
 
-    fn count_record(&mut self, alloc: Global, asked: Record, line: u64) -> Result<(), Unread> {
+    fn count_record(&mut self, alloc: Global, asked: Record, line: u64) -> Result<(), Unread>
+        ensures counted { OnOk result (self.new ≡ record self.old { entries = self.new.entries; numbers = self.new.numbers; requests = min (self.old.requests + 1) greatest }) }
+        ensures found { OnOk result ((before : List Asked) → AreFound before self.old.entries.items self.old.numbers → AreFound (before ++ asked_at (record_data asked) (record { log = self.old.log; line = line }) ∷ []) self.new.entries.items self.new.numbers) }
+        ensures room { IfErr result (λ why. IsRefused why ((before : List Asked) → AreFound before self.old.entries.items self.old.numbers → 1000000 < length (firsts asked_key (before ++ asked_at (record_data asked) (record { log = self.old.log; line = line }) ∷ [])))) }
+    {
         let place = self.place(line);
         self.requests = self.requests.saturating_add(1);
         count_request(alloc, &mut self.entries, &mut self.numbers, asked, place)
     }
 
-    fn count_skipped(&mut self, reason: Reason, line: u64) -> Result<(), AllocError> {
+    fn count_skipped(&mut self, reason: Reason, line: u64) -> Result<(), AllocError>
+        ensures counted { OnOk result (self.new ≡ record self.old { skipped = self.new.skipped; each_skipped = self.new.each_skipped; skipped_count = min (self.old.skipped_count + 1) greatest }) }
+        ensures reasons { OnOk result ((before : List Skipped) → map skipped_data self.old.skipped.items ≡ counted skipped_key before → map skipped_data self.new.skipped.items ≡ counted skipped_key (before ++ skipped_for (cause_of reason) (record { log = self.old.log; line = line }) ∷ [])) }
+        ensures each { OnOk result ((before : List Skipped) → AreEach before (option_map (λ e. e.items) self.old.each_skipped) → AreEach (before ++ skipped_for (cause_of reason) (record { log = self.old.log; line = line }) ∷ []) (option_map (λ e. e.items) self.new.each_skipped)) }
+    {
         let place = self.place(line);
         let reason = named(reason);
         self.skipped_count = self.skipped_count.saturating_add(1);
@@ -265,7 +311,10 @@ impl<'a> LogReport<'a> {
     }
 
     /// Whether a line is left out; it is counted then.
-    fn leaves_out(&mut self, alloc: Global, line: &[u8]) -> Result<bool, AllocError> {
+    fn leaves_out(&mut self, alloc: Global, line: &[u8]) -> Result<bool, AllocError>
+        ensures left { IfOk result (λ left. left ≡ (is_some self.old.left_out && not (is_wanted self.old.choice line.now))) }
+        ensures counted { IfOk result (λ left. self.new ≡ cond left (record self.old { left_out = option_map (λ n. min (n + 1) greatest) self.old.left_out }) self.old) }
+    {
         let Some(left_out) = self.left_out else {
             return Ok(false);
         };
@@ -276,7 +325,11 @@ impl<'a> LogReport<'a> {
         Ok(true)
     }
 
-    fn count_line(&mut self, alloc: Global, line: &[u8], number: u64) -> Result<(), Unread> {
+    fn count_line(&mut self, alloc: Global, line: &[u8], number: u64) -> Result<(), Unread>
+        ensures log { OnOk result (self.new.log ≡ self.old.log) }
+        ensures taken { OnOk result ((before : List LogLine) → IsReport before self.old → IsReport (before ++ log_line self.old.log number line.now ∷ []) self.new) }
+        ensures room { IfErr result (λ why. IsRefused why ((before : List LogLine) → IsReport before self.old → 1000000 < distinct_in self.old.choice (before ++ log_line self.old.log number line.now ∷ []))) }
+    {
         self.lines = self.lines.saturating_add(1);
         let found = line_of(alloc, line)?;
         if let Line::Other = found {
@@ -313,7 +366,17 @@ impl<'a> LogReport<'a> {
 }
 
 impl Lines for LogReport<'_> {
-    fn take_line(&mut self, alloc: Global, line: &[u8], number: u64) -> Result<(), Unread> {
+    ghost use Rattle.aa_reports.specs.Found.{IsReport};
+
+    ghost log = { λ r. r.log };
+
+    ghost has_taken = { λ r lines. IsReport lines r };
+
+    fn take_line(&mut self, alloc: Global, line: &[u8], number: u64) -> Result<(), Unread>
+        ensures log { OnOk result (self.new.log ≡ self.old.log) }
+        ensures taken { OnOk result ((before : List LogLine) → IsReport before self.old → IsReport (before ++ log_line self.old.log number line.now ∷ []) self.new) }
+        ensures room { IfErr result (λ why. IsRefused why ((before : List LogLine) → IsReport before self.old → 1000000 < distinct_in self.old.choice (before ++ log_line self.old.log number line.now ∷ []))) }
+    {
         self.count_line(alloc, line, number)
     }
 }

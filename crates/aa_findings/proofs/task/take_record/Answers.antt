@@ -1,4 +1,4 @@
-use Rattle.std.proofs.Common.{◌≡◌, sym, ap, ◌∙◌, List}
+use Rattle.std.proofs.Common.{sym, ap, ◌∙◌, List}
 use Rattle.aa_logs.specs.Outcomes.{record_data}
 use Rattle.aa_findings.specs.declared.task.LogTask.{LogTask}
 use Rattle.aa_findings.specs.Tasks.{tasks_data, fits}

@@ -1,0 +1,31 @@
+-- Items of a list, each once, with how often it stands there.
+use Rattle.std.specs.Prelude.{ℕ, ◌+◌, ◌-◌, ◌^◌, min, List, [], ◌∷◌, map, count_by, not, if◌then◌else◌}
+use Rattle.std.specs.List.{filter}
+use Rattle.std.specs.Str.{bytes_eq}
+
+-- the greatest number of 64 bits, which no count passes
+abbrev pub greatest : ℕ
+greatest = 2 ^ 64 - 1
+
+-- of the items that have one key the first, in the order of these
+unfoldable pub firsts : {A : Type 0} → (A → List ℕ) → List A → List A
+firsts key [] = []
+firsts key (a ∷ xs) = a ∷ filter (λ b. not (bytes_eq (key a) (key b))) (firsts key xs)
+
+-- how many items have that key
+abbrev pub times : {A : Type 0} → (A → List ℕ) → List ℕ → List A → ℕ
+times key k xs = min (count_by (λ a. bytes_eq k (key a)) xs) greatest
+
+-- an item, and how many have its key
+pub record Counted (A : Type 0) : Type 0 where
+  pub item : A
+  pub count : ℕ
+
+-- the first item of each key, in order, with how many have that key
+abbrev pub counted : {A : Type 0} → (A → List ℕ) → List A → List (Counted A)
+counted key xs = map (λ a. record { item = a; count = times key (key a) xs }) (firsts key xs)
+
+-- an item more: one more of its key where that is there, or else the first of its key
+unfoldable pub with_one : {A : Type 0} → (A → List ℕ) → List (Counted A) → A → List (Counted A)
+with_one key [] a = record { item = a; count = 1 } ∷ []
+with_one key (c ∷ cs) a = if bytes_eq (key c.item) (key a) then record { item = c.item; count = min (c.count + 1) greatest } ∷ cs else c ∷ with_one key cs a
