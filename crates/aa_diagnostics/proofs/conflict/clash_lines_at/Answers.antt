@@ -13,7 +13,7 @@ returns c =
     let ws = words_data c.in_ok-list.list.list.items in
     let split : Splits (named_texts u.order.items u.sources.items) u.text.items ws =
     subst (λ (t : List ℕ). Splits (named_texts u.order.items u.sources.items) t ws) c.as_slice.ensures.value
-    (subst (λ (s : List (List ℕ × List ℕ)). Splits s c.as_slice.result.now ws) c.in_ok-sources.ensures c.in_ok-list.ensures.split) in
+    (subst (λ (s : List (List ℕ × List ℕ)). Splits s c.as_slice.result.now ws) c.in_ok-sources.ensures.gathered c.in_ok-list.ensures.split) in
     elim c.in_ok-push_first_clash.ensures [
       | inl h ↦ inl (ap (λ (v : Vec (Vec ℕ Global) Global). texts v.items) h.0 ∙ ap texts c.new-further.ensures.items)
       | inr h ↦
