@@ -3,4 +3,3 @@ pub mod Tally
 pub mod Firsts
 pub mod Counted
 pub mod Found
-pub mod Gathering

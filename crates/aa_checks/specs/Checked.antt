@@ -1,17 +1,14 @@
 -- What is found of each file that the command line names.
-use Rattle.std.specs.Prelude.{ℕ, ◌≡◌, ◌≤◌, List, [], ◌∷◌, ◌++◌, length, count_by, sum_by, max, min, is_some, IfSome, Bool, true, false, Option, Some, None, map, ◌⊎◌}
+use Rattle.std.specs.Prelude.{ℕ, ◌≡◌, ◌≤◌, List, [], ◌∷◌, ◌++◌, length, count_by, sum_by, is_some, IfSome, Bool, true, false, Option, Some, None, ◌⊎◌}
 use Rattle.std.specs.List.{list_any}
-use Rattle.std.specs.Borrow.{Bor}
 use Rattle.aa_faults.specs.declared.fault.PolicyFault.{PolicyFault}
 use Rattle.aa_profiles.specs.declared.policy.Policy.{Policy}
 use Rattle.aa_trees.specs.Texts.{texts, slices}
-use Rattle.aa_policies.specs.Policies.{Source, IsPolicyOf, IsFaultOfSources, IsFaultOfText}
 use Rattle.aa_texts.specs.declared.fault.FaultReport.{FaultReport}
 use Rattle.aa_units.specs.declared.unit.Unit as unit
 use Rattle.aa_units.specs.declared.unit.UnitFault.{UnitFault}
 use Rattle.aa_units.specs.declared.unit.UnitFault.TheVariants.{NoMemory, At, Ambiguous}
-use Rattle.aa_units.specs.declared.unit.Source.{Source as Lent}
-use Rattle.aa_units.specs.Numbers.{named_text, named_texts}
+use Rattle.aa_units.specs.Compiled.{limit_of, IsPolicyOfUnit, IsFaultOfUnit}
 use Rattle.aa_units.specs.Files.{Files, Taken}
 use Rattle.aa_units.specs.Roots.{root_paths, root_lines}
 use Rattle.aa_units.specs.UnitFaults.{IsLoadFault}
@@ -23,27 +20,6 @@ use Rattle.aa_checks.specs.declared.report.CheckReport.{CheckReport}
 use Rattle.aa_checks.specs.declared.checking.Wanted.{Wanted}
 use Rattle.aa_checks.specs.Counts.{CountsPolicy}
 use Rattle.aa_checks.specs.Names.{warnings_of}
-
--- the names and texts of a unit's sources, as they are numbered
-abbrev pub texts_of : unit.Unit → List Source
-texts_of u = named_texts u.order.items u.sources.items
-
--- named texts, as they are lent
-abbrev pub named_all : List (Bor Lent) → List Source
-named_all sources = map (λ s. named_text s.now) sources
-
--- how many states an automaton may have: 1 to 1,000,000
-abbrev pub limit_of : ℕ → ℕ
-limit_of states = min (max states 1) 1000000
-
--- the unit's text with its sources is that policy, which compiles
-abbrev pub IsPolicyOfUnit : ℕ → unit.Unit → Policy → Type 0
-IsPolicyOfUnit limit u policy = IsPolicyOf (texts_of u) limit u.text.items policy
-
--- why it is no policy that compiles: its sources can't be handed in, or its text spells none
-pub data IsFaultOfUnit (limit : ℕ) (u : unit.Unit) (e : PolicyFault) : Type 0 where
-  OfSources : IsFaultOfSources (texts_of u) e → IsFaultOfUnit limit u e
-  OfText : IsFaultOfText (texts_of u) limit u.text.items e → IsFaultOfUnit limit u e
 
 -- nothing is found but a fault
 pub record HasOnly (fault : FaultReport) (f : FileReport) : Type 0 where

@@ -6,13 +6,12 @@ ghost use Rattle.aa_faults.specs.declared.fault.PolicyKind.TheVariants.{NoMemory
 ghost use Rattle.aa_trees.specs.Texts.{texts, slices};
 ghost use Rattle.aa_checks.specs.Checked.{HasOnly, IsFoundOf, IsSaid, setting_of, IsFound, AreFound, CountsFiles, IsUntold, IsChecked};
 
-use crate::compiling::compile_unit;
 use crate::counting::{PolicyCounts, count_policy};
 use crate::naming::warned;
 use crate::report::{CheckReport, FileReport};
 use aa_diagnostics::{describe, unreadable};
 use aa_output::NoMemory;
-use aa_units::{FaultReport, Tree, Unit, UnitFault, load, roots_of};
+use aa_units::{FaultReport, Tree, Unit, UnitFault, compile_unit, load, roots_of};
 use aa_words::{PolicyFault, PolicyKind};
 use std::alloc::Global;
 use std::collections::HashMap;

@@ -3,13 +3,11 @@
 
 mod checked;
 mod checking;
-mod compiling;
 mod counting;
 mod jsons;
 mod lines;
 mod naming;
 mod report;
-mod sources;
 
 pub use checked::{push_faults, push_report};
 pub use checking::{Wanted, check, fault_of_unit};

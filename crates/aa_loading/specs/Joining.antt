@@ -1,5 +1,5 @@
 -- Units that become one policy.
-use Rattle.std.specs.Prelude.{ℕ, ◌≡◌, ◌+◌, List, [], ◌∷◌, ◌++◌, map, None, max, min}
+use Rattle.std.specs.Prelude.{ℕ, ◌≡◌, ◌+◌, List, [], ◌∷◌, ◌++◌, map, None}
 use Rattle.aa_profiles.specs.declared.policy.Policy.{Policy}
 use Rattle.aa_compile.specs.Checks.{IsAccepted}
 use Rattle.aa_joins.specs.Rows.{Rows, no_rows}
@@ -34,10 +34,6 @@ Adds number u j k = (policy : Policy) × (places : List PlacesData) × IsRead u 
 abbrev pub Joins : ℕ → JoinedData → List Texts → JoinedData → Type 0
 Joins number j [] k = k ≡ j
 Joins number j (u ∷ us) k = (next : JoinedData) × Adds number u j next × Joins (number + 1) next us k
-
--- how many states an automaton may have: 1 to 1,000,000
-abbrev pub limit_of : ℕ → ℕ
-limit_of states = min (max states 1) 1000000
 
 -- the units are one policy, which compiles
 pub record IsOnePolicy (units : List Texts) (limit : ℕ) (owners : List ℕ) (places : List PlacesData) (policies : List Policy) : Type 0 where

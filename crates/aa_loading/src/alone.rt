@@ -3,41 +3,14 @@
 ghost use Rattle.std.specs.Prelude.{◌≡◌, ◌≢◌, ◌≤◌, OnOk, IfOk, IfNone, IfErr, IfSome};
 ghost use Rattle.aa_faults.specs.declared.fault.PolicyKind.TheVariants.{NoMemory};
 ghost use Rattle.aa_loading.specs.Spelled.{IsGood, AreGood, IsRefusedAlone};
-ghost use Rattle.aa_policies.specs.Policies.{IsPolicyOf, IsFaultOfText};
 ghost use Rattle.aa_loading.specs.Refused.{IsFirstAlone};
 
 use crate::fault::{LoadingFault, of_texts};
 use crate::texts::Texts;
-use aa_compile::{Compiled, compile};
-use aa_policy::parse;
-use aa_words::{PolicyFault, Sources, words};
+use aa_compile::Compiled;
+use aa_units::compile_text;
+use aa_words::PolicyFault;
 use std::alloc::Global;
-
-/// Reads a text with these sources, and compiles it.
-fn compile_text(
-    alloc: Global,
-    sources: &Sources,
-    text: &[u8],
-    limit: u32,
-) -> Result<Compiled, PolicyFault>
-    requires some { 1 ≤ limit }
-    requires bounded { limit ≤ 1000000 }
-    ensures compiled { IfOk result (λ c. IsPolicyOf sources.now limit text.now c) }
-    ensures cause { IfErr result (λ e. e.kind ≢ NoMemory → IsFaultOfText sources.now limit text.now e) }
-{
-    let list = match words(alloc, sources, text) {
-        Ok(list) => list,
-        Err(fault) => return Err(fault),
-    };
-    let policy = match parse(alloc, &list) {
-        Ok(policy) => policy,
-        Err(fault) => return Err(fault),
-    };
-    match compile(alloc, policy, limit) {
-        Ok(compiled) => Ok(compiled),
-        Err(refusal) => Err(refusal.fault),
-    }
-}
 
 /// Reads texts, and compiles them by themselves.
 fn compile_alone(alloc: Global, texts: Texts<'_>, limit: u32) -> Result<Compiled, PolicyFault>

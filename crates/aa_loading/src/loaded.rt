@@ -4,7 +4,8 @@ ghost use Rattle.std.specs.Prelude.{◌≡◌, ◌≢◌, ◌≤◌, map, IfOk, 
 ghost use Rattle.aa_faults.specs.declared.fault.PolicyFault.{PolicyFault};
 ghost use Rattle.aa_compile.specs.Checks.{IsAccepted, IsRefused};
 ghost use Rattle.aa_asks.specs.Places.{places_data};
-ghost use Rattle.aa_loading.specs.Joining.{limit_of, IsOnePolicy};
+ghost use Rattle.aa_units.specs.Compiled.{limit_of};
+ghost use Rattle.aa_loading.specs.Joining.{IsOnePolicy};
 ghost use Rattle.aa_loading.specs.Refused.{IsBlamed, IsRefusedBy};
 
 use crate::alone::first_alone;
