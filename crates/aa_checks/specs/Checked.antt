@@ -12,6 +12,7 @@ use Rattle.aa_units.specs.Compiled.{limit_of, IsPolicyOfUnit, IsFaultOfUnit}
 use Rattle.aa_units.specs.Files.{Files, Taken}
 use Rattle.aa_units.specs.Roots.{root_paths, root_lines}
 use Rattle.aa_units.specs.UnitFaults.{IsLoadFault}
+use Rattle.aa_units.specs.RootFaults.{IsRootFault}
 use Rattle.aa_diagnostics.specs.Reports.{IsDescribed, IsOfWhole, unread_kind, unread_message}
 use Rattle.aa_units.specs.FilesData.{IsMainText}
 use Rattle.aa_units.specs.WalkData.{IsUnit}
@@ -79,9 +80,8 @@ pub record CountsFiles (r : CheckReport) : Type 0 where
   pub profiles : r.profiles ≡ sum_by (λ (f : FileReport). length f.profiles.items) r.files.items
   pub is_unread : r.is_unread ≡ list_any (λ (f : FileReport). f.is_unread) r.files.items
 
--- why the files can't be told, as the one file that is refused
-pub record IsUntold (r : CheckReport) : Type 0 where
-  pub e : UnitFault
+-- a fault is told as the one file that is refused
+pub record HasOneRefused (e : UnitFault) (r : CheckReport) : Type 0 where
   pub fault : FaultReport
   pub file : FileReport
   pub said : IsSaid e fault file.is_unread
@@ -89,6 +89,12 @@ pub record IsUntold (r : CheckReport) : Type 0 where
   pub at : file.path.items ≡ fault.path.items
   pub files_are : r.files.items ≡ file ∷ []
   pub no_warnings : r.warnings.items ≡ []
+
+-- the files that the arguments stand for can't be told, and why is told
+pub record IsUntold (s : Setting) (arguments : List (List ℕ)) (r : CheckReport) : Type 0 where
+  pub e : UnitFault
+  pub why : IsRootFault s.files s.taken s.base arguments e
+  pub told : HasOneRefused e r
 
 -- what is found of the files at some paths, with warnings of others
 pub record AreChecked (s : Setting) (paths warnings : List (List ℕ)) (r : CheckReport) : Type 0 where
@@ -103,5 +109,5 @@ pub record AreRoots (s : Setting) (arguments paths warnings : List (List ℕ)) :
 
 -- what is found of the files that the arguments stand for, or why these can't be told; and the counts of all
 pub record IsChecked (s : Setting) (arguments : List (List ℕ)) (r : CheckReport) : Type 0 where
-  pub each : ((paths warnings : List (List ℕ)) × AreRoots s arguments paths warnings × AreChecked s paths warnings r) ⊎ IsUntold r
+  pub each : ((paths warnings : List (List ℕ)) × AreRoots s arguments paths warnings × AreChecked s paths warnings r) ⊎ IsUntold s arguments r
   pub counts : CountsFiles r

@@ -4,7 +4,7 @@ ghost use Rattle.std.specs.Prelude.{◌≡◌, ◌↔◌, ◌≤◌, [], None, f
 ghost use Rattle.std.specs.List.{list_any};
 ghost use Rattle.aa_faults.specs.declared.fault.PolicyKind.TheVariants.{NoMemory as WantOfMemory};
 ghost use Rattle.aa_trees.specs.Texts.{texts, slices};
-ghost use Rattle.aa_checks.specs.Checked.{HasOnly, IsFoundOf, IsSaid, setting_of, IsFound, AreFound, CountsFiles, IsUntold, IsChecked};
+ghost use Rattle.aa_checks.specs.Checked.{HasOnly, IsFoundOf, IsSaid, setting_of, IsFound, AreFound, CountsFiles, HasOneRefused, IsChecked};
 
 use crate::counting::{PolicyCounts, count_policy};
 use crate::naming::warned;
@@ -190,7 +190,7 @@ fn report_of(files: Vec<FileReport>, warnings: Vec<Vec<u8>>) -> CheckReport
 
 /// What is found where the files can't be told.
 fn untold(alloc: Global, fault: UnitFault) -> Result<CheckReport, NoMemory>
-    ensures untold { IfOk result (λ r. IsUntold r) }
+    ensures untold { IfOk result (HasOneRefused fault) }
     ensures counts { IfOk result (λ r. CountsFiles r) }
 {
     let (fault, is_unread) = fault_of_unit(alloc, fault)?;

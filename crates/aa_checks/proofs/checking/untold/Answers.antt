@@ -4,7 +4,6 @@ use Rattle.aa_checks.proofs.checking.untold.Goals as goal
 
 pub returns-clause-untold : goal.returns-clause-untold
 returns-clause-untold c = record {
-  e = c.args.fault;
   fault = c.in_ok-fault.fault;
   file = c.refused.result;
   said = subst (λ b. IsSaid c.args.fault c.in_ok-fault.fault b) (sym c.refused.ensures.unread) c.in_ok-fault.ensures;
