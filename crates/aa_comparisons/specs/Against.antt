@@ -1,8 +1,7 @@
 -- How requests of logs are answered now, as it is printed.
-use Rattle.std.specs.Prelude.{ℕ, ◌≡◌, ◌==◌, ◌||◌, List, [], ◌∷◌, ◌++◌, map, flat_map, codes, Bool, if◌then◌else◌, Option, Some, None, option_map}
-use Rattle.std.specs.List.{filter, list_any}
+use Rattle.std.specs.Prelude.{ℕ, ◌≡◌, ◌==◌, ◌||◌, List, [], ◌∷◌, ◌++◌, flat_map, count_by, min, codes, Bool, if◌then◌else◌, Option, Some, None, option_map}
+use Rattle.std.specs.List.{list_any}
 use Rattle.aa_labels.specs.Labels.{label_named}
-use Rattle.aa_texts.specs.Jsons.{key_text}
 use Rattle.aa_texts.specs.Faults.{with_commas}
 use Rattle.aa_logs.specs.declared.line.Then.{Then}
 use Rattle.aa_logs.specs.declared.line.Then.TheVariants as was
@@ -10,7 +9,7 @@ use Rattle.aa_findings.specs.declared.answer.Now.{Now}
 use Rattle.aa_findings.specs.declared.answer.Now.TheVariants as is
 use Rattle.aa_findings.specs.declared.counts.Counts.{Counts}
 use Rattle.aa_findings.specs.Answers.{then_name, now_name, changes, is_newly_denied, row_of, column_of}
-use Rattle.aa_findings.specs.Counts.{count_in}
+use Rattle.aa_findings.specs.Counts.{count_in, is_so}
 use Rattle.aa_verdicts.specs.declared.explained.Decided.{Decided}
 use Rattle.aa_verdicts.specs.Told.{Told, verdict_on}
 use Rattle.aa_verdicts.specs.Shown.{reasons_text}
@@ -20,6 +19,7 @@ use Rattle.aa_comparisons.specs.Replayed.{now_for}
 use Rattle.aa_reports.specs.declared.logging.SkippedLines.{SkippedLines}
 use Rattle.aa_reports.specs.declared.logging.LogReport.{LogReport}
 use Rattle.aa_reports.specs.Orders.{profile_of, reason_key, IsInOrder}
+use Rattle.aa_reports.specs.Counted.{greatest}
 use Rattle.aa_reports.specs.Printed.{rest_text, arrow_text, count_line, each_skipped_text}
 use Rattle.aa_reports.specs.Listed.{word_member, count_member, entry_members, json_rest}
 
@@ -49,6 +49,10 @@ shown_text logs d all e = if is_shown d all e then change_text logs e (now_of d 
 -- one of these requests is denied now that wasn't
 abbrev pub IsNewlyDenied : Decided → List Entry → Counts → Type 0
 IsNewlyDenied d es counts = counts.has_newly_denied ≡ list_any (λ (e : Entry). is_newly_denied e.then (now_of d e)) es
+
+-- each count is how many of these requests became that and are answered so now, up to the greatest of 64 bits
+abbrev pub AreCounted : Decided → List Entry → Counts → Type 0
+AreCounted d es counts = (before : Then) (after : Now) → count_in (row_of before) (column_of after) counts.rows ≡ min (count_by (λ (e : Entry). is_so before after e.then (now_of d e)) es) greatest
 
 -- how many became this and are answered that now, and nothing where none are so
 unfoldable pub cell_line : Counts → Then → Now → List ℕ
@@ -87,4 +91,37 @@ pub record IsAgainstText (logs : List (List ℕ)) (d : Decided) (all : Bool) (r 
   pub entries : List Entry
   pub ordered : IsInOrder profile_of r.entries.items entries
   pub newly : IsNewlyDenied d entries counts
+  pub counted : AreCounted d entries counts
   pub printed : text ≡ changes_text logs d all entries ++ each_skipped_text logs r ++ rows_text counts
+
+-- why a request is answered so, where there is a profile that answers it
+abbrev pub json_why : Option Told → List ℕ
+json_why None = []
+json_why (Some verdict) = codes ",\"answer\":" ++ json_verdict verdict
+
+-- a request with what it is answered now as a JSON object
+unfoldable pub json_change : List (List ℕ) → Entry → Now → Option Told → List ℕ
+json_change logs e after verdict = codes "{" ++ entry_members logs e ++ codes "," ++ word_member (codes "now") (now_name after) ++ json_why verdict ++ codes "}"
+
+-- that of a request that is shown
+abbrev pub json_shown : List (List ℕ) → Decided → Bool → Entry → List (List ℕ)
+json_shown logs d all e = if is_shown d all e then json_change logs e (now_of d e) (verdict_of d e) ∷ [] else []
+
+-- those of the requests that are shown, in order
+unfoldable pub json_changes : List (List ℕ) → Decided → Bool → List Entry → List (List ℕ)
+json_changes logs d all es = flat_map (json_shown logs d all) es
+
+-- the members of the requests that are shown and of the counts, which begin the object
+unfoldable pub json_answers : List (List ℕ) → Decided → Bool → List Entry → Counts → List ℕ
+json_answers logs d all es counts = codes "{\"requests\":[" ++ with_commas (json_changes logs d all es) ++ codes "],\"counts\":[" ++ with_commas (json_cells counts) ++ codes "]"
+
+-- the same as one JSON object and a line end: the requests that are shown, in order, how many have which answers, the lines that ask
+-- nothing, and the counts of all
+pub record IsJsonAgainst (logs : List (List ℕ)) (d : Decided) (all : Bool) (r : LogReport) (counts : Counts) (text : List ℕ) : Type 0 where
+  pub entries : List Entry
+  pub ordered : IsInOrder profile_of r.entries.items entries
+  pub reasons : List SkippedLines
+  pub by_reason : IsInOrder reason_key r.skipped.items reasons
+  pub newly : IsNewlyDenied d entries counts
+  pub counted : AreCounted d entries counts
+  pub printed : text ≡ json_answers logs d all entries counts ++ json_rest logs reasons r

@@ -8,7 +8,7 @@ ghost use Rattle.aa_reports.specs.declared.logging.Entry.{Entry};
 ghost use Rattle.aa_reports.specs.Orders.{profile_of, IsInOrder};
 ghost use Rattle.aa_reports.specs.Printed.{arrow_text, each_skipped_text};
 ghost use Rattle.aa_reports.specs.Commas.{more_of, is_some_of};
-ghost use Rattle.aa_comparisons.specs.Against.{now_of, verdict_of, IsNewlyDenied, reasons_if, change_text, shown_text, changes_text, IsAgainstText, cell_line, row_text, rows_text, json_count, json_cell, json_row, json_cells};
+ghost use Rattle.aa_comparisons.specs.Against.{now_of, verdict_of, IsNewlyDenied, AreCounted, reasons_if, change_text, shown_text, changes_text, IsAgainstText, cell_line, row_text, rows_text, json_count, json_cell, json_row, json_cells, json_why, json_change, json_shown, json_changes, json_answers, IsJsonAgainst};
 
 use aa_reports::{
     Entry, LogReport, push_comma, push_count_member, push_entry_members, push_json_rest, push_rest,
@@ -112,6 +112,7 @@ fn push_all_shown(
     entries: &[&Entry],
 ) -> Result<Counts, AllocError>
     ensures newly { IfOk result (λ counts. IsNewlyDenied decided.entry (map (λ e. e.now) entries.now) counts) }
+    ensures counted { IfOk result (λ counts. AreCounted decided.entry (map (λ e. e.now) entries.now) counts) }
     ensures text { OnOk result (out.new.items ≡ out.old.items ++ changes_text (map (λ log. log.now) logs.now) decided.entry wants_all (map (λ e. e.now) entries.now)) }
 {
     let mut counts = Counts::none();
@@ -166,6 +167,7 @@ fn push_found(
     entries: &[&Entry],
 ) -> Result<Counts, AllocError>
     ensures newly { IfOk result (λ counts. IsNewlyDenied decided.entry (map (λ e. e.now) entries.now) counts) }
+    ensures counted { IfOk result (λ counts. AreCounted decided.entry (map (λ e. e.now) entries.now) counts) }
     ensures text { IfOk result (λ counts. out.new.items ≡ out.old.items ++ (changes_text (map (λ log. log.now) logs.now) decided.entry wants_all (map (λ e. e.now) entries.now) ++ each_skipped_text (map (λ log. log.now) logs.now) report.now ++ rows_text counts)) }
 {
     let counts = push_all_shown(out, alloc, logs, decided, wants_all, entries)?;
@@ -197,7 +199,9 @@ fn push_json_why(
     out: &mut Vec<u8>,
     alloc: Global,
     verdict: &Option<Verdict>,
-) -> Result<(), AllocError> {
+) -> Result<(), AllocError>
+    ensures { OnOk result (out.new.items ≡ out.old.items ++ json_why (option_map told verdict.now)) }
+{
     let Some(verdict) = verdict else {
         return Ok(());
     };
@@ -205,6 +209,7 @@ fn push_json_why(
     push_json_verdict(out, alloc, verdict)
 }
 
+#[tactic(auto, unfolding(crate::specs::Against::json_change))]
 fn push_json_change(
     out: &mut Vec<u8>,
     alloc: Global,
@@ -212,7 +217,9 @@ fn push_json_change(
     entry: &Entry,
     now: Now,
     verdict: &Option<Verdict>,
-) -> Result<(), AllocError> {
+) -> Result<(), AllocError>
+    ensures { OnOk result (out.new.items ≡ out.old.items ++ json_change (map (λ log. log.now) logs.now) entry.now now (option_map told verdict.now)) }
+{
     push_text(out, "{")?;
     push_entry_members(out, alloc, logs, entry)?;
     push_text(out, ",")?;
@@ -231,7 +238,8 @@ fn push_json_shown(
     is_later: bool,
     entry: &Entry,
 ) -> Result<Now, AllocError>
-    ensures { IfOk result (λ now. now ≡ now_of decided.entry entry.now) }
+    ensures now { IfOk result (λ now. now ≡ now_of decided.entry entry.now) }
+    ensures text { OnOk result (out.new.items ≡ out.old.items ++ more_of is_later (json_shown (map (λ log. log.now) logs.now) decided.entry wants_all entry.now)) }
 {
     let (now, verdict) = answer_now(alloc, decided, entry)?;
     if is_shown(wants_all, entry.then, now) {
@@ -250,7 +258,9 @@ fn push_json_all_shown(
     wants_all: bool,
     entries: &[&Entry],
 ) -> Result<Counts, AllocError>
-    ensures { IfOk result (λ counts. IsNewlyDenied decided.entry (map (λ e. e.now) entries.now) counts) }
+    ensures newly { IfOk result (λ counts. IsNewlyDenied decided.entry (map (λ e. e.now) entries.now) counts) }
+    ensures counted { IfOk result (λ counts. AreCounted decided.entry (map (λ e. e.now) entries.now) counts) }
+    ensures text { OnOk result (out.new.items ≡ out.old.items ++ with_commas (json_changes (map (λ log. log.now) logs.now) decided.entry wants_all (map (λ e. e.now) entries.now))) }
 {
     let mut counts = Counts::none();
     let mut is_later = false;
@@ -319,6 +329,28 @@ fn push_json_counts(out: &mut Vec<u8>, counts: &Counts) -> Result<(), AllocError
     Ok(())
 }
 
+/// Appends the members of the requests that are shown, as they stand here, and of how many each answer has.
+#[tactic(auto, unfolding(crate::specs::Against::json_answers))]
+fn push_json_answers(
+    out: &mut Vec<u8>,
+    alloc: Global,
+    logs: &[&[u8]],
+    decided: Decided<'_>,
+    wants_all: bool,
+    entries: &[&Entry],
+) -> Result<Counts, AllocError>
+    ensures newly { IfOk result (λ counts. IsNewlyDenied decided.entry (map (λ e. e.now) entries.now) counts) }
+    ensures counted { IfOk result (λ counts. AreCounted decided.entry (map (λ e. e.now) entries.now) counts) }
+    ensures text { IfOk result (λ counts. out.new.items ≡ out.old.items ++ json_answers (map (λ log. log.now) logs.now) decided.entry wants_all (map (λ e. e.now) entries.now) counts) }
+{
+    push_text(out, "{\"requests\":[")?;
+    let counts = push_json_all_shown(out, alloc, logs, decided, wants_all, entries)?;
+    push_text(out, "],\"counts\":[")?;
+    push_json_counts(out, &counts)?;
+    push_text(out, "]")?;
+    Ok(counts)
+}
+
 /// Appends the same as one JSON object and a line end.
 pub fn push_json_against(
     out: &mut Vec<u8>,
@@ -328,16 +360,13 @@ pub fn push_json_against(
     decided: Decided<'_>,
     wants_all: bool,
 ) -> Result<Counts, AllocError>
-    ensures { IfOk result (λ counts. (ordered : List Entry) × IsInOrder profile_of report.now.entries.items ordered × IsNewlyDenied decided.entry ordered counts) }
+    ensures { IfOk result (λ counts. (text : List ℕ) × IsJsonAgainst (map (λ log. log.now) logs.now) decided.entry wants_all report.now counts text × (out.new.items ≡ out.old.items ++ text)) }
 {
     let entries = report.in_order(alloc)?;
     let reasons = report.reasons_in_order(alloc)?;
-    push_text(out, "{\"requests\":[")?;
     let listed = entries.as_slice();
-    let counts = push_json_all_shown(out, alloc, logs, decided, wants_all, listed)?;
-    push_text(out, "],\"counts\":[")?;
-    push_json_counts(out, &counts)?;
-    push_text(out, "]")?;
-    push_json_rest(out, alloc, logs, reasons.as_slice(), report)?;
+    let causes = reasons.as_slice();
+    let counts = push_json_answers(out, alloc, logs, decided, wants_all, listed)?;
+    push_json_rest(out, alloc, logs, causes, report)?;
     Ok(counts)
 }

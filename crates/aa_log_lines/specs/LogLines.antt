@@ -1,5 +1,5 @@
 -- The lines of logs.
-use Rattle.std.specs.Prelude.{ℕ, ◌+◌, ◌==◌, not, List, [], ◌∷◌, ◌++◌, length, map, take, Bool, if◌then◌else◌}
+use Rattle.std.specs.Prelude.{ℕ, ◌+◌, ◌==◌, not, List, [], ◌∷◌, ◌++◌, map, take, Bool, if◌then◌else◌}
 
 -- a line of a log: which log of the command line's, from 0, which line, from 1, and its bytes
 pub record LogLine : Type 0 where

@@ -5,3 +5,4 @@ pub mod Entries
 pub mod Reasons
 pub mod Results
 pub mod Taking
+pub mod Apart

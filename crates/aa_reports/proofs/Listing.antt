@@ -1,5 +1,5 @@
 -- Lists whose items stand with a comma between two of them.
-use Rattle.std.proofs.Common.{◌≡◌, ◌∙◌, ℕ, ◌-◌, ◌<◌, ◌≤◌, List, [], ◌∷◌, ◌++◌, ◌||◌, length, map, take, drop, get_or, Bool, true, false, if◌then◌else◌, refl, sym, ap, append_assoc, append-nil, arith}
+use Rattle.std.proofs.Common.{◌≡◌, ◌∙◌, ℕ, ◌-◌, ◌<◌, ◌≤◌, List, [], ◌∷◌, ◌++◌, ◌||◌, length, map, take, drop, get_or, Bool, true, false, refl, sym, ap, append_assoc, append-nil, arith}
 use Rattle.std.proofs.lemmas.List.{take_all}
 use Rattle.aa_texts.specs.Faults.{behind_commas, with_commas}
 use Rattle.aa_job_texts.specs.Jobs.{comma_if}

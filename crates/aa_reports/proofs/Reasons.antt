@@ -1,5 +1,5 @@
 -- Skipped lines, once a line more asks nothing.
-use Rattle.std.proofs.Common.{◌≡◌, ℕ, ◌+◌, List, [], ◌∷◌, ◌++◌, map, set, get_or, Option, Some, None, refl, sym, ap, ◌∙◌}
+use Rattle.std.proofs.Common.{◌≡◌, ℕ, ◌+◌, List, [], ◌∷◌, ◌++◌, map, set, get_or, Some, None, refl, sym, ap, ◌∙◌}
 use Rattle.std.specs.Prelude.{min}
 use Rattle.std.specs.List.{position}
 use Rattle.std.specs.Str.{bytes_eq}
@@ -13,7 +13,7 @@ use Rattle.aa_reports.specs.declared.logging.LinePlace.{LinePlace}
 use Rattle.aa_reports.specs.declared.logging.SkippedLines.{SkippedLines}
 use Rattle.aa_reports.specs.Counted.{greatest, Counted, counted, with_one}
 use Rattle.aa_reports.specs.Orders.{reason_key}
-use Rattle.aa_reports.specs.Found.{Skipped, skipped_key, skipped_item, skipped_data, skipped_for}
+use Rattle.aa_reports.specs.Found.{Skipped, skipped_key, skipped_data, skipped_for}
 use Rattle.aa_reports.proofs.Counting.{more_of_it, at_place, behind_all, counted-more}
 use Rattle.aa_reports.proofs.Entries.{position-map}
 

@@ -1,8 +1,7 @@
 -- A report, once it has taken a line more.
-use Rattle.std.proofs.Common.{◌≡◌, ℕ, ◌+◌, ◌<◌, List, [], ◌∷◌, ◌++◌, length, map, Bool, true, false, cond, not, ◌||◌, ◌&&◌, Option, Some, None, refl, sym, ap, subst, ◌∙◌, arith, append-nil, inl, inr}
+use Rattle.std.proofs.Common.{◌≡◌, ℕ, ◌+◌, ◌<◌, List, [], ◌∷◌, ◌++◌, length, map, Bool, true, false, cond, not, ◌&&◌, Option, Some, None, refl, sym, ap, subst, ◌∙◌, arith, append-nil, inl, inr}
 use Rattle.std.specs.Prelude.{min, flat_map, count_by, is_some, is_none, option_map, ◌==◌}
 use Rattle.std.specs.List.{filter}
-use Rattle.std.specs.Option.{option_or}
 use Rattle.std.proofs.lemmas.List.{length-append, length-map}
 use Rattle.std.proofs.lemmas.List.Elements.{filter-append}
 use Rattle.std.proofs.lemmas.List.Sums.{sum_by_push}
@@ -14,7 +13,7 @@ use Rattle.aa_logs.specs.declared.line.Line.TheVariants as line
 use Rattle.aa_logs.specs.Asked.{Cause}
 use Rattle.aa_logs.specs.Outcomes.{Outcome, Another, AsksNothing, AsksFor, RecordData, outcome}
 use Rattle.aa_logs.specs.Records.{line_in}
-use Rattle.aa_logs.specs.Chosen.{is_among, is_in_time, is_chosen}
+use Rattle.aa_logs.specs.Chosen.{is_among, is_chosen}
 use Rattle.aa_log_lines.specs.LogLines.{LogLine}
 use Rattle.aa_reports.specs.declared.logging.LinePlace.{LinePlace}
 use Rattle.aa_reports.specs.declared.logging.LogReport.{LogReport}

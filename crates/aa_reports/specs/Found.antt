@@ -1,5 +1,5 @@
 -- What logs hold, by their lines.
-use Rattle.std.specs.Prelude.{ℕ, ◌≡◌, List, [], ◌∷◌, ◌++◌, ◌&&◌, ◌==◌, ◌≤◌, length, map, flat_map, count_by, min, Bool, true, false, not, Option, Some, None, is_none, option_map, position, if◌then◌else◌}
+use Rattle.std.specs.Prelude.{ℕ, ◌≡◌, List, [], ◌∷◌, ◌&&◌, ◌==◌, ◌≤◌, length, map, flat_map, count_by, min, Bool, true, false, not, Option, Some, None, is_none, option_map, position, if◌then◌else◌}
 use Rattle.std.specs.List.{filter}
 use Rattle.std.specs.Option.{option_or}
 use Rattle.std.specs.Str.{bytes_eq}
@@ -8,7 +8,6 @@ use Rattle.std.specs.declared.vec.Vec.{Vec}
 use Rattle.aa_requests.specs.declared.request.Request.{Request}
 use Rattle.aa_request_words.specs.Written.{word_text}
 use Rattle.aa_logs.specs.declared.line.Then.{Then}
-use Rattle.aa_logs.specs.declared.line.Reason.{Reason}
 use Rattle.aa_logs.specs.declared.chosen.Choice.{Choice}
 use Rattle.aa_logs.specs.Asked.{Cause, Keyword, Because}
 use Rattle.aa_logs.specs.Outcomes.{Outcome, Another, AsksNothing, AsksFor, RecordData}
@@ -21,7 +20,7 @@ use Rattle.aa_reports.specs.declared.logging.SkippedLines.{SkippedLines}
 use Rattle.aa_reports.specs.declared.logging.LogReport.{LogReport}
 use Rattle.aa_log_lines.specs.LogLines.{LogLine}
 use Rattle.aa_units.specs.declared.tree.Unread.{Unread}
-use Rattle.aa_units.specs.declared.tree.Unread.TheVariants.{NoMemory, NotFound, NotAllowed, NotAFile, Failed, TooLarge}
+use Rattle.aa_units.specs.declared.tree.Unread.TheVariants.{NoMemory, TooLarge}
 use Rattle.aa_reports.specs.Counted.{greatest, Counted, counted, firsts}
 use Rattle.aa_reports.specs.Printed.{key_text}
 

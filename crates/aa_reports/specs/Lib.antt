@@ -4,3 +4,4 @@ pub mod Commas
 pub mod Listed
 pub mod Counted
 pub mod Found
+pub mod Apart

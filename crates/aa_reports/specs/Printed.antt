@@ -1,5 +1,5 @@
 -- What logs say, as it is printed.
-use Rattle.std.specs.Prelude.{ℕ, ◌≡◌, List, [], ◌++◌, ◌==◌, length, map, flat_map, codes, decimal, if◌then◌else◌, Option, Some, None, option_map, slice_get, unwrap_or}
+use Rattle.std.specs.Prelude.{ℕ, ◌≡◌, List, [], ◌++◌, ◌==◌, length, flat_map, codes, decimal, if◌then◌else◌, Option, Some, None, option_map, slice_get, unwrap_or}
 use Rattle.aa_audit.specs.Values.{value}
 use Rattle.aa_logs.specs.declared.line.Then.{Then}
 use Rattle.aa_findings.specs.declared.answer.Now.{Now}

@@ -1,11 +1,13 @@
 //! What logs say: which requests their lines ask, how often, and how that is printed.
 #![tactic(auto)]
 
+mod laws;
 mod listed;
 mod logging;
 mod printing;
 
 pub use aa_logs::Choice;
+pub use laws::keys_tell;
 pub use listed::{
     push_comma, push_count_member, push_entry_members, push_json_report, push_json_rest,
     push_word_member,

@@ -1,4 +1,4 @@
-use Rattle.std.proofs.Common.{◌≡◌, ◌++◌, List, map, refl, sym, subst, Bor}
+use Rattle.std.proofs.Common.{◌++◌, List, map, refl, sym, subst, Bor}
 use Rattle.std.specs.Prelude.{ℕ}
 use Rattle.aa_reports.specs.declared.logging.Entry.{Entry}
 use Rattle.aa_reports.specs.Orders.{profile_of, IsInOrder}
@@ -15,6 +15,7 @@ returns c =
         entries = es;
         ordered = subst (λ (l : List (Bor Entry)). IsInOrder profile_of c.args.report.now.entries.items (map (λ (e : Bor Entry). e.now) l)) (sym c.as_slice-listed.ensures.value) c.in_ok-entries.ensures;
         newly = c.in_ok-counts.ensures.newly;
+        counted = c.in_ok-counts.ensures.counted;
         printed = refl;
       },
       c.in_ok-counts.ensures.text,

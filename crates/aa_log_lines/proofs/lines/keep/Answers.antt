@@ -1,6 +1,5 @@
-use Rattle.std.proofs.Common.{◌≡◌, ◌∙◌, ◌≤◌, length, ◌-◌, arith, min, subst, sym, List}
-use Rattle.std.specs.Prelude.{ℕ}
-use Rattle.aa_log_lines.proofs.Cutting.{kept_with, length-kept}
+use Rattle.std.proofs.Common.{◌≡◌, ◌∙◌, length, ◌-◌, arith, min}
+use Rattle.aa_log_lines.proofs.Cutting.{kept_with}
 use Rattle.aa_log_lines.proofs.lines.keep.Goals as goal
 
 pub returns-clause-ok : goal.returns-clause-ok

@@ -1,8 +1,8 @@
-use Rattle.std.proofs.Common.{◌≡◌, ◌∙◌, ◌+◌, ◌<◌, ◌++◌, List, [], length, take, map, refl, sym, ap, subst, arith, append-nil}
+use Rattle.std.proofs.Common.{◌≡◌, ◌∙◌, ◌<◌, ◌++◌, List, [], length, take, map, refl, sym, ap, subst, arith, append-nil}
 use Rattle.std.specs.Prelude.{ℕ}
 use Rattle.std.proofs.KnownBytes.{Consumes-nil, Consumes-trans, Consumes-whole}
 use Rattle.std.proofs.lemmas.Result.{on_ok_weaker}
-use Rattle.aa_log_lines.specs.LogLines.{LogLine, kept, numbered, ended, left_open, log_lines, last_line}
+use Rattle.aa_log_lines.specs.LogLines.{LogLine, kept, numbered, ended, log_lines}
 use Rattle.aa_log_lines.proofs.Cutting.{kept_whole, none_taken, none_held, none_ended, chunk_held, chunk_number, chunk_taken, end_taken}
 use Rattle.aa_log_lines.proofs.lines.read_lines.Goals as goal
 

@@ -1,6 +1,6 @@
-use Rattle.std.proofs.Common.{◌≡◌, ◌∙◌, ◌+◌, ◌-◌, ◌++◌, List, [], ◌∷◌, length, take, drop, map, refl, sym, ap, subst, arith, append-nil}
+use Rattle.std.proofs.Common.{◌≡◌, ◌∙◌, ◌+◌, ◌-◌, ◌++◌, List, [], ◌∷◌, length, take, drop, map, refl, sym, ap, subst, arith}
 use Rattle.std.specs.Prelude.{ℕ}
-use Rattle.aa_log_lines.specs.LogLines.{LogLine, kept, numbered, ended, left_open}
+use Rattle.aa_log_lines.specs.LogLines.{kept, numbered, ended}
 use Rattle.aa_log_lines.proofs.Cutting.{kept_whole, none_taken, none_held, none_ended, last_held, last_ended, begins, step_bytes, step_held, step_ended, step_number, step_taken}
 use Rattle.aa_log_lines.proofs.lines.take_ended.Goals as goal
 

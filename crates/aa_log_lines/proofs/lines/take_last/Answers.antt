@@ -1,7 +1,7 @@
-use Rattle.std.proofs.Common.{◌≡◌, ◌∙◌, ◌++◌, List, [], ◌∷◌, refl, sym, ap, subst}
+use Rattle.std.proofs.Common.{◌≡◌, ◌∙◌, ◌++◌, List, [], ◌∷◌, sym, ap, subst}
 use Rattle.std.specs.Prelude.{ℕ}
 use Rattle.std.proofs.lemmas.Result.{on_ok_weaker}
-use Rattle.aa_log_lines.specs.LogLines.{LogLine, log_line, numbered, last_line}
+use Rattle.aa_log_lines.specs.LogLines.{log_line}
 use Rattle.aa_log_lines.proofs.Cutting.{none_where, some_where, no_last, one_last}
 use Rattle.aa_log_lines.proofs.lines.take_last.Goals as goal
 

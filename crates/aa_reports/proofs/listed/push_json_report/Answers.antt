@@ -1,4 +1,4 @@
-use Rattle.std.proofs.Common.{◌≡◌, ◌++◌, List, map, refl, sym, subst, Bor}
+use Rattle.std.proofs.Common.{◌++◌, List, map, refl, sym, subst, Bor}
 use Rattle.std.specs.Prelude.{ℕ}
 use Rattle.aa_reports.specs.declared.logging.Entry.{Entry}
 use Rattle.aa_reports.specs.declared.logging.SkippedLines.{SkippedLines}

@@ -1,4 +1,4 @@
-use Rattle.std.proofs.Common.{◌≡◌, ap, ◌∙◌, sym, refl, Some, None, ◌∷◌, List, Option, set, length}
+use Rattle.std.proofs.Common.{◌≡◌, ap, ◌∙◌, sym, refl, Some, None, ◌∷◌, List, set}
 use Rattle.std.specs.Prelude.{ℕ}
 use Rattle.std.specs.List.{position}
 use Rattle.std.specs.Str.{bytes_eq}

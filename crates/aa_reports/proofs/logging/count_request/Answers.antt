@@ -1,8 +1,7 @@
-use Rattle.std.proofs.Common.{◌≡◌, ◌∙◌, sym, ap, refl, Option, Some, None, List}
+use Rattle.std.proofs.Common.{◌≡◌, ◌∙◌, sym, ap, refl, Some, None, List}
 use Rattle.std.specs.Prelude.{ℕ}
 use Rattle.std.specs.HashMap.{get_by}
 use Rattle.std.specs.Str.{bytes_eq}
-use Rattle.aa_request_words.specs.Written.{word_text}
 use Rattle.aa_logs.specs.Outcomes.{record_data}
 use Rattle.aa_reports.specs.declared.logging.Entry.{Entry}
 use Rattle.aa_reports.specs.Found.{Asked, asked_at, asked_key}

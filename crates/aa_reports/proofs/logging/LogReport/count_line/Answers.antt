@@ -1,12 +1,11 @@
-use Rattle.std.proofs.Common.{◌≡◌, ◌∙◌, sym, ap, refl, true, List, ◌∷◌, ◌++◌, []}
+use Rattle.std.proofs.Common.{◌≡◌, ◌∙◌, sym, ap, refl}
 use Rattle.std.proofs.lemmas.Result.{on_ok_weaker}
-use Rattle.aa_logs.specs.declared.line.Line.{Line}
 use Rattle.aa_logs.specs.Asked.{cause_of}
 use Rattle.aa_logs.specs.Outcomes.{Another, AsksNothing, AsksFor, record_data, outcome}
 use Rattle.aa_logs.specs.Records.{line_in}
 use Rattle.aa_log_lines.specs.LogLines.{LogLine, log_line}
 use Rattle.aa_reports.specs.declared.logging.LogReport.{LogReport}
-use Rattle.aa_reports.specs.Found.{is_wanted, left_in}
+use Rattle.aa_reports.specs.Found.{left_in}
 use Rattle.aa_reports.proofs.Results.{on_ok_both, if_refused}
 use Rattle.aa_reports.proofs.Taking.{wanted_in, kept_in, log_in, taken_other, taken_left, taken_skipped, taken_asks, many_in}
 use Rattle.aa_reports.proofs.logging.LogReport.count_line.Goals as goal

@@ -1,10 +1,7 @@
-use Rattle.std.proofs.Common.{◌≡◌, ◌∙◌, sym, ap, subst, List, ◌∷◌, ◌++◌, [], map}
+use Rattle.std.proofs.Common.{subst, ◌∷◌, ◌++◌, []}
 use Rattle.std.specs.Prelude.{option_map}
-use Rattle.std.proofs.lemmas.Result.{on_ok_weaker}
-use Rattle.aa_logs.specs.Asked.{cause_of}
 use Rattle.aa_reports.specs.declared.logging.LinePlace.{LinePlace}
-use Rattle.aa_reports.specs.Counted.{counted}
-use Rattle.aa_reports.specs.Found.{Skipped, skipped_for, skipped_key, AreEach}
+use Rattle.aa_reports.specs.Found.{Skipped, AreEach}
 use Rattle.aa_reports.proofs.Reasons.{as_caused}
 use Rattle.aa_reports.proofs.Results.{on_ok}
 use Rattle.aa_reports.proofs.logging.LogReport.count_skipped.Goals as goal

@@ -1,11 +1,10 @@
-use Rattle.std.proofs.Common.{◌≡◌, ◌∙◌, sym, ap, refl, arith, List, [], length, map, Option, None}
+use Rattle.std.proofs.Common.{◌≡◌, ◌∙◌, sym, ap, refl, arith, List, length, map}
 use Rattle.std.specs.Prelude.{ℕ}
 use Rattle.std.specs.List.{position}
 use Rattle.std.specs.Map.{lookup}
 use Rattle.std.specs.Str.{bytes_eq}
 use Rattle.aa_request_words.specs.Written.{word_text}
 use Rattle.aa_reports.specs.declared.logging.Entry.{Entry}
-use Rattle.aa_reports.specs.declared.logging.SkippedLines.{SkippedLines}
 use Rattle.aa_reports.specs.Counted.{firsts}
 use Rattle.aa_reports.specs.Found.{entry_data, entry_key, skipped_data, requests_in, skipped_in, others_in, left_in}
 use Rattle.aa_reports.proofs.logging.LogReport.new.Goals as goal
