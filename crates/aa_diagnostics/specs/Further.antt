@@ -1,5 +1,5 @@
 -- What else helps: the lines behind a fault.
-use Rattle.std.specs.Prelude.{ℕ, ◌==◌, ◌≡◌, ◌⊎◌, List, [], ◌++◌, map, flat_map, codes, Contains, Option, option_to_list, if◌then◌else◌}
+use Rattle.std.specs.Prelude.{ℕ, ◌==◌, ◌≡◌, ◌⊎◌, List, [], ◌∷◌, ◌++◌, map, flat_map, codes, Contains, Option, option_to_list, if◌then◌else◌}
 use Rattle.aa_faults.specs.declared.fault.Spot.{Spot}
 use Rattle.aa_faults.specs.declared.fault.PolicyKind.{PolicyKind}
 use Rattle.aa_faults.specs.declared.fault.PolicyKind.TheVariants.{MissingInclude, VariableTwice, DuplicateProfile, ConflictingExec}
@@ -7,14 +7,18 @@ use Rattle.aa_profiles.specs.declared.policy.Policy.{Policy}
 use Rattle.aa_profiles.specs.declared.policy.Profile.{Profile}
 use Rattle.aa_words.specs.Splits.{WordData, Splits}
 use Rattle.aa_words.specs.Found.{IncludeData, HasIncludes}
+use Rattle.aa_glob.specs.Variables.{Variable}
+use Rattle.aa_policy.specs.Bodies.{ProfileData, IsPolicy}
 use Rattle.aa_policy.specs.Spelling.{Spells}
+use Rattle.aa_policies.specs.Policies.{CanFollow}
 use Rattle.aa_places.specs.Places.{place_in}
 use Rattle.aa_texts.specs.Texts.{line_and_column}
 use Rattle.aa_units.specs.declared.unit.Unit as unit
-use Rattle.aa_units.specs.Numbers.{path_in, text_in, named_texts}
+use Rattle.aa_units.specs.Numbers.{path_in, text_in}
+use Rattle.aa_units.specs.Compiled.{texts_of}
 use Rattle.aa_units.specs.Walks.{asked_by}
-use Rattle.aa_asks.specs.declared.places.ProfilePlaces.{ProfilePlaces}
-use Rattle.aa_diagnostics.specs.Earlier.{variable_before, profile_before}
+use Rattle.aa_repeats.specs.Named.{named_of}
+use Rattle.aa_repeats.specs.Earlier.{set_again, named_again, IsSetFirst, IsNamedFirst}
 use Rattle.aa_diagnostics.specs.Conflicts.{ShowsConflict}
 
 -- what stands before it, a file's path, and a place in it
@@ -38,21 +42,25 @@ pub record AreTried (folders : List (List ℕ)) (text : List ℕ) (byte : ℕ) (
 abbrev pub spot_lines : unit.Unit → List ℕ → Option Spot → List (List ℕ)
 spot_lines u what at = map (spot_line u what) (option_to_list at)
 
--- where the variable is set first, among the words of the unit, that the word at that place sets again
+-- among the words of the unit, where the variable is set first that is set again at that place, if there is one
 pub record ShowsFirstSet (u : unit.Unit) (at : Spot) (lines : List (List ℕ)) : Type 0 where
   pub words : List WordData
-  pub split : Splits (named_texts u.order.items u.sources.items) u.text.items words
-  pub are : lines ≡ spot_lines u (codes "set at ") (variable_before at words)
+  pub split : Splits (texts_of u) u.text.items words
+  pub are : lines ≡ spot_lines u (codes "set at ") (set_again at [] words)
 
--- where the first of some profiles stands that has the full name of the one whose name stands at that place
+-- where the first of its profiles stands that has the full name of one behind it, whose name stands at that place, if there is one
 pub record ShowsFirstNamed (u : unit.Unit) (at : Spot) (lines : List (List ℕ)) : Type 0 where
-  pub profiles : List ProfilePlaces
-  pub are : lines ≡ spot_lines u (codes "earlier at ") (profile_before at profiles)
+  pub words : List WordData
+  pub split : Splits (texts_of u) u.text.items words
+  pub vars : List Variable
+  pub tree : List ProfileData
+  pub written : IsPolicy words vars tree
+  pub are : lines ≡ spot_lines u (codes "earlier at ") (named_again at [] (map named_of tree))
 
 -- two rules that conflict are shown, of a profile of the unit's policy whose name stands at that place
 pub record ShowsConflictAt (u : unit.Unit) (at : Spot) (lines : List (List ℕ)) : Type 0 where
   pub words : List WordData
-  pub split : Splits (named_texts u.order.items u.sources.items) u.text.items words
+  pub split : Splits (texts_of u) u.text.items words
   pub policy : Policy
   pub spells : Spells words policy
   pub profile : Profile
@@ -68,3 +76,30 @@ IsFurther u folders at lines VariableTwice = (lines ≡ []) ⊎ ShowsFirstSet u 
 IsFurther u folders at lines DuplicateProfile = (lines ≡ []) ⊎ ShowsFirstNamed u at lines
 IsFurther u folders at lines ConflictingExec = (lines ≡ []) ⊎ ShowsConflictAt u at lines
 IsFurther u folders at lines _ = lines ≡ []
+
+-- the sources of the unit can be handed in, and its text has these words
+pub record HasWords (u : unit.Unit) (ws : List WordData) : Type 0 where
+  pub fit : CanFollow [] (texts_of u)
+  pub split : Splits (texts_of u) u.text.items ws
+
+-- a variable is set twice, the second time at that place, and the one line says where it is set first
+pub record ShowsSetTwice (u : unit.Unit) (at : Spot) (lines : List (List ℕ)) : Type 0 where
+  pub words : List WordData
+  pub has : HasWords u words
+  pub first : Spot
+  pub set : IsSetFirst words at first
+  pub are : lines ≡ spot_line u (codes "set at ") first ∷ []
+
+-- two profiles have one full name, the later one stands at that place, and the one line says where the first stands that has it
+pub record ShowsNamedTwice (u : unit.Unit) (at : Spot) (lines : List (List ℕ)) : Type 0 where
+  pub words : List WordData
+  pub has : HasWords u words
+  pub first : Spot
+  pub named : IsNamedFirst words at first
+  pub are : lines ≡ spot_line u (codes "earlier at ") first ∷ []
+
+-- the earlier one is shown, of two variables or profiles of one name
+abbrev pub ShowsEarlier : unit.Unit → Spot → List (List ℕ) → PolicyKind → Type 0
+ShowsEarlier u at lines VariableTwice = ShowsSetTwice u at lines
+ShowsEarlier u at lines DuplicateProfile = ShowsNamedTwice u at lines
+ShowsEarlier u at lines _ = Unit {0}

@@ -3,6 +3,5 @@ pub mod Sentences
 pub mod Trails
 pub mod Unread
 pub mod Conflicts
-pub mod Earlier
 pub mod Further
 pub mod Reports

@@ -14,11 +14,12 @@ use Rattle.aa_units.specs.declared.tree.Unread.{Unread}
 use Rattle.aa_units.specs.declared.tree.Unread.TheVariants as unread
 use Rattle.aa_units.specs.declared.unit.Unit as unit
 use Rattle.aa_units.specs.Numbers.{path_in, text_in}
+use Rattle.aa_units.specs.Compiled.{limit_of, IsFaultOfUnit}
 use Rattle.aa_units.specs.Nodes.{path_of_node, text_of_node, is_folder_node, is_folder_in, node_in}
 use Rattle.aa_diagnostics.specs.declared.trail.Step.{Step}
 use Rattle.aa_diagnostics.specs.Trails.{IsTrail}
 use Rattle.aa_diagnostics.specs.Sentences.{message}
-use Rattle.aa_diagnostics.specs.Further.{IsFurther}
+use Rattle.aa_diagnostics.specs.Further.{IsFurther, ShowsEarlier}
 
 -- a byte of a text with its line and column
 abbrev pub stands_at : List ℕ → ℕ → PlaceAt
@@ -66,10 +67,11 @@ pub record IsReport (u : unit.Unit) (states : ℕ) (f : PolicyFault) (lines : Li
   pub chain : AreLinks u (node_in u f.at.file) r.chain.items
   pub further : texts r.further.items ≡ lines
 
--- the same with what else helps
+-- the same with what else helps; of a fault that the unit's policy has, the earlier one is shown of two variables or profiles of one name
 pub record IsDescribed (u : unit.Unit) (folders : List (List ℕ)) (states : ℕ) (f : PolicyFault) (r : FaultReport) : Type 0 where
   pub lines : List (List ℕ)
   pub are : IsFurther u folders f.at lines f.kind
+  pub earlier : IsFaultOfUnit (limit_of states) u f → ShowsEarlier u f.at lines f.kind
   pub report : IsReport u states f lines r
 
 -- what is said of a path as a whole

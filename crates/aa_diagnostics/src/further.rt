@@ -1,13 +1,19 @@
 //! What else helps: where includes were looked for, and where the earlier one stands, of two that can't be there both.
 
-ghost use Rattle.std.specs.Prelude.{◌≡◌, ◌⊎◌, ◌++◌, [], map, option_to_list, OnOk, IfOk};
+ghost use Rattle.std.specs.Prelude.{◌≡◌, ◌⊎◌, ◌↔◌, ◌++◌, [], List, map, option_to_list, IsTrue, OnOk, IfOk};
+ghost use Rattle.aa_faults.specs.Kinds.{IsRefusal};
+ghost use Rattle.aa_glob.specs.Variables.{Variable};
 ghost use Rattle.aa_trees.specs.Texts.{texts, slices};
+ghost use Rattle.aa_words.specs.Splits.{WordData};
 ghost use Rattle.aa_words.specs.FoundData.{include_data};
-ghost use Rattle.aa_diagnostics.specs.Further.{spot_line, tried, tried_at, AreTried, ShowsFirstSet, ShowsFirstNamed, IsFurther};
+ghost use Rattle.aa_heads.specs.Preamble.{IsTwice};
+ghost use Rattle.aa_policy.specs.Bodies.{ProfileData, IsPolicy};
+ghost use Rattle.aa_policy.specs.Spelling.{IsDuplicate};
+ghost use Rattle.aa_units.specs.Compiled.{limit_of, IsFaultOfUnit};
+ghost use Rattle.aa_diagnostics.specs.Further.{spot_line, tried, tried_at, AreTried, ShowsFirstSet, ShowsFirstNamed, IsFurther, HasWords, ShowsSetTwice, ShowsNamedTwice, ShowsEarlier};
 
 use crate::conflict::conflict_lines;
-use crate::earlier::{profile_before, variable_before};
-use aa_asks::rule_places;
+use aa_repeats::{earlier_profile, earlier_variable};
 use aa_texts::{push_place, push_text};
 use aa_units::{Unit, paths_of, sources_of, text_at};
 use aa_words::{IncludeAt, PolicyFault, PolicyKind, Spot, includes_of, words};
@@ -91,38 +97,51 @@ fn tried(
     Ok(lines)
 }
 
+fn is_want_of_memory(fault: PolicyFault) -> bool
+    ensures { IsTrue result ↔ (fault.kind ≡ PolicyKind.NoMemory) }
+{
+    fault.kind == PolicyKind::NoMemory
+}
+
 /// What was found; nothing where it was refused for another cause than memory.
 fn unless_refused(
     alloc: Global,
     lines: Result<Vec<Vec<u8>>, PolicyFault>,
 ) -> Result<Vec<Vec<u8>>, AllocError>
-    ensures { IfOk result (λ found. (texts found.items ≡ []) ⊎ (lines ≡ Ok found)) }
+    ensures { IfOk result (λ found. (IsRefusal lines × (texts found.items ≡ [])) ⊎ (lines ≡ Ok found)) }
 {
     match lines {
         Ok(lines) => Ok(lines),
-        Err(fault) if fault.kind == PolicyKind::NoMemory => Err(AllocError),
-        Err(_) => Ok(Vec::new(alloc)),
+        Err(fault) => {
+            if is_want_of_memory(fault) {
+                return Err(AllocError);
+            }
+            Ok(Vec::new(alloc))
+        }
     }
 }
 
-/// Where the variable is set first that the word at a place sets again.
+/// Where the variable is set first that is set again at a place.
 fn set_lines(alloc: Global, unit: &Unit, at: Spot) -> Result<Vec<Vec<u8>>, PolicyFault>
-    ensures { IfOk result (λ lines. ShowsFirstSet unit.now at (texts lines.items)) }
+    ensures shown { IfOk result (λ lines. ShowsFirstSet unit.now at (texts lines.items)) }
+    ensures twice { IfOk result (λ lines. (ws : List WordData) → HasWords unit.now ws → IsTwice ws at → ShowsSetTwice unit.now at (texts lines.items)) }
+    ensures refused { IsRefusal result → (ws : List WordData) → HasWords unit.now ws → ⊥ }
 {
     let sources = sources_of(alloc, unit)?;
     let list = words(alloc, &sources, unit.text.as_slice())?;
-    let first = variable_before(list.list.as_slice(), at);
+    let first = earlier_variable(&list, at);
     Ok(spot_lines(alloc, unit, "set at ", first)?)
 }
 
 /// Where the first profile stands that has the full name of the one whose name stands at a place.
 fn earlier_lines(alloc: Global, unit: &Unit, at: Spot) -> Result<Vec<Vec<u8>>, PolicyFault>
-    ensures { IfOk result (λ lines. ShowsFirstNamed unit.now at (texts lines.items)) }
+    ensures shown { IfOk result (λ lines. ShowsFirstNamed unit.now at (texts lines.items)) }
+    ensures twice { IfOk result (λ lines. (ws : List WordData) → HasWords unit.now ws → IsDuplicate ws at → ShowsNamedTwice unit.now at (texts lines.items)) }
+    ensures refused { IsRefusal result → (ws : List WordData) → HasWords unit.now ws → (vars : List Variable) (tree : List ProfileData) → IsPolicy ws vars tree → ⊥ }
 {
     let sources = sources_of(alloc, unit)?;
     let list = words(alloc, &sources, unit.text.as_slice())?;
-    let found = rule_places(alloc, &list)?;
-    let first = profile_before(alloc, found.as_slice(), at)?;
+    let first = earlier_profile(alloc, &list, at)?;
     Ok(spot_lines(alloc, unit, "earlier at ", first)?)
 }
 
@@ -135,7 +154,8 @@ pub(crate) fn further_of(
     kind: PolicyKind,
     at: Spot,
 ) -> Result<Vec<Vec<u8>>, AllocError>
-    ensures { IfOk result (λ lines. IsFurther unit.now (slices folders.now) at (texts lines.items) kind) }
+    ensures further { IfOk result (λ lines. IsFurther unit.now (slices folders.now) at (texts lines.items) kind) }
+    ensures earlier { IfOk result (λ lines. IsFaultOfUnit (limit_of states) unit.now (record { kind = kind; at = at }) → ShowsEarlier unit.now at (texts lines.items) kind) }
 {
     let (_, text) = text_at(unit, at.file);
     match kind {

@@ -3,7 +3,6 @@
 
 mod conflict;
 mod described;
-mod earlier;
 mod further;
 mod left_out;
 mod sentence;

@@ -1,0 +1,4 @@
+mod Naming
+mod Fronts
+mod SetTwice
+mod NamedTwice
