@@ -167,21 +167,44 @@ fn a_name_in_both_forms_that_lies_at_two_paths_is_refused_at_the_later(
     Ok(())
 }
 
+/// Files with a name in both forms, of which but one finds something.
+const ONE_FORM: &[File] = &[
+    ("/m", "include <a>\ninclude \"a\"\n"),
+    ("/n", "include \"c\"\ninclude <c>\n"),
+    ("/o", "include if exists \"a\"\ninclude if exists <a>\n"),
+    ("/b/a", ""),
+    ("c", ""),
+];
+
+/// What is said of them.
+const ONLY_IN_ANGLES: &str =
+    "/m:2:1: AmbiguousInclude: nothing has this name here, and /b/a has it for its other form\n    2 | include \"a\"\n      | ^\n";
+
+const ONLY_IN_QUOTES: &str =
+    "/n:2:1: AmbiguousInclude: nothing has this name here, and c has it for its other form\n    2 | include <c>\n      | ^\n";
+
+const ONLY_LATER: &str =
+    "/o:2:1: AmbiguousInclude: /b/a has this name, and nothing has it for its other form\n    2 | include if exists <a>\n      | ^\n";
+
 #[test]
-fn a_name_in_both_forms_is_read_where_but_one_of_them_lies_somewhere(
+fn a_name_that_but_one_of_its_forms_finds_is_refused_at_the_later(
     rt: HostRuntime,
 ) -> Result<(), Fail> {
     let alloc = rt.alloc();
-    let angles = files_of(
+    let tree = files_of(alloc, ONE_FORM)?;
+    is_told(
+        &rt,
         alloc,
-        &[("/m", "include <a>\ninclude \"a\"\n"), ("/b/a", "# base\n")],
+        &ambiguity(&rt, alloc, &tree, "/m"),
+        ONLY_IN_ANGLES,
     )?;
-    is_read(&rt, alloc, &angles, "/m", &[("a", "/b/a", "# base\n")]);
-    let quotes = files_of(
+    is_told(
+        &rt,
         alloc,
-        &[("/m", "include \"a\"\ninclude <a>\n"), ("a", "# here\n")],
+        &ambiguity(&rt, alloc, &tree, "/n"),
+        ONLY_IN_QUOTES,
     )?;
-    is_read(&rt, alloc, &quotes, "/m", &[("a", "a", "# here\n")]);
+    is_told(&rt, alloc, &ambiguity(&rt, alloc, &tree, "/o"), ONLY_LATER)?;
     Ok(())
 }
 
