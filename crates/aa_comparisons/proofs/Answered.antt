@@ -68,7 +68,7 @@ pub later_more : (logs : List (List ℕ)) (d : Decided) (all : Bool) (es more : 
     → last ≡ (later || (all || changes e.then now)) → last ≡ is_some_of (json_changes logs d all more)
 later_more logs d all es more e now later last is now_is later_is last_is =
     let shown : last ≡ (later || is_some_of (json_shown logs d all e)) =
-        last_is ∙ ap (λ (n : Now). later || (all || changes e.then n)) now_is ∙ ap (λ (b : Bool). later || b) (sym (shown_some (is_shown d all e) _)) in
+    last_is ∙ ap (λ (n : Now). later || (all || changes e.then n)) now_is ∙ ap (λ (b : Bool). later || b) (sym (shown_some (is_shown d all e) _)) in
     two_later false later last (json_changes logs d all es) (json_shown logs d all e) later_is shown ∙ ap is_some_of (sym (changes_more logs d all es e) ∙ ap (json_changes logs d all) (sym is))
 
 any_push : (p : Entry → Bool) (es : List Entry) (e : Entry) → list_any p (es ++ e ∷ []) ≡ (list_any p es || p e)

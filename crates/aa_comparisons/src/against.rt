@@ -10,13 +10,13 @@ ghost use Rattle.aa_reports.specs.Printed.{arrow_text, each_skipped_text};
 ghost use Rattle.aa_reports.specs.Commas.{more_of, is_some_of};
 ghost use Rattle.aa_comparisons.specs.Against.{now_of, verdict_of, IsNewlyDenied, AreCounted, reasons_if, change_text, shown_text, changes_text, IsAgainstText, cell_line, row_text, rows_text, json_count, json_cell, json_row, json_cells, json_why, json_change, json_shown, json_changes, json_answers, IsJsonAgainst};
 
+use aa_findings::{Counts, Now, answered, is_change, now_name, then_name};
+use aa_logs::Then;
+use aa_mediate::label_of;
 use aa_reports::{
     Entry, LogReport, push_comma, push_count_member, push_entry_members, push_json_rest, push_rest,
     push_skipped_lines, push_word_member,
 };
-use aa_findings::{Counts, Now, answered, is_change, now_name, then_name};
-use aa_logs::Then;
-use aa_mediate::label_of;
 use aa_units::{push_number, push_text};
 use aa_verdicts::{Decided, Verdict, decide, push_json_verdict, push_reasons};
 use std::alloc::{AllocError, Global};

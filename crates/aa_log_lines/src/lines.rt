@@ -140,6 +140,7 @@ fn take_last<L: Lines>(alloc: Global, held: &OpenLine, lines: &mut L) -> Result<
 fn read_lines<R: Read, L: Lines>(alloc: Global, reader: &mut R, lines: &mut L) -> Result<(), Unread>
     ensures log { OnOk result (L.log lines.new ≡ L.log lines.old) }
     ensures taken { OnOk result (IfSome (R.remaining reader.old) (λ bytes. (before : List LogLine) → L.has_taken lines.old before → L.has_taken lines.new (before ++ log_lines (L.log lines.old) bytes))) }
+    ensures some { OnOk result ((bytes : List ℕ) × ((before : List LogLine) → L.has_taken lines.old before → L.has_taken lines.new (before ++ log_lines (L.log lines.old) bytes))) }
 {
     let mut held = OpenLine {
         bytes: Vec::new(alloc),
@@ -157,7 +158,10 @@ fn read_lines<R: Read, L: Lines>(alloc: Global, reader: &mut R, lines: &mut L) -
 }
 
 /// Hands each line of a log on; the path `-` is standard input.
-pub fn read_log<L: Lines>(rt: &HostRuntime, path: &[u8], lines: &mut L) -> Result<(), Unread> {
+pub fn read_log<L: Lines>(rt: &HostRuntime, path: &[u8], lines: &mut L) -> Result<(), Unread>
+    ensures log { OnOk result (L.log lines.new ≡ L.log lines.old) }
+    ensures taken { OnOk result ((bytes : List ℕ) × ((before : List LogLine) → L.has_taken lines.old before → L.has_taken lines.new (before ++ log_lines (L.log lines.old) bytes))) }
+{
     let alloc = rt.alloc();
     if path == "-".as_bytes() {
         let mut reader = rt.reader();

@@ -10,7 +10,7 @@ use Rattle.std.proofs.lemmas.List.Quantifiers.{position-Some}
 use Rattle.std.proofs.lemmas.Map.Views.{any-filter_same}
 use Rattle.std.proofs.lemmas.Slice.Eq.{bytes_eq-Decides}
 use Rattle.std.proofs.lemmas.Bool.{cases_Bool, ltb-false}
-use Rattle.aa_reports.specs.Counted.{greatest, firsts, times, Counted, counted, with_one}
+use Rattle.aa_reports.specs.Counted.{greatest, firsts, times, Counted, counted}
 
 eq_true : (x y : List ℕ) → bytes_eq x y ≡ true → x ≡ y
 eq_true x y e = (bytes_eq-Decides x y).0 e
@@ -27,7 +27,7 @@ eq_sym x y = elim (cases_Bool (bytes_eq x y)) [
   ]
 ]
 
--- isnt element passes
+-- no element passes
 neither : (s t : Bool) → (s || t) ≡ false → (s ≡ false) × (t ≡ false)
 neither true t e = absurd (cc)
 neither false t e = (refl, e)
@@ -76,7 +76,7 @@ module _ {A : Type 0} where
       ap (λ (b : Bool). test x || b) (any-filter_same test q (not (test x)) alike (firsts key xs))
       ∙ or_rest (test x) (list_any test (firsts key xs)) ∙ ap (λ (b : Bool). test x || b) (any-firsts key k xs)
 
-  -- isnt two have one key
+  -- no two have one key
   Distinct : (A → List ℕ) → List A → Type 0
   Distinct key [] = Unit {0}
   Distinct key (k ∷ ks) = (list_any (λ b. bytes_eq (key b) (key k)) ks ≡ false) × Distinct key ks
@@ -124,7 +124,13 @@ module _ {A : Type 0} where
       ap (λ (b : Bool). item k (cond b (min (n k + 1) greatest) (n k)) ∷ map (λ k. item k (n k)) ks) (sym isnt.0)
       ∙ ap (λ (l : List (Counted A)). item k (cond (bytes_eq (key k) (key a)) (min (n k + 1) greatest) (n k)) ∷ l) (unbumped key n ks a isnt.1)
 
-  -- an item more, where isnt two of those that are there have one key
+  -- an item more: one more of its key where that is there, or else the first of its key
+  pub with_one : (A → List ℕ) → List (Counted A) → A → List (Counted A)
+  unfolding item
+  with_one key [] a = item a 1 ∷ []
+  with_one key (c ∷ cs) a = cond (bytes_eq (key c.item) (key a)) (record { item = c.item; count = min (c.count + 1) greatest } ∷ cs) (c ∷ with_one key cs a)
+
+  -- an item more, where no two of those that are there have one key
   one_of : (key : A → List ℕ) (n : A → ℕ) (ks : List A) (a : A) → Distinct key ks
       → with_one key (map (λ k. item k (n k)) ks) a ≡ map (λ k. item k (bump (bytes_eq (key k) (key a)) (n k))) ks ++ cond (list_any (λ b. bytes_eq (key b) (key a)) ks) [] (item a 1 ∷ [])
   unfolding with_one Distinct item bump
@@ -135,8 +141,8 @@ module _ {A : Type 0} where
       let any : Bool = list_any (λ b. bytes_eq (key b) (key a)) ks in
       (elim (bytes_eq (key k) (key a)) as (λ s. bytes_eq (key k) (key a) ≡ s → cond s (item k (min (n k + 1) greatest) ∷ old) (item k (n k) ∷ with_one key old a) ≡ (item k (bump s (n k)) ∷ more) ++ cond (s || any) [] (item a 1 ∷ [])) [
         | true ↦ λ e.
-          let none : any ≡ false = subst (λ (l : List ℕ). list_any (λ b. bytes_eq (key b) l) ks ≡ false) (eq_true (key k) (key a) e) d.0 in
-          ap (λ (l : List (Counted A)). item k (min (n k + 1) greatest) ∷ l) (unbumped key n ks a none ∙ sym (append-nil more))
+            let none : any ≡ false = subst (λ (l : List ℕ). list_any (λ b. bytes_eq (key b) l) ks ≡ false) (eq_true (key k) (key a) e) d.0 in
+            ap (λ (l : List (Counted A)). item k (min (n k + 1) greatest) ∷ l) (unbumped key n ks a none ∙ sym (append-nil more))
         | false ↦ λ e. ap (λ (l : List (Counted A)). item k (n k) ∷ l) (one_of key n ks a d.1)
       ]) refl
 
@@ -166,11 +172,11 @@ module _ {A : Type 0} where
       let bumped : A → Counted A = λ k. item k (bump (bytes_eq (key k) (key a)) (times key (key k) xs)) in
       let alike : map new (firsts key xs) ≡ map bumped (firsts key xs) = map_same new bumped (λ k. ap (item k) (times-more key (key k) xs a)) (firsts key xs) in
       let split : map new (firsts key (xs ++ a ∷ [])) ≡ map new (firsts key xs) ++ cond any [] (item a 1 ∷ []) =
-          ap (map new) (firsts-more key xs a)
-          ∙ (elim any as (λ t. any ≡ t → map new (cond t (firsts key xs) (firsts key xs ++ a ∷ [])) ≡ map new (firsts key xs) ++ cond t [] (item a 1 ∷ [])) [
-            | true ↦ λ e. sym (append-nil (map new (firsts key xs)))
-            | false ↦ λ e. map-append new (firsts key xs) (a ∷ []) ∙ ap (λ (n : ℕ). map new (firsts key xs) ++ item a n ∷ []) (times-more key (key a) xs a ∙ ap (λ (b : Bool). bump b (times key (key a) xs)) (eq_self (key a)) ∙ ap (λ (n : ℕ). min (min n greatest + 1) greatest) (count_none key (key a) xs e))
-          ]) refl in
+      ap (map new) (firsts-more key xs a)
+      ∙ (elim any as (λ t. any ≡ t → map new (cond t (firsts key xs) (firsts key xs ++ a ∷ [])) ≡ map new (firsts key xs) ++ cond t [] (item a 1 ∷ [])) [
+        | true ↦ λ e. sym (append-nil (map new (firsts key xs)))
+        | false ↦ λ e. map-append new (firsts key xs) (a ∷ []) ∙ ap (λ (n : ℕ). map new (firsts key xs) ++ item a n ∷ []) (times-more key (key a) xs a ∙ ap (λ (b : Bool). bump b (times key (key a) xs)) (eq_self (key a)) ∙ ap (λ (n : ℕ). min (min n greatest + 1) greatest) (count_none key (key a) xs e))
+      ]) refl in
       split ∙ ap (λ (l : List (Counted A)). l ++ cond any [] (item a 1 ∷ [])) alike
       ∙ ap (λ (t : Bool). map bumped (firsts key xs) ++ cond t [] (item a 1 ∷ [])) (sym (any-firsts key (key a) xs))
       ∙ sym (one_of key (λ k. times key (key k) xs) (firsts key xs) a (Distinct-firsts key xs))

@@ -11,10 +11,10 @@ use Rattle.std.proofs.lemmas.List.Quantifiers.{position-Some}
 use Rattle.aa_rows.proofs.Named.{position_more}
 use Rattle.aa_request_words.specs.Written.{word_text}
 use Rattle.aa_reports.specs.declared.logging.Entry.{Entry}
-use Rattle.aa_reports.specs.Counted.{greatest, firsts, Counted, counted, with_one}
+use Rattle.aa_reports.specs.Counted.{greatest, firsts, Counted, counted}
 use Rattle.aa_reports.specs.Printed.{key_text}
 use Rattle.aa_reports.specs.Found.{Asked, asked_key, entry_data, entry_key, AreNumbered, AddsKey, HaveWords, AreFound}
-use Rattle.aa_reports.proofs.Counting.{eq_sym, more_of_it, at_place, behind_all, counted-more, length-counted}
+use Rattle.aa_reports.proofs.Counting.{with_one, eq_sym, more_of_it, at_place, behind_all, counted-more, length-counted}
 
 module _ {X Y : Type 0} where
   pos_map : (p : Y → Bool) (f : X → Y) (xs : List X) → position_or_len p (map f xs) ≡ position_or_len (λ x. p (f x)) xs
@@ -153,7 +153,7 @@ module _ {Y S : Type 0} where
   too_many before es numbers a key key_is none full f =
       let nowhere : position (λ (k : List ℕ). bytes_eq k (asked_key a)) (map entry_key es) ≡ None = ap (λ (l : List ℕ). position (λ (k : List ℕ). bytes_eq k l) (map entry_key es)) (sym key_is) ∙ sym (f.numbered key) ∙ none in
       let all : counted asked_key (before ++ a ∷ []) ≡ map entry_data es ++ record { item = a; count = 1 } ∷ [] =
-          counted-more asked_key before a ∙ ap (λ (cs : List (Counted Asked)). with_one asked_key cs a) (sym f.counts) ∙ behind_all asked_key (map entry_data es) a (place_in es (asked_key a) f.words ∙ nowhere) in
+      counted-more asked_key before a ∙ ap (λ (cs : List (Counted Asked)). with_one asked_key cs a) (sym f.counts) ∙ behind_all asked_key (map entry_data es) a (place_in es (asked_key a) f.words ∙ nowhere) in
       let many : length (firsts asked_key (before ++ a ∷ [])) ≡ length es + 1 =
-          sym (length-counted asked_key (before ++ a ∷ [])) ∙ ap length all ∙ length-append (map entry_data es) (record { item = a; count = 1 } ∷ []) ∙ ap (λ (n : ℕ). n + 1) (length-map es entry_data) in
+      sym (length-counted asked_key (before ++ a ∷ [])) ∙ ap length all ∙ length-append (map entry_data es) (record { item = a; count = 1 } ∷ []) ∙ ap (λ (n : ℕ). n + 1) (length-map es entry_data) in
       omega (arith, many)

@@ -6,3 +6,4 @@ pub mod Reasons
 pub mod Results
 pub mod Taking
 pub mod Apart
+pub mod Askable

@@ -11,10 +11,10 @@ use Rattle.aa_logs.specs.Asked.{cause_of}
 use Rattle.aa_findings.specs.Reasons.{rank, word_of}
 use Rattle.aa_reports.specs.declared.logging.LinePlace.{LinePlace}
 use Rattle.aa_reports.specs.declared.logging.SkippedLines.{SkippedLines}
-use Rattle.aa_reports.specs.Counted.{greatest, Counted, counted, with_one}
+use Rattle.aa_reports.specs.Counted.{greatest, Counted, counted}
 use Rattle.aa_reports.specs.Orders.{reason_key}
 use Rattle.aa_reports.specs.Found.{Skipped, skipped_key, skipped_data, skipped_for}
-use Rattle.aa_reports.proofs.Counting.{more_of_it, at_place, behind_all, counted-more}
+use Rattle.aa_reports.proofs.Counting.{with_one, more_of_it, at_place, behind_all, counted-more}
 use Rattle.aa_reports.proofs.Entries.{position-map}
 
 place_in : (xs : List SkippedLines) (key : List ℕ) → position (λ (c : Counted Skipped). bytes_eq (skipped_key c.item) key) (map skipped_data xs) ≡ position (λ (s : SkippedLines). bytes_eq (reason_key s) key) xs

@@ -52,7 +52,7 @@ pub wanted_in : (c : Choice) (n : ℕ) (bytes : List ℕ) (count : Option ℕ) (
 wanted_in c n bytes count left count_is stays left_is = elim (cases_Bool (wants_all c)) [
   | inl all ↦ wants_each c bytes all
   | inr some ↦ (let counts : is_some count ≡ true = ap is_some (count_is ∙ ap (λ (b : Bool). cond b None (Some (min n greatest))) some) in
-    not-false (is_wanted c bytes) (sym (ap (λ (b : Bool). b && not (is_wanted c bytes)) counts) ∙ sym left_is ∙ stays))
+      not-false (is_wanted c bytes) (sym (ap (λ (b : Bool). b && not (is_wanted c bytes)) counts) ∙ sym left_is ∙ stays))
 ]
 
 -- one that is left out isn't
@@ -207,7 +207,7 @@ pub taken_skipped : (before : List LogLine) (l : LogLine) (r mid new : LogReport
 taken_skipped before l r mid new lines cause is wants lines_is mid_is new_is reasons each log f =
     let place : record { log = mid.log; line = l.number } ≡ place_of l = ap (λ (n : ℕ). record { log = n; line = l.number }) (ap (λ (x : LogReport). x.log) mid_is ∙ log) in
     let now : new ≡ record r { lines = lines; skipped = new.skipped; each_skipped = new.each_skipped; skipped_count = min (r.skipped_count + 1) greatest } =
-        new_is ∙ ap (λ (m : LogReport). record m { skipped = new.skipped; each_skipped = new.each_skipped; skipped_count = min (m.skipped_count + 1) greatest }) mid_is in
+    new_is ∙ ap (λ (m : LogReport). record m { skipped = new.skipped; each_skipped = new.each_skipped; skipped_count = min (m.skipped_count + 1) greatest }) mid_is in
     skipped_of before l r new lines cause is wants lines_is now
     (λ b h. reasons b (ap (λ (x : LogReport). map skipped_data x.skipped.items) mid_is ∙ h) ∙ ap (λ (p : LinePlace). counted skipped_key (b ++ skipped_for cause p ∷ [])) place)
     (λ b h. subst (λ (p : LinePlace). AreEach (b ++ skipped_for cause p ∷ []) (option_map (λ e. e.items) new.each_skipped)) place (each b (subst (λ (x : LogReport). AreEach b (option_map (λ e. e.items) x.each_skipped)) (sym mid_is) h)))
@@ -241,7 +241,7 @@ pub taken_asks : (before : List LogLine) (l : LogLine) (r mid new : LogReport) (
 taken_asks before l r mid new lines asked is wants lines_is mid_is new_is found log f =
     let place : record { log = mid.log; line = l.number } ≡ place_of l = ap (λ (n : ℕ). record { log = n; line = l.number }) (ap (λ (x : LogReport). x.log) mid_is ∙ log) in
     let now : new ≡ record r { lines = lines; entries = new.entries; numbers = new.numbers; requests = min (r.requests + 1) greatest } =
-        new_is ∙ ap (λ (m : LogReport). record m { entries = new.entries; numbers = new.numbers; requests = min (m.requests + 1) greatest }) mid_is in
+    new_is ∙ ap (λ (m : LogReport). record m { entries = new.entries; numbers = new.numbers; requests = min (m.requests + 1) greatest }) mid_is in
     asks_of before l r new lines asked is wants lines_is now
     (λ b h. subst (λ (p : LinePlace). AreFound (b ++ asked_at asked p ∷ []) new.entries.items new.numbers) place (found b (subst (λ (x : LogReport). AreFound b x.entries.items x.numbers) (sym mid_is) h)))
     f

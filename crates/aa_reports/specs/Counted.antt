@@ -1,5 +1,5 @@
 -- Items of a list, each once, with how often it stands there.
-use Rattle.std.specs.Prelude.{ℕ, ◌+◌, ◌-◌, ◌^◌, min, List, [], ◌∷◌, map, count_by, not, if◌then◌else◌}
+use Rattle.std.specs.Prelude.{ℕ, ◌-◌, ◌^◌, min, List, [], ◌∷◌, map, count_by, not}
 use Rattle.std.specs.List.{filter}
 use Rattle.std.specs.Str.{bytes_eq}
 
@@ -24,8 +24,3 @@ pub record Counted (A : Type 0) : Type 0 where
 -- the first item of each key, in order, with how many have that key
 abbrev pub counted : {A : Type 0} → (A → List ℕ) → List A → List (Counted A)
 counted key xs = map (λ a. record { item = a; count = times key (key a) xs }) (firsts key xs)
-
--- an item more: one more of its key where that is there, or else the first of its key
-unfoldable pub with_one : {A : Type 0} → (A → List ℕ) → List (Counted A) → A → List (Counted A)
-with_one key [] a = record { item = a; count = 1 } ∷ []
-with_one key (c ∷ cs) a = if bytes_eq (key c.item) (key a) then record { item = c.item; count = min (c.count + 1) greatest } ∷ cs else c ∷ with_one key cs a

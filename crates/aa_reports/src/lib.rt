@@ -7,7 +7,7 @@ mod logging;
 mod printing;
 
 pub use aa_logs::Choice;
-pub use laws::keys_tell;
+pub use laws::{keys_tell, lines_ask_so, requests_tell};
 pub use listed::{
     push_comma, push_count_member, push_entry_members, push_json_report, push_json_rest,
     push_word_member,

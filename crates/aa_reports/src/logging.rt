@@ -16,9 +16,9 @@ ghost use Rattle.aa_reports.specs.Found.{Asked, Skipped, asked_at, asked_key, sk
 ghost use Rattle.aa_reports.specs.Orders.{up_to, key_at, items_at, profile_of, reason_key, IsOrder, IsInOrder};
 ghost use Rattle.aa_reports.specs.Printed.{key_text};
 
-use aa_log_lines::Lines;
 use aa_asks::push_word;
 use aa_findings::{named, then_name};
+use aa_log_lines::Lines;
 use aa_logs::{Choice, Line, Reason, Record, Then, is_chosen, line_of};
 use aa_output::push_name;
 use aa_requests::Request;

@@ -38,6 +38,20 @@ returns-then-n-eq0-clause-taken g c =
     (last (before ++ numbered log 1 (map kept (ended [] i.0))) (i.6 before h)))))
     c.take_last.ensures.taken
 
+pub returns-then-n-eq0-clause-some : goal.returns-then-n-eq0-clause-some
+returns-then-n-eq0-clause-some g c =
+    let i = c.loop.invariant in
+    let log = g.L.Lines.log c.args.lines.now in
+    let has = g.L.Lines.has_taken in
+    on_ok_weaker c.take_last.result
+    (λ last. (
+      i.0,
+      λ before h. subst (has c.take_last.new.lines)
+          (end_taken log (g.L.Lines.log c.loop.lines) c.loop.held.number before i.0 c.loop.held.bytes.items i.5 i.3 i.4)
+          (last (before ++ numbered log 1 (map kept (ended [] i.0))) (i.6 before h)),
+    ))
+    c.take_last.ensures.taken
+
 pub loop-preserved : goal.loop-preserved
 loop-preserved g c =
     let i = c.loop.invariant in
