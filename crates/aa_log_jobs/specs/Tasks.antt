@@ -72,6 +72,10 @@ given t = record { tasks = tasks_data t.tasks.items; strangers = t.strangers; ov
 abbrev pub HasTaken : JobTasks → List LogLine → Type 0
 HasTaken t lines = given t ≡ given_by t.policies.now (asked_by_lines t.choice lines)
 
+-- Which log a line is of says nothing of a job.
+abbrev pub any_log : JobTasks → ℕ
+any_log t = 0
+
 -- ---- one record more
 
 abbrev pub one_stranger : Given → Given

@@ -1,9 +1,10 @@
 //! The job that `job` prints.
 
-ghost use Rattle.std.specs.Prelude.{◌≡◌, ◌≢◌, [], map, OnOk, IfOk, IfErr};
+ghost use Rattle.std.specs.Prelude.{◌≡◌, ◌≢◌, ◌++◌, ◌∷◌, [], List, map, OnOk, IfOk, IfErr};
 ghost use Rattle.aa_logs.specs.Outcomes.{record_data};
 ghost use Rattle.aa_job_texts.specs.Jobs.{left_out};
-ghost use Rattle.aa_log_jobs.specs.Tasks.{asked_by, given, HasTaken, one_asked, one_more, with_found};
+ghost use Rattle.aa_log_lines.specs.LogLines.{LogLine, log_line};
+ghost use Rattle.aa_log_jobs.specs.Tasks.{any_log, asked_by, given, HasTaken, one_asked, one_more, with_found};
 ghost use Rattle.aa_log_jobs.specs.Jobs.{AreIncludes, IsJobWritten, IsNoText};
 
 use aa_findings::{LogTask, take_record};
@@ -107,9 +108,16 @@ impl<'a> JobTasks<'a> {
 }
 
 impl Lines for JobTasks<'_> {
+    ghost log = { λ tasks. any_log tasks };
+
     ghost has_taken = { λ tasks lines. HasTaken tasks lines };
 
-    fn take_line(&mut self, alloc: Global, line: &[u8], _number: u64) -> Result<(), Unread> {
+    fn take_line(&mut self, alloc: Global, line: &[u8], _number: u64) -> Result<(), Unread>
+        ensures log { OnOk result (any_log self.new ≡ any_log self.old) }
+        ensures taken { OnOk result ((before : List LogLine) → HasTaken self.old before → HasTaken self.new (before ++ log_line (any_log self.old) _number line.now ∷ [])) }
+        ensures stays { (self.new.policies ≡ self.old.policies) × (self.new.choice ≡ self.old.choice) }
+        ensures refused { IfErr result (λ why. why ≡ Unread.NoMemory) }
+    {
         Ok(self.add_line(alloc, line)?)
     }
 }
