@@ -1,7 +1,7 @@
 //! Look-ups that fail while a folder is checked. Each in turn fails in each way: it is told of the path that was looked at, and all
 //! else is as it was, or there is no memory. It is never taken for an answer.
 
-use crate::reporting::{LEFTOVER, PROFILES, checked, is_printed, prints, tree_of_profiles};
+use crate::reporting::{LEFTOVER, PROFILES, checked, is_same, prints, tree_of_profiles};
 use aa_memory_trees::{FailingTree, MemoryTree};
 use aa_output::NoMemory;
 use aa_units::Unread;
@@ -25,7 +25,7 @@ enum Place {
 use Place::{Argument, Files, First, Second};
 
 /// The look-ups for the folder, in order.
-const LOOK_UPS: [(&str, Place); 14] = [
+const LOOK_UPS: &[(&str, Place)] = &[
     ("/p", Argument),
     ("/p", Files),
     ("/b/disable/a", Files),
@@ -43,7 +43,7 @@ const LOOK_UPS: [(&str, Place); 14] = [
 ];
 
 /// Why a look-up fails, and what is said of it.
-const WAYS: [(Unread, &str); 4] = [
+const WAYS: &[(Unread, &str)] = &[
     (
         Unread::NotAllowed,
         "Unreadable: it can't be read (not allowed)",
@@ -59,29 +59,43 @@ const WAYS: [(Unread, &str); 4] = [
     ),
 ];
 
+fn joined(alloc: Global, parts: &[&str]) -> Result<Vec<u8>, AllocError> {
+    let mut text = Vec::new(alloc);
+    for part in parts {
+        text.extend_from_slice(part.as_bytes())?;
+    }
+    Ok(text)
+}
+
+const FIRST_REFUSED: &str =
+    "refused /p/a\nok /p/d\n  profile \"d\" 0 file 1 capability 0 network 0 patterns 1 states 0 passed over\n2 files 1 refused 1 profiles\n";
+
+const SECOND_REFUSED: &str =
+    "ok /p/a\n  profile \"a\" 1 file 0 capability 0 network 1 patterns 4 states 0 passed over\nrefused /p/d\n2 files 1 refused 1 profiles\n";
+
 /// What is printed on standard output.
-fn report_with(alloc: Global, path: &str, place: Place) -> Result<String, AllocError> {
+fn report_with(alloc: Global, path: &str, place: Place) -> Result<Vec<u8>, AllocError> {
     match place {
-        Argument | Files => format!(in alloc; "refused {path}\n1 files 1 refused 0 profiles\n"),
-        First => {
-            "refused /p/a\nok /p/d\n  profile \"d\" 0 file 1 capability 0 network 0 patterns 1 states 0 passed over\n2 files 1 refused 1 profiles\n".to_string(
+        Argument | Files => {
+            joined(
                 alloc,
+                &["refused ", path, "\n1 files 1 refused 0 profiles\n"],
             )
         }
-        Second => {
-            "ok /p/a\n  profile \"a\" 1 file 0 capability 0 network 1 patterns 4 states 0 passed over\nrefused /p/d\n2 files 1 refused 1 profiles\n".to_string(
-                alloc,
-            )
-        }
+        First => joined(alloc, &[FIRST_REFUSED]),
+        Second => joined(alloc, &[SECOND_REFUSED]),
     }
 }
 
 /// What is printed on standard error.
-fn faults_with(alloc: Global, path: &str, place: Place, what: &str) -> Result<String, AllocError> {
+fn faults_with(alloc: Global, path: &str, place: Place, what: &str) -> Result<Vec<u8>, AllocError> {
     match place {
-        Argument => format!(in alloc; "{path}: Unreadable: it can't be read (not a file)\n"),
-        Files => format!(in alloc; "{path}: {what}\n"),
-        First | Second => format!(in alloc; "{LEFTOVER}{path}: {what}\n"),
+        Argument => joined(
+            alloc,
+            &[path, ": Unreadable: it can't be read (not a file)\n"],
+        ),
+        Files => joined(alloc, &[path, ": ", what, "\n"]),
+        First | Second => joined(alloc, &[LEFTOVER, path, ": ", what, "\n"]),
     }
 }
 
@@ -91,6 +105,14 @@ fn failing_behind(tree: &MemoryTree, answered: usize, why: Unread) -> FailingTre
         failing: answered.wrapping_add(1),
         why,
         calls: Cell::new(0),
+    }
+}
+
+/// Whether just this is printed of the folder.
+fn is_checked(alloc: Global, tree: &FailingTree, report: &[u8], faults: &[u8]) -> bool {
+    match checked(alloc, tree, &["/p"]) {
+        Ok(printed) => is_same(&printed, report, faults, 3),
+        Err(NoMemory) => false,
     }
 }
 
@@ -106,13 +128,8 @@ fn is_told(
     let report = report_with(alloc, path, place)?;
     let faults = faults_with(alloc, path, place, what)?;
     let tree = failing_behind(tree, answered, why);
-    prints(
-        rt,
-        alloc,
-        &tree,
-        &["/p"],
-        (report.as_str(), faults.as_str(), 3),
-    );
+    let is_so = is_checked(alloc, &tree, report.as_slice(), faults.as_slice());
+    assert!(rt; is_so, "another answer where {path} fails");
     assert!(rt; answered < tree.calls.get(), "not looked at: {path}");
     Ok(())
 }
@@ -129,15 +146,20 @@ fn each_is_told(
     Ok(())
 }
 
+fn each_way_is_told(rt: &impl Abort, alloc: Global, tree: &MemoryTree) -> Result<(), AllocError> {
+    for way in WAYS {
+        each_is_told(rt, alloc, tree, *way)?;
+    }
+    Ok(())
+}
+
 #[test]
 fn each_look_up_that_fails_is_told_at_its_path_and_changes_nothing_else(
     rt: HostRuntime,
 ) -> Result<(), Fail> {
     let alloc = rt.alloc();
     let tree = tree_of_profiles(alloc)?;
-    for way in WAYS {
-        each_is_told(&rt, alloc, &tree, way)?;
-    }
+    each_way_is_told(&rt, alloc, &tree)?;
     Ok(())
 }
 
@@ -159,12 +181,17 @@ fn each_look_up_that_fails_for_want_of_memory_is_no_memory(rt: HostRuntime) -> R
     Ok(())
 }
 
+/// Where the look-up behind so many would fail, none does.
+fn prints_all(rt: &impl Abort, alloc: Global, tree: &MemoryTree, calls: usize) {
+    let tree = failing_behind(tree, calls, Unread::Failed);
+    prints(rt, alloc, &tree, &["/p"], (PROFILES, LEFTOVER, 0));
+    assert_eq!(rt; tree.calls.get(), calls);
+}
+
 #[test]
 fn where_no_look_up_fails_there_are_as_many_as_were_tried(rt: HostRuntime) -> Result<(), Fail> {
     let alloc = rt.alloc();
     let tree = tree_of_profiles(alloc)?;
-    let whole = failing_behind(&tree, LOOK_UPS.len(), Unread::Failed);
-    prints(&rt, alloc, &whole, &["/p"], (PROFILES, LEFTOVER, 0));
-    assert_eq!(&rt; whole.calls.get(), LOOK_UPS.len());
+    prints_all(&rt, alloc, &tree, LOOK_UPS.len());
     Ok(())
 }

@@ -118,18 +118,18 @@ pub(crate) fn checked<T: Tree>(
 /// What is wanted: on standard output, on standard error, and the exit status.
 pub(crate) type Wished<'w> = (&'w str, &'w str, u8);
 
-/// It is printed just so.
+/// Whether just this is printed.
+pub(crate) fn is_same(printed: &Printed, report: &[u8], faults: &[u8], status: u8) -> bool {
+    printed.report.as_slice() == report
+        && printed.faults.as_slice() == faults
+        && printed.status == status
+}
+
+/// Just this is printed.
 pub(crate) fn is_printed(rt: &impl Abort, printed: &Printed, wished: Wished) {
     let (report, faults, status) = wished;
-    assert!(rt;
-        printed.report.as_slice() == report.as_bytes(),
-        "in place of {report}"
-    );
-    assert!(rt;
-        printed.faults.as_slice() == faults.as_bytes(),
-        "in place of {faults}"
-    );
-    assert_eq!(rt; printed.status, status);
+    let is_so = is_same(printed, report.as_bytes(), faults.as_bytes(), status);
+    assert!(rt; is_so, "printed otherwise");
 }
 
 /// `check` prints just this.

@@ -2,10 +2,11 @@
 //! is looked at behind it. It is never taken for an answer, nor for a path at which nothing lies.
 
 use crate::reading::{
-    Found, Refusal, add_link, are_texts, is_read, is_refusal, loaded, rooted, roots_at, tree_of,
+    Found, Refusal, add_link, are_refused_roots, are_texts, is_read, is_refused_unit, loaded,
+    rooted, roots_at, tree_of,
 };
 use aa_memory_trees::{FailingTree, MemoryTree};
-use aa_units::{Roots, Unit, UnitFault, Unread};
+use aa_units::{Roots, Unread};
 use std::alloc::{AllocError, Global};
 use std::cell::Cell;
 use std::process::Abort;
@@ -26,20 +27,6 @@ fn failing_behind(tree: &MemoryTree, answered: usize, why: Unread) -> FailingTre
         failing: answered.wrapping_add(1),
         why,
         calls: Cell::new(0),
-    }
-}
-
-fn is_refused_unit(outcome: &Result<Unit, UnitFault>, wanted: Refusal) -> bool {
-    match outcome {
-        Ok(_) => false,
-        Err(fault) => is_refusal(fault, wanted),
-    }
-}
-
-fn are_refused_roots(outcome: &Result<Roots, UnitFault>, wanted: Refusal) -> bool {
-    match outcome {
-        Ok(_) => false,
-        Err(fault) => is_refusal(fault, wanted),
     }
 }
 
@@ -178,6 +165,24 @@ fn tree_of_profiles(alloc: Global) -> Result<MemoryTree, AllocError> {
     Ok(tree)
 }
 
+fn are_profiles(rt: &impl Abort, roots: &Roots) {
+    are_texts(rt, roots.paths.as_slice(), &["/p/a", "/p/d"]);
+    are_texts(rt, roots.warnings.as_slice(), TOLD);
+}
+
+/// What is told of the folder's files.
+const TOLD: &[&str] = &[
+    "/p/a: force-complain isn't applied, the text decides",
+    "/p/c~: passed over, by its name",
+];
+
+/// With so many look-ups all of the folder's files are told.
+fn tells_the_roots(rt: &impl Abort, alloc: Global, tree: &MemoryTree, why: Unread, calls: usize) {
+    let tree = failing_behind(tree, calls, why);
+    are_profiles(rt, &roots_at(rt, alloc, &tree, &["/p"]));
+    assert_eq!(rt; tree.calls.get(), calls);
+}
+
 /// The paths that are looked at behind the folder itself, in order: each refuses its files, where it can't be told for this reason.
 fn each_refuses_the_roots(
     rt: &impl Abort,
@@ -189,12 +194,7 @@ fn each_refuses_the_roots(
     for (answered, at) in looked.iter().enumerate() {
         refuses_the_roots(rt, alloc, tree, "/p", answered.wrapping_add(1), (*at, why));
     }
-    let answered = looked.len().wrapping_add(1);
-    let tree = failing_behind(tree, answered, why);
-    let roots = roots_at(rt, alloc, &tree, &["/p"]);
-    are_texts(rt, roots.paths.as_slice(), &["/p/a", "/p/d"]);
-    assert_eq!(rt; roots.warnings.len(), 2);
-    assert_eq!(rt; tree.calls.get(), answered);
+    tells_the_roots(rt, alloc, tree, why, looked.len().wrapping_add(1));
 }
 
 /// Where it is looked behind the folder itself.

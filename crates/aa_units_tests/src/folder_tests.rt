@@ -1,8 +1,8 @@
 //! Folders that are included.
 
 use crate::reading::{
-    Found, add_file, add_link, add_many, add_refused, files_of, has_sources, is_read, is_refused,
-    tree_of, unit_at,
+    Found, add_link, add_many, add_numbered, add_refused, files_of, is_read, is_refused, tree_of,
+    unit_at,
 };
 use aa_memory_trees::MemoryTree;
 use aa_units::Unread;
@@ -85,9 +85,13 @@ fn a_folder_without_files_is_an_empty_text(rt: HostRuntime) -> Result<(), Fail> 
         &[("/m", "include <d>\ninclude \"/e/\"\n")],
         &[("/b/d", &[]), ("/e/", &[".a"])],
     )?;
-    let unit = unit_at(&rt, alloc, &tree, "/m");
-    has_sources(&rt, &unit, &[("d", "/b/d", ""), ("/e/", "/e/", "")]);
-    assert!(&rt; unit.sources.iter().all(|source| source.is_folder));
+    is_read(
+        &rt,
+        alloc,
+        &tree,
+        "/m",
+        &[("d", "/b/d", ""), ("/e/", "/e/", "")],
+    );
     Ok(())
 }
 
@@ -140,17 +144,12 @@ fn a_file_of_a_folder_that_cannot_be_read_is_refused(rt: HostRuntime) -> Result<
     Ok(())
 }
 
-fn add_numbered(alloc: Global, tree: &mut MemoryTree, number: u32) -> Result<(), AllocError> {
-    let path = format!(in alloc; "/b/d/{}", number.wrapping_add(10000))?;
-    add_file(alloc, tree, path.as_str(), "")
-}
-
 /// A tree whose file `/m` includes a folder of so many files.
-fn tree_of_many(alloc: Global, count: u32) -> Result<MemoryTree, AllocError> {
+fn tree_of_many(alloc: Global, count: usize) -> Result<MemoryTree, AllocError> {
     let mut tree = files_of(alloc, &[("/m", "include <d>\n")])?;
     add_many(alloc, &mut tree, "/b/d", count)?;
     for number in 0..count {
-        add_numbered(alloc, &mut tree, number)?;
+        add_numbered(alloc, &mut tree, "/b/d/", number)?;
     }
     Ok(tree)
 }

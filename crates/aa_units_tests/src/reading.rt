@@ -1,9 +1,11 @@
 //! Trees in memory, and what is read from them, in plain values that tests compare. The helpers have no clauses, so that a
 //! test's proof stays short.
 
-use aa_memory_trees::MemoryTree;
+use aa_memory_trees::{MemoryTree, Names, Planted};
 use aa_texts::push_fault;
-use aa_units::{FaultReport, Roots, Tree, Unit, UnitFault, Unread, load, roots_of};
+use aa_units::{
+    FaultReport, Roots, Source, Tree, Unit, UnitFault, Unread, load, push_number, roots_of,
+};
 use std::alloc::{AllocError, Global};
 use std::process::Abort;
 
@@ -65,14 +67,19 @@ pub(crate) fn tree_of(
     Ok(tree)
 }
 
-/// Adds a file.
-pub(crate) fn add_file(
-    alloc: Global,
-    tree: &mut MemoryTree,
-    path: &str,
-    text: &str,
-) -> Result<(), AllocError> {
-    tree.plant_file(alloc, path, text)
+/// These bytes with a number behind them, which begin at 10000.
+fn numbered(alloc: Global, front: &str, number: usize) -> Result<Vec<u8>, AllocError> {
+    let mut text = bytes_of(alloc, front)?;
+    push_number(&mut text, number.wrapping_add(10000))?;
+    Ok(text)
+}
+
+fn many_names(alloc: Global, count: usize) -> Result<Vec<Vec<u8>>, AllocError> {
+    let mut names = Vec::new(alloc);
+    for number in 0..count {
+        names.push(numbered(alloc, "", number)?)?;
+    }
+    Ok(names)
 }
 
 /// Adds a folder of so many files, whose names are numbers from 10000 on.
@@ -80,17 +87,24 @@ pub(crate) fn add_many(
     alloc: Global,
     tree: &mut MemoryTree,
     path: &str,
-    count: u32,
+    count: usize,
 ) -> Result<(), AllocError> {
-    let mut names = Vec::new(alloc);
-    for number in 0..count {
-        names.push(format!(in alloc; "{}", number.wrapping_add(10000))?)?;
-    }
-    let mut slices = Vec::new(alloc);
-    for name in &names {
-        slices.push(name.as_str())?;
-    }
-    plant_folder(alloc, tree, (path, slices.as_slice()))
+    let names = Names::of(many_names(alloc, count)?)?;
+    tree.planted
+        .push((bytes_of(alloc, path)?, Planted::Folder(names)))?;
+    Ok(())
+}
+
+/// Adds an empty file whose path ends in such a number.
+pub(crate) fn add_numbered(
+    alloc: Global,
+    tree: &mut MemoryTree,
+    front: &str,
+    number: usize,
+) -> Result<(), AllocError> {
+    let path = numbered(alloc, front, number)?;
+    tree.planted.push((path, Planted::File(Vec::new(alloc))))?;
+    Ok(())
 }
 
 /// Adds what can't be read.
@@ -124,38 +138,40 @@ pub(crate) fn rooted<T: Tree>(
     roots_of(alloc, tree, b"/b", arguments.as_slice())
 }
 
+fn are_same(texts: &[Vec<u8>], wanted: &[&str]) -> bool {
+    texts.len() == wanted.len()
+        && texts
+            .iter()
+            .zip(wanted)
+            .all(|(text, one)| text.as_slice() == one.as_bytes())
+}
+
 /// The texts are these, one after the other.
 pub(crate) fn are_texts(rt: &impl Abort, texts: &[Vec<u8>], wanted: &[&str]) {
-    assert_eq!(rt; texts.len(), wanted.len());
-    for (text, one) in texts.iter().zip(wanted) {
-        assert!(rt; text.as_slice() == one.as_bytes(), "in place of {one}");
-    }
+    assert!(rt; are_same(texts, wanted), "other texts");
+}
+
+fn is_found(source: &Source, wanted: &Found) -> bool {
+    let (name, path, text) = wanted;
+    source.name.as_slice() == name.as_bytes()
+        && source.path.as_slice() == path.as_bytes()
+        && source.text.as_slice() == text.as_bytes()
+}
+
+fn are_found(sources: &[Source], wanted: &[Found]) -> bool {
+    sources.len() == wanted.len() && sources.iter().zip(wanted).all(|(s, w)| is_found(s, w))
 }
 
 /// The unit has these sources, in the order in which they are found.
 pub(crate) fn has_sources(rt: &impl Abort, unit: &Unit, wanted: &[Found]) {
-    assert_eq!(rt; unit.sources.len(), wanted.len());
-    for (source, (name, path, text)) in unit.sources.iter().zip(wanted) {
-        assert!(rt;
-            source.name.as_slice() == name.as_bytes(),
-            "in place of {name}"
-        );
-        assert!(rt;
-            source.path.as_slice() == path.as_bytes(),
-            "in place of {path}"
-        );
-        assert!(rt;
-            source.text.as_slice() == text.as_bytes(),
-            "in place of {text}"
-        );
-    }
+    assert!(rt; are_found(unit.sources.as_slice(), wanted), "other sources");
 }
 
 /// The file at a path, which is read.
 pub(crate) fn unit_at<T: Tree>(rt: &impl Abort, alloc: Global, tree: &T, path: &str) -> Unit {
     match loaded(alloc, tree, path) {
         Ok(unit) => unit,
-        Err(_) => panic!(rt; "{path} is refused"),
+        Err(_) => panic!(rt; "the file is refused"),
     }
 }
 
@@ -195,6 +211,22 @@ pub(crate) fn is_refusal(fault: &UnitFault, wanted: Refusal) -> bool {
     }
 }
 
+/// Whether a file can't be read, since this path can't.
+pub(crate) fn is_refused_unit(outcome: &Result<Unit, UnitFault>, wanted: Refusal) -> bool {
+    match outcome {
+        Ok(_) => false,
+        Err(fault) => is_refusal(fault, wanted),
+    }
+}
+
+/// Whether the files of arguments can't be told, since this path can't be looked at.
+pub(crate) fn are_refused_roots(outcome: &Result<Roots, UnitFault>, wanted: Refusal) -> bool {
+    match outcome {
+        Ok(_) => false,
+        Err(fault) => is_refusal(fault, wanted),
+    }
+}
+
 /// The file at a path is refused, since another path, or this one, can't be read.
 pub(crate) fn is_refused<T: Tree>(
     rt: &impl Abort,
@@ -203,10 +235,10 @@ pub(crate) fn is_refused<T: Tree>(
     path: &str,
     wanted: Refusal,
 ) {
-    match loaded(alloc, tree, path) {
-        Ok(_) => panic!(rt; "{path} isn't refused"),
-        Err(fault) => assert!(rt; is_refusal(&fault, wanted), "{path} is refused otherwise"),
-    }
+    assert!(rt;
+        is_refused_unit(&loaded(alloc, tree, path), wanted),
+        "not refused so"
+    );
 }
 
 /// What is said of a file with a name that lies at two paths.
@@ -218,7 +250,7 @@ pub(crate) fn ambiguity<T: Tree>(
 ) -> FaultReport {
     match loaded(alloc, tree, path) {
         Err(UnitFault::Ambiguous(fault)) => fault,
-        _ => panic!(rt; "{path} isn't refused for a name at two paths"),
+        _ => panic!(rt; "not refused for a name at two paths"),
     }
 }
 

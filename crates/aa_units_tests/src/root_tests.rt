@@ -1,7 +1,7 @@
 //! The files that arguments stand for.
 
 use crate::reading::{
-    add_link, add_many, are_texts, files_of, is_refusal, rooted, roots_at, tree_of,
+    add_link, add_many, are_refused_roots, are_texts, files_of, rooted, roots_at, tree_of,
 };
 use aa_memory_trees::MemoryTree;
 use aa_units::Unread;
@@ -184,7 +184,7 @@ fn a_folder_whose_name_is_that_of_standard_input_is_not_looked_at(
 }
 
 /// A tree with a folder of so many files.
-fn tree_of_many(alloc: Global, count: u32) -> Result<MemoryTree, AllocError> {
+fn tree_of_many(alloc: Global, count: usize) -> Result<MemoryTree, AllocError> {
     let mut tree = files_of(alloc, &[])?;
     add_many(alloc, &mut tree, "/p", count)?;
     Ok(tree)
@@ -192,13 +192,11 @@ fn tree_of_many(alloc: Global, count: u32) -> Result<MemoryTree, AllocError> {
 
 /// The file at this path is beyond the limit.
 fn are_too_many(rt: &impl Abort, alloc: Global, tree: &MemoryTree, arguments: &[&str], path: &str) {
-    match rooted(alloc, tree, arguments) {
-        Ok(_) => panic!(rt; "{path} isn't refused"),
-        Err(fault) => assert!(rt;
-            is_refusal(&fault, (path, Unread::TooLarge)),
-            "in place of {path}"
-        ),
-    }
+    let outcome = rooted(alloc, tree, arguments);
+    assert!(rt;
+        are_refused_roots(&outcome, (path, Unread::TooLarge)),
+        "not refused so"
+    );
 }
 
 #[test]
