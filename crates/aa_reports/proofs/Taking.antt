@@ -173,9 +173,10 @@ taken_left before l r new lines found left other is lines_is leaves left_is new_
 pub kept_in : (r new : LogReport) (lines : ℕ) (left : Bool) → left ≡ false → new ≡ cond left (record r { lines = lines; left_out = option_map (λ n. min (n + 1) greatest) r.left_out }) (record r { lines = lines }) → new ≡ record r { lines = lines }
 kept_in r new lines left stays is = is ∙ ap (λ (b : Bool). cond b (record r { lines = lines; left_out = option_map (λ n. min (n + 1) greatest) r.left_out }) (record r { lines = lines })) stays
 
-pub log_in : (r new : LogReport) (lines : ℕ) (left : Bool) → new ≡ cond left (record r { lines = lines; left_out = option_map (λ n. min (n + 1) greatest) r.left_out }) (record r { lines = lines }) → new.log ≡ r.log
-log_in r new lines true is = ap (λ (x : LogReport). x.log) is
-log_in r new lines false is = ap (λ (x : LogReport). x.log) is
+-- what is read alike of a report whatever it has counted is what it was
+pub same_in : {B : Type 0} (f : LogReport → B) (r new : LogReport) (lines : ℕ) (left : Bool) → ((count : Option ℕ) → f (record r { lines = lines; left_out = count }) ≡ f r) → new ≡ cond left (record r { lines = lines; left_out = option_map (λ n. min (n + 1) greatest) r.left_out }) (record r { lines = lines }) → f new ≡ f r
+same_in f r new lines true alike is = ap f is ∙ alike (option_map (λ n. min (n + 1) greatest) r.left_out)
+same_in f r new lines false alike is = ap f is ∙ alike r.left_out
 
 -- a line that asks nothing
 skipped_of : (before : List LogLine) (l : LogLine) (r new : LogReport) (lines : ℕ) (cause : Cause) → line_in l.bytes ≡ AsksNothing cause → is_wanted r.choice l.bytes ≡ true → lines ≡ min (r.lines + 1) greatest

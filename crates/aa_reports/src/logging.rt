@@ -217,7 +217,8 @@ fn note_each(
     reason: (u8, &'static str),
     place: LinePlace,
 ) -> Result<(), AllocError>
-    ensures { OnOk result ((before : List Skipped) → AreEach before (option_map (λ e. e.items) each.old) → AreEach (before ++ record { order = reason.entry.0; name = reason.entry.1.now; place = place } ∷ []) (option_map (λ e. e.items) each.new)) }
+    ensures kept { OnOk result (is_some each.new ≡ is_some each.old) }
+    ensures noted { OnOk result ((before : List Skipped) → AreEach before (option_map (λ e. e.items) each.old) → AreEach (before ++ record { order = reason.entry.0; name = reason.entry.1.now; place = place } ∷ []) (option_map (λ e. e.items) each.new)) }
 {
     let Some(each) = each else {
         return Ok(());
@@ -301,6 +302,7 @@ impl<'a> LogReport<'a> {
     fn count_skipped(&mut self, reason: Reason, line: u64) -> Result<(), AllocError>
         ensures counted { OnOk result (self.new ≡ record self.old { skipped = self.new.skipped; each_skipped = self.new.each_skipped; skipped_count = min (self.old.skipped_count + 1) greatest }) }
         ensures reasons { OnOk result ((before : List Skipped) → map skipped_data self.old.skipped.items ≡ counted skipped_key before → map skipped_data self.new.skipped.items ≡ counted skipped_key (before ++ skipped_for (cause_of reason) (record { log = self.old.log; line = line }) ∷ [])) }
+        ensures kept { OnOk result (is_some self.new.each_skipped ≡ is_some self.old.each_skipped) }
         ensures each { OnOk result ((before : List Skipped) → AreEach before (option_map (λ e. e.items) self.old.each_skipped) → AreEach (before ++ skipped_for (cause_of reason) (record { log = self.old.log; line = line }) ∷ []) (option_map (λ e. e.items) self.new.each_skipped)) }
     {
         let place = self.place(line);
@@ -327,6 +329,8 @@ impl<'a> LogReport<'a> {
 
     fn count_line(&mut self, alloc: Global, line: &[u8], number: u64) -> Result<(), Unread>
         ensures log { OnOk result (self.new.log ≡ self.old.log) }
+        ensures choice { OnOk result (self.new.choice ≡ self.old.choice) }
+        ensures kept { OnOk result (is_some self.new.each_skipped ≡ is_some self.old.each_skipped) }
         ensures taken { OnOk result ((before : List LogLine) → IsReport before self.old → IsReport (before ++ log_line self.old.log number line.now ∷ []) self.new) }
         ensures room { IfErr result (λ why. IsRefused why ((before : List LogLine) → IsReport before self.old → 1000000 < distinct_in self.old.choice (before ++ log_line self.old.log number line.now ∷ []))) }
     {
@@ -374,6 +378,8 @@ impl Lines for LogReport<'_> {
 
     fn take_line(&mut self, alloc: Global, line: &[u8], number: u64) -> Result<(), Unread>
         ensures log { OnOk result (self.new.log ≡ self.old.log) }
+        ensures choice { OnOk result (self.new.choice ≡ self.old.choice) }
+        ensures kept { OnOk result (is_some self.new.each_skipped ≡ is_some self.old.each_skipped) }
         ensures taken { OnOk result ((before : List LogLine) → IsReport before self.old → IsReport (before ++ log_line self.old.log number line.now ∷ []) self.new) }
         ensures room { IfErr result (λ why. IsRefused why ((before : List LogLine) → IsReport before self.old → 1000000 < distinct_in self.old.choice (before ++ log_line self.old.log number line.now ∷ []))) }
     {
