@@ -1,8 +1,14 @@
 //! The job that `job` prints.
 
-use aa_log_lines::Lines;
+ghost use Rattle.std.specs.Prelude.{◌≡◌, ◌≢◌, [], map, OnOk, IfOk, IfErr};
+ghost use Rattle.aa_logs.specs.Outcomes.{record_data};
+ghost use Rattle.aa_job_texts.specs.Jobs.{left_out};
+ghost use Rattle.aa_log_jobs.specs.Tasks.{asked_by, given, HasTaken, one_asked, one_more, with_found};
+ghost use Rattle.aa_log_jobs.specs.Jobs.{AreIncludes, IsJobWritten, IsNoText};
+
 use aa_findings::{LogTask, take_record};
 use aa_job_texts::{Include, JobPolicy, is_job_text, left_out, policy_of, push_job_text};
+use aa_log_lines::Lines;
 use aa_logs::{Choice, Line, Record, is_chosen, line_of};
 use aa_units::{Source, Unread};
 use std::alloc::{AllocError, AllocFailed, Global};
@@ -28,12 +34,20 @@ pub enum JobFault {
 }
 
 impl From<AllocError> for JobFault {
+    ghost use Rattle.aa_log_jobs.specs.declared.job.JobFault.TheVariants.{NoMemory};
+
+    ghost from_gives = { λ _ e. e ≡ NoMemory };
+
     fn from(_e: AllocError) -> JobFault {
         JobFault::NoMemory
     }
 }
 
 impl<T: Drop> From<AllocFailed<T>> for JobFault {
+    ghost use Rattle.aa_log_jobs.specs.declared.job.JobFault.TheVariants.{NoMemory};
+
+    ghost from_gives = { λ _ e. e ≡ NoMemory };
+
     fn from(_e: AllocFailed<T>) -> JobFault {
         JobFault::NoMemory
     }
@@ -41,7 +55,11 @@ impl<T: Drop> From<AllocFailed<T>> for JobFault {
 
 impl<'a> JobTasks<'a> {
     /// No tasks yet, for these policies and what is wanted of the logs.
-    pub fn new(alloc: Global, policies: &'a [JobPolicy<'a>], choice: Choice<'a>) -> JobTasks<'a> {
+    pub fn new(alloc: Global, policies: &'a [JobPolicy<'a>], choice: Choice<'a>) -> JobTasks<'a>
+        ensures none { HasTaken result [] }
+        ensures policies { result.policies.now ≡ policies.now }
+        ensures choice { result.choice ≡ choice.entry }
+    {
         JobTasks {
             tasks: Vec::new(alloc),
             policies,
@@ -51,32 +69,54 @@ impl<'a> JobTasks<'a> {
         }
     }
 
-    fn add(&mut self, alloc: Global, asked: Record) -> Result<(), AllocError> {
-        if policy_of(self.policies, asked.profile.as_slice()).is_none() {
-            self.strangers = self.strangers.saturating_add(1);
-            return Ok(());
-        }
+    /// Adds a record to the task that asks it.
+    fn add_asked(&mut self, alloc: Global, asked: Record) -> Result<(), AllocError>
+        ensures ok { OnOk result (given self.new ≡ one_asked (record_data asked) (given self.old)) }
+        ensures stays { (self.new.policies ≡ self.old.policies) × (self.new.choice ≡ self.old.choice) }
+    {
         if !take_record(&mut self.tasks, alloc, asked)? {
             self.is_too_large = true;
         }
         Ok(())
     }
 
-    fn add_line(&mut self, alloc: Global, line: &[u8]) -> Result<(), AllocError> {
-        match line_of(alloc, line)? {
-            Line::Asks(asked) if is_chosen(alloc, &self.choice, line)? => self.add(alloc, asked),
-            Line::Asks(_) | Line::Other | Line::Skipped(_) => Ok(()),
+    fn add(&mut self, alloc: Global, asked: Record) -> Result<(), AllocError>
+        ensures ok { OnOk result (given self.new ≡ one_more self.old.policies.now (record_data asked) (given self.old)) }
+        ensures stays { (self.new.policies ≡ self.old.policies) × (self.new.choice ≡ self.old.choice) }
+    {
+        if policy_of(self.policies, asked.profile.as_slice()).is_none() {
+            self.strangers = self.strangers.saturating_add(1);
+            return Ok(());
         }
+        self.add_asked(alloc, asked)
+    }
+
+    /// Adds what a line without its end asks, if it is chosen.
+    fn add_line(&mut self, alloc: Global, line: &[u8]) -> Result<(), AllocError>
+        ensures ok { OnOk result (given self.new ≡ with_found self.old.policies.now (asked_by self.old.choice line.now) (given self.old)) }
+        ensures stays { (self.new.policies ≡ self.old.policies) × (self.new.choice ≡ self.old.choice) }
+    {
+        let Line::Asks(asked) = line_of(alloc, line)? else {
+            return Ok(());
+        };
+        if !is_chosen(alloc, &self.choice, line)? {
+            return Ok(());
+        }
+        self.add(alloc, asked)
     }
 }
 
 impl Lines for JobTasks<'_> {
+    ghost has_taken = { λ tasks lines. HasTaken tasks lines };
+
     fn take_line(&mut self, alloc: Global, line: &[u8], _number: u64) -> Result<(), Unread> {
         Ok(self.add_line(alloc, line)?)
     }
 }
 
-fn includes_of<'a>(alloc: Global, sources: &[&'a Source]) -> Result<Vec<Include<'a>>, AllocError> {
+fn includes_of<'a>(alloc: Global, sources: &[&'a Source]) -> Result<Vec<Include<'a>>, AllocError>
+    ensures { IfOk result (λ v. AreIncludes (map (λ s. s.now) sources.now) v.items) }
+{
     let mut includes = Vec::new(alloc);
     for source in sources {
         includes.push(Include {
@@ -88,7 +128,7 @@ fn includes_of<'a>(alloc: Global, sources: &[&'a Source]) -> Result<Vec<Include<
 }
 
 /// Appends the job of policies, the sources that they include and tasks, and a line end, and gives how many requests are no UTF-8
-/// and left out.
+/// and left out. Refused as `NotText` where a text, a name or a label is no UTF-8.
 pub fn push_job(
     out: &mut Vec<u8>,
     alloc: Global,
@@ -96,7 +136,12 @@ pub fn push_job(
     sources: &[&Source],
     tasks: &[LogTask],
     states: u32,
-) -> Result<u64, JobFault> {
+) -> Result<u64, JobFault>
+    ensures written { OnOk result (IsJobWritten policies.now (map (λ s. s.now) sources.now) tasks.now states out.old.items out.new.items) }
+    ensures left_out { IfOk result (λ n. n ≡ left_out tasks.now) }
+    ensures refused { IfErr result (λ e. e ≢ JobFault.NoMemory → IsNoText policies.now (map (λ s. s.now) sources.now) tasks.now) }
+    ensures stays { IfErr result (λ e. e ≢ JobFault.NoMemory → out.new.items ≡ out.old.items) }
+{
     let includes = includes_of(alloc, sources)?;
     let includes = includes.as_slice();
     if !is_job_text(policies, includes, tasks) {
