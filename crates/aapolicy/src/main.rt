@@ -3,15 +3,11 @@
 
 mod command;
 mod commands;
-mod job;
-mod joined;
-mod output;
 
-use aa_loading::{Unwritten, exit_status, write_output};
+use aa_loading::{Output, Unwritten, exit_status, write_output};
 use clap::error::{Error, ErrorKind};
 use command::matches_of;
 use commands::run_named;
-use output::Output;
 use std::process::ExitCode;
 use std::{env, io};
 

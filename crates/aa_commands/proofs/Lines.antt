@@ -1,0 +1,69 @@
+-- The lines of logs, one log after another.
+use Rattle.std.proofs.Common.{◌≡◌, ℕ, ◌+◌, ◌<◌, ◌≤◌, List, [], ◌∷◌, ◌++◌, length, take, get_or, map, Option, Some, None, IfSome, Bor, refl, ap, sym, subst, ◌∙◌, arith, append_assoc, zero-add}
+use Rattle.std.specs.List.{AllZip}
+use Rattle.std.proofs.lemmas.List.{append-nil, take_more, take_all, map-append, length-map, length-take}
+use Rattle.std.proofs.lemmas.Slice.Zip.{all_zipped_more, AllZip-long}
+use Rattle.aa_trees.specs.Texts.{slices}
+use Rattle.aa_log_lines.specs.LogLines.{LogLine, log_lines}
+use Rattle.aa_reports.specs.declared.logging.LogReport.{LogReport}
+use Rattle.aa_reports.specs.Found.{IsReport}
+use Rattle.aa_commands.specs.LogFiles.{LogFiles, AreLogs, lines_from}
+use Rattle.aa_commands.specs.Logging.{IsFoundIn}
+
+-- one log more
+lines_more : (n : ℕ) (logs : List (List ℕ)) (bytes : List ℕ) → lines_from n (logs ++ bytes ∷ []) ≡ lines_from n logs ++ log_lines (n + length logs) bytes
+unfolding lines_from
+lines_more n [] bytes = let same : n ≡ n + 0 = omega arith in append-nil (log_lines n bytes) ∙ ap (λ (m : ℕ). log_lines m bytes) same
+lines_more n (b ∷ bs) bytes =
+    let here : n + 1 + length bs ≡ n + length (b ∷ bs) = omega arith in
+    ap (λ (l : List LogLine). log_lines n b ++ l) (lines_more (n + 1) bs bytes ∙ ap (λ (m : ℕ). lines_from (n + 1) bs ++ log_lines m bytes) here) ∙ sym (append_assoc (log_lines n b) (lines_from (n + 1) bs) (log_lines (n + length (b ∷ bs)) bytes))
+
+-- a path more, and the log there
+pub logs_more : (files : LogFiles) (paths : List (Bor (List ℕ))) (i : ℕ) (d path : Bor (List ℕ)) (logs : List (List ℕ)) (bytes : List ℕ) → i < length paths → path ≡ get_or paths i d
+    → files path.now ≡ Some bytes → AreLogs files (slices (take i paths)) logs → AreLogs files (slices (take (i + 1) paths)) (logs ++ bytes ∷ [])
+logs_more files paths i d path logs bytes lt item at are =
+    let one : slices (take (i + 1) paths) ≡ slices (take i paths) ++ path.now ∷ [] =
+    ap slices (take_more paths i d lt ∙ ap (λ (x : Bor (List ℕ)). take i paths ++ x ∷ []) (sym item)) ∙ map-append (λ (x : Bor (List ℕ)). x.now) (take i paths) (path ∷ []) in
+    subst (λ (ps : List (List ℕ)). AreLogs files ps (logs ++ bytes ∷ [])) (sym one) (all_zipped_more (λ (p b : List ℕ). files p ≡ Some b) (slices (take i paths)) logs path.now bytes are at)
+
+-- as many logs as paths
+logs_long : (files : LogFiles) (paths : List (Bor (List ℕ))) (i : ℕ) (logs : List (List ℕ)) → i < length paths → AreLogs files (slices (take i paths)) logs → 0 + length logs ≡ i
+logs_long files paths i logs lt are =
+    let long = AllZip-long (λ (p b : List ℕ). files p ≡ Some b) (slices (take i paths)) logs are in
+    let taken = length-map (take i paths) (λ (x : Bor (List ℕ)). x.now) in
+    omega (arith, length-take i paths)
+
+-- what a log that is read as the one of that number adds to a report
+abbrev pub AddsLog : Option LogFiles → List ℕ → ℕ → LogReport → LogReport → Type 0
+AddsLog lying path n old new =
+    IfSome lying (λ files. (bytes : List ℕ) × (files path ≡ Some bytes) × ((before : List LogLine) → IsReport before old → IsReport (before ++ log_lines n bytes) new))
+
+pub found_none : (lying : Option LogFiles) (r : LogReport) → IsReport [] r → IsFoundIn lying [] r
+unfolding lines_from
+found_none None r is = tt
+found_none (Some files) r is = ([], tt, is)
+
+pub found_more : (lying : Option LogFiles) (paths : List (Bor (List ℕ))) (i : ℕ) (d path : Bor (List ℕ)) (old new : LogReport) → i < length paths → path ≡ get_or paths i d
+    → AddsLog lying path.now i old new → IsFoundIn lying (slices (take i paths)) old → IsFoundIn lying (slices (take (i + 1) paths)) new
+found_more None paths i d path old new lt item adds found = tt
+found_more (Some files) paths i d path old new lt item adds found =
+    let logs = found.0 in
+    let bytes = adds.0 in
+    let lines : lines_from 0 (logs ++ bytes ∷ []) ≡ lines_from 0 logs ++ log_lines i bytes = lines_more 0 logs bytes ∙ ap (λ (m : ℕ). lines_from 0 logs ++ log_lines m bytes) (logs_long files paths i logs lt found.1) in
+    (logs ++ bytes ∷ [], logs_more files paths i d path logs bytes lt item adds.1 found.1, subst (λ (ls : List LogLine). IsReport ls new) (sym lines) (adds.2 (lines_from 0 logs) found.2))
+
+pub found_all : (lying : Option LogFiles) (paths : List (Bor (List ℕ))) (i : ℕ) (r : LogReport) → length paths ≤ i → IsFoundIn lying (slices (take i paths)) r → IsFoundIn lying (slices paths) r
+found_all lying paths i r le found = subst (λ (ps : List (Bor (List ℕ))). IsFoundIn lying (slices ps) r) (take_all i paths le) found
+
+-- a report is of the same lines whichever log is read next
+pub numbered : (ls : List LogLine) (r : LogReport) (n : ℕ) → IsReport ls r → IsReport ls (record r { log = n })
+numbered ls r n is = record {
+  found = is.found;
+  skipped = is.skipped;
+  each = is.each;
+  lines = is.lines;
+  requests = is.requests;
+  skipped_count = is.skipped_count;
+  other = is.other;
+  left_out = is.left_out;
+}

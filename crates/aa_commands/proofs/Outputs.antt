@@ -1,0 +1,38 @@
+-- What is printed, and why nothing is answered.
+use Rattle.std.proofs.Common.{◌≡◌, ◌≢◌, ℕ, List, [], ◌∷◌, Bool, true, false, not, cond, map, refl, ap, subst, ◌∙◌}
+use Rattle.std.specs.Prelude.{◌||◌}
+use Rattle.std.specs.List.{list_any}
+use Rattle.aa_texts.specs.declared.fault.FaultReport.{FaultReport}
+use Rattle.aa_texts.specs.Faults.{fault_text}
+use Rattle.aa_units.specs.declared.unit.Unit as unit
+use Rattle.aa_units.specs.declared.unit.UnitFault.{UnitFault}
+use Rattle.aa_units.specs.declared.unit.UnitFault.TheVariants.{NoMemory, At, Ambiguous}
+use Rattle.aa_checks.specs.Checked.{IsSaid}
+use Rattle.aa_verdicts.specs.declared.verdict.Verdict.{Verdict}
+use Rattle.aa_verdicts.specs.Told.{Told, told}
+use Rattle.aa_loading.specs.declared.output.Output.{Output}
+use Rattle.aa_loading.specs.declared.fault.LoadingFault.{LoadingFault}
+use Rattle.aa_loading.specs.declared.fault.LoadingFault.TheVariants.{NoMemory as WantOfMemory}
+use Rattle.aa_commands.specs.Printed.{Printed, printed, faults_alone}
+use Rattle.aa_commands.specs.Refusals.{SaysUnitFault, SaysLoadingFault}
+
+pub printed_is : (o : Output) (answers faults : List ℕ) (status : ℕ) → o.answers.items ≡ answers → o.faults.items ≡ faults → o.status ≡ status → printed o ≡ record { answers = answers; faults = faults; status = status }
+printed_is o answers faults status p q r = cc
+
+-- what is told of a unit's fault is what is said of it
+pub unit_said : (e : UnitFault) (report : FaultReport) (unread : Bool) (out : Printed) → IsSaid e report unread → out ≡ faults_alone (fault_text report) (cond unread 3 1) → SaysUnitFault e out
+unit_said NoMemory report unread out said is = said
+unit_said (At path why) report unread out said is = record { report = report; is_so = said.0; says = is ∙ ap (λ (b : Bool). faults_alone (fault_text report) (cond b 3 1)) said.1 }
+unit_said (Ambiguous other) report unread out said is =
+    is ∙ ap (λ (b : Bool). faults_alone (fault_text report) (cond b 3 1)) said.1 ∙ ap (λ (r : FaultReport). faults_alone (fault_text r) 1) said.0
+
+-- what is said of a fault is not want of memory
+pub unit_said_more : (e : UnitFault) (out : Printed) → SaysUnitFault e out → e ≢ NoMemory
+unit_said_more e out said is = subst (λ (x : UnitFault). SaysUnitFault x out) is said
+
+pub loading_said_more : (folders : List (List ℕ)) (states : ℕ) (us : List unit.Unit) (f : LoadingFault) (out : Printed) → SaysLoadingFault folders states us f out → f ≢ WantOfMemory
+loading_said_more folders states us f out said is = subst (λ (x : LoadingFault). SaysLoadingFault folders states us x out) is said
+
+pub any_told : (vs : List Verdict) → list_any (λ (v : Verdict). not v.granted) vs ≡ list_any (λ (t : Told). not t.granted) (map told vs)
+any_told [] = refl
+any_told (v ∷ vs) = ap (λ (b : Bool). not v.granted || b) (any_told vs)

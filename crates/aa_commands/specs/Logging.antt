@@ -1,0 +1,48 @@
+-- What `log` prints.
+use Rattle.std.specs.Prelude.{ℕ, ◌≡◌, ◌≢◌, List, [], Option, IfSome, Contains, MatchBool, if◌then◌else◌}
+use Rattle.aa_trees.specs.Texts.{texts, slices}
+use Rattle.aa_findings.specs.declared.counts.Counts.{Counts}
+use Rattle.aa_verdicts.specs.declared.explained.Decided.{Decided}
+use Rattle.aa_reports.specs.declared.logging.LogReport.{LogReport}
+use Rattle.aa_reports.specs.declared.logging.Entry.{Entry}
+use Rattle.aa_reports.specs.Found.{IsReport}
+use Rattle.aa_reports.specs.Orders.{profile_of, IsInOrder}
+use Rattle.aa_reports.specs.Printed.{IsReportText}
+use Rattle.aa_reports.specs.Listed.{IsJsonReport}
+use Rattle.aa_comparisons.specs.Against.{IsNewlyDenied, IsAgainstText}
+use Rattle.aa_units.specs.declared.tree.Unread.{Unread}
+use Rattle.aa_checks.specs.Checked.{Setting}
+use Rattle.aa_commands.specs.declared.logs.LogOptions.{LogOptions}
+use Rattle.aa_commands.specs.Printed.{Printed, answers_alone}
+use Rattle.aa_commands.specs.Refusals.{SaysUnread}
+use Rattle.aa_commands.specs.LogFiles.{LogFiles, AreLogs, lines_from}
+use Rattle.aa_commands.specs.Policies.{IsPrintedFor}
+
+-- what is found in logs, as it is wanted: as JSON or as text
+abbrev pub IsLogText : LogOptions → LogReport → List ℕ → Type 0
+IsLogText o r text = MatchBool o.is_json (IsJsonReport (slices o.logs.now) r text) (IsReportText (slices o.logs.now) r text)
+
+-- the same as a policy answers it now
+abbrev pub IsReplayText : LogOptions → LogReport → Decided → Counts → List ℕ → Type 0
+IsReplayText o r d counts text = MatchBool o.is_json ((ordered : List Entry) × IsInOrder profile_of r.entries.items ordered × IsNewlyDenied d ordered counts) (IsAgainstText (slices o.logs.now) d o.wants_all r counts text)
+
+-- that is printed, with 4 where something is denied now that wasn't
+pub record IsReplayed (o : LogOptions) (r : LogReport) (d : Decided) (out : Printed) : Type 0 where
+  pub counts : Counts
+  pub text : List ℕ
+  pub is_text : IsReplayText o r d counts text
+  pub printed : out ≡ answers_alone text (if counts.has_newly_denied then 4 else 0)
+
+-- what is printed of logs in which that is found: that, or how the one policy that the files are answers it now
+pub data IsReportOutput (s : Setting) (o : LogOptions) (r : LogReport) (out : Printed) : Type 0 where
+  Said : (text : List ℕ) → o.against.now ≡ [] → IsLogText o r text → out ≡ answers_alone text 0 → IsReportOutput s o r out
+  Replayed : o.against.now ≢ [] → IsPrintedFor s (texts o.against.now) (IsReplayed o r) out → IsReportOutput s o r out
+
+-- what is found in the logs at these paths: where it is known what lies there, in their lines
+abbrev pub IsFoundIn : Option LogFiles → List (List ℕ) → LogReport → Type 0
+IsFoundIn lying paths r = IfSome lying (λ files. (logs : List (List ℕ)) × AreLogs files paths logs × IsReport (lines_from 0 logs) r)
+
+-- what `log` prints: why one of the logs can't be read, or what is printed of what is found in them
+pub data IsLogOutput (s : Setting) (lying : Option LogFiles) (o : LogOptions) (out : Printed) : Type 0 where
+  UnreadLog : (path : List ℕ) (why : Unread) → Contains (slices o.logs.now) path → SaysUnread path why out → IsLogOutput s lying o out
+  Found : (r : LogReport) → IsFoundIn lying (slices o.logs.now) r → IsReportOutput s o r out → IsLogOutput s lying o out

@@ -1,0 +1,82 @@
+//! What is printed where nothing is answered.
+
+ghost use Rattle.std.specs.Prelude.{◌≡◌, ◌≢◌, IfOk, if◌then◌else◌};
+ghost use Rattle.aa_trees.specs.Texts.{slices};
+ghost use Rattle.aa_texts.specs.Faults.{fault_text};
+ghost use Rattle.aa_commands.specs.Printed.{printed, faults_alone};
+ghost use Rattle.aa_commands.specs.Refusals.{SaysUnitFault, SaysPolicyFault, SaysUnread};
+
+use aa_checks::{Wanted, fault_of_unit};
+use aa_diagnostics::{describe, unreadable};
+use aa_loading::Output;
+use aa_output::{NoMemory, push_fault};
+use aa_units::{FaultReport, Unit, UnitFault, Unread, push_text};
+use aa_words::{PolicyFault, PolicyKind};
+use std::alloc::Global;
+
+/// Says why, with a status of its own.
+pub fn refused(alloc: Global, line: &str, status: u8) -> Result<Output, NoMemory>
+    ensures { IfOk result (λ out. printed out ≡ faults_alone line.now status) }
+{
+    let mut output = Output::new(alloc);
+    push_text(&mut output.faults, line)?;
+    output.status = status;
+    Ok(output)
+}
+
+/// Says a fault, with a status of its own.
+pub(crate) fn fault_refused(
+    alloc: Global,
+    fault: &FaultReport,
+    status: u8,
+) -> Result<Output, NoMemory>
+    ensures { IfOk result (λ out. printed out ≡ faults_alone (fault_text fault.now) status) }
+{
+    let mut output = Output::new(alloc);
+    push_fault(&mut output.faults, fault)?;
+    output.status = status;
+    Ok(output)
+}
+
+/// The status of a file that is refused, by whether it can't be read.
+fn status_of(is_unread: bool) -> u8
+    ensures { result ≡ (if is_unread then 3 else 1) }
+{
+    if is_unread { 3 } else { 1 }
+}
+
+/// Says why files can't be read.
+pub(crate) fn unit_refused(alloc: Global, fault: UnitFault) -> Result<Output, NoMemory>
+    ensures { IfOk result (λ out. SaysUnitFault fault (printed out)) }
+{
+    let (fault, is_unread) = fault_of_unit(alloc, fault)?;
+    fault_refused(alloc, &fault, status_of(is_unread))
+}
+
+/// Says why a unit has no policy.
+pub(crate) fn policy_refused(
+    alloc: Global,
+    wanted: &Wanted<'_>,
+    unit: &Unit,
+    fault: PolicyFault,
+) -> Result<Output, NoMemory>
+    ensures says { IfOk result (λ out. SaysPolicyFault (slices wanted.now.folders.now) wanted.now.states unit.now fault (printed out)) }
+    ensures other { IfOk result (λ _. fault.kind ≢ PolicyKind.NoMemory) }
+{
+    if fault.kind == PolicyKind::NoMemory {
+        return Err(NoMemory);
+    }
+    let report = describe(alloc, wanted.folders, wanted.states, unit, fault)?;
+    fault_refused(alloc, &report, 1)
+}
+
+/// Says why what lies at a path can't be read.
+pub(crate) fn path_refused(alloc: Global, path: &[u8], why: Unread) -> Result<Output, NoMemory>
+    ensures says { IfOk result (λ out. SaysUnread path.now why (printed out)) }
+    ensures other { IfOk result (λ _. why ≢ Unread.NoMemory) }
+{
+    if why == Unread::NoMemory {
+        return Err(NoMemory);
+    }
+    fault_refused(alloc, &unreadable(alloc, path, why)?, 3)
+}
