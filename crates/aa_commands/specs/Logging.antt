@@ -4,12 +4,10 @@ use Rattle.aa_trees.specs.Texts.{texts, slices}
 use Rattle.aa_findings.specs.declared.counts.Counts.{Counts}
 use Rattle.aa_verdicts.specs.declared.explained.Decided.{Decided}
 use Rattle.aa_reports.specs.declared.logging.LogReport.{LogReport}
-use Rattle.aa_reports.specs.declared.logging.Entry.{Entry}
 use Rattle.aa_reports.specs.Found.{IsReport}
-use Rattle.aa_reports.specs.Orders.{profile_of, IsInOrder}
 use Rattle.aa_reports.specs.Printed.{IsReportText}
 use Rattle.aa_reports.specs.Listed.{IsJsonReport}
-use Rattle.aa_comparisons.specs.Against.{IsNewlyDenied, IsAgainstText}
+use Rattle.aa_comparisons.specs.Against.{IsAgainstText, IsJsonAgainst}
 use Rattle.aa_units.specs.declared.tree.Unread.{Unread}
 use Rattle.aa_checks.specs.Checked.{Setting}
 use Rattle.aa_commands.specs.declared.logs.LogOptions.{LogOptions}
@@ -24,7 +22,7 @@ IsLogText o r text = MatchBool o.is_json (IsJsonReport (slices o.logs.now) r tex
 
 -- the same as a policy answers it now
 abbrev pub IsReplayText : LogOptions → LogReport → Decided → Counts → List ℕ → Type 0
-IsReplayText o r d counts text = MatchBool o.is_json ((ordered : List Entry) × IsInOrder profile_of r.entries.items ordered × IsNewlyDenied d ordered counts) (IsAgainstText (slices o.logs.now) d o.wants_all r counts text)
+IsReplayText o r d counts text = MatchBool o.is_json (IsJsonAgainst (slices o.logs.now) d o.wants_all r counts text) (IsAgainstText (slices o.logs.now) d o.wants_all r counts text)
 
 -- that is printed, with 4 where something is denied now that wasn't
 pub record IsReplayed (o : LogOptions) (r : LogReport) (d : Decided) (out : Printed) : Type 0 where

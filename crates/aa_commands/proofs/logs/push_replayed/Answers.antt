@@ -2,9 +2,9 @@ use Rattle.std.proofs.Common.{◌≡◌, ℕ, List, [], ◌++◌}
 use Rattle.std.proofs.lemmas.Result.{IfOk-weaker}
 use Rattle.aa_trees.specs.Texts.{slices}
 use Rattle.aa_findings.specs.declared.counts.Counts.{Counts}
-use Rattle.aa_comparisons.specs.Against.{IsAgainstText}
+use Rattle.aa_comparisons.specs.Against.{IsAgainstText, IsJsonAgainst}
 use Rattle.aa_commands.specs.Logging.{IsReplayText}
-use Rattle.aa_commands.proofs.Replays.{IsJsonTold, json_replayed, text_replayed}
+use Rattle.aa_commands.proofs.Replays.{json_replayed, text_replayed}
 use Rattle.aa_commands.proofs.logs.push_replayed.Goals as goal
 
 pub returns-then-options : goal.returns-then-options
@@ -13,7 +13,7 @@ returns-then-options c =
     let r = c.args.report.now in
     let d = c.args.decided in
     let new = c.push_json_against.new.out.items in
-    IfOk-weaker c.push_json_against.result (λ (counts : Counts). IsJsonTold r d counts) (λ (counts : Counts). (text : List ℕ) × IsReplayText o r d counts text × (c.args.out.now.items ≡ [] → new ≡ text))
+    IfOk-weaker c.push_json_against.result (λ (counts : Counts). (text : List ℕ) × IsJsonAgainst (slices o.logs.now) d o.wants_all r counts text × (new ≡ c.args.out.now.items ++ text)) (λ (counts : Counts). (text : List ℕ) × IsReplayText o r d counts text × (c.args.out.now.items ≡ [] → new ≡ text))
     (λ counts told. json_replayed o r d c.args.out.now.items new counts c.if-options.true told) c.push_json_against.ensures
 
 pub returns : goal.returns
