@@ -117,8 +117,8 @@ fn push_all_shown(
 {
     let mut counts = Counts::none();
     for entry in entries {
-        let now = push_shown(out, alloc, logs, decided, wants_all, entry)?;
-        counts.add(entry.then, now);
+        let answer = push_shown(out, alloc, logs, decided, wants_all, entry)?;
+        counts.add(entry.then, answer);
     }
     Ok(counts)
 }
