@@ -14,19 +14,19 @@ use Rattle.aa_findings.specs.Counts.{count_in, is_so}
 cell_of : (rows : List (List ℕ)) (r k i j v : ℕ) → r < length rows → k < length (get_or rows r []) → get_or (get_or (set rows r (set (get_or rows r []) k v)) i []) j 0 ≡ cond (r == i && k == j) v (get_or (get_or rows i []) j 0)
 cell_of rows r k i j v in_rows in_row = elim (cases_Bool (r == i)) [
   | inl same ↦ (let as_row : i ≡ r = sym (eqb-true r i same) in
-    let here : get_or (set rows r (set (get_or rows r []) k v)) i [] ≡ set (get_or rows r []) k v = ap (λ (n : ℕ). get_or (set rows r (set (get_or rows r []) k v)) n []) as_row ∙ get_or-set_same rows r (set (get_or rows r []) k v) [] in_rows in
-    ap (λ (l : List ℕ). get_or l j 0) here
-    ∙ (elim (cases_Bool (k == j)) [
-      | inl alike ↦ (let at : j ≡ k = sym (eqb-true k j alike) in
-        ap (λ (n : ℕ). get_or (set (get_or rows r []) k v) n 0) at ∙ get_or-set_same (get_or rows r []) k v 0 in_row
-        ∙ sym (ap (λ (b : Bool). cond (b && k == j) v (get_or (get_or rows i []) j 0)) same ∙ ap (λ (b : Bool). cond b v (get_or (get_or rows i []) j 0)) alike))
-      | inr unlike ↦ (let apart : j ≢ k = λ e. eqb-false k j unlike (sym e) in
-        get_or-set_other (get_or rows r []) k j v 0 apart ∙ ap (λ (n : ℕ). get_or (get_or rows n []) j 0) (sym as_row)
-        ∙ sym (ap (λ (b : Bool). cond (b && k == j) v (get_or (get_or rows i []) j 0)) same ∙ ap (λ (b : Bool). cond b v (get_or (get_or rows i []) j 0)) unlike))
-    ]))
+      let here : get_or (set rows r (set (get_or rows r []) k v)) i [] ≡ set (get_or rows r []) k v = ap (λ (n : ℕ). get_or (set rows r (set (get_or rows r []) k v)) n []) as_row ∙ get_or-set_same rows r (set (get_or rows r []) k v) [] in_rows in
+      ap (λ (l : List ℕ). get_or l j 0) here
+      ∙ (elim (cases_Bool (k == j)) [
+        | inl alike ↦ (let at : j ≡ k = sym (eqb-true k j alike) in
+            ap (λ (n : ℕ). get_or (set (get_or rows r []) k v) n 0) at ∙ get_or-set_same (get_or rows r []) k v 0 in_row
+            ∙ sym (ap (λ (b : Bool). cond (b && k == j) v (get_or (get_or rows i []) j 0)) same ∙ ap (λ (b : Bool). cond b v (get_or (get_or rows i []) j 0)) alike))
+        | inr unlike ↦ (let apart : j ≢ k = λ e. eqb-false k j unlike (sym e) in
+            get_or-set_other (get_or rows r []) k j v 0 apart ∙ ap (λ (n : ℕ). get_or (get_or rows n []) j 0) (sym as_row)
+            ∙ sym (ap (λ (b : Bool). cond (b && k == j) v (get_or (get_or rows i []) j 0)) same ∙ ap (λ (b : Bool). cond b v (get_or (get_or rows i []) j 0)) unlike))
+      ]))
   | inr other ↦ (let apart : i ≢ r = λ e. eqb-false r i other (sym e) in
-    ap (λ (l : List ℕ). get_or l j 0) (get_or-set_other rows r i (set (get_or rows r []) k v) [] apart)
-    ∙ sym (ap (λ (b : Bool). cond (b && k == j) v (get_or (get_or rows i []) j 0)) other))
+      ap (λ (l : List ℕ). get_or l j 0) (get_or-set_other rows r i (set (get_or rows r []) k v) [] apart)
+      ∙ sym (ap (λ (b : Bool). cond (b && k == j) v (get_or (get_or rows i []) j 0)) other))
 ]
 
 if_so : (s t : Bool) (x y z : ℕ) → (s ≡ true → t ≡ true → x ≡ y) → cond (s && t) x z ≡ cond (s && t) y z
