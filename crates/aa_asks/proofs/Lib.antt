@@ -1,2 +1,3 @@
 mod Deciding
 pub mod Placing
+mod Plain

@@ -1,5 +1,5 @@
 -- Where the profiles that words spell stand, and where their rules do: the grammar once more, with the place at which each rule begins.
-use Rattle.std.specs.Prelude.{ℕ, ◌≡◌, List, [], ◌∷◌, ◌++◌, map, flat_map, Option, Some, None, IsSome, true, false}
+use Rattle.std.specs.Prelude.{◌≡◌, List, [], ◌∷◌, ◌++◌, map, flat_map, Option, Some, None, IsSome, true, false}
 use Rattle.aa_faults.specs.declared.fault.Spot.{Spot}
 use Rattle.aa_words.specs.Splits.{WordData}
 use Rattle.aa_rules.specs.Grammar.{Production, Many, IsRule, Closes, IsEnd, spot_of}

@@ -1,5 +1,5 @@
 -- What each rule of a profile says of a request's object, and so which rules decide the request.
-use Rattle.std.specs.Prelude.{ℕ, List, Bool, true, not, ◌==◌, ◌&&◌, ◌||◌, map, Option, Some, None, if◌then◌else◌}
+use Rattle.std.specs.Prelude.{ℕ, List, Bool, true, ◌==◌, ◌&&◌, ◌||◌, map, Option, Some, None, if◌then◌else◌}
 use Rattle.std.specs.List.{list_any}
 use Rattle.std.specs.Option.{option_map_or}
 use Rattle.std.specs.Int.{bit_at}

@@ -1,10 +1,12 @@
 //! Where the profiles of a policy and their rules stand.
 
 ghost use Rattle.std.specs.Prelude.{◌≡◌, ◌<◌, ◌≤◌, ◌++◌, ◌∷◌, [], List, Option, length, map, flat_map, OnOk, IfOk};
-ghost use Rattle.aa_words.specs.Splits.{words_data};
+ghost use Rattle.aa_faults.specs.Kinds.{IsRefusal};
+ghost use Rattle.aa_glob.specs.Variables.{Variable};
+ghost use Rattle.aa_words.specs.Splits.{WordData, words_data};
 ghost use Rattle.aa_rules.specs.Grammar.{Many, Closes};
-ghost use Rattle.aa_rules.specs.Reading.{rest_of, rule_data};
-ghost use Rattle.aa_policy.specs.Bodies.{if_any};
+ghost use Rattle.aa_rules.specs.Reading.{RuleData, rest_of, rule_data};
+ghost use Rattle.aa_policy.specs.Bodies.{ChildData, FamilyData, PartData, ProfileData, IsStatement, IsChild, IsBodyPart, IsProfile, IsItem, IsPolicy, if_any};
 ghost use Rattle.aa_asks.specs.Places.{PlacedRule, PlacedProfile, PlacedPart, PlacedFamily, IsPlacedStatement, IsPlacedChild, IsPlacedPart, IsPlacedFamily, IsPlacedItem, rules_in, children_in, family_row, with_rules, no_places, places_of, places_data, ArePlaces};
 
 use aa_heads::{abi_of, begins_profile, head_of, preamble_of};
@@ -68,6 +70,7 @@ fn push_statement<'s>(
     places: &mut ProfilePlaces<'s>,
 ) -> Result<usize, PolicyFault>
     ensures found { IfOk result (λ next. (s : Option PlacedRule) × IsPlacedStatement (rest_of words.now at) s (rest_of words.now next) × (places_data places.new ≡ with_rules (places_data places.old) (if_any s))) }
+    ensures refused { IsRefusal result → (s : Option RuleData) (rest : List WordData) → IsStatement (rest_of words.now at) s rest → ⊥ }
     ensures within { IfOk result (λ next. (at < next) × (next ≤ length words.now)) }
 {
     if keyword_stands(words, at, "abi".as_bytes()) {
@@ -88,6 +91,7 @@ fn push_child_body<'s>(
 ) -> Result<usize, PolicyFault>
     ensures found { IfOk result (λ next. (ss : List (Option PlacedRule)) × Many IsPlacedStatement Closes (rest_of words.now start) ss (rest_of words.now next)
         × (places_data places.new ≡ with_rules (places_data places.old) (flat_map if_any ss))) }
+    ensures refused { IsRefusal result → (ss : List (Option RuleData)) (rest : List WordData) → Many IsStatement Closes (rest_of words.now start) ss rest → ⊥ }
     ensures within { IfOk result (λ next. (start < next) × (next ≤ length words.now)) }
 {
     let mut at = start;
@@ -106,6 +110,7 @@ fn child_at<'s>(
     parent: usize,
 ) -> Result<(ProfilePlaces<'s>, usize), PolicyFault>
     ensures found { IfOk result (λ r. (c : PlacedProfile) × IsPlacedChild (rest_of words.now at) c (rest_of words.now r.1) × (places_data r.0 ≡ places_of c)) }
+    ensures refused { IsRefusal result → (c : ChildData) (rest : List WordData) → IsChild (rest_of words.now at) c rest → ⊥ }
     ensures within { IfOk result (λ r. (at < r.1) × (r.1 ≤ length words.now)) }
 {
     let (head, body) = head_of(words, at, false, end)?;
@@ -133,6 +138,7 @@ fn push_part<'s>(
     ensures found { IfOk result (λ next. (p : PlacedPart) × IsPlacedPart (rest_of words.now at) p (rest_of words.now next)
         × (places_data family.new.own ≡ with_rules (places_data family.old.own) (rules_in p))
         × (map places_data family.new.children.items ≡ map places_data family.old.children.items ++ map places_of (children_in p))) }
+    ensures refused { IsRefusal result → (p : PartData) (rest : List WordData) → IsBodyPart (rest_of words.now at) p rest → ⊥ }
     ensures within { IfOk result (λ next. (at < next) × (next ≤ length words.now)) }
 {
     if !begins_profile(words, at) {
@@ -156,6 +162,7 @@ fn push_body<'s>(
     ensures found { IfOk result (λ next. (ps : List PlacedPart) × Many IsPlacedPart Closes (rest_of words.now start) ps (rest_of words.now next)
         × (places_data family.new.own ≡ with_rules (places_data family.old.own) (flat_map rules_in ps))
         × (map places_data family.new.children.items ≡ map places_data family.old.children.items ++ map places_of (flat_map children_in ps))) }
+    ensures refused { IsRefusal result → (ps : List PartData) (rest : List WordData) → Many IsBodyPart Closes (rest_of words.now start) ps rest → ⊥ }
     ensures within { IfOk result (λ next. (start < next) × (next ≤ length words.now)) }
 {
     let mut at = start;
@@ -175,6 +182,7 @@ fn family_at<'s>(
 ) -> Result<(Family<'s>, usize), PolicyFault>
     ensures found { IfOk result (λ r. (f : PlacedFamily) × IsPlacedFamily (rest_of words.now at) f (rest_of words.now r.1)
         × (places_data r.0.own ∷ map places_data r.0.children.items ≡ map places_of (family_row f))) }
+    ensures refused { IsRefusal result → (f : FamilyData) (rest : List WordData) → IsProfile (rest_of words.now at) f rest → ⊥ }
     ensures within { IfOk result (λ r. (at < r.1) × (r.1 ≤ length words.now)) }
 {
     let (head, body) = head_of(words, at, true, end)?;
@@ -206,6 +214,7 @@ fn push_item<'s>(
 ) -> Result<usize, PolicyFault>
     ensures found { IfOk result (λ next. (i : Option PlacedFamily) × IsPlacedItem (rest_of words.now at) i (rest_of words.now next)
         × (map places_data found.new.items ≡ map places_data found.old.items ++ map places_of (flat_map family_row (if_any i)))) }
+    ensures refused { IsRefusal result → (i : Option FamilyData) (rest : List WordData) → IsItem (rest_of words.now at) i rest → ⊥ }
     ensures within { IfOk result (λ next. (at < next) × (next ≤ length words.now)) }
 {
     if keyword_stands(words, at, "abi".as_bytes()) {
@@ -222,7 +231,8 @@ fn places_in<'s>(
     words: &[Word<'s>],
     end: Spot,
 ) -> Result<Vec<ProfilePlaces<'s>>, PolicyFault>
-    ensures { IfOk result (λ v. ArePlaces (words_data words.now) (map places_data v.items)) }
+    ensures placed { IfOk result (λ v. ArePlaces (words_data words.now) (map places_data v.items)) }
+    ensures refused { IsRefusal result → (vars : List Variable) (tree : List ProfileData) → IsPolicy (words_data words.now) vars tree → ⊥ }
 {
     let (_, start) = preamble_of(alloc, words, 0, end)?;
     let mut found = Vec::new(alloc);
@@ -239,7 +249,9 @@ pub fn rule_places<'s>(
     alloc: Global,
     list: &WordList<'s>,
 ) -> Result<Vec<ProfilePlaces<'s>>, PolicyFault>
-    ensures { IfOk result (λ v. ArePlaces (words_data list.now.list.items) (map places_data v.items)) }
+    ensures placed { IfOk result (λ v. ArePlaces (words_data list.now.list.items) (map places_data v.items)) }
+    // Words that are refused for another cause than memory are no policy.
+    ensures refused { IsRefusal result → (vars : List Variable) (tree : List ProfileData) → IsPolicy (words_data list.now.list.items) vars tree → ⊥ }
 {
     places_in(alloc, list.list.as_slice(), list.end)
 }

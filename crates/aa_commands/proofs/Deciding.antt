@@ -1,5 +1,5 @@
 -- What is printed for files, step by step.
-use Rattle.std.proofs.Common.{◌≡◌, ℕ, List, map, Vec, Result, IfOk, refl, sym, ap, subst}
+use Rattle.std.proofs.Common.{◌≡◌, ℕ, List, map, Vec, Result, IfOk, subst}
 use Rattle.std.proofs.lemmas.Result.{IfOk-weaker}
 use Rattle.std.specs.declared.alloc.Global.{Global}
 use Rattle.aa_trees.specs.Texts.{texts}
@@ -13,7 +13,6 @@ use Rattle.aa_checks.specs.Checked.{Setting, AreRoots}
 use Rattle.aa_loading.specs.declared.output.Output.{Output}
 use Rattle.aa_loading.specs.declared.texts.Texts.{Texts}
 use Rattle.aa_loading.specs.Joining.{IsOnePolicy}
-use Rattle.aa_units.specs.Compiled.{limit_of}
 use Rattle.aa_commands.specs.Printed.{Printed, printed}
 use Rattle.aa_commands.specs.Loads.{AreLoaded}
 use Rattle.aa_commands.specs.Policies.{IsDecidedBy, IsPrintedBy, Decides, IsPrintedAt, Read, IsPrintedFor, Rooted}

@@ -1,7 +1,7 @@
 -- Texts that are lent one after another.
-use Rattle.std.proofs.Common.{◌≡◌, ℕ, zero, suc, arith, ◌+◌, ◌<◌, ◌≤◌, List, [], ◌∷◌, ◌++◌, length, take, get_or, Result, Ok, Err, IfOk, IfErr, ap, sym, subst, ◌∙◌}
+use Rattle.std.proofs.Common.{◌≡◌, ℕ, zero, suc, arith, ◌+◌, ◌<◌, ◌≤◌, List, [], ◌∷◌, ◌++◌, length, take, get_or, Result, Ok, Err, IfOk, IfErr, subst}
 use Rattle.std.proofs.lemmas.List.{take_more, take_all}
-use Rattle.std.proofs.lemmas.Slice.Zip.{all_zipped_more, AllZip-long}
+use Rattle.std.proofs.lemmas.Slice.Zip.{all_zipped_more}
 use Rattle.std.specs.List.{AllZip}
 use Rattle.aa_faults.specs.declared.fault.PolicyFault.{PolicyFault}
 use Rattle.std.specs.Prelude.{◌≢◌}
@@ -9,8 +9,7 @@ use Rattle.aa_faults.specs.declared.fault.PolicyKind.TheVariants.{NoMemory}
 use Rattle.aa_policies.specs.Policies.{Source, IsFaultOfSources}
 use Rattle.aa_units.specs.declared.unit.Unit as unit
 use Rattle.aa_units.specs.Compiled.{texts_of}
-use Rattle.aa_loading.specs.declared.texts.Texts.{Texts}
-use Rattle.aa_commands.specs.Policies.{AreSourcesOf, IsTextsOf}
+use Rattle.aa_commands.specs.Policies.{AreSourcesOf}
 
 pub sources_told : (u : unit.Unit) (r : Result (List Source) PolicyFault) → IfOk r (λ (sources : List Source). sources ≡ texts_of u) → IfErr r (λ (e : PolicyFault). e.kind ≢ NoMemory → IsFaultOfSources (texts_of u) e) → AreSourcesOf u r
 sources_told u (Ok sources) is cause = is

@@ -5,3 +5,5 @@ pub mod Deciding
 pub mod Words
 pub mod Lines
 pub mod Replays
+pub mod Naming
+pub mod Tasking

@@ -1,5 +1,5 @@
 -- What is printed, and why nothing is answered.
-use Rattle.std.proofs.Common.{◌≡◌, ◌≢◌, ℕ, List, [], ◌∷◌, Bool, true, false, not, cond, map, refl, ap, subst, ◌∙◌}
+use Rattle.std.proofs.Common.{◌≡◌, ◌≢◌, ℕ, List, [], ◌∷◌, Bool, not, cond, map, Result, Ok, Err, IfOk, refl, ap, subst, ◌∙◌}
 use Rattle.std.specs.Prelude.{◌||◌}
 use Rattle.std.specs.List.{list_any}
 use Rattle.aa_texts.specs.declared.fault.FaultReport.{FaultReport}
@@ -25,6 +25,11 @@ unit_said NoMemory report unread out said is = said
 unit_said (At path why) report unread out said is = record { report = report; is_so = said.0; says = is ∙ ap (λ (b : Bool). faults_alone (fault_text report) (cond b 3 1)) said.1 }
 unit_said (Ambiguous other) report unread out said is =
     is ∙ ap (λ (b : Bool). faults_alone (fault_text report) (cond b 3 1)) said.1 ∙ ap (λ (r : FaultReport). faults_alone (fault_text r) 1) said.0
+
+-- what is printed, and a fact besides
+pub both_said : {E : Type 0} (r : Result Output E) (Says : Output → Type 0) (IsSo : Type 0) → IfOk r Says → IfOk r (λ _. IsSo) → IfOk r (λ out. Says out × IsSo)
+both_said (Ok out) Says IsSo says is = (says, is)
+both_said (Err e) Says IsSo says is = tt
 
 -- what is said of a fault is not want of memory
 pub unit_said_more : (e : UnitFault) (out : Printed) → SaysUnitFault e out → e ≢ NoMemory

@@ -1,5 +1,5 @@
 -- What `check` prints.
-use Rattle.std.specs.Prelude.{ℕ, ◌≡◌, ◌==◌, List, [], if◌then◌else◌}
+use Rattle.std.specs.Prelude.{◌≡◌, ◌==◌, [], if◌then◌else◌}
 use Rattle.aa_trees.specs.Texts.{texts}
 use Rattle.aa_checks.specs.declared.report.CheckReport.{CheckReport}
 use Rattle.aa_checks.specs.Printed.{report_text, faults_text}

@@ -6,3 +6,5 @@ pub mod Checking
 pub mod Asking
 pub mod LogFiles
 pub mod Logging
+pub mod JobPolicies
+pub mod Jobbing

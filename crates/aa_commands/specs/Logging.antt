@@ -1,6 +1,7 @@
 -- What `log` prints.
-use Rattle.std.specs.Prelude.{ℕ, ◌≡◌, ◌≢◌, List, [], Option, IfSome, Contains, MatchBool, if◌then◌else◌}
+use Rattle.std.specs.Prelude.{ℕ, ◌≡◌, ◌≢◌, List, [], ◌∷◌, ◌++◌, Bool, Option, IfSome, is_some, MatchBool, if◌then◌else◌}
 use Rattle.aa_trees.specs.Texts.{texts, slices}
+use Rattle.aa_logs.specs.declared.chosen.Choice.{Choice}
 use Rattle.aa_findings.specs.declared.counts.Counts.{Counts}
 use Rattle.aa_verdicts.specs.declared.explained.Decided.{Decided}
 use Rattle.aa_reports.specs.declared.logging.LogReport.{LogReport}
@@ -36,11 +37,22 @@ pub data IsReportOutput (s : Setting) (o : LogOptions) (r : LogReport) (out : Pr
   Said : (text : List ℕ) → o.against.now ≡ [] → IsLogText o r text → out ≡ answers_alone text 0 → IsReportOutput s o r out
   Replayed : o.against.now ≢ [] → IsPrintedFor s (texts o.against.now) (IsReplayed o r) out → IsReportOutput s o r out
 
--- what is found in the logs at these paths: where it is known what lies there, in their lines
-abbrev pub IsFoundIn : Option LogFiles → List (List ℕ) → LogReport → Type 0
-IsFoundIn lying paths r = IfSome lying (λ files. (logs : List (List ℕ)) × AreLogs files paths logs × IsReport (lines_from 0 logs) r)
+-- what is found in the logs at these paths by that choice of lines, with each skipped line where that is wanted: where it is
+-- known what lies there, in their lines
+pub record IsFoundIn (lying : Option LogFiles) (choice : Choice) (wants_skipped : Bool) (paths : List (List ℕ)) (r : LogReport) : Type 0 where
+  pub chosen : r.choice ≡ choice
+  pub skipped : is_some r.each_skipped ≡ wants_skipped
+  pub found : IfSome lying (λ files. (logs : List (List ℕ)) × AreLogs files paths logs × IsReport (lines_from 0 logs) r)
 
--- what `log` prints: why one of the logs can't be read, or what is printed of what is found in them
+-- one of these paths, where all logs at the paths before it are read
+pub record IsFirstUnreadLog (lying : Option LogFiles) (choice : Choice) (wants_skipped : Bool) (paths : List (List ℕ)) (path : List ℕ) : Type 0 where
+  pub before : List (List ℕ)
+  pub behind : List (List ℕ)
+  pub are : paths ≡ before ++ path ∷ behind
+  pub report : LogReport
+  pub read : IsFoundIn lying choice wants_skipped before report
+
+-- what `log` prints: why the first of the logs that isn't read can't be, or what is printed of what is found in them
 pub data IsLogOutput (s : Setting) (lying : Option LogFiles) (o : LogOptions) (out : Printed) : Type 0 where
-  UnreadLog : (path : List ℕ) (why : Unread) → Contains (slices o.logs.now) path → SaysUnread path why out → IsLogOutput s lying o out
-  Found : (r : LogReport) → IsFoundIn lying (slices o.logs.now) r → IsReportOutput s o r out → IsLogOutput s lying o out
+  UnreadLog : (path : List ℕ) (why : Unread) → IsFirstUnreadLog lying o.choice o.wants_skipped (slices o.logs.now) path → SaysUnread path why out → IsLogOutput s lying o out
+  Found : (r : LogReport) → IsFoundIn lying o.choice o.wants_skipped (slices o.logs.now) r → IsReportOutput s o r out → IsLogOutput s lying o out

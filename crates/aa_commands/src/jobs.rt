@@ -1,17 +1,23 @@
 //! What `job` prints.
 
+ghost use Rattle.std.specs.Prelude.{◌≡◌, ◌++◌, [], false, map, length, OnOk, IfOk, IfErr};
+ghost use Rattle.aa_trees.specs.Texts.{texts, slices};
+ghost use Rattle.aa_log_jobs.specs.Tasks.{HasTaken};
+ghost use Rattle.aa_checks.specs.Checked.{setting_of};
+ghost use Rattle.aa_commands.specs.Printed.{printed};
+ghost use Rattle.aa_commands.specs.Jobbing.{left_out_line, several_line, remarks, IsTasksOutput, AreTasksOf, IsFirstUnreadOf, IsLogsOutput, IsSourcesOutput, IsUnitsOutput, IsPathsOutput, IsJobOutput};
+
+use crate::job_policies::{Unnamed, all_names, policies_of};
 use crate::joined::load_units;
 use crate::reading::{Logs, UnreadLog};
 use crate::refusals::{path_refused, policy_refused, refused, unit_refused};
 use aa_checks::Wanted;
-use aa_compile::Compiled;
 use aa_loading::Output;
 use aa_log_jobs::{JobFault, JobPolicy, JobTasks, is_policy_count, push_job, shared_sources};
 use aa_logs::Choice;
 use aa_output::NoMemory;
-use aa_units::{Source, Tree, Unit, compile_unit, push_number, push_text, roots_of};
-use aa_words::PolicyFault;
-use std::alloc::{AllocError, AllocFailed, Global};
+use aa_units::{Source, Tree, Unit, push_number, push_text, roots_of};
+use std::alloc::{AllocError, Global};
 
 /// The most texts that the policies of a job include.
 const MOST_INCLUDES: usize = 4095;
@@ -25,10 +31,24 @@ pub struct JobOptions<'a> {
     pub choice: Choice<'a>,
 }
 
-fn push_left_out(out: &mut Vec<u8>, count: u64, what: &str) -> Result<(), AllocError> {
+/// Says how many requests the job doesn't have, and why, where there are some.
+fn push_left_out(out: &mut Vec<u8>, count: u64, what: &str) -> Result<(), AllocError>
+    ensures { OnOk result (out.new.items ≡ out.old.items ++ left_out_line count what.now) }
+{
     if count > 0 {
         push_number(out, count)?;
         push_text(out, what)?;
+    }
+    Ok(())
+}
+
+/// Says of several policies that none goes on in another.
+fn push_several(out: &mut Vec<u8>, policies: usize) -> Result<(), AllocError>
+    ensures { OnOk result (out.new.items ≡ out.old.items ++ several_line policies) }
+{
+    if policies > 1 {
+        let line = "several policies: no execution goes on in a profile of another file\n";
+        push_text(out, line)?;
     }
     Ok(())
 }
@@ -39,14 +59,49 @@ fn push_remarks(
     policies: usize,
     left_out: u64,
     strangers: u64,
-) -> Result<(), AllocError> {
-    if policies > 1 {
-        let line = "several policies: no execution goes on in a profile of another file\n";
-        push_text(out, line)?;
-    }
+) -> Result<(), AllocError>
+    ensures { OnOk result (out.new.items ≡ out.old.items ++ remarks policies left_out strangers) }
+{
+    push_several(out, policies)?;
     push_left_out(out, left_out, " requests left out: they are no UTF-8\n")?;
     let what = " requests left out: no profile here asks them\n";
     push_left_out(out, strangers, what)
+}
+
+/// The job with what it doesn't have.
+fn written(
+    alloc: Global,
+    text: Vec<u8>,
+    policies: usize,
+    left_out: u64,
+    strangers: u64,
+) -> Result<Output, NoMemory>
+    ensures { IfOk result (λ out. printed out ≡ record { answers = text.items; faults = remarks policies left_out strangers; status = 0 }) }
+{
+    let mut output = Output::new(alloc);
+    push_remarks(&mut output.faults, policies, left_out, strangers)?;
+    output.answers = text;
+    Ok(output)
+}
+
+/// Prints the job of tasks that a job may have.
+fn print_tasks(
+    alloc: Global,
+    policies: &[JobPolicy<'_>],
+    sources: &[&Source],
+    tasks: &JobTasks<'_>,
+    states: u32,
+) -> Result<Output, NoMemory>
+    requires { tasks.now.is_too_large ≡ false }
+    ensures { IfOk result (λ out. IsTasksOutput policies.now (map (λ s. s.now) sources.now) states tasks.now (printed out)) }
+{
+    let mut text = Vec::new(alloc);
+    let listed = tasks.tasks.as_slice();
+    match push_job(&mut text, alloc, policies, sources, listed, states) {
+        Ok(left_out) => written(alloc, text, policies.len(), left_out, tasks.strangers),
+        Err(JobFault::NoMemory) => Err(NoMemory),
+        Err(JobFault::NotText) => refused(alloc, "NotText: a job holds UTF-8 text alone\n", 1),
+    }
 }
 
 fn print_job(
@@ -55,87 +110,14 @@ fn print_job(
     sources: &[&Source],
     tasks: &JobTasks<'_>,
     states: u32,
-) -> Result<Output, NoMemory> {
+) -> Result<Output, NoMemory>
+    ensures { IfOk result (λ out. IsTasksOutput policies.now (map (λ s. s.now) sources.now) states tasks.now (printed out)) }
+{
     if tasks.is_too_large {
         let line = "TooLarge: a job has at most 1,024 tasks, and a task 65,536 requests\n";
         return refused(alloc, line, 1);
     }
-    let mut output = Output::new(alloc);
-    let out = &mut output.answers;
-    let listed = tasks.tasks.as_slice();
-    match push_job(out, alloc, policies, sources, listed, states) {
-        Ok(left_out) => {
-            let faults = &mut output.faults;
-            push_remarks(faults, policies.len(), left_out, tasks.strangers)?;
-            Ok(output)
-        }
-        Err(JobFault::NoMemory) => Err(NoMemory),
-        Err(JobFault::NotText) => {
-            let line = "NotText: a job holds UTF-8 text alone\n";
-            refused(alloc, line, 1)
-        }
-    }
-}
-
-/// The names of a policy's profiles.
-fn names_of(alloc: Global, compiled: &Compiled) -> Result<Vec<Vec<u8>>, AllocError> {
-    let mut names = Vec::new(alloc);
-    for profile in compiled.policy().profiles.as_slice() {
-        names.push(Vec::from_slice(alloc, profile.name.as_slice())?)?;
-    }
-    Ok(names)
-}
-
-/// Why the profiles of units have no names.
-#[derive(Clone, Copy)]
-enum Unnamed<'u> {
-    NoMemory,
-    /// This unit is no policy.
-    Refused(&'u Unit, PolicyFault),
-}
-
-impl From<AllocError> for Unnamed<'_> {
-    fn from(_e: AllocError) -> Self {
-        Unnamed::NoMemory
-    }
-}
-
-impl<T: Drop> From<AllocFailed<T>> for Unnamed<'_> {
-    fn from(_e: AllocFailed<T>) -> Self {
-        Unnamed::NoMemory
-    }
-}
-
-/// The names of each unit's profiles, each compiled by itself. Refused at the first that is no policy.
-fn all_names<'u>(
-    alloc: Global,
-    states: u32,
-    units: &'u [Unit],
-) -> Result<Vec<Vec<Vec<u8>>>, Unnamed<'u>> {
-    let mut all = Vec::new(alloc);
-    for unit in units {
-        match compile_unit(alloc, unit, states) {
-            Ok(compiled) => all.push(names_of(alloc, &compiled)?)?,
-            Err(fault) => return Err(Unnamed::Refused(unit, fault)),
-        }
-    }
-    Ok(all)
-}
-
-/// The units as policies of a job.
-fn policies_of<'a>(
-    alloc: Global,
-    units: &'a [Unit],
-    names: &'a [Vec<Vec<u8>>],
-) -> Result<Vec<JobPolicy<'a>>, AllocError> {
-    let mut policies = Vec::new(alloc);
-    for (unit, names) in units.iter().zip(names.iter()) {
-        policies.push(JobPolicy {
-            text: unit.text.as_slice(),
-            names: names.as_slice(),
-        })?;
-    }
-    Ok(policies)
+    print_tasks(alloc, policies, sources, tasks, states)
 }
 
 /// Reads logs one after another.
@@ -144,10 +126,15 @@ fn read_tasks<'a, R: Logs>(
     reader: &R,
     logs: &'a [&'a [u8]],
     tasks: &mut JobTasks<'_>,
-) -> Result<(), UnreadLog<'a>> {
+) -> Result<(), UnreadLog<'a>>
+    requires { HasTaken tasks.old [] }
+    ensures taken { OnOk result (AreTasksOf (R.lying reader.now) tasks.old.policies.now tasks.old.choice (slices logs.now) tasks.new) }
+    ensures unread { IfErr result (λ unread. IsFirstUnreadOf (R.lying reader.now) tasks.old.policies.now tasks.old.choice (slices logs.now) unread.path.now) }
+{
     for path in logs {
-        if let Err(why) = reader.read_lines(alloc, path, tasks) {
-            return Err(UnreadLog { path, why });
+        match reader.read_lines(alloc, path, tasks) {
+            Ok(()) => {}
+            Err(why) => return Err(UnreadLog { path, why }),
         }
     }
     Ok(())
@@ -161,7 +148,9 @@ fn job_of_logs<R: Logs>(
     states: u32,
     policies: &[JobPolicy<'_>],
     sources: &[&Source],
-) -> Result<Output, NoMemory> {
+) -> Result<Output, NoMemory>
+    ensures { IfOk result (λ out. IsLogsOutput (R.lying reader.now) options.now states policies.now (map (λ s. s.now) sources.now) (printed out)) }
+{
     let mut tasks = JobTasks::new(alloc, policies, options.choice);
     match read_tasks(alloc, reader, options.logs, &mut tasks) {
         Ok(()) => print_job(alloc, policies, sources, &tasks, states),
@@ -177,14 +166,16 @@ fn job_of_sources<R: Logs>(
     options: &JobOptions<'_>,
     units: &[Unit],
     sources: &[&Source],
-) -> Result<Output, NoMemory> {
+) -> Result<Output, NoMemory>
+    ensures { IfOk result (λ out. IsSourcesOutput (slices wanted.now.folders.now) wanted.now.states (R.lying reader.now) options.now units.now (map (λ s. s.now) sources.now) (printed out)) }
+{
     if sources.len() > MOST_INCLUDES {
         let line = "TooLarge: a job has at most 4,095 included texts\n";
         return refused(alloc, line, 1);
     }
     match all_names(alloc, wanted.states, units) {
         Ok(names) => {
-            let policies = policies_of(alloc, units, names.as_slice())?;
+            let policies = policies_of(alloc, wanted.states, units, names.as_slice())?;
             let (policies, states) = (policies.as_slice(), wanted.states);
             job_of_logs(alloc, reader, options, states, policies, sources)
         }
@@ -199,7 +190,9 @@ fn job_of_units<R: Logs>(
     wanted: &Wanted<'_>,
     options: &JobOptions<'_>,
     units: &[Unit],
-) -> Result<Output, NoMemory> {
+) -> Result<Output, NoMemory>
+    ensures { IfOk result (λ out. IsUnitsOutput (slices wanted.now.folders.now) wanted.now.states (R.lying reader.now) options.now units.now (printed out)) }
+{
     match shared_sources(alloc, units) {
         Ok(sources) => job_of_sources(alloc, reader, wanted, options, units, sources.as_slice()),
         Err(fault) => unit_refused(alloc, fault),
@@ -214,7 +207,9 @@ fn job_of_paths<T: Tree, R: Logs>(
     wanted: &Wanted<'_>,
     options: &JobOptions<'_>,
     paths: &[Vec<u8>],
-) -> Result<Output, NoMemory> {
+) -> Result<Output, NoMemory>
+    ensures { IfOk result (λ out. IsPathsOutput (setting_of (T.files tree.now) (T.taken tree.now) (T.input tree.now) wanted.now) (R.lying reader.now) options.now (texts paths.now) (printed out)) }
+{
     if paths.is_empty() {
         let line = "error: no file with profiles is there\n";
         return refused(alloc, line, 1);
@@ -236,7 +231,9 @@ pub fn job_files<T: Tree, R: Logs>(
     reader: &R,
     wanted: &Wanted<'_>,
     options: &JobOptions<'_>,
-) -> Result<Output, NoMemory> {
+) -> Result<Output, NoMemory>
+    ensures { IfOk result (λ out. IsJobOutput (setting_of (T.files tree.now) (T.taken tree.now) (T.input tree.now) wanted.now) (R.lying reader.now) options.now (printed out)) }
+{
     match roots_of(alloc, tree, wanted.base, options.files) {
         Ok(roots) => job_of_paths(alloc, tree, reader, wanted, options, roots.paths.as_slice()),
         Err(fault) => unit_refused(alloc, fault),

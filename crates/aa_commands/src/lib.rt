@@ -3,6 +3,7 @@
 
 mod asks;
 mod checks;
+mod job_policies;
 mod jobs;
 mod joined;
 mod logs;

@@ -1,12 +1,12 @@
 //! What `log` prints.
 
-ghost use Rattle.std.specs.Prelude.{◌≡◌, ◌≢◌, true, false, ℕ, ◌++◌, List, [], Some, Contains, OnOk, IfOk, IfErr, IfSome};
+ghost use Rattle.std.specs.Prelude.{◌≡◌, ◌≢◌, true, false, ℕ, ◌++◌, List, [], Some, is_some, OnOk, IfOk, IfErr, IfSome};
 ghost use Rattle.aa_trees.specs.Texts.{slices};
 ghost use Rattle.aa_log_lines.specs.LogLines.{LogLine, log_lines};
-ghost use Rattle.aa_reports.specs.Found.{IsReport};
+ghost use Rattle.aa_reports.specs.Found.{HasSameSettings, IsReport};
 ghost use Rattle.aa_checks.specs.Checked.{setting_of};
 ghost use Rattle.aa_commands.specs.Printed.{printed, answers_alone};
-ghost use Rattle.aa_commands.specs.Logging.{IsFoundIn, IsLogText, IsReplayText, IsReplayed, IsReportOutput, IsLogOutput};
+ghost use Rattle.aa_commands.specs.Logging.{IsFoundIn, IsFirstUnreadLog, IsLogText, IsReplayText, IsReplayed, IsReportOutput, IsLogOutput};
 
 use crate::joined::{Use, with_policy};
 use crate::reading::{Logs, UnreadLog};
@@ -43,8 +43,9 @@ fn read_report<R: Logs>(
     path: &[u8],
     report: &mut LogReport<'_>,
 ) -> Result<(), Unread>
-    ensures { OnOk result (IfSome (R.lying reader.now) (λ files. (bytes : List ℕ) × (files path.now ≡ Some bytes)
+    ensures taken { OnOk result (IfSome (R.lying reader.now) (λ files. (bytes : List ℕ) × (files path.now ≡ Some bytes)
         × ((before : List LogLine) → IsReport before report.old → IsReport (before ++ log_lines number bytes) report.new))) }
+    ensures keeps { OnOk result (HasSameSettings report.old report.new) }
 {
     report.log = number;
     reader.read_lines(alloc, path, report)
@@ -58,8 +59,8 @@ fn read_reports<'a, R: Logs>(
     report: &mut LogReport<'_>,
 ) -> Result<(), UnreadLog<'a>>
     requires { IsReport [] report.old }
-    ensures found { OnOk result (IsFoundIn (R.lying reader.now) (slices logs.now) report.new) }
-    ensures unread { IfErr result (λ unread. Contains (slices logs.now) unread.path.now) }
+    ensures found { OnOk result (IsFoundIn (R.lying reader.now) report.old.choice (is_some report.old.each_skipped) (slices logs.now) report.new) }
+    ensures unread { IfErr result (λ unread. IsFirstUnreadLog (R.lying reader.now) report.old.choice (is_some report.old.each_skipped) (slices logs.now) unread.path.now) }
 {
     let mut number: usize = 0;
     for path in logs {

@@ -14,8 +14,9 @@ pub trait Logs {
 
     /// Hands each line of the log at a path on; the path `-` is standard input.
     fn read_lines<L: Lines>(&self, alloc: Global, path: &[u8], lines: &mut L) -> Result<(), Unread>
-        ensures { OnOk result (IfSome (lying self.now) (λ files. (bytes : List ℕ) × (files path.now ≡ Some bytes)
-            × ((before : List LogLine) → L.has_taken lines.old before → L.has_taken lines.new (before ++ log_lines (L.log lines.old) bytes)))) };
+        ensures taken { OnOk result (IfSome (lying self.now) (λ files. (bytes : List ℕ) × (files path.now ≡ Some bytes)
+            × ((before : List LogLine) → L.has_taken lines.old before → L.has_taken lines.new (before ++ log_lines (L.log lines.old) bytes)))) }
+        ensures keeps { OnOk result ((first : L) → L.keeps first lines.old → L.keeps first lines.new) };
 }
 
 impl Logs for HostRuntime {

@@ -1,5 +1,5 @@
 mod Shown
 mod OfUnit
-pub mod Readings
-pub mod Steps
-pub mod Ways
+mod Few
+mod Alike
+mod Conflicting

@@ -7,10 +7,11 @@ use Rattle.aa_trees.specs.Texts.{texts}
 use Rattle.aa_faults.specs.declared.fault.Spot.{Spot}
 use Rattle.aa_faults.specs.declared.fault.PolicyFault.{PolicyFault}
 use Rattle.aa_faults.specs.declared.fault.PolicyKind.{PolicyKind}
-use Rattle.aa_faults.specs.declared.fault.PolicyKind.TheVariants.{VariableTwice, DuplicateProfile, IncludeDepth, TooLarge}
+use Rattle.aa_faults.specs.declared.fault.PolicyKind.TheVariants.{NoMemory, VariableTwice, DuplicateProfile, ConflictingExec, IncludeDepth, TooLarge}
 use Rattle.aa_faults.specs.Kinds.{at_start, IsRefusal}
 use Rattle.aa_words.specs.Splits.{WordData, Splits, Opening, fits, opened, opens, fault_of_kind, main_reading, main_count}
 use Rattle.aa_words.specs.Stops.{IncludeFails, Fails, IsFaultOf}
+use Rattle.aa_profiles.specs.declared.policy.Policy.{Policy}
 use Rattle.aa_profiles.specs.declared.policy.Profile.{Profile}
 use Rattle.aa_compile.specs.Checks.{IsRefused, ManyTops, AtProfile, Fails as Refutes, ManyFiles, Conflicting, ManyChildren}
 use Rattle.std.proofs.lemmas.List.{append-nil}
@@ -20,8 +21,8 @@ use Rattle.aa_units.specs.Compiled.{texts_of, IsFaultOfUnit, OfSources, OfText a
 use Rattle.aa_glob.specs.Variables.{Variable}
 use Rattle.aa_heads.specs.Preamble.{IsTwice}
 use Rattle.aa_policy.specs.Bodies.{ProfileData, IsPolicy}
-use Rattle.aa_policy.specs.Spelling.{IsDuplicate}
-use Rattle.aa_diagnostics.specs.Further.{HasWords, ShowsSetTwice, ShowsNamedTwice}
+use Rattle.aa_policy.specs.Spelling.{Spells, IsDuplicate}
+use Rattle.aa_diagnostics.specs.Further.{HasWords, ShowsConflictAt, ShowsIfConflict, SpellsNothing, ShowsSetTwice, ShowsNamedTwice}
 
 -- the kinds of which an earlier one is shown
 abbrev pub is_repeated : PolicyKind → Bool
@@ -29,23 +30,37 @@ is_repeated VariableTwice = true
 is_repeated DuplicateProfile = true
 is_repeated _ = false
 
-same_kind : (e f : PolicyFault) → e ≡ f → is_repeated e.kind ≡ is_repeated f.kind
-same_kind e f h = ap (λ (x : PolicyFault). is_repeated x.kind) h
+-- and those of which anything is shown but where includes are looked for
+abbrev pub is_shown : PolicyKind → Bool
+is_shown ConflictingExec = true
+is_shown k = is_repeated k
+
+shown_too : (k : PolicyKind) → is_repeated k ≡ true → is_shown k ≡ true
+shown_too VariableTwice e = refl
+shown_too DuplicateProfile e = refl
+shown_too ConflictingExec e = refl
+shown_too k e = e
+
+same_kind : (e f : PolicyFault) → e ≡ f → is_shown e.kind ≡ is_shown f.kind
+same_kind e f h = ap (λ (x : PolicyFault). is_shown x.kind) h
+
+same_repeated : (e f : PolicyFault) → e ≡ f → is_repeated e.kind ≡ is_repeated f.kind
+same_repeated e f h = ap (λ (x : PolicyFault). is_repeated x.kind) h
 
 -- ---- faults of words
 
-opens_kind : (d : ℕ) (sources : List Source) → ((o : Opening) (f : PolicyFault) → Fails d sources o.reading o.text o.count f → is_repeated f.kind ≡ false)
-    → (depth : ℕ) (spot : Spot) (optional : Bool) (o : Opening) (found : Option (ℕ × List ℕ)) (f : PolicyFault) → IncludeFails (Fails d sources) (opens depth spot optional o.count found) f → is_repeated f.kind ≡ false
+opens_kind : (d : ℕ) (sources : List Source) → ((o : Opening) (f : PolicyFault) → Fails d sources o.reading o.text o.count f → is_shown f.kind ≡ false)
+    → (depth : ℕ) (spot : Spot) (optional : Bool) (o : Opening) (found : Option (ℕ × List ℕ)) (f : PolicyFault) → IncludeFails (Fails d sources) (opens depth spot optional o.count found) f → is_shown f.kind ≡ false
 opens_kind d sources deeper depth spot true o None f h = absurd h
 opens_kind d sources deeper depth spot false o None f h = same_kind f _ h
 opens_kind d sources deeper depth spot optional o (Some source) f h = by (depth == 0) (fits o.count source.1) h
   where
-    by : (b c : Bool) → IncludeFails (Fails d sources) (cond b (Err (fault_of_kind IncludeDepth spot)) (cond c (Ok (Some (opened o.count source))) (Err (at_start TooLarge)))) f → is_repeated f.kind ≡ false
+    by : (b c : Bool) → IncludeFails (Fails d sources) (cond b (Err (fault_of_kind IncludeDepth spot)) (cond c (Ok (Some (opened o.count source))) (Err (at_start TooLarge)))) f → is_shown f.kind ≡ false
     by true c h = same_kind f _ h
     by false true h = deeper (opened o.count source) f h
     by false false h = same_kind f _ h
 
-fails_kind : (d : ℕ) (sources : List Source) (o : Opening) (f : PolicyFault) → Fails d sources o.reading o.text o.count f → is_repeated f.kind ≡ false
+fails_kind : (d : ℕ) (sources : List Source) (o : Opening) (f : PolicyFault) → Fails d sources o.reading o.text o.count f → is_shown f.kind ≡ false
 unfolding Fails
 fails_kind zero sources o f h = absurd h
 fails_kind (suc d) sources o f h =
@@ -54,7 +69,7 @@ fails_kind (suc d) sources o f h =
       | inr b ↦ opens_kind d sources (fails_kind d sources) d _ _ (record { reading = o.reading; text = h.rest; count = h.count }) _ f b.1
     ]
 
-words_kind : (sources : List Source) (text : List ℕ) (f : PolicyFault) → IsFaultOf sources text f → is_repeated f.kind ≡ false
+words_kind : (sources : List Source) (text : List ℕ) (f : PolicyFault) → IsFaultOf sources text f → is_shown f.kind ≡ false
 words_kind sources text f h =
     elim h [
       | inl memory ↦ same_kind f _ memory
@@ -66,16 +81,16 @@ words_kind sources text f h =
 
 -- ---- faults of sources and of compiling
 
-sources_kind : (sources : List Source) (f : PolicyFault) → IsFaultOfSources sources f → is_repeated f.kind ≡ false
+sources_kind : (sources : List Source) (f : PolicyFault) → IsFaultOfSources sources f → is_shown f.kind ≡ false
 sources_kind sources f h = elim h.fault [ inl large ↦ same_kind f _ large.0 | inr twice ↦ same_kind f _ twice.0 ]
 
 refutes_kind : (profiles : List Profile) (limit number : ℕ) (p : Profile) (f : PolicyFault) → Refutes profiles limit number p f → is_repeated f.kind ≡ false
-refutes_kind profiles limit number p f (ManyFiles e a) = same_kind f _ e
-refutes_kind profiles limit number p f (Conflicting e a b) = same_kind f _ e
-refutes_kind profiles limit number p f (ManyChildren e a b d) = same_kind f _ e
+refutes_kind profiles limit number p f (ManyFiles e a) = same_repeated f _ e
+refutes_kind profiles limit number p f (Conflicting e a b) = same_repeated f _ e
+refutes_kind profiles limit number p f (ManyChildren e a b d) = same_repeated f _ e
 
 policy_kind : (profiles : List Profile) (limit : ℕ) (f : PolicyFault) → IsRefused profiles limit f → is_repeated f.kind ≡ false
-policy_kind profiles limit f (ManyTops e a) = same_kind f _ e
+policy_kind profiles limit f (ManyTops e a) = same_repeated f _ e
 policy_kind profiles limit f (AtProfile a r) = refutes_kind profiles limit r.number r.profile f r.fails
 
 -- ---- the unit
@@ -85,12 +100,23 @@ differ b t f = absurd (true≢false (sym t ∙ f))
 
 -- its text has words, which are at fault
 pub unit_words : (limit : ℕ) (u : unit.Unit) (f : PolicyFault) → is_repeated f.kind ≡ true → IsFaultOfUnit limit u f → (ws : List WordData) × HasWords u ws × IsFaultOfWords ws f
-unit_words limit u f e (OfSources s) = differ (is_repeated f.kind) e (sources_kind (texts_of u) f s)
+unit_words limit u f e (OfSources s) = differ (is_shown f.kind) (shown_too f.kind e) (sources_kind (texts_of u) f s)
 unit_words limit u f e (OfUnitText fit t) =
     elim t [
-      | OfText none why ↦ differ (is_repeated f.kind) e (words_kind (texts_of u) u.text.items f why)
+      | OfText none why ↦ differ (is_shown f.kind) (shown_too f.kind e) (words_kind (texts_of u) u.text.items f why)
       | OfWords ws split fault ↦ (ws, record { fit = fit; split = split }, fault)
       | OfPolicy policy spelled refused ↦ differ (is_repeated f.kind) e (policy_kind policy.profiles limit f refused)
+    ]
+
+-- its text has words, which spell a policy that is refused
+pub unit_policy : (limit : ℕ) (u : unit.Unit) (at : Spot) → IsFaultOfUnit limit u (record { kind = ConflictingExec; at = at })
+    → (ws : List WordData) × (policy : Policy) × HasWords u ws × Spells ws policy × IsRefused policy.profiles limit (record { kind = ConflictingExec; at = at })
+unit_policy limit u at (OfSources s) = differ true refl (sources_kind (texts_of u) (record { kind = ConflictingExec; at = at }) s)
+unit_policy limit u at (OfUnitText fit t) =
+    elim t [
+      | OfText none why ↦ differ true refl (words_kind (texts_of u) u.text.items (record { kind = ConflictingExec; at = at }) why)
+      | OfWords ws split fault ↦ elim fault.kind [ inl e ↦ let k : ConflictingExec ≡ NoMemory = ap (λ (x : PolicyFault). x.kind) e in cc | inr e ↦ absurd (true≢false (sym e)) ]
+      | OfPolicy policy spelled refused ↦ (spelled.words, policy, record { fit = fit; split = spelled.split }, spelled.spelled, refused)
     ]
 
 -- ---- sources that can be handed in
@@ -113,7 +139,7 @@ handed_in sources f can why =
 
 -- ---- lines
 
-abbrev Lines : Type 0
+abbrev pub Lines : Type 0
 Lines = Vec (Vec ℕ Global) Global
 
 -- what is shown where nothing is refused
@@ -171,3 +197,28 @@ shows_named limit u at lines out through refused twice =
     let w = unit_words limit u (fault DuplicateProfile at) refl h in
     if_ok_more (λ (l : Lines). (ws : List WordData) → HasWords u ws → IsDuplicate ws at → ShowsNamedTwice u at (texts l.items)) (λ (l : Lines). ShowsNamedTwice u at (texts l.items)) lines
     (λ l shows. shows w.0 w.1 (w.2.duplicate refl)) twice)
+
+-- a conflict is shown, if there is one, or there is no policy
+pub shows_clash : (limit : ℕ) (u : unit.Unit) (at : Spot) (lines : Result Lines PolicyFault) (out : Result Lines AllocError)
+    → IfOk out (λ found. (IsRefusal lines × (texts found.items ≡ [])) ⊎ (lines ≡ Ok found)) → (IsRefusal lines → SpellsNothing u) → IfOk lines (λ found. ShowsIfConflict limit u at (texts found.items))
+    → IfOk out (λ found. ShowsIfConflict limit u at (texts found.items) ⊎ ((texts found.items ≡ []) × SpellsNothing u))
+shows_clash limit u at lines (Err e) through refused shown = tt
+shows_clash limit u at lines (Ok found) through refused shown =
+    elim through [
+      | inl none ↦ inr (none.1, refused none.0)
+      | inr is ↦ inl (subst (λ (r : Result Lines PolicyFault). IfOk r (λ l. ShowsIfConflict limit u at (texts l.items))) is shown)
+    ]
+
+pub shows_own_clash : (limit : ℕ) (u : unit.Unit) (at : Spot) (lines : Result Lines PolicyFault) (out : Result Lines AllocError)
+    → IfOk out (λ found. (IsRefusal lines × (texts found.items ≡ [])) ⊎ (lines ≡ Ok found)) → (IsRefusal lines → SpellsNothing u)
+    → IfOk lines (λ found. (ws : List WordData) (policy : Policy) → HasWords u ws → Spells ws policy → IsRefused policy.profiles limit (fault ConflictingExec at) → ShowsConflictAt u at (texts found.items))
+    → IfOk out (λ found. IsFaultOfUnit limit u (fault ConflictingExec at) → ShowsConflictAt u at (texts found.items))
+shows_own_clash limit u at lines out through refused own =
+    shown_through (ShowsConflictAt u at) lines out through
+    (λ h r. let p = unit_policy limit u at h in refused r p.0 p.1 p.2 p.3)
+    (λ h.
+    let p = unit_policy limit u at h in
+    if_ok_more
+    (λ (l : Lines). (ws : List WordData) (policy : Policy) → HasWords u ws → Spells ws policy → IsRefused policy.profiles limit (fault ConflictingExec at) → ShowsConflictAt u at (texts l.items))
+    (λ (l : Lines). ShowsConflictAt u at (texts l.items)) lines
+    (λ l shows. shows p.0 p.1 p.2 p.3 p.4) own)

@@ -1,10 +1,11 @@
 -- The lines that name the two rules of a conflict.
-use Rattle.std.specs.Prelude.{◌≡◌, ◌⊎◌, ℕ, ◌<◌, List, [], ◌∷◌, ◌++◌, codes, MatchOption, slice_get}
+use Rattle.std.specs.Prelude.{◌≡◌, ◌⊎◌, ℕ, ◌<◌, List, [], ◌∷◌, ◌++◌, codes, Option, Some, None, MatchOption, slice_get}
 use Rattle.aa_faults.specs.declared.fault.Spot.{Spot}
 use Rattle.aa_profiles.specs.declared.policy.Profile.{Profile}
 use Rattle.aa_auto.specs.Tables.{HasPlaces}
 use Rattle.aa_rows.specs.Rows.{patterns_of}
 use Rattle.aa_clashes.specs.Clashes.{Conflict, IsFree}
+use Rattle.aa_asks.specs.Places.{PlacesData}
 use Rattle.aa_audit.specs.Values.{value}
 use Rattle.aa_places.specs.Places.{place_in}
 use Rattle.aa_places.specs.RuleTexts.{IsRuleText}
@@ -42,6 +43,26 @@ pub record ShowsConflict (u : unit.Unit) (profile : Profile) (places : List Spot
   pub conflict : Conflict profile.files first second text
   pub shows : ShowsRules u places first second text lines
 
+-- where the file rules of the profile with that number stand
+abbrev pub files_of : Option PlacesData → List Spot
+files_of None = []
+files_of (Some p) = p.files
+
+abbrev pub files_at : List PlacesData → ℕ → List Spot
+files_at places number = files_of (slice_get places number)
+
 -- no text has two rules of the profile that conflict, or their automaton needs more rows than the limit
 abbrev pub HasNone : Profile → ℕ → Type 0
 HasNone profile limit = IsFree profile.files ⊎ HasPlaces (patterns_of profile.files) limit
+
+-- so of each profile whose name stands there
+abbrev pub NoneHas : List Profile → Spot → ℕ → Type 0
+NoneHas profiles at limit = (n : ℕ) (p : Profile) → slice_get profiles n ≡ Some p → p.at ≡ at → HasNone p limit
+
+-- a conflict is shown of a profile whose name stands there
+pub record ShowsOne (u : unit.Unit) (profiles : List Profile) (places : List PlacesData) (at : Spot) (lines : List (List ℕ)) : Type 0 where
+  pub number : ℕ
+  pub profile : Profile
+  pub is : slice_get profiles number ≡ Some profile
+  pub stands : profile.at ≡ at
+  pub shows : ShowsConflict u profile (files_at places number) lines

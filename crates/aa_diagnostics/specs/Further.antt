@@ -1,25 +1,25 @@
 -- What else helps: the lines behind a fault.
-use Rattle.std.specs.Prelude.{ℕ, ◌==◌, ◌≡◌, ◌⊎◌, List, [], ◌∷◌, ◌++◌, map, flat_map, codes, Contains, Option, option_to_list, if◌then◌else◌}
+use Rattle.std.specs.Prelude.{ℕ, ◌+◌, ◌==◌, ◌≡◌, ◌⊎◌, List, [], ◌∷◌, ◌++◌, map, flat_map, codes, Option, option_to_list, if◌then◌else◌}
 use Rattle.aa_faults.specs.declared.fault.Spot.{Spot}
 use Rattle.aa_faults.specs.declared.fault.PolicyKind.{PolicyKind}
 use Rattle.aa_faults.specs.declared.fault.PolicyKind.TheVariants.{MissingInclude, VariableTwice, DuplicateProfile, ConflictingExec}
 use Rattle.aa_profiles.specs.declared.policy.Policy.{Policy}
-use Rattle.aa_profiles.specs.declared.policy.Profile.{Profile}
 use Rattle.aa_words.specs.Splits.{WordData, Splits}
 use Rattle.aa_words.specs.Found.{IncludeData, HasIncludes}
 use Rattle.aa_glob.specs.Variables.{Variable}
 use Rattle.aa_policy.specs.Bodies.{ProfileData, IsPolicy}
 use Rattle.aa_policy.specs.Spelling.{Spells}
 use Rattle.aa_policies.specs.Policies.{CanFollow}
+use Rattle.aa_asks.specs.Places.{PlacesData, ArePlaces}
 use Rattle.aa_places.specs.Places.{place_in}
 use Rattle.aa_texts.specs.Texts.{line_and_column}
 use Rattle.aa_units.specs.declared.unit.Unit as unit
 use Rattle.aa_units.specs.Numbers.{path_in, text_in}
-use Rattle.aa_units.specs.Compiled.{texts_of}
+use Rattle.aa_units.specs.Compiled.{limit_of, texts_of}
 use Rattle.aa_units.specs.Walks.{asked_by}
 use Rattle.aa_repeats.specs.Named.{named_of}
 use Rattle.aa_repeats.specs.Earlier.{set_again, named_again, IsSetFirst, IsNamedFirst}
-use Rattle.aa_diagnostics.specs.Conflicts.{ShowsConflict}
+use Rattle.aa_diagnostics.specs.Conflicts.{NoneHas, ShowsOne}
 
 -- what stands before it, a file's path, and a place in it
 abbrev pub spot_line : unit.Unit → List ℕ → Spot → List ℕ
@@ -57,30 +57,45 @@ pub record ShowsFirstNamed (u : unit.Unit) (at : Spot) (lines : List (List ℕ))
   pub written : IsPolicy words vars tree
   pub are : lines ≡ spot_lines u (codes "earlier at ") (named_again at [] (map named_of tree))
 
--- two rules that conflict are shown, of a profile of the unit's policy whose name stands at that place
+-- the sources of the unit can be handed in, and its text has these words
+pub record HasWords (u : unit.Unit) (ws : List WordData) : Type 0 where
+  pub fit : CanFollow [] (texts_of u)
+  pub split : Splits (texts_of u) u.text.items ws
+
+-- two rules that conflict are shown where they stand, of a profile of the unit's policy whose name stands at that place
 pub record ShowsConflictAt (u : unit.Unit) (at : Spot) (lines : List (List ℕ)) : Type 0 where
   pub words : List WordData
   pub split : Splits (texts_of u) u.text.items words
   pub policy : Policy
   pub spells : Spells words policy
-  pub profile : Profile
-  pub among : Contains policy.profiles profile
-  pub stands : profile.at ≡ at
-  pub places : List Spot
-  pub shows : ShowsConflict u profile places lines
+  pub places : List PlacesData
+  pub placed : ArePlaces words places
+  pub one : ShowsOne u policy.profiles places at lines
 
--- the lines behind a fault of a unit, whose includes are searched in these folders
-abbrev pub IsFurther : unit.Unit → List (List ℕ) → Spot → List (List ℕ) → PolicyKind → Type 0
-IsFurther u folders at lines MissingInclude = AreTried folders (text_in u at.file) at.byte lines
-IsFurther u folders at lines VariableTwice = (lines ≡ []) ⊎ ShowsFirstSet u at lines
-IsFurther u folders at lines DuplicateProfile = (lines ≡ []) ⊎ ShowsFirstNamed u at lines
-IsFurther u folders at lines ConflictingExec = (lines ≡ []) ⊎ ShowsConflictAt u at lines
-IsFurther u folders at lines _ = lines ≡ []
+-- nothing is shown: of the unit's policy no profile whose name stands there has a conflict within so many states
+pub record ShowsNoConflict (limit : ℕ) (u : unit.Unit) (at : Spot) (lines : List (List ℕ)) : Type 0 where
+  pub words : List WordData
+  pub split : Splits (texts_of u) u.text.items words
+  pub policy : Policy
+  pub spells : Spells words policy
+  pub none : NoneHas policy.profiles at (limit + 1)
+  pub are : lines ≡ []
 
--- the sources of the unit can be handed in, and its text has these words
-pub record HasWords (u : unit.Unit) (ws : List WordData) : Type 0 where
-  pub fit : CanFollow [] (texts_of u)
-  pub split : Splits (texts_of u) u.text.items ws
+-- the unit's conflict is shown, if it has one there
+abbrev pub ShowsIfConflict : ℕ → unit.Unit → Spot → List (List ℕ) → Type 0
+ShowsIfConflict limit u at lines = ShowsConflictAt u at lines ⊎ ShowsNoConflict limit u at lines
+
+-- no words of the unit spell a policy
+abbrev pub SpellsNothing : unit.Unit → Type 0
+SpellsNothing u = (ws : List WordData) (policy : Policy) → HasWords u ws → Spells ws policy → ⊥
+
+-- the lines behind a fault of a unit, whose includes are searched in these folders, and of which an automaton may have so many states
+abbrev pub IsFurther : unit.Unit → List (List ℕ) → ℕ → Spot → List (List ℕ) → PolicyKind → Type 0
+IsFurther u folders states at lines MissingInclude = AreTried folders (text_in u at.file) at.byte lines
+IsFurther u folders states at lines VariableTwice = (lines ≡ []) ⊎ ShowsFirstSet u at lines
+IsFurther u folders states at lines DuplicateProfile = (lines ≡ []) ⊎ ShowsFirstNamed u at lines
+IsFurther u folders states at lines ConflictingExec = ShowsIfConflict (limit_of states) u at lines ⊎ ((lines ≡ []) × SpellsNothing u)
+IsFurther u folders states at lines _ = lines ≡ []
 
 -- a variable is set twice, the second time at that place, and the one line says where it is set first
 pub record ShowsSetTwice (u : unit.Unit) (at : Spot) (lines : List (List ℕ)) : Type 0 where
@@ -98,8 +113,9 @@ pub record ShowsNamedTwice (u : unit.Unit) (at : Spot) (lines : List (List ℕ))
   pub named : IsNamedFirst words at first
   pub are : lines ≡ spot_line u (codes "earlier at ") first ∷ []
 
--- the earlier one is shown, of two variables or profiles of one name
+-- the earlier one is shown, of two variables or profiles of one name, and a conflict
 abbrev pub ShowsEarlier : unit.Unit → Spot → List (List ℕ) → PolicyKind → Type 0
 ShowsEarlier u at lines VariableTwice = ShowsSetTwice u at lines
 ShowsEarlier u at lines DuplicateProfile = ShowsNamedTwice u at lines
+ShowsEarlier u at lines ConflictingExec = ShowsConflictAt u at lines
 ShowsEarlier u at lines _ = Unit {0}

@@ -1,29 +1,20 @@
 -- What is said of a fault.
-use Rattle.std.specs.Prelude.{ℕ, ◌==◌, ◌≡◌, ◌&&◌, List, [], ◌∷◌, map, flat_map, codes, Bool, true, false, not, Option, Some, None, if◌then◌else◌}
+use Rattle.std.specs.Prelude.{ℕ, ◌==◌, ◌≡◌, ◌&&◌, List, [], codes, Bool, true, false, not, None}
 use Rattle.aa_faults.specs.declared.fault.PolicyFault.{PolicyFault}
 use Rattle.aa_faults.specs.declared.fault.PolicyKind.{PolicyKind}
 use Rattle.aa_faults.specs.declared.fault.PolicyKind.TheVariants.{TooLarge}
 use Rattle.aa_faults.specs.Kinds.{kind_name}
-use Rattle.aa_places.specs.Places.{place_in}
-use Rattle.aa_places.specs.Excerpts.{excerpt_of}
 use Rattle.aa_trees.specs.Texts.{texts}
-use Rattle.aa_texts.specs.declared.place.PlaceAt.{PlaceAt}
-use Rattle.aa_texts.specs.declared.fault.Link.{Link}
 use Rattle.aa_texts.specs.declared.fault.FaultReport.{FaultReport}
 use Rattle.aa_units.specs.declared.tree.Unread.{Unread}
 use Rattle.aa_units.specs.declared.tree.Unread.TheVariants as unread
 use Rattle.aa_units.specs.declared.unit.Unit as unit
 use Rattle.aa_units.specs.Numbers.{path_in, text_in}
 use Rattle.aa_units.specs.Compiled.{limit_of, IsFaultOfUnit}
-use Rattle.aa_units.specs.Nodes.{path_of_node, text_of_node, is_folder_node, is_folder_in, node_in}
-use Rattle.aa_diagnostics.specs.declared.trail.Step.{Step}
-use Rattle.aa_diagnostics.specs.Trails.{IsTrail}
+use Rattle.aa_units.specs.Nodes.{is_folder_in, node_in}
+use Rattle.aa_units.specs.Links.{place_if, excerpt_if, AreLinks}
 use Rattle.aa_diagnostics.specs.Sentences.{message}
 use Rattle.aa_diagnostics.specs.Further.{IsFurther, ShowsEarlier}
-
--- a byte of a text with its line and column
-abbrev pub stands_at : List ℕ → ℕ → PlaceAt
-stands_at text byte = record { line = (place_in text byte).line; column = (place_in text byte).column; byte = byte }
 
 abbrev pub is_too_large : PolicyKind → Bool
 is_too_large TooLarge = true
@@ -37,26 +28,6 @@ is_of_whole u f = is_too_large f.kind && node_in u f.at.file == 0 && f.at.byte =
 abbrev pub has_place : unit.Unit → PolicyFault → Bool
 has_place u f = not (is_folder_in u f.at.file) && not (is_of_whole u f)
 
-abbrev pub place_if : Bool → List ℕ → ℕ → Option PlaceAt
-place_if there text byte = if there then Some (stands_at text byte) else None
-
--- the line with a caret, where there is a place
-abbrev pub excerpt_if : Bool → List ℕ → ℕ → List ℕ
-excerpt_if there text byte = if there then excerpt_of text byte else []
-
-abbrev pub link_data : Link → List ℕ × PlaceAt
-link_data l = (l.path.items, l.place)
-
--- a step's include with its file, unless it stands in the text of a folder
-abbrev pub link_at : unit.Unit → Step → List (List ℕ × PlaceAt)
-link_at u s = if is_folder_node u s.from then [] else (path_of_node u s.from, stands_at (text_of_node u s.from) s.byte) ∷ []
-
--- the includes by which a reading first comes to a node, innermost first
-pub record AreLinks (u : unit.Unit) (node : ℕ) (links : List Link) : Type 0 where
-  pub way : List Step
-  pub trail : IsTrail u node way
-  pub each : map link_data links ≡ flat_map (link_at u) way
-
 -- what is said of a fault of a unit: in which file it lies and where, why, and with these lines behind it
 pub record IsReport (u : unit.Unit) (states : ℕ) (f : PolicyFault) (lines : List (List ℕ)) (r : FaultReport) : Type 0 where
   pub kind : r.kind.now ≡ kind_name f.kind
@@ -67,10 +38,10 @@ pub record IsReport (u : unit.Unit) (states : ℕ) (f : PolicyFault) (lines : Li
   pub chain : AreLinks u (node_in u f.at.file) r.chain.items
   pub further : texts r.further.items ≡ lines
 
--- the same with what else helps; of a fault that the unit's policy has, the earlier one is shown of two variables or profiles of one name
+-- the same with what else helps; of a fault that the unit's policy has, the earlier one is shown of two variables or profiles of one name, and the conflict
 pub record IsDescribed (u : unit.Unit) (folders : List (List ℕ)) (states : ℕ) (f : PolicyFault) (r : FaultReport) : Type 0 where
   pub lines : List (List ℕ)
-  pub are : IsFurther u folders f.at lines f.kind
+  pub are : IsFurther u folders states f.at lines f.kind
   pub earlier : IsFaultOfUnit (limit_of states) u f → ShowsEarlier u f.at lines f.kind
   pub report : IsReport u states f lines r
 

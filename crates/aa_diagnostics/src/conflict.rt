@@ -1,12 +1,19 @@
 //! The two rules of a conflict, and a path that both match.
 
-ghost use Rattle.std.specs.Prelude.{◌≡◌, ◌⊎◌, ◌↔◌, ℕ, ◌+◌, ◌<◌, ◌≤◌, ◌++◌, ◌∷◌, [], List, IfOk, IfSome, IfNone, OnOk, IsTrue, Some, true, false, Contains, slice_get};
+ghost use Rattle.std.specs.Prelude.{◌≡◌, ◌⊎◌, ◌↔◌, ℕ, ◌+◌, ◌<◌, ◌≤◌, ◌++◌, ◌∷◌, [], List, map, IfOk, IfSome, IfNone, OnOk, IsTrue, true, false};
+ghost use Rattle.aa_faults.specs.Kinds.{IsRefusal};
 ghost use Rattle.aa_profiles.specs.Lawful.{file_patterns, IsWithinCounts};
-ghost use Rattle.aa_profiles.specs.declared.policy.Profile.{Profile};
 ghost use Rattle.aa_clashes.specs.Clashes.{Conflict};
 ghost use Rattle.aa_trees.specs.Texts.{texts};
-ghost use Rattle.aa_diagnostics.specs.Further.{ShowsConflictAt};
-ghost use Rattle.aa_diagnostics.specs.Conflicts.{IsRuleLine, AreRuleLines, both_match, ShowsRules, ShowsConflict, HasNone};
+ghost use Rattle.aa_asks.specs.Places.{places_data};
+ghost use Rattle.aa_units.specs.Compiled.{limit_of};
+ghost use Rattle.aa_faults.specs.declared.fault.PolicyKind.TheVariants.{ConflictingExec};
+ghost use Rattle.aa_profiles.specs.declared.policy.Policy.{Policy};
+ghost use Rattle.aa_words.specs.Splits.{WordData};
+ghost use Rattle.aa_policy.specs.Spelling.{Spells};
+ghost use Rattle.aa_compile.specs.Checks.{fault_at, IsRefused};
+ghost use Rattle.aa_diagnostics.specs.Further.{HasWords, ShowsConflictAt, ShowsIfConflict, SpellsNothing};
+ghost use Rattle.aa_diagnostics.specs.Conflicts.{IsRuleLine, AreRuleLines, both_match, files_at, ShowsRules, ShowsConflict, ShowsOne, HasNone, NoneHas};
 
 use aa_asks::{ProfilePlaces, rule_places};
 use aa_auto::BuildFault;
@@ -17,7 +24,7 @@ use aa_policy::parse;
 use aa_profiles::Profile;
 use aa_texts::{push_place, push_text};
 use aa_units::{Unit, sources_of, text_at};
-use aa_words::{PolicyFault, PolicyKind, Spot, words};
+use aa_words::{PolicyFault, Spot, words};
 use std::alloc::{AllocError, Global};
 
 /// Where a rule stands, and its text.
@@ -142,7 +149,10 @@ fn push_clash_if(
     push_clash_of(alloc, unit, profile, places, limit, further)
 }
 
-fn places_of<'a>(found: &'a [ProfilePlaces<'_>], number: usize) -> &'a [Spot] {
+/// Where the file rules of the profile with that number stand.
+fn places_of<'a>(found: &'a [ProfilePlaces<'_>], number: usize) -> &'a [Spot]
+    ensures { result.now ≡ files_at (map places_data found.now) number }
+{
     match found.get(number) {
         Some(places) => places.files.as_slice(),
         None => &[],
@@ -162,8 +172,8 @@ fn push_first_clash(
     requires counts { IsWithinCounts profiles.now }
     requires some { 0 < limit }
     requires limit { limit ≤ 1000000 }
-    ensures { OnOk result (((further.new ≡ further.old) × ((n : ℕ) (p : Profile) → slice_get profiles.now n ≡ Some p → p.at ≡ at → HasNone p (limit + 1)))
-        ⊎ ((p : Profile) × (places : List Spot) × (lines : List (List ℕ)) × Contains profiles.now p × (p.at ≡ at) × ShowsConflict unit.now p places lines × (texts further.new.items ≡ texts further.old.items ++ lines))) }
+    ensures { OnOk result (((further.new ≡ further.old) × NoneHas profiles.now at (limit + 1))
+        ⊎ ((lines : List (List ℕ)) × ShowsOne unit.now profiles.now (map places_data found.now) at lines × (texts further.new.items ≡ texts further.old.items ++ lines))) }
 {
     for (number, profile) in profiles.iter().enumerate() {
         let places = places_of(found, number);
@@ -174,14 +184,18 @@ fn push_first_clash(
     Ok(())
 }
 
-/// The same of the profiles that a unit spells.
-fn clash_lines_at(
+/// Where two rules of the profile whose name stands there conflict: each with its place, and a path that both match; nothing where
+/// there is none.
+pub(crate) fn conflict_lines(
     alloc: Global,
     unit: &Unit,
     at: Spot,
     states: u32,
 ) -> Result<Vec<Vec<u8>>, PolicyFault>
-    ensures { IfOk result (λ lines. (texts lines.items ≡ []) ⊎ ShowsConflictAt unit.now at (texts lines.items)) }
+    ensures shown { IfOk result (λ lines. ShowsIfConflict (limit_of states) unit.now at (texts lines.items)) }
+    ensures own { IfOk result (λ lines. (ws : List WordData) (policy : Policy) → HasWords unit.now ws → Spells ws policy
+        → IsRefused policy.profiles (limit_of states) (fault_at ConflictingExec at) → ShowsConflictAt unit.now at (texts lines.items)) }
+    ensures refused { IsRefusal result → SpellsNothing unit.now }
 {
     let sources = sources_of(alloc, unit)?;
     let list = words(alloc, &sources, unit.text.as_slice())?;
@@ -200,21 +214,4 @@ fn clash_lines_at(
         &mut further,
     )?;
     Ok(further)
-}
-
-/// Where two rules of the profile whose name stands there conflict: each with its place, and a path that both match; nothing where
-/// none is found.
-pub(crate) fn conflict_lines(
-    alloc: Global,
-    unit: &Unit,
-    at: Spot,
-    states: u32,
-) -> Result<Vec<Vec<u8>>, AllocError>
-    ensures { IfOk result (λ lines. (texts lines.items ≡ []) ⊎ ShowsConflictAt unit.now at (texts lines.items)) }
-{
-    match clash_lines_at(alloc, unit, at, states) {
-        Ok(lines) => Ok(lines),
-        Err(refusal) if refusal.kind == PolicyKind::NoMemory => Err(AllocError),
-        Err(_) => Ok(Vec::new(alloc)),
-    }
 }

@@ -1,50 +1,18 @@
 //! What is said of a fault.
 
-ghost use Rattle.std.specs.Prelude.{◌≡◌, ◌==◌, ◌&&◌, ◌++◌, [], ◌∷◌, map, codes, OnOk, IfOk};
+ghost use Rattle.std.specs.Prelude.{◌≡◌, ◌==◌, ◌&&◌, ◌++◌, [], ◌∷◌, codes, IfOk};
 ghost use Rattle.aa_faults.specs.Kinds.{kind_name};
 ghost use Rattle.aa_trees.specs.Texts.{texts, slices};
 ghost use Rattle.aa_diagnostics.specs.Further.{spot_line};
 ghost use Rattle.aa_diagnostics.specs.Sentences.{message};
-ghost use Rattle.aa_diagnostics.specs.Reports.{is_too_large, is_of_whole, has_place, place_if, excerpt_if, link_data, link_at, AreLinks, IsReport, IsDescribed, IsOfWhole, unread_kind, unread_message};
+ghost use Rattle.aa_diagnostics.specs.Reports.{is_too_large, is_of_whole, has_place, IsReport, IsDescribed, IsOfWhole, unread_kind, unread_message};
 
 use crate::further::{further_of, spot_lines};
 use crate::sentence::message_of;
-use crate::trail::{Step, trail_to};
-use aa_places::excerpt;
-use aa_texts::{FaultReport, Link, PlaceAt, place_at, push_text};
-use aa_units::{Unit, Unread, is_folder_at, node_of, text_at, text_of_node};
+use aa_texts::{FaultReport, push_text};
+use aa_units::{Unit, Unread, excerpt_if, is_folder_at, links_to, node_of, place_if, text_at};
 use aa_words::{PolicyFault, PolicyKind, Spot};
 use std::alloc::{AllocError, Global};
-
-fn push_link(
-    alloc: Global,
-    unit: &Unit,
-    step: &Step,
-    links: &mut Vec<Link>,
-) -> Result<(), AllocError>
-    ensures { OnOk result (map link_data links.new.items ≡ map link_data links.old.items ++ link_at unit.now step.now) }
-{
-    let (path, text, is_folder) = text_of_node(unit, step.from);
-    if !is_folder {
-        links.push(Link {
-            path: Vec::from_slice(alloc, path)?,
-            place: place_at(text, step.byte),
-        })?;
-    }
-    Ok(())
-}
-
-/// The includes on the way to a node, without those of folders' texts.
-fn links_to(alloc: Global, unit: &Unit, node: usize) -> Result<Vec<Link>, AllocError>
-    ensures { IfOk result (λ links. AreLinks unit.now node links.items) }
-{
-    let trail = trail_to(alloc, unit, node)?;
-    let mut links = Vec::new(alloc);
-    for step in &trail {
-        push_link(alloc, unit, step, &mut links)?;
-    }
-    Ok(links)
-}
 
 fn is_too_large(kind: PolicyKind) -> bool
     ensures { result ≡ is_too_large kind }
@@ -64,26 +32,6 @@ fn has_place(unit: &Unit, fault: PolicyFault) -> bool
     ensures { result ≡ has_place unit.now fault }
 {
     !is_folder_at(unit, fault.at.file) && !is_of_whole(unit, fault)
-}
-
-fn place_if(there: bool, text: &[u8], byte: usize) -> Option<PlaceAt>
-    ensures { result ≡ place_if there text.now byte }
-{
-    if there {
-        Some(place_at(text, byte))
-    } else {
-        None
-    }
-}
-
-fn excerpt_if(alloc: Global, there: bool, text: &[u8], byte: usize) -> Result<Vec<u8>, AllocError>
-    ensures { IfOk result (λ lines. lines.items ≡ excerpt_if there text.now byte) }
-{
-    if there {
-        excerpt(alloc, text, byte)
-    } else {
-        Ok(Vec::new(alloc))
-    }
 }
 
 /// What is said of a fault: in which file it lies and where, and why.

@@ -154,7 +154,7 @@ pub(crate) fn further_of(
     kind: PolicyKind,
     at: Spot,
 ) -> Result<Vec<Vec<u8>>, AllocError>
-    ensures further { IfOk result (λ lines. IsFurther unit.now (slices folders.now) at (texts lines.items) kind) }
+    ensures further { IfOk result (λ lines. IsFurther unit.now (slices folders.now) states at (texts lines.items) kind) }
     ensures earlier { IfOk result (λ lines. IsFaultOfUnit (limit_of states) unit.now (record { kind = kind; at = at }) → ShowsEarlier unit.now at (texts lines.items) kind) }
 {
     let (_, text) = text_at(unit, at.file);
@@ -162,7 +162,9 @@ pub(crate) fn further_of(
         PolicyKind::MissingInclude => tried(alloc, folders, text, at.byte as usize),
         PolicyKind::VariableTwice => unless_refused(alloc, set_lines(alloc, unit, at)),
         PolicyKind::DuplicateProfile => unless_refused(alloc, earlier_lines(alloc, unit, at)),
-        PolicyKind::ConflictingExec => conflict_lines(alloc, unit, at, states),
+        PolicyKind::ConflictingExec => {
+            unless_refused(alloc, conflict_lines(alloc, unit, at, states))
+        }
         _ => Ok(Vec::new(alloc)),
     }
 }

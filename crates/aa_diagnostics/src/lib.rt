@@ -6,6 +6,5 @@ mod described;
 mod further;
 mod left_out;
 mod sentence;
-mod trail;
 
 pub use described::{describe, describe_repeated, describe_together, unreadable};

@@ -18,7 +18,7 @@ use Rattle.aa_units.specs.declared.unit.UnitFault.TheVariants.{NoMemory, At, Amb
 use Rattle.aa_units.specs.Numbers.{path_in, text_in}
 use Rattle.aa_units.specs.Nodes.{is_folder_in, node_in}
 use Rattle.aa_units.specs.Walks.{known_of}
-use Rattle.aa_diagnostics.specs.Reports.{place_if, excerpt_if, AreLinks}
+use Rattle.aa_units.specs.Links.{place_if, excerpt_if, AreLinks}
 use Rattle.aa_log_jobs.specs.declared.shared.Meaning.{Meaning}
 
 -- what a name stands for in a unit that includes it: a source, or nothing

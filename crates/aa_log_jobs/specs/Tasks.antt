@@ -76,6 +76,10 @@ HasTaken t lines = given t ≡ given_by t.policies.now (asked_by_lines t.choice 
 abbrev pub any_log : JobTasks → ℕ
 any_log t = 0
 
+-- The tasks are for the same policies and the same choice.
+abbrev pub HasSameSettings : JobTasks → JobTasks → Type 0
+HasSameSettings first t = (t.policies ≡ first.policies) × (t.choice ≡ first.choice)
+
 -- ---- one record more
 
 abbrev pub one_stranger : Given → Given

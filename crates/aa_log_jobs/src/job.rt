@@ -4,7 +4,7 @@ ghost use Rattle.std.specs.Prelude.{◌≡◌, ◌≢◌, ◌++◌, ◌∷◌, [
 ghost use Rattle.aa_logs.specs.Outcomes.{record_data};
 ghost use Rattle.aa_job_texts.specs.Jobs.{left_out};
 ghost use Rattle.aa_log_lines.specs.LogLines.{LogLine, log_line};
-ghost use Rattle.aa_log_jobs.specs.Tasks.{any_log, asked_by, given, HasTaken, one_asked, one_more, with_found};
+ghost use Rattle.aa_log_jobs.specs.Tasks.{any_log, HasSameSettings, asked_by, given, HasTaken, one_asked, one_more, with_found};
 ghost use Rattle.aa_log_jobs.specs.Jobs.{AreIncludes, IsJobWritten, IsNoText};
 
 use aa_findings::{LogTask, take_record};
@@ -112,8 +112,11 @@ impl Lines for JobTasks<'_> {
 
     ghost has_taken = { λ tasks lines. HasTaken tasks lines };
 
+    ghost keeps = { λ first tasks. HasSameSettings first tasks };
+
     fn take_line(&mut self, alloc: Global, line: &[u8], _number: u64) -> Result<(), Unread>
         ensures log { OnOk result (any_log self.new ≡ any_log self.old) }
+        ensures keeps { OnOk result ((first : JobTasks) → HasSameSettings first self.old → HasSameSettings first self.new) }
         ensures taken { OnOk result ((before : List LogLine) → HasTaken self.old before → HasTaken self.new (before ++ log_line (any_log self.old) _number line.now ∷ [])) }
         ensures stays { (self.new.policies ≡ self.old.policies) × (self.new.choice ≡ self.old.choice) }
         ensures refused { IfErr result (λ why. why ≡ Unread.NoMemory) }

@@ -25,9 +25,13 @@ pub trait Lines {
     /// It may be what has taken these lines and no others.
     ghost has_taken: { Self → List LogLine → Type 0 } = { λ _ _. ⊤ };
 
+    /// What it has kept of an earlier state, as its settings.
+    ghost keeps: { Self → Self → Type 0 } = { λ _ _. ⊤ };
+
     /// Takes a line without its end, by its number from 1. Refused where memory runs out, and where the lines ask too much.
     fn take_line(&mut self, alloc: Global, line: &[u8], number: u64) -> Result<(), Unread>
         ensures log { OnOk result (log self.new ≡ log self.old) }
+        ensures keeps { OnOk result ((first : Self) → keeps first self.old → keeps first self.new) }
         ensures taken { OnOk result ((before : List LogLine) → has_taken self.old before → has_taken self.new (before ++ log_line (log self.old) number line.now ∷ [])) };
 }
 
@@ -87,6 +91,7 @@ fn end_line<L: Lines>(
     ensures bytes { OnOk result (held.new.bytes.items ≡ []) }
     ensures number { OnOk result (held.new.number ≡ held.old.number + 1) }
     ensures log { OnOk result (L.log lines.new ≡ L.log lines.old) }
+    ensures keeps { OnOk result ((first : L) → L.keeps first lines.old → L.keeps first lines.new) }
     ensures taken { OnOk result ((before : List LogLine) → L.has_taken lines.old before → L.has_taken lines.new (before ++ log_line (L.log lines.old) held.old.number (kept (held.old.bytes.items ++ bytes.now)) ∷ [])) }
 {
     keep(&mut held.bytes, bytes)?;
@@ -111,6 +116,7 @@ fn take_ended<L: Lines>(
     ensures room { OnOk result (length held.new.bytes.items ≤ 65537) }
     ensures number { OnOk result (held.new.number ≡ held.old.number + length (ended held.old.bytes.items bytes.now)) }
     ensures log { OnOk result (L.log lines.new ≡ L.log lines.old) }
+    ensures keeps { OnOk result ((first : L) → L.keeps first lines.old → L.keeps first lines.new) }
     ensures taken { OnOk result ((before : List LogLine) → L.has_taken lines.old before → L.has_taken lines.new (before ++ numbered (L.log lines.old) held.old.number (map kept (ended held.old.bytes.items bytes.now)))) }
 {
     let mut rest = bytes;
@@ -127,6 +133,7 @@ fn take_ended<L: Lines>(
 /// Hands the last line on where it has no end, unless it is empty.
 fn take_last<L: Lines>(alloc: Global, held: &OpenLine, lines: &mut L) -> Result<(), Unread>
     ensures log { OnOk result (L.log lines.new ≡ L.log lines.old) }
+    ensures keeps { OnOk result ((first : L) → L.keeps first lines.old → L.keeps first lines.new) }
     ensures taken { OnOk result ((before : List LogLine) → L.has_taken lines.old before → L.has_taken lines.new (before ++ numbered (L.log lines.old) held.now.number (last_line held.now.bytes.items))) }
 {
     let bytes = held.bytes.as_slice();
@@ -139,6 +146,7 @@ fn take_last<L: Lines>(alloc: Global, held: &OpenLine, lines: &mut L) -> Result<
 /// Hands on each line that a reader gives.
 fn read_lines<R: Read, L: Lines>(alloc: Global, reader: &mut R, lines: &mut L) -> Result<(), Unread>
     ensures log { OnOk result (L.log lines.new ≡ L.log lines.old) }
+    ensures keeps { OnOk result ((first : L) → L.keeps first lines.old → L.keeps first lines.new) }
     ensures taken { OnOk result (IfSome (R.remaining reader.old) (λ bytes. (before : List LogLine) → L.has_taken lines.old before → L.has_taken lines.new (before ++ log_lines (L.log lines.old) bytes))) }
     ensures some { OnOk result ((bytes : List ℕ) × ((before : List LogLine) → L.has_taken lines.old before → L.has_taken lines.new (before ++ log_lines (L.log lines.old) bytes))) }
 {
@@ -160,6 +168,7 @@ fn read_lines<R: Read, L: Lines>(alloc: Global, reader: &mut R, lines: &mut L) -
 /// Hands each line of a log on; the path `-` is standard input.
 pub fn read_log<L: Lines>(rt: &HostRuntime, path: &[u8], lines: &mut L) -> Result<(), Unread>
     ensures log { OnOk result (L.log lines.new ≡ L.log lines.old) }
+    ensures keeps { OnOk result ((first : L) → L.keeps first lines.old → L.keeps first lines.new) }
     ensures taken { OnOk result ((bytes : List ℕ) × ((before : List LogLine) → L.has_taken lines.old before → L.has_taken lines.new (before ++ log_lines (L.log lines.old) bytes))) }
 {
     let alloc = rt.alloc();

@@ -1,5 +1,5 @@
 -- What logs hold, by their lines.
-use Rattle.std.specs.Prelude.{ℕ, ◌≡◌, List, [], ◌∷◌, ◌&&◌, ◌==◌, ◌≤◌, length, map, flat_map, count_by, min, Bool, true, false, not, Option, Some, None, is_none, option_map, position, if◌then◌else◌}
+use Rattle.std.specs.Prelude.{ℕ, ◌≡◌, List, [], ◌∷◌, ◌&&◌, ◌==◌, ◌≤◌, length, map, flat_map, count_by, min, Bool, true, false, not, Option, Some, None, is_none, is_some, option_map, position, if◌then◌else◌}
 use Rattle.std.specs.List.{filter}
 use Rattle.std.specs.Option.{option_or}
 use Rattle.std.specs.Str.{bytes_eq}
@@ -169,6 +169,10 @@ pub record IsReport (ls : List LogLine) (r : LogReport) : Type 0 where
   pub skipped_count : r.skipped_count ≡ min (length (skipped_in r.choice ls)) greatest
   pub other : r.other ≡ min (others_in ls) greatest
   pub left_out : r.left_out ≡ left_out_of r.choice (left_in r.choice ls)
+
+-- The same lines are wanted, and each skipped one is noted or none is.
+abbrev pub HasSameSettings : LogReport → LogReport → Type 0
+HasSameSettings first r = (r.choice ≡ first.choice) × (is_some r.each_skipped ≡ is_some first.each_skipped)
 
 -- refused for want of memory, or since something is so
 abbrev pub IsRefused : Unread → Type 0 → Type 0

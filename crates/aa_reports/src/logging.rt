@@ -12,7 +12,7 @@ ghost use Rattle.aa_logs.specs.Asked.{cause_of};
 ghost use Rattle.aa_logs.specs.Outcomes.{record_data, outcome};
 ghost use Rattle.aa_logs.specs.Records.{line_in};
 ghost use Rattle.aa_reports.specs.Counted.{greatest, firsts, counted};
-ghost use Rattle.aa_reports.specs.Found.{Asked, Skipped, asked_at, asked_key, skipped_key, skipped_item, skipped_data, skipped_for, is_wanted, wants_all, left_out_of, distinct_in, AddsKey, AreFound, AreEach, IsReport, IsRefused};
+ghost use Rattle.aa_reports.specs.Found.{Asked, Skipped, asked_at, asked_key, skipped_key, skipped_item, skipped_data, skipped_for, is_wanted, wants_all, left_out_of, distinct_in, AddsKey, AreFound, AreEach, HasSameSettings, IsReport, IsRefused};
 ghost use Rattle.aa_reports.specs.Orders.{up_to, key_at, items_at, profile_of, reason_key, IsOrder, IsInOrder};
 ghost use Rattle.aa_reports.specs.Printed.{key_text};
 
@@ -370,14 +370,17 @@ impl<'a> LogReport<'a> {
 }
 
 impl Lines for LogReport<'_> {
-    ghost use Rattle.aa_reports.specs.Found.{IsReport};
+    ghost use Rattle.aa_reports.specs.Found.{HasSameSettings, IsReport};
 
     ghost log = { λ r. r.log };
 
     ghost has_taken = { λ r lines. IsReport lines r };
 
+    ghost keeps = { λ first r. HasSameSettings first r };
+
     fn take_line(&mut self, alloc: Global, line: &[u8], number: u64) -> Result<(), Unread>
         ensures log { OnOk result (self.new.log ≡ self.old.log) }
+        ensures keeps { OnOk result ((first : LogReport) → HasSameSettings first self.old → HasSameSettings first self.new) }
         ensures choice { OnOk result (self.new.choice ≡ self.old.choice) }
         ensures kept { OnOk result (is_some self.new.each_skipped ≡ is_some self.old.each_skipped) }
         ensures taken { OnOk result ((before : List LogLine) → IsReport before self.old → IsReport (before ++ log_line self.old.log number line.now ∷ []) self.new) }

@@ -5,6 +5,10 @@ pub mod FilesData
 pub mod Walks
 pub mod WalkData
 pub mod Nodes
+pub mod Trails
+pub mod Unread
+pub mod Links
+pub mod Ambiguities
 pub mod UnitFaults
 pub mod Roots
 pub mod RootFaults

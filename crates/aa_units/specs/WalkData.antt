@@ -1,15 +1,29 @@
 -- A walk, as the code has it.
-use Rattle.std.specs.Prelude.{ℕ, ◌≡◌, ◌<◌, List, [], ◌∷◌, ◌++◌, length, take, Bool, Option, Some, None, All}
+use Rattle.std.specs.Prelude.{ℕ, ◌≡◌, ◌<◌, List, [], ◌∷◌, ◌++◌, length, take, map, Bool, Option, Some, None, All}
 use Rattle.std.specs.BTreeMap.{insert_entry, IsOrdered}
+use Rattle.aa_words.specs.Found.{IncludeData, HasIncludes}
 use Rattle.aa_trees.specs.Texts.{texts}
 use Rattle.aa_units.specs.declared.unit.Source.{Source}
 use Rattle.aa_units.specs.declared.unit.Unit as unit
 use Rattle.aa_units.specs.declared.walk.Wanted.{Wanted}
 use Rattle.aa_units.specs.Files.{Files}
-use Rattle.aa_units.specs.Walks.{Name, Entry, by_bytes, known_of, Asked, IsClosed, walked_texts, LiesAt, NothingAt, IsFoundAt, IsWalk, in_order}
+use Rattle.aa_units.specs.Walks.{Name, Entry, by_bytes, known_of, Asked, asked_by, IsClosed, walked_texts, LiesAt, NothingAt, IsFoundAt, IsWalk, in_order}
 
 abbrev pub asked : Wanted → Asked
 asked w = (w.name.items, texts w.paths.items)
+
+-- the same with its include's first byte
+abbrev pub wanted_data : Wanted → ℕ × Asked
+wanted_data w = (w.byte, asked w)
+
+abbrev pub wants : List (List ℕ) → IncludeData → ℕ × Asked
+wants folders i = (i.byte, asked_by folders i)
+
+-- what each include of a text wants, in order
+pub record AreWanted (folders : List (List ℕ)) (text : List ℕ) (ws : List Wanted) : Type 0 where
+  pub includes : List IncludeData
+  pub of_text : HasIncludes text includes
+  pub each : map wanted_data ws ≡ map (wants folders) includes
 
 -- one source more, behind the others
 pub record IsAdded (name path : List ℕ) (read : List ℕ × Bool) (sources : List Source) (entries : List Entry) (sources' : List Source) (entries' : List Entry) : Type 0 where

@@ -1,20 +1,19 @@
 //! A main text with all that it includes, breadth first.
 
-ghost use Rattle.std.specs.Prelude.{◌≡◌, ◌≢◌, ◌+◌, Option, Some, None, IfOk, IfErr, OnOk, MatchOption, IfSome, Contains, length, map, slice_get, slice_index_or};
+ghost use Rattle.std.specs.Prelude.{◌≡◌, ◌≢◌, ◌+◌, Option, Some, None, option_map, IfOk, IfErr, OnOk, MatchOption, IfSome, Contains, slice_get, slice_index_or};
 ghost use Rattle.std.specs.List.{list_any};
 ghost use Rattle.std.specs.Str.{bytes_eq};
 ghost use Rattle.std.specs.BTreeMap.{IsOrdered, insert_entry};
 ghost use Rattle.aa_trees.specs.Texts.{texts, slices};
 ghost use Rattle.aa_units.specs.FilesData.{read, IsMain, IsMainText};
-ghost use Rattle.aa_units.specs.Walks.{Entry, by_bytes, known_of, asked_by, Asks, walked_texts, LiesAt, NothingAt, in_order};
-ghost use Rattle.aa_units.specs.WalkData.{asked, IsAdded, LooksUp, IsWalkedTo, IsUnit};
+ghost use Rattle.aa_units.specs.Walks.{Entry, by_bytes, known_of, walked_texts, LiesAt, NothingAt, in_order};
+ghost use Rattle.aa_units.specs.WalkData.{asked, wanted_data, wants, AreWanted, IsAdded, LooksUp, IsWalkedTo, IsUnit};
 ghost use Rattle.aa_units.specs.UnitFaults.{IsLookFault, IsLookUpFault, IsWalkFault, IsLoadFault};
 ghost use Rattle.aa_words.specs.FoundData.{include_data};
 
+use crate::said::ambiguous;
 use crate::tree::{Found, Tree, Unread, what_lies_at};
-use crate::unit::{Source, Unit, UnitFault, fault_at, paths_of, text_of_node};
-use aa_places::excerpt;
-use aa_texts::{FaultReport, place_at};
+use crate::unit::{Source, Unit, UnitFault, fault_at, paths_of};
 use aa_words::{IncludeAt, includes_of};
 use std::alloc::{AllocError, Global};
 use std::collections::BTreeMap;
@@ -36,7 +35,7 @@ fn wanted_at(
     include: &IncludeAt<'_>,
     folders: &[&[u8]],
 ) -> Result<Wanted, AllocError>
-    ensures { IfOk result (λ w. asked w ≡ asked_by (slices folders.now) (include_data include.now)) }
+    ensures { IfOk result (λ w. wanted_data w ≡ wants (slices folders.now) (include_data include.now)) }
 {
     Ok(Wanted {
         byte: include.byte,
@@ -47,7 +46,7 @@ fn wanted_at(
 
 /// What the includes of a text want.
 fn wanted_by(alloc: Global, text: &[u8], folders: &[&[u8]]) -> Result<Vec<Wanted>, AllocError>
-    ensures { IfOk result (λ ws. Asks (slices folders.now) text.now (map asked ws.items)) }
+    ensures { IfOk result (λ ws. AreWanted (slices folders.now) text.now ws.items) }
 {
     let includes = includes_of(alloc, text)?;
     let mut wanted = Vec::new(alloc);
@@ -92,57 +91,6 @@ fn first_found<T: Tree>(
     Ok(None)
 }
 
-/// How the two forms of a name differ: the path that each finds, if something lies there.
-fn difference(
-    alloc: Global,
-    before: Option<&[u8]>,
-    here: Option<&[u8]>,
-) -> Result<Vec<u8>, AllocError> {
-    let mut message = Vec::new(alloc);
-    match (before, here) {
-        (Some(before), Some(here)) => {
-            message.extend_from_slice(before)?;
-            message.extend_from_slice(" and ".as_bytes())?;
-            message.extend_from_slice(here)?;
-            message.extend_from_slice(" both have this name".as_bytes())?;
-        }
-        (Some(before), None) => {
-            message.extend_from_slice("nothing has this name here, and ".as_bytes())?;
-            message.extend_from_slice(before)?;
-            message.extend_from_slice(" has it for its other form".as_bytes())?;
-        }
-        (None, Some(here)) => {
-            message.extend_from_slice(here)?;
-            message.extend_from_slice(
-                " has this name, and nothing has it for its other form".as_bytes(),
-            )?;
-        }
-        (None, None) => {}
-    }
-    Ok(message)
-}
-
-/// What is said of a name that is included in both forms, which find different things.
-fn ambiguous(
-    alloc: Global,
-    unit: &Unit,
-    node: usize,
-    byte: usize,
-    before: Option<&[u8]>,
-    here: Option<&[u8]>,
-) -> Result<FaultReport, AllocError> {
-    let (path, text, _) = text_of_node(unit, node);
-    Ok(FaultReport {
-        kind: "AmbiguousInclude",
-        path: Vec::from_slice(alloc, path)?,
-        place: Some(place_at(text, byte)),
-        message: difference(alloc, before, here)?,
-        excerpt: excerpt(alloc, text, byte)?,
-        chain: Vec::new(alloc),
-        further: Vec::new(alloc),
-    })
-}
-
 fn has_path(paths: &[Vec<u8>], path: &[u8]) -> bool
     ensures { result ≡ list_any (λ one. bytes_eq one.items path.now) paths.now }
 {
@@ -150,7 +98,9 @@ fn has_path(paths: &[Vec<u8>], path: &[u8]) -> bool
 }
 
 /// The path of what was found.
-fn path_of(found: &Option<(Vec<u8>, Found)>) -> Option<&[u8]> {
+fn path_of(found: &Option<(Vec<u8>, Found)>) -> Option<&[u8]>
+    ensures { option_map (λ p. p.now) result ≡ option_map (λ f. f.0.items) found.now }
+{
     match found {
         Some((path, _)) => Some(path.as_slice()),
         None => None,
@@ -168,7 +118,7 @@ fn check_known<T: Tree>(
 ) -> Result<(), UnitFault>
     requires { known_of unit.now.known.entries wanted.name.items ≡ Some (Some index) }
     ensures agrees { OnOk result (IfSome (slice_get unit.now.sources.items index) (λ s. Contains (texts wanted.paths.items) s.path.items)) }
-    ensures fault { IfErr result (IsLookUpFault (T.files tree.now) unit.now.sources.items unit.now.known.entries (asked wanted)) }
+    ensures fault { IfErr result (IsLookUpFault (T.files tree.now) unit.now node wanted.byte (asked wanted)) }
 {
     let Some(source) = unit.sources.get(index) else {
         return Ok(());
@@ -193,7 +143,7 @@ fn check_missing<T: Tree>(
 ) -> Result<(), UnitFault>
     requires { known_of unit.now.known.entries wanted.name.items ≡ Some None }
     ensures agrees { OnOk result (NothingAt (T.files tree.now) (texts wanted.paths.items)) }
-    ensures fault { IfErr result (IsLookUpFault (T.files tree.now) unit.now.sources.items unit.now.known.entries (asked wanted)) }
+    ensures fault { IfErr result (IsLookUpFault (T.files tree.now) unit.now node wanted.byte (asked wanted)) }
 {
     let byte = wanted.byte;
     match first_found(alloc, tree, wanted.paths)? {
@@ -282,7 +232,7 @@ fn look_up<T: Tree>(
     wanted: Wanted,
 ) -> Result<(), UnitFault>
     ensures adds { OnOk result (LooksUp (T.files tree.now) (asked wanted) unit.old unit.new) }
-    ensures fault { IfErr result (IsLookUpFault (T.files tree.now) unit.old.sources.items unit.old.known.entries (asked wanted)) }
+    ensures fault { IfErr result (IsLookUpFault (T.files tree.now) unit.old node wanted.byte (asked wanted)) }
 {
     let known = unit.known.get(wanted.name.as_slice()).copied();
     match known {
@@ -302,7 +252,7 @@ fn walk_text<T: Tree>(
 ) -> Result<(), UnitFault>
     requires { IsWalkedTo (T.files tree.now) (slices folders.now) unit.old.path.items unit.old.text.items number unit.old }
     ensures walked { OnOk result (IsWalkedTo (T.files tree.now) (slices folders.now) unit.old.path.items unit.old.text.items (number + 1) unit.new) }
-    ensures fault { IfErr result (λ e. e ≢ UnitFault.NoMemory → IsWalkFault (T.files tree.now) (slices folders.now) unit.old.text.items e) }
+    ensures fault { IfErr result (λ e. e ≢ UnitFault.NoMemory → IsWalkFault (T.files tree.now) (slices folders.now) unit.old.path.items unit.old.text.items e) }
 {
     if number > unit.sources.len() {
         return Ok(());
@@ -340,7 +290,7 @@ pub fn load_text<T: Tree>(
     text: Vec<u8>,
 ) -> Result<Unit, UnitFault>
     ensures unit { IfOk result (λ unit. IsUnit (T.files tree.now) (slices folders.now) path.items text.items unit) }
-    ensures fault { IfErr result (λ e. e ≢ UnitFault.NoMemory → IsWalkFault (T.files tree.now) (slices folders.now) text.items e) }
+    ensures fault { IfErr result (λ e. e ≢ UnitFault.NoMemory → IsWalkFault (T.files tree.now) (slices folders.now) path.items text.items e) }
 {
     let mut unit = Unit {
         path,

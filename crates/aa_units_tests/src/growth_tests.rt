@@ -57,9 +57,10 @@ fn are_told(rt: &impl Abort, alloc: Global, tree: &MemoryTree) -> bool {
     }
 }
 
-/// A name in both forms, which lies at two paths.
+/// A name in both forms, which lies at two paths. The later form stands in an included file.
 const BOTH_FORMS: &[File] = &[
-    ("/m", "include <a>\ninclude \"a\"\n"),
+    ("/m", "include <a>\ninclude <c>\n"),
+    ("/b/c", "include \"a\"\n"),
     ("/b/a", ""),
     ("a", ""),
 ];
@@ -70,7 +71,10 @@ fn is_ambiguous(rt: &impl Abort, alloc: Global) -> bool {
         return false;
     };
     match loaded(alloc, &tree, "/m") {
-        Err(UnitFault::Ambiguous(_)) => true,
+        Err(UnitFault::Ambiguous(fault)) => {
+            assert_eq!(rt; fault.chain.len(), 1);
+            true
+        }
         Err(UnitFault::NoMemory) => false,
         _ => panic!(rt; "read, or refused otherwise"),
     }

@@ -154,7 +154,7 @@ const SAID_OF_ONE: &str =
     "/m:2:3: AmbiguousInclude: /b/a and a both have this name\n    2 |   include \"a\"\n      |   ^\n";
 
 const SAID_OF_TWO: &str =
-    "/b/c:3:1: AmbiguousInclude: a and /b/a both have this name\n    3 | include <a>\n      | ^\n";
+    "/b/c:3:1: AmbiguousInclude: a and /b/a both have this name\n    3 | include <a>\n      | ^\n      included from /n:2:1\n";
 
 #[test]
 fn a_name_in_both_forms_that_lies_at_two_paths_is_refused_at_the_later(

@@ -1,4 +1,4 @@
-use Rattle.std.proofs.Common.{◌≡◌, take}
+use Rattle.std.proofs.Common.{◌≡◌, take, is_some}
 use Rattle.aa_trees.specs.Texts.{slices}
 use Rattle.aa_commands.specs.Logging.{IsFoundIn}
 use Rattle.aa_commands.proofs.logs.read_reports.Given as goal
@@ -6,5 +6,5 @@ use Rattle.aa_commands.proofs.logs.read_reports.Given as goal
 abbrev pub invariant-loop-path : goal.invariant-loop-path
 invariant-loop-path g l = record {
   number : l.number ≡ l.path-index;
-  found : IsFoundIn (g.R.Logs.lying l.reader) (slices (take l.path-index l.logs)) l.report;
+  found : IsFoundIn (g.R.Logs.lying l.reader) l.fn.report.choice (is_some l.fn.report.each_skipped) (slices (take l.path-index l.logs)) l.report;
 }

@@ -2,7 +2,7 @@ use Rattle.std.proofs.Common.{Bool, ap, refl, ◌∙◌}
 use Rattle.std.specs.Prelude.{not}
 use Rattle.aa_units.specs.Numbers.{text_in}
 use Rattle.aa_units.specs.Nodes.{is_folder_in}
-use Rattle.aa_diagnostics.specs.Reports.{place_if, excerpt_if}
+use Rattle.aa_units.specs.Links.{place_if, excerpt_if}
 use Rattle.aa_log_jobs.proofs.Placing.{and_true}
 use Rattle.aa_log_jobs.proofs.shared.ambiguous.Goals as goal
 

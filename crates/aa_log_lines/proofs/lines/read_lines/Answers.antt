@@ -16,6 +16,7 @@ loop-init g c =
       omega (arith, none_ended []),
       refl,
       λ before h. subst (g.L.Lines.has_taken c.args.lines.now) (sym (none_taken (g.L.Lines.log c.args.lines.now) 1 before [])) h,
+      λ first h. h,
     )
 
 pub returns-then-n-eq0-clause-taken : goal.returns-then-n-eq0-clause-taken
@@ -52,6 +53,9 @@ returns-then-n-eq0-clause-some g c =
     ))
     c.take_last.ensures.taken
 
+pub returns-then-n-eq0-clause-keeps : goal.returns-then-n-eq0-clause-keeps
+returns-then-n-eq0-clause-keeps g c = on_ok_weaker c.take_last.result (λ last first h. last first (c.loop.invariant.7 first h)) c.take_last.ensures.keeps
+
 pub loop-preserved : goal.loop-preserved
 loop-preserved g c =
     let i = c.loop.invariant in
@@ -68,4 +72,5 @@ loop-preserved g c =
       λ before h. subst (g.L.Lines.has_taken c.take_ended.new.lines)
           (chunk_taken log (g.L.Lines.log c.loop.lines) c.loop.held.number before i.0 bytes c.loop.held.bytes.items i.5 i.3 i.4)
           (e.taken (before ++ numbered log 1 (map kept (ended [] i.0))) (i.6 before h)),
+      λ first h. e.keeps first (i.7 first h),
     )

@@ -8,6 +8,7 @@ invariant-loop g l =
     let remaining = g.R.Read.remaining in
     let log = g.L.Lines.log in
     let taken = g.L.Lines.has_taken in
+    let keeps = g.L.Lines.keeps in
     (front : List ℕ)
     × Consumes (remaining l.fn.reader) (remaining l.reader) front
     × (length l.held.bytes.items ≤ 65537)
@@ -15,3 +16,4 @@ invariant-loop g l =
     × (l.held.number ≡ 1 + length (ended [] front))
     × (log l.lines ≡ log l.fn.lines)
     × ((before : List LogLine) → taken l.fn.lines before → taken l.lines (before ++ numbered (log l.fn.lines) 1 (map kept (ended [] front))))
+    × ((first : _) → keeps first l.fn.lines → keeps first l.lines)

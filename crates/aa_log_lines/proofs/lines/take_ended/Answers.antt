@@ -7,7 +7,7 @@ use Rattle.aa_log_lines.proofs.lines.take_ended.Goals as goal
 pub lines-init : goal.lines-init
 lines-init g c =
     let front = c.args.held.now.bytes.items in
-    ([], refl, c.requires, sym (kept_whole front c.requires) ∙ ap kept (sym (none_held front)), omega (arith, none_ended front), refl, λ before h. subst (g.L.Lines.has_taken c.args.lines.now) (sym (none_taken (g.L.Lines.log c.args.lines.now) c.args.held.now.number before front)) h)
+    ([], refl, c.requires, sym (kept_whole front c.requires) ∙ ap kept (sym (none_held front)), omega (arith, none_ended front), refl, λ before h. subst (g.L.Lines.has_taken c.args.lines.now) (sym (none_taken (g.L.Lines.log c.args.lines.now) c.args.held.now.number before front)) h, λ first h. h)
 
 pub returns-in_default-clause-bytes : goal.returns-in_default-clause-bytes
 returns-in_default-clause-bytes g c =
@@ -52,4 +52,5 @@ lines-preserved g c =
       λ before h. subst (g.L.Lines.has_taken c.end_line.new.lines)
           (step_taken (g.L.Lines.log c.args.lines.now) (g.L.Lines.log c.lines.lines) c.args.held.now.number c.lines.held.number before front i.0 line c.lines.held.bytes.items first.byte i.5 i.4 i.3 more)
           (e.taken (before ++ numbered (g.L.Lines.log c.args.lines.now) c.args.held.now.number (map kept (ended front i.0))) (i.6 before h)),
+      λ first h. e.keeps first (i.7 first h),
     )

@@ -1,11 +1,15 @@
-use Rattle.std.proofs.Common.{◌≡◌, ℕ, List, length, refl, Option, Some, IfSome, Contains, Vec, true, false, sym, ap, subst, ◌∙◌}
+use Rattle.std.proofs.Common.{◌≡◌, ℕ, List, length, refl, Option, Some, option_map, IfSome, Contains, Vec, true, false, sym, ap, subst, ◌∙◌}
 use Rattle.std.specs.List.{list_any, slice_get}
 use Rattle.std.proofs.lemmas.Option.{slice_get_read}
 use Rattle.std.specs.Str.{bytes_eq}
 use Rattle.std.specs.declared.alloc.Global.{Global}
 use Rattle.aa_trees.specs.Texts.{texts}
+use Rattle.std.specs.Borrow.{Bor}
+use Rattle.aa_units.specs.declared.tree.Found.{Found}
 use Rattle.aa_units.specs.declared.unit.Source.{Source}
+use Rattle.aa_units.specs.Walks.{Name}
 use Rattle.aa_units.specs.UnitFaults.IsAmbiguous.{Elsewhere}
+use Rattle.aa_units.proofs.Faulted.{here_of, said_alike}
 use Rattle.aa_units.proofs.Lists.{contains_path, no_path}
 use Rattle.aa_units.proofs.walk.check_known.Goals as goal
 
@@ -33,4 +37,8 @@ returns-clause-fault g c =
     ap (λ (p : List ℕ). list_any (λ (v : Vec ℕ Global). bytes_eq v.items p) paths) (sym c.as_slice-2.ensures.value)
     ∙ ap (λ (ws : List (Vec ℕ Global)). list_any (λ (v : Vec ℕ Global). bytes_eq v.items c.as_slice-2.result.now) ws) (sym c.as_slice.ensures.value)
     ∙ sym c.has_path.ensures ∙ c.if-has_path.false in
-    Elsewhere c.args.index source c.requires there (no_path paths source.path.items none)
+    let files = g.T.Tree.files c.args.tree.now in
+    let here = option_map (λ (f : Name × Found). f.0.items) c.in_ok-found.found in
+    Elsewhere c.args.index source here c.requires there (no_path paths source.path.items none) (here_of files (texts paths) c.in_ok-found.found c.in_ok-found.ensures.found)
+    (said_alike c.args.unit.now c.args.node c.args.wanted.byte (Some c.as_slice-3.result.now) (option_map (λ (p : Bor (List ℕ)). p.now) c.path_of-here.result) (Some source.path.items) here c.in_ok-fault.fault
+    (ap (λ (p : List ℕ). Some p) c.as_slice-3.ensures.value) c.path_of-here.ensures c.in_ok-fault.ensures)

@@ -1,6 +1,9 @@
-use Rattle.std.proofs.Common.{◌≡◌, ℕ, List, Err, subst, ◌∙◌}
+use Rattle.std.proofs.Common.{◌≡◌, ℕ, List, Err, IfErr, subst, ◌∙◌}
+use Rattle.std.specs.Prelude.{◌≢◌}
 use Rattle.aa_trees.specs.Texts.{slices}
 use Rattle.aa_units.specs.FilesData.{IsMain, IsMainText}
+use Rattle.aa_units.specs.declared.unit.UnitFault.TheVariants.{NoMemory}
+use Rattle.aa_units.specs.UnitFaults.{IsLoadFault}
 use Rattle.aa_units.specs.UnitFaults.IsLoadFault.{OfMain}
 use Rattle.aa_units.proofs.Faulted.{load_fault}
 use Rattle.aa_units.proofs.walk.load.Goals as goal
@@ -9,8 +12,11 @@ pub returns-in-Ok-clause-fault : goal.returns-in-Ok-clause-fault
 returns-in-Ok-clause-fault g c =
     let files = g.T.Tree.files c.args.tree.now in
     let input = g.T.Tree.input c.args.tree.now in
-    let same : c.as_slice.result.now ≡ c.args.path.now = c.as_slice.ensures.value ∙ c.in_ok-path.ensures.items in
-    load_fault files input (slices c.args.folders.now) c.args.path.now c.in-Ok.text.items c.load_text.result (subst (λ (p : List ℕ). IsMainText files input p c.in-Ok.text.items) same c.in-Ok.ensures) c.load_text.ensures.fault
+    let folders = slices c.args.folders.now in
+    let path = c.in_ok-path.path.items in
+    let main : IsMainText files input path c.in-Ok.text.items = subst (λ (p : List ℕ). IsMainText files input p c.in-Ok.text.items) c.as_slice.ensures.value c.in-Ok.ensures in
+    subst (λ (p : List ℕ). IfErr c.load_text.result (λ e. e ≢ NoMemory → IsLoadFault files input folders p e)) c.in_ok-path.ensures.items
+    (load_fault files input folders path c.in-Ok.text.items c.load_text.result main c.load_text.ensures.fault)
 
 pub returns-in-Err-clause-fault : goal.returns-in-Err-clause-fault
 returns-in-Err-clause-fault g c =

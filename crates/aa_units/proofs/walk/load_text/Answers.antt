@@ -1,7 +1,24 @@
-use Rattle.std.proofs.Common.{◌<◌, length, arith}
+use Rattle.std.proofs.Common.{◌<◌, ℕ, List, length, subst, arith}
+use Rattle.std.specs.Prelude.{◌≢◌}
+use Rattle.std.proofs.lemmas.Result.{err_from_is_err_and}
+use Rattle.aa_units.specs.declared.unit.UnitFault.TheVariants.{NoMemory}
+use Rattle.aa_units.specs.UnitFaults.{IsWalkFault}
+use Rattle.aa_units.proofs.Faulted.{handed_on}
 use Rattle.aa_trees.specs.Texts.{slices}
 use Rattle.aa_units.proofs.Walked.{walked_all}
 use Rattle.aa_units.proofs.walk.load_text.Goals as goal
+
+pub returns-in_err-walk_text-clause-fault : goal.returns-in_err-walk_text-clause-fault
+returns-in_err-walk_text-clause-fault g c =
+    let files = g.T.Tree.files c.args.tree.now in
+    let folders = slices c.args.folders.now in
+    let inv = c.loop-number.invariant in
+    let u = c.loop-number.unit in
+    let e = c.in_err-walk_text.field-0.0 in
+    let p = err_from_is_err_and c.from_residual.result c.from_residual.ensures.1 in
+    handed_on c.from_residual.result _ _ (λ f. f ≢ NoMemory → IsWalkFault files folders c.args.path.items c.args.text.items f) p.1 p.2
+    (λ other. subst (λ (t : List ℕ). IsWalkFault files folders c.args.path.items t e) inv.text_is
+    (subst (λ (q : List ℕ). IsWalkFault files folders q u.text.items e) inv.path_is (c.in_err-walk_text.ensures.fault other)))
 
 pub returns-clause-unit : goal.returns-clause-unit
 returns-clause-unit g c =

@@ -30,7 +30,7 @@ returns-in-Some-None-clause-adds g c =
 
 pub returns-in-None-clause-fault : goal.returns-in-None-clause-fault
 returns-in-None-clause-fault g c =
-    look_up_faults (g.T.Tree.files c.args.tree.now) c.args.unit.now.sources.items c.args.unit.now.known.entries (asked c.args.wanted) c.look_up_new.result c.look_up_new.ensures.fault
+    look_up_faults (g.T.Tree.files c.args.tree.now) c.args.unit.now c.args.node c.args.wanted.byte (asked c.args.wanted) c.look_up_new.result c.look_up_new.ensures.fault
 
 pub check_known-requires : goal.check_known-requires
 check_known-requires g c =

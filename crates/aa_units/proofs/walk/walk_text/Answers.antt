@@ -1,19 +1,22 @@
-use Rattle.std.proofs.Common.{◌≡◌, ℕ, ◌<◌, ◌≤◌, List, length, get_or, map, All, sym, subst, ◌∙◌, arith, rules}
-use Rattle.std.proofs.lemmas.Iterator.Consumers.{YieldsList-turn, YieldsList-end}
+use Rattle.std.proofs.Common.{◌≡◌, ℕ, ◌<◌, ◌≤◌, List, length, take, get_or, map, All, sym, ap, subst, ◌∙◌, arith, rules}
+use Rattle.std.proofs.lemmas.Iterator.Consumers.{YieldsList-turn, YieldsList-end, YieldsList-so_far}
 use Rattle.std.proofs.lemmas.Iterator.Adapters.{YieldsList-from_vec}
 use Rattle.std.proofs.lemmas.List.{map-id}
 use Rattle.std.proofs.lemmas.List.Elements.{All-weaker, All-push, All-map}
 use Rattle.aa_trees.specs.Texts.{slices}
 use Rattle.aa_units.specs.declared.walk.Wanted.{Wanted}
-use Rattle.aa_units.specs.Walks.{IsLookedUp, walked_texts, IsClosed}
+use Rattle.aa_units.specs.Walks.{Asked, IsLookedUp, walked_texts, IsClosed}
 use Rattle.aa_units.specs.WalkData.{asked}
 use Rattle.aa_units.proofs.Walking.{looked_kept, looked_new}
 use Rattle.aa_units.proofs.Walked.{walked_more, walked_closed, walked_past, text_kept, no_fewer, asked_there}
 use Rattle.std.specs.Prelude.{◌≢◌}
 use Rattle.std.proofs.lemmas.Result.{err_from_is_err_and}
 use Rattle.aa_units.specs.declared.unit.UnitFault.TheVariants.{NoMemory}
-use Rattle.aa_units.specs.UnitFaults.{IsWalkFault}
+use Rattle.aa_units.specs.UnitFaults.{IsLookUpFault, IsWalkFault}
+use Rattle.aa_units.specs.Nodes.{text_of_node}
+use Rattle.aa_words.specs.Found.{HasIncludes}
 use Rattle.aa_units.proofs.Faulted.{handed_on}
+use Rattle.aa_units.proofs.Wanting.{asks_of, wanted_of, looked_before, node_text}
 use Rattle.aa_units.proofs.walk.walk_text.Goals as goal
 
 pub loop-one-preserved : goal.loop-one-preserved
@@ -26,7 +29,7 @@ loop-one-preserved g c =
     let looks = c.in_ok-look_up.ensures.adds in
     let turn = YieldsList-turn (YieldsList-from_vec {s = c.into_iter-one-iterator.result} c.in_ok-wanted.wanted.items (search rules) (search rules)) c.loop-one.yielded c.loop-one.one-iterator c.loop-one.yielded_by c.next.result c.next.new.self c.in-Some.one c.in-Some.is c.next.ensures.steps in
     let text-is : c.walked_text.result.now ≡ get_or (walked_texts main u.sources.items) c.args.number main = c.walked_text.ensures ∙ sym inv.same in
-    let inc = asked_there (slices c.args.folders.now) main c.walked_text.result.now c.args.number u.sources.items c.in_ok-wanted.wanted.items (length c.loop-one.yielded) c.in-Some.one inv.within text-is c.in_ok-wanted.ensures turn.0 turn.1 in
+    let inc = asked_there (slices c.args.folders.now) main c.walked_text.result.now c.args.number u.sources.items c.in_ok-wanted.wanted.items (length c.loop-one.yielded) c.in-Some.one inv.within text-is (asks_of (slices c.args.folders.now) c.walked_text.result.now c.in_ok-wanted.wanted.items c.in_ok-wanted.ensures) turn.0 turn.1 in
     let within : c.args.number ≤ length v.sources.items = omega (arith, no_fewer files (asked c.in-Some.one) u v looks, inv.within) in
     record {
       walked = walked_more files (slices c.args.folders.now) c.args.unit.now.path.items main c.args.number (asked c.in-Some.one) u v inv.within inc looks inv.walked;
@@ -47,7 +50,7 @@ returns-clause-walked g c =
     let all : c.loop-one.yielded ≡ c.in_ok-wanted.wanted.items = sym (map-id c.loop-one.yielded) ∙ end.0 in
     let files = g.T.Tree.files c.args.tree.now in
     let each : All (λ w. IsLookedUp files u.sources.items u.known.entries (asked w)) c.in_ok-wanted.wanted.items = subst (λ (ws : List Wanted). All (λ w. IsLookedUp files u.sources.items u.known.entries (asked w)) ws) all inv.each in
-    let closed : IsClosed files (slices c.args.folders.now) u.sources.items u.known.entries c.walked_text.result.now = record { asked = map asked c.in_ok-wanted.wanted.items; asks = c.in_ok-wanted.ensures; each = All-map (IsLookedUp files u.sources.items u.known.entries) asked c.in_ok-wanted.wanted.items each } in
+    let closed : IsClosed files (slices c.args.folders.now) u.sources.items u.known.entries c.walked_text.result.now = record { asked = map asked c.in_ok-wanted.wanted.items; asks = asks_of (slices c.args.folders.now) c.walked_text.result.now c.in_ok-wanted.wanted.items c.in_ok-wanted.ensures; each = All-map (IsLookedUp files u.sources.items u.known.entries) asked c.in_ok-wanted.wanted.items each } in
     let text-is : c.walked_text.result.now ≡ get_or (walked_texts main u.sources.items) c.args.number main = c.walked_text.ensures ∙ sym inv.same in
     walked_closed (g.T.Tree.files c.args.tree.now) (slices c.args.folders.now) c.args.unit.now.path.items main c.args.number u inv.within (subst (λ (t : List ℕ). IsClosed files (slices c.args.folders.now) u.sources.items u.known.entries t) text-is closed) inv.walked
 
@@ -65,7 +68,25 @@ returns-in_err-look_up-clause-fault g c =
     let inv = c.loop-one.invariant in
     let turn = YieldsList-turn (YieldsList-from_vec {s = c.into_iter-one-iterator.result} c.in_ok-wanted.wanted.items (search rules) (search rules)) c.loop-one.yielded c.loop-one.one-iterator c.loop-one.yielded_by c.next.result c.next.new.self c.in-Some.one c.in-Some.is c.next.ensures.steps in
     let text-is : c.walked_text.result.now ≡ get_or (walked_texts main u.sources.items) c.args.number main = c.walked_text.ensures ∙ sym inv.same in
-    let inc = asked_there folders main c.walked_text.result.now c.args.number u.sources.items c.in_ok-wanted.wanted.items (length c.loop-one.yielded) c.in-Some.one inv.within text-is c.in_ok-wanted.ensures turn.0 turn.1 in
+    let text : c.walked_text.result.now ≡ text_of_node u c.args.number = text-is ∙ ap (λ (m : List ℕ). get_or (walked_texts m u.sources.items) c.args.number m) (sym inv.walked.text_is) ∙ sym (node_text u c.args.number) in
+    let wanted = c.in_ok-wanted.wanted.items in
+    let are = c.in_ok-wanted.ensures in
+    let so-far = YieldsList-so_far (YieldsList-from_vec {s = c.into_iter-one-iterator.result} wanted (search rules) (search rules)) c.loop-one.yielded c.loop-one.one-iterator c.loop-one.yielded_by in
+    let number = length c.loop-one.yielded in
+    let before : c.loop-one.yielded ≡ take number wanted = sym (map-id c.loop-one.yielded) ∙ so-far in
+    let it = wanted_of folders wanted are.includes number c.in-Some.one are.each turn.0 turn.1 in
     let p = err_from_is_err_and c.from_residual-in_err-look_up.result c.from_residual-in_err-look_up.ensures.1 in
-    handed_on c.from_residual-in_err-look_up.result _ _ (λ e. e ≢ NoMemory → IsWalkFault files folders main e) p.1 p.2
-    (λ other. record { sources = u.sources.items; entries = u.known.entries; walk = inv.walked.walk; asked = asked c.in-Some.one; included = inc; stopped = c.in_err-look_up.ensures.fault })
+    handed_on c.from_residual-in_err-look_up.result _ _ (λ e. e ≢ NoMemory → IsWalkFault files folders c.args.unit.now.path.items main e) p.1 p.2
+    (λ other. record {
+      so_far = u;
+      node = c.args.number;
+      walked = inv.walked;
+      within = inv.within;
+      includes = are.includes;
+      of_text = subst (λ (t : List ℕ). HasIncludes t are.includes) text are.of_text;
+      number = number;
+      include = it.0;
+      is = it.1;
+      before = looked_before folders files u.sources.items u.known.entries wanted c.loop-one.yielded are.includes number are.each before inv.each;
+      stopped = subst (λ (w : ℕ × Asked). IsLookUpFault files u c.args.number w.0 w.1 c.in_err-look_up.field-0.0) it.2 c.in_err-look_up.ensures.fault;
+    })

@@ -3,7 +3,7 @@ use Rattle.std.proofs.lemmas.List.{take_all}
 use Rattle.aa_trees.specs.Texts.{slices}
 use Rattle.aa_words.specs.declared.found.IncludeAt.{IncludeAt}
 use Rattle.aa_words.specs.FoundData.{includes_data}
-use Rattle.aa_units.specs.Walks.{asked_by}
+use Rattle.aa_units.specs.WalkData.{wants}
 use Rattle.aa_units.proofs.walk.wanted_by.Goals as goal
 
 pub returns : goal.returns
@@ -12,5 +12,5 @@ returns c =
     record {
       includes = includes_data c.in_ok-includes.includes.items;
       of_text = c.in_ok-includes.ensures;
-      each = c.loop-include.invariant ∙ ap (λ (is : List IncludeAt). map (asked_by (slices c.args.folders.now)) (includes_data is)) all;
+      each = c.loop-include.invariant ∙ ap (λ (is : List IncludeAt). map (wants (slices c.args.folders.now)) (includes_data is)) all;
     }
