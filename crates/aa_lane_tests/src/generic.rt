@@ -43,8 +43,8 @@ fn asks<M: Machine<State = u64, Request = u64, Answer = u64>>(
 ) -> (Server<M>, (u64, u64))
     requires owner { owner.old.lane ≡ known lane.now }
     requires server { server.lane ≡ known lane.now }
-    ensures owner { owner.new.lane ≡ owner.old.lane }
-    ensures server { result.0.lane ≡ server.lane }
+    ensures owner { owner.new.lane ≡ known lane.now }
+    ensures server { result.0.lane ≡ known lane.now }
 {
     if owner.send(lane, request).is_err() {
         return (server, (0, 0));
@@ -60,15 +60,27 @@ fn asks<M: Machine<State = u64, Request = u64, Answer = u64>>(
     }
 }
 
+// What is answered to two requests.
+fn asks_twice<M: Machine<State = u64, Request = u64, Answer = u64>>(
+    lane: &Lane<M>,
+    owner: Owner<M>,
+    server: Server<M>,
+) -> [(u64, u64); 2]
+    requires owner { owner.lane ≡ known lane.now }
+    requires server { server.lane ≡ known lane.now }
+{
+    let mut owner = owner;
+    let (server, first) = asks(lane, &mut owner, server, 10);
+    let (_server, second) = asks(lane, &mut owner, server, 1);
+    [first, second]
+}
+
 #[test]
 fn a_machine_that_borrows_answers(rt: HostRuntime) -> Result<(), Fail> {
     let by = 500;
     let machine = Offset { by: &by };
-    let (lane, mut owner, server, _shutter) = open(rt.alloc(), &machine, 3, 2, 7)?;
-    let (server, first) = asks(&lane, &mut owner, server, 10);
-    let (_server, second) = asks(&lane, &mut owner, server, 1);
-    assert_eq!(rt; first, (0, 517));
-    assert_eq!(rt; second, (1, 18));
+    let (lane, owner, server, _shutter) = open(rt.alloc(), &machine, 3, 2, 7)?;
+    assert_eq!(rt; asks_twice(&lane, owner, server), [(0, 517), (1, 18)]);
     Ok(())
 }
 
@@ -156,14 +168,21 @@ fn sends_and_leaves<M: Machine>(
     }
 }
 
+// How many requests the leaver says were accepted.
+fn accepted_of<M: Machine>(lane: &Lane<M>, owner: Owner<M>, request: M::Request) -> Option<u64>
+    requires { owner.lane ≡ known lane.now }
+{
+    match sends_and_leaves(lane, owner, request) {
+        Ok(leaver) => Some(leaver.accepted()),
+        Err(_) => None,
+    }
+}
+
 #[test]
 fn two_events_of_one_end_stand_in_one_order(rt: HostRuntime) -> Result<(), Fail> {
     let by = 1;
     let machine = Offset { by: &by };
     let (lane, owner, _server, _shutter) = open(rt.alloc(), &machine, 3, 2, 7)?;
-    match sends_and_leaves(&lane, owner, 10) {
-        Ok(leaver) => assert_eq!(rt; leaver.accepted(), 1),
-        Err(_) => assert!(rt; false),
-    }
+    assert_eq!(rt; accepted_of(&lane, owner, 10), Some(1));
     Ok(())
 }

@@ -4,9 +4,9 @@ ghost use Rattle.aa_lane.specs.Ends.{known};
 
 use crate::bench::{Bench, Outcome, Step, closed, open};
 use crate::sum::{Happening, Said, Sum};
-use crate::worlds::apply;
+use crate::worlds::{a_world, apply};
 use aa_lane::SendFault::{Closed, Full};
-use aa_lane::{Ends, Lane, LaneFault, Leaver, Owner, Server, Shutter, Taken, World};
+use aa_lane::{Ends, Lane, LaneFault, Leaver, Owner, Server, Taken, World};
 use std::alloc::Global;
 use std::process::Abort;
 use std::test::Fail;
@@ -88,23 +88,24 @@ fn totals(
     Ok(closed(lane, ends))
 }
 
+const ONE_PLACE: [(Step, Outcome); 12] = [
+    (Step::Send(4), Outcome::Sent(0)),
+    (Step::Send(5), Outcome::Unsent(Full, 5)),
+    (Step::Serve, Outcome::Did),
+    (Step::Collect, Outcome::Got(0, 4, 4)),
+    (Step::Send(5), Outcome::Sent(1)),
+    (Step::Shut, Outcome::Count(2)),
+    (Step::Serve, Outcome::Did),
+    (Step::Send(6), Outcome::Unsent(Full, 6)),
+    (Step::Collect, Outcome::Got(1, 5, 9)),
+    (Step::Send(6), Outcome::Unsent(Closed, 6)),
+    (Step::Serve, Outcome::Settled),
+    (Step::Collect, Outcome::Nothing),
+];
+
 #[test]
 fn one_place_and_all_refusals(rt: HostRuntime) -> Result<(), Fail> {
-    let rows = [
-        (Step::Send(4), Outcome::Sent(0)),
-        (Step::Send(5), Outcome::Unsent(Full, 5)),
-        (Step::Serve, Outcome::Did),
-        (Step::Collect, Outcome::Got(0, 4, 4)),
-        (Step::Send(5), Outcome::Sent(1)),
-        (Step::Shut, Outcome::Count(2)),
-        (Step::Serve, Outcome::Did),
-        (Step::Send(6), Outcome::Unsent(Full, 6)),
-        (Step::Collect, Outcome::Got(1, 5, 9)),
-        (Step::Send(6), Outcome::Unsent(Closed, 6)),
-        (Step::Serve, Outcome::Settled),
-        (Step::Collect, Outcome::Nothing),
-    ];
-    assert_eq!(rt; totals(&rt, rt.alloc(), 1, 0, &rows)?, [2, 2, 2, 9]);
+    assert_eq!(rt; totals(&rt, rt.alloc(), 1, 0, &ONE_PLACE)?, [2, 2, 2, 9]);
     Ok(())
 }
 
@@ -144,24 +145,39 @@ fn tag_of_leaver(lane: &Lane<Sum>, owner: Owner<Sum>) -> u32
     owner.exit(lane).tag()
 }
 
-fn tags_of(owner: &Owner<Sum>, server: &Server<Sum>, shutter: &Shutter<Sum>) -> [u32; 3] {
-    [owner.tag(), server.tag(), shutter.tag()]
+// The tags of the lane and of its ends.
+fn tags_of(bench: &Bench<Sum>) -> [u32; 4] {
+    [
+        bench.lane.tag(),
+        bench.owner.tag(),
+        bench.server.tag(),
+        bench.shutter.tag(),
+    ]
+}
+
+// The tags of the server with a request in hand, and of the leaver.
+fn later_tags_of(rt: &impl Abort, bench: Bench<Sum>) -> [u32; 2] {
+    let Bench {
+        lane,
+        owner,
+        server,
+        ..
+    } = bench;
+    let of_busy = tag_of_busy(rt, lane, server);
+    [of_busy, tag_of_leaver(lane, owner)]
 }
 
 #[test]
 fn tags(rt: HostRuntime) -> Result<(), Fail> {
     let sum = Sum;
     let (lane, owner, server, shutter) = open(rt.alloc(), &sum, 7, 1, 0)?;
-    let (bench, outcome) = does(Bench::of(&lane, owner, server, shutter), Step::Send(3));
-    assert_eq!(rt; outcome, Outcome::Sent(0));
-    assert_eq!(rt; lane.tag(), 7);
-    assert_eq!(rt;
-        tags_of(&bench.owner, &bench.server, &bench.shutter),
-        [7, 7, 7]
+    let bench = plays(
+        &rt,
+        Bench::of(&lane, owner, server, shutter),
+        &[(Step::Send(3), Outcome::Sent(0))],
     );
-    let Bench { owner, server, .. } = bench;
-    assert_eq!(rt; tag_of_busy(&rt, &lane, server), 7);
-    assert_eq!(rt; tag_of_leaver(&lane, owner), 7);
+    assert_eq!(rt; tags_of(&bench), [7, 7, 7, 7]);
+    assert_eq!(rt; later_tags_of(&rt, bench), [7, 7]);
     Ok(())
 }
 
@@ -194,27 +210,31 @@ fn the_sum_from_five_with_one_place(rt: HostRuntime) -> Result<(), Fail> {
     Ok(())
 }
 
+const RING_OF_THREE: [(Step, Outcome); 16] = [
+    (Step::Send(1), Outcome::Sent(0)),
+    (Step::Send(2), Outcome::Sent(1)),
+    (Step::Send(3), Outcome::Sent(2)),
+    (Step::Send(4), Outcome::Unsent(Full, 4)),
+    (Step::Serve, Outcome::Did),
+    (Step::Send(4), Outcome::Unsent(Full, 4)),
+    (Step::Collect, Outcome::Got(0, 1, 1)),
+    (Step::Send(4), Outcome::Sent(3)),
+    (Step::Serve, Outcome::Did),
+    (Step::Serve, Outcome::Did),
+    (Step::Serve, Outcome::Did),
+    (Step::Serve, Outcome::Idle),
+    (Step::Collect, Outcome::Got(1, 2, 3)),
+    (Step::Collect, Outcome::Got(2, 3, 6)),
+    (Step::Collect, Outcome::Got(3, 4, 10)),
+    (Step::Collect, Outcome::Nothing),
+];
+
 #[test]
 fn a_ring_of_three(rt: HostRuntime) -> Result<(), Fail> {
-    let rows = [
-        (Step::Send(1), Outcome::Sent(0)),
-        (Step::Send(2), Outcome::Sent(1)),
-        (Step::Send(3), Outcome::Sent(2)),
-        (Step::Send(4), Outcome::Unsent(Full, 4)),
-        (Step::Serve, Outcome::Did),
-        (Step::Send(4), Outcome::Unsent(Full, 4)),
-        (Step::Collect, Outcome::Got(0, 1, 1)),
-        (Step::Send(4), Outcome::Sent(3)),
-        (Step::Serve, Outcome::Did),
-        (Step::Serve, Outcome::Did),
-        (Step::Serve, Outcome::Did),
-        (Step::Serve, Outcome::Idle),
-        (Step::Collect, Outcome::Got(1, 2, 3)),
-        (Step::Collect, Outcome::Got(2, 3, 6)),
-        (Step::Collect, Outcome::Got(3, 4, 10)),
-        (Step::Collect, Outcome::Nothing),
-    ];
-    assert_eq!(rt; totals(&rt, rt.alloc(), 3, 0, &rows)?, [4, 4, 4, 10]);
+    assert_eq!(rt;
+        totals(&rt, rt.alloc(), 3, 0, &RING_OF_THREE)?,
+        [4, 4, 4, 10]
+    );
     Ok(())
 }
 
@@ -238,19 +258,60 @@ fn looks(lane: &Lane<Sum>, leaver: &mut Leaver<Sum>) -> (u64, [Outcome; 2])
     (accepted, [first, given(lane, leaver)])
 }
 
+// The server, where it finds the lane settled.
+fn settled(rt: &impl Abort, lane: &Lane<Sum>, server: Server<Sum>) -> Server<Sum>
+    requires { server.lane ≡ known lane.now }
+    ensures { result.lane ≡ known lane.now }
+{
+    match server.take(lane) {
+        Taken::Settled(server) => server,
+        _ => panic!(rt; "not settled"),
+    }
+}
+
+// The ends after the server has found the lane settled, how many requests the leaver says were accepted, and what it finds.
+fn after_exit(rt: &impl Abort, lane: &Lane<Sum>, ends: Ends<Sum>) -> (Ends<Sum>, u64, Outcome)
+    requires { (ends.owner.lane ≡ known lane.now) × (ends.server.lane ≡ known lane.now) × (ends.shutter.lane ≡ known lane.now) }
+    ensures { (result.0.owner.lane ≡ known lane.now) × (result.0.server.lane ≡ known lane.now) × (result.0.shutter.lane ≡ known lane.now) }
+{
+    let Ends {
+        mut owner,
+        server,
+        shutter,
+    } = ends;
+    let accepted = owner.accepted();
+    let server = settled(rt, lane, server);
+    let outcome = given(lane, &mut owner);
+    (
+        Ends {
+            owner,
+            server,
+            shutter,
+        },
+        accepted,
+        outcome,
+    )
+}
+
 #[test]
 fn exit_at_once(rt: HostRuntime) -> Result<(), Fail> {
     let sum = Sum;
     let (lane, owner, server, shutter) = open(rt.alloc(), &sum, 7, 2, 5)?;
-    let mut ends = Bench::of(&lane, owner, server, shutter).leaves();
-    assert_eq!(rt; ends.owner.accepted(), 0);
-    let Taken::Settled(server) = ends.server.take(&lane) else {
-        panic!(rt; "not settled")
-    };
-    ends.server = server;
-    assert_eq!(rt; given(&lane, &mut ends.owner), Outcome::Nothing);
+    let ends = Bench::of(&lane, owner, server, shutter).leaves();
+    let (ends, accepted, outcome) = after_exit(&rt, &lane, ends);
+    assert_eq!(rt; accepted, 0);
+    assert_eq!(rt; outcome, Outcome::Nothing);
     assert_eq!(rt; closed(lane, ends), [0, 0, 0, 5]);
     Ok(())
+}
+
+// What the leaver's looks find, and what `close` tells then.
+fn looks_and_closes(lane: Lane<Sum>, ends: Ends<Sum>) -> ((u64, [Outcome; 2]), [u64; 4])
+    requires { (ends.owner.lane ≡ known lane) × (ends.server.lane ≡ known lane) × (ends.shutter.lane ≡ known lane) }
+{
+    let mut ends = ends;
+    let found = looks(&lane, &mut ends.owner);
+    (found, closed(lane, ends))
 }
 
 #[test]
@@ -266,12 +327,10 @@ fn a_leaver_collects_what_is_left(rt: HostRuntime) -> Result<(), Fail> {
             (Step::Serve, Outcome::Did),
         ],
     );
-    let mut ends = bench.leaves();
-    assert_eq!(rt;
-        looks(&lane, &mut ends.owner),
-        (2, [Outcome::Got(0, 3, 8), Outcome::Nothing])
-    );
-    assert_eq!(rt; closed(lane, ends), [2, 1, 1, 8]);
+    let ends = bench.leaves();
+    let (found, totals) = looks_and_closes(lane, ends);
+    assert_eq!(rt; found, (2, [Outcome::Got(0, 3, 8), Outcome::Nothing]));
+    assert_eq!(rt; totals, [2, 1, 1, 8]);
     Ok(())
 }
 
@@ -350,21 +409,39 @@ const COUNTS: [u64; 7] = [0, 1, 2, 2, 2, 2, 2];
 
 const STATES: [u64; 7] = [0, 1, 3, 3, 3, 3, 3];
 
+// What a further shut counts, and what `close` tells then.
+fn shuts_and_closes(lane: Lane<Sum>, ends: Ends<Sum>) -> (u64, [u64; 4])
+    requires { (ends.owner.lane ≡ known lane) × (ends.server.lane ≡ known lane) × (ends.shutter.lane ≡ known lane) }
+{
+    let mut ends = ends;
+    let count = ends.shutter.shut(&lane);
+    (count, closed(lane, ends))
+}
+
+// The same for a lane beside this world, with a shut at this place.
+fn counts_beside(
+    rt: &impl Abort,
+    alloc: Global,
+    world: &mut World<Sum>,
+    place: usize,
+) -> Result<(u64, [u64; 4]), LaneFault> {
+    let sum = Sum;
+    let (lane, owner, server, shutter) = open(alloc, &sum, 7, 2, 0)?;
+    let bench = Bench::of(&lane, owner, server, shutter);
+    let ends = shut_after(rt, bench, world, place);
+    Ok(shuts_and_closes(lane, ends))
+}
+
 fn shut_at(rt: &impl Abort, alloc: Global, place: usize) -> Result<(), LaneFault>
     requires { place < 7 }
 {
     let sum = Sum;
-    let mut world = World::new(alloc, &sum, 2, 0)?;
-    let (lane, owner, server, shutter) = open(alloc, &sum, 7, 2, 0)?;
-    let mut ends = shut_after(
-        rt,
-        Bench::of(&lane, owner, server, shutter),
-        &mut world,
-        place,
-    );
+    let mut world = a_world(alloc, &sum, 2, 0)?;
     let count = COUNTS[place];
-    assert_eq!(rt; ends.shutter.shut(&lane), count);
-    assert_eq!(rt; closed(lane, ends), [count, count, count, STATES[place]]);
+    assert_eq!(rt;
+        counts_beside(rt, alloc, &mut world, place)?,
+        (count, [count, count, count, STATES[place]])
+    );
     assert_eq!(rt; world.label(), STATES[place]);
     Ok(())
 }
@@ -425,14 +502,28 @@ fn rounds(rt: &impl Abort, bench: Bench<Sum>, world: &mut World<Sum>, counts: &[
     bench.leaves()
 }
 
+// What `close` tells of the largest lane beside this world, after the rounds.
+fn rounds_beside(
+    rt: &impl Abort,
+    alloc: Global,
+    world: &mut World<Sum>,
+    counts: &[u64],
+) -> Result<[u64; 4], LaneFault> {
+    let sum = Sum;
+    let (lane, owner, server, shutter) = open(alloc, &sum, 7, 1024, 0)?;
+    let bench = Bench::of(&lane, owner, server, shutter);
+    let ends = rounds(rt, bench, world, counts);
+    Ok(closed(lane, ends))
+}
+
 #[test]
 fn five_thousand_requests_through_the_largest_lane(rt: HostRuntime) -> Result<(), Fail> {
     let sum = Sum;
-    let mut world = World::new(rt.alloc(), &sum, 1024, 0)?;
-    let (lane, owner, server, shutter) = open(rt.alloc(), &sum, 7, 1024, 0)?;
-    let bench = Bench::of(&lane, owner, server, shutter);
-    let ends = rounds(&rt, bench, &mut world, &[1024, 1024, 1024, 1024, 904]);
-    assert_eq!(rt; closed(lane, ends), [5000, 5000, 5000, 500]);
+    let mut world = a_world(rt.alloc(), &sum, 1024, 0)?;
+    assert_eq!(rt;
+        rounds_beside(&rt, rt.alloc(), &mut world, &[1024, 1024, 1024, 1024, 904])?,
+        [5000, 5000, 5000, 500]
+    );
     assert_eq!(rt; world.label(), 500);
     Ok(())
 }
@@ -466,17 +557,25 @@ fn wanders(rt: &impl Abort, bench: Bench<Sum>, world: &mut World<Sum>, seed: u64
     bench.leaves()
 }
 
+// What `close` tells of a lane beside this world, after the steps drawn.
+fn wanders_beside(
+    rt: &impl Abort,
+    alloc: Global,
+    world: &mut World<Sum>,
+    capacity: u32,
+    seed: u64,
+) -> Result<[u64; 4], LaneFault> {
+    let sum = Sum;
+    let (lane, owner, server, shutter) = open(alloc, &sum, 7, capacity, 5)?;
+    let bench = Bench::of(&lane, owner, server, shutter);
+    let ends = wanders(rt, bench, world, seed);
+    Ok(closed(lane, ends))
+}
+
 fn wanders_at(rt: &impl Abort, alloc: Global, capacity: u32, seed: u64) -> Result<(), LaneFault> {
     let sum = Sum;
-    let mut world = World::new(alloc, &sum, capacity, 5)?;
-    let (lane, owner, server, shutter) = open(alloc, &sum, 7, capacity, 5)?;
-    let ends = wanders(
-        rt,
-        Bench::of(&lane, owner, server, shutter),
-        &mut world,
-        seed,
-    );
-    let totals = closed(lane, ends);
+    let mut world = a_world(alloc, &sum, capacity, 5)?;
+    let totals = wanders_beside(rt, alloc, &mut world, capacity, seed)?;
     assert_eq!(rt; totals[3], world.label());
     assert!(rt; totals[1] > 100);
     Ok(())

@@ -5,44 +5,68 @@ ghost use Rattle.aa_lane.specs.Ends.{known};
 use crate::bench::{Bench, Outcome, Step, closed, open, served};
 use crate::scales::{Held, Scales, a_parcel, a_thing, collected, owners, plays, sent};
 use crate::sum::{Happening, Said, Sum};
-use crate::worlds::apply;
+use crate::worlds::{a_world, apply, are_said, comes, replayed};
 use aa_lane::SendFault::Full;
 use aa_lane::{
     Event, Lane, LaneFault, NoMemory, Owner, Reply, Server, Shutter, Taken, Unapplied, World,
-    replay,
 };
 use std::alloc::Global;
 use std::collections::VecDeque;
 use std::process::Abort;
 use std::test::Fail;
 
+// A lane of two places at which the rows happen; then its ends are dropped, and then the lane.
+fn plays_and_drops(
+    rt: &impl Abort,
+    alloc: Global,
+    held: &Held,
+    rows: &[(Step, Outcome, [usize; 2])],
+) -> Result<(), LaneFault> {
+    let scales = Scales;
+    let (lane, owner, server, shutter) = open(alloc, &scales, 0, 2, 0)?;
+    drop(plays(rt, Bench::of(&lane, owner, server, shutter), held, rows));
+    drop(lane);
+    Ok(())
+}
+
+// What `close` tells of a lane of two places at which the rows happen.
+fn plays_and_closes(
+    rt: &impl Abort,
+    alloc: Global,
+    held: &Held,
+    rows: &[(Step, Outcome, [usize; 2])],
+) -> Result<[u64; 4], LaneFault> {
+    let scales = Scales;
+    let (lane, owner, server, shutter) = open(alloc, &scales, 0, 2, 0)?;
+    let bench = plays(rt, Bench::of(&lane, owner, server, shutter), held, rows);
+    let ends = bench.leaves();
+    Ok(closed(lane, ends))
+}
+
+const DROPPED_ONCE: [(Step, Outcome, [usize; 2]); 5] = [
+    (Step::Send(1), Outcome::Sent(0), [2, 2]),
+    (Step::Send(2), Outcome::Sent(1), [3, 3]),
+    (Step::Send(4), Outcome::Unsent(Full, 4), [4, 3]),
+    (Step::Serve, Outcome::Did, [4, 4]),
+    (Step::Collect, Outcome::Got(0, 1, 1), [4, 2]),
+];
+
 #[test]
 fn each_request_and_answer_is_dropped_once(rt: HostRuntime) -> Result<(), Fail> {
-    let scales = Scales;
     let held = a_thing(rt.alloc());
-    let (lane, owner, server, shutter) = open(rt.alloc(), &scales, 0, 2, 0)?;
-    let rows = [
-        (Step::Send(1), Outcome::Sent(0), [2, 2]),
-        (Step::Send(2), Outcome::Sent(1), [3, 3]),
-        (Step::Send(4), Outcome::Unsent(Full, 4), [4, 3]),
-        (Step::Serve, Outcome::Did, [4, 4]),
-        (Step::Collect, Outcome::Got(0, 1, 1), [4, 2]),
-    ];
-    drop(plays(&rt, Bench::of(&lane, owner, server, shutter), &held, &rows));
-    drop(lane);
+    plays_and_drops(&rt, rt.alloc(), &held, &DROPPED_ONCE)?;
     assert_eq!(rt; owners(&held), 1);
     Ok(())
 }
 
 #[test]
 fn a_close_drops_what_is_left(rt: HostRuntime) -> Result<(), Fail> {
-    let scales = Scales;
     let held = a_thing(rt.alloc());
-    let (lane, owner, server, shutter) = open(rt.alloc(), &scales, 0, 2, 0)?;
     let rows = [(Step::Send(7), Outcome::Sent(0), [2, 2])];
-    let bench = plays(&rt, Bench::of(&lane, owner, server, shutter), &held, &rows);
-    let ends = bench.leaves();
-    assert_eq!(rt; closed(lane, ends), [1, 0, 0, 0]);
+    assert_eq!(rt;
+        plays_and_closes(&rt, rt.alloc(), &held, &rows)?,
+        [1, 0, 0, 0]
+    );
     assert_eq!(rt; owners(&held), 1);
     Ok(())
 }
@@ -60,28 +84,47 @@ fn taken_and_dropped(rt: &impl Abort, lane: &Lane<Scales>, server: Server<Scales
 // What a second parcel, a look for an answer and a third parcel come to.
 fn goes_on(lane: &Lane<Scales>, owner: &mut Owner<Scales>, held: &Held) -> [Outcome; 3]
     requires { owner.old.lane ≡ known lane.now }
-    ensures { owner.new.lane ≡ owner.old.lane }
+    ensures { owner.new.lane ≡ known lane.now }
 {
     let second = sent(lane, owner, 8, held);
     let given = collected(lane, owner);
     [second, given, sent(lane, owner, 9, held)]
 }
 
-#[test]
-fn a_server_dropped_with_a_request_in_hand(rt: HostRuntime) -> Result<(), Fail> {
-    let scales = Scales;
-    let held = a_thing(rt.alloc());
-    let (lane, owner, server, shutter) = open(rt.alloc(), &scales, 0, 2, 0)?;
+// The server is dropped with a request in hand, and the owner goes on.
+fn goes_on_alone(
+    rt: &impl Abort,
+    lane: &Lane<Scales>,
+    owner: Owner<Scales>,
+    server: Server<Scales>,
+    held: &Held,
+)
+    requires owner { owner.lane ≡ known lane.now }
+    requires server { server.lane ≡ known lane.now }
+{
     let mut owner = owner;
-    assert_eq!(rt; sent(&lane, &mut owner, 7, &held), Outcome::Sent(0));
-    assert_eq!(rt; taken_and_dropped(&rt, &lane, server), 7);
-    assert_eq!(rt; owners(&held), 1);
+    assert_eq!(rt; sent(lane, &mut owner, 7, held), Outcome::Sent(0));
+    assert_eq!(rt; taken_and_dropped(rt, lane, server), 7);
+    assert_eq!(rt; owners(held), 1);
     assert_eq!(rt;
-        goes_on(&lane, &mut owner, &held),
+        goes_on(lane, &mut owner, held),
         [Outcome::Sent(1), Outcome::Nothing, Outcome::Unsent(Full, 9)]
     );
-    assert_eq!(rt; owners(&held), 2);
-    drop((lane, owner, shutter));
+    assert_eq!(rt; owners(held), 2);
+}
+
+// The same at a lane of its own, which is dropped then.
+fn loses_its_server(rt: &impl Abort, alloc: Global, held: &Held) -> Result<(), LaneFault> {
+    let scales = Scales;
+    let (lane, owner, server, _shutter) = open(alloc, &scales, 0, 2, 0)?;
+    goes_on_alone(rt, &lane, owner, server, held);
+    Ok(())
+}
+
+#[test]
+fn a_server_dropped_with_a_request_in_hand(rt: HostRuntime) -> Result<(), Fail> {
+    let held = a_thing(rt.alloc());
+    loses_its_server(&rt, rt.alloc(), &held)?;
     assert_eq!(rt; owners(&held), 1);
     Ok(())
 }
@@ -103,19 +146,30 @@ fn shut_and_served(
     (count, [first, second], owners(held))
 }
 
-#[test]
-fn an_owner_dropped_with_requests_on_their_way(rt: HostRuntime) -> Result<(), Fail> {
-    let scales = Scales;
-    let held = a_thing(rt.alloc());
-    let (lane, owner, server, shutter) = open(rt.alloc(), &scales, 0, 2, 0)?;
+// What comes of a parcel that the owner sends before it is dropped.
+fn sent_and_dropped(lane: &Lane<Scales>, owner: Owner<Scales>, held: &Held) -> Outcome
+    requires { owner.lane ≡ known lane.now }
+{
     let mut owner = owner;
-    assert_eq!(rt; sent(&lane, &mut owner, 7, &held), Outcome::Sent(0));
-    drop(owner);
+    sent(lane, &mut owner, 7, held)
+}
+
+// A lane of two places, which is dropped after it has lost its owner and a parcel was served.
+fn loses_its_owner(rt: &impl Abort, alloc: Global, held: &Held) -> Result<(), LaneFault> {
+    let scales = Scales;
+    let (lane, owner, server, shutter) = open(alloc, &scales, 0, 2, 0)?;
+    assert_eq!(rt; sent_and_dropped(&lane, owner, held), Outcome::Sent(0));
     assert_eq!(rt;
-        shut_and_served(&lane, shutter, server, &held),
+        shut_and_served(&lane, shutter, server, held),
         (1, [Outcome::Did, Outcome::Settled], 3)
     );
-    drop(lane);
+    Ok(())
+}
+
+#[test]
+fn an_owner_dropped_with_requests_on_their_way(rt: HostRuntime) -> Result<(), Fail> {
+    let held = a_thing(rt.alloc());
+    loses_its_owner(&rt, rt.alloc(), &held)?;
     assert_eq!(rt; owners(&held), 1);
     Ok(())
 }
@@ -125,35 +179,61 @@ fn happens(world: &mut World<Scales>, event: Event<Scales>) -> bool {
     world.apply(event).is_ok()
 }
 
+fn is_sent(world: &mut World<Scales>, weight: u64, held: &Held) -> bool {
+    happens(world, Event::Send(a_parcel(weight, held)))
+}
+
+fn scales_world<'m>(alloc: Global, scales: &'m Scales) -> Result<World<'m, Scales>, LaneFault> {
+    World::new(alloc, scales, 2, 0)
+}
+
+// The world has two parcels and an answer then, and drops a third.
+fn keeps_two_parcels(rt: &impl Abort, world: &mut World<Scales>, held: &Held) {
+    assert!(rt; is_sent(world, 7, held));
+    assert!(rt; happens(world, Event::Take));
+    assert!(rt; happens(world, Event::Finish));
+    assert!(rt; is_sent(world, 8, held));
+    assert_eq!(rt; owners(held), 4);
+    assert!(rt; is_sent(world, 9, held));
+    assert_eq!(rt; owners(held), 4);
+}
+
 #[test]
 fn a_world_owns_its_requests_and_answers(rt: HostRuntime) -> Result<(), Fail> {
     let scales = Scales;
     let held = a_thing(rt.alloc());
-    let mut world = World::new(rt.alloc(), &scales, 2, 0)?;
-    assert!(rt; happens(&mut world, Event::Send(a_parcel(7, &held))));
-    assert!(rt; happens(&mut world, Event::Take));
-    assert!(rt; happens(&mut world, Event::Finish));
-    assert!(rt; happens(&mut world, Event::Send(a_parcel(8, &held))));
-    assert_eq!(rt; owners(&held), 4);
-    assert!(rt; happens(&mut world, Event::Send(a_parcel(9, &held))));
-    assert_eq!(rt; owners(&held), 4);
+    let mut world = scales_world(rt.alloc(), &scales)?;
+    keeps_two_parcels(&rt, &mut world, &held);
     drop(world);
     assert_eq!(rt; owners(&held), 1);
     Ok(())
 }
 
+// The reply, or the event that comes back.
+fn tried(world: &mut World<Sum>, happening: Happening) -> Result<Said, Event<Sum>> {
+    match world.apply(happening.event()) {
+        Ok(reply) => Ok(Said::of(reply)),
+        Err(Unapplied { event }) => Err(event),
+    }
+}
+
+// The event that came back is this one, of the kinds that take memory.
+fn came_back(rt: &impl Abort, event: Event<Sum>, happening: Happening) {
+    match (event, happening) {
+        (Event::Send(request), Happening::Send(sent)) => assert_eq!(rt; request, sent),
+        (Event::Finish, Happening::Finish) => {}
+        _ => panic!(rt; "another event"),
+    }
+}
+
 // Where a growth is refused the event comes back, the world is as it was, and the event can be tried again.
 fn applies(rt: &impl Abort, world: &mut World<Sum>, happening: Happening, want: Said) {
     let state = world.label();
-    match world.apply(happening.event()) {
-        Ok(reply) => assert_eq!(rt; Said::of(reply), want),
-        Err(Unapplied { event }) => {
+    match tried(world, happening) {
+        Ok(said) => assert_eq!(rt; said, want),
+        Err(event) => {
             assert_eq!(rt; world.label(), state);
-            match (event, happening) {
-                (Event::Send(request), Happening::Send(sent)) => assert_eq!(rt; request, sent),
-                (Event::Finish, Happening::Finish) => {}
-                _ => panic!(rt; "another event"),
-            }
+            came_back(rt, event, happening);
             assert_eq!(rt; apply(world, happening), want);
         }
     }
@@ -173,7 +253,7 @@ const ROWS: [(Happening, Said); 8] = [
 #[test]
 fn growths_refused_to_apply(rt: HostRuntime) -> Result<(), Fail> {
     let sum = Sum;
-    let mut world = World::new(rt.alloc(), &sum, 2, 5)?;
+    let mut world = a_world(rt.alloc(), &sum, 2, 5)?;
     for row in ROWS {
         applies(&rt, &mut world, row.0, row.1);
     }
@@ -208,7 +288,7 @@ fn replays(
     replies: &mut Vec<Reply<Sum>>,
 ) -> bool {
     for _ in 0..100 {
-        let Err(NoMemory) = replay(world, events, replies) else {
+        let Err(NoMemory) = replayed(world, events, replies) else {
             return true;
         };
         assert_eq!(rt; events.len().wrapping_add(replies.len()), ROWS.len());
@@ -220,35 +300,49 @@ fn replays(
     false
 }
 
+// Whether there was memory for the events of the rows, where a growth that is refused is asked for again.
+fn rows_come(events: &mut VecDeque<Event<Sum>>) -> bool {
+    for row in ROWS {
+        if !comes(events, row.0) && !comes(events, row.0) {
+            return false;
+        }
+    }
+    true
+}
+
+// The replies of the replays.
+fn replies_of(rt: &impl Abort, alloc: Global, world: &mut World<Sum>) -> Vec<Reply<Sum>> {
+    let mut events: VecDeque<Event<Sum>> = VecDeque::new(alloc);
+    assert!(rt; rows_come(&mut events), "memory");
+    let mut replies: Vec<Reply<Sum>> = Vec::new(alloc);
+    assert!(rt; replays(rt, world, &mut events, &mut replies));
+    replies
+}
+
 #[test]
 fn growths_refused_to_replay(rt: HostRuntime) -> Result<(), Fail> {
     let sum = Sum;
-    let mut world = World::new(rt.alloc(), &sum, 2, 5)?;
-    let mut events: VecDeque<Event<Sum>> = VecDeque::new(rt.alloc());
-    for row in ROWS {
-        // A growth that is refused here is asked for again.
-        if events.push_back(row.0.event()).is_err() {
-            events.push_back(row.0.event()).map_err(|_| "memory")?;
-        }
-    }
-    let mut replies: Vec<Reply<Sum>> = Vec::new(rt.alloc());
-    assert!(rt; replays(&rt, &mut world, &mut events, &mut replies));
-    let mut replies = replies.into_iter();
-    for row in ROWS {
-        assert_eq!(rt; replies.next().map(Said::of), Some(row.1));
-    }
+    let mut world = a_world(rt.alloc(), &sum, 2, 5)?;
+    let replies = replies_of(&rt, rt.alloc(), &mut world);
+    are_said(&rt, &mut replies.into_iter(), &ROWS);
     assert_eq!(rt; world.label(), 12);
     Ok(())
 }
 
+// Whether the owner of a new lane can send.
+fn sends_at_once(alloc: Global) -> Result<bool, LaneFault> {
+    let sum = Sum;
+    let (lane, owner, _server, _shutter) = open(alloc, &sum, 7, 3, 0)?;
+    let mut owner = owner;
+    Ok(owner.send(&lane, 3).is_ok())
+}
+
 #[test]
 fn growths_refused_to_a_new_lane(rt: HostRuntime) -> Result<(), Fail> {
-    let sum = Sum;
     for _ in 0..10 {
-        match Lane::new(rt.alloc(), &sum, 7, 3, 0) {
-            Ok((lane, owner, _server, _shutter)) => {
-                let mut owner = owner;
-                assert!(rt; owner.send(&lane, 3).is_ok());
+        match sends_at_once(rt.alloc()) {
+            Ok(sends) => {
+                assert!(rt; sends);
                 return Ok(());
             }
             Err(fault) => assert_eq!(rt; fault, LaneFault::NoMemory),

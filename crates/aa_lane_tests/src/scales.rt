@@ -134,7 +134,7 @@ pub fn plays<'l, 'm>(
 /// A parcel is sent, and what isn't accepted is dropped.
 pub fn sent(lane: &Lane<Scales>, owner: &mut Owner<Scales>, weight: u64, held: &Held) -> Outcome
     requires { owner.old.lane ≡ known lane.now }
-    ensures { owner.new.lane ≡ owner.old.lane }
+    ensures { owner.new.lane ≡ known lane.now }
 {
     outcome_of_send(&owner.send(lane, a_parcel(weight, held)))
 }
@@ -142,7 +142,7 @@ pub fn sent(lane: &Lane<Scales>, owner: &mut Owner<Scales>, weight: u64, held: &
 /// The owner looks for an answer, which is dropped.
 pub fn collected(lane: &Lane<Scales>, owner: &mut Owner<Scales>) -> Outcome
     requires { owner.old.lane ≡ known lane.now }
-    ensures { owner.new.lane ≡ owner.old.lane }
+    ensures { owner.new.lane ≡ known lane.now }
 {
     outcome_of_collect(&owner.collect(lane))
 }

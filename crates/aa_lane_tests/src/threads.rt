@@ -6,7 +6,8 @@ ghost use Rattle.std.specs.Prelude.{◌≡◌, ℕ};
 use crate::bench::open;
 use crate::sum::Sum;
 use aa_lane::SendFault::Closed;
-use aa_lane::{Ends, Lane, Owner, Served, Server, Shutter, Totals};
+use aa_lane::{Ends, Lane, LaneFault, Owner, Served, Server, Shutter, Totals};
+use std::alloc::Global;
 use std::process::Abort;
 use std::sync::Wait;
 use std::test::Fail;
@@ -176,12 +177,22 @@ fn feed_and_serve<R: Threads + Wait + Sync, L: Worked + Sync>(
     )
 }
 
+// What the owner of a lane of this capacity is fed, and how many requests `closes` finds.
+fn fed_on_two_threads<R: Threads + Wait + Abort + Sync>(
+    rt: &R,
+    alloc: Global,
+    capacity: u32,
+) -> Result<(Fed, u64), LaneFault> {
+    let sum = Sum;
+    let (lane, owner, server, shutter) = open(alloc, &sum, 7, capacity, 0)?;
+    let ((owner, fed), server) = feed_and_serve(rt, &lane, owner, server, 10000);
+    Ok((fed, closes(rt, lane, owner, server, shutter, fed)))
+}
+
 #[test]
 fn an_owner_and_a_server_on_two_threads(rt: HostRuntime) -> Result<(), Fail> {
-    let sum = Sum;
     for capacity in [1, 3, 1024] {
-        let (lane, owner, server, shutter) = open(rt.alloc(), &sum, 7, capacity, 0)?;
-        let ((owner, fed), server) = feed_and_serve(&rt, &lane, owner, server, 10000);
+        let (fed, closed) = fed_on_two_threads(&rt, rt.alloc(), capacity)?;
         assert_eq!(rt;
             fed,
             Fed {
@@ -190,13 +201,7 @@ fn an_owner_and_a_server_on_two_threads(rt: HostRuntime) -> Result<(), Fail> {
                 right: true
             }
         );
-        let owner = owner.exit(&lane);
-        let ends = Ends {
-            owner,
-            server,
-            shutter,
-        };
-        check_totals(&rt, lane.close(ends), 10000);
+        assert_eq!(rt; closed, 10000);
     }
     Ok(())
 }
@@ -337,29 +342,41 @@ fn closes(
     fed.sent
 }
 
+// All run and both lanes are closed: how many requests the first took, what the shut counted, and how many the second took.
+fn all_run_and_close<'m, R: Threads + Wait + Abort + Sync>(
+    rt: &R,
+    first: Lane<'m, Sum>,
+    second: Lane<'m, Sum>,
+    owners: (Owner<Sum>, Owner<Sum>),
+    servers: (Server<Sum>, Server<Sum>),
+    shutters: (Shutter<Sum>, Shutter<Sum>),
+) -> [u64; 3]
+    requires owners { (owners.0.lane ≡ known first) × (owners.1.lane ≡ known second) }
+    requires servers { (servers.0.lane ≡ known first) × (servers.1.lane ≡ known second) }
+    requires shutters { (shutters.0.lane ≡ known first) × (shutters.1.lane ≡ known second) }
+{
+    let ((fed, other_fed), (servers, shut)) = all_run(
+        rt, &first, &second, owners, servers, shutters.0,
+    );
+    let sent = closes(rt, first, fed.0, servers.0, shut.0, fed.1);
+    let other_sent = closes(rt, second, other_fed.0, servers.1, shutters.1, other_fed.1);
+    [sent, shut.1, other_sent]
+}
+
 #[test]
 fn two_owners_while_another_thread_shuts_one_lane(rt: HostRuntime) -> Result<(), Fail> {
     let sum = Sum;
     let (first, owner, server, shutter) = open(rt.alloc(), &sum, 0, 3, 0)?;
     let (second, other_owner, other_server, other_shutter) = open(rt.alloc(), &sum, 1, 3, 0)?;
-    let ((fed, other_fed), (servers, shut)) = all_run(
+    let counts = all_run_and_close(
         &rt,
-        &first,
-        &second,
+        first,
+        second,
         (owner, other_owner),
         (server, other_server),
-        shutter,
+        (shutter, other_shutter),
     );
-    assert_eq!(rt; fed.1.sent, shut.1);
-    closes(&rt, first, fed.0, servers.0, shut.0, fed.1);
-    let sent = closes(
-        &rt,
-        second,
-        other_fed.0,
-        servers.1,
-        other_shutter,
-        other_fed.1,
-    );
-    assert_eq!(rt; sent, 10000);
+    assert_eq!(rt; counts[0], counts[1]);
+    assert_eq!(rt; counts[2], 10000);
     Ok(())
 }
