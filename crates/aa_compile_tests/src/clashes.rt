@@ -6,6 +6,7 @@ ghost use Rattle.aa_profiles.specs.Lawful.{file_patterns};
 use crate::reading::read;
 use aa_auto::BuildFault;
 use aa_clashes::{Clash, clash_of};
+use aa_policy::Policy;
 use aa_profiles::Profile;
 use aa_words::{PolicyFault, PolicyKind};
 use std::alloc::Global;
@@ -25,13 +26,22 @@ fn conflict_in(alloc: Global, profile: &Profile, limit: u16) -> Result<Option<Cl
     }
 }
 
-/// The conflict of the first profile that the text spells.
-pub fn conflict(alloc: Global, text: &str, limit: u16) -> Result<Option<Clash>, PolicyFault> {
-    let policy = read(alloc, text)?;
+/// The conflict of a policy's first profile.
+fn first_conflict(
+    alloc: Global,
+    policy: &Policy,
+    limit: u16,
+) -> Result<Option<Clash>, PolicyFault> {
     match policy.profiles.as_slice().first() {
         Some(profile) => conflict_in(alloc, profile, limit),
         None => Ok(None),
     }
+}
+
+/// The conflict of the first profile that the text spells.
+pub fn conflict(alloc: Global, text: &str, limit: u16) -> Result<Option<Clash>, PolicyFault> {
+    let policy = read(alloc, text)?;
+    first_conflict(alloc, &policy, limit)
 }
 
 /// Whether these two rules are found, and that text.

@@ -1,6 +1,6 @@
 //! Policies where a growth is refused.
 
-use crate::policies::{attached, compiled, execution, to};
+use crate::policies::{are_attached, are_executed, compiled, to};
 use aa_compile::Compiled;
 use aa_faults::PolicyKind;
 use std::alloc::Global;
@@ -22,8 +22,11 @@ fn three_at_last(rt: &impl Abort, alloc: Global) -> Compiled {
 #[test]
 fn a_growth_refused_to_compile_is_no_memory(rt: HostRuntime) -> Result<(), Fail> {
     let policy = three_at_last(&rt, rt.alloc());
-    assert_eq!(rt; attached(&policy, "/pp"), Some(0));
-    assert_eq!(rt; execution(&policy, 0, "/q"), to(2, true));
-    assert_eq!(rt; execution(&policy, 0, "/c"), to(1, false));
+    are_attached(&rt, &policy, &[("/pp", Some(0))]);
+    are_executed(
+        &rt,
+        &policy,
+        &[(0, "/q", to(2, true)), (0, "/c", to(1, false))],
+    );
     Ok(())
 }

@@ -74,28 +74,29 @@ fn every_letter_of_a_mask(rt: HostRuntime) -> Result<(), Fail> {
     Ok(())
 }
 
+const LABELS_OF_TWO_POLICIES: [Row; 2] = [
+    (
+        Label::Confined(1, 0),
+        Ask::File("/x", 1),
+        Some((Denied, 1)),
+        Label::Confined(1, 0),
+        "apparmor=\"DENIED\" operation=\"file\" profile=612062 name=\"/x\" requested_mask=\"r\" denied_mask=\"r\"",
+    ),
+    (
+        FIRST,
+        Ask::Exec("/h"),
+        Some((Audit, 64)),
+        Label::Confined(1, 1),
+        "apparmor=\"AUDIT\" operation=\"exec\" profile=\"p\" name=\"/h\" requested_mask=\"x\" target=6120622F2F68",
+    ),
+];
+
 #[test]
 fn labels_of_two_policies(rt: HostRuntime) {
-    let rows: [Row; 2] = [
-        (
-            Label::Confined(1, 0),
-            Ask::File("/x", 1),
-            Some((Denied, 1)),
-            Label::Confined(1, 0),
-            "apparmor=\"DENIED\" operation=\"file\" profile=612062 name=\"/x\" requested_mask=\"r\" denied_mask=\"r\"",
-        ),
-        (
-            FIRST,
-            Ask::Exec("/h"),
-            Some((Audit, 64)),
-            Label::Confined(1, 1),
-            "apparmor=\"AUDIT\" operation=\"exec\" profile=\"p\" name=\"/h\" requested_mask=\"x\" target=6120622F2F68",
-        ),
-    ];
     says_all(
         &rt,
         rt.alloc(),
         &["profile p { }", "profile \"a b\" { profile h { } }"],
-        &rows,
+        &LABELS_OF_TWO_POLICIES,
     );
 }

@@ -122,6 +122,26 @@ fn line_appended(
     Ok((out, is_one))
 }
 
+/// The line made alone, the text that it is appended to, and whether there is one.
+type Both = (String, String, bool);
+
+fn both_lines(
+    alloc: Global,
+    policies: &[Compiled],
+    row: Row,
+    asked: &Request,
+) -> Result<Both, AllocError> {
+    let line = line_alone(alloc, policies, row, asked)?;
+    let (out, is_one) = line_appended(alloc, policies, row, asked)?;
+    Ok((line, out, is_one))
+}
+
+fn are_lines(rt: &impl Abort, both: &Both, wanted: &str) {
+    assert_eq!(rt; both.0.as_str(), wanted);
+    assert_eq!(rt; both.1.as_str().strip_prefix("> "), Some(wanted));
+    assert_eq!(rt; both.2, !wanted.is_empty());
+}
+
 fn says(
     rt: &impl Abort,
     alloc: Global,
@@ -129,15 +149,10 @@ fn says(
     row: Row,
 ) -> Result<(), RequestFault> {
     let asked = request(alloc, row.1)?;
-    let Ok(line) = line_alone(alloc, policies, row, &asked) else {
-        return Err(RequestFault::NoMemory);
-    };
-    let Ok((out, is_one)) = line_appended(alloc, policies, row, &asked) else {
-        return Err(RequestFault::NoMemory);
-    };
-    assert_eq!(rt; line.as_str(), row.4);
-    assert_eq!(rt; out.as_str().strip_prefix("> "), Some(row.4));
-    assert_eq!(rt; is_one, !row.4.is_empty());
+    match both_lines(alloc, policies, row, &asked) {
+        Ok(both) => are_lines(rt, &both, row.4),
+        Err(_) => return Err(RequestFault::NoMemory),
+    }
     Ok(())
 }
 

@@ -1,7 +1,7 @@
 //! Policies that are read from their texts, and what they are, as plain data. The helpers have no clauses, so that a
 //! test's proof stays short.
 
-ghost use Rattle.std.specs.Prelude.{◌<◌, ◌≤◌};
+ghost use Rattle.std.specs.Prelude.{◌<◌, ◌≤◌, length};
 
 use aa_faults::{PolicyFault, PolicyKind};
 use aa_jobs::Include;
@@ -43,6 +43,16 @@ fn no_memory() -> RefusedPolicy {
     }
 }
 
+/// The first 65,535 texts.
+fn few_of(texts: &[Text]) -> &[Text]
+    ensures { length result.now ≤ 65535 }
+{
+    match texts.get(..65_535) {
+        Some(first) => first,
+        None => texts,
+    }
+}
+
 /// The policies of the first 65,535 texts. The limit is from 1 to 1,000,000.
 pub fn compiled_with(
     alloc: Global,
@@ -50,8 +60,8 @@ pub fn compiled_with(
     texts: &[Text],
     limit: u32,
 ) -> Result<Vec<Compiled>, RefusedPolicy> {
-    let texts = texts.get(..65_535).unwrap_or(texts);
-    compile_policies(alloc, includes, texts, limit.clamp(1, 1_000_000))
+    let limit = limit.clamp(1, 1_000_000);
+    compile_policies(alloc, includes, few_of(texts), limit)
 }
 
 /// The policies of the texts, each of which may include the sources.

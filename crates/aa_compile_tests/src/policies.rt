@@ -45,27 +45,27 @@ pub fn handed_back(alloc: Global, text: &str, limit: u32) -> Option<usize> {
 }
 
 /// The number of the profile with that full name.
-pub fn found(compiled: &Compiled, name: &str) -> Option<u16> {
+fn found(compiled: &Compiled, name: &str) -> Option<u16> {
     compiled.find(name.as_bytes())
 }
 
 /// The top-level profile that is attached to the path.
-pub fn attached(compiled: &Compiled, path: &str) -> Option<u16> {
+fn attached(compiled: &Compiled, path: &str) -> Option<u16> {
     compiled.attach(path.as_bytes())
 }
 
 /// The child of the profile that is attached to the path.
-pub fn attached_child(compiled: &Compiled, parent: u16, path: &str) -> Option<u16> {
+fn attached_child(compiled: &Compiled, parent: u16, path: &str) -> Option<u16> {
     compiled.attach_child(parent, path.as_bytes())
 }
 
 /// How many states the automaton of the profile's file rules has.
-pub fn states(compiled: &Compiled, profile: u16) -> usize {
+fn states(compiled: &Compiled, profile: u16) -> usize {
     compiled.states(profile)
 }
 
 /// Where an execution of the path leads from a profile, where that is there. Nobody's path is owned.
-pub fn execution(compiled: &Compiled, profile: u16, path: &str) -> Option<Transition> {
+fn execution(compiled: &Compiled, profile: u16, path: &str) -> Option<Transition> {
     if (profile as usize) < compiled.policy().profiles.as_slice().len() {
         let verdict = compiled.verdict(profile, path.as_bytes(), false);
         return Some(compiled.transition(profile, path.as_bytes(), false, verdict));
@@ -84,10 +84,150 @@ pub fn to_none(scrub: bool) -> Option<Transition> {
 }
 
 /// The bits that the rules of a profile allow, deny, deny with a line, and report, where the profile is there.
-pub fn bits(compiled: &Compiled, profile: u16, path: &str, owned: bool) -> Option<[u8; 4]> {
+fn bits(compiled: &Compiled, profile: u16, path: &str, owned: bool) -> Option<[u8; 4]> {
     if (profile as usize) < compiled.policy().profiles.as_slice().len() {
         let sets = compiled.verdict(profile, path.as_bytes(), owned).sets;
         return Some([sets.allow.0, sets.deny.0, sets.loud.0, sets.audited.0]);
     }
     None
+}
+
+/// A path, and the top-level profile that is attached to it.
+pub type Attached = (&'static str, Option<u16>);
+
+/// The profiles are attached so.
+pub fn are_attached(rt: &impl Abort, policy: &Compiled, rows: &[Attached]) {
+    for (path, expected) in rows {
+        assert_eq!(rt; attached(policy, path), *expected, "{path}");
+    }
+}
+
+/// The policy of the text attaches so.
+pub fn attaches(
+    rt: &impl Abort,
+    alloc: Global,
+    text: &str,
+    limit: u32,
+    rows: &[Attached],
+) -> Result<(), PolicyFault> {
+    let policy = compiled(alloc, text, limit)?;
+    are_attached(rt, &policy, rows);
+    Ok(())
+}
+
+/// A profile, a path, and the profile's child that is attached to it.
+pub type AttachedChild = (u16, &'static str, Option<u16>);
+
+fn children_are_attached(rt: &impl Abort, policy: &Compiled, rows: &[AttachedChild]) {
+    for (parent, path, expected) in rows {
+        assert_eq!(rt;
+            attached_child(policy, *parent, path),
+            *expected,
+            "{parent} {path}"
+        );
+    }
+}
+
+/// The profiles of the text's policy attach their children so.
+pub fn attaches_children(
+    rt: &impl Abort,
+    alloc: Global,
+    text: &str,
+    limit: u32,
+    rows: &[AttachedChild],
+) -> Result<(), PolicyFault> {
+    let policy = compiled(alloc, text, limit)?;
+    children_are_attached(rt, &policy, rows);
+    Ok(())
+}
+
+/// A full name, and the number of its profile.
+pub type Found = (&'static str, Option<u16>);
+
+fn are_found(rt: &impl Abort, policy: &Compiled, rows: &[Found]) {
+    for (name, expected) in rows {
+        assert_eq!(rt; found(policy, name), *expected, "{name}");
+    }
+}
+
+/// The profiles of the text's policy are found so.
+pub fn finds(
+    rt: &impl Abort,
+    alloc: Global,
+    text: &str,
+    rows: &[Found],
+) -> Result<(), PolicyFault> {
+    let policy = compiled(alloc, text, 4096)?;
+    are_found(rt, &policy, rows);
+    Ok(())
+}
+
+/// A profile, a path, and where its execution leads, where the profile is there.
+pub type Executed = (u16, &'static str, Option<Transition>);
+
+/// Executions lead there.
+pub fn are_executed(rt: &impl Abort, policy: &Compiled, rows: &[Executed]) {
+    for (profile, path, expected) in rows {
+        assert_eq!(rt;
+            execution(policy, *profile, path),
+            *expected,
+            "{profile} {path}"
+        );
+    }
+}
+
+/// Executions lead there in the text's policy.
+pub fn executes(
+    rt: &impl Abort,
+    alloc: Global,
+    text: &str,
+    rows: &[Executed],
+) -> Result<(), PolicyFault> {
+    let policy = compiled(alloc, text, 4096)?;
+    are_executed(rt, &policy, rows);
+    Ok(())
+}
+
+/// A profile, a path, whether it is owned, and the bits that the profile's rules allow, deny, deny with a line, and report.
+pub type Bits = (u16, &'static str, bool, Option<[u8; 4]>);
+
+fn are_bits(rt: &impl Abort, policy: &Compiled, rows: &[Bits]) {
+    for (profile, path, owned, expected) in rows {
+        assert_eq!(rt;
+            bits(policy, *profile, path, *owned),
+            *expected,
+            "{profile} {path}"
+        );
+    }
+}
+
+/// The rules of the text's policy have these bits.
+pub fn has_bits(
+    rt: &impl Abort,
+    alloc: Global,
+    text: &str,
+    rows: &[Bits],
+) -> Result<(), PolicyFault> {
+    let policy = compiled(alloc, text, 4096)?;
+    are_bits(rt, &policy, rows);
+    Ok(())
+}
+
+fn are_states(rt: &impl Abort, policy: &Compiled, rows: &[(u16, usize)]) {
+    for (profile, expected) in rows {
+        assert_eq!(rt; states(policy, *profile), *expected, "{profile}");
+    }
+}
+
+/// The automata of the text's profiles have so many states.
+pub fn has_states(
+    rt: &impl Abort,
+    alloc: Global,
+    text: &str,
+    limit: u32,
+    rows: &[(u16, usize)],
+) -> Result<(), PolicyFault> {
+    let policy = compiled(alloc, text, limit)?;
+    are_states(rt, &policy, rows);
+    Ok(())
 }

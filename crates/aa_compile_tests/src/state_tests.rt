@@ -1,6 +1,6 @@
 //! Automata with more states than the limit.
 
-use crate::policies::{Row, compiled, handed_back, refuses_each, states};
+use crate::policies::{Row, handed_back, has_states, refuses_each};
 use std::test::Fail;
 
 #[test]
@@ -18,12 +18,14 @@ fn a_state_for_each_prefix_and_one_for_the_rest(rt: HostRuntime) -> Result<(), F
 fn states_are_counted_profile_by_profile(rt: HostRuntime) -> Result<(), Fail> {
     let text =
         "profile p /etc/* { /x r, profile c /y { /x r, /y r, } } profile q { } profile r { /t/** r, }";
-    let policy = compiled(rt.alloc(), text, 100)?;
     // "", "/", "/x", else; "", "/", "/x", "/y", else; all texts; "", "/", "/t", "/t/", what matches, else.
-    let rows: [(u16, usize); 6] = [(0, 4), (1, 5), (2, 1), (3, 6), (4, 0), (65535, 0)];
-    for (profile, expected) in rows {
-        assert_eq!(rt; states(&policy, profile), expected, "{profile}");
-    }
+    has_states(
+        &rt,
+        rt.alloc(),
+        text,
+        100,
+        &[(0, 4), (1, 5), (2, 1), (3, 6), (4, 0), (65535, 0)],
+    )?;
     Ok(())
 }
 
