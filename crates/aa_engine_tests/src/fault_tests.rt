@@ -102,8 +102,8 @@ fn the_first_unknown_label_is_named(rt: HostRuntime) {
 }
 
 /// How a fault is told.
-fn told(alloc: Global, fault: RunFault) -> Result<String, Fail> {
-    Ok(format!(in alloc; "{fault}")?)
+fn told(alloc: Global, fault: RunFault) -> Option<String> {
+    format!(in alloc; "{fault}").ok()
 }
 
 fn status_of(fault: RunFault) -> u8 {
@@ -130,7 +130,7 @@ fn each_fault_has_a_line_and_a_status(rt: HostRuntime) -> Result<(), Fail> {
         (RunFault::UnknownProfile(0), "task 0 has no profile", 1),
     ];
     for (fault, line, status) in rows {
-        let text = told(rt.alloc(), fault)?;
+        let text = told(rt.alloc(), fault).ok_or("memory")?;
         assert_eq!(rt; text.as_str(), line);
         assert_eq!(rt; status_of(fault), status, "{line}");
     }

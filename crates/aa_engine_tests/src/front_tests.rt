@@ -23,11 +23,16 @@ fn no_front_of_a_job_is_one(rt: HostRuntime) {
 /// A policy with each fallback.
 const EXECUTING: &[u8] = b"profile p { /a pix, /b px, /c pux, /d Px -> q, /e PUx, } profile q { }";
 
+fn push(text: &mut Vec<u8>, bytes: &[u8]) -> Result<(), AllocError> {
+    text.extend_from_slice(bytes)
+}
+
 /// The job of a policy, without tasks.
 fn job_of(alloc: Global, policy: &[u8]) -> Result<Vec<u8>, AllocError> {
-    let mut job = Vec::from_slice(alloc, b"{\"tasks\":[],\"policy\":\"")?;
-    job.extend_from_slice(policy)?;
-    job.extend_from_slice(b"\"}")?;
+    let mut job = Vec::new(alloc);
+    push(&mut job, b"{\"tasks\":[],\"policy\":\"")?;
+    push(&mut job, policy)?;
+    push(&mut job, b"\"}")?;
     Ok(job)
 }
 

@@ -58,7 +58,10 @@ pub const MOVED: &[u8] =
 
 /// The job that a text is.
 pub fn job_of(alloc: Global, text: &[u8]) -> Option<Job> {
-    read_job(alloc, text).ok()
+    match read_job(alloc, text) {
+        Ok(job) => Some(job),
+        Err(_) => None,
+    }
 }
 
 /// A job's policies, where they compile.
@@ -66,6 +69,28 @@ pub fn policies_of(alloc: Global, job: &Job) -> Option<Vec<Compiled>> {
     let includes = job.includes.as_slice();
     let texts = job.policies.as_slice();
     compile_policies(alloc, includes, texts, job.states).ok()
+}
+
+fn check<R: Read, W: Write>(alloc: Global, reader: &mut R, writer: &mut W) -> Result<(), RunFault> {
+    check_job(alloc, reader, writer)
+}
+
+fn run<R: Read, W: Write, H: Threads + Wait + Sync>(
+    rt: &H,
+    alloc: Global,
+    reader: &mut R,
+    writer: &mut W,
+    workers: u32,
+) -> Result<(), RunFault> {
+    run_job(rt, alloc, reader, writer, workers.clamp(1, 16))
+}
+
+fn replay<R: Read, W: Write>(
+    alloc: Global,
+    reader: &mut R,
+    writer: &mut W,
+) -> Result<(), RunFault> {
+    replay_job(alloc, reader, writer)
 }
 
 /// Lets the command answer what the reader gives.
@@ -77,9 +102,9 @@ pub fn answer<R: Read, W: Write, H: Threads + Wait + Sync>(
     writer: &mut W,
 ) -> Result<(), RunFault> {
     match command {
-        Command::Check => check_job(alloc, reader, writer),
-        Command::Run(workers) => run_job(rt, alloc, reader, writer, workers.clamp(1, 16)),
-        Command::Replay => replay_job(alloc, reader, writer),
+        Command::Check => check(alloc, reader, writer),
+        Command::Run(workers) => run(rt, alloc, reader, writer, workers),
+        Command::Replay => replay(alloc, reader, writer),
     }
 }
 

@@ -30,11 +30,24 @@ const READ: usize = 0;
 
 const WRITE: usize = 1;
 
+fn copy_of(request: &Request) -> Option<Request> {
+    match request.try_clone() {
+        Ok(copy) => Some(copy),
+        Err(_) => None,
+    }
+}
+
+fn work_of(job: &Job, number: usize) -> Option<&Work> {
+    match job.tasks.as_slice().first() {
+        Some(task) => task.requests.as_slice().get(number),
+        None => None,
+    }
+}
+
 /// A copy of a request of the job's first task.
 fn request_of(job: &Job, number: usize) -> Option<Request> {
-    let task = job.tasks.as_slice().first()?;
-    match task.requests.as_slice().get(number) {
-        Some(Work::Ask(request)) => request.try_clone().ok(),
+    match work_of(job, number) {
+        Some(Work::Ask(request)) => copy_of(request),
         _ => None,
     }
 }
@@ -54,7 +67,7 @@ fn sends<'p>(
     number: usize,
 ) -> Outcome
     requires { owner.old.lane ≡ known lane.now }
-    ensures { owner.new.lane ≡ owner.old.lane }
+    ensures { owner.new.lane ≡ known lane.now }
 {
     let Some(request) = request_of(job, number) else {
         return Outcome::NoRequest;
@@ -67,7 +80,7 @@ fn sends<'p>(
 
 fn collects<'p>(lane: &Lane<Mediator<'p>>, owner: &mut Owner<Mediator<'p>>) -> Outcome
     requires { owner.old.lane ≡ known lane.now }
-    ensures { owner.new.lane ≡ owner.old.lane }
+    ensures { owner.new.lane ≡ known lane.now }
 {
     match owner.collect(lane) {
         Some(given) => Outcome::Got(given.number, asked_by(&given.request), given.answer.granted),
@@ -99,7 +112,7 @@ fn fills<'p>(
 ) -> Server<Mediator<'p>>
     requires owner { owner.old.lane ≡ known lane.now }
     requires server { server.lane ≡ known lane.now }
-    ensures owner { owner.new.lane ≡ owner.old.lane }
+    ensures owner { owner.new.lane ≡ known lane.now }
     ensures server { result.lane ≡ known lane.now }
 {
     assert_eq!(rt; sends(lane, owner, job, READ), Outcome::Sent(0));
@@ -124,7 +137,7 @@ fn empties<'p>(
 ) -> Server<Mediator<'p>>
     requires owner { owner.old.lane ≡ known lane.now }
     requires server { server.lane ≡ known lane.now }
-    ensures owner { owner.new.lane ≡ owner.old.lane }
+    ensures owner { owner.new.lane ≡ known lane.now }
     ensures server { result.lane ≡ known lane.now }
 {
     let (server, outcome) = serves(lane, server);

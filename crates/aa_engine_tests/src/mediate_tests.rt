@@ -10,7 +10,6 @@ use aa_requests::{Answer, Label};
 use std::alloc::Global;
 use std::process::Abort;
 use std::sync::Wait;
-use std::test::Fail;
 use std::thread::Threads;
 
 /// Whether requests are lent to the lanes, or copied.
@@ -33,6 +32,10 @@ const MOVES: [&[(bool, Label)]; 3] = [
     &[],
 ];
 
+fn is_wanted(answer: &Answer, wanted: &(bool, Label)) -> bool {
+    answer.granted == wanted.0 && answer.label == wanted.1
+}
+
 fn is_answered_so<M: Machine<Answer = Answer>>(
     row: &[Answered<M>],
     wanted: &[(bool, Label)],
@@ -40,13 +43,12 @@ fn is_answered_so<M: Machine<Answer = Answer>>(
     if row.len() != wanted.len() {
         return false;
     }
-    for (number, answered) in row.iter().enumerate() {
-        let answer = &answered.answer;
-        if answered.number != number as u64
-            || wanted.get(number) != Some(&(answer.granted, answer.label))
-        {
+    let mut number: u64 = 0;
+    for (answered, wanted) in row.iter().zip(wanted) {
+        if answered.number != number || !is_wanted(&answered.answer, wanted) {
             return false;
         }
+        number = number.wrapping_add(1);
     }
     true
 }
@@ -89,47 +91,40 @@ fn moves<R: Threads + Wait + Sync>(
     }
 }
 
+/// The same for a job of that text, whose policies compile.
+fn moves_of<R: Threads + Wait + Sync>(
+    rt: &R,
+    alloc: Global,
+    requests: Requests,
+    text: &[u8],
+    workers: u32,
+) -> Option<Result<bool, MediateFault>> {
+    let job = job_of(alloc, text)?;
+    let policies = policies_of(alloc, &job)?;
+    Some(moves(rt, alloc, requests, &job, policies.as_slice(), workers))
+}
+
 #[test]
-fn three_tasks_are_answered_by_any_number_of_workers(rt: HostRuntime) -> Result<(), Fail> {
-    let job = job_of(rt.alloc(), MOVING_JOB).ok_or("it is a job")?;
-    let policies = policies_of(rt.alloc(), &job).ok_or("they compile")?;
+fn three_tasks_are_answered_by_any_number_of_workers(rt: HostRuntime) {
     for requests in BOTH {
         for workers in [1, 2, 16] {
-            let given = moves(
-                &rt,
-                rt.alloc(),
-                requests,
-                &job,
-                policies.as_slice(),
-                workers,
-            );
-            assert_eq!(rt; given, Ok(true));
+            let given = moves_of(&rt, rt.alloc(), requests, MOVING_JOB, workers);
+            assert_eq!(rt; given, Some(Ok(true)));
         }
     }
-    Ok(())
 }
 
 const UNKNOWN: &[u8] =
     b"{\"policy\":\"profile p { }\",\"tasks\":[{\"label\":\"p\",\"requests\":[]},{\"label\":\"z\",\"requests\":[]},{\"label\":\"y\",\"requests\":[]}]}";
 
 #[test]
-fn the_first_task_without_a_profile_is_named(rt: HostRuntime) -> Result<(), Fail> {
-    let job = job_of(rt.alloc(), UNKNOWN).ok_or("it is a job")?;
-    let policies = policies_of(rt.alloc(), &job).ok_or("they compile")?;
+fn the_first_task_without_a_profile_is_named(rt: HostRuntime) {
     for requests in BOTH {
         for workers in [1, 2] {
-            let given = moves(
-                &rt,
-                rt.alloc(),
-                requests,
-                &job,
-                policies.as_slice(),
-                workers,
-            );
-            assert_eq!(rt; given, Err(MediateFault::UnknownProfile(1)));
+            let given = moves_of(&rt, rt.alloc(), requests, UNKNOWN, workers);
+            assert_eq!(rt; given, Some(Err(MediateFault::UnknownProfile(1))));
         }
     }
-    Ok(())
 }
 
 // One try: whether the tasks were answered, where there was memory.

@@ -5,16 +5,28 @@ use aa_policy::{
     CapRule, ChangeRule, Exec, ExecKind, Fallback, FileRule, NetRule, PassedOver, Policy, Profile,
     parse,
 };
-use aa_words::{PolicyFault, Sources, words};
+use aa_words::{PolicyFault, Sources, WordList, words};
 use bitflags::Flags;
 use std::alloc::{AllocError, Global};
 use std::process::Abort;
 
+fn words_of<'s>(
+    alloc: Global,
+    sources: &'s Sources,
+    text: &'s [u8],
+) -> Result<WordList<'s>, PolicyFault> {
+    words(alloc, sources, text)
+}
+
+fn parsed(alloc: Global, list: &WordList) -> Result<Policy, PolicyFault> {
+    parse(alloc, list)
+}
+
 /// The policy that a text spells.
 pub fn read(alloc: Global, text: &[u8]) -> Result<Policy, PolicyFault> {
     let sources = Sources::new(alloc);
-    let list = words(alloc, &sources, text)?;
-    parse(alloc, &list)
+    let list = words_of(alloc, &sources, text)?;
+    parsed(alloc, &list)
 }
 
 /// The kind's number, the file and the byte of the refusal, where the text is refused.

@@ -14,14 +14,16 @@ pub alone_at-requires-clause-server : goal.alone_at-requires-clause-server
 alone_at-requires-clause-server g c =
     let i = c.loop-server.invariant in
     let s = (c.in-Some.ensures {u = tt}).steps in
-    let n = next (λ s. s.lane) known c.in-Some.server c.next.new.self.rest.items c.args.lanes.now c.loop-server.at (ap (map (λ s. s.lane)) (sym s.0) ∙ i.rest) in
+    let servers : c.in-Some.server.lane ∷ map (λ s. s.lane) c.next.new.self.rest.items ≡ map known (drop c.loop-server.at c.args.lanes.now) = rw s.0 at i.rest in
+    let n = next (λ s. s.lane) known c.in-Some.server c.next.new.self.rest.items c.args.lanes.now c.loop-server.at servers in
     n.here c.index-lanes-at.result c.index-lanes-at.is
 
 pub loop-server-preserved : goal.loop-server-preserved
 loop-server-preserved g c =
     let i = c.loop-server.invariant in
     let s = (c.in-Some.ensures {u = tt}).steps in
-    let n = next (λ s. s.lane) known c.in-Some.server c.next.new.self.rest.items c.args.lanes.now c.loop-server.at (ap (map (λ s. s.lane)) (sym s.0) ∙ i.rest) in
+    let servers : c.in-Some.server.lane ∷ map (λ s. s.lane) c.next.new.self.rest.items ≡ map known (drop c.loop-server.at c.args.lanes.now) = rw s.0 at i.rest in
+    let n = next (λ s. s.lane) known c.in-Some.server c.next.new.self.rest.items c.args.lanes.now c.loop-server.at servers in
     let w : c.loop-server.at < length c.args.lanes.now = n.within in
     let len : length c.loop-server.feeds ≡ length c.args.lanes.now = i.same.len ∙ c.requires.len in
     let p = c.push_reserved.ensures in

@@ -1,6 +1,6 @@
-use Rattle.std.proofs.Common.{◌≡◌, ◌++◌, [], ◌∷◌, true, map, length, sym, ap, ◌∙◌, arith, append_assoc, append-nil}
+use Rattle.std.proofs.Common.{◌≡◌, All, ◌++◌, [], ◌∷◌, true, map, length, sym, ap, ◌∙◌, arith, append_assoc, append-nil}
 use Rattle.std.proofs.lemmas.List.{map-append}
-use Rattle.std.proofs.lemmas.List.Elements.{All-rest}
+use Rattle.std.proofs.lemmas.List.Elements.{All-head, All-rest}
 use Rattle.aa_lane.specs.Ends.{known}
 use Rattle.aa_feed.specs.Fed.{answers_of}
 use Rattle.aa_feed.proofs.Cuts.{nil}
@@ -32,3 +32,20 @@ returns g c =
       answers = sym (append-nil _) ∙ ap (λ l. map (λ f. f.answers.items) c.loop-feed.finished.items ++ map of l) (sym e) ∙ i.answers;
       of = sym (append-nil _) ∙ ap (λ l. map (λ f. f.leaver.lane) c.loop-feed.finished.items ++ map (λ f. known f.lane) l) (sym e) ∙ i.of;
     }
+
+pub finish-requires-clause-machine : goal.finish-requires-clause-machine
+finish-requires-clause-machine g c =
+    let s = (c.in-Some.ensures {u = tt}).steps in
+    let all : All (λ f. f.lane.machine ≡ c.args.machine.now) (c.in-Some.feed ∷ c.next.new.self.rest.items) = rw s.0 at c.loop-feed.invariant.machine in
+    sym (All-head (λ f. f.lane.machine ≡ c.args.machine.now) c.in-Some.feed c.next.new.self.rest.items all)
+
+pub finish-requires-clause-finished : goal.finish-requires-clause-finished
+finish-requires-clause-finished g c =
+    let s = (c.in-Some.ensures {u = tt}).steps in
+    let all : All (λ f. f.finished ≡ true) (c.in-Some.feed ∷ c.next.new.self.rest.items) = rw s.0 at c.loop-feed.invariant.finished in
+    All-head (λ f. f.finished ≡ true) c.in-Some.feed c.next.new.self.rest.items all
+
+pub push_reserved-requires : goal.push_reserved-requires
+push_reserved-requires g c =
+    let s = (c.in-Some.ensures {u = tt}).steps in
+    omega (arith, ap length s.0, c.loop-feed.invariant.room)

@@ -1,4 +1,4 @@
-use Rattle.std.proofs.Common.{◌≡◌, ◌<◌, ◌++◌, List, [], ◌∷◌, map, length, sym, refl, ap, ◌∙◌, arith, add-one, append_assoc, append-nil}
+use Rattle.std.proofs.Common.{◌≡◌, ◌<◌, ◌++◌, List, [], ◌∷◌, map, length, drop, sym, refl, ap, ◌∙◌, arith, add-one, append_assoc, append-nil}
 use Rattle.std.proofs.lemmas.List.{map-append}
 use Rattle.aa_lane.specs.Ends.{known}
 use Rattle.aa_feed.proofs.Pairs.{next}
@@ -12,7 +12,8 @@ pub settle-requires : goal.settle-requires
 settle-requires g c =
     let i = c.loop-server.invariant in
     let s = (c.in-Some.ensures {u = tt}).steps in
-    let n = next (λ s. s.lane) known c.in-Some.server c.next.new.self.rest.items c.args.lanes.now c.loop-server.at (ap (map (λ s. s.lane)) (sym s.0) ∙ i.rest) in
+    let servers : c.in-Some.server.lane ∷ map (λ s. s.lane) c.next.new.self.rest.items ≡ map known (drop c.loop-server.at c.args.lanes.now) = rw s.0 at i.rest in
+    let n = next (λ s. s.lane) known c.in-Some.server c.next.new.self.rest.items c.args.lanes.now c.loop-server.at servers in
     n.here c.index-lanes-at.result c.index-lanes-at.is
 
 pub loop-server-preserved : goal.loop-server-preserved
@@ -20,7 +21,8 @@ loop-server-preserved g c =
     let i = c.loop-server.invariant in
     let s = (c.in-Some.ensures {u = tt}).steps in
     let p = c.push_reserved.ensures in
-    let n = next (λ s. s.lane) known c.in-Some.server c.next.new.self.rest.items c.args.lanes.now c.loop-server.at (ap (map (λ s. s.lane)) (sym s.0) ∙ i.rest) in
+    let servers : c.in-Some.server.lane ∷ map (λ s. s.lane) c.next.new.self.rest.items ≡ map known (drop c.loop-server.at c.args.lanes.now) = rw s.0 at i.rest in
+    let n = next (λ s. s.lane) known c.in-Some.server c.next.new.self.rest.items c.args.lanes.now c.loop-server.at servers in
     let w : c.loop-server.at < length c.args.lanes.now = n.within in
     let l = ap length s.0 in
     record {

@@ -18,8 +18,10 @@ loop-task-preserved g c =
     let lanes = c.args.lanes.now in
     let feeds = c.loop-task.feeds.items in
     let left = c.next.new.self.rest.items in
-    let o = stepped new_owner c.in-Some-next.owner c.next-in-loop-task.new.self.rest.items lanes c.loop-task.at (sym e ∙ i.owners) in
-    let t = stepped (λ a. a.start) c.in-Some.task.start (map (λ t. t.start) left) lanes c.loop-task.at (ap (map (λ t. t.start)) (sym s.0) ∙ i.starts) in
+    let owners : c.in-Some-next.owner ∷ c.next-in-loop-task.new.self.rest.items ≡ map new_owner (drop c.loop-task.at c.args.lanes.now) = rw e at i.owners in
+    let o = stepped new_owner c.in-Some-next.owner c.next-in-loop-task.new.self.rest.items lanes c.loop-task.at owners in
+    let starts : c.in-Some.task.start ∷ map (λ t. t.start) c.next.new.self.rest.items ≡ map (λ a. a.start) (drop c.loop-task.at c.args.lanes.now) = rw s.0 at i.starts in
+    let t = stepped (λ a. a.start) c.in-Some.task.start (map (λ t. t.start) left) lanes c.loop-task.at starts in
     let rooms : AreRooms (c.in-Some.task ∷ c.next.new.self.rest.items) (c.in-Some-next-2.room ∷ c.next-in-loop-task-2.new.self.rest.items) = rw (s.0, r) at i.rooms in
     let w : c.loop-task.at < length c.args.lanes.now = o.within in
     let h = is.0 ∙ c.index-lanes-at.is in
@@ -51,11 +53,13 @@ returns g c =
 pub feed_of-requires-clause-owner : goal.feed_of-requires-clause-owner
 feed_of-requires-clause-owner g c =
     let e = (c.in-Some-next.ensures {u = tt}).items in
-    let o = stepped new_owner c.in-Some-next.owner c.next-in-loop-task.new.self.rest.items c.args.lanes.now c.loop-task.at (sym e ∙ c.loop-task.invariant.owners) in
+    let owners : c.in-Some-next.owner ∷ c.next-in-loop-task.new.self.rest.items ≡ map new_owner (drop c.loop-task.at c.args.lanes.now) = rw e at c.loop-task.invariant.owners in
+    let o = stepped new_owner c.in-Some-next.owner c.next-in-loop-task.new.self.rest.items c.args.lanes.now c.loop-task.at owners in
     o.here c.index-lanes-at.result c.index-lanes-at.is
 
 pub feed_of-requires-clause-start : goal.feed_of-requires-clause-start
 feed_of-requires-clause-start g c =
     let s = (c.in-Some.ensures {u = tt}).steps in
-    let t = stepped (λ a. a.start) c.in-Some.task.start (map (λ t. t.start) c.next.new.self.rest.items) c.args.lanes.now c.loop-task.at (ap (map (λ t. t.start)) (sym s.0) ∙ c.loop-task.invariant.starts) in
+    let starts : c.in-Some.task.start ∷ map (λ t. t.start) c.next.new.self.rest.items ≡ map (λ a. a.start) (drop c.loop-task.at c.args.lanes.now) = rw s.0 at c.loop-task.invariant.starts in
+    let t = stepped (λ a. a.start) c.in-Some.task.start (map (λ t. t.start) c.next.new.self.rest.items) c.args.lanes.now c.loop-task.at starts in
     t.here c.index-lanes-at.result c.index-lanes-at.is

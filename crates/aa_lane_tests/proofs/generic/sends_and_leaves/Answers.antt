@@ -14,7 +14,7 @@ pub returns-in-Ok : goal.returns-in-Ok
 returns-in-Ok g c =
     let laws = log_laws g.M.Machine.next g.M.Machine.reply in
     let s = c.in-Ok.ensures {u = tt} in
-    let sends = laws.once _ _ _ _ _ _ _ _ s.happens in
+    let sends = laws.once _ _ _ _ c.args.owner.log c.send.new.self.log _ _ s.happens in
     let leaves = laws.once _ _ _ _ _ _ _ _ c.exit.ensures.happens in
     let count : length c.send.new.self.sent ≡ length c.args.owner.sent + 1 = rw (s.accepted.2) (length-append c.args.owner.sent (c.args.request ∷ [])) in
     in_order _ (by ByOwner c.send.new.self.log) _ (λ n. (Send c.args.request, Accepted n)) (λ n. (Shut, Count n)) _ _ _ leaves sends s.accepted.1 count
