@@ -4,6 +4,3 @@
 mod fault;
 
 pub use fault::{PolicyFault, PolicyKind, Spot};
-
-#[cfg(test)]
-mod tests;

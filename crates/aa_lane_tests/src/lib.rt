@@ -1,19 +1,9 @@
-//! Tests of lanes and of their worlds, from outside: worked rows, schedules, threads, and growths that are refused.
+//! Tests of lanes, of the pool, and of tasks that are fed through them.
 #![tactic(auto)]
 
 #[cfg(test)]
-mod bench;
+mod feed;
 #[cfg(test)]
-mod generic;
+mod lane;
 #[cfg(test)]
-mod lanes;
-#[cfg(test)]
-mod memory;
-#[cfg(test)]
-mod scales;
-#[cfg(test)]
-mod sum;
-#[cfg(test)]
-mod threads;
-#[cfg(test)]
-mod worlds;
+mod pool;

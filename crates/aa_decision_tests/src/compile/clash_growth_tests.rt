@@ -1,0 +1,25 @@
+//! Conflicts where a growth is refused.
+
+use crate::compile::clashes::{conflict, is_found};
+use aa_clashes::Clash;
+use aa_words::PolicyKind;
+use std::alloc::Global;
+use std::process::Abort;
+use std::test::Fail;
+
+// Tries again where a growth is refused.
+fn found_at_last(rt: &impl Abort, alloc: Global) -> Option<Clash> {
+    for _ in 0..3 {
+        match conflict(alloc, "profile p { /* px, /l* ix, }", 100) {
+            Ok(clash) => return clash,
+            Err(fault) => assert_eq!(rt; fault.kind, PolicyKind::NoMemory),
+        }
+    }
+    panic!(rt; "refused each time")
+}
+
+#[test]
+fn a_growth_refused_to_search_is_no_memory(rt: HostRuntime) -> Result<(), Fail> {
+    assert!(rt; is_found(&found_at_last(&rt, rt.alloc()), 0, 1, "/l"));
+    Ok(())
+}

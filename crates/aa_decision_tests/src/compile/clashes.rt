@@ -1,0 +1,88 @@
+//! Policies that are read from their texts, and the conflict of their first profile, as plain data.
+
+ghost use Rattle.std.specs.Prelude.{◌≤◌};
+ghost use Rattle.aa_profiles.specs.Lawful.{file_patterns};
+
+use crate::compile::reading::read;
+use aa_auto::BuildFault;
+use aa_clashes::{Clash, clash_of};
+use aa_policy::Policy;
+use aa_profiles::Profile;
+use aa_words::{PolicyFault, PolicyKind};
+use std::alloc::Global;
+use std::process::Abort;
+
+/// The conflict of a profile, within so many states.
+fn conflict_in(alloc: Global, profile: &Profile, limit: u16) -> Result<Option<Clash>, PolicyFault>
+    requires { file_patterns profile.now ≤ 65535 }
+{
+    match clash_of(alloc, profile.files.as_slice(), limit.max(1) as usize) {
+        Ok(clash) => Ok(clash),
+        Err(BuildFault::NoMemory) => Err(PolicyFault::NO_MEMORY),
+        Err(BuildFault::TooManyStates) => Err(PolicyFault {
+            kind: PolicyKind::TooManyStates,
+            at: profile.at,
+        }),
+    }
+}
+
+/// The conflict of a policy's first profile.
+fn first_conflict(
+    alloc: Global,
+    policy: &Policy,
+    limit: u16,
+) -> Result<Option<Clash>, PolicyFault> {
+    match policy.profiles.as_slice().first() {
+        Some(profile) => conflict_in(alloc, profile, limit),
+        None => Ok(None),
+    }
+}
+
+/// The conflict of the first profile that the text spells.
+pub fn conflict(alloc: Global, text: &str, limit: u16) -> Result<Option<Clash>, PolicyFault> {
+    let policy = read(alloc, text)?;
+    first_conflict(alloc, &policy, limit)
+}
+
+/// Whether these two rules are found, and that text.
+pub fn is_found(clash: &Option<Clash>, first: usize, second: usize, text: &str) -> bool {
+    match clash {
+        Some(clash) => {
+            clash.first == first
+                && clash.second == second
+                && clash.text.as_slice() == text.as_bytes()
+        }
+        None => false,
+    }
+}
+
+/// A text, and the numbers of the two rules with the path at which they conflict.
+pub type Row = (&'static str, usize, usize, &'static str);
+
+/// Each of the texts has that conflict.
+pub fn finds_each(rt: &impl Abort, alloc: Global, rows: &[Row]) {
+    for (text, first, second, path) in rows {
+        match conflict(alloc, text, 65535) {
+            Ok(clash) => assert!(rt; is_found(&clash, *first, *second, path), "{text}"),
+            Err(_) => panic!(rt; "refused: {text}"),
+        }
+    }
+}
+
+/// None of the texts has one.
+pub fn finds_none(rt: &impl Abort, alloc: Global, rows: &[&'static str]) {
+    for text in rows {
+        match conflict(alloc, text, 65535) {
+            Ok(clash) => assert!(rt; clash.is_none(), "{text}"),
+            Err(_) => panic!(rt; "refused: {text}"),
+        }
+    }
+}
+
+/// Whether the automaton needs more than so many states.
+pub fn needs_more(alloc: Global, text: &str, limit: u16) -> bool {
+    match conflict(alloc, text, limit) {
+        Ok(_) => false,
+        Err(fault) => fault.kind == PolicyKind::TooManyStates,
+    }
+}

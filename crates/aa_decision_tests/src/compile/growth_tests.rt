@@ -1,0 +1,32 @@
+//! Policies where a growth is refused.
+
+use crate::compile::policies::{are_attached, are_executed, compiled, to};
+use aa_compile::Compiled;
+use aa_faults::PolicyKind;
+use std::alloc::Global;
+use std::process::Abort;
+use std::test::Fail;
+
+// Tries again where a growth is refused.
+fn three_at_last(rt: &impl Abort, alloc: Global) -> Compiled {
+    let text = "profile p /p* { /q Px, /c cx -> c, profile c /c { } } profile q /q { }";
+    for _ in 0..3 {
+        match compiled(alloc, text, 100) {
+            Ok(policy) => return policy,
+            Err(fault) => assert_eq!(rt; fault.kind, PolicyKind::NoMemory),
+        }
+    }
+    panic!(rt; "refused each time")
+}
+
+#[test]
+fn a_growth_refused_to_compile_is_no_memory(rt: HostRuntime) -> Result<(), Fail> {
+    let policy = three_at_last(&rt, rt.alloc());
+    are_attached(&rt, &policy, &[("/pp", Some(0))]);
+    are_executed(
+        &rt,
+        &policy,
+        &[(0, "/q", to(2, true)), (0, "/c", to(1, false))],
+    );
+    Ok(())
+}

@@ -1,0 +1,53 @@
+//! Lists of policies where a growth is refused. Each test passes whichever of its growths is refused: it asks again.
+
+use crate::compile::lists::{compiled, found, refusal};
+use aa_faults::PolicyKind;
+use aa_policies::Compiled;
+use std::alloc::Global;
+use std::process::Abort;
+
+// Tries again where a growth is refused.
+fn three_at_last(rt: &impl Abort, alloc: Global) -> Vec<Compiled> {
+    let texts = [
+        "include <m> profile p /p* { @{A}/q Px, }",
+        "profile p { /x r, audit deny /y/{a,b}* w, } profile q { }",
+        "profile r { /c cx -> c, profile c /c { } }",
+    ];
+    for _ in 0..3 {
+        match compiled(alloc, &[("m", "@{A}=/a /b\n")], &texts, 100) {
+            Ok(policies) => return policies,
+            Err(refused) => assert_eq!(rt; refused.fault.kind, PolicyKind::NoMemory),
+        }
+    }
+    panic!(rt; "refused each time")
+}
+
+#[test]
+fn a_growth_refused_to_policies_is_no_memory(rt: HostRuntime) {
+    let policies = three_at_last(&rt, rt.alloc());
+    let rows = [("p", Some(0)), ("q", Some(1)), ("r//c", Some(1))];
+    assert_eq!(rt; policies.len(), rows.len());
+    for (policy, (name, number)) in policies.iter().zip(&rows) {
+        assert_eq!(rt; found(policy, name), *number);
+    }
+}
+
+#[test]
+fn a_growth_refused_is_no_fault_of_a_policy(rt: HostRuntime) {
+    for _ in 0..3 {
+        match refusal(
+            rt.alloc(),
+            &[("m", "")],
+            &["", "profile p { /a px, /a* ix, /b* ux, /bc px, /[b]c ix, }"],
+            100,
+        ) {
+            None => panic!(rt; "a policy that conflicts"),
+            Some((_, 1, file, byte)) => assert_eq!(rt; (file, byte), (0, 0)),
+            Some(refused) => {
+                assert_eq!(rt; refused, (1, 16, 0, 8));
+                return;
+            }
+        }
+    }
+    panic!(rt; "refused each time")
+}

@@ -1,0 +1,233 @@
+//! Policies that are read from their texts and compiled, and what they say, as plain data.
+
+use crate::compile::reading::read;
+use aa_compile::{Compiled, Transition, compile};
+use aa_words::PolicyFault;
+use std::alloc::Global;
+use std::process::Abort;
+
+/// The policy that a text spells, compiled, or the fault for which it isn't. The limit is from 1 to 1,000,000.
+pub fn compiled(alloc: Global, text: &str, limit: u32) -> Result<Compiled, PolicyFault> {
+    let policy = read(alloc, text)?;
+    match compile(alloc, policy, limit.clamp(1, 1_000_000)) {
+        Ok(compiled) => Ok(compiled),
+        Err(refusal) => Err(refusal.fault),
+    }
+}
+
+/// The number of the fault for which the text is refused, and the byte at which it points.
+pub fn refusal(alloc: Global, text: &str, limit: u32) -> Option<(u8, u32)> {
+    match compiled(alloc, text, limit) {
+        Ok(_) => None,
+        Err(fault) => Some((fault.kind.number(), fault.at.byte)),
+    }
+}
+
+/// A text, a limit of states, and the refusal: its number, and the byte at which it points.
+pub type Row = (&'static str, u32, Option<(u8, u32)>);
+
+/// Each of the texts is accepted or refused as it says.
+pub fn refuses_each(rt: &impl Abort, alloc: Global, rows: &[Row]) {
+    for (text, limit, expected) in rows {
+        assert_eq!(rt; refusal(alloc, text, *limit), *expected, "{text}");
+    }
+}
+
+/// How many profiles the policy has that a refused compilation hands back, where it is refused.
+pub fn handed_back(alloc: Global, text: &str, limit: u32) -> Option<usize> {
+    match read(alloc, text) {
+        Err(_) => None,
+        Ok(policy) => match compile(alloc, policy, limit.clamp(1, 1_000_000)) {
+            Ok(_) => None,
+            Err(refusal) => Some(refusal.policy.profiles.as_slice().len()),
+        },
+    }
+}
+
+/// The number of the profile with that full name.
+fn found(compiled: &Compiled, name: &str) -> Option<u16> {
+    compiled.find(name.as_bytes())
+}
+
+/// The top-level profile that is attached to the path.
+fn attached(compiled: &Compiled, path: &str) -> Option<u16> {
+    compiled.attach(path.as_bytes())
+}
+
+/// The child of the profile that is attached to the path.
+fn attached_child(compiled: &Compiled, parent: u16, path: &str) -> Option<u16> {
+    compiled.attach_child(parent, path.as_bytes())
+}
+
+/// How many states the automaton of the profile's file rules has.
+fn states(compiled: &Compiled, profile: u16) -> usize {
+    compiled.states(profile)
+}
+
+/// Where an execution of the path leads from a profile, where that is there. Nobody's path is owned.
+fn execution(compiled: &Compiled, profile: u16, path: &str) -> Option<Transition> {
+    if (profile as usize) < compiled.policy().profiles.as_slice().len() {
+        let verdict = compiled.verdict(profile, path.as_bytes(), false);
+        return Some(compiled.transition(profile, path.as_bytes(), false, verdict));
+    }
+    None
+}
+
+/// To the profile of that number.
+pub fn to(profile: u16, scrub: bool) -> Option<Transition> {
+    Some(Transition::To(Some(profile), scrub))
+}
+
+/// To no profile.
+pub fn to_none(scrub: bool) -> Option<Transition> {
+    Some(Transition::To(None, scrub))
+}
+
+/// The bits that the rules of a profile allow, deny, deny with a line, and report, where the profile is there.
+fn bits(compiled: &Compiled, profile: u16, path: &str, owned: bool) -> Option<[u8; 4]> {
+    if (profile as usize) < compiled.policy().profiles.as_slice().len() {
+        let sets = compiled.verdict(profile, path.as_bytes(), owned).sets;
+        return Some([sets.allow.0, sets.deny.0, sets.loud.0, sets.audited.0]);
+    }
+    None
+}
+
+/// A path, and the top-level profile that is attached to it.
+pub type Attached = (&'static str, Option<u16>);
+
+/// The profiles are attached so.
+pub fn are_attached(rt: &impl Abort, policy: &Compiled, rows: &[Attached]) {
+    for (path, expected) in rows {
+        assert_eq!(rt; attached(policy, path), *expected, "{path}");
+    }
+}
+
+/// The policy of the text attaches so.
+pub fn attaches(
+    rt: &impl Abort,
+    alloc: Global,
+    text: &str,
+    limit: u32,
+    rows: &[Attached],
+) -> Result<(), PolicyFault> {
+    let policy = compiled(alloc, text, limit)?;
+    are_attached(rt, &policy, rows);
+    Ok(())
+}
+
+/// A profile, a path, and the profile's child that is attached to it.
+pub type AttachedChild = (u16, &'static str, Option<u16>);
+
+fn children_are_attached(rt: &impl Abort, policy: &Compiled, rows: &[AttachedChild]) {
+    for (parent, path, expected) in rows {
+        assert_eq!(rt;
+            attached_child(policy, *parent, path),
+            *expected,
+            "{parent} {path}"
+        );
+    }
+}
+
+/// The profiles of the text's policy attach their children so.
+pub fn attaches_children(
+    rt: &impl Abort,
+    alloc: Global,
+    text: &str,
+    limit: u32,
+    rows: &[AttachedChild],
+) -> Result<(), PolicyFault> {
+    let policy = compiled(alloc, text, limit)?;
+    children_are_attached(rt, &policy, rows);
+    Ok(())
+}
+
+/// A full name, and the number of its profile.
+pub type Found = (&'static str, Option<u16>);
+
+fn are_found(rt: &impl Abort, policy: &Compiled, rows: &[Found]) {
+    for (name, expected) in rows {
+        assert_eq!(rt; found(policy, name), *expected, "{name}");
+    }
+}
+
+/// The profiles of the text's policy are found so.
+pub fn finds(
+    rt: &impl Abort,
+    alloc: Global,
+    text: &str,
+    rows: &[Found],
+) -> Result<(), PolicyFault> {
+    let policy = compiled(alloc, text, 4096)?;
+    are_found(rt, &policy, rows);
+    Ok(())
+}
+
+/// A profile, a path, and where its execution leads, where the profile is there.
+pub type Executed = (u16, &'static str, Option<Transition>);
+
+/// Executions lead there.
+pub fn are_executed(rt: &impl Abort, policy: &Compiled, rows: &[Executed]) {
+    for (profile, path, expected) in rows {
+        assert_eq!(rt;
+            execution(policy, *profile, path),
+            *expected,
+            "{profile} {path}"
+        );
+    }
+}
+
+/// Executions lead there in the text's policy.
+pub fn executes(
+    rt: &impl Abort,
+    alloc: Global,
+    text: &str,
+    rows: &[Executed],
+) -> Result<(), PolicyFault> {
+    let policy = compiled(alloc, text, 4096)?;
+    are_executed(rt, &policy, rows);
+    Ok(())
+}
+
+/// A profile, a path, whether it is owned, and the bits that the profile's rules allow, deny, deny with a line, and report.
+pub type Bits = (u16, &'static str, bool, Option<[u8; 4]>);
+
+fn are_bits(rt: &impl Abort, policy: &Compiled, rows: &[Bits]) {
+    for (profile, path, owned, expected) in rows {
+        assert_eq!(rt;
+            bits(policy, *profile, path, *owned),
+            *expected,
+            "{profile} {path}"
+        );
+    }
+}
+
+/// The rules of the text's policy have these bits.
+pub fn has_bits(
+    rt: &impl Abort,
+    alloc: Global,
+    text: &str,
+    rows: &[Bits],
+) -> Result<(), PolicyFault> {
+    let policy = compiled(alloc, text, 4096)?;
+    are_bits(rt, &policy, rows);
+    Ok(())
+}
+
+fn are_states(rt: &impl Abort, policy: &Compiled, rows: &[(u16, usize)]) {
+    for (profile, expected) in rows {
+        assert_eq!(rt; states(policy, *profile), *expected, "{profile}");
+    }
+}
+
+/// The automata of the text's profiles have so many states.
+pub fn has_states(
+    rt: &impl Abort,
+    alloc: Global,
+    text: &str,
+    limit: u32,
+    rows: &[(u16, usize)],
+) -> Result<(), PolicyFault> {
+    let policy = compiled(alloc, text, limit)?;
+    are_states(rt, &policy, rows);
+    Ok(())
+}

@@ -1,0 +1,9 @@
+//! Tests of what decides, from outside: automata, compiled policies, and the mediator.
+#![tactic(auto)]
+
+#[cfg(test)]
+mod auto;
+#[cfg(test)]
+mod compile;
+#[cfg(test)]
+mod mediate;

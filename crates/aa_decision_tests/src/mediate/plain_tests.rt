@@ -1,0 +1,50 @@
+//! What is compiled says what the rules say one by one.
+
+use crate::mediate::tasks::policies_of;
+use aa_mediate::Compiled;
+use aa_plain::verdict_by_rules;
+use aa_said::RuleSets;
+use std::test::Fail;
+
+/// What is compiled says of an object, where there is a profile.
+fn compiled_sets(compiled: &Compiled, path: &str, owned: bool) -> Option<RuleSets> {
+    if compiled.policy().profiles.as_slice().is_empty() {
+        return None;
+    }
+    Some(compiled.verdict(0, path.as_bytes(), owned).sets)
+}
+
+fn plain_sets(compiled: &Compiled, path: &str, owned: bool) -> Option<RuleSets> {
+    match compiled.policy().profiles.as_slice() {
+        [profile, ..] => Some(verdict_by_rules(profile.files.as_slice(), path.as_bytes(), owned)),
+        [] => None,
+    }
+}
+
+#[test]
+fn rows_say_what_the_rules_say(rt: HostRuntime) -> Result<(), Fail> {
+    let text =
+        "profile p { /** r, owner /home/*/** rwk, deny /home/*/.ssh/** wl, audit /var/log/{a,b}* a, audit deny /etc/[^p]* m, /usr/{,s}bin/? mrix, }";
+    let policies = policies_of(rt.alloc(), &[text, ""])?;
+    for compiled in policies.as_slice() {
+        for path in [
+            "/",
+            "/home/u/f",
+            "/home/u/.ssh/k",
+            "/var/log/ab",
+            "/etc/s",
+            "/etc/p",
+            "/usr/bin/x",
+            "/usr/sbin/xy",
+        ] {
+            for owned in [false, true] {
+                assert_eq!(rt;
+                    compiled_sets(compiled, path, owned),
+                    plain_sets(compiled, path, owned),
+                    "{path}"
+                );
+            }
+        }
+    }
+    Ok(())
+}

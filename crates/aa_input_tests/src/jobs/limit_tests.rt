@@ -1,0 +1,304 @@
+//! How large a job may be.
+
+use crate::jobs::texts::{Answer, Frame, MEMBERS, answers_each, fault, fault_of, framed};
+use aa_jobs::JobFault;
+use std::alloc::{AllocError, Global};
+use std::process::Abort;
+use std::test::Fail;
+
+#[test]
+fn numbers_have_limits(rt: HostRuntime) -> Result<(), Fail> {
+    const ROWS: &[Answer] = &[
+        (r#","states":0"#, Some(JobFault::TooLarge)),
+        (r#","states":1"#, None),
+        (r#","states":65535"#, None),
+        (r#","states":65536"#, None),
+        (r#","states":1000000"#, None),
+        (r#","states":1000001"#, Some(JobFault::TooLarge)),
+        (
+            r#","states":18446744073709551615"#,
+            Some(JobFault::TooLarge),
+        ),
+        (r#","capacity":0"#, Some(JobFault::TooLarge)),
+        (r#","capacity":1"#, None),
+        (r#","capacity":1024"#, None),
+        (r#","capacity":1025"#, Some(JobFault::TooLarge)),
+    ];
+    answers_each(&rt, rt.alloc(), &MEMBERS, ROWS)?;
+    Ok(())
+}
+
+/// A text with an item so many times: what stands before them, the item, what stands between two of them, and what stands
+/// behind.
+#[derive(Clone, Copy)]
+struct Repetition {
+    front: &'static str,
+    item: &'static str,
+    between: &'static str,
+    end: &'static str,
+}
+
+fn push_items(text: &mut String, list: &Repetition, count: u32) -> Result<(), AllocError> {
+    for i in 0..count {
+        if 0 < i {
+            text.push_str(list.between)?;
+        }
+        text.push_str(list.item)?;
+    }
+    Ok(())
+}
+
+/// The text with so many items.
+fn repeated(alloc: Global, list: &Repetition, count: u32) -> Result<String, AllocError> {
+    let mut text = String::from_str(alloc, list.front)?;
+    push_items(&mut text, list, count)?;
+    text.push_str(list.end)?;
+    Ok(text)
+}
+
+/// How many items there are, and the fault of the text with them, or that it is a job.
+type Row = (u32, Option<JobFault>);
+
+fn has_limit(
+    rt: &impl Abort,
+    alloc: Global,
+    list: &Repetition,
+    count: u32,
+    want: Option<JobFault>,
+) -> Result<(), AllocError> {
+    let text = repeated(alloc, list, count)?;
+    assert_eq!(rt; fault(alloc, text.as_str()), want, "of {count}");
+    Ok(())
+}
+
+/// The text with each number of items is a job, or refused with the fault beside it.
+fn has_limits(
+    rt: &impl Abort,
+    alloc: Global,
+    list: &Repetition,
+    rows: &[Row],
+) -> Result<(), AllocError> {
+    for (count, want) in rows {
+        has_limit(rt, alloc, list, *count, *want)?;
+    }
+    Ok(())
+}
+
+/// A job that asks to change to a name.
+const NAME: Repetition = Repetition {
+    front: r#"{"policy":"","tasks":[{"label":"p","requests":[{"change":""#,
+    item: "a",
+    between: "",
+    end: r#""}]}]}"#,
+};
+
+#[test]
+fn a_name_has_1_to_1024_bytes(rt: HostRuntime) -> Result<(), Fail> {
+    const ROWS: &[Row] = &[
+        (0, Some(JobFault::BadRequest)),
+        (1, None),
+        (1024, None),
+        (1025, Some(JobFault::BadRequest)),
+    ];
+    has_limits(&rt, rt.alloc(), &NAME, ROWS)?;
+    Ok(())
+}
+
+/// A job that asks for a path of a slash and letters.
+const PATH: Repetition = Repetition {
+    front: r#"{"policy":"","tasks":[{"label":"p","requests":[{"mask":"r","file":"/"#,
+    item: "a",
+    between: "",
+    end: r#""}]}]}"#,
+};
+
+#[test]
+fn a_path_has_at_most_4095_bytes(rt: HostRuntime) -> Result<(), Fail> {
+    const ROWS: &[Row] = &[(4094, None), (4095, Some(JobFault::BadRequest))];
+    has_limits(&rt, rt.alloc(), &PATH, ROWS)?;
+    Ok(())
+}
+
+const POLICIES: Repetition = Repetition {
+    front: r#"{"tasks":[],"policies":["#,
+    item: r#""""#,
+    between: ",",
+    end: "]}",
+};
+
+#[test]
+fn a_job_has_1_to_16_policies(rt: HostRuntime) -> Result<(), Fail> {
+    const ROWS: &[Row] = &[
+        (0, Some(JobFault::TooLarge)),
+        (1, None),
+        (16, None),
+        (17, Some(JobFault::TooLarge)),
+    ];
+    has_limits(&rt, rt.alloc(), &POLICIES, ROWS)?;
+    Ok(())
+}
+
+const TASKS: Repetition = Repetition {
+    front: r#"{"policy":"","tasks":["#,
+    item: r#"{"label":"p","requests":[]}"#,
+    between: ",",
+    end: "]}",
+};
+
+const ITEMS: Repetition = Repetition {
+    front: r#"{"policy":"","tasks":[{"label":"p","requests":["#,
+    item: r#""exit""#,
+    between: ",",
+    end: "]}]}",
+};
+
+fn push_member(alloc: Global, members: &mut String, number: u32) -> Result<(), AllocError> {
+    let member = format!(in alloc; ",\"{number}\":\"\"")?;
+    members.push_str(member.as_str())
+}
+
+/// So many included texts, with the names of numbers but for the first.
+fn members_of(alloc: Global, count: u32) -> Result<String, AllocError> {
+    let mut members = String::new(alloc);
+    for number in 1..count {
+        push_member(alloc, &mut members, number)?;
+    }
+    Ok(members)
+}
+
+/// A job with included texts, of which the first has no name.
+const INCLUDES: Frame = Frame {
+    front: r#"{"policy":"","tasks":[],"includes":{"":"""#,
+    end: "}}",
+};
+
+/// A job with so many included texts is one, or refused with that fault.
+fn has_include_limit(
+    rt: &impl Abort,
+    alloc: Global,
+    count: u32,
+    want: Option<JobFault>,
+) -> Result<(), AllocError> {
+    let members = members_of(alloc, count)?;
+    let text = framed(alloc, &INCLUDES, members.as_str())?;
+    assert_eq!(rt; fault(alloc, text.as_str()), want, "of {count}");
+    Ok(())
+}
+
+#[test]
+fn lists_have_limits(rt: HostRuntime) -> Result<(), Fail> {
+    let alloc = rt.alloc();
+    const TASK_ROWS: &[Row] = &[(1024, None), (1025, Some(JobFault::TooLarge))];
+    has_limits(&rt, alloc, &TASKS, TASK_ROWS)?;
+    has_include_limit(&rt, alloc, 4095, None)?;
+    has_include_limit(&rt, alloc, 4096, Some(JobFault::TooLarge))?;
+    const ITEM_ROWS: &[Row] = &[(65_536, None), (65_537, Some(JobFault::TooLarge))];
+    has_limits(&rt, alloc, &ITEMS, ITEM_ROWS)?;
+    Ok(())
+}
+
+/// A job with a policy of blanks.
+const POLICY: Repetition = Repetition {
+    front: r#"{"tasks":[],"policy":""#,
+    item: " ",
+    between: "",
+    end: r#""}"#,
+};
+
+/// A job of two policies, of which the last has the blanks.
+const LAST_POLICY: Repetition = Repetition {
+    front: r#"{"tasks":[],"policies":["",""#,
+    item: " ",
+    between: "",
+    end: r#""]}"#,
+};
+
+/// A job with an included text of blanks.
+const INCLUDE: Repetition = Repetition {
+    front: r#"{"policy":"","tasks":[],"includes":{"a":"","b":""#,
+    item: " ",
+    between: "",
+    end: r#""}}"#,
+};
+
+#[test]
+fn texts_have_limits(rt: HostRuntime) -> Result<(), Fail> {
+    const ROWS: &[Row] = &[(1_048_576, None), (1_048_577, Some(JobFault::TooLarge))];
+    has_limits(&rt, rt.alloc(), &POLICY, ROWS)?;
+    has_limits(&rt, rt.alloc(), &INCLUDE, ROWS)?;
+    has_limits(&rt, rt.alloc(), &LAST_POLICY, ROWS)?;
+    Ok(())
+}
+
+#[test]
+fn a_job_has_at_most_16777216_bytes(rt: HostRuntime) -> Result<(), Fail> {
+    let blanks = vec![in rt.alloc(); b' '; 16_777_217]?;
+    let bytes = blanks.as_slice();
+    assert_eq!(rt; fault_of(rt.alloc(), bytes), Some(JobFault::TooLarge));
+    let Some(bytes) = bytes.get(1..) else {
+        return Ok(());
+    };
+    assert_eq!(rt; fault_of(rt.alloc(), bytes), Some(JobFault::NotJson));
+    Ok(())
+}
+
+fn push_times(text: &mut String, item: &str, count: u32) -> Result<(), AllocError> {
+    for _ in 0..count {
+        text.push_str(item)?;
+    }
+    Ok(())
+}
+
+/// A list in a list, and so on, down to the depth.
+fn nested(alloc: Global, depth: u32) -> Result<String, AllocError> {
+    let mut text = String::new(alloc);
+    push_times(&mut text, "[", depth)?;
+    push_times(&mut text, "]", depth)?;
+    Ok(text)
+}
+
+/// Lists so deep are refused with that fault.
+fn is_refused_at(
+    rt: &impl Abort,
+    alloc: Global,
+    depth: u32,
+    want: JobFault,
+) -> Result<(), AllocError> {
+    let text = nested(alloc, depth)?;
+    assert_eq!(rt; fault(alloc, text.as_str()), Some(want), "at {depth}");
+    Ok(())
+}
+
+#[test]
+fn nesting_is_read_to_its_depth(rt: HostRuntime) -> Result<(), Fail> {
+    is_refused_at(&rt, rt.alloc(), 127, JobFault::BadShape)?;
+    is_refused_at(&rt, rt.alloc(), 128, JobFault::NotJson)?;
+    Ok(())
+}
+
+/// A job that is nothing but this text over and over, as often as there is room for it.
+fn filled_with(alloc: Global, item: &str) -> Result<String, AllocError> {
+    let mut text = String::new(alloc);
+    let count = 16_777_216 / item.len().max(1);
+    push_times(&mut text, item, count as u32)?;
+    Ok(text)
+}
+
+/// A text of nothing but this is no JSON.
+fn is_given_up(rt: &impl Abort, alloc: Global, item: &str) -> Result<(), AllocError> {
+    let text = filled_with(alloc, item)?;
+    assert_eq!(rt;
+        fault(alloc, text.as_str()),
+        Some(JobFault::NotJson),
+        "at {item}"
+    );
+    Ok(())
+}
+
+#[test]
+fn what_only_opens_is_given_up_at_its_depth(rt: HostRuntime) -> Result<(), Fail> {
+    is_given_up(&rt, rt.alloc(), "[")?;
+    is_given_up(&rt, rt.alloc(), r#"{"":"#)?;
+    is_given_up(&rt, rt.alloc(), "[{\"tasks\":")?;
+    Ok(())
+}

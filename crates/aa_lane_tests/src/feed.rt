@@ -1,0 +1,5 @@
+//! Examples of tasks that are answered through lanes by one worker and by many.
+
+mod answers;
+mod gates;
+mod sums;

@@ -1,0 +1,345 @@
+//! What the contracts of a head leave to tests: which refusal comes first, and texts from their bytes on.
+
+use crate::heads::reading::{begins_in, head_in, words_of};
+use aa_heads::HeadTree;
+use aa_words::{PolicyFault, Sources};
+use std::alloc::Global;
+use std::process::Abort;
+use std::test::Fail;
+
+/// What a head is read as: where its name stands, the name, where its attachment stands, the
+/// attachment, and how many words it has.
+type Expected = (u32, &'static str, Option<(u32, &'static str)>, usize);
+
+/// Whether the head, with so many words, is what is expected.
+fn is_expected(head: &HeadTree, words: usize, expected: Expected) -> bool {
+    let (at, name, attachment, count) = expected;
+    let attached = match (head.title.attachment, attachment) {
+        (Some(read), Some((at, path))) => read.at.byte == at && read.path == path.as_bytes(),
+        (None, None) => true,
+        _ => false,
+    };
+    attached && head.title.at.byte == at && head.title.name == name.as_bytes() && words == count
+}
+
+/// Whether the head is read as it is to be.
+fn is_read(alloc: Global, text: &[u8], top: bool, expected: Expected) -> Result<bool, PolicyFault> {
+    let sources = Sources::new(alloc);
+    let list = words_of(alloc, &sources, text)?;
+    let (head, next) = head_in(&list, top)?;
+    Ok(is_expected(&head, next, expected))
+}
+
+/// A text, and what its head is read as.
+type Row = (&'static str, Expected);
+
+/// The heads of the texts are read so, at the top level or below it.
+fn reads_each(rt: &impl Abort, alloc: Global, top: bool, rows: &[Row]) -> Result<(), PolicyFault> {
+    for (text, expected) in rows {
+        assert!(rt; is_read(alloc, text.as_bytes(), top, *expected)?, "{text}");
+    }
+    Ok(())
+}
+
+/// Whether a head has `complain`, `enforce` and `audit` among its flags.
+fn flags_of(alloc: Global, text: &[u8]) -> Result<(bool, bool, bool), PolicyFault> {
+    let sources = Sources::new(alloc);
+    let list = words_of(alloc, &sources, text)?;
+    let (head, _) = head_in(&list, true)?;
+    Ok((head.flags.complain, head.flags.enforce, head.flags.audit))
+}
+
+/// The kind's number and the byte of the refusal, where the head is refused.
+fn refusal(alloc: Global, text: &[u8], top: bool) -> Option<(u8, u32)> {
+    let sources = Sources::new(alloc);
+    let found = match words_of(alloc, &sources, text) {
+        Ok(list) => match head_in(&list, top) {
+            Ok(_) => return None,
+            Err(fault) => fault,
+        },
+        Err(fault) => fault,
+    };
+    Some((found.kind.number(), found.at.byte))
+}
+
+/// Whether a profile begins with the text's words.
+fn begins(alloc: Global, text: &[u8]) -> Result<bool, PolicyFault> {
+    let sources = Sources::new(alloc);
+    let list = words_of(alloc, &sources, text)?;
+    Ok(begins_in(&list))
+}
+
+/// The heads of the texts are refused at the top level or below it, each with that number at that byte.
+fn refuses_each(rt: &impl Abort, alloc: Global, top: bool, rows: &[(&str, u8, u32)]) {
+    for (text, number, byte) in rows {
+        assert_eq!(rt;
+            refusal(alloc, text.as_bytes(), top),
+            Some((*number, *byte)),
+            "{text}"
+        );
+    }
+}
+
+/// The heads of the texts have these flags: `complain`, `enforce` and `audit`.
+fn has_flags(
+    rt: &impl Abort,
+    alloc: Global,
+    rows: &[(&str, (bool, bool, bool))],
+) -> Result<(), PolicyFault> {
+    for (text, flags) in rows {
+        assert!(rt; flags_of(alloc, text.as_bytes())? == *flags, "{text}");
+    }
+    Ok(())
+}
+
+/// Of each text a profile begins with its words, or none does.
+fn begins_each(rt: &impl Abort, alloc: Global, rows: &[(&str, bool)]) -> Result<(), PolicyFault> {
+    for (text, expected) in rows {
+        assert_eq!(rt; begins(alloc, text.as_bytes())?, *expected, "{text}");
+    }
+    Ok(())
+}
+
+/// The heads of the texts are read so, at the top level and below it.
+fn reads_each_anywhere(rt: &impl Abort, alloc: Global, rows: &[Row]) -> Result<(), PolicyFault> {
+    reads_each(rt, alloc, true, rows)?;
+    reads_each(rt, alloc, false, rows)
+}
+
+#[test]
+fn heads_are_read(rt: HostRuntime) -> Result<(), Fail> {
+    const ROWS: &[Row] = &[
+        ("profile p {", (8, "p", None, 3)),
+        ("profile /p {", (8, "/p", Some((8, "/p")), 3)),
+        ("profile p /bin/p {", (8, "p", Some((10, "/bin/p")), 4)),
+        ("profile /p /bin/p {", (8, "/p", Some((11, "/bin/p")), 4)),
+        (
+            "profile \"a b\" \"/a b\" {",
+            (9, "a b", Some((15, "/a b")), 4),
+        ),
+        ("profile \"/a b\" {", (9, "/a b", Some((9, "/a b")), 3)),
+        ("profile p \"\" {", (8, "p", Some((11, "")), 4)),
+        ("profile p @{bin}/p {", (8, "p", Some((10, "@{bin}/p")), 4)),
+        ("profile profile {", (8, "profile", None, 3)),
+        ("profile flags {", (8, "flags", None, 3)),
+        ("/bin/p {", (0, "/bin/p", Some((0, "/bin/p")), 2)),
+        ("@{bin}/p {", (0, "@{bin}/p", Some((0, "@{bin}/p")), 2)),
+        ("\"p\" {", (1, "p", Some((1, "p")), 2)),
+        ("profile p (enforce) {", (8, "p", None, 6)),
+        ("profile p flags=(enforce) {", (8, "p", None, 8)),
+        (
+            "profile p /x flags=(enforce) {",
+            (8, "p", Some((10, "/x")), 9),
+        ),
+        ("/x flags = ( ) {", (0, "/x", Some((0, "/x")), 6)),
+        (
+            "/x (attach_disconnected, mediate_deleted) {",
+            (0, "/x", Some((0, "/x")), 7),
+        ),
+        ("/x (,,enforce enforce,) {", (0, "/x", Some((0, "/x")), 9)),
+    ];
+    reads_each_anywhere(&rt, rt.alloc(), ROWS)?;
+    Ok(())
+}
+
+#[test]
+fn a_child_may_have_names_that_no_profile_of_the_top_level_has(
+    rt: HostRuntime,
+) -> Result<(), Fail> {
+    reads_each(
+        &rt,
+        rt.alloc(),
+        false,
+        &[
+            ("profile a//b {", (8, "a//b", None, 3)),
+            ("profile /a//b {", (8, "/a//b", Some((8, "/a//b")), 3)),
+            ("profile unconfined {", (8, "unconfined", None, 3)),
+            ("/a//b {", (0, "/a//b", Some((0, "/a//b")), 2)),
+            (
+                "\"unconfined\" {",
+                (1, "unconfined", Some((1, "unconfined")), 2),
+            ),
+        ],
+    )?;
+    refuses_each(
+        &rt,
+        rt.alloc(),
+        true,
+        &[
+            ("profile a//b {", 5, 8),
+            ("profile /a//b {", 5, 8),
+            ("profile unconfined {", 5, 8),
+            ("/a//b {", 5, 0),
+            ("\"unconfined\" {", 5, 1),
+        ],
+    );
+    Ok(())
+}
+
+#[test]
+fn names_that_mean_more_are_refused_at_the_name(rt: HostRuntime) {
+    for top in [true, false] {
+        refuses_each(
+            &rt,
+            rt.alloc(),
+            top,
+            &[
+                ("profile", 4, 7),
+                ("profile {", 4, 8),
+                ("profile = {", 4, 8),
+                ("profile (enforce) {", 4, 8),
+                ("profile \"\" {", 4, 9),
+                ("profile \"\" /x {", 4, 9),
+                ("\"\" {", 4, 1),
+                ("profile :ns:p {", 5, 8),
+                ("profile &p {", 5, 8),
+                ("profile a//&b {", 5, 8),
+                ("profile @{x} {", 5, 8),
+                ("profile \"a@{x}\" {", 5, 9),
+                ("profile /a@{x} /b {", 5, 8),
+                ("/a//&b {", 5, 0),
+                ("@{x}//&b {", 5, 0),
+                ("\":ns:p\" {", 5, 1),
+                ("\"&p\" {", 5, 1),
+                ("", 4, 0),
+                ("{", 4, 0),
+                ("p {", 4, 0),
+                ("signal,", 4, 0),
+            ],
+        );
+    }
+}
+
+#[test]
+fn words_behind_the_name_are_refused_at_the_word(rt: HostRuntime) {
+    refuses_each(
+        &rt,
+        rt.alloc(),
+        true,
+        &[
+            ("profile p", 4, 9),
+            ("profile p }", 4, 10),
+            ("profile p = {", 4, 10),
+            ("profile p, {", 4, 9),
+            ("profile p q {", 4, 10),
+            ("profile p /x y {", 4, 13),
+            ("profile p /x /y {", 4, 13),
+            ("/x", 4, 2),
+            ("/x r, {", 4, 3),
+            ("/x /y {", 4, 3),
+            ("profile p xattrs=(a=b) {", 5, 10),
+            ("profile p /x xattrs=(a=b) {", 5, 13),
+            ("profile p (enforce) xattrs=(a=b) {", 5, 20),
+            ("/x xattrs {", 5, 3),
+            ("/x \"xattrs\" {", 4, 4),
+            ("profile p flags", 4, 15),
+            ("profile p flags {", 4, 16),
+            ("profile p flags (enforce) {", 4, 16),
+            ("profile p flags=", 4, 16),
+            ("profile p flags= {", 4, 17),
+            ("profile p flags+=(enforce) {", 4, 10),
+            ("profile p flags +=(enforce) {", 4, 16),
+            ("profile p flags=(enforce)", 4, 25),
+            ("profile p (enforce) (enforce) {", 4, 20),
+            ("profile p (enforce) /x {", 4, 20),
+            ("profile p =(enforce) {", 4, 10),
+        ],
+    );
+}
+
+#[test]
+fn flags_are_kept(rt: HostRuntime) -> Result<(), Fail> {
+    has_flags(
+        &rt,
+        rt.alloc(),
+        &[
+            ("/x {", (false, false, false)),
+            ("/x () {", (false, false, false)),
+            ("/x (complain) {", (true, false, false)),
+            ("/x (audit) {", (false, false, true)),
+            ("/x (enforce) {", (false, true, false)),
+            ("/x (mediate_deleted complain) {", (true, false, false)),
+            ("/x (enforce, audit) {", (false, true, true)),
+            ("/x flags=(audit,complain,,audit) {", (true, false, true)),
+            (
+                "profile complain flags = (attach_disconnected) {",
+                (false, false, false),
+            ),
+            (
+                "profile audit /audit (complain complain) {",
+                (true, false, false),
+            ),
+        ],
+    )?;
+    Ok(())
+}
+
+#[test]
+fn flags_are_refused_at_the_flag(rt: HostRuntime) {
+    refuses_each(
+        &rt,
+        rt.alloc(),
+        true,
+        &[
+            ("/x (complain enforce) {", 4, 13),
+            ("/x (complain, audit, enforce, kill) {", 4, 21),
+            ("/x (complain kill enforce) {", 5, 13),
+            ("/x (complain=1 enforce) {", 5, 12),
+            ("/x (complain strict) {", 6, 13),
+            ("/x (enforce audit complain complain) {", 4, 18),
+            ("/x (enforce complain) {", 4, 12),
+            ("/x (enforce,, mediate_deleted, complain) {", 4, 31),
+            ("/x (kill) {", 5, 4),
+            ("/x (unconfined) {", 5, 4),
+            ("/x (prompt) {", 5, 4),
+            ("/x (default_allow) {", 5, 4),
+            ("/x (xattrs=(a=b)) {", 5, 4),
+            ("/x (enforce=1) {", 5, 11),
+            ("/x flags=(attach_disconnected=/y) {", 5, 29),
+            ("/x (strict) {", 6, 4),
+            ("/x (enforced) {", 6, 4),
+            ("/x (Enforce) {", 6, 4),
+            ("/x (strict=1) {", 6, 4),
+            ("/x (=) {", 4, 4),
+            ("/x (enforce,=) {", 4, 12),
+            ("/x (\"enforce\") {", 4, 5),
+            ("/x (/y) {", 4, 4),
+            ("/x ({ {", 4, 4),
+            ("/x ((enforce)) {", 4, 4),
+            ("/x (", 4, 4),
+            ("/x (enforce", 4, 11),
+            ("/x (enforce {", 4, 12),
+        ],
+    );
+}
+
+#[test]
+fn a_profile_begins_at_its_keyword_or_a_path_that_names_it(rt: HostRuntime) -> Result<(), Fail> {
+    begins_each(
+        &rt,
+        rt.alloc(),
+        &[
+            ("profile p {", true),
+            ("profile", true),
+            ("/x {", true),
+            ("/x (", true),
+            ("/x flags =", true),
+            ("/x xattrs=", true),
+            ("\"x\" {", true),
+            ("\"\" flags", true),
+            ("/x r,", false),
+            ("/x flag {", false),
+            ("/x \"flags\" {", false),
+            ("/x", false),
+            ("/x }", false),
+            ("x {", false),
+            ("profiles p {", false),
+            ("\"profile\" p {", false),
+            ("flags=(enforce) {", false),
+            ("signal,", false),
+            ("}", false),
+            ("", false),
+        ],
+    )?;
+    Ok(())
+}

@@ -1,0 +1,180 @@
+//! What stands before the profiles, end to end: values in their order, where it ends, and which fault comes first.
+
+use crate::heads::reading::words_of;
+use aa_glob::{Pattern, Vars, expand};
+use aa_heads::preamble_of;
+use aa_words::{PolicyFault, Sources, WordList};
+use std::alloc::Global;
+use std::process::Abort;
+use std::test::Fail;
+
+/// The variables of the preamble that the words begin with, and the place behind it.
+fn preamble_in(alloc: Global, list: &WordList) -> Result<(Vars, usize), PolicyFault> {
+    preamble_of(alloc, list.list.as_slice(), 0, list.end)
+}
+
+/// The variables of a text's preamble, and the number of its words.
+fn read(alloc: Global, text: &str) -> Result<(Vars, usize), PolicyFault> {
+    let sources = Sources::new(alloc);
+    let list = words_of(alloc, &sources, text.as_bytes())?;
+    preamble_in(alloc, &list)
+}
+
+/// The kind's number and the byte of the refusal, where the text is refused.
+fn refusal(alloc: Global, text: &str) -> Option<(u8, u32)> {
+    match read(alloc, text) {
+        Ok(_) => None,
+        Err(fault) => Some((fault.kind.number(), fault.at.byte)),
+    }
+}
+
+/// The pattern matches those of the paths that are this one.
+fn matches_alone(pattern: &Pattern, path: &str, paths: &[&str]) -> bool {
+    paths.iter().all(|other| pattern.matches(other.as_bytes()) == (*other == path))
+}
+
+/// The patterns of `/@{A}` under the variables of a text's preamble.
+fn patterns_of(alloc: Global, text: &str) -> Result<Vec<Pattern>, Fail> {
+    let (vars, _) = read(alloc, text)?;
+    let patterns = expand(alloc, &vars, b"/@{A}")?;
+    Ok(patterns)
+}
+
+/// Whether each pattern matches the path in its place, and those of the others that are the same.
+fn match_alone(patterns: &[Pattern], paths: &[&str]) -> bool {
+    let mut all = patterns.len() == paths.len();
+    for (pattern, path) in patterns.iter().zip(paths) {
+        all = all && matches_alone(pattern, path, paths);
+    }
+    all
+}
+
+/// The values of `A` in each of the texts are these.
+fn has_values(rt: &impl Abort, alloc: Global, rows: &[(&str, &[&str])]) -> Result<(), Fail> {
+    for (text, paths) in rows {
+        let patterns = patterns_of(alloc, text)?;
+        assert!(rt; match_alone(patterns.as_slice(), paths), "{text}");
+    }
+    Ok(())
+}
+
+#[test]
+fn variables_have_their_values_in_order(rt: HostRuntime) -> Result<(), Fail> {
+    has_values(
+        &rt,
+        rt.alloc(),
+        &[
+            ("@{A}=a", &["/a"]),
+            ("@{A} = b a", &["/b", "/a"]),
+            ("@{A}=a b a a", &["/a", "/b", "/a", "/a"]),
+            ("@{A}=a\n@{A}+=c b", &["/a", "/c", "/b"]),
+            ("@{B}=x\n@{A}=a\n@{B}+=y\n@{A}+=a", &["/a", "/a"]),
+            ("@{A}=\"b c\" d \"\"", &["/b c", "/d", "/"]),
+            (
+                "abi <x>,\n@{A}=a\nabi \"y\",\n@{A}+=b\nabi <z>,",
+                &["/a", "/b"],
+            ),
+            ("@{A}=@{B_1} c\n@{B_1}=b", &["/b", "/c"]),
+            ("@{A}=a\nprofile p { }\n@{A}+=b", &["/a"]),
+        ],
+    )?;
+    Ok(())
+}
+
+/// The number of the words of a text's preamble.
+fn end_of(alloc: Global, text: &str) -> Result<usize, PolicyFault> {
+    let (_, next) = read(alloc, text)?;
+    Ok(next)
+}
+
+/// The preamble of each of the texts has so many words.
+fn ends_each(rt: &impl Abort, alloc: Global, rows: &[(&str, usize)]) -> Result<(), PolicyFault> {
+    for (text, end) in rows {
+        assert_eq!(rt; end_of(alloc, text)?, *end, "{text}");
+    }
+    Ok(())
+}
+
+#[test]
+fn preambles_end_where_no_item_begins(rt: HostRuntime) -> Result<(), Fail> {
+    ends_each(
+        &rt,
+        rt.alloc(),
+        &[
+            ("", 0),
+            ("profile p { }", 0),
+            ("@{A}=a b\nprofile p { }", 4),
+            ("abi <x>,\n@{A}=a\nabi \"y z\",\nabi <abi/3.0>,", 12),
+            ("abi <>, abi \"\", /x { }", 6),
+            ("/x { }", 0),
+            ("@{A} { }", 0),
+            ("/x = y", 0),
+            ("@{1}=x", 0),
+            ("@{1} = x", 0),
+            ("@{} = x", 0),
+            ("@{a-b}=x", 0),
+            ("@{a-b} = x", 0),
+            ("@{A}=a\n@{A}/ = b", 3),
+            ("\"abi\" <x>,", 0),
+        ],
+    )?;
+    Ok(())
+}
+
+/// The texts are refused, each with that number at that byte.
+fn refuses_each(rt: &impl Abort, alloc: Global, rows: &[(&str, u8, u32)]) {
+    for (text, number, byte) in rows {
+        assert_eq!(rt; refusal(alloc, text), Some((*number, *byte)), "{text}");
+    }
+}
+
+#[test]
+fn preambles_are_refused_at_the_first_fault(rt: HostRuntime) {
+    refuses_each(
+        &rt,
+        rt.alloc(),
+        &[
+            ("@{A}+=x", 10, 0),
+            ("abi <x>,\n@{A}+=a", 10, 9),
+            ("@{a}=x\n@{A}+=y", 10, 7),
+            ("@{AB}=x\n@{A}+=y", 10, 8),
+            ("@{A}=x\n@{A}=y", 11, 7),
+            ("@{A}=x\n@{A}+=y\n@{A}=y\n@{B}+=z", 11, 15),
+            ("@{profile_name}=x", 5, 0),
+            ("@{exec_path}+=x", 5, 0),
+            ("@{A}=x\n@{exec_path}=", 5, 7),
+            ("@{A}=", 4, 5),
+            ("@{A}=\nprofile p { }", 4, 6),
+            ("@{A}=x\n@{A}+=\nabi <x>,", 4, 14),
+            ("@{A}+=", 10, 0),
+            ("@{A}=x\n@{A}=", 11, 7),
+            ("abi", 4, 3),
+            ("abi x,", 4, 4),
+            ("abi /x,", 4, 4),
+            ("abi <x,", 4, 4),
+            ("abi x>,", 4, 4),
+            ("abi <,", 4, 4),
+            ("abi <x>", 4, 7),
+            ("abi <x> <y>,", 4, 8),
+            ("@{A}=x\nabi \"y\" }", 4, 15),
+        ],
+    );
+}
+
+/// The variables, whichever growths of a first attempt are refused.
+fn read_at_last(rt: &impl Abort, alloc: Global, text: &str) -> (Vars, usize) {
+    for _ in 0..3 {
+        match read(alloc, text) {
+            Ok(done) => return done,
+            Err(fault) => assert_eq!(rt; fault, PolicyFault::NO_MEMORY),
+        }
+    }
+    panic!(rt; "refused each time")
+}
+
+#[test]
+fn a_growth_refused_to_a_preamble_is_no_memory(rt: HostRuntime) {
+    let text = "abi <x>,\n@{A}=a b\n@{B}=\"c\"\n@{A}+=d e f g h\nprofile p { }";
+    let (_, next) = read_at_last(&rt, rt.alloc(), text);
+    assert_eq!(rt; next, 17);
+}

@@ -1,0 +1,253 @@
+//! Rules that are passed over, and where rules begin.
+
+use crate::words::reading::{
+    Expected, expect_kinds, expect_refused, expect_same_refusal, expect_words,
+};
+use aa_words::WordKind;
+use std::alloc::Global;
+use std::process::Abort;
+use std::test::Fail;
+
+#[test]
+fn rules_that_are_passed_over_are_words(rt: HostRuntime) -> Result<(), Fail> {
+    let alloc = rt.alloc();
+    let keywords = [
+        "signal",
+        "ptrace",
+        "dbus",
+        "unix",
+        "mount",
+        "remount",
+        "umount",
+        "pivot_root",
+        "set",
+        "userns",
+        "mqueue",
+        "io_uring",
+    ];
+    expect_same_refusal(&rt, alloc, keywords.as_slice(), "refused 4 Syntax 0:0")?;
+    for keyword in keywords {
+        expect_keyword(&rt, alloc, keyword)?;
+    }
+    const WORDS: &[Expected] = &[
+        (WordKind::Name, "profile", 0, 7),
+        (WordKind::Name, "p", 8, 9),
+        (WordKind::Open, "{", 10, 11),
+        (
+            WordKind::Skipped,
+            "signal (send, receive) peer=\"a,b\"",
+            12,
+            45,
+        ),
+        (WordKind::Comma, ",", 45, 46),
+        (WordKind::Path, "/x", 47, 49),
+        (WordKind::Name, "r", 50, 51),
+        (WordKind::Comma, ",", 51, 52),
+        (WordKind::Close, "}", 53, 54),
+    ];
+    expect_words(
+        &rt,
+        alloc,
+        "profile p { signal (send, receive) peer=\"a,b\", /x r, }",
+        WORDS,
+    )?;
+    let mount = [
+        (WordKind::Name, "audit", 0, 5),
+        (WordKind::Name, "deny", 6, 10),
+        (WordKind::Skipped, "mount options=(rw, bind)", 11, 35),
+        (WordKind::Comma, ",", 35, 36),
+    ];
+    expect_words(
+        &rt,
+        alloc,
+        "audit deny mount options=(rw, bind),",
+        mount.as_slice(),
+    )
+}
+
+/// The parts of a text, one behind the other, give words of these kinds.
+fn expect_kinds_around(
+    rt: &impl Abort,
+    alloc: Global,
+    [front, keyword, behind]: [&str; 3],
+    kinds: &[WordKind],
+) -> Result<(), Fail> {
+    let text = format!(in alloc; "{front}{keyword}{behind}")?;
+    expect_kinds(rt, alloc, &[text.as_str()], kinds)
+}
+
+/// The keyword with a letter behind it, and then itself, give words of these kinds.
+fn expect_kinds_longer(
+    rt: &impl Abort,
+    alloc: Global,
+    keyword: &str,
+    kinds: &[WordKind],
+) -> Result<(), Fail> {
+    let text = format!(in alloc; "{keyword}s {keyword}")?;
+    expect_kinds(rt, alloc, &[text.as_str()], kinds)
+}
+
+/// A rule that is passed over begins with the keyword, also behind qualifiers, but not behind `owner`, and not where more
+/// letters stand behind the keyword.
+fn expect_keyword(rt: &impl Abort, alloc: Global, keyword: &str) -> Result<(), Fail> {
+    let names = [WordKind::Name, WordKind::Name];
+    expect_kinds_around(
+        rt,
+        alloc,
+        ["", keyword, ","],
+        &[WordKind::Skipped, WordKind::Comma],
+    )?;
+    expect_kinds_around(
+        rt,
+        alloc,
+        ["audit deny ", keyword, " a,"],
+        &[
+            WordKind::Name,
+            WordKind::Name,
+            WordKind::Skipped,
+            WordKind::Comma,
+        ],
+    )?;
+    expect_kinds_around(rt, alloc, ["owner ", keyword, ""], names.as_slice())?;
+    expect_kinds_longer(rt, alloc, keyword, names.as_slice())
+}
+
+/// One rule that is passed over, and the comma that ends it at the text's end.
+fn expect_skipped(rt: &impl Abort, alloc: Global, rule: &str) -> Result<(), Fail> {
+    let text = format!(in alloc; "{rule},")?;
+    let end = u32::try_from(rule.len()).unwrap_or(0);
+    let expected = [
+        (WordKind::Skipped, rule, 0, end),
+        (WordKind::Comma, ",", end, end.wrapping_add(1)),
+    ];
+    expect_words(rt, alloc, text.as_str(), expected.as_slice())
+}
+
+#[test]
+fn passed_over_rules_end_at_the_first_comma_outside(rt: HostRuntime) -> Result<(), Fail> {
+    let alloc = rt.alloc();
+    let rules = [
+        "mount {a,b} -> /c",
+        "dbus [a,(b],)",
+        "ptrace ))(, ) }",
+        "dbus \"a\\\",b\"",
+        "dbus a\\\",b\"",
+        "set rlimit # a, \"b {\n nofile <= 8",
+        "mount a#b",
+        "mount \"a\"# b,\n",
+        "mount (#b, )\n)",
+        "userns -># a,\n b",
+        "userns a>#b",
+        "unix->\"/a,b\"",
+        "signal {[(\")]},\")]}",
+    ];
+    for rule in rules {
+        expect_skipped(&rt, alloc, rule)?;
+    }
+    expect_refused(
+        &rt,
+        alloc,
+        &[
+            ("signal (send,", "refused 4 Syntax 0:0"),
+            ("signal [,) }", "refused 4 Syntax 0:0"),
+            ("deny signal \"a,", "refused 4 Syntax 0:5"),
+            ("a, signal # ,", "refused 4 Syntax 0:3"),
+            ("} allow set", "refused 4 Syntax 0:8"),
+        ],
+    )
+}
+
+#[test]
+fn a_change_of_profile_is_no_rule_that_is_passed_over(rt: HostRuntime) -> Result<(), Fail> {
+    let alloc = rt.alloc();
+    const WORDS: &[Expected] = &[
+        (WordKind::Name, "audit", 0, 5),
+        (WordKind::Name, "change_profile", 6, 20),
+        (WordKind::Arrow, "->", 20, 22),
+        (WordKind::Name, "q*", 23, 25),
+        (WordKind::Comma, ",", 25, 26),
+        (WordKind::Name, "change_profile", 27, 41),
+        (WordKind::Comma, ",", 41, 42),
+    ];
+    expect_words(
+        &rt,
+        alloc,
+        "audit change_profile-> q*, change_profile,",
+        WORDS,
+    )
+}
+
+#[test]
+fn the_words_of_a_change_of_profile_are_words_like_others(rt: HostRuntime) -> Result<(), Fail> {
+    let alloc = rt.alloc();
+    const WORDS: &[Expected] = &[
+        (WordKind::Name, "deny", 0, 4),
+        (WordKind::Name, "change_profile", 5, 19),
+        (WordKind::Path, "/bin/sh", 20, 27),
+        (WordKind::Arrow, "->", 28, 30),
+        (WordKind::Quoted, "a,b", 32, 35),
+        (WordKind::Comma, ",", 36, 37),
+        (WordKind::Name, "allow", 38, 43),
+        (WordKind::Name, "change_profile", 44, 58),
+        (WordKind::Arrow, "->", 59, 61),
+        (WordKind::Path, "/x{a,b}", 62, 69),
+        (WordKind::Comma, ",", 69, 70),
+        // No comma is looked for, and none is missing.
+        (WordKind::Name, "change_profile", 71, 85),
+    ];
+    expect_words(
+        &rt,
+        alloc,
+        "deny change_profile /bin/sh -> \"a,b\", allow change_profile -> /x{a,b}, change_profile",
+        WORDS,
+    )
+}
+
+#[test]
+fn a_comma_in_parentheses_begins_no_rule(rt: HostRuntime) -> Result<(), Fail> {
+    let alloc = rt.alloc();
+    expect_kinds(
+        &rt,
+        alloc,
+        &["a (b, signal), signal d,"],
+        &[
+            WordKind::Name,
+            WordKind::LeftParen,
+            WordKind::Name,
+            WordKind::Comma,
+            WordKind::Name,
+            WordKind::RightParen,
+            WordKind::Comma,
+            WordKind::Skipped,
+            WordKind::Comma,
+        ],
+    )?;
+    expect_kinds(
+        &rt,
+        alloc,
+        &["))(,set),set,"],
+        &[
+            WordKind::RightParen,
+            WordKind::RightParen,
+            WordKind::LeftParen,
+            WordKind::Comma,
+            WordKind::Name,
+            WordKind::RightParen,
+            WordKind::Comma,
+            WordKind::Skipped,
+            WordKind::Comma,
+        ],
+    )?;
+    expect_kinds(
+        &rt,
+        alloc,
+        &["({set,set"],
+        &[
+            WordKind::LeftParen,
+            WordKind::Open,
+            WordKind::Skipped,
+            WordKind::Comma,
+            WordKind::Name,
+        ],
+    )
+}

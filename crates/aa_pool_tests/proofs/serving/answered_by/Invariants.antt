@@ -1,6 +1,0 @@
-use Rattle.std.proofs.Common.{◌≡◌, map}
-use Rattle.aa_lane.specs.Ends.{known}
-use Rattle.aa_pool_tests.proofs.serving.answered_by.Given as goal
-
-abbrev pub invariant-loop-request : goal.invariant-loop-request
-invariant-loop-request l = map (λ o. o.lane) l.owners ≡ map known l.lanes

@@ -1,0 +1,197 @@
+//! Look-ups that fail while a folder is checked. Each in turn fails in each way: it is told of the path that was looked at, and all
+//! else is as it was, or there is no memory. It is never taken for an answer.
+
+use crate::checks::reporting::{LEFTOVER, PROFILES, checked, is_same, prints, tree_of_profiles};
+use aa_memory_trees::{FailingTree, MemoryTree};
+use aa_output::NoMemory;
+use aa_units::Unread;
+use std::alloc::{AllocError, Global};
+use std::cell::Cell;
+use std::process::Abort;
+use std::test::Fail;
+
+/// In what a look-up fails.
+#[derive(Clone, Copy)]
+enum Place {
+    /// Whether the argument is a folder: it is then read as a file.
+    Argument,
+    /// Which files the folder stands for: no file is told.
+    Files,
+    /// What is read of one of the files: the other is as it was.
+    First,
+    Second,
+}
+
+use Place::{Argument, Files, First, Second};
+
+/// The look-ups for the folder, in order.
+const LOOK_UPS: &[(&str, Place)] = &[
+    ("/p", Argument),
+    ("/p", Files),
+    ("/b/disable/a", Files),
+    ("/b/force-complain/a", Files),
+    ("/b/disable/b", Files),
+    ("/b/disable/d", Files),
+    ("/b/force-complain/d", Files),
+    ("/p/a", First),
+    ("/i/x", First),
+    ("/b/x", First),
+    ("/p/d", Second),
+    ("/i/e", Second),
+    ("/b/e", Second),
+    ("/b/e/1", Second),
+];
+
+/// Why a look-up fails, and what is said of it.
+const WAYS: &[(Unread, &str)] = &[
+    (
+        Unread::NotAllowed,
+        "Unreadable: it can't be read (not allowed)",
+    ),
+    (
+        Unread::NotAFile,
+        "Unreadable: it can't be read (not a file)",
+    ),
+    (Unread::Failed, "Unreadable: it can't be read (failed)"),
+    (
+        Unread::TooLarge,
+        "TooLarge: a limit on bytes, names or counts is passed",
+    ),
+];
+
+fn joined(alloc: Global, parts: &[&str]) -> Result<Vec<u8>, AllocError> {
+    let mut text = Vec::new(alloc);
+    for part in parts {
+        text.extend_from_slice(part.as_bytes())?;
+    }
+    Ok(text)
+}
+
+const FIRST_REFUSED: &str =
+    "refused /p/a\nok /p/d\n  profile \"d\" 0 file 1 capability 0 network 0 patterns 1 states 0 passed over\n2 files 1 refused 1 profiles\n";
+
+const SECOND_REFUSED: &str =
+    "ok /p/a\n  profile \"a\" 1 file 0 capability 0 network 1 patterns 4 states 0 passed over\nrefused /p/d\n2 files 1 refused 1 profiles\n";
+
+/// What is printed on standard output.
+fn report_with(alloc: Global, path: &str, place: Place) -> Result<Vec<u8>, AllocError> {
+    match place {
+        Argument | Files => {
+            joined(
+                alloc,
+                &["refused ", path, "\n1 files 1 refused 0 profiles\n"],
+            )
+        }
+        First => joined(alloc, &[FIRST_REFUSED]),
+        Second => joined(alloc, &[SECOND_REFUSED]),
+    }
+}
+
+/// What is printed on standard error.
+fn faults_with(alloc: Global, path: &str, place: Place, what: &str) -> Result<Vec<u8>, AllocError> {
+    match place {
+        Argument => joined(
+            alloc,
+            &[path, ": Unreadable: it can't be read (not a file)\n"],
+        ),
+        Files => joined(alloc, &[path, ": ", what, "\n"]),
+        First | Second => joined(alloc, &[LEFTOVER, path, ": ", what, "\n"]),
+    }
+}
+
+fn failing_behind(tree: &MemoryTree, answered: usize, why: Unread) -> FailingTree<'_> {
+    FailingTree {
+        tree,
+        failing: answered.wrapping_add(1),
+        why,
+        calls: Cell::new(0),
+    }
+}
+
+/// Whether just this is printed of the folder.
+fn is_checked(alloc: Global, tree: &FailingTree, report: &[u8], faults: &[u8]) -> bool {
+    match checked(alloc, tree, &["/p"]) {
+        Ok(printed) => is_same(&printed, report, faults, 3),
+        Err(NoMemory) => false,
+    }
+}
+
+/// So many look-ups are answered and the next fails in this way.
+fn is_told(
+    rt: &impl Abort,
+    alloc: Global,
+    tree: &MemoryTree,
+    answered: usize,
+    (path, place): (&str, Place),
+    (why, what): (Unread, &str),
+) -> Result<(), AllocError> {
+    let report = report_with(alloc, path, place)?;
+    let faults = faults_with(alloc, path, place, what)?;
+    let tree = failing_behind(tree, answered, why);
+    let is_so = is_checked(alloc, &tree, report.as_slice(), faults.as_slice());
+    assert!(rt; is_so, "another answer where {path} fails");
+    assert!(rt; answered < tree.calls.get(), "not looked at: {path}");
+    Ok(())
+}
+
+fn each_is_told(
+    rt: &impl Abort,
+    alloc: Global,
+    tree: &MemoryTree,
+    way: (Unread, &str),
+) -> Result<(), AllocError> {
+    for (answered, look_up) in LOOK_UPS.iter().enumerate() {
+        is_told(rt, alloc, tree, answered, *look_up, way)?;
+    }
+    Ok(())
+}
+
+fn each_way_is_told(rt: &impl Abort, alloc: Global, tree: &MemoryTree) -> Result<(), AllocError> {
+    for way in WAYS {
+        each_is_told(rt, alloc, tree, *way)?;
+    }
+    Ok(())
+}
+
+#[test]
+fn each_look_up_that_fails_is_told_at_its_path_and_changes_nothing_else(
+    rt: HostRuntime,
+) -> Result<(), Fail> {
+    let alloc = rt.alloc();
+    let tree = tree_of_profiles(alloc)?;
+    each_way_is_told(&rt, alloc, &tree)?;
+    Ok(())
+}
+
+fn is_no_memory(rt: &impl Abort, alloc: Global, tree: &MemoryTree, answered: usize) {
+    let tree = failing_behind(tree, answered, Unread::NoMemory);
+    match checked(alloc, &tree, &["/p"]) {
+        Ok(_) => panic!(rt; "an answer without memory for look-up {answered}"),
+        Err(NoMemory) => assert_eq!(rt; tree.calls.get(), answered.wrapping_add(1)),
+    }
+}
+
+#[test]
+fn each_look_up_that_fails_for_want_of_memory_is_no_memory(rt: HostRuntime) -> Result<(), Fail> {
+    let alloc = rt.alloc();
+    let tree = tree_of_profiles(alloc)?;
+    for answered in 0..LOOK_UPS.len() {
+        is_no_memory(&rt, alloc, &tree, answered);
+    }
+    Ok(())
+}
+
+/// Where the look-up behind so many would fail, none does.
+fn prints_all(rt: &impl Abort, alloc: Global, tree: &MemoryTree, calls: usize) {
+    let tree = failing_behind(tree, calls, Unread::Failed);
+    prints(rt, alloc, &tree, &["/p"], (PROFILES, LEFTOVER, 0));
+    assert_eq!(rt; tree.calls.get(), calls);
+}
+
+#[test]
+fn where_no_look_up_fails_there_are_as_many_as_were_tried(rt: HostRuntime) -> Result<(), Fail> {
+    let alloc = rt.alloc();
+    let tree = tree_of_profiles(alloc)?;
+    prints_all(&rt, alloc, &tree, LOOK_UPS.len());
+    Ok(())
+}

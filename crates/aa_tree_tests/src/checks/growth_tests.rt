@@ -1,0 +1,75 @@
+//! Growths that are refused. Each test passes whichever of its growths is refused: it asks again, and what was refused is no
+//! memory and nothing else.
+
+use crate::checks::reporting::{
+    LEFTOVER, PROFILES, checked, is_printed, tree_of, tree_of_profiles,
+};
+use aa_memory_trees::MemoryTree;
+use std::alloc::{AllocError, Global};
+use std::process::Abort;
+
+/// Whether all is reported; if it isn't, a growth was refused.
+fn is_reported(rt: &impl Abort, alloc: Global) -> bool {
+    let Ok(tree) = tree_of_profiles(alloc) else {
+        return false;
+    };
+    match checked(alloc, &tree, &["/p"]) {
+        Ok(printed) => {
+            is_printed(rt, &printed, (PROFILES, LEFTOVER, 0));
+            true
+        }
+        Err(_) => false,
+    }
+}
+
+#[test]
+fn a_growth_refused_to_check_a_folder_is_no_memory(rt: HostRuntime) {
+    for _ in 0..3 {
+        if is_reported(&rt, rt.alloc()) {
+            return;
+        }
+    }
+    panic!(&rt; "refused each time")
+}
+
+fn tree_of_refused(alloc: Global) -> Result<MemoryTree, AllocError> {
+    tree_of(
+        alloc,
+        &[
+            ("/m", "include <a>\ninclude \"a\"\n"),
+            ("/b/a", ""),
+            ("a", ""),
+            ("/n", "include <c>\n"),
+        ],
+        &[],
+    )
+}
+
+const REFUSED: &str = "refused /m\nrefused /nothing\nrefused /n\n3 files 3 refused 0 profiles\n";
+
+const SAID: &str =
+    "/m:2:1: AmbiguousInclude: /b/a and a both have this name\n    2 | include \"a\"\n      | ^\n/nothing: Unreadable: it can't be read (not found)\n/n:1:1: MissingInclude: nothing of that name is there\n    1 | include <c>\n      | ^\n      tried /i/c\n      tried /b/c\n";
+
+/// Whether each file is told why it is refused; if it isn't, a growth was refused.
+fn is_told(rt: &impl Abort, alloc: Global) -> bool {
+    let Ok(tree) = tree_of_refused(alloc) else {
+        return false;
+    };
+    match checked(alloc, &tree, &["/m", "/nothing", "/n"]) {
+        Ok(printed) => {
+            is_printed(rt, &printed, (REFUSED, SAID, 3));
+            true
+        }
+        Err(_) => false,
+    }
+}
+
+#[test]
+fn a_growth_refused_to_tell_of_faults_is_no_memory(rt: HostRuntime) {
+    for _ in 0..3 {
+        if is_told(&rt, rt.alloc()) {
+            return;
+        }
+    }
+    panic!(&rt; "refused each time")
+}

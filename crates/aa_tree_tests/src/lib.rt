@@ -1,0 +1,7 @@
+//! What the contracts of policy files leave to tests: which files are read, and whole reports of `check`.
+#![tactic(auto)]
+
+#[cfg(test)]
+mod checks;
+#[cfg(test)]
+mod units;

@@ -1,0 +1,117 @@
+//! Growths that are refused. Each test passes whichever of its growths is refused: it asks again, and what was refused is no
+//! memory and nothing else.
+
+use crate::units::reading::{
+    File, Found, add_link, are_texts, has_sources, loaded, rooted, tree_of,
+};
+use aa_memory_trees::MemoryTree;
+use aa_units::UnitFault;
+use std::alloc::{AllocError, Global};
+use std::process::Abort;
+
+/// A file with includes, and a folder of files of which one is disabled.
+fn whole_tree(alloc: Global) -> Result<MemoryTree, AllocError> {
+    let mut tree = tree_of(
+        alloc,
+        &[
+            ("/m", "include <a>\ninclude <d>\n"),
+            ("/b/a", "include <none>\ninclude <a>\n"),
+            ("/b/d/x", "# x\n"),
+            ("/b/d/y", ""),
+            ("/b/force-complain/a", ""),
+        ],
+        &[("/b/d", &["y", "x", "x~"]), ("/p", &["c", "b", "a", "a~"])],
+    )?;
+    add_link(alloc, &mut tree, "/b/disable/b")?;
+    Ok(tree)
+}
+
+/// What is found of the file.
+const FOUND: &[Found] = &[
+    ("a", "/b/a", "include <none>\ninclude <a>\n"),
+    ("d", "/b/d", "include \"/b/d/x\"\ninclude \"/b/d/y\"\n"),
+    ("/b/d/x", "/b/d/x", "# x\n"),
+    ("/b/d/y", "/b/d/y", ""),
+];
+
+/// Whether the file is read with its sources; if it isn't, a growth was refused.
+fn is_loaded(rt: &impl Abort, alloc: Global, tree: &MemoryTree) -> bool {
+    match loaded(alloc, tree, "/m") {
+        Ok(unit) => {
+            has_sources(rt, &unit, FOUND);
+            true
+        }
+        Err(UnitFault::NoMemory) => false,
+        Err(_) => panic!(rt; "refused otherwise"),
+    }
+}
+
+/// Whether the files of the folder are told; if they aren't, a growth was refused.
+fn are_told(rt: &impl Abort, alloc: Global, tree: &MemoryTree) -> bool {
+    match rooted(alloc, tree, &["/p", "-"]) {
+        Ok(roots) => {
+            are_texts(rt, roots.paths.as_slice(), &["/p/a", "/p/c", "-"]);
+            assert_eq!(rt; roots.warnings.len(), 2);
+            true
+        }
+        Err(UnitFault::NoMemory) => false,
+        Err(_) => panic!(rt; "refused otherwise"),
+    }
+}
+
+/// A name in both forms, which lies at two paths. The later form stands in an included file.
+const BOTH_FORMS: &[File] = &[
+    ("/m", "include <a>\ninclude <c>\n"),
+    ("/b/c", "include \"a\"\n"),
+    ("/b/a", ""),
+    ("a", ""),
+];
+
+/// Whether the file is said to have a name at two paths; if it isn't, a growth was refused.
+fn is_ambiguous(rt: &impl Abort, alloc: Global) -> bool {
+    let Ok(tree) = tree_of(alloc, BOTH_FORMS, &[]) else {
+        return false;
+    };
+    match loaded(alloc, &tree, "/m") {
+        Err(UnitFault::Ambiguous(fault)) => {
+            assert_eq!(rt; fault.chain.len(), 1);
+            true
+        }
+        Err(UnitFault::NoMemory) => false,
+        _ => panic!(rt; "read, or refused otherwise"),
+    }
+}
+
+#[test]
+fn a_growth_refused_to_read_a_file_with_its_includes_is_no_memory(rt: HostRuntime) {
+    for _ in 0..3 {
+        if let Ok(tree) = whole_tree(rt.alloc()) {
+            if is_loaded(&rt, rt.alloc(), &tree) {
+                return;
+            }
+        }
+    }
+    panic!(&rt; "refused each time")
+}
+
+#[test]
+fn a_growth_refused_to_tell_the_files_of_a_folder_is_no_memory(rt: HostRuntime) {
+    for _ in 0..3 {
+        if let Ok(tree) = whole_tree(rt.alloc()) {
+            if are_told(&rt, rt.alloc(), &tree) {
+                return;
+            }
+        }
+    }
+    panic!(&rt; "refused each time")
+}
+
+#[test]
+fn a_growth_refused_to_say_that_a_name_lies_at_two_paths_is_no_memory(rt: HostRuntime) {
+    for _ in 0..3 {
+        if is_ambiguous(&rt, rt.alloc()) {
+            return;
+        }
+    }
+    panic!(&rt; "refused each time")
+}
