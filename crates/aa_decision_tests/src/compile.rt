@@ -25,5 +25,4 @@ mod list_growth_tests;
 mod list_refusal_tests;
 mod lists;
 mod policies;
-mod reading;
 mod state_tests;

@@ -2,8 +2,12 @@
 #![tactic(auto)]
 
 #[cfg(test)]
+mod asks;
+#[cfg(test)]
 mod auto;
 #[cfg(test)]
 mod compile;
 #[cfg(test)]
 mod mediate;
+#[cfg(test)]
+mod texts;

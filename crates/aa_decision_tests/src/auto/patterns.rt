@@ -6,6 +6,7 @@ use aa_patterns::Pattern;
 use aa_reader::read_pattern;
 use std::alloc::Global;
 use std::process::Abort;
+use std::test::Fail;
 
 // The pattern of a text that is one.
 fn pattern(rt: &impl Abort, alloc: Global, text: &[u8]) -> Result<Pattern, BuildFault> {
@@ -52,23 +53,69 @@ pub fn automaton(
     build(rt, alloc, patterns.as_slice(), limit)
 }
 
-/// How many rows and how many classes the automaton of some texts has.
-pub fn size(
+/// How many rows and how many classes an automaton has.
+pub fn size(automaton: &Automaton) -> (usize, usize) {
+    (automaton.rows(), automaton.classes())
+}
+
+/// The automaton of some texts has so many rows and classes.
+pub fn has_size(
     rt: &impl Abort,
     alloc: Global,
     texts: &[&[u8]],
     limit: usize,
-) -> Result<(usize, usize), BuildFault> {
+    expected: (usize, usize),
+) -> Result<(), Fail> {
     let automaton = automaton(rt, alloc, texts, limit)?;
-    Ok((automaton.rows(), automaton.classes()))
+    assert_eq!(rt; size(&automaton), expected);
+    Ok(())
 }
 
-/// Whether the patterns of some texts need more rows than the limit.
-pub fn are_too_many(rt: &impl Abort, alloc: Global, texts: &[&[u8]], limit: usize) -> bool {
-    matches!(
-        automaton(rt, alloc, texts, limit),
-        Err(BuildFault::TooManyStates)
-    )
+/// The patterns of some texts need more rows than the limit.
+pub fn needs_more(rt: &impl Abort, alloc: Global, texts: &[&[u8]], limit: usize) {
+    assert!(rt;
+        matches!(
+            automaton(rt, alloc, texts, limit),
+            Err(BuildFault::TooManyStates)
+        )
+    );
+}
+
+/// Texts, and how many classes the automaton of their patterns has.
+pub type Classes = (&'static [&'static [u8]], usize);
+
+/// The automata of the texts have so many classes.
+pub fn has_classes(rt: &impl Abort, alloc: Global, rows: &[Classes]) -> Result<(), Fail> {
+    for (texts, classes) in rows {
+        let automaton = automaton(rt, alloc, texts, 4096)?;
+        assert_eq!(rt; size(&automaton).1, *classes);
+    }
+    Ok(())
+}
+
+// The number of the list of the text's row.
+fn list_of(automaton: &Automaton, text: &[u8]) -> usize {
+    automaton.list_of(automaton.place(text))
+}
+
+/// The automaton of some texts has so many lists, and each pair of paths has one list or two, as it says.
+pub fn has_lists(
+    rt: &impl Abort,
+    alloc: Global,
+    texts: &[&[u8]],
+    limit: usize,
+    lists: usize,
+    rows: &[(&[u8], &[u8], bool)],
+) -> Result<(), Fail> {
+    let automaton = automaton(rt, alloc, texts, limit)?;
+    assert_eq!(rt; automaton.lists(), lists);
+    for row in rows {
+        assert_eq!(rt;
+            list_of(&automaton, row.0) == list_of(&automaton, row.1),
+            row.2
+        );
+    }
+    Ok(())
 }
 
 /// Each path is matched by just these of the patterns, by `matching`, by its row, and by its row's list.
@@ -86,8 +133,9 @@ pub fn match_just(
     rt: &impl Abort,
     alloc: Global,
     texts: &[&[u8]],
+    limit: usize,
     rows: &[(&[u8], &[u16])],
-) -> Result<(), BuildFault> {
-    matches_just(rt, &automaton(rt, alloc, texts, 100)?, rows);
+) -> Result<(), Fail> {
+    matches_just(rt, &automaton(rt, alloc, texts, limit)?, rows);
     Ok(())
 }

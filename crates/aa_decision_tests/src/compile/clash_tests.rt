@@ -1,11 +1,10 @@
 //! Rules that conflict, and where.
 
 use crate::compile::clashes::{finds_each, finds_none, needs_more};
-use std::test::Fail;
 
 // By hand: each path is the only one of the fewest bytes that both rules match.
 #[test]
-fn the_two_rules_are_named_with_a_shortest_path(rt: HostRuntime) -> Result<(), Fail> {
+fn the_two_rules_are_named_with_a_shortest_path(rt: HostRuntime) {
     finds_each(
         &rt,
         rt.alloc(),
@@ -22,11 +21,10 @@ fn the_two_rules_are_named_with_a_shortest_path(rt: HostRuntime) -> Result<(), F
             ("profile p { /a? Px, owner /?b px, }", 0, 1, "/ab"),
         ],
     );
-    Ok(())
 }
 
 #[test]
-fn rules_of_variables_and_alternations_are_named(rt: HostRuntime) -> Result<(), Fail> {
+fn rules_of_variables_and_alternations_are_named(rt: HostRuntime) {
     finds_each(
         &rt,
         rt.alloc(),
@@ -46,13 +44,10 @@ fn rules_of_variables_and_alternations_are_named(rt: HostRuntime) -> Result<(), 
             ("profile p { /{a,b}* ix, /c* px, /b* px, }", 0, 2, "/b"),
         ],
     );
-    Ok(())
 }
 
 #[test]
-fn rules_that_say_the_same_or_of_different_sorts_do_not_conflict(
-    rt: HostRuntime,
-) -> Result<(), Fail> {
+fn rules_that_say_the_same_or_of_different_sorts_do_not_conflict(rt: HostRuntime) {
     finds_none(
         &rt,
         rt.alloc(),
@@ -65,12 +60,10 @@ fn rules_that_say_the_same_or_of_different_sorts_do_not_conflict(
             "profile p { /a* r, /a* ix, /ab* w, }",
         ],
     );
-    Ok(())
 }
 
 #[test]
-fn more_states_than_the_limit_are_no_answer(rt: HostRuntime) -> Result<(), Fail> {
+fn more_states_than_the_limit_are_no_answer(rt: HostRuntime) {
     assert!(rt; needs_more(rt.alloc(), "profile p { /bin/* px, /bin/l* ix, }", 3));
     assert!(rt; !needs_more(rt.alloc(), "profile p { /bin/* px, /bin/l* ix, }", 65535));
-    Ok(())
 }

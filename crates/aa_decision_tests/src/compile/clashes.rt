@@ -3,7 +3,7 @@
 ghost use Rattle.std.specs.Prelude.{◌≤◌};
 ghost use Rattle.aa_profiles.specs.Lawful.{file_patterns};
 
-use crate::compile::reading::read;
+use crate::texts::read;
 use aa_auto::BuildFault;
 use aa_clashes::{Clash, clash_of};
 use aa_policy::Policy;

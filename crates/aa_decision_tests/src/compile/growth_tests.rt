@@ -1,7 +1,9 @@
 //! Policies where a growth is refused.
 
-use crate::compile::policies::{are_attached, are_executed, compiled, to};
+use crate::compile::policies::{are_attached, are_executed};
+use crate::texts::compiled;
 use aa_compile::Compiled;
+use aa_compile::Transition::To;
 use aa_faults::PolicyKind;
 use std::alloc::Global;
 use std::process::Abort;
@@ -26,7 +28,10 @@ fn a_growth_refused_to_compile_is_no_memory(rt: HostRuntime) -> Result<(), Fail>
     are_executed(
         &rt,
         &policy,
-        &[(0, "/q", to(2, true)), (0, "/c", to(1, false))],
+        &[
+            (0, "/q", Some(To(Some(2), true))),
+            (0, "/c", Some(To(Some(1), false))),
+        ],
     );
     Ok(())
 }

@@ -1,31 +1,25 @@
 //! Policies that become one.
 
-use crate::compile::joins::{has_profiles, has_rules, join};
+use crate::compile::joins::{has_profiles, has_rules};
 use aa_joins::{JoinFault, Repeated};
 use std::test::Fail;
 
 #[test]
 fn no_policies_have_no_profile(rt: HostRuntime) -> Result<(), Fail> {
-    let joined = join(rt.alloc(), &[])?;
-    has_profiles(&rt, &joined.policy, &[]);
-    has_rules(&rt, &joined.policy, &[]);
-    assert!(rt; joined.fault.is_none());
-    Ok(())
+    has_profiles(&rt, rt.alloc(), &[], &[], None)?;
+    has_rules(&rt, rt.alloc(), &[], &[])
 }
 
 #[test]
 fn children_follow_their_parents(rt: HostRuntime) -> Result<(), Fail> {
-    let joined = join(
+    has_profiles(
+        &rt,
         rt.alloc(),
         &[
             "profile a { }",
             "profile b { } profile c { profile d { } }",
             "profile e { profile f { } }",
         ],
-    )?;
-    has_profiles(
-        &rt,
-        &joined.policy,
         &[
             ("a", None),
             ("b", None),
@@ -34,57 +28,59 @@ fn children_follow_their_parents(rt: HostRuntime) -> Result<(), Fail> {
             ("e", None),
             ("e//f", Some(4)),
         ],
-    );
-    assert!(rt; joined.fault.is_none());
-    Ok(())
+        None,
+    )
 }
 
 #[test]
 fn passed_over_rules_follow_their_profiles(rt: HostRuntime) -> Result<(), Fail> {
-    let joined = join(
+    has_rules(
+        &rt,
         rt.alloc(),
         &[
             "profile a { mount, } profile b { }",
             "profile c { } profile d { dbus, unix, }",
         ],
-    )?;
-    has_rules(
-        &rt,
-        &joined.policy,
         &[(0, "mount"), (3, "dbus"), (3, "unix")],
-    );
-    Ok(())
+    )
 }
+
+const REPEATED: Option<JoinFault> = Some(JoinFault::DuplicateProfile(Repeated {
+    earlier: 1,
+    later: 1,
+}));
 
 #[test]
 fn a_name_that_is_there_is_refused_with_both_numbers(rt: HostRuntime) -> Result<(), Fail> {
-    let joined = join(
+    has_profiles(
+        &rt,
         rt.alloc(),
         &[
             "profile a { }",
             "profile b { }",
             "profile c { } profile b { } profile a { }",
         ],
-    )?;
-    let repeated = Repeated {
-        earlier: 1,
-        later: 1,
-    };
-    assert_eq!(rt; joined.fault, Some(JoinFault::DuplicateProfile(repeated)));
-    has_profiles(&rt, &joined.policy, &[("a", None), ("b", None)]);
-    Ok(())
+        &[("a", None), ("b", None)],
+        REPEATED,
+    )
 }
+
+const REPEATED_BEFORE: Option<JoinFault> = Some(JoinFault::DuplicateProfile(Repeated {
+    earlier: 0,
+    later: 1,
+}));
 
 #[test]
 fn names_of_a_refused_policy_stay_free(rt: HostRuntime) -> Result<(), Fail> {
-    let joined = join(
+    has_profiles(
+        &rt,
         rt.alloc(),
         &[
             "profile a { }",
             "profile b { } profile a { }",
             "profile b { }",
         ],
-    )?;
-    has_profiles(&rt, &joined.policy, &[("a", None), ("b", None)]);
-    Ok(())
+        &[("a", None), ("b", None)],
+        REPEATED_BEFORE,
+    )
 }

@@ -1,38 +1,40 @@
 //! Lines of file requests and links.
 
-use crate::compile::lines::{Ask, FIRST, Row, says_all};
+use crate::asks::{Ask, FIRST};
+use crate::compile::lines::{Row, says_all};
 use aa_requests::NoteWord::{Allowed, Audit, Denied};
+use aa_tables::Perms;
 
-const FILES_DENIED_ALLOWED_AND_REPORTED: [Row; 5] = [
+const FILES_DENIED_ALLOWED_AND_REPORTED: &[Row] = &[
     (
         FIRST,
-        Ask::File("/etc/passwd", 2),
-        Some((Denied, 2)),
+        Ask::File("/etc/passwd", Perms(2)),
+        Some((Denied, Perms(2))),
         FIRST,
         "apparmor=\"DENIED\" operation=\"file\" profile=\"p\" name=\"/etc/passwd\" requested_mask=\"w\" denied_mask=\"w\"",
     ),
     (
         FIRST,
-        Ask::File("/n m", 1),
-        Some((Allowed, 1)),
+        Ask::File("/n m", Perms(1)),
+        Some((Allowed, Perms(1))),
         FIRST,
         "apparmor=\"ALLOWED\" operation=\"file\" profile=\"p\" name=2F6E206D requested_mask=\"r\" denied_mask=\"r\"",
     ),
     (
         FIRST,
-        Ask::File("/x", 1),
-        Some((Audit, 1)),
+        Ask::File("/x", Perms(1)),
+        Some((Audit, Perms(1))),
         FIRST,
         "apparmor=\"AUDIT\" operation=\"file\" profile=\"p\" name=\"/x\" requested_mask=\"r\"",
     ),
     (
         FIRST,
-        Ask::File("/x", 55),
-        Some((Denied, 127)),
+        Ask::File("/x", Perms(55)),
+        Some((Denied, Perms(127))),
         FIRST,
         "apparmor=\"DENIED\" operation=\"file\" profile=\"p\" name=\"/x\" requested_mask=\"rwakm\" denied_mask=\"rwalkmx\"",
     ),
-    (FIRST, Ask::File("/x", 1), None, FIRST, ""),
+    (FIRST, Ask::File("/x", Perms(1)), None, FIRST, ""),
 ];
 
 #[test]
@@ -41,29 +43,29 @@ fn files_denied_allowed_and_reported(rt: HostRuntime) {
         &rt,
         rt.alloc(),
         &["profile p { }"],
-        &FILES_DENIED_ALLOWED_AND_REPORTED,
+        FILES_DENIED_ALLOWED_AND_REPORTED,
     );
 }
 
-const LINKS_DENIED_ALLOWED_AND_REPORTED: [Row; 4] = [
+const LINKS_DENIED_ALLOWED_AND_REPORTED: &[Row] = &[
     (
         FIRST,
         Ask::Link("/l/n", "/t/a"),
-        Some((Denied, 6)),
+        Some((Denied, Perms(6))),
         FIRST,
         "apparmor=\"DENIED\" operation=\"link\" profile=\"p\" name=\"/l/n\" target=\"/t/a\" requested_mask=\"l\" denied_mask=\"wa\"",
     ),
     (
         FIRST,
         Ask::Link("/l/x", "/t x"),
-        Some((Allowed, 72)),
+        Some((Allowed, Perms(72))),
         FIRST,
         "apparmor=\"ALLOWED\" operation=\"link\" profile=\"p\" name=\"/l/x\" target=2F742078 requested_mask=\"l\" denied_mask=\"lx\"",
     ),
     (
         FIRST,
         Ask::Link("/l/n", "/t/b"),
-        Some((Audit, 8)),
+        Some((Audit, Perms(8))),
         FIRST,
         "apparmor=\"AUDIT\" operation=\"link\" profile=\"p\" name=\"/l/n\" target=\"/t/b\" requested_mask=\"l\"",
     ),
@@ -76,6 +78,6 @@ fn links_denied_allowed_and_reported(rt: HostRuntime) {
         &rt,
         rt.alloc(),
         &["profile p { }"],
-        &LINKS_DENIED_ALLOWED_AND_REPORTED,
+        LINKS_DENIED_ALLOWED_AND_REPORTED,
     );
 }

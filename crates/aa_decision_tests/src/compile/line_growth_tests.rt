@@ -1,10 +1,12 @@
 //! Lines where a growth is refused.
 
-use crate::compile::lines::{Ask, FIRST, Row, says_each};
-use crate::compile::reading::policies;
+use crate::asks::{Ask, FIRST};
+use crate::compile::lines::{Row, says_each};
+use crate::texts::policies;
 use aa_compile::Compiled;
 use aa_requests::NoteWord::Allowed;
 use aa_requests::RequestFault;
+use aa_tables::Perms;
 use std::alloc::Global;
 use std::process::Abort;
 
@@ -29,18 +31,19 @@ fn says_or_no_memory(rt: &impl Abort, alloc: Global, list: &[Compiled], rows: &[
     }
 }
 
+const ROWS: &[Row] = &[(
+    FIRST,
+    Ask::Exec("/bin/x y"),
+    Some((Allowed, Perms(64))),
+    FIRST,
+    "apparmor=\"ALLOWED\" operation=\"exec\" profile=\"p\" name=2F62696E2F782079 requested_mask=\"x\" denied_mask=\"x\" target=\"p\"",
+)];
+
 #[test]
 fn a_growth_refused_to_a_line_is_no_memory(rt: HostRuntime) {
-    let rows: [Row; 1] = [(
-        FIRST,
-        Ask::Exec("/bin/x y"),
-        Some((Allowed, 64)),
-        FIRST,
-        "apparmor=\"ALLOWED\" operation=\"exec\" profile=\"p\" name=2F62696E2F782079 requested_mask=\"x\" denied_mask=\"x\" target=\"p\"",
-    )];
     let list = policies_at_last(&rt, rt.alloc());
     for _ in 0..3 {
-        if says_or_no_memory(&rt, rt.alloc(), &list, &rows) {
+        if says_or_no_memory(&rt, rt.alloc(), &list, ROWS) {
             return;
         }
     }

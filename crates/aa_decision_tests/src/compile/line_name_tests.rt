@@ -1,6 +1,7 @@
 //! Names, masks and labels in lines.
 
-use crate::compile::lines::{Ask, FIRST, Row, says_all};
+use crate::asks::{Ask, FIRST};
+use crate::compile::lines::{Row, says_all};
 use aa_audit::{plain_text, push_mask, push_value};
 use aa_requests::Label;
 use aa_requests::NoteWord::{Audit, Denied};
@@ -28,23 +29,31 @@ fn is_written(
     Ok(())
 }
 
-#[test]
-fn names_between_quotes_or_in_hexadecimal(rt: HostRuntime) -> Result<(), Fail> {
-    let rows = [
-        ("/etc/passwd", "\"/etc/passwd\"", true),
-        ("", "\"\"", true),
-        ("!~", "\"!~\"", true),
-        ("/n m", "2F6E206D", false),
-        ("/\"", "2F22", false),
-        ("/\u{7f}", "2F7F", false),
-        ("/é", "2FC3A9", false),
-        ("/\n\u{1}", "2F0A01", false),
-        ("\\", "\"\\\"", true),
-    ];
+/// A name, how it is written, and whether it is plain.
+type Written = (&'static str, &'static str, bool);
+
+fn are_written(rt: &impl Abort, alloc: Global, rows: &[Written]) -> Result<(), Fail> {
     for (name, expected, is_plain) in rows {
-        is_written(&rt, rt.alloc(), name, expected, is_plain)?;
+        is_written(rt, alloc, name, expected, *is_plain)?;
     }
     Ok(())
+}
+
+const NAMES: &[Written] = &[
+    ("/etc/passwd", "\"/etc/passwd\"", true),
+    ("", "\"\"", true),
+    ("!~", "\"!~\"", true),
+    ("/n m", "2F6E206D", false),
+    ("/\"", "2F22", false),
+    ("/\u{7f}", "2F7F", false),
+    ("/é", "2FC3A9", false),
+    ("/\n\u{1}", "2F0A01", false),
+    ("\\", "\"\\\"", true),
+];
+
+#[test]
+fn names_between_quotes_or_in_hexadecimal(rt: HostRuntime) -> Result<(), Fail> {
+    are_written(&rt, rt.alloc(), NAMES)
 }
 
 fn letters(alloc: Global, bits: u8) -> Result<String, AllocError> {
@@ -53,39 +62,43 @@ fn letters(alloc: Global, bits: u8) -> Result<String, AllocError> {
     Ok(out)
 }
 
-#[test]
-fn every_letter_of_a_mask(rt: HostRuntime) -> Result<(), Fail> {
-    let rows = [
-        (1, "\"r\""),
-        (2, "\"w\""),
-        (4, "\"a\""),
-        (8, "\"l\""),
-        (16, "\"k\""),
-        (32, "\"m\""),
-        (64, "\"x\""),
-        (0, "\"\""),
-        (127, "\"rwalkmx\""),
-        (86, "\"wakx\""),
-    ];
+fn are_letters(rt: &impl Abort, alloc: Global, rows: &[(u8, &'static str)]) -> Result<(), Fail> {
     for (bits, expected) in rows {
-        let out = letters(rt.alloc(), bits)?;
-        assert_eq!(rt; out.as_str(), expected);
+        assert_eq!(rt; letters(alloc, *bits)?.as_str(), *expected);
     }
     Ok(())
 }
 
-const LABELS_OF_TWO_POLICIES: [Row; 2] = [
+const MASKS: &[(u8, &str)] = &[
+    (1, "\"r\""),
+    (2, "\"w\""),
+    (4, "\"a\""),
+    (8, "\"l\""),
+    (16, "\"k\""),
+    (32, "\"m\""),
+    (64, "\"x\""),
+    (0, "\"\""),
+    (127, "\"rwalkmx\""),
+    (86, "\"wakx\""),
+];
+
+#[test]
+fn every_letter_of_a_mask(rt: HostRuntime) -> Result<(), Fail> {
+    are_letters(&rt, rt.alloc(), MASKS)
+}
+
+const LABELS_OF_TWO_POLICIES: &[Row] = &[
     (
         Label::Confined(1, 0),
-        Ask::File("/x", 1),
-        Some((Denied, 1)),
+        Ask::File("/x", Perms(1)),
+        Some((Denied, Perms(1))),
         Label::Confined(1, 0),
         "apparmor=\"DENIED\" operation=\"file\" profile=612062 name=\"/x\" requested_mask=\"r\" denied_mask=\"r\"",
     ),
     (
         FIRST,
         Ask::Exec("/h"),
-        Some((Audit, 64)),
+        Some((Audit, Perms(64))),
         Label::Confined(1, 1),
         "apparmor=\"AUDIT\" operation=\"exec\" profile=\"p\" name=\"/h\" requested_mask=\"x\" target=6120622F2F68",
     ),
@@ -97,6 +110,6 @@ fn labels_of_two_policies(rt: HostRuntime) {
         &rt,
         rt.alloc(),
         &["profile p { }", "profile \"a b\" { profile h { } }"],
-        &LABELS_OF_TWO_POLICIES,
+        LABELS_OF_TWO_POLICIES,
     );
 }

@@ -1,27 +1,29 @@
 //! Lines of capabilities and sockets.
 
-use crate::compile::lines::{Ask, FIRST, Row, says_all};
+use crate::asks::{Ask, FIRST};
+use crate::compile::lines::{Row, says_all};
 use aa_requests::NoteWord::{Allowed, Audit, Denied};
+use aa_tables::Perms;
 
-const CAPABILITIES_DENIED_ALLOWED_AND_REPORTED: [Row; 4] = [
+const CAPABILITIES_DENIED_ALLOWED_AND_REPORTED: &[Row] = &[
     (
         FIRST,
         Ask::Cap("sys_admin"),
-        Some((Denied, 0)),
+        Some((Denied, Perms(0))),
         FIRST,
         "apparmor=\"DENIED\" operation=\"capable\" profile=\"p\" capability=21 capname=\"sys_admin\"",
     ),
     (
         FIRST,
         Ask::Cap("checkpoint_restore"),
-        Some((Allowed, 0)),
+        Some((Allowed, Perms(0))),
         FIRST,
         "apparmor=\"ALLOWED\" operation=\"capable\" profile=\"p\" capability=40 capname=\"checkpoint_restore\"",
     ),
     (
         FIRST,
         Ask::Cap("chown"),
-        Some((Audit, 0)),
+        Some((Audit, Perms(0))),
         FIRST,
         "apparmor=\"AUDIT\" operation=\"capable\" profile=\"p\" capability=0 capname=\"chown\"",
     ),
@@ -34,29 +36,29 @@ fn capabilities_denied_allowed_and_reported(rt: HostRuntime) {
         &rt,
         rt.alloc(),
         &["profile p { }"],
-        &CAPABILITIES_DENIED_ALLOWED_AND_REPORTED,
+        CAPABILITIES_DENIED_ALLOWED_AND_REPORTED,
     );
 }
 
-const SOCKETS_DENIED_ALLOWED_AND_REPORTED: [Row; 4] = [
+const SOCKETS_DENIED_ALLOWED_AND_REPORTED: &[Row] = &[
     (
         FIRST,
         Ask::Net("inet6", "dgram"),
-        Some((Denied, 0)),
+        Some((Denied, Perms(0))),
         FIRST,
         "apparmor=\"DENIED\" operation=\"net\" profile=\"p\" family=\"inet6\" sock_type=\"dgram\"",
     ),
     (
         FIRST,
         Ask::Net("packet", "raw"),
-        Some((Allowed, 0)),
+        Some((Allowed, Perms(0))),
         FIRST,
         "apparmor=\"ALLOWED\" operation=\"net\" profile=\"p\" family=\"packet\" sock_type=\"raw\"",
     ),
     (
         FIRST,
         Ask::Net("unix", "packet"),
-        Some((Audit, 0)),
+        Some((Audit, Perms(0))),
         FIRST,
         "apparmor=\"AUDIT\" operation=\"net\" profile=\"p\" family=\"unix\" sock_type=\"packet\"",
     ),
@@ -69,6 +71,6 @@ fn sockets_denied_allowed_and_reported(rt: HostRuntime) {
         &rt,
         rt.alloc(),
         &["profile p { }"],
-        &SOCKETS_DENIED_ALLOWED_AND_REPORTED,
+        SOCKETS_DENIED_ALLOWED_AND_REPORTED,
     );
 }

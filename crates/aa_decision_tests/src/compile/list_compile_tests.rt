@@ -1,6 +1,6 @@
 //! Texts that are policies.
 
-use crate::compile::lists::{Source, compiled, found, profiles_of};
+use crate::compile::lists::{Found, Source, compiled, finds_each, profiles_of};
 use std::alloc::Global;
 use std::process::Abort;
 use std::test::Fail;
@@ -18,40 +18,48 @@ fn has_profiles(rt: &impl Abort, alloc: Global, row: Row) -> Result<(), Fail> {
     Ok(())
 }
 
-#[test]
-fn each_text_is_a_policy_of_its_own(rt: HostRuntime) -> Result<(), Fail> {
-    let rows: [Row; 4] = [
-        (&[], &[], &[]),
-        (&[], &["profile p { /x r, }"], &[1]),
-        (
-            &[],
-            &[
-                "profile p { profile c { } }",
-                "",
-                "profile p { } profile q { } profile r { }",
-            ],
-            &[2, 0, 3],
-        ),
-        (
-            &[("m", "profile m { }"), ("n", "include <m> profile n { }")],
-            &["include <m>", "include <n> profile p { }", "profile p { }"],
-            &[1, 3, 1],
-        ),
-    ];
+fn have_profiles(rt: &impl Abort, alloc: Global, rows: &[Row]) -> Result<(), Fail> {
     for row in rows {
-        has_profiles(&rt, rt.alloc(), row)?;
+        has_profiles(rt, alloc, *row)?;
     }
     Ok(())
 }
+
+const POLICIES: &[Row] = &[
+    (&[], &[], &[]),
+    (&[], &["profile p { /x r, }"], &[1]),
+    (
+        &[],
+        &[
+            "profile p { profile c { } }",
+            "",
+            "profile p { } profile q { } profile r { }",
+        ],
+        &[2, 0, 3],
+    ),
+    (
+        &[("m", "profile m { }"), ("n", "include <m> profile n { }")],
+        &["include <m>", "include <n> profile p { }", "profile p { }"],
+        &[1, 3, 1],
+    ),
+];
+
+#[test]
+fn each_text_is_a_policy_of_its_own(rt: HostRuntime) -> Result<(), Fail> {
+    have_profiles(&rt, rt.alloc(), POLICIES)
+}
+
+const IN_ORDER: &[Found] = &[
+    (0, "p", Some(0)),
+    (0, "q", None),
+    (1, "p", Some(1)),
+    (1, "q", Some(0)),
+];
 
 #[test]
 fn policies_stand_in_the_order_of_their_texts(rt: HostRuntime) -> Result<(), Fail> {
     let texts = ["profile p { }", "profile q { } profile p { }"];
     let policies = compiled(rt.alloc(), &[], &texts, 1)?;
-    let rows = [[Some(0), None], [Some(1), Some(0)]];
-    for (policy, expected) in policies.iter().zip(&rows) {
-        assert_eq!(rt; found(policy, "p"), expected[0]);
-        assert_eq!(rt; found(policy, "q"), expected[1]);
-    }
+    finds_each(&rt, &policies, IN_ORDER);
     Ok(())
 }

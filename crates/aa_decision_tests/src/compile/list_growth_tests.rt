@@ -1,6 +1,6 @@
 //! Lists of policies where a growth is refused. Each test passes whichever of its growths is refused: it asks again.
 
-use crate::compile::lists::{compiled, found, refusal};
+use crate::compile::lists::{Found, compiled, finds_each, refusal};
 use aa_faults::PolicyKind;
 use aa_policies::Compiled;
 use std::alloc::Global;
@@ -22,14 +22,13 @@ fn three_at_last(rt: &impl Abort, alloc: Global) -> Vec<Compiled> {
     panic!(rt; "refused each time")
 }
 
+const THREE: &[Found] = &[(0, "p", Some(0)), (1, "q", Some(1)), (2, "r//c", Some(1))];
+
 #[test]
 fn a_growth_refused_to_policies_is_no_memory(rt: HostRuntime) {
     let policies = three_at_last(&rt, rt.alloc());
-    let rows = [("p", Some(0)), ("q", Some(1)), ("r//c", Some(1))];
-    assert_eq!(rt; policies.len(), rows.len());
-    for (policy, (name, number)) in policies.iter().zip(&rows) {
-        assert_eq!(rt; found(policy, name), *number);
-    }
+    assert_eq!(rt; policies.len(), 3);
+    finds_each(&rt, &policies, THREE);
 }
 
 #[test]

@@ -8,6 +8,7 @@ use aa_jobs::Include;
 use aa_lists::Text;
 use aa_policies::{Compiled, RefusedPolicy, compile_policies};
 use std::alloc::{AllocError, Global};
+use std::process::Abort;
 
 /// A text with its name.
 pub type Source = (&'static str, &'static str);
@@ -106,7 +107,20 @@ pub fn profiles_of(policy: &Compiled) -> usize {
     policy.policy().profiles.as_slice().len()
 }
 
-/// The number of the profile with that full name.
-pub fn found(policy: &Compiled, name: &str) -> Option<u16> {
-    policy.find(name.as_bytes())
+/// The number of a policy, a full name, and the number of its profile.
+pub type Found = (usize, &'static str, Option<u16>);
+
+fn found(policies: &[Compiled], number: usize, name: &str) -> Option<u16> {
+    policies.get(number)?.find(name.as_bytes())
+}
+
+/// The profiles are found so.
+pub fn finds_each(rt: &impl Abort, policies: &[Compiled], rows: &[Found]) {
+    for (number, name, expected) in rows {
+        assert_eq!(rt;
+            found(policies, *number, name),
+            *expected,
+            "{number} {name}"
+        );
+    }
 }

@@ -1,19 +1,10 @@
 //! Policies that are read from their texts and compiled, and what they say, as plain data.
 
-use crate::compile::reading::read;
+use crate::texts::{compiled, read};
 use aa_compile::{Compiled, Transition, compile};
-use aa_words::PolicyFault;
 use std::alloc::Global;
 use std::process::Abort;
-
-/// The policy that a text spells, compiled, or the fault for which it isn't. The limit is from 1 to 1,000,000.
-pub fn compiled(alloc: Global, text: &str, limit: u32) -> Result<Compiled, PolicyFault> {
-    let policy = read(alloc, text)?;
-    match compile(alloc, policy, limit.clamp(1, 1_000_000)) {
-        Ok(compiled) => Ok(compiled),
-        Err(refusal) => Err(refusal.fault),
-    }
-}
+use std::test::Fail;
 
 /// The number of the fault for which the text is refused, and the byte at which it points.
 pub fn refusal(alloc: Global, text: &str, limit: u32) -> Option<(u8, u32)> {
@@ -73,16 +64,6 @@ fn execution(compiled: &Compiled, profile: u16, path: &str) -> Option<Transition
     None
 }
 
-/// To the profile of that number.
-pub fn to(profile: u16, scrub: bool) -> Option<Transition> {
-    Some(Transition::To(Some(profile), scrub))
-}
-
-/// To no profile.
-pub fn to_none(scrub: bool) -> Option<Transition> {
-    Some(Transition::To(None, scrub))
-}
-
 /// The bits that the rules of a profile allow, deny, deny with a line, and report, where the profile is there.
 fn bits(compiled: &Compiled, profile: u16, path: &str, owned: bool) -> Option<[u8; 4]> {
     if (profile as usize) < compiled.policy().profiles.as_slice().len() {
@@ -109,7 +90,7 @@ pub fn attaches(
     text: &str,
     limit: u32,
     rows: &[Attached],
-) -> Result<(), PolicyFault> {
+) -> Result<(), Fail> {
     let policy = compiled(alloc, text, limit)?;
     are_attached(rt, &policy, rows);
     Ok(())
@@ -135,7 +116,7 @@ pub fn attaches_children(
     text: &str,
     limit: u32,
     rows: &[AttachedChild],
-) -> Result<(), PolicyFault> {
+) -> Result<(), Fail> {
     let policy = compiled(alloc, text, limit)?;
     children_are_attached(rt, &policy, rows);
     Ok(())
@@ -151,12 +132,7 @@ fn are_found(rt: &impl Abort, policy: &Compiled, rows: &[Found]) {
 }
 
 /// The profiles of the text's policy are found so.
-pub fn finds(
-    rt: &impl Abort,
-    alloc: Global,
-    text: &str,
-    rows: &[Found],
-) -> Result<(), PolicyFault> {
+pub fn finds(rt: &impl Abort, alloc: Global, text: &str, rows: &[Found]) -> Result<(), Fail> {
     let policy = compiled(alloc, text, 4096)?;
     are_found(rt, &policy, rows);
     Ok(())
@@ -177,12 +153,7 @@ pub fn are_executed(rt: &impl Abort, policy: &Compiled, rows: &[Executed]) {
 }
 
 /// Executions lead there in the text's policy.
-pub fn executes(
-    rt: &impl Abort,
-    alloc: Global,
-    text: &str,
-    rows: &[Executed],
-) -> Result<(), PolicyFault> {
+pub fn executes(rt: &impl Abort, alloc: Global, text: &str, rows: &[Executed]) -> Result<(), Fail> {
     let policy = compiled(alloc, text, 4096)?;
     are_executed(rt, &policy, rows);
     Ok(())
@@ -202,12 +173,7 @@ fn are_bits(rt: &impl Abort, policy: &Compiled, rows: &[Bits]) {
 }
 
 /// The rules of the text's policy have these bits.
-pub fn has_bits(
-    rt: &impl Abort,
-    alloc: Global,
-    text: &str,
-    rows: &[Bits],
-) -> Result<(), PolicyFault> {
+pub fn has_bits(rt: &impl Abort, alloc: Global, text: &str, rows: &[Bits]) -> Result<(), Fail> {
     let policy = compiled(alloc, text, 4096)?;
     are_bits(rt, &policy, rows);
     Ok(())
@@ -226,7 +192,7 @@ pub fn has_states(
     text: &str,
     limit: u32,
     rows: &[(u16, usize)],
-) -> Result<(), PolicyFault> {
+) -> Result<(), Fail> {
     let policy = compiled(alloc, text, limit)?;
     are_states(rt, &policy, rows);
     Ok(())

@@ -3,15 +3,15 @@
 use crate::compile::policies::{Row, handed_back, has_states, refuses_each};
 use std::test::Fail;
 
+const PREFIXES: &[Row] = &[
+    ("profile p { /etc/passwd r, }", 4, Some((17, 8))),
+    ("profile p { /etc/passwd r, }", 12, Some((17, 8))),
+    ("profile p { /etc/passwd r, }", 13, None),
+];
+
 #[test]
-fn a_state_for_each_prefix_and_one_for_the_rest(rt: HostRuntime) -> Result<(), Fail> {
-    let rows: [Row; 3] = [
-        ("profile p { /etc/passwd r, }", 4, Some((17, 8))),
-        ("profile p { /etc/passwd r, }", 12, Some((17, 8))),
-        ("profile p { /etc/passwd r, }", 13, None),
-    ];
-    refuses_each(&rt, rt.alloc(), &rows);
-    Ok(())
+fn a_state_for_each_prefix_and_one_for_the_rest(rt: HostRuntime) {
+    refuses_each(&rt, rt.alloc(), PREFIXES);
 }
 
 #[test]
@@ -29,75 +29,75 @@ fn states_are_counted_profile_by_profile(rt: HostRuntime) -> Result<(), Fail> {
     Ok(())
 }
 
-#[test]
-fn the_fault_points_at_the_profile_whose_automaton_it_is(rt: HostRuntime) -> Result<(), Fail> {
-    let rows: [Row; 5] = [
-        (
-            "profile p { /x r, } profile q { /etc/passwd r, }",
-            5,
-            Some((17, 28)),
-        ),
-        (
-            "profile p { /etc/passwd r, } profile q /etc/passwd { }",
-            13,
-            None,
-        ),
-        (
-            "profile p { /x r, } profile q /etc/passwd { }",
-            12,
-            Some((17, 8)),
-        ),
-        (
-            "profile a { } profile p { profile c /etc/passwd { } }",
-            12,
-            Some((17, 22)),
-        ),
-        (
-            "profile a { } profile p { profile c /etc/passwd { } }",
-            13,
-            None,
-        ),
-    ];
-    refuses_each(&rt, rt.alloc(), &rows);
-    Ok(())
-}
+const FAULTS: &[Row] = &[
+    (
+        "profile p { /x r, } profile q { /etc/passwd r, }",
+        5,
+        Some((17, 28)),
+    ),
+    (
+        "profile p { /etc/passwd r, } profile q /etc/passwd { }",
+        13,
+        None,
+    ),
+    (
+        "profile p { /x r, } profile q /etc/passwd { }",
+        12,
+        Some((17, 8)),
+    ),
+    (
+        "profile a { } profile p { profile c /etc/passwd { } }",
+        12,
+        Some((17, 22)),
+    ),
+    (
+        "profile a { } profile p { profile c /etc/passwd { } }",
+        13,
+        None,
+    ),
+];
 
 #[test]
-fn checks_come_in_their_order(rt: HostRuntime) -> Result<(), Fail> {
-    let rows: [Row; 4] = [
-        (
-            "profile p { /a px, /a ix, } profile q /etc/passwd { }",
-            12,
-            Some((17, 8)),
-        ),
-        (
-            "profile p { /a px, /a ix, profile c /etc/passwd { } }",
-            12,
-            Some((16, 8)),
-        ),
-        (
-            "profile p { /a px, /a ix, /etc/passwd r, }",
-            12,
-            Some((17, 8)),
-        ),
-        (
-            "profile p { profile c /etc/passwd { } } profile q { /a px, /a ix, }",
-            12,
-            Some((17, 8)),
-        ),
-    ];
-    refuses_each(&rt, rt.alloc(), &rows);
-    Ok(())
+fn the_fault_points_at_the_profile_whose_automaton_it_is(rt: HostRuntime) {
+    refuses_each(&rt, rt.alloc(), FAULTS);
 }
 
+const IN_ORDER: &[Row] = &[
+    (
+        "profile p { /a px, /a ix, } profile q /etc/passwd { }",
+        12,
+        Some((17, 8)),
+    ),
+    (
+        "profile p { /a px, /a ix, profile c /etc/passwd { } }",
+        12,
+        Some((16, 8)),
+    ),
+    (
+        "profile p { /a px, /a ix, /etc/passwd r, }",
+        12,
+        Some((17, 8)),
+    ),
+    (
+        "profile p { profile c /etc/passwd { } } profile q { /a px, /a ix, }",
+        12,
+        Some((17, 8)),
+    ),
+];
+
 #[test]
-fn fifteen_free_bytes_need_65539_states(rt: HostRuntime) -> Result<(), Fail> {
-    let rows: [Row; 2] = [
-        ("profile p { /**a??????????????? r, }", 65535, Some((17, 8))),
-        ("profile p { /**a??????????????? r, }", 65539, None),
-    ];
-    refuses_each(&rt, rt.alloc(), &rows);
-    Ok(())
+fn checks_come_in_their_order(rt: HostRuntime) {
+    refuses_each(&rt, rt.alloc(), IN_ORDER);
+}
+
+const FREE_BYTES: &[Row] = &[
+    ("profile p { /**a??????????????? r, }", 65535, Some((17, 8))),
+    ("profile p { /**a??????????????? r, }", 65539, None),
+];
+
+#[test]
+fn fifteen_free_bytes_need_65539_states(rt: HostRuntime) {
+    refuses_each(&rt, rt.alloc(), FREE_BYTES);
 }
 
 #[test]

@@ -1,82 +1,86 @@
 //! Where executions lead, and what is reported of them.
 
-use crate::mediate::tasks::{
-    Ask, FIRST, FREE, Row, allowed, answers_each, audited, denied, moves, moves_with, stays,
+use crate::asks::Ask::Exec;
+use crate::asks::FIRST;
+use crate::mediate::tasks::Then::{
+    Audited, Denied, Granted, Moved, MovedAllowed, Refused, Scrubbed,
 };
-use aa_mediate::Label;
-use aa_policy::Perms;
+use crate::mediate::tasks::{FREE, Row, answers_each};
+use aa_mediate::Label::Confined;
+use aa_tables::Perms;
 use std::test::Fail;
 
-fn refused(path: &'static str) -> Row {
-    stays(FIRST, Ask::Exec(path), false, denied(Perms::EXEC))
-}
+const BY_FALLBACKS: &[Row] = &[
+    (FIRST, Exec("/a"), Granted),
+    (FIRST, Exec("/b"), Denied(Perms::EXEC)),
+    (FIRST, Exec("/c"), Moved(FREE)),
+    (FIRST, Exec("/d"), Scrubbed(Confined(0, 1))),
+    (FIRST, Exec("/e"), Scrubbed(FREE)),
+    (FIRST, Exec("/none"), Denied(Perms::EXEC)),
+];
 
 #[test]
 fn a_profile_is_found_or_its_fallback_decides(rt: HostRuntime) -> Result<(), Fail> {
-    let rows = [
-        stays(FIRST, Ask::Exec("/a"), true, None),
-        refused("/b"),
-        moves(FIRST, Ask::Exec("/c"), FREE, false),
-        moves(FIRST, Ask::Exec("/d"), Label::Confined(0, 1), true),
-        moves(FIRST, Ask::Exec("/e"), FREE, true),
-        refused("/none"),
-    ];
     let text = "profile p { /a pix, /b px, /c pux, /d Px -> q, /e PUx, } profile q { }";
-    answers_each(&rt, rt.alloc(), &[text], &rows)
+    answers_each(&rt, rt.alloc(), &[text], BY_FALLBACKS)
 }
+
+const BY_A_LITERAL_RULE: &[Row] = &[
+    (FIRST, Exec("/bin/ls"), Granted),
+    (FIRST, Exec("/bin/cat"), Denied(Perms::EXEC)),
+];
 
 #[test]
 fn a_literal_rule_decides_before_others(rt: HostRuntime) -> Result<(), Fail> {
-    let rows = [
-        stays(FIRST, Ask::Exec("/bin/ls"), true, None),
-        refused("/bin/cat"),
-    ];
     let text = "profile p { /bin/* px, /bin/ls ix, }";
-    answers_each(&rt, rt.alloc(), &[text], &rows)
+    answers_each(&rt, rt.alloc(), &[text], BY_A_LITERAL_RULE)
 }
+
+const OF_A_CHILD: &[Row] = &[
+    (FIRST, Exec("/h"), Moved(Confined(0, 1))),
+    (Confined(0, 1), Exec("/h"), Denied(Perms::EXEC)),
+];
 
 #[test]
 fn a_child_has_no_children(rt: HostRuntime) -> Result<(), Fail> {
-    let child = Label::Confined(0, 1);
-    let rows = [
-        moves(FIRST, Ask::Exec("/h"), child, false),
-        stays(child, Ask::Exec("/h"), false, denied(Perms::EXEC)),
-    ];
     let text = "profile p { /h cx -> helper, profile helper { /h cx -> helper, } }";
-    answers_each(&rt, rt.alloc(), &[text], &rows)
+    answers_each(&rt, rt.alloc(), &[text], OF_A_CHILD)
 }
+
+const UNCONFINED: &[Row] = &[
+    (FREE, Exec("/usr/sin/x"), Granted),
+    (FREE, Exec("/usr/bin/x"), Moved(Confined(0, 3))),
+    (FREE, Exec("/usr/bin/y"), Moved(Confined(0, 2))),
+    (FREE, Exec("/usr/lib/x"), Moved(FIRST)),
+];
 
 #[test]
 fn an_unconfined_task_runs_what_is_attached(rt: HostRuntime) -> Result<(), Fail> {
-    let rows = [
-        stays(FREE, Ask::Exec("/usr/sin/x"), true, None),
-        moves(FREE, Ask::Exec("/usr/bin/x"), Label::Confined(0, 3), false),
-        moves(FREE, Ask::Exec("/usr/bin/y"), Label::Confined(0, 2), false),
-        moves(FREE, Ask::Exec("/usr/lib/x"), FIRST, false),
-    ];
     let text =
         "profile a /usr/*/x { } profile b /usr/?in/x { } profile c /usr/bin/y { } profile d /usr/bin/* { }";
-    answers_each(&rt, rt.alloc(), &[text], &rows)
+    answers_each(&rt, rt.alloc(), &[text], UNCONFINED)
 }
+
+const DENIED: &[Row] = &[
+    (FIRST, Exec("/q"), Refused),
+    (FIRST, Exec("/l"), Denied(Perms::EXEC)),
+    (FIRST, Exec("/a"), Audited(Perms::EXEC)),
+];
 
 #[test]
 fn a_denied_execution_is_quiet_unless_it_is_audited(rt: HostRuntime) -> Result<(), Fail> {
-    let rows = [
-        stays(FIRST, Ask::Exec("/q"), false, None),
-        refused("/l"),
-        stays(FIRST, Ask::Exec("/a"), true, audited(Perms::EXEC)),
-    ];
     let text = "profile p { deny /q x, audit deny /l x, audit /a ix, /q Ux, /l Ux, }";
-    answers_each(&rt, rt.alloc(), &[text], &rows)
+    answers_each(&rt, rt.alloc(), &[text], DENIED)
 }
+
+const IN_COMPLAIN_MODE: &[Row] = &[
+    (FIRST, Exec("/q"), Refused),
+    (FIRST, Exec("/u"), Scrubbed(FREE)),
+    (FIRST, Exec("/n"), MovedAllowed(FIRST, Perms::EXEC)),
+];
 
 #[test]
 fn a_complain_profile_refuses_what_a_rule_denies(rt: HostRuntime) -> Result<(), Fail> {
-    let rows = [
-        stays(FIRST, Ask::Exec("/q"), false, None),
-        moves(FIRST, Ask::Exec("/u"), FREE, true),
-        moves_with(FIRST, Ask::Exec("/n"), FIRST, allowed(Perms::EXEC)),
-    ];
     let text = "profile p flags=(complain) { deny /q x, /q Ux, /u Ux, /n Px, }";
-    answers_each(&rt, rt.alloc(), &[text], &rows)
+    answers_each(&rt, rt.alloc(), &[text], IN_COMPLAIN_MODE)
 }

@@ -1,9 +1,10 @@
 //! What is compiled says what the rules say one by one.
 
-use crate::mediate::tasks::policies_of;
+use crate::texts::policies;
 use aa_mediate::Compiled;
 use aa_plain::verdict_by_rules;
 use aa_said::RuleSets;
+use std::process::Abort;
 use std::test::Fail;
 
 /// What is compiled says of an object, where there is a profile.
@@ -21,30 +22,37 @@ fn plain_sets(compiled: &Compiled, path: &str, owned: bool) -> Option<RuleSets> 
     }
 }
 
-#[test]
-fn rows_say_what_the_rules_say(rt: HostRuntime) -> Result<(), Fail> {
-    let text =
-        "profile p { /** r, owner /home/*/** rwk, deny /home/*/.ssh/** wl, audit /var/log/{a,b}* a, audit deny /etc/[^p]* m, /usr/{,s}bin/? mrix, }";
-    let policies = policies_of(rt.alloc(), &[text, ""])?;
-    for compiled in policies.as_slice() {
-        for path in [
-            "/",
-            "/home/u/f",
-            "/home/u/.ssh/k",
-            "/var/log/ab",
-            "/etc/s",
-            "/etc/p",
-            "/usr/bin/x",
-            "/usr/sbin/xy",
-        ] {
-            for owned in [false, true] {
+/// Both say the same of each path, owned or not.
+fn say_the_same(rt: &impl Abort, policies: &[Compiled], paths: &[&str]) {
+    for compiled in policies {
+        for path in paths {
+            for owned in &[false, true] {
                 assert_eq!(rt;
-                    compiled_sets(compiled, path, owned),
-                    plain_sets(compiled, path, owned),
+                    compiled_sets(compiled, path, *owned),
+                    plain_sets(compiled, path, *owned),
                     "{path}"
                 );
             }
         }
     }
+}
+
+const PATHS: &[&str] = &[
+    "/",
+    "/home/u/f",
+    "/home/u/.ssh/k",
+    "/var/log/ab",
+    "/etc/s",
+    "/etc/p",
+    "/usr/bin/x",
+    "/usr/sbin/xy",
+];
+
+#[test]
+fn rows_say_what_the_rules_say(rt: HostRuntime) -> Result<(), Fail> {
+    let text =
+        "profile p { /** r, owner /home/*/** rwk, deny /home/*/.ssh/** wl, audit /var/log/{a,b}* a, audit deny /etc/[^p]* m, /usr/{,s}bin/? mrix, }";
+    let policies = policies(rt.alloc(), &[text, ""])?;
+    say_the_same(&rt, &policies, PATHS);
     Ok(())
 }
