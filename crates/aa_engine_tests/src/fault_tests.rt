@@ -5,7 +5,7 @@ use aa_engine::RunFault;
 use aa_faults::{PolicyFault, PolicyKind, Spot};
 use aa_jobs::JobFault;
 use aa_policies::RefusedPolicy;
-use std::alloc::Global;
+use std::alloc::{AllocError, Global};
 use std::process::Abort;
 use std::sync::Wait;
 use std::test::Fail;
@@ -102,12 +102,26 @@ fn the_first_unknown_label_is_named(rt: HostRuntime) {
 }
 
 /// How a fault is told.
-fn told(alloc: Global, fault: RunFault) -> Option<String> {
-    format!(in alloc; "{fault}").ok()
+fn told(alloc: Global, fault: RunFault) -> Result<String, AllocError> {
+    format!(in alloc; "{fault}")
 }
 
 fn status_of(fault: RunFault) -> u8 {
     fault.status()
+}
+
+// The fault is told so, and ends a program with that status.
+fn is_told(
+    rt: &impl Abort,
+    alloc: Global,
+    fault: RunFault,
+    line: &str,
+    status: u8,
+) -> Result<(), Fail> {
+    let text = told(alloc, fault)?;
+    assert_eq!(rt; text.as_str(), line);
+    assert_eq!(rt; status_of(fault), status, "{line}");
+    Ok(())
 }
 
 #[test]
@@ -130,9 +144,7 @@ fn each_fault_has_a_line_and_a_status(rt: HostRuntime) -> Result<(), Fail> {
         (RunFault::UnknownProfile(0), "task 0 has no profile", 1),
     ];
     for (fault, line, status) in rows {
-        let text = told(rt.alloc(), fault).ok_or("memory")?;
-        assert_eq!(rt; text.as_str(), line);
-        assert_eq!(rt; status_of(fault), status, "{line}");
+        is_told(&rt, rt.alloc(), fault, line, status)?;
     }
     Ok(())
 }

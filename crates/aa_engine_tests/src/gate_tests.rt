@@ -1,10 +1,10 @@
 //! Two tasks whose requests wait for one another, so that one thread alone can't decide them.
 
-ghost use Rattle.std.specs.Prelude.{◌<◌, ◌≤◌};
 ghost use Rattle.aa_mediate.specs.Reply.{reply};
 
-use crate::jobs::{job_of, policies_of};
-use aa_engine::{Answered, mediate, mediate_lent};
+use crate::jobs::{Requests, answers, job_of, lent_answers, policies_of};
+use aa_engine::{Answered, MediateFault};
+use aa_jobs::Job;
 use aa_machine::Machine;
 use aa_mediate::Mediator;
 use aa_policies::Compiled;
@@ -83,58 +83,77 @@ fn grants_of<M: Machine<Answer = Answer>>(rows: &[Vec<Answered<M>>]) -> u64 {
     grants
 }
 
+/// How many requests a machine grants.
+fn grants<
+    M: Machine<State = Label, Request = Request, Answer = Answer> + Sync,
+    R: Threads + Wait + Sync,
+>(
+    rt: &R,
+    alloc: Global,
+    requests: Requests,
+    job: &Job,
+    policies: &[Compiled],
+    machine: &M,
+    workers: u32,
+) -> Result<u64, MediateFault> {
+    match requests {
+        Requests::Copied => {
+            let rows = answers(rt, alloc, job, policies, machine, workers)?;
+            Ok(grants_of(rows.as_slice()))
+        }
+        Requests::Lent => {
+            let rows = lent_answers(rt, alloc, job, policies, machine, workers)?;
+            Ok(grants_of(rows.as_slice()))
+        }
+    }
+}
+
 /// How many requests are granted by that many workers, and whether a step gave up.
 fn granted_by<R: Threads + Wait + Sync>(
     rt: &R,
     alloc: Global,
+    requests: Requests,
     workers: u32,
-) -> Result<(u64, u64), Fail>
-    requires { (0 < workers) × (workers ≤ 16) }
-{
+) -> Result<(u64, u64), Fail> {
     let job = job_of(alloc, TWO_TASKS).ok_or("it is a job")?;
     let policies = policies_of(alloc, &job).ok_or("they compile")?;
     let gates = Gates::new(policies.as_slice());
-    let answers = mediate(rt, alloc, &job, policies.as_slice(), &gates, workers);
-    let rows = answers.ok().ok_or("it is answered")?;
-    let grants = grants_of(rows.as_slice());
-    Ok((grants, gates.given_up.load(Ordering::SeqCst)))
-}
-
-/// The same, with requests that are lent.
-fn granted_lent_by<R: Threads + Wait + Sync>(
-    rt: &R,
-    alloc: Global,
-    workers: u32,
-) -> Result<(u64, u64), Fail>
-    requires { (0 < workers) × (workers ≤ 16) }
-{
-    let job = job_of(alloc, TWO_TASKS).ok_or("it is a job")?;
-    let policies = policies_of(alloc, &job).ok_or("they compile")?;
-    let gates = Gates::new(policies.as_slice());
-    let answers = mediate_lent(rt, alloc, &job, policies.as_slice(), &gates, workers);
-    let rows = answers.ok().ok_or("it is answered")?;
-    let grants = grants_of(rows.as_slice());
-    Ok((grants, gates.given_up.load(Ordering::SeqCst)))
+    let granted = grants(
+        rt,
+        alloc,
+        requests,
+        &job,
+        policies.as_slice(),
+        &gates,
+        workers,
+    )?;
+    Ok((granted, gates.given_up.load(Ordering::SeqCst)))
 }
 
 #[test]
 fn two_workers_decide_two_tasks_at_once(rt: HostRuntime) -> Result<(), Fail> {
     for workers in [2, 16] {
-        assert_eq!(rt; granted_by(&rt, rt.alloc(), workers)?, (2, 0));
+        assert_eq!(rt;
+            granted_by(&rt, rt.alloc(), Requests::Copied, workers)?,
+            (2, 0)
+        );
     }
     Ok(())
 }
 
 #[test]
 fn one_worker_decides_them_one_after_the_other(rt: HostRuntime) -> Result<(), Fail> {
-    assert_eq!(rt; granted_by(&rt, rt.alloc(), 1)?, (2, 1));
+    assert_eq!(rt; granted_by(&rt, rt.alloc(), Requests::Copied, 1)?, (2, 1));
     Ok(())
 }
 
 #[test]
 fn two_workers_decide_lent_requests_of_two_tasks_at_once(rt: HostRuntime) -> Result<(), Fail> {
     for workers in [2, 16] {
-        assert_eq!(rt; granted_lent_by(&rt, rt.alloc(), workers)?, (2, 0));
+        assert_eq!(rt;
+            granted_by(&rt, rt.alloc(), Requests::Lent, workers)?,
+            (2, 0)
+        );
     }
     Ok(())
 }

@@ -2,9 +2,13 @@
 
 ghost use Rattle.std.specs.Prelude.{◌<◌, ◌≤◌};
 
-use aa_engine::{RunFault, check_job, replay_job, run_job};
-use aa_jobs::{Job, read_job};
+use aa_engine::{
+    Answered, Lent, MediateFault, RunFault, check_job, mediate, mediate_lent, replay_job, run_job,
+};
+use aa_jobs::{Job, JobFault, read_job};
+use aa_machine::Machine;
 use aa_policies::{Compiled, compile_policies};
+use aa_requests::{Answer, Label, Request};
 use std::alloc::Global;
 use std::io::{Read, Write};
 use std::process::Abort;
@@ -56,9 +60,13 @@ pub const MOVING_JOB: &[u8] =
 pub const MOVED: &[u8] =
     b"0 0 denied label=\"p\"\napparmor=\"DENIED\" operation=\"file\" profile=\"p\" name=\"/g\" requested_mask=\"r\" denied_mask=\"r\"\n0 1 granted label=\"q\"\n0 2 granted label=\"q\"\n1 0 granted label=\"q\"\n1 1 denied label=\"q\"\napparmor=\"DENIED\" operation=\"file\" profile=\"q\" name=\"/f\" requested_mask=\"r\" denied_mask=\"r\"\n";
 
+fn read(alloc: Global, text: &[u8]) -> Result<Job, JobFault> {
+    read_job(alloc, text)
+}
+
 /// The job that a text is.
 pub fn job_of(alloc: Global, text: &[u8]) -> Option<Job> {
-    match read_job(alloc, text) {
+    match read(alloc, text) {
         Ok(job) => Some(job),
         Err(_) => None,
     }
@@ -68,7 +76,48 @@ pub fn job_of(alloc: Global, text: &[u8]) -> Option<Job> {
 pub fn policies_of(alloc: Global, job: &Job) -> Option<Vec<Compiled>> {
     let includes = job.includes.as_slice();
     let texts = job.policies.as_slice();
-    compile_policies(alloc, includes, texts, job.states).ok()
+    match compile_policies(alloc, includes, texts, job.states) {
+        Ok(policies) => Some(policies),
+        Err(_) => None,
+    }
+}
+
+/// Whether requests are lent to the lanes, or copied.
+#[derive(Clone, Copy)]
+pub enum Requests {
+    Copied,
+    Lent,
+}
+
+/// What a machine answers to the tasks of a job whose requests are copied.
+pub fn answers<
+    M: Machine<State = Label, Request = Request, Answer = Answer> + Sync,
+    R: Threads + Wait + Sync,
+>(
+    rt: &R,
+    alloc: Global,
+    job: &Job,
+    policies: &[Compiled],
+    machine: &M,
+    workers: u32,
+) -> Result<Vec<Vec<Answered<M>>>, MediateFault> {
+    mediate(rt, alloc, job, policies, machine, workers.clamp(1, 16))
+}
+
+/// The same, with requests that are lent.
+pub fn lent_answers<
+    'q,
+    M: Machine<State = Label, Request = Request, Answer = Answer> + Sync,
+    R: Threads + Wait + Sync,
+>(
+    rt: &R,
+    alloc: Global,
+    job: &'q Job,
+    policies: &[Compiled],
+    machine: &'q M,
+    workers: u32,
+) -> Result<Vec<Vec<Answered<Lent<'q, M>>>>, MediateFault> {
+    mediate_lent(rt, alloc, job, policies, machine, workers.clamp(1, 16))
 }
 
 fn check<R: Read, W: Write>(alloc: Global, reader: &mut R, writer: &mut W) -> Result<(), RunFault> {

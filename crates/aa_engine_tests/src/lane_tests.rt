@@ -4,8 +4,8 @@ ghost use Rattle.std.specs.Prelude.{◌≡◌};
 ghost use Rattle.aa_lane.specs.Ends.{known};
 
 use crate::jobs::{FIRST_JOB, job_of, policies_of};
-use aa_jobs::{Job, Work};
-use aa_lane::{Ends, Lane, LaneFault, Owner, SendFault, Served, Server};
+use aa_jobs::{Job, Task, Work};
+use aa_lane::{Answered, Ends, Lane, LaneFault, Owner, SendFault, Served, Server};
 use aa_mediate::Mediator;
 use aa_requests::{Label, Request};
 use std::alloc::Global;
@@ -37,19 +37,23 @@ fn copy_of(request: &Request) -> Option<Request> {
     }
 }
 
-fn work_of(job: &Job, number: usize) -> Option<&Work> {
-    match job.tasks.as_slice().first() {
-        Some(task) => task.requests.as_slice().get(number),
+fn request_at(works: &[Work], number: usize) -> Option<Request> {
+    match works.get(number) {
+        Some(Work::Ask(request)) => copy_of(request),
+        _ => None,
+    }
+}
+
+fn request_of_first(tasks: &[Task], number: usize) -> Option<Request> {
+    match tasks.first() {
+        Some(task) => request_at(task.requests.as_slice(), number),
         None => None,
     }
 }
 
 /// A copy of a request of the job's first task.
 fn request_of(job: &Job, number: usize) -> Option<Request> {
-    match work_of(job, number) {
-        Some(Work::Ask(request)) => copy_of(request),
-        _ => None,
-    }
+    request_of_first(job.tasks.as_slice(), number)
 }
 
 /// The permissions that it asks for: 1 is to read, 2 to write.
@@ -78,11 +82,21 @@ fn sends<'p>(
     }
 }
 
+fn collected<'p>(
+    lane: &Lane<Mediator<'p>>,
+    owner: &mut Owner<Mediator<'p>>,
+) -> Option<Answered<Mediator<'p>>>
+    requires { owner.old.lane ≡ known lane.now }
+    ensures { owner.new.lane ≡ known lane.now }
+{
+    owner.collect(lane)
+}
+
 fn collects<'p>(lane: &Lane<Mediator<'p>>, owner: &mut Owner<Mediator<'p>>) -> Outcome
     requires { owner.old.lane ≡ known lane.now }
     ensures { owner.new.lane ≡ known lane.now }
 {
-    match owner.collect(lane) {
+    match collected(lane, owner) {
         Some(given) => Outcome::Got(given.number, asked_by(&given.request), given.answer.granted),
         None => Outcome::Nothing,
     }
@@ -102,6 +116,46 @@ fn serves<'p>(
     }
 }
 
+fn is_sent<'p>(
+    rt: &impl Abort,
+    lane: &Lane<Mediator<'p>>,
+    owner: &mut Owner<Mediator<'p>>,
+    job: &Job,
+    number: usize,
+    wanted: Outcome,
+)
+    requires { owner.old.lane ≡ known lane.now }
+    ensures { owner.new.lane ≡ known lane.now }
+{
+    assert_eq!(rt; sends(lane, owner, job, number), wanted);
+}
+
+fn is_collected<'p>(
+    rt: &impl Abort,
+    lane: &Lane<Mediator<'p>>,
+    owner: &mut Owner<Mediator<'p>>,
+    wanted: Outcome,
+)
+    requires { owner.old.lane ≡ known lane.now }
+    ensures { owner.new.lane ≡ known lane.now }
+{
+    assert_eq!(rt; collects(lane, owner), wanted);
+}
+
+fn is_served<'p>(
+    rt: &impl Abort,
+    lane: &Lane<Mediator<'p>>,
+    server: Server<Mediator<'p>>,
+    wanted: Outcome,
+) -> Server<Mediator<'p>>
+    requires { server.lane ≡ known lane.now }
+    ensures { result.lane ≡ known lane.now }
+{
+    let (server, outcome) = serves(lane, server);
+    assert_eq!(rt; outcome, wanted);
+    server
+}
+
 /// A request is refused while another is on its way, and the lane is shut with the second in it.
 fn fills<'p>(
     rt: &impl Abort,
@@ -115,15 +169,18 @@ fn fills<'p>(
     ensures owner { owner.new.lane ≡ known lane.now }
     ensures server { result.lane ≡ known lane.now }
 {
-    assert_eq!(rt; sends(lane, owner, job, READ), Outcome::Sent(0));
-    assert_eq!(rt;
-        sends(lane, owner, job, WRITE),
-        Outcome::Unsent(SendFault::Full, 2)
+    is_sent(rt, lane, owner, job, READ, Outcome::Sent(0));
+    is_sent(
+        rt,
+        lane,
+        owner,
+        job,
+        WRITE,
+        Outcome::Unsent(SendFault::Full, 2),
     );
-    let (server, outcome) = serves(lane, server);
-    assert_eq!(rt; outcome, Outcome::Did);
-    assert_eq!(rt; collects(lane, owner), Outcome::Got(0, 1, true));
-    assert_eq!(rt; sends(lane, owner, job, WRITE), Outcome::Sent(1));
+    let server = is_served(rt, lane, server, Outcome::Did);
+    is_collected(rt, lane, owner, Outcome::Got(0, 1, true));
+    is_sent(rt, lane, owner, job, WRITE, Outcome::Sent(1));
     server
 }
 
@@ -140,20 +197,26 @@ fn empties<'p>(
     ensures owner { owner.new.lane ≡ known lane.now }
     ensures server { result.lane ≡ known lane.now }
 {
-    let (server, outcome) = serves(lane, server);
-    assert_eq!(rt; outcome, Outcome::Did);
-    assert_eq!(rt;
-        sends(lane, owner, job, READ),
-        Outcome::Unsent(SendFault::Full, 1)
+    let server = is_served(rt, lane, server, Outcome::Did);
+    is_sent(
+        rt,
+        lane,
+        owner,
+        job,
+        READ,
+        Outcome::Unsent(SendFault::Full, 1),
     );
-    assert_eq!(rt; collects(lane, owner), Outcome::Got(1, 2, false));
-    assert_eq!(rt;
-        sends(lane, owner, job, READ),
-        Outcome::Unsent(SendFault::Closed, 1)
+    is_collected(rt, lane, owner, Outcome::Got(1, 2, false));
+    is_sent(
+        rt,
+        lane,
+        owner,
+        job,
+        READ,
+        Outcome::Unsent(SendFault::Closed, 1),
     );
-    let (server, outcome) = serves(lane, server);
-    assert_eq!(rt; outcome, Outcome::Settled);
-    assert_eq!(rt; collects(lane, owner), Outcome::Nothing);
+    let server = is_served(rt, lane, server, Outcome::Settled);
+    is_collected(rt, lane, owner, Outcome::Nothing);
     server
 }
 

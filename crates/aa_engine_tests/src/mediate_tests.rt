@@ -1,7 +1,7 @@
 //! Tasks that a program has answered by calls of its own.
 
-use crate::jobs::{MOVING_JOB, job_of, policies_of};
-use aa_engine::{Answered, MediateFault, mediate, mediate_lent};
+use crate::jobs::{MOVING_JOB, Requests, answers, job_of, lent_answers, policies_of};
+use aa_engine::{Answered, MediateFault};
 use aa_jobs::Job;
 use aa_machine::Machine;
 use aa_mediate::Mediator;
@@ -11,13 +11,6 @@ use std::alloc::Global;
 use std::process::Abort;
 use std::sync::Wait;
 use std::thread::Threads;
-
-/// Whether requests are lent to the lanes, or copied.
-#[derive(Clone, Copy)]
-enum Requests {
-    Copied,
-    Lent,
-}
 
 const BOTH: [Requests; 2] = [Requests::Copied, Requests::Lent];
 
@@ -32,8 +25,12 @@ const MOVES: [&[(bool, Label)]; 3] = [
     &[],
 ];
 
+fn is_label(label: Label, wanted: Label) -> bool {
+    label == wanted
+}
+
 fn is_wanted(answer: &Answer, wanted: &(bool, Label)) -> bool {
-    answer.granted == wanted.0 && answer.label == wanted.1
+    answer.granted == wanted.0 && is_label(answer.label, wanted.1)
 }
 
 fn is_answered_so<M: Machine<Answer = Answer>>(
@@ -78,14 +75,13 @@ fn moves<R: Threads + Wait + Sync>(
     workers: u32,
 ) -> Result<bool, MediateFault> {
     let mediator = Mediator::new(policies);
-    let workers = workers.clamp(1, 16);
     match requests {
         Requests::Copied => {
-            let rows = mediate(rt, alloc, job, policies, &mediator, workers)?;
+            let rows = answers(rt, alloc, job, policies, &mediator, workers)?;
             Ok(are_answered_so(rows.as_slice(), &MOVES))
         }
         Requests::Lent => {
-            let rows = mediate_lent(rt, alloc, job, policies, &mediator, workers)?;
+            let rows = lent_answers(rt, alloc, job, policies, &mediator, workers)?;
             Ok(are_answered_so(rows.as_slice(), &MOVES))
         }
     }

@@ -1,7 +1,0 @@
-use denote.Param.Send.{sendable}
-use Rattle.std.proofs.Crossing.{crosses}
-use Rattle.aa_mediate.proofs.Shared.{mediator_sync}
-use Rattle.aa_engine_tests.proofs.gate_tests.granted_lent_by.Goals as goal
-
-pub mediate_lent-answers-requires-sync-M : goal.mediate_lent-answers-requires-sync-M
-mediate_lent-answers-requires-sync-M g c κs within = search (mediator_sync, sendable, crosses) depth 20
