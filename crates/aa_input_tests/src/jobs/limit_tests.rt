@@ -1,6 +1,8 @@
 //! How large a job may be.
 
-use crate::jobs::texts::{Answer, Frame, MEMBERS, answers_each, fault, fault_of, framed};
+use crate::jobs::texts::{
+    Answer, Frame, MEMBERS, answers_each, fault, fault_of, framed, push_part,
+};
 use aa_jobs::JobFault;
 use std::alloc::{AllocError, Global};
 use std::process::Abort;
@@ -24,8 +26,7 @@ fn numbers_have_limits(rt: HostRuntime) -> Result<(), Fail> {
         (r#","capacity":1024"#, None),
         (r#","capacity":1025"#, Some(JobFault::TooLarge)),
     ];
-    answers_each(&rt, rt.alloc(), &MEMBERS, ROWS)?;
-    Ok(())
+    answers_each(&rt, rt.alloc(), &MEMBERS, ROWS)
 }
 
 /// A text with an item so many times: what stands before them, the item, what stands between two of them, and what stands
@@ -41,9 +42,9 @@ struct Repetition {
 fn push_items(text: &mut String, list: &Repetition, count: u32) -> Result<(), AllocError> {
     for i in 0..count {
         if 0 < i {
-            text.push_str(list.between)?;
+            push_part(text, list.between)?;
         }
-        text.push_str(list.item)?;
+        push_part(text, list.item)?;
     }
     Ok(())
 }
@@ -52,7 +53,7 @@ fn push_items(text: &mut String, list: &Repetition, count: u32) -> Result<(), Al
 fn repeated(alloc: Global, list: &Repetition, count: u32) -> Result<String, AllocError> {
     let mut text = String::from_str(alloc, list.front)?;
     push_items(&mut text, list, count)?;
-    text.push_str(list.end)?;
+    push_part(&mut text, list.end)?;
     Ok(text)
 }
 
@@ -72,12 +73,7 @@ fn has_limit(
 }
 
 /// The text with each number of items is a job, or refused with the fault beside it.
-fn has_limits(
-    rt: &impl Abort,
-    alloc: Global,
-    list: &Repetition,
-    rows: &[Row],
-) -> Result<(), AllocError> {
+fn has_limits(rt: &impl Abort, alloc: Global, list: &Repetition, rows: &[Row]) -> Result<(), Fail> {
     for (count, want) in rows {
         has_limit(rt, alloc, list, *count, *want)?;
     }
@@ -100,8 +96,7 @@ fn a_name_has_1_to_1024_bytes(rt: HostRuntime) -> Result<(), Fail> {
         (1024, None),
         (1025, Some(JobFault::BadRequest)),
     ];
-    has_limits(&rt, rt.alloc(), &NAME, ROWS)?;
-    Ok(())
+    has_limits(&rt, rt.alloc(), &NAME, ROWS)
 }
 
 /// A job that asks for a path of a slash and letters.
@@ -115,8 +110,7 @@ const PATH: Repetition = Repetition {
 #[test]
 fn a_path_has_at_most_4095_bytes(rt: HostRuntime) -> Result<(), Fail> {
     const ROWS: &[Row] = &[(4094, None), (4095, Some(JobFault::BadRequest))];
-    has_limits(&rt, rt.alloc(), &PATH, ROWS)?;
-    Ok(())
+    has_limits(&rt, rt.alloc(), &PATH, ROWS)
 }
 
 const POLICIES: Repetition = Repetition {
@@ -134,8 +128,7 @@ fn a_job_has_1_to_16_policies(rt: HostRuntime) -> Result<(), Fail> {
         (16, None),
         (17, Some(JobFault::TooLarge)),
     ];
-    has_limits(&rt, rt.alloc(), &POLICIES, ROWS)?;
-    Ok(())
+    has_limits(&rt, rt.alloc(), &POLICIES, ROWS)
 }
 
 const TASKS: Repetition = Repetition {
@@ -152,9 +145,13 @@ const ITEMS: Repetition = Repetition {
     end: "]}]}",
 };
 
+fn member_of(alloc: Global, number: u32) -> Result<String, AllocError> {
+    format!(in alloc; ",\"{number}\":\"\"")
+}
+
 fn push_member(alloc: Global, members: &mut String, number: u32) -> Result<(), AllocError> {
-    let member = format!(in alloc; ",\"{number}\":\"\"")?;
-    members.push_str(member.as_str())
+    let member = member_of(alloc, number)?;
+    push_part(members, member.as_str())
 }
 
 /// So many included texts, with the names of numbers but for the first.
@@ -178,7 +175,7 @@ fn has_include_limit(
     alloc: Global,
     count: u32,
     want: Option<JobFault>,
-) -> Result<(), AllocError> {
+) -> Result<(), Fail> {
     let members = members_of(alloc, count)?;
     let text = framed(alloc, &INCLUDES, members.as_str())?;
     assert_eq!(rt; fault(alloc, text.as_str()), want, "of {count}");
@@ -193,8 +190,7 @@ fn lists_have_limits(rt: HostRuntime) -> Result<(), Fail> {
     has_include_limit(&rt, alloc, 4095, None)?;
     has_include_limit(&rt, alloc, 4096, Some(JobFault::TooLarge))?;
     const ITEM_ROWS: &[Row] = &[(65_536, None), (65_537, Some(JobFault::TooLarge))];
-    has_limits(&rt, alloc, &ITEMS, ITEM_ROWS)?;
-    Ok(())
+    has_limits(&rt, alloc, &ITEMS, ITEM_ROWS)
 }
 
 /// A job with a policy of blanks.
@@ -226,20 +222,33 @@ fn texts_have_limits(rt: HostRuntime) -> Result<(), Fail> {
     const ROWS: &[Row] = &[(1_048_576, None), (1_048_577, Some(JobFault::TooLarge))];
     has_limits(&rt, rt.alloc(), &POLICY, ROWS)?;
     has_limits(&rt, rt.alloc(), &INCLUDE, ROWS)?;
-    has_limits(&rt, rt.alloc(), &LAST_POLICY, ROWS)?;
+    has_limits(&rt, rt.alloc(), &LAST_POLICY, ROWS)
+}
+
+fn blanks(alloc: Global, count: usize) -> Result<Vec<u8>, AllocError> {
+    vec![in alloc; b' '; count]
+}
+
+/// So many blanks are refused with that fault.
+fn refuses_blanks(
+    rt: &impl Abort,
+    alloc: Global,
+    count: usize,
+    want: JobFault,
+) -> Result<(), Fail> {
+    let blanks = blanks(alloc, count)?;
+    assert_eq!(rt;
+        fault_of(alloc, blanks.as_slice()),
+        Some(want),
+        "of {count}"
+    );
     Ok(())
 }
 
 #[test]
 fn a_job_has_at_most_16777216_bytes(rt: HostRuntime) -> Result<(), Fail> {
-    let blanks = vec![in rt.alloc(); b' '; 16_777_217]?;
-    let bytes = blanks.as_slice();
-    assert_eq!(rt; fault_of(rt.alloc(), bytes), Some(JobFault::TooLarge));
-    let Some(bytes) = bytes.get(1..) else {
-        return Ok(());
-    };
-    assert_eq!(rt; fault_of(rt.alloc(), bytes), Some(JobFault::NotJson));
-    Ok(())
+    refuses_blanks(&rt, rt.alloc(), 16_777_217, JobFault::TooLarge)?;
+    refuses_blanks(&rt, rt.alloc(), 16_777_216, JobFault::NotJson)
 }
 
 fn push_times(text: &mut String, item: &str, count: u32) -> Result<(), AllocError> {
@@ -258,12 +267,7 @@ fn nested(alloc: Global, depth: u32) -> Result<String, AllocError> {
 }
 
 /// Lists so deep are refused with that fault.
-fn is_refused_at(
-    rt: &impl Abort,
-    alloc: Global,
-    depth: u32,
-    want: JobFault,
-) -> Result<(), AllocError> {
+fn is_refused_at(rt: &impl Abort, alloc: Global, depth: u32, want: JobFault) -> Result<(), Fail> {
     let text = nested(alloc, depth)?;
     assert_eq!(rt; fault(alloc, text.as_str()), Some(want), "at {depth}");
     Ok(())
@@ -272,8 +276,7 @@ fn is_refused_at(
 #[test]
 fn nesting_is_read_to_its_depth(rt: HostRuntime) -> Result<(), Fail> {
     is_refused_at(&rt, rt.alloc(), 127, JobFault::BadShape)?;
-    is_refused_at(&rt, rt.alloc(), 128, JobFault::NotJson)?;
-    Ok(())
+    is_refused_at(&rt, rt.alloc(), 128, JobFault::NotJson)
 }
 
 /// A job that is nothing but this text over and over, as often as there is room for it.

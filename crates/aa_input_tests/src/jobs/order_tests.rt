@@ -1,6 +1,6 @@
 //! Which of several faults counts.
 
-use crate::jobs::texts::fault;
+use crate::jobs::texts::expect_fault;
 use aa_jobs::JobFault;
 use std::alloc::Global;
 use std::process::Abort;
@@ -8,7 +8,7 @@ use std::process::Abort;
 /// Each text is refused with the fault beside it.
 fn refuses_so(rt: &impl Abort, alloc: Global, rows: &[(&str, JobFault)]) {
     for (text, want) in rows {
-        assert_eq!(rt; fault(alloc, text), Some(*want), "at {text}");
+        expect_fault(rt, alloc, text, Some(*want), text);
     }
 }
 

@@ -1,22 +1,13 @@
 //! Jobs of several policies.
 
-use crate::jobs::shown::{head_in, policies_of_tasks, tasks_in};
+use crate::jobs::shown::{has_head, has_tasks, policies_of_tasks};
 use crate::jobs::texts::{Answer, Frame, answers_each};
 use aa_jobs::JobFault;
-use std::alloc::Global;
-use std::process::Abort;
 use std::test::Fail;
 
 /// A job of three policies, with tasks in the last and in the first.
 const SEVERAL: &str =
     r#"{"policies":["a","b","c"],"tasks":[{"label":"p","policy":2,"requests":[{"reload":1},"exit",{"reload":2}]},{"requests":[],"label":"q"}]}"#;
-
-/// The job has that head.
-fn has_head(rt: &impl Abort, alloc: Global, text: &str, wanted: &str) -> Result<(), Fail> {
-    let head = head_in(alloc, text)?;
-    assert_eq!(rt; head.as_slice(), wanted.as_bytes(), "at {text}");
-    Ok(())
-}
 
 #[test]
 fn reads_several_policies_in_order(rt: HostRuntime) -> Result<(), Fail> {
@@ -53,10 +44,12 @@ fn reads_the_policy_of_each_task(rt: HostRuntime) -> Result<(), Fail> {
 
 #[test]
 fn reads_requests_to_reload(rt: HostRuntime) -> Result<(), Fail> {
-    let tasks = tasks_in(rt.alloc(), SEVERAL)?;
-    let wanted = b"task p 2\nreload 1\nexit\nreload 2\ntask q 0\n";
-    assert_eq!(rt; tasks.as_slice(), wanted.as_slice());
-    Ok(())
+    has_tasks(
+        &rt,
+        rt.alloc(),
+        SEVERAL,
+        "task p 2\nreload 1\nexit\nreload 2\ntask q 0\n",
+    )
 }
 
 /// A job of three policies, whose task has further members.
@@ -103,6 +96,5 @@ fn a_policy_that_is_asked_for_is_there(rt: HostRuntime) -> Result<(), Fail> {
             Some(JobFault::BadShape),
         ),
     ];
-    answers_each(&rt, rt.alloc(), &TASK, ROWS)?;
-    Ok(())
+    answers_each(&rt, rt.alloc(), &TASK, ROWS)
 }

@@ -1,6 +1,6 @@
 //! What is read from a job.
 
-use crate::jobs::shown::{asks_each, events_in, head_in, tasks_in};
+use crate::jobs::shown::{asks_each, has_events, has_head, has_tasks};
 use crate::jobs::texts::{Answer, Frame, MEMBERS, WORKED, answers_each};
 use aa_jobs::JobFault;
 use std::alloc::{AllocError, Global};
@@ -9,20 +9,15 @@ use std::test::Fail;
 
 #[test]
 fn reads_a_policy_and_two_requests(rt: HostRuntime) -> Result<(), Fail> {
-    let head = head_in(rt.alloc(), WORKED)?;
-    let wanted = b"policy profile p { /etc/passwd r, }\nstates 4096 capacity 1";
-    assert_eq!(rt; head.as_slice(), wanted.as_slice());
-    let events = events_in(rt.alloc(), WORKED)?;
-    assert!(rt; events.is_empty());
-    Ok(())
+    let head = "policy profile p { /etc/passwd r, }\nstates 4096 capacity 1";
+    has_head(&rt, rt.alloc(), WORKED, head)?;
+    has_events(&rt, rt.alloc(), WORKED, "")
 }
 
 #[test]
 fn reads_the_requests_of_a_task(rt: HostRuntime) -> Result<(), Fail> {
-    let tasks = tasks_in(rt.alloc(), WORKED)?;
-    let wanted = b"task p 0\nfile /etc/passwd 1\nfile /etc/passwd 2\n";
-    assert_eq!(rt; tasks.as_slice(), wanted.as_slice());
-    Ok(())
+    let tasks = "task p 0\nfile /etc/passwd 1\nfile /etc/passwd 2\n";
+    has_tasks(&rt, rt.alloc(), WORKED, tasks)
 }
 
 /// A job with all that one may have.
@@ -33,27 +28,20 @@ const WHOLE: &str =
 
 #[test]
 fn reads_each_optional_member(rt: HostRuntime) -> Result<(), Fail> {
-    let head = head_in(rt.alloc(), WHOLE)?;
-    let wanted =
-        b"policy A\n\ninclude Z 0\ninclude a/x 1\ninclude b 2\nstates 1000000 capacity 1024";
-    assert_eq!(rt; head.as_slice(), wanted.as_slice());
-    Ok(())
+    let head = "policy A\n\ninclude Z 0\ninclude a/x 1\ninclude b 2\nstates 1000000 capacity 1024";
+    has_head(&rt, rt.alloc(), WHOLE, head)
 }
 
 #[test]
 fn reads_each_kind_of_event(rt: HostRuntime) -> Result<(), Fail> {
-    let events = events_in(rt.alloc(), WHOLE)?;
-    let wanted = b"0 send\n1 take\n0 finish\n1 collect\n0 shut\n";
-    assert_eq!(rt; events.as_slice(), wanted.as_slice());
-    Ok(())
+    let events = "0 send\n1 take\n0 finish\n1 collect\n0 shut\n";
+    has_events(&rt, rt.alloc(), WHOLE, events)
 }
 
 #[test]
 fn reads_exits_between_requests(rt: HostRuntime) -> Result<(), Fail> {
-    let tasks = tasks_in(rt.alloc(), WHOLE)?;
-    let wanted = b"task unconfined 0\ntask  0\nexit\nfile / 55 owned\nexit\n";
-    assert_eq!(rt; tasks.as_slice(), wanted.as_slice());
-    Ok(())
+    let tasks = "task unconfined 0\ntask  0\nexit\nfile / 55 owned\nexit\n";
+    has_tasks(&rt, rt.alloc(), WHOLE, tasks)
 }
 
 #[test]
@@ -80,8 +68,7 @@ fn the_last_value_of_a_key_counts(rt: HostRuntime) -> Result<(), Fail> {
         (r#","states":7,"states":"a""#, Some(JobFault::BadShape)),
         (r#","policy":1"#, Some(JobFault::BadShape)),
     ];
-    answers_each(&rt, rt.alloc(), &MEMBERS, ROWS)?;
-    Ok(())
+    answers_each(&rt, rt.alloc(), &MEMBERS, ROWS)
 }
 
 /// A job of one task with one event.
@@ -97,8 +84,7 @@ fn an_event_names_a_task_that_is_there(rt: HostRuntime) -> Result<(), Fail> {
         (r#"1,"collect""#, Some(JobFault::BadRequest)),
         (r#"0,"sent""#, Some(JobFault::BadRequest)),
     ];
-    answers_each(&rt, rt.alloc(), &EVENT, ROWS)?;
-    Ok(())
+    answers_each(&rt, rt.alloc(), &EVENT, ROWS)
 }
 
 /// How a fault is told.
@@ -111,11 +97,7 @@ fn number_of(fault: JobFault) -> u8 {
 }
 
 /// Each fault has the number and the name beside it.
-fn are_told(
-    rt: &impl Abort,
-    alloc: Global,
-    rows: &[(JobFault, u8, &str)],
-) -> Result<(), AllocError> {
+fn are_told(rt: &impl Abort, alloc: Global, rows: &[(JobFault, u8, &str)]) -> Result<(), Fail> {
     for (fault, number, shown) in rows {
         assert_eq!(rt; number_of(*fault), *number);
         let text = told(alloc, *fault)?;
@@ -133,6 +115,5 @@ fn faults_have_numbers_and_names(rt: HostRuntime) -> Result<(), Fail> {
         (JobFault::BadRequest, 4, "job 4 BadRequest"),
         (JobFault::TooLarge, 5, "job 5 TooLarge"),
     ];
-    are_told(&rt, rt.alloc(), ROWS)?;
-    Ok(())
+    are_told(&rt, rt.alloc(), ROWS)
 }

@@ -1,7 +1,7 @@
 //! What a job says, in lines that tests compare. The helpers have no clauses, so that a test's proof stays short.
 
 use crate::jobs::texts::{ITEMS, framed, job_of};
-use aa_jobs::{EventName, Job, Task, Work};
+use aa_jobs::{Event, EventName, Job, Task, Work};
 use aa_requests::{ExecRequest, FileRequest, LinkRequest, Request};
 use std::alloc::{AllocError, Global};
 use std::process::Abort;
@@ -26,26 +26,27 @@ fn push_number(lines: &mut Vec<u8>, before: &[u8], number: u32) -> Result<(), Al
     push_named(lines, before, digits.as_bytes())
 }
 
-fn owner(owned: bool) -> &'static [u8] {
-    if owned { b" owned" } else { b"" }
+fn push_owner(lines: &mut Vec<u8>, owned: bool) -> Result<(), AllocError> {
+    let word = if owned { " owned" } else { "" };
+    push(lines, word.as_bytes())
 }
 
 /// The path, the mask's number, and whether the file is the task's own.
 fn push_file(lines: &mut Vec<u8>, file: &FileRequest) -> Result<(), AllocError> {
     push_named(lines, b"file ", file.path())?;
     push_number(lines, b" ", u32::from(file.mask().0))?;
-    push(lines, owner(file.owned()))
+    push_owner(lines, file.owned())
 }
 
 fn push_link(lines: &mut Vec<u8>, link: &LinkRequest) -> Result<(), AllocError> {
     push_named(lines, b"link ", link.link())?;
     push_named(lines, b" to ", link.target())?;
-    push(lines, owner(link.owned()))
+    push_owner(lines, link.owned())
 }
 
 fn push_exec(lines: &mut Vec<u8>, exec: &ExecRequest) -> Result<(), AllocError> {
     push_named(lines, b"exec ", exec.path())?;
-    push(lines, owner(exec.owned()))
+    push_owner(lines, exec.owned())
 }
 
 fn push_socket(lines: &mut Vec<u8>, family: &str, kind: &str) -> Result<(), AllocError> {
@@ -84,18 +85,23 @@ fn push_task(lines: &mut Vec<u8>, task: &Task) -> Result<(), AllocError> {
     Ok(())
 }
 
-fn word_of(name: EventName) -> &'static [u8] {
+fn word_of(name: EventName) -> &'static str {
     match name {
-        EventName::Send => b" send\n",
-        EventName::Take => b" take\n",
-        EventName::Finish => b" finish\n",
-        EventName::Collect => b" collect\n",
-        EventName::Shut => b" shut\n",
+        EventName::Send => " send\n",
+        EventName::Take => " take\n",
+        EventName::Finish => " finish\n",
+        EventName::Collect => " collect\n",
+        EventName::Shut => " shut\n",
     }
 }
 
+fn push_event(lines: &mut Vec<u8>, event: &Event) -> Result<(), AllocError> {
+    push_number(lines, b"", event.task)?;
+    push(lines, word_of(event.name).as_bytes())
+}
+
 /// Each task, with what it asks.
-pub fn tasks_in(alloc: Global, text: &str) -> Result<Vec<u8>, Fail> {
+fn tasks_in(alloc: Global, text: &str) -> Result<Vec<u8>, Fail> {
     let job = job_of(alloc, text)?;
     let mut lines = Vec::new(alloc);
     for task in job.tasks.as_slice() {
@@ -105,12 +111,11 @@ pub fn tasks_in(alloc: Global, text: &str) -> Result<Vec<u8>, Fail> {
 }
 
 /// Each event: the number of its task, and its name.
-pub fn events_in(alloc: Global, text: &str) -> Result<Vec<u8>, Fail> {
+fn events_in(alloc: Global, text: &str) -> Result<Vec<u8>, Fail> {
     let job = job_of(alloc, text)?;
     let mut lines = Vec::new(alloc);
     for event in job.events.as_slice() {
-        push_number(&mut lines, b"", event.task)?;
-        push(&mut lines, word_of(event.name))?;
+        push_event(&mut lines, event)?;
     }
     Ok(lines)
 }
@@ -138,7 +143,7 @@ fn push_includes(lines: &mut Vec<u8>, job: &Job) -> Result<(), AllocError> {
 }
 
 /// The policies, the included texts, and the numbers.
-pub fn head_in(alloc: Global, text: &str) -> Result<Vec<u8>, Fail> {
+fn head_in(alloc: Global, text: &str) -> Result<Vec<u8>, Fail> {
     let job = job_of(alloc, text)?;
     let mut lines = Vec::new(alloc);
     push_policies(&mut lines, &job)?;
@@ -148,23 +153,56 @@ pub fn head_in(alloc: Global, text: &str) -> Result<Vec<u8>, Fail> {
     Ok(lines)
 }
 
+fn push_policy(policies: &mut Vec<u16>, task: &Task) -> Result<(), AllocError> {
+    policies.push(task.policy)?;
+    Ok(())
+}
+
 /// The policy of each task.
 pub fn policies_of_tasks(alloc: Global, text: &str) -> Result<Vec<u16>, Fail> {
     let job = job_of(alloc, text)?;
     let mut policies = Vec::new(alloc);
     for task in job.tasks.as_slice() {
-        policies.push(task.policy)?;
+        push_policy(&mut policies, task)?;
     }
     Ok(policies)
+}
+
+fn expect_lines(rt: &impl Abort, lines: &[u8], wanted: &str, text: &str) {
+    assert_eq!(rt; lines, wanted.as_bytes(), "at {text}");
+}
+
+/// The job has that head.
+pub fn has_head(rt: &impl Abort, alloc: Global, text: &str, wanted: &str) -> Result<(), Fail> {
+    let head = head_in(alloc, text)?;
+    expect_lines(rt, head.as_slice(), wanted, text);
+    Ok(())
+}
+
+/// The job has these tasks.
+pub fn has_tasks(rt: &impl Abort, alloc: Global, text: &str, wanted: &str) -> Result<(), Fail> {
+    let tasks = tasks_in(alloc, text)?;
+    expect_lines(rt, tasks.as_slice(), wanted, text);
+    Ok(())
+}
+
+/// The job has these events.
+pub fn has_events(rt: &impl Abort, alloc: Global, text: &str, wanted: &str) -> Result<(), Fail> {
+    let events = events_in(alloc, text)?;
+    expect_lines(rt, events.as_slice(), wanted, text);
+    Ok(())
+}
+
+/// One task that asks for what the line says.
+fn task_of(alloc: Global, line: &str) -> Result<String, AllocError> {
+    format!(in alloc; "task p 0\n{line}\n")
 }
 
 /// A job of one task with that item asks for what the line says.
 fn asks(rt: &impl Abort, alloc: Global, item: &str, line: &str) -> Result<(), Fail> {
     let text = framed(alloc, &ITEMS, item)?;
-    let shown = tasks_in(alloc, text.as_str())?;
-    let wanted = format!(in alloc; "task p 0\n{line}\n")?;
-    assert_eq!(rt; shown.as_slice(), wanted.as_bytes(), "at {item}");
-    Ok(())
+    let wanted = task_of(alloc, line)?;
+    has_tasks(rt, alloc, text.as_str(), wanted.as_str())
 }
 
 /// A job of one task with each of these items asks for what the line beside it says.

@@ -29,17 +29,18 @@ pub const ITEMS: Frame = Frame {
 /// The fault of a row, or that its text is a job.
 pub type Answer<'a> = (&'a str, Option<JobFault>);
 
+fn read(alloc: Global, bytes: &[u8]) -> Result<Job, JobFault> {
+    read_job(alloc, bytes)
+}
+
 /// The job that a text is.
-pub fn job_of(alloc: Global, text: &str) -> Result<Job, Fail> {
-    match read_job(alloc, text.as_bytes()) {
-        Ok(job) => Ok(job),
-        Err(_) => Err(Fail::new("it is no job")),
-    }
+pub fn job_of(alloc: Global, text: &str) -> Result<Job, JobFault> {
+    read(alloc, text.as_bytes())
 }
 
 /// Why bytes are refused as a job, if they are.
 pub fn fault_of(alloc: Global, bytes: &[u8]) -> Option<JobFault> {
-    match read_job(alloc, bytes) {
+    match read(alloc, bytes) {
         Ok(_) => None,
         Err(fault) => Some(fault),
     }
@@ -50,18 +51,35 @@ pub fn fault(alloc: Global, text: &str) -> Option<JobFault> {
     fault_of(alloc, text.as_bytes())
 }
 
+/// Puts a part behind a text.
+pub fn push_part(text: &mut String, part: &str) -> Result<(), AllocError> {
+    text.push_str(part)
+}
+
 /// The text in its frame.
 pub fn framed(alloc: Global, frame: &Frame, text: &str) -> Result<String, AllocError> {
     let mut whole = String::from_str(alloc, frame.front)?;
-    whole.push_str(text)?;
-    whole.push_str(frame.end)?;
+    push_part(&mut whole, text)?;
+    push_part(&mut whole, frame.end)?;
     Ok(whole)
+}
+
+/// The text, which is told so, is a job, or refused with that fault.
+pub fn expect_fault(
+    rt: &impl Abort,
+    alloc: Global,
+    text: &str,
+    want: Option<JobFault>,
+    told: &str,
+) {
+    assert_eq!(rt; fault(alloc, text), want, "at {told}");
 }
 
 /// Each text is refused as a job, with this fault.
 pub fn refuses_each(rt: &impl Abort, alloc: Global, want: JobFault, texts: &[&str]) {
+    let want = Some(want);
     for text in texts {
-        assert_eq!(rt; fault(alloc, text), Some(want), "at {text}");
+        expect_fault(rt, alloc, text, want, text);
     }
 }
 
@@ -74,7 +92,7 @@ fn answers(
     want: Option<JobFault>,
 ) -> Result<(), AllocError> {
     let whole = framed(alloc, frame, text)?;
-    assert_eq!(rt; fault(alloc, whole.as_str()), want, "at {text}");
+    expect_fault(rt, alloc, whole.as_str(), want, text);
     Ok(())
 }
 
@@ -84,7 +102,7 @@ pub fn answers_each(
     alloc: Global,
     frame: &Frame,
     rows: &[Answer],
-) -> Result<(), AllocError> {
+) -> Result<(), Fail> {
     for (text, want) in rows {
         answers(rt, alloc, frame, text, *want)?;
     }
@@ -98,9 +116,10 @@ pub fn refuses_framed(
     frame: &Frame,
     want: JobFault,
     texts: &[&str],
-) -> Result<(), AllocError> {
+) -> Result<(), Fail> {
+    let want = Some(want);
     for text in texts {
-        answers(rt, alloc, frame, text, Some(want))?;
+        answers(rt, alloc, frame, text, want)?;
     }
     Ok(())
 }
