@@ -10,4 +10,6 @@ mod heads;
 #[cfg(test)]
 mod policy;
 #[cfg(test)]
+mod texts;
+#[cfg(test)]
 mod words;

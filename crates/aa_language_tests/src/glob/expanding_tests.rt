@@ -1,35 +1,51 @@
 //! Which patterns words with variables expand to.
 
+use crate::texts::{add, expansions, is_matched, set};
 use aa_faults::PolicyKind;
-use aa_glob::{Vars, expand};
+use aa_glob::{Pattern, Vars};
 use std::alloc::Global;
 use std::process::Abort;
 
 fn set_to(vars: &mut Vars, name: &[u8], values: &[&[u8]]) -> Option<PolicyKind> {
-    vars.set(name, values).err()
+    set(vars, name, values).err()
 }
 
 fn add_to(vars: &mut Vars, name: &[u8], values: &[&[u8]]) -> Option<PolicyKind> {
-    vars.add(name, values).err()
+    add(vars, name, values).err()
+}
+
+/// The variable is set to these values, or refused for that.
+fn is_set(
+    rt: &impl Abort,
+    vars: &mut Vars,
+    name: &[u8],
+    values: &[&[u8]],
+    wanted: Option<PolicyKind>,
+) {
+    assert_eq!(rt; set_to(vars, name, values), wanted);
+}
+
+/// These values are added to the variable, or refused for that.
+fn is_added(
+    rt: &impl Abort,
+    vars: &mut Vars,
+    name: &[u8],
+    values: &[&[u8]],
+    wanted: Option<PolicyKind>,
+) {
+    assert_eq!(rt; add_to(vars, name, values), wanted);
 }
 
 #[test]
 fn variables_are_set_once_and_added_to_once_they_are_there(rt: HostRuntime) {
+    const MISSING: Option<PolicyKind> = Some(PolicyKind::UndefinedVariable);
+    const TWICE: Option<PolicyKind> = Some(PolicyKind::VariableTwice);
     let mut vars = Vars::new(rt.alloc());
-    assert_eq!(rt;
-        add_to(&mut vars, b"A", &[b"x"]),
-        Some(PolicyKind::UndefinedVariable)
-    );
-    assert_eq!(rt; set_to(&mut vars, b"A", &[b"x"]), None);
-    assert_eq!(rt;
-        set_to(&mut vars, b"A", &[b"y"]),
-        Some(PolicyKind::VariableTwice)
-    );
-    assert_eq!(rt; add_to(&mut vars, b"A", &[b"z"]), None);
-    assert_eq!(rt;
-        add_to(&mut vars, b"B", &[b"z"]),
-        Some(PolicyKind::UndefinedVariable)
-    );
+    is_added(&rt, &mut vars, b"A", &[b"x"], MISSING);
+    is_set(&rt, &mut vars, b"A", &[b"x"], None);
+    is_set(&rt, &mut vars, b"A", &[b"y"], TWICE);
+    is_added(&rt, &mut vars, b"A", &[b"z"], None);
+    is_added(&rt, &mut vars, b"B", &[b"z"], MISSING);
 }
 
 /// A variable's name and its values.
@@ -38,52 +54,79 @@ type Row<'a> = (&'a [u8], &'a [&'a [u8]]);
 fn vars_of(rt: &impl Abort, alloc: Global, rows: &[Row<'_>]) -> Vars {
     let mut vars = Vars::new(alloc);
     for (name, values) in rows {
-        assert_eq!(rt; set_to(&mut vars, name, values), None);
+        is_set(rt, &mut vars, name, values, None);
     }
     vars
 }
 
-/// The word has as many expansions as there are paths, and each matches its path alone.
-fn expands_to(rt: &impl Abort, alloc: Global, vars: &Vars, raw: &[u8], paths: &[&[u8]]) {
-    let patterns = expand(alloc, vars, raw).expect(rt, "expansions");
-    assert_eq!(rt; patterns.len(), paths.len());
-    for (i, pattern) in patterns.iter().enumerate() {
-        for (j, path) in paths.iter().enumerate() {
-            assert_eq!(rt; pattern.matches(path), i == j);
-        }
+/// The word's expansions.
+fn patterns_of(rt: &impl Abort, alloc: Global, vars: &Vars, raw: &[u8]) -> Vec<Pattern> {
+    expansions(alloc, vars, raw).expect(rt, "expansions")
+}
+
+/// The pattern matches just that one of the paths.
+fn matches_just(rt: &impl Abort, pattern: &Pattern, number: usize, paths: &[&[u8]]) {
+    for (j, path) in paths.iter().enumerate() {
+        assert_eq!(rt; is_matched(pattern, path), number == j);
     }
 }
 
-/// How many expansions the word has.
-fn count(rt: &impl Abort, alloc: Global, vars: &Vars, raw: &[u8]) -> usize {
-    expand(alloc, vars, raw).expect(rt, "expansions").len()
+/// The word has as many expansions as there are paths, and each matches its path alone.
+fn expands_to(rt: &impl Abort, alloc: Global, vars: &Vars, raw: &[u8], paths: &[&[u8]]) {
+    let patterns = patterns_of(rt, alloc, vars, raw);
+    assert_eq!(rt; patterns.len(), paths.len());
+    for (i, pattern) in patterns.iter().enumerate() {
+        matches_just(rt, pattern, i, paths);
+    }
+}
+
+/// The word has so many expansions.
+fn has_count(rt: &impl Abort, alloc: Global, vars: &Vars, raw: &[u8], wanted: usize) {
+    assert_eq!(rt; patterns_of(rt, alloc, vars, raw).len(), wanted);
 }
 
 /// Why the word has none.
 fn refusal(alloc: Global, vars: &Vars, raw: &[u8]) -> Option<PolicyKind> {
-    expand(alloc, vars, raw).err()
+    expansions(alloc, vars, raw).err()
+}
+
+/// Each word has no expansions, for that.
+fn are_refused(rt: &impl Abort, alloc: Global, vars: &Vars, rows: &[(&[u8], PolicyKind)]) {
+    for (raw, kind) in rows {
+        assert_eq!(rt; refusal(alloc, vars, raw), Some(*kind));
+    }
 }
 
 /// Which of the word's expansions match the path, as numbers.
 fn matching(rt: &impl Abort, alloc: Global, vars: &Vars, raw: &[u8], path: &[u8]) -> Vec<usize> {
     let mut found = Vec::new(alloc);
-    let patterns = expand(alloc, vars, raw).expect(rt, "expansions");
+    let patterns = patterns_of(rt, alloc, vars, raw);
     for (number, pattern) in patterns.iter().enumerate() {
-        if pattern.matches(path) {
+        if is_matched(pattern, path) {
             found.push(number).expect(rt, "memory");
         }
     }
     found
 }
 
+/// A path, and the numbers of the expansions that match it.
+type Matching<'a> = (&'a [u8], &'a [usize]);
+
+/// Just these of the word's expansions match each path.
+fn have_matching(rt: &impl Abort, alloc: Global, vars: &Vars, raw: &[u8], rows: &[Matching<'_>]) {
+    for (path, wanted) in rows {
+        assert_eq!(rt; matching(rt, alloc, vars, raw, path).as_slice(), *wanted);
+    }
+}
+
 #[test]
 fn the_leftmost_use_varies_slowest(rt: HostRuntime) {
     let alloc = rt.alloc();
     let vars = vars_of(&rt, alloc, &[(b"A", &[b"a", b"b"])]);
-    let four: [&[u8]; 4] = [b"/aa", b"/ab", b"/ba", b"/bb"];
-    expands_to(&rt, alloc, &vars, b"/@{A}@{A}", &four);
+    const FOUR: &[&[u8]] = &[b"/aa", b"/ab", b"/ba", b"/bb"];
+    expands_to(&rt, alloc, &vars, b"/@{A}@{A}", FOUR);
     let mut vars = vars_of(&rt, alloc, &[(b"A", &[b"a"])]);
-    assert_eq!(rt; add_to(&mut vars, b"A", &[b"b"]), None);
+    is_added(&rt, &mut vars, b"A", &[b"b"], None);
     expands_to(&rt, alloc, &vars, b"/@{A}", &[b"/a", b"/b"]);
 }
 
@@ -98,30 +141,28 @@ fn what_is_put_in_makes_no_variable(rt: HostRuntime) {
 fn runs_of_slashes_become_one(rt: HostRuntime) {
     let alloc = rt.alloc();
     let vars = vars_of(&rt, alloc, &[(b"HOME", &[b"/home/*/", b"/root/"])]);
-    let word = b"@{HOME}/.x";
-    assert_eq!(rt; count(&rt, alloc, &vars, word), 2);
-    let rows: [(&[u8], &[usize]); 3] = [
+    const WORD: &[u8] = b"@{HOME}/.x";
+    has_count(&rt, alloc, &vars, WORD, 2);
+    const ROWS: &[Matching<'_>] = &[
         (b"/home/u/.x", &[0]),
         (b"/home/u/v/.x", &[]),
         (b"/root/.x", &[1]),
     ];
-    for (path, wanted) in rows {
-        assert_eq!(rt; matching(&rt, alloc, &vars, word, path).as_slice(), wanted);
-    }
+    have_matching(&rt, alloc, &vars, WORD, ROWS);
     expands_to(&rt, alloc, &vars, b"//a//b/", &[b"/a/b/"]);
 }
 
 #[test]
 fn circles_and_names_that_are_not_there(rt: HostRuntime) {
     let alloc = rt.alloc();
-    let given: [Row<'_>; 4] = [
+    const GIVEN: &[Row<'_>] = &[
         (b"A", &[b"@{B}"]),
         (b"B", &[b"@{A}"]),
         (b"C", &[b"@{C}"]),
         (b"D", &[b"x", b"@{"]),
     ];
-    let vars = vars_of(&rt, alloc, &given);
-    let rows: [(&[u8], PolicyKind); 9] = [
+    let vars = vars_of(&rt, alloc, GIVEN);
+    const ROWS: &[(&[u8], PolicyKind)] = &[
         (b"/@{A}", PolicyKind::VariableCircle),
         (b"/@{C}@{X}", PolicyKind::VariableCircle),
         (b"/@{X}@{C}", PolicyKind::UndefinedVariable),
@@ -132,17 +173,15 @@ fn circles_and_names_that_are_not_there(rt: HostRuntime) {
         (b"a", PolicyKind::RelativePath),
         (b"", PolicyKind::RelativePath),
     ];
-    for (raw, kind) in rows {
-        assert_eq!(rt; refusal(alloc, &vars, raw), Some(kind));
-    }
+    are_refused(&rt, alloc, &vars, ROWS);
     expands_to(&rt, alloc, &vars, b"/\\@{X}", &[b"/@X"]);
 }
 
 #[test]
 fn a_variable_that_is_used_twice_is_no_circle(rt: HostRuntime) {
     let alloc = rt.alloc();
-    let given: [Row<'_>; 2] = [(b"A", &[b"@{B}@{B}", b"@{B}"]), (b"B", &[b"x"])];
-    let vars = vars_of(&rt, alloc, &given);
+    const GIVEN: &[Row<'_>] = &[(b"A", &[b"@{B}@{B}", b"@{B}"]), (b"B", &[b"x"])];
+    let vars = vars_of(&rt, alloc, GIVEN);
     expands_to(&rt, alloc, &vars, b"/@{A}", &[b"/xx", b"/x"]);
 }
 
@@ -150,12 +189,14 @@ fn a_variable_that_is_used_twice_is_no_circle(rt: HostRuntime) {
 fn too_many_expansions(rt: HostRuntime) {
     let alloc = rt.alloc();
     let vars = vars_of(&rt, alloc, &[(b"A", &[b"x", b"y"])]);
-    let ten = b"/@{A}@{A}@{A}@{A}@{A}@{A}@{A}@{A}@{A}@{A}";
-    assert_eq!(rt; count(&rt, alloc, &vars, ten), 1024);
-    let eleven = b"/@{A}@{A}@{A}@{A}@{A}@{A}@{A}@{A}@{A}@{A}@{A}";
-    assert_eq!(rt;
-        refusal(alloc, &vars, eleven),
-        Some(PolicyKind::TooManyExpansions)
+    const TEN: &[u8] = b"/@{A}@{A}@{A}@{A}@{A}@{A}@{A}@{A}@{A}@{A}";
+    has_count(&rt, alloc, &vars, TEN, 1024);
+    const ELEVEN: &[u8] = b"/@{A}@{A}@{A}@{A}@{A}@{A}@{A}@{A}@{A}@{A}@{A}";
+    are_refused(
+        &rt,
+        alloc,
+        &vars,
+        &[(ELEVEN, PolicyKind::TooManyExpansions)],
     );
 }
 
@@ -164,11 +205,18 @@ fn texts_of_at_most_16384_bytes(rt: HostRuntime) {
     let alloc = rt.alloc();
     let long = [b'a'; 1023];
     let vars = vars_of(&rt, alloc, &[(b"A", &[long.as_slice()])]);
-    let sixteen =
+    const SIXTEEN: &[u8] =
         b"/@{A}/@{A}/@{A}/@{A}/@{A}/@{A}/@{A}/@{A}/@{A}/@{A}/@{A}/@{A}/@{A}/@{A}/@{A}/@{A}";
-    assert_eq!(rt; count(&rt, alloc, &vars, sixteen), 1);
-    let more = b"/@{A}/@{A}/@{A}/@{A}/@{A}/@{A}/@{A}/@{A}/@{A}/@{A}/@{A}/@{A}/@{A}/@{A}/@{A}/@{A}b";
-    assert_eq!(rt; refusal(alloc, &vars, more), Some(PolicyKind::TooLarge));
+    has_count(&rt, alloc, &vars, SIXTEEN, 1);
+    const MORE: &[u8] =
+        b"/@{A}/@{A}/@{A}/@{A}/@{A}/@{A}/@{A}/@{A}/@{A}/@{A}/@{A}/@{A}/@{A}/@{A}/@{A}/@{A}b";
+    are_refused(&rt, alloc, &vars, &[(MORE, PolicyKind::TooLarge)]);
+}
+
+/// Sets a variable that uses another one twice.
+fn set_to_double(rt: &impl Abort, vars: &mut Vars, name: u8, before: u8) {
+    let value = [b'@', b'{', before, b'}', b'@', b'{', before, b'}'];
+    is_set(rt, vars, &[name], &[value.as_slice()], None);
 }
 
 /// A chain of variables, each of which uses the one before it twice. The first has that value.
@@ -176,9 +224,7 @@ fn doubling(rt: &impl Abort, alloc: Global, first: &[u8]) -> Vars {
     let names = b"ABCDEFGHIJKLMNOPQRSTUVWXYZabcdefghijklmno";
     let mut vars = vars_of(rt, alloc, &[(b"A", &[first])]);
     for i in 1..names.len() {
-        let before = names[i - 1];
-        let value = [b'@', b'{', before, b'}', b'@', b'{', before, b'}'];
-        assert_eq!(rt; set_to(&mut vars, &[names[i]], &[value.as_slice()]), None);
+        set_to_double(rt, &mut vars, names[i], names[i - 1]);
     }
     vars
 }
@@ -187,7 +233,7 @@ fn doubling(rt: &impl Abort, alloc: Global, first: &[u8]) -> Vars {
 fn a_chain_that_doubles_is_refused_at_once(rt: HostRuntime) {
     let alloc = rt.alloc();
     let vars = doubling(&rt, alloc, b"x");
-    assert_eq!(rt; refusal(alloc, &vars, b"/@{o}"), Some(PolicyKind::TooLarge));
+    are_refused(&rt, alloc, &vars, &[(b"/@{o}", PolicyKind::TooLarge)]);
     let empty = doubling(&rt, alloc, b"");
     expands_to(&rt, alloc, &empty, b"/@{o}", &[b"/"]);
 }

@@ -1,14 +1,15 @@
 //! Growths that are refused. Each test passes whichever of its growths is refused: it asks again, and what was refused for
 //! want of memory has changed nothing.
 
+use crate::texts::{add, expansions, is_matched, pattern_of, set};
 use aa_faults::PolicyKind;
-use aa_glob::{Pattern, Vars, expand, read_pattern};
+use aa_glob::{Pattern, Vars};
 use std::alloc::Global;
 use std::process::Abort;
 
 fn read_at_last(rt: &impl Abort, alloc: Global, text: &[u8]) -> Pattern {
     for _ in 0..3 {
-        match read_pattern(alloc, text) {
+        match pattern_of(alloc, text) {
             Ok(pattern) => return pattern,
             Err(fault) => assert_eq!(rt; fault, PolicyKind::NoMemory),
         }
@@ -18,7 +19,7 @@ fn read_at_last(rt: &impl Abort, alloc: Global, text: &[u8]) -> Pattern {
 
 fn set_at_last(rt: &impl Abort, vars: &mut Vars, name: &[u8], values: &[&[u8]]) {
     for _ in 0..3 {
-        match vars.set(name, values) {
+        match set(vars, name, values) {
             Ok(()) => return,
             Err(fault) => assert_eq!(rt; fault, PolicyKind::NoMemory),
         }
@@ -28,7 +29,7 @@ fn set_at_last(rt: &impl Abort, vars: &mut Vars, name: &[u8], values: &[&[u8]]) 
 
 fn add_at_last(rt: &impl Abort, vars: &mut Vars, name: &[u8], values: &[&[u8]]) {
     for _ in 0..3 {
-        match vars.add(name, values) {
+        match add(vars, name, values) {
             Ok(()) => return,
             Err(fault) => assert_eq!(rt; fault, PolicyKind::NoMemory),
         }
@@ -38,7 +39,7 @@ fn add_at_last(rt: &impl Abort, vars: &mut Vars, name: &[u8], values: &[&[u8]]) 
 
 fn expand_at_last(rt: &impl Abort, alloc: Global, vars: &Vars, raw: &[u8]) -> Vec<Pattern> {
     for _ in 0..3 {
-        match expand(alloc, vars, raw) {
+        match expansions(alloc, vars, raw) {
             Ok(patterns) => return patterns,
             Err(fault) => assert_eq!(rt; fault, PolicyKind::NoMemory),
         }
@@ -46,18 +47,26 @@ fn expand_at_last(rt: &impl Abort, alloc: Global, vars: &Vars, raw: &[u8]) -> Ve
     panic!(rt; "refused each time")
 }
 
+/// There are as many patterns as paths, and each matches the path in its place.
+fn match_in_turn(rt: &impl Abort, patterns: &[Pattern], paths: &[&[u8]]) {
+    assert_eq!(rt; patterns.len(), paths.len());
+    for (pattern, path) in patterns.iter().zip(paths) {
+        assert!(rt; is_matched(pattern, path));
+    }
+}
+
 #[test]
 fn a_growth_refused_to_read_is_no_memory(rt: HostRuntime) {
     let pattern = read_at_last(&rt, rt.alloc(), b"/{usr/,}lib/[a-c]*/\\*x?**");
-    assert!(rt; pattern.matches(b"/usr/lib/cd/*xyz/"));
-    assert!(rt; pattern.matches(b"/lib/a/*xy"));
-    assert!(rt; !pattern.matches(b"/usr/lib/d/*xyz/"));
+    assert!(rt; is_matched(&pattern, b"/usr/lib/cd/*xyz/"));
+    assert!(rt; is_matched(&pattern, b"/lib/a/*xy"));
+    assert!(rt; !is_matched(&pattern, b"/usr/lib/d/*xyz/"));
 }
 
 #[test]
 fn a_growth_refused_is_no_bad_pattern(rt: HostRuntime) {
     for _ in 0..3 {
-        match read_pattern(rt.alloc(), b"/{a,[b-d]x") {
+        match pattern_of(rt.alloc(), b"/{a,[b-d]x") {
             Ok(_) => panic!(rt; "a choice that isn't closed"),
             Err(PolicyKind::NoMemory) => {}
             Err(fault) => {
@@ -76,13 +85,10 @@ fn a_growth_refused_to_set_add_or_expand_is_no_memory(rt: HostRuntime) {
     set_at_last(&rt, &mut vars, b"A", &[b"a", b"b"]);
     add_at_last(&rt, &mut vars, b"A", &[b"c*"]);
     set_at_last(&rt, &mut vars, b"B", &[b"@{A}x"]);
-    assert_eq!(rt; vars.set(b"B", &[]), Err(PolicyKind::VariableTwice));
+    assert_eq!(rt; set(&mut vars, b"B", &[]), Err(PolicyKind::VariableTwice));
     let patterns = expand_at_last(&rt, alloc, &vars, b"/@{A}//@{B}");
-    assert_eq!(rt; patterns.len(), 9);
-    let wanted = [
+    const WANTED: &[&[u8]] = &[
         b"/a/ax", b"/a/bx", b"/a/cx", b"/b/ax", b"/b/bx", b"/b/cx", b"/c/ax", b"/c/bx", b"/c/cx",
     ];
-    for (pattern, path) in patterns.iter().zip(&wanted) {
-        assert!(rt; pattern.matches(path.as_slice()));
-    }
+    match_in_turn(&rt, patterns.as_slice(), WANTED);
 }

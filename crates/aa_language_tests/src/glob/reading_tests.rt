@@ -1,7 +1,8 @@
 //! What texts are read as, and what the patterns match.
 
+use crate::texts::{is_matched, pattern_fault, pattern_of};
 use aa_faults::PolicyKind;
-use aa_glob::{Pattern, read_pattern};
+use aa_glob::Pattern;
 use std::alloc::Global;
 use std::process::Abort;
 
@@ -9,13 +10,13 @@ use std::process::Abort;
 type Row<'a> = (&'a [u8], &'a [&'a [u8]], &'a [&'a [u8]]);
 
 fn pattern(rt: &impl Abort, alloc: Global, text: &[u8]) -> Pattern {
-    read_pattern(alloc, text).expect(rt, "a pattern")
+    pattern_of(alloc, text).expect(rt, "a pattern")
 }
 
 /// Each of the paths is matched, or none is.
 fn matches_all(rt: &impl Abort, pattern: &Pattern, paths: &[&[u8]], wanted: bool) {
     for path in paths {
-        assert_eq!(rt; pattern.matches(path), wanted);
+        assert_eq!(rt; is_matched(pattern, path), wanted);
     }
 }
 
@@ -31,15 +32,15 @@ fn match_just(rt: &impl Abort, alloc: Global, rows: &[Row<'_>]) {
 /// Each text is refused for that.
 fn are_refused(rt: &impl Abort, alloc: Global, texts: &[&[u8]], kind: PolicyKind) {
     for text in texts {
-        match read_pattern(alloc, text) {
-            Ok(_) => assert!(rt; false),
-            Err(fault) => assert_eq!(rt; fault, kind),
-        }
+        assert_eq!(rt; pattern_fault(alloc, text), Some(kind));
     }
 }
 
-fn is_matched(rt: &impl Abort, alloc: Global, text: &[u8], path: &[u8]) -> bool {
-    pattern(rt, alloc, text).matches(path)
+/// No pattern matches the path.
+fn match_none(rt: &impl Abort, alloc: Global, texts: &[&[u8]], path: &[u8]) {
+    for text in texts {
+        assert!(rt; !is_matched(&pattern(rt, alloc, text), path));
+    }
 }
 
 fn front(rt: &impl Abort, alloc: Global, text: &[u8]) -> usize {
@@ -50,9 +51,23 @@ fn is_literal(rt: &impl Abort, alloc: Global, text: &[u8]) -> bool {
     pattern(rt, alloc, text).is_literal()
 }
 
+/// The patterns have literal fronts of so many bytes.
+fn have_fronts(rt: &impl Abort, alloc: Global, rows: &[(&[u8], usize)]) {
+    for (text, wanted) in rows {
+        assert_eq!(rt; front(rt, alloc, text), *wanted);
+    }
+}
+
+/// The patterns are literal, or aren't.
+fn are_literal(rt: &impl Abort, alloc: Global, rows: &[(&[u8], bool)]) {
+    for (text, wanted) in rows {
+        assert_eq!(rt; is_literal(rt, alloc, text), *wanted);
+    }
+}
+
 #[test]
 fn stars_between_slashes_match_at_least_one_byte(rt: HostRuntime) {
-    let rows: [Row<'_>; 6] = [
+    const ROWS: &[Row<'_>] = &[
         (b"/tmp/*", &[b"/tmp/a"], &[b"/tmp/", b"/tmp/a/"]),
         (b"/tmp/*/", &[b"/tmp/a/"], &[b"/tmp/", b"/tmp/a"]),
         (b"/tmp/**/", &[b"/tmp/a/b/"], &[b"/tmp/", b"/tmp/a"]),
@@ -60,12 +75,12 @@ fn stars_between_slashes_match_at_least_one_byte(rt: HostRuntime) {
         (b"/{**,}", &[b"/"], &[]),
         (b"/**", &[b"/x"], &[b"/"]),
     ];
-    match_just(&rt, rt.alloc(), &rows);
+    match_just(&rt, rt.alloc(), ROWS);
 }
 
 #[test]
 fn stars_elsewhere_match_nothing_too(rt: HostRuntime) {
-    let rows: [Row<'_>; 5] = [
+    const ROWS: &[Row<'_>] = &[
         (b"/a*", &[b"/a", b"/ab"], &[b"/a/", b"/"]),
         (b"/a**", &[b"/a", b"/a/b"], &[b"/", b"a"]),
         (b"/x{b,/*}", &[b"/xb", b"/x/", b"/x/y"], &[b"/x", b"/x/y/"]),
@@ -76,12 +91,12 @@ fn stars_elsewhere_match_nothing_too(rt: HostRuntime) {
             &[b"/a/b/x", b"/x"],
         ),
     ];
-    match_just(&rt, rt.alloc(), &rows);
+    match_just(&rt, rt.alloc(), ROWS);
 }
 
 #[test]
 fn choices_and_classes(rt: HostRuntime) {
-    let rows: [Row<'_>; 12] = [
+    const ROWS: &[Row<'_>] = &[
         (b"/x{,y}", &[b"/x", b"/xy"], &[b"/xyy", b"/"]),
         (b"/{a}b", &[b"/ab"], &[b"/a", b"/b"]),
         (
@@ -99,17 +114,15 @@ fn choices_and_classes(rt: HostRuntime) {
         (b"/a],b", &[b"/a],b"], &[b"/a"]),
         (b"/?", &[b"/a"], &[b"/", b"//"]),
     ];
-    match_just(&rt, rt.alloc(), &rows);
+    match_just(&rt, rt.alloc(), ROWS);
 }
 
 #[test]
 fn nothing_matches_a_zero_byte(rt: HostRuntime) {
     let alloc = rt.alloc();
-    let texts: [&[u8]; 6] = [b"/**", b"/?", b"/[^a]", b"/\x00", b"/*", b"/[\x00-\xff]"];
-    for text in texts {
-        assert!(rt; !is_matched(&rt, alloc, text, b"/\x00"));
-    }
-    let rows: [Row<'_>; 2] = [
+    const TEXTS: &[&[u8]] = &[b"/**", b"/?", b"/[^a]", b"/\x00", b"/*", b"/[\x00-\xff]"];
+    match_none(&rt, alloc, TEXTS, b"/\x00");
+    const ROWS: &[Row<'_>] = &[
         (b"/\xff", &[b"/\xff"], &[b"/\xfe"]),
         (
             b"/[\x00-\xff]",
@@ -117,54 +130,50 @@ fn nothing_matches_a_zero_byte(rt: HostRuntime) {
             &[b"/", b"/ab"],
         ),
     ];
-    match_just(&rt, alloc, &rows);
+    match_just(&rt, alloc, ROWS);
 }
 
 #[test]
 fn a_backslash_keeps_the_next_byte(rt: HostRuntime) {
     let alloc = rt.alloc();
-    let rows: [Row<'_>; 1] = [(b"/a\\*", &[b"/a*"], &[b"/ab", b"/a", b"/a\\"])];
-    match_just(&rt, alloc, &rows);
-    assert!(rt; is_literal(&rt, alloc, b"/a\\*"));
-    let kept_letters: [&[u8]; 3] = [b"/a\\b", b"/[\\w]", b"/a\\0{"];
-    are_refused(&rt, alloc, &kept_letters, PolicyKind::Unsupported);
+    const ROWS: &[Row<'_>] = &[(b"/a\\*", &[b"/a*"], &[b"/ab", b"/a", b"/a\\"])];
+    match_just(&rt, alloc, ROWS);
+    are_literal(&rt, alloc, &[(b"/a\\*", true)]);
+    const KEPT_LETTERS: &[&[u8]] = &[b"/a\\b", b"/[\\w]", b"/a\\0{"];
+    are_refused(&rt, alloc, KEPT_LETTERS, PolicyKind::Unsupported);
     are_refused(&rt, alloc, &[b"/a\\"], PolicyKind::BadPattern);
 }
 
 #[test]
 fn bad_patterns(rt: HostRuntime) {
-    let texts: [&[u8]; 10] = [
+    const TEXTS: &[&[u8]] = &[
         b"/[]", b"/[^]", b"/[c-a]", b"/{a", b"/a}", b"/[a", b"/{a}}", b"/{[}]", b"[", b"{",
     ];
-    are_refused(&rt, rt.alloc(), &texts, PolicyKind::BadPattern);
+    are_refused(&rt, rt.alloc(), TEXTS, PolicyKind::BadPattern);
 }
 
 #[test]
 fn choices_are_at_most_sixteen_deep(rt: HostRuntime) {
-    let rows: [Row<'_>; 1] = [(
+    const ROWS: &[Row<'_>] = &[(
         b"/{{{{{{{{{{{{{{{{a}}}}}}}}}}}}}}}}",
         &[b"/a"],
         &[b"/", b"/b"],
     )];
-    match_just(&rt, rt.alloc(), &rows);
-    let seventeen: [&[u8]; 1] = [b"/{{{{{{{{{{{{{{{{{a}}}}}}}}}}}}}}}}}"];
-    are_refused(&rt, rt.alloc(), &seventeen, PolicyKind::BadPattern);
+    match_just(&rt, rt.alloc(), ROWS);
+    const SEVENTEEN: &[&[u8]] = &[b"/{{{{{{{{{{{{{{{{{a}}}}}}}}}}}}}}}}}"];
+    are_refused(&rt, rt.alloc(), SEVENTEEN, PolicyKind::BadPattern);
 }
 
 #[test]
 fn literal_fronts(rt: HostRuntime) {
     let alloc = rt.alloc();
-    let rows: [(&[u8], usize); 4] = [
+    const FRONTS: &[(&[u8], usize)] = &[
         (b"/usr/{bin,lib}", 5),
         (b"/usr/*/x", 5),
         (b"/usr/bin/*", 9),
         (b"/usr", 4),
     ];
-    for (text, wanted) in rows {
-        assert_eq!(rt; front(&rt, alloc, text), wanted);
-    }
-    let literals: [(&[u8], bool); 3] = [(b"/usr", true), (b"/usr/?", false), (b"", true)];
-    for (text, wanted) in literals {
-        assert_eq!(rt; is_literal(&rt, alloc, text), wanted);
-    }
+    have_fronts(&rt, alloc, FRONTS);
+    const LITERALS: &[(&[u8], bool)] = &[(b"/usr", true), (b"/usr/?", false), (b"", true)];
+    are_literal(&rt, alloc, LITERALS);
 }

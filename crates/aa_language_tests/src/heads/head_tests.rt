@@ -1,6 +1,7 @@
 //! What the contracts of a head leave to tests: which refusal comes first, and texts from their bytes on.
 
-use crate::heads::reading::{begins_in, head_in, words_of};
+use crate::heads::reading::{begins_in, head_in};
+use crate::texts::words_of;
 use aa_heads::HeadTree;
 use aa_words::{PolicyFault, Sources};
 use std::alloc::Global;
@@ -11,22 +12,39 @@ use std::test::Fail;
 /// attachment, and how many words it has.
 type Expected = (u32, &'static str, Option<(u32, &'static str)>, usize);
 
-/// Whether the head, with so many words, is what is expected.
-fn is_expected(head: &HeadTree, words: usize, expected: Expected) -> bool {
-    let (at, name, attachment, count) = expected;
-    let attached = match (head.title.attachment, attachment) {
+/// Whether the head's attachment is what is expected.
+fn is_attached(head: &HeadTree, expected: Option<(u32, &str)>) -> bool {
+    match (head.title.attachment, expected) {
         (Some(read), Some((at, path))) => read.at.byte == at && read.path == path.as_bytes(),
         (None, None) => true,
         _ => false,
-    };
-    attached && head.title.at.byte == at && head.title.name == name.as_bytes() && words == count
+    }
+}
+
+/// Whether the head, with so many words, is what is expected.
+fn is_expected(head: &HeadTree, words: usize, expected: Expected) -> bool {
+    let (at, name, attachment, count) = expected;
+    is_attached(head, attachment)
+        && head.title.at.byte == at
+        && head.title.name == name.as_bytes()
+        && words == count
+}
+
+/// The head that a text begins with, and how many words it has.
+fn read<'s>(
+    alloc: Global,
+    sources: &'s Sources,
+    text: &'s [u8],
+    top: bool,
+) -> Result<(HeadTree<'s>, usize), PolicyFault> {
+    let list = words_of(alloc, sources, text)?;
+    head_in(&list, top)
 }
 
 /// Whether the head is read as it is to be.
 fn is_read(alloc: Global, text: &[u8], top: bool, expected: Expected) -> Result<bool, PolicyFault> {
     let sources = Sources::new(alloc);
-    let list = words_of(alloc, &sources, text)?;
-    let (head, next) = head_in(&list, top)?;
+    let (head, next) = read(alloc, &sources, text, top)?;
     Ok(is_expected(&head, next, expected))
 }
 
@@ -44,22 +62,17 @@ fn reads_each(rt: &impl Abort, alloc: Global, top: bool, rows: &[Row]) -> Result
 /// Whether a head has `complain`, `enforce` and `audit` among its flags.
 fn flags_of(alloc: Global, text: &[u8]) -> Result<(bool, bool, bool), PolicyFault> {
     let sources = Sources::new(alloc);
-    let list = words_of(alloc, &sources, text)?;
-    let (head, _) = head_in(&list, true)?;
+    let (head, _) = read(alloc, &sources, text, true)?;
     Ok((head.flags.complain, head.flags.enforce, head.flags.audit))
 }
 
 /// The kind's number and the byte of the refusal, where the head is refused.
 fn refusal(alloc: Global, text: &[u8], top: bool) -> Option<(u8, u32)> {
     let sources = Sources::new(alloc);
-    let found = match words_of(alloc, &sources, text) {
-        Ok(list) => match head_in(&list, top) {
-            Ok(_) => return None,
-            Err(fault) => fault,
-        },
-        Err(fault) => fault,
-    };
-    Some((found.kind.number(), found.at.byte))
+    match read(alloc, &sources, text, top) {
+        Ok(_) => None,
+        Err(fault) => Some((fault.kind.number(), fault.at.byte)),
+    }
 }
 
 /// Whether a profile begins with the text's words.
@@ -78,6 +91,12 @@ fn refuses_each(rt: &impl Abort, alloc: Global, top: bool, rows: &[(&str, u8, u3
             "{text}"
         );
     }
+}
+
+/// The heads of the texts are refused at the top level and below it, each with that number at that byte.
+fn refuses_each_anywhere(rt: &impl Abort, alloc: Global, rows: &[(&str, u8, u32)]) {
+    refuses_each(rt, alloc, true, rows);
+    refuses_each(rt, alloc, false, rows);
 }
 
 /// The heads of the texts have these flags: `complain`, `enforce` and `audit`.
@@ -178,36 +197,33 @@ fn a_child_may_have_names_that_no_profile_of_the_top_level_has(
 
 #[test]
 fn names_that_mean_more_are_refused_at_the_name(rt: HostRuntime) {
-    for top in [true, false] {
-        refuses_each(
-            &rt,
-            rt.alloc(),
-            top,
-            &[
-                ("profile", 4, 7),
-                ("profile {", 4, 8),
-                ("profile = {", 4, 8),
-                ("profile (enforce) {", 4, 8),
-                ("profile \"\" {", 4, 9),
-                ("profile \"\" /x {", 4, 9),
-                ("\"\" {", 4, 1),
-                ("profile :ns:p {", 5, 8),
-                ("profile &p {", 5, 8),
-                ("profile a//&b {", 5, 8),
-                ("profile @{x} {", 5, 8),
-                ("profile \"a@{x}\" {", 5, 9),
-                ("profile /a@{x} /b {", 5, 8),
-                ("/a//&b {", 5, 0),
-                ("@{x}//&b {", 5, 0),
-                ("\":ns:p\" {", 5, 1),
-                ("\"&p\" {", 5, 1),
-                ("", 4, 0),
-                ("{", 4, 0),
-                ("p {", 4, 0),
-                ("signal,", 4, 0),
-            ],
-        );
-    }
+    refuses_each_anywhere(
+        &rt,
+        rt.alloc(),
+        &[
+            ("profile", 4, 7),
+            ("profile {", 4, 8),
+            ("profile = {", 4, 8),
+            ("profile (enforce) {", 4, 8),
+            ("profile \"\" {", 4, 9),
+            ("profile \"\" /x {", 4, 9),
+            ("\"\" {", 4, 1),
+            ("profile :ns:p {", 5, 8),
+            ("profile &p {", 5, 8),
+            ("profile a//&b {", 5, 8),
+            ("profile @{x} {", 5, 8),
+            ("profile \"a@{x}\" {", 5, 9),
+            ("profile /a@{x} /b {", 5, 8),
+            ("/a//&b {", 5, 0),
+            ("@{x}//&b {", 5, 0),
+            ("\":ns:p\" {", 5, 1),
+            ("\"&p\" {", 5, 1),
+            ("", 4, 0),
+            ("{", 4, 0),
+            ("p {", 4, 0),
+            ("signal,", 4, 0),
+        ],
+    );
 }
 
 #[test]

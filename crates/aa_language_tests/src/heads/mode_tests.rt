@@ -1,6 +1,6 @@
 //! Modes: letters, exec parts, and whether anything is wrong with them.
 
-use aa_rules::{ExecKind, ExecMode, Fallback, RuleTree, rule_of};
+use aa_rules::{ExecKind, ExecMode, Fallback, FileTree, RuleTree, rule_of};
 use aa_words::{PolicyFault, Span, Spot, Word, WordKind};
 use bitflags::Flags;
 use std::process::Abort;
@@ -27,6 +27,40 @@ fn rule_in<'s>(words: &[Word<'s>], end: u32) -> Result<(RuleTree<'s>, usize), Po
     rule_of(words, 0, end)
 }
 
+/// How a file rule lets a program be executed.
+fn exec_of(file: &FileTree) -> Option<ExecMode> {
+    match file.exec {
+        Some(exec) => Some(exec.mode),
+        None => None,
+    }
+}
+
+/// What the file rule that the words are grants, and how it lets a program be executed.
+fn granted(words: &[Word], end: u32) -> Option<(u8, Option<ExecMode>)> {
+    match rule_in(words, end) {
+        Ok((RuleTree::File(file), _)) => Some((file.perms.bits(), exec_of(&file))),
+        _ => None,
+    }
+}
+
+/// Where the rule that the words are is refused, and the number of the fault.
+fn refusal_in(words: &[Word], end: u32) -> Option<(u32, u8)> {
+    match rule_in(words, end) {
+        Ok(_) => None,
+        Err(fault) => Some((fault.at.byte, fault.kind.number())),
+    }
+}
+
+/// Where a rule that ends at a mode is refused, and the number of the fault.
+fn refusal_at_end(mode: &[u8], deny: bool) -> Option<(u32, u8)> {
+    let words = [
+        word(WordKind::Name, qualifier(deny), 0),
+        word(WordKind::Name, b"file", 1),
+        word(WordKind::Name, mode, 2),
+    ];
+    refusal_in(&words, 3)
+}
+
 /// What a rule with that mode grants, and how it lets a program be executed, if the rule is read.
 fn mode_of(mode: &[u8], deny: bool) -> Option<(u8, Option<ExecMode>)> {
     let words = [
@@ -35,28 +69,14 @@ fn mode_of(mode: &[u8], deny: bool) -> Option<(u8, Option<ExecMode>)> {
         word(WordKind::Name, mode, 2),
         word(WordKind::Comma, b",", 3),
     ];
-    match rule_in(&words, 4) {
-        Ok((RuleTree::File(file), _)) => {
-            let exec = match file.exec {
-                Some(exec) => Some(exec.mode),
-                None => None,
-            };
-            Some((file.perms.bits(), exec))
-        }
-        _ => None,
-    }
+    granted(&words, 4)
 }
 
 /// Whether anything is wrong with a mode: if so, a rule that ends there is refused at it, and else behind it.
 fn is_faulty(mode: &[u8], deny: bool) -> bool {
-    let words = [
-        word(WordKind::Name, qualifier(deny), 0),
-        word(WordKind::Name, b"file", 1),
-        word(WordKind::Name, mode, 2),
-    ];
-    match rule_in(&words, 3) {
-        Ok(_) => false,
-        Err(fault) => fault.at.byte == 2,
+    match refusal_at_end(mode, deny) {
+        Some((byte, _)) => byte == 2,
+        None => false,
     }
 }
 
@@ -156,13 +176,8 @@ fn modes_grant_their_letters_and_one_exec_part(rt: HostRuntime) {
 
 /// The number of a mode's fault, if a rule that ends there is refused at it.
 fn fault_of(mode: &[u8], deny: bool) -> Option<u8> {
-    let words = [
-        word(WordKind::Name, qualifier(deny), 0),
-        word(WordKind::Name, b"file", 1),
-        word(WordKind::Name, mode, 2),
-    ];
-    match rule_in(&words, 3) {
-        Err(fault) if fault.at.byte == 2 => Some(fault.kind.number()),
+    match refusal_at_end(mode, deny) {
+        Some((2, number)) => Some(number),
         _ => None,
     }
 }

@@ -1,7 +1,7 @@
 //! What stands before the profiles, end to end: values in their order, where it ends, and which fault comes first.
 
-use crate::heads::reading::words_of;
-use aa_glob::{Pattern, Vars, expand};
+use crate::texts::{expansions, is_matched, words_of};
+use aa_glob::{Pattern, Vars};
 use aa_heads::preamble_of;
 use aa_words::{PolicyFault, Sources, WordList};
 use std::alloc::Global;
@@ -30,13 +30,17 @@ fn refusal(alloc: Global, text: &str) -> Option<(u8, u32)> {
 
 /// The pattern matches those of the paths that are this one.
 fn matches_alone(pattern: &Pattern, path: &str, paths: &[&str]) -> bool {
-    paths.iter().all(|other| pattern.matches(other.as_bytes()) == (*other == path))
+    let mut all = true;
+    for other in paths {
+        all = all && is_matched(pattern, other.as_bytes()) == (*other == path);
+    }
+    all
 }
 
 /// The patterns of `/@{A}` under the variables of a text's preamble.
 fn patterns_of(alloc: Global, text: &str) -> Result<Vec<Pattern>, Fail> {
     let (vars, _) = read(alloc, text)?;
-    let patterns = expand(alloc, &vars, b"/@{A}")?;
+    let patterns = expansions(alloc, &vars, b"/@{A}")?;
     Ok(patterns)
 }
 

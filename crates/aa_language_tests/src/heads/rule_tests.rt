@@ -1,6 +1,6 @@
 //! File rules as they are written.
 
-use crate::heads::reading::words_of;
+use crate::texts::words_of;
 use aa_rules::{FileTree, RuleTree, rule_of};
 use aa_words::{PolicyFault, Sources, Spot, WordList};
 use bitflags::Flags;

@@ -140,12 +140,20 @@ fn every_family_stands_at_its_place(rt: HostRuntime) {
     assert_eq!(rt; count, 44);
 }
 
+/// The number of an entry, if there is one.
+fn number_of(entry: Option<(usize, &'static str)>) -> Option<usize> {
+    match entry {
+        Some((number, _)) => Some(number),
+        None => None,
+    }
+}
+
 /// The numbers of a name in each table.
 fn numbers_of(name: &[u8]) -> (Option<usize>, Option<usize>, Option<usize>) {
     (
-        cap_of(name).map(|entry| entry.0),
-        family_of(name).map(|entry| entry.0),
-        sock_type_of(name).map(|entry| entry.0),
+        number_of(cap_of(name)),
+        number_of(family_of(name)),
+        number_of(sock_type_of(name)),
     )
 }
 

@@ -1,5 +1,6 @@
 //! Excerpts of worked texts.
 
+use crate::texts::{extend, filled, joined, repeated};
 use aa_places::excerpt;
 use std::alloc::{AllocError, Global};
 use std::process::Abort;
@@ -45,8 +46,23 @@ fn a_caret_stands_below_the_byte(rt: HostRuntime) -> Result<(), Fail> {
     Ok(())
 }
 
-fn long_line(alloc: Global, count: usize) -> Result<Vec<u8>, AllocError> {
-    vec![in alloc; b'a'; count]
+/// An excerpt of the first line: dots or none, a part of the line, dots or none, and spaces up to the caret.
+fn framed(
+    alloc: Global,
+    front: &[u8],
+    part: &[u8],
+    end: &[u8],
+    spaces: usize,
+) -> Result<Vec<u8>, AllocError> {
+    let gap = filled(alloc, b' ', spaces)?;
+    let mut text = Vec::from_slice(alloc, b"    1 | ")?;
+    extend(&mut text, front)?;
+    extend(&mut text, part)?;
+    extend(&mut text, end)?;
+    extend(&mut text, b"\n      | ")?;
+    extend(&mut text, gap.as_slice())?;
+    extend(&mut text, b"^\n")?;
+    Ok(text)
 }
 
 /// What an excerpt of a line of so many letters is: dots or none, letters, dots or none, and spaces up to the caret.
@@ -57,66 +73,75 @@ fn shown(
     end: &[u8],
     spaces: usize,
 ) -> Result<Vec<u8>, AllocError> {
-    let mut text = Vec::from_slice(alloc, b"    1 | ")?;
-    text.extend_from_slice(front)?;
-    text.extend_from_slice(long_line(alloc, count)?.as_slice())?;
-    text.extend_from_slice(end)?;
-    text.extend_from_slice(b"\n      | ")?;
-    for _ in 0..spaces {
-        text.push(b' ')?;
-    }
-    text.extend_from_slice(b"^\n")?;
-    Ok(text)
+    let letters = filled(alloc, b'a', count)?;
+    framed(alloc, front, letters.as_slice(), end, spaces)
 }
+
+/// What an excerpt is: dots or none, how many letters, dots or none, and how many spaces up to the caret.
+type Shown<'a> = (&'a [u8], usize, &'a [u8], usize);
 
 /// Of a line of so many letters, the excerpt at a byte is this one.
 fn is_cut_so(
     rt: &impl Abort,
     alloc: Global,
     (count, byte): (usize, usize),
-    wanted: Vec<u8>,
+    (front, letters, end, spaces): Shown<'_>,
 ) -> Result<(), AllocError> {
-    let line = long_line(alloc, count)?;
+    let line = filled(alloc, b'a', count)?;
+    let wanted = shown(alloc, front, letters, end, spaces)?;
     let found = lines(alloc, line.as_slice(), byte)?;
     assert!(rt; found.as_slice() == wanted.as_slice());
     Ok(())
 }
 
-#[test]
-fn of_a_long_line_160_bytes_are_shown(rt: HostRuntime) -> Result<(), Fail> {
-    let alloc = rt.alloc();
-    is_cut_so(&rt, alloc, (160, 159), shown(alloc, b"", 160, b"", 159)?)?;
-    is_cut_so(&rt, alloc, (161, 0), shown(alloc, b"", 160, b"..", 0)?)?;
-    is_cut_so(&rt, alloc, (161, 161), shown(alloc, b"..", 160, b"", 162)?)?;
-    is_cut_so(&rt, alloc, (400, 80), shown(alloc, b"", 160, b"..", 80)?)?;
-    is_cut_so(&rt, alloc, (400, 200), shown(alloc, b"..", 160, b"..", 82)?)?;
-    is_cut_so(&rt, alloc, (400, 399), shown(alloc, b"..", 160, b"", 161)?)?;
+/// The excerpts of lines of so many letters at a byte.
+fn are_cut_so(
+    rt: &impl Abort,
+    alloc: Global,
+    rows: &[((usize, usize), Shown<'_>)],
+) -> Result<(), AllocError> {
+    for (place, wanted) in rows {
+        is_cut_so(rt, alloc, *place, *wanted)?;
+    }
     Ok(())
 }
 
-/// So many umlauts, of two bytes each.
-fn umlauts(alloc: Global, count: usize) -> Result<Vec<u8>, AllocError> {
-    let mut text = Vec::new(alloc);
-    for _ in 0..count {
-        text.extend_from_slice(b"\xC3\xA4")?;
-    }
-    Ok(text)
+#[test]
+fn of_a_long_line_160_bytes_are_shown(rt: HostRuntime) -> Result<(), Fail> {
+    are_cut_so(
+        &rt,
+        rt.alloc(),
+        &[
+            ((160, 159), (b"", 160, b"", 159)),
+            ((161, 0), (b"", 160, b"..", 0)),
+            ((161, 161), (b"..", 160, b"", 162)),
+            ((400, 80), (b"", 160, b"..", 80)),
+            ((400, 200), (b"..", 160, b"..", 82)),
+            ((400, 399), (b"..", 160, b"", 161)),
+        ],
+    )?;
+    Ok(())
+}
+
+/// A letter, and so many umlauts, of two bytes each.
+fn behind_letter(alloc: Global, count: u32) -> Result<Vec<u8>, AllocError> {
+    let umlauts = repeated(alloc, b"\xC3\xA4", count)?;
+    joined(alloc, &[b"a", umlauts.as_slice()])
+}
+
+/// What an excerpt of a long line of umlauts is: so many of them between dots, and spaces up to the caret.
+fn shown_umlauts(alloc: Global, count: u32, spaces: usize) -> Result<Vec<u8>, AllocError> {
+    let umlauts = repeated(alloc, b"\xC3\xA4", count)?;
+    framed(alloc, b"..", umlauts.as_slice(), b"..", spaces)
 }
 
 #[test]
 fn a_character_that_would_be_cut_is_left_out(rt: HostRuntime) -> Result<(), Fail> {
     let alloc = rt.alloc();
-    let mut line = Vec::from_slice(alloc, b"a")?;
-    line.extend_from_slice(umlauts(alloc, 200)?.as_slice())?;
+    let line = behind_letter(alloc, 200)?;
     let found = lines(alloc, line.as_slice(), 200)?;
     // The part from byte 120 to 280 begins and ends within an umlaut.
-    let mut wanted = Vec::from_slice(alloc, b"    1 | ..")?;
-    wanted.extend_from_slice(umlauts(alloc, 79)?.as_slice())?;
-    wanted.extend_from_slice(b"..\n      | ")?;
-    for _ in 0..42 {
-        wanted.push(b' ')?;
-    }
-    wanted.extend_from_slice(b"^\n")?;
+    let wanted = shown_umlauts(alloc, 79, 42)?;
     assert!(&rt; found.as_slice() == wanted.as_slice());
     Ok(())
 }

@@ -72,7 +72,7 @@ fn includes_stand_for_the_words_of_their_sources(rt: HostRuntime) -> Result<(), 
 #[test]
 fn a_rule_begins_behind_an_include(rt: HostRuntime) -> Result<(), Fail> {
     let alloc = rt.alloc();
-    let texts = [("a", "b, set c,"), ("q", "deny")];
+    const TEXTS: &[(&str, &str)] = &[("a", "b, set c,"), ("q", "deny")];
     const WORDS: &[Spliced] = &[
         (WordKind::LeftParen, "(", 0, 0, 0),
         (WordKind::Open, "{", 0, 0, 1),
@@ -84,11 +84,11 @@ fn a_rule_begins_behind_an_include(rt: HostRuntime) -> Result<(), Fail> {
         (WordKind::Comma, ",", 0, 0, 16),
         (WordKind::Name, "set", 0, 0, 17),
     ];
-    expect_spliced(&rt, alloc, texts.as_slice(), "({include <a>set,set", WORDS)?;
+    expect_spliced(&rt, alloc, TEXTS, "({include <a>set,set", WORDS)?;
     expect_spliced(
         &rt,
         alloc,
-        texts.as_slice(),
+        TEXTS,
         "include <q> ,",
         &[
             (WordKind::Name, "deny", 1, 2, 0),
@@ -98,7 +98,7 @@ fn a_rule_begins_behind_an_include(rt: HostRuntime) -> Result<(), Fail> {
     expect_spliced(
         &rt,
         alloc,
-        texts.as_slice(),
+        TEXTS,
         "include <q>\"b\"",
         &[
             (WordKind::Name, "deny", 1, 2, 0),
@@ -178,6 +178,5 @@ fn includes_of_another_form(rt: HostRuntime) -> Result<(), Fail> {
         ],
         &[WordKind::Name, WordKind::Name],
     )?;
-    let deny = [WordKind::Name];
-    expect_kinds(&rt, alloc, &["deny #include <m>"], deny.as_slice())
+    expect_kinds(&rt, alloc, &["deny #include <m>"], &[WordKind::Name])
 }

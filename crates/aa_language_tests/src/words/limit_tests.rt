@@ -1,56 +1,87 @@
 //! How large texts may be, how deep they may go, and how many.
 
-use crate::words::reading::{add, count_of, end_of, expect_splice_refused, fault_of, line_of};
+use crate::texts::{filled, joined, repeated};
+use crate::words::reading::{
+    add, expect_count, expect_end, expect_fault, expect_line, expect_splice_refused,
+};
 use aa_words::{PolicyFault, PolicyKind, Sources, Spot};
 use std::alloc::{AllocError, Global};
+use std::process::Abort;
 use std::test::Fail;
 
 const LARGEST: usize = 1048576;
 
-const TOO_LARGE: Option<PolicyFault> = Some(PolicyFault {
+const TOO_LARGE: PolicyFault = PolicyFault {
     kind: PolicyKind::TooLarge,
     at: Spot { file: 0, byte: 0 },
-});
+};
 
-const SYNTAX: Option<PolicyFault> = Some(PolicyFault {
+const SYNTAX: PolicyFault = PolicyFault {
     kind: PolicyKind::Syntax,
     at: Spot { file: 0, byte: 0 },
-});
-
-/// As many bytes of a kind.
-fn filled(alloc: Global, byte: u8, len: usize) -> Result<Vec<u8>, AllocError> {
-    vec![in alloc; byte; len]
-}
-
-fn extend(whole: &mut Vec<u8>, text: &[u8]) -> Result<(), AllocError> {
-    whole.extend_from_slice(text)
-}
-
-/// As many times the same text.
-fn repeated(alloc: Global, text: &[u8], times: u32) -> Result<Vec<u8>, AllocError> {
-    let mut whole = Vec::new(alloc);
-    for _ in 0..times {
-        extend(&mut whole, text)?;
-    }
-    Ok(whole)
-}
+};
 
 /// The fault with which a source is refused, if it is.
 fn refusal_of(sources: &mut Sources, name: &[u8], text: &[u8]) -> Option<PolicyFault> {
-    add(sources, name, text).err()
+    match add(sources, name, text) {
+        Ok(()) => None,
+        Err(fault) => Some(fault),
+    }
+}
+
+/// The source is refused for that.
+fn is_refused(
+    rt: &impl Abort,
+    sources: &mut Sources,
+    name: &[u8],
+    text: &[u8],
+    fault: PolicyFault,
+) {
+    assert_eq!(rt; refusal_of(sources, name, text), Some(fault));
+}
+
+/// As many parentheses, and behind them a comma and a word.
+fn in_parentheses(alloc: Global, count: usize) -> Result<Vec<u8>, AllocError> {
+    let front = filled(alloc, b'(', count)?;
+    joined(alloc, &[front.as_slice(), b",a"])
+}
+
+/// A rule that is passed over, of as many braces.
+fn in_braces(alloc: Global, count: usize) -> Result<Vec<u8>, AllocError> {
+    let braces = filled(alloc, b'{', count)?;
+    joined(alloc, &[b"set ", braces.as_slice(), b","])
+}
+
+/// As many parentheses, with a comma and a word behind them, are so many words.
+fn parentheses_count(
+    rt: &impl Abort,
+    alloc: Global,
+    count: usize,
+    expected: Option<usize>,
+) -> Result<(), AllocError> {
+    let sources = Sources::new(alloc);
+    let text = in_parentheses(alloc, count)?;
+    expect_count(rt, alloc, &sources, text.as_slice(), expected);
+    Ok(())
+}
+
+/// A rule that is passed over, of as many braces, is refused for that.
+fn braces_are_refused(
+    rt: &impl Abort,
+    alloc: Global,
+    count: usize,
+    fault: PolicyFault,
+) -> Result<(), AllocError> {
+    let sources = Sources::new(alloc);
+    let rule = in_braces(alloc, count)?;
+    expect_fault(rt, alloc, &sources, rule.as_slice(), fault);
+    Ok(())
 }
 
 #[test]
 fn parentheses_may_be_deep(rt: HostRuntime) -> Result<(), Fail> {
-    let alloc = rt.alloc();
-    let sources = Sources::new(alloc);
-    let mut text = filled(alloc, b'(', 100000)?;
-    text.extend_from_slice(b",a".as_slice())?;
-    assert_eq!(rt; count_of(alloc, &sources, text.as_slice()), Some(100002));
-    let mut rule = repeated(alloc, b"set ".as_slice(), 1)?;
-    rule.extend_from_slice(filled(alloc, b'{', 100000)?.as_slice())?;
-    rule.push(b',')?;
-    assert_eq!(rt; fault_of(alloc, &sources, rule.as_slice()), SYNTAX);
+    parentheses_count(&rt, rt.alloc(), 100000, Some(100002))?;
+    braces_are_refused(&rt, rt.alloc(), 100000, SYNTAX)?;
     Ok(())
 }
 
@@ -89,14 +120,35 @@ fn includes_in_a_circle_go_at_most_16_deep(rt: HostRuntime) -> Result<(), Fail> 
     )
 }
 
+/// A text that includes the first link of a chain of so many has so many words, or is refused.
+fn chain_counts(
+    rt: &impl Abort,
+    alloc: Global,
+    links: u32,
+    expected: Option<usize>,
+) -> Result<(), PolicyFault> {
+    let sources = chain(alloc, links)?;
+    expect_count(rt, alloc, &sources, b"include <c1>", expected);
+    Ok(())
+}
+
+/// The same, where the chain ends at a source of this name.
+fn ended_chain_counts(
+    rt: &impl Abort,
+    alloc: Global,
+    links: u32,
+    end: &[u8],
+    expected: Option<usize>,
+) -> Result<(), PolicyFault> {
+    let sources = ended_chain(alloc, links, end)?;
+    expect_count(rt, alloc, &sources, b"include <c1>", expected);
+    Ok(())
+}
+
 #[test]
 fn includes_go_16_deep(rt: HostRuntime) -> Result<(), Fail> {
-    let alloc = rt.alloc();
-    let main = b"include <c1>".as_slice();
-    let missing = chain(alloc, 15)?;
-    assert_eq!(rt; count_of(alloc, &missing, main), None);
-    let ended = ended_chain(alloc, 15, b"c16".as_slice())?;
-    assert_eq!(rt; count_of(alloc, &ended, main), Some(0));
+    chain_counts(&rt, rt.alloc(), 15, None)?;
+    ended_chain_counts(&rt, rt.alloc(), 15, b"c16", Some(0))?;
     Ok(())
 }
 
@@ -104,9 +156,13 @@ fn includes_go_16_deep(rt: HostRuntime) -> Result<(), Fail> {
 fn includes_go_at_most_16_deep(rt: HostRuntime) -> Result<(), Fail> {
     let alloc = rt.alloc();
     let deeper = ended_chain(alloc, 16, b"c17".as_slice())?;
-    let line = line_of(alloc, &deeper, "include <c1>")?;
-    assert_eq!(rt; line.as_str(), "refused 3 IncludeDepth 16:0");
-    Ok(())
+    expect_line(
+        &rt,
+        alloc,
+        &deeper,
+        "include <c1>",
+        "refused 3 IncludeDepth 16:0",
+    )
 }
 
 /// Adds a source of this number that includes the next one twice.
@@ -126,8 +182,8 @@ fn add_empty(alloc: Global, sources: &mut Sources, number: u32) -> Result<(), Po
 /// Sources a1, a2, .. of which each includes the next one twice, which is missing behind the last.
 fn doubling_chain(alloc: Global, levels: u32) -> Result<Sources, PolicyFault> {
     let mut sources = Sources::new(alloc);
-    for number in 1..levels {
-        add_doubling(alloc, &mut sources, number)?;
+    for before in 0..levels.saturating_sub(1) {
+        add_doubling(alloc, &mut sources, before.wrapping_add(1))?;
     }
     Ok(sources)
 }
@@ -142,11 +198,11 @@ fn doubling(alloc: Global, levels: u32) -> Result<Sources, PolicyFault> {
 #[test]
 fn at_most_4096_readings_are_opened(rt: HostRuntime) -> Result<(), Fail> {
     let alloc = rt.alloc();
-    let main = b"include <a1> include <a1>".as_slice();
+    const MAIN: &[u8] = b"include <a1> include <a1>";
     let sources = doubling(alloc, 11)?;
-    assert_eq!(rt; count_of(alloc, &sources, main), Some(0));
+    expect_count(&rt, alloc, &sources, MAIN, Some(0));
     let more = doubling(alloc, 12)?;
-    assert_eq!(rt; fault_of(alloc, &more, main), TOO_LARGE);
+    expect_fault(&rt, alloc, &more, MAIN, TOO_LARGE);
     Ok(())
 }
 
@@ -158,14 +214,38 @@ fn largest_source(alloc: Global) -> Result<Sources, PolicyFault> {
     Ok(sources)
 }
 
+/// A text that includes the source a so many times has so many words.
+fn includes_count(
+    rt: &impl Abort,
+    alloc: Global,
+    sources: &Sources,
+    times: u32,
+    expected: Option<usize>,
+) -> Result<(), AllocError> {
+    let main = repeated(alloc, b"include <a>", times)?;
+    expect_count(rt, alloc, sources, main.as_slice(), expected);
+    Ok(())
+}
+
+/// A text that includes the source a so many times is refused for that.
+fn includes_are_refused(
+    rt: &impl Abort,
+    alloc: Global,
+    sources: &Sources,
+    times: u32,
+    fault: PolicyFault,
+) -> Result<(), AllocError> {
+    let main = repeated(alloc, b"include <a>", times)?;
+    expect_fault(rt, alloc, sources, main.as_slice(), fault);
+    Ok(())
+}
+
 #[test]
 fn readings_have_at_most_16_mebibytes_together(rt: HostRuntime) -> Result<(), Fail> {
     let alloc = rt.alloc();
     let sources = largest_source(alloc)?;
-    let main = repeated(alloc, b"include <a>".as_slice(), 15)?;
-    assert_eq!(rt; count_of(alloc, &sources, main.as_slice()), Some(0));
-    let more = repeated(alloc, b"include <a>".as_slice(), 16)?;
-    assert_eq!(rt; fault_of(alloc, &sources, more.as_slice()), TOO_LARGE);
+    includes_count(&rt, alloc, &sources, 15, Some(0))?;
+    includes_are_refused(&rt, alloc, &sources, 16, TOO_LARGE)?;
     Ok(())
 }
 
@@ -173,15 +253,15 @@ fn readings_have_at_most_16_mebibytes_together(rt: HostRuntime) -> Result<(), Fa
 fn a_text_has_at_most_a_mebibyte(rt: HostRuntime) -> Result<(), Fail> {
     let alloc = rt.alloc();
     let sources = Sources::new(alloc);
-    let mut text = filled(alloc, b' ', LARGEST)?;
-    assert_eq!(rt; count_of(alloc, &sources, text.as_slice()), Some(0));
-    let end = Spot {
+    const END: Spot = Spot {
         file: 0,
         byte: 1048576,
     };
-    assert_eq!(rt; end_of(alloc, &sources, text.as_slice()), Some(end));
-    text.push(0)?;
-    assert_eq!(rt; fault_of(alloc, &sources, text.as_slice()), TOO_LARGE);
+    let text = filled(alloc, b' ', LARGEST)?;
+    expect_count(&rt, alloc, &sources, text.as_slice(), Some(0));
+    expect_end(&rt, alloc, &sources, text.as_slice(), END);
+    let longer = joined(alloc, &[text.as_slice(), b"\0"])?;
+    expect_fault(&rt, alloc, &sources, longer.as_slice(), TOO_LARGE);
     Ok(())
 }
 
@@ -189,16 +269,13 @@ fn a_text_has_at_most_a_mebibyte(rt: HostRuntime) -> Result<(), Fail> {
 fn a_source_is_added_once_and_not_too_large(rt: HostRuntime) -> Result<(), Fail> {
     let alloc = rt.alloc();
     let mut sources = Sources::new(alloc);
-    add(&mut sources, b"a".as_slice(), b"/x r,".as_slice())?;
-    let twice = refusal_of(&mut sources, b"a".as_slice(), b"".as_slice());
-    assert_eq!(rt; twice, SYNTAX);
-    let mut text = filled(alloc, b' ', LARGEST)?;
-    add(&mut sources, b"b".as_slice(), text.as_slice())?;
-    text.push(b' ')?;
-    let large = refusal_of(&mut sources, b"c".as_slice(), text.as_slice());
-    assert_eq!(rt; large, TOO_LARGE);
-    let both = refusal_of(&mut sources, b"a".as_slice(), text.as_slice());
-    assert_eq!(rt; both, TOO_LARGE);
+    add(&mut sources, b"a", b"/x r,")?;
+    is_refused(&rt, &mut sources, b"a", b"", SYNTAX);
+    let text = filled(alloc, b' ', LARGEST)?;
+    add(&mut sources, b"b", text.as_slice())?;
+    let longer = filled(alloc, b' ', LARGEST + 1)?;
+    is_refused(&rt, &mut sources, b"c", longer.as_slice(), TOO_LARGE);
+    is_refused(&rt, &mut sources, b"a", longer.as_slice(), TOO_LARGE);
     Ok(())
 }
 
@@ -208,16 +285,19 @@ fn add_number(alloc: Global, sources: &mut Sources, number: u32) -> Result<(), P
     add(sources, name.as_bytes(), b"".as_slice())
 }
 
-#[test]
-fn at_most_4095_names_are_added(rt: HostRuntime) -> Result<(), Fail> {
-    let alloc = rt.alloc();
+/// So many empty sources, whose names are their numbers from 0 on.
+fn numbered(alloc: Global, count: u32) -> Result<Sources, PolicyFault> {
     let mut sources = Sources::new(alloc);
-    for number in 0..4095u32 {
+    for number in 0..count {
         add_number(alloc, &mut sources, number)?;
     }
-    let more = refusal_of(&mut sources, b"4095".as_slice(), b"".as_slice());
-    assert_eq!(rt; more, TOO_LARGE);
-    let twice = refusal_of(&mut sources, b"0".as_slice(), b"".as_slice());
-    assert_eq!(rt; twice, TOO_LARGE);
+    Ok(sources)
+}
+
+#[test]
+fn at_most_4095_names_are_added(rt: HostRuntime) -> Result<(), Fail> {
+    let mut sources = numbered(rt.alloc(), 4095)?;
+    is_refused(&rt, &mut sources, b"4095", b"", TOO_LARGE);
+    is_refused(&rt, &mut sources, b"0", b"", TOO_LARGE);
     Ok(())
 }

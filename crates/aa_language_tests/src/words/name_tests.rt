@@ -20,7 +20,7 @@ fn are_so(rt: &impl Abort, names: &[&[u8]], is_passed: bool, is_warned: bool) {
 
 #[test]
 fn hidden_files_and_what_package_managers_keep_are_passed_over(rt: HostRuntime) {
-    let names: [&[u8]; 10] = [
+    const NAMES: &[&[u8]] = &[
         b".git",
         b".",
         b"README",
@@ -32,18 +32,18 @@ fn hidden_files_and_what_package_managers_keep_are_passed_over(rt: HostRuntime) 
         b"a.pacsave",
         b"a.pacnew",
     ];
-    are_so(&rt, names.as_slice(), true, false);
+    are_so(&rt, NAMES, true, false);
 }
 
 #[test]
 fn leftovers_are_passed_over_with_a_warning(rt: HostRuntime) {
-    let names: [&[u8]; 6] = [b"a.rpmnew", b"a.rpmsave", b"a.orig", b"a.rej", b"a~", b"~"];
-    are_so(&rt, names.as_slice(), true, true);
+    const NAMES: &[&[u8]] = &[b"a.rpmnew", b"a.rpmsave", b"a.orig", b"a.rej", b"a~", b"~"];
+    are_so(&rt, NAMES, true, true);
 }
 
 #[test]
 fn other_files_are_read(rt: HostRuntime) {
-    let names: [&[u8]; 12] = [
+    const NAMES: &[&[u8]] = &[
         b"usr.sbin.cupsd",
         b"a.bak",
         b"a.swp",
@@ -57,18 +57,30 @@ fn other_files_are_read(rt: HostRuntime) {
         b"dpkg-old",
         b"a\xFF",
     ];
-    are_so(&rt, names.as_slice(), false, false);
+    are_so(&rt, NAMES, false, false);
 }
 
 fn may_stand(path: &[u8]) -> bool {
     can_be_included(path)
 }
 
+/// The paths may stand in an include, or not.
+fn may_stand_or_not(rt: &impl Abort, rows: &[(&[u8], bool)]) {
+    for (path, may) in rows {
+        assert_eq!(rt; may_stand(path), *may);
+    }
+}
+
 #[test]
 fn a_path_with_a_quote_or_a_line_end_cannot_be_included(rt: HostRuntime) {
-    assert!(&rt; may_stand(b"/etc/apparmor.d/local/a b>c"));
-    assert!(&rt; may_stand(b""));
-    assert!(&rt; !may_stand(b"/x/\"y"));
-    assert!(&rt; !may_stand(b"/x/y\n"));
-    assert!(&rt; !may_stand(b"/x\0y"));
+    may_stand_or_not(
+        &rt,
+        &[
+            (b"/etc/apparmor.d/local/a b>c", true),
+            (b"", true),
+            (b"/x/\"y", false),
+            (b"/x/y\n", false),
+            (b"/x\0y", false),
+        ],
+    );
 }

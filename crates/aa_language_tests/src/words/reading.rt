@@ -1,6 +1,7 @@
 //! What texts give, in plain values that tests compare. The helpers have no clauses, so that a test's proof stays short.
 
-use aa_words::{PolicyFault, Sources, Span, Spot, Word, WordKind, WordList, words};
+use crate::texts::words_of;
+use aa_words::{PolicyFault, Sources, Span, Spot, Word, WordKind};
 use std::alloc::{AllocError, Global};
 use std::process::Abort;
 use std::test::Fail;
@@ -13,15 +14,6 @@ pub(crate) type Spliced<'e> = (WordKind, &'e str, u32, u16, u32);
 
 /// A text and the line of its fault.
 pub(crate) type Refused<'e> = (&'e str, &'e str);
-
-/// The words of a text and of what it includes.
-fn read<'s>(
-    alloc: Global,
-    sources: &'s Sources,
-    main: &'s [u8],
-) -> Result<WordList<'s>, PolicyFault> {
-    words(alloc, sources, main)
-}
 
 /// Adds a source.
 pub(crate) fn add(sources: &mut Sources, name: &[u8], text: &[u8]) -> Result<(), PolicyFault> {
@@ -37,49 +29,101 @@ pub(crate) fn sources_of(alloc: Global, texts: &[(&str, &str)]) -> Result<Source
     Ok(sources)
 }
 
+/// How many words a text has, and the place behind them.
+fn extent_of(alloc: Global, sources: &Sources, main: &[u8]) -> Result<(usize, Spot), PolicyFault> {
+    let found = words_of(alloc, sources, main)?;
+    Ok((found.list.len(), found.end))
+}
+
 /// How many words a text has, if it is not refused.
-pub(crate) fn count_of(alloc: Global, sources: &Sources, main: &[u8]) -> Option<usize> {
-    match read(alloc, sources, main) {
-        Ok(found) => Some(found.list.len()),
+fn count_of(alloc: Global, sources: &Sources, main: &[u8]) -> Option<usize> {
+    match extent_of(alloc, sources, main) {
+        Ok((count, _)) => Some(count),
         Err(_) => None,
     }
 }
 
 /// The place behind a text's words, if it is not refused.
-pub(crate) fn end_of(alloc: Global, sources: &Sources, main: &[u8]) -> Option<Spot> {
-    match read(alloc, sources, main) {
-        Ok(found) => Some(found.end),
+fn end_of(alloc: Global, sources: &Sources, main: &[u8]) -> Option<Spot> {
+    match extent_of(alloc, sources, main) {
+        Ok((_, end)) => Some(end),
         Err(_) => None,
     }
 }
 
-/// The words of a text that has two.
-pub(crate) fn two_words<'s>(
-    alloc: Global,
-    sources: &'s Sources,
-    main: &'s [u8],
-) -> Option<(Word<'s>, Word<'s>)> {
-    let found = read(alloc, sources, main).ok()?;
-    match found.list.as_slice() {
-        [first, second] => Some((*first, *second)),
-        _ => None,
+/// The fault for which a text is refused, if it is.
+fn fault_of(alloc: Global, sources: &Sources, main: &[u8]) -> Option<PolicyFault> {
+    match extent_of(alloc, sources, main) {
+        Ok(_) => None,
+        Err(fault) => Some(fault),
     }
 }
 
-/// The kind of the second word of a text that has two.
-pub(crate) fn second_of_two(alloc: Global, text: &str) -> Option<WordKind> {
-    let sources = Sources::new(alloc);
-    let (_, second) = two_words(alloc, &sources, text.as_bytes())?;
-    Some(second.kind)
+/// A text that may include these sources has so many words, or is refused.
+pub(crate) fn expect_count(
+    rt: &impl Abort,
+    alloc: Global,
+    sources: &Sources,
+    main: &[u8],
+    expected: Option<usize>,
+) {
+    assert_eq!(rt; count_of(alloc, sources, main), expected);
 }
 
-/// The fault for which a text is refused, if it is.
-pub(crate) fn fault_of(alloc: Global, sources: &Sources, main: &[u8]) -> Option<PolicyFault> {
-    read(alloc, sources, main).err()
+/// This is the place behind a text's words.
+pub(crate) fn expect_end(
+    rt: &impl Abort,
+    alloc: Global,
+    sources: &Sources,
+    main: &[u8],
+    expected: Spot,
+) {
+    assert_eq!(rt; end_of(alloc, sources, main), Some(expected));
+}
+
+/// A text that may include these sources is refused for that.
+pub(crate) fn expect_fault(
+    rt: &impl Abort,
+    alloc: Global,
+    sources: &Sources,
+    main: &[u8],
+    expected: PolicyFault,
+) {
+    assert_eq!(rt; fault_of(alloc, sources, main), Some(expected));
+}
+
+/// Whether the words are two, of which the first has this kind and these bytes.
+fn is_first_of_two(found: &[Word], kind: WordKind, bytes: &[u8]) -> bool {
+    match found {
+        [first, _] => first.kind == kind && first.text == bytes,
+        _ => false,
+    }
+}
+
+/// Whether the words are two, of which the second is quoted.
+fn is_quoted_behind(found: &[Word]) -> bool {
+    match found {
+        [_, second] => second.kind == WordKind::Quoted,
+        _ => false,
+    }
+}
+
+/// The first of a text's two words has this kind and these bytes.
+pub(crate) fn expect_first_of_two(
+    rt: &impl Abort,
+    alloc: Global,
+    text: &[u8],
+    kind: WordKind,
+    bytes: &[u8],
+) -> Result<(), Fail> {
+    let sources = Sources::new(alloc);
+    let found = words_of(alloc, &sources, text)?;
+    assert!(rt; is_first_of_two(found.list.as_slice(), kind, bytes));
+    Ok(())
 }
 
 /// The line of the fault for which a text is refused, or that it is accepted.
-pub(crate) fn line_of(alloc: Global, sources: &Sources, main: &str) -> Result<String, AllocError> {
+fn line_of(alloc: Global, sources: &Sources, main: &str) -> Result<String, AllocError> {
     match fault_of(alloc, sources, main.as_bytes()) {
         Some(fault) => format!(in alloc; "{fault}"),
         None => "accepted".to_string(alloc),
@@ -109,15 +153,47 @@ fn is_spliced(word: &Word, expected: &Spliced) -> bool {
 }
 
 fn are_expected(found: &[Word], expected: &[Expected]) -> bool {
-    found.len() == expected.len() && found.iter().zip(expected).all(|(w, e)| is_expected(w, e))
+    let mut all = found.len() == expected.len();
+    for (word, row) in found.iter().zip(expected) {
+        all = all && is_expected(word, row);
+    }
+    all
 }
 
 fn are_spliced(found: &[Word], expected: &[Spliced]) -> bool {
-    found.len() == expected.len() && found.iter().zip(expected).all(|(w, e)| is_spliced(w, e))
+    let mut all = found.len() == expected.len();
+    for (word, row) in found.iter().zip(expected) {
+        all = all && is_spliced(word, row);
+    }
+    all
 }
 
 fn are_kinds(found: &[Word], kinds: &[WordKind]) -> bool {
-    found.len() == kinds.len() && found.iter().zip(kinds).all(|(w, k)| w.kind == *k)
+    let mut all = found.len() == kinds.len();
+    for (word, kind) in found.iter().zip(kinds) {
+        all = all && word.kind == *kind;
+    }
+    all
+}
+
+/// The second of a text's two words is quoted.
+fn expect_quoted(rt: &impl Abort, alloc: Global, text: &str) -> Result<(), Fail> {
+    let sources = Sources::new(alloc);
+    let found = words_of(alloc, &sources, text.as_bytes())?;
+    assert!(rt; is_quoted_behind(found.list.as_slice()), "in {text}");
+    Ok(())
+}
+
+/// Each text has two words, and the second is quoted.
+pub(crate) fn expect_quoted_behind(
+    rt: &impl Abort,
+    alloc: Global,
+    texts: &[&str],
+) -> Result<(), Fail> {
+    for text in texts {
+        expect_quoted(rt, alloc, text)?;
+    }
+    Ok(())
 }
 
 /// A text gives exactly these words, each with its kind, its bytes and its place.
@@ -128,8 +204,21 @@ pub(crate) fn expect_words(
     expected: &[Expected],
 ) -> Result<(), Fail> {
     let sources = Sources::new(alloc);
-    let found = read(alloc, &sources, text.as_bytes())?;
+    let found = words_of(alloc, &sources, text.as_bytes())?;
     assert!(rt; are_expected(found.list.as_slice(), expected), "in {text}");
+    Ok(())
+}
+
+/// A text gives words of exactly these kinds.
+fn expect_kinds_of(
+    rt: &impl Abort,
+    alloc: Global,
+    text: &str,
+    kinds: &[WordKind],
+) -> Result<(), Fail> {
+    let sources = Sources::new(alloc);
+    let found = words_of(alloc, &sources, text.as_bytes())?;
+    assert!(rt; are_kinds(found.list.as_slice(), kinds), "in {text}");
     Ok(())
 }
 
@@ -140,15 +229,14 @@ pub(crate) fn expect_kinds(
     texts: &[&str],
     kinds: &[WordKind],
 ) -> Result<(), Fail> {
-    let sources = Sources::new(alloc);
     for text in texts {
-        let found = read(alloc, &sources, text.as_bytes())?;
-        assert!(rt; are_kinds(found.list.as_slice(), kinds), "in {text}");
+        expect_kinds_of(rt, alloc, text, kinds)?;
     }
     Ok(())
 }
 
-fn expect_line(
+/// A text that may include these sources is refused with this line.
+pub(crate) fn expect_line(
     rt: &impl Abort,
     alloc: Global,
     sources: &Sources,
@@ -188,7 +276,7 @@ pub(crate) fn expect_spliced(
     expected: &[Spliced],
 ) -> Result<(), Fail> {
     let sources = sources_of(alloc, texts)?;
-    let found = read(alloc, &sources, main.as_bytes())?;
+    let found = words_of(alloc, &sources, main.as_bytes())?;
     assert!(rt; are_spliced(found.list.as_slice(), expected), "in {main}");
     Ok(())
 }

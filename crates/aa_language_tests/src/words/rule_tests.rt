@@ -4,14 +4,14 @@ use crate::words::reading::{
     Expected, expect_kinds, expect_refused, expect_same_refusal, expect_words,
 };
 use aa_words::WordKind;
-use std::alloc::Global;
+use std::alloc::{AllocError, Global};
 use std::process::Abort;
 use std::test::Fail;
 
 #[test]
 fn rules_that_are_passed_over_are_words(rt: HostRuntime) -> Result<(), Fail> {
     let alloc = rt.alloc();
-    let keywords = [
+    const KEYWORDS: &[&str] = &[
         "signal",
         "ptrace",
         "dbus",
@@ -25,10 +25,8 @@ fn rules_that_are_passed_over_are_words(rt: HostRuntime) -> Result<(), Fail> {
         "mqueue",
         "io_uring",
     ];
-    expect_same_refusal(&rt, alloc, keywords.as_slice(), "refused 4 Syntax 0:0")?;
-    for keyword in keywords {
-        expect_keyword(&rt, alloc, keyword)?;
-    }
+    expect_same_refusal(&rt, alloc, KEYWORDS, "refused 4 Syntax 0:0")?;
+    expect_keywords(&rt, alloc, KEYWORDS)?;
     const WORDS: &[Expected] = &[
         (WordKind::Name, "profile", 0, 7),
         (WordKind::Name, "p", 8, 9),
@@ -51,18 +49,18 @@ fn rules_that_are_passed_over_are_words(rt: HostRuntime) -> Result<(), Fail> {
         "profile p { signal (send, receive) peer=\"a,b\", /x r, }",
         WORDS,
     )?;
-    let mount = [
+    const MOUNT: &[Expected] = &[
         (WordKind::Name, "audit", 0, 5),
         (WordKind::Name, "deny", 6, 10),
         (WordKind::Skipped, "mount options=(rw, bind)", 11, 35),
         (WordKind::Comma, ",", 35, 36),
     ];
-    expect_words(
-        &rt,
-        alloc,
-        "audit deny mount options=(rw, bind),",
-        mount.as_slice(),
-    )
+    expect_words(&rt, alloc, "audit deny mount options=(rw, bind),", MOUNT)
+}
+
+/// The parts of a text, one behind the other.
+fn spelled(alloc: Global, front: &str, keyword: &str, behind: &str) -> Result<String, AllocError> {
+    format!(in alloc; "{front}{keyword}{behind}")
 }
 
 /// The parts of a text, one behind the other, give words of these kinds.
@@ -72,7 +70,7 @@ fn expect_kinds_around(
     [front, keyword, behind]: [&str; 3],
     kinds: &[WordKind],
 ) -> Result<(), Fail> {
-    let text = format!(in alloc; "{front}{keyword}{behind}")?;
+    let text = spelled(alloc, front, keyword, behind)?;
     expect_kinds(rt, alloc, &[text.as_str()], kinds)
 }
 
@@ -83,14 +81,14 @@ fn expect_kinds_longer(
     keyword: &str,
     kinds: &[WordKind],
 ) -> Result<(), Fail> {
-    let text = format!(in alloc; "{keyword}s {keyword}")?;
+    let text = spelled(alloc, keyword, "s ", keyword)?;
     expect_kinds(rt, alloc, &[text.as_str()], kinds)
 }
 
 /// A rule that is passed over begins with the keyword, also behind qualifiers, but not behind `owner`, and not where more
 /// letters stand behind the keyword.
 fn expect_keyword(rt: &impl Abort, alloc: Global, keyword: &str) -> Result<(), Fail> {
-    let names = [WordKind::Name, WordKind::Name];
+    const NAMES: &[WordKind] = &[WordKind::Name, WordKind::Name];
     expect_kinds_around(
         rt,
         alloc,
@@ -108,25 +106,49 @@ fn expect_keyword(rt: &impl Abort, alloc: Global, keyword: &str) -> Result<(), F
             WordKind::Comma,
         ],
     )?;
-    expect_kinds_around(rt, alloc, ["owner ", keyword, ""], names.as_slice())?;
-    expect_kinds_longer(rt, alloc, keyword, names.as_slice())
+    expect_kinds_around(rt, alloc, ["owner ", keyword, ""], NAMES)?;
+    expect_kinds_longer(rt, alloc, keyword, NAMES)
+}
+
+/// A rule that is passed over begins with each of the keywords.
+fn expect_keywords(rt: &impl Abort, alloc: Global, keywords: &[&str]) -> Result<(), Fail> {
+    for keyword in keywords {
+        expect_keyword(rt, alloc, keyword)?;
+    }
+    Ok(())
 }
 
 /// One rule that is passed over, and the comma that ends it at the text's end.
 fn expect_skipped(rt: &impl Abort, alloc: Global, rule: &str) -> Result<(), Fail> {
-    let text = format!(in alloc; "{rule},")?;
-    let end = u32::try_from(rule.len()).unwrap_or(0);
-    let expected = [
-        (WordKind::Skipped, rule, 0, end),
-        (WordKind::Comma, ",", end, end.wrapping_add(1)),
-    ];
-    expect_words(rt, alloc, text.as_str(), expected.as_slice())
+    let text = spelled(alloc, rule, ",", "")?;
+    let end = len_of(rule);
+    expect_words(
+        rt,
+        alloc,
+        text.as_str(),
+        &[
+            (WordKind::Skipped, rule, 0, end),
+            (WordKind::Comma, ",", end, end.wrapping_add(1)),
+        ],
+    )
+}
+
+fn len_of(text: &str) -> u32 {
+    u32::try_from(text.len()).unwrap_or(0)
+}
+
+/// Each of the rules is passed over up to the comma that ends it at the text's end.
+fn expect_skipped_each(rt: &impl Abort, alloc: Global, rules: &[&str]) -> Result<(), Fail> {
+    for rule in rules {
+        expect_skipped(rt, alloc, rule)?;
+    }
+    Ok(())
 }
 
 #[test]
 fn passed_over_rules_end_at_the_first_comma_outside(rt: HostRuntime) -> Result<(), Fail> {
     let alloc = rt.alloc();
-    let rules = [
+    const RULES: &[&str] = &[
         "mount {a,b} -> /c",
         "dbus [a,(b],)",
         "ptrace ))(, ) }",
@@ -141,9 +163,7 @@ fn passed_over_rules_end_at_the_first_comma_outside(rt: HostRuntime) -> Result<(
         "unix->\"/a,b\"",
         "signal {[(\")]},\")]}",
     ];
-    for rule in rules {
-        expect_skipped(&rt, alloc, rule)?;
-    }
+    expect_skipped_each(&rt, alloc, RULES)?;
     expect_refused(
         &rt,
         alloc,

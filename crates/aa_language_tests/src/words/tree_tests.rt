@@ -15,32 +15,36 @@ fn searched(
     candidates(alloc, in_angles, name, folders)
 }
 
+fn is_text(found: &Vec<u8>, wanted: &[u8]) -> bool {
+    found.as_slice() == wanted
+}
+
 fn are_paths(rt: &impl Abort, found: &[Vec<u8>], wanted: &[&[u8]]) {
     assert_eq!(rt; found.len(), wanted.len());
     for (path, text) in found.iter().zip(wanted) {
-        assert!(rt; path.as_slice() == *text);
+        assert!(rt; is_text(path, text));
     }
 }
 
 #[test]
 fn a_name_in_angles_is_searched_in_each_folder_in_turn(rt: HostRuntime) -> Result<(), Fail> {
-    let folders: [&[u8]; 3] = [b"/x", b"/y/", b"/etc/apparmor.d"];
-    let found = searched(rt.alloc(), true, b"abstractions/base", folders.as_slice())?;
-    let wanted: [&[u8]; 3] = [
+    const FOLDERS: &[&[u8]] = &[b"/x", b"/y/", b"/etc/apparmor.d"];
+    const WANTED: &[&[u8]] = &[
         b"/x/abstractions/base",
         b"/y/abstractions/base",
         b"/etc/apparmor.d/abstractions/base",
     ];
-    are_paths(&rt, found.as_slice(), wanted.as_slice());
+    let found = searched(rt.alloc(), true, b"abstractions/base", FOLDERS)?;
+    are_paths(&rt, found.as_slice(), WANTED);
     Ok(())
 }
 
 #[test]
 fn a_name_in_quotes_stands_as_it_is(rt: HostRuntime) -> Result<(), Fail> {
-    let folders: [&[u8]; 2] = [b"/x", b"/etc/apparmor.d"];
-    let found = searched(rt.alloc(), false, b"local/a", folders.as_slice())?;
-    let wanted: [&[u8]; 1] = [b"local/a"];
-    are_paths(&rt, found.as_slice(), wanted.as_slice());
+    const FOLDERS: &[&[u8]] = &[b"/x", b"/etc/apparmor.d"];
+    const WANTED: &[&[u8]] = &[b"local/a"];
+    let found = searched(rt.alloc(), false, b"local/a", FOLDERS)?;
+    are_paths(&rt, found.as_slice(), WANTED);
     Ok(())
 }
 
@@ -50,21 +54,32 @@ fn lines(alloc: Global, folder: &[u8], names: &[&[u8]]) -> Result<Vec<u8>, Alloc
 
 #[test]
 fn a_folder_stands_for_includes_of_its_files(rt: HostRuntime) -> Result<(), Fail> {
-    let names: [&[u8]; 5] = [b"10-a", b"20 b", b"20 b~", b".c", b"README"];
-    let text = lines(
-        rt.alloc(),
-        b"/etc/apparmor.d/abstractions/base.d",
-        names.as_slice(),
-    )?;
-    let wanted =
+    const NAMES: &[&[u8]] = &[b"10-a", b"20 b", b"20 b~", b".c", b"README"];
+    let text = lines(rt.alloc(), b"/etc/apparmor.d/abstractions/base.d", NAMES)?;
+    const WANTED: &[u8] =
         b"include \"/etc/apparmor.d/abstractions/base.d/10-a\"\ninclude \"/etc/apparmor.d/abstractions/base.d/20 b\"\n";
-    assert!(&rt; text.as_slice() == wanted.as_slice());
+    assert!(&rt; is_text(&text, WANTED));
     assert_eq!(&rt; lines(rt.alloc(), b"/x", &[])?.len(), 0);
     Ok(())
 }
 
 fn found(alloc: Global, text: &[u8]) -> Result<Vec<IncludeAt<'_>>, AllocError> {
     includes_of(alloc, text)
+}
+
+/// The include has this name, first byte, and leave to be missing.
+fn is_include(rt: &impl Abort, include: &IncludeAt<'_>, name: &[u8], byte: usize, optional: bool) {
+    assert!(rt; include.name() == name);
+    assert_eq!(rt; include.byte, byte);
+    assert_eq!(rt; include.is_optional(), optional);
+}
+
+/// The includes are these.
+fn are_includes(rt: &impl Abort, found: &[IncludeAt<'_>], wanted: &[(&[u8], usize, bool)]) {
+    assert_eq!(rt; found.len(), wanted.len());
+    for (include, (name, byte, is_optional)) in found.iter().zip(wanted) {
+        is_include(rt, include, name, *byte, *is_optional);
+    }
 }
 
 /// The includes of a text are these: a name, its first byte, and whether it may be missing.
@@ -75,12 +90,7 @@ fn has_includes(
     wanted: &[(&[u8], usize, bool)],
 ) -> Result<(), AllocError> {
     let includes = found(alloc, text)?;
-    assert_eq!(rt; includes.len(), wanted.len());
-    for (include, (name, byte, is_optional)) in includes.iter().zip(wanted) {
-        assert!(rt; include.name() == *name);
-        assert_eq!(rt; include.byte, *byte);
-        assert_eq!(rt; include.is_optional(), *is_optional);
-    }
+    are_includes(rt, includes.as_slice(), wanted);
     Ok(())
 }
 
@@ -123,8 +133,8 @@ fn includes_are_found_up_to_where_the_words_break_off(rt: HostRuntime) -> Result
 #[test]
 fn a_lines_include_is_the_file_that_it_names(rt: HostRuntime) -> Result<(), Fail> {
     let alloc = rt.alloc();
-    let names: [&[u8]; 2] = [b"a>b", b"c d"];
-    let text = lines(alloc, b"/f", names.as_slice())?;
+    const NAMES: &[&[u8]] = &[b"a>b", b"c d"];
+    let text = lines(alloc, b"/f", NAMES)?;
     has_includes(
         &rt,
         alloc,

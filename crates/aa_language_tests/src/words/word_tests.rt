@@ -1,7 +1,7 @@
 //! Words of one text.
 
 use crate::words::reading::{
-    Expected, end_of, expect_kinds, expect_words, second_of_two, two_words,
+    Expected, expect_end, expect_first_of_two, expect_kinds, expect_quoted_behind, expect_words,
 };
 use aa_words::{Sources, Spot, WordKind};
 use std::test::Fail;
@@ -20,8 +20,8 @@ fn a_text_that_ends_too_early_gives_its_words(rt: HostRuntime) -> Result<(), Fai
     ];
     expect_words(&rt, alloc, text, WORDS)?;
     let sources = Sources::new(alloc);
-    let end = end_of(alloc, &sources, text.as_bytes());
-    assert_eq!(rt; end, Some(Spot { file: 0, byte: 17 }));
+    const END: Spot = Spot { file: 0, byte: 17 };
+    expect_end(&rt, alloc, &sources, text.as_bytes(), END);
     Ok(())
 }
 
@@ -92,13 +92,13 @@ fn names_end_at_signs(rt: HostRuntime) -> Result<(), Fail> {
 
 #[test]
 fn bytes_that_are_no_utf8_stand_in_words(rt: HostRuntime) -> Result<(), Fail> {
-    let alloc = rt.alloc();
-    let sources = Sources::new(alloc);
-    let text = b"/\xff\xfe \xc3z";
-    let (first, _) = two_words(alloc, &sources, text.as_slice()).ok_or("not two words")?;
-    assert_eq!(rt; first.kind, WordKind::Path);
-    assert!(rt; first.text == b"/\xff\xfe".as_slice());
-    Ok(())
+    expect_first_of_two(
+        &rt,
+        rt.alloc(),
+        b"/\xff\xfe \xc3z",
+        WordKind::Path,
+        b"/\xff\xfe",
+    )
 }
 
 #[test]
@@ -204,14 +204,10 @@ fn quoted_words_stand_between_their_quotes(rt: HostRuntime) -> Result<(), Fail> 
             (WordKind::Quoted, "#{\n", 8, 11),
         ],
     )?;
-    let texts = [
+    const TEXTS: &[&str] = &[
         "{\"a\"", "}\"a\"", ",\"a\"", "=\"a\"", "(\"a\"", ")\"a\"", "+=\"a\"", "->\"a\"",
     ];
-    for text in texts {
-        let second = second_of_two(alloc, text);
-        assert_eq!(rt; second, Some(WordKind::Quoted), "in {text}");
-    }
-    Ok(())
+    expect_quoted_behind(&rt, alloc, TEXTS)
 }
 
 #[test]
@@ -264,13 +260,13 @@ fn values_may_be_any_bytes(rt: HostRuntime) -> Result<(), Fail> {
         (WordKind::Comma, ",", 37, 38),
     ];
     expect_words(&rt, alloc, "@{A}={b,c} , ->= signal d#e #f\nsignal,", WORDS)?;
-    let behind = [
+    const BEHIND: &[WordKind] = &[
         WordKind::Path,
         WordKind::Equals,
         WordKind::Value,
         WordKind::Skipped,
         WordKind::Comma,
     ];
-    expect_kinds(&rt, alloc, &["@{A}=\"b\"#c\nset,"], behind.as_slice())?;
-    expect_kinds(&rt, alloc, &["@{A} = b\\\r\nset,"], behind.as_slice())
+    expect_kinds(&rt, alloc, &["@{A}=\"b\"#c\nset,"], BEHIND)?;
+    expect_kinds(&rt, alloc, &["@{A} = b\\\r\nset,"], BEHIND)
 }
