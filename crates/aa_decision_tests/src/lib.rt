@@ -6,6 +6,8 @@ mod asks;
 #[cfg(test)]
 mod auto;
 #[cfg(test)]
+mod comparing;
+#[cfg(test)]
 mod compile;
 #[cfg(test)]
 mod mediate;

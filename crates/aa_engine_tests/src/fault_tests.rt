@@ -1,5 +1,6 @@
 //! Why a job isn't answered, and how that is told.
 
+use crate::comparing::equal;
 use crate::jobs::{COMMANDS, Command, gives};
 use aa_engine::RunFault;
 use aa_faults::{PolicyFault, PolicyKind, Spot};
@@ -119,7 +120,7 @@ fn is_told(
     status: u8,
 ) -> Result<(), Fail> {
     let text = told(alloc, fault)?;
-    assert_eq!(rt; text.as_str(), line);
+    equal(rt, text.as_str(), line);
     assert_eq!(rt; status_of(fault), status, "{line}");
     Ok(())
 }

@@ -1,5 +1,6 @@
 //! Jobs and policies that break off.
 
+use crate::comparing::holds;
 use crate::jobs::{COMMANDS, Command, MOVING_JOB, answer, gives};
 use aa_engine::RunFault;
 use aa_jobs::JobFault;
@@ -48,8 +49,8 @@ fn is_accepted<R: Abort + Threads + Wait + Sync>(
     match answer(rt, alloc, Command::Check, &mut reader, &mut written) {
         Ok(()) => Ok(true),
         Err(fault) => {
-            assert!(rt; matches!(fault, RunFault::Policy(_)));
-            assert!(rt; written.is_empty());
+            holds(rt, matches!(fault, RunFault::Policy(_)));
+            holds(rt, written.is_empty());
             Ok(false)
         }
     }

@@ -2,6 +2,7 @@
 
 ghost use Rattle.aa_mediate.specs.Reply.{reply};
 
+use crate::comparing::equal;
 use crate::jobs::{Requests, answers, job_of, lent_answers, policies_of};
 use aa_engine::{Answered, MediateFault};
 use aa_jobs::Job;
@@ -133,9 +134,10 @@ fn granted_by<R: Threads + Wait + Sync>(
 #[test]
 fn two_workers_decide_two_tasks_at_once(rt: HostRuntime) -> Result<(), Fail> {
     for workers in [2, 16] {
-        assert_eq!(rt;
+        equal(
+            &rt,
             granted_by(&rt, rt.alloc(), Requests::Copied, workers)?,
-            (2, 0)
+            (2, 0),
         );
     }
     Ok(())
@@ -143,16 +145,21 @@ fn two_workers_decide_two_tasks_at_once(rt: HostRuntime) -> Result<(), Fail> {
 
 #[test]
 fn one_worker_decides_them_one_after_the_other(rt: HostRuntime) -> Result<(), Fail> {
-    assert_eq!(rt; granted_by(&rt, rt.alloc(), Requests::Copied, 1)?, (2, 1));
+    equal(
+        &rt,
+        granted_by(&rt, rt.alloc(), Requests::Copied, 1)?,
+        (2, 1),
+    );
     Ok(())
 }
 
 #[test]
 fn two_workers_decide_lent_requests_of_two_tasks_at_once(rt: HostRuntime) -> Result<(), Fail> {
     for workers in [2, 16] {
-        assert_eq!(rt;
+        equal(
+            &rt,
             granted_by(&rt, rt.alloc(), Requests::Lent, workers)?,
-            (2, 0)
+            (2, 0),
         );
     }
     Ok(())

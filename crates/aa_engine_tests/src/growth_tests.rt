@@ -1,6 +1,7 @@
 //! Whole jobs where a growth is refused. Each test passes whichever of its growths is refused: it asks again, and what was
 //! refused for want of memory has written nothing.
 
+use crate::comparing::holds;
 use crate::jobs::{COMMANDS, Command, FIRST_JOB, MOVED, MOVING_JOB, answer, first_text};
 use aa_engine::RunFault;
 use std::alloc::Global;
@@ -25,11 +26,11 @@ fn is_answered<R: Abort + Threads + Wait + Sync>(
     let mut reader = job;
     let given = answer(rt, alloc, command, &mut reader, &mut written);
     if given == Ok(()) {
-        assert!(rt; written.as_slice() == text);
+        holds(rt, written.as_slice() == text);
         return true;
     }
-    assert!(rt; given == Err(RunFault::NoMemory));
-    assert!(rt; written.is_empty());
+    holds(rt, given == Err(RunFault::NoMemory));
+    holds(rt, written.is_empty());
     false
 }
 

@@ -2,6 +2,7 @@
 
 ghost use Rattle.std.specs.Prelude.{◌<◌, ◌≤◌};
 
+use crate::comparing::holds;
 use aa_engine::{
     Answered, Lent, MediateFault, RunFault, check_job, mediate, mediate_lent, replay_job, run_job,
 };
@@ -169,6 +170,6 @@ pub fn gives<H: Abort + Threads + Wait + Sync>(
     let mut reader = job;
     let mut written = Vec::new(alloc);
     let given = answer(rt, alloc, command, &mut reader, &mut written);
-    assert!(rt; given == wanted);
-    assert!(rt; written.as_slice() == text);
+    holds(rt, given == wanted);
+    holds(rt, written.as_slice() == text);
 }

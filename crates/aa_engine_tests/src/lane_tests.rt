@@ -3,6 +3,7 @@
 ghost use Rattle.std.specs.Prelude.{◌≡◌};
 ghost use Rattle.aa_lane.specs.Ends.{known};
 
+use crate::comparing::equal;
 use crate::jobs::{FIRST_JOB, job_of, policies_of};
 use aa_jobs::{Job, Task, Work};
 use aa_lane::{Answered, Ends, Lane, LaneFault, Owner, SendFault, Served, Server};
@@ -127,7 +128,7 @@ fn is_sent<'p>(
     requires { owner.old.lane ≡ known lane.now }
     ensures { owner.new.lane ≡ known lane.now }
 {
-    assert_eq!(rt; sends(lane, owner, job, number), wanted);
+    equal(rt, sends(lane, owner, job, number), wanted);
 }
 
 fn is_collected<'p>(
@@ -139,7 +140,7 @@ fn is_collected<'p>(
     requires { owner.old.lane ≡ known lane.now }
     ensures { owner.new.lane ≡ known lane.now }
 {
-    assert_eq!(rt; collects(lane, owner), wanted);
+    equal(rt, collects(lane, owner), wanted);
 }
 
 fn is_served<'p>(
@@ -152,7 +153,7 @@ fn is_served<'p>(
     ensures { result.lane ≡ known lane.now }
 {
     let (server, outcome) = serves(lane, server);
-    assert_eq!(rt; outcome, wanted);
+    equal(rt, outcome, wanted);
     server
 }
 
@@ -245,7 +246,7 @@ fn totals(
         Label::Confined(0, 0),
     )?;
     let server = fills(rt, &lane, &mut owner, server, job);
-    assert_eq!(rt; shutter.shut(&lane), 2);
+    equal(rt, shutter.shut(&lane), 2);
     let server = empties(rt, &lane, &mut owner, server, job);
     let owner = owner.exit(&lane);
     Ok(closed(
@@ -263,9 +264,10 @@ fn a_lane_of_one_slot_over_a_policy_is_filled_and_shut(rt: HostRuntime) -> Resul
     let job = job_of(rt.alloc(), FIRST_JOB).ok_or("it is a job")?;
     let policies = policies_of(rt.alloc(), &job).ok_or("they compile")?;
     let mediator = Mediator::new(policies.as_slice());
-    assert_eq!(rt;
+    equal(
+        &rt,
         totals(&rt, rt.alloc(), &job, &mediator)?,
-        ([2, 2, 2], Label::Confined(0, 0))
+        ([2, 2, 2], Label::Confined(0, 0)),
     );
     Ok(())
 }

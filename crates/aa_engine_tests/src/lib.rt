@@ -4,6 +4,8 @@
 #[cfg(test)]
 mod check_tests;
 #[cfg(test)]
+mod comparing;
+#[cfg(test)]
 mod fault_tests;
 #[cfg(test)]
 mod front_tests;

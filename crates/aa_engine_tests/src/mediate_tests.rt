@@ -1,5 +1,6 @@
 //! Tasks that a program has answered by calls of its own.
 
+use crate::comparing::equal;
 use crate::jobs::{MOVING_JOB, Requests, answers, job_of, lent_answers, policies_of};
 use aa_engine::{Answered, MediateFault};
 use aa_jobs::Job;
@@ -105,7 +106,7 @@ fn three_tasks_are_answered_by_any_number_of_workers(rt: HostRuntime) {
     for requests in BOTH {
         for workers in [1, 2, 16] {
             let given = moves_of(&rt, rt.alloc(), requests, MOVING_JOB, workers);
-            assert_eq!(rt; given, Some(Ok(true)));
+            equal(&rt, given, Some(Ok(true)));
         }
     }
 }
@@ -118,7 +119,7 @@ fn the_first_task_without_a_profile_is_named(rt: HostRuntime) {
     for requests in BOTH {
         for workers in [1, 2] {
             let given = moves_of(&rt, rt.alloc(), requests, UNKNOWN, workers);
-            assert_eq!(rt; given, Some(Err(MediateFault::UnknownProfile(1))));
+            equal(&rt, given, Some(Err(MediateFault::UnknownProfile(1))));
         }
     }
 }
@@ -138,7 +139,7 @@ fn is_answered<R: Abort + Threads + Wait + Sync>(
     };
     let given = moves(rt, alloc, requests, &job, policies.as_slice(), workers);
     if given != Err(MediateFault::NoMemory) {
-        assert_eq!(rt; given, Ok(true));
+        equal(rt, given, Ok(true));
     }
     given.is_ok()
 }

@@ -2,6 +2,7 @@
 
 ghost use Rattle.std.specs.Prelude.{◌<◌, ◌≤◌};
 
+use crate::comparing::holds;
 use crate::jobs::{COMMANDS, Command, FIRST_JOB, answer, first_text};
 use aa_engine::RunFault;
 use aa_jobs::JobFault;
@@ -50,8 +51,8 @@ fn is_not_read<R: Abort + Threads + Wait + Sync>(
     };
     let mut written = Vec::new(alloc);
     let given = answer(rt, alloc, command, &mut reader, &mut written);
-    assert!(rt; given == Err(RunFault::Read));
-    assert!(rt; written.is_empty());
+    holds(rt, given == Err(RunFault::Read));
+    holds(rt, written.is_empty());
 }
 
 #[test]
@@ -74,8 +75,8 @@ fn a_reader_may_give_bytes_one_by_one(rt: HostRuntime) {
         };
         let mut written = Vec::new(rt.alloc());
         let given = answer(&rt, rt.alloc(), command, &mut reader, &mut written);
-        assert!(rt; given == Ok(()));
-        assert!(rt; written.as_slice() == first_text(command));
+        holds(&rt, given == Ok(()));
+        holds(&rt, written.as_slice() == first_text(command));
     }
 }
 
@@ -99,8 +100,8 @@ fn a_reader_without_end_is_given_up(rt: HostRuntime) {
         let mut reader = EndlessReader;
         let mut written = Vec::new(rt.alloc());
         let given = answer(&rt, rt.alloc(), command, &mut reader, &mut written);
-        assert!(rt; given == Err(RunFault::Read));
-        assert!(rt; written.is_empty());
+        holds(&rt, given == Err(RunFault::Read));
+        holds(&rt, written.is_empty());
     }
 }
 
@@ -134,8 +135,8 @@ fn is_refused_after<R: Abort + Threads + Wait + Sync>(
     let mut reader = BlankReader { left: calls };
     let mut written = Vec::new(alloc);
     let given = answer(rt, alloc, Command::Check, &mut reader, &mut written);
-    assert!(rt; given == Err(fault));
-    assert!(rt; written.is_empty());
+    holds(rt, given == Err(fault));
+    holds(rt, written.is_empty());
 }
 
 #[test]
@@ -185,8 +186,8 @@ fn answers_with<R: Abort + Threads + Wait + Sync>(
     };
     let mut written = Vec::new(alloc);
     let given = answer(rt, alloc, command, &mut reader, &mut written);
-    assert!(rt; given == wanted);
-    assert!(rt; written.as_slice() == text);
+    holds(rt, given == wanted);
+    holds(rt, written.as_slice() == text);
 }
 
 #[test]
@@ -237,8 +238,8 @@ fn a_front_is_written_where_the_writer_fails(rt: HostRuntime) {
                 room,
             };
             let given = answer(&rt, rt.alloc(), command, &mut reader, &mut writer);
-            assert!(rt; given == Err(RunFault::Write));
-            assert!(rt; writer.taken.as_slice() == &text[..room]);
+            holds(&rt, given == Err(RunFault::Write));
+            holds(&rt, writer.taken.as_slice() == &text[..room]);
         }
     }
 }
@@ -263,6 +264,6 @@ fn a_writer_that_takes_nothing_failed(rt: HostRuntime) {
         let mut reader = FIRST_JOB;
         let mut writer = IdleWriter;
         let given = answer(&rt, rt.alloc(), command, &mut reader, &mut writer);
-        assert!(rt; given == Err(RunFault::Write));
+        holds(&rt, given == Err(RunFault::Write));
     }
 }

@@ -4,6 +4,8 @@
 #[cfg(test)]
 mod asks;
 #[cfg(test)]
+mod comparing;
+#[cfg(test)]
 mod jobs;
 #[cfg(test)]
 mod logs;

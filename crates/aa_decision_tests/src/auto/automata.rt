@@ -4,6 +4,7 @@ use crate::auto::patterns::{
     Classes, add, build, has_classes, has_lists, has_size, match_just, matches_just, needs_more,
     size,
 };
+use crate::comparing::equal;
 use aa_auto::{Automaton, BuildFault};
 use std::alloc::Global;
 use std::process::Abort;
@@ -221,14 +222,14 @@ fn of_paths(rt: &impl Abort, alloc: Global) -> Result<Automaton, BuildFault> {
     for number in 0..65535 {
         add(rt, alloc, &path(number), &mut patterns)?;
     }
-    assert_eq!(rt; patterns.len(), 65535);
+    equal(rt, patterns.len(), 65535);
     build(rt, alloc, patterns.as_slice(), 1000000)
 }
 
 #[test]
 fn as_many_patterns_as_there_may_be(rt: HostRuntime) -> Result<(), Fail> {
     let automaton = of_paths(&rt, rt.alloc())?;
-    assert_eq!(rt; size(&automaton), (69906, 18));
+    equal(&rt, size(&automaton), (69906, 18));
     matches_just(&rt, &automaton, &[(b"/fffe", &[65534]), (b"/ffff", &[])]);
     Ok(())
 }

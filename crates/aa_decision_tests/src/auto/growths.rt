@@ -1,6 +1,7 @@
 //! Automata where a growth is refused.
 
 use crate::auto::patterns::{automaton, matches_just};
+use crate::comparing::equal;
 use aa_auto::{Automaton, BuildFault};
 use std::alloc::Global;
 use std::process::Abort;
@@ -11,7 +12,7 @@ fn four_at_last(rt: &impl Abort, alloc: Global) -> Automaton {
     for _ in 0..3 {
         match automaton(rt, alloc, &[b"/a*", b"/ab", b"/**", b"/{a,b*,}."], 100) {
             Ok(automaton) => return automaton,
-            Err(fault) => assert_eq!(rt; fault, BuildFault::NoMemory),
+            Err(fault) => equal(rt, fault, BuildFault::NoMemory),
         }
     }
     panic!(rt; "refused each time")

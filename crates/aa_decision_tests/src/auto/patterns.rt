@@ -1,5 +1,6 @@
 //! Automata of patterns that are given by their texts.
 
+use crate::comparing::{equal, holds};
 use aa_auto::{Automaton, BuildFault};
 use aa_faults::PolicyKind;
 use aa_patterns::Pattern;
@@ -67,17 +68,18 @@ pub fn has_size(
     expected: (usize, usize),
 ) -> Result<(), Fail> {
     let automaton = automaton(rt, alloc, texts, limit)?;
-    assert_eq!(rt; size(&automaton), expected);
+    equal(rt, size(&automaton), expected);
     Ok(())
 }
 
 /// The patterns of some texts need more rows than the limit.
 pub fn needs_more(rt: &impl Abort, alloc: Global, texts: &[&[u8]], limit: usize) {
-    assert!(rt;
+    holds(
+        rt,
         matches!(
             automaton(rt, alloc, texts, limit),
             Err(BuildFault::TooManyStates)
-        )
+        ),
     );
 }
 
@@ -88,7 +90,7 @@ pub type Classes = (&'static [&'static [u8]], usize);
 pub fn has_classes(rt: &impl Abort, alloc: Global, rows: &[Classes]) -> Result<(), Fail> {
     for (texts, classes) in rows {
         let automaton = automaton(rt, alloc, texts, 4096)?;
-        assert_eq!(rt; size(&automaton).1, *classes);
+        equal(rt, size(&automaton).1, *classes);
     }
     Ok(())
 }
@@ -108,11 +110,12 @@ pub fn has_lists(
     rows: &[(&[u8], &[u8], bool)],
 ) -> Result<(), Fail> {
     let automaton = automaton(rt, alloc, texts, limit)?;
-    assert_eq!(rt; automaton.lists(), lists);
+    equal(rt, automaton.lists(), lists);
     for row in rows {
-        assert_eq!(rt;
+        equal(
+            rt,
             list_of(&automaton, row.0) == list_of(&automaton, row.1),
-            row.2
+            row.2,
         );
     }
     Ok(())
@@ -122,9 +125,9 @@ pub fn has_lists(
 pub fn matches_just(rt: &impl Abort, automaton: &Automaton, rows: &[(&[u8], &[u16])]) {
     for row in rows {
         let place = automaton.place(row.0);
-        assert_eq!(rt; automaton.matching(row.0), row.1);
-        assert_eq!(rt; automaton.at_row(place), row.1);
-        assert_eq!(rt; automaton.list(automaton.list_of(place)), row.1);
+        equal(rt, automaton.matching(row.0), row.1);
+        equal(rt, automaton.at_row(place), row.1);
+        equal(rt, automaton.list(automaton.list_of(place)), row.1);
     }
 }
 

@@ -1,5 +1,6 @@
 //! Conflicts where a growth is refused.
 
+use crate::comparing::{equal, holds};
 use crate::compile::clashes::{conflict, is_found};
 use aa_clashes::Clash;
 use aa_words::PolicyKind;
@@ -12,7 +13,7 @@ fn found_at_last(rt: &impl Abort, alloc: Global) -> Option<Clash> {
     for _ in 0..3 {
         match conflict(alloc, "profile p { /* px, /l* ix, }", 100) {
             Ok(clash) => return clash,
-            Err(fault) => assert_eq!(rt; fault.kind, PolicyKind::NoMemory),
+            Err(fault) => equal(rt, fault.kind, PolicyKind::NoMemory),
         }
     }
     panic!(rt; "refused each time")
@@ -20,6 +21,6 @@ fn found_at_last(rt: &impl Abort, alloc: Global) -> Option<Clash> {
 
 #[test]
 fn a_growth_refused_to_search_is_no_memory(rt: HostRuntime) -> Result<(), Fail> {
-    assert!(rt; is_found(&found_at_last(&rt, rt.alloc()), 0, 1, "/l"));
+    holds(&rt, is_found(&found_at_last(&rt, rt.alloc()), 0, 1, "/l"));
     Ok(())
 }

@@ -1,5 +1,6 @@
 //! Rules that conflict, and where.
 
+use crate::comparing::holds;
 use crate::compile::clashes::{finds_each, finds_none, needs_more};
 
 // By hand: each path is the only one of the fewest bytes that both rules match.
@@ -64,6 +65,12 @@ fn rules_that_say_the_same_or_of_different_sorts_do_not_conflict(rt: HostRuntime
 
 #[test]
 fn more_states_than_the_limit_are_no_answer(rt: HostRuntime) {
-    assert!(rt; needs_more(rt.alloc(), "profile p { /bin/* px, /bin/l* ix, }", 3));
-    assert!(rt; !needs_more(rt.alloc(), "profile p { /bin/* px, /bin/l* ix, }", 65535));
+    holds(
+        &rt,
+        needs_more(rt.alloc(), "profile p { /bin/* px, /bin/l* ix, }", 3),
+    );
+    holds(
+        &rt,
+        !needs_more(rt.alloc(), "profile p { /bin/* px, /bin/l* ix, }", 65535),
+    );
 }

@@ -3,6 +3,7 @@
 ghost use Rattle.std.specs.Prelude.{◌≤◌};
 ghost use Rattle.aa_profiles.specs.Lawful.{file_patterns};
 
+use crate::comparing::holds_in;
 use crate::texts::read;
 use aa_auto::BuildFault;
 use aa_clashes::{Clash, clash_of};
@@ -63,7 +64,7 @@ pub type Row = (&'static str, usize, usize, &'static str);
 pub fn finds_each(rt: &impl Abort, alloc: Global, rows: &[Row]) {
     for (text, first, second, path) in rows {
         match conflict(alloc, text, 65535) {
-            Ok(clash) => assert!(rt; is_found(&clash, *first, *second, path), "{text}"),
+            Ok(clash) => holds_in(rt, is_found(&clash, *first, *second, path), text),
             Err(_) => panic!(rt; "refused: {text}"),
         }
     }
@@ -73,7 +74,7 @@ pub fn finds_each(rt: &impl Abort, alloc: Global, rows: &[Row]) {
 pub fn finds_none(rt: &impl Abort, alloc: Global, rows: &[&'static str]) {
     for text in rows {
         match conflict(alloc, text, 65535) {
-            Ok(clash) => assert!(rt; clash.is_none(), "{text}"),
+            Ok(clash) => holds_in(rt, clash.is_none(), text),
             Err(_) => panic!(rt; "refused: {text}"),
         }
     }

@@ -1,5 +1,6 @@
 //! Policies where a growth is refused.
 
+use crate::comparing::equal;
 use crate::compile::policies::{are_attached, are_executed};
 use crate::texts::compiled;
 use aa_compile::Compiled;
@@ -15,7 +16,7 @@ fn three_at_last(rt: &impl Abort, alloc: Global) -> Compiled {
     for _ in 0..3 {
         match compiled(alloc, text, 100) {
             Ok(policy) => return policy,
-            Err(fault) => assert_eq!(rt; fault.kind, PolicyKind::NoMemory),
+            Err(fault) => equal(rt, fault.kind, PolicyKind::NoMemory),
         }
     }
     panic!(rt; "refused each time")

@@ -1,6 +1,7 @@
 //! Policies that are read from their texts and joined, and what comes of it, as plain data. The helpers have no clauses, so
 //! that a test's proof stays short.
 
+use crate::comparing::{equal, equal_in, holds_in};
 use crate::texts::read;
 use aa_joins::{JoinFault, Joining};
 use aa_policy::{PassedOver, Policy, Profile, Text};
@@ -38,10 +39,10 @@ fn is_called(text: &Text, name: &str) -> bool {
 }
 
 fn are_profiles(rt: &impl Abort, profiles: &[Profile], rows: &[Row]) {
-    assert_eq!(rt; profiles.len(), rows.len());
+    equal(rt, profiles.len(), rows.len());
     for (profile, (name, parent)) in profiles.iter().zip(rows) {
-        assert!(rt; is_called(&profile.name, name), "{name}");
-        assert_eq!(rt; profile.parent, *parent, "{name}");
+        holds_in(rt, is_called(&profile.name, name), name);
+        equal_in(rt, profile.parent, *parent, name);
     }
 }
 
@@ -56,7 +57,7 @@ pub fn has_profiles(
 ) -> Result<(), Fail> {
     let joined = join(alloc, texts)?;
     are_profiles(rt, joined.0.profiles.as_slice(), rows);
-    assert_eq!(rt; joined.1, fault);
+    equal(rt, joined.1, fault);
     Ok(())
 }
 
@@ -64,7 +65,7 @@ pub fn has_profiles(
 pub type Listed = (u16, &'static str);
 
 fn are_rules(rt: &impl Abort, rules: &[PassedOver], rows: &[Listed]) {
-    assert_eq!(rt; rules.len(), rows.len());
+    equal(rt, rules.len(), rows.len());
     for (rule, (profile, keyword)) in rules.iter().zip(rows) {
         assert_eq!(rt; rule.profile, *profile, "{keyword}");
         assert!(rt; is_called(&rule.kind, keyword), "{keyword}");

@@ -1,5 +1,6 @@
 //! What the labels of policies are, as plain data. The helpers have no clauses, so that a test's proof stays short.
 
+use crate::comparing::equal_in;
 use crate::texts::policies;
 use aa_compile::Compiled;
 use aa_labels::{Label, label_of, name_of_label, profile_of};
@@ -19,7 +20,7 @@ pub fn calls_each(
 ) -> Result<(), Fail> {
     let list = policies(alloc, texts)?;
     for (label, name) in rows {
-        assert_eq!(rt; name_of_label(&list, *label), name.as_bytes(), "{name}");
+        equal_in(rt, name_of_label(&list, *label), name.as_bytes(), name);
     }
     Ok(())
 }

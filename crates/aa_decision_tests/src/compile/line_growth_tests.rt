@@ -1,6 +1,7 @@
 //! Lines where a growth is refused.
 
 use crate::asks::{Ask, FIRST};
+use crate::comparing::equal;
 use crate::compile::lines::{Row, says_each};
 use crate::texts::policies;
 use aa_compile::Compiled;
@@ -25,7 +26,7 @@ fn says_or_no_memory(rt: &impl Abort, alloc: Global, list: &[Compiled], rows: &[
     match says_each(rt, alloc, list, rows) {
         Ok(()) => true,
         Err(fault) => {
-            assert_eq!(rt; fault, RequestFault::NoMemory);
+            equal(rt, fault, RequestFault::NoMemory);
             false
         }
     }

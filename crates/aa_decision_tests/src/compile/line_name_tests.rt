@@ -1,6 +1,7 @@
 //! Names, masks and labels in lines.
 
 use crate::asks::{Ask, FIRST};
+use crate::comparing::{equal, equal_in};
 use crate::compile::lines::{Row, says_all};
 use aa_audit::{plain_text, push_mask, push_value};
 use aa_requests::Label;
@@ -24,8 +25,8 @@ fn is_written(
     is_plain: bool,
 ) -> Result<(), AllocError> {
     let out = written(alloc, name)?;
-    assert_eq!(rt; out.as_str(), expected);
-    assert_eq!(rt; plain_text(name.as_bytes()).is_some(), is_plain, "{name}");
+    equal(rt, out.as_str(), expected);
+    equal_in(rt, plain_text(name.as_bytes()).is_some(), is_plain, name);
     Ok(())
 }
 
@@ -64,7 +65,7 @@ fn letters(alloc: Global, bits: u8) -> Result<String, AllocError> {
 
 fn are_letters(rt: &impl Abort, alloc: Global, rows: &[(u8, &'static str)]) -> Result<(), Fail> {
     for (bits, expected) in rows {
-        assert_eq!(rt; letters(alloc, *bits)?.as_str(), *expected);
+        equal(rt, letters(alloc, *bits)?.as_str(), *expected);
     }
     Ok(())
 }

@@ -1,6 +1,7 @@
 //! Requests, answers and the lines that tell of them. The helpers have no clauses, so that a test's proof stays short.
 
 use crate::asks::{Ask, Told, note, request};
+use crate::comparing::equal;
 use crate::texts::policies;
 use aa_audit::{audit_line, push_audit_line};
 use aa_compile::Compiled;
@@ -64,10 +65,10 @@ fn is_line(
 ) -> Result<(), AllocError> {
     let answer = answer(row.2, row.3);
     let line = line_alone(alloc, policies, row.0, asked, &answer)?;
-    assert_eq!(rt; line.as_str(), row.4);
+    equal(rt, line.as_str(), row.4);
     let (out, is_one) = line_appended(alloc, policies, row.0, asked, &answer)?;
-    assert_eq!(rt; out.as_str().strip_prefix("> "), Some(row.4));
-    assert_eq!(rt; is_one, !row.4.is_empty());
+    equal(rt, out.as_str().strip_prefix("> "), Some(row.4));
+    equal(rt, is_one, !row.4.is_empty());
     Ok(())
 }
 
@@ -92,5 +93,5 @@ pub fn says_all(rt: &impl Abort, alloc: Global, texts: &[&str], rows: &[Row]) {
     let Ok(list) = policies(alloc, texts) else {
         panic!(rt; "a policy is refused")
     };
-    assert_eq!(rt; says_each(rt, alloc, &list, rows), Ok(()));
+    equal(rt, says_each(rt, alloc, &list, rows), Ok(()));
 }

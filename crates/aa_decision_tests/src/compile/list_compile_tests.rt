@@ -1,5 +1,6 @@
 //! Texts that are policies.
 
+use crate::comparing::equal;
 use crate::compile::lists::{Found, Source, compiled, finds_each, profiles_of};
 use std::alloc::Global;
 use std::process::Abort;
@@ -11,9 +12,9 @@ type Row = (&'static [Source], &'static [&'static str], &'static [usize]);
 fn has_profiles(rt: &impl Abort, alloc: Global, row: Row) -> Result<(), Fail> {
     let (sources, texts, counts) = row;
     let policies = compiled(alloc, sources, texts, 4096)?;
-    assert_eq!(rt; policies.len(), counts.len());
+    equal(rt, policies.len(), counts.len());
     for (policy, count) in policies.iter().zip(counts) {
-        assert_eq!(rt; profiles_of(policy), *count);
+        equal(rt, profiles_of(policy), *count);
     }
     Ok(())
 }

@@ -1,5 +1,6 @@
 //! Lists of policies where a growth is refused. Each test passes whichever of its growths is refused: it asks again.
 
+use crate::comparing::equal;
 use crate::compile::lists::{Found, compiled, finds_each, refusal};
 use aa_faults::PolicyKind;
 use aa_policies::Compiled;
@@ -16,7 +17,7 @@ fn three_at_last(rt: &impl Abort, alloc: Global) -> Vec<Compiled> {
     for _ in 0..3 {
         match compiled(alloc, &[("m", "@{A}=/a /b\n")], &texts, 100) {
             Ok(policies) => return policies,
-            Err(refused) => assert_eq!(rt; refused.fault.kind, PolicyKind::NoMemory),
+            Err(refused) => equal(rt, refused.fault.kind, PolicyKind::NoMemory),
         }
     }
     panic!(rt; "refused each time")
@@ -27,7 +28,7 @@ const THREE: &[Found] = &[(0, "p", Some(0)), (1, "q", Some(1)), (2, "r//c", Some
 #[test]
 fn a_growth_refused_to_policies_is_no_memory(rt: HostRuntime) {
     let policies = three_at_last(&rt, rt.alloc());
-    assert_eq!(rt; policies.len(), 3);
+    equal(&rt, policies.len(), 3);
     finds_each(&rt, &policies, THREE);
 }
 
@@ -41,9 +42,9 @@ fn a_growth_refused_is_no_fault_of_a_policy(rt: HostRuntime) {
             100,
         ) {
             None => panic!(rt; "a policy that conflicts"),
-            Some((_, 1, file, byte)) => assert_eq!(rt; (file, byte), (0, 0)),
+            Some((_, 1, file, byte)) => equal(&rt, (file, byte), (0, 0)),
             Some(refused) => {
-                assert_eq!(rt; refused, (1, 16, 0, 8));
+                equal(&rt, refused, (1, 16, 0, 8));
                 return;
             }
         }

@@ -1,5 +1,6 @@
 //! Texts that are refused: which of them, and why.
 
+use crate::comparing::equal;
 use crate::compile::lists::{Source, refusal};
 use aa_faults::{PolicyFault, PolicyKind, Spot};
 use aa_policies::RefusedPolicy;
@@ -174,7 +175,7 @@ fn told(alloc: Global, policy: u16) -> Result<String, AllocError> {
 }
 
 fn tells(rt: &impl Abort, alloc: Global, policy: u16, line: &str) -> Result<(), Fail> {
-    assert_eq!(rt; told(alloc, policy)?.as_str(), line);
+    equal(rt, told(alloc, policy)?.as_str(), line);
     Ok(())
 }
 

@@ -1,5 +1,6 @@
 //! Policies that are read from their texts and compiled, and what they say, as plain data.
 
+use crate::comparing::equal_in;
 use crate::texts::{compiled, read};
 use aa_compile::{Compiled, Transition, compile};
 use std::alloc::Global;
@@ -20,7 +21,7 @@ pub type Row = (&'static str, u32, Option<(u8, u32)>);
 /// Each of the texts is accepted or refused as it says.
 pub fn refuses_each(rt: &impl Abort, alloc: Global, rows: &[Row]) {
     for (text, limit, expected) in rows {
-        assert_eq!(rt; refusal(alloc, text, *limit), *expected, "{text}");
+        equal_in(rt, refusal(alloc, text, *limit), *expected, text);
     }
 }
 
@@ -79,7 +80,7 @@ pub type Attached = (&'static str, Option<u16>);
 /// The profiles are attached so.
 pub fn are_attached(rt: &impl Abort, policy: &Compiled, rows: &[Attached]) {
     for (path, expected) in rows {
-        assert_eq!(rt; attached(policy, path), *expected, "{path}");
+        equal_in(rt, attached(policy, path), *expected, path);
     }
 }
 
@@ -127,7 +128,7 @@ pub type Found = (&'static str, Option<u16>);
 
 fn are_found(rt: &impl Abort, policy: &Compiled, rows: &[Found]) {
     for (name, expected) in rows {
-        assert_eq!(rt; found(policy, name), *expected, "{name}");
+        equal_in(rt, found(policy, name), *expected, name);
     }
 }
 

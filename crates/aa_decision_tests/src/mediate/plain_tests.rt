@@ -1,5 +1,6 @@
 //! What is compiled says what the rules say one by one.
 
+use crate::comparing::equal_in;
 use crate::texts::policies;
 use aa_mediate::Compiled;
 use aa_plain::verdict_by_rules;
@@ -27,10 +28,11 @@ fn say_the_same(rt: &impl Abort, policies: &[Compiled], paths: &[&str]) {
     for compiled in policies {
         for path in paths {
             for owned in &[false, true] {
-                assert_eq!(rt;
+                equal_in(
+                    rt,
                     compiled_sets(compiled, path, *owned),
                     plain_sets(compiled, path, *owned),
-                    "{path}"
+                    path,
                 );
             }
         }

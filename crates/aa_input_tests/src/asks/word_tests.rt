@@ -1,5 +1,6 @@
 //! Request words.
 
+use crate::comparing::holds;
 use aa_asks::{WordFault, push_word, read_word};
 use std::alloc::Global;
 use std::process::Abort;
@@ -15,8 +16,8 @@ fn again(alloc: Global, word: &[u8], owned: bool) -> Result<Vec<u8>, WordFault> 
 fn come_back(rt: &impl Abort, alloc: Global, words: &[&[u8]]) {
     for word in words {
         match again(alloc, word, false) {
-            Ok(written) => assert!(rt; written.as_slice() == *word),
-            Err(fault) => assert!(rt; fault == WordFault::NoMemory),
+            Ok(written) => holds(rt, written.as_slice() == *word),
+            Err(fault) => holds(rt, fault == WordFault::NoMemory),
         }
     }
 }
@@ -24,8 +25,8 @@ fn come_back(rt: &impl Abort, alloc: Global, words: &[&[u8]]) {
 fn are_none(rt: &impl Abort, alloc: Global, words: &[&[u8]]) {
     for word in words {
         match again(alloc, word, false) {
-            Ok(_) => assert!(rt; false),
-            Err(fault) => assert!(rt; fault == WordFault::NoRequest),
+            Ok(_) => holds(rt, false),
+            Err(fault) => holds(rt, fault == WordFault::NoRequest),
         }
     }
 }

@@ -1,5 +1,6 @@
 //! Jobs of several policies.
 
+use crate::comparing::holds;
 use crate::jobs::shown::{has_head, has_tasks, policies_of_tasks};
 use crate::jobs::texts::{Answer, Frame, answers_each};
 use aa_jobs::JobFault;
@@ -38,7 +39,7 @@ fn reads_a_list_of_one_policy(rt: HostRuntime) -> Result<(), Fail> {
 #[test]
 fn reads_the_policy_of_each_task(rt: HostRuntime) -> Result<(), Fail> {
     let policies = policies_of_tasks(rt.alloc(), SEVERAL)?;
-    assert!(rt; policies.as_slice() == [2, 0].as_slice());
+    holds(&rt, policies.as_slice() == [2, 0].as_slice());
     Ok(())
 }
 

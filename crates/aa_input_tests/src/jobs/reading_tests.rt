@@ -1,5 +1,6 @@
 //! What is read from a job.
 
+use crate::comparing::equal;
 use crate::jobs::shown::{asks_each, has_events, has_head, has_tasks};
 use crate::jobs::texts::{Answer, Frame, MEMBERS, WORKED, answers_each};
 use aa_jobs::JobFault;
@@ -99,9 +100,9 @@ fn number_of(fault: JobFault) -> u8 {
 /// Each fault has the number and the name beside it.
 fn are_told(rt: &impl Abort, alloc: Global, rows: &[(JobFault, u8, &str)]) -> Result<(), Fail> {
     for (fault, number, shown) in rows {
-        assert_eq!(rt; number_of(*fault), *number);
+        equal(rt, number_of(*fault), *number);
         let text = told(alloc, *fault)?;
-        assert_eq!(rt; text.as_str(), *shown);
+        equal(rt, text.as_str(), *shown);
     }
     Ok(())
 }

@@ -1,5 +1,6 @@
 //! What is refused as a job, and why.
 
+use crate::comparing::equal;
 use crate::jobs::texts::{ITEMS, MEMBERS, WORKED, fault_of, refuses_each, refuses_framed};
 use aa_jobs::JobFault;
 use std::test::Fail;
@@ -23,16 +24,17 @@ fn text_that_is_no_json_is_refused(rt: HostRuntime) {
         ],
     );
     let bytes = b"{\"policy\":\"\xff\",\"tasks\":[]}";
-    assert_eq!(rt; fault_of(rt.alloc(), bytes), Some(JobFault::NotJson));
+    equal(&rt, fault_of(rt.alloc(), bytes), Some(JobFault::NotJson));
 }
 
 #[test]
 fn each_proper_prefix_of_a_job_is_no_json(rt: HostRuntime) {
     let bytes = WORKED.as_bytes();
     for end in 0..bytes.len() {
-        assert_eq!(rt;
+        equal(
+            &rt,
             fault_of(rt.alloc(), &bytes[..end]),
-            Some(JobFault::NotJson)
+            Some(JobFault::NotJson),
         );
     }
 }

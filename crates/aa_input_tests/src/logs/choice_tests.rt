@@ -1,5 +1,6 @@
 //! Lines that are wanted and lines that aren't.
 
+use crate::comparing::holds;
 use aa_logs::{Choice, is_chosen};
 use std::alloc::{AllocError, Global};
 use std::process::Abort;
@@ -26,7 +27,7 @@ fn are_chosen(
 ) -> Result<(), AllocError> {
     for row in rows {
         let found = chosen(alloc, profiles, row)?;
-        assert!(rt; found == row.3);
+        holds(rt, found == row.3);
     }
     Ok(())
 }
@@ -99,7 +100,7 @@ fn chosen_by_name(alloc: Global, name: &[u8]) -> Result<bool, AllocError> {
 #[test]
 fn a_growth_refused_to_a_choice_is_no_memory(rt: HostRuntime) {
     match chosen_by_name(rt.alloc(), b"p") {
-        Ok(found) => assert!(rt; found),
+        Ok(found) => holds(&rt, found),
         Err(_) => {}
     }
 }

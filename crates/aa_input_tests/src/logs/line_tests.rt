@@ -1,5 +1,6 @@
 //! Lines of worked logs.
 
+use crate::comparing::holds;
 use aa_logs::{Line, Reason, Then, line_of};
 use std::alloc::{AllocError, Global};
 use std::process::Abort;
@@ -24,7 +25,7 @@ fn then(alloc: Global, line: &[u8]) -> Result<Option<Then>, AllocError> {
 fn are_skipped(rt: &impl Abort, alloc: Global, rows: &[(&[u8], Reason)]) -> Result<(), AllocError> {
     for (line, reason) in rows {
         let found = skipped(alloc, line)?;
-        assert!(rt; found == Some(*reason));
+        holds(rt, found == Some(*reason));
     }
     Ok(())
 }
@@ -32,7 +33,7 @@ fn are_skipped(rt: &impl Abort, alloc: Global, rows: &[(&[u8], Reason)]) -> Resu
 fn came_to(rt: &impl Abort, alloc: Global, rows: &[(&[u8], Then)]) -> Result<(), AllocError> {
     for (line, wanted) in rows {
         let found = then(alloc, line)?;
-        assert!(rt; found == Some(*wanted));
+        holds(rt, found == Some(*wanted));
     }
     Ok(())
 }
@@ -146,7 +147,7 @@ fn a_growth_refused_to_a_line_is_no_memory(rt: HostRuntime) {
     let line: &[u8] =
         b"apparmor=\"DENIED\" operation=\"link\" profile=70 name=2F61 target=\"/b\" pid=1";
     match then(rt.alloc(), line) {
-        Ok(found) => assert!(rt; found == Some(Then::Denied)),
+        Ok(found) => holds(&rt, found == Some(Then::Denied)),
         Err(_) => {}
     }
 }

@@ -1,5 +1,6 @@
 //! Fields of worked lines.
 
+use crate::comparing::holds;
 use aa_logs::{last_of, name_of, read_line};
 use std::alloc::{AllocError, Global};
 use std::process::Abort;
@@ -20,9 +21,9 @@ fn have_values(rt: &impl Abort, alloc: Global, rows: &[Row<'_>]) -> Result<(), A
     for (line, key, wanted) in rows {
         let found = value(alloc, line, key)?;
         match (&found, wanted) {
-            (Some(found), Some(wanted)) => assert!(rt; found.as_slice() == *wanted),
+            (Some(found), Some(wanted)) => holds(rt, found.as_slice() == *wanted),
             (None, None) => {}
-            _ => assert!(rt; false),
+            _ => holds(rt, false),
         }
     }
     Ok(())

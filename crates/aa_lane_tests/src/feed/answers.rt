@@ -1,6 +1,7 @@
 //! Tasks of sums, by several numbers of workers and at several capacities.
 ghost use Rattle.std.specs.Prelude.{◌<◌, ◌≤◌};
 
+use crate::comparing::equal;
 use crate::feed::sums::{Sum, rights, tasks_of, unchanged};
 use aa_feed::{EngineFault, Outcome, Refusal, answer_all};
 use std::alloc::Global;
@@ -55,9 +56,10 @@ fn all_of(tasks: u64, requests: u64) -> Result<[u64; 5], (EngineFault, u64)> {
 fn answers_are_the_same_by_any_number_of_workers(rt: HostRuntime) -> Result<(), Fail> {
     for workers in [1, 2, 4, 16] {
         for capacity in [1, 2, 1024] {
-            assert_eq!(rt;
+            equal(
+                &rt,
                 answered_by(&rt, rt.alloc(), 5, 1500, capacity, workers),
-                all_of(5, 7500)
+                all_of(5, 7500),
             );
         }
     }
@@ -67,13 +69,15 @@ fn answers_are_the_same_by_any_number_of_workers(rt: HostRuntime) -> Result<(), 
 #[test]
 fn no_task_and_tasks_without_a_request(rt: HostRuntime) -> Result<(), Fail> {
     for workers in [1, 2, 4, 16] {
-        assert_eq!(rt;
+        equal(
+            &rt,
             answered_by(&rt, rt.alloc(), 0, 3, 1, workers),
-            all_of(0, 0)
+            all_of(0, 0),
         );
-        assert_eq!(rt;
+        equal(
+            &rt,
             answered_by(&rt, rt.alloc(), 3, 0, 2, workers),
-            all_of(3, 0)
+            all_of(3, 0),
         );
     }
     Ok(())
@@ -81,9 +85,10 @@ fn no_task_and_tasks_without_a_request(rt: HostRuntime) -> Result<(), Fail> {
 
 #[test]
 fn as_many_tasks_as_there_may_be(rt: HostRuntime) -> Result<(), Fail> {
-    assert_eq!(rt;
+    equal(
+        &rt,
         answered_by(&rt, rt.alloc(), 1024, 5, 3, 16),
-        all_of(1024, 5120)
+        all_of(1024, 5120),
     );
     Ok(())
 }
@@ -99,9 +104,10 @@ fn tasks_come_back_where_there_are_too_many_or_the_capacity_is_bad(
         (2, 1025, EngineFault::BadCapacity),
     ];
     for (tasks, capacity, fault) in rows {
-        assert_eq!(rt;
+        equal(
+            &rt,
             answered_by(&rt, rt.alloc(), tasks, 3, capacity, 2),
-            Err((fault, tasks))
+            Err((fault, tasks)),
         );
     }
     Ok(())
@@ -112,12 +118,12 @@ fn growths_refused_to_tasks(rt: HostRuntime) -> Result<(), Fail> {
     for _ in 0..100 {
         match answered_by(&rt, rt.alloc(), 3, 4, 2, 2) {
             Ok(counts) => {
-                assert_eq!(rt; counts, [3, 12, 12, 12, 12]);
+                equal(&rt, counts, [3, 12, 12, 12, 12]);
                 return Ok(());
             }
             Err((fault, tasks)) => {
-                assert_eq!(rt; fault, EngineFault::NoMemory);
-                assert_eq!(rt; tasks == 0 || tasks == 3, true);
+                equal(&rt, fault, EngineFault::NoMemory);
+                equal(&rt, tasks == 0 || tasks == 3, true);
             }
         }
     }

@@ -1,6 +1,7 @@
 //! Tasks whose requests wait for one another, so that one thread alone can't serve their lanes.
 ghost use Rattle.std.specs.Prelude.{◌<◌, ◌≤◌};
 
+use crate::comparing::equal;
 use aa_feed::{Machine, Task, answer_all};
 use std::alloc::{AllocError, Global};
 use std::collections::VecDeque;
@@ -92,7 +93,7 @@ fn given_up_by<R: Threads + Wait + Sync>(
 #[test]
 fn two_workers_answer_two_tasks_at_once(rt: HostRuntime) -> Result<(), Fail> {
     for workers in [2, 16] {
-        assert_eq!(rt; given_up_by(&rt, rt.alloc(), workers), Ok((2, 0)));
+        equal(&rt, given_up_by(&rt, rt.alloc(), workers), Ok((2, 0)));
     }
     Ok(())
 }

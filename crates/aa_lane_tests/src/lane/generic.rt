@@ -7,6 +7,7 @@ ghost use Rattle.aa_lane.specs.declared.cells.Who.TheVariants.{ByOwner};
 ghost use Rattle.aa_lane.specs.declared.event.Event.TheVariants.{Send, Shut};
 ghost use Rattle.aa_lane.specs.declared.event.Reply.TheVariants.{Accepted, Count};
 
+use crate::comparing::{equal, holds};
 use crate::lane::bench::open;
 use aa_lane::{Ends, Lane, Leaver, Machine, Owner, Served, Server, Shutter, Totals, Unsent};
 use std::test::Fail;
@@ -80,7 +81,7 @@ fn a_machine_that_borrows_answers(rt: HostRuntime) -> Result<(), Fail> {
     let by = 500;
     let machine = Offset { by: &by };
     let (lane, owner, server, _shutter) = open(rt.alloc(), &machine, 3, 2, 7)?;
-    assert_eq!(rt; asks_twice(&lane, owner, server), [(0, 517), (1, 18)]);
+    equal(&rt, asks_twice(&lane, owner, server), [(0, 517), (1, 18)]);
     Ok(())
 }
 
@@ -120,7 +121,7 @@ fn a_lane_and_its_ends_go_to_threads(rt: HostRuntime) -> Result<(), Fail> {
     let by = 1;
     let machine = Offset { by: &by };
     let (lane, owner, server, shutter) = open(rt.alloc(), &machine, 3, 2, 7)?;
-    assert!(rt; goes_to_threads(&lane, owner, server, shutter));
+    holds(&rt, goes_to_threads(&lane, owner, server, shutter));
     Ok(())
 }
 
@@ -147,7 +148,7 @@ fn an_unused_shutter_closed_nothing(rt: HostRuntime) -> Result<(), Fail> {
             shutter,
         },
     );
-    assert_eq!(rt; (totals.accepted, totals.state), (0, 7));
+    equal(&rt, (totals.accepted, totals.state), (0, 7));
     Ok(())
 }
 
@@ -183,6 +184,6 @@ fn two_events_of_one_end_stand_in_one_order(rt: HostRuntime) -> Result<(), Fail>
     let by = 1;
     let machine = Offset { by: &by };
     let (lane, owner, _server, _shutter) = open(rt.alloc(), &machine, 3, 2, 7)?;
-    assert_eq!(rt; accepted_of(&lane, owner, 10), Some(1));
+    equal(&rt, accepted_of(&lane, owner, 10), Some(1));
     Ok(())
 }

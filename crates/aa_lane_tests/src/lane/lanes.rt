@@ -2,6 +2,7 @@
 ghost use Rattle.std.specs.Prelude.{◌≡◌, ◌<◌};
 ghost use Rattle.aa_lane.specs.Ends.{known};
 
+use crate::comparing::{equal, holds};
 use crate::lane::bench::{Bench, Outcome, Step, closed, open};
 use crate::lane::sum::{Happening, Said, Sum};
 use crate::lane::worlds::{a_world, apply};
@@ -47,7 +48,7 @@ fn plays<'l, 'm>(
     for row in rows {
         let (next, outcome) = does(bench, row.0);
         bench = next;
-        assert_eq!(rt; outcome, row.1);
+        equal(rt, outcome, row.1);
     }
     bench
 }
@@ -69,7 +70,7 @@ fn takes_and_finishes<'l, 'm>(
     let Taken::Job(busy) = server.take(lane) else {
         panic!(rt; "no job")
     };
-    assert_eq!(rt; *busy.request(), request);
+    equal(rt, *busy.request(), request);
     Bench::of(lane, owner, busy.finish(lane), shutter)
 }
 
@@ -105,7 +106,11 @@ const ONE_PLACE: [(Step, Outcome); 12] = [
 
 #[test]
 fn one_place_and_all_refusals(rt: HostRuntime) -> Result<(), Fail> {
-    assert_eq!(rt; totals(&rt, rt.alloc(), 1, 0, &ONE_PLACE)?, [2, 2, 2, 9]);
+    equal(
+        &rt,
+        totals(&rt, rt.alloc(), 1, 0, &ONE_PLACE)?,
+        [2, 2, 2, 9],
+    );
     Ok(())
 }
 
@@ -121,10 +126,14 @@ fn refused(alloc: Global, capacity: u32) -> Option<LaneFault> {
 #[test]
 fn capacities_of_a_lane(rt: HostRuntime) -> Result<(), Fail> {
     for capacity in [0, 1025, u32::MAX] {
-        assert_eq!(rt; refused(rt.alloc(), capacity), Some(LaneFault::BadCapacity));
+        equal(
+            &rt,
+            refused(rt.alloc(), capacity),
+            Some(LaneFault::BadCapacity),
+        );
     }
     for capacity in [1, 1024] {
-        assert_eq!(rt; refused(rt.alloc(), capacity), None);
+        equal(&rt, refused(rt.alloc(), capacity), None);
     }
     Ok(())
 }
@@ -176,8 +185,8 @@ fn tags(rt: HostRuntime) -> Result<(), Fail> {
         Bench::of(&lane, owner, server, shutter),
         &[(Step::Send(3), Outcome::Sent(0))],
     );
-    assert_eq!(rt; tags_of(&bench), [7, 7, 7, 7]);
-    assert_eq!(rt; later_tags_of(&rt, bench), [7, 7]);
+    equal(&rt, tags_of(&bench), [7, 7, 7, 7]);
+    equal(&rt, later_tags_of(&rt, bench), [7, 7]);
     Ok(())
 }
 
@@ -231,9 +240,10 @@ const RING_OF_THREE: [(Step, Outcome); 16] = [
 
 #[test]
 fn a_ring_of_three(rt: HostRuntime) -> Result<(), Fail> {
-    assert_eq!(rt;
+    equal(
+        &rt,
         totals(&rt, rt.alloc(), 3, 0, &RING_OF_THREE)?,
-        [4, 4, 4, 10]
+        [4, 4, 4, 10],
     );
     Ok(())
 }
@@ -299,9 +309,9 @@ fn exit_at_once(rt: HostRuntime) -> Result<(), Fail> {
     let (lane, owner, server, shutter) = open(rt.alloc(), &sum, 7, 2, 5)?;
     let ends = Bench::of(&lane, owner, server, shutter).leaves();
     let (ends, accepted, outcome) = after_exit(&rt, &lane, ends);
-    assert_eq!(rt; accepted, 0);
-    assert_eq!(rt; outcome, Outcome::Nothing);
-    assert_eq!(rt; closed(lane, ends), [0, 0, 0, 5]);
+    equal(&rt, accepted, 0);
+    equal(&rt, outcome, Outcome::Nothing);
+    equal(&rt, closed(lane, ends), [0, 0, 0, 5]);
     Ok(())
 }
 
@@ -329,8 +339,8 @@ fn a_leaver_collects_what_is_left(rt: HostRuntime) -> Result<(), Fail> {
     );
     let ends = bench.leaves();
     let (found, totals) = looks_and_closes(lane, ends);
-    assert_eq!(rt; found, (2, [Outcome::Got(0, 3, 8), Outcome::Nothing]));
-    assert_eq!(rt; totals, [2, 1, 1, 8]);
+    equal(&rt, found, (2, [Outcome::Got(0, 3, 8), Outcome::Nothing]));
+    equal(&rt, totals, [2, 1, 1, 8]);
     Ok(())
 }
 
@@ -384,7 +394,7 @@ fn both_do<'l, 'm>(
     ensures { result.lane ≡ bench.entry.lane }
 {
     let (bench, outcome) = does(bench, step);
-    assert_eq!(rt; outcome, world_does(world, step));
+    equal(rt, outcome, world_does(world, step));
     bench
 }
 
@@ -438,11 +448,12 @@ fn shut_at(rt: &impl Abort, alloc: Global, place: usize) -> Result<(), LaneFault
     let sum = Sum;
     let mut world = a_world(alloc, &sum, 2, 0)?;
     let count = COUNTS[place];
-    assert_eq!(rt;
+    equal(
+        rt,
         counts_beside(rt, alloc, &mut world, place)?,
-        (count, [count, count, count, STATES[place]])
+        (count, [count, count, count, STATES[place]]),
     );
-    assert_eq!(rt; world.label(), STATES[place]);
+    equal(rt, world.label(), STATES[place]);
     Ok(())
 }
 
@@ -520,11 +531,12 @@ fn rounds_beside(
 fn five_thousand_requests_through_the_largest_lane(rt: HostRuntime) -> Result<(), Fail> {
     let sum = Sum;
     let mut world = a_world(rt.alloc(), &sum, 1024, 0)?;
-    assert_eq!(rt;
+    equal(
+        &rt,
         rounds_beside(&rt, rt.alloc(), &mut world, &[1024, 1024, 1024, 1024, 904])?,
-        [5000, 5000, 5000, 500]
+        [5000, 5000, 5000, 500],
     );
-    assert_eq!(rt; world.label(), 500);
+    equal(&rt, world.label(), 500);
     Ok(())
 }
 
@@ -576,8 +588,8 @@ fn wanders_at(rt: &impl Abort, alloc: Global, capacity: u32, seed: u64) -> Resul
     let sum = Sum;
     let mut world = a_world(alloc, &sum, capacity, 5)?;
     let totals = wanders_beside(rt, alloc, &mut world, capacity, seed)?;
-    assert_eq!(rt; totals[3], world.label());
-    assert!(rt; totals[1] > 100);
+    equal(rt, totals[3], world.label());
+    holds(rt, totals[1] > 100);
     Ok(())
 }
 

@@ -2,6 +2,7 @@
 ghost use Rattle.std.specs.Prelude.{◌≡◌};
 ghost use Rattle.aa_lane.specs.Ends.{known};
 
+use crate::comparing::{equal, holds};
 use crate::lane::bench::{Bench, Outcome, Step, closed, open, served};
 use crate::lane::scales::{Held, Scales, a_parcel, a_thing, collected, owners, plays, sent};
 use crate::lane::sum::{Happening, Said, Sum};
@@ -55,7 +56,7 @@ const DROPPED_ONCE: [(Step, Outcome, [usize; 2]); 5] = [
 fn each_request_and_answer_is_dropped_once(rt: HostRuntime) -> Result<(), Fail> {
     let held = a_thing(rt.alloc());
     plays_and_drops(&rt, rt.alloc(), &held, &DROPPED_ONCE)?;
-    assert_eq!(rt; owners(&held), 1);
+    equal(&rt, owners(&held), 1);
     Ok(())
 }
 
@@ -63,11 +64,12 @@ fn each_request_and_answer_is_dropped_once(rt: HostRuntime) -> Result<(), Fail> 
 fn a_close_drops_what_is_left(rt: HostRuntime) -> Result<(), Fail> {
     let held = a_thing(rt.alloc());
     let rows = [(Step::Send(7), Outcome::Sent(0), [2, 2])];
-    assert_eq!(rt;
+    equal(
+        &rt,
         plays_and_closes(&rt, rt.alloc(), &held, &rows)?,
-        [1, 0, 0, 0]
+        [1, 0, 0, 0],
     );
-    assert_eq!(rt; owners(&held), 1);
+    equal(&rt, owners(&held), 1);
     Ok(())
 }
 
@@ -103,14 +105,15 @@ fn goes_on_alone(
     requires server { server.lane ≡ known lane.now }
 {
     let mut owner = owner;
-    assert_eq!(rt; sent(lane, &mut owner, 7, held), Outcome::Sent(0));
-    assert_eq!(rt; taken_and_dropped(rt, lane, server), 7);
-    assert_eq!(rt; owners(held), 1);
-    assert_eq!(rt;
+    equal(rt, sent(lane, &mut owner, 7, held), Outcome::Sent(0));
+    equal(rt, taken_and_dropped(rt, lane, server), 7);
+    equal(rt, owners(held), 1);
+    equal(
+        rt,
         goes_on(lane, &mut owner, held),
-        [Outcome::Sent(1), Outcome::Nothing, Outcome::Unsent(Full, 9)]
+        [Outcome::Sent(1), Outcome::Nothing, Outcome::Unsent(Full, 9)],
     );
-    assert_eq!(rt; owners(held), 2);
+    equal(rt, owners(held), 2);
 }
 
 // The same at a lane of its own, which is dropped then.
@@ -125,7 +128,7 @@ fn loses_its_server(rt: &impl Abort, alloc: Global, held: &Held) -> Result<(), L
 fn a_server_dropped_with_a_request_in_hand(rt: HostRuntime) -> Result<(), Fail> {
     let held = a_thing(rt.alloc());
     loses_its_server(&rt, rt.alloc(), &held)?;
-    assert_eq!(rt; owners(&held), 1);
+    equal(&rt, owners(&held), 1);
     Ok(())
 }
 
@@ -158,10 +161,11 @@ fn sent_and_dropped(lane: &Lane<Scales>, owner: Owner<Scales>, held: &Held) -> O
 fn loses_its_owner(rt: &impl Abort, alloc: Global, held: &Held) -> Result<(), LaneFault> {
     let scales = Scales;
     let (lane, owner, server, shutter) = open(alloc, &scales, 0, 2, 0)?;
-    assert_eq!(rt; sent_and_dropped(&lane, owner, held), Outcome::Sent(0));
-    assert_eq!(rt;
+    equal(rt, sent_and_dropped(&lane, owner, held), Outcome::Sent(0));
+    equal(
+        rt,
         shut_and_served(&lane, shutter, server, held),
-        (1, [Outcome::Did, Outcome::Settled], 3)
+        (1, [Outcome::Did, Outcome::Settled], 3),
     );
     Ok(())
 }
@@ -170,7 +174,7 @@ fn loses_its_owner(rt: &impl Abort, alloc: Global, held: &Held) -> Result<(), La
 fn an_owner_dropped_with_requests_on_their_way(rt: HostRuntime) -> Result<(), Fail> {
     let held = a_thing(rt.alloc());
     loses_its_owner(&rt, rt.alloc(), &held)?;
-    assert_eq!(rt; owners(&held), 1);
+    equal(&rt, owners(&held), 1);
     Ok(())
 }
 
@@ -189,13 +193,13 @@ fn scales_world<'m>(alloc: Global, scales: &'m Scales) -> Result<World<'m, Scale
 
 // The world has two parcels and an answer then, and drops a third.
 fn keeps_two_parcels(rt: &impl Abort, world: &mut World<Scales>, held: &Held) {
-    assert!(rt; is_sent(world, 7, held));
-    assert!(rt; happens(world, Event::Take));
-    assert!(rt; happens(world, Event::Finish));
-    assert!(rt; is_sent(world, 8, held));
-    assert_eq!(rt; owners(held), 4);
-    assert!(rt; is_sent(world, 9, held));
-    assert_eq!(rt; owners(held), 4);
+    holds(rt, is_sent(world, 7, held));
+    holds(rt, happens(world, Event::Take));
+    holds(rt, happens(world, Event::Finish));
+    holds(rt, is_sent(world, 8, held));
+    equal(rt, owners(held), 4);
+    holds(rt, is_sent(world, 9, held));
+    equal(rt, owners(held), 4);
 }
 
 #[test]
@@ -205,7 +209,7 @@ fn a_world_owns_its_requests_and_answers(rt: HostRuntime) -> Result<(), Fail> {
     let mut world = scales_world(rt.alloc(), &scales)?;
     keeps_two_parcels(&rt, &mut world, &held);
     drop(world);
-    assert_eq!(rt; owners(&held), 1);
+    equal(&rt, owners(&held), 1);
     Ok(())
 }
 
@@ -220,7 +224,7 @@ fn tried(world: &mut World<Sum>, happening: Happening) -> Result<Said, Event<Sum
 // The event that came back is this one, of the kinds that take memory.
 fn came_back(rt: &impl Abort, event: Event<Sum>, happening: Happening) {
     match (event, happening) {
-        (Event::Send(request), Happening::Send(sent)) => assert_eq!(rt; request, sent),
+        (Event::Send(request), Happening::Send(sent)) => equal(rt, request, sent),
         (Event::Finish, Happening::Finish) => {}
         _ => panic!(rt; "another event"),
     }
@@ -230,11 +234,11 @@ fn came_back(rt: &impl Abort, event: Event<Sum>, happening: Happening) {
 fn applies(rt: &impl Abort, world: &mut World<Sum>, happening: Happening, want: Said) {
     let state = world.label();
     match tried(world, happening) {
-        Ok(said) => assert_eq!(rt; said, want),
+        Ok(said) => equal(rt, said, want),
         Err(event) => {
-            assert_eq!(rt; world.label(), state);
+            equal(rt, world.label(), state);
             came_back(rt, event, happening);
-            assert_eq!(rt; apply(world, happening), want);
+            equal(rt, apply(world, happening), want);
         }
     }
 }
@@ -257,7 +261,7 @@ fn growths_refused_to_apply(rt: HostRuntime) -> Result<(), Fail> {
     for row in ROWS {
         applies(&rt, &mut world, row.0, row.1);
     }
-    assert_eq!(rt; world.label(), 12);
+    equal(&rt, world.label(), 12);
     Ok(())
 }
 
@@ -291,9 +295,9 @@ fn replays(
         let Err(NoMemory) = replayed(world, events, replies) else {
             return true;
         };
-        assert_eq!(rt; events.len().wrapping_add(replies.len()), ROWS.len());
+        equal(rt, events.len().wrapping_add(replies.len()), ROWS.len());
         match events.front() {
-            Some(event) => assert!(rt; is_of(event, row_at(replies.len()).0)),
+            Some(event) => holds(rt, is_of(event, row_at(replies.len()).0)),
             None => panic!(rt; "no event in front"),
         }
     }
@@ -315,7 +319,7 @@ fn replies_of(rt: &impl Abort, alloc: Global, world: &mut World<Sum>) -> Vec<Rep
     let mut events: VecDeque<Event<Sum>> = VecDeque::new(alloc);
     assert!(rt; rows_come(&mut events), "memory");
     let mut replies: Vec<Reply<Sum>> = Vec::new(alloc);
-    assert!(rt; replays(rt, world, &mut events, &mut replies));
+    holds(rt, replays(rt, world, &mut events, &mut replies));
     replies
 }
 
@@ -325,7 +329,7 @@ fn growths_refused_to_replay(rt: HostRuntime) -> Result<(), Fail> {
     let mut world = a_world(rt.alloc(), &sum, 2, 5)?;
     let replies = replies_of(&rt, rt.alloc(), &mut world);
     are_said(&rt, &mut replies.into_iter(), &ROWS);
-    assert_eq!(rt; world.label(), 12);
+    equal(&rt, world.label(), 12);
     Ok(())
 }
 
@@ -342,10 +346,10 @@ fn growths_refused_to_a_new_lane(rt: HostRuntime) -> Result<(), Fail> {
     for _ in 0..10 {
         match sends_at_once(rt.alloc()) {
             Ok(sends) => {
-                assert!(rt; sends);
+                holds(&rt, sends);
                 return Ok(());
             }
-            Err(fault) => assert_eq!(rt; fault, LaneFault::NoMemory),
+            Err(fault) => equal(&rt, fault, LaneFault::NoMemory),
         }
     }
     panic!(rt; "refused each time")

@@ -2,6 +2,7 @@
 ghost use Rattle.std.specs.Prelude.{◌≡◌, ◌+◌, ◌%◌, ℕ};
 ghost use Rattle.aa_lane.specs.Ends.{known};
 
+use crate::comparing::equal;
 use crate::lane::bench::{Bench, Outcome, Step};
 use aa_lane::{Answered, Lane, Machine, Owner, Unsent};
 use std::alloc::Global;
@@ -126,7 +127,7 @@ pub fn plays<'l, 'm>(
     for row in rows {
         let (next, outcome, counts) = does(bench, row.0, held);
         bench = next;
-        assert_eq!(rt; (outcome, counts), (row.1, row.2));
+        equal(rt, (outcome, counts), (row.1, row.2));
     }
     bench
 }

@@ -3,6 +3,7 @@ ghost use Rattle.aa_lane.specs.Ends.{LaneId, known};
 ghost use Rattle.aa_lane_tests.specs.declared.lane.sum.Sum.{Sum};
 ghost use Rattle.std.specs.Prelude.{◌≡◌, ℕ};
 
+use crate::comparing::{equal, holds};
 use crate::lane::bench::open;
 use crate::lane::sum::Sum;
 use aa_lane::SendFault::Closed;
@@ -106,16 +107,17 @@ fn shut_later(lane: &Lane<Sum>, shutter: Shutter<Sum>) -> (Shutter<Sum>, u64)
 }
 
 fn check_totals(rt: &impl Abort, totals: Totals<Sum>, count: u64) {
-    assert_eq!(rt;
+    equal(
+        rt,
         [totals.accepted, totals.answered, totals.collected],
-        [count, count, count]
+        [count, count, count],
     );
     let state = if count == 0 {
         0
     } else {
         sum_up_to(count.wrapping_sub(1))
     };
-    assert_eq!(rt; totals.state, state);
+    equal(rt, totals.state, state);
 }
 
 // What the threads do at a lane. A closure keeps what it ensures where the type of what it captures names no lifetime, so
@@ -193,15 +195,16 @@ fn fed_on_two_threads<R: Threads + Wait + Abort + Sync>(
 fn an_owner_and_a_server_on_two_threads(rt: HostRuntime) -> Result<(), Fail> {
     for capacity in [1, 3, 1024] {
         let (fed, closed) = fed_on_two_threads(&rt, rt.alloc(), capacity)?;
-        assert_eq!(rt;
+        equal(
+            &rt,
             fed,
             Fed {
                 sent: 10000,
                 got: 10000,
-                right: true
-            }
+                right: true,
+            },
         );
-        assert_eq!(rt; closed, 10000);
+        equal(&rt, closed, 10000);
     }
     Ok(())
 }
@@ -329,10 +332,10 @@ fn closes(
     requires server { server.lane ≡ known lane }
     requires shutter { shutter.lane ≡ known lane }
 {
-    assert!(rt; fed.right);
-    assert_eq!(rt; fed.got, fed.sent);
+    holds(rt, fed.right);
+    equal(rt, fed.got, fed.sent);
     let owner = owner.exit(&lane);
-    assert_eq!(rt; owner.accepted(), fed.sent);
+    equal(rt, owner.accepted(), fed.sent);
     let ends = Ends {
         owner,
         server,
@@ -376,7 +379,7 @@ fn two_owners_while_another_thread_shuts_one_lane(rt: HostRuntime) -> Result<(),
         (server, other_server),
         (shutter, other_shutter),
     );
-    assert_eq!(rt; counts[0], counts[1]);
-    assert_eq!(rt; counts[2], 10000);
+    equal(&rt, counts[0], counts[1]);
+    equal(&rt, counts[2], 10000);
     Ok(())
 }

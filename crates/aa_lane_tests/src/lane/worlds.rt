@@ -1,4 +1,5 @@
 //! The lane as plain data.
+use crate::comparing::{equal, holds};
 use crate::lane::sum::{Happening, Said, Sum};
 use aa_lane::SendFault::{Closed, Full};
 use aa_lane::{Event, LaneFault, NoMemory, Reply, World, replay};
@@ -27,7 +28,7 @@ pub fn apply(world: &mut World<Sum>, happening: Happening) -> Said {
 
 fn plays(rt: &impl Abort, world: &mut World<Sum>, rows: &[(Happening, Said)]) {
     for row in rows {
-        assert_eq!(rt; apply(world, row.0), row.1);
+        equal(rt, apply(world, row.0), row.1);
     }
 }
 
@@ -57,9 +58,9 @@ fn the_sum_from_five(rt: HostRuntime) -> Result<(), Fail> {
     let sum = Sum;
     let mut world = a_world(rt.alloc(), &sum, 2, 5)?;
     plays(&rt, &mut world, &SUM_FROM_FIVE);
-    assert_eq!(rt; kept(&world, 0), (Some(3), Some(8)));
-    assert_eq!(rt; kept(&world, 1), (None, None));
-    assert_eq!(rt; world.label(), 8);
+    equal(&rt, kept(&world, 0), (Some(3), Some(8)));
+    equal(&rt, kept(&world, 1), (None, None));
+    equal(&rt, world.label(), 8);
     Ok(())
 }
 
@@ -67,15 +68,16 @@ fn the_sum_from_five(rt: HostRuntime) -> Result<(), Fail> {
 fn capacities_of_a_world(rt: HostRuntime) -> Result<(), Fail> {
     let sum = Sum;
     for capacity in [0, 1025, u32::MAX] {
-        assert!(rt;
+        holds(
+            &rt,
             matches!(
                 World::new(rt.alloc(), &sum, capacity, 5),
                 Err(LaneFault::BadCapacity)
-            )
+            ),
         );
     }
     for capacity in [1, 1024] {
-        assert!(rt; World::new(rt.alloc(), &sum, capacity, 5).is_ok());
+        holds(&rt, World::new(rt.alloc(), &sum, capacity, 5).is_ok());
     }
     Ok(())
 }
@@ -140,15 +142,15 @@ fn next_said(replies: &mut IntoIter<Reply<Sum>>) -> Option<Said> {
 /// The next replies are those of the rows.
 pub fn are_said(rt: &impl Abort, replies: &mut IntoIter<Reply<Sum>>, rows: &[(Happening, Said)]) {
     for row in rows {
-        assert_eq!(rt; next_said(replies), Some(row.1));
+        equal(rt, next_said(replies), Some(row.1));
     }
 }
 
 // The replies are the one that was there, and those of the rows.
 fn are_told(rt: &impl Abort, replies: Vec<Reply<Sum>>) {
-    assert_eq!(rt; replies.len(), 11);
+    equal(rt, replies.len(), 11);
     let mut replies = replies.into_iter();
-    assert_eq!(rt; next_said(&mut replies), Some(Said::Idle));
+    equal(rt, next_said(&mut replies), Some(Said::Idle));
     are_said(rt, &mut replies, &SUM_FROM_FIVE);
 }
 
@@ -168,8 +170,8 @@ fn a_replay_appends_a_reply_for_each_event(rt: HostRuntime) -> Result<(), Fail> 
     let sum = Sum;
     let mut world = a_world(rt.alloc(), &sum, 2, 5)?;
     let (left, replies) = all_replayed(rt.alloc(), &mut world)?;
-    assert_eq!(rt; left, 0);
+    equal(&rt, left, 0);
     are_told(&rt, replies);
-    assert_eq!(rt; world.label(), 8);
+    equal(&rt, world.label(), 8);
     Ok(())
 }

@@ -2,6 +2,7 @@
 ghost use Rattle.std.specs.Prelude.{◌≡◌, ◌<◌, ◌≤◌, ◌∷◌, [], IfSome};
 ghost use Rattle.aa_lane.specs.Ends.{known};
 
+use crate::comparing::equal;
 use crate::pool::sums::{Sum, accepts};
 use aa_lane::{Ends, Lane, Owner, Server, Shutter};
 use aa_pool::{Engine, serve_all};
@@ -130,9 +131,10 @@ fn a_served_lane_is_closed_by_its_ends(rt: HostRuntime) -> Result<(), Fail> {
         (0, 5, 2, [5, 5, 0, 10]),
         (990, 20, 16, [16, 16, 0, 110]),
     ] {
-        assert_eq!(rt;
+        equal(
+            &rt,
             closed_after(&rt, rt.alloc(), start, count, workers),
-            Some(totals)
+            Some(totals),
         );
     }
     Ok(())

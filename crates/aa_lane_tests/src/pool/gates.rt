@@ -2,6 +2,7 @@
 ghost use Rattle.std.specs.Prelude.{◌≡◌, ◌<◌, ◌≤◌, map};
 ghost use Rattle.aa_lane.specs.Ends.{known};
 
+use crate::comparing::equal;
 use crate::pool::serving::{accepts_at, collected_at};
 use aa_lane::{Lane, Machine, Owner};
 use aa_pool::{Engine, serve_all, shut_all};
@@ -119,7 +120,7 @@ fn served_by<R: Threads + Wait + Sync>(
 #[test]
 fn two_workers_serve_two_lanes_at_once(rt: HostRuntime) -> Result<(), Fail> {
     for workers in [2, 16] {
-        assert_eq!(rt; served_by(&rt, rt.alloc(), workers), Some((2, 2, 2, 0)));
+        equal(&rt, served_by(&rt, rt.alloc(), workers), Some((2, 2, 2, 0)));
     }
     Ok(())
 }

@@ -1,4 +1,5 @@
 //! Engines that are opened, or refused, and lanes that are shut one after another.
+use crate::comparing::equal;
 use crate::pool::sums::{Sum, accepts};
 use aa_pool::{Engine, EngineFault, shut_all};
 use std::alloc::Global;
@@ -25,9 +26,10 @@ fn lanes_and_capacities_of_an_engine(rt: HostRuntime) -> Result<(), Fail> {
     ];
     let starts = [5; 1025];
     for (count, capacity, opened) in rows {
-        assert_eq!(rt;
+        equal(
+            &rt,
             lanes_opened(rt.alloc(), &starts[..count], capacity),
-            opened
+            opened,
         );
     }
     Ok(())
@@ -50,7 +52,7 @@ fn counts_of_shut(alloc: Global) -> Result<[u64; 2], EngineFault> {
 
 #[test]
 fn shutting_all_lanes_counts_what_each_accepted(rt: HostRuntime) -> Result<(), Fail> {
-    assert_eq!(rt; counts_of_shut(rt.alloc()), Ok([1, 0]));
+    equal(&rt, counts_of_shut(rt.alloc()), Ok([1, 0]));
     Ok(())
 }
 
@@ -59,10 +61,10 @@ fn growths_refused_to_an_engine(rt: HostRuntime) -> Result<(), Fail> {
     for _ in 0..100 {
         match lanes_opened(rt.alloc(), &[1, 2, 3], 2) {
             Ok(count) => {
-                assert_eq!(rt; count, 3);
+                equal(&rt, count, 3);
                 return Ok(());
             }
-            Err(fault) => assert_eq!(rt; fault, EngineFault::NoMemory),
+            Err(fault) => equal(&rt, fault, EngineFault::NoMemory),
         }
     }
     panic!(rt; "refused each time")

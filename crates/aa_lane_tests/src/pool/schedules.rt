@@ -2,6 +2,7 @@
 ghost use Rattle.std.specs.Prelude.{◌≡◌, ◌≤◌, ◌<◌, ◌∷◌, [], map, IfSome};
 ghost use Rattle.aa_lane.specs.Ends.{known};
 
+use crate::comparing::equal;
 use crate::pool::sums::{Sum, sum_up_to};
 use aa_lane::SendFault::Closed;
 use aa_lane::{Lane, Owner, Server, Shutter};
@@ -231,8 +232,8 @@ fn owners_feed_a_pool_while_another_thread_shuts_a_lane(rt: HostRuntime) -> Resu
             collected: count,
             right: true,
         };
-        assert_eq!(rt; (first, second), (whole(count), whole(REQUESTS)));
-        assert_eq!(rt; served, 2);
+        equal(&rt, (first, second), (whole(count), whole(REQUESTS)));
+        equal(&rt, served, 2);
     }
     Ok(())
 }

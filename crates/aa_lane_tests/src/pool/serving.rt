@@ -2,6 +2,7 @@
 ghost use Rattle.std.specs.Prelude.{◌≡◌, ◌<◌, ◌≤◌, length, map};
 ghost use Rattle.aa_lane.specs.Ends.{known};
 
+use crate::comparing::equal;
 use crate::pool::sums::{Sum, accepts, collected, sum_up_to};
 use aa_lane::{Lane, Machine, Owner};
 use aa_pool::{Engine, EngineFault, serve_all, shut_all};
@@ -143,9 +144,10 @@ fn each_lane_is_served_once(rt: HostRuntime) -> Result<(), Fail> {
     ];
     for (lanes, count, workers) in rows {
         let all = count.wrapping_mul(lanes as u64);
-        assert_eq!(rt;
+        equal(
+            &rt,
             served_by(&rt, rt.alloc(), &starts[..lanes], count, workers),
-            Ok((all, lanes, all))
+            Ok((all, lanes, all)),
         );
     }
     Ok(())
@@ -156,10 +158,10 @@ fn growths_refused_to_a_pool(rt: HostRuntime) -> Result<(), Fail> {
     for _ in 0..10 {
         match served_by(&rt, rt.alloc(), &[0, 0, 0], 2, 3) {
             Ok(counts) => {
-                assert_eq!(rt; counts, (6, 3, 6));
+                equal(&rt, counts, (6, 3, 6));
                 return Ok(());
             }
-            Err(fault) => assert_eq!(rt; fault, EngineFault::NoMemory),
+            Err(fault) => equal(&rt, fault, EngineFault::NoMemory),
         }
     }
     panic!(rt; "refused each time")

@@ -1,5 +1,6 @@
 //! Which patterns words with variables expand to.
 
+use crate::comparing::equal;
 use crate::texts::{add, expansions, is_matched, set};
 use aa_faults::PolicyKind;
 use aa_glob::{Pattern, Vars};
@@ -22,7 +23,7 @@ fn is_set(
     values: &[&[u8]],
     wanted: Option<PolicyKind>,
 ) {
-    assert_eq!(rt; set_to(vars, name, values), wanted);
+    equal(rt, set_to(vars, name, values), wanted);
 }
 
 /// These values are added to the variable, or refused for that.
@@ -33,7 +34,7 @@ fn is_added(
     values: &[&[u8]],
     wanted: Option<PolicyKind>,
 ) {
-    assert_eq!(rt; add_to(vars, name, values), wanted);
+    equal(rt, add_to(vars, name, values), wanted);
 }
 
 #[test]
@@ -67,14 +68,14 @@ fn patterns_of(rt: &impl Abort, alloc: Global, vars: &Vars, raw: &[u8]) -> Vec<P
 /// The pattern matches just that one of the paths.
 fn matches_just(rt: &impl Abort, pattern: &Pattern, number: usize, paths: &[&[u8]]) {
     for (j, path) in paths.iter().enumerate() {
-        assert_eq!(rt; is_matched(pattern, path), number == j);
+        equal(rt, is_matched(pattern, path), number == j);
     }
 }
 
 /// The word has as many expansions as there are paths, and each matches its path alone.
 fn expands_to(rt: &impl Abort, alloc: Global, vars: &Vars, raw: &[u8], paths: &[&[u8]]) {
     let patterns = patterns_of(rt, alloc, vars, raw);
-    assert_eq!(rt; patterns.len(), paths.len());
+    equal(rt, patterns.len(), paths.len());
     for (i, pattern) in patterns.iter().enumerate() {
         matches_just(rt, pattern, i, paths);
     }
@@ -82,7 +83,7 @@ fn expands_to(rt: &impl Abort, alloc: Global, vars: &Vars, raw: &[u8], paths: &[
 
 /// The word has so many expansions.
 fn has_count(rt: &impl Abort, alloc: Global, vars: &Vars, raw: &[u8], wanted: usize) {
-    assert_eq!(rt; patterns_of(rt, alloc, vars, raw).len(), wanted);
+    equal(rt, patterns_of(rt, alloc, vars, raw).len(), wanted);
 }
 
 /// Why the word has none.
@@ -93,7 +94,7 @@ fn refusal(alloc: Global, vars: &Vars, raw: &[u8]) -> Option<PolicyKind> {
 /// Each word has no expansions, for that.
 fn are_refused(rt: &impl Abort, alloc: Global, vars: &Vars, rows: &[(&[u8], PolicyKind)]) {
     for (raw, kind) in rows {
-        assert_eq!(rt; refusal(alloc, vars, raw), Some(*kind));
+        equal(rt, refusal(alloc, vars, raw), Some(*kind));
     }
 }
 
@@ -115,7 +116,7 @@ type Matching<'a> = (&'a [u8], &'a [usize]);
 /// Just these of the word's expansions match each path.
 fn have_matching(rt: &impl Abort, alloc: Global, vars: &Vars, raw: &[u8], rows: &[Matching<'_>]) {
     for (path, wanted) in rows {
-        assert_eq!(rt; matching(rt, alloc, vars, raw, path).as_slice(), *wanted);
+        equal(rt, matching(rt, alloc, vars, raw, path).as_slice(), *wanted);
     }
 }
 

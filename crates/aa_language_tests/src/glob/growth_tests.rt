@@ -1,6 +1,7 @@
 //! Growths that are refused. Each test passes whichever of its growths is refused: it asks again, and what was refused for
 //! want of memory has changed nothing.
 
+use crate::comparing::{equal, holds};
 use crate::texts::{add, expansions, is_matched, pattern_of, set};
 use aa_faults::PolicyKind;
 use aa_glob::{Pattern, Vars};
@@ -11,7 +12,7 @@ fn read_at_last(rt: &impl Abort, alloc: Global, text: &[u8]) -> Pattern {
     for _ in 0..3 {
         match pattern_of(alloc, text) {
             Ok(pattern) => return pattern,
-            Err(fault) => assert_eq!(rt; fault, PolicyKind::NoMemory),
+            Err(fault) => equal(rt, fault, PolicyKind::NoMemory),
         }
     }
     panic!(rt; "refused each time")
@@ -21,7 +22,7 @@ fn set_at_last(rt: &impl Abort, vars: &mut Vars, name: &[u8], values: &[&[u8]]) 
     for _ in 0..3 {
         match set(vars, name, values) {
             Ok(()) => return,
-            Err(fault) => assert_eq!(rt; fault, PolicyKind::NoMemory),
+            Err(fault) => equal(rt, fault, PolicyKind::NoMemory),
         }
     }
     panic!(rt; "refused each time")
@@ -31,7 +32,7 @@ fn add_at_last(rt: &impl Abort, vars: &mut Vars, name: &[u8], values: &[&[u8]]) 
     for _ in 0..3 {
         match add(vars, name, values) {
             Ok(()) => return,
-            Err(fault) => assert_eq!(rt; fault, PolicyKind::NoMemory),
+            Err(fault) => equal(rt, fault, PolicyKind::NoMemory),
         }
     }
     panic!(rt; "refused each time")
@@ -41,7 +42,7 @@ fn expand_at_last(rt: &impl Abort, alloc: Global, vars: &Vars, raw: &[u8]) -> Ve
     for _ in 0..3 {
         match expansions(alloc, vars, raw) {
             Ok(patterns) => return patterns,
-            Err(fault) => assert_eq!(rt; fault, PolicyKind::NoMemory),
+            Err(fault) => equal(rt, fault, PolicyKind::NoMemory),
         }
     }
     panic!(rt; "refused each time")
@@ -49,18 +50,18 @@ fn expand_at_last(rt: &impl Abort, alloc: Global, vars: &Vars, raw: &[u8]) -> Ve
 
 /// There are as many patterns as paths, and each matches the path in its place.
 fn match_in_turn(rt: &impl Abort, patterns: &[Pattern], paths: &[&[u8]]) {
-    assert_eq!(rt; patterns.len(), paths.len());
+    equal(rt, patterns.len(), paths.len());
     for (pattern, path) in patterns.iter().zip(paths) {
-        assert!(rt; is_matched(pattern, path));
+        holds(rt, is_matched(pattern, path));
     }
 }
 
 #[test]
 fn a_growth_refused_to_read_is_no_memory(rt: HostRuntime) {
     let pattern = read_at_last(&rt, rt.alloc(), b"/{usr/,}lib/[a-c]*/\\*x?**");
-    assert!(rt; is_matched(&pattern, b"/usr/lib/cd/*xyz/"));
-    assert!(rt; is_matched(&pattern, b"/lib/a/*xy"));
-    assert!(rt; !is_matched(&pattern, b"/usr/lib/d/*xyz/"));
+    holds(&rt, is_matched(&pattern, b"/usr/lib/cd/*xyz/"));
+    holds(&rt, is_matched(&pattern, b"/lib/a/*xy"));
+    holds(&rt, !is_matched(&pattern, b"/usr/lib/d/*xyz/"));
 }
 
 #[test]
@@ -70,7 +71,7 @@ fn a_growth_refused_is_no_bad_pattern(rt: HostRuntime) {
             Ok(_) => panic!(rt; "a choice that isn't closed"),
             Err(PolicyKind::NoMemory) => {}
             Err(fault) => {
-                assert_eq!(rt; fault, PolicyKind::BadPattern);
+                equal(&rt, fault, PolicyKind::BadPattern);
                 return;
             }
         }
@@ -85,7 +86,11 @@ fn a_growth_refused_to_set_add_or_expand_is_no_memory(rt: HostRuntime) {
     set_at_last(&rt, &mut vars, b"A", &[b"a", b"b"]);
     add_at_last(&rt, &mut vars, b"A", &[b"c*"]);
     set_at_last(&rt, &mut vars, b"B", &[b"@{A}x"]);
-    assert_eq!(rt; set(&mut vars, b"B", &[]), Err(PolicyKind::VariableTwice));
+    equal(
+        &rt,
+        set(&mut vars, b"B", &[]),
+        Err(PolicyKind::VariableTwice),
+    );
     let patterns = expand_at_last(&rt, alloc, &vars, b"/@{A}//@{B}");
     const WANTED: &[&[u8]] = &[
         b"/a/ax", b"/a/bx", b"/a/cx", b"/b/ax", b"/b/bx", b"/b/cx", b"/c/ax", b"/c/bx", b"/c/cx",

@@ -1,5 +1,6 @@
 //! Patterns and variables that are as large or as deep as their limits let them be, and just over.
 
+use crate::comparing::{equal, holds};
 use crate::texts::{
     add, expansions, filled, is_matched, joined, pattern_fault, pattern_of, repeated, set,
 };
@@ -45,9 +46,10 @@ fn is_row_matched(
     (byte, count, behind): (u8, usize, &[u8]),
     wanted: bool,
 ) -> Result<(), AllocError> {
-    assert_eq!(rt;
+    equal(
+        rt,
         row_is_matched(alloc, pattern, byte, count, behind)?,
-        wanted
+        wanted,
     );
     Ok(())
 }
@@ -78,9 +80,10 @@ fn pattern_of_row(
 /// Of each byte, so many are no pattern.
 fn are_bad(rt: &impl Abort, alloc: Global, rows: &[(u8, usize)]) -> Result<(), AllocError> {
     for (byte, count) in rows {
-        assert_eq!(rt;
+        equal(
+            rt,
             refusal_of(alloc, *byte, *count)?,
-            Some(PolicyKind::BadPattern)
+            Some(PolicyKind::BadPattern),
         );
     }
     Ok(())
@@ -95,7 +98,7 @@ fn texts_of_one_byte_over_and_over(rt: HostRuntime) -> Result<(), Fail> {
     let alloc = rt.alloc();
     are_bad(&rt, alloc, &[(b'[', TEXT), (b'{', TEXT), (b'\\', TEXT - 1)])?;
     let kept = pattern_of_byte(alloc, b'\\', TEXT)?;
-    assert_eq!(rt; front_of(&kept), TEXT / 2);
+    equal(&rt, front_of(&kept), TEXT / 2);
     is_row_matched(&rt, alloc, &kept, (b'\\', TEXT / 2, b""), true)?;
     Ok(())
 }
@@ -105,8 +108,8 @@ fn any_number_of_stars_is_one_item(rt: HostRuntime) -> Result<(), Fail> {
     let alloc = rt.alloc();
     let pattern = pattern_of_byte(alloc, b'*', TEXT)?;
     is_row_matched(&rt, alloc, &pattern, (b'/', PATH, b""), true)?;
-    assert!(rt; is_matched(&pattern, b""));
-    assert!(rt; !is_matched(&pattern, b"/a\x00"));
+    holds(&rt, is_matched(&pattern, b""));
+    holds(&rt, !is_matched(&pattern, b"/a\x00"));
     Ok(())
 }
 
@@ -119,8 +122,8 @@ fn is_path_matched(
     wanted: bool,
 ) -> Result<(), AllocError> {
     let path = row(alloc, b"/a", count, behind)?;
-    assert_eq!(rt; path.len(), len);
-    assert_eq!(rt; is_matched(pattern, path.as_slice()), wanted);
+    equal(rt, path.len(), len);
+    equal(rt, is_matched(pattern, path.as_slice()), wanted);
     Ok(())
 }
 
@@ -225,7 +228,7 @@ fn class_of_all(alloc: Global) -> Result<Vec<u8>, AllocError> {
 /// The pattern matches a slash and each byte behind it but zero.
 fn matches_all_but_zero(rt: &impl Abort, pattern: &Pattern) {
     for byte in 0..=255u8 {
-        assert_eq!(rt; is_matched(pattern, &[b'/', byte]), byte != 0);
+        equal(rt, is_matched(pattern, &[b'/', byte]), byte != 0);
     }
 }
 
@@ -279,7 +282,7 @@ fn has_counts(
     wanted: Result<(usize, usize), PolicyKind>,
 ) -> Result<(), PolicyKind> {
     let vars = letters(alloc, values)?;
-    assert_eq!(rt; counts(alloc, &vars, b"/@{A}"), wanted);
+    equal(rt, counts(alloc, &vars, b"/@{A}"), wanted);
     Ok(())
 }
 
@@ -329,6 +332,6 @@ fn chain(alloc: Global, count: usize) -> Result<Vars, PolicyKind> {
 fn a_chain_of_names_may_be_long(rt: HostRuntime) -> Result<(), Fail> {
     let alloc = rt.alloc();
     let vars = chain(alloc, 1000)?;
-    assert_eq!(rt; counts(alloc, &vars, b"/@{V999}")?, (1, 1));
+    equal(&rt, counts(alloc, &vars, b"/@{V999}")?, (1, 1));
     Ok(())
 }

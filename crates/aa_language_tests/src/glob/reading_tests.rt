@@ -1,5 +1,6 @@
 //! What texts are read as, and what the patterns match.
 
+use crate::comparing::{equal, holds};
 use crate::texts::{is_matched, pattern_fault, pattern_of};
 use aa_faults::PolicyKind;
 use aa_glob::Pattern;
@@ -16,7 +17,7 @@ fn pattern(rt: &impl Abort, alloc: Global, text: &[u8]) -> Pattern {
 /// Each of the paths is matched, or none is.
 fn matches_all(rt: &impl Abort, pattern: &Pattern, paths: &[&[u8]], wanted: bool) {
     for path in paths {
-        assert_eq!(rt; is_matched(pattern, path), wanted);
+        equal(rt, is_matched(pattern, path), wanted);
     }
 }
 
@@ -32,14 +33,14 @@ fn match_just(rt: &impl Abort, alloc: Global, rows: &[Row<'_>]) {
 /// Each text is refused for that.
 fn are_refused(rt: &impl Abort, alloc: Global, texts: &[&[u8]], kind: PolicyKind) {
     for text in texts {
-        assert_eq!(rt; pattern_fault(alloc, text), Some(kind));
+        equal(rt, pattern_fault(alloc, text), Some(kind));
     }
 }
 
 /// No pattern matches the path.
 fn match_none(rt: &impl Abort, alloc: Global, texts: &[&[u8]], path: &[u8]) {
     for text in texts {
-        assert!(rt; !is_matched(&pattern(rt, alloc, text), path));
+        holds(rt, !is_matched(&pattern(rt, alloc, text), path));
     }
 }
 
@@ -54,14 +55,14 @@ fn is_literal(rt: &impl Abort, alloc: Global, text: &[u8]) -> bool {
 /// The patterns have literal fronts of so many bytes.
 fn have_fronts(rt: &impl Abort, alloc: Global, rows: &[(&[u8], usize)]) {
     for (text, wanted) in rows {
-        assert_eq!(rt; front(rt, alloc, text), *wanted);
+        equal(rt, front(rt, alloc, text), *wanted);
     }
 }
 
 /// The patterns are literal, or aren't.
 fn are_literal(rt: &impl Abort, alloc: Global, rows: &[(&[u8], bool)]) {
     for (text, wanted) in rows {
-        assert_eq!(rt; is_literal(rt, alloc, text), *wanted);
+        equal(rt, is_literal(rt, alloc, text), *wanted);
     }
 }
 

@@ -1,5 +1,6 @@
 //! What the contracts of a head leave to tests: which refusal comes first, and texts from their bytes on.
 
+use crate::comparing::{equal_in, holds_in};
 use crate::heads::reading::{begins_in, head_in};
 use crate::texts::words_of;
 use aa_heads::HeadTree;
@@ -54,7 +55,7 @@ type Row = (&'static str, Expected);
 /// The heads of the texts are read so, at the top level or below it.
 fn reads_each(rt: &impl Abort, alloc: Global, top: bool, rows: &[Row]) -> Result<(), PolicyFault> {
     for (text, expected) in rows {
-        assert!(rt; is_read(alloc, text.as_bytes(), top, *expected)?, "{text}");
+        holds_in(rt, is_read(alloc, text.as_bytes(), top, *expected)?, text);
     }
     Ok(())
 }
@@ -85,10 +86,11 @@ fn begins(alloc: Global, text: &[u8]) -> Result<bool, PolicyFault> {
 /// The heads of the texts are refused at the top level or below it, each with that number at that byte.
 fn refuses_each(rt: &impl Abort, alloc: Global, top: bool, rows: &[(&str, u8, u32)]) {
     for (text, number, byte) in rows {
-        assert_eq!(rt;
+        equal_in(
+            rt,
             refusal(alloc, text.as_bytes(), top),
             Some((*number, *byte)),
-            "{text}"
+            text,
         );
     }
 }
@@ -106,7 +108,7 @@ fn has_flags(
     rows: &[(&str, (bool, bool, bool))],
 ) -> Result<(), PolicyFault> {
     for (text, flags) in rows {
-        assert!(rt; flags_of(alloc, text.as_bytes())? == *flags, "{text}");
+        holds_in(rt, flags_of(alloc, text.as_bytes())? == *flags, text);
     }
     Ok(())
 }
@@ -114,7 +116,7 @@ fn has_flags(
 /// Of each text a profile begins with its words, or none does.
 fn begins_each(rt: &impl Abort, alloc: Global, rows: &[(&str, bool)]) -> Result<(), PolicyFault> {
     for (text, expected) in rows {
-        assert_eq!(rt; begins(alloc, text.as_bytes())?, *expected, "{text}");
+        equal_in(rt, begins(alloc, text.as_bytes())?, *expected, text);
     }
     Ok(())
 }

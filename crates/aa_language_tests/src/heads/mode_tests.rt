@@ -1,5 +1,6 @@
 //! Modes: letters, exec parts, and whether anything is wrong with them.
 
+use crate::comparing::{equal_in, holds_in};
 use aa_rules::{ExecKind, ExecMode, Fallback, FileTree, RuleTree, rule_of};
 use aa_words::{PolicyFault, Span, Spot, Word, WordKind};
 use bitflags::Flags;
@@ -83,10 +84,10 @@ fn is_faulty(mode: &[u8], deny: bool) -> bool {
 /// A mode of that exec part alone lets a program be executed so, and is refused behind `deny`.
 fn says_how(rt: &impl Abort, part: &str, exec: ExecMode) {
     let mode = mode_of(part.as_bytes(), false);
-    assert_eq!(rt; mode, Some((64, Some(exec))), "{part}");
-    assert_eq!(rt; mode_of(part.as_bytes(), true), None, "{part}");
-    assert!(rt; !is_faulty(part.as_bytes(), false), "{part}");
-    assert!(rt; is_faulty(part.as_bytes(), true), "{part}");
+    equal_in(rt, mode, Some((64, Some(exec))), part);
+    equal_in(rt, mode_of(part.as_bytes(), true), None, part);
+    holds_in(rt, !is_faulty(part.as_bytes(), false), part);
+    holds_in(rt, is_faulty(part.as_bytes(), true), part);
 }
 
 /// An exec part: how it lets a program be executed, whether it scrubs, and where to else.
@@ -145,7 +146,7 @@ type ModeRow = (&'static str, bool, Option<u8>);
 /// Each mode grants its bits, or is faulty.
 fn grants_each(rt: &impl Abort, rows: &[ModeRow]) {
     for (text, deny, bits) in rows {
-        assert!(rt; grants(text.as_bytes(), *deny, *bits), "{text}");
+        holds_in(rt, grants(text.as_bytes(), *deny, *bits), text);
     }
 }
 
@@ -188,7 +189,7 @@ type FaultRow = (&'static str, bool, Option<u8>);
 /// Each mode has its fault, or none.
 fn has_faults(rt: &impl Abort, rows: &[FaultRow]) {
     for (text, deny, number) in rows {
-        assert_eq!(rt; fault_of(text.as_bytes(), *deny), *number, "{text}");
+        equal_in(rt, fault_of(text.as_bytes(), *deny), *number, text);
     }
 }
 

@@ -1,5 +1,6 @@
 //! What stands before the profiles, end to end: values in their order, where it ends, and which fault comes first.
 
+use crate::comparing::{equal, equal_in, holds_in};
 use crate::texts::{expansions, is_matched, words_of};
 use aa_glob::{Pattern, Vars};
 use aa_heads::preamble_of;
@@ -57,7 +58,7 @@ fn match_alone(patterns: &[Pattern], paths: &[&str]) -> bool {
 fn has_values(rt: &impl Abort, alloc: Global, rows: &[(&str, &[&str])]) -> Result<(), Fail> {
     for (text, paths) in rows {
         let patterns = patterns_of(alloc, text)?;
-        assert!(rt; match_alone(patterns.as_slice(), paths), "{text}");
+        holds_in(rt, match_alone(patterns.as_slice(), paths), text);
     }
     Ok(())
 }
@@ -94,7 +95,7 @@ fn end_of(alloc: Global, text: &str) -> Result<usize, PolicyFault> {
 /// The preamble of each of the texts has so many words.
 fn ends_each(rt: &impl Abort, alloc: Global, rows: &[(&str, usize)]) -> Result<(), PolicyFault> {
     for (text, end) in rows {
-        assert_eq!(rt; end_of(alloc, text)?, *end, "{text}");
+        equal_in(rt, end_of(alloc, text)?, *end, text);
     }
     Ok(())
 }
@@ -128,7 +129,7 @@ fn preambles_end_where_no_item_begins(rt: HostRuntime) -> Result<(), Fail> {
 /// The texts are refused, each with that number at that byte.
 fn refuses_each(rt: &impl Abort, alloc: Global, rows: &[(&str, u8, u32)]) {
     for (text, number, byte) in rows {
-        assert_eq!(rt; refusal(alloc, text), Some((*number, *byte)), "{text}");
+        equal_in(rt, refusal(alloc, text), Some((*number, *byte)), text);
     }
 }
 
@@ -170,7 +171,7 @@ fn read_at_last(rt: &impl Abort, alloc: Global, text: &str) -> (Vars, usize) {
     for _ in 0..3 {
         match read(alloc, text) {
             Ok(done) => return done,
-            Err(fault) => assert_eq!(rt; fault, PolicyFault::NO_MEMORY),
+            Err(fault) => equal(rt, fault, PolicyFault::NO_MEMORY),
         }
     }
     panic!(rt; "refused each time")
@@ -180,5 +181,5 @@ fn read_at_last(rt: &impl Abort, alloc: Global, text: &str) -> (Vars, usize) {
 fn a_growth_refused_to_a_preamble_is_no_memory(rt: HostRuntime) {
     let text = "abi <x>,\n@{A}=a b\n@{B}=\"c\"\n@{A}+=d e f g h\nprofile p { }";
     let (_, next) = read_at_last(&rt, rt.alloc(), text);
-    assert_eq!(rt; next, 17);
+    equal(&rt, next, 17);
 }

@@ -1,5 +1,6 @@
 //! File rules as they are written.
 
+use crate::comparing::equal;
 use crate::texts::words_of;
 use aa_rules::{FileTree, RuleTree, rule_of};
 use aa_words::{PolicyFault, Sources, Spot, WordList};
@@ -43,7 +44,7 @@ fn has_files(rt: &impl Abort, alloc: Global, text: &str, rows: &[Row]) -> Result
     let sources = Sources::new(alloc);
     let list = words_of(alloc, &sources, text.as_bytes())?;
     let closing = behind_all(&list, 3, rows);
-    assert_eq!(rt; closing, Some(list.list.len().saturating_sub(1)));
+    equal(rt, closing, Some(list.list.len().saturating_sub(1)));
     Ok(())
 }
 

@@ -1,5 +1,6 @@
 //! Tests of the tables of names.
 
+use crate::comparing::{equal, equal_in, holds_in};
 use aa_tables::{Cap, Caps, Family, SockType};
 use bitflags::Flags;
 use std::alloc::{AllocError, Global};
@@ -31,7 +32,7 @@ fn sock_type_of(name: &[u8]) -> Option<(usize, &'static str)> {
 /// The capabilities with these names have these numbers, and are named so.
 fn has_capabilities(rt: &impl Abort, rows: &[(&str, usize)]) {
     for (name, number) in rows {
-        assert_eq!(rt; cap_of(name.as_bytes()), Some((*number, *name)));
+        equal(rt, cap_of(name.as_bytes()), Some((*number, *name)));
     }
 }
 
@@ -55,7 +56,7 @@ fn capabilities_have_their_numbers(rt: HostRuntime) {
 /// The families with these names have these numbers, and are named so.
 fn has_families(rt: &impl Abort, rows: &[(&str, usize)]) {
     for (name, number) in rows {
-        assert_eq!(rt; family_of(name.as_bytes()), Some((*number, *name)));
+        equal(rt, family_of(name.as_bytes()), Some((*number, *name)));
     }
 }
 
@@ -79,7 +80,7 @@ fn families_have_their_numbers(rt: HostRuntime) {
 /// The types of sockets with these names have these numbers, and are named so.
 fn has_types(rt: &impl Abort, rows: &[(&str, usize)]) {
     for (name, number) in rows {
-        assert_eq!(rt; sock_type_of(name.as_bytes()), Some((*number, *name)));
+        equal(rt, sock_type_of(name.as_bytes()), Some((*number, *name)));
     }
 }
 
@@ -121,7 +122,7 @@ fn every_capability_stands_at_its_bit(rt: HostRuntime) -> Result<(), Fail> {
             "{n}"
         );
     }
-    assert_eq!(rt; Caps::FLAGS.len(), 41);
+    equal(&rt, Caps::FLAGS.len(), 41);
     Ok(())
 }
 
@@ -134,10 +135,10 @@ fn is_at_its_place(number: usize, name: &str) -> bool {
 fn every_family_stands_at_its_place(rt: HostRuntime) {
     let mut count = 0;
     for (n, name) in FAMILIES.split(' ').enumerate() {
-        assert!(rt; is_at_its_place(n, name), "{name}");
+        holds_in(&rt, is_at_its_place(n, name), name);
         count = n + 1;
     }
-    assert_eq!(rt; count, 44);
+    equal(&rt, count, 44);
 }
 
 /// The number of an entry, if there is one.
@@ -160,7 +161,7 @@ fn numbers_of(name: &[u8]) -> (Option<usize>, Option<usize>, Option<usize>) {
 /// No table has any of the names.
 fn has_none(rt: &impl Abort, names: &[&[u8]]) {
     for name in names {
-        assert_eq!(rt; numbers_of(name), (None, None, None));
+        equal(rt, numbers_of(name), (None, None, None));
     }
 }
 
@@ -199,10 +200,11 @@ type Row = (&'static str, Option<usize>, Option<usize>, Option<usize>);
 /// Each name has these numbers in the three tables.
 fn has_numbers(rt: &impl Abort, rows: &[Row]) {
     for (name, cap, family, kind) in rows {
-        assert_eq!(rt;
+        equal_in(
+            rt,
             numbers_of(name.as_bytes()),
             (*cap, *family, *kind),
-            "{name}"
+            name,
         );
     }
 }

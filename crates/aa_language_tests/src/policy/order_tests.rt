@@ -1,5 +1,6 @@
 //! Policies that are cut short or changed, and names that are there already.
 
+use crate::comparing::{equal, equal_in};
 use crate::policy::reading::refusal;
 use std::alloc::Global;
 use std::process::Abort;
@@ -10,7 +11,7 @@ type Row = (&'static str, Option<(u8, u16, u32)>);
 /// Each of the texts is read or refused as it says.
 fn are_refused(rt: &impl Abort, alloc: Global, rows: &[Row]) {
     for (text, found) in rows {
-        assert_eq!(rt; refusal(alloc, text.as_bytes()), *found, "{text}");
+        equal_in(rt, refusal(alloc, text.as_bytes()), *found, text);
     }
 }
 
@@ -39,7 +40,7 @@ fn no_front_of_a_policy_is_one(rt: HostRuntime) {
     for n in 1..text.len() {
         assert!(rt; refusal(alloc, &text[..n]).is_some(), "at {n}");
     }
-    assert_eq!(rt; refusal(alloc, text), None);
+    equal(&rt, refusal(alloc, text), None);
 }
 
 /// A policy with every construct.
@@ -61,7 +62,7 @@ fn each_front_of_a_policy_is_read_or_refused(rt: HostRuntime) {
     for n in 0..text.len() {
         assert!(rt; is_read_or_refused(refusal(alloc, &text[..n]), n), "at {n}");
     }
-    assert_eq!(rt; refusal(alloc, text), None);
+    equal(&rt, refusal(alloc, text), None);
 }
 
 #[test]

@@ -1,5 +1,6 @@
 //! Profiles in their row: names, parents, attachments, and what stands under each.
 
+use crate::comparing::holds;
 use crate::policy::reading::{has_flags, has_profiles, lists, matches_each};
 use aa_policy::{Seq, Text, matching_is_decided, parse, spelled_once};
 use aa_words::{Span, Spot, Word, WordKind, WordList};
@@ -219,11 +220,11 @@ fn numbers_of(list: Seq<i32>) -> Vec<i32> {
 #[test]
 fn lists_and_texts_give_back_what_they_hold(rt: HostRuntime) -> Result<(), Fail> {
     let bytes = bytes_of_text(rt.alloc(), b"ab")?;
-    assert!(rt; bytes.as_slice() == b"ab".as_slice());
-    assert!(rt; text_is(bytes, b"ab"));
+    holds(&rt, bytes.as_slice() == b"ab".as_slice());
+    holds(&rt, text_is(bytes, b"ab"));
     let list = Seq::from_vec([1, 2].to_vec(rt.alloc())?);
-    assert!(rt; list_is(&list, &[1, 2]));
-    assert!(rt; numbers_of(list).as_slice() == [1, 2].as_slice());
+    holds(&rt, list_is(&list, &[1, 2]));
+    holds(&rt, numbers_of(list).as_slice() == [1, 2].as_slice());
     Ok(())
 }
 

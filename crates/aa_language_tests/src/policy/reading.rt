@@ -1,5 +1,6 @@
 //! What the tests see of a text's policy: each helper reads a text, and compares what it says with plain rows.
 
+use crate::comparing::{equal_in, holds_in};
 use aa_glob::Pattern;
 use aa_policy::{
     CapRule, ChangeRule, Exec, ExecKind, Fallback, FileRule, NetRule, PassedOver, Policy, Profile,
@@ -51,10 +52,11 @@ pub type Row = (&'static str, u8, u32);
 /// Each of the texts is refused as it says.
 pub fn refuses_each(rt: &impl Abort, alloc: Global, rows: &[Row]) {
     for (text, number, byte) in rows {
-        assert_eq!(rt;
+        equal_in(
+            rt,
             refusal(alloc, text.as_bytes()),
             Some((*number, 0, *byte)),
-            "{text}"
+            text,
         );
     }
 }
@@ -65,10 +67,11 @@ pub type NamedRow = (&'static str, &'static str, u32);
 /// Each of the texts is refused as it says, by the kind's name.
 pub fn refuses_each_by_name(rt: &impl Abort, alloc: Global, rows: &[NamedRow]) {
     for (text, kind, byte) in rows {
-        assert_eq!(rt;
+        equal_in(
+            rt,
             named_refusal(alloc, text.as_bytes()),
             Some((*kind, 0, *byte)),
-            "{text}"
+            text,
         );
     }
 }
@@ -93,7 +96,7 @@ pub fn has_flags(
     rows: &[(bool, bool)],
 ) -> Result<(), PolicyFault> {
     let policy = read(alloc, text.as_bytes())?;
-    assert!(rt; have_flags(policy.profiles.as_slice(), rows), "{text}");
+    holds_in(rt, have_flags(policy.profiles.as_slice(), rows), text);
     Ok(())
 }
 
@@ -127,7 +130,7 @@ pub fn has_profiles(
     rows: &[ProfileRow],
 ) -> Result<(), PolicyFault> {
     let policy = read(alloc, text.as_bytes())?;
-    assert!(rt; are_profiles(policy.profiles.as_slice(), rows), "{text}");
+    holds_in(rt, are_profiles(policy.profiles.as_slice(), rows), text);
     Ok(())
 }
 
@@ -184,7 +187,7 @@ pub fn has_files(
     rows: &[FileRow],
 ) -> Result<(), PolicyFault> {
     let policy = read(alloc, text.as_bytes())?;
-    assert!(rt; first_has_files(&policy, rows), "{text}");
+    holds_in(rt, first_has_files(&policy, rows), text);
     Ok(())
 }
 
@@ -234,7 +237,7 @@ pub fn has_execs(
     rows: &[ExecRow],
 ) -> Result<(), PolicyFault> {
     let policy = read(alloc, text.as_bytes())?;
-    assert!(rt; first_has_execs(&policy, rows), "{text}");
+    holds_in(rt, first_has_execs(&policy, rows), text);
     Ok(())
 }
 
@@ -280,7 +283,7 @@ pub fn matches_each(
 ) -> Result<(), PolicyFault> {
     for (path, expected) in rows {
         let matched = matching(alloc, text, path)?;
-        assert_eq!(rt; matched.as_slice(), *expected, "{path}");
+        equal_in(rt, matched.as_slice(), *expected, path);
     }
     Ok(())
 }
@@ -305,7 +308,7 @@ pub fn lists(
     rows: &[(u16, &str)],
 ) -> Result<(), PolicyFault> {
     let policy = read(alloc, text.as_bytes())?;
-    assert!(rt; are_listed(policy.passed_over.as_slice(), rows), "{text}");
+    holds_in(rt, are_listed(policy.passed_over.as_slice(), rows), text);
     Ok(())
 }
 
@@ -335,7 +338,7 @@ pub fn has_caps(
     rows: &[CapRow],
 ) -> Result<(), PolicyFault> {
     let policy = read(alloc, text.as_bytes())?;
-    assert!(rt; first_has_caps(&policy, rows), "{text}");
+    holds_in(rt, first_has_caps(&policy, rows), text);
     Ok(())
 }
 
@@ -367,7 +370,7 @@ pub fn has_nets(
     rows: &[NetRow],
 ) -> Result<(), PolicyFault> {
     let policy = read(alloc, text.as_bytes())?;
-    assert!(rt; first_has_nets(&policy, rows), "{text}");
+    holds_in(rt, first_has_nets(&policy, rows), text);
     Ok(())
 }
 
@@ -420,7 +423,7 @@ pub fn has_changes(
     rows: &[ChangeRow],
 ) -> Result<(), PolicyFault> {
     let policy = read(alloc, text.as_bytes())?;
-    assert!(rt; first_has_changes(&policy, rows), "{text}");
+    holds_in(rt, first_has_changes(&policy, rows), text);
     Ok(())
 }
 
@@ -452,9 +455,10 @@ pub fn has_bare_changes(
     rows: &[&[&'static str]],
 ) -> Result<(), PolicyFault> {
     let policy = read(alloc, text.as_bytes())?;
-    assert!(rt;
+    holds_in(
+        rt,
         have_bare_changes(policy.profiles.as_slice(), rows),
-        "{text}"
+        text,
     );
     Ok(())
 }

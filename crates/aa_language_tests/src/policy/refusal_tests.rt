@@ -1,5 +1,6 @@
 //! Small hostile texts by construct: each word, place, mode, name and path that is refused, with its number and byte.
 
+use crate::comparing::equal;
 use crate::policy::reading::{refusal, refuses_each, refuses_each_by_name};
 
 #[test]
@@ -404,7 +405,7 @@ fn paths_that_do_not_expand(rt: HostRuntime) {
 #[test]
 fn a_variable_of_two_values_may_stand_ten_times(rt: HostRuntime) {
     let text = b"@{A}=x y\nprofile p { /@{A}@{A}@{A}@{A}@{A}@{A}@{A}@{A}@{A}@{A} r, }";
-    assert_eq!(rt; refusal(rt.alloc(), text), None);
+    equal(&rt, refusal(rt.alloc(), text), None);
 }
 
 #[test]

@@ -1,5 +1,6 @@
 //! Excerpts of worked texts.
 
+use crate::comparing::holds;
 use crate::texts::{extend, filled, joined, repeated};
 use aa_places::excerpt;
 use std::alloc::{AllocError, Global};
@@ -16,7 +17,7 @@ fn lines(alloc: Global, text: &[u8], byte: usize) -> Result<Vec<u8>, AllocError>
 fn have_excerpts(rt: &impl Abort, alloc: Global, rows: &[Row<'_>]) -> Result<(), AllocError> {
     for (text, byte, wanted) in rows {
         let found = lines(alloc, text, *byte)?;
-        assert!(rt; found.as_slice() == *wanted);
+        holds(rt, found.as_slice() == *wanted);
     }
     Ok(())
 }
@@ -90,7 +91,7 @@ fn is_cut_so(
     let line = filled(alloc, b'a', count)?;
     let wanted = shown(alloc, front, letters, end, spaces)?;
     let found = lines(alloc, line.as_slice(), byte)?;
-    assert!(rt; found.as_slice() == wanted.as_slice());
+    holds(rt, found.as_slice() == wanted.as_slice());
     Ok(())
 }
 
@@ -142,7 +143,7 @@ fn a_character_that_would_be_cut_is_left_out(rt: HostRuntime) -> Result<(), Fail
     let found = lines(alloc, line.as_slice(), 200)?;
     // The part from byte 120 to 280 begins and ends within an umlaut.
     let wanted = shown_umlauts(alloc, 79, 42)?;
-    assert!(&rt; found.as_slice() == wanted.as_slice());
+    holds(&rt, found.as_slice() == wanted.as_slice());
     Ok(())
 }
 
@@ -150,7 +151,10 @@ fn a_character_that_would_be_cut_is_left_out(rt: HostRuntime) -> Result<(), Fail
 fn an_excerpt_whose_growth_is_refused_is_none(rt: HostRuntime) {
     for _ in 0..4 {
         if let Ok(found) = lines(rt.alloc(), b"a\n\xC3\xA4b c", 4) {
-            assert!(&rt; found.as_slice() == b"    2 | \xC3\xA4b c\n      |  ^\n".as_slice());
+            holds(
+                &rt,
+                found.as_slice() == b"    2 | \xC3\xA4b c\n      |  ^\n".as_slice(),
+            );
             return;
         }
     }

@@ -1,5 +1,6 @@
 //! How large texts may be, how deep they may go, and how many.
 
+use crate::comparing::equal;
 use crate::texts::{filled, joined, repeated};
 use crate::words::reading::{
     add, expect_count, expect_end, expect_fault, expect_line, expect_splice_refused,
@@ -37,7 +38,7 @@ fn is_refused(
     text: &[u8],
     fault: PolicyFault,
 ) {
-    assert_eq!(rt; refusal_of(sources, name, text), Some(fault));
+    equal(rt, refusal_of(sources, name, text), Some(fault));
 }
 
 /// As many parentheses, and behind them a comma and a word.

@@ -1,5 +1,6 @@
 //! Which names are passed over.
 
+use crate::comparing::equal;
 use aa_trees::{can_be_included, is_passed_over, leaves_a_warning};
 use std::process::Abort;
 
@@ -13,8 +14,8 @@ fn warns(name: &[u8]) -> bool {
 
 fn are_so(rt: &impl Abort, names: &[&[u8]], is_passed: bool, is_warned: bool) {
     for name in names {
-        assert_eq!(rt; passes(name), is_passed);
-        assert_eq!(rt; warns(name), is_warned);
+        equal(rt, passes(name), is_passed);
+        equal(rt, warns(name), is_warned);
     }
 }
 
@@ -67,7 +68,7 @@ fn may_stand(path: &[u8]) -> bool {
 /// The paths may stand in an include, or not.
 fn may_stand_or_not(rt: &impl Abort, rows: &[(&[u8], bool)]) {
     for (path, may) in rows {
-        assert_eq!(rt; may_stand(path), *may);
+        equal(rt, may_stand(path), *may);
     }
 }
 

@@ -1,5 +1,6 @@
 //! Places of worked texts.
 
+use crate::comparing::equal;
 use aa_places::{Place, place_of};
 use std::process::Abort;
 
@@ -13,8 +14,8 @@ fn place(text: &[u8], byte: usize) -> Place {
 fn have_places(rt: &impl Abort, rows: &[Row<'_>]) {
     for (text, byte, line, column) in rows {
         let found = place(text, *byte);
-        assert_eq!(rt; found.line, *line);
-        assert_eq!(rt; found.column, *column);
+        equal(rt, found.line, *line);
+        equal(rt, found.column, *column);
     }
 }
 

@@ -1,5 +1,6 @@
 //! What texts give, in plain values that tests compare. The helpers have no clauses, so that a test's proof stays short.
 
+use crate::comparing::{equal, equal_in, holds, holds_in};
 use crate::texts::words_of;
 use aa_words::{PolicyFault, Sources, Span, Spot, Word, WordKind};
 use std::alloc::{AllocError, Global};
@@ -67,7 +68,7 @@ pub(crate) fn expect_count(
     main: &[u8],
     expected: Option<usize>,
 ) {
-    assert_eq!(rt; count_of(alloc, sources, main), expected);
+    equal(rt, count_of(alloc, sources, main), expected);
 }
 
 /// This is the place behind a text's words.
@@ -78,7 +79,7 @@ pub(crate) fn expect_end(
     main: &[u8],
     expected: Spot,
 ) {
-    assert_eq!(rt; end_of(alloc, sources, main), Some(expected));
+    equal(rt, end_of(alloc, sources, main), Some(expected));
 }
 
 /// A text that may include these sources is refused for that.
@@ -89,7 +90,7 @@ pub(crate) fn expect_fault(
     main: &[u8],
     expected: PolicyFault,
 ) {
-    assert_eq!(rt; fault_of(alloc, sources, main), Some(expected));
+    equal(rt, fault_of(alloc, sources, main), Some(expected));
 }
 
 /// Whether the words are two, of which the first has this kind and these bytes.
@@ -118,7 +119,7 @@ pub(crate) fn expect_first_of_two(
 ) -> Result<(), Fail> {
     let sources = Sources::new(alloc);
     let found = words_of(alloc, &sources, text)?;
-    assert!(rt; is_first_of_two(found.list.as_slice(), kind, bytes));
+    holds(rt, is_first_of_two(found.list.as_slice(), kind, bytes));
     Ok(())
 }
 
@@ -180,7 +181,7 @@ fn are_kinds(found: &[Word], kinds: &[WordKind]) -> bool {
 fn expect_quoted(rt: &impl Abort, alloc: Global, text: &str) -> Result<(), Fail> {
     let sources = Sources::new(alloc);
     let found = words_of(alloc, &sources, text.as_bytes())?;
-    assert!(rt; is_quoted_behind(found.list.as_slice()), "in {text}");
+    holds_in(rt, is_quoted_behind(found.list.as_slice()), text);
     Ok(())
 }
 
@@ -205,7 +206,7 @@ pub(crate) fn expect_words(
 ) -> Result<(), Fail> {
     let sources = Sources::new(alloc);
     let found = words_of(alloc, &sources, text.as_bytes())?;
-    assert!(rt; are_expected(found.list.as_slice(), expected), "in {text}");
+    holds_in(rt, are_expected(found.list.as_slice(), expected), text);
     Ok(())
 }
 
@@ -218,7 +219,7 @@ fn expect_kinds_of(
 ) -> Result<(), Fail> {
     let sources = Sources::new(alloc);
     let found = words_of(alloc, &sources, text.as_bytes())?;
-    assert!(rt; are_kinds(found.list.as_slice(), kinds), "in {text}");
+    holds_in(rt, are_kinds(found.list.as_slice(), kinds), text);
     Ok(())
 }
 
@@ -244,7 +245,7 @@ pub(crate) fn expect_line(
     expected: &str,
 ) -> Result<(), Fail> {
     let line = line_of(alloc, sources, main)?;
-    assert_eq!(rt; line.as_str(), expected, "in {main}");
+    equal_in(rt, line.as_str(), expected, main);
     Ok(())
 }
 
@@ -277,7 +278,7 @@ pub(crate) fn expect_spliced(
 ) -> Result<(), Fail> {
     let sources = sources_of(alloc, texts)?;
     let found = words_of(alloc, &sources, main.as_bytes())?;
-    assert!(rt; are_spliced(found.list.as_slice(), expected), "in {main}");
+    holds_in(rt, are_spliced(found.list.as_slice(), expected), main);
     Ok(())
 }
 

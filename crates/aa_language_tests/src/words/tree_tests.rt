@@ -1,5 +1,6 @@
 //! Where includes are looked for, and what folders stand for.
 
+use crate::comparing::{equal, holds};
 use aa_trees::{candidates, folder_text, joined_path};
 use aa_words::{IncludeAt, includes_of};
 use std::alloc::{AllocError, Global};
@@ -20,9 +21,9 @@ fn is_text(found: &Vec<u8>, wanted: &[u8]) -> bool {
 }
 
 fn are_paths(rt: &impl Abort, found: &[Vec<u8>], wanted: &[&[u8]]) {
-    assert_eq!(rt; found.len(), wanted.len());
+    equal(rt, found.len(), wanted.len());
     for (path, text) in found.iter().zip(wanted) {
-        assert!(rt; is_text(path, text));
+        holds(rt, is_text(path, text));
     }
 }
 
@@ -58,8 +59,8 @@ fn a_folder_stands_for_includes_of_its_files(rt: HostRuntime) -> Result<(), Fail
     let text = lines(rt.alloc(), b"/etc/apparmor.d/abstractions/base.d", NAMES)?;
     const WANTED: &[u8] =
         b"include \"/etc/apparmor.d/abstractions/base.d/10-a\"\ninclude \"/etc/apparmor.d/abstractions/base.d/20 b\"\n";
-    assert!(&rt; is_text(&text, WANTED));
-    assert_eq!(&rt; lines(rt.alloc(), b"/x", &[])?.len(), 0);
+    holds(&rt, is_text(&text, WANTED));
+    equal(&rt, lines(rt.alloc(), b"/x", &[])?.len(), 0);
     Ok(())
 }
 
@@ -69,14 +70,14 @@ fn found(alloc: Global, text: &[u8]) -> Result<Vec<IncludeAt<'_>>, AllocError> {
 
 /// The include has this name, first byte, and leave to be missing.
 fn is_include(rt: &impl Abort, include: &IncludeAt<'_>, name: &[u8], byte: usize, optional: bool) {
-    assert!(rt; include.name() == name);
-    assert_eq!(rt; include.byte, byte);
-    assert_eq!(rt; include.is_optional(), optional);
+    holds(rt, include.name() == name);
+    equal(rt, include.byte, byte);
+    equal(rt, include.is_optional(), optional);
 }
 
 /// The includes are these.
 fn are_includes(rt: &impl Abort, found: &[IncludeAt<'_>], wanted: &[(&[u8], usize, bool)]) {
-    assert_eq!(rt; found.len(), wanted.len());
+    equal(rt, found.len(), wanted.len());
     for (include, (name, byte, is_optional)) in found.iter().zip(wanted) {
         is_include(rt, include, name, *byte, *is_optional);
     }
@@ -152,9 +153,9 @@ fn a_growth_that_is_refused_gives_no_path_and_no_text(rt: HostRuntime) {
         let path = joined_path(rt.alloc(), b"/", b"z");
         let text = lines(rt.alloc(), b"/x", folders.as_slice());
         if let (Ok(paths), Ok(path), Ok(text)) = (paths, path, text) {
-            assert_eq!(&rt; paths.len(), 2);
-            assert!(&rt; path.as_slice() == b"/z".as_slice());
-            assert_eq!(&rt; text.len(), 32);
+            equal(&rt, paths.len(), 2);
+            holds(&rt, path.as_slice() == b"/z".as_slice());
+            equal(&rt, text.len(), 32);
             return;
         }
     }

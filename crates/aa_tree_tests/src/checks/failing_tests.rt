@@ -2,6 +2,7 @@
 //! else is as it was, or there is no memory. It is never taken for an answer.
 
 use crate::checks::reporting::{LEFTOVER, PROFILES, checked, is_same, prints, tree_of_profiles};
+use crate::comparing::equal;
 use aa_memory_trees::{FailingTree, MemoryTree};
 use aa_output::NoMemory;
 use aa_units::Unread;
@@ -167,7 +168,7 @@ fn is_no_memory(rt: &impl Abort, alloc: Global, tree: &MemoryTree, answered: usi
     let tree = failing_behind(tree, answered, Unread::NoMemory);
     match checked(alloc, &tree, &["/p"]) {
         Ok(_) => panic!(rt; "an answer without memory for look-up {answered}"),
-        Err(NoMemory) => assert_eq!(rt; tree.calls.get(), answered.wrapping_add(1)),
+        Err(NoMemory) => equal(rt, tree.calls.get(), answered.wrapping_add(1)),
     }
 }
 
@@ -185,7 +186,7 @@ fn each_look_up_that_fails_for_want_of_memory_is_no_memory(rt: HostRuntime) -> R
 fn prints_all(rt: &impl Abort, alloc: Global, tree: &MemoryTree, calls: usize) {
     let tree = failing_behind(tree, calls, Unread::Failed);
     prints(rt, alloc, &tree, &["/p"], (PROFILES, LEFTOVER, 0));
-    assert_eq!(rt; tree.calls.get(), calls);
+    equal(rt, tree.calls.get(), calls);
 }
 
 #[test]

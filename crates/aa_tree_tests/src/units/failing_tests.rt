@@ -1,6 +1,7 @@
 //! Look-ups that fail. Each in turn fails in each way: what is asked is then refused at the path that was looked at, and nothing
 //! is looked at behind it. It is never taken for an answer, nor for a path at which nothing lies.
 
+use crate::comparing::equal;
 use crate::units::reading::{
     Found, Refusal, add_link, are_refused_roots, are_texts, is_read, is_refused_unit, loaded,
     rooted, roots_at, tree_of,
@@ -46,7 +47,7 @@ fn refuses_the_unit(
         "not refused at {}",
         wanted.0
     );
-    assert_eq!(rt; tree.calls.get(), answered.wrapping_add(1));
+    equal(rt, tree.calls.get(), answered.wrapping_add(1));
 }
 
 /// The same for the files that an argument stands for.
@@ -65,7 +66,7 @@ fn refuses_the_roots(
         "not refused at {}",
         wanted.0
     );
-    assert_eq!(rt; tree.calls.get(), answered.wrapping_add(1));
+    equal(rt, tree.calls.get(), answered.wrapping_add(1));
 }
 
 /// The paths at which a file is looked for, in order, with all that it includes: each refuses it, where it can't be read for this
@@ -83,7 +84,7 @@ fn each_refuses_the_unit(
     }
     let tree = failing_behind(tree, looked.len(), why);
     is_read(rt, alloc, &tree, "/m", wanted);
-    assert_eq!(rt; tree.calls.get(), looked.len());
+    equal(rt, tree.calls.get(), looked.len());
 }
 
 /// A file with includes: one that includes in turn, and a folder.
@@ -180,7 +181,7 @@ const TOLD: &[&str] = &[
 fn tells_the_roots(rt: &impl Abort, alloc: Global, tree: &MemoryTree, why: Unread, calls: usize) {
     let tree = failing_behind(tree, calls, why);
     are_profiles(rt, &roots_at(rt, alloc, &tree, &["/p"]));
-    assert_eq!(rt; tree.calls.get(), calls);
+    equal(rt, tree.calls.get(), calls);
 }
 
 /// The paths that are looked at behind the folder itself, in order: each refuses its files, where it can't be told for this reason.

@@ -1,5 +1,6 @@
 //! Folders that are included.
 
+use crate::comparing::equal;
 use crate::units::reading::{
     Found, add_link, add_many, add_numbered, add_refused, files_of, is_read, is_refused, tree_of,
     unit_at,
@@ -158,7 +159,7 @@ fn tree_of_many(alloc: Global, count: usize) -> Result<MemoryTree, AllocError> {
 fn one_source_beyond_the_limit_is_refused_at_its_path(rt: HostRuntime) -> Result<(), Fail> {
     let alloc = rt.alloc();
     let most = tree_of_many(alloc, 4094)?;
-    assert_eq!(&rt; unit_at(&rt, alloc, &most, "/m").sources.len(), 4095);
+    equal(&rt, unit_at(&rt, alloc, &most, "/m").sources.len(), 4095);
     let more = tree_of_many(alloc, 4095)?;
     is_refused(&rt, alloc, &more, "/m", ("/b/d/14094", Unread::TooLarge));
     Ok(())

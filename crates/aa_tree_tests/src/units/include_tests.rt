@@ -1,5 +1,6 @@
 //! What a file includes.
 
+use crate::comparing::holds;
 use crate::units::reading::{
     File, add_link, add_refused, ambiguity, files_of, has_sources, is_read, is_refused, is_told,
     tree_of, unit_at,
@@ -136,7 +137,7 @@ fn includes_are_found_breadth_first_and_numbered_by_their_names(
         ("d", "/b/d", ""),
     ];
     has_sources(&rt, &unit, wanted);
-    assert!(&rt; unit.order.as_slice() == [2, 1, 0, 3].as_slice());
+    holds(&rt, unit.order.as_slice() == [2, 1, 0, 3].as_slice());
     Ok(())
 }
 
@@ -213,8 +214,8 @@ fn a_main_text_is_a_file_or_standard_input(rt: HostRuntime) -> Result<(), Fail> 
     let alloc = rt.alloc();
     let tree = tree_of(alloc, &[("-", "# a file\n")], &[("/f", &[])])?;
     let unit = unit_at(&rt, alloc, &tree, "-");
-    assert!(&rt; unit.text.as_slice() == b"# input\n".as_slice());
-    assert!(&rt; unit.path.as_slice() == b"-".as_slice());
+    holds(&rt, unit.text.as_slice() == b"# input\n".as_slice());
+    holds(&rt, unit.path.as_slice() == b"-".as_slice());
     is_refused(&rt, alloc, &tree, "/f", ("/f", Unread::NotAFile));
     is_refused(&rt, alloc, &tree, "/g", ("/g", Unread::NotFound));
     Ok(())

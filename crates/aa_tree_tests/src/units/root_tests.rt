@@ -1,5 +1,6 @@
 //! The files that arguments stand for.
 
+use crate::comparing::equal;
 use crate::units::reading::{
     add_link, add_many, are_refused_roots, are_texts, files_of, rooted, roots_at, tree_of,
 };
@@ -204,7 +205,7 @@ fn one_file_beyond_the_limit_is_refused_at_its_path(rt: HostRuntime) -> Result<(
     let alloc = rt.alloc();
     let tree = tree_of_many(alloc, 4095)?;
     let roots = roots_at(&rt, alloc, &tree, &["-", "/p"]);
-    assert_eq!(&rt; roots.paths.len(), 4096);
+    equal(&rt, roots.paths.len(), 4096);
     are_too_many(&rt, alloc, &tree, &["/p", "-", "/q"], "/q");
     are_too_many(&rt, alloc, &tree, &["-", "-", "/p"], "/p/14094");
     Ok(())
