@@ -1,10 +1,39 @@
--- Text after text.
-use Rattle.std.proofs.Common.{◌≡◌, ℕ, ◌+◌, ◌<◌, ◌≤◌, List, [], ◌∷◌, ◌++◌, length, take, drop, get_or, Result, Err, ap, sym, subst, ◌∙◌, arith}
+-- What words spell, and text after text.
+use Rattle.std.proofs.Common.{◌≡◌, ◌⊎◌, true, ℕ, ◌+◌, ◌<◌, ◌≤◌, List, [], ◌∷◌, ◌++◌, length, take, drop, get_or, Result, Ok, Err, ap, sym, subst, ◌∙◌, arith}
 use Rattle.std.proofs.lemmas.List.{take_more, drop_more, take-append-drop, take_all, length-take}
-use Rattle.std.specs.Prelude.{IfErr}
+use Rattle.std.specs.Prelude.{◌≢◌, IfOk, IfErr}
+use Rattle.aa_faults.specs.declared.fault.PolicyFault.{PolicyFault}
+use Rattle.aa_faults.specs.declared.fault.PolicyKind.TheVariants.{NoMemory, UndefinedVariable, VariableTwice, DuplicateProfile, TooLarge}
+use Rattle.aa_faults.specs.Kinds.{IsRefusal}
+use Rattle.aa_words.specs.Splits.{WordData, Splits}
+use Rattle.aa_heads.specs.Preamble.{IsTwice, IsUndefined}
+use Rattle.aa_policy.specs.Faults.{IsParseRefusal, is_path_only}
+use Rattle.aa_policy.specs.Spelling.{Spells, IsPathFault, IsDuplicate, IsOverLimits, text_start}
 use Rattle.aa_profiles.specs.declared.policy.Policy.{Policy}
 use Rattle.aa_policies.specs.declared.refused.RefusedPolicy.{RefusedPolicy}
-use Rattle.aa_policies.specs.Policies.{Source, IsPolicyOf, ArePoliciesOf, IsFaultOfText, CanFollow, IsRefusedBy, OfText}
+use Rattle.aa_policies.specs.Policies.{Source, IsSpelledBy, IsPolicyOf, ArePoliciesOf, IsFaultOfText, IsFirstRefused, CanFollow, IsRefusedBy, OfText, OfWords}
+
+-- ---- what the words of a text spell
+
+pub spelled_by : (sources : List Source) (text : List ℕ) (words : List WordData) (r : Result Policy PolicyFault) → Splits sources text words
+    → IfOk r (λ p. Spells words p) → IfOk r (λ p. IsSpelledBy sources text p)
+spelled_by sources text words (Ok p) split spelled = record { words = words; split = split; spelled = spelled }
+spelled_by sources text words (Err e) split spelled = tt
+
+pub fault_of_words : (sources : List Source) (text : List ℕ) (words : List WordData) (r : Result Policy PolicyFault) → Splits sources text words
+    → (IsRefusal r → (p : Policy) → Spells words p → ⊥)
+    → IfErr r (λ e. e.kind ≡ VariableTwice → IsTwice words e.at)
+    → IfErr r (λ e. e.kind ≡ UndefinedVariable → IsUndefined words e.at ⊎ IsPathFault words e)
+    → IfErr r (λ e. is_path_only e.kind ≡ true → IsPathFault words e)
+    → IfErr r (λ e. e.kind ≡ DuplicateProfile → IsDuplicate words e.at)
+    → IfErr r (λ e. e.kind ≡ TooLarge → IsPathFault words e ⊎ ((e.at ≡ text_start) × IsOverLimits words))
+    → IfErr r IsParseRefusal
+    → IfErr r (λ e. e.kind ≢ NoMemory → (limit : ℕ) → IsFaultOfText sources limit text e)
+fault_of_words sources text words (Ok p) split none twice undefined at_path duplicate too_large kinds = tt
+fault_of_words sources text words (Err e) split none twice undefined at_path duplicate too_large kinds =
+    λ other limit. OfWords words split (record { none = none other; twice = twice; undefined = undefined; at_path = at_path; duplicate = duplicate; too_large = too_large; kind = kinds })
+
+-- ---- text after text
 
 are_more : (sources : List Source) (limit : ℕ) (texts : List (List ℕ)) (policies : List Policy) (text : List ℕ) (policy : Policy)
     → ArePoliciesOf sources limit texts policies → IsPolicyOf sources limit text policy → ArePoliciesOf sources limit (texts ++ text ∷ []) (policies ++ policy ∷ [])
@@ -24,18 +53,23 @@ pub all : (sources : List Source) (limit : ℕ) (texts : List (List ℕ)) (i : �
 all sources limit texts i policies le are = subst (λ (ts : List (List ℕ)). ArePoliciesOf sources limit ts policies) (take_all i texts le) are
 
 pub refused_at : (sources : List Source) (limit : ℕ) (texts : List (List ℕ)) (i : ℕ) (policies : List Policy) (text : List ℕ) (r : RefusedPolicy)
-    → i < length texts → text ≡ get_or texts i text → CanFollow [] sources → ArePoliciesOf sources limit (take i texts) policies → r.policy ≡ i → IsFaultOfText sources limit text r.fault
-    → IsRefusedBy sources limit texts r
-refused_at sources limit texts i policies text r lt item fit are number fault = OfText fit (record {
+    → i < length texts → text ≡ get_or texts i text → ArePoliciesOf sources limit (take i texts) policies → (r.policy ≡ i) × IsFaultOfText sources limit text r.fault → IsFirstRefused sources limit texts r
+refused_at sources limit texts i policies text r lt item are here = record {
   before = take i texts;
   text = text;
   behind = drop (i + 1) texts;
   are = sym (take-append-drop i texts) ∙ ap (λ (x : List (List ℕ)). take i texts ++ x) (drop_more texts i text lt ∙ ap (λ (t : List ℕ). t ∷ drop (i + 1) texts) (sym item));
-  number = number ∙ sym (omega (arith, length-take i texts));
+  number = here.0 ∙ sym (omega (arith, length-take i texts));
   policies = policies;
   compile = are;
-  fault = fault;
-})
+  fault = here.1;
+}
+
+-- where the sources are handed in, the texts are refused as the first that is
+pub refused_for : {A : Type 0} (sources others : List Source) (limit : ℕ) (texts : List (List ℕ)) (r : Result A RefusedPolicy) → others ≡ sources → CanFollow [] sources
+    → IfErr r (λ e. e.fault.kind ≢ NoMemory → IsFirstRefused others limit texts e) → IfErr r (λ e. e.fault.kind ≢ NoMemory → IsRefusedBy sources limit texts e)
+refused_for sources others limit texts (Ok x) same fit h = tt
+refused_for sources others limit texts (Err e) same fit h = λ other. OfText fit (subst (λ (s : List Source). IsFirstRefused s limit texts e) same (h other))
 
 -- a refusal that is handed on
 pub handed_on : {T : Type 0} (r : Result T RefusedPolicy) (e f : RefusedPolicy) (P : RefusedPolicy → Type 0) → r ≡ Err e → e ≡ f → P f → IfErr r P

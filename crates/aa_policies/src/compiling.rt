@@ -1,8 +1,9 @@
 //! From texts to compiled policies.
 
-ghost use Rattle.std.specs.Prelude.{◌≡◌, ◌≢◌, ◌≤◌, length, IfOk, IfErr};
+ghost use Rattle.std.specs.Prelude.{ℕ, ◌≡◌, ◌≢◌, ◌≤◌, ◌++◌, ◌∷◌, [], length, OnOk, IfOk, IfErr};
 ghost use Rattle.aa_faults.specs.declared.fault.PolicyKind.TheVariants.{NoMemory};
-ghost use Rattle.aa_policies.specs.Policies.{sources_of, IsPolicyOf, ArePoliciesOf, IsFaultOfText, IsRefusedBy};
+ghost use Rattle.aa_policies.specs.Policies.{sources_of, IsSpelledBy, IsPolicyOf, ArePoliciesOf, IsFaultOfText, IsFirstRefused, IsRefusedBy};
+ghost use Rattle.aa_profiles.specs.declared.policy.Policy.{Policy};
 
 use crate::refused::RefusedPolicy;
 use crate::sources::gather_sources;
@@ -10,11 +11,22 @@ use aa_compile::{Compiled, compile};
 use aa_faults::PolicyFault;
 use aa_jobs::Include;
 use aa_lists::Text;
-use aa_policy::parse;
+use aa_policy::{Policy, parse};
 use aa_words::{Sources, words};
 use std::alloc::Global;
 
-/// The policy that a text spells. Refused by the first fault of its words, of its grammar, or of compiling it.
+/// The policy that a text spells. Refused by the first fault of its words or of their grammar.
+fn policy_of(alloc: Global, sources: &Sources, text: &[u8]) -> Result<Policy, PolicyFault>
+    ensures spelled { IfOk result (λ p. IsSpelledBy sources.now text.now p) }
+    ensures cause { IfErr result (λ e. e.kind ≢ NoMemory → (limit : ℕ) → IsFaultOfText sources.now limit text.now e) }
+{
+    match words(alloc, sources, text) {
+        Ok(list) => parse(alloc, &list),
+        Err(fault) => Err(fault),
+    }
+}
+
+/// The policy that a text spells, compiled. Refused by the first fault of its words, of their grammar, or of compiling it.
 fn compile_text(
     alloc: Global,
     sources: &Sources,
@@ -26,11 +38,7 @@ fn compile_text(
     ensures compiled { IfOk result (λ c. IsPolicyOf sources.now limit text.now c) }
     ensures cause { IfErr result (λ e. e.kind ≢ NoMemory → IsFaultOfText sources.now limit text.now e) }
 {
-    let list = match words(alloc, sources, text) {
-        Ok(list) => list,
-        Err(fault) => return Err(fault),
-    };
-    let policy = match parse(alloc, &list) {
+    let policy = match policy_of(alloc, sources, text) {
         Ok(policy) => policy,
         Err(fault) => return Err(fault),
     };
@@ -38,6 +46,55 @@ fn compile_text(
         Ok(compiled) => Ok(compiled),
         Err(refusal) => Err(refusal.fault),
     }
+}
+
+/// Adds the policy that the text of that number spells to those before it.
+fn push_policy(
+    alloc: Global,
+    sources: &Sources,
+    number: u16,
+    text: &[u8],
+    limit: u32,
+    policies: &mut Vec<Compiled>,
+) -> Result<(), RefusedPolicy>
+    requires some { 1 ≤ limit }
+    requires bounded { limit ≤ 1000000 }
+    ensures added { OnOk result ((p : Policy) × IsPolicyOf sources.now limit text.now p × (policies.new.items ≡ policies.old.items ++ p ∷ [])) }
+    ensures cause { IfErr result (λ r. r.fault.kind ≢ NoMemory → (r.policy ≡ number) × IsFaultOfText sources.now limit text.now r.fault) }
+{
+    match compile_text(alloc, sources, text, limit) {
+        Ok(compiled) => {
+            policies.push(compiled)?;
+            Ok(())
+        }
+        Err(fault) => {
+            Err(RefusedPolicy {
+                policy: number,
+                fault,
+            })
+        }
+    }
+}
+
+/// The policies that texts spell with these sources. Refused by the first text that is refused.
+fn policies_of(
+    alloc: Global,
+    sources: &Sources,
+    texts: &[Text],
+    limit: u32,
+) -> Result<Vec<Compiled>, RefusedPolicy>
+    requires some { 1 ≤ limit }
+    requires bounded { limit ≤ 1000000 }
+    requires few { length texts.now ≤ 65535 }
+    ensures all { IfOk result (λ v. ArePoliciesOf sources.now limit texts.now v.items) }
+    ensures cause { IfErr result (λ r. r.fault.kind ≢ NoMemory → IsFirstRefused sources.now limit texts.now r) }
+{
+    let mut policies = Vec::new(alloc);
+    for (number, text) in texts.iter().enumerate() {
+        let text = text.as_slice();
+        push_policy(alloc, sources, number as u16, text, limit, &mut policies)?;
+    }
+    Ok(policies)
 }
 
 /// The policies that texts spell, each with the same sources. An automaton of a policy may have at most `limit` states.
@@ -56,22 +113,8 @@ pub fn compile_policies(
     ensures all { IfOk result (λ v. ArePoliciesOf (sources_of includes.now) limit texts.now v.items) }
     ensures cause { IfErr result (λ r. r.fault.kind ≢ NoMemory → IsRefusedBy (sources_of includes.now) limit texts.now r) }
 {
-    let sources = match gather_sources(alloc, includes) {
-        Ok(sources) => sources,
-        Err(fault) => return Err(RefusedPolicy { policy: 0, fault }),
-    };
-    let mut policies = Vec::new(alloc);
-    for (number, text) in texts.iter().enumerate() {
-        let compiled = match compile_text(alloc, &sources, text.as_slice(), limit) {
-            Ok(compiled) => compiled,
-            Err(fault) => {
-                return Err(RefusedPolicy {
-                    policy: number as u16,
-                    fault,
-                });
-            }
-        };
-        policies.push(compiled)?;
+    match gather_sources(alloc, includes) {
+        Ok(sources) => policies_of(alloc, &sources, texts, limit),
+        Err(fault) => Err(RefusedPolicy { policy: 0, fault }),
     }
-    Ok(policies)
 }

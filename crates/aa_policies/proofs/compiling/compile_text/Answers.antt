@@ -1,27 +1,14 @@
 use Rattle.std.proofs.Common.{inl, inr, ap}
 use Rattle.aa_faults.specs.declared.fault.PolicyFault.{PolicyFault}
-use Rattle.aa_policies.specs.Policies.{OfText, OfWords, OfPolicy}
+use Rattle.aa_policies.specs.Policies.{OfPolicy}
 use Rattle.aa_policies.proofs.compiling.compile_text.Goals as goal
 
 pub returns-in-Err-clause-cause : goal.returns-in-Err-clause-cause
-returns-in-Err-clause-cause c other = OfText (c.in-Err.ensures.refused other) c.in-Err.ensures.fault
+returns-in-Err-clause-cause c other = c.in-Err.ensures.cause other c.args.limit
 
-pub returns-in-Err-parse-clause-cause : goal.returns-in-Err-parse-clause-cause
-returns-in-Err-parse-clause-cause c other =
-    let e = c.in-Err-parse.ensures in
-    OfWords _ c.in-Ok.ensures.split (record {
-      none = e.refused other;
-      twice = e.twice;
-      undefined = e.undefined;
-      at_path = e.at_path;
-      duplicate = e.duplicate;
-      too_large = e.too_large;
-      kind = e.kinds;
-    })
-
-pub returns-clause-cause : goal.returns-clause-cause
-returns-clause-cause c other =
+pub returns-in-Err-compile-clause-cause : goal.returns-in-Err-compile-clause-cause
+returns-in-Err-compile-clause-cause c other =
     elim c.in-Err-compile.ensures.refused [
       | inl memory ↦ absurd (other (ap (λ (f : PolicyFault). f.kind) memory))
-      | inr refused ↦ OfPolicy _ (record { words = _; split = c.in-Ok.ensures.split; spelled = c.in-Ok-parse.ensures.spelled }) refused
+      | inr refused ↦ OfPolicy _ c.in-Ok.ensures.spelled refused
     ]
