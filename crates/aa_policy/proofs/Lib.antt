@@ -11,3 +11,4 @@ pub mod Parents
 pub mod Attachments
 pub mod Exact
 pub mod Keeping
+pub mod Answered

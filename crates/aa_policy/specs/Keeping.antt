@@ -1,12 +1,15 @@
 -- What is kept of profiles while they are read: all of them, or their names alone from where a limit is passed.
-use Rattle.std.specs.Prelude.{ℕ, ◌+◌, ◌≡◌, ◌<◌, ◌≤◌, List, [], ◌++◌, length, Option, true, false}
+use Rattle.std.specs.Prelude.{ℕ, ◌+◌, ◌≡◌, ◌<◌, ◌≤◌, List, [], ◌++◌, length, Option, option_and_then, true, false}
 use Rattle.std.specs.List.{All, AllZip, sum_by}
+use Rattle.aa_patterns.specs.declared.pattern.Pattern.{Pattern}
 use Rattle.aa_profiles.specs.declared.rule.FileRule.{FileRule}
 use Rattle.aa_profiles.specs.declared.policy.Profile.{Profile}
 use Rattle.aa_profiles.specs.Lawful.{IsWithinLimits, file_patterns, attachment_patterns}
+use Rattle.aa_policy.specs.declared.expansion.BodyRules.{BodyRules}
 use Rattle.aa_policy.specs.declared.limits.KeptRules.{KeptRules}
 use Rattle.aa_policy.specs.declared.limits.ReadProfile.{ReadProfile}
 use Rattle.aa_policy.specs.declared.limits.KeptProfiles.{KeptProfiles}
+use Rattle.aa_policy.specs.declared.tree.ProfileTree.{ProfileTree}
 
 -- how many patterns the rules have
 abbrev pub patterns_in : List FileRule → ℕ
@@ -29,6 +32,24 @@ pub record KeepsProfile (spelled : Profile) (read : ReadProfile) : Type 0 where
   pub whole : read.over ≡ false → read.profile ≡ spelled
   pub few_patterns : read.over ≡ false → file_patterns spelled ≤ 65535
   pub noticed : read.over ≡ true → 65535 < file_patterns spelled
+
+-- the profile of these parts
+abbrev pub read_profile : ProfileTree → List ℕ → List Pattern → BodyRules → ReadProfile
+read_profile tree name attachments rules = record {
+  profile = record {
+    at = tree.head.title.at;
+    name = name;
+    parent = option_and_then (λ p. p.number) tree.parent;
+    attachments = attachments;
+    complain = tree.head.flags.complain;
+    audit = tree.head.flags.audit;
+    files = rules.read.files.rules.items;
+    caps = rules.caps.items;
+    nets = rules.nets.items;
+    changes = rules.read.changes.items;
+  };
+  over = rules.read.files.over;
+}
 
 -- a policy within its limits may have the profile beside those, as far as its file rules let it
 pub record FitsBeside (profiles : List Profile) (p : Profile) : Type 0 where

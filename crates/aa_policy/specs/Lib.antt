@@ -7,6 +7,7 @@ pub mod Bodies
 pub mod Expansion
 pub mod Faults
 pub mod Keeping
+pub mod Meant
 pub mod Refusals
 pub mod Sameness
 pub mod Spelling

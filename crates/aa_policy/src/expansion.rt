@@ -6,11 +6,11 @@ ghost use Rattle.aa_profiles.specs.declared.rule.FileRule.{FileRule};
 ghost use Rattle.aa_profiles.specs.declared.policy.Profile.{Profile};
 ghost use Rattle.aa_policy.specs.Expansion.{AsPath, StandsFor, IsRefused, IsFirstRefused};
 ghost use Rattle.aa_policy.specs.Faults.{IsPathRefusal};
-ghost use Rattle.aa_policy.specs.Keeping.{KeepsRules, KeepsProfile, KeepsProfiles};
+ghost use Rattle.aa_policy.specs.Keeping.{KeepsRules, KeepsProfile, KeepsProfiles, read_profile};
 ghost use Rattle.aa_policy.specs.Bodies.{full_name, profile_data, tree_data};
 ghost use Rattle.aa_heads.specs.Heads.{attachment_data};
 ghost use Rattle.aa_rules.specs.Reading.{target_data, exec_data, file_data, rule_data};
-ghost use Rattle.aa_policy.specs.Spelling.{AttachesTo, MeansRule, MeansChange, MeansProfile, MeansProfiles, exec_meant, on_file, files_of, changes_of, paths_of_rules, attachment_paths, rule_paths, profile_paths, paths_of};
+ghost use Rattle.aa_policy.specs.Spelling.{AttachesTo, MeansRule, MeansChange, MeansProfile, MeansProfiles, exec_meant, on_file, files_of, cap_rules_of, net_rules_of, changes_of, paths_of_rules, attachment_paths, rule_paths, profile_paths, paths_of};
 
 use crate::access::{cap_rules, net_rules};
 use crate::changes::change_rules;
@@ -22,7 +22,7 @@ use crate::tree::ProfileTree;
 use aa_glob::{Pattern, Vars, expand};
 use aa_heads::AttachmentTree;
 use aa_lists::{Seq, Text};
-use aa_profiles::{ChangeRule, Exec, FileRule, Profile};
+use aa_profiles::{CapRule, ChangeRule, Exec, FileRule, NetRule, Profile};
 use aa_rules::{ExecTree, FileTree, RuleTree};
 use aa_words::{PolicyFault, PolicyKind, Spot};
 use std::alloc::{AllocError, Global};
@@ -170,19 +170,43 @@ fn read_rules(alloc: Global, vars: &Vars, rules: &[RuleTree]) -> Result<Read, Po
     Ok(Read { files, changes })
 }
 
-/// What a profile says, as far as it is kept.
-fn profile(alloc: Global, vars: &Vars, tree: &ProfileTree) -> Result<ReadProfile, PolicyFault>
-    ensures profile { IfOk result (λ r. (p : Profile) × MeansProfile vars.now (profile_data tree.now) p × KeepsProfile p r) }
-    ensures refused { IfErr result (λ e. e.kind ≢ PolicyKind.NoMemory → IsFirstRefused vars.now (profile_paths (profile_data tree.now)) e) }
+/// What the rules of a body say, as far as it is kept.
+#[derive(Drop)]
+struct BodyRules {
+    read: Read,
+    caps: Vec<CapRule>,
+    nets: Vec<NetRule>,
+}
+
+/// What the rules of a body say, as far as it is kept.
+fn body_rules(alloc: Global, vars: &Vars, rules: &[RuleTree]) -> Result<BodyRules, PolicyFault>
+    ensures files { IfOk result (λ r. (rs : List FileRule) × AllZip (MeansRule vars.now) (files_of (map rule_data rules.now)) rs × KeepsRules rs r.read.files) }
+    ensures changes { IfOk result (λ r. AllZip MeansChange (changes_of (map rule_data rules.now)) r.read.changes.items) }
+    ensures caps { IfOk result (λ r. r.caps.items ≡ flat_map cap_rules_of (map rule_data rules.now)) }
+    ensures nets { IfOk result (λ r. r.nets.items ≡ flat_map net_rules_of (map rule_data rules.now)) }
+    ensures refused { IfErr result (λ e. e.kind ≢ PolicyKind.NoMemory → IsFirstRefused vars.now (paths_of_rules (map rule_data rules.now)) e) }
     ensures cause { IfErr result IsPathRefusal }
 {
-    let attachments = attachments_of(alloc, vars, tree.head.title.attachment)?;
-    let Read { files, changes } = read_rules(alloc, vars, tree.rules.as_slice())?;
-    let caps = cap_rules(alloc, tree.rules.as_slice())?;
-    let nets = net_rules(alloc, tree.rules.as_slice())?;
+    let read = read_rules(alloc, vars, rules)?;
+    let caps = cap_rules(alloc, rules)?;
+    let nets = net_rules(alloc, rules)?;
+    Ok(BodyRules { read, caps, nets })
+}
+
+/// The profile of these parts.
+fn read_profile(
+    tree: &ProfileTree,
+    name: Text,
+    attachments: Seq<Pattern>,
+    rules: BodyRules,
+) -> ReadProfile
+    ensures { result ≡ read_profile tree.now name attachments rules }
+{
+    let BodyRules { read, caps, nets } = rules;
+    let Read { files, changes } = read;
     let profile = Profile {
         at: tree.head.title.at,
-        name: full_name(alloc, tree)?,
+        name,
         parent: tree.parent.and_then(|parent| parent.number),
         attachments,
         complain: tree.head.flags.complain,
@@ -192,10 +216,22 @@ fn profile(alloc: Global, vars: &Vars, tree: &ProfileTree) -> Result<ReadProfile
         nets: Seq::from_vec(nets),
         changes: Seq::from_vec(changes),
     };
-    Ok(ReadProfile {
+    ReadProfile {
         profile,
         over: files.over,
-    })
+    }
+}
+
+/// What a profile says, as far as it is kept.
+fn profile(alloc: Global, vars: &Vars, tree: &ProfileTree) -> Result<ReadProfile, PolicyFault>
+    ensures profile { IfOk result (λ r. (p : Profile) × MeansProfile vars.now (profile_data tree.now) p × KeepsProfile p r) }
+    ensures refused { IfErr result (λ e. e.kind ≢ PolicyKind.NoMemory → IsFirstRefused vars.now (profile_paths (profile_data tree.now)) e) }
+    ensures cause { IfErr result IsPathRefusal }
+{
+    let attachments = attachments_of(alloc, vars, tree.head.title.attachment)?;
+    let rules = body_rules(alloc, vars, tree.rules.as_slice())?;
+    let name = full_name(alloc, tree)?;
+    Ok(read_profile(tree, name, attachments, rules))
 }
 
 /// What the profiles say, as far as it is kept.

@@ -2,23 +2,59 @@
 
 ghost use Rattle.std.specs.Prelude.{◌≡◌, ◌⊎◌, List, true, IfOk, IfErr};
 ghost use Rattle.aa_faults.specs.declared.fault.PolicyFault.{PolicyFault};
-ghost use Rattle.aa_faults.specs.Kinds.{IsRefusal};
+ghost use Rattle.aa_faults.specs.Kinds.{IsRefusal, no_memory};
 ghost use Rattle.aa_words.specs.Splits.{WordData, words_data};
 ghost use Rattle.aa_policy.specs.Faults.{IsParseRefusal, is_path_only};
 ghost use Rattle.aa_heads.specs.Preamble.{IsTwice, IsUndefined, IsRefusedWith};
+ghost use Rattle.aa_policy.specs.Bodies.{tree_data};
+ghost use Rattle.aa_policy.specs.Meant.{IsWritten, AreMeant, IsMeaningless};
 ghost use Rattle.aa_policy.specs.Refusals.{IsStop, IsFault, is_word_only};
 ghost use Rattle.aa_policy.specs.Sameness.{SamePolicy};
-ghost use Rattle.aa_policy.specs.Spelling.{Spells, IsPathFault, IsDuplicate, IsOverLimits, text_start};
+ghost use Rattle.aa_policy.specs.Spelling.{Spells, IsPathFault, IsDuplicate, IsOverLimits, passed_over_from, text_start};
 ghost use Rattle.aa_profiles.specs.declared.policy.Policy.{Policy};
 
 use crate::expansion::profiles;
 use crate::items::tree_of;
 use crate::limits::check_names;
 use crate::listing::rules_passed_over;
+use crate::tree::ProfileTree;
+use aa_glob::Vars;
 use aa_lists::Seq;
-use aa_profiles::Policy;
+use aa_profiles::{Policy, Profile};
 use aa_words::{PolicyFault, PolicyKind, WordList};
 use std::alloc::Global;
+
+/// The profiles that are written, looked at one by one and then together.
+fn checked_profiles(
+    alloc: Global,
+    vars: &Vars,
+    tree: &[ProfileTree],
+) -> Result<Vec<Profile>, PolicyFault>
+    ensures meant { IfOk result (λ ps. AreMeant vars.now (tree_data tree.now) ps.items) }
+    ensures refused { IfErr result (λ e. (e ≡ no_memory) ⊎ IsMeaningless vars.now (tree_data tree.now) e) }
+{
+    let kept = profiles(alloc, vars, tree)?;
+    check_names(alloc, kept.profiles.as_slice())?;
+    if kept.over {
+        return Err(PolicyFault::at_start(PolicyKind::TooLarge));
+    }
+    Ok(kept.profiles)
+}
+
+/// The policy that is written.
+fn policy_of(alloc: Global, vars: &Vars, tree: &[ProfileTree]) -> Result<Policy, PolicyFault>
+    requires written { IsWritten vars.now (tree_data tree.now) }
+    ensures meant { IfOk result (λ p. AreMeant vars.now (tree_data tree.now) p.profiles) }
+    ensures passed_over { IfOk result (λ p. p.passed_over ≡ passed_over_from 0 (tree_data tree.now)) }
+    ensures refused { IfErr result (λ e. (e ≡ no_memory) ⊎ IsMeaningless vars.now (tree_data tree.now) e) }
+{
+    let profiles = checked_profiles(alloc, vars, tree)?;
+    let passed_over = rules_passed_over(alloc, tree)?;
+    Ok(Policy {
+        profiles: Seq::from_vec(profiles),
+        passed_over: Seq::from_vec(passed_over),
+    })
+}
 
 /// The policy that the words spell (apparmor.d(5), "Profile Head" and "Access Modes").
 ///
@@ -58,16 +94,7 @@ pub fn parse(alloc: Global, words: &WordList) -> Result<Policy, PolicyFault>
     ensures exact { (fault : PolicyFault) → IsFault (words_data words.now.list.items) fault → IsRefusedWith fault result }
 {
     let tree = tree_of(alloc, words.list.as_slice(), words.end)?;
-    let kept = profiles(alloc, &tree.vars, tree.profiles.as_slice())?;
-    check_names(alloc, kept.profiles.as_slice())?;
-    if kept.over {
-        return Err(PolicyFault::at_start(PolicyKind::TooLarge));
-    }
-    let listed = rules_passed_over(alloc, tree.profiles.as_slice())?;
-    Ok(Policy {
-        profiles: Seq::from_vec(kept.profiles),
-        passed_over: Seq::from_vec(listed),
-    })
+    policy_of(alloc, &tree.vars, tree.profiles.as_slice())
 }
 
 /// Words spell at most one policy. It does nothing: its contract is a law of the language.
