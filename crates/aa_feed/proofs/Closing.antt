@@ -1,5 +1,5 @@
 -- Rooms for answers, and lanes that were closed.
-use Rattle.std.proofs.Common.{◌≡◌, ℕ, suc, ◌≤◌, List, [], ◌∷◌, ◌++◌, All, map, vec_capacity, refl, arith}
+use Rattle.std.proofs.Common.{◌≡◌, ℕ, suc, ◌≤◌, List, [], ◌∷◌, ◌++◌, All, map, length, vec_capacity, refl, arith}
 use Rattle.std.specs.Global.{Vec}
 use Rattle.std.specs.VecDeque.{deque_len}
 use Rattle.aa_lane.specs.Ends.{LaneSeen}
@@ -15,6 +15,12 @@ module _ {M S Q A : Type 0} where
   rooms_more [] (x ∷ rs) t r h e w = absurd h
   rooms_more (x ∷ ts) [] t r h e w = absurd h
   rooms_more (x ∷ ts) (y ∷ rs) t r h e w = (h.0, h.1, rooms_more ts rs t r h.2 e w)
+
+  pub rooms_length : (ts : List (Task M S Q A)) (rs : List (Vec (Answered M S Q A))) → AreRooms ts rs → length rs ≡ length ts
+  rooms_length [] [] h = refl
+  rooms_length [] (r ∷ rs) h = absurd h
+  rooms_length (t ∷ ts) [] h = absurd h
+  rooms_length (t ∷ ts) (r ∷ rs) h = let e : length rs ≡ length ts = rooms_length ts rs h.2 in omega arith
 
 module _ {M S Q A : Type 0} (next : M → S → Q → S) (reply : M → S → Q → A) where
   opened : (m : M) (c : ℕ) (ls : List (LaneSeen M S)) (os : List (Outcome M S Q A)) → All (λ l. (l.machine ≡ m) × (l.table.slots ≡ c)) ls → WereClosed next reply ls os → AreOutcomes next reply m c (map (λ (l : LaneSeen M S). l.start) ls) os

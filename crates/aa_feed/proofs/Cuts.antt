@@ -1,11 +1,20 @@
 -- A list that is taken from the front, one element after another.
-use Rattle.std.proofs.Common.{◌≡◌, ℕ, zero, suc, ◌<◌, List, [], ◌∷◌, map, length, get_or, drop, sym, refl, ap, ◌∙◌, arith}
+use Rattle.std.proofs.Common.{◌≡◌, ℕ, zero, suc, ◌<◌, List, [], ◌∷◌, ◌++◌, map, length, get_or, take, drop, sym, refl, ap, ◌∙◌, arith}
+use Rattle.std.proofs.lemmas.List.{take_all, take-append-le}
 
 pub nil : {X : Type 0} (xs : List X) → length xs ≡ 0 → xs ≡ []
 nil [] e = refl
 nil (x ∷ xs) e = absurd (omega arith)
 
+-- what a slice of all was left as, the whole is
+pub all_written : {X : Type 0} (len : ℕ) (old new : List X) → length old ≡ len → length new ≡ length old → take len (new ++ drop (length new) old) ≡ new
+all_written len old new len_is same = take-append-le len new (drop (length new) old) (omega arith) ∙ take_all len new (omega arith)
+
 module _ {X : Type 0} where
+  -- lists that are the same begin with the same, and what is left is the same
+  pub both : {x y : X} {xs ys : List X} → x ∷ xs ≡ y ∷ ys → (x ≡ y) × (xs ≡ ys)
+  both {x} {y} {xs} {ys} e = (ap (λ l. get_or l 0 x) e, ap (drop 1) e)
+
   -- the first of what is left is the element at that place
   pub record Cut (x : X) (rest xs : List X) (at : ℕ) : Type 0 where
     pub within : at < length xs

@@ -5,6 +5,7 @@ ghost use Rattle.aa_lane.specs.Ends.{known, new_shutter};
 ghost use Rattle.aa_feed.specs.Closed.{WasClosed, WereClosed};
 
 use crate::feed::Finished;
+use crate::next::next_of;
 use aa_lane::{Answered, Ends, Lane, Machine, Server, Shutter, Totals};
 
 /// The answers to all requests of a task, and what its lane counted.
@@ -69,15 +70,9 @@ pub fn close_all<'m, M: Machine>(
     let mut servers = servers.into_iter();
     let mut shutters = shutters.into_iter();
     for lane in lanes {
-        let Some(finished) = finished.next() else {
-            unreachable!()
-        };
-        let Some(server) = servers.next() else {
-            unreachable!()
-        };
-        let Some(shutter) = shutters.next() else {
-            unreachable!()
-        };
+        let finished = next_of(&mut finished);
+        let server = next_of(&mut servers);
+        let shutter = next_of(&mut shutters);
         outcomes.push_reserved(close(lane, finished, server, shutter));
     }
     outcomes

@@ -5,6 +5,7 @@ mod beside;
 mod close;
 mod feed;
 mod feeding;
+mod next;
 mod tasks;
 
 pub use aa_lane::{Answered, Machine, Totals};

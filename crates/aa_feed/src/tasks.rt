@@ -10,6 +10,7 @@ ghost use Rattle.aa_feed.specs.Stage.{IsStage};
 use crate::close::{Outcome, close_all, in_order};
 use crate::feed::{Feed, Finished};
 use crate::feeding::{Service, run_all};
+use crate::next::next_of;
 use aa_lane::{Answered, Lane, Machine, Owner, Server, Shutter};
 use aa_pool::{Engine, EngineFault};
 use std::alloc::{AllocError, Global};
@@ -95,12 +96,8 @@ fn feeds_of<'l, 'm, M: Machine>(
     let mut rooms = rooms.into_iter();
     let mut at = 0;
     for task in tasks {
-        let Some(owner) = owners.next() else {
-            unreachable!()
-        };
-        let Some(room) = rooms.next() else {
-            unreachable!()
-        };
+        let owner = next_of(&mut owners);
+        let room = next_of(&mut rooms);
         feeds.push_reserved(feed_of(&lanes[at], capacity, owner, task, room));
         at += 1;
     }

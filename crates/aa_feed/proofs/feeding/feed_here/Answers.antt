@@ -54,3 +54,19 @@ returns g c =
       fed = record { same = i.same; finished = λ k d below. i.finished k d (omega arith) };
       served = sym (append-nil _) ∙ ap (λ l. map (λ s. s.lane) c.loop-server.served.items ++ map (λ s. s.lane) l) (sym e) ∙ i.all;
     }
+
+pub bounds-lanes-at : goal.bounds-lanes-at
+bounds-lanes-at g c =
+    let i = c.loop-server.invariant in
+    let servers : c.in-Some.server.lane ∷ map (λ s. s.lane) c.next.new.self.rest.items ≡ map known (drop c.loop-server.at c.args.lanes.now) = rw ((c.in-Some.ensures {u = tt}).steps.0) at i.rest in
+    (next (λ s. s.lane) known c.in-Some.server c.next.new.self.rest.items c.args.lanes.now c.loop-server.at servers).within
+
+pub push_reserved-requires : goal.push_reserved-requires
+push_reserved-requires g c = omega (arith, ap length ((c.in-Some.ensures {u = tt}).steps.0), c.loop-server.invariant.room)
+
+pub alone_at-requires-clause-within : goal.alone_at-requires-clause-within
+alone_at-requires-clause-within g c =
+    let i = c.loop-server.invariant in
+    let servers : c.in-Some.server.lane ∷ map (λ s. s.lane) c.next.new.self.rest.items ≡ map known (drop c.loop-server.at c.args.lanes.now) = rw ((c.in-Some.ensures {u = tt}).steps.0) at i.rest in
+    let w : c.loop-server.at < length c.args.lanes.now = (next (λ s. s.lane) known c.in-Some.server c.next.new.self.rest.items c.args.lanes.now c.loop-server.at servers).within in
+    omega (arith, w, i.same.len, c.requires.len)

@@ -1,4 +1,5 @@
-use Rattle.std.proofs.Common.{map, ap, ◌∙◌}
+use Rattle.std.proofs.Common.{map, length, ap, ◌∙◌, arith}
+use Rattle.std.proofs.lemmas.List.{length-map}
 use Rattle.aa_lane.specs.Ends.{known}
 use Rattle.aa_lane.specs.Answers.{answered_from}
 use Rattle.aa_feed.proofs.Rows.{same_map, same_machine, of_machine, lanes_known}
@@ -12,3 +13,10 @@ returns-clause-answers g c = c.finish_all.ensures.answers ∙ same_map (λ l all
 
 pub returns-clause-of : goal.returns-clause-of
 returns-clause-of g c = c.finish_all.ensures.of ∙ same_map (λ l all. known l) c.args.feeds.items c.feed_by-feeds.result.0.items c.feed_by-feeds.ensures.fed.same ∙ lanes_known c.args.feeds.items ∙ ap (map known) c.requires.lanes
+
+pub feed_by-feeds-requires-clause-len : goal.feed_by-feeds-requires-clause-len
+feed_by-feeds-requires-clause-len g c = omega (arith, ap length c.requires.lanes, length-map c.args.feeds.items (λ f. f.lane), c.args.feeds.ok)
+
+pub finish_all-requires-clause-room : goal.finish_all-requires-clause-room
+finish_all-requires-clause-room g c =
+    omega (arith, c.feed_by-feeds.ensures.fed.same.len, ap length c.requires.lanes, length-map c.args.feeds.items (λ f. f.lane), c.feed_by-feeds.result.0.ok, c.requires.room)

@@ -37,3 +37,12 @@ returns g c =
     let i = c.loop-server.invariant in
     let e : c.loop-server.server-iterator.rest.items ≡ [] = nil _ (omega (arith, c.loop-server.server-iterator.rest.ok, (c.in-None.ensures {u = tt}).steps.0)) in
     sym (append-nil _) ∙ ap (λ l. map (λ s. s.lane) c.loop-server.settled.items ++ map (λ s. s.lane) l) (sym e) ∙ i.all
+
+pub bounds-lanes-at : goal.bounds-lanes-at
+bounds-lanes-at g c =
+    let i = c.loop-server.invariant in
+    let servers : c.in-Some.server.lane ∷ map (λ s. s.lane) c.next.new.self.rest.items ≡ map known (drop c.loop-server.at c.args.lanes.now) = rw ((c.in-Some.ensures {u = tt}).steps.0) at i.rest in
+    (next (λ s. s.lane) known c.in-Some.server c.next.new.self.rest.items c.args.lanes.now c.loop-server.at servers).within
+
+pub push_reserved-requires : goal.push_reserved-requires
+push_reserved-requires g c = omega (arith, ap length ((c.in-Some.ensures {u = tt}).steps.0), c.loop-server.invariant.room)

@@ -3,6 +3,7 @@ use Rattle.std.proofs.lemmas.List.{length-map, map-append, take_more}
 use Rattle.std.proofs.Math.Seq.{take-length}
 use Rattle.aa_lane.specs.Ends.{new_owner}
 use Rattle.aa_feed.specs.Answers.{AreRooms}
+use Rattle.aa_feed.proofs.Closing.{rooms_length}
 use Rattle.aa_feed.proofs.Cuts.{nil, stepped}
 use Rattle.aa_feed.proofs.tasks.feeds_of.Goals as goal
 
@@ -10,19 +11,17 @@ pub loop-task-preserved : goal.loop-task-preserved
 loop-task-preserved g c =
     let i = c.loop-task.invariant in
     let s = (c.in-Some.ensures {u = tt}).steps in
-    let e = (c.in-Some-next.ensures {u = tt}).items in
-    let r = (c.in-Some-next-2.ensures {u = tt}).items in
     let p = c.push_reserved.ensures in
     let f = c.feed_of.result in
     let is = c.feed_of.ensures in
     let lanes = c.args.lanes.now in
     let feeds = c.loop-task.feeds.items in
     let left = c.next.new.self.rest.items in
-    let owners : c.in-Some-next.owner ∷ c.next-in-loop-task.new.self.rest.items ≡ map new_owner (drop c.loop-task.at c.args.lanes.now) = rw e at i.owners in
-    let o = stepped new_owner c.in-Some-next.owner c.next-in-loop-task.new.self.rest.items lanes c.loop-task.at owners in
+    let owners : c.next_of-owner.result ∷ c.next_of-owner.new.values.rest.items ≡ map new_owner (drop c.loop-task.at c.args.lanes.now) = rw c.next_of-owner.ensures at i.owners in
+    let o = stepped new_owner c.next_of-owner.result c.next_of-owner.new.values.rest.items lanes c.loop-task.at owners in
     let starts : c.in-Some.task.start ∷ map (λ t. t.start) c.next.new.self.rest.items ≡ map (λ a. a.start) (drop c.loop-task.at c.args.lanes.now) = rw s.0 at i.starts in
     let t = stepped (λ a. a.start) c.in-Some.task.start (map (λ t. t.start) left) lanes c.loop-task.at starts in
-    let rooms : AreRooms (c.in-Some.task ∷ c.next.new.self.rest.items) (c.in-Some-next-2.room ∷ c.next-in-loop-task-2.new.self.rest.items) = rw (s.0, r) at i.rooms in
+    let rooms : AreRooms (c.in-Some.task ∷ c.next.new.self.rest.items) (c.next_of-room.result ∷ c.next_of-room.new.values.rest.items) = rw (s.0, c.next_of-room.ensures) at i.rooms in
     let w : c.loop-task.at < length c.args.lanes.now = o.within in
     let h = is.0 ∙ c.index-lanes-at.is in
     record {
@@ -52,9 +51,8 @@ returns g c =
 
 pub feed_of-requires-clause-owner : goal.feed_of-requires-clause-owner
 feed_of-requires-clause-owner g c =
-    let e = (c.in-Some-next.ensures {u = tt}).items in
-    let owners : c.in-Some-next.owner ∷ c.next-in-loop-task.new.self.rest.items ≡ map new_owner (drop c.loop-task.at c.args.lanes.now) = rw e at c.loop-task.invariant.owners in
-    let o = stepped new_owner c.in-Some-next.owner c.next-in-loop-task.new.self.rest.items c.args.lanes.now c.loop-task.at owners in
+    let owners : c.next_of-owner.result ∷ c.next_of-owner.new.values.rest.items ≡ map new_owner (drop c.loop-task.at c.args.lanes.now) = rw c.next_of-owner.ensures at c.loop-task.invariant.owners in
+    let o = stepped new_owner c.next_of-owner.result c.next_of-owner.new.values.rest.items c.args.lanes.now c.loop-task.at owners in
     o.here c.index-lanes-at.result c.index-lanes-at.is
 
 pub feed_of-requires-clause-start : goal.feed_of-requires-clause-start
@@ -63,3 +61,34 @@ feed_of-requires-clause-start g c =
     let starts : c.in-Some.task.start ∷ map (λ t. t.start) c.next.new.self.rest.items ≡ map (λ a. a.start) (drop c.loop-task.at c.args.lanes.now) = rw s.0 at c.loop-task.invariant.starts in
     let t = stepped (λ a. a.start) c.in-Some.task.start (map (λ t. t.start) c.next.new.self.rest.items) c.args.lanes.now c.loop-task.at starts in
     t.here c.index-lanes-at.result c.index-lanes-at.is
+
+pub next_of-owner-requires : goal.next_of-owner-requires
+next_of-owner-requires g c =
+    let i = c.loop-task.invariant in
+    let owners : length c.loop-task.owners.rest.items ≡ length (drop c.loop-task.at c.args.lanes.now) = ap length i.owners ∙ length-map (drop c.loop-task.at c.args.lanes.now) new_owner in
+    let starts : length (map (λ t. t.start) c.loop-task.task-iterator.rest.items) ≡ length (drop c.loop-task.at c.args.lanes.now) = ap length i.starts ∙ length-map (drop c.loop-task.at c.args.lanes.now) (λ a. a.start) in
+    omega (arith, owners, starts, length-map c.loop-task.task-iterator.rest.items (λ t. t.start), ap length ((c.in-Some.ensures {u = tt}).steps.0))
+
+pub next_of-room-requires : goal.next_of-room-requires
+next_of-room-requires g c = omega (arith, ap length ((c.in-Some.ensures {u = tt}).steps.0), rooms_length _ _ c.loop-task.invariant.rooms)
+
+pub bounds-lanes-at : goal.bounds-lanes-at
+bounds-lanes-at g c =
+    let owners : c.next_of-owner.result ∷ c.next_of-owner.new.values.rest.items ≡ map new_owner (drop c.loop-task.at c.args.lanes.now) = rw c.next_of-owner.ensures at c.loop-task.invariant.owners in
+    (stepped new_owner c.next_of-owner.result c.next_of-owner.new.values.rest.items c.args.lanes.now c.loop-task.at owners).within
+
+pub feed_of-requires-clause-empty : goal.feed_of-requires-clause-empty
+feed_of-requires-clause-empty g c =
+    let rooms : AreRooms (c.in-Some.task ∷ c.next.new.self.rest.items) (c.next_of-room.result ∷ c.next_of-room.new.values.rest.items) = rw ((c.in-Some.ensures {u = tt}).steps.0, c.next_of-room.ensures) at c.loop-task.invariant.rooms in
+    rooms.0
+
+pub feed_of-requires-clause-room : goal.feed_of-requires-clause-room
+feed_of-requires-clause-room g c =
+    let rooms : AreRooms (c.in-Some.task ∷ c.next.new.self.rest.items) (c.next_of-room.result ∷ c.next_of-room.new.values.rest.items) = rw ((c.in-Some.ensures {u = tt}).steps.0, c.next_of-room.ensures) at c.loop-task.invariant.rooms in
+    rooms.1
+
+pub push_reserved-requires : goal.push_reserved-requires
+push_reserved-requires g c =
+    let owners : c.next_of-owner.result ∷ c.next_of-owner.new.values.rest.items ≡ map new_owner (drop c.loop-task.at c.args.lanes.now) = rw c.next_of-owner.ensures at c.loop-task.invariant.owners in
+    let w : c.loop-task.at < length c.args.lanes.now = (stepped new_owner c.next_of-owner.result c.next_of-owner.new.values.rest.items c.args.lanes.now c.loop-task.at owners).within in
+    omega (arith, w, c.loop-task.invariant.room.0, c.loop-task.invariant.room.1)

@@ -1,5 +1,5 @@
-use Rattle.std.proofs.Common.{◌<◌, ◌++◌, [], ◌∷◌, length, take, sym, ap, ◌∙◌, arith}
-use Rattle.std.proofs.lemmas.List.{map-append, take_more}
+use Rattle.std.proofs.Common.{◌<◌, ◌++◌, [], ◌∷◌, map, length, take, sym, ap, ◌∙◌, arith}
+use Rattle.std.proofs.lemmas.List.{map-append, take_all, take_more}
 use Rattle.aa_feed.proofs.tasks.starts_of.Goals as goal
 
 pub loop-task-preserved : goal.loop-task-preserved
@@ -14,3 +14,6 @@ loop-task-preserved g c =
       len = omega (arith, p.len, i.len);
       room = omega (arith, p.capacity, i.room);
     }
+
+pub returns : goal.returns
+returns g c = c.loop-task.invariant.starts ∙ ap (map (λ t. t.start)) (take_all c.loop-task.task-index c.args.tasks.now c.loop-task-test.false)
