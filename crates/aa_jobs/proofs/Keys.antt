@@ -1,7 +1,8 @@
 -- The keys of an object as they stand in the text, and in the value that it stands for.
-use Rattle.std.proofs.Common.{◌≡◌, ℕ, List, [], ◌∷◌, Bool, true, false, ◌&&◌, Bor, Global, Ordering, Less, Equal, Greater, is_eq, nat_cmp, refl, sym, ap, ◌∙◌}
+use Rattle.std.proofs.Common.{◌≡◌, ℕ, List, [], ◌∷◌, Bool, true, false, ◌&&◌, ◌||◌, map, Bor, Global, Ordering, Less, Equal, Greater, is_eq, nat_cmp, refl, sym, ap, ◌∙◌}
 use Rattle.std.specs.Cmp.Lexicographic.{slice_cmp}
-use Rattle.std.specs.List.{list_all}
+use Rattle.std.specs.List.{list_all, list_any}
+use Rattle.std.specs.Str.{bytes_eq}
 use Rattle.std.specs.Ordering.{match_ordering}
 use Rattle.std.proofs.lemmas.Slice.Eq.{bytes_eq-Decides}
 use Rattle.std.proofs.lemmas.Map.Text.{is_eq-slice_cmp}
@@ -9,6 +10,7 @@ use Rattle.json.specs.Value.{members_view}
 use Rattle.json.specs.declared.value.Value.{Value}
 use Rattle.serde_json.specs.Data.{Data, Members, no_members, member, put}
 use Rattle.aa_jobs.specs.declared.shape.Part.{Part}
+use Rattle.aa_jobs.specs.Raw.{raw_text}
 use Rattle.aa_jobs.specs.Shape.{is_key, has_only}
 use Rattle.aa_jobs.specs.Trees.{members_data, object_data, tree_data}
 
@@ -51,3 +53,9 @@ and_true false = refl
 
 pub only_is : (part : Part) (ms : List (Bor (List ℕ) × Value Global)) → list_all (λ m. is_key part m.0.now) ms ≡ has_only part (object_data ms)
 only_is part ms = and_true (list_all (λ m. is_key part m.0.now) ms) ∙ known_among part ms no_members
+
+-- ---- the keys of an object's kind
+
+pub among_is : (k : List ℕ) (ks : List (Bor (List ℕ))) → list_any (λ b. bytes_eq k b.now) ks ≡ list_any (λ n. bytes_eq k n) (map raw_text ks)
+among_is k [] = refl
+among_is k (b ∷ bs) = ap (λ (x : Bool). bytes_eq k b.now || x) (among_is k bs)

@@ -19,7 +19,7 @@ regroup front y (Ok ys) = ap Ok (simp append_assoc)
 regroup front y (Err e) = refl
 
 -- where one definition gives a fault, so does the other
-passes_on : {X Y : Type 0} (e : JobFault) (one : Result X JobFault) (other : Result Y JobFault) → ((d : JobFault) → one ≡ Err d → other ≡ Err d) → Refuses e one → Refuses e other
+pub passes_on : {X Y : Type 0} (e : JobFault) (one : Result X JobFault) (other : Result Y JobFault) → ((d : JobFault) → one ≡ Err d → other ≡ Err d) → Refuses e one → Refuses e other
 passes_on NoMemory one other along h = tt
 passes_on NotJson one other along h = along NotJson h
 passes_on BadShape one other along h = along BadShape h

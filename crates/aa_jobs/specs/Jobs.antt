@@ -7,6 +7,7 @@ use Rattle.aa_jobs.specs.declared.job_fault.JobFault.{JobFault}
 use Rattle.aa_jobs.specs.declared.job_fault.JobFault.TheVariants.{NotJson, TooLarge}
 use Rattle.aa_jobs.specs.declared.job.Job.{Job}
 use Rattle.aa_jobs.specs.Steps.{◌>>=◌, needed, only_if}
+use Rattle.aa_jobs.specs.Written.{WrittenJob}
 use Rattle.aa_jobs.specs.Shape.{job_shape}
 use Rattle.aa_jobs.specs.Limits.{within_limits}
 use Rattle.aa_jobs.specs.Meaning.{written_sizes, meaning}
@@ -14,6 +15,16 @@ use Rattle.aa_jobs.specs.Meaning.{written_sizes, meaning}
 -- the JSON value of bytes that are UTF-8
 abbrev pub json_of : List ℕ → Result Data JobFault
 json_of bytes = if is_utf8 bytes then needed NotJson (read bytes) else Err NotJson
+
+-- what stands in the job that the bytes are
+abbrev pub written_in : List ℕ → Result WrittenJob JobFault
+written_in bytes = json_of bytes >>= job_shape
+
+-- the job that stands there, if nothing is over its limit
+abbrev pub limited_meaning : WrittenJob → Result Job JobFault
+limited_meaning written = do
+  _ ← only_if (within_limits (written_sizes written)) TooLarge
+  meaning written
 
 -- the job, or the first fault: too many bytes, no JSON, another shape, over a limit, a request that can't be made
 unfoldable pub job_of : List ℕ → Result Job JobFault

@@ -1,6 +1,7 @@
 pub mod Jobs
 pub mod Limits
 pub mod Meaning
+pub mod Parts
 pub mod Raw
 pub mod Shape
 pub mod Steps

@@ -1,10 +1,10 @@
 //! What stands in a job means these tasks and events, or `BadRequest`.
 
-ghost use Rattle.std.specs.Prelude.{◌≡◌, ◌==◌, map, true, IfOk};
+ghost use Rattle.std.specs.Prelude.{◌≡◌, ◌==◌, map, true, Result, IfOk};
 ghost use Rattle.std.specs.List.{list_any, list_all};
 ghost use Rattle.aa_jobs.specs.Steps.{Gives, each};
 ghost use Rattle.aa_jobs.specs.Limits.{within_limits};
-ghost use Rattle.aa_jobs.specs.Meaning.{is_letter, bit_if, mask_bits, file_request, link_request, exec_request, cap_request, net_request, change_request, reload_request, work_of, task_of, event_name, event_of, written_sizes, meaning};
+ghost use Rattle.aa_jobs.specs.Meaning.{is_letter, bit_if, mask_bits, file_request, link_request, exec_request, cap_request, net_request, change_request, reload_request, asked, work_of, task_of, event_name, event_of, written_sizes, meaning};
 ghost use Rattle.aa_jobs.specs.Raw.{raw_text, raw_item, raw_task, raw_event, raw_include, raw_job};
 
 use crate::job::{Event, EventName, Include, Job, Task, Work};
@@ -127,29 +127,37 @@ fn reload_work(policy: u64, policies: u16) -> Result<Request, JobFault>
     }
 }
 
+fn asked(request: Result<Request, JobFault>) -> Result<Work, JobFault>
+    ensures { (given : Result Request JobFault) → Gives (λ r. r) request given → Gives (λ w. w) result (asked given) }
+{
+    match request {
+        Ok(request) => Ok(Work::Ask(request)),
+        Err(fault) => Err(fault),
+    }
+}
+
 #[tactic(auto, unfolding(crate::specs::Meaning::work_of))]
 fn work(alloc: Global, item: &RawItem, policies: u16) -> Result<Work, JobFault>
     ensures { Gives (λ w. w) result (work_of policies (raw_item item.now)) }
 {
-    let request = match item {
-        RawItem::Exit => return Ok(Work::Exit),
+    match item {
+        RawItem::Exit => Ok(Work::Exit),
         RawItem::File {
             path,
             letters,
             owned,
-        } => file_work(alloc, path.as_bytes(), letters.as_bytes(), *owned)?,
+        } => asked(file_work(alloc, path.as_bytes(), letters.as_bytes(), *owned)),
         RawItem::Link {
             path,
             target,
             owned,
-        } => link_work(alloc, path.as_bytes(), target.as_bytes(), *owned)?,
-        RawItem::Exec { path, owned } => exec_work(alloc, path.as_bytes(), *owned)?,
-        RawItem::Cap { name } => cap_work(name.as_bytes())?,
-        RawItem::Net { family, kind } => net_work(family.as_bytes(), kind.as_bytes())?,
-        RawItem::Change { name } => change_work(alloc, name.as_bytes())?,
-        RawItem::Reload { policy } => reload_work(*policy, policies)?,
-    };
-    Ok(Work::Ask(request))
+        } => asked(link_work(alloc, path.as_bytes(), target.as_bytes(), *owned)),
+        RawItem::Exec { path, owned } => asked(exec_work(alloc, path.as_bytes(), *owned)),
+        RawItem::Cap { name } => asked(cap_work(name.as_bytes())),
+        RawItem::Net { family, kind } => asked(net_work(family.as_bytes(), kind.as_bytes())),
+        RawItem::Change { name } => asked(change_work(alloc, name.as_bytes())),
+        RawItem::Reload { policy } => asked(reload_work(*policy, policies)),
+    }
 }
 
 fn works(alloc: Global, items: &[RawItem], policies: u16) -> Result<Vec<Work>, JobFault>

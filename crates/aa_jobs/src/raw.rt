@@ -55,6 +55,22 @@ pub struct RawInclude<'v> {
     pub text: &'v str,
 }
 
+/// The texts of a job's policies, and those that they may include.
+#[derive(Drop)]
+pub struct RawTexts<'v> {
+    pub policies: Vec<&'v str>,
+    pub includes: Vec<RawInclude<'v>>,
+}
+
+/// What a job does with its policies.
+#[derive(Drop)]
+pub struct RawRun<'v> {
+    pub tasks: Vec<RawTask<'v>>,
+    pub states: u64,
+    pub capacity: u64,
+    pub events: Vec<RawEvent<'v>>,
+}
+
 /// All that stands in a job.
 #[derive(Drop)]
 pub struct RawJob<'v> {

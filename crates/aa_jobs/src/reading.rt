@@ -3,12 +3,14 @@
 ghost use Rattle.std.specs.Prelude.{◌≡◌, ◌≢◌, IfOk, IfErr, Ok, Err};
 ghost use Rattle.aa_jobs.specs.declared.job_fault.JobFault.{JobFault};
 ghost use Rattle.aa_jobs.specs.Steps.{Gives};
-ghost use Rattle.aa_jobs.specs.Jobs.{job_of};
+ghost use Rattle.aa_jobs.specs.Raw.{raw_job};
+ghost use Rattle.aa_jobs.specs.Jobs.{written_in, limited_meaning, job_of};
 
 use crate::job::Job;
 use crate::job_fault::JobFault;
 use crate::limits::is_within_limits;
 use crate::meaning::job_from;
+use crate::raw::RawJob;
 use crate::shape;
 use crate::tree::read_tree;
 use json::Scratch;
@@ -17,7 +19,29 @@ use std::alloc::Global;
 /// How many bytes a job may have.
 const MAX_BYTES: usize = 16_777_216;
 
-#[tactic(auto, unfolding(crate::specs::Jobs::job_of))]
+/// What stands in the job that the bytes are.
+fn raw_job<'t>(
+    alloc: Global,
+    bytes: &'t [u8],
+    scratch: &'t mut Scratch,
+) -> Result<RawJob<'t>, JobFault>
+    ensures { Gives raw_job result (written_in bytes.now) }
+{
+    let tree = read_tree(alloc, bytes, scratch)?;
+    shape::job(alloc, &tree)
+}
+
+/// The job that stands there, if nothing is over its limit.
+fn limited_job(alloc: Global, raw: &RawJob) -> Result<Job, JobFault>
+    ensures { Gives (λ j. j) result (limited_meaning (raw_job raw.now)) }
+{
+    if is_within_limits(raw) {
+        job_from(alloc, raw)
+    } else {
+        Err(JobFault::TooLarge)
+    }
+}
+
 fn read(alloc: Global, bytes: &[u8]) -> Result<Job, JobFault>
     ensures { Gives (λ j. j) result (job_of bytes.now) }
 {
@@ -25,14 +49,8 @@ fn read(alloc: Global, bytes: &[u8]) -> Result<Job, JobFault>
         return Err(JobFault::TooLarge);
     }
     let mut scratch = Scratch::new(alloc);
-    let tree = read_tree(alloc, bytes, &mut scratch)?;
-    let raw = shape::job(alloc, &tree)?;
-    drop(tree);
-    if is_within_limits(&raw) {
-        job_from(alloc, &raw)
-    } else {
-        Err(JobFault::TooLarge)
-    }
+    let raw = raw_job(alloc, bytes, &mut scratch)?;
+    limited_job(alloc, &raw)
 }
 
 /// The job that the bytes are.

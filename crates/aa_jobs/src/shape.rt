@@ -1,16 +1,18 @@
 //! The shape of a job: what stands in its JSON value, or `BadShape`.
 
 ghost use Rattle.std.specs.Prelude.{◌≡◌, codes, map, Some, None};
-ghost use Rattle.std.specs.List.{list_all};
+ghost use Rattle.std.specs.List.{list_all, list_any};
+ghost use Rattle.std.specs.Str.{bytes_eq};
 ghost use Rattle.serde_json.specs.Find.{get};
 ghost use Rattle.aa_jobs.specs.declared.job_fault.JobFault.TheVariants.{BadShape};
 ghost use Rattle.aa_jobs.specs.Steps.{Gives, only_if, each};
-ghost use Rattle.aa_jobs.specs.Shape.{is_key, has_only, fits, text_in, number_in, list_in, text_at, number_at, list_at, flag_from, number_from, has, file_shape, link_shape, exec_shape, cap_shape, net_shape, change_shape, reload_shape, request_shape, item_shape, task_shape, pair_shape, event_shape, include_shape, events_from, includes_in, includes_from, policies_from, job_shape};
+ghost use Rattle.aa_jobs.specs.Shape.{keys_of, is_key, has_only, fits, text_in, number_in, list_in, text_at, number_at, list_at, flag_from, number_from, has, file_shape, link_shape, exec_shape, cap_shape, net_shape, change_shape, reload_shape, request_shape, item_shape, task_shape, pair_shape, event_shape, include_shape, events_from, includes_in, includes_from, policies_from, job_shape};
+ghost use Rattle.aa_jobs.specs.Parts.{texts_shape, tasks_in, run_shape, raw_texts, raw_run};
 ghost use Rattle.aa_jobs.specs.Raw.{raw_text, raw_item, raw_task, raw_event, raw_include, raw_job};
 ghost use Rattle.aa_jobs.specs.Trees.{tree_data, object_data, entry_data};
 
 use crate::job_fault::JobFault;
-use crate::raw::{RawEvent, RawInclude, RawItem, RawJob, RawTask};
+use crate::raw::{RawEvent, RawInclude, RawItem, RawJob, RawRun, RawTask, RawTexts};
 use crate::tree::{self, Member, Tree};
 use std::alloc::Global;
 use std::collections::BTreeMap;
@@ -23,6 +25,11 @@ const DEFAULT_STATES: u64 = 4096;
 
 /// How many requests a lane holds where the job doesn't say.
 const DEFAULT_CAPACITY: u64 = 1;
+
+/// The keys of the whole job.
+const WHOLE_KEYS: [&str; 7] = [
+    "policy", "policies", "includes", "tasks", "states", "capacity", "events",
+];
 
 /// The objects of a job.
 #[derive(Clone, Copy)]
@@ -38,32 +45,33 @@ enum Part {
     OfReload,
 }
 
-fn is_whole_key(key: &str) -> bool
-    ensures { result ≡ is_key Part.Whole key.now }
+/// The keys that such an object may have.
+fn keys_of(part: Part) -> &'static [&'static str]
+    ensures { map raw_text result.now ≡ keys_of part }
 {
-    key == "policy"
-        || key == "policies"
-        || key == "includes"
-        || key == "tasks"
-        || key == "states"
-        || key == "capacity"
-        || key == "events"
+    match part {
+        Part::Whole => &WHOLE_KEYS,
+        Part::OfTask => &["label", "policy", "requests"],
+        Part::OfFile => &["file", "mask", "owned"],
+        Part::OfLink => &["link", "to", "owned"],
+        Part::OfExec => &["exec", "owned"],
+        Part::OfCap => &["cap"],
+        Part::OfNet => &["net", "type"],
+        Part::OfChange => &["change"],
+        Part::OfReload => &["reload"],
+    }
+}
+
+fn is_among(keys: &[&str], key: &str) -> bool
+    ensures { result ≡ list_any (λ k. bytes_eq key.now k.now) keys.now }
+{
+    keys.iter().any(|known| key == *known)
 }
 
 fn is_known(part: Part, key: &str) -> bool
     ensures { result ≡ is_key part key.now }
 {
-    match part {
-        Part::Whole => is_whole_key(key),
-        Part::OfTask => key == "label" || key == "policy" || key == "requests",
-        Part::OfFile => key == "file" || key == "mask" || key == "owned",
-        Part::OfLink => key == "link" || key == "to" || key == "owned",
-        Part::OfExec => key == "exec" || key == "owned",
-        Part::OfCap => key == "cap",
-        Part::OfNet => key == "net" || key == "type",
-        Part::OfChange => key == "change",
-        Part::OfReload => key == "reload",
-    }
+    is_among(keys_of(part), key)
 }
 
 fn only_known(part: Part, members: &[Member]) -> bool
@@ -429,19 +437,53 @@ fn policies_of<'t>(alloc: Global, value: &Tree<'t>) -> Result<Vec<&'t str>, JobF
     }
 }
 
+/// The policies and the included texts.
+#[tactic(auto, unfolding(crate::specs::Parts::texts_shape))]
+fn texts_of<'t>(alloc: Global, value: &Tree<'t>) -> Result<RawTexts<'t>, JobFault>
+    ensures { Gives raw_texts result (texts_shape (tree_data value.now)) }
+{
+    let policies = policies_of(alloc, value)?;
+    let includes = includes_of(alloc, value)?;
+    Ok(RawTexts { policies, includes })
+}
+
+fn tasks_of<'t>(alloc: Global, value: &Tree<'t>) -> Result<Vec<RawTask<'t>>, JobFault>
+    ensures { Gives (λ v. map raw_task v.items) result (tasks_in (tree_data value.now)) }
+{
+    tasks(alloc, list_of(value, "tasks")?)
+}
+
+/// The tasks, the numbers and the events.
+#[tactic(auto, unfolding(crate::specs::Parts::run_shape))]
+fn run_of<'t>(alloc: Global, value: &Tree<'t>) -> Result<RawRun<'t>, JobFault>
+    ensures { Gives raw_run result (run_shape (tree_data value.now)) }
+{
+    let tasks = tasks_of(alloc, value)?;
+    let states = number_of(value, "states", DEFAULT_STATES)?;
+    let capacity = number_of(value, "capacity", DEFAULT_CAPACITY)?;
+    let events = events_of(alloc, value)?;
+    Ok(RawRun {
+        tasks,
+        states,
+        capacity,
+        events,
+    })
+}
+
 /// All that stands in a job.
-#[tactic(auto, unfolding(crate::specs::Shape::job_shape))]
 pub fn job<'t>(alloc: Global, value: &Tree<'t>) -> Result<RawJob<'t>, JobFault>
     ensures { Gives raw_job result (job_shape (tree_data value.now)) }
 {
     expect(Part::Whole, value)?;
-    let policies = policies_of(alloc, value)?;
     let several = has_key(value, "policies");
-    let includes = includes_of(alloc, value)?;
-    let tasks = tasks(alloc, list_of(value, "tasks")?)?;
-    let states = number_of(value, "states", DEFAULT_STATES)?;
-    let capacity = number_of(value, "capacity", DEFAULT_CAPACITY)?;
-    let events = events_of(alloc, value)?;
+    let RawTexts { policies, includes } = texts_of(alloc, value)?;
+    let run = run_of(alloc, value)?;
+    let RawRun {
+        tasks,
+        states,
+        capacity,
+        events,
+    } = run;
     Ok(RawJob {
         policies,
         several,
