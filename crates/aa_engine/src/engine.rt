@@ -52,6 +52,16 @@ fn compile_job(alloc: Global, bytes: Vec<u8>) -> Result<CompiledJob, RunFault>
     }
 }
 
+/// The text of `check` for a job and its policies.
+fn check_text(alloc: Global, asked: &CompiledJob) -> Result<String, RunFault>
+    ensures text { (input : List ℕ) → HandsIn input asked.now.job asked.now.policies.items → IfOk result (λ text. IsCheckOutput input (string_bytes text)) }
+    ensures cause { (input : List ℕ) → IfErr result (λ e. Explains e input) }
+    ensures unwritten { IfErr result (λ e. e ≢ RunFault.Write) }
+    ensures labels { (t : ℕ) → IsErrOf result (RunFault.UnknownProfile t) → ⊥ }
+{
+    Ok(check_output(alloc, asked.job.several, asked.policies.as_slice())?)
+}
+
 /// The text of `check` for the bytes of a job.
 fn check_text_of(alloc: Global, bytes: Vec<u8>) -> Result<String, RunFault>
     ensures text { IfOk result (λ text. IsCheckOutput bytes.items (string_bytes text)) }
@@ -60,7 +70,7 @@ fn check_text_of(alloc: Global, bytes: Vec<u8>) -> Result<String, RunFault>
     ensures labels { (t : ℕ) → IsErrOf result (RunFault.UnknownProfile t) → ⊥ }
 {
     let asked = compile_job(alloc, bytes)?;
-    Ok(check_output(alloc, asked.job.several, asked.policies.as_slice())?)
+    check_text(alloc, &asked)
 }
 
 /// The text of `run` for a job whose tasks a machine answers, by that many workers.
@@ -93,6 +103,26 @@ fn answered_text<
     )?)
 }
 
+/// The text of `run` for a job and its policies.
+fn run_text<R: Threads + Wait + Sync>(
+    rt: &R,
+    alloc: Global,
+    asked: &CompiledJob,
+    workers: u32,
+) -> Result<String, RunFault>
+    requires { (0 < workers) × (workers ≤ 16) }
+    ensures text { (input : List ℕ) → HandsIn input asked.now.job asked.now.policies.items → IfOk result (λ text. IsRunOutput input (string_bytes text)) }
+    ensures cause { (input : List ℕ) → HandsIn input asked.now.job asked.now.policies.items → IfErr result (λ e. Explains e input) }
+    ensures unwritten { IfErr result (λ e. e ≢ RunFault.Write) }
+{
+    let policies = asked.policies.as_slice();
+    let mediator = Mediator::new(policies);
+    match answered_text(rt, alloc, &asked.job, policies, &mediator, workers) {
+        Ok(text) => Ok(text),
+        Err(fault) => Err(mediate_fault(fault)),
+    }
+}
+
 /// The text of `run` for the bytes of a job.
 fn run_text_of<R: Threads + Wait + Sync>(
     rt: &R,
@@ -106,12 +136,20 @@ fn run_text_of<R: Threads + Wait + Sync>(
     ensures unwritten { IfErr result (λ e. e ≢ RunFault.Write) }
 {
     let asked = compile_job(alloc, bytes)?;
+    run_text(rt, alloc, &asked, workers)
+}
+
+/// The text of `replay` for a job and its policies.
+fn replay_text(alloc: Global, asked: &CompiledJob) -> Result<String, RunFault>
+    ensures text { (input : List ℕ) → HandsIn input asked.now.job asked.now.policies.items → IfOk result (λ text. IsReplayOutput input (string_bytes text)) }
+    ensures cause { (input : List ℕ) → HandsIn input asked.now.job asked.now.policies.items → IfErr result (λ e. Explains e input) }
+    ensures unwritten { IfErr result (λ e. e ≢ RunFault.Write) }
+{
     let policies = asked.policies.as_slice();
-    let mediator = Mediator::new(policies);
-    match answered_text(rt, alloc, &asked.job, policies, &mediator, workers) {
-        Ok(text) => Ok(text),
-        Err(fault) => Err(mediate_fault(fault)),
+    if let Some(task) = unknown_task(policies, asked.job.tasks.as_slice()) {
+        return Err(RunFault::UnknownProfile(task));
     }
+    Ok(replay_output(alloc, &asked.job, policies)?)
 }
 
 /// The text of `replay` for the bytes of a job.
@@ -121,10 +159,7 @@ fn replay_text_of(alloc: Global, bytes: Vec<u8>) -> Result<String, RunFault>
     ensures unwritten { IfErr result (λ e. e ≢ RunFault.Write) }
 {
     let asked = compile_job(alloc, bytes)?;
-    if let Some(task) = unknown_task(asked.policies.as_slice(), asked.job.tasks.as_slice()) {
-        return Err(RunFault::UnknownProfile(task));
-    }
-    Ok(replay_output(alloc, &asked.job, asked.policies.as_slice())?)
+    replay_text(alloc, &asked)
 }
 
 /// Reads a job, and writes how many profiles and rules each of its policies has.

@@ -1,23 +1,7 @@
-use denote.Param.Send.{sendable}
-use Rattle.std.proofs.Common.{ap, Err}
-use Rattle.std.proofs.Crossing.{crosses}
-use Rattle.aa_answers.specs.declared.tasks.MediateFault.{MediateFault}
-use Rattle.aa_mediate.proofs.Shared.{mediator_sync}
-use Rattle.aa_engine.proofs.Inputs.{unknown_explained}
 use Rattle.aa_engine.proofs.engine.run_text_of.Goals as goal
 
-pub answered_text-requires-sync-M : goal.answered_text-requires-sync-M
-answered_text-requires-sync-M g c κs within = search (mediator_sync, sendable, crosses) depth 20
+pub returns-clause-text : goal.returns-clause-text
+returns-clause-text g c = c.run_text.ensures.text c.args.bytes.items c.in_ok-asked.ensures.asked
 
 pub returns-clause-cause : goal.returns-clause-cause
-returns-clause-cause g c =
-    rw c.mediate_fault.ensures (unknown_explained _ c.in_ok-asked.asked.job c.in_ok-asked.asked.policies.items c.in-Err.fault c.in_ok-asked.ensures.asked
-    (λ task e. (rw c.as_slice-policies.ensures.value at c.in-Err.ensures.unknown) task (ap (λ (f : MediateFault). Err f) e)))
-
-pub returns-in-Ok-clause-text : goal.returns-in-Ok-clause-text
-returns-in-Ok-clause-text g c = record {
-  job = c.in_ok-asked.asked.job;
-  policies = c.in_ok-asked.asked.policies.items;
-  asked = c.in_ok-asked.ensures.asked;
-  written = rw (c.new-mediator.ensures, c.as_slice-policies.ensures.value) at c.in-Ok.ensures.text;
-}
+returns-clause-cause g c = c.run_text.ensures.cause c.args.bytes.items c.in_ok-asked.ensures.asked
