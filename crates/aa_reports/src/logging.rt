@@ -12,15 +12,15 @@ ghost use Rattle.aa_logs.specs.Asked.{cause_of};
 ghost use Rattle.aa_logs.specs.Outcomes.{record_data, outcome};
 ghost use Rattle.aa_logs.specs.Records.{line_in};
 ghost use Rattle.aa_reports.specs.Counted.{greatest, firsts, counted};
-ghost use Rattle.aa_reports.specs.Found.{Asked, Skipped, asked_at, asked_key, skipped_key, skipped_item, skipped_data, skipped_for, is_wanted, wants_all, left_out_of, distinct_in, AddsKey, AreFound, AreEach, HasSameSettings, IsReport, IsRefused};
+ghost use Rattle.aa_reports.specs.Found.{Asked, Skipped, asked_at, asked_key, skipped_key, skipped_item, skipped_data, skipped_for, is_wanted, wants_all, left_out_of, distinct_in, entry_data, entry_key, AddsKey, AreFound, AreEach, HasSameSettings, IsReport, IsRefused};
 ghost use Rattle.aa_reports.specs.Orders.{up_to, key_at, items_at, profile_of, reason_key, IsOrder, IsInOrder};
 ghost use Rattle.aa_reports.specs.Printed.{key_text};
 
+use crate::printing::push_asked;
 use aa_asks::push_word;
 use aa_findings::{named, then_name};
 use aa_log_lines::Lines;
 use aa_logs::{Choice, Line, Reason, Record, Then, is_chosen, line_of};
-use aa_output::push_name;
 use aa_requests::Request;
 use aa_units::{Unread, push_text};
 use std::alloc::{AllocError, Global};
@@ -96,10 +96,7 @@ fn key_of(alloc: Global, then: Then, profile: &[u8], word: &[u8]) -> Result<Vec<
 {
     let mut key = Vec::new(alloc);
     push_text(&mut key, then_name(then))?;
-    push_text(&mut key, " ")?;
-    push_name(&mut key, alloc, profile)?;
-    push_text(&mut key, " ")?;
-    key.extend_from_slice(word)?;
+    push_asked(&mut key, alloc, profile, word)?;
     Ok(key)
 }
 
@@ -121,6 +118,23 @@ fn count_again(entries: &mut Vec<Entry>, number: usize)
     }
 }
 
+/// Notes the number of a key's entry, if there are few enough before it.
+fn add_number(
+    numbers: &mut HashMap<Vec<u8>, usize>,
+    key: Vec<u8>,
+    number: usize,
+) -> Result<(), Unread>
+    ensures numbers { OnOk result (get_by (λ k. bytes_eq key.items k.items) numbers.old ≡ None → AddsKey numbers.old key.items number numbers.new) }
+    ensures room { IfErr result (λ why. IsRefused why (1000000 ≤ number)) }
+    ensures most { OnOk result (number < 1000000) }
+{
+    if number >= MAX_DISTINCT {
+        return Err(Unread::TooLarge);
+    }
+    let _ = numbers.insert(key, number)?;
+    Ok(())
+}
+
 /// Notes a request as a new one, if there are few enough.
 fn add_entry(
     entries: &mut Vec<Entry>,
@@ -133,12 +147,45 @@ fn add_entry(
     ensures room { IfErr result (λ why. IsRefused why (1000000 ≤ length entries.old.items)) }
     ensures most { OnOk result (length entries.old.items < 1000000) }
 {
-    if entries.len() >= MAX_DISTINCT {
-        return Err(Unread::TooLarge);
-    }
-    let _ = numbers.insert(key, entries.len())?;
+    add_number(numbers, key, entries.len())?;
     entries.push(entry)?;
     Ok(())
+}
+
+/// Counts a request once more, or notes it as a new one if there are few enough: this entry, which is found by that key.
+fn count_entry(
+    entries: &mut Vec<Entry>,
+    numbers: &mut HashMap<Vec<u8>, usize>,
+    key: Vec<u8>,
+    entry: Entry,
+) -> Result<(), Unread>
+    requires key { key.items ≡ entry_key entry }
+    requires word { entry.word.items ≡ word_text entry.request }
+    requires once { entry.count ≡ 1 }
+    ensures found { OnOk result ((before : List Asked) → AreFound before entries.old.items numbers.old → AreFound (before ++ (entry_data entry).item ∷ []) entries.new.items numbers.new) }
+    ensures room { IfErr result (λ why. IsRefused why ((before : List Asked) → AreFound before entries.old.items numbers.old → 1000000 < length (firsts asked_key (before ++ (entry_data entry).item ∷ [])))) }
+{
+    if let Some(number) = number_of(numbers, key.as_slice()) {
+        count_again(entries, number);
+        return Ok(());
+    }
+    add_entry(entries, numbers, key, entry)
+}
+
+/// The entry of a request that was asked at that place alone.
+fn entry_of(alloc: Global, asked: Record, place: LinePlace) -> Result<Entry, AllocError>
+    ensures asked { IfOk result (λ entry. entry_data entry ≡ record { item = asked_at (record_data asked) place; count = 1 }) }
+    ensures word { IfOk result (λ entry. entry.word.items ≡ word_text entry.request) }
+{
+    let word = word_of(alloc, &asked.request)?;
+    Ok(Entry {
+        then: asked.then,
+        profile: asked.profile,
+        request: asked.request,
+        word,
+        count: 1,
+        first: place,
+    })
 }
 
 /// Counts a request once more, or notes it as a new one if there are few enough.
@@ -152,27 +199,14 @@ fn count_request(
     ensures found { OnOk result ((before : List Asked) → AreFound before entries.old.items numbers.old → AreFound (before ++ asked_at (record_data asked) place ∷ []) entries.new.items numbers.new) }
     ensures room { IfErr result (λ why. IsRefused why ((before : List Asked) → AreFound before entries.old.items numbers.old → 1000000 < length (firsts asked_key (before ++ asked_at (record_data asked) place ∷ [])))) }
 {
-    let Record {
-        then,
-        profile,
-        request,
-        ..
-    } = asked;
-    let word = word_of(alloc, &request)?;
-    let key = key_of(alloc, then, profile.as_slice(), word.as_slice())?;
-    if let Some(number) = number_of(numbers, key.as_slice()) {
-        count_again(entries, number);
-        return Ok(());
-    }
-    let entry = Entry {
-        then,
-        profile,
-        request,
-        word,
-        count: 1,
-        first: place,
-    };
-    add_entry(entries, numbers, key, entry)
+    let entry = entry_of(alloc, asked, place)?;
+    let key = key_of(
+        alloc,
+        entry.then,
+        entry.profile.as_slice(),
+        entry.word.as_slice(),
+    )?;
+    count_entry(entries, numbers, key, entry)
 }
 
 /// Whether lines are skipped for that reason.

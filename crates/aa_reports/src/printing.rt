@@ -1,6 +1,7 @@
 //! What logs say, as it is printed.
 
-ghost use Rattle.std.specs.Prelude.{ℕ, ◌≡◌, ◌++◌, List, [], map, flat_map, slice_get, unwrap_or, OnOk};
+ghost use Rattle.std.specs.Prelude.{ℕ, ◌≡◌, ◌++◌, List, [], map, flat_map, codes, decimal, slice_get, unwrap_or, OnOk};
+ghost use Rattle.aa_audit.specs.Values.{value};
 ghost use Rattle.aa_reports.specs.Printed.{place_text, rest_text, entry_line, reason_text, skipped_line, skipped_at, each_skipped_text, labelled, left_out_text, asking_text, totals_line, counts_text, IsReportText};
 
 use crate::logging::{Entry, LinePlace, LogReport, SkippedLines};
@@ -45,6 +46,37 @@ pub fn push_entry(
     push_rest(out, alloc, logs, entry)
 }
 
+/// Appends a profile and the word of what it asks, each behind a space.
+pub(crate) fn push_asked(
+    out: &mut Vec<u8>,
+    alloc: Global,
+    profile: &[u8],
+    word: &[u8],
+) -> Result<(), AllocError>
+    ensures { OnOk result (out.new.items ≡ out.old.items ++ codes " " ++ value profile.now ++ codes " " ++ word.now) }
+{
+    push_text(out, " ")?;
+    push_name(out, alloc, profile)?;
+    push_text(out, " ")?;
+    out.extend_from_slice(word)
+}
+
+/// Appends how many there are and where the first is, each behind a space, and the line's end.
+fn push_count_and_place(
+    out: &mut Vec<u8>,
+    logs: &[&[u8]],
+    count: u64,
+    first: &LinePlace,
+) -> Result<(), AllocError>
+    ensures { OnOk result (out.new.items ≡ out.old.items ++ codes " " ++ decimal count ++ codes " " ++ place_text (map (λ log. log.now) logs.now) first.now ++ codes "\n") }
+{
+    push_text(out, " ")?;
+    push_number(out, count)?;
+    push_text(out, " ")?;
+    push_line_place(out, logs, first)?;
+    push_text(out, "\n")
+}
+
 /// Appends what stands behind what became of a request.
 pub fn push_rest(
     out: &mut Vec<u8>,
@@ -54,15 +86,8 @@ pub fn push_rest(
 ) -> Result<(), AllocError>
     ensures { OnOk result (out.new.items ≡ out.old.items ++ rest_text (map (λ log. log.now) logs.now) entry.now) }
 {
-    push_text(out, " ")?;
-    push_name(out, alloc, entry.profile.as_slice())?;
-    push_text(out, " ")?;
-    out.extend_from_slice(entry.word.as_slice())?;
-    push_text(out, " ")?;
-    push_number(out, entry.count)?;
-    push_text(out, " ")?;
-    push_line_place(out, logs, &entry.first)?;
-    push_text(out, "\n")
+    push_asked(out, alloc, entry.profile.as_slice(), entry.word.as_slice())?;
+    push_count_and_place(out, logs, entry.count, &entry.first)
 }
 
 /// Appends a reason as it is printed.
@@ -79,11 +104,7 @@ fn push_skipped(out: &mut Vec<u8>, logs: &[&[u8]], skipped: &SkippedLines) -> Re
 {
     push_text(out, "skipped ")?;
     push_reason(out, skipped.reason)?;
-    push_text(out, " ")?;
-    push_number(out, skipped.count)?;
-    push_text(out, " ")?;
-    push_line_place(out, logs, &skipped.first)?;
-    push_text(out, "\n")
+    push_count_and_place(out, logs, skipped.count, &skipped.first)
 }
 
 fn push_skipped_at(
