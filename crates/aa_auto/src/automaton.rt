@@ -1,13 +1,16 @@
 //! The automaton: a table of rows over classes of bytes, and what it answers of a text.
 
-ghost use Rattle.std.specs.Prelude.{◌≡◌, ◌+◌, ◌<◌, ◌≤◌, IfOk, Err, [], length, slice_index_or};
+ghost use Rattle.std.specs.Prelude.{◌≡◌, ◌+◌, ◌<◌, ◌≤◌, IfOk, IfErr, Err, [], length, slice_index_or};
 ghost use Rattle.aa_patterns.specs.Places.{DecideNext};
+ghost use Rattle.aa_auto.specs.Division.{AreClassesOf};
+ghost use Rattle.aa_auto.specs.Explored.{IsExplored};
+ghost use Rattle.aa_auto.specs.Nets.{IsNetOf, patterns_of};
 ghost use Rattle.aa_auto.specs.Nodes.{pointed};
 ghost use Rattle.aa_auto.specs.Tables.{IsAutomaton, BytesLeadAlike, HasPlaces, rows_of, classes_of, place_of, list_number, list_at};
 
 use crate::build::{BuildFault, Found, explore};
 use crate::classes::Classes;
-use crate::net::net_of;
+use crate::net::{Net, net_of};
 use aa_patterns::Pattern;
 use std::alloc::Global;
 use std::marker::Model;
@@ -74,8 +77,38 @@ impl Automaton {
         ensures bytes_lead_alike { BytesLeadAlike (pointed patterns.now) }
     {
         let net = net_of(alloc, patterns)?;
+        Automaton::of_net(alloc, &net, limit)
+    }
+
+    /// The same of compiled patterns.
+    fn of_net(alloc: Global, net: &Net, limit: usize) -> Result<Automaton, BuildFault>
+        requires net { IsNetOf net.now }
+        requires some { 0 < limit }
+        requires limit { limit ≤ 1000000 }
+        ensures automaton { IfOk result (IsAutomaton (patterns_of net.now)) }
+        ensures within { IfOk result (λ a. rows_of a ≤ limit) }
+        ensures too_many { result ≡ Err BuildFault.TooManyStates → HasPlaces (patterns_of net.now) (limit + 1) }
+    {
         let classes = net.classes(alloc)?;
-        let (found, mut cells) = explore(alloc, &net, classes.bytes.as_slice(), limit)?;
+        let (found, cells) = explore(alloc, net, classes.bytes.as_slice(), limit)?;
+        Automaton::from_parts(alloc, net, classes, found, cells)
+    }
+
+    /// The automaton with these classes and cells, of the sets that were found.
+    fn from_parts(
+        alloc: Global,
+        net: &Net,
+        classes: Classes,
+        found: Found,
+        mut cells: Vec<u32>,
+    ) -> Result<Automaton, BuildFault>
+        requires net { IsNetOf net.now }
+        requires classes { AreClassesOf (patterns_of net.now) classes.of.items classes.bytes.items }
+        requires explored { IsExplored net.now found.sets classes.bytes.items cells.items found.lists }
+        ensures automaton { IfOk result (IsAutomaton (patterns_of net.now)) }
+        ensures rows { IfOk result (λ a. rows_of a ≡ length found.sets) }
+        ensures err { IfErr result (λ e. e ≡ BuildFault.NoMemory) }
+    {
         let Found { lists, .. } = found;
         let (lists, listed) = lists.into_parts(alloc)?;
         cells.shrink_to_fit();

@@ -1,8 +1,8 @@
 //! How all sets of positions that some text stands at are found, row by row.
 
-ghost use Rattle.std.specs.Prelude.{◌≡◌, ◌+◌, ◌*◌, ◌<◌, ◌≤◌, ◌++◌, ℕ, Contains, IfOk, IfErr, OnOk, Err, length, slice_get, slice_index_or, [], Some};
+ghost use Rattle.std.specs.Prelude.{◌≡◌, ◌+◌, ◌*◌, ◌<◌, ◌≤◌, ◌++◌, ℕ, Contains, IfOk, IfErr, OnOk, Err, length, slice_get, slice_index_or, [], None, Some};
 ghost use Rattle.aa_auto.specs.Apart.{IsApart};
-ghost use Rattle.aa_auto.specs.Explored.{AreReached, AreFilled, AreListed, Goes, Extends, IsExplored, TakesSet};
+ghost use Rattle.aa_auto.specs.Explored.{AreReached, AreFilled, AreListed, Follows, Goes, Extends, IsExplored, TakesSet};
 ghost use Rattle.aa_auto.specs.Listed.{IsListing};
 ghost use Rattle.aa_auto.specs.Nets.{IsNetOf, patterns_of};
 ghost use Rattle.aa_auto.specs.Noted.{AreNoted};
@@ -57,6 +57,35 @@ pub(crate) struct Found {
 }
 
 impl Found {
+    /// None yet, where `scratch` has the set of the empty text.
+    fn started(alloc: Global, net: &Net) -> Result<Found, AllocError>
+        requires { IsNetOf net.now }
+        ensures sets { IfOk result (λ found. found.sets ≡ []) }
+        ensures lists { IfOk result (λ found. found.lists ≡ record { lists = []; listed = [] }) }
+        ensures set { IfOk result (λ found. Follows net.now None [] found.scratch.set.items) }
+    {
+        let mut scratch = Scratch::new(alloc);
+        net.start(&mut scratch)?;
+        Ok(Found {
+            sets: Sets::new(alloc),
+            lists: Lists::new(alloc),
+            scratch,
+        })
+    }
+
+    /// The set of the empty text alone.
+    fn first(alloc: Global, net: &Net) -> Result<Found, BuildFault>
+        requires { IsNetOf net.now }
+        ensures reached { IfOk result (λ found. AreReached net.now found.sets) }
+        ensures listed { IfOk result (λ found. AreListed net.now found.sets found.lists) }
+        ensures one { IfOk result (λ found. length found.sets ≡ 1) }
+        ensures err { IfErr result (λ e. e ≡ BuildFault.NoMemory) }
+    {
+        let mut found = Found::started(alloc, net)?;
+        found.add(alloc, net)?;
+        Ok(found)
+    }
+
     /// Takes the set of `scratch`. The answer is its number.
     fn add(&mut self, alloc: Global, net: &Net) -> Result<usize, BuildFault>
         requires net { IsNetOf net.now }
@@ -193,6 +222,34 @@ fn fill_row(
     Ok(())
 }
 
+/// The cells of all rows, where `found` takes the sets that they lead to.
+fn fill_rows(
+    alloc: Global,
+    net: &Net,
+    bytes: &[u8],
+    limit: usize,
+    found: &mut Found,
+) -> Result<Vec<u32>, BuildFault>
+    requires net { IsNetOf net.now }
+    requires some { 0 < limit }
+    requires limit { limit ≤ 1000000 }
+    requires reached { AreReached net.now found.old.sets }
+    requires listed { AreListed net.now found.old.sets found.old.lists }
+    requires few { length found.old.sets ≤ limit }
+    ensures explored { IfOk result (λ cells. IsExplored net.now found.new.sets bytes.now cells.items found.new.lists) }
+    ensures few { OnOk result (length found.new.sets ≤ limit) }
+    ensures too_many { result ≡ Err BuildFault.TooManyStates → HasPlaces (patterns_of net.now) (limit + 1) }
+{
+    let mut cells = Vec::new(alloc);
+    for row in 0..limit {
+        if row == found.sets.len() {
+            return Ok(cells);
+        }
+        fill_row(alloc, net, bytes, limit, row, found, &mut cells)?;
+    }
+    Ok(cells)
+}
+
 /// All sets of positions that some text stands at, with their cells for the bytes.
 pub(crate) fn explore(
     alloc: Global,
@@ -207,19 +264,7 @@ pub(crate) fn explore(
     ensures few { IfOk result (λ r. length r.0.sets ≤ limit) }
     ensures too_many { result ≡ Err BuildFault.TooManyStates → HasPlaces (patterns_of net.now) (limit + 1) }
 {
-    let mut found = Found {
-        sets: Sets::new(alloc),
-        lists: Lists::new(alloc),
-        scratch: Scratch::new(alloc),
-    };
-    let mut cells = Vec::new(alloc);
-    net.start(&mut found.scratch)?;
-    found.add(alloc, net)?;
-    for row in 0..limit {
-        if row == found.sets.len() {
-            return Ok((found, cells));
-        }
-        fill_row(alloc, net, bytes, limit, row, &mut found, &mut cells)?;
-    }
+    let mut found = Found::first(alloc, net)?;
+    let cells = fill_rows(alloc, net, bytes, limit, &mut found)?;
     Ok((found, cells))
 }

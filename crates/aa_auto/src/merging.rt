@@ -167,8 +167,43 @@ fn key_of_ends(ends: &[usize]) -> u64 {
 impl<'b, 'a> Merged<'b, 'a> {
     ghost use Rattle.std.specs.Prelude.{◌≡◌, ◌<◌, All, IfOk, IfSome, OnOk, length, slice_index_or};
     ghost use Rattle.aa_auto.specs.declared.nodes.Node.TheVariants.{Start, After, Join};
-    ghost use Rattle.aa_auto.specs.Nodes.{HasSources};
+    ghost use Rattle.aa_auto.specs.Nodes.{HasSources, HaveSources};
     ghost use Rattle.aa_auto.specs.Merged.{IsMerged, IsBehind, IsJoin, Pushes, Finds, Goes, AreEnds, AreMapped, HasEnds, Longer};
+
+    /// Where each position of the patterns has one with its head.
+    fn of_all(alloc: Global, before: &'b [Node<'a>]) -> Result<Self, AllocError>
+        requires { HaveSources before.now }
+        ensures merged { IfOk result IsMerged }
+        ensures whole { IfOk result (λ all. length all.of.items ≡ length before.now) }
+        ensures before { IfOk result (λ all. all.before.now ≡ before.now) }
+    {
+        let mut all = Merged {
+            before,
+            nodes: Vec::new(alloc),
+            firsts: Vec::new(alloc),
+            of: Vec::new(alloc),
+            memo: IndexMap::new(alloc),
+        };
+        all.number_all(alloc)?;
+        Ok(all)
+    }
+
+    /// Finds a position for each of the patterns.
+    fn number_all(&mut self, alloc: Global) -> Result<(), AllocError>
+        requires sources { HaveSources self.old.before.now }
+        requires merged { IsMerged self.old }
+        requires none { length self.old.of.items ≡ 0 }
+        ensures merged { OnOk result (IsMerged self.new) }
+        ensures whole { OnOk result (length self.new.of.items ≡ length self.old.before.now) }
+        ensures before { OnOk result (self.new.before.now ≡ self.old.before.now) }
+    {
+        let before = self.before;
+        for node in before {
+            let number = self.number(alloc, node)?;
+            self.of.push(number)?;
+        }
+        Ok(())
+    }
 
     /// Adds a position.
     fn push(&mut self, node: Node<'a>, first: usize) -> Result<(), AllocError>
@@ -341,17 +376,7 @@ pub(crate) fn merge_nodes<'a>(
     requires ends { All (λ e. e < length before.now) ends.now }
     ensures { IfOk result (λ r. (of : List ℕ) × AreMerged before.now r.nodes.items r.firsts.items of ends.now r.ends.items) }
 {
-    let mut all = Merged {
-        before,
-        nodes: Vec::new(alloc),
-        firsts: Vec::new(alloc),
-        of: Vec::new(alloc),
-        memo: IndexMap::new(alloc),
-    };
-    for node in before {
-        let number = all.number(alloc, node)?;
-        all.of.push(number)?;
-    }
+    let mut all = Merged::of_all(alloc, before)?;
     let out = all.ends(alloc, ends)?;
     let Merged { nodes, firsts, .. } = all;
     Ok(Kept {

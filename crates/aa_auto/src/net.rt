@@ -1,8 +1,11 @@
 //! Patterns, compiled position by position, and the set of positions after one more byte.
 
-ghost use Rattle.std.specs.Prelude.{◌≡◌, ◌≤◌, IfOk, length};
+ghost use Rattle.std.specs.Prelude.{◌≡◌, ◌<◌, ◌≤◌, All, IfOk, OnOk, length, map};
+ghost use Rattle.std.specs.List.Sorted.{IsStrictlyIncreasing};
+ghost use Rattle.aa_auto.specs.Finals.{AreFinals};
 ghost use Rattle.aa_auto.specs.Nets.{IsNetOf, patterns_of};
-ghost use Rattle.aa_auto.specs.Nodes.{pointed};
+ghost use Rattle.aa_auto.specs.Nodes.{HaveSources, pointed};
+ghost use Rattle.aa_auto.specs.Spots.{AreJumps};
 
 use crate::classes::{Classes, classes_of};
 use crate::closing::closed;
@@ -69,11 +72,7 @@ pub(crate) fn net_of<'a>(alloc: Global, patterns: &'a [&'a Pattern]) -> Result<N
         firsts,
         ends,
     } = kept;
-    if nodes.len() > POSITIONS {
-        return Err(AllocError);
-    }
-    let jumps = jumps_of(alloc, nodes.as_slice())?;
-    let finals = finals_of(alloc, ends.as_slice(), nodes.len())?;
+    let (jumps, finals) = links_of(alloc, nodes.as_slice(), ends.as_slice())?;
     Ok(Net {
         patterns,
         plain,
@@ -82,6 +81,28 @@ pub(crate) fn net_of<'a>(alloc: Global, patterns: &'a [&'a Pattern]) -> Result<N
         jumps,
         finals,
     })
+}
+
+/// Where positions lead without a byte, and the number of the pattern that ends at each. Refused where there are too many.
+fn links_of(
+    alloc: Global,
+    nodes: &[Node],
+    ends: &[usize],
+) -> Result<(Vec<Vec<u32>>, Vec<Option<u16>>), AllocError>
+    requires sources { HaveSources nodes.now }
+    requires rising { IsStrictlyIncreasing ends.now }
+    requires within { All (λ e. e < length nodes.now) ends.now }
+    requires few { length ends.now ≤ 65535 }
+    ensures many { OnOk result (length nodes.now < 4294967296) }
+    ensures jumps { IfOk result (λ r. AreJumps nodes.now (map (λ v. v.items) r.0.items)) }
+    ensures finals { IfOk result (λ r. AreFinals ends.now (length ends.now) (length nodes.now) r.1.items) }
+{
+    if nodes.len() > POSITIONS {
+        return Err(AllocError);
+    }
+    let jumps = jumps_of(alloc, nodes)?;
+    let finals = finals_of(alloc, ends, nodes.len())?;
+    Ok((jumps, finals))
 }
 
 impl Net<'_> {

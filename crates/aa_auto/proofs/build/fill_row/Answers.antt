@@ -1,3 +1,4 @@
+use Rattle.std.proofs.lemmas.Grind.{common_steps}
 use Rattle.std.proofs.Common.{refl, sym, subst, arith}
 use Rattle.aa_auto.specs.Explored.{AreFilled}
 use Rattle.aa_auto.specs.Noted.{AreNoted}
@@ -30,3 +31,6 @@ loop-byte-preserved c = record {
   row = omega (arith, c.loop-byte.invariant.row, longer c.args.net.now c.loop-byte.found.sets c.cell_of.new.found.sets c.in_ok-next.ensures.extends);
   few = c.in_ok-next.ensures.few;
 }
+
+pub noted_row-requires-clause-row : goal.noted_row-requires-clause-row
+noted_row-requires-clause-row c = grind (arith, common_steps)

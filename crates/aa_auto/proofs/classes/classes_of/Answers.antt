@@ -1,3 +1,4 @@
+use Rattle.std.proofs.lemmas.Grind.{common_steps}
 use Rattle.std.proofs.Common.{rules, subst, sym, ◌∙◌, true≢false, false, arith}
 use Rattle.aa_auto.specs.Division.{AreAlone}
 use Rattle.aa_auto.proofs.DivisionLemmas.{classes_more, alone_more}
@@ -21,3 +22,6 @@ loop-node-preserved c = record {
   alone = alone_more c.node-item.result c.loop-node.classes.of.items c.in_ok-classes-2.classes.of.items c.in_ok-classes-2.classes.bytes.items c.loop-node.alone.items c.note_alone.new.alone.items
       c.loop-node.invariant.alone c.in_ok-classes-2.ensures c.note_alone.ensures;
 }
+
+pub returns : goal.returns
+returns c = grind (arith, common_steps)

@@ -1,3 +1,4 @@
+use Rattle.std.proofs.lemmas.Grind.{common_steps}
 use Rattle.std.proofs.Common.{arith, refl, take}
 use Rattle.aa_auto.proofs.SortedLemmas.{contains_at}
 use Rattle.aa_auto.proofs.JumpLemmas.{lists, length_lists}
@@ -14,3 +15,6 @@ pub loop-seed-preserved : goal.loop-seed-preserved
 loop-seed-preserved c =
     closed_more (lists c.args.jumps.now) c.args.seeds.now c.add_closed.new.set.items c.loop-seed.seed-index _ c.loop-seed-test.true refl
     (c.in_ok-add_closed.ensures (take c.loop-seed.seed-index c.args.seeds.now) c.loop-seed.invariant)
+
+pub returns : goal.returns
+returns c = grind (arith, common_steps)

@@ -1,4 +1,5 @@
 use Rattle.std.proofs.Common.{◌≡◌, ◌<◌, All, ℕ, List, arith, ap, length, sym, subst}
+use Rattle.std.proofs.lemmas.Grind.{common_steps}
 use Rattle.aa_auto.specs.Nodes.{HaveSources, pointed}
 use Rattle.aa_auto.specs.Merged.{AreMerged}
 use Rattle.aa_auto.specs.Spots.{AreJumps}
@@ -20,8 +21,8 @@ merge_nodes-requires-clause-ends c =
     (subst (λ n. All (λ e. e < n) c.in_ok-plain.plain_ends.items) (sym (ap length c.as_slice.ensures.value)) c.in_ok-plain.ensures.within) in
     within
 
-pub jumps_of-requires-clause-sources : goal.jumps_of-requires-clause-sources
-jumps_of-requires-clause-sources c =
+pub links_of-requires-clause-sources : goal.links_of-requires-clause-sources
+links_of-requires-clause-sources c =
     let k = c.in_ok-kept.kept in
     let m = c.in_ok-kept.ensures in
     let merged = subst (λ z. AreMerged z k.nodes.items k.firsts.items m.0 c.in_ok-plain.plain_ends.items k.ends.items) c.as_slice.ensures.value
@@ -31,15 +32,18 @@ jumps_of-requires-clause-sources c =
     (merged_sources c.in_ok-plain.plain.items k.nodes.items k.firsts.items m.0 c.in_ok-plain.plain_ends.items k.ends.items (pointed c.args.patterns.now) c.in_ok-plain.ensures merged) in
     sources
 
+pub links_of-requires-clause-few : goal.links_of-requires-clause-few
+links_of-requires-clause-few c = grind (arith, common_steps)
+
 pub returns-clause-net : goal.returns-clause-net
 returns-clause-net c =
     let k = c.in_ok-kept.kept in
     let m = c.in_ok-kept.ensures in
+    let r = c.in_ok-jumps.ensures in
     let merged = subst (λ z. AreMerged z k.nodes.items k.firsts.items m.0 c.in_ok-plain.plain_ends.items k.ends.items) c.as_slice.ensures.value
     (subst (λ z. AreMerged c.as_slice.result.now k.nodes.items k.firsts.items m.0 z k.ends.items) c.as_slice-2.ensures.value m.1) in
-    let many : c.len-2.result ≡ length k.nodes.items = omega (arith, c.len-2.ensures, k.nodes.ok) in
-    let finals = subst (λ n. AreFinals k.ends.items (length k.ends.items) n c.in_ok-finals.finals.items) many
-    (subst (λ (z : List ℕ). AreFinals z (length z) c.len-2.result c.in_ok-finals.finals.items) c.as_slice-4.ensures.value c.in_ok-finals.ensures) in
+    let finals = subst (λ (z : List ℕ). AreFinals z (length z) (length k.nodes.items) c.in_ok-jumps.finals.items) c.as_slice-4.ensures.value
+    (subst (λ z. AreFinals c.as_slice-4.result.now (length c.as_slice-4.result.now) (length z) c.in_ok-jumps.finals.items) c.as_slice-3.ensures.value r.finals) in
     net_made _ c.in_ok-plain.plain_ends.items k.ends.items m.0 c.in_ok-plain.ensures merged
-    (subst (λ z. AreJumps z (lists c.in_ok-jumps.jumps.items)) c.as_slice-3.ensures.value c.in_ok-jumps.ensures) finals
-    (omega (arith, c.if-len-gt-POSITIONS.false, c.len.ensures, k.nodes.ok))
+    (subst (λ z. AreJumps z (lists c.in_ok-jumps.jumps.items)) c.as_slice-3.ensures.value r.jumps) finals
+    (subst (λ z. length z < 4294967296) c.as_slice-3.ensures.value r.many)

@@ -1,6 +1,6 @@
 use Rattle.std.proofs.Common.{◌≡◌, ◌*◌, ◌≤◌, length}
 use Rattle.aa_auto.specs.Explored.{AreReached, AreFilled, AreListed}
-use Rattle.aa_auto.proofs.build.explore.Given as goal
+use Rattle.aa_auto.proofs.build.fill_rows.Given as goal
 
 abbrev pub invariant-loop-row : goal.invariant-loop-row
 invariant-loop-row l = record {
