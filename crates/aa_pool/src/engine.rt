@@ -1,5 +1,5 @@
 //! The lanes of all tasks, and their ends.
-ghost use Rattle.std.specs.Prelude.{◌≡◌, ◌<◌, ◌≤◌, IfOk, MatchResult, length, map};
+ghost use Rattle.std.specs.Prelude.{◌≡◌, ◌+◌, ◌<◌, ◌≤◌, ◌++◌, [], ◌∷◌, IfOk, MatchResult, length, map, vec_len, vec_capacity};
 ghost use Rattle.aa_lane.specs.Ends.{known, IsCapacity};
 ghost use Rattle.aa_pool.specs.Opened.{AreOpened, AreEndsOf, Denies, AreShut};
 
@@ -67,27 +67,58 @@ fn open_all<'m, M: Machine>(
     ensures opened { IfOk result (λ e. AreOpened machine.now starts.now capacity e.lanes.items e.owners.items e.servers.items e.shutters.items) }
     ensures ends { IfOk result (λ e. AreEndsOf e.lanes.items e.owners.items e.servers.items e.shutters.items) }
 {
-    let mut lanes = Vec::with_capacity(alloc, starts.len())?;
-    let mut owners = Vec::with_capacity(alloc, starts.len())?;
-    let mut servers = Vec::with_capacity(alloc, starts.len())?;
-    let mut shutters = Vec::with_capacity(alloc, starts.len())?;
+    let mut engine = engine_for(alloc, starts.len())?;
     for at in 0..starts.len() {
-        let Ok((lane, owner, server, shutter)) = Lane::new(
-            alloc, machine, at as u32, capacity, starts[at],
-        ) else {
+        let Ok(opened) = Lane::new(alloc, machine, at as u32, capacity, starts[at]) else {
             return Err(AllocError);
         };
-        lanes.push_reserved(lane);
-        owners.push_reserved(owner);
-        servers.push_reserved(server);
-        shutters.push_reserved(shutter);
+        add(&mut engine, opened);
     }
+    Ok(engine)
+}
+
+// An engine without lanes, with room for so many.
+fn engine_for<'m, M: Machine>(alloc: Global, count: usize) -> Result<Engine<'m, M>, AllocError>
+    ensures lanes { IfOk result (λ e. (e.lanes.items ≡ []) × (count ≤ vec_capacity e.lanes)) }
+    ensures owners { IfOk result (λ e. (e.owners.items ≡ []) × (count ≤ vec_capacity e.owners)) }
+    ensures servers { IfOk result (λ e. (e.servers.items ≡ []) × (count ≤ vec_capacity e.servers)) }
+    ensures shutters { IfOk result (λ e. (e.shutters.items ≡ []) × (count ≤ vec_capacity e.shutters)) }
+{
+    let lanes = Vec::with_capacity(alloc, count)?;
+    let owners = Vec::with_capacity(alloc, count)?;
+    let servers = Vec::with_capacity(alloc, count)?;
+    let shutters = Vec::with_capacity(alloc, count)?;
     Ok(Engine {
         lanes,
         owners,
         servers,
         shutters,
     })
+}
+
+// Adds a lane and its ends.
+fn add<'m, M: Machine>(
+    engine: &mut Engine<'m, M>,
+    opened: (Lane<'m, M>, Owner<M>, Server<M>, Shutter<M>),
+)
+    requires lanes { vec_len engine.old.lanes < vec_capacity engine.old.lanes }
+    requires owners { vec_len engine.old.owners < vec_capacity engine.old.owners }
+    requires servers { vec_len engine.old.servers < vec_capacity engine.old.servers }
+    requires shutters { vec_len engine.old.shutters < vec_capacity engine.old.shutters }
+    ensures lanes { (engine.new.lanes.items ≡ engine.old.lanes.items ++ opened.entry.0 ∷ [])
+        × (vec_len engine.new.lanes ≡ vec_len engine.old.lanes + 1) × (vec_capacity engine.new.lanes ≡ vec_capacity engine.old.lanes) }
+    ensures owners { (engine.new.owners.items ≡ engine.old.owners.items ++ opened.entry.1 ∷ [])
+        × (vec_len engine.new.owners ≡ vec_len engine.old.owners + 1) × (vec_capacity engine.new.owners ≡ vec_capacity engine.old.owners) }
+    ensures servers { (engine.new.servers.items ≡ engine.old.servers.items ++ opened.entry.2 ∷ [])
+        × (vec_len engine.new.servers ≡ vec_len engine.old.servers + 1) × (vec_capacity engine.new.servers ≡ vec_capacity engine.old.servers) }
+    ensures shutters { (engine.new.shutters.items ≡ engine.old.shutters.items ++ opened.entry.3 ∷ [])
+        × (vec_len engine.new.shutters ≡ vec_len engine.old.shutters + 1) × (vec_capacity engine.new.shutters ≡ vec_capacity engine.old.shutters) }
+{
+    let (lane, owner, server, shutter) = opened;
+    engine.lanes.push_reserved(lane);
+    engine.owners.push_reserved(owner);
+    engine.servers.push_reserved(server);
+    engine.shutters.push_reserved(shutter);
 }
 
 /// Shuts one lane after the other, and writes for each the number of requests that it accepted in all. A lane that isn't
