@@ -51,6 +51,9 @@ other_cause (Ok x) h e = cc
 other_cause (Err f) h e = let same : f ≡ at_start Syntax = cc in no_memory_differs (sym h ∙ same)
 
 -- as many names are there as entries
+pub many : (es : List (Vec ℕ × Vec ℕ)) → length es ≡ length (entries es)
+many es = simp length-map
+
 pub room : (es : List (Vec ℕ × Vec ℕ)) (self : List (List ℕ × List ℕ)) (n : ℕ) → n ≡ length es → entries es ≡ self → n < 4095 → length self < 4095
 room es self n e view h = let same : length (entries es) ≡ length self = ap length view in omega (arith, simp length-map at same)
 

@@ -1,6 +1,6 @@
 //! The pieces that a text is cut into, and the places between them.
 
-ghost use Rattle.std.specs.Prelude.{◌≡◌, ◌+◌, ◌^◌, ◌<◌, ◌≤◌};
+ghost use Rattle.std.specs.Prelude.{◌≡◌, ◌+◌, ◌^◌, ◌<◌, ◌≤◌, list_any};
 ghost use Rattle.std.specs.Str.{bytes_eq};
 ghost use Rattle.aa_extents.specs.Runs.{is_variable};
 ghost use Rattle.aa_words.specs.Splits.{kind_of, is_include, is_in_quotes, is_one_of, qualifiers, passed_over, may_skip, is_among_values, behind_name_word, behind_blank, behind_assigning, rule_after, parens_after, is_run, place_after, is_beginning, start};
@@ -89,22 +89,40 @@ fn is_qualifier(text: &[u8]) -> bool
     text == "audit".as_bytes() || text == "allow".as_bytes() || text == "deny".as_bytes()
 }
 
+/// The words with which rules begin of kinds that are passed over.
+const PASSED_OVER: [&str; 12] = [
+    "signal",
+    "ptrace",
+    "dbus",
+    "unix",
+    "mount",
+    "remount",
+    "umount",
+    "pivot_root",
+    "set",
+    "userns",
+    "mqueue",
+    "io_uring",
+];
+
+fn is_word(word: &str, text: &[u8]) -> bool
+    ensures { result ≡ bytes_eq text.now word.now }
+{
+    text == word.as_bytes()
+}
+
+/// Whether a text is one of the words.
+fn is_among(words: &[&str], text: &[u8]) -> bool
+    ensures { result ≡ list_any (λ word. bytes_eq text.now word.now) words.now }
+{
+    words.iter().any(|word| is_word(word, text))
+}
+
 /// Whether a rule of a kind that is passed over begins with this word.
 pub(crate) fn is_passed_over(text: &[u8]) -> bool
     ensures { result ≡ is_one_of passed_over text.now }
 {
-    text == "signal".as_bytes()
-        || text == "ptrace".as_bytes()
-        || text == "dbus".as_bytes()
-        || text == "unix".as_bytes()
-        || text == "mount".as_bytes()
-        || text == "remount".as_bytes()
-        || text == "umount".as_bytes()
-        || text == "pivot_root".as_bytes()
-        || text == "set".as_bytes()
-        || text == "userns".as_bytes()
-        || text == "mqueue".as_bytes()
-        || text == "io_uring".as_bytes()
+    is_among(&PASSED_OVER, text)
 }
 
 /// Whether a rule begins here, with no qualifier before it.

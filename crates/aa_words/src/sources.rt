@@ -1,13 +1,13 @@
 //! Named texts that a policy may include.
 
-ghost use Rattle.std.specs.Prelude.{◌≡◌, ◌+◌, ◌<◌, ◌≤◌, ◌↔◌, ◌⊎◌, [], ◌∷◌, ◌++◌, length, OnOk, OnErr, IfErr, IsErrOf, IsTrue, IfSome, IfNone, Some, None};
+ghost use Rattle.std.specs.Prelude.{◌≡◌, ◌+◌, ◌<◌, ◌≤◌, ◌↔◌, ◌⊎◌, [], ◌∷◌, ◌++◌, length, OnOk, OnErr, IfErr, IsErrOf, IsTrue, IfSome, IfNone, Some, None, false};
 ghost use Rattle.aa_faults.specs.Kinds.{at_start, no_memory};
 ghost use Rattle.aa_words.specs.Sources.{has_name};
 ghost use Rattle.aa_words.specs.Splits.{source_from};
 
 use aa_faults::{PolicyFault, PolicyKind};
 use indexmap::IndexMap;
-use std::alloc::Global;
+use std::alloc::{AllocError, Global};
 use std::marker::Model;
 
 /// The sources that a policy may include, in the order in which they were added. The first is file 1; file 0 is the
@@ -62,6 +62,18 @@ impl Sources {
         if self.texts.contains_key(name) {
             return Err(PolicyFault::at_start(PolicyKind::Syntax));
         }
+        self.put(name, text)?;
+        Ok(())
+    }
+
+    /// Puts a text under a new name behind the others, for which there is room.
+    #[tactic(auto, using(crate::proofs::Named::many))]
+    fn put(&mut self, name: &[u8], text: &[u8]) -> Result<(), AllocError>
+        requires new { has_name name.now self.old ≡ false }
+        requires room { length self.old < 4095 }
+        ensures ok { OnOk result (self.new ≡ self.old ++ (name.now, text.now) ∷ []) }
+        ensures err { OnErr result (self.new ≡ self.old) }
+    {
         let alloc = *self.texts.allocator();
         let name = Vec::from_slice(alloc, name)?;
         let text = Vec::from_slice(alloc, text)?;
