@@ -1,6 +1,7 @@
 //! The pieces that a text is cut into, and the places between them.
 
-ghost use Rattle.std.specs.Prelude.{◌≡◌, ◌+◌, ◌^◌, ◌<◌, ◌≤◌, list_any};
+ghost use Rattle.std.specs.Prelude.{◌≡◌, ◌+◌, ◌^◌, ◌<◌, ◌≤◌};
+ghost use Rattle.std.specs.List.{list_any};
 ghost use Rattle.std.specs.Str.{bytes_eq};
 ghost use Rattle.aa_extents.specs.Runs.{is_variable};
 ghost use Rattle.aa_words.specs.Splits.{kind_of, is_include, is_in_quotes, is_one_of, qualifiers, passed_over, may_skip, is_among_values, behind_name_word, behind_blank, behind_assigning, rule_after, parens_after, is_run, place_after, is_beginning, start};
