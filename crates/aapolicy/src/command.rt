@@ -29,210 +29,375 @@ const JOB: &str =
 const LOG: &str =
     "Says what a log's lines ask, and how a policy answers them now, as in: aapolicy log /var/log/kern.log --against /etc/apparmor.d/usr.sbin.cupsd";
 
-fn option<'a>(alloc: Global, id: &'a str, value: &'a str, help: &'a str) -> Arg<'a> {
-    Arg::new(alloc, id).long(id).value_name(value).help(help)
+/// How an argument is written.
+#[derive(Clone, Copy)]
+enum Form {
+    /// As words, if any.
+    Words,
+    /// As a word, which must be there.
+    NeededWord,
+    /// As words, of which one must be there.
+    NeededWords,
+    /// By its name and a value, which help calls so.
+    Value(&'static str),
+    /// The same, once or more often.
+    Values(&'static str),
+    /// By its name alone.
+    Flag,
 }
 
-fn flag<'a>(alloc: Global, id: &'a str, help: &'a str) -> Arg<'a> {
-    Arg::new(alloc, id)
-        .long(id)
-        .help(help)
-        .action(ArgAction::SetTrue)
+/// An argument of a command.
+struct Argument {
+    name: &'static str,
+    /// Its short name.
+    letter: Option<char>,
+    form: Form,
+    /// The argument that may not stand beside it.
+    barred: Option<&'static str>,
+    help: &'static str,
 }
 
-/// The options that each command has.
-fn with_common<'a>(alloc: Global, command: Command<'a>) -> Result<Command<'a>, AllocError> {
-    let base = option(
-        alloc,
-        "base",
-        "DIR",
-        "The folder in which includes are searched last [default: /etc/apparmor.d]",
-    )
-    .short('b')
-    .action(ArgAction::Set);
-    let include = option(
-        alloc,
-        "Include",
-        "DIR",
-        "A folder in which includes are searched before, in the order of these",
-    )
-    .short('I')
-    .action(ArgAction::Append);
-    let states = option(
-        alloc,
-        "states",
-        "N",
-        "How many states an automaton may have, 1 to 1000000 [default: 65535]",
-    )
-    .action(ArgAction::Set);
-    command.arg(base)?.arg(include)?.arg(states)
+/// What each command takes, behind its own arguments.
+const COMMON_ARGUMENTS: &[Argument] = &[
+    Argument {
+        name: "base",
+        letter: Some('b'),
+        form: Form::Value("DIR"),
+        barred: None,
+        help: "The folder in which includes are searched last [default: /etc/apparmor.d]",
+    },
+    Argument {
+        name: "Include",
+        letter: Some('I'),
+        form: Form::Values("DIR"),
+        barred: None,
+        help: "A folder in which includes are searched before, in the order of these",
+    },
+    Argument {
+        name: "states",
+        letter: None,
+        form: Form::Value("N"),
+        barred: None,
+        help: "How many states an automaton may have, 1 to 1000000 [default: 65535]",
+    },
+];
+
+/// What `check` takes.
+const CHECK_ARGUMENTS: &[Argument] = &[
+    Argument {
+        name: "PROFILE",
+        letter: None,
+        form: Form::Words,
+        barred: None,
+        help: "A file with profiles, or a folder of such files; - is standard input [default: the base folder]",
+    },
+    Argument {
+        name: "json",
+        letter: None,
+        form: Form::Flag,
+        barred: None,
+        help: "Answer in JSON",
+    },
+    Argument {
+        name: "quiet",
+        letter: Some('q'),
+        form: Form::Flag,
+        barred: None,
+        help: "Print faults alone",
+    },
+];
+
+/// What `ask` takes.
+const ASK_ARGUMENTS: &[Argument] = &[
+    Argument {
+        name: "PROFILE",
+        letter: None,
+        form: Form::NeededWord,
+        barred: None,
+        help: "A file with profiles, or a folder of such files; - is standard input",
+    },
+    Argument {
+        name: "WORD",
+        letter: None,
+        form: Form::Words,
+        barred: None,
+        help: "LETTERS:PATH, x:PATH, l:PATH->PATH, cap:NAME, net:FAMILY/TYPE or change:NAME; owned: before the first three where the object is the task's user's",
+    },
+    Argument {
+        name: "also",
+        letter: None,
+        form: Form::Values("PROFILE"),
+        barred: None,
+        help: "More files with profiles, whose profiles are there too",
+    },
+    Argument {
+        name: "profile",
+        letter: None,
+        form: Form::Value("NAME"),
+        barred: None,
+        help: "The profile that asks, or unconfined",
+    },
+    Argument {
+        name: "program",
+        letter: None,
+        form: Form::Value("PATH"),
+        barred: Some("profile"),
+        help: "The program that asks, under the profile that it gets where an unconfined task executes it",
+    },
+    Argument {
+        name: "from",
+        letter: None,
+        form: Form::Value("FILE"),
+        barred: None,
+        help: "Read requests from a file too, one a line",
+    },
+    Argument {
+        name: "owned",
+        letter: None,
+        form: Form::Flag,
+        barred: None,
+        help: "Every object is the task's user's",
+    },
+    Argument {
+        name: "sequence",
+        letter: None,
+        form: Form::Flag,
+        barred: None,
+        help: "The requests are one task's: an execution moves it",
+    },
+    Argument {
+        name: "json",
+        letter: None,
+        form: Form::Flag,
+        barred: None,
+        help: "Answer in JSON",
+    },
+    Argument {
+        name: "quiet",
+        letter: Some('q'),
+        form: Form::Flag,
+        barred: None,
+        help: "Print nothing: the exit status answers",
+    },
+];
+
+/// What chooses lines of logs.
+const CHOICE_ARGUMENTS: &[Argument] = &[
+    Argument {
+        name: "profile",
+        letter: None,
+        form: Form::Values("NAME"),
+        barred: None,
+        help: "Read lines of the profile with this full name alone; of each of these, where there are several",
+    },
+    Argument {
+        name: "since",
+        letter: None,
+        form: Form::Value("SECONDS"),
+        barred: None,
+        help: "Read lines alone whose stamp has this second since 1970 or a later one",
+    },
+    Argument {
+        name: "until",
+        letter: None,
+        form: Form::Value("SECONDS"),
+        barred: None,
+        help: "Read lines alone whose stamp has this second since 1970 or an earlier one",
+    },
+];
+
+/// What `job` takes, before the choice of lines.
+const JOB_ARGUMENTS: &[Argument] = &[
+    Argument {
+        name: "PROFILE",
+        letter: None,
+        form: Form::NeededWords,
+        barred: None,
+        help: "A file with profiles, or a folder of such files, each a policy of its own; - is standard input",
+    },
+    Argument {
+        name: "log",
+        letter: None,
+        form: Form::Values("FILE"),
+        barred: None,
+        help: "A log whose lines become the job's tasks",
+    },
+];
+
+/// What `log` takes, before the choice of lines.
+const LOG_ARGUMENTS: &[Argument] = &[
+    Argument {
+        name: "FILE",
+        letter: None,
+        form: Form::NeededWords,
+        barred: None,
+        help: "A log; - is standard input",
+    },
+    Argument {
+        name: "against",
+        letter: None,
+        form: Form::Values("PROFILE"),
+        barred: None,
+        help: "A file or folder whose profiles answer what was asked; all of them together, where there are several",
+    },
+    Argument {
+        name: "all",
+        letter: None,
+        form: Form::Flag,
+        barred: None,
+        help: "With --against, print what stays, too",
+    },
+    Argument {
+        name: "skipped",
+        letter: None,
+        form: Form::Flag,
+        barred: None,
+        help: "Print the place of each line that is skipped",
+    },
+    Argument {
+        name: "json",
+        letter: None,
+        form: Form::Flag,
+        barred: None,
+        help: "Answer in JSON",
+    },
+];
+
+fn action_of(form: Form) -> ArgAction {
+    match form {
+        Form::Words | Form::NeededWords | Form::Values(_) => ArgAction::Append,
+        Form::NeededWord | Form::Value(_) => ArgAction::Set,
+        Form::Flag => ArgAction::SetTrue,
+    }
 }
 
-fn json_flag<'a>(alloc: Global) -> Arg<'a> {
-    flag(alloc, "json", "Answer in JSON")
+fn is_needed(form: Form) -> bool {
+    matches!(form, Form::NeededWord | Form::NeededWords)
 }
 
-/// The options of a command that answers as text, as JSON, or by its status alone.
-fn with_answers<'a>(
+/// The name that help gives to a value.
+fn value_of(form: Form) -> Option<&'static str> {
+    match form {
+        Form::Value(name) | Form::Values(name) => Some(name),
+        _ => None,
+    }
+}
+
+fn is_word(form: Form) -> bool {
+    matches!(form, Form::Words | Form::NeededWord | Form::NeededWords)
+}
+
+fn with_value<'a>(argument: Arg<'a>, name: Option<&'static str>) -> Arg<'a> {
+    match name {
+        Some(name) => argument.value_name(name),
+        None => argument,
+    }
+}
+
+fn with_name<'a>(argument: Arg<'a>, row: &Argument) -> Arg<'a> {
+    if is_word(row.form) {
+        argument
+    } else {
+        argument.long(row.name)
+    }
+}
+
+fn with_letter<'a>(argument: Arg<'a>, letter: Option<char>) -> Arg<'a> {
+    match letter {
+        Some(letter) => argument.short(letter),
+        None => argument,
+    }
+}
+
+fn argument_of<'a>(alloc: Global, row: &Argument) -> Result<Arg<'a>, AllocError> {
+    let argument = Arg::new(alloc, row.name)
+        .help(row.help)
+        .action(action_of(row.form))
+        .required(is_needed(row.form));
+    let argument = with_value(with_name(argument, row), value_of(row.form));
+    let argument = with_letter(argument, row.letter);
+    match row.barred {
+        Some(other) => argument.conflicts_with(other),
+        None => Ok(argument),
+    }
+}
+
+fn with_arguments<'a>(
     alloc: Global,
     command: Command<'a>,
-    quiet: &'a str,
+    rows: &[Argument],
 ) -> Result<Command<'a>, AllocError> {
-    command
-        .arg(json_flag(alloc))?
-        .arg(flag(alloc, "quiet", quiet).short('q'))
+    let mut command = command;
+    for row in rows {
+        let argument = argument_of(alloc, row)?;
+        command = command.arg(argument)?;
+    }
+    Ok(command)
 }
 
-fn check_command<'a>(alloc: Global) -> Result<Command<'a>, AllocError> {
-    let profiles = Arg::new(alloc, "PROFILE").action(ArgAction::Append).help(
-        "A file with profiles, or a folder of such files; - is standard input [default: the base folder]",
-    );
-    let command = Command::new(alloc, "check").about(CHECK).arg(profiles)?;
-    let command = with_answers(alloc, command, "Print faults alone")?;
-    with_common(alloc, command)
+/// A command.
+struct Named {
+    name: &'static str,
+    about: &'static str,
+    arguments: &'static [Argument],
+    /// What it takes besides, before what each command takes.
+    more: &'static [Argument],
 }
 
-fn ask_command<'a>(alloc: Global) -> Result<Command<'a>, AllocError> {
-    let profile = Arg::new(alloc, "PROFILE")
-        .required(true)
-        .action(ArgAction::Set)
-        .help("A file with profiles, or a folder of such files; - is standard input");
-    let also = option(
-        alloc,
-        "also",
-        "PROFILE",
-        "More files with profiles, whose profiles are there too",
-    )
-    .action(ArgAction::Append);
-    let words = Arg::new(alloc, "WORD").action(ArgAction::Append).help(
-        "LETTERS:PATH, x:PATH, l:PATH->PATH, cap:NAME, net:FAMILY/TYPE or change:NAME; owned: before the first three where the object is the task's user's",
-    );
-    let name = option(
-        alloc,
-        "profile",
-        "NAME",
-        "The profile that asks, or unconfined",
-    )
-    .action(ArgAction::Set);
-    let program = option(
-        alloc,
-        "program",
-        "PATH",
-        "The program that asks, under the profile that it gets where an unconfined task executes it",
-    )
-    .action(ArgAction::Set)
-    .conflicts_with("profile")?;
-    let from = option(
-        alloc,
-        "from",
-        "FILE",
-        "Read requests from a file too, one a line",
-    )
-    .action(ArgAction::Set);
-    let command = Command::new(alloc, "ask")
-        .about(ASK)
-        .arg(profile)?
-        .arg(words)?
-        .arg(also)?
-        .arg(name)?
-        .arg(program)?
-        .arg(from)?
-        .arg(flag(alloc, "owned", "Every object is the task's user's"))?
-        .arg(flag(
-            alloc,
-            "sequence",
-            "The requests are one task's: an execution moves it",
-        ))?;
-    let command = with_answers(alloc, command, "Print nothing: the exit status answers")?;
-    with_common(alloc, command)
+const COMMANDS: &[Named] = &[
+    Named {
+        name: "check",
+        about: CHECK,
+        arguments: CHECK_ARGUMENTS,
+        more: &[],
+    },
+    Named {
+        name: "job",
+        about: JOB,
+        arguments: JOB_ARGUMENTS,
+        more: CHOICE_ARGUMENTS,
+    },
+    Named {
+        name: "ask",
+        about: ASK,
+        arguments: ASK_ARGUMENTS,
+        more: &[],
+    },
+    Named {
+        name: "log",
+        about: LOG,
+        arguments: LOG_ARGUMENTS,
+        more: CHOICE_ARGUMENTS,
+    },
+];
+
+fn command_of<'a>(alloc: Global, row: &Named) -> Result<Command<'a>, AllocError> {
+    let command = Command::new(alloc, row.name).about(row.about);
+    let command = with_arguments(alloc, command, row.arguments)?;
+    let command = with_arguments(alloc, command, row.more)?;
+    with_arguments(alloc, command, COMMON_ARGUMENTS)
 }
 
-/// The options that choose lines of logs.
-fn with_choice<'a>(alloc: Global, command: Command<'a>) -> Result<Command<'a>, AllocError> {
-    let profile = option(
-        alloc,
-        "profile",
-        "NAME",
-        "Read lines of the profile with this full name alone; of each of these, where there are several",
-    )
-    .action(ArgAction::Append);
-    let since = option(
-        alloc,
-        "since",
-        "SECONDS",
-        "Read lines alone whose stamp has this second since 1970 or a later one",
-    )
-    .action(ArgAction::Set);
-    let until = option(
-        alloc,
-        "until",
-        "SECONDS",
-        "Read lines alone whose stamp has this second since 1970 or an earlier one",
-    )
-    .action(ArgAction::Set);
-    command.arg(profile)?.arg(since)?.arg(until)
-}
-
-fn job_command<'a>(alloc: Global) -> Result<Command<'a>, AllocError> {
-    let profiles = Arg::new(alloc, "PROFILE")
-        .required(true)
-        .action(ArgAction::Append)
-        .help(
-            "A file with profiles, or a folder of such files, each a policy of its own; - is standard input",
-        );
-    let logs = option(
-        alloc,
-        "log",
-        "FILE",
-        "A log whose lines become the job's tasks",
-    )
-    .action(ArgAction::Append);
-    let command = Command::new(alloc, "job")
-        .about(JOB)
-        .arg(profiles)?
-        .arg(logs)?;
-    let command = with_choice(alloc, command)?;
-    with_common(alloc, command)
-}
-
-fn log_command<'a>(alloc: Global) -> Result<Command<'a>, AllocError> {
-    let files = Arg::new(alloc, "FILE")
-        .required(true)
-        .action(ArgAction::Append)
-        .help("A log; - is standard input");
-    let against = option(
-        alloc,
-        "against",
-        "PROFILE",
-        "A file or folder whose profiles answer what was asked; all of them together, where there are several",
-    )
-    .action(ArgAction::Append);
-    let command = Command::new(alloc, "log")
-        .about(LOG)
-        .arg(files)?
-        .arg(against)?
-        .arg(flag(alloc, "all", "With --against, print what stays, too"))?
-        .arg(flag(
-            alloc,
-            "skipped",
-            "Print the place of each line that is skipped",
-        ))?
-        .arg(json_flag(alloc))?;
-    let command = with_choice(alloc, command)?;
-    with_common(alloc, command)
-}
-
-/// The words of the command line, read. The first word is the program's name.
-pub fn matches_of<'a>(alloc: Global, words: &'a [String]) -> Result<ArgMatches<'a>, Error> {
+/// The program, with no command yet.
+fn program<'a>(alloc: Global) -> Command<'a> {
     Command::new(alloc, "aapolicy")
         .about("Reads AppArmor policies as they lie in files, and logs of what was asked")
         .version(VERSION)
         .subcommand_required(true)
-        .subcommand(check_command(alloc)?)?
-        .subcommand(job_command(alloc)?)?
-        .subcommand(ask_command(alloc)?)?
-        .subcommand(log_command(alloc)?)?
-        .try_get_matches_from(words)
+}
+
+fn command_line<'a>(alloc: Global) -> Result<Command<'a>, AllocError> {
+    let mut program = program(alloc);
+    for row in COMMANDS {
+        let command = command_of(alloc, row)?;
+        program = program.subcommand(command)?;
+    }
+    Ok(program)
+}
+
+/// The words of the command line, read. The first word is the program's name.
+pub fn matches_of<'a>(alloc: Global, words: &'a [String]) -> Result<ArgMatches<'a>, Error> {
+    command_line(alloc)?.try_get_matches_from(words)
 }
 
 /// The folder in which policies lie.
