@@ -2,7 +2,8 @@
 
 ghost use Rattle.std.specs.Prelude.{◌≡◌, ◌==◌, ◌&&◌, true};
 ghost use Rattle.std.specs.Bool.{nat_eq};
-ghost use Rattle.std.specs.List.{starts_with};
+ghost use Rattle.std.specs.List.{list_any, starts_with};
+ghost use Rattle.std.specs.Str.{bytes_eq};
 ghost use Rattle.aa_rules.specs.Faults.{is_word_fault};
 ghost use Rattle.aa_rules.specs.Names.{begins_with, holds_pair, holds, is_single_name, is_full_name, is_right_name, is_plain_name, is_target_name, name_fault, is_left_out};
 
@@ -112,22 +113,38 @@ pub fn name_fault(name: &[u8]) -> PolicyKind
     }
 }
 
+/// Words that are left out where a rule begins.
+const LEFT_OUT: [&str; 11] = [
+    "alias",
+    "link",
+    "hat",
+    "change_hat",
+    "if",
+    "else",
+    "priority",
+    "quiet",
+    "prompt",
+    "other",
+    "all",
+];
+
+fn is_word(word: &str, name: &[u8]) -> bool
+    ensures { result ≡ bytes_eq name.now word.now }
+{
+    name == word.as_bytes()
+}
+
+/// Whether a name is one of the words.
+fn is_among(words: &[&str], name: &[u8]) -> bool
+    ensures { result ≡ list_any (λ word. bytes_eq name.now word.now) words.now }
+{
+    words.iter().any(|word| is_word(word, name))
+}
+
 /// Whether a word is left out where a rule begins.
 #[tactic(auto, unfolding(crate::specs::Names::is_left_out))]
 pub fn is_left_out(name: &[u8]) -> bool
     ensures { result ≡ is_left_out name.now }
 {
-    begins_with(name, b'$')
-        || begins_with(name, b'^')
-        || name == "alias".as_bytes()
-        || name == "link".as_bytes()
-        || name == "hat".as_bytes()
-        || name == "change_hat".as_bytes()
-        || name == "if".as_bytes()
-        || name == "else".as_bytes()
-        || name == "priority".as_bytes()
-        || name == "quiet".as_bytes()
-        || name == "prompt".as_bytes()
-        || name == "other".as_bytes()
-        || name == "all".as_bytes()
+    begins_with(name, b'$') || begins_with(name, b'^') || is_among(&LEFT_OUT, name)
 }

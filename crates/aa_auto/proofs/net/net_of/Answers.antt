@@ -1,4 +1,4 @@
-use Rattle.std.proofs.Common.{◌≡◌, ◌<◌, All, ℕ, List, arith, ap, length, sym, subst}
+use Rattle.std.proofs.Common.{◌<◌, All, ℕ, List, arith, ap, length, sym, subst}
 use Rattle.std.proofs.lemmas.Grind.{common_steps}
 use Rattle.aa_auto.specs.Nodes.{HaveSources, pointed}
 use Rattle.aa_auto.specs.Merged.{AreMerged}
