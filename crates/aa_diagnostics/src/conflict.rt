@@ -6,10 +6,10 @@ ghost use Rattle.aa_profiles.specs.Lawful.{file_patterns, IsWithinCounts};
 ghost use Rattle.aa_clashes.specs.Clashes.{Conflict};
 ghost use Rattle.aa_trees.specs.Texts.{texts};
 ghost use Rattle.aa_asks.specs.Places.{places_data};
-ghost use Rattle.aa_units.specs.Compiled.{limit_of};
+ghost use Rattle.aa_units.specs.Compiled.{limit_of, texts_of};
 ghost use Rattle.aa_faults.specs.declared.fault.PolicyKind.TheVariants.{ConflictingExec};
 ghost use Rattle.aa_profiles.specs.declared.policy.Policy.{Policy};
-ghost use Rattle.aa_words.specs.Splits.{WordData};
+ghost use Rattle.aa_words.specs.Splits.{WordData, Splits, words_data};
 ghost use Rattle.aa_policy.specs.Spelling.{Spells};
 ghost use Rattle.aa_compile.specs.Checks.{fault_at, IsRefused};
 ghost use Rattle.aa_diagnostics.specs.Further.{HasWords, ShowsConflictAt, ShowsIfConflict, SpellsNothing};
@@ -24,7 +24,7 @@ use aa_policy::parse;
 use aa_profiles::Profile;
 use aa_texts::{push_place, push_text};
 use aa_units::{Unit, sources_of, text_at};
-use aa_words::{PolicyFault, Spot, words};
+use aa_words::{PolicyFault, Spot, WordList, words};
 use std::alloc::{AllocError, Global};
 
 /// Where a rule stands, and its text.
@@ -184,6 +184,46 @@ fn push_first_clash(
     Ok(())
 }
 
+/// The lines for the first conflict of a profile whose name stands there; none where there is no such one.
+fn clash_lines(
+    alloc: Global,
+    unit: &Unit,
+    profiles: &[Profile],
+    found: &[ProfilePlaces<'_>],
+    at: Spot,
+    limit: usize,
+) -> Result<Vec<Vec<u8>>, AllocError>
+    requires counts { IsWithinCounts profiles.now }
+    requires some { 0 < limit }
+    requires limit { limit ≤ 1000000 }
+    ensures { IfOk result (λ lines. (NoneHas profiles.now at (limit + 1) × (texts lines.items ≡ [])) ⊎ ShowsOne unit.now profiles.now (map places_data found.now) at (texts lines.items)) }
+{
+    let mut further = Vec::new(alloc);
+    push_first_clash(alloc, unit, profiles, found, at, limit, &mut further)?;
+    Ok(further)
+}
+
+/// The same lines by the words of the unit.
+fn conflict_in(
+    alloc: Global,
+    unit: &Unit,
+    list: &WordList<'_>,
+    at: Spot,
+    states: u32,
+) -> Result<Vec<Vec<u8>>, PolicyFault>
+    requires { Splits (texts_of unit.now) unit.now.text.items (words_data list.now.list.items) }
+    ensures shown { IfOk result (λ lines. ShowsIfConflict (limit_of states) unit.now at (texts lines.items)) }
+    ensures own { IfOk result (λ lines. (policy : Policy) → Spells (words_data list.now.list.items) policy
+        → IsRefused policy.profiles (limit_of states) (fault_at ConflictingExec at) → ShowsConflictAt unit.now at (texts lines.items)) }
+    ensures refused { IsRefusal result → (policy : Policy) → Spells (words_data list.now.list.items) policy → ⊥ }
+{
+    let found = rule_places(alloc, list)?;
+    let policy = parse(alloc, list)?;
+    let limit = states.clamp(1, 1_000_000) as usize;
+    let profiles = policy.profiles.as_slice();
+    Ok(clash_lines(alloc, unit, profiles, found.as_slice(), at, limit)?)
+}
+
 /// Where two rules of the profile whose name stands there conflict: each with its place, and a path that both match; nothing where
 /// there is none.
 pub(crate) fn conflict_lines(
@@ -199,19 +239,5 @@ pub(crate) fn conflict_lines(
 {
     let sources = sources_of(alloc, unit)?;
     let list = words(alloc, &sources, unit.text.as_slice())?;
-    let found = rule_places(alloc, &list)?;
-    let policy = parse(alloc, &list)?;
-    let limit = states.clamp(1, 1_000_000) as usize;
-    let mut further = Vec::new(alloc);
-    let profiles = policy.profiles.as_slice();
-    push_first_clash(
-        alloc,
-        unit,
-        profiles,
-        found.as_slice(),
-        at,
-        limit,
-        &mut further,
-    )?;
-    Ok(further)
+    conflict_in(alloc, unit, &list, at, states)
 }

@@ -1,22 +1,24 @@
 //! What else helps: where includes were looked for, and where the earlier one stands, of two that can't be there both.
 
-ghost use Rattle.std.specs.Prelude.{◌≡◌, ◌⊎◌, ◌↔◌, ◌++◌, [], List, map, option_to_list, IsTrue, OnOk, IfOk};
+ghost use Rattle.std.specs.Prelude.{◌≡◌, ◌⊎◌, ◌↔◌, ◌++◌, ◌∷◌, [], List, map, codes, option_to_list, IsTrue, OnOk, IfOk};
 ghost use Rattle.aa_faults.specs.Kinds.{IsRefusal};
 ghost use Rattle.aa_glob.specs.Variables.{Variable};
 ghost use Rattle.aa_trees.specs.Texts.{texts, slices};
-ghost use Rattle.aa_words.specs.Splits.{WordData};
+ghost use Rattle.aa_words.specs.Splits.{WordData, words_data};
 ghost use Rattle.aa_words.specs.FoundData.{include_data};
 ghost use Rattle.aa_heads.specs.Preamble.{IsTwice};
 ghost use Rattle.aa_policy.specs.Bodies.{ProfileData, IsPolicy};
 ghost use Rattle.aa_policy.specs.Spelling.{IsDuplicate};
+ghost use Rattle.aa_repeats.specs.Named.{named_of};
+ghost use Rattle.aa_repeats.specs.Earlier.{set_again, named_again, IsSetFirst, IsNamedFirst};
 ghost use Rattle.aa_units.specs.Compiled.{limit_of, IsFaultOfUnit};
-ghost use Rattle.aa_diagnostics.specs.Further.{spot_line, tried, tried_at, AreTried, ShowsFirstSet, ShowsFirstNamed, IsFurther, HasWords, ShowsSetTwice, ShowsNamedTwice, ShowsEarlier};
+ghost use Rattle.aa_diagnostics.specs.Further.{spot_line, spot_lines, tried, tried_at, AreTried, ShowsFirstSet, ShowsFirstNamed, IsFurther, HasWords, ShowsSetTwice, ShowsNamedTwice, ShowsEarlier};
 
 use crate::conflict::conflict_lines;
 use aa_repeats::{earlier_profile, earlier_variable};
 use aa_texts::{push_place, push_text};
 use aa_units::{Unit, paths_of, sources_of, text_at};
-use aa_words::{IncludeAt, PolicyFault, PolicyKind, Spot, includes_of, words};
+use aa_words::{IncludeAt, PolicyFault, PolicyKind, Spot, WordList, includes_of, words};
 use std::alloc::{AllocError, Global};
 
 /// What stands before it, a file's path, and a place in it.
@@ -121,6 +123,22 @@ fn unless_refused(
     }
 }
 
+/// Where the variable is set first, by the words of the unit, that is set again at a place.
+fn set_in(
+    alloc: Global,
+    unit: &Unit,
+    list: &WordList<'_>,
+    at: Spot,
+) -> Result<Vec<Vec<u8>>, PolicyFault>
+    ensures shown { IfOk result (λ lines. texts lines.items ≡ spot_lines unit.now (codes "set at ") (set_again at [] (words_data list.now.list.items))) }
+    ensures twice { IfOk result (λ lines. IsTwice (words_data list.now.list.items) at
+        → ((first : Spot) × IsSetFirst (words_data list.now.list.items) at first × (texts lines.items ≡ spot_line unit.now (codes "set at ") first ∷ []))) }
+    ensures memory { IsRefusal result → ⊥ }
+{
+    let first = earlier_variable(list, at);
+    Ok(spot_lines(alloc, unit, "set at ", first)?)
+}
+
 /// Where the variable is set first that is set again at a place.
 fn set_lines(alloc: Global, unit: &Unit, at: Spot) -> Result<Vec<Vec<u8>>, PolicyFault>
     ensures shown { IfOk result (λ lines. ShowsFirstSet unit.now at (texts lines.items)) }
@@ -129,8 +147,24 @@ fn set_lines(alloc: Global, unit: &Unit, at: Spot) -> Result<Vec<Vec<u8>>, Polic
 {
     let sources = sources_of(alloc, unit)?;
     let list = words(alloc, &sources, unit.text.as_slice())?;
-    let first = earlier_variable(&list, at);
-    Ok(spot_lines(alloc, unit, "set at ", first)?)
+    set_in(alloc, unit, &list, at)
+}
+
+/// Where the first profile stands, by the words of the unit, that has the full name of the one whose name stands at a place.
+fn earlier_in(
+    alloc: Global,
+    unit: &Unit,
+    list: &WordList<'_>,
+    at: Spot,
+) -> Result<Vec<Vec<u8>>, PolicyFault>
+    ensures shown { IfOk result (λ lines. (vars : List Variable) × (tree : List ProfileData) × IsPolicy (words_data list.now.list.items) vars tree
+        × (texts lines.items ≡ spot_lines unit.now (codes "earlier at ") (named_again at [] (map named_of tree)))) }
+    ensures twice { IfOk result (λ lines. IsDuplicate (words_data list.now.list.items) at
+        → ((first : Spot) × IsNamedFirst (words_data list.now.list.items) at first × (texts lines.items ≡ spot_line unit.now (codes "earlier at ") first ∷ []))) }
+    ensures refused { IsRefusal result → (vars : List Variable) (tree : List ProfileData) → IsPolicy (words_data list.now.list.items) vars tree → ⊥ }
+{
+    let first = earlier_profile(alloc, list, at)?;
+    Ok(spot_lines(alloc, unit, "earlier at ", first)?)
 }
 
 /// Where the first profile stands that has the full name of the one whose name stands at a place.
@@ -141,8 +175,7 @@ fn earlier_lines(alloc: Global, unit: &Unit, at: Spot) -> Result<Vec<Vec<u8>>, P
 {
     let sources = sources_of(alloc, unit)?;
     let list = words(alloc, &sources, unit.text.as_slice())?;
-    let first = earlier_profile(alloc, &list, at)?;
-    Ok(spot_lines(alloc, unit, "earlier at ", first)?)
+    earlier_in(alloc, unit, &list, at)
 }
 
 /// The lines behind a fault of a unit, whose includes are searched in these folders.

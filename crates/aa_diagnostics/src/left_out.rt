@@ -1,29 +1,54 @@
 //! What of the language is left out, by the word at which it was found.
 
-ghost use Rattle.std.specs.Prelude.{◌≡◌, ◌≤◌, length, not, option_map};
+ghost use Rattle.std.specs.Prelude.{◌≡◌, ◌≤◌, ◌||◌, length, codes, not, option_map};
 ghost use Rattle.std.specs.List.{prefix_len};
+ghost use Rattle.std.specs.Str.{bytes_eq};
 ghost use Rattle.aa_diagnostics.specs.Words.{ends_word, word_in, part_by_word, part_by_sign, left_out};
+
+/// Whether a word is that one.
+fn is_word(word: &[u8], name: &str) -> bool
+    ensures { result ≡ bytes_eq word.now name.now }
+{
+    word == name.as_bytes()
+}
+
+fn is_hat(word: &[u8]) -> bool
+    ensures { result ≡ (bytes_eq word.now (codes "hat") || bytes_eq word.now (codes "change_hat")) }
+{
+    is_word(word, "hat") || is_word(word, "change_hat")
+}
+
+fn is_conditional(word: &[u8]) -> bool
+    ensures { result ≡ (bytes_eq word.now (codes "if") || bytes_eq word.now (codes "else")) }
+{
+    is_word(word, "if") || is_word(word, "else")
+}
+
+fn is_qualifier(word: &[u8]) -> bool
+    ensures { result ≡ (bytes_eq word.now (codes "priority") || bytes_eq word.now (codes "quiet") || bytes_eq word.now (codes "prompt") || bytes_eq word.now (codes "other") || bytes_eq word.now (codes "all")) }
+{
+    is_word(word, "priority")
+        || is_word(word, "quiet")
+        || is_word(word, "prompt")
+        || is_word(word, "other")
+        || is_word(word, "all")
+}
 
 /// The part of the language that a word stands for by itself.
 fn part_by_word(word: &[u8]) -> Option<&'static str>
     ensures { option_map (λ p. p.now) result ≡ part_by_word word.now }
 {
-    if word == "alias".as_bytes() {
+    if is_word(word, "alias") {
         Some("an alias")
-    } else if word == "link".as_bytes() {
+    } else if is_word(word, "link") {
         Some("a link rule")
-    } else if word == "hat".as_bytes() || word == "change_hat".as_bytes() {
+    } else if is_hat(word) {
         Some("a hat")
-    } else if word == "if".as_bytes() || word == "else".as_bytes() {
+    } else if is_conditional(word) {
         Some("a conditional")
-    } else if word == "priority".as_bytes()
-        || word == "quiet".as_bytes()
-        || word == "prompt".as_bytes()
-        || word == "other".as_bytes()
-        || word == "all".as_bytes()
-    {
+    } else if is_qualifier(word) {
         Some("a qualifier")
-    } else if word == "xattrs".as_bytes() {
+    } else if is_word(word, "xattrs") {
         Some("xattrs")
     } else {
         None

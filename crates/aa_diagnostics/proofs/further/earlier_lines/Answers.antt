@@ -1,12 +1,9 @@
-use Rattle.std.proofs.Common.{List, Option, ap, subst, ◌∙◌}
-use Rattle.std.proofs.lemmas.Result.{err_from_is_err_and}
-use Rattle.std.specs.Prelude.{codes}
-use Rattle.aa_faults.specs.declared.fault.Spot.{Spot}
+use Rattle.std.proofs.Common.{List, subst}
+use Rattle.std.proofs.lemmas.Result.{err_from_is_err_and, IfOk-weaker}
 use Rattle.aa_words.specs.Splits.{WordData, words_data}
 use Rattle.aa_policy.specs.Bodies.{IsPolicy}
 use Rattle.aa_policy.specs.Spelling.{IsDuplicate}
 use Rattle.aa_heads.proofs.Refusals.{refused_by}
-use Rattle.aa_diagnostics.specs.Further.{spot_lines}
 use Rattle.aa_diagnostics.proofs.OfUnit.{handed_in, lent_words, own_words}
 use Rattle.aa_diagnostics.proofs.further.earlier_lines.Goals as goal
 
@@ -21,39 +18,33 @@ returns-in_err-list-clause-refused c = λ h ws has vars tree w.
     let q = err_from_is_err_and r.result r.ensures.1 in
     c.in_err-list.ensures.refused (refused_by r.result _ _ q.1 q.2 h) ws (lent_words c.args.unit.now _ _ ws c.in_ok-sources.ensures.gathered c.as_slice.ensures.value has.split)
 
-pub returns-in_err-first-clause-refused : goal.returns-in_err-first-clause-refused
-returns-in_err-first-clause-refused c = λ h ws has vars tree w.
-    let r = c.from_residual-in_err-first in
-    let q = err_from_is_err_and r.result r.ensures.1 in
-    let same = c.in_ok-list.ensures.one ws (lent_words c.args.unit.now _ _ ws c.in_ok-sources.ensures.gathered c.as_slice.ensures.value has.split) in
-    c.in_err-first.ensures.refused (refused_by r.result _ _ q.1 q.2 h) vars tree (subst (λ (l : List WordData). IsPolicy l vars tree) same w)
-
 pub returns-clause-shown : goal.returns-clause-shown
-returns-clause-shown c =
-    let ws = words_data c.in_ok-list.list.list.items in
-    let found = c.in_ok-first.ensures.found in
-    record {
-      words = ws;
-      split = own_words c.args.unit.now _ _ ws c.in_ok-sources.ensures.gathered c.as_slice.ensures.value c.in_ok-list.ensures.split;
-      vars = found.0;
-      tree = found.1;
-      written = found.2;
-      are = c.in_ok-spot_lines.ensures ∙ ap (λ (o : Option Spot). spot_lines c.args.unit.now (codes "earlier at ") o) found.3;
-    }
+returns-clause-shown c = IfOk-weaker c.earlier_in.result _ _ (λ lines found. record {
+  words = words_data c.in_ok-list.list.list.items;
+  split = own_words c.args.unit.now _ _ (words_data c.in_ok-list.list.list.items) c.in_ok-sources.ensures.gathered c.as_slice.ensures.value c.in_ok-list.ensures.split;
+  vars = found.0;
+  tree = found.1;
+  written = found.2;
+  are = found.3;
+}) c.earlier_in.ensures.shown
 
 pub returns-clause-twice : goal.returns-clause-twice
-returns-clause-twice c = λ ws has d.
+returns-clause-twice c = IfOk-weaker c.earlier_in.result _ _ (λ lines twice ws has d.
     let u = c.args.unit.now in
-    let own = words_data c.in_ok-list.list.list.items in
     let same = c.in_ok-list.ensures.one ws (lent_words u _ _ ws c.in_ok-sources.ensures.gathered c.as_slice.ensures.value has.split) in
-    let first = c.in_ok-first.ensures.repeated (subst (λ (l : List WordData). IsDuplicate l c.args.at) same d) in
+    let first = twice (subst (λ (l : List WordData). IsDuplicate l c.args.at) same d) in
     record {
-      words = own;
+      words = words_data c.in_ok-list.list.list.items;
       has = record {
         fit = has.fit;
-        split = own_words u _ _ own c.in_ok-sources.ensures.gathered c.as_slice.ensures.value c.in_ok-list.ensures.split;
+        split = own_words u _ _ (words_data c.in_ok-list.list.list.items) c.in_ok-sources.ensures.gathered c.as_slice.ensures.value c.in_ok-list.ensures.split;
       };
       first = first.0;
-      named = first.2;
-      are = c.in_ok-spot_lines.ensures ∙ ap (λ (o : Option Spot). spot_lines u (codes "earlier at ") o) first.1;
-    }
+      named = first.1;
+      are = first.2;
+    }) c.earlier_in.ensures.twice
+
+pub returns-clause-refused : goal.returns-clause-refused
+returns-clause-refused c = λ h ws has vars tree w.
+    let same = c.in_ok-list.ensures.one ws (lent_words c.args.unit.now _ _ ws c.in_ok-sources.ensures.gathered c.as_slice.ensures.value has.split) in
+    c.earlier_in.ensures.refused h vars tree (subst (λ (l : List WordData). IsPolicy l vars tree) same w)
