@@ -182,10 +182,18 @@ pub fn assigned_length(text: &[u8]) -> Option<usize>
     }
     let len = variable_length(rest);
     let (_, behind) = rest.split_at(len);
-    match behind {
-        [b'}', b'=', ..] | [b'}', b'+', b'=', ..] => Some(len + 2),
-        _ => None,
+    if closes_before_sign(behind) {
+        Some(len + 2)
+    } else {
+        None
     }
+}
+
+/// Whether `}` stands first, and then a sign of assignment.
+fn closes_before_sign(text: &[u8]) -> bool
+    ensures { result ≡ closes_before_sign text.now }
+{
+    matches!(text, [b'}', b'=', ..] | [b'}', b'+', b'=', ..])
 }
 
 /// Whether a text is `@{NAME}`.
