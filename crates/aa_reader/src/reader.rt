@@ -4,7 +4,7 @@ ghost use Rattle.std.specs.Prelude.{◌≡◌, ◌≢◌, ◌+◌, ◌≤◌, �
 ghost use Rattle.aa_reader.specs.Signs.{signs, is_left_out, is_letter_or_digit, is_unsupported};
 ghost use Rattle.aa_reader.specs.Reading.{stars, ends_part, star_item, class_after, class_at, token_at, tokens_from, tokens, spelled, spelled_item, is_slash, depth_after, Gives, Finds};
 ghost use Rattle.std.specs.List.{list_any};
-ghost use Rattle.aa_reader.specs.declared.sign.Token.TheVariants.{Single};
+ghost use Rattle.aa_reader.specs.declared.sign.Token.TheVariants.{Open, Comma, Close, Single};
 ghost use Rattle.aa_reader.specs.Stack.{so_far, IsFit};
 
 use crate::classes::{class_length, class_with, is_plain};
@@ -182,8 +182,75 @@ struct OpenChoice {
     branches: Vec<Vec<Item>>,
 }
 
+/// Opens a choice behind the items.
+fn open_choice(
+    alloc: Global,
+    stack: &mut Vec<OpenChoice>,
+    items: &mut Vec<Item>,
+) -> Result<(), PolicyKind>
+    ensures spelled { OnOk result (so_far stack.new.items items.new.items ≡ so_far stack.old.items items.old.items ++ Open ∷ []) }
+    ensures depth { OnOk result (length stack.new.items ≡ length stack.old.items + 1) }
+    ensures cause { IfErr result (λ e. e ≡ PolicyKind.NoMemory) }
+{
+    let before = mem::replace(items, Vec::new(alloc));
+    stack.push(OpenChoice {
+        before,
+        branches: Vec::new(alloc),
+    })?;
+    Ok(())
+}
+
+/// Ends a branch of the last choice that is open, and begins the next.
+#[tactic(auto, using(crate::proofs::Tokens::put_comma))]
+fn next_branch(
+    alloc: Global,
+    stack: &mut Vec<OpenChoice>,
+    items: &mut Vec<Item>,
+) -> Result<(), PolicyKind>
+    requires { 0 < length stack.old.items }
+    ensures spelled { OnOk result (so_far stack.new.items items.new.items ≡ so_far stack.old.items items.old.items ++ Comma ∷ []) }
+    ensures depth { OnOk result (length stack.new.items ≡ length stack.old.items) }
+    ensures cause { IfErr result (λ e. e ≡ PolicyKind.NoMemory) }
+{
+    let Some(open) = stack.pop() else {
+        unreachable!()
+    };
+    let OpenChoice {
+        before,
+        mut branches,
+    } = open;
+    branches.push(mem::replace(items, Vec::new(alloc)))?;
+    stack.push(OpenChoice { before, branches })?;
+    Ok(())
+}
+
+/// Closes the last choice that is open: it is one more item behind those that stand before it.
+#[tactic(auto, using(crate::proofs::Tokens::put_close))]
+fn close_choice(
+    alloc: Global,
+    stack: &mut Vec<OpenChoice>,
+    items: &mut Vec<Item>,
+) -> Result<(), PolicyKind>
+    requires { 0 < length stack.old.items }
+    ensures spelled { OnOk result (so_far stack.new.items items.new.items ≡ so_far stack.old.items items.old.items ++ Close ∷ []) }
+    ensures depth { OnOk result (length stack.new.items + 1 ≡ length stack.old.items) }
+    ensures cause { IfErr result (λ e. e ≡ PolicyKind.NoMemory) }
+{
+    let Some(open) = stack.pop() else {
+        unreachable!()
+    };
+    let OpenChoice {
+        mut before,
+        mut branches,
+    } = open;
+    branches.push(mem::replace(items, Vec::new(alloc)))?;
+    before.push(Item::Choice(branches))?;
+    *items = before;
+    Ok(())
+}
+
 /// Puts one more token behind those that the open choices and the items have.
-#[tactic(auto, using(crate::proofs::Tokens::put_single, crate::proofs::Tokens::put_comma, crate::proofs::Tokens::put_close))]
+#[tactic(auto, using(crate::proofs::Tokens::put_single))]
 fn put(
     alloc: Global,
     stack: &mut Vec<OpenChoice>,
@@ -200,39 +267,9 @@ fn put(
             items.push(item)?;
             Ok(())
         }
-        Token::Open => {
-            let before = mem::replace(items, Vec::new(alloc));
-            stack.push(OpenChoice {
-                before,
-                branches: Vec::new(alloc),
-            })?;
-            Ok(())
-        }
-        Token::Comma => match stack.pop() {
-            Some(open) => {
-                let OpenChoice {
-                    before,
-                    mut branches,
-                } = open;
-                branches.push(mem::replace(items, Vec::new(alloc)))?;
-                stack.push(OpenChoice { before, branches })?;
-                Ok(())
-            }
-            None => unreachable!(),
-        },
-        Token::Close => match stack.pop() {
-            Some(open) => {
-                let OpenChoice {
-                    mut before,
-                    mut branches,
-                } = open;
-                branches.push(mem::replace(items, Vec::new(alloc)))?;
-                before.push(Item::Choice(branches))?;
-                *items = before;
-                Ok(())
-            }
-            None => unreachable!(),
-        },
+        Token::Open => open_choice(alloc, stack, items),
+        Token::Comma => next_branch(alloc, stack, items),
+        Token::Close => close_choice(alloc, stack, items),
     }
 }
 
