@@ -75,19 +75,21 @@ warnings_by files path profiles = flat_map (λ (p : ProfileReport). option_to_li
 same_warnings : (files : List FileReport) (f g : FileReport) → IsWarned files f g → warnings_of files f ≡ warnings_of files g
 same_warnings files f g w = ap (λ v. warnings_by files v.items f.profiles.items) (sym w.path) ∙ ap (λ v. warnings_by files g.path.items v.items) (sym w.profiles)
 
--- a file more, of the next path
-pub found_next : (s : Setting) (paths : List (Vec ℕ Global)) (i : ℕ) (path : Vec ℕ Global) (name : List ℕ) (files slice more : List FileReport) (f g : FileReport)
-    → i < length paths → path ≡ get_or paths i path → name ≡ path.items → slice ≡ files → more ≡ files ++ g ∷ [] → f.path.items ≡ name → IsFound s name f → IsWarned slice f g
-    → AreFound s [] (texts (take i paths)) files → AreFound s [] (texts (take (i + 1) paths)) more
-found_next s paths i path name files slice more f g lt item is_name is_slice is_more at found warned so_far =
+-- a file more, of that path
+pub found_behind : (s : Setting) (paths : List (List ℕ)) (name : List ℕ) (files slice more : List FileReport) (f g : FileReport)
+    → slice ≡ files → more ≡ files ++ g ∷ [] → f.path.items ≡ name → IsFound s name f → IsWarned slice f g → AreFound s [] paths files → AreFound s [] (paths ++ name ∷ []) more
+found_behind s paths name files slice more f g is_slice is_more at found warned so_far =
     let w : IsWarned files f g = subst (λ (l : List FileReport). IsWarned l f g) is_slice warned in
-    let here : IsFound s path.items f = subst (λ (n : List ℕ). IsFound s n f) is_name found in
-    let next : IsNext s files path.items g = record {
-      path_is = ap (λ v. v.items) w.path ∙ at ∙ is_name;
-      found = found_warned s path.items files f g w here;
+    let next : IsNext s files name g = record {
+      path_is = ap (λ v. v.items) w.path ∙ at;
+      found = found_warned s name files f g w found;
       warned = w.warnings ∙ same_warnings files f g w;
     } in
+    subst (λ (l : List FileReport). AreFound s [] (paths ++ name ∷ []) l) (sym is_more) (found_more s [] paths files name g so_far next)
+
+-- the paths up to the next one
+pub next_path : (paths : List (Vec ℕ Global)) (i : ℕ) (path : Vec ℕ Global) (name : List ℕ) → i < length paths → path ≡ get_or paths i path → name ≡ path.items → texts (take i paths) ++ name ∷ [] ≡ texts (take (i + 1) paths)
+next_path paths i path name lt item is_name =
     let one : texts (take (i + 1) paths) ≡ texts (take i paths) ++ path.items ∷ [] =
     ap texts (take_more paths i path lt ∙ ap (λ (x : Vec ℕ Global). take i paths ++ x ∷ []) (sym item)) ∙ map-append (λ (v : Vec ℕ Global). v.items) (take i paths) (path ∷ []) in
-    subst (λ (l : List FileReport). AreFound s [] (texts (take (i + 1) paths)) l) (sym is_more)
-    (subst (λ (l : List (List ℕ)). AreFound s [] l (files ++ g ∷ [])) (sym one) (found_more s [] (texts (take i paths)) files path.items g so_far next))
+    ap (λ (n : List ℕ). texts (take i paths) ++ n ∷ []) is_name ∙ sym one

@@ -1,14 +1,19 @@
 //! What `check` finds.
 
-ghost use Rattle.std.specs.Prelude.{◌≡◌, ◌↔◌, ◌≤◌, [], None, false, length, count_by, sum_by, is_some, All, IsTrue, IfOk};
+ghost use Rattle.std.specs.Prelude.{◌≡◌, ◌≢◌, ◌↔◌, ◌≤◌, ◌++◌, ◌∷◌, ℕ, List, [], None, false, length, count_by, sum_by, is_some, All, IsTrue, IfOk, OnOk};
 ghost use Rattle.std.specs.List.{list_any};
 ghost use Rattle.aa_faults.specs.declared.fault.PolicyKind.TheVariants.{NoMemory as WantOfMemory};
 ghost use Rattle.aa_trees.specs.Texts.{texts, slices};
+ghost use Rattle.aa_texts.specs.declared.fault.FaultReport.{FaultReport};
+ghost use Rattle.aa_diagnostics.specs.Reports.{IsDescribed};
+ghost use Rattle.aa_checks.specs.Counts.{CountsPolicy};
+ghost use Rattle.aa_checks.specs.Names.{IsFirst};
 ghost use Rattle.aa_checks.specs.Checked.{HasOnly, IsFoundOf, IsSaid, setting_of, IsFound, AreFound, CountsFiles, HasOneRefused, IsChecked};
 
 use crate::counting::{PolicyCounts, count_policy};
-use crate::naming::warned;
+use crate::naming::{FirstFiles, warned};
 use crate::report::{CheckReport, FileReport};
+use aa_compile::Compiled;
 use aa_diagnostics::{describe, unreadable};
 use aa_output::NoMemory;
 use aa_units::{FaultReport, Tree, Unit, UnitFault, compile_unit, load, roots_of};
@@ -81,6 +86,40 @@ fn is_want_of_memory(fault: PolicyFault) -> bool
     fault.kind == PolicyKind::NoMemory
 }
 
+/// What is found of a unit that compiles to that policy.
+fn count_unit(
+    alloc: Global,
+    unit: &Unit,
+    compiled: &Compiled,
+    path: Vec<u8>,
+) -> Result<FileReport, NoMemory>
+    ensures path { IfOk result (λ f. f.path ≡ path) }
+    ensures counted { IfOk result (λ f. (f.fault ≡ None) × CountsPolicy unit.now compiled.now f.profiles.items f.passed_over.items) }
+    ensures unread { IfOk result (λ f. f.is_unread ≡ false) }
+{
+    let counts = count_policy(alloc, unit, compiled)?;
+    Ok(accepted(alloc, path, counts))
+}
+
+/// What is found of a unit that is refused with that fault; none for want of memory.
+fn refuse_unit(
+    alloc: Global,
+    wanted: &Wanted<'_>,
+    unit: &Unit,
+    fault: PolicyFault,
+    path: Vec<u8>,
+) -> Result<FileReport, NoMemory>
+    ensures path { IfOk result (λ f. f.path ≡ path) }
+    ensures told { IfOk result (λ f. (fault.kind ≢ WantOfMemory) × ((said : FaultReport) × IsDescribed unit.now (slices wanted.now.folders.now) wanted.now.states fault said × HasOnly said f)) }
+    ensures unread { IfOk result (λ f. f.is_unread ≡ false) }
+{
+    if is_want_of_memory(fault) {
+        return Err(NoMemory);
+    }
+    let said = describe(alloc, wanted.folders, wanted.states, unit, fault)?;
+    Ok(refused(alloc, path, said, false))
+}
+
 fn check_unit(
     alloc: Global,
     wanted: &Wanted<'_>,
@@ -92,14 +131,8 @@ fn check_unit(
     ensures unread { IfOk result (λ f. f.is_unread ≡ false) }
 {
     match compile_unit(alloc, unit, wanted.states) {
-        Ok(compiled) => Ok(accepted(alloc, path, count_policy(alloc, unit, &compiled)?)),
-        Err(fault) => {
-            if is_want_of_memory(fault) {
-                return Err(NoMemory);
-            }
-            let fault = describe(alloc, wanted.folders, wanted.states, unit, fault)?;
-            Ok(refused(alloc, path, fault, false))
-        }
+        Ok(compiled) => count_unit(alloc, unit, &compiled, path),
+        Err(fault) => refuse_unit(alloc, wanted, unit, fault, path),
     }
 }
 
@@ -122,6 +155,26 @@ fn check_file<T: Tree>(
     }
 }
 
+/// Checks a file more, behind those that are checked. Of each name `first` keeps which file has it first.
+fn check_next<T: Tree>(
+    alloc: Global,
+    tree: &T,
+    wanted: &Wanted<'_>,
+    path: &[u8],
+    files: &mut Vec<FileReport>,
+    first: &mut FirstFiles,
+) -> Result<(), NoMemory>
+    requires { IsFirst first.old files.old.items }
+    ensures found { OnOk result ((paths : List (List ℕ)) → AreFound (setting_of (T.files tree.now) (T.taken tree.now) (T.input tree.now) wanted.now) [] paths files.old.items
+        → AreFound (setting_of (T.files tree.now) (T.taken tree.now) (T.input tree.now) wanted.now) [] (paths ++ path.now ∷ []) files.new.items) }
+    ensures first { OnOk result (IsFirst first.new files.new.items) }
+{
+    let found = check_file(alloc, tree, wanted, path)?;
+    let file = warned(alloc, files.as_slice(), found, first)?;
+    files.push(file)?;
+    Ok(())
+}
+
 /// What is found of the files at these paths, in order.
 fn check_files<T: Tree>(
     alloc: Global,
@@ -134,9 +187,8 @@ fn check_files<T: Tree>(
     let mut files = Vec::new(alloc);
     let mut first = HashMap::new(alloc);
     for path in paths {
-        let found = check_file(alloc, tree, wanted, path.as_slice())?;
-        let file = warned(alloc, files.as_slice(), found, &mut first)?;
-        files.push(file)?;
+        let path = path.as_slice();
+        check_next(alloc, tree, wanted, path, &mut files, &mut first)?;
     }
     Ok(files)
 }
