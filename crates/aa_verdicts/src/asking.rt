@@ -1,8 +1,9 @@
 //! What `ask` answers.
 
-ghost use Rattle.std.specs.Prelude.{◌≡◌, ◌++◌, codes, map, flat_map, not, OnOk, IfOk};
+ghost use Rattle.std.specs.Prelude.{◌≡◌, ◌++◌, codes, map, flat_map, option_map, false, not, OnOk, IfOk};
 ghost use Rattle.std.specs.List.{list_any};
 ghost use Rattle.aa_mediate.specs.Reply.{reply};
+ghost use Rattle.aa_request_words.specs.Read.{request_in};
 ghost use Rattle.aa_verdicts.specs.Told.{told, verdict_on};
 ghost use Rattle.aa_verdicts.specs.Asked.{said_of, listed_profile, listed_profiles, which_profile, label_by_name, label_by_program, only_label, opening, request_of, requests_of, in_sequence, verdicts_on, answers, Gives};
 ghost use Rattle.aa_verdicts.specs.Words.{texts};
@@ -151,15 +152,29 @@ fn exec_word(alloc: Global, path: &[u8]) -> Result<Vec<u8>, AllocError>
     Ok(word)
 }
 
-/// The label under which a program runs that an unconfined task has executed.
-fn label_by_program(alloc: Global, policies: &[Compiled], path: &[u8]) -> Result<Label, AskFault>
-    ensures { Gives (λ label. label) result (label_by_program policies.now path.now) }
+/// The label under which a program runs that an unconfined task has executed; none where no program has that path.
+fn label_of_program(
+    alloc: Global,
+    policies: &[Compiled],
+    path: &[u8],
+) -> Result<Option<Label>, AllocError>
+    ensures { IfOk result (λ label. label ≡ option_map (λ r. (reply policies.now (Label.Unconfined 0) r).label) (request_in false (codes "x:" ++ path.now))) }
 {
     let word = exec_word(alloc, path)?;
     match read_word(alloc, word.as_slice(), false) {
-        Ok(request) => Ok(label_after(policies, &request)),
-        Err(WordFault::NoMemory) => Err(AskFault::NoMemory),
-        Err(WordFault::NoRequest) => {
+        Ok(request) => Ok(Some(label_after(policies, &request))),
+        Err(WordFault::NoRequest) => Ok(None),
+        Err(WordFault::NoMemory) => Err(AllocError),
+    }
+}
+
+/// The same, or what is said where no program has that path.
+fn label_by_program(alloc: Global, policies: &[Compiled], path: &[u8]) -> Result<Label, AskFault>
+    ensures { Gives (λ label. label) result (label_by_program policies.now path.now) }
+{
+    match label_of_program(alloc, policies, path)? {
+        Some(label) => Ok(label),
+        None => {
             Err(AskFault::Refused(said_of(alloc, "error: no program has this path: ", path)?))
         }
     }

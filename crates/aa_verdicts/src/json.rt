@@ -1,8 +1,8 @@
 //! Verdicts as they are printed in JSON.
 
-ghost use Rattle.std.specs.Prelude.{◌≡◌, ◌++◌, ◌||◌, map, find, option_map, OnOk};
+ghost use Rattle.std.specs.Prelude.{◌≡◌, ◌++◌, ◌||◌, true, false, codes, map, find, option_map, OnOk};
 ghost use Rattle.std.specs.List.{list_any};
-ghost use Rattle.aa_texts.specs.Jsons.{key_text};
+ghost use Rattle.aa_texts.specs.Jsons.{key_text, json_bytes};
 ghost use Rattle.aa_texts.specs.Faults.{behind_commas, with_commas};
 ghost use Rattle.aa_verdicts.specs.Named.{Named, Lacked, named, lacked};
 ghost use Rattle.aa_verdicts.specs.Told.{told};
@@ -13,6 +13,20 @@ use crate::verdict::Verdict;
 use aa_output::{push_bool, push_json_bytes, push_json_place, push_key};
 use aa_units::push_text;
 use std::alloc::{AllocError, Global};
+
+/// Appends a member behind a comma, whose value is a string of these bytes.
+fn push_bytes_member(
+    out: &mut Vec<u8>,
+    alloc: Global,
+    key: &str,
+    bytes: &[u8],
+) -> Result<(), AllocError>
+    ensures { OnOk result (out.new.items ≡ out.old.items ++ (codes "," ++ (key_text key.now ++ json_bytes bytes.now))) }
+{
+    push_text(out, ",")?;
+    push_key(out, key)?;
+    push_json_bytes(out, alloc, bytes)
+}
 
 fn push_decider_end(out: &mut Vec<u8>, is_target: bool) -> Result<(), AllocError>
     ensures { OnOk result (out.new.items ≡ out.old.items ++ decider_end is_target) }
@@ -26,9 +40,7 @@ fn push_json_decider(out: &mut Vec<u8>, alloc: Global, line: &DeciderLine) -> Re
 {
     push_text(out, "{")?;
     push_json_place(out, alloc, line.path.as_slice(), Some(line.place))?;
-    push_text(out, ",")?;
-    push_key(out, "letters")?;
-    push_json_bytes(out, alloc, line.letters.as_slice())?;
+    push_bytes_member(out, alloc, "letters", line.letters.as_slice())?;
     push_decider_end(out, line.is_target)
 }
 
@@ -213,6 +225,17 @@ fn push_target_lacking(
     }
 }
 
+/// Appends what is missing besides, as a member.
+fn push_missing(out: &mut Vec<u8>, what: &str) -> Result<(), AllocError>
+    ensures { OnOk result (out.new.items ≡ out.old.items ++ (codes "," ++ (key_text (codes "missing") ++ (codes "\"" ++ (what.now ++ codes "\""))))) }
+{
+    push_text(out, ",")?;
+    push_key(out, "missing")?;
+    push_text(out, "\"")?;
+    push_text(out, what)?;
+    push_text(out, "\"")
+}
+
 /// Appends why all rules allow it and yet it is refused, where that is so, and closes the object.
 fn push_json_unfound(out: &mut Vec<u8>, what: Option<&'static str>) -> Result<(), AllocError>
     ensures { OnOk result (out.new.items ≡ out.old.items ++ json_end (option_map (λ w. w.now) what.entry)) }
@@ -220,24 +243,34 @@ fn push_json_unfound(out: &mut Vec<u8>, what: Option<&'static str>) -> Result<()
     let Some(what) = what else {
         return push_text(out, "}");
     };
-    push_text(out, ",")?;
-    push_key(out, "missing")?;
-    push_text(out, "\"")?;
-    push_text(out, what)?;
-    push_text(out, "\"")?;
+    push_missing(out, what)?;
     push_text(out, "}")
 }
 
-#[tactic(auto, unfolding(crate::specs::Json::json_granted))]
-fn push_json_granted(out: &mut Vec<u8>, alloc: Global, verdict: &Verdict) -> Result<(), AllocError>
-    ensures { OnOk result (out.new.items ≡ out.old.items ++ json_granted (told verdict.now)) }
+/// Opens the object, and appends the request as its first member.
+fn push_request(out: &mut Vec<u8>, alloc: Global, word: &[u8]) -> Result<(), AllocError>
+    ensures { OnOk result (out.new.items ≡ out.old.items ++ (codes "{" ++ (key_text (codes "request") ++ json_bytes word.now))) }
 {
     push_text(out, "{")?;
     push_key(out, "request")?;
-    push_json_bytes(out, alloc, verdict.word.as_slice())?;
+    push_json_bytes(out, alloc, word)
+}
+
+#[tactic(auto, unfolding(crate::specs::Json::bool_member))]
+fn push_bool_member(out: &mut Vec<u8>, key: &str, value: bool) -> Result<(), AllocError>
+    ensures { OnOk result (out.new.items ≡ out.old.items ++ bool_member key.now value) }
+{
     push_text(out, ",")?;
-    push_key(out, "granted")?;
-    push_bool(out, verdict.granted)
+    push_key(out, key)?;
+    push_bool(out, value)
+}
+
+#[tactic(auto, unfolding(crate::specs::Json::json_granted, crate::specs::Json::bool_member))]
+fn push_json_granted(out: &mut Vec<u8>, alloc: Global, verdict: &Verdict) -> Result<(), AllocError>
+    ensures { OnOk result (out.new.items ≡ out.old.items ++ json_granted (told verdict.now)) }
+{
+    push_request(out, alloc, verdict.word.as_slice())?;
+    push_bool_member(out, "granted", verdict.granted)
 }
 
 fn push_json_label(
@@ -250,18 +283,15 @@ fn push_json_label(
     let Some(label) = label else {
         return Ok(());
     };
-    push_text(out, ",")?;
-    push_key(out, "label")?;
-    push_json_bytes(out, alloc, label.as_slice())
+    push_bytes_member(out, alloc, "label", label.as_slice())
 }
 
-#[tactic(auto, unfolding(crate::specs::Json::bool_member))]
-fn push_bool_member(out: &mut Vec<u8>, key: &str, value: bool) -> Result<(), AllocError>
-    ensures { OnOk result (out.new.items ≡ out.old.items ++ bool_member key.now value) }
+/// Appends whether the environment is scrubbed, and whether it is granted by complain mode alone.
+fn push_json_marks(out: &mut Vec<u8>, scrub: bool, complain: bool) -> Result<(), AllocError>
+    ensures { OnOk result (out.new.items ≡ out.old.items ++ (bool_member (codes "scrub") scrub ++ bool_member (codes "complain") complain)) }
 {
-    push_text(out, ",")?;
-    push_key(out, key)?;
-    push_bool(out, value)
+    push_bool_member(out, "scrub", scrub)?;
+    push_bool_member(out, "complain", complain)
 }
 
 /// Appends what the mediator answers, as the first members of an object.
@@ -271,8 +301,19 @@ fn push_json_answer(out: &mut Vec<u8>, alloc: Global, verdict: &Verdict) -> Resu
 {
     push_json_granted(out, alloc, verdict)?;
     push_json_label(out, alloc, &verdict.label)?;
-    push_bool_member(out, "scrub", verdict.scrub)?;
-    push_bool_member(out, "complain", verdict.complain)
+    push_json_marks(out, verdict.scrub, verdict.complain)
+}
+
+/// Appends the rules that allow, and then those that deny.
+fn push_json_rules(
+    out: &mut Vec<u8>,
+    alloc: Global,
+    lines: &[DeciderLine],
+) -> Result<(), AllocError>
+    ensures { OnOk result (out.new.items ≡ out.old.items ++ (json_deciders false (map named lines.now) ++ json_deciders true (map named lines.now))) }
+{
+    push_json_deciders(out, alloc, lines, false)?;
+    push_json_deciders(out, alloc, lines, true)
 }
 
 /// Appends why, as the further members, and closes the object.
@@ -280,8 +321,7 @@ fn push_json_answer(out: &mut Vec<u8>, alloc: Global, verdict: &Verdict) -> Resu
 fn push_json_reasons(out: &mut Vec<u8>, alloc: Global, verdict: &Verdict) -> Result<(), AllocError>
     ensures { OnOk result (out.new.items ≡ out.old.items ++ json_reasons (told verdict.now)) }
 {
-    push_json_deciders(out, alloc, verdict.deciders.as_slice(), false)?;
-    push_json_deciders(out, alloc, verdict.deciders.as_slice(), true)?;
+    push_json_rules(out, alloc, verdict.deciders.as_slice())?;
     push_json_lacking(out, alloc, verdict.lacking.as_slice(), false)?;
     push_target_lacking(out, alloc, verdict)?;
     push_json_unfound(out, verdict.unfound)

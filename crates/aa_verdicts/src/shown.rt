@@ -1,6 +1,6 @@
 //! Verdicts as they are printed.
 
-ghost use Rattle.std.specs.Prelude.{◌≡◌, ◌++◌, map, flat_map, option_map, OnOk};
+ghost use Rattle.std.specs.Prelude.{◌≡◌, ◌++◌, codes, map, flat_map, option_map, OnOk};
 ghost use Rattle.aa_verdicts.specs.Named.{named, lacked};
 ghost use Rattle.aa_verdicts.specs.Told.{told};
 ghost use Rattle.aa_verdicts.specs.Shown.{target_mark, decider_verb, behind_space, letters_or_it, decider_place, decider_line, lack_line, unfound_line, reasons_text, verdict_word, label_mark, scrub_mark, complain_mark, head_line, verdict_text};
@@ -15,6 +15,14 @@ fn push_target(out: &mut Vec<u8>, is_target: bool) -> Result<(), AllocError>
     ensures { OnOk result (out.new.items ≡ out.old.items ++ target_mark is_target) }
 {
     push_text(out, if is_target { "target: " } else { "" })
+}
+
+/// Appends what stands before each reason.
+fn push_indent(out: &mut Vec<u8>, is_target: bool) -> Result<(), AllocError>
+    ensures { OnOk result (out.new.items ≡ out.old.items ++ (codes "    " ++ target_mark is_target)) }
+{
+    push_text(out, "    ")?;
+    push_target(out, is_target)
 }
 
 fn push_verb(out: &mut Vec<u8>, denies: bool) -> Result<(), AllocError>
@@ -39,10 +47,19 @@ fn push_letters(out: &mut Vec<u8>, letters: &[u8]) -> Result<(), AllocError>
 fn push_decider_place(out: &mut Vec<u8>, line: &DeciderLine) -> Result<(), AllocError>
     ensures { OnOk result (out.new.items ≡ out.old.items ++ decider_place (named line.now)) }
 {
-    push_text(out, "    ")?;
-    push_target(out, line.is_target)?;
+    push_indent(out, line.is_target)?;
     push_where(out, line.path.as_slice(), line.place)?;
     push_verb(out, line.denies)
+}
+
+/// Appends which letters a rule decided, and the line that it stands on.
+fn push_rule(out: &mut Vec<u8>, letters: &[u8], text: &[u8]) -> Result<(), AllocError>
+    ensures { OnOk result (out.new.items ≡ out.old.items ++ (behind_space letters.now ++ (codes ": " ++ (text.now ++ codes "\n")))) }
+{
+    push_letters(out, letters)?;
+    push_text(out, ": ")?;
+    out.extend_from_slice(text)?;
+    push_text(out, "\n")
 }
 
 #[tactic(auto, unfolding(crate::specs::Shown::decider_line))]
@@ -50,10 +67,7 @@ fn push_line(out: &mut Vec<u8>, line: &DeciderLine) -> Result<(), AllocError>
     ensures { OnOk result (out.new.items ≡ out.old.items ++ decider_line (named line.now)) }
 {
     push_decider_place(out, line)?;
-    push_letters(out, line.letters.as_slice())?;
-    push_text(out, ": ")?;
-    out.extend_from_slice(line.text.as_slice())?;
-    push_text(out, "\n")
+    push_rule(out, line.letters.as_slice(), line.text.as_slice())
 }
 
 /// Appends letters, or `it` where there are none.
@@ -71,8 +85,7 @@ fn push_lacking(out: &mut Vec<u8>, letters: &[u8]) -> Result<(), AllocError>
 fn push_lack(out: &mut Vec<u8>, lack: &Lack) -> Result<(), AllocError>
     ensures { OnOk result (out.new.items ≡ out.old.items ++ lack_line (lacked lack.now)) }
 {
-    push_text(out, "    ")?;
-    push_target(out, lack.is_target)?;
+    push_indent(out, lack.is_target)?;
     push_text(out, "no rule allows ")?;
     push_lacking(out, lack.letters.as_slice())?;
     push_text(out, "\n")
@@ -146,17 +159,31 @@ fn push_complain(out: &mut Vec<u8>, complain: bool) -> Result<(), AllocError>
     push_text(out, if complain { " complain" } else { "" })
 }
 
+/// Appends what became of a request, and the request.
+fn push_answer(out: &mut Vec<u8>, granted: bool, word: &[u8]) -> Result<(), AllocError>
+    ensures { OnOk result (out.new.items ≡ out.old.items ++ (verdict_word granted ++ word.now)) }
+{
+    push_word(out, granted)?;
+    out.extend_from_slice(word)
+}
+
+/// Appends the marks of an answer, and ends its line.
+fn push_marks(out: &mut Vec<u8>, scrub: bool, complain: bool) -> Result<(), AllocError>
+    ensures { OnOk result (out.new.items ≡ out.old.items ++ (scrub_mark scrub ++ (complain_mark complain ++ codes "\n"))) }
+{
+    push_scrub(out, scrub)?;
+    push_complain(out, complain)?;
+    push_text(out, "\n")
+}
+
 /// Appends the answer in one line.
 #[tactic(auto, unfolding(crate::specs::Shown::head_line))]
 fn push_head(out: &mut Vec<u8>, alloc: Global, verdict: &Verdict) -> Result<(), AllocError>
     ensures { OnOk result (out.new.items ≡ out.old.items ++ head_line (told verdict.now)) }
 {
-    push_word(out, verdict.granted)?;
-    out.extend_from_slice(verdict.word.as_slice())?;
+    push_answer(out, verdict.granted, verdict.word.as_slice())?;
     push_label(out, alloc, &verdict.label)?;
-    push_scrub(out, verdict.scrub)?;
-    push_complain(out, verdict.complain)?;
-    push_text(out, "\n")
+    push_marks(out, verdict.scrub, verdict.complain)
 }
 
 fn push_verdict(out: &mut Vec<u8>, alloc: Global, verdict: &Verdict) -> Result<(), AllocError>

@@ -6,7 +6,7 @@ ghost use Rattle.aa_mediate.specs.Reply.{reply};
 ghost use Rattle.aa_request_words.specs.Written.{word_text};
 ghost use Rattle.aa_verdicts.specs.Verdicts.{is_by_complain, IsVerdict};
 ghost use Rattle.aa_verdicts.specs.Named.{Named, named, lacked};
-ghost use Rattle.aa_verdicts.specs.Told.{told, is_same, label_told, missing, is_allowed, unfound, told_by, verdict_on};
+ghost use Rattle.aa_verdicts.specs.Told.{told, is_same, label_told, missing, is_allowed, unfound, told_by, told_of, verdict_on};
 
 use crate::explained::{Decided, DeciderLine, Explained, Lack, explain};
 use aa_asks::push_word;
@@ -153,6 +153,29 @@ fn verdict_of(
     }
 }
 
+/// What is told of an answer to a request of a task with that label, with the rules that decided it.
+fn verdict_for(
+    alloc: Global,
+    decided: Decided<'_>,
+    label: Label,
+    request: &Request,
+    answer: &Answer,
+) -> Result<Verdict, AllocError>
+    ensures verdict { IfOk result (λ v. IsVerdict answer.now v) }
+    ensures told { IfOk result (λ v. told v ≡ told_of decided.entry label request.now answer.now) }
+{
+    let explained = explain(alloc, decided, label, request)?;
+    let word = word_of(alloc, request)?;
+    let after = name_after(alloc, decided.policies, label, answer.label)?;
+    let missing = unfound(
+        request,
+        answer.granted,
+        explained.deciders.as_slice(),
+        explained.lacking.as_slice(),
+    );
+    Ok(verdict_of(word, answer, after, explained, missing))
+}
+
 /// The answer to a request of a task with that label, which moves to the answer's, and the rules that decided it.
 #[tactic(auto, unfolding(crate::specs::Told::verdict_on))]
 pub fn decide(
@@ -166,16 +189,8 @@ pub fn decide(
     ensures moved { OnOk result (label.new ≡ (reply decided.entry.policies.now label.old request.now).label) }
     ensures stays { OnErr result (label.new ≡ label.old) }
 {
-    let explained = explain(alloc, decided, *label, request)?;
-    let word = word_of(alloc, request)?;
     let answer = answer_of(decided.policies, *label, request);
-    let after = name_after(alloc, decided.policies, *label, answer.label)?;
-    let missing = unfound(
-        request,
-        answer.granted,
-        explained.deciders.as_slice(),
-        explained.lacking.as_slice(),
-    );
+    let verdict = verdict_for(alloc, decided, *label, request, &answer)?;
     *label = answer.label;
-    Ok(verdict_of(word, &answer, after, explained, missing))
+    Ok(verdict)
 }
