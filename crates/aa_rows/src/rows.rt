@@ -3,7 +3,7 @@
 ghost use Rattle.std.specs.Prelude.{◌≡◌, ◌+◌, ◌<◌, ◌≤◌, ◌++◌, IfOk, OnOk, Err, length};
 ghost use Rattle.aa_auto.specs.Nodes.{pointed};
 ghost use Rattle.aa_auto.specs.Tables.{HasPlaces, IsAutomaton, rows_of as states_of};
-ghost use Rattle.aa_rows.specs.Ways.{way_by};
+ghost use Rattle.aa_rows.specs.Ways.{way_by, ways_by};
 ghost use Rattle.aa_said.specs.Gathered.{picked};
 ghost use Rattle.aa_rows.specs.Marks.{marks_by};
 ghost use Rattle.aa_rows.specs.Rows.{row_by, rows_by, verdict_at, verdict_of, patterns_of, AreRowsOf, fault_of};
@@ -67,6 +67,27 @@ fn pointers_of(alloc: Global, rules: &[FileRule]) -> Result<Vec<&Pattern>, Alloc
         add_patterns(&mut pointers, rule.patterns.as_slice())?;
     }
     Ok(pointers)
+}
+
+/// The automaton of the rules' patterns.
+fn automaton_of(alloc: Global, rules: &[FileRule], limit: usize) -> Result<Automaton, BuildFault>
+    requires few { length (patterns_of rules.now) ≤ 65535 }
+    requires some { 0 < limit }
+    requires limit { limit ≤ 1000000 }
+    ensures automaton { IfOk result (IsAutomaton (patterns_of rules.now)) }
+    ensures within { IfOk result (λ a. states_of a ≤ limit) }
+    ensures too_many { result ≡ Err BuildFault.TooManyStates → HasPlaces (patterns_of rules.now) (limit + 1) }
+{
+    let pointers = pointers_of(alloc, rules)?;
+    Automaton::of(alloc, pointers.as_slice(), limit)
+}
+
+/// The marks of the rules' patterns, in order.
+fn marks_of_rules(alloc: Global, rules: &[FileRule]) -> Result<Vec<Mark>, AllocError>
+    ensures { IfOk result (λ marks. marks.items ≡ marks_by rules.now (ways_by rules.now)) }
+{
+    let ways = ways_of(alloc, rules)?;
+    marks_of(alloc, rules, ways.as_slice())
 }
 
 fn rows_of(alloc: Global, automaton: &Automaton, marks: &[Mark]) -> Result<Vec<Row>, AllocError>
@@ -147,10 +168,8 @@ impl FileRows {
         ensures fitted { result ≡ Err RowsFault.Conflict → HasAutomaton (patterns_of rules.now) limit }
         ensures too_many { result ≡ Err RowsFault.TooManyStates → HasPlaces (patterns_of rules.now) (limit + 1) }
     {
-        let pointers = pointers_of(alloc, rules)?;
-        let automaton = Automaton::of(alloc, pointers.as_slice(), limit)?;
-        let ways = ways_of(alloc, rules)?;
-        let marks = marks_of(alloc, rules, ways.as_slice())?;
+        let automaton = automaton_of(alloc, rules, limit)?;
+        let marks = marks_of_rules(alloc, rules)?;
         if has_conflict(&automaton, marks.as_slice()) {
             return Err(RowsFault::Conflict);
         }
