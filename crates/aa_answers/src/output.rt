@@ -1,6 +1,6 @@
 //! The lines that the commands write.
 
-ghost use Rattle.std.specs.Prelude.{◌≡◌, ◌++◌, ◌^◌, ◌<◌, ◌*◌, OnOk, IfOk, Some, decimal, flat_map, length, map, option_map, sum_by};
+ghost use Rattle.std.specs.Prelude.{◌≡◌, ◌++◌, ◌^◌, ◌<◌, ◌*◌, OnOk, IfOk, Some, codes, decimal, flat_map, length, map, option_map, sum_by};
 ghost use Rattle.std.specs.String.{string_bytes};
 ghost use Rattle.aa_labels.specs.Labels.{label_name, policy_number};
 ghost use Rattle.aa_answers.specs.Answers.{job_answers_by};
@@ -67,6 +67,15 @@ pub(crate) fn push_outcome(
     out.push_str(if answer.scrub { " scrub" } else { "" })
 }
 
+/// Appends the numbers of a task and of one of its requests.
+fn push_numbers(out: &mut String, task: u64, number: u64) -> Result<(), AllocError>
+    ensures { OnOk result (string_bytes out.new ≡ string_bytes out.old ++ (decimal task ++ (codes " " ++ decimal number))) }
+{
+    push_integer(out, task)?;
+    out.push_str(" ")?;
+    push_integer(out, number)
+}
+
 /// Appends the verdict on a request.
 #[tactic(auto, unfolding(crate::specs::Output::verdict_line))]
 fn push_verdict<M: Machine<State = Label, Request = Request, Answer = Answer>>(
@@ -78,9 +87,7 @@ fn push_verdict<M: Machine<State = Label, Request = Request, Answer = Answer>>(
 ) -> Result<(), AllocError>
     ensures { OnOk result (string_bytes out.new ≡ string_bytes out.old ++ verdict_line several policies.now task answered.now) }
 {
-    push_integer(out, task)?;
-    out.push_str(" ")?;
-    push_integer(out, answered.number)?;
+    push_numbers(out, task, answered.number)?;
     push_outcome(out, several, policies, &answered.answer)?;
     out.push_str("\n")
 }

@@ -1,4 +1,6 @@
-use Rattle.std.proofs.Common.{sym, ◌∙◌}
+use Rattle.std.proofs.Common.{length, sym, ap, ◌∙◌, arith}
+use Rattle.std.proofs.lemmas.List.{length-map}
+use Rattle.aa_feed.specs.Answers.{answers_to}
 use Rattle.aa_answers.proofs.Answering.{lanes_denied}
 use Rattle.aa_answers.proofs.deciding.answered.Goals as goal
 
@@ -10,3 +12,9 @@ returns-in-Ok-clause-answers g c = c.rows_of.ensures ∙ c.in-Ok.ensures.answers
 
 pub returns-in-Ok-clause-closed : goal.returns-in-Ok-clause-closed
 returns-in-Ok-clause-closed g c = record { outcomes = c.in-Ok.outcomes.items; answers = sym c.rows_of.ensures; closed = c.in-Ok.ensures.closed }
+
+pub rows_of-requires-clause-room : goal.rows_of-requires-clause-room
+rows_of-requires-clause-room g c =
+    let asked = length-map c.args.askings.items (λ t. answers_to g.M.Machine.next g.M.Machine.reply c.args.machine.now t.start t.requests.items) in
+    let given = length-map c.in-Ok.outcomes.items (λ o. o.answers.items) in
+    omega (arith, asked, given, ap length c.in-Ok.ensures.answers, c.in-Ok.outcomes.ok, c.args.askings.ok, c.len.ensures, (c.in_ok-rows.ensures {u = tt}).capacity)
