@@ -2,7 +2,7 @@
 
 ghost use Rattle.std.specs.Prelude.{◌≡◌, ◌≢◌, ℕ, ◌<◌, ◌≤◌, ◌++◌, [], true, false, IfOk, IfErr, OnOk, MatchResult, Some, length, replicate};
 ghost use Rattle.aa_lane.specs.Shows.{first_view};
-ghost use Rattle.aa_lane.specs.Ends.{known, IsCapacity, Denies, MaySend, Refuses, new_owner, new_server, new_shutter};
+ghost use Rattle.aa_lane.specs.Ends.{LaneSeen, known, IsCapacity, Denies, MaySend, Refuses, new_owner, new_server, new_shutter};
 ghost use Rattle.aa_lane.specs.Answers as answers;
 ghost use Rattle.aa_lane.specs.Totals.{HasOneOrder};
 ghost use Rattle.aa_lane.specs.declared.cells.Who.TheVariants.{ByOwner, ByServer, ByShutter};
@@ -504,6 +504,40 @@ fn open_table<'m, M: Machine>(
     }
 }
 
+// The three ends of a lane whose table was opened just now, given its first seat.
+fn ends_of<'m, M: Machine>(
+    table: &LaneTable<'m, M>,
+    seat: Seat<Cell<M>, View<M>>,
+    tag: u32,
+    start: M::State,
+) -> (Owner<M>, Server<M>, Shutter<M>)
+    requires words { table.now.shared.table_id.words ≡ 17 }
+    requires slots { IsCapacity table.now.shared.table_id.slots }
+    requires start { table.now.shared.key.start ≡ start }
+    requires seat { (seat.table_id ≡ table.now.shared.table_id) × (seat.me ≡ (first_view table.now.shared.key, [])) }
+    ensures { let l : LaneSeen M M.State = record { table = table.now.shared.table_id; machine = table.now.shared.key.machine.now; start = table.now.shared.key.start; tag = tag } in
+        (result.0 ≡ new_owner l) × (result.1 ≡ new_server l) × (result.2 ≡ new_shutter l) }
+{
+    let mut seat = seat;
+    steps::ready(&table.shared, &mut seat);
+    let second = table.shared.split_seat::<Serves>(&mut seat);
+    let third = table.shared.split_seat::<Shutting>(&mut seat);
+    let server = Server {
+        seat: second,
+        tag,
+        done: 0,
+        state: start,
+    };
+    let shutter = Shutter { seat: third, tag };
+    let end = Sending {
+        seat,
+        tag,
+        sent: 0,
+        got: 0,
+    };
+    (Owner { end }, server, shutter)
+}
+
 impl<'m, M: Machine> Lane<'m, M> {
     /// Makes a lane with that many slots, and its three ends. `start` is the machine's state before the first request, and
     /// `tag` a number of the caller's, which the lane and its ends answer with. Only this call takes memory.
@@ -523,26 +557,10 @@ impl<'m, M: Machine> Lane<'m, M> {
         if capacity == 0 || capacity > MOST_SLOTS {
             return Err(LaneFault::BadCapacity);
         }
-        let Ok((table, mut seat)) = open_table(alloc, machine, capacity, start) else {
+        let Ok((table, seat)) = open_table(alloc, machine, capacity, start) else {
             return Err(LaneFault::NoMemory);
         };
-        steps::ready(&table.shared, &mut seat);
-        let second = table.shared.split_seat::<Serves>(&mut seat);
-        let third = table.shared.split_seat::<Shutting>(&mut seat);
-        let server = Server {
-            seat: second,
-            tag,
-            done: 0,
-            state: start,
-        };
-        let shutter = Shutter { seat: third, tag };
-        let end = Sending {
-            seat,
-            tag,
-            sent: 0,
-            got: 0,
-        };
-        let owner = Owner { end };
+        let (owner, server, shutter) = ends_of(&table, seat, tag, start);
         let lane = Lane {
             machine,
             tag,
