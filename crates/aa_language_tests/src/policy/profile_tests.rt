@@ -4,15 +4,14 @@ use crate::comparing::holds;
 use crate::policy::reading::{has_flags, has_profiles, lists, matches_each};
 use aa_policy::{Seq, Text, matching_is_decided, parse, spelled_once};
 use aa_words::{Span, Spot, Word, WordKind, WordList};
-use std::alloc::{AllocError, Global};
+use std::alloc::Global;
 use std::process::Abort;
-use std::test::Fail;
 
 const FAMILIES: &str =
     "/a { } profile p /bin/{p,q} { profile c { /x r, } signal, \"/d\" (enforce) { ptrace, /y r, } /z r, } profile /q { } profile r { abi <a>, /x r, }";
 
 #[test]
-fn children_stand_behind_their_parent(rt: HostRuntime) -> Result<(), Fail> {
+fn children_stand_behind_their_parent(rt: HostRuntime) {
     has_profiles(
         &rt,
         rt.alloc(),
@@ -25,12 +24,11 @@ fn children_stand_behind_their_parent(rt: HostRuntime) -> Result<(), Fail> {
             ("/q", 107, None, [1, 0, 0, 0]),
             ("r", 122, None, [0, 1, 0, 0]),
         ],
-    )?;
-    Ok(())
+    );
 }
 
 #[test]
-fn each_profile_has_its_flags(rt: HostRuntime) -> Result<(), Fail> {
+fn each_profile_has_its_flags(rt: HostRuntime) {
     has_flags(
         &rt,
         rt.alloc(),
@@ -44,12 +42,11 @@ fn each_profile_has_its_flags(rt: HostRuntime) -> Result<(), Fail> {
             (false, true),
             (true, false),
         ],
-    )?;
-    Ok(())
+    );
 }
 
 #[test]
-fn attachments_match_what_they_say(rt: HostRuntime) -> Result<(), Fail> {
+fn attachments_match_what_they_say(rt: HostRuntime) {
     // The attachments stand before the paths of the rules: of `/a`, of `p`, of `c`, of `d`, of `/q`, of `r`.
     matches_each(
         &rt,
@@ -78,18 +75,16 @@ fn attachments_match_what_they_say(rt: HostRuntime) -> Result<(), Fail> {
             ),
             ("/other", &[false; 8]),
         ],
-    )?;
-    Ok(())
+    );
 }
 
 #[test]
-fn passed_over_rules_stand_under_their_profile(rt: HostRuntime) -> Result<(), Fail> {
-    lists(&rt, rt.alloc(), FAMILIES, &[(1, "signal"), (3, "ptrace")])?;
-    Ok(())
+fn passed_over_rules_stand_under_their_profile(rt: HostRuntime) {
+    lists(&rt, rt.alloc(), FAMILIES, &[(1, "signal"), (3, "ptrace")]);
 }
 
 #[test]
-fn rules_stay_with_their_profile(rt: HostRuntime) -> Result<(), Fail> {
+fn rules_stay_with_their_profile(rt: HostRuntime) {
     has_profiles(
         &rt,
         rt.alloc(),
@@ -99,12 +94,11 @@ fn rules_stay_with_their_profile(rt: HostRuntime) -> Result<(), Fail> {
             ("q", 39, None, [0, 0, 0, 1]),
             ("r", 66, None, [0, 0, 0, 0]),
         ],
-    )?;
-    Ok(())
+    );
 }
 
 #[test]
-fn profiles_stand_in_their_order(rt: HostRuntime) -> Result<(), Fail> {
+fn profiles_stand_in_their_order(rt: HostRuntime) {
     has_profiles(
         &rt,
         rt.alloc(),
@@ -114,16 +108,14 @@ fn profiles_stand_in_their_order(rt: HostRuntime) -> Result<(), Fail> {
             ("two", 30, None, [0, 0, 0, 0]),
             ("three", 46, None, [0, 2, 0, 0]),
         ],
-    )?;
-    Ok(())
+    );
 }
 
 #[test]
-fn an_empty_text_has_no_profiles(rt: HostRuntime) -> Result<(), Fail> {
+fn an_empty_text_has_no_profiles(rt: HostRuntime) {
     for text in ["", " # nothing\n"] {
-        has_profiles(&rt, rt.alloc(), text, &[])?;
+        has_profiles(&rt, rt.alloc(), text, &[]);
     }
-    Ok(())
 }
 
 /// A word of a list that is made by hand, at a place of its own.
@@ -139,10 +131,11 @@ fn word(kind: WordKind, text: &[u8], start: u32) -> Word<'_> {
 
 /// The words of `profile NAME { PATH r, }`, which count up.
 fn words_by_hand<'s>(
+    rt: &impl Abort,
     alloc: Global,
     name: &'s [u8],
     path: &'s [u8],
-) -> Result<WordList<'s>, AllocError> {
+) -> WordList<'s> {
     let list = [
         word(WordKind::Name, b"profile", 0),
         word(WordKind::Name, name, 1),
@@ -151,10 +144,12 @@ fn words_by_hand<'s>(
         word(WordKind::Name, b"r", 4),
         word(WordKind::Comma, b",", 5),
         word(WordKind::Close, b"}", 6),
-    ]
-    .to_vec(alloc)?;
+    ];
     let end = Spot { file: 0, byte: 7 };
-    Ok(WordList { list, end })
+    WordList {
+        list: list.to_vec(alloc).expect(rt, "memory"),
+        end,
+    }
 }
 
 /// The refusal of words, if they are refused; none is 0 at 0.
@@ -168,17 +163,25 @@ fn refusal_of(alloc: Global, list: &WordList) -> (u8, u32) {
 /// A name, a path, and the refusal of the words that have them: its number and its byte.
 type Row = (&'static str, &'static str, (u8, u32));
 
+/// The refusal of words that have this name and this path.
+fn refusal_by_hand(rt: &impl Abort, alloc: Global, name: &str, path: &str) -> (u8, u32) {
+    let list = words_by_hand(rt, alloc, name.as_bytes(), path.as_bytes());
+    refusal_of(alloc, &list)
+}
+
 /// The words of each row are refused as it says.
-fn refuses_each(rt: &impl Abort, alloc: Global, rows: &[Row]) -> Result<(), AllocError> {
+fn refuses_each(rt: &impl Abort, alloc: Global, rows: &[Row]) {
     for (name, path, found) in rows {
-        let list = words_by_hand(alloc, name.as_bytes(), path.as_bytes())?;
-        assert_eq!(rt; refusal_of(alloc, &list), *found, "{name} {path}");
+        assert_eq!(rt;
+            refusal_by_hand(rt, alloc, name, path),
+            *found,
+            "{name} {path}"
+        );
     }
-    Ok(())
 }
 
 #[test]
-fn names_and_paths_of_words_that_no_text_has(rt: HostRuntime) -> Result<(), Fail> {
+fn names_and_paths_of_words_that_no_text_has(rt: HostRuntime) {
     refuses_each(
         &rt,
         rt.alloc(),
@@ -191,14 +194,13 @@ fn names_and_paths_of_words_that_no_text_has(rt: HostRuntime) -> Result<(), Fail
             ("p", "x", (14, 3)),
             ("p", "", (14, 3)),
         ],
-    )?;
-    Ok(())
+    );
 }
 
 /// Bytes that were a text twice.
-fn bytes_of_text(alloc: Global, bytes: &[u8]) -> Result<Vec<u8>, AllocError> {
-    let text = Text::copy_of(alloc, bytes)?;
-    Ok(Text::from_vec(text.into_vec()).into_vec())
+fn bytes_of_text(rt: &impl Abort, alloc: Global, bytes: &[u8]) -> Vec<u8> {
+    let text = Text::copy_of(alloc, bytes).expect(rt, "memory");
+    Text::from_vec(text.into_vec()).into_vec()
 }
 
 /// Whether a text of these bytes has them as its slice.
@@ -207,25 +209,39 @@ fn text_is(bytes: Vec<u8>, wanted: &[u8]) -> bool {
     text.as_slice() == wanted
 }
 
+/// Texts of the bytes have them, and give them back.
+fn is_text(rt: &impl Abort, alloc: Global, wanted: &[u8]) {
+    let bytes = bytes_of_text(rt, alloc, wanted);
+    holds(rt, bytes.as_slice() == wanted);
+    holds(rt, text_is(bytes, wanted));
+}
+
+/// A list of these numbers.
+fn list_of(rt: &impl Abort, alloc: Global, numbers: &[i32]) -> Seq<i32> {
+    Seq::from_vec(Vec::from_slice(alloc, numbers).expect(rt, "memory"))
+}
+
 /// Whether a list of these numbers has them as its slice.
 fn list_is(list: &Seq<i32>, wanted: &[i32]) -> bool {
     list.as_slice() == wanted
 }
 
-/// The numbers of a list.
-fn numbers_of(list: Seq<i32>) -> Vec<i32> {
-    list.into_vec()
+/// Whether these are the numbers that a list gives back.
+fn numbers_are(list: Seq<i32>, wanted: &[i32]) -> bool {
+    list.into_vec().as_slice() == wanted
+}
+
+/// A list of the numbers has them, and gives them back.
+fn is_list(rt: &impl Abort, alloc: Global, wanted: &[i32]) {
+    let list = list_of(rt, alloc, wanted);
+    holds(rt, list_is(&list, wanted));
+    holds(rt, numbers_are(list, wanted));
 }
 
 #[test]
-fn lists_and_texts_give_back_what_they_hold(rt: HostRuntime) -> Result<(), Fail> {
-    let bytes = bytes_of_text(rt.alloc(), b"ab")?;
-    holds(&rt, bytes.as_slice() == b"ab".as_slice());
-    holds(&rt, text_is(bytes, b"ab"));
-    let list = Seq::from_vec([1, 2].to_vec(rt.alloc())?);
-    holds(&rt, list_is(&list, &[1, 2]));
-    holds(&rt, numbers_of(list).as_slice() == [1, 2].as_slice());
-    Ok(())
+fn lists_and_texts_give_back_what_they_hold(rt: HostRuntime) {
+    is_text(&rt, rt.alloc(), b"ab");
+    is_list(&rt, rt.alloc(), &[1, 2]);
 }
 
 #[test]

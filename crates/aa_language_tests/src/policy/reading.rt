@@ -1,33 +1,35 @@
 //! What the tests see of a text's policy: each helper reads a text, and compares what it says with plain rows.
 
 use crate::comparing::{equal_in, holds_in};
+use crate::texts::{is_matched, words_of};
 use aa_glob::Pattern;
 use aa_policy::{
     CapRule, ChangeRule, Exec, ExecKind, Fallback, FileRule, NetRule, PassedOver, Policy, Profile,
     parse,
 };
-use aa_words::{PolicyFault, Sources, WordList, words};
+use aa_words::{PolicyFault, Sources, WordList};
 use bitflags::Flags;
-use std::alloc::{AllocError, Global};
+use std::alloc::Global;
 use std::process::Abort;
-
-fn words_of<'s>(
-    alloc: Global,
-    sources: &'s Sources,
-    text: &'s [u8],
-) -> Result<WordList<'s>, PolicyFault> {
-    words(alloc, sources, text)
-}
 
 fn parsed(alloc: Global, list: &WordList) -> Result<Policy, PolicyFault> {
     parse(alloc, list)
 }
 
+/// The policy that a text spells, which is one.
+pub fn policy_of(rt: &impl Abort, alloc: Global, text: &str) -> Policy {
+    read(alloc, text.as_bytes()).expect(rt, "a policy")
+}
+
+fn read_with(alloc: Global, sources: &Sources, text: &[u8]) -> Result<Policy, PolicyFault> {
+    let list = words_of(alloc, sources, text)?;
+    parsed(alloc, &list)
+}
+
 /// The policy that a text spells.
 pub fn read(alloc: Global, text: &[u8]) -> Result<Policy, PolicyFault> {
     let sources = Sources::new(alloc);
-    let list = words_of(alloc, &sources, text)?;
-    parsed(alloc, &list)
+    read_with(alloc, &sources, text)
 }
 
 /// The kind's number, the file and the byte of the refusal, where the text is refused.
@@ -76,62 +78,93 @@ pub fn refuses_each_by_name(rt: &impl Abort, alloc: Global, rows: &[NamedRow]) {
     }
 }
 
+/// A row that says what a part of a policy is.
+trait Describes {
+    type Part;
+
+    /// All parts of that kind, of the policy or of its first profile.
+    fn parts<'p>(rt: &impl Abort, policy: &'p Policy) -> &'p [Self::Part];
+
+    fn describes(&self, part: &Self::Part) -> bool;
+}
+
+fn describe<R: Describes>(rows: &[R], parts: &[R::Part]) -> bool {
+    if rows.len() != parts.len() {
+        return false;
+    }
+    for (row, part) in rows.iter().zip(parts) {
+        if !row.describes(part) {
+            return false;
+        }
+    }
+    true
+}
+
+/// The rows say what the policy of the text has.
+fn has<R: Describes>(rt: &impl Abort, alloc: Global, text: &str, rows: &[R]) {
+    let policy = policy_of(rt, alloc, text);
+    holds_in(rt, describe(rows, R::parts(rt, &policy)), text);
+}
+
+fn first_of<'p>(rt: &impl Abort, policy: &'p Policy) -> &'p Profile {
+    policy.profiles.as_slice().first().expect(rt, "a profile")
+}
+
 /// A profile: its name, the byte at which that stands, its parent, and how many attachments, file
 /// rules, rules on capabilities and rules on sockets it has.
 pub type ProfileRow = (&'static str, u32, Option<u16>, [usize; 4]);
 
-fn have_flags(profiles: &[Profile], rows: &[(bool, bool)]) -> bool {
-    profiles.len() == rows.len()
-        && profiles
-            .iter()
-            .zip(rows)
-            .all(|(profile, row)| (profile.complain, profile.audit) == *row)
+/// The flags of a profile: `complain`, `audit`.
+type FlagRow = (bool, bool);
+
+impl Describes for FlagRow {
+    type Part = Profile;
+
+    fn parts<'p>(_rt: &impl Abort, policy: &'p Policy) -> &'p [Profile] {
+        policy.profiles.as_slice()
+    }
+
+    fn describes(&self, profile: &Profile) -> bool {
+        (profile.complain, profile.audit) == *self
+    }
 }
 
-/// The profiles of the text have these flags: `complain`, `audit`.
-pub fn has_flags(
-    rt: &impl Abort,
-    alloc: Global,
-    text: &str,
-    rows: &[(bool, bool)],
-) -> Result<(), PolicyFault> {
-    let policy = read(alloc, text.as_bytes())?;
-    holds_in(rt, have_flags(policy.profiles.as_slice(), rows), text);
-    Ok(())
+/// The profiles of the text have these flags.
+pub fn has_flags(rt: &impl Abort, alloc: Global, text: &str, rows: &[FlagRow]) {
+    has(rt, alloc, text, rows);
 }
 
-fn is_profile(profile: &Profile, row: &ProfileRow) -> bool {
-    let counts = [
+fn counts_of(profile: &Profile) -> [usize; 4] {
+    [
         profile.attachments.as_slice().len(),
         profile.files.as_slice().len(),
         profile.caps.as_slice().len(),
         profile.nets.as_slice().len(),
-    ];
-    let at = (profile.at.file, profile.at.byte);
-    profile.name.as_slice() == row.0.as_bytes()
-        && at == (0, row.1)
-        && profile.parent == row.2
-        && counts == row.3
+    ]
 }
 
-fn are_profiles(profiles: &[Profile], rows: &[ProfileRow]) -> bool {
-    profiles.len() == rows.len()
-        && profiles
-            .iter()
-            .zip(rows)
-            .all(|(profile, row)| is_profile(profile, row))
+fn is_profile(profile: &Profile, row: &ProfileRow) -> bool {
+    profile.name.as_slice() == row.0.as_bytes()
+        && (profile.at.file, profile.at.byte) == (0, row.1)
+        && profile.parent == row.2
+        && counts_of(profile) == row.3
+}
+
+impl Describes for ProfileRow {
+    type Part = Profile;
+
+    fn parts<'p>(_rt: &impl Abort, policy: &'p Policy) -> &'p [Profile] {
+        policy.profiles.as_slice()
+    }
+
+    fn describes(&self, profile: &Profile) -> bool {
+        is_profile(profile, self)
+    }
 }
 
 /// The text has these profiles.
-pub fn has_profiles(
-    rt: &impl Abort,
-    alloc: Global,
-    text: &str,
-    rows: &[ProfileRow],
-) -> Result<(), PolicyFault> {
-    let policy = read(alloc, text.as_bytes())?;
-    holds_in(rt, are_profiles(policy.profiles.as_slice(), rows), text);
-    Ok(())
+pub fn has_profiles(rt: &impl Abort, alloc: Global, text: &str, rows: &[ProfileRow]) {
+    has(rt, alloc, text, rows);
 }
 
 /// A file rule: what stands before it, its bits, how many patterns it has, and how many items the first of them has.
@@ -156,39 +189,25 @@ fn qualifiers_of(rule: &FileRule) -> &'static str {
     }
 }
 
-fn is_file_rule(rule: &FileRule, row: &FileRow) -> bool {
-    let patterns = rule.patterns.as_slice();
-    qualifiers_of(rule) == row.0
-        && rule.perms.bits() == row.1
-        && patterns.len() == row.2
-        && items_of_the_first(patterns) == row.3
-}
+impl Describes for FileRow {
+    type Part = FileRule;
 
-fn first_has_files(policy: &Policy, rows: &[FileRow]) -> bool {
-    match policy.profiles.as_slice().first() {
-        Some(profile) => are_file_rules(profile.files.as_slice(), rows),
-        None => false,
+    fn parts<'p>(rt: &impl Abort, policy: &'p Policy) -> &'p [FileRule] {
+        first_of(rt, policy).files.as_slice()
+    }
+
+    fn describes(&self, rule: &FileRule) -> bool {
+        let patterns = rule.patterns.as_slice();
+        qualifiers_of(rule) == self.0
+            && rule.perms.bits() == self.1
+            && patterns.len() == self.2
+            && items_of_the_first(patterns) == self.3
     }
 }
 
-fn are_file_rules(rules: &[FileRule], rows: &[FileRow]) -> bool {
-    rules.len() == rows.len()
-        && rules
-            .iter()
-            .zip(rows)
-            .all(|(rule, row)| is_file_rule(rule, row))
-}
-
 /// The text's first profile has these file rules.
-pub fn has_files(
-    rt: &impl Abort,
-    alloc: Global,
-    text: &str,
-    rows: &[FileRow],
-) -> Result<(), PolicyFault> {
-    let policy = read(alloc, text.as_bytes())?;
-    holds_in(rt, first_has_files(&policy, rows), text);
-    Ok(())
+pub fn has_files(rt: &impl Abort, alloc: Global, text: &str, rows: &[FileRow]) {
+    has(rt, alloc, text, rows);
 }
 
 /// How a file rule lets a program be executed: how, whether it scrubs, where to else, the profile's name, which is
@@ -214,164 +233,116 @@ fn is_exec(exec: &Option<Exec>, row: &ExecRow) -> bool {
     }
 }
 
-fn first_has_execs(policy: &Policy, rows: &[ExecRow]) -> bool {
-    match policy.profiles.as_slice().first() {
-        Some(profile) => are_execs(profile.files.as_slice(), rows),
-        None => false,
-    }
-}
+impl Describes for ExecRow {
+    type Part = FileRule;
 
-fn are_execs(rules: &[FileRule], rows: &[ExecRow]) -> bool {
-    rules.len() == rows.len()
-        && rules
-            .iter()
-            .zip(rows)
-            .all(|(rule, row)| is_exec(&rule.exec, row))
+    fn parts<'p>(rt: &impl Abort, policy: &'p Policy) -> &'p [FileRule] {
+        first_of(rt, policy).files.as_slice()
+    }
+
+    fn describes(&self, rule: &FileRule) -> bool {
+        is_exec(&rule.exec, self)
+    }
 }
 
 /// The file rules of the text's first profile let programs be executed like this.
-pub fn has_execs(
-    rt: &impl Abort,
-    alloc: Global,
-    text: &str,
-    rows: &[ExecRow],
-) -> Result<(), PolicyFault> {
-    let policy = read(alloc, text.as_bytes())?;
-    holds_in(rt, first_has_execs(&policy, rows), text);
-    Ok(())
+pub fn has_execs(rt: &impl Abort, alloc: Global, text: &str, rows: &[ExecRow]) {
+    has(rt, alloc, text, rows);
 }
 
-fn push_matches(
-    matched: &mut Vec<bool>,
-    patterns: &[Pattern],
-    path: &[u8],
-) -> Result<(), AllocError> {
+fn push(rt: &impl Abort, matched: &mut Vec<bool>, is_matched: bool) {
+    matched.push(is_matched).expect(rt, "memory");
+}
+
+fn push_matches(rt: &impl Abort, matched: &mut Vec<bool>, patterns: &[Pattern], path: &str) {
     for pattern in patterns {
-        matched.push(pattern.matches(path))?;
+        push(rt, matched, is_matched(pattern, path.as_bytes()));
     }
-    Ok(())
 }
 
-fn push_matches_of(
-    matched: &mut Vec<bool>,
-    profile: &Profile,
-    path: &[u8],
-) -> Result<(), AllocError> {
-    push_matches(matched, profile.attachments.as_slice(), path)?;
+fn push_matches_of(rt: &impl Abort, matched: &mut Vec<bool>, profile: &Profile, path: &str) {
+    push_matches(rt, matched, profile.attachments.as_slice(), path);
     for rule in profile.files.as_slice() {
-        push_matches(matched, rule.patterns.as_slice(), path)?;
+        push_matches(rt, matched, rule.patterns.as_slice(), path);
     }
-    Ok(())
 }
 
 /// Which of the patterns of a text's attachments and then of its file rules match a path, profile by profile.
-pub fn matching(alloc: Global, text: &str, path: &str) -> Result<Vec<bool>, PolicyFault> {
-    let policy = read(alloc, text.as_bytes())?;
+fn matching(rt: &impl Abort, alloc: Global, text: &str, path: &str) -> Vec<bool> {
+    let policy = policy_of(rt, alloc, text);
     let mut matched = Vec::new(alloc);
     for profile in policy.profiles.as_slice() {
-        push_matches_of(&mut matched, profile, path.as_bytes())?;
+        push_matches_of(rt, &mut matched, profile, path);
     }
-    Ok(matched)
+    matched
 }
 
 /// Of each path the patterns of the text that match it are these.
-pub fn matches_each(
-    rt: &impl Abort,
-    alloc: Global,
-    text: &str,
-    rows: &[(&str, &[bool])],
-) -> Result<(), PolicyFault> {
+pub fn matches_each(rt: &impl Abort, alloc: Global, text: &str, rows: &[(&str, &[bool])]) {
     for (path, expected) in rows {
-        let matched = matching(alloc, text, path)?;
+        let matched = matching(rt, alloc, text, path);
         equal_in(rt, matched.as_slice(), *expected, path);
     }
-    Ok(())
 }
 
-fn is_listed(rule: &PassedOver, profile: u16, keyword: &str) -> bool {
-    rule.profile == profile && rule.kind.as_slice() == keyword.as_bytes()
+/// A rule that is passed over: its profile and its keyword.
+type ListedRow = (u16, &'static str);
+
+impl Describes for ListedRow {
+    type Part = PassedOver;
+
+    fn parts<'p>(_rt: &impl Abort, policy: &'p Policy) -> &'p [PassedOver] {
+        policy.passed_over.as_slice()
+    }
+
+    fn describes(&self, rule: &PassedOver) -> bool {
+        rule.profile == self.0 && rule.kind.as_slice() == self.1.as_bytes()
+    }
 }
 
-fn are_listed(rules: &[PassedOver], rows: &[(u16, &str)]) -> bool {
-    rules.len() == rows.len()
-        && rules
-            .iter()
-            .zip(rows)
-            .all(|(rule, row)| is_listed(rule, row.0, row.1))
-}
-
-/// The rules of the text that are passed over are these, each by its profile and its keyword.
-pub fn lists(
-    rt: &impl Abort,
-    alloc: Global,
-    text: &str,
-    rows: &[(u16, &str)],
-) -> Result<(), PolicyFault> {
-    let policy = read(alloc, text.as_bytes())?;
-    holds_in(rt, are_listed(policy.passed_over.as_slice(), rows), text);
-    Ok(())
+/// The rules of the text that are passed over are these.
+pub fn lists(rt: &impl Abort, alloc: Global, text: &str, rows: &[ListedRow]) {
+    has(rt, alloc, text, rows);
 }
 
 /// A rule on capabilities: whether it has `audit`, whether it has `deny`, and its capabilities.
 pub type CapRow = (bool, bool, u64);
 
-fn first_has_caps(policy: &Policy, rows: &[CapRow]) -> bool {
-    match policy.profiles.as_slice().first() {
-        Some(profile) => are_cap_rules(profile.caps.as_slice(), rows),
-        None => false,
+impl Describes for CapRow {
+    type Part = CapRule;
+
+    fn parts<'p>(rt: &impl Abort, policy: &'p Policy) -> &'p [CapRule] {
+        first_of(rt, policy).caps.as_slice()
+    }
+
+    fn describes(&self, rule: &CapRule) -> bool {
+        (rule.audit, rule.deny, rule.caps.0) == *self
     }
 }
 
-fn are_cap_rules(rules: &[CapRule], rows: &[CapRow]) -> bool {
-    rules.len() == rows.len()
-        && rules
-            .iter()
-            .zip(rows)
-            .all(|(rule, row)| (rule.audit, rule.deny, rule.caps.0) == *row)
-}
-
 /// The text's first profile has these rules on capabilities.
-pub fn has_caps(
-    rt: &impl Abort,
-    alloc: Global,
-    text: &str,
-    rows: &[CapRow],
-) -> Result<(), PolicyFault> {
-    let policy = read(alloc, text.as_bytes())?;
-    holds_in(rt, first_has_caps(&policy, rows), text);
-    Ok(())
+pub fn has_caps(rt: &impl Abort, alloc: Global, text: &str, rows: &[CapRow]) {
+    has(rt, alloc, text, rows);
 }
 
 /// A rule on sockets: whether it has `audit`, whether it has `deny`, its families and its types.
 pub type NetRow = (bool, bool, u64, u8);
 
-fn first_has_nets(policy: &Policy, rows: &[NetRow]) -> bool {
-    match policy.profiles.as_slice().first() {
-        Some(profile) => are_net_rules(profile.nets.as_slice(), rows),
-        None => false,
+impl Describes for NetRow {
+    type Part = NetRule;
+
+    fn parts<'p>(rt: &impl Abort, policy: &'p Policy) -> &'p [NetRule] {
+        first_of(rt, policy).nets.as_slice()
+    }
+
+    fn describes(&self, rule: &NetRule) -> bool {
+        (rule.audit, rule.deny, rule.families, rule.kinds) == *self
     }
 }
 
-fn are_net_rules(rules: &[NetRule], rows: &[NetRow]) -> bool {
-    rules.len() == rows.len()
-        && rules.iter().zip(rows).all(|(rule, row)| (
-            rule.audit,
-            rule.deny,
-            rule.families,
-            rule.kinds,
-        ) == *row)
-}
-
 /// The text's first profile has these rules on sockets.
-pub fn has_nets(
-    rt: &impl Abort,
-    alloc: Global,
-    text: &str,
-    rows: &[NetRow],
-) -> Result<(), PolicyFault> {
-    let policy = read(alloc, text.as_bytes())?;
-    holds_in(rt, first_has_nets(&policy, rows), text);
-    Ok(())
+pub fn has_nets(rt: &impl Abort, alloc: Global, text: &str, rows: &[NetRow]) {
+    has(rt, alloc, text, rows);
 }
 
 /// A rule on changes of profile: what stands before it, a name for which it holds, and one for which it doesn't.
@@ -393,72 +364,54 @@ fn holds_for(rule: &ChangeRule, name: &str) -> bool {
     }
 }
 
-fn is_change_rule(rule: &ChangeRule, row: &ChangeRow) -> bool {
-    qualifiers_of_change(rule) == row.0
-        && rule.pattern.is_some()
-        && holds_for(rule, row.1)
-        && !holds_for(rule, row.2)
-}
+impl Describes for ChangeRow {
+    type Part = ChangeRule;
 
-fn first_has_changes(policy: &Policy, rows: &[ChangeRow]) -> bool {
-    match policy.profiles.as_slice().first() {
-        Some(profile) => are_change_rules(profile.changes.as_slice(), rows),
-        None => false,
+    fn parts<'p>(rt: &impl Abort, policy: &'p Policy) -> &'p [ChangeRule] {
+        first_of(rt, policy).changes.as_slice()
+    }
+
+    fn describes(&self, rule: &ChangeRule) -> bool {
+        qualifiers_of_change(rule) == self.0
+            && rule.pattern.is_some()
+            && holds_for(rule, self.1)
+            && !holds_for(rule, self.2)
     }
 }
 
-fn are_change_rules(rules: &[ChangeRule], rows: &[ChangeRow]) -> bool {
-    rules.len() == rows.len()
-        && rules
-            .iter()
-            .zip(rows)
-            .all(|(rule, row)| is_change_rule(rule, row))
+/// The text's first profile has these rules on changes of profile, each with a name.
+pub fn has_changes(rt: &impl Abort, alloc: Global, text: &str, rows: &[ChangeRow]) {
+    has(rt, alloc, text, rows);
 }
 
-/// The text's first profile has these rules on changes of profile, each with a name.
-pub fn has_changes(
-    rt: &impl Abort,
-    alloc: Global,
-    text: &str,
-    rows: &[ChangeRow],
-) -> Result<(), PolicyFault> {
-    let policy = read(alloc, text.as_bytes())?;
-    holds_in(rt, first_has_changes(&policy, rows), text);
-    Ok(())
-}
+/// What stands before each rule on changes of profile, of a profile whose rules hold for every name.
+type BareRow = &'static [&'static str];
 
 fn is_bare_change(rule: &ChangeRule, qualifiers: &str) -> bool {
     rule.pattern.is_none() && qualifiers_of_change(rule) == qualifiers
 }
 
 fn are_bare_changes(rules: &[ChangeRule], rows: &[&'static str]) -> bool {
-    rules.len() == rows.len()
-        && rules
-            .iter()
-            .zip(rows)
-            .all(|(rule, qualifiers)| is_bare_change(rule, qualifiers))
+    let mut all = rules.len() == rows.len();
+    for (rule, qualifiers) in rules.iter().zip(rows) {
+        all = all && is_bare_change(rule, qualifiers);
+    }
+    all
 }
 
-fn have_bare_changes(profiles: &[Profile], rows: &[&[&'static str]]) -> bool {
-    profiles.len() == rows.len()
-        && profiles.iter().zip(rows).all(|(profile, row)| are_bare_changes(
-            profile.changes.as_slice(),
-            row,
-        ))
+impl Describes for BareRow {
+    type Part = Profile;
+
+    fn parts<'p>(_rt: &impl Abort, policy: &'p Policy) -> &'p [Profile] {
+        policy.profiles.as_slice()
+    }
+
+    fn describes(&self, profile: &Profile) -> bool {
+        are_bare_changes(profile.changes.as_slice(), self)
+    }
 }
 
-/// What stands before each rule on changes of profile of the text that holds for every name, profile by profile.
-pub fn has_bare_changes(
-    rt: &impl Abort,
-    alloc: Global,
-    text: &str,
-    rows: &[&[&'static str]],
-) -> Result<(), PolicyFault> {
-    let policy = read(alloc, text.as_bytes())?;
-    holds_in(
-        rt,
-        have_bare_changes(policy.profiles.as_slice(), rows),
-        text,
-    );
-    Ok(())
+/// Of each profile of the text the rules on changes of profile hold for every name, and have this before them.
+pub fn has_bare_changes(rt: &impl Abort, alloc: Global, text: &str, rows: &[BareRow]) {
+    has(rt, alloc, text, rows);
 }

@@ -1,10 +1,9 @@
 //! Rules on capabilities and on sockets: the sets that they give.
 
 use crate::policy::reading::{has_caps, has_nets, has_profiles, lists};
-use std::test::Fail;
 
 #[test]
-fn rules_on_capabilities_give_their_sets(rt: HostRuntime) -> Result<(), Fail> {
+fn rules_on_capabilities_give_their_sets(rt: HostRuntime) {
     let text = "profile p { capability chown, /x r, capability bpf kill, signal,
         capability chown chown, audit capability kill, network,
         deny capability mac_admin, audit deny capability checkpoint_restore chown,
@@ -15,8 +14,8 @@ fn rules_on_capabilities_give_their_sets(rt: HostRuntime) -> Result<(), Fail> {
         sys_resource sys_time sys_tty_config mknod lease audit_write audit_control setfcap
         mac_override mac_admin syslog wake_alarm block_suspend audit_read perfmon bpf
         checkpoint_restore, }";
-    has_profiles(&rt, rt.alloc(), text, &[("p", 8, None, [0, 1, 10, 1])])?;
-    lists(&rt, rt.alloc(), text, &[(0, "signal")])?;
+    has_profiles(&rt, rt.alloc(), text, &[("p", 8, None, [0, 1, 10, 1])]);
+    lists(&rt, rt.alloc(), text, &[(0, "signal")]);
     has_caps(
         &rt,
         rt.alloc(),
@@ -33,18 +32,17 @@ fn rules_on_capabilities_give_their_sets(rt: HostRuntime) -> Result<(), Fail> {
             (false, false, 0x20_3000),
             (false, false, 0x1ff_ffff_ffff),
         ],
-    )?;
-    Ok(())
+    );
 }
 
 #[test]
-fn rules_on_sockets_give_their_sets(rt: HostRuntime) -> Result<(), Fail> {
+fn rules_on_sockets_give_their_sets(rt: HostRuntime) {
     let text = "profile p { network, network unix, network packet, network mctp, network stream,
         network raw, network tcp, network udp, network inet stream, network inet6 dgram,
         network packet packet, network netlink raw, network inet tcp, network inet6 tcp,
         network inet udp, audit network inet6 udp, deny network bluetooth,
         audit deny network inet, allow network unix dgram, }";
-    has_profiles(&rt, rt.alloc(), text, &[("p", 8, None, [0, 0, 0, 19])])?;
+    has_profiles(&rt, rt.alloc(), text, &[("p", 8, None, [0, 0, 0, 19])]);
     has_nets(
         &rt,
         rt.alloc(),
@@ -70,6 +68,5 @@ fn rules_on_sockets_give_their_sets(rt: HostRuntime) -> Result<(), Fail> {
             (true, true, 0x2, 0x3f),
             (false, false, 0x1, 0x02),
         ],
-    )?;
-    Ok(())
+    );
 }
