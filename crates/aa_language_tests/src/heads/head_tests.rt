@@ -7,7 +7,6 @@ use aa_heads::HeadTree;
 use aa_words::{PolicyFault, Sources};
 use std::alloc::Global;
 use std::process::Abort;
-use std::test::Fail;
 
 /// What a head is read as: where its name stands, the name, where its attachment stands, the
 /// attachment, and how many words it has.
@@ -42,45 +41,65 @@ fn read<'s>(
     head_in(&list, top)
 }
 
+fn is_read_with(
+    alloc: Global,
+    sources: &Sources,
+    text: &[u8],
+    top: bool,
+    expected: Expected,
+) -> bool {
+    match read(alloc, sources, text, top) {
+        Ok((head, next)) => is_expected(&head, next, expected),
+        Err(_) => false,
+    }
+}
+
 /// Whether the head is read as it is to be.
-fn is_read(alloc: Global, text: &[u8], top: bool, expected: Expected) -> Result<bool, PolicyFault> {
+fn is_read(alloc: Global, text: &[u8], top: bool, expected: Expected) -> bool {
     let sources = Sources::new(alloc);
-    let (head, next) = read(alloc, &sources, text, top)?;
-    Ok(is_expected(&head, next, expected))
+    is_read_with(alloc, &sources, text, top, expected)
 }
 
 /// A text, and what its head is read as.
 type Row = (&'static str, Expected);
 
 /// The heads of the texts are read so, at the top level or below it.
-fn reads_each(rt: &impl Abort, alloc: Global, top: bool, rows: &[Row]) -> Result<(), PolicyFault> {
+fn reads_each(rt: &impl Abort, alloc: Global, top: bool, rows: &[Row]) {
     for (text, expected) in rows {
-        holds_in(rt, is_read(alloc, text.as_bytes(), top, *expected)?, text);
+        holds_in(rt, is_read(alloc, text.as_bytes(), top, *expected), text);
     }
-    Ok(())
 }
 
 /// Whether a head has `complain`, `enforce` and `audit` among its flags.
-fn flags_of(alloc: Global, text: &[u8]) -> Result<(bool, bool, bool), PolicyFault> {
-    let sources = Sources::new(alloc);
-    let (head, _) = read(alloc, &sources, text, true)?;
-    Ok((head.flags.complain, head.flags.enforce, head.flags.audit))
-}
+type Flags = (bool, bool, bool);
 
-/// The kind's number and the byte of the refusal, where the head is refused.
-fn refusal(alloc: Global, text: &[u8], top: bool) -> Option<(u8, u32)> {
-    let sources = Sources::new(alloc);
-    match read(alloc, &sources, text, top) {
-        Ok(_) => None,
-        Err(fault) => Some((fault.kind.number(), fault.at.byte)),
+fn flags_with(
+    alloc: Global,
+    sources: &Sources,
+    text: &[u8],
+    top: bool,
+) -> Result<Flags, (u8, u32)> {
+    match read(alloc, sources, text, top) {
+        Ok((head, _)) => Ok((head.flags.complain, head.flags.enforce, head.flags.audit)),
+        Err(fault) => Err((fault.kind.number(), fault.at.byte)),
     }
 }
 
-/// Whether a profile begins with the text's words.
-fn begins(alloc: Global, text: &[u8]) -> Result<bool, PolicyFault> {
+/// The flags of a head, or the kind's number and the byte of the refusal, where it is refused.
+fn flags_of(alloc: Global, text: &[u8], top: bool) -> Result<Flags, (u8, u32)> {
     let sources = Sources::new(alloc);
-    let list = words_of(alloc, &sources, text)?;
-    Ok(begins_in(&list))
+    flags_with(alloc, &sources, text, top)
+}
+
+fn begins_with(rt: &impl Abort, alloc: Global, sources: &Sources, text: &[u8]) -> bool {
+    let list = words_of(alloc, sources, text).expect(rt, "words");
+    begins_in(&list)
+}
+
+/// Whether a profile begins with the text's words.
+fn begins(rt: &impl Abort, alloc: Global, text: &[u8]) -> bool {
+    let sources = Sources::new(alloc);
+    begins_with(rt, alloc, &sources, text)
 }
 
 /// The heads of the texts are refused at the top level or below it, each with that number at that byte.
@@ -88,7 +107,7 @@ fn refuses_each(rt: &impl Abort, alloc: Global, top: bool, rows: &[(&str, u8, u3
     for (text, number, byte) in rows {
         equal_in(
             rt,
-            refusal(alloc, text.as_bytes(), top),
+            flags_of(alloc, text.as_bytes(), top).err(),
             Some((*number, *byte)),
             text,
         );
@@ -101,34 +120,33 @@ fn refuses_each_anywhere(rt: &impl Abort, alloc: Global, rows: &[(&str, u8, u32)
     refuses_each(rt, alloc, false, rows);
 }
 
-/// The heads of the texts have these flags: `complain`, `enforce` and `audit`.
-fn has_flags(
-    rt: &impl Abort,
-    alloc: Global,
-    rows: &[(&str, (bool, bool, bool))],
-) -> Result<(), PolicyFault> {
+/// The heads of the texts have these flags.
+fn has_flags(rt: &impl Abort, alloc: Global, rows: &[(&str, Flags)]) {
     for (text, flags) in rows {
-        holds_in(rt, flags_of(alloc, text.as_bytes())? == *flags, text);
+        equal_in(
+            rt,
+            flags_of(alloc, text.as_bytes(), true).ok(),
+            Some(*flags),
+            text,
+        );
     }
-    Ok(())
 }
 
 /// Of each text a profile begins with its words, or none does.
-fn begins_each(rt: &impl Abort, alloc: Global, rows: &[(&str, bool)]) -> Result<(), PolicyFault> {
+fn begins_each(rt: &impl Abort, alloc: Global, rows: &[(&str, bool)]) {
     for (text, expected) in rows {
-        equal_in(rt, begins(alloc, text.as_bytes())?, *expected, text);
+        equal_in(rt, begins(rt, alloc, text.as_bytes()), *expected, text);
     }
-    Ok(())
 }
 
 /// The heads of the texts are read so, at the top level and below it.
-fn reads_each_anywhere(rt: &impl Abort, alloc: Global, rows: &[Row]) -> Result<(), PolicyFault> {
-    reads_each(rt, alloc, true, rows)?;
-    reads_each(rt, alloc, false, rows)
+fn reads_each_anywhere(rt: &impl Abort, alloc: Global, rows: &[Row]) {
+    reads_each(rt, alloc, true, rows);
+    reads_each(rt, alloc, false, rows);
 }
 
 #[test]
-fn heads_are_read(rt: HostRuntime) -> Result<(), Fail> {
+fn heads_are_read(rt: HostRuntime) {
     const ROWS: &[Row] = &[
         ("profile p {", (8, "p", None, 3)),
         ("profile /p {", (8, "/p", Some((8, "/p")), 3)),
@@ -159,42 +177,30 @@ fn heads_are_read(rt: HostRuntime) -> Result<(), Fail> {
         ),
         ("/x (,,enforce enforce,) {", (0, "/x", Some((0, "/x")), 9)),
     ];
-    reads_each_anywhere(&rt, rt.alloc(), ROWS)?;
-    Ok(())
+    reads_each_anywhere(&rt, rt.alloc(), ROWS);
 }
 
 #[test]
-fn a_child_may_have_names_that_no_profile_of_the_top_level_has(
-    rt: HostRuntime,
-) -> Result<(), Fail> {
-    reads_each(
-        &rt,
-        rt.alloc(),
-        false,
-        &[
-            ("profile a//b {", (8, "a//b", None, 3)),
-            ("profile /a//b {", (8, "/a//b", Some((8, "/a//b")), 3)),
-            ("profile unconfined {", (8, "unconfined", None, 3)),
-            ("/a//b {", (0, "/a//b", Some((0, "/a//b")), 2)),
-            (
-                "\"unconfined\" {",
-                (1, "unconfined", Some((1, "unconfined")), 2),
-            ),
-        ],
-    )?;
-    refuses_each(
-        &rt,
-        rt.alloc(),
-        true,
-        &[
-            ("profile a//b {", 5, 8),
-            ("profile /a//b {", 5, 8),
-            ("profile unconfined {", 5, 8),
-            ("/a//b {", 5, 0),
-            ("\"unconfined\" {", 5, 1),
-        ],
-    );
-    Ok(())
+fn a_child_may_have_names_that_no_profile_of_the_top_level_has(rt: HostRuntime) {
+    const READ: &[Row] = &[
+        ("profile a//b {", (8, "a//b", None, 3)),
+        ("profile /a//b {", (8, "/a//b", Some((8, "/a//b")), 3)),
+        ("profile unconfined {", (8, "unconfined", None, 3)),
+        ("/a//b {", (0, "/a//b", Some((0, "/a//b")), 2)),
+        (
+            "\"unconfined\" {",
+            (1, "unconfined", Some((1, "unconfined")), 2),
+        ),
+    ];
+    const REFUSED: &[(&str, u8, u32)] = &[
+        ("profile a//b {", 5, 8),
+        ("profile /a//b {", 5, 8),
+        ("profile unconfined {", 5, 8),
+        ("/a//b {", 5, 0),
+        ("\"unconfined\" {", 5, 1),
+    ];
+    reads_each(&rt, rt.alloc(), false, READ);
+    refuses_each(&rt, rt.alloc(), true, REFUSED);
 }
 
 #[test]
@@ -266,7 +272,7 @@ fn words_behind_the_name_are_refused_at_the_word(rt: HostRuntime) {
 }
 
 #[test]
-fn flags_are_kept(rt: HostRuntime) -> Result<(), Fail> {
+fn flags_are_kept(rt: HostRuntime) {
     has_flags(
         &rt,
         rt.alloc(),
@@ -288,8 +294,7 @@ fn flags_are_kept(rt: HostRuntime) -> Result<(), Fail> {
                 (true, false, false),
             ),
         ],
-    )?;
-    Ok(())
+    );
 }
 
 #[test]
@@ -332,7 +337,7 @@ fn flags_are_refused_at_the_flag(rt: HostRuntime) {
 }
 
 #[test]
-fn a_profile_begins_at_its_keyword_or_a_path_that_names_it(rt: HostRuntime) -> Result<(), Fail> {
+fn a_profile_begins_at_its_keyword_or_a_path_that_names_it(rt: HostRuntime) {
     begins_each(
         &rt,
         rt.alloc(),
@@ -358,6 +363,5 @@ fn a_profile_begins_at_its_keyword_or_a_path_that_names_it(rt: HostRuntime) -> R
             ("}", false),
             ("", false),
         ],
-    )?;
-    Ok(())
+    );
 }

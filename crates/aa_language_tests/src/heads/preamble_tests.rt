@@ -7,18 +7,26 @@ use aa_heads::preamble_of;
 use aa_words::{PolicyFault, Sources, WordList};
 use std::alloc::Global;
 use std::process::Abort;
-use std::test::Fail;
 
 /// The variables of the preamble that the words begin with, and the place behind it.
 fn preamble_in(alloc: Global, list: &WordList) -> Result<(Vars, usize), PolicyFault> {
     preamble_of(alloc, list.list.as_slice(), 0, list.end)
 }
 
+fn read_with(alloc: Global, sources: &Sources, text: &str) -> Result<(Vars, usize), PolicyFault> {
+    let list = words_of(alloc, sources, text.as_bytes())?;
+    preamble_in(alloc, &list)
+}
+
 /// The variables of a text's preamble, and the number of its words.
 fn read(alloc: Global, text: &str) -> Result<(Vars, usize), PolicyFault> {
     let sources = Sources::new(alloc);
-    let list = words_of(alloc, &sources, text.as_bytes())?;
-    preamble_in(alloc, &list)
+    read_with(alloc, &sources, text)
+}
+
+/// The same of a text that is not refused.
+fn preamble(rt: &impl Abort, alloc: Global, text: &str) -> (Vars, usize) {
+    read(alloc, text).expect(rt, "a preamble")
 }
 
 /// The kind's number and the byte of the refusal, where the text is refused.
@@ -39,10 +47,9 @@ fn matches_alone(pattern: &Pattern, path: &str, paths: &[&str]) -> bool {
 }
 
 /// The patterns of `/@{A}` under the variables of a text's preamble.
-fn patterns_of(alloc: Global, text: &str) -> Result<Vec<Pattern>, Fail> {
-    let (vars, _) = read(alloc, text)?;
-    let patterns = expansions(alloc, &vars, b"/@{A}")?;
-    Ok(patterns)
+fn patterns_of(rt: &impl Abort, alloc: Global, text: &str) -> Vec<Pattern> {
+    let (vars, _) = preamble(rt, alloc, text);
+    expansions(alloc, &vars, b"/@{A}").expect(rt, "patterns")
 }
 
 /// Whether each pattern matches the path in its place, and those of the others that are the same.
@@ -55,16 +62,15 @@ fn match_alone(patterns: &[Pattern], paths: &[&str]) -> bool {
 }
 
 /// The values of `A` in each of the texts are these.
-fn has_values(rt: &impl Abort, alloc: Global, rows: &[(&str, &[&str])]) -> Result<(), Fail> {
+fn has_values(rt: &impl Abort, alloc: Global, rows: &[(&str, &[&str])]) {
     for (text, paths) in rows {
-        let patterns = patterns_of(alloc, text)?;
+        let patterns = patterns_of(rt, alloc, text);
         holds_in(rt, match_alone(patterns.as_slice(), paths), text);
     }
-    Ok(())
 }
 
 #[test]
-fn variables_have_their_values_in_order(rt: HostRuntime) -> Result<(), Fail> {
+fn variables_have_their_values_in_order(rt: HostRuntime) {
     has_values(
         &rt,
         rt.alloc(),
@@ -82,26 +88,24 @@ fn variables_have_their_values_in_order(rt: HostRuntime) -> Result<(), Fail> {
             ("@{A}=@{B_1} c\n@{B_1}=b", &["/b", "/c"]),
             ("@{A}=a\nprofile p { }\n@{A}+=b", &["/a"]),
         ],
-    )?;
-    Ok(())
+    );
 }
 
 /// The number of the words of a text's preamble.
-fn end_of(alloc: Global, text: &str) -> Result<usize, PolicyFault> {
-    let (_, next) = read(alloc, text)?;
-    Ok(next)
+fn end_of(rt: &impl Abort, alloc: Global, text: &str) -> usize {
+    let (_, next) = preamble(rt, alloc, text);
+    next
 }
 
 /// The preamble of each of the texts has so many words.
-fn ends_each(rt: &impl Abort, alloc: Global, rows: &[(&str, usize)]) -> Result<(), PolicyFault> {
+fn ends_each(rt: &impl Abort, alloc: Global, rows: &[(&str, usize)]) {
     for (text, end) in rows {
-        equal_in(rt, end_of(alloc, text)?, *end, text);
+        equal_in(rt, end_of(rt, alloc, text), *end, text);
     }
-    Ok(())
 }
 
 #[test]
-fn preambles_end_where_no_item_begins(rt: HostRuntime) -> Result<(), Fail> {
+fn preambles_end_where_no_item_begins(rt: HostRuntime) {
     ends_each(
         &rt,
         rt.alloc(),
@@ -122,8 +126,7 @@ fn preambles_end_where_no_item_begins(rt: HostRuntime) -> Result<(), Fail> {
             ("@{A}=a\n@{A}/ = b", 3),
             ("\"abi\" <x>,", 0),
         ],
-    )?;
-    Ok(())
+    );
 }
 
 /// The texts are refused, each with that number at that byte.

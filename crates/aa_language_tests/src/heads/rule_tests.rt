@@ -3,11 +3,10 @@
 use crate::comparing::equal;
 use crate::texts::words_of;
 use aa_rules::{FileTree, RuleTree, rule_of};
-use aa_words::{PolicyFault, Sources, Spot, WordList};
+use aa_words::{Sources, Spot, WordList};
 use bitflags::Flags;
 use std::alloc::Global;
 use std::process::Abort;
-use std::test::Fail;
 
 /// A file rule as it is written: where its path stands, its bytes, the owner, the bits.
 type Row = (u32, &'static str, bool, u8);
@@ -39,17 +38,20 @@ fn behind_all(list: &WordList, start: usize, rows: &[Row]) -> Option<usize> {
     Some(at)
 }
 
-/// The body of a text that is `profile p {`, rules and `}` has these file rules, and no others.
-fn has_files(rt: &impl Abort, alloc: Global, text: &str, rows: &[Row]) -> Result<(), PolicyFault> {
-    let sources = Sources::new(alloc);
-    let list = words_of(alloc, &sources, text.as_bytes())?;
+fn has_files_with(rt: &impl Abort, alloc: Global, sources: &Sources, text: &str, rows: &[Row]) {
+    let list = words_of(alloc, sources, text.as_bytes()).expect(rt, "words");
     let closing = behind_all(&list, 3, rows);
     equal(rt, closing, Some(list.list.len().saturating_sub(1)));
-    Ok(())
+}
+
+/// The body of a text that is `profile p {`, rules and `}` has these file rules, and no others.
+fn has_files(rt: &impl Abort, alloc: Global, text: &str, rows: &[Row]) {
+    let sources = Sources::new(alloc);
+    has_files_with(rt, alloc, &sources, text, rows);
 }
 
 #[test]
-fn files_are_read_in_both_orders_and_alone(rt: HostRuntime) -> Result<(), Fail> {
+fn files_are_read_in_both_orders_and_alone(rt: HostRuntime) {
     has_files(
         &rt,
         rt.alloc(),
@@ -65,6 +67,5 @@ fn files_are_read_in_both_orders_and_alone(rt: HostRuntime) -> Result<(), Fail> 
             (82, "/x", false, 64),
             (97, "/y", true, 32),
         ],
-    )?;
-    Ok(())
+    );
 }

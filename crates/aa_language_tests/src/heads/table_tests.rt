@@ -3,9 +3,8 @@
 use crate::comparing::{equal, equal_in, holds_in};
 use aa_tables::{Cap, Caps, Family, SockType};
 use bitflags::Flags;
-use std::alloc::{AllocError, Global};
+use std::alloc::Global;
 use std::process::Abort;
-use std::test::Fail;
 
 const FAMILIES: &str = "unix inet ax25 ipx appletalk netrom bridge atmpvc x25 inet6 rose netbeui \
     security key netlink packet ash econet atmsvc rds sna irda pppox wanpipe llc ib mpls can tipc \
@@ -105,25 +104,28 @@ fn bit_of(name: &[u8]) -> Option<u64> {
     1u64.checked_shl(cap.number() as u32)
 }
 
+fn in_lower_case(rt: &impl Abort, alloc: Global, name: &str) -> String {
+    name.to_ascii_lowercase(alloc).expect(rt, "memory")
+}
+
 /// Whether a constant's name in lower case is the capability with that number, and its bits are that one's.
-fn is_at_its_bit(alloc: Global, number: usize, name: &str, bits: u64) -> Result<bool, AllocError> {
-    let lower = name.to_ascii_lowercase(alloc)?;
-    Ok(
-        cap_of(lower.as_bytes()) == Some((number, lower.as_str()))
-            && bit_of(lower.as_bytes()) == Some(bits),
-    )
+fn is_at_its_bit(rt: &impl Abort, alloc: Global, number: usize, name: &str, bits: u64) -> bool {
+    let lower = in_lower_case(rt, alloc, name);
+    cap_of(lower.as_bytes()) == Some((number, lower.as_str()))
+        && bit_of(lower.as_bytes()) == Some(bits)
 }
 
 #[test]
-fn every_capability_stands_at_its_bit(rt: HostRuntime) -> Result<(), Fail> {
+fn every_capability_stands_at_its_bit(rt: HostRuntime) {
     for (n, flag) in Caps::FLAGS.iter().enumerate() {
-        assert!(rt;
-            is_at_its_bit(rt.alloc(), n, flag.name(), flag.value().bits())?,
-            "{n}"
+        let name = flag.name();
+        holds_in(
+            &rt,
+            is_at_its_bit(&rt, rt.alloc(), n, name, flag.value().bits()),
+            name,
         );
     }
     equal(&rt, Caps::FLAGS.len(), 41);
-    Ok(())
 }
 
 /// Whether the family with that name has that number, and is named so.
