@@ -1,6 +1,6 @@
 //! Profiles in their row: names, parents, attachments, and what stands under each.
 
-use crate::comparing::holds;
+use crate::comparing::{equal, holds};
 use crate::policy::reading::{has_flags, has_profiles, lists, matches_each};
 use aa_policy::{Seq, Text, matching_is_decided, parse, spelled_once};
 use aa_words::{Span, Spot, Word, WordKind, WordList};
@@ -171,11 +171,12 @@ fn refusal_by_hand(rt: &impl Abort, alloc: Global, name: &str, path: &str) -> (u
 
 /// The words of each row are refused as it says.
 fn refuses_each(rt: &impl Abort, alloc: Global, rows: &[Row]) {
-    for (name, path, found) in rows {
-        assert_eq!(rt;
-            refusal_by_hand(rt, alloc, name, path),
-            *found,
-            "{name} {path}"
+    for row in rows {
+        let (name, path, _) = *row;
+        equal(
+            rt,
+            (name, path, refusal_by_hand(rt, alloc, name, path)),
+            *row,
         );
     }
 }

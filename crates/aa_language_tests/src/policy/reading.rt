@@ -5,7 +5,7 @@ use crate::texts::{is_matched, words_of};
 use aa_glob::Pattern;
 use aa_policy::{
     CapRule, ChangeRule, Exec, ExecKind, Fallback, FileRule, NetRule, PassedOver, Policy, Profile,
-    parse,
+    Text, parse,
 };
 use aa_words::{PolicyFault, Sources, WordList};
 use bitflags::Flags;
@@ -214,23 +214,18 @@ pub fn has_files(rt: &impl Abort, alloc: Global, text: &str, rows: &[FileRow]) {
 /// empty where none is named.
 pub type ExecRow = Option<(ExecKind, bool, Fallback, &'static str)>;
 
-fn target_of(exec: &Exec) -> &[u8] {
-    match &exec.target {
-        Some(target) => target.as_slice(),
-        None => &[],
+fn is_target(target: &Option<Text>, name: &str) -> bool {
+    match target {
+        Some(target) => !name.is_empty() && target.as_slice() == name.as_bytes(),
+        None => name.is_empty(),
     }
 }
 
-fn is_exec(exec: &Option<Exec>, row: &ExecRow) -> bool {
-    match (exec, row) {
-        (Some(exec), Some((kind, scrub, fallback, name))) => {
-            (exec.kind, exec.scrub, exec.fallback) == (*kind, *scrub, *fallback)
-                && target_of(exec) == name.as_bytes()
-                && exec.target.is_none() == name.is_empty()
-        }
-        (None, None) => true,
-        _ => false,
-    }
+fn is_exec(exec: &Exec, row: &(ExecKind, bool, Fallback, &str)) -> bool {
+    exec.kind == row.0
+        && exec.scrub == row.1
+        && exec.fallback == row.2
+        && is_target(&exec.target, row.3)
 }
 
 impl Describes for ExecRow {
@@ -241,7 +236,11 @@ impl Describes for ExecRow {
     }
 
     fn describes(&self, rule: &FileRule) -> bool {
-        is_exec(&rule.exec, self)
+        match (&rule.exec, self) {
+            (Some(exec), Some(row)) => is_exec(exec, row),
+            (None, None) => true,
+            _ => false,
+        }
     }
 }
 

@@ -171,29 +171,26 @@ fn lists_each(rt: &impl Abort, alloc: Global, table: &[ListedRow]) {
 
 #[test]
 fn rules_that_are_passed_over_are_listed(rt: HostRuntime) {
-    lists_each(
-        &rt,
-        rt.alloc(),
-        &[
-            (
-                "profile p { signal (send, receive) peer=\"a,b\", /x r, }",
-                &[(0, "signal")],
-            ),
-            (
-                "profile p { audit deny mount options=(rw, bind), }",
-                &[(0, "mount")],
-            ),
-            (
-                "profile p { /a r, change_profile -> q, ptrace, } profile q { } profile r { allow io_uring, deny /b r, dbus, }",
-                &[(0, "ptrace"), (2, "io_uring"), (2, "dbus")],
-            ),
-            (
-                "profile p { set rlimit nofile <= 4, userns, mqueue, umount{a,b}, }",
-                &[(0, "set"), (0, "userns"), (0, "mqueue"), (0, "umount")],
-            ),
-            ("profile p { }", &[]),
-        ],
-    );
+    const ROWS: &[ListedRow] = &[
+        (
+            "profile p { signal (send, receive) peer=\"a,b\", /x r, }",
+            &[(0, "signal")],
+        ),
+        (
+            "profile p { audit deny mount options=(rw, bind), }",
+            &[(0, "mount")],
+        ),
+        (
+            "profile p { /a r, change_profile -> q, ptrace, } profile q { } profile r { allow io_uring, deny /b r, dbus, }",
+            &[(0, "ptrace"), (2, "io_uring"), (2, "dbus")],
+        ),
+        (
+            "profile p { set rlimit nofile <= 4, userns, mqueue, umount{a,b}, }",
+            &[(0, "set"), (0, "userns"), (0, "mqueue"), (0, "umount")],
+        ),
+        ("profile p { }", &[]),
+    ];
+    lists_each(&rt, rt.alloc(), ROWS);
 }
 
 #[test]
