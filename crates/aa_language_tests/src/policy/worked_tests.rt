@@ -26,7 +26,7 @@ fn a_profile_that_complains_has_its_flag_and_its_rules(rt: HostRuntime) {
 }
 
 /// The profile of each text has no flags, and these file rules.
-fn reads_each(rt: &impl Abort, alloc: Global, table: &[(&str, [FileRow; 2])]) {
+fn reads_each(rt: &impl Abort, alloc: Global, table: &[(&str, &[FileRow])]) {
     for (text, rows) in table {
         has_flags(rt, alloc, text, &[(false, false)]);
         has_files(rt, alloc, text, rows);
@@ -35,28 +35,25 @@ fn reads_each(rt: &impl Abort, alloc: Global, table: &[(&str, [FileRow; 2])]) {
 
 #[test]
 fn rules_that_deny_are_read_in_either_order(rt: HostRuntime) {
-    reads_each(
-        &rt,
-        rt.alloc(),
-        &[
-            (
-                "profile p { deny /etc/** w, /etc/** rw, }",
-                [("deny", 6, 1, 6), ("", 7, 1, 6)],
-            ),
-            (
-                "profile p { /etc/** rw, deny /etc/** w, }",
-                [("", 7, 1, 6), ("deny", 6, 1, 6)],
-            ),
-            (
-                "profile p { audit deny /etc/** w, /etc/** rw, }",
-                [("audit deny", 6, 1, 6), ("", 7, 1, 6)],
-            ),
-            (
-                "profile p { deny /etc/** a, /etc/** rw, }",
-                [("deny", 4, 1, 6), ("", 7, 1, 6)],
-            ),
-        ],
-    );
+    const ROWS: &[(&str, &[FileRow])] = &[
+        (
+            "profile p { deny /etc/** w, /etc/** rw, }",
+            &[("deny", 6, 1, 6), ("", 7, 1, 6)],
+        ),
+        (
+            "profile p { /etc/** rw, deny /etc/** w, }",
+            &[("", 7, 1, 6), ("deny", 6, 1, 6)],
+        ),
+        (
+            "profile p { audit deny /etc/** w, /etc/** rw, }",
+            &[("audit deny", 6, 1, 6), ("", 7, 1, 6)],
+        ),
+        (
+            "profile p { deny /etc/** a, /etc/** rw, }",
+            &[("deny", 4, 1, 6), ("", 7, 1, 6)],
+        ),
+    ];
+    reads_each(&rt, rt.alloc(), ROWS);
 }
 
 #[test]
