@@ -1,6 +1,6 @@
 //! What file rules say, and the rules that are passed over.
 
-use crate::policy::reading::{has_execs, has_files, has_profiles, lists, matches_each};
+use crate::policy::reading::{ExecRow, has_execs, has_files, has_profiles, lists, matches_each};
 use aa_policy::{ExecKind, Fallback};
 use std::alloc::Global;
 use std::process::Abort;
@@ -142,21 +142,19 @@ fn variables_stand_for_each_of_their_values(rt: HostRuntime) {
 
 #[test]
 fn rules_say_how_a_program_is_executed(rt: HostRuntime) {
-    has_execs(
-        &rt,
-        rt.alloc(),
-        "profile p { /x px -> q, /x rCx -> \"q r\", cix /x -> /q, file /x PUx -> q//r, /x ix, file Ux /x, /x r, deny /x x, }",
-        &[
-            Some((ExecKind::Profile, false, Fallback::Refuse, "q")),
-            Some((ExecKind::Child, true, Fallback::Refuse, "q r")),
-            Some((ExecKind::Child, false, Fallback::Inherit, "/q")),
-            Some((ExecKind::Profile, true, Fallback::Unconfined, "q//r")),
-            Some((ExecKind::Inherit, false, Fallback::Refuse, "")),
-            Some((ExecKind::Unconfined, true, Fallback::Refuse, "")),
-            None,
-            None,
-        ],
-    );
+    const ROWS: &[ExecRow] = &[
+        Some((ExecKind::Profile, false, Fallback::Refuse, "q")),
+        Some((ExecKind::Child, true, Fallback::Refuse, "q r")),
+        Some((ExecKind::Child, false, Fallback::Inherit, "/q")),
+        Some((ExecKind::Profile, true, Fallback::Unconfined, "q//r")),
+        Some((ExecKind::Inherit, false, Fallback::Refuse, "")),
+        Some((ExecKind::Unconfined, true, Fallback::Refuse, "")),
+        None,
+        None,
+    ];
+    let text =
+        "profile p { /x px -> q, /x rCx -> \"q r\", cix /x -> /q, file /x PUx -> q//r, /x ix, file Ux /x, /x r, deny /x x, }";
+    has_execs(&rt, rt.alloc(), text, ROWS);
 }
 
 /// A text, and its rules that are passed over: the profile and the keyword of each.

@@ -1,6 +1,8 @@
 //! Texts of which verdicts and audit lines are worked out elsewhere: that they are read, and as what.
 
-use crate::policy::reading::{FileRow, has_caps, has_execs, has_files, has_flags, has_nets};
+use crate::policy::reading::{
+    ExecRow, FileRow, has_caps, has_execs, has_files, has_flags, has_nets,
+};
 use aa_policy::{ExecKind, Fallback};
 use std::alloc::Global;
 use std::process::Abort;
@@ -58,18 +60,15 @@ fn rules_that_deny_are_read_in_either_order(rt: HostRuntime) {
 
 #[test]
 fn each_exec_part_says_where_to_else(rt: HostRuntime) {
-    has_execs(
-        &rt,
-        rt.alloc(),
-        "profile p { /a pix, /b px, /c pux, /d Px -> q, /e PUx, } profile q { }",
-        &[
-            Some((ExecKind::Profile, false, Fallback::Inherit, "")),
-            Some((ExecKind::Profile, false, Fallback::Refuse, "")),
-            Some((ExecKind::Profile, false, Fallback::Unconfined, "")),
-            Some((ExecKind::Profile, true, Fallback::Refuse, "q")),
-            Some((ExecKind::Profile, true, Fallback::Unconfined, "")),
-        ],
-    );
+    const ROWS: &[ExecRow] = &[
+        Some((ExecKind::Profile, false, Fallback::Inherit, "")),
+        Some((ExecKind::Profile, false, Fallback::Refuse, "")),
+        Some((ExecKind::Profile, false, Fallback::Unconfined, "")),
+        Some((ExecKind::Profile, true, Fallback::Refuse, "q")),
+        Some((ExecKind::Profile, true, Fallback::Unconfined, "")),
+    ];
+    let text = "profile p { /a pix, /b px, /c pux, /d Px -> q, /e PUx, } profile q { }";
+    has_execs(&rt, rt.alloc(), text, ROWS);
 }
 
 #[test]
