@@ -3,6 +3,7 @@
 use aa_requests::{Label, Note, NoteWord, Request, RequestFault};
 use aa_tables::{Cap, Family, Perms, SockType};
 use std::alloc::Global;
+use std::process::Abort;
 
 /// The first profile of the first policy.
 pub const FIRST: Label = Label::Confined(0, 0);
@@ -68,6 +69,11 @@ pub fn request(alloc: Global, ask: Ask) -> Result<Request, RequestFault> {
         Ask::Change(name) => change(alloc, name),
         Ask::Reload(policy) => Ok(Request::reload(policy)),
     }
+}
+
+/// The same of what a request may ask.
+pub fn asked(rt: &impl Abort, alloc: Global, ask: Ask) -> Request {
+    request(alloc, ask).expect(rt, "a request")
 }
 
 /// The word and the permissions of an answer's note, where it has one.

@@ -1,6 +1,6 @@
 //! What tests compare, each in a function without a clause: so a proof pays once for the message of a failure.
 
-use std::fmt::Debug;
+use std::fmt::{Debug, Display};
 use std::process::Abort;
 
 /// Both are the same.
@@ -16,6 +16,17 @@ pub(crate) fn equal_in<T: PartialEq + Debug + Copy>(
     text: &str,
 ) {
     assert_eq!(rt; found, expected, "in {text}");
+}
+
+/// Both are the same, of what these two name.
+pub(crate) fn equal_at<T: PartialEq + Debug + Copy>(
+    rt: &impl Abort,
+    found: T,
+    expected: T,
+    first: &impl Display,
+    second: &impl Display,
+) {
+    assert_eq!(rt; found, expected, "at {first} {second}");
 }
 
 /// It is so.

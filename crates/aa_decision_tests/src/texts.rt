@@ -4,6 +4,7 @@ use aa_compile::{Compiled, compile};
 use aa_policy::{Policy, parse};
 use aa_words::{PolicyFault, Sources, WordList, words};
 use std::alloc::Global;
+use std::process::Abort;
 
 fn words_of<'s>(
     alloc: Global,
@@ -13,11 +14,13 @@ fn words_of<'s>(
     words(alloc, sources, text.as_bytes())
 }
 
-/// The policy that a text spells.
+fn parsed(alloc: Global, sources: &Sources, text: &str) -> Result<Policy, PolicyFault> {
+    parse(alloc, &words_of(alloc, sources, text)?)
+}
+
+/// The policy that a text spells, or its fault.
 pub fn read(alloc: Global, text: &str) -> Result<Policy, PolicyFault> {
-    let sources = Sources::new(alloc);
-    let list = words_of(alloc, &sources, text)?;
-    parse(alloc, &list)
+    parsed(alloc, &Sources::new(alloc), text)
 }
 
 /// The policy that a text spells, compiled, or the fault for which it isn't. The limit is from 1 to 1,000,000.
@@ -29,11 +32,25 @@ pub fn compiled(alloc: Global, text: &str, limit: u32) -> Result<Compiled, Polic
     }
 }
 
+/// The policy that a text spells.
+pub fn spelled(rt: &impl Abort, alloc: Global, text: &str) -> Policy {
+    read(alloc, text).expect(rt, "a policy")
+}
+
+/// The policy that a text spells, compiled.
+pub fn policy(rt: &impl Abort, alloc: Global, text: &str, limit: u32) -> Compiled {
+    compiled(alloc, text, limit).expect(rt, "a policy that compiles")
+}
+
+fn push(rt: &impl Abort, list: &mut Vec<Compiled>, policy: Compiled) {
+    list.push(policy).expect(rt, "memory");
+}
+
 /// The policies that the texts spell, compiled.
-pub fn policies(alloc: Global, texts: &[&str]) -> Result<Vec<Compiled>, PolicyFault> {
+pub fn policies(rt: &impl Abort, alloc: Global, texts: &[&str]) -> Vec<Compiled> {
     let mut list = Vec::new(alloc);
     for text in texts {
-        list.push(compiled(alloc, text, 4096)?)?;
+        push(rt, &mut list, policy(rt, alloc, text, 4096));
     }
-    Ok(list)
+    list
 }

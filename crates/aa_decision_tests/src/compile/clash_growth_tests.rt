@@ -6,7 +6,6 @@ use aa_clashes::Clash;
 use aa_words::PolicyKind;
 use std::alloc::Global;
 use std::process::Abort;
-use std::test::Fail;
 
 // Tries again where a growth is refused.
 fn found_at_last(rt: &impl Abort, alloc: Global) -> Option<Clash> {
@@ -20,7 +19,6 @@ fn found_at_last(rt: &impl Abort, alloc: Global) -> Option<Clash> {
 }
 
 #[test]
-fn a_growth_refused_to_search_is_no_memory(rt: HostRuntime) -> Result<(), Fail> {
+fn a_growth_refused_to_search_is_no_memory(rt: HostRuntime) {
     holds(&rt, is_found(&found_at_last(&rt, rt.alloc()), 0, 1, "/l"));
-    Ok(())
 }

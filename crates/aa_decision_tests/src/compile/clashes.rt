@@ -45,6 +45,11 @@ pub fn conflict(alloc: Global, text: &str, limit: u16) -> Result<Option<Clash>, 
     first_conflict(alloc, &policy, limit)
 }
 
+/// The same of a policy whose automaton is within 65,535 states.
+fn conflict_of(rt: &impl Abort, alloc: Global, text: &str) -> Option<Clash> {
+    conflict(alloc, text, 65535).expect(rt, text)
+}
+
 /// Whether these two rules are found, and that text.
 pub fn is_found(clash: &Option<Clash>, first: usize, second: usize, text: &str) -> bool {
     match clash {
@@ -63,20 +68,15 @@ pub type Row = (&'static str, usize, usize, &'static str);
 /// Each of the texts has that conflict.
 pub fn finds_each(rt: &impl Abort, alloc: Global, rows: &[Row]) {
     for (text, first, second, path) in rows {
-        match conflict(alloc, text, 65535) {
-            Ok(clash) => holds_in(rt, is_found(&clash, *first, *second, path), text),
-            Err(_) => panic!(rt; "refused: {text}"),
-        }
+        let clash = conflict_of(rt, alloc, text);
+        holds_in(rt, is_found(&clash, *first, *second, path), text);
     }
 }
 
 /// None of the texts has one.
 pub fn finds_none(rt: &impl Abort, alloc: Global, rows: &[&'static str]) {
     for text in rows {
-        match conflict(alloc, text, 65535) {
-            Ok(clash) => holds_in(rt, clash.is_none(), text),
-            Err(_) => panic!(rt; "refused: {text}"),
-        }
+        holds_in(rt, conflict_of(rt, alloc, text).is_none(), text);
     }
 }
 

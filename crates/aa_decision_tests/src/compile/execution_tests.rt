@@ -2,7 +2,6 @@
 
 use crate::compile::policies::{Executed, executes};
 use aa_compile::Transition::{Denied, Nowhere, To};
-use std::test::Fail;
 
 const BY_FALLBACKS: &[Executed] = &[
     (0, "/a", Some(To(Some(0), false))),
@@ -14,9 +13,9 @@ const BY_FALLBACKS: &[Executed] = &[
 ];
 
 #[test]
-fn transitions_and_fallbacks(rt: HostRuntime) -> Result<(), Fail> {
+fn transitions_and_fallbacks(rt: HostRuntime) {
     let text = "profile p { /a pix, /b px, /c pux, /d Px -> q, /e PUx, } profile q { }";
-    executes(&rt, rt.alloc(), text, BY_FALLBACKS)
+    executes(&rt, rt.alloc(), text, BY_FALLBACKS);
 }
 
 const OF_A_CHILD: &[Executed] = &[
@@ -25,9 +24,9 @@ const OF_A_CHILD: &[Executed] = &[
 ];
 
 #[test]
-fn a_child_has_no_children(rt: HostRuntime) -> Result<(), Fail> {
+fn a_child_has_no_children(rt: HostRuntime) {
     let text = "profile p { /h cx -> helper, profile helper { /h cx -> helper, } }";
-    executes(&rt, rt.alloc(), text, OF_A_CHILD)
+    executes(&rt, rt.alloc(), text, OF_A_CHILD);
 }
 
 const BY_A_LITERAL_RULE: &[Executed] = &[
@@ -36,9 +35,9 @@ const BY_A_LITERAL_RULE: &[Executed] = &[
 ];
 
 #[test]
-fn a_literal_rule_decides_before_others(rt: HostRuntime) -> Result<(), Fail> {
+fn a_literal_rule_decides_before_others(rt: HostRuntime) {
     let text = "profile p { /bin/* px, /bin/ls ix, }";
-    executes(&rt, rt.alloc(), text, BY_A_LITERAL_RULE)
+    executes(&rt, rt.alloc(), text, BY_A_LITERAL_RULE);
 }
 
 const BY_PATH: &[Executed] = &[
@@ -52,8 +51,8 @@ const BY_PATH: &[Executed] = &[
 ];
 
 #[test]
-fn profiles_and_children_by_path(rt: HostRuntime) -> Result<(), Fail> {
+fn profiles_and_children_by_path(rt: HostRuntime) {
     let text =
         "profile p { /q px, /q2 Px, /c* Cx, deny /z x, /z ix, profile c /c { } profile d /c* { } } profile q /q* { }";
-    executes(&rt, rt.alloc(), text, BY_PATH)
+    executes(&rt, rt.alloc(), text, BY_PATH);
 }

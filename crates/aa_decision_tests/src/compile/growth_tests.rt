@@ -8,7 +8,6 @@ use aa_compile::Transition::To;
 use aa_faults::PolicyKind;
 use std::alloc::Global;
 use std::process::Abort;
-use std::test::Fail;
 
 // Tries again where a growth is refused.
 fn three_at_last(rt: &impl Abort, alloc: Global) -> Compiled {
@@ -22,17 +21,19 @@ fn three_at_last(rt: &impl Abort, alloc: Global) -> Compiled {
     panic!(rt; "refused each time")
 }
 
-#[test]
-fn a_growth_refused_to_compile_is_no_memory(rt: HostRuntime) -> Result<(), Fail> {
-    let policy = three_at_last(&rt, rt.alloc());
-    are_attached(&rt, &policy, &[("/pp", Some(0))]);
+fn are_three(rt: &impl Abort, policy: &Compiled) {
+    are_attached(rt, policy, &[("/pp", Some(0))]);
     are_executed(
-        &rt,
-        &policy,
+        rt,
+        policy,
         &[
             (0, "/q", Some(To(Some(2), true))),
             (0, "/c", Some(To(Some(1), false))),
         ],
     );
-    Ok(())
+}
+
+#[test]
+fn a_growth_refused_to_compile_is_no_memory(rt: HostRuntime) {
+    are_three(&rt, &three_at_last(&rt, rt.alloc()));
 }

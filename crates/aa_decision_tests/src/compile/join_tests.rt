@@ -2,16 +2,15 @@
 
 use crate::compile::joins::{has_profiles, has_rules};
 use aa_joins::{JoinFault, Repeated};
-use std::test::Fail;
 
 #[test]
-fn no_policies_have_no_profile(rt: HostRuntime) -> Result<(), Fail> {
-    has_profiles(&rt, rt.alloc(), &[], &[], None)?;
-    has_rules(&rt, rt.alloc(), &[], &[])
+fn no_policies_have_no_profile(rt: HostRuntime) {
+    has_profiles(&rt, rt.alloc(), &[], &[], None);
+    has_rules(&rt, rt.alloc(), &[], &[]);
 }
 
 #[test]
-fn children_follow_their_parents(rt: HostRuntime) -> Result<(), Fail> {
+fn children_follow_their_parents(rt: HostRuntime) {
     has_profiles(
         &rt,
         rt.alloc(),
@@ -29,11 +28,11 @@ fn children_follow_their_parents(rt: HostRuntime) -> Result<(), Fail> {
             ("e//f", Some(4)),
         ],
         None,
-    )
+    );
 }
 
 #[test]
-fn passed_over_rules_follow_their_profiles(rt: HostRuntime) -> Result<(), Fail> {
+fn passed_over_rules_follow_their_profiles(rt: HostRuntime) {
     has_rules(
         &rt,
         rt.alloc(),
@@ -42,7 +41,7 @@ fn passed_over_rules_follow_their_profiles(rt: HostRuntime) -> Result<(), Fail> 
             "profile c { } profile d { dbus, unix, }",
         ],
         &[(0, "mount"), (3, "dbus"), (3, "unix")],
-    )
+    );
 }
 
 const REPEATED: Option<JoinFault> = Some(JoinFault::DuplicateProfile(Repeated {
@@ -51,7 +50,7 @@ const REPEATED: Option<JoinFault> = Some(JoinFault::DuplicateProfile(Repeated {
 }));
 
 #[test]
-fn a_name_that_is_there_is_refused_with_both_numbers(rt: HostRuntime) -> Result<(), Fail> {
+fn a_name_that_is_there_is_refused_with_both_numbers(rt: HostRuntime) {
     has_profiles(
         &rt,
         rt.alloc(),
@@ -62,7 +61,7 @@ fn a_name_that_is_there_is_refused_with_both_numbers(rt: HostRuntime) -> Result<
         ],
         &[("a", None), ("b", None)],
         REPEATED,
-    )
+    );
 }
 
 const REPEATED_BEFORE: Option<JoinFault> = Some(JoinFault::DuplicateProfile(Repeated {
@@ -71,7 +70,7 @@ const REPEATED_BEFORE: Option<JoinFault> = Some(JoinFault::DuplicateProfile(Repe
 }));
 
 #[test]
-fn names_of_a_refused_policy_stay_free(rt: HostRuntime) -> Result<(), Fail> {
+fn names_of_a_refused_policy_stay_free(rt: HostRuntime) {
     has_profiles(
         &rt,
         rt.alloc(),
@@ -82,5 +81,5 @@ fn names_of_a_refused_policy_stay_free(rt: HostRuntime) -> Result<(), Fail> {
         ],
         &[("a", None), ("b", None)],
         REPEATED_BEFORE,
-    )
+    );
 }

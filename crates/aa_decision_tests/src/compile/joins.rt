@@ -2,13 +2,11 @@
 //! that a test's proof stays short.
 
 use crate::comparing::{equal, equal_in, holds_in};
-use crate::texts::read;
+use crate::texts::spelled;
 use aa_joins::{JoinFault, Joining};
 use aa_policy::{PassedOver, Policy, Profile, Text};
-use aa_words::PolicyFault;
 use std::alloc::Global;
 use std::process::Abort;
-use std::test::Fail;
 
 /// Adds a policy. Why it is refused, if it is.
 fn add(joining: &mut Joining, policy: Policy) -> Option<JoinFault> {
@@ -18,17 +16,25 @@ fn add(joining: &mut Joining, policy: Policy) -> Option<JoinFault> {
     }
 }
 
-/// The policies that the texts spell, joined but for those that are refused, and why the last was refused that was.
-fn join(alloc: Global, texts: &[&str]) -> Result<(Policy, Option<JoinFault>), PolicyFault> {
-    let mut joining = Joining::new(alloc);
+/// Adds the policies that the texts spell. Why the last was refused that was.
+fn add_each(
+    rt: &impl Abort,
+    alloc: Global,
+    joining: &mut Joining,
+    texts: &[&str],
+) -> Option<JoinFault> {
     let mut fault = None;
     for text in texts {
-        let refused = add(&mut joining, read(alloc, text)?);
-        if refused.is_some() {
-            fault = refused;
-        }
+        fault = add(joining, spelled(rt, alloc, text)).or(fault);
     }
-    Ok((joining.into_policy(), fault))
+    fault
+}
+
+/// The policies that the texts spell, joined but for those that are refused, and why the last was refused that was.
+fn join(rt: &impl Abort, alloc: Global, texts: &[&str]) -> (Policy, Option<JoinFault>) {
+    let mut joining = Joining::new(alloc);
+    let fault = add_each(rt, alloc, &mut joining, texts);
+    (joining.into_policy(), fault)
 }
 
 /// The name of a profile, and its parent's number.
@@ -38,11 +44,15 @@ fn is_called(text: &Text, name: &str) -> bool {
     text.as_slice() == name.as_bytes()
 }
 
+fn is_profile(rt: &impl Abort, profile: &Profile, name: &str, parent: Option<u16>) {
+    holds_in(rt, is_called(&profile.name, name), name);
+    equal_in(rt, profile.parent, parent, name);
+}
+
 fn are_profiles(rt: &impl Abort, profiles: &[Profile], rows: &[Row]) {
     equal(rt, profiles.len(), rows.len());
-    for (profile, (name, parent)) in profiles.iter().zip(rows) {
-        holds_in(rt, is_called(&profile.name, name), name);
-        equal_in(rt, profile.parent, *parent, name);
+    for (profile, row) in profiles.iter().zip(rows) {
+        is_profile(rt, profile, row.0, row.1);
     }
 }
 
@@ -54,32 +64,28 @@ pub fn has_profiles(
     texts: &[&str],
     rows: &[Row],
     fault: Option<JoinFault>,
-) -> Result<(), Fail> {
-    let joined = join(alloc, texts)?;
+) {
+    let joined = join(rt, alloc, texts);
     are_profiles(rt, joined.0.profiles.as_slice(), rows);
     equal(rt, joined.1, fault);
-    Ok(())
 }
 
 /// The number of a profile, and the keyword of a rule of it that is passed over.
 pub type Listed = (u16, &'static str);
 
+fn is_rule(rt: &impl Abort, rule: &PassedOver, profile: u16, keyword: &str) {
+    equal_in(rt, rule.profile, profile, keyword);
+    holds_in(rt, is_called(&rule.kind, keyword), keyword);
+}
+
 fn are_rules(rt: &impl Abort, rules: &[PassedOver], rows: &[Listed]) {
     equal(rt, rules.len(), rows.len());
-    for (rule, (profile, keyword)) in rules.iter().zip(rows) {
-        assert_eq!(rt; rule.profile, *profile, "{keyword}");
-        assert!(rt; is_called(&rule.kind, keyword), "{keyword}");
+    for (rule, row) in rules.iter().zip(rows) {
+        is_rule(rt, rule, row.0, row.1);
     }
 }
 
 /// The rules of the joined policies that are passed over are these, in their order.
-pub fn has_rules(
-    rt: &impl Abort,
-    alloc: Global,
-    texts: &[&str],
-    rows: &[Listed],
-) -> Result<(), Fail> {
-    let joined = join(alloc, texts)?;
-    are_rules(rt, joined.0.passed_over.as_slice(), rows);
-    Ok(())
+pub fn has_rules(rt: &impl Abort, alloc: Global, texts: &[&str], rows: &[Listed]) {
+    are_rules(rt, join(rt, alloc, texts).0.passed_over.as_slice(), rows);
 }

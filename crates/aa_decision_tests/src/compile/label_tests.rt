@@ -2,7 +2,6 @@
 
 use crate::compile::labels::{Called, Named, There, calls_each, finds_each, has_each};
 use aa_labels::Label::{Confined, Unconfined};
-use std::test::Fail;
 
 const TWO: &[&str] = &["profile p { profile h { } }", "profile q { } profile p { }"];
 
@@ -19,8 +18,8 @@ const CALLED: &[Called] = &[
 ];
 
 #[test]
-fn names_of_labels(rt: HostRuntime) -> Result<(), Fail> {
-    calls_each(&rt, rt.alloc(), TWO, CALLED)
+fn names_of_labels(rt: HostRuntime) {
+    calls_each(&rt, rt.alloc(), TWO, CALLED);
 }
 
 const THERE: &[There] = &[
@@ -34,9 +33,9 @@ const THERE: &[There] = &[
 ];
 
 #[test]
-fn profiles_by_their_numbers(rt: HostRuntime) -> Result<(), Fail> {
+fn profiles_by_their_numbers(rt: HostRuntime) {
     let texts = ["profile p { }", "profile q { } profile r { }"];
-    has_each(&rt, rt.alloc(), &texts, THERE)
+    has_each(&rt, rt.alloc(), &texts, THERE);
 }
 
 const NAMED: &[Named] = &[
@@ -55,8 +54,8 @@ const NAMED: &[Named] = &[
 ];
 
 #[test]
-fn labels_by_their_names(rt: HostRuntime) -> Result<(), Fail> {
-    finds_each(&rt, rt.alloc(), TWO, NAMED)
+fn labels_by_their_names(rt: HostRuntime) {
+    finds_each(&rt, rt.alloc(), TWO, NAMED);
 }
 
 const CALLED_IN_NONE: &[Called] = &[(Confined(0, 0), ""), (Unconfined(0), "unconfined")];
@@ -66,8 +65,8 @@ const THERE_IN_NONE: &[There] = &[(0, 0, None)];
 const NAMED_IN_NONE: &[Named] = &[(0, "unconfined", None), (0, "p", None)];
 
 #[test]
-fn no_policies(rt: HostRuntime) -> Result<(), Fail> {
-    calls_each(&rt, rt.alloc(), &[], CALLED_IN_NONE)?;
-    has_each(&rt, rt.alloc(), &[], THERE_IN_NONE)?;
-    finds_each(&rt, rt.alloc(), &[], NAMED_IN_NONE)
+fn no_policies(rt: HostRuntime) {
+    calls_each(&rt, rt.alloc(), &[], CALLED_IN_NONE);
+    has_each(&rt, rt.alloc(), &[], THERE_IN_NONE);
+    finds_each(&rt, rt.alloc(), &[], NAMED_IN_NONE);
 }

@@ -7,37 +7,27 @@ use aa_audit::{plain_text, push_mask, push_value};
 use aa_requests::Label;
 use aa_requests::NoteWord::{Audit, Denied};
 use aa_tables::Perms;
-use std::alloc::{AllocError, Global};
+use std::alloc::Global;
 use std::process::Abort;
-use std::test::Fail;
 
-fn written(alloc: Global, name: &str) -> Result<String, AllocError> {
+fn written(rt: &impl Abort, alloc: Global, name: &str) -> String {
     let mut out = String::new(alloc);
-    push_value(&mut out, name.as_bytes())?;
-    Ok(out)
-}
-
-fn is_written(
-    rt: &impl Abort,
-    alloc: Global,
-    name: &str,
-    expected: &str,
-    is_plain: bool,
-) -> Result<(), AllocError> {
-    let out = written(alloc, name)?;
-    equal(rt, out.as_str(), expected);
-    equal_in(rt, plain_text(name.as_bytes()).is_some(), is_plain, name);
-    Ok(())
+    push_value(&mut out, name.as_bytes()).expect(rt, "memory");
+    out
 }
 
 /// A name, how it is written, and whether it is plain.
 type Written = (&'static str, &'static str, bool);
 
-fn are_written(rt: &impl Abort, alloc: Global, rows: &[Written]) -> Result<(), Fail> {
-    for (name, expected, is_plain) in rows {
-        is_written(rt, alloc, name, expected, *is_plain)?;
+fn is_written(rt: &impl Abort, alloc: Global, row: Written) {
+    equal(rt, written(rt, alloc, row.0).as_str(), row.1);
+    equal_in(rt, plain_text(row.0.as_bytes()).is_some(), row.2, row.0);
+}
+
+fn are_written(rt: &impl Abort, alloc: Global, rows: &[Written]) {
+    for row in rows {
+        is_written(rt, alloc, *row);
     }
-    Ok(())
 }
 
 const NAMES: &[Written] = &[
@@ -53,21 +43,20 @@ const NAMES: &[Written] = &[
 ];
 
 #[test]
-fn names_between_quotes_or_in_hexadecimal(rt: HostRuntime) -> Result<(), Fail> {
-    are_written(&rt, rt.alloc(), NAMES)
+fn names_between_quotes_or_in_hexadecimal(rt: HostRuntime) {
+    are_written(&rt, rt.alloc(), NAMES);
 }
 
-fn letters(alloc: Global, bits: u8) -> Result<String, AllocError> {
+fn letters(rt: &impl Abort, alloc: Global, bits: u8) -> String {
     let mut out = String::new(alloc);
-    push_mask(&mut out, Perms(bits))?;
-    Ok(out)
+    push_mask(&mut out, Perms(bits)).expect(rt, "memory");
+    out
 }
 
-fn are_letters(rt: &impl Abort, alloc: Global, rows: &[(u8, &'static str)]) -> Result<(), Fail> {
+fn are_letters(rt: &impl Abort, alloc: Global, rows: &[(u8, &'static str)]) {
     for (bits, expected) in rows {
-        equal(rt, letters(alloc, *bits)?.as_str(), *expected);
+        equal(rt, letters(rt, alloc, *bits).as_str(), *expected);
     }
-    Ok(())
 }
 
 const MASKS: &[(u8, &str)] = &[
@@ -84,8 +73,8 @@ const MASKS: &[(u8, &str)] = &[
 ];
 
 #[test]
-fn every_letter_of_a_mask(rt: HostRuntime) -> Result<(), Fail> {
-    are_letters(&rt, rt.alloc(), MASKS)
+fn every_letter_of_a_mask(rt: HostRuntime) {
+    are_letters(&rt, rt.alloc(), MASKS);
 }
 
 const LABELS_OF_TWO_POLICIES: &[Row] = &[

@@ -1,11 +1,11 @@
 //! Requests, answers and the lines that tell of them. The helpers have no clauses, so that a test's proof stays short.
 
-use crate::asks::{Ask, Told, note, request};
+use crate::asks::{Ask, Told, asked, note};
 use crate::comparing::equal;
 use crate::texts::policies;
 use aa_audit::{audit_line, push_audit_line};
 use aa_compile::Compiled;
-use aa_requests::{Answer, Label, NoteWord, Request, RequestFault};
+use aa_requests::{Answer, Label, NoteWord, Request};
 use std::alloc::{AllocError, Global};
 use std::process::Abort;
 
@@ -56,7 +56,8 @@ fn line_appended(
     Ok((out, is_one))
 }
 
-fn is_line(
+/// The row has the line that it says, made alone and appended.
+pub fn is_line(
     rt: &impl Abort,
     alloc: Global,
     policies: &[Compiled],
@@ -72,26 +73,17 @@ fn is_line(
     Ok(())
 }
 
-/// Each row has the line that it says, made alone and appended.
-pub fn says_each(
-    rt: &impl Abort,
-    alloc: Global,
-    policies: &[Compiled],
-    rows: &[Row],
-) -> Result<(), RequestFault> {
+fn says(rt: &impl Abort, alloc: Global, policies: &[Compiled], row: Row) {
+    is_line(rt, alloc, policies, row, &asked(rt, alloc, row.1)).expect(rt, "memory");
+}
+
+fn says_each(rt: &impl Abort, alloc: Global, policies: &[Compiled], rows: &[Row]) {
     for row in rows {
-        let asked = request(alloc, row.1)?;
-        if is_line(rt, alloc, policies, *row, &asked).is_err() {
-            return Err(RequestFault::NoMemory);
-        }
+        says(rt, alloc, policies, *row);
     }
-    Ok(())
 }
 
 /// Each row has the line that it says, where the texts spell the policies.
 pub fn says_all(rt: &impl Abort, alloc: Global, texts: &[&str], rows: &[Row]) {
-    let Ok(list) = policies(alloc, texts) else {
-        panic!(rt; "a policy is refused")
-    };
-    equal(rt, says_each(rt, alloc, &list, rows), Ok(()));
+    says_each(rt, alloc, &policies(rt, alloc, texts), rows);
 }

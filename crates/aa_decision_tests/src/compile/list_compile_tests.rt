@@ -1,29 +1,25 @@
 //! Texts that are policies.
 
 use crate::comparing::equal;
-use crate::compile::lists::{Found, Source, compiled, finds_each, profiles_of};
+use crate::compile::lists::{Found, Source, accepted, finds_each, profiles_of};
+use aa_policies::Compiled;
 use std::alloc::Global;
 use std::process::Abort;
-use std::test::Fail;
 
 /// The sources, the texts, and how many profiles each has.
 type Row = (&'static [Source], &'static [&'static str], &'static [usize]);
 
-fn has_profiles(rt: &impl Abort, alloc: Global, row: Row) -> Result<(), Fail> {
-    let (sources, texts, counts) = row;
-    let policies = compiled(alloc, sources, texts, 4096)?;
+fn are_of(rt: &impl Abort, policies: &[Compiled], counts: &[usize]) {
     equal(rt, policies.len(), counts.len());
     for (policy, count) in policies.iter().zip(counts) {
         equal(rt, profiles_of(policy), *count);
     }
-    Ok(())
 }
 
-fn have_profiles(rt: &impl Abort, alloc: Global, rows: &[Row]) -> Result<(), Fail> {
+fn have_profiles(rt: &impl Abort, alloc: Global, rows: &[Row]) {
     for row in rows {
-        has_profiles(rt, alloc, *row)?;
+        are_of(rt, &accepted(rt, alloc, row.0, row.1, 4096), row.2);
     }
-    Ok(())
 }
 
 const POLICIES: &[Row] = &[
@@ -46,8 +42,8 @@ const POLICIES: &[Row] = &[
 ];
 
 #[test]
-fn each_text_is_a_policy_of_its_own(rt: HostRuntime) -> Result<(), Fail> {
-    have_profiles(&rt, rt.alloc(), POLICIES)
+fn each_text_is_a_policy_of_its_own(rt: HostRuntime) {
+    have_profiles(&rt, rt.alloc(), POLICIES);
 }
 
 const IN_ORDER: &[Found] = &[
@@ -58,9 +54,7 @@ const IN_ORDER: &[Found] = &[
 ];
 
 #[test]
-fn policies_stand_in_the_order_of_their_texts(rt: HostRuntime) -> Result<(), Fail> {
+fn policies_stand_in_the_order_of_their_texts(rt: HostRuntime) {
     let texts = ["profile p { }", "profile q { } profile p { }"];
-    let policies = compiled(rt.alloc(), &[], &texts, 1)?;
-    finds_each(&rt, &policies, IN_ORDER);
-    Ok(())
+    finds_each(&rt, &accepted(&rt, rt.alloc(), &[], &texts, 1), IN_ORDER);
 }

@@ -1,12 +1,11 @@
 //! Texts that are refused: which of them, and why.
 
-use crate::comparing::equal;
+use crate::comparing::{equal, equal_at};
 use crate::compile::lists::{Source, refusal};
 use aa_faults::{PolicyFault, PolicyKind, Spot};
 use aa_policies::RefusedPolicy;
 use std::alloc::{AllocError, Global};
 use std::process::Abort;
-use std::test::Fail;
 
 /// The sources, the texts, the limit of states; and the refused text, its fault's number, and the file and the byte.
 type Row = (
@@ -18,12 +17,8 @@ type Row = (
 
 fn refuses_each(rt: &impl Abort, alloc: Global, rows: &[Row]) {
     for (number, row) in rows.iter().enumerate() {
-        let (sources, texts, limit, expected) = *row;
-        assert_eq!(rt;
-            refusal(alloc, sources, texts, limit),
-            Some(expected),
-            "row {number}"
-        );
+        let found = refusal(alloc, row.0, row.1, row.2);
+        equal_at(rt, found, Some(row.3), &"row", &number);
     }
 }
 
@@ -174,24 +169,23 @@ fn told(alloc: Global, policy: u16) -> Result<String, AllocError> {
     format!(in alloc; "{refused}")
 }
 
-fn tells(rt: &impl Abort, alloc: Global, policy: u16, line: &str) -> Result<(), Fail> {
-    equal(rt, told(alloc, policy)?.as_str(), line);
-    Ok(())
+fn tells(rt: &impl Abort, alloc: Global, policy: u16, line: &str) {
+    equal(rt, told(alloc, policy).expect(rt, "memory").as_str(), line);
 }
 
 #[test]
-fn a_later_policy_is_told_by_its_number(rt: HostRuntime) -> Result<(), Fail> {
-    tells(&rt, rt.alloc(), 0, "refused 8 WriteWithAppend 0:15")?;
+fn a_later_policy_is_told_by_its_number(rt: HostRuntime) {
+    tells(&rt, rt.alloc(), 0, "refused 8 WriteWithAppend 0:15");
     tells(
         &rt,
         rt.alloc(),
         1,
         "policy 1 refused 8 WriteWithAppend 0:15",
-    )?;
+    );
     tells(
         &rt,
         rt.alloc(),
         65535,
         "policy 65535 refused 8 WriteWithAppend 0:15",
-    )
+    );
 }

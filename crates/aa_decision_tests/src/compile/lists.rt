@@ -3,6 +3,7 @@
 
 ghost use Rattle.std.specs.Prelude.{◌<◌, ◌≤◌, length};
 
+use crate::comparing::equal_at;
 use aa_faults::{PolicyFault, PolicyKind};
 use aa_jobs::Include;
 use aa_lists::Text;
@@ -81,6 +82,17 @@ pub fn compiled(
     compiled_with(alloc, includes.as_slice(), texts.as_slice(), limit)
 }
 
+/// The same where none is refused.
+pub fn accepted(
+    rt: &impl Abort,
+    alloc: Global,
+    sources: &[Source],
+    texts: &[&str],
+    limit: u32,
+) -> Vec<Compiled> {
+    compiled(alloc, sources, texts, limit).expect(rt, "policies")
+}
+
 /// Which policy is refused, the number of its fault, and the file and the byte at which it points.
 pub fn refusal(
     alloc: Global,
@@ -90,14 +102,8 @@ pub fn refusal(
 ) -> Option<(u16, u8, u16, u32)> {
     match compiled(alloc, sources, texts, limit) {
         Ok(_) => None,
-        Err(refused) => {
-            let fault = refused.fault;
-            Some((
-                refused.policy,
-                fault.kind.number(),
-                fault.at.file,
-                fault.at.byte,
-            ))
+        Err(RefusedPolicy { policy, fault }) => {
+            Some((policy, fault.kind.number(), fault.at.file, fault.at.byte))
         }
     }
 }
@@ -117,10 +123,7 @@ fn found(policies: &[Compiled], number: usize, name: &str) -> Option<u16> {
 /// The profiles are found so.
 pub fn finds_each(rt: &impl Abort, policies: &[Compiled], rows: &[Found]) {
     for (number, name, expected) in rows {
-        assert_eq!(rt;
-            found(policies, *number, name),
-            *expected,
-            "{number} {name}"
-        );
+        let found = found(policies, *number, name);
+        equal_at(rt, found, *expected, number, name);
     }
 }

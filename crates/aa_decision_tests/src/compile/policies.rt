@@ -1,11 +1,10 @@
 //! Policies that are read from their texts and compiled, and what they say, as plain data.
 
-use crate::comparing::equal_in;
-use crate::texts::{compiled, read};
+use crate::comparing::{equal_at, equal_in};
+use crate::texts::{compiled, policy, spelled};
 use aa_compile::{Compiled, Transition, compile};
 use std::alloc::Global;
 use std::process::Abort;
-use std::test::Fail;
 
 /// The number of the fault for which the text is refused, and the byte at which it points.
 pub fn refusal(alloc: Global, text: &str, limit: u32) -> Option<(u8, u32)> {
@@ -26,13 +25,10 @@ pub fn refuses_each(rt: &impl Abort, alloc: Global, rows: &[Row]) {
 }
 
 /// How many profiles the policy has that a refused compilation hands back, where it is refused.
-pub fn handed_back(alloc: Global, text: &str, limit: u32) -> Option<usize> {
-    match read(alloc, text) {
-        Err(_) => None,
-        Ok(policy) => match compile(alloc, policy, limit.clamp(1, 1_000_000)) {
-            Ok(_) => None,
-            Err(refusal) => Some(refusal.policy.profiles.as_slice().len()),
-        },
+pub fn handed_back(rt: &impl Abort, alloc: Global, text: &str, limit: u32) -> Option<usize> {
+    match compile(alloc, spelled(rt, alloc, text), limit.clamp(1, 1_000_000)) {
+        Ok(_) => None,
+        Err(refusal) => Some(refusal.policy.profiles.as_slice().len()),
     }
 }
 
@@ -85,16 +81,8 @@ pub fn are_attached(rt: &impl Abort, policy: &Compiled, rows: &[Attached]) {
 }
 
 /// The policy of the text attaches so.
-pub fn attaches(
-    rt: &impl Abort,
-    alloc: Global,
-    text: &str,
-    limit: u32,
-    rows: &[Attached],
-) -> Result<(), Fail> {
-    let policy = compiled(alloc, text, limit)?;
-    are_attached(rt, &policy, rows);
-    Ok(())
+pub fn attaches(rt: &impl Abort, alloc: Global, text: &str, limit: u32, rows: &[Attached]) {
+    are_attached(rt, &policy(rt, alloc, text, limit), rows);
 }
 
 /// A profile, a path, and the profile's child that is attached to it.
@@ -102,11 +90,8 @@ pub type AttachedChild = (u16, &'static str, Option<u16>);
 
 fn children_are_attached(rt: &impl Abort, policy: &Compiled, rows: &[AttachedChild]) {
     for (parent, path, expected) in rows {
-        assert_eq!(rt;
-            attached_child(policy, *parent, path),
-            *expected,
-            "{parent} {path}"
-        );
+        let found = attached_child(policy, *parent, path);
+        equal_at(rt, found, *expected, parent, path);
     }
 }
 
@@ -117,10 +102,8 @@ pub fn attaches_children(
     text: &str,
     limit: u32,
     rows: &[AttachedChild],
-) -> Result<(), Fail> {
-    let policy = compiled(alloc, text, limit)?;
-    children_are_attached(rt, &policy, rows);
-    Ok(())
+) {
+    children_are_attached(rt, &policy(rt, alloc, text, limit), rows);
 }
 
 /// A full name, and the number of its profile.
@@ -133,10 +116,8 @@ fn are_found(rt: &impl Abort, policy: &Compiled, rows: &[Found]) {
 }
 
 /// The profiles of the text's policy are found so.
-pub fn finds(rt: &impl Abort, alloc: Global, text: &str, rows: &[Found]) -> Result<(), Fail> {
-    let policy = compiled(alloc, text, 4096)?;
-    are_found(rt, &policy, rows);
-    Ok(())
+pub fn finds(rt: &impl Abort, alloc: Global, text: &str, rows: &[Found]) {
+    are_found(rt, &policy(rt, alloc, text, 4096), rows);
 }
 
 /// A profile, a path, and where its execution leads, where the profile is there.
@@ -145,19 +126,14 @@ pub type Executed = (u16, &'static str, Option<Transition>);
 /// Executions lead there.
 pub fn are_executed(rt: &impl Abort, policy: &Compiled, rows: &[Executed]) {
     for (profile, path, expected) in rows {
-        assert_eq!(rt;
-            execution(policy, *profile, path),
-            *expected,
-            "{profile} {path}"
-        );
+        let found = execution(policy, *profile, path);
+        equal_at(rt, found, *expected, profile, path);
     }
 }
 
 /// Executions lead there in the text's policy.
-pub fn executes(rt: &impl Abort, alloc: Global, text: &str, rows: &[Executed]) -> Result<(), Fail> {
-    let policy = compiled(alloc, text, 4096)?;
-    are_executed(rt, &policy, rows);
-    Ok(())
+pub fn executes(rt: &impl Abort, alloc: Global, text: &str, rows: &[Executed]) {
+    are_executed(rt, &policy(rt, alloc, text, 4096), rows);
 }
 
 /// A profile, a path, whether it is owned, and the bits that the profile's rules allow, deny, deny with a line, and report.
@@ -165,36 +141,23 @@ pub type Bits = (u16, &'static str, bool, Option<[u8; 4]>);
 
 fn are_bits(rt: &impl Abort, policy: &Compiled, rows: &[Bits]) {
     for (profile, path, owned, expected) in rows {
-        assert_eq!(rt;
-            bits(policy, *profile, path, *owned),
-            *expected,
-            "{profile} {path}"
-        );
+        let found = bits(policy, *profile, path, *owned);
+        equal_at(rt, found, *expected, profile, path);
     }
 }
 
 /// The rules of the text's policy have these bits.
-pub fn has_bits(rt: &impl Abort, alloc: Global, text: &str, rows: &[Bits]) -> Result<(), Fail> {
-    let policy = compiled(alloc, text, 4096)?;
-    are_bits(rt, &policy, rows);
-    Ok(())
+pub fn has_bits(rt: &impl Abort, alloc: Global, text: &str, rows: &[Bits]) {
+    are_bits(rt, &policy(rt, alloc, text, 4096), rows);
 }
 
 fn are_states(rt: &impl Abort, policy: &Compiled, rows: &[(u16, usize)]) {
     for (profile, expected) in rows {
-        assert_eq!(rt; states(policy, *profile), *expected, "{profile}");
+        equal_at(rt, states(policy, *profile), *expected, &"profile", profile);
     }
 }
 
 /// The automata of the text's profiles have so many states.
-pub fn has_states(
-    rt: &impl Abort,
-    alloc: Global,
-    text: &str,
-    limit: u32,
-    rows: &[(u16, usize)],
-) -> Result<(), Fail> {
-    let policy = compiled(alloc, text, limit)?;
-    are_states(rt, &policy, rows);
-    Ok(())
+pub fn has_states(rt: &impl Abort, alloc: Global, text: &str, limit: u32, rows: &[(u16, usize)]) {
+    are_states(rt, &policy(rt, alloc, text, limit), rows);
 }

@@ -2,7 +2,6 @@
 
 use crate::comparing::equal;
 use crate::compile::policies::{Row, handed_back, has_states, refuses_each};
-use std::test::Fail;
 
 const PREFIXES: &[Row] = &[
     ("profile p { /etc/passwd r, }", 4, Some((17, 8))),
@@ -16,7 +15,7 @@ fn a_state_for_each_prefix_and_one_for_the_rest(rt: HostRuntime) {
 }
 
 #[test]
-fn states_are_counted_profile_by_profile(rt: HostRuntime) -> Result<(), Fail> {
+fn states_are_counted_profile_by_profile(rt: HostRuntime) {
     let text =
         "profile p /etc/* { /x r, profile c /y { /x r, /y r, } } profile q { } profile r { /t/** r, }";
     // "", "/", "/x", else; "", "/", "/x", "/y", else; all texts; "", "/", "/t", "/t/", what matches, else.
@@ -26,8 +25,7 @@ fn states_are_counted_profile_by_profile(rt: HostRuntime) -> Result<(), Fail> {
         text,
         100,
         &[(0, 4), (1, 5), (2, 1), (3, 6), (4, 0), (65535, 0)],
-    )?;
-    Ok(())
+    );
 }
 
 const FAULTS: &[Row] = &[
@@ -102,9 +100,8 @@ fn fifteen_free_bytes_need_65539_states(rt: HostRuntime) {
 }
 
 #[test]
-fn a_refused_policy_is_handed_back(rt: HostRuntime) -> Result<(), Fail> {
+fn a_refused_policy_is_handed_back(rt: HostRuntime) {
     let text = "profile p { /etc/passwd r, } profile q { }";
-    equal(&rt, handed_back(rt.alloc(), text, 4), Some(2));
-    equal(&rt, handed_back(rt.alloc(), text, 13), None);
-    Ok(())
+    equal(&rt, handed_back(&rt, rt.alloc(), text, 4), Some(2));
+    equal(&rt, handed_back(&rt, rt.alloc(), text, 13), None);
 }

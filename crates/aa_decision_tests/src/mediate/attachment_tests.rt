@@ -1,32 +1,25 @@
 //! Attachments in a list of policies.
 
+use crate::comparing::equal_at;
 use crate::texts::policies;
 use aa_mediate::{Compiled, Mediator};
 use std::alloc::Global;
 use std::process::Abort;
-use std::test::Fail;
 
-fn attached(policies: &[Compiled], policy: u16, path: &str) -> Option<u16> {
-    Mediator::new(policies).attach(policy, path.as_bytes())
-}
-
-fn attached_child(policies: &[Compiled], policy: u16, parent: u16, path: &str) -> Option<u16> {
-    Mediator::new(policies).attach_child(policy, parent, path.as_bytes())
+fn attached(policies: &[Compiled], row: Row) -> Option<u16> {
+    match row.1 {
+        Some(parent) => Mediator::new(policies).attach_child(row.0, parent, row.2.as_bytes()),
+        None => Mediator::new(policies).attach(row.0, row.2.as_bytes()),
+    }
 }
 
 /// A policy, the profile whose child is wanted, if one is, a path, and the profile that is attached to it.
 type Row = (u16, Option<u16>, &'static str, Option<u16>);
 
-fn attaches_each(rt: &impl Abort, alloc: Global, texts: &[&str], rows: &[Row]) -> Result<(), Fail> {
-    let policies = policies(alloc, texts)?;
-    for (policy, parent, path, expected) in rows {
-        let found = match parent {
-            Some(parent) => attached_child(&policies, *policy, *parent, path),
-            None => attached(&policies, *policy, path),
-        };
-        assert_eq!(rt; found, *expected, "{policy} {path}");
+fn are_attached(rt: &impl Abort, policies: &[Compiled], rows: &[Row]) {
+    for row in rows {
+        equal_at(rt, attached(policies, *row), row.3, &row.0, &row.2);
     }
-    Ok(())
 }
 
 const ROWS: &[Row] = &[
@@ -44,10 +37,10 @@ const ROWS: &[Row] = &[
 ];
 
 #[test]
-fn each_policy_has_attachments_of_its_own(rt: HostRuntime) -> Result<(), Fail> {
+fn each_policy_has_attachments_of_its_own(rt: HostRuntime) {
     let texts = [
         "profile p /p { profile c /c { } }",
         "profile r /r { } profile p /p { profile d /d { } profile c /c { } }",
     ];
-    attaches_each(&rt, rt.alloc(), &texts, ROWS)
+    are_attached(&rt, &policies(&rt, rt.alloc(), &texts), ROWS);
 }

@@ -7,7 +7,6 @@ use crate::mediate::tasks::Then::{
 };
 use crate::mediate::tasks::{FREE, NONE, Row, answers_each};
 use aa_mediate::Label::{Confined, Unconfined};
-use std::test::Fail;
 
 const UNCONFINED: &[Row] = &[
     (FREE, Change("q"), Moved(Confined(0, 1))),
@@ -18,9 +17,9 @@ const UNCONFINED: &[Row] = &[
 ];
 
 #[test]
-fn an_unconfined_task_changes_to_what_is_there(rt: HostRuntime) -> Result<(), Fail> {
+fn an_unconfined_task_changes_to_what_is_there(rt: HostRuntime) {
     let text = "profile p { } profile q { profile c { } }";
-    answers_each(&rt, rt.alloc(), &[text], UNCONFINED)
+    answers_each(&rt, rt.alloc(), &[text], UNCONFINED);
 }
 
 const WITHOUT_A_RULE: &[Row] = &[
@@ -30,9 +29,9 @@ const WITHOUT_A_RULE: &[Row] = &[
 ];
 
 #[test]
-fn without_a_rule_a_change_is_refused(rt: HostRuntime) -> Result<(), Fail> {
+fn without_a_rule_a_change_is_refused(rt: HostRuntime) {
     let text = "profile p { } profile q { }";
-    answers_each(&rt, rt.alloc(), &[text], WITHOUT_A_RULE)
+    answers_each(&rt, rt.alloc(), &[text], WITHOUT_A_RULE);
 }
 
 const IN_COMPLAIN_MODE: &[Row] = &[
@@ -42,9 +41,9 @@ const IN_COMPLAIN_MODE: &[Row] = &[
 ];
 
 #[test]
-fn in_complain_mode_a_change_goes_where_there_is_a_profile(rt: HostRuntime) -> Result<(), Fail> {
+fn in_complain_mode_a_change_goes_where_there_is_a_profile(rt: HostRuntime) {
     let text = "profile c flags=(complain) { } profile p { }";
-    answers_each(&rt, rt.alloc(), &[text], IN_COMPLAIN_MODE)
+    answers_each(&rt, rt.alloc(), &[text], IN_COMPLAIN_MODE);
 }
 
 const OF_TWO_POLICIES: &[Row] = &[
@@ -54,9 +53,9 @@ const OF_TWO_POLICIES: &[Row] = &[
 ];
 
 #[test]
-fn a_change_stays_in_the_policy_of_the_label(rt: HostRuntime) -> Result<(), Fail> {
+fn a_change_stays_in_the_policy_of_the_label(rt: HostRuntime) {
     let texts = ["profile p { } profile q { }", "profile q { }"];
-    answers_each(&rt, rt.alloc(), &texts, OF_TWO_POLICIES)
+    answers_each(&rt, rt.alloc(), &texts, OF_TWO_POLICIES);
 }
 
 const BY_RULES: &[Row] = &[
@@ -72,10 +71,10 @@ const BY_RULES: &[Row] = &[
 ];
 
 #[test]
-fn rules_on_changes_decide(rt: HostRuntime) -> Result<(), Fail> {
+fn rules_on_changes_decide(rt: HostRuntime) {
     let text =
         "profile p { change_profile -> q*, deny change_profile -> qd, audit change_profile -> r, } profile q { } profile qd { } profile r { } profile c flags=(complain) { }";
-    answers_each(&rt, rt.alloc(), &[text], BY_RULES)
+    answers_each(&rt, rt.alloc(), &[text], BY_RULES);
 }
 
 const WITHOUT_A_NAME: &[Row] = &[
@@ -86,10 +85,10 @@ const WITHOUT_A_NAME: &[Row] = &[
 ];
 
 #[test]
-fn a_rule_without_a_name_holds_for_every_name(rt: HostRuntime) -> Result<(), Fail> {
+fn a_rule_without_a_name_holds_for_every_name(rt: HostRuntime) {
     let text =
         "profile p { change_profile, audit deny change_profile -> r, } profile q { } profile r { }";
-    answers_each(&rt, rt.alloc(), &[text], WITHOUT_A_NAME)
+    answers_each(&rt, rt.alloc(), &[text], WITHOUT_A_NAME);
 }
 
 const DENIED_IN_COMPLAIN_MODE: &[Row] = &[
@@ -99,8 +98,8 @@ const DENIED_IN_COMPLAIN_MODE: &[Row] = &[
 ];
 
 #[test]
-fn in_complain_mode_a_denied_change_is_refused(rt: HostRuntime) -> Result<(), Fail> {
+fn in_complain_mode_a_denied_change_is_refused(rt: HostRuntime) {
     let text =
         "profile p flags=(complain) { deny change_profile -> q*, change_profile -> r, } profile q { } profile r { }";
-    answers_each(&rt, rt.alloc(), &[text], DENIED_IN_COMPLAIN_MODE)
+    answers_each(&rt, rt.alloc(), &[text], DENIED_IN_COMPLAIN_MODE);
 }

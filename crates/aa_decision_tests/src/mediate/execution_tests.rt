@@ -8,7 +8,6 @@ use crate::mediate::tasks::Then::{
 use crate::mediate::tasks::{FREE, Row, answers_each};
 use aa_mediate::Label::Confined;
 use aa_tables::Perms;
-use std::test::Fail;
 
 const BY_FALLBACKS: &[Row] = &[
     (FIRST, Exec("/a"), Granted),
@@ -20,9 +19,9 @@ const BY_FALLBACKS: &[Row] = &[
 ];
 
 #[test]
-fn a_profile_is_found_or_its_fallback_decides(rt: HostRuntime) -> Result<(), Fail> {
+fn a_profile_is_found_or_its_fallback_decides(rt: HostRuntime) {
     let text = "profile p { /a pix, /b px, /c pux, /d Px -> q, /e PUx, } profile q { }";
-    answers_each(&rt, rt.alloc(), &[text], BY_FALLBACKS)
+    answers_each(&rt, rt.alloc(), &[text], BY_FALLBACKS);
 }
 
 const BY_A_LITERAL_RULE: &[Row] = &[
@@ -31,9 +30,9 @@ const BY_A_LITERAL_RULE: &[Row] = &[
 ];
 
 #[test]
-fn a_literal_rule_decides_before_others(rt: HostRuntime) -> Result<(), Fail> {
+fn a_literal_rule_decides_before_others(rt: HostRuntime) {
     let text = "profile p { /bin/* px, /bin/ls ix, }";
-    answers_each(&rt, rt.alloc(), &[text], BY_A_LITERAL_RULE)
+    answers_each(&rt, rt.alloc(), &[text], BY_A_LITERAL_RULE);
 }
 
 const OF_A_CHILD: &[Row] = &[
@@ -42,9 +41,9 @@ const OF_A_CHILD: &[Row] = &[
 ];
 
 #[test]
-fn a_child_has_no_children(rt: HostRuntime) -> Result<(), Fail> {
+fn a_child_has_no_children(rt: HostRuntime) {
     let text = "profile p { /h cx -> helper, profile helper { /h cx -> helper, } }";
-    answers_each(&rt, rt.alloc(), &[text], OF_A_CHILD)
+    answers_each(&rt, rt.alloc(), &[text], OF_A_CHILD);
 }
 
 const UNCONFINED: &[Row] = &[
@@ -55,10 +54,10 @@ const UNCONFINED: &[Row] = &[
 ];
 
 #[test]
-fn an_unconfined_task_runs_what_is_attached(rt: HostRuntime) -> Result<(), Fail> {
+fn an_unconfined_task_runs_what_is_attached(rt: HostRuntime) {
     let text =
         "profile a /usr/*/x { } profile b /usr/?in/x { } profile c /usr/bin/y { } profile d /usr/bin/* { }";
-    answers_each(&rt, rt.alloc(), &[text], UNCONFINED)
+    answers_each(&rt, rt.alloc(), &[text], UNCONFINED);
 }
 
 const DENIED: &[Row] = &[
@@ -68,9 +67,9 @@ const DENIED: &[Row] = &[
 ];
 
 #[test]
-fn a_denied_execution_is_quiet_unless_it_is_audited(rt: HostRuntime) -> Result<(), Fail> {
+fn a_denied_execution_is_quiet_unless_it_is_audited(rt: HostRuntime) {
     let text = "profile p { deny /q x, audit deny /l x, audit /a ix, /q Ux, /l Ux, }";
-    answers_each(&rt, rt.alloc(), &[text], DENIED)
+    answers_each(&rt, rt.alloc(), &[text], DENIED);
 }
 
 const IN_COMPLAIN_MODE: &[Row] = &[
@@ -80,7 +79,7 @@ const IN_COMPLAIN_MODE: &[Row] = &[
 ];
 
 #[test]
-fn a_complain_profile_refuses_what_a_rule_denies(rt: HostRuntime) -> Result<(), Fail> {
+fn a_complain_profile_refuses_what_a_rule_denies(rt: HostRuntime) {
     let text = "profile p flags=(complain) { deny /q x, /q Ux, /u Ux, /n Px, }";
-    answers_each(&rt, rt.alloc(), &[text], IN_COMPLAIN_MODE)
+    answers_each(&rt, rt.alloc(), &[text], IN_COMPLAIN_MODE);
 }

@@ -9,7 +9,6 @@ use aa_mediate::Label::{Confined, Unconfined};
 use aa_tables::Perms;
 use std::alloc::Global;
 use std::process::Abort;
-use std::test::Fail;
 
 const UNCONFINED: &[Row] = &[
     (FREE, File("/x", Perms::WRITE), Granted),
@@ -20,8 +19,8 @@ const UNCONFINED: &[Row] = &[
 ];
 
 #[test]
-fn an_unconfined_task_may_do_all(rt: HostRuntime) -> Result<(), Fail> {
-    answers_each(&rt, rt.alloc(), &[""], UNCONFINED)
+fn an_unconfined_task_may_do_all(rt: HostRuntime) {
+    answers_each(&rt, rt.alloc(), &[""], UNCONFINED);
 }
 
 const NOT_THERE: &[Label] = &[Confined(0, 1), Confined(1, 0), Unconfined(1)];
@@ -38,9 +37,9 @@ const EVERYTHING: &[Ask] = &[
 ];
 
 #[test]
-fn a_label_that_is_not_there_is_refused_everything(rt: HostRuntime) -> Result<(), Fail> {
+fn a_label_that_is_not_there_is_refused_everything(rt: HostRuntime) {
     let text = "profile p flags=(audit) { /x r, }";
-    refuses_all(&rt, rt.alloc(), text, NOT_THERE, EVERYTHING)
+    refuses_all(&rt, rt.alloc(), text, NOT_THERE, EVERYTHING);
 }
 
 const RELOADED: &[Row] = &[
@@ -54,9 +53,9 @@ const RELOADED: &[Row] = &[
 ];
 
 #[test]
-fn a_reload_moves_a_task_to_the_profile_of_its_name(rt: HostRuntime) -> Result<(), Fail> {
+fn a_reload_moves_a_task_to_the_profile_of_its_name(rt: HostRuntime) {
     let texts = ["profile p { /x r, }", "profile p { /x w, }"];
-    answers_each(&rt, rt.alloc(), &texts, RELOADED)
+    answers_each(&rt, rt.alloc(), &texts, RELOADED);
 }
 
 const NOT_RELOADED: &[Row] = &[
@@ -67,26 +66,26 @@ const NOT_RELOADED: &[Row] = &[
     (FREE, Reload(1), Moved(Unconfined(1))),
 ];
 
-fn reloads_none(rt: &impl Abort, alloc: Global, first: &str) -> Result<(), Fail> {
-    answers_each(rt, alloc, &[first, "profile q { }"], NOT_RELOADED)
+fn reloads_none(rt: &impl Abort, alloc: Global, first: &str) {
+    answers_each(rt, alloc, &[first, "profile q { }"], NOT_RELOADED);
 }
 
 #[test]
-fn a_reload_to_what_is_not_there_is_refused_without_a_note(rt: HostRuntime) -> Result<(), Fail> {
-    reloads_none(&rt, rt.alloc(), "profile p { }")?;
-    reloads_none(&rt, rt.alloc(), "profile p flags=(complain) { }")?;
-    reloads_none(&rt, rt.alloc(), "profile p flags=(audit) { }")
+fn a_reload_to_what_is_not_there_is_refused_without_a_note(rt: HostRuntime) {
+    reloads_none(&rt, rt.alloc(), "profile p { }");
+    reloads_none(&rt, rt.alloc(), "profile p flags=(complain) { }");
+    reloads_none(&rt, rt.alloc(), "profile p flags=(audit) { }");
 }
 
 const OF_A_CHILD: &[Row] = &[(Confined(0, 1), Reload(1), Moved(Confined(1, 2)))];
 
 #[test]
-fn a_child_is_found_by_its_full_name(rt: HostRuntime) -> Result<(), Fail> {
+fn a_child_is_found_by_its_full_name(rt: HostRuntime) {
     let texts = [
         "profile p { profile c { } }",
         "profile c { } profile p { profile c { } }",
     ];
-    answers_each(&rt, rt.alloc(), &texts, OF_A_CHILD)
+    answers_each(&rt, rt.alloc(), &texts, OF_A_CHILD);
 }
 
 const OF_TWO_POLICIES: &[Row] = &[
@@ -96,10 +95,10 @@ const OF_TWO_POLICIES: &[Row] = &[
 ];
 
 #[test]
-fn an_execution_stays_in_the_policy_of_the_label(rt: HostRuntime) -> Result<(), Fail> {
+fn an_execution_stays_in_the_policy_of_the_label(rt: HostRuntime) {
     let texts = [
         "profile q /q { } profile p { /q Px, }",
         "profile p { /q Px, /u ux, } profile q /q { }",
     ];
-    answers_each(&rt, rt.alloc(), &texts, OF_TWO_POLICIES)
+    answers_each(&rt, rt.alloc(), &texts, OF_TWO_POLICIES);
 }

@@ -4,7 +4,6 @@ use crate::asks::Ask::{Cap, Net};
 use crate::asks::FIRST;
 use crate::mediate::tasks::Then::{Allowed, Audited, Denied, Granted, Refused};
 use crate::mediate::tasks::{NONE, Row, answers_each};
-use std::test::Fail;
 
 const CAPABILITIES: &[Row] = &[
     (FIRST, Cap("net_admin"), Granted),
@@ -14,9 +13,9 @@ const CAPABILITIES: &[Row] = &[
 ];
 
 #[test]
-fn capabilities(rt: HostRuntime) -> Result<(), Fail> {
+fn capabilities(rt: HostRuntime) {
     let text = "profile p { capability net_admin, audit capability chown, deny capability kill, }";
-    answers_each(&rt, rt.alloc(), &[text], CAPABILITIES)
+    answers_each(&rt, rt.alloc(), &[text], CAPABILITIES);
 }
 
 const SOCKETS: &[Row] = &[
@@ -27,9 +26,9 @@ const SOCKETS: &[Row] = &[
 ];
 
 #[test]
-fn sockets(rt: HostRuntime) -> Result<(), Fail> {
+fn sockets(rt: HostRuntime) {
     let text = "profile p { network inet, network tcp, }";
-    answers_each(&rt, rt.alloc(), &[text], SOCKETS)
+    answers_each(&rt, rt.alloc(), &[text], SOCKETS);
 }
 
 const IN_COMPLAIN_MODE: &[Row] = &[
@@ -40,10 +39,10 @@ const IN_COMPLAIN_MODE: &[Row] = &[
 ];
 
 #[test]
-fn in_complain_mode_a_denied_capability_is_refused(rt: HostRuntime) -> Result<(), Fail> {
+fn in_complain_mode_a_denied_capability_is_refused(rt: HostRuntime) {
     let text =
         "profile p flags=(complain) { deny capability kill, audit deny capability chown, capability chown, }";
-    answers_each(&rt, rt.alloc(), &[text], IN_COMPLAIN_MODE)
+    answers_each(&rt, rt.alloc(), &[text], IN_COMPLAIN_MODE);
 }
 
 const BY_THE_AUDIT_FLAG: &[Row] = &[
@@ -53,7 +52,7 @@ const BY_THE_AUDIT_FLAG: &[Row] = &[
 ];
 
 #[test]
-fn the_audit_flag_reports_capabilities_and_sockets(rt: HostRuntime) -> Result<(), Fail> {
+fn the_audit_flag_reports_capabilities_and_sockets(rt: HostRuntime) {
     let text = "profile p flags=(audit) { deny capability kill, capability chown, network unix, }";
-    answers_each(&rt, rt.alloc(), &[text], BY_THE_AUDIT_FLAG)
+    answers_each(&rt, rt.alloc(), &[text], BY_THE_AUDIT_FLAG);
 }

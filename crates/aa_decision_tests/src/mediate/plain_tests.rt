@@ -6,7 +6,6 @@ use aa_mediate::Compiled;
 use aa_plain::verdict_by_rules;
 use aa_said::RuleSets;
 use std::process::Abort;
-use std::test::Fail;
 
 /// What is compiled says of an object, where there is a profile.
 fn compiled_sets(compiled: &Compiled, path: &str, owned: bool) -> Option<RuleSets> {
@@ -51,10 +50,8 @@ const PATHS: &[&str] = &[
 ];
 
 #[test]
-fn rows_say_what_the_rules_say(rt: HostRuntime) -> Result<(), Fail> {
+fn rows_say_what_the_rules_say(rt: HostRuntime) {
     let text =
         "profile p { /** r, owner /home/*/** rwk, deny /home/*/.ssh/** wl, audit /var/log/{a,b}* a, audit deny /etc/[^p]* m, /usr/{,s}bin/? mrix, }";
-    let policies = policies(rt.alloc(), &[text, ""])?;
-    say_the_same(&rt, &policies, PATHS);
-    Ok(())
+    say_the_same(&rt, &policies(&rt, rt.alloc(), &[text, ""]), PATHS);
 }

@@ -1,13 +1,13 @@
 //! Tasks under policies that are read from their texts, and what they are answered, as plain data. The helpers have no
 //! clauses, so that a test's proof stays short.
 
-use crate::asks::{Ask, Told, note, request};
+use crate::asks::{Ask, Told, asked, note};
+use crate::comparing::equal_at;
 use crate::texts::policies;
-use aa_mediate::{Answer, Compiled, Label, Machine, Mediator, NoteWord, Request, RequestFault};
+use aa_mediate::{Answer, Compiled, Label, Machine, Mediator, NoteWord, Request};
 use aa_tables::Perms;
 use std::alloc::Global;
 use std::process::Abort;
-use std::test::Fail;
 
 /// What a task is answered. The label stays but where one is named, and what permissions are named are reported.
 #[derive(Clone, Copy)]
@@ -66,51 +66,44 @@ fn step(policies: &[Compiled], before: Label, request: &Request) -> (Answer, Lab
     (answer, label)
 }
 
-fn is_answered(
-    rt: &impl Abort,
-    alloc: Global,
-    policies: &[Compiled],
-    number: usize,
-    row: Row,
-) -> Result<(), RequestFault> {
-    let request = request(alloc, row.1)?;
-    assert_eq!(rt;
-        step(policies, row.0, &request),
-        said(row.0, row.2),
-        "row {number}"
-    );
-    Ok(())
+fn answered(rt: &impl Abort, alloc: Global, policies: &[Compiled], row: Row) -> (Answer, Label) {
+    step(policies, row.0, &asked(rt, alloc, row.1))
+}
+
+fn is_answered(rt: &impl Abort, alloc: Global, policies: &[Compiled], number: usize, row: Row) {
+    let found = answered(rt, alloc, policies, row);
+    equal_at(rt, found, said(row.0, row.2), &"row", &number);
+}
+
+fn are_answered(rt: &impl Abort, alloc: Global, policies: &[Compiled], rows: &[Row]) {
+    for (number, row) in rows.iter().enumerate() {
+        is_answered(rt, alloc, policies, number, *row);
+    }
 }
 
 /// Each is answered so, and the task has the answer's label from then on.
-pub fn answers_each(
+pub fn answers_each(rt: &impl Abort, alloc: Global, texts: &[&str], rows: &[Row]) {
+    are_answered(rt, alloc, &policies(rt, alloc, texts), rows);
+}
+
+fn all_are_refused(
     rt: &impl Abort,
     alloc: Global,
-    texts: &[&str],
-    rows: &[Row],
-) -> Result<(), Fail> {
-    let policies = policies(alloc, texts)?;
-    for (number, row) in rows.iter().enumerate() {
-        is_answered(rt, alloc, &policies, number, *row)?;
+    policies: &[Compiled],
+    label: Label,
+    asks: &[Ask],
+) {
+    for (number, ask) in asks.iter().enumerate() {
+        is_answered(rt, alloc, policies, number, (label, *ask, Then::Refused));
     }
-    Ok(())
 }
 
 /// Under the text's policy a task of any of the labels is refused whatever it asks, and its label stays.
-pub fn refuses_all(
-    rt: &impl Abort,
-    alloc: Global,
-    text: &str,
-    labels: &[Label],
-    asks: &[Ask],
-) -> Result<(), Fail> {
-    let policies = policies(alloc, &[text])?;
+pub fn refuses_all(rt: &impl Abort, alloc: Global, text: &str, labels: &[Label], asks: &[Ask]) {
+    let policies = policies(rt, alloc, &[text]);
     for label in labels {
-        for (number, ask) in asks.iter().enumerate() {
-            is_answered(rt, alloc, &policies, number, (*label, *ask, Then::Refused))?;
-        }
+        all_are_refused(rt, alloc, &policies, *label, asks);
     }
-    Ok(())
 }
 
 /// No profile, by the first policy.
