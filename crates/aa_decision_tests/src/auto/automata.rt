@@ -5,14 +5,13 @@ use crate::auto::patterns::{
     size,
 };
 use crate::comparing::equal;
-use aa_auto::{Automaton, BuildFault};
+use aa_auto::Automaton;
 use std::alloc::Global;
 use std::process::Abort;
-use std::test::Fail;
 
 #[test]
-fn a_row_for_each_prefix_and_one_for_the_rest(rt: HostRuntime) -> Result<(), Fail> {
-    has_size(&rt, rt.alloc(), &[b"/etc/passwd"], 13, (13, 10))?;
+fn a_row_for_each_prefix_and_one_for_the_rest(rt: HostRuntime) {
+    has_size(&rt, rt.alloc(), &[b"/etc/passwd"], 13, (13, 10));
     needs_more(&rt, rt.alloc(), &[b"/etc/passwd"], 12);
     match_just(
         &rt,
@@ -25,11 +24,11 @@ fn a_row_for_each_prefix_and_one_for_the_rest(rt: HostRuntime) -> Result<(), Fai
             (b"/etc/passwd\0", &[]),
             (b"\xff", &[]),
         ],
-    )
+    );
 }
 
 #[test]
-fn lists_all_patterns_that_match(rt: HostRuntime) -> Result<(), Fail> {
+fn lists_all_patterns_that_match(rt: HostRuntime) {
     match_just(
         &rt,
         rt.alloc(),
@@ -41,11 +40,11 @@ fn lists_all_patterns_that_match(rt: HostRuntime) -> Result<(), Fail> {
             (b"/", &[]),
             (b"b", &[]),
         ],
-    )
+    );
 }
 
 #[test]
-fn rows_with_equal_lists_share_one(rt: HostRuntime) -> Result<(), Fail> {
+fn rows_with_equal_lists_share_one(rt: HostRuntime) {
     has_lists(
         &rt,
         rt.alloc(),
@@ -53,7 +52,7 @@ fn rows_with_equal_lists_share_one(rt: HostRuntime) -> Result<(), Fail> {
         13,
         2,
         &[(b"/etc", b"/e", true)],
-    )?;
+    );
     has_lists(
         &rt,
         rt.alloc(),
@@ -61,35 +60,35 @@ fn rows_with_equal_lists_share_one(rt: HostRuntime) -> Result<(), Fail> {
         100,
         4,
         &[(b"/abc", b"/ac", true), (b"/ab", b"/abc", false)],
-    )
+    );
 }
 
 #[test]
-fn no_pattern_has_one_row(rt: HostRuntime) -> Result<(), Fail> {
-    has_size(&rt, rt.alloc(), &[], 1, (1, 1))?;
-    match_just(&rt, rt.alloc(), &[], 1, &[(b"/etc", &[])])
+fn no_pattern_has_one_row(rt: HostRuntime) {
+    has_size(&rt, rt.alloc(), &[], 1, (1, 1));
+    match_just(&rt, rt.alloc(), &[], 1, &[(b"/etc", &[])]);
 }
 
 #[test]
-fn an_empty_pattern_matches_the_empty_text(rt: HostRuntime) -> Result<(), Fail> {
-    has_size(&rt, rt.alloc(), &[b""], 2, (2, 1))?;
+fn an_empty_pattern_matches_the_empty_text(rt: HostRuntime) {
+    has_size(&rt, rt.alloc(), &[b""], 2, (2, 1));
     needs_more(&rt, rt.alloc(), &[b""], 1);
-    match_just(&rt, rt.alloc(), &[b""], 2, &[(b"", &[0]), (b"/", &[])])
+    match_just(&rt, rt.alloc(), &[b""], 2, &[(b"", &[0]), (b"/", &[])]);
 }
 
 #[test]
-fn ten_free_bytes_behind_a_letter_double_the_rows(rt: HostRuntime) -> Result<(), Fail> {
-    has_size(&rt, rt.alloc(), &[b"/**a??????????"], 4096, (2051, 4))
+fn ten_free_bytes_behind_a_letter_double_the_rows(rt: HostRuntime) {
+    has_size(&rt, rt.alloc(), &[b"/**a??????????"], 4096, (2051, 4));
 }
 
 #[test]
-fn eleven_free_bytes_need_4099_rows(rt: HostRuntime) -> Result<(), Fail> {
+fn eleven_free_bytes_need_4099_rows(rt: HostRuntime) {
     needs_more(&rt, rt.alloc(), &[b"/**a???????????"], 4096);
-    has_size(&rt, rt.alloc(), &[b"/**a???????????"], 4099, (4099, 4))
+    has_size(&rt, rt.alloc(), &[b"/**a???????????"], 4099, (4099, 4));
 }
 
 #[test]
-fn fifteen_free_bytes_need_65539_rows_of_four_cells(rt: HostRuntime) -> Result<(), Fail> {
+fn fifteen_free_bytes_need_65539_rows_of_four_cells(rt: HostRuntime) {
     needs_more(&rt, rt.alloc(), &[b"/**a???????????????"], 65535);
     has_size(
         &rt,
@@ -97,7 +96,7 @@ fn fifteen_free_bytes_need_65539_rows_of_four_cells(rt: HostRuntime) -> Result<(
         &[b"/**a???????????????"],
         65539,
         (65539, 4),
-    )
+    );
 }
 
 const CLASSES: &[Classes] = &[
@@ -112,12 +111,12 @@ const CLASSES: &[Classes] = &[
 ];
 
 #[test]
-fn bytes_that_no_item_tells_apart_are_of_one_class(rt: HostRuntime) -> Result<(), Fail> {
-    has_classes(&rt, rt.alloc(), CLASSES)
+fn bytes_that_no_item_tells_apart_are_of_one_class(rt: HostRuntime) {
+    has_classes(&rt, rt.alloc(), CLASSES);
 }
 
 #[test]
-fn a_class_takes_one_byte_of_those_that_it_lists(rt: HostRuntime) -> Result<(), Fail> {
+fn a_class_takes_one_byte_of_those_that_it_lists(rt: HostRuntime) {
     match_just(
         &rt,
         rt.alloc(),
@@ -135,18 +134,18 @@ fn a_class_takes_one_byte_of_those_that_it_lists(rt: HostRuntime) -> Result<(), 
             (b"/b", &[2, 3]),
             (b"/c", &[]),
         ],
-    )?;
+    );
     match_just(
         &rt,
         rt.alloc(),
         &[b"/[^/]*"],
         100,
         &[(b"/a", &[0]), (b"/ab", &[0]), (b"/", &[]), (b"/a/", &[])],
-    )
+    );
 }
 
 #[test]
-fn a_star_takes_at_least_one_byte_where_it_is_a_whole_part(rt: HostRuntime) -> Result<(), Fail> {
+fn a_star_takes_at_least_one_byte_where_it_is_a_whole_part(rt: HostRuntime) {
     match_just(
         &rt,
         rt.alloc(),
@@ -160,11 +159,11 @@ fn a_star_takes_at_least_one_byte_where_it_is_a_whole_part(rt: HostRuntime) -> R
             (b"/tmp/ab", &[0, 2]),
             (b"/tmp/b", &[0]),
         ],
-    )
+    );
 }
 
 #[test]
-fn a_choice_matches_by_each_branch(rt: HostRuntime) -> Result<(), Fail> {
+fn a_choice_matches_by_each_branch(rt: HostRuntime) {
     match_just(
         &rt,
         rt.alloc(),
@@ -177,31 +176,31 @@ fn a_choice_matches_by_each_branch(rt: HostRuntime) -> Result<(), Fail> {
             (b"/ac.", &[]),
             (b"/b/.", &[]),
         ],
-    )
+    );
 }
 
 #[test]
-fn a_double_star_takes_no_slash_first_where_it_is_last(rt: HostRuntime) -> Result<(), Fail> {
+fn a_double_star_takes_no_slash_first_where_it_is_last(rt: HostRuntime) {
     match_just(
         &rt,
         rt.alloc(),
         &[b"/tmp/**"],
         100,
         &[(b"/tmp/a/b", &[0]), (b"/tmp//b", &[]), (b"/tmp/", &[])],
-    )
+    );
 }
 
 #[test]
-fn a_zero_byte_is_matched_by_nothing(rt: HostRuntime) -> Result<(), Fail> {
-    has_size(&rt, rt.alloc(), &[b"\0"], 2, (2, 1))?;
-    match_just(&rt, rt.alloc(), &[b"\0"], 2, &[(b"\0", &[])])?;
+fn a_zero_byte_is_matched_by_nothing(rt: HostRuntime) {
+    has_size(&rt, rt.alloc(), &[b"\0"], 2, (2, 1));
+    match_just(&rt, rt.alloc(), &[b"\0"], 2, &[(b"\0", &[])]);
     match_just(
         &rt,
         rt.alloc(),
         &[b"/{,**}"],
         100,
         &[(b"/\xff/\x80", &[0]), (b"/a\0", &[])],
-    )
+    );
 }
 
 // The path of a slash and four hexadecimal digits.
@@ -217,19 +216,18 @@ fn path(number: usize) -> [u8; 5] {
 }
 
 // The automaton of all these paths but the last.
-fn of_paths(rt: &impl Abort, alloc: Global) -> Result<Automaton, BuildFault> {
+fn of_paths(rt: &impl Abort, alloc: Global) -> Automaton {
     let mut patterns = Vec::new(alloc);
     for number in 0..65535 {
-        add(rt, alloc, &path(number), &mut patterns)?;
+        add(rt, alloc, &path(number), &mut patterns).expect(rt, "memory");
     }
     equal(rt, patterns.len(), 65535);
-    build(rt, alloc, patterns.as_slice(), 1000000)
+    build(rt, alloc, patterns.as_slice(), 1000000).expect(rt, "an automaton")
 }
 
 #[test]
-fn as_many_patterns_as_there_may_be(rt: HostRuntime) -> Result<(), Fail> {
-    let automaton = of_paths(&rt, rt.alloc())?;
+fn as_many_patterns_as_there_may_be(rt: HostRuntime) {
+    let automaton = of_paths(&rt, rt.alloc());
     equal(&rt, size(&automaton), (69906, 18));
     matches_just(&rt, &automaton, &[(b"/fffe", &[65534]), (b"/ffff", &[])]);
-    Ok(())
 }

@@ -5,7 +5,6 @@ use crate::comparing::equal;
 use aa_auto::{Automaton, BuildFault};
 use std::alloc::Global;
 use std::process::Abort;
-use std::test::Fail;
 
 // Tries again where a growth is refused.
 fn four_at_last(rt: &impl Abort, alloc: Global) -> Automaton {
@@ -19,7 +18,7 @@ fn four_at_last(rt: &impl Abort, alloc: Global) -> Automaton {
 }
 
 #[test]
-fn a_growth_refused_to_build_is_no_memory(rt: HostRuntime) -> Result<(), Fail> {
+fn a_growth_refused_to_build_is_no_memory(rt: HostRuntime) {
     matches_just(
         &rt,
         &four_at_last(&rt, rt.alloc()),
@@ -32,16 +31,15 @@ fn a_growth_refused_to_build_is_no_memory(rt: HostRuntime) -> Result<(), Fail> {
             (b"/", &[]),
         ],
     );
-    Ok(())
 }
 
 #[test]
-fn a_growth_refused_is_not_too_many_states(rt: HostRuntime) -> Result<(), Fail> {
+fn a_growth_refused_is_not_too_many_states(rt: HostRuntime) {
     for _ in 0..3 {
         match automaton(&rt, rt.alloc(), &[b"/etc/passwd"], 12) {
             Ok(_) => panic!(rt; "13 rows are within 12"),
             Err(BuildFault::NoMemory) => {}
-            Err(BuildFault::TooManyStates) => return Ok(()),
+            Err(BuildFault::TooManyStates) => return,
         }
     }
     panic!(rt; "refused each time")

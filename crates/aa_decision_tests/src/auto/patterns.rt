@@ -7,7 +7,6 @@ use aa_patterns::Pattern;
 use aa_reader::read_pattern;
 use std::alloc::Global;
 use std::process::Abort;
-use std::test::Fail;
 
 // The pattern of a text that is one.
 fn pattern(rt: &impl Abort, alloc: Global, text: &[u8]) -> Result<Pattern, BuildFault> {
@@ -54,6 +53,11 @@ pub fn automaton(
     build(rt, alloc, patterns.as_slice(), limit)
 }
 
+/// The same where they are patterns within the limit.
+fn built(rt: &impl Abort, alloc: Global, texts: &[&[u8]], limit: usize) -> Automaton {
+    automaton(rt, alloc, texts, limit).expect(rt, "an automaton")
+}
+
 /// How many rows and how many classes an automaton has.
 pub fn size(automaton: &Automaton) -> (usize, usize) {
     (automaton.rows(), automaton.classes())
@@ -66,10 +70,8 @@ pub fn has_size(
     texts: &[&[u8]],
     limit: usize,
     expected: (usize, usize),
-) -> Result<(), Fail> {
-    let automaton = automaton(rt, alloc, texts, limit)?;
-    equal(rt, size(&automaton), expected);
-    Ok(())
+) {
+    equal(rt, size(&built(rt, alloc, texts, limit)), expected);
 }
 
 /// The patterns of some texts need more rows than the limit.
@@ -87,17 +89,22 @@ pub fn needs_more(rt: &impl Abort, alloc: Global, texts: &[&[u8]], limit: usize)
 pub type Classes = (&'static [&'static [u8]], usize);
 
 /// The automata of the texts have so many classes.
-pub fn has_classes(rt: &impl Abort, alloc: Global, rows: &[Classes]) -> Result<(), Fail> {
+pub fn has_classes(rt: &impl Abort, alloc: Global, rows: &[Classes]) {
     for (texts, classes) in rows {
-        let automaton = automaton(rt, alloc, texts, 4096)?;
-        equal(rt, size(&automaton).1, *classes);
+        equal(rt, size(&built(rt, alloc, texts, 4096)).1, *classes);
     }
-    Ok(())
 }
 
 // The number of the list of the text's row.
 fn list_of(automaton: &Automaton, text: &[u8]) -> usize {
     automaton.list_of(automaton.place(text))
+}
+
+fn share_lists(rt: &impl Abort, automaton: &Automaton, rows: &[(&[u8], &[u8], bool)]) {
+    for row in rows {
+        let is_one = list_of(automaton, row.0) == list_of(automaton, row.1);
+        equal(rt, is_one, row.2);
+    }
 }
 
 /// The automaton of some texts has so many lists, and each pair of paths has one list or two, as it says.
@@ -108,17 +115,10 @@ pub fn has_lists(
     limit: usize,
     lists: usize,
     rows: &[(&[u8], &[u8], bool)],
-) -> Result<(), Fail> {
-    let automaton = automaton(rt, alloc, texts, limit)?;
+) {
+    let automaton = built(rt, alloc, texts, limit);
     equal(rt, automaton.lists(), lists);
-    for row in rows {
-        equal(
-            rt,
-            list_of(&automaton, row.0) == list_of(&automaton, row.1),
-            row.2,
-        );
-    }
-    Ok(())
+    share_lists(rt, &automaton, rows);
 }
 
 /// Each path is matched by just these of the patterns, by `matching`, by its row, and by its row's list.
@@ -138,7 +138,6 @@ pub fn match_just(
     texts: &[&[u8]],
     limit: usize,
     rows: &[(&[u8], &[u16])],
-) -> Result<(), Fail> {
-    matches_just(rt, &automaton(rt, alloc, texts, limit)?, rows);
-    Ok(())
+) {
+    matches_just(rt, &built(rt, alloc, texts, limit), rows);
 }
