@@ -44,15 +44,16 @@ fn is_called(text: &Text, name: &str) -> bool {
     text.as_slice() == name.as_bytes()
 }
 
-fn is_profile(rt: &impl Abort, profile: &Profile, name: &str, parent: Option<u16>) {
-    holds_in(rt, is_called(&profile.name, name), name);
-    equal_in(rt, profile.parent, parent, name);
+fn is_profile(rt: &impl Abort, profile: Option<&Profile>, row: &Row) {
+    let profile = profile.expect(rt, row.0);
+    holds_in(rt, is_called(&profile.name, row.0), row.0);
+    equal_in(rt, profile.parent, row.1, row.0);
 }
 
 fn are_profiles(rt: &impl Abort, profiles: &[Profile], rows: &[Row]) {
     equal(rt, profiles.len(), rows.len());
-    for (profile, row) in profiles.iter().zip(rows) {
-        is_profile(rt, profile, row.0, row.1);
+    for (number, row) in rows.iter().enumerate() {
+        is_profile(rt, profiles.get(number), row);
     }
 }
 
@@ -73,15 +74,16 @@ pub fn has_profiles(
 /// The number of a profile, and the keyword of a rule of it that is passed over.
 pub type Listed = (u16, &'static str);
 
-fn is_rule(rt: &impl Abort, rule: &PassedOver, profile: u16, keyword: &str) {
-    equal_in(rt, rule.profile, profile, keyword);
-    holds_in(rt, is_called(&rule.kind, keyword), keyword);
+fn is_rule(rt: &impl Abort, rule: Option<&PassedOver>, row: &Listed) {
+    let rule = rule.expect(rt, row.1);
+    equal_in(rt, rule.profile, row.0, row.1);
+    holds_in(rt, is_called(&rule.kind, row.1), row.1);
 }
 
 fn are_rules(rt: &impl Abort, rules: &[PassedOver], rows: &[Listed]) {
     equal(rt, rules.len(), rows.len());
-    for (rule, row) in rules.iter().zip(rows) {
-        is_rule(rt, rule, row.0, row.1);
+    for (number, row) in rows.iter().enumerate() {
+        is_rule(rt, rules.get(number), row);
     }
 }
 

@@ -32,7 +32,7 @@ fn says_or_no_memory(rt: &impl Abort, alloc: Global, list: &[Compiled]) -> bool 
     }
 }
 
-const ROW: Row = (
+const ROW: &Row = &(
     FIRST,
     Ask::Exec("/bin/x y"),
     Some((Allowed, Perms(64))),

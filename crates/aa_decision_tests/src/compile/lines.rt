@@ -61,7 +61,7 @@ pub fn is_line(
     rt: &impl Abort,
     alloc: Global,
     policies: &[Compiled],
-    row: Row,
+    row: &Row,
     asked: &Request,
 ) -> Result<(), AllocError> {
     let answer = answer(row.2, row.3);
@@ -73,13 +73,13 @@ pub fn is_line(
     Ok(())
 }
 
-fn says(rt: &impl Abort, alloc: Global, policies: &[Compiled], row: Row) {
+fn says(rt: &impl Abort, alloc: Global, policies: &[Compiled], row: &Row) {
     is_line(rt, alloc, policies, row, &asked(rt, alloc, row.1)).expect(rt, "memory");
 }
 
 fn says_each(rt: &impl Abort, alloc: Global, policies: &[Compiled], rows: &[Row]) {
     for row in rows {
-        says(rt, alloc, policies, *row);
+        says(rt, alloc, policies, row);
     }
 }
 

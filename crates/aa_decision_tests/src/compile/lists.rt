@@ -108,9 +108,9 @@ pub fn refusal(
     }
 }
 
-/// How many profiles the policy has.
-pub fn profiles_of(policy: &Compiled) -> usize {
-    policy.policy().profiles.as_slice().len()
+/// How many profiles a policy has, if it is there.
+pub fn profiles_of(policies: &[Compiled], number: usize) -> Option<usize> {
+    Some(policies.get(number)?.policy().profiles.as_slice().len())
 }
 
 /// The number of a policy, a full name, and the number of its profile.

@@ -4,6 +4,7 @@ use crate::asks::Ask::{Cap, Change, Exec, File, Link, Net, Reload};
 use crate::asks::{Ask, FIRST};
 use crate::mediate::tasks::Then::{Denied, Granted, Moved, Refused, Scrubbed};
 use crate::mediate::tasks::{FREE, Row, answers_each, refuses_all};
+use crate::texts::policies;
 use aa_mediate::Label;
 use aa_mediate::Label::{Confined, Unconfined};
 use aa_tables::Perms;
@@ -39,7 +40,8 @@ const EVERYTHING: &[Ask] = &[
 #[test]
 fn a_label_that_is_not_there_is_refused_everything(rt: HostRuntime) {
     let text = "profile p flags=(audit) { /x r, }";
-    refuses_all(&rt, rt.alloc(), text, NOT_THERE, EVERYTHING);
+    let policies = policies(&rt, rt.alloc(), &[text]);
+    refuses_all(&rt, rt.alloc(), &policies, NOT_THERE, EVERYTHING);
 }
 
 const RELOADED: &[Row] = &[

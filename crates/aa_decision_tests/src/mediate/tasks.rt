@@ -66,18 +66,18 @@ fn step(policies: &[Compiled], before: Label, request: &Request) -> (Answer, Lab
     (answer, label)
 }
 
-fn answered(rt: &impl Abort, alloc: Global, policies: &[Compiled], row: Row) -> (Answer, Label) {
+fn answered(rt: &impl Abort, alloc: Global, policies: &[Compiled], row: &Row) -> (Answer, Label) {
     step(policies, row.0, &asked(rt, alloc, row.1))
 }
 
-fn is_answered(rt: &impl Abort, alloc: Global, policies: &[Compiled], number: usize, row: Row) {
+fn is_answered(rt: &impl Abort, alloc: Global, policies: &[Compiled], number: usize, row: &Row) {
     let found = answered(rt, alloc, policies, row);
     equal_at(rt, found, said(row.0, row.2), &"row", &number);
 }
 
 fn are_answered(rt: &impl Abort, alloc: Global, policies: &[Compiled], rows: &[Row]) {
     for (number, row) in rows.iter().enumerate() {
-        is_answered(rt, alloc, policies, number, *row);
+        is_answered(rt, alloc, policies, number, row);
     }
 }
 
@@ -94,15 +94,21 @@ fn all_are_refused(
     asks: &[Ask],
 ) {
     for (number, ask) in asks.iter().enumerate() {
-        is_answered(rt, alloc, policies, number, (label, *ask, Then::Refused));
+        let row = (label, *ask, Then::Refused);
+        is_answered(rt, alloc, policies, number, &row);
     }
 }
 
-/// Under the text's policy a task of any of the labels is refused whatever it asks, and its label stays.
-pub fn refuses_all(rt: &impl Abort, alloc: Global, text: &str, labels: &[Label], asks: &[Ask]) {
-    let policies = policies(rt, alloc, &[text]);
+/// Under these policies a task of any of the labels is refused whatever it asks, and its label stays.
+pub fn refuses_all(
+    rt: &impl Abort,
+    alloc: Global,
+    policies: &[Compiled],
+    labels: &[Label],
+    asks: &[Ask],
+) {
     for label in labels {
-        all_are_refused(rt, alloc, &policies, *label, asks);
+        all_are_refused(rt, alloc, policies, *label, asks);
     }
 }
 
