@@ -2,14 +2,15 @@
 ghost use Rattle.std.specs.Prelude.{◌≡◌, ◌<◌, ◌≤◌, map};
 ghost use Rattle.aa_lane.specs.Ends.{known};
 
-use crate::comparing::equal;
+use crate::comparing::{equal, holds};
 use crate::pool::serving::{accepts_at, collected_at};
-use aa_lane::{Lane, Machine, Owner};
-use aa_pool::{Engine, serve_all, shut_all};
+use crate::pool::sums::{all_shut, opened};
+use aa_lane::{Lane, Machine, Owner, Server};
+use aa_pool::{Engine, serve_all};
 use std::alloc::Global;
+use std::process::Abort;
 use std::sync::Wait;
 use std::sync::atomic::{AtomicU64, Ordering};
-use std::test::Fail;
 use std::thread;
 use std::thread::Threads;
 
@@ -87,40 +88,64 @@ fn answered_by_each(lanes: &[Lane<Gates>], owners: &mut [Owner<Gates>]) -> u64
     answered
 }
 
-/// How many requests two lanes accepted, how many servers came back, how many answers there are, and whether a step gave up,
-/// where so many workers serve.
-fn served_by<R: Threads + Wait + Sync>(
+/// How many servers come back where so many workers serve.
+fn served<R: Threads + Wait + Sync>(
     rt: &R,
     alloc: Global,
+    lanes: &[Lane<Gates>],
+    servers: Vec<Server<Gates>>,
     workers: u32,
-) -> Option<(u64, usize, u64, u64)>
+) -> Option<usize>
+    requires servers { map (λ s. s.lane) servers.items ≡ map known lanes.now }
+    requires workers { (0 < workers) × (workers ≤ 16) }
+{
+    match serve_all(rt, alloc, lanes, servers, workers) {
+        Ok(served) => Some(served.len()),
+        Err(_) => None,
+    }
+}
+
+/// How many requests two lanes accepted, how many servers came back, and how many answers there are.
+fn served_at<R: Abort + Threads + Wait + Sync>(
+    rt: &R,
+    alloc: Global,
+    gates: &Gates,
+    workers: u32,
+) -> (u64, Option<usize>, u64)
     requires { (0 < workers) × (workers ≤ 16) }
 {
-    let gates = Gates::new();
-    let Ok(engine) = Engine::open(alloc, &gates, &[(), ()], 1) else {
-        return None;
-    };
     let Engine {
         lanes,
         mut owners,
         servers,
         mut shutters,
-    } = engine;
+    } = opened(rt, alloc, gates, &[(), ()], 1);
     let asked = asked_of_each(&lanes, &mut owners);
-    let mut counts = vec![in alloc; 0; lanes.len()].ok()?;
-    shut_all(&lanes, &mut shutters, &mut counts);
-    let Ok(served) = serve_all(rt, alloc, &lanes, servers, workers) else {
-        return None;
-    };
-    let answered = answered_by_each(&lanes, &mut owners);
-    let given_up = gates.given_up.load(Ordering::SeqCst);
-    Some((asked, served.len(), answered, given_up))
+    holds(rt, all_shut(alloc, &lanes, &mut shutters));
+    let served = served(rt, alloc, &lanes, servers, workers);
+    (asked, served, answered_by_each(&lanes, &mut owners))
+}
+
+/// The same, and whether a step gave up.
+fn served_by<R: Abort + Threads + Wait + Sync>(
+    rt: &R,
+    alloc: Global,
+    workers: u32,
+) -> ((u64, Option<usize>, u64), u64)
+    requires { (0 < workers) × (workers ≤ 16) }
+{
+    let gates = Gates::new();
+    let served = served_at(rt, alloc, &gates, workers);
+    (served, gates.given_up.load(Ordering::SeqCst))
 }
 
 #[test]
-fn two_workers_serve_two_lanes_at_once(rt: HostRuntime) -> Result<(), Fail> {
+fn two_workers_serve_two_lanes_at_once(rt: HostRuntime) {
     for workers in [2, 16] {
-        equal(&rt, served_by(&rt, rt.alloc(), workers), Some((2, 2, 2, 0)));
+        equal(
+            &rt,
+            served_by(&rt, rt.alloc(), workers),
+            ((2, Some(2), 2), 0),
+        );
     }
-    Ok(())
 }

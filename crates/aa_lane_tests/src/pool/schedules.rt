@@ -1,15 +1,15 @@
 //! Owners that send and collect on threads of their own, while workers serve and another thread shuts one of the lanes.
-ghost use Rattle.std.specs.Prelude.{◌≡◌, ◌≤◌, ◌<◌, ◌∷◌, [], map, IfSome};
+ghost use Rattle.std.specs.Prelude.{◌≡◌, ◌≤◌, ◌<◌, ◌∷◌, [], map};
 ghost use Rattle.aa_lane.specs.Ends.{known};
 
 use crate::comparing::equal;
-use crate::pool::sums::{Sum, sum_up_to};
+use crate::pool::sums::{Sum, opened, sum_up_to};
 use aa_lane::SendFault::Closed;
 use aa_lane::{Lane, Owner, Server, Shutter};
 use aa_pool::{Engine, serve_all};
 use std::alloc::Global;
+use std::process::Abort;
 use std::sync::Wait;
-use std::test::Fail;
 use std::thread;
 use std::thread::{Threads, join};
 
@@ -56,6 +56,14 @@ fn collects(lane: &Lane<Sum>, owner: &mut Owner<Sum>, fed: &mut Fed)
     }
 }
 
+/// The owner leaves, and whether the lane accepted as many is right too.
+fn leaves(lane: &Lane<Sum>, owner: Owner<Sum>, fed: Fed) -> Fed
+    requires { owner.lane ≡ known lane.now }
+{
+    let right = fed.right && owner.exit(lane).accepted() == fed.accepted;
+    Fed { right, ..fed }
+}
+
 /// Sends the numbers from 0 on until all are sent or the lane is shut, collects the answers to all of them, and leaves.
 fn feed(rt: &impl Wait, lane: &Lane<Sum>, owner: Owner<Sum>) -> Fed
     requires { owner.lane ≡ known lane.now }
@@ -74,8 +82,7 @@ fn feed(rt: &impl Wait, lane: &Lane<Sum>, owner: Owner<Sum>) -> Fed
         }
         collects(lane, &mut owner, &mut fed);
     }
-    fed.right = fed.right && owner.exit(lane).accepted() == fed.accepted;
-    fed
+    leaves(lane, owner, fed)
 }
 
 /// Shuts the lane after a while, and gives the count of what it accepted.
@@ -160,17 +167,16 @@ fn all_run<R: Threads + Wait + Sync>(
     lanes: &[Lane<Sum>],
     owners: (Owner<Sum>, Owner<Sum>),
     servers: Vec<Server<Sum>>,
-    shutters: (Shutter<Sum>, Shutter<Sum>),
+    shutter: Shutter<Sum>,
     workers: u32,
 ) -> ((Fed, Fed), (usize, u64))
     requires owners { owners.0.lane ∷ owners.1.lane ∷ [] ≡ map known lanes.now }
     requires servers { map (λ s. s.lane) servers.items ≡ map known lanes.now }
-    requires shutters { shutters.0.lane ∷ shutters.1.lane ∷ [] ≡ map known lanes.now }
+    requires shutter { shutter.lane ≡ owners.0.lane }
     requires workers { (0 < workers) × (workers ≤ 16) }
 {
     let first = &lanes[0];
     let second = &lanes[1];
-    let (shutter, _unused) = shutters;
     join(
         rt,
         move ||
@@ -184,56 +190,47 @@ fn all_run<R: Threads + Wait + Sync>(
     )
 }
 
-/// What a list holds, if those are two.
-fn pair_of<T: Drop>(list: Vec<T>) -> Option<(T, T)>
-    ensures { IfSome result (λ p. list.items ≡ p.0 ∷ p.1 ∷ []) }
+/// What a list holds: those are two.
+fn pair_of<T: Drop>(rt: &impl Abort, list: Vec<T>) -> (T, T)
+    ensures { list.items ≡ result.0 ∷ result.1 ∷ [] }
 {
     let mut list = list;
-    let second = list.pop()?;
-    let first = list.pop()?;
-    if list.is_empty() {
-        Some((first, second))
-    } else {
-        None
-    }
+    let second = list.pop().expect(rt, "a second");
+    let first = list.pop().expect(rt, "a first");
+    assert!(rt; list.is_empty());
+    (first, second)
 }
 
 /// What two lanes of three slots come to, which so many workers serve.
-fn run_by<R: Threads + Wait + Sync>(
+fn run_by<R: Abort + Threads + Wait + Sync>(
     rt: &R,
     alloc: Global,
     workers: u32,
-) -> Option<((Fed, Fed), (usize, u64))>
+) -> ((Fed, Fed), (usize, u64))
     requires { (0 < workers) × (workers ≤ 16) }
 {
     let sum = Sum;
-    let Ok(engine) = Engine::open(alloc, &sum, &[0, 0], 3) else {
-        return None;
-    };
     let Engine {
         lanes,
         owners,
         servers,
         shutters,
-    } = engine;
-    let owners = pair_of(owners)?;
-    let shutters = pair_of(shutters)?;
-    Some(all_run(rt, alloc, &lanes, owners, servers, shutters, workers))
+    } = opened(rt, alloc, &sum, &[0, 0], 3);
+    let owners = pair_of(rt, owners);
+    let (shutter, _unused) = pair_of(rt, shutters);
+    all_run(rt, alloc, &lanes, owners, servers, shutter, workers)
 }
 
 #[test]
-fn owners_feed_a_pool_while_another_thread_shuts_a_lane(rt: HostRuntime) -> Result<(), Fail> {
+fn owners_feed_a_pool_while_another_thread_shuts_a_lane(rt: HostRuntime) {
     for workers in [1, 2, 16] {
-        let Some(((first, second), (served, count))) = run_by(&rt, rt.alloc(), workers) else {
-            panic!(rt; "no memory")
-        };
+        let (fed, (served, count)) = run_by(&rt, rt.alloc(), workers);
         let whole = |count| Fed {
             accepted: count,
             collected: count,
             right: true,
         };
-        equal(&rt, (first, second), (whole(count), whole(REQUESTS)));
+        equal(&rt, fed, (whole(count), whole(REQUESTS)));
         equal(&rt, served, 2);
     }
-    Ok(())
 }

@@ -3,12 +3,11 @@ ghost use Rattle.std.specs.Prelude.{◌≡◌, ◌<◌, ◌≤◌, length, map};
 ghost use Rattle.aa_lane.specs.Ends.{known};
 
 use crate::comparing::equal;
-use crate::pool::sums::{Sum, accepts, collected, sum_up_to};
-use aa_lane::{Lane, Machine, Owner};
-use aa_pool::{Engine, EngineFault, serve_all, shut_all};
+use crate::pool::sums::{Sum, accepts, all_shut, collected, sum_up_to};
+use aa_lane::{Lane, Machine, Owner, Server, Shutter};
+use aa_pool::{Engine, EngineFault, serve_all};
 use std::alloc::Global;
 use std::sync::Wait;
-use std::test::Fail;
 use std::thread::Threads;
 
 /// Whether lane i accepted the request.
@@ -95,8 +94,49 @@ fn answered_by_each(lanes: &[Lane<Sum>], owners: &mut [Owner<Sum>], count: u64) 
     answered
 }
 
+/// How many servers come back where so many workers serve. A pool that is refused for memory is asked again.
+fn served<R: Threads + Wait + Sync>(
+    rt: &R,
+    alloc: Global,
+    lanes: &[Lane<Sum>],
+    servers: Vec<Server<Sum>>,
+    workers: u32,
+) -> Option<usize>
+    requires servers { map (λ s. s.lane) servers.items ≡ map known lanes.now }
+    requires workers { (0 < workers) × (workers ≤ 16) }
+{
+    match serve_all(rt, alloc, lanes, servers, workers) {
+        Ok(served) => Some(served.len()),
+        Err(refused) => match serve_all(rt, alloc, lanes, refused.servers, workers) {
+            Ok(served) => Some(served.len()),
+            Err(_) => None,
+        },
+    }
+}
+
+/// The same once the lanes are shut.
+fn shut_and_served<R: Threads + Wait + Sync>(
+    rt: &R,
+    alloc: Global,
+    lanes: &[Lane<Sum>],
+    servers: Vec<Server<Sum>>,
+    shutters: Vec<Shutter<Sum>>,
+    workers: u32,
+) -> Option<usize>
+    requires servers { map (λ s. s.lane) servers.items ≡ map known lanes.now }
+    requires shutters { map (λ s. s.lane) shutters.items ≡ map known lanes.now }
+    requires workers { (0 < workers) × (workers ≤ 16) }
+{
+    let mut shutters = shutters;
+    if all_shut(alloc, lanes, &mut shutters) {
+        served(rt, alloc, lanes, servers, workers)
+    } else {
+        None
+    }
+}
+
 /// How many requests the lanes accepted, how many servers came back, and how many answers were right, where each lane gets
-/// `count` requests and is shut, and that many workers serve them all. A pool that is refused for memory is asked again.
+/// `count` requests and is shut, and that many workers serve them all.
 fn served_by<R: Threads + Wait + Sync>(
     rt: &R,
     alloc: Global,
@@ -111,26 +151,17 @@ fn served_by<R: Threads + Wait + Sync>(
         lanes,
         mut owners,
         servers,
-        mut shutters,
+        shutters,
     } = Engine::open(alloc, &sum, starts, 200)?;
     let sent = sent_to_each(&lanes, &mut owners, count);
-    let Ok(mut counts) = vec![in alloc; 0; lanes.len()] else {
-        return Err(EngineFault::NoMemory);
-    };
-    shut_all(&lanes, &mut shutters, &mut counts);
-    let served = match serve_all(rt, alloc, &lanes, servers, workers) {
-        Ok(served) => served,
-        Err(refused) => match serve_all(rt, alloc, &lanes, refused.servers, workers) {
-            Ok(served) => served,
-            Err(_) => return Err(EngineFault::NoMemory),
-        },
-    };
-    let answered = answered_by_each(&lanes, &mut owners, count);
-    Ok((sent, served.len(), answered))
+    match shut_and_served(rt, alloc, &lanes, servers, shutters, workers) {
+        Some(served) => Ok((sent, served, answered_by_each(&lanes, &mut owners, count))),
+        None => Err(EngineFault::NoMemory),
+    }
 }
 
 #[test]
-fn each_lane_is_served_once(rt: HostRuntime) -> Result<(), Fail> {
+fn each_lane_is_served_once(rt: HostRuntime) {
     let starts = [0; 1024];
     let rows = [
         (0, 1u64, 1),
@@ -150,16 +181,15 @@ fn each_lane_is_served_once(rt: HostRuntime) -> Result<(), Fail> {
             Ok((all, lanes, all)),
         );
     }
-    Ok(())
 }
 
 #[test]
-fn growths_refused_to_a_pool(rt: HostRuntime) -> Result<(), Fail> {
+fn growths_refused_to_a_pool(rt: HostRuntime) {
     for _ in 0..10 {
         match served_by(&rt, rt.alloc(), &[0, 0, 0], 2, 3) {
             Ok(counts) => {
                 equal(&rt, counts, (6, 3, 6));
-                return Ok(());
+                return;
             }
             Err(fault) => equal(&rt, fault, EngineFault::NoMemory),
         }

@@ -1,8 +1,12 @@
 //! A machine that adds up, and what tests do at lanes of it.
-ghost use Rattle.std.specs.Prelude.{◌≡◌, ◌+◌, ◌%◌};
+ghost use Rattle.std.specs.Prelude.{◌≡◌, ◌+◌, ◌%◌, map};
 ghost use Rattle.aa_lane.specs.Ends.{known};
+ghost use Rattle.aa_pool.specs.Opened.{AreEndsOf};
 
-use aa_lane::{Lane, Machine, Owner};
+use aa_lane::{Lane, Machine, Owner, Shutter};
+use aa_pool::{Engine, shut_all};
+use std::alloc::Global;
+use std::process::Abort;
 
 /// Adds the request to the state, modulo 1,000, and answers the new state.
 #[derive(Drop)]
@@ -22,6 +26,32 @@ impl Machine for Sum {
     fn step(&self, state: &mut u64, request: &u64) -> u64 {
         *state = (*state % 1000 + *request % 1000) % 1000;
         *state
+    }
+}
+
+/// A lane of that capacity for each opening state, and their ends.
+pub fn opened<'m, M: Machine>(
+    rt: &impl Abort,
+    alloc: Global,
+    machine: &'m M,
+    starts: &[M::State],
+    capacity: u32,
+) -> Engine<'m, M>
+    ensures { AreEndsOf result.lanes.items result.owners.items result.servers.items result.shutters.items }
+{
+    Engine::open(alloc, machine, starts, capacity).expect(rt, "an engine")
+}
+
+/// Shuts all lanes, if there is memory for the counts.
+pub fn all_shut<M: Machine>(alloc: Global, lanes: &[Lane<M>], shutters: &mut [Shutter<M>]) -> bool
+    requires { map (λ s. s.lane) shutters.old ≡ map known lanes.now }
+{
+    match vec![in alloc; 0; lanes.len()] {
+        Ok(mut counts) => {
+            shut_all(lanes, shutters, &mut counts);
+            true
+        }
+        Err(_) => false,
     }
 }
 
