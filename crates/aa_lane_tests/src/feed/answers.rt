@@ -6,7 +6,6 @@ use crate::feed::sums::{Sum, rights, tasks_of, unchanged};
 use aa_feed::{EngineFault, Outcome, Refusal, answer_all};
 use std::alloc::Global;
 use std::sync::Wait;
-use std::test::Fail;
 use std::thread::Threads;
 
 /// How many tasks have outcomes, how many answers are right and in their places, how many requests the lanes accepted, answered
@@ -53,7 +52,7 @@ fn all_of(tasks: u64, requests: u64) -> Result<[u64; 5], (EngineFault, u64)> {
 }
 
 #[test]
-fn answers_are_the_same_by_any_number_of_workers(rt: HostRuntime) -> Result<(), Fail> {
+fn answers_are_the_same_by_any_number_of_workers(rt: HostRuntime) {
     for workers in [1, 2, 4, 16] {
         for capacity in [1, 2, 1024] {
             equal(
@@ -63,11 +62,10 @@ fn answers_are_the_same_by_any_number_of_workers(rt: HostRuntime) -> Result<(), 
             );
         }
     }
-    Ok(())
 }
 
 #[test]
-fn no_task_and_tasks_without_a_request(rt: HostRuntime) -> Result<(), Fail> {
+fn no_task_and_tasks_without_a_request(rt: HostRuntime) {
     for workers in [1, 2, 4, 16] {
         equal(
             &rt,
@@ -80,23 +78,19 @@ fn no_task_and_tasks_without_a_request(rt: HostRuntime) -> Result<(), Fail> {
             all_of(3, 0),
         );
     }
-    Ok(())
 }
 
 #[test]
-fn as_many_tasks_as_there_may_be(rt: HostRuntime) -> Result<(), Fail> {
+fn as_many_tasks_as_there_may_be(rt: HostRuntime) {
     equal(
         &rt,
         answered_by(&rt, rt.alloc(), 1024, 5, 3, 16),
         all_of(1024, 5120),
     );
-    Ok(())
 }
 
 #[test]
-fn tasks_come_back_where_there_are_too_many_or_the_capacity_is_bad(
-    rt: HostRuntime,
-) -> Result<(), Fail> {
+fn tasks_come_back_where_there_are_too_many_or_the_capacity_is_bad(rt: HostRuntime) {
     let rows = [
         (1025, 0, EngineFault::TooManyLanes),
         (1025, 1, EngineFault::TooManyLanes),
@@ -110,16 +104,15 @@ fn tasks_come_back_where_there_are_too_many_or_the_capacity_is_bad(
             Err((fault, tasks)),
         );
     }
-    Ok(())
 }
 
 #[test]
-fn growths_refused_to_tasks(rt: HostRuntime) -> Result<(), Fail> {
+fn growths_refused_to_tasks(rt: HostRuntime) {
     for _ in 0..100 {
         match answered_by(&rt, rt.alloc(), 3, 4, 2, 2) {
             Ok(counts) => {
                 equal(&rt, counts, [3, 12, 12, 12, 12]);
-                return Ok(());
+                return;
             }
             Err((fault, tasks)) => {
                 equal(&rt, fault, EngineFault::NoMemory);

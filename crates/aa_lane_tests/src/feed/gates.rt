@@ -1,13 +1,13 @@
 //! Tasks whose requests wait for one another, so that one thread alone can't serve their lanes.
 ghost use Rattle.std.specs.Prelude.{◌<◌, ◌≤◌};
 
-use crate::comparing::equal;
+use crate::comparing::{equal, holds};
 use aa_feed::{Machine, Task, answer_all};
-use std::alloc::{AllocError, Global};
+use std::alloc::Global;
 use std::collections::VecDeque;
+use std::process::Abort;
 use std::sync::Wait;
 use std::sync::atomic::{AtomicU64, Ordering};
-use std::test::Fail;
 use std::thread;
 use std::thread::Threads;
 
@@ -59,41 +59,54 @@ impl Machine for Gates {
 }
 
 /// A task that asks to open this gate.
-fn a_task(alloc: Global, gate: bool) -> Result<Task<Gates>, AllocError> {
+fn a_task(rt: &impl Abort, alloc: Global, gate: bool) -> Task<Gates> {
     let mut requests = VecDeque::new(alloc);
-    let Ok(()) = requests.push_back(gate) else {
-        return Err(AllocError);
-    };
-    Ok(Task {
+    holds(rt, requests.push_back(gate).is_ok());
+    Task {
         start: (),
         requests,
-    })
+    }
 }
 
-/// How many of two tasks have outcomes, and whether a step gave up, with that many workers.
-fn given_up_by<R: Threads + Wait + Sync>(
+/// A task for each gate.
+fn two_tasks(rt: &impl Abort, alloc: Global) -> Vec<Task<Gates>> {
+    let mut tasks = Vec::with_capacity(alloc, 2).expect(rt, "memory");
+    tasks.push_reserved(a_task(rt, alloc, true));
+    tasks.push_reserved(a_task(rt, alloc, false));
+    tasks
+}
+
+/// How many of two tasks have outcomes, with that many workers.
+fn answered_by<R: Abort + Threads + Wait + Sync>(
+    rt: &R,
+    alloc: Global,
+    gates: &Gates,
+    workers: u32,
+) -> Option<usize>
+    requires { (0 < workers) × (workers ≤ 16) }
+{
+    match answer_all(rt, alloc, gates, two_tasks(rt, alloc), 1, workers) {
+        Ok(outcomes) => Some(outcomes.len()),
+        Err(_) => None,
+    }
+}
+
+/// The same, and whether a step gave up.
+fn given_up_by<R: Abort + Threads + Wait + Sync>(
     rt: &R,
     alloc: Global,
     workers: u32,
-) -> Result<(usize, u64), AllocError>
+) -> (Option<usize>, u64)
     requires { (0 < workers) × (workers ≤ 16) }
 {
     let gates = Gates::new();
-    let first = a_task(alloc, true)?;
-    let second = a_task(alloc, false)?;
-    let mut tasks = Vec::with_capacity(alloc, 2)?;
-    tasks.push_reserved(first);
-    tasks.push_reserved(second);
-    let Ok(outcomes) = answer_all(rt, alloc, &gates, tasks, 1, workers) else {
-        return Err(AllocError);
-    };
-    Ok((outcomes.len(), gates.given_up.load(Ordering::SeqCst)))
+    let answered = answered_by(rt, alloc, &gates, workers);
+    (answered, gates.given_up.load(Ordering::SeqCst))
 }
 
 #[test]
-fn two_workers_answer_two_tasks_at_once(rt: HostRuntime) -> Result<(), Fail> {
+fn two_workers_answer_two_tasks_at_once(rt: HostRuntime) {
     for workers in [2, 16] {
-        equal(&rt, given_up_by(&rt, rt.alloc(), workers), Ok((2, 0)));
+        equal(&rt, given_up_by(&rt, rt.alloc(), workers), (Some(2), 0));
     }
-    Ok(())
 }

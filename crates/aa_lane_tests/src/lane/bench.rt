@@ -1,11 +1,10 @@
 //! A lane of any machine and its three ends on one thread, and steps of them as plain data.
-ghost use Rattle.std.specs.Prelude.{◌≡◌, IfOk};
+ghost use Rattle.std.specs.Prelude.{◌≡◌};
 ghost use Rattle.aa_lane.specs.Ends.{known};
 
-use aa_lane::{
-    Answered, Ends, Lane, LaneFault, Machine, Owner, SendFault, Served, Server, Shutter, Unsent,
-};
+use aa_lane::{Answered, Ends, Lane, Machine, Owner, SendFault, Served, Server, Shutter, Unsent};
 use std::alloc::Global;
+use std::process::Abort;
 
 /// What is done at a lane, with the number that a request is.
 #[derive(Clone, Copy, PartialEq, Eq, Debug)]
@@ -136,15 +135,16 @@ impl<'l, 'm, M: Machine> Bench<'l, 'm, M> {
 
 /// A lane and its ends.
 pub fn open<'m, M: Machine>(
+    rt: &impl Abort,
     alloc: Global,
     machine: &'m M,
     tag: u32,
     capacity: u32,
     start: M::State,
-) -> Result<(Lane<'m, M>, Owner<M>, Server<M>, Shutter<M>), LaneFault>
-    ensures { IfOk result (λ r. (r.1.lane ≡ known r.0) × (r.2.lane ≡ known r.0) × (r.3.lane ≡ known r.0)) }
+) -> (Lane<'m, M>, Owner<M>, Server<M>, Shutter<M>)
+    ensures { (result.1.lane ≡ known result.0) × (result.2.lane ≡ known result.0) × (result.3.lane ≡ known result.0) }
 {
-    Lane::new(alloc, machine, tag, capacity, start)
+    Lane::new(alloc, machine, tag, capacity, start).expect(rt, "a lane")
 }
 
 /// The server after one service, and what came of it.

@@ -10,7 +10,8 @@ ghost use Rattle.aa_lane.specs.declared.event.Reply.TheVariants.{Accepted, Count
 use crate::comparing::{equal, holds};
 use crate::lane::bench::open;
 use aa_lane::{Ends, Lane, Leaver, Machine, Owner, Served, Server, Shutter, Totals, Unsent};
-use std::test::Fail;
+use std::alloc::Global;
+use std::process::Abort;
 
 /// Adds the request and a number that stands elsewhere to the state, modulo 1,000, and answers the new state.
 #[derive(Drop)]
@@ -77,12 +78,11 @@ fn asks_twice<M: Machine<State = u64, Request = u64, Answer = u64>>(
 }
 
 #[test]
-fn a_machine_that_borrows_answers(rt: HostRuntime) -> Result<(), Fail> {
+fn a_machine_that_borrows_answers(rt: HostRuntime) {
     let by = 500;
     let machine = Offset { by: &by };
-    let (lane, owner, server, _shutter) = open(rt.alloc(), &machine, 3, 2, 7)?;
+    let (lane, owner, server, _shutter) = open(&rt, rt.alloc(), &machine, 3, 2, 7);
     equal(&rt, asks_twice(&lane, owner, server), [(0, 517), (1, 18)]);
-    Ok(())
 }
 
 fn sent_between_threads<T: Send>(value: T) -> T
@@ -117,12 +117,11 @@ where
 }
 
 #[test]
-fn a_lane_and_its_ends_go_to_threads(rt: HostRuntime) -> Result<(), Fail> {
+fn a_lane_and_its_ends_go_to_threads(rt: HostRuntime) {
     let by = 1;
     let machine = Offset { by: &by };
-    let (lane, owner, server, shutter) = open(rt.alloc(), &machine, 3, 2, 7)?;
+    let (lane, owner, server, shutter) = open(&rt, rt.alloc(), &machine, 3, 2, 7);
     holds(&rt, goes_to_threads(&lane, owner, server, shutter));
-    Ok(())
 }
 
 // Where the shutter was never used, no request was refused since the lane was shut.
@@ -134,11 +133,23 @@ fn closes_unshut<M: Machine>(lane: Lane<M>, ends: Ends<M>) -> Totals<M>
     lane.close(ends)
 }
 
+// A lane whose shutter was never used.
+fn new_lane<'m, M: Machine<State = u64>>(
+    rt: &impl Abort,
+    alloc: Global,
+    machine: &'m M,
+) -> (Lane<'m, M>, Owner<M>, Server<M>, Shutter<M>)
+    ensures ends { (result.1.lane ≡ known result.0) × (result.2.lane ≡ known result.0) × (result.3.lane ≡ known result.0) }
+    ensures unused { result.3.count ≡ None }
+{
+    Lane::new(alloc, machine, 3, 2, 7).expect(rt, "a lane")
+}
+
 #[test]
-fn an_unused_shutter_closed_nothing(rt: HostRuntime) -> Result<(), Fail> {
+fn an_unused_shutter_closed_nothing(rt: HostRuntime) {
     let by = 0;
     let machine = Offset { by: &by };
-    let (lane, owner, server, shutter) = Lane::new(rt.alloc(), &machine, 3, 2, 7)?;
+    let (lane, owner, server, shutter) = new_lane(&rt, rt.alloc(), &machine);
     let owner = owner.exit(&lane);
     let totals = closes_unshut(
         lane,
@@ -149,7 +160,6 @@ fn an_unused_shutter_closed_nothing(rt: HostRuntime) -> Result<(), Fail> {
         },
     );
     equal(&rt, (totals.accepted, totals.state), (0, 7));
-    Ok(())
 }
 
 // Sends a request and leaves. What the owner has then seen of the lane's log has these two events of its own more, in this
@@ -180,10 +190,9 @@ fn accepted_of<M: Machine>(lane: &Lane<M>, owner: Owner<M>, request: M::Request)
 }
 
 #[test]
-fn two_events_of_one_end_stand_in_one_order(rt: HostRuntime) -> Result<(), Fail> {
+fn two_events_of_one_end_stand_in_one_order(rt: HostRuntime) {
     let by = 1;
     let machine = Offset { by: &by };
-    let (lane, owner, _server, _shutter) = open(rt.alloc(), &machine, 3, 2, 7)?;
+    let (lane, owner, _server, _shutter) = open(&rt, rt.alloc(), &machine, 3, 2, 7);
     equal(&rt, accepted_of(&lane, owner, 10), Some(1));
-    Ok(())
 }

@@ -10,7 +10,6 @@ use aa_lane::SendFault::{Closed, Full};
 use aa_lane::{Ends, Lane, LaneFault, Leaver, Owner, Server, Taken, World};
 use std::alloc::Global;
 use std::process::Abort;
-use std::test::Fail;
 
 fn does<'l, 'm>(bench: Bench<'l, 'm, Sum>, step: Step) -> (Bench<'l, 'm, Sum>, Outcome)
     ensures { result.0.lane ≡ bench.entry.lane }
@@ -81,12 +80,12 @@ fn totals(
     capacity: u32,
     start: u64,
     rows: &[(Step, Outcome)],
-) -> Result<[u64; 4], LaneFault> {
+) -> [u64; 4] {
     let sum = Sum;
-    let (lane, owner, server, shutter) = open(alloc, &sum, 7, capacity, start)?;
+    let (lane, owner, server, shutter) = open(rt, alloc, &sum, 7, capacity, start);
     let bench = plays(rt, Bench::of(&lane, owner, server, shutter), rows);
     let ends = bench.leaves();
-    Ok(closed(lane, ends))
+    closed(lane, ends)
 }
 
 const ONE_PLACE: [(Step, Outcome); 12] = [
@@ -105,13 +104,8 @@ const ONE_PLACE: [(Step, Outcome); 12] = [
 ];
 
 #[test]
-fn one_place_and_all_refusals(rt: HostRuntime) -> Result<(), Fail> {
-    equal(
-        &rt,
-        totals(&rt, rt.alloc(), 1, 0, &ONE_PLACE)?,
-        [2, 2, 2, 9],
-    );
-    Ok(())
+fn one_place_and_all_refusals(rt: HostRuntime) {
+    equal(&rt, totals(&rt, rt.alloc(), 1, 0, &ONE_PLACE), [2, 2, 2, 9]);
 }
 
 // Why a lane isn't made.
@@ -124,7 +118,7 @@ fn refused(alloc: Global, capacity: u32) -> Option<LaneFault> {
 }
 
 #[test]
-fn capacities_of_a_lane(rt: HostRuntime) -> Result<(), Fail> {
+fn capacities_of_a_lane(rt: HostRuntime) {
     for capacity in [0, 1025, u32::MAX] {
         equal(
             &rt,
@@ -135,7 +129,6 @@ fn capacities_of_a_lane(rt: HostRuntime) -> Result<(), Fail> {
     for capacity in [1, 1024] {
         equal(&rt, refused(rt.alloc(), capacity), None);
     }
-    Ok(())
 }
 
 // The tag of a server that has a request in hand.
@@ -177,9 +170,9 @@ fn later_tags_of(rt: &impl Abort, bench: Bench<Sum>) -> [u32; 2] {
 }
 
 #[test]
-fn tags(rt: HostRuntime) -> Result<(), Fail> {
+fn tags(rt: HostRuntime) {
     let sum = Sum;
-    let (lane, owner, server, shutter) = open(rt.alloc(), &sum, 7, 1, 0)?;
+    let (lane, owner, server, shutter) = open(&rt, rt.alloc(), &sum, 7, 1, 0);
     let bench = plays(
         &rt,
         Bench::of(&lane, owner, server, shutter),
@@ -187,13 +180,12 @@ fn tags(rt: HostRuntime) -> Result<(), Fail> {
     );
     equal(&rt, tags_of(&bench), [7, 7, 7, 7]);
     equal(&rt, later_tags_of(&rt, bench), [7, 7]);
-    Ok(())
 }
 
 #[test]
-fn the_sum_from_five_with_one_place(rt: HostRuntime) -> Result<(), Fail> {
+fn the_sum_from_five_with_one_place(rt: HostRuntime) {
     let sum = Sum;
-    let (lane, owner, server, shutter) = open(rt.alloc(), &sum, 7, 1, 5)?;
+    let (lane, owner, server, shutter) = open(&rt, rt.alloc(), &sum, 7, 1, 5);
     let bench = plays(
         &rt,
         Bench::of(&lane, owner, server, shutter),
@@ -216,7 +208,6 @@ fn the_sum_from_five_with_one_place(rt: HostRuntime) -> Result<(), Fail> {
             (Step::Collect, Outcome::Nothing),
         ],
     ));
-    Ok(())
 }
 
 const RING_OF_THREE: [(Step, Outcome); 16] = [
@@ -239,13 +230,12 @@ const RING_OF_THREE: [(Step, Outcome); 16] = [
 ];
 
 #[test]
-fn a_ring_of_three(rt: HostRuntime) -> Result<(), Fail> {
+fn a_ring_of_three(rt: HostRuntime) {
     equal(
         &rt,
-        totals(&rt, rt.alloc(), 3, 0, &RING_OF_THREE)?,
+        totals(&rt, rt.alloc(), 3, 0, &RING_OF_THREE),
         [4, 4, 4, 10],
     );
-    Ok(())
 }
 
 fn given(lane: &Lane<Sum>, leaver: &mut Leaver<Sum>) -> Outcome
@@ -304,15 +294,14 @@ fn after_exit(rt: &impl Abort, lane: &Lane<Sum>, ends: Ends<Sum>) -> (Ends<Sum>,
 }
 
 #[test]
-fn exit_at_once(rt: HostRuntime) -> Result<(), Fail> {
+fn exit_at_once(rt: HostRuntime) {
     let sum = Sum;
-    let (lane, owner, server, shutter) = open(rt.alloc(), &sum, 7, 2, 5)?;
+    let (lane, owner, server, shutter) = open(&rt, rt.alloc(), &sum, 7, 2, 5);
     let ends = Bench::of(&lane, owner, server, shutter).leaves();
     let (ends, accepted, outcome) = after_exit(&rt, &lane, ends);
     equal(&rt, accepted, 0);
     equal(&rt, outcome, Outcome::Nothing);
     equal(&rt, closed(lane, ends), [0, 0, 0, 5]);
-    Ok(())
 }
 
 // What the leaver's looks find, and what `close` tells then.
@@ -325,9 +314,9 @@ fn looks_and_closes(lane: Lane<Sum>, ends: Ends<Sum>) -> ((u64, [Outcome; 2]), [
 }
 
 #[test]
-fn a_leaver_collects_what_is_left(rt: HostRuntime) -> Result<(), Fail> {
+fn a_leaver_collects_what_is_left(rt: HostRuntime) {
     let sum = Sum;
-    let (lane, owner, server, shutter) = open(rt.alloc(), &sum, 7, 2, 5)?;
+    let (lane, owner, server, shutter) = open(&rt, rt.alloc(), &sum, 7, 2, 5);
     let bench = plays(
         &rt,
         Bench::of(&lane, owner, server, shutter),
@@ -341,7 +330,6 @@ fn a_leaver_collects_what_is_left(rt: HostRuntime) -> Result<(), Fail> {
     let (found, totals) = looks_and_closes(lane, ends);
     equal(&rt, found, (2, [Outcome::Got(0, 3, 8), Outcome::Nothing]));
     equal(&rt, totals, [2, 1, 1, 8]);
-    Ok(())
 }
 
 const SMALL: [Step; 6] = [
@@ -434,35 +422,33 @@ fn counts_beside(
     alloc: Global,
     world: &mut World<Sum>,
     place: usize,
-) -> Result<(u64, [u64; 4]), LaneFault> {
+) -> (u64, [u64; 4]) {
     let sum = Sum;
-    let (lane, owner, server, shutter) = open(alloc, &sum, 7, 2, 0)?;
+    let (lane, owner, server, shutter) = open(rt, alloc, &sum, 7, 2, 0);
     let bench = Bench::of(&lane, owner, server, shutter);
     let ends = shut_after(rt, bench, world, place);
-    Ok(shuts_and_closes(lane, ends))
+    shuts_and_closes(lane, ends)
 }
 
-fn shut_at(rt: &impl Abort, alloc: Global, place: usize) -> Result<(), LaneFault>
+fn shut_at(rt: &impl Abort, alloc: Global, place: usize)
     requires { place < 7 }
 {
     let sum = Sum;
-    let mut world = a_world(alloc, &sum, 2, 0)?;
+    let mut world = a_world(rt, alloc, &sum, 2, 0);
     let count = COUNTS[place];
     equal(
         rt,
-        counts_beside(rt, alloc, &mut world, place)?,
+        counts_beside(rt, alloc, &mut world, place),
         (count, [count, count, count, STATES[place]]),
     );
     equal(rt, world.label(), STATES[place]);
-    Ok(())
 }
 
 #[test]
-fn a_shut_at_each_place_of_a_small_schedule(rt: HostRuntime) -> Result<(), Fail> {
+fn a_shut_at_each_place_of_a_small_schedule(rt: HostRuntime) {
     for place in 0..7 {
-        shut_at(&rt, rt.alloc(), place)?;
+        shut_at(&rt, rt.alloc(), place);
     }
-    Ok(())
 }
 
 // The numbers from `from` on are sent.
@@ -519,25 +505,24 @@ fn rounds_beside(
     alloc: Global,
     world: &mut World<Sum>,
     counts: &[u64],
-) -> Result<[u64; 4], LaneFault> {
+) -> [u64; 4] {
     let sum = Sum;
-    let (lane, owner, server, shutter) = open(alloc, &sum, 7, 1024, 0)?;
+    let (lane, owner, server, shutter) = open(rt, alloc, &sum, 7, 1024, 0);
     let bench = Bench::of(&lane, owner, server, shutter);
     let ends = rounds(rt, bench, world, counts);
-    Ok(closed(lane, ends))
+    closed(lane, ends)
 }
 
 #[test]
-fn five_thousand_requests_through_the_largest_lane(rt: HostRuntime) -> Result<(), Fail> {
+fn five_thousand_requests_through_the_largest_lane(rt: HostRuntime) {
     let sum = Sum;
-    let mut world = a_world(rt.alloc(), &sum, 1024, 0)?;
+    let mut world = a_world(&rt, rt.alloc(), &sum, 1024, 0);
     equal(
         &rt,
-        rounds_beside(&rt, rt.alloc(), &mut world, &[1024, 1024, 1024, 1024, 904])?,
+        rounds_beside(&rt, rt.alloc(), &mut world, &[1024, 1024, 1024, 1024, 904]),
         [5000, 5000, 5000, 500],
     );
     equal(&rt, world.label(), 500);
-    Ok(())
 }
 
 // A step for a number drawn at random.
@@ -576,27 +561,25 @@ fn wanders_beside(
     world: &mut World<Sum>,
     capacity: u32,
     seed: u64,
-) -> Result<[u64; 4], LaneFault> {
+) -> [u64; 4] {
     let sum = Sum;
-    let (lane, owner, server, shutter) = open(alloc, &sum, 7, capacity, 5)?;
+    let (lane, owner, server, shutter) = open(rt, alloc, &sum, 7, capacity, 5);
     let bench = Bench::of(&lane, owner, server, shutter);
     let ends = wanders(rt, bench, world, seed);
-    Ok(closed(lane, ends))
+    closed(lane, ends)
 }
 
-fn wanders_at(rt: &impl Abort, alloc: Global, capacity: u32, seed: u64) -> Result<(), LaneFault> {
+fn wanders_at(rt: &impl Abort, alloc: Global, capacity: u32, seed: u64) {
     let sum = Sum;
-    let mut world = a_world(alloc, &sum, capacity, 5)?;
-    let totals = wanders_beside(rt, alloc, &mut world, capacity, seed)?;
+    let mut world = a_world(rt, alloc, &sum, capacity, 5);
+    let totals = wanders_beside(rt, alloc, &mut world, capacity, seed);
     equal(rt, totals[3], world.label());
     holds(rt, totals[1] > 100);
-    Ok(())
 }
 
 #[test]
-fn a_lane_beside_its_world_over_random_schedules(rt: HostRuntime) -> Result<(), Fail> {
+fn a_lane_beside_its_world_over_random_schedules(rt: HostRuntime) {
     for row in [(1, 1), (1, 2), (2, 3), (3, 4), (7, 5), (1024, 6)] {
-        wanders_at(&rt, rt.alloc(), row.0, row.1)?;
+        wanders_at(&rt, rt.alloc(), row.0, row.1);
     }
-    Ok(())
 }

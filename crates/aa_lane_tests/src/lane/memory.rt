@@ -14,7 +14,6 @@ use aa_lane::{
 use std::alloc::Global;
 use std::collections::VecDeque;
 use std::process::Abort;
-use std::test::Fail;
 
 // A lane of two places at which the rows happen; then its ends are dropped, and then the lane.
 fn plays_and_drops(
@@ -22,12 +21,11 @@ fn plays_and_drops(
     alloc: Global,
     held: &Held,
     rows: &[(Step, Outcome, [usize; 2])],
-) -> Result<(), LaneFault> {
+) {
     let scales = Scales;
-    let (lane, owner, server, shutter) = open(alloc, &scales, 0, 2, 0)?;
+    let (lane, owner, server, shutter) = open(rt, alloc, &scales, 0, 2, 0);
     drop(plays(rt, Bench::of(&lane, owner, server, shutter), held, rows));
     drop(lane);
-    Ok(())
 }
 
 // What `close` tells of a lane of two places at which the rows happen.
@@ -36,12 +34,12 @@ fn plays_and_closes(
     alloc: Global,
     held: &Held,
     rows: &[(Step, Outcome, [usize; 2])],
-) -> Result<[u64; 4], LaneFault> {
+) -> [u64; 4] {
     let scales = Scales;
-    let (lane, owner, server, shutter) = open(alloc, &scales, 0, 2, 0)?;
+    let (lane, owner, server, shutter) = open(rt, alloc, &scales, 0, 2, 0);
     let bench = plays(rt, Bench::of(&lane, owner, server, shutter), held, rows);
     let ends = bench.leaves();
-    Ok(closed(lane, ends))
+    closed(lane, ends)
 }
 
 const DROPPED_ONCE: [(Step, Outcome, [usize; 2]); 5] = [
@@ -53,24 +51,22 @@ const DROPPED_ONCE: [(Step, Outcome, [usize; 2]); 5] = [
 ];
 
 #[test]
-fn each_request_and_answer_is_dropped_once(rt: HostRuntime) -> Result<(), Fail> {
+fn each_request_and_answer_is_dropped_once(rt: HostRuntime) {
     let held = a_thing(rt.alloc());
-    plays_and_drops(&rt, rt.alloc(), &held, &DROPPED_ONCE)?;
+    plays_and_drops(&rt, rt.alloc(), &held, &DROPPED_ONCE);
     equal(&rt, owners(&held), 1);
-    Ok(())
 }
 
 #[test]
-fn a_close_drops_what_is_left(rt: HostRuntime) -> Result<(), Fail> {
+fn a_close_drops_what_is_left(rt: HostRuntime) {
     let held = a_thing(rt.alloc());
     let rows = [(Step::Send(7), Outcome::Sent(0), [2, 2])];
     equal(
         &rt,
-        plays_and_closes(&rt, rt.alloc(), &held, &rows)?,
+        plays_and_closes(&rt, rt.alloc(), &held, &rows),
         [1, 0, 0, 0],
     );
     equal(&rt, owners(&held), 1);
-    Ok(())
 }
 
 // The request that the server takes, and is dropped with.
@@ -117,19 +113,17 @@ fn goes_on_alone(
 }
 
 // The same at a lane of its own, which is dropped then.
-fn loses_its_server(rt: &impl Abort, alloc: Global, held: &Held) -> Result<(), LaneFault> {
+fn loses_its_server(rt: &impl Abort, alloc: Global, held: &Held) {
     let scales = Scales;
-    let (lane, owner, server, _shutter) = open(alloc, &scales, 0, 2, 0)?;
+    let (lane, owner, server, _shutter) = open(rt, alloc, &scales, 0, 2, 0);
     goes_on_alone(rt, &lane, owner, server, held);
-    Ok(())
 }
 
 #[test]
-fn a_server_dropped_with_a_request_in_hand(rt: HostRuntime) -> Result<(), Fail> {
+fn a_server_dropped_with_a_request_in_hand(rt: HostRuntime) {
     let held = a_thing(rt.alloc());
-    loses_its_server(&rt, rt.alloc(), &held)?;
+    loses_its_server(&rt, rt.alloc(), &held);
     equal(&rt, owners(&held), 1);
-    Ok(())
 }
 
 // What the shut counts, and what two services come to.
@@ -158,24 +152,22 @@ fn sent_and_dropped(lane: &Lane<Scales>, owner: Owner<Scales>, held: &Held) -> O
 }
 
 // A lane of two places, which is dropped after it has lost its owner and a parcel was served.
-fn loses_its_owner(rt: &impl Abort, alloc: Global, held: &Held) -> Result<(), LaneFault> {
+fn loses_its_owner(rt: &impl Abort, alloc: Global, held: &Held) {
     let scales = Scales;
-    let (lane, owner, server, shutter) = open(alloc, &scales, 0, 2, 0)?;
+    let (lane, owner, server, shutter) = open(rt, alloc, &scales, 0, 2, 0);
     equal(rt, sent_and_dropped(&lane, owner, held), Outcome::Sent(0));
     equal(
         rt,
         shut_and_served(&lane, shutter, server, held),
         (1, [Outcome::Did, Outcome::Settled], 3),
     );
-    Ok(())
 }
 
 #[test]
-fn an_owner_dropped_with_requests_on_their_way(rt: HostRuntime) -> Result<(), Fail> {
+fn an_owner_dropped_with_requests_on_their_way(rt: HostRuntime) {
     let held = a_thing(rt.alloc());
-    loses_its_owner(&rt, rt.alloc(), &held)?;
+    loses_its_owner(&rt, rt.alloc(), &held);
     equal(&rt, owners(&held), 1);
-    Ok(())
 }
 
 // Whether no growth was refused; the reply is dropped.
@@ -187,8 +179,8 @@ fn is_sent(world: &mut World<Scales>, weight: u64, held: &Held) -> bool {
     happens(world, Event::Send(a_parcel(weight, held)))
 }
 
-fn scales_world<'m>(alloc: Global, scales: &'m Scales) -> Result<World<'m, Scales>, LaneFault> {
-    World::new(alloc, scales, 2, 0)
+fn scales_world<'m>(rt: &impl Abort, alloc: Global, scales: &'m Scales) -> World<'m, Scales> {
+    World::new(alloc, scales, 2, 0).expect(rt, "a world")
 }
 
 // The world has two parcels and an answer then, and drops a third.
@@ -203,14 +195,13 @@ fn keeps_two_parcels(rt: &impl Abort, world: &mut World<Scales>, held: &Held) {
 }
 
 #[test]
-fn a_world_owns_its_requests_and_answers(rt: HostRuntime) -> Result<(), Fail> {
+fn a_world_owns_its_requests_and_answers(rt: HostRuntime) {
     let scales = Scales;
     let held = a_thing(rt.alloc());
-    let mut world = scales_world(rt.alloc(), &scales)?;
+    let mut world = scales_world(&rt, rt.alloc(), &scales);
     keeps_two_parcels(&rt, &mut world, &held);
     drop(world);
     equal(&rt, owners(&held), 1);
-    Ok(())
 }
 
 // The reply, or the event that comes back.
@@ -255,14 +246,13 @@ const ROWS: [(Happening, Said); 8] = [
 ];
 
 #[test]
-fn growths_refused_to_apply(rt: HostRuntime) -> Result<(), Fail> {
+fn growths_refused_to_apply(rt: HostRuntime) {
     let sum = Sum;
-    let mut world = a_world(rt.alloc(), &sum, 2, 5)?;
+    let mut world = a_world(&rt, rt.alloc(), &sum, 2, 5);
     for row in ROWS {
         applies(&rt, &mut world, row.0, row.1);
     }
     equal(&rt, world.label(), 12);
-    Ok(())
 }
 
 // The happening that the event is of.
@@ -317,37 +307,35 @@ fn rows_come(events: &mut VecDeque<Event<Sum>>) -> bool {
 // The replies of the replays.
 fn replies_of(rt: &impl Abort, alloc: Global, world: &mut World<Sum>) -> Vec<Reply<Sum>> {
     let mut events: VecDeque<Event<Sum>> = VecDeque::new(alloc);
-    assert!(rt; rows_come(&mut events), "memory");
+    holds(rt, rows_come(&mut events));
     let mut replies: Vec<Reply<Sum>> = Vec::new(alloc);
     holds(rt, replays(rt, world, &mut events, &mut replies));
     replies
 }
 
 #[test]
-fn growths_refused_to_replay(rt: HostRuntime) -> Result<(), Fail> {
+fn growths_refused_to_replay(rt: HostRuntime) {
     let sum = Sum;
-    let mut world = a_world(rt.alloc(), &sum, 2, 5)?;
+    let mut world = a_world(&rt, rt.alloc(), &sum, 2, 5);
     let replies = replies_of(&rt, rt.alloc(), &mut world);
     are_said(&rt, &mut replies.into_iter(), &ROWS);
     equal(&rt, world.label(), 12);
-    Ok(())
 }
 
 // Whether the owner of a new lane can send.
 fn sends_at_once(alloc: Global) -> Result<bool, LaneFault> {
     let sum = Sum;
-    let (lane, owner, _server, _shutter) = open(alloc, &sum, 7, 3, 0)?;
-    let mut owner = owner;
+    let (lane, mut owner, _server, _shutter) = Lane::new(alloc, &sum, 7, 3, 0)?;
     Ok(owner.send(&lane, 3).is_ok())
 }
 
 #[test]
-fn growths_refused_to_a_new_lane(rt: HostRuntime) -> Result<(), Fail> {
+fn growths_refused_to_a_new_lane(rt: HostRuntime) {
     for _ in 0..10 {
         match sends_at_once(rt.alloc()) {
             Ok(sends) => {
                 holds(&rt, sends);
-                return Ok(());
+                return;
             }
             Err(fault) => equal(&rt, fault, LaneFault::NoMemory),
         }

@@ -7,11 +7,10 @@ use crate::comparing::{equal, holds};
 use crate::lane::bench::open;
 use crate::lane::sum::Sum;
 use aa_lane::SendFault::Closed;
-use aa_lane::{Ends, Lane, LaneFault, Owner, Served, Server, Shutter, Totals};
+use aa_lane::{Ends, Lane, Owner, Served, Server, Shutter, Totals};
 use std::alloc::Global;
 use std::process::Abort;
 use std::sync::Wait;
-use std::test::Fail;
 use std::thread;
 use std::thread::{Threads, join};
 
@@ -28,6 +27,36 @@ fn sum_up_to(last: u64) -> u64 {
     (last % 2000).wrapping_mul(last.wrapping_add(1) % 2000) / 2 % 1000
 }
 
+// One more request is sent, unless the lane is shut. Whether more may be sent later.
+fn sends(lane: &Lane<Sum>, owner: &mut Owner<Sum>, fed: &mut Fed) -> bool
+    requires { owner.old.lane ≡ known lane.now }
+    ensures { owner.new.lane ≡ owner.old.lane }
+{
+    match owner.send(lane, fed.sent) {
+        Ok(number) => {
+            fed.right = fed.right && number == fed.sent;
+            fed.sent = fed.sent.wrapping_add(1);
+            true
+        }
+        Err(unsent) => unsent.fault != Closed,
+    }
+}
+
+// One more answer is collected, if there is one.
+fn collects(lane: &Lane<Sum>, owner: &mut Owner<Sum>, fed: &mut Fed)
+    requires { owner.old.lane ≡ known lane.now }
+    ensures { owner.new.lane ≡ owner.old.lane }
+{
+    match owner.collect(lane) {
+        Some(given) => {
+            let right = given.number == fed.got && given.request == fed.got;
+            fed.right = fed.right && right && given.answer == sum_up_to(fed.got);
+            fed.got = fed.got.wrapping_add(1);
+        }
+        None => thread::yield_now(),
+    }
+}
+
 // Sends the numbers from 0 on until `count` are sent or the lane is shut, and collects the answers to all of them.
 fn feed(rt: &impl Wait, lane: &Lane<Sum>, owner: Owner<Sum>, count: u64) -> (Owner<Sum>, Fed)
     requires { owner.lane ≡ known lane.now }
@@ -42,24 +71,11 @@ fn feed(rt: &impl Wait, lane: &Lane<Sum>, owner: Owner<Sum>, count: u64) -> (Own
     };
     'feeding: for _ in rt.forever() {
         if open && fed.sent < count {
-            match owner.send(lane, fed.sent) {
-                Ok(number) => {
-                    fed.right = fed.right && number == fed.sent;
-                    fed.sent += 1;
-                }
-                Err(unsent) => open = unsent.fault != Closed,
-            }
+            open = sends(lane, &mut owner, &mut fed);
         } else if fed.got == fed.sent {
             break;
         }
-        match owner.collect(lane) {
-            Some(given) => {
-                let right = given.number == fed.got && given.request == fed.got;
-                fed.right = fed.right && right && given.answer == sum_up_to(fed.got);
-                fed.got = fed.got.wrapping_add(1);
-            }
-            None => thread::yield_now(),
-        }
+        collects(lane, &mut owner, &mut fed);
     }
     (owner, fed)
 }
@@ -184,17 +200,17 @@ fn fed_on_two_threads<R: Threads + Wait + Abort + Sync>(
     rt: &R,
     alloc: Global,
     capacity: u32,
-) -> Result<(Fed, u64), LaneFault> {
+) -> (Fed, u64) {
     let sum = Sum;
-    let (lane, owner, server, shutter) = open(alloc, &sum, 7, capacity, 0)?;
+    let (lane, owner, server, shutter) = open(rt, alloc, &sum, 7, capacity, 0);
     let ((owner, fed), server) = feed_and_serve(rt, &lane, owner, server, 10000);
-    Ok((fed, closes(rt, lane, owner, server, shutter, fed)))
+    (fed, closes(rt, lane, owner, server, shutter, fed))
 }
 
 #[test]
-fn an_owner_and_a_server_on_two_threads(rt: HostRuntime) -> Result<(), Fail> {
+fn an_owner_and_a_server_on_two_threads(rt: HostRuntime) {
     for capacity in [1, 3, 1024] {
-        let (fed, closed) = fed_on_two_threads(&rt, rt.alloc(), capacity)?;
+        let (fed, closed) = fed_on_two_threads(&rt, rt.alloc(), capacity);
         equal(
             &rt,
             fed,
@@ -206,7 +222,6 @@ fn an_owner_and_a_server_on_two_threads(rt: HostRuntime) -> Result<(), Fail> {
         );
         equal(&rt, closed, 10000);
     }
-    Ok(())
 }
 
 // Both owners feed their lanes, each on a thread of its own.
@@ -345,41 +360,46 @@ fn closes(
     fed.sent
 }
 
+// A lane and its ends.
+type Opened<'m> = (Lane<'m, Sum>, Owner<Sum>, Server<Sum>, Shutter<Sum>);
+
 // All run and both lanes are closed: how many requests the first took, what the shut counted, and how many the second took.
 fn all_run_and_close<'m, R: Threads + Wait + Abort + Sync>(
     rt: &R,
-    first: Lane<'m, Sum>,
-    second: Lane<'m, Sum>,
-    owners: (Owner<Sum>, Owner<Sum>),
-    servers: (Server<Sum>, Server<Sum>),
-    shutters: (Shutter<Sum>, Shutter<Sum>),
+    first: Opened<'m>,
+    second: Opened<'m>,
 ) -> [u64; 3]
-    requires owners { (owners.0.lane ≡ known first) × (owners.1.lane ≡ known second) }
-    requires servers { (servers.0.lane ≡ known first) × (servers.1.lane ≡ known second) }
-    requires shutters { (shutters.0.lane ≡ known first) × (shutters.1.lane ≡ known second) }
+    requires first { (first.1.lane ≡ known first.0) × (first.2.lane ≡ known first.0) × (first.3.lane ≡ known first.0) }
+    requires second { (second.1.lane ≡ known second.0) × (second.2.lane ≡ known second.0) × (second.3.lane ≡ known second.0) }
 {
+    let (first, owner, server, shutter) = first;
+    let (second, other_owner, other_server, other_shutter) = second;
     let ((fed, other_fed), (servers, shut)) = all_run(
-        rt, &first, &second, owners, servers, shutters.0,
+        rt,
+        &first,
+        &second,
+        (owner, other_owner),
+        (server, other_server),
+        shutter,
     );
     let sent = closes(rt, first, fed.0, servers.0, shut.0, fed.1);
-    let other_sent = closes(rt, second, other_fed.0, servers.1, shutters.1, other_fed.1);
+    let other_sent = closes(
+        rt,
+        second,
+        other_fed.0,
+        servers.1,
+        other_shutter,
+        other_fed.1,
+    );
     [sent, shut.1, other_sent]
 }
 
 #[test]
-fn two_owners_while_another_thread_shuts_one_lane(rt: HostRuntime) -> Result<(), Fail> {
+fn two_owners_while_another_thread_shuts_one_lane(rt: HostRuntime) {
     let sum = Sum;
-    let (first, owner, server, shutter) = open(rt.alloc(), &sum, 0, 3, 0)?;
-    let (second, other_owner, other_server, other_shutter) = open(rt.alloc(), &sum, 1, 3, 0)?;
-    let counts = all_run_and_close(
-        &rt,
-        first,
-        second,
-        (owner, other_owner),
-        (server, other_server),
-        (shutter, other_shutter),
-    );
+    let first = open(&rt, rt.alloc(), &sum, 0, 3, 0);
+    let second = open(&rt, rt.alloc(), &sum, 1, 3, 0);
+    let counts = all_run_and_close(&rt, first, second);
     equal(&rt, counts[0], counts[1]);
     equal(&rt, counts[2], 10000);
-    Ok(())
 }

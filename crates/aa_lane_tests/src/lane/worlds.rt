@@ -6,17 +6,17 @@ use aa_lane::{Event, LaneFault, NoMemory, Reply, World, replay};
 use std::alloc::Global;
 use std::collections::VecDeque;
 use std::process::Abort;
-use std::test::Fail;
 use std::vec::IntoIter;
 
 // Each call of a function with a large contract stands in a function that promises nothing, so that no test's goal carries it.
 pub fn a_world<'m>(
+    rt: &impl Abort,
     alloc: Global,
     sum: &'m Sum,
     capacity: u32,
     start: u64,
-) -> Result<World<'m, Sum>, LaneFault> {
-    World::new(alloc, sum, capacity, start)
+) -> World<'m, Sum> {
+    World::new(alloc, sum, capacity, start).expect(rt, "a world")
 }
 
 pub fn apply(world: &mut World<Sum>, happening: Happening) -> Said {
@@ -54,32 +54,33 @@ fn kept(world: &World<Sum>, number: u64) -> (Option<u64>, Option<u64>) {
 }
 
 #[test]
-fn the_sum_from_five(rt: HostRuntime) -> Result<(), Fail> {
+fn the_sum_from_five(rt: HostRuntime) {
     let sum = Sum;
-    let mut world = a_world(rt.alloc(), &sum, 2, 5)?;
+    let mut world = a_world(&rt, rt.alloc(), &sum, 2, 5);
     plays(&rt, &mut world, &SUM_FROM_FIVE);
     equal(&rt, kept(&world, 0), (Some(3), Some(8)));
     equal(&rt, kept(&world, 1), (None, None));
     equal(&rt, world.label(), 8);
-    Ok(())
+}
+
+// Why a world isn't made.
+fn refused(alloc: Global, capacity: u32) -> Option<LaneFault> {
+    let sum = Sum;
+    World::new(alloc, &sum, capacity, 5).err()
 }
 
 #[test]
-fn capacities_of_a_world(rt: HostRuntime) -> Result<(), Fail> {
-    let sum = Sum;
+fn capacities_of_a_world(rt: HostRuntime) {
     for capacity in [0, 1025, u32::MAX] {
-        holds(
+        equal(
             &rt,
-            matches!(
-                World::new(rt.alloc(), &sum, capacity, 5),
-                Err(LaneFault::BadCapacity)
-            ),
+            refused(rt.alloc(), capacity),
+            Some(LaneFault::BadCapacity),
         );
     }
     for capacity in [1, 1024] {
-        holds(&rt, World::new(rt.alloc(), &sum, capacity, 5).is_ok());
+        equal(&rt, refused(rt.alloc(), capacity), None);
     }
-    Ok(())
 }
 
 const REFUSALS: [(Happening, Said); 10] = [
@@ -96,11 +97,10 @@ const REFUSALS: [(Happening, Said); 10] = [
 ];
 
 #[test]
-fn refusals_of_a_world(rt: HostRuntime) -> Result<(), Fail> {
+fn refusals_of_a_world(rt: HostRuntime) {
     let sum = Sum;
-    let mut world = a_world(rt.alloc(), &sum, 1, 0)?;
+    let mut world = a_world(&rt, rt.alloc(), &sum, 1, 0);
     plays(&rt, &mut world, &REFUSALS);
-    Ok(())
 }
 
 // Whether there was memory for the event.
@@ -108,23 +108,20 @@ pub fn comes(events: &mut VecDeque<Event<Sum>>, happening: Happening) -> bool {
     events.push_back(happening.event()).is_ok()
 }
 
-// Whether there was memory for the events of these rows.
-fn come(events: &mut VecDeque<Event<Sum>>, rows: &[(Happening, Said)]) -> bool {
+// The events of these rows.
+fn events_of(rt: &impl Abort, alloc: Global, rows: &[(Happening, Said)]) -> VecDeque<Event<Sum>> {
+    let mut events = VecDeque::new(alloc);
     for row in rows {
-        if !comes(events, row.0) {
-            return false;
-        }
+        holds(rt, comes(&mut events, row.0));
     }
-    true
+    events
 }
 
-// One reply, if there is memory for it.
-fn one_reply(alloc: Global) -> Option<Vec<Reply<Sum>>> {
-    let mut replies: Vec<Reply<Sum>> = Vec::new(alloc);
-    match replies.push(Reply::Idle) {
-        Ok(()) => Some(replies),
-        Err(_) => None,
-    }
+// One reply.
+fn one_reply(rt: &impl Abort, alloc: Global) -> Vec<Reply<Sum>> {
+    let mut replies = Vec::new(alloc);
+    holds(rt, replies.push(Reply::Idle).is_ok());
+    replies
 }
 
 pub fn replayed(
@@ -155,23 +152,23 @@ fn are_told(rt: &impl Abort, replies: Vec<Reply<Sum>>) {
 }
 
 // How many events are left, and the replies.
-fn all_replayed(alloc: Global, world: &mut World<Sum>) -> Result<(usize, Vec<Reply<Sum>>), Fail> {
-    let mut events: VecDeque<Event<Sum>> = VecDeque::new(alloc);
-    if !come(&mut events, &SUM_FROM_FIVE) {
-        return Err("memory".into());
-    }
-    let mut replies = one_reply(alloc).ok_or("memory")?;
-    replayed(world, &mut events, &mut replies)?;
-    Ok((events.len(), replies))
+fn all_replayed(
+    rt: &impl Abort,
+    alloc: Global,
+    world: &mut World<Sum>,
+) -> (usize, Vec<Reply<Sum>>) {
+    let mut events = events_of(rt, alloc, &SUM_FROM_FIVE);
+    let mut replies = one_reply(rt, alloc);
+    holds(rt, replayed(world, &mut events, &mut replies).is_ok());
+    (events.len(), replies)
 }
 
 #[test]
-fn a_replay_appends_a_reply_for_each_event(rt: HostRuntime) -> Result<(), Fail> {
+fn a_replay_appends_a_reply_for_each_event(rt: HostRuntime) {
     let sum = Sum;
-    let mut world = a_world(rt.alloc(), &sum, 2, 5)?;
-    let (left, replies) = all_replayed(rt.alloc(), &mut world)?;
+    let mut world = a_world(&rt, rt.alloc(), &sum, 2, 5);
+    let (left, replies) = all_replayed(&rt, rt.alloc(), &mut world);
     equal(&rt, left, 0);
     are_told(&rt, replies);
     equal(&rt, world.label(), 8);
-    Ok(())
 }
