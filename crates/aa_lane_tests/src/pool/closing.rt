@@ -1,34 +1,25 @@
 //! Lanes that are closed by their three ends, after a pool has served them.
-ghost use Rattle.std.specs.Prelude.{◌≡◌, ◌<◌, ◌≤◌, ◌∷◌, [], IfSome};
+ghost use Rattle.std.specs.Prelude.{◌≡◌, ◌<◌, ◌≤◌, ◌∷◌, [], map};
+ghost use Rattle.std.specs.List.Sorted.{IsPermutation};
 ghost use Rattle.aa_lane.specs.Ends.{known};
 
 use crate::comparing::equal;
-use crate::pool::sums::{Sum, accepts};
+use crate::pool::sums::{Sum, accepts, opened};
 use aa_lane::{Ends, Lane, Owner, Server, Shutter};
 use aa_pool::{Engine, serve_all};
 use std::alloc::Global;
+use std::process::Abort;
 use std::sync::Wait;
-use std::test::Fail;
 use std::thread::Threads;
 
-/// What a list holds, if that is one alone.
-fn only<T: Drop>(list: Vec<T>) -> Option<T>
-    ensures { IfSome result (λ t. list.items ≡ t ∷ []) }
+/// What a list holds: that is one alone.
+fn only<T: Drop>(rt: &impl Abort, list: Vec<T>) -> T
+    ensures { list.items ≡ result ∷ [] }
 {
     let mut list = list;
-    let last = list.pop()?;
-    if list.is_empty() { Some(last) } else { None }
-}
-
-/// A list of one alone.
-fn list_of<T: Drop>(alloc: Global, only: T) -> Option<Vec<T>>
-    ensures { IfSome result (λ v. v.items ≡ only ∷ []) }
-{
-    let Ok(mut list) = Vec::with_capacity(alloc, 1) else {
-        return None;
-    };
-    list.push_reserved(only);
-    Some(list)
+    let only = list.pop().expect(rt, "one");
+    assert!(rt; list.is_empty());
+    only
 }
 
 /// Sends the numbers from 0 on, as many as that.
@@ -66,65 +57,106 @@ fn closed(
     ]
 }
 
-/// A lane and its server, once so many workers have settled it.
-fn settled_by<'m, R: Threads + Wait + Sync>(
+/// What all servers are once so many workers have settled their lanes.
+fn served<R: Abort + Threads + Wait + Sync>(
     rt: &R,
     alloc: Global,
-    lane: Lane<'m, Sum>,
-    server: Server<Sum>,
+    lanes: &[Lane<Sum>],
+    servers: Vec<Server<Sum>>,
     workers: u32,
-) -> Option<(Lane<'m, Sum>, Server<Sum>)>
-    requires server { server.lane ≡ known lane }
+) -> Vec<Server<Sum>>
+    requires servers { map (λ s. s.lane) servers.items ≡ map known lanes.now }
     requires workers { (0 < workers) × (workers ≤ 16) }
-    ensures lane { IfSome result (λ r. r.0 ≡ lane.entry) }
-    ensures server { IfSome result (λ r. r.1.lane ≡ known lane.entry) }
+    ensures { IsPermutation (map known lanes.now) (map (λ s. s.lane) result.items) }
 {
-    let lanes = list_of(alloc, lane)?;
-    let servers = list_of(alloc, server)?;
-    let Ok(served) = serve_all(rt, alloc, &lanes, servers, workers) else {
-        return None;
-    };
-    let server = only(served)?;
-    Some((only(lanes)?, server))
+    match serve_all(rt, alloc, lanes, servers, workers) {
+        Ok(served) => served,
+        Err(_) => panic!(rt; "memory"),
+    }
 }
 
-/// What closing a lane tells that begins at this state, to which so many requests were sent, and which its pool then served.
-fn closed_after<R: Threads + Wait + Sync>(
+/// A lane and its server, once so many workers have settled it.
+fn settled_by<'m, R: Abort + Threads + Wait + Sync>(
+    rt: &R,
+    alloc: Global,
+    lanes: Vec<Lane<'m, Sum>>,
+    servers: Vec<Server<Sum>>,
+    workers: u32,
+) -> (Lane<'m, Sum>, Server<Sum>)
+    requires servers { map (λ s. s.lane) servers.items ≡ map known lanes.items }
+    requires workers { (0 < workers) × (workers ≤ 16) }
+    ensures lane { lanes.entry.items ≡ result.0 ∷ [] }
+    ensures server { result.1.lane ≡ known result.0 }
+{
+    let served = served(rt, alloc, &lanes, servers, workers);
+    (only(rt, lanes), only(rt, served))
+}
+
+/// What shutting the lane counts after so many requests were sent.
+fn sends_and_shuts(
+    lane: &Lane<Sum>,
+    owner: &mut Owner<Sum>,
+    shutter: &mut Shutter<Sum>,
+    count: u64,
+) -> u64
+    requires owner { owner.old.lane ≡ known lane.now }
+    requires shutter { shutter.old.lane ≡ known lane.now }
+    ensures owner { owner.new.lane ≡ owner.old.lane }
+    ensures shutter { shutter.new.lane ≡ shutter.old.lane }
+{
+    sends(lane, owner, count);
+    shutter.shut(lane)
+}
+
+/// What closing the one lane tells, to which so many requests were sent, and which its pool then served.
+fn served_and_closed<R: Abort + Threads + Wait + Sync>(
+    rt: &R,
+    alloc: Global,
+    lanes: Vec<Lane<Sum>>,
+    owner: Owner<Sum>,
+    servers: Vec<Server<Sum>>,
+    shutter: Shutter<Sum>,
+    count: u64,
+    workers: u32,
+) -> [u64; 4]
+    requires owner { owner.lane ∷ [] ≡ map known lanes.items }
+    requires servers { map (λ s. s.lane) servers.items ≡ map known lanes.items }
+    requires shutter { shutter.lane ≡ owner.lane }
+    requires workers { (0 < workers) × (workers ≤ 16) }
+{
+    let mut owner = owner;
+    let mut shutter = shutter;
+    let accepted = sends_and_shuts(&lanes[0], &mut owner, &mut shutter, count);
+    let (lane, server) = settled_by(rt, alloc, lanes, servers, workers);
+    let closed = closed(lane, owner, server, shutter);
+    equal(rt, accepted, closed[0]);
+    closed
+}
+
+/// The same for a lane that begins at this state.
+fn closed_after<R: Abort + Threads + Wait + Sync>(
     rt: &R,
     alloc: Global,
     start: u64,
     count: u64,
     workers: u32,
-) -> Option<[u64; 4]>
+) -> [u64; 4]
     requires { (0 < workers) × (workers ≤ 16) }
 {
     let sum = Sum;
-    let Ok(engine) = Engine::open(alloc, &sum, &[start], 16) else {
-        return None;
-    };
     let Engine {
         lanes,
         owners,
         servers,
         shutters,
-    } = engine;
-    let lane = only(lanes)?;
-    let mut owner = only(owners)?;
-    let server = only(servers)?;
-    let mut shutter = only(shutters)?;
-    sends(&lane, &mut owner, count);
-    let accepted = shutter.shut(&lane);
-    let (lane, server) = settled_by(rt, alloc, lane, server, workers)?;
-    let closed = closed(lane, owner, server, shutter);
-    if accepted == closed[0] {
-        Some(closed)
-    } else {
-        None
-    }
+    } = opened(rt, alloc, &sum, &[start], 16);
+    let owner = only(rt, owners);
+    let shutter = only(rt, shutters);
+    served_and_closed(rt, alloc, lanes, owner, servers, shutter, count, workers)
 }
 
 #[test]
-fn a_served_lane_is_closed_by_its_ends(rt: HostRuntime) -> Result<(), Fail> {
+fn a_served_lane_is_closed_by_its_ends(rt: HostRuntime) {
     for (start, count, workers, totals) in [
         (5, 0, 1, [0, 0, 0, 5]),
         (5, 0, 16, [0, 0, 0, 5]),
@@ -134,8 +166,7 @@ fn a_served_lane_is_closed_by_its_ends(rt: HostRuntime) -> Result<(), Fail> {
         equal(
             &rt,
             closed_after(&rt, rt.alloc(), start, count, workers),
-            Some(totals),
+            totals,
         );
     }
-    Ok(())
 }

@@ -10,6 +10,6 @@ one x (suc k) d h = absurd (omega arith)
 
 pub returns-clause-server : goal.returns-clause-server
 returns-clause-server g c =
-    let first : All (λ l. l ≡ known c.args.lane) (map known c.deref.result.now) = rw (c.deref.ensures.value, c.in_ok-lanes.ensures) (one (known c.args.lane)) in
-    let all : All (λ l. l ≡ known c.args.lane) (map (λ s. s.lane) c.in-Ok.served.items) = All-permutation (λ l. l ≡ known c.args.lane) _ _ c.in-Ok.ensures.all first in
-    (rw c.in_ok-server.ensures at all) 0 c.in_ok-server.server.lane (omega arith)
+    let first : All (λ l. l ≡ known c.only.result) (map known c.deref.result.now) = rw (c.deref.ensures.value, c.only.ensures) (one (known c.only.result)) in
+    let all : All (λ l. l ≡ known c.only.result) (map (λ s. s.lane) c.served-served.result.items) = All-permutation (λ l. l ≡ known c.only.result) _ _ c.served-served.ensures first in
+    (rw c.only-2.ensures at all) 0 c.only-2.result.lane (omega arith)
