@@ -6,7 +6,7 @@ use crate::comparing::holds;
 use aa_engine::{
     Answered, Lent, MediateFault, RunFault, check_job, mediate, mediate_lent, replay_job, run_job,
 };
-use aa_jobs::{Job, JobFault, read_job};
+use aa_jobs::{Job, read_job};
 use aa_machine::Machine;
 use aa_policies::{Compiled, compile_policies};
 use aa_requests::{Answer, Label, Request};
@@ -61,26 +61,26 @@ pub const MOVING_JOB: &[u8] =
 pub const MOVED: &[u8] =
     b"0 0 denied label=\"p\"\napparmor=\"DENIED\" operation=\"file\" profile=\"p\" name=\"/g\" requested_mask=\"r\" denied_mask=\"r\"\n0 1 granted label=\"q\"\n0 2 granted label=\"q\"\n1 0 granted label=\"q\"\n1 1 denied label=\"q\"\napparmor=\"DENIED\" operation=\"file\" profile=\"q\" name=\"/f\" requested_mask=\"r\" denied_mask=\"r\"\n";
 
-fn read(alloc: Global, text: &[u8]) -> Result<Job, JobFault> {
-    read_job(alloc, text)
-}
-
 /// The job that a text is.
 pub fn job_of(alloc: Global, text: &[u8]) -> Option<Job> {
-    match read(alloc, text) {
-        Ok(job) => Some(job),
-        Err(_) => None,
-    }
+    read_job(alloc, text).ok()
+}
+
+/// The same for a text that is a job.
+pub fn a_job(rt: &impl Abort, alloc: Global, text: &[u8]) -> Job {
+    job_of(alloc, text).expect(rt, "a job")
 }
 
 /// A job's policies, where they compile.
 pub fn policies_of(alloc: Global, job: &Job) -> Option<Vec<Compiled>> {
     let includes = job.includes.as_slice();
     let texts = job.policies.as_slice();
-    match compile_policies(alloc, includes, texts, job.states) {
-        Ok(policies) => Some(policies),
-        Err(_) => None,
-    }
+    compile_policies(alloc, includes, texts, job.states).ok()
+}
+
+/// The same for a job whose policies compile.
+pub fn compiled(rt: &impl Abort, alloc: Global, job: &Job) -> Vec<Compiled> {
+    policies_of(alloc, job).expect(rt, "policies")
 }
 
 /// Whether requests are lent to the lanes, or copied.

@@ -4,14 +4,13 @@ ghost use Rattle.std.specs.Prelude.{◌≡◌};
 ghost use Rattle.aa_lane.specs.Ends.{known};
 
 use crate::comparing::equal;
-use crate::jobs::{FIRST_JOB, job_of, policies_of};
+use crate::jobs::{FIRST_JOB, a_job, compiled};
 use aa_jobs::{Job, Task, Work};
-use aa_lane::{Answered, Ends, Lane, LaneFault, Owner, SendFault, Served, Server};
+use aa_lane::{Answered, Ends, Lane, Owner, SendFault, Served, Server, Shutter};
 use aa_mediate::Mediator;
 use aa_requests::{Label, Request};
 use std::alloc::Global;
 use std::process::Abort;
-use std::test::Fail;
 
 /// What a call came to: of a request what it asks for, of an answer also its number and whether it grants that.
 #[derive(Clone, Copy, PartialEq, Eq, Debug)]
@@ -32,10 +31,7 @@ const READ: usize = 0;
 const WRITE: usize = 1;
 
 fn copy_of(request: &Request) -> Option<Request> {
-    match request.try_clone() {
-        Ok(copy) => Some(copy),
-        Err(_) => None,
-    }
+    request.try_clone().ok()
 }
 
 fn request_at(works: &[Work], number: usize) -> Option<Request> {
@@ -231,43 +227,47 @@ fn closed<'p>(lane: Lane<Mediator<'p>>, ends: Ends<Mediator<'p>>) -> ([u64; 3], 
     )
 }
 
-/// What the lane counts once all that has happened, and the label then.
-fn totals(
+/// A lane of one slot, and its ends.
+fn a_lane<'m, 'p>(
     rt: &impl Abort,
     alloc: Global,
-    job: &Job,
-    mediator: &Mediator,
-) -> Result<([u64; 3], Label), LaneFault> {
-    let (lane, mut owner, server, mut shutter) = Lane::new(
-        alloc,
-        mediator,
-        0,
-        1,
-        Label::Confined(0, 0),
-    )?;
+    mediator: &'m Mediator<'p>,
+) -> (
+    Lane<'m, Mediator<'p>>,
+    Owner<Mediator<'p>>,
+    Server<Mediator<'p>>,
+    Shutter<Mediator<'p>>,
+)
+    ensures { (result.1.lane ≡ known result.0) × (result.2.lane ≡ known result.0) × (result.3.lane ≡ known result.0) }
+{
+    Lane::new(alloc, mediator, 0, 1, Label::Confined(0, 0)).expect(rt, "a lane")
+}
+
+/// What the lane counts once all that has happened, and the label then.
+fn totals(rt: &impl Abort, alloc: Global, job: &Job, mediator: &Mediator) -> ([u64; 3], Label) {
+    let (lane, mut owner, server, mut shutter) = a_lane(rt, alloc, mediator);
     let server = fills(rt, &lane, &mut owner, server, job);
     equal(rt, shutter.shut(&lane), 2);
     let server = empties(rt, &lane, &mut owner, server, job);
     let owner = owner.exit(&lane);
-    Ok(closed(
+    closed(
         lane,
         Ends {
             owner,
             server,
             shutter,
         },
-    ))
+    )
 }
 
 #[test]
-fn a_lane_of_one_slot_over_a_policy_is_filled_and_shut(rt: HostRuntime) -> Result<(), Fail> {
-    let job = job_of(rt.alloc(), FIRST_JOB).ok_or("it is a job")?;
-    let policies = policies_of(rt.alloc(), &job).ok_or("they compile")?;
+fn a_lane_of_one_slot_over_a_policy_is_filled_and_shut(rt: HostRuntime) {
+    let job = a_job(&rt, rt.alloc(), FIRST_JOB);
+    let policies = compiled(&rt, rt.alloc(), &job);
     let mediator = Mediator::new(policies.as_slice());
     equal(
         &rt,
-        totals(&rt, rt.alloc(), &job, &mediator)?,
+        totals(&rt, rt.alloc(), &job, &mediator),
         ([2, 2, 2], Label::Confined(0, 0)),
     );
-    Ok(())
 }
