@@ -6,4 +6,6 @@ mod checks;
 #[cfg(test)]
 mod comparing;
 #[cfg(test)]
+mod planting;
+#[cfg(test)]
 mod units;

@@ -1,15 +1,14 @@
 //! Look-ups that fail while a folder is checked. Each in turn fails in each way: it is told of the path that was looked at, and all
 //! else is as it was, or there is no memory. It is never taken for an answer.
 
-use crate::checks::reporting::{LEFTOVER, PROFILES, checked, is_same, prints, tree_of_profiles};
-use crate::comparing::equal;
+use crate::checks::reporting::{LEFTOVER, PROFILES, prints, prints_just, tree_of_profiles};
+use crate::comparing::{equal, holds_in};
+use crate::planting::{failing_behind, push_text};
 use aa_memory_trees::{FailingTree, MemoryTree};
 use aa_output::NoMemory;
 use aa_units::Unread;
-use std::alloc::{AllocError, Global};
-use std::cell::Cell;
+use std::alloc::Global;
 use std::process::Abort;
-use std::test::Fail;
 
 /// In what a look-up fails.
 #[derive(Clone, Copy)]
@@ -60,12 +59,12 @@ const WAYS: &[(Unread, &str)] = &[
     ),
 ];
 
-fn joined(alloc: Global, parts: &[&str]) -> Result<Vec<u8>, AllocError> {
+fn joined(rt: &impl Abort, alloc: Global, parts: &[&str]) -> Vec<u8> {
     let mut text = Vec::new(alloc);
     for part in parts {
-        text.extend_from_slice(part.as_bytes())?;
+        push_text(rt, &mut text, part);
     }
-    Ok(text)
+    text
 }
 
 const FIRST_REFUSED: &str =
@@ -75,44 +74,37 @@ const SECOND_REFUSED: &str =
     "ok /p/a\n  profile \"a\" 1 file 0 capability 0 network 1 patterns 4 states 0 passed over\nrefused /p/d\n2 files 1 refused 1 profiles\n";
 
 /// What is printed on standard output.
-fn report_with(alloc: Global, path: &str, place: Place) -> Result<Vec<u8>, AllocError> {
+fn report_with(rt: &impl Abort, alloc: Global, path: &str, place: Place) -> Vec<u8> {
     match place {
         Argument | Files => {
             joined(
+                rt,
                 alloc,
                 &["refused ", path, "\n1 files 1 refused 0 profiles\n"],
             )
         }
-        First => joined(alloc, &[FIRST_REFUSED]),
-        Second => joined(alloc, &[SECOND_REFUSED]),
+        First => joined(rt, alloc, &[FIRST_REFUSED]),
+        Second => joined(rt, alloc, &[SECOND_REFUSED]),
     }
 }
 
 /// What is printed on standard error.
-fn faults_with(alloc: Global, path: &str, place: Place, what: &str) -> Result<Vec<u8>, AllocError> {
+fn faults_with(rt: &impl Abort, alloc: Global, path: &str, place: Place, what: &str) -> Vec<u8> {
     match place {
         Argument => joined(
+            rt,
             alloc,
             &[path, ": Unreadable: it can't be read (not a file)\n"],
         ),
-        Files => joined(alloc, &[path, ": ", what, "\n"]),
-        First | Second => joined(alloc, &[LEFTOVER, path, ": ", what, "\n"]),
-    }
-}
-
-fn failing_behind(tree: &MemoryTree, answered: usize, why: Unread) -> FailingTree<'_> {
-    FailingTree {
-        tree,
-        failing: answered.wrapping_add(1),
-        why,
-        calls: Cell::new(0),
+        Files => joined(rt, alloc, &[path, ": ", what, "\n"]),
+        First | Second => joined(rt, alloc, &[LEFTOVER, path, ": ", what, "\n"]),
     }
 }
 
 /// Whether just this is printed of the folder.
 fn is_checked(alloc: Global, tree: &FailingTree, report: &[u8], faults: &[u8]) -> bool {
-    match checked(alloc, tree, &["/p"]) {
-        Ok(printed) => is_same(&printed, report, faults, 3),
+    match prints_just(alloc, tree, &["/p"], (report, faults, 3)) {
+        Ok(is_so) => is_so,
         Err(NoMemory) => false,
     }
 }
@@ -125,61 +117,47 @@ fn is_told(
     answered: usize,
     (path, place): (&str, Place),
     (why, what): (Unread, &str),
-) -> Result<(), AllocError> {
-    let report = report_with(alloc, path, place)?;
-    let faults = faults_with(alloc, path, place, what)?;
+) {
+    let report = report_with(rt, alloc, path, place);
+    let faults = faults_with(rt, alloc, path, place, what);
     let tree = failing_behind(tree, answered, why);
     let is_so = is_checked(alloc, &tree, report.as_slice(), faults.as_slice());
-    assert!(rt; is_so, "another answer where {path} fails");
-    assert!(rt; answered < tree.calls.get(), "not looked at: {path}");
-    Ok(())
+    holds_in(rt, is_so, path);
+    holds_in(rt, answered < tree.calls.get(), path);
 }
 
-fn each_is_told(
-    rt: &impl Abort,
-    alloc: Global,
-    tree: &MemoryTree,
-    way: (Unread, &str),
-) -> Result<(), AllocError> {
+fn each_is_told(rt: &impl Abort, alloc: Global, tree: &MemoryTree, way: (Unread, &str)) {
     for (answered, look_up) in LOOK_UPS.iter().enumerate() {
-        is_told(rt, alloc, tree, answered, *look_up, way)?;
+        is_told(rt, alloc, tree, answered, *look_up, way);
     }
-    Ok(())
 }
 
-fn each_way_is_told(rt: &impl Abort, alloc: Global, tree: &MemoryTree) -> Result<(), AllocError> {
+fn each_way_is_told(rt: &impl Abort, alloc: Global, tree: &MemoryTree) {
     for way in WAYS {
-        each_is_told(rt, alloc, tree, *way)?;
+        each_is_told(rt, alloc, tree, *way);
     }
-    Ok(())
 }
 
 #[test]
-fn each_look_up_that_fails_is_told_at_its_path_and_changes_nothing_else(
-    rt: HostRuntime,
-) -> Result<(), Fail> {
-    let alloc = rt.alloc();
-    let tree = tree_of_profiles(alloc)?;
-    each_way_is_told(&rt, alloc, &tree)?;
-    Ok(())
+fn each_look_up_that_fails_is_told_at_its_path_and_changes_nothing_else(rt: HostRuntime) {
+    let tree = tree_of_profiles(&rt, rt.alloc());
+    each_way_is_told(&rt, rt.alloc(), &tree);
 }
 
 fn is_no_memory(rt: &impl Abort, alloc: Global, tree: &MemoryTree, answered: usize) {
     let tree = failing_behind(tree, answered, Unread::NoMemory);
-    match checked(alloc, &tree, &["/p"]) {
+    match prints_just(alloc, &tree, &["/p"], (b"", b"", 0)) {
         Ok(_) => panic!(rt; "an answer without memory for look-up {answered}"),
         Err(NoMemory) => equal(rt, tree.calls.get(), answered.wrapping_add(1)),
     }
 }
 
 #[test]
-fn each_look_up_that_fails_for_want_of_memory_is_no_memory(rt: HostRuntime) -> Result<(), Fail> {
-    let alloc = rt.alloc();
-    let tree = tree_of_profiles(alloc)?;
+fn each_look_up_that_fails_for_want_of_memory_is_no_memory(rt: HostRuntime) {
+    let tree = tree_of_profiles(&rt, rt.alloc());
     for answered in 0..LOOK_UPS.len() {
-        is_no_memory(&rt, alloc, &tree, answered);
+        is_no_memory(&rt, rt.alloc(), &tree, answered);
     }
-    Ok(())
 }
 
 /// Where the look-up behind so many would fail, none does.
@@ -190,9 +168,7 @@ fn prints_all(rt: &impl Abort, alloc: Global, tree: &MemoryTree, calls: usize) {
 }
 
 #[test]
-fn where_no_look_up_fails_there_are_as_many_as_were_tried(rt: HostRuntime) -> Result<(), Fail> {
-    let alloc = rt.alloc();
-    let tree = tree_of_profiles(alloc)?;
-    prints_all(&rt, alloc, &tree, LOOK_UPS.len());
-    Ok(())
+fn where_no_look_up_fails_there_are_as_many_as_were_tried(rt: HostRuntime) {
+    let tree = tree_of_profiles(&rt, rt.alloc());
+    prints_all(&rt, rt.alloc(), &tree, LOOK_UPS.len());
 }

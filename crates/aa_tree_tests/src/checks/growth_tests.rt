@@ -1,25 +1,16 @@
 //! Growths that are refused. Each test passes whichever of its growths is refused: it asks again, and what was refused is no
 //! memory and nothing else.
 
-use crate::checks::reporting::{
-    LEFTOVER, PROFILES, checked, is_printed, tree_of, tree_of_profiles,
-};
-use aa_memory_trees::MemoryTree;
-use std::alloc::{AllocError, Global};
+use crate::checks::reporting::{LEFTOVER, PROFILES, plant_profiles, reports};
+use crate::planting::{File, new_tree, plant};
+use std::alloc::Global;
 use std::process::Abort;
 
 /// Whether all is reported; if it isn't, a growth was refused.
 fn is_reported(rt: &impl Abort, alloc: Global) -> bool {
-    let Ok(tree) = tree_of_profiles(alloc) else {
-        return false;
-    };
-    match checked(alloc, &tree, &["/p"]) {
-        Ok(printed) => {
-            is_printed(rt, &printed, (PROFILES, LEFTOVER, 0));
-            true
-        }
-        Err(_) => false,
-    }
+    let mut tree = new_tree(alloc);
+    plant_profiles(alloc, &mut tree).is_ok()
+        && reports(rt, alloc, &tree, &["/p"], (PROFILES, LEFTOVER, 0))
 }
 
 #[test]
@@ -32,18 +23,12 @@ fn a_growth_refused_to_check_a_folder_is_no_memory(rt: HostRuntime) {
     panic!(&rt; "refused each time")
 }
 
-fn tree_of_refused(alloc: Global) -> Result<MemoryTree, AllocError> {
-    tree_of(
-        alloc,
-        &[
-            ("/m", "include <a>\ninclude \"a\"\n"),
-            ("/b/a", ""),
-            ("a", ""),
-            ("/n", "include <c>\n"),
-        ],
-        &[],
-    )
-}
+const FILES: &[File] = &[
+    ("/m", "include <a>\ninclude \"a\"\n"),
+    ("/b/a", ""),
+    ("a", ""),
+    ("/n", "include <c>\n"),
+];
 
 const REFUSED: &str = "refused /m\nrefused /nothing\nrefused /n\n3 files 3 refused 0 profiles\n";
 
@@ -52,16 +37,15 @@ const SAID: &str =
 
 /// Whether each file is told why it is refused; if it isn't, a growth was refused.
 fn is_told(rt: &impl Abort, alloc: Global) -> bool {
-    let Ok(tree) = tree_of_refused(alloc) else {
-        return false;
-    };
-    match checked(alloc, &tree, &["/m", "/nothing", "/n"]) {
-        Ok(printed) => {
-            is_printed(rt, &printed, (REFUSED, SAID, 3));
-            true
-        }
-        Err(_) => false,
-    }
+    let mut tree = new_tree(alloc);
+    plant(alloc, &mut tree, FILES, &[]).is_ok()
+        && reports(
+            rt,
+            alloc,
+            &tree,
+            &["/m", "/nothing", "/n"],
+            (REFUSED, SAID, 3),
+        )
 }
 
 #[test]

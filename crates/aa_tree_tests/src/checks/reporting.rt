@@ -1,81 +1,13 @@
-//! Trees in memory, and what `check` reports of them, in plain values that tests compare. The helpers have no clauses, so that a
-//! test's proof stays short.
+//! What `check` reports of trees in memory, in plain values that tests compare. The helpers have no clauses, so that a test's
+//! proof stays short.
 
+use crate::planting::{new_tree, plant, plant_link, push_copies};
 use aa_checks::{CheckReport, Wanted, check, push_faults, push_report};
 use aa_memory_trees::MemoryTree;
 use aa_output::NoMemory;
-use aa_units::{Tree, Unread};
+use aa_units::Tree;
 use std::alloc::{AllocError, Global};
 use std::process::Abort;
-
-/// A file's path and its text.
-pub(crate) type File<'r> = (&'r str, &'r str);
-
-/// A folder's path and the names of its files.
-pub(crate) type Folder<'r> = (&'r str, &'r [&'r str]);
-
-/// What is printed: on standard output, on standard error, and the exit status.
-#[derive(Drop)]
-pub(crate) struct Printed {
-    pub(crate) report: Vec<u8>,
-    pub(crate) faults: Vec<u8>,
-    pub(crate) status: u8,
-}
-
-fn bytes_of(alloc: Global, text: &str) -> Result<Vec<u8>, AllocError> {
-    Vec::from_slice(alloc, text.as_bytes())
-}
-
-fn copies_of(alloc: Global, texts: &[&str]) -> Result<Vec<Vec<u8>>, AllocError> {
-    let mut copies = Vec::new(alloc);
-    for text in texts {
-        copies.push(bytes_of(alloc, text)?)?;
-    }
-    Ok(copies)
-}
-
-fn plant_file(alloc: Global, tree: &mut MemoryTree, file: File) -> Result<(), AllocError> {
-    tree.plant_file(alloc, file.0, file.1)
-}
-
-fn plant_folder(alloc: Global, tree: &mut MemoryTree, folder: Folder) -> Result<(), AllocError> {
-    tree.plant_folder(alloc, folder.0, folder.1)
-}
-
-fn new_tree(alloc: Global) -> Result<MemoryTree, AllocError> {
-    Ok(MemoryTree::new(alloc, bytes_of(alloc, "profile in { }\n")?))
-}
-
-fn files_of(alloc: Global, files: &[File]) -> Result<MemoryTree, AllocError> {
-    let mut tree = new_tree(alloc)?;
-    for file in files {
-        plant_file(alloc, &mut tree, *file)?;
-    }
-    Ok(tree)
-}
-
-/// A tree of these files and folders; on standard input is a profile.
-pub(crate) fn tree_of(
-    alloc: Global,
-    files: &[File],
-    folders: &[Folder],
-) -> Result<MemoryTree, AllocError> {
-    let mut tree = files_of(alloc, files)?;
-    for folder in folders {
-        plant_folder(alloc, &mut tree, *folder)?;
-    }
-    Ok(tree)
-}
-
-/// Adds what can't be read.
-pub(crate) fn add_refused(
-    alloc: Global,
-    tree: &mut MemoryTree,
-    path: &str,
-    why: Unread,
-) -> Result<(), AllocError> {
-    tree.plant_refused(alloc, path, why)
-}
 
 /// What `check` finds of these arguments: includes are searched in `/i` and then in the base folder `/b`.
 fn found<T: Tree>(alloc: Global, tree: &T, arguments: &[&str]) -> Result<CheckReport, NoMemory> {
@@ -85,51 +17,59 @@ fn found<T: Tree>(alloc: Global, tree: &T, arguments: &[&str]) -> Result<CheckRe
         folders: folders.as_slice(),
         states: 65535,
     };
-    let arguments = copies_of(alloc, arguments)?;
-    check(alloc, tree, &wanted, arguments.as_slice())
-}
-
-fn report_text(alloc: Global, found: &CheckReport) -> Result<Vec<u8>, AllocError> {
-    let mut text = Vec::new(alloc);
-    push_report(&mut text, alloc, found)?;
-    Ok(text)
-}
-
-fn faults_text(alloc: Global, found: &CheckReport) -> Result<Vec<u8>, AllocError> {
-    let mut text = Vec::new(alloc);
-    push_faults(&mut text, found, false)?;
-    Ok(text)
-}
-
-/// What `check` prints of these arguments.
-pub(crate) fn checked<T: Tree>(
-    alloc: Global,
-    tree: &T,
-    arguments: &[&str],
-) -> Result<Printed, NoMemory> {
-    let found = found(alloc, tree, arguments)?;
-    Ok(Printed {
-        report: report_text(alloc, &found)?,
-        faults: faults_text(alloc, &found)?,
-        status: found.status(),
-    })
+    let mut copies = Vec::new(alloc);
+    push_copies(alloc, &mut copies, arguments)?;
+    check(alloc, tree, &wanted, copies.as_slice())
 }
 
 /// What is wanted: on standard output, on standard error, and the exit status.
-pub(crate) type Wished<'w> = (&'w str, &'w str, u8);
+pub(crate) type Wished<'w> = (&'w [u8], &'w [u8], u8);
 
-/// Whether just this is printed.
-pub(crate) fn is_same(printed: &Printed, report: &[u8], faults: &[u8], status: u8) -> bool {
-    printed.report.as_slice() == report
-        && printed.faults.as_slice() == faults
-        && printed.status == status
+fn has_report(alloc: Global, found: &CheckReport, wished: &[u8]) -> Result<bool, NoMemory> {
+    let mut text = Vec::new(alloc);
+    push_report(&mut text, alloc, found)?;
+    Ok(text.as_slice() == wished)
 }
 
-/// Just this is printed.
-pub(crate) fn is_printed(rt: &impl Abort, printed: &Printed, wished: Wished) {
+fn has_faults(alloc: Global, found: &CheckReport, wished: &[u8]) -> Result<bool, NoMemory> {
+    let mut text = Vec::new(alloc);
+    push_faults(&mut text, found, false)?;
+    Ok(text.as_slice() == wished)
+}
+
+fn is_printed(alloc: Global, found: &CheckReport, wished: Wished) -> Result<bool, NoMemory> {
     let (report, faults, status) = wished;
-    let is_so = is_same(printed, report.as_bytes(), faults.as_bytes(), status);
-    assert!(rt; is_so, "printed otherwise");
+    let is_so = has_report(alloc, found, report)?;
+    Ok(has_faults(alloc, found, faults)? && is_so && found.status() == status)
+}
+
+/// Whether `check` prints just this of these arguments.
+pub(crate) fn prints_just<T: Tree>(
+    alloc: Global,
+    tree: &T,
+    arguments: &[&str],
+    wished: Wished,
+) -> Result<bool, NoMemory> {
+    let found = found(alloc, tree, arguments)?;
+    is_printed(alloc, &found, wished)
+}
+
+/// Whether there is memory to print of these arguments; it is then just this.
+pub(crate) fn reports<T: Tree>(
+    rt: &impl Abort,
+    alloc: Global,
+    tree: &T,
+    arguments: &[&str],
+    (report, faults, status): (&str, &str, u8),
+) -> bool {
+    let wished = (report.as_bytes(), faults.as_bytes(), status);
+    match prints_just(alloc, tree, arguments, wished) {
+        Ok(is_so) => {
+            assert!(rt; is_so, "printed otherwise");
+            true
+        }
+        Err(NoMemory) => false,
+    }
 }
 
 /// `check` prints just this.
@@ -138,18 +78,16 @@ pub(crate) fn prints<T: Tree>(
     alloc: Global,
     tree: &T,
     arguments: &[&str],
-    wished: Wished,
+    wished: (&str, &str, u8),
 ) {
-    match checked(alloc, tree, arguments) {
-        Ok(printed) => is_printed(rt, &printed, wished),
-        Err(NoMemory) => panic!(rt; "no memory"),
-    }
+    assert!(rt; reports(rt, alloc, tree, arguments, wished), "no memory");
 }
 
-/// A folder `/p` of two profiles that are read, with what they include, and of two files that aren't.
-pub(crate) fn tree_of_profiles(alloc: Global) -> Result<MemoryTree, AllocError> {
-    let mut tree = tree_of(
+/// Plants a folder `/p` of two profiles that are read, with what they include, and of two files that aren't, if there is memory.
+pub(crate) fn plant_profiles(alloc: Global, tree: &mut MemoryTree) -> Result<(), AllocError> {
+    plant(
         alloc,
+        tree,
         &[
             ("/p/a", "include <x>\nprofile a { /x r, }\n"),
             ("/p/b", "no policy"),
@@ -159,8 +97,14 @@ pub(crate) fn tree_of_profiles(alloc: Global) -> Result<MemoryTree, AllocError> 
         ],
         &[("/p", &["d", "a", "c~", "b"]), ("/b/e", &["1"])],
     )?;
-    add_refused(alloc, &mut tree, "/b/disable/b", Unread::NotFound)?;
-    Ok(tree)
+    plant_link(alloc, tree, "/b/disable/b")
+}
+
+/// A tree of that folder.
+pub(crate) fn tree_of_profiles(rt: &impl Abort, alloc: Global) -> MemoryTree {
+    let mut tree = new_tree(alloc);
+    plant_profiles(alloc, &mut tree).expect(rt, "memory");
+    tree
 }
 
 /// What is printed of that folder.

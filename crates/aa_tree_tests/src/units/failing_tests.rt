@@ -1,35 +1,23 @@
 //! Look-ups that fail. Each in turn fails in each way: what is asked is then refused at the path that was looked at, and nothing
 //! is looked at behind it. It is never taken for an answer, nor for a path at which nothing lies.
 
-use crate::comparing::equal;
+use crate::comparing::{equal, holds_in};
+use crate::planting::{Refusal, failing_behind, tree_beside, tree_of};
 use crate::units::reading::{
-    Found, Refusal, add_link, are_refused_roots, are_texts, is_read, is_refused_unit, loaded,
-    rooted, roots_at, tree_of,
+    Found, are_refused_roots, are_texts, is_read, is_refused_unit, loaded, rooted, roots_at,
 };
-use aa_memory_trees::{FailingTree, MemoryTree};
+use aa_memory_trees::MemoryTree;
 use aa_units::{Roots, Unread};
-use std::alloc::{AllocError, Global};
-use std::cell::Cell;
+use std::alloc::Global;
 use std::process::Abort;
-use std::test::Fail;
 
-const WAYS: [Unread; 5] = [
+const WAYS: &[Unread] = &[
     Unread::NoMemory,
     Unread::NotAllowed,
     Unread::NotAFile,
     Unread::Failed,
     Unread::TooLarge,
 ];
-
-/// The tree, of whose look-ups one fails: `failing` are answered before it.
-fn failing_behind(tree: &MemoryTree, answered: usize, why: Unread) -> FailingTree<'_> {
-    FailingTree {
-        tree,
-        failing: answered.wrapping_add(1),
-        why,
-        calls: Cell::new(0),
-    }
-}
 
 /// So many look-ups are answered and the next fails: the file can't be read, since that path can't.
 fn refuses_the_unit(
@@ -42,11 +30,7 @@ fn refuses_the_unit(
 ) {
     let tree = failing_behind(tree, answered, wanted.1);
     let outcome = loaded(alloc, &tree, path);
-    assert!(rt;
-        is_refused_unit(&outcome, wanted),
-        "not refused at {}",
-        wanted.0
-    );
+    holds_in(rt, is_refused_unit(&outcome, wanted), wanted.0);
     equal(rt, tree.calls.get(), answered.wrapping_add(1));
 }
 
@@ -61,11 +45,7 @@ fn refuses_the_roots(
 ) {
     let tree = failing_behind(tree, answered, wanted.1);
     let outcome = rooted(alloc, &tree, &[argument]);
-    assert!(rt;
-        are_refused_roots(&outcome, wanted),
-        "not refused at {}",
-        wanted.0
-    );
+    holds_in(rt, are_refused_roots(&outcome, wanted), wanted.0);
     equal(rt, tree.calls.get(), answered.wrapping_add(1));
 }
 
@@ -87,9 +67,23 @@ fn each_refuses_the_unit(
     equal(rt, tree.calls.get(), looked.len());
 }
 
+/// The same for each reason.
+fn each_refuses_in_each_way(
+    rt: &impl Abort,
+    alloc: Global,
+    tree: &MemoryTree,
+    looked: &[&str],
+    wanted: &[Found],
+) {
+    for why in WAYS {
+        each_refuses_the_unit(rt, alloc, tree, *why, looked, wanted);
+    }
+}
+
 /// A file with includes: one that includes in turn, and a folder.
-fn tree_of_includes(alloc: Global) -> Result<MemoryTree, AllocError> {
+fn tree_of_includes(rt: &impl Abort, alloc: Global) -> MemoryTree {
     tree_of(
+        rt,
         alloc,
         &[
             ("/m", "include <a>\ninclude <d>\ninclude <a>\n"),
@@ -115,55 +109,37 @@ const FOUND: &[Found] = &[
 ];
 
 #[test]
-fn each_look_up_for_a_file_and_its_includes_that_fails_refuses_it_at_the_path(
-    rt: HostRuntime,
-) -> Result<(), Fail> {
-    let alloc = rt.alloc();
-    let tree = tree_of_includes(alloc)?;
-    for why in WAYS {
-        each_refuses_the_unit(&rt, alloc, &tree, why, LOOKED, FOUND);
-    }
-    Ok(())
+fn each_look_up_for_a_file_and_its_includes_that_fails_refuses_it_at_the_path(rt: HostRuntime) {
+    let tree = tree_of_includes(&rt, rt.alloc());
+    each_refuses_in_each_way(&rt, rt.alloc(), &tree, LOOKED, FOUND);
 }
 
-/// A name in both forms, of which each is searched in vain.
-fn tree_of_both_forms(alloc: Global) -> Result<MemoryTree, AllocError> {
+#[test]
+fn each_look_up_for_the_other_form_of_a_name_that_fails_refuses_it_at_the_path(rt: HostRuntime) {
     let text = "include if exists \"a\"\ninclude if exists <a>\n";
-    tree_of(alloc, &[("/m", text)], &[])
-}
-
-#[test]
-fn each_look_up_for_the_other_form_of_a_name_that_fails_refuses_it_at_the_path(
-    rt: HostRuntime,
-) -> Result<(), Fail> {
-    let alloc = rt.alloc();
-    let tree = tree_of_both_forms(alloc)?;
+    let tree = tree_of(&rt, rt.alloc(), &[("/m", text)], &[]);
     let looked = &["/m", "a", "/i/a", "/j/a", "/b/a"];
-    for why in WAYS {
-        each_refuses_the_unit(&rt, alloc, &tree, why, looked, &[]);
-    }
-    Ok(())
+    each_refuses_in_each_way(&rt, rt.alloc(), &tree, looked, &[]);
 }
 
 #[test]
-fn standard_input_that_fails_is_refused(rt: HostRuntime) -> Result<(), Fail> {
+fn standard_input_that_fails_is_refused(rt: HostRuntime) {
     let alloc = rt.alloc();
-    let tree = tree_of(alloc, &[("-", "")], &[])?;
+    let tree = tree_of(&rt, alloc, &[("-", "")], &[]);
     for why in WAYS {
-        refuses_the_unit(&rt, alloc, &tree, "-", 0, ("-", why));
+        refuses_the_unit(&rt, alloc, &tree, "-", 0, ("-", *why));
     }
-    Ok(())
 }
 
 /// A folder of four files, of which one is passed over and one disabled.
-fn tree_of_profiles(alloc: Global) -> Result<MemoryTree, AllocError> {
-    let mut tree = tree_of(
+fn tree_of_profiles(rt: &impl Abort, alloc: Global) -> MemoryTree {
+    tree_beside(
+        rt,
         alloc,
         &[("/b/force-complain/a", "")],
         &[("/p", &["a", "b", "c~", "d"])],
-    )?;
-    add_link(alloc, &mut tree, "/b/disable/b")?;
-    Ok(tree)
+        ("/b/disable/b", Unread::NotFound),
+    )
 }
 
 fn are_profiles(rt: &impl Abort, roots: &Roots) {
@@ -209,15 +185,12 @@ const LOOKED_BEHIND: &[&str] = &[
 ];
 
 #[test]
-fn each_look_up_for_the_files_of_a_folder_that_fails_refuses_them_at_the_path(
-    rt: HostRuntime,
-) -> Result<(), Fail> {
+fn each_look_up_for_the_files_of_a_folder_that_fails_refuses_them_at_the_path(rt: HostRuntime) {
     let alloc = rt.alloc();
-    let tree = tree_of_profiles(alloc)?;
+    let tree = tree_of_profiles(&rt, alloc);
     for why in WAYS {
-        each_refuses_the_roots(&rt, alloc, &tree, why, LOOKED_BEHIND);
+        each_refuses_the_roots(&rt, alloc, &tree, *why, LOOKED_BEHIND);
     }
-    Ok(())
 }
 
 /// What can't be looked at stands for itself, so that it is refused where it is read.
@@ -228,11 +201,9 @@ fn stands_for_itself(rt: &impl Abort, alloc: Global, tree: &MemoryTree, why: Unr
 }
 
 #[test]
-fn an_argument_that_cannot_be_looked_at_stands_for_itself_but_for_want_of_memory(
-    rt: HostRuntime,
-) -> Result<(), Fail> {
+fn an_argument_that_cannot_be_looked_at_stands_for_itself_but_for_want_of_memory(rt: HostRuntime) {
     let alloc = rt.alloc();
-    let tree = tree_of_profiles(alloc)?;
+    let tree = tree_of_profiles(&rt, alloc);
     for why in [
         Unread::NotAllowed,
         Unread::NotAFile,
@@ -242,5 +213,4 @@ fn an_argument_that_cannot_be_looked_at_stands_for_itself_but_for_want_of_memory
         stands_for_itself(&rt, alloc, &tree, why);
     }
     refuses_the_roots(&rt, alloc, &tree, "/p", 0, ("/p", Unread::NoMemory));
-    Ok(())
 }

@@ -2,18 +2,18 @@
 //! memory and nothing else.
 
 use crate::comparing::equal;
-use crate::units::reading::{
-    File, Found, add_link, are_texts, has_sources, loaded, rooted, tree_of,
-};
+use crate::planting::{File, new_tree, plant, plant_link};
+use crate::units::reading::{Found, are_texts, has_sources, loaded, rooted};
 use aa_memory_trees::MemoryTree;
 use aa_units::UnitFault;
 use std::alloc::{AllocError, Global};
 use std::process::Abort;
 
 /// A file with includes, and a folder of files of which one is disabled.
-fn whole_tree(alloc: Global) -> Result<MemoryTree, AllocError> {
-    let mut tree = tree_of(
+fn plant_whole(alloc: Global, tree: &mut MemoryTree) -> Result<(), AllocError> {
+    plant(
         alloc,
+        tree,
         &[
             ("/m", "include <a>\ninclude <d>\n"),
             ("/b/a", "include <none>\ninclude <a>\n"),
@@ -23,8 +23,7 @@ fn whole_tree(alloc: Global) -> Result<MemoryTree, AllocError> {
         ],
         &[("/b/d", &["y", "x", "x~"]), ("/p", &["c", "b", "a", "a~"])],
     )?;
-    add_link(alloc, &mut tree, "/b/disable/b")?;
-    Ok(tree)
+    plant_link(alloc, tree, "/b/disable/b")
 }
 
 /// What is found of the file.
@@ -36,8 +35,12 @@ const FOUND: &[Found] = &[
 ];
 
 /// Whether the file is read with its sources; if it isn't, a growth was refused.
-fn is_loaded(rt: &impl Abort, alloc: Global, tree: &MemoryTree) -> bool {
-    match loaded(alloc, tree, "/m") {
+fn is_loaded(rt: &impl Abort, alloc: Global) -> bool {
+    let mut tree = new_tree(alloc);
+    if plant_whole(alloc, &mut tree).is_err() {
+        return false;
+    }
+    match loaded(alloc, &tree, "/m") {
         Ok(unit) => {
             has_sources(rt, &unit, FOUND);
             true
@@ -48,8 +51,12 @@ fn is_loaded(rt: &impl Abort, alloc: Global, tree: &MemoryTree) -> bool {
 }
 
 /// Whether the files of the folder are told; if they aren't, a growth was refused.
-fn are_told(rt: &impl Abort, alloc: Global, tree: &MemoryTree) -> bool {
-    match rooted(alloc, tree, &["/p", "-"]) {
+fn are_told(rt: &impl Abort, alloc: Global) -> bool {
+    let mut tree = new_tree(alloc);
+    if plant_whole(alloc, &mut tree).is_err() {
+        return false;
+    }
+    match rooted(alloc, &tree, &["/p", "-"]) {
         Ok(roots) => {
             are_texts(rt, roots.paths.as_slice(), &["/p/a", "/p/c", "-"]);
             equal(rt, roots.warnings.len(), 2);
@@ -70,9 +77,10 @@ const BOTH_FORMS: &[File] = &[
 
 /// Whether the file is said to have a name at two paths; if it isn't, a growth was refused.
 fn is_ambiguous(rt: &impl Abort, alloc: Global) -> bool {
-    let Ok(tree) = tree_of(alloc, BOTH_FORMS, &[]) else {
+    let mut tree = new_tree(alloc);
+    if plant(alloc, &mut tree, BOTH_FORMS, &[]).is_err() {
         return false;
-    };
+    }
     match loaded(alloc, &tree, "/m") {
         Err(UnitFault::Ambiguous(fault)) => {
             equal(rt, fault.chain.len(), 1);
@@ -86,10 +94,8 @@ fn is_ambiguous(rt: &impl Abort, alloc: Global) -> bool {
 #[test]
 fn a_growth_refused_to_read_a_file_with_its_includes_is_no_memory(rt: HostRuntime) {
     for _ in 0..3 {
-        if let Ok(tree) = whole_tree(rt.alloc()) {
-            if is_loaded(&rt, rt.alloc(), &tree) {
-                return;
-            }
+        if is_loaded(&rt, rt.alloc()) {
+            return;
         }
     }
     panic!(&rt; "refused each time")
@@ -98,10 +104,8 @@ fn a_growth_refused_to_read_a_file_with_its_includes_is_no_memory(rt: HostRuntim
 #[test]
 fn a_growth_refused_to_tell_the_files_of_a_folder_is_no_memory(rt: HostRuntime) {
     for _ in 0..3 {
-        if let Ok(tree) = whole_tree(rt.alloc()) {
-            if are_told(&rt, rt.alloc(), &tree) {
-                return;
-            }
+        if are_told(&rt, rt.alloc()) {
+            return;
         }
     }
     panic!(&rt; "refused each time")

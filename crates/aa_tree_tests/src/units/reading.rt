@@ -1,125 +1,69 @@
-//! Trees in memory, and what is read from them, in plain values that tests compare. The helpers have no clauses, so that a
-//! test's proof stays short.
+//! What is read from trees in memory, in plain values that tests compare. The helpers have no clauses, so that a test's proof
+//! stays short.
 
+use crate::comparing::holds_in;
+use crate::planting::{File, Folder, Refusal, push_copies, push_text, tree_of};
 use aa_memory_trees::{MemoryTree, Names, Planted};
 use aa_texts::push_fault;
 use aa_units::{
     FaultReport, Roots, Source, Tree, Unit, UnitFault, Unread, load, push_number, roots_of,
 };
-use std::alloc::{AllocError, Global};
+use std::alloc::Global;
 use std::process::Abort;
-
-/// A file's path and its text.
-pub(crate) type File<'r> = (&'r str, &'r str);
-
-/// A folder's path and the names of its files.
-pub(crate) type Folder<'r> = (&'r str, &'r [&'r str]);
 
 /// A source's name, its path and its text.
 pub(crate) type Found<'r> = (&'r str, &'r str, &'r str);
 
-/// What can't be read, and why.
-pub(crate) type Refusal<'r> = (&'r str, Unread);
-
-fn bytes_of(alloc: Global, text: &str) -> Result<Vec<u8>, AllocError> {
-    Vec::from_slice(alloc, text.as_bytes())
-}
-
-pub(crate) fn copies_of(alloc: Global, texts: &[&str]) -> Result<Vec<Vec<u8>>, AllocError> {
-    let mut copies = Vec::new(alloc);
-    for text in texts {
-        copies.push(bytes_of(alloc, text)?)?;
-    }
-    Ok(copies)
-}
-
-fn new_tree(alloc: Global) -> Result<MemoryTree, AllocError> {
-    Ok(MemoryTree::new(alloc, bytes_of(alloc, "# input\n")?))
-}
-
-fn plant_file(alloc: Global, tree: &mut MemoryTree, file: File) -> Result<(), AllocError> {
-    tree.plant_file(alloc, file.0, file.1)
-}
-
-fn plant_folder(alloc: Global, tree: &mut MemoryTree, folder: Folder) -> Result<(), AllocError> {
-    tree.plant_folder(alloc, folder.0, folder.1)
-}
-
-/// A tree of these files; what is on standard input is a comment.
-pub(crate) fn files_of(alloc: Global, files: &[File]) -> Result<MemoryTree, AllocError> {
-    let mut tree = new_tree(alloc)?;
-    for file in files {
-        plant_file(alloc, &mut tree, *file)?;
-    }
-    Ok(tree)
-}
-
-/// A tree of these files and folders.
-pub(crate) fn tree_of(
-    alloc: Global,
-    files: &[File],
-    folders: &[Folder],
-) -> Result<MemoryTree, AllocError> {
-    let mut tree = files_of(alloc, files)?;
-    for folder in folders {
-        plant_folder(alloc, &mut tree, *folder)?;
-    }
-    Ok(tree)
-}
-
 /// These bytes with a number behind them, which begin at 10000.
-fn numbered(alloc: Global, front: &str, number: usize) -> Result<Vec<u8>, AllocError> {
-    let mut text = bytes_of(alloc, front)?;
-    push_number(&mut text, number.wrapping_add(10000))?;
-    Ok(text)
+fn numbered(rt: &impl Abort, alloc: Global, front: &str, number: usize) -> Vec<u8> {
+    let mut text = Vec::new(alloc);
+    push_text(rt, &mut text, front);
+    push_number(&mut text, number.wrapping_add(10000)).expect(rt, "memory");
+    text
 }
 
-fn many_names(alloc: Global, count: usize) -> Result<Vec<Vec<u8>>, AllocError> {
+fn push_numbered(rt: &impl Abort, alloc: Global, names: &mut Vec<Vec<u8>>, number: usize) {
+    names
+        .push(numbered(rt, alloc, "", number))
+        .expect(rt, "memory");
+}
+
+fn many_names(rt: &impl Abort, alloc: Global, count: usize) -> Names {
     let mut names = Vec::new(alloc);
     for number in 0..count {
-        names.push(numbered(alloc, "", number)?)?;
+        push_numbered(rt, alloc, &mut names, number);
     }
-    Ok(names)
+    Names::of(names).expect(rt, "memory")
+}
+
+fn add(rt: &impl Abort, tree: &mut MemoryTree, path: Vec<u8>, what: Planted) {
+    tree.planted.push((path, what)).expect(rt, "memory");
 }
 
 /// Adds a folder of so many files, whose names are numbers from 10000 on.
 pub(crate) fn add_many(
+    rt: &impl Abort,
     alloc: Global,
     tree: &mut MemoryTree,
     path: &str,
     count: usize,
-) -> Result<(), AllocError> {
-    let names = Names::of(many_names(alloc, count)?)?;
-    tree.planted
-        .push((bytes_of(alloc, path)?, Planted::Folder(names)))?;
-    Ok(())
+) {
+    let mut folder = Vec::new(alloc);
+    push_text(rt, &mut folder, path);
+    let names = many_names(rt, alloc, count);
+    add(rt, tree, folder, Planted::Folder(names));
 }
 
 /// Adds an empty file whose path ends in such a number.
 pub(crate) fn add_numbered(
+    rt: &impl Abort,
     alloc: Global,
     tree: &mut MemoryTree,
     front: &str,
     number: usize,
-) -> Result<(), AllocError> {
-    let path = numbered(alloc, front, number)?;
-    tree.planted.push((path, Planted::File(Vec::new(alloc))))?;
-    Ok(())
-}
-
-/// Adds what can't be read.
-pub(crate) fn add_refused(
-    alloc: Global,
-    tree: &mut MemoryTree,
-    path: &str,
-    why: Unread,
-) -> Result<(), AllocError> {
-    tree.plant_refused(alloc, path, why)
-}
-
-/// Adds a link that leads nowhere.
-pub(crate) fn add_link(alloc: Global, tree: &mut MemoryTree, path: &str) -> Result<(), AllocError> {
-    add_refused(alloc, tree, path, Unread::NotFound)
+) {
+    let path = numbered(rt, alloc, front, number);
+    add(rt, tree, path, Planted::File(Vec::new(alloc)));
 }
 
 /// Reads a file with what it includes, searched in `/i`, in `/j` and then in the base folder `/b`.
@@ -134,16 +78,18 @@ pub(crate) fn rooted<T: Tree>(
     tree: &T,
     arguments: &[&str],
 ) -> Result<Roots, UnitFault> {
-    let arguments = copies_of(alloc, arguments)?;
-    roots_of(alloc, tree, b"/b", arguments.as_slice())
+    let mut copies = Vec::new(alloc);
+    push_copies(alloc, &mut copies, arguments)?;
+    roots_of(alloc, tree, b"/b", copies.as_slice())
 }
 
 fn are_same(texts: &[Vec<u8>], wanted: &[&str]) -> bool {
+    for (text, one) in texts.iter().zip(wanted) {
+        if text.as_slice() != one.as_bytes() {
+            return false;
+        }
+    }
     texts.len() == wanted.len()
-        && texts
-            .iter()
-            .zip(wanted)
-            .all(|(text, one)| text.as_slice() == one.as_bytes())
 }
 
 /// The texts are these, one after the other.
@@ -159,7 +105,12 @@ fn is_found(source: &Source, wanted: &Found) -> bool {
 }
 
 fn are_found(sources: &[Source], wanted: &[Found]) -> bool {
-    sources.len() == wanted.len() && sources.iter().zip(wanted).all(|(s, w)| is_found(s, w))
+    for (source, one) in sources.iter().zip(wanted) {
+        if !is_found(source, one) {
+            return false;
+        }
+    }
+    sources.len() == wanted.len()
 }
 
 /// The unit has these sources, in the order in which they are found.
@@ -197,6 +148,17 @@ pub(crate) fn is_read<T: Tree>(
     wanted: &[Found],
 ) {
     has_sources(rt, &unit_at(rt, alloc, tree, path), wanted);
+}
+
+/// Of a tree of these files and folders, `/m` is read with these sources.
+pub(crate) fn reads(
+    rt: &impl Abort,
+    alloc: Global,
+    files: &[File],
+    folders: &[Folder],
+    wanted: &[Found],
+) {
+    is_read(rt, alloc, &tree_of(rt, alloc, files, folders), "/m", wanted);
 }
 
 /// Whether it is said that this path can't be read, for this reason.
@@ -242,30 +204,27 @@ pub(crate) fn is_refused<T: Tree>(
 }
 
 /// What is said of a file with a name that lies at two paths.
-pub(crate) fn ambiguity<T: Tree>(
-    rt: &impl Abort,
-    alloc: Global,
-    tree: &T,
-    path: &str,
-) -> FaultReport {
+fn ambiguity<T: Tree>(rt: &impl Abort, alloc: Global, tree: &T, path: &str) -> FaultReport {
     match loaded(alloc, tree, path) {
         Err(UnitFault::Ambiguous(fault)) => fault,
         _ => panic!(rt; "not refused for a name at two paths"),
     }
 }
 
-/// What is said of a fault begins so.
-pub(crate) fn is_told(
+fn said_of(rt: &impl Abort, alloc: Global, fault: &FaultReport) -> Vec<u8> {
+    let mut said = Vec::new(alloc);
+    push_fault(&mut said, fault).expect(rt, "memory");
+    said
+}
+
+/// What is said of a file with a name that lies at two paths begins so.
+pub(crate) fn is_ambiguous<T: Tree>(
     rt: &impl Abort,
     alloc: Global,
-    fault: &FaultReport,
+    tree: &T,
+    path: &str,
     wanted: &str,
-) -> Result<(), AllocError> {
-    let mut said = Vec::new(alloc);
-    push_fault(&mut said, fault)?;
-    assert!(rt;
-        said.as_slice().starts_with(wanted.as_bytes()),
-        "in place of {wanted}"
-    );
-    Ok(())
+) {
+    let said = said_of(rt, alloc, &ambiguity(rt, alloc, tree, path));
+    holds_in(rt, said.as_slice().starts_with(wanted.as_bytes()), wanted);
 }

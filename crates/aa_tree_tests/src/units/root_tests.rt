@@ -1,14 +1,12 @@
 //! The files that arguments stand for.
 
 use crate::comparing::equal;
-use crate::units::reading::{
-    add_link, add_many, are_refused_roots, are_texts, files_of, rooted, roots_at, tree_of,
-};
+use crate::planting::{Folder, new_tree, tree_beside, tree_of};
+use crate::units::reading::{add_many, are_refused_roots, are_texts, rooted, roots_at};
 use aa_memory_trees::MemoryTree;
 use aa_units::Unread;
-use std::alloc::{AllocError, Global};
+use std::alloc::Global;
 use std::process::Abort;
-use std::test::Fail;
 
 /// The arguments stand for these files, and these lines are said of others.
 fn are_roots(
@@ -24,6 +22,19 @@ fn are_roots(
     are_texts(rt, roots.warnings.as_slice(), warnings);
 }
 
+/// The same in a tree of these folders.
+fn are_roots_of(
+    rt: &impl Abort,
+    alloc: Global,
+    folders: &[Folder],
+    arguments: &[&str],
+    paths: &[&str],
+    warnings: &[&str],
+) {
+    let tree = tree_of(rt, alloc, &[], folders);
+    are_roots(rt, alloc, &tree, arguments, paths, warnings);
+}
+
 const NAMES: &[&str] = &["usr.bin.b", "a b", "\u{e4}", "usr.bin", "B", "a\"c", "0"];
 
 const IN_ORDER: &[&str] = &[
@@ -37,13 +48,12 @@ const IN_ORDER: &[&str] = &[
 ];
 
 #[test]
-fn a_folder_stands_for_its_files_in_byte_order(rt: HostRuntime) -> Result<(), Fail> {
+fn a_folder_stands_for_its_files_in_byte_order(rt: HostRuntime) {
     let alloc = rt.alloc();
     let folders = &[("/p", NAMES), ("/p/usr.d", &["x"]), ("/q/", &["b", "a"])];
-    let tree = tree_of(alloc, &[], folders)?;
+    let tree = tree_of(&rt, alloc, &[], folders);
     are_roots(&rt, alloc, &tree, &["/p"], IN_ORDER, &[]);
     are_roots(&rt, alloc, &tree, &["/q/"], &["/q/a", "/q/b"], &[]);
-    Ok(())
 }
 
 /// The names of a folder's files, of which six are read.
@@ -76,11 +86,15 @@ const SIX_READ: &[&str] = &[
 ];
 
 #[test]
-fn names_of_package_managers_and_hidden_files_are_passed_over(rt: HostRuntime) -> Result<(), Fail> {
-    let alloc = rt.alloc();
-    let tree = tree_of(alloc, &[], &[("/p", MANY_NAMES)])?;
-    are_roots(&rt, alloc, &tree, &["/p"], SIX_READ, &[]);
-    Ok(())
+fn names_of_package_managers_and_hidden_files_are_passed_over(rt: HostRuntime) {
+    are_roots_of(
+        &rt,
+        rt.alloc(),
+        &[("/p", MANY_NAMES)],
+        &["/p"],
+        SIX_READ,
+        &[],
+    );
 }
 
 /// The names of a folder's files, of which two are read.
@@ -105,16 +119,22 @@ const WARNINGS: &[&str] = &[
 ];
 
 #[test]
-fn leftovers_are_passed_over_with_a_warning(rt: HostRuntime) -> Result<(), Fail> {
-    let alloc = rt.alloc();
-    let tree = tree_of(alloc, &[], &[("/p", LEFTOVERS)])?;
-    are_roots(&rt, alloc, &tree, &["/p"], &["/p/a~b", "/p/b"], WARNINGS);
-    Ok(())
+fn leftovers_are_passed_over_with_a_warning(rt: HostRuntime) {
+    let read = &["/p/a~b", "/p/b"];
+    are_roots_of(
+        &rt,
+        rt.alloc(),
+        &[("/p", LEFTOVERS)],
+        &["/p"],
+        read,
+        WARNINGS,
+    );
 }
 
 /// A folder of five files: one is disabled by a file of its name and one by a link that leads nowhere.
-fn disabled_tree(alloc: Global) -> Result<MemoryTree, AllocError> {
-    let mut tree = tree_of(
+fn disabled_tree(rt: &impl Abort, alloc: Global) -> MemoryTree {
+    tree_beside(
+        rt,
         alloc,
         &[
             ("/b/disable/a", ""),
@@ -122,9 +142,20 @@ fn disabled_tree(alloc: Global) -> Result<MemoryTree, AllocError> {
             ("/b/force-complain/d", ""),
         ],
         &[("/p", &["a", "b", "c", "d", "d~"]), ("/b/disable", &["a"])],
-    )?;
-    add_link(alloc, &mut tree, "/b/disable/b")?;
-    Ok(tree)
+        ("/b/disable/b", Unread::NotFound),
+    )
+}
+
+/// The arguments stand for these files of that tree, and these lines are said of others.
+fn are_roots_beside_disabled(
+    rt: &impl Abort,
+    alloc: Global,
+    arguments: &[&str],
+    paths: &[&str],
+    warnings: &[&str],
+) {
+    let tree = disabled_tree(rt, alloc);
+    are_roots(rt, alloc, &tree, arguments, paths, warnings);
 }
 
 const COMPLAIN: &str = "/p/d: force-complain isn't applied, the text decides";
@@ -132,63 +163,42 @@ const COMPLAIN: &str = "/p/d: force-complain isn't applied, the text decides";
 const LEFT: &str = "/p/d~: passed over, by its name";
 
 #[test]
-fn files_whose_names_stand_in_disable_are_not_read(rt: HostRuntime) -> Result<(), Fail> {
-    let alloc = rt.alloc();
-    let tree = disabled_tree(alloc)?;
-    are_roots(
-        &rt,
-        alloc,
-        &tree,
-        &["/p"],
-        &["/p/c", "/p/d"],
-        &[COMPLAIN, LEFT],
-    );
-    Ok(())
+fn files_whose_names_stand_in_disable_are_not_read(rt: HostRuntime) {
+    let read = &["/p/c", "/p/d"];
+    are_roots_beside_disabled(&rt, rt.alloc(), &["/p"], read, &[COMPLAIN, LEFT]);
 }
 
 #[test]
-fn a_file_that_is_named_itself_is_read_in_any_case(rt: HostRuntime) -> Result<(), Fail> {
-    let alloc = rt.alloc();
-    let tree = disabled_tree(alloc)?;
+fn a_file_that_is_named_itself_is_read_in_any_case(rt: HostRuntime) {
     let named = &["/p/a", "-", "/p/d~", "/p/README", "/nothing", "/p/b", ""];
-    are_roots(&rt, alloc, &tree, named, named, &[]);
-    Ok(())
+    are_roots_beside_disabled(&rt, rt.alloc(), named, named, &[]);
 }
 
 #[test]
-fn arguments_stand_for_their_files_in_the_order_of_the_arguments(
-    rt: HostRuntime,
-) -> Result<(), Fail> {
-    let alloc = rt.alloc();
-    let tree = disabled_tree(alloc)?;
-    let arguments = &["/p/b", "/p", "-", "/p", "/b/disable"];
-    let wanted = &["/p/b", "/p/c", "/p/d", "-", "/p/c", "/p/d"];
-    are_roots(
+fn arguments_stand_for_their_files_in_the_order_of_the_arguments(rt: HostRuntime) {
+    are_roots_beside_disabled(
         &rt,
-        alloc,
-        &tree,
-        arguments,
-        wanted,
+        rt.alloc(),
+        &["/p/b", "/p", "-", "/p", "/b/disable"],
+        &["/p/b", "/p/c", "/p/d", "-", "/p/c", "/p/d"],
         &[COMPLAIN, LEFT, COMPLAIN, LEFT],
     );
-    Ok(())
 }
 
 #[test]
-fn a_folder_whose_name_is_that_of_standard_input_is_not_looked_at(
-    rt: HostRuntime,
-) -> Result<(), Fail> {
-    let alloc = rt.alloc();
-    let tree = tree_of(alloc, &[], &[("-", &["a"])])?;
-    are_roots(&rt, alloc, &tree, &["-"], &["-"], &[]);
-    Ok(())
+fn a_folder_whose_name_is_that_of_standard_input_is_not_looked_at(rt: HostRuntime) {
+    are_roots_of(&rt, rt.alloc(), &[("-", &["a"])], &["-"], &["-"], &[]);
 }
 
 /// A tree with a folder of so many files.
-fn tree_of_many(alloc: Global, count: usize) -> Result<MemoryTree, AllocError> {
-    let mut tree = files_of(alloc, &[])?;
-    add_many(alloc, &mut tree, "/p", count)?;
-    Ok(tree)
+fn tree_of_many(rt: &impl Abort, alloc: Global, count: usize) -> MemoryTree {
+    let mut tree = new_tree(alloc);
+    add_many(rt, alloc, &mut tree, "/p", count);
+    tree
+}
+
+fn count_of_roots(rt: &impl Abort, alloc: Global, tree: &MemoryTree, arguments: &[&str]) -> usize {
+    roots_at(rt, alloc, tree, arguments).paths.len()
 }
 
 /// The file at this path is beyond the limit.
@@ -201,12 +211,10 @@ fn are_too_many(rt: &impl Abort, alloc: Global, tree: &MemoryTree, arguments: &[
 }
 
 #[test]
-fn one_file_beyond_the_limit_is_refused_at_its_path(rt: HostRuntime) -> Result<(), Fail> {
+fn one_file_beyond_the_limit_is_refused_at_its_path(rt: HostRuntime) {
     let alloc = rt.alloc();
-    let tree = tree_of_many(alloc, 4095)?;
-    let roots = roots_at(&rt, alloc, &tree, &["-", "/p"]);
-    equal(&rt, roots.paths.len(), 4096);
+    let tree = tree_of_many(&rt, alloc, 4095);
+    equal(&rt, count_of_roots(&rt, alloc, &tree, &["-", "/p"]), 4096);
     are_too_many(&rt, alloc, &tree, &["/p", "-", "/q"], "/q");
     are_too_many(&rt, alloc, &tree, &["-", "-", "/p"], "/p/14094");
-    Ok(())
 }
