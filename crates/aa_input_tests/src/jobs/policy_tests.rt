@@ -4,53 +4,51 @@ use crate::comparing::holds;
 use crate::jobs::shown::{has_head, has_tasks, policies_of_tasks};
 use crate::jobs::texts::{Answer, Frame, answers_each};
 use aa_jobs::JobFault;
-use std::test::Fail;
 
 /// A job of three policies, with tasks in the last and in the first.
 const SEVERAL: &str =
     r#"{"policies":["a","b","c"],"tasks":[{"label":"p","policy":2,"requests":[{"reload":1},"exit",{"reload":2}]},{"requests":[],"label":"q"}]}"#;
 
 #[test]
-fn reads_several_policies_in_order(rt: HostRuntime) -> Result<(), Fail> {
+fn reads_several_policies_in_order(rt: HostRuntime) {
     has_head(
         &rt,
         rt.alloc(),
         SEVERAL,
         "several\npolicy a\npolicy b\npolicy c\nstates 4096 capacity 1",
-    )
+    );
 }
 
 #[test]
-fn reads_a_list_of_one_policy(rt: HostRuntime) -> Result<(), Fail> {
+fn reads_a_list_of_one_policy(rt: HostRuntime) {
     has_head(
         &rt,
         rt.alloc(),
         r#"{"policies":["a"],"tasks":[]}"#,
         "several\npolicy a\nstates 4096 capacity 1",
-    )?;
+    );
     has_head(
         &rt,
         rt.alloc(),
         r#"{"policy":"a","tasks":[]}"#,
         "policy a\nstates 4096 capacity 1",
-    )
+    );
 }
 
 #[test]
-fn reads_the_policy_of_each_task(rt: HostRuntime) -> Result<(), Fail> {
-    let policies = policies_of_tasks(rt.alloc(), SEVERAL)?;
+fn reads_the_policy_of_each_task(rt: HostRuntime) {
+    let policies = policies_of_tasks(&rt, rt.alloc(), SEVERAL);
     holds(&rt, policies.as_slice() == [2, 0].as_slice());
-    Ok(())
 }
 
 #[test]
-fn reads_requests_to_reload(rt: HostRuntime) -> Result<(), Fail> {
+fn reads_requests_to_reload(rt: HostRuntime) {
     has_tasks(
         &rt,
         rt.alloc(),
         SEVERAL,
         "task p 2\nreload 1\nexit\nreload 2\ntask q 0\n",
-    )
+    );
 }
 
 /// A job of three policies, whose task has further members.
@@ -60,7 +58,7 @@ const TASK: Frame = Frame {
 };
 
 #[test]
-fn a_policy_that_is_asked_for_is_there(rt: HostRuntime) -> Result<(), Fail> {
+fn a_policy_that_is_asked_for_is_there(rt: HostRuntime) {
     const ROWS: &[Answer] = &[
         (r#","requests":[{"reload":0}]"#, None),
         (r#","requests":[{"reload":2}]"#, None),
@@ -97,5 +95,5 @@ fn a_policy_that_is_asked_for_is_there(rt: HostRuntime) -> Result<(), Fail> {
             Some(JobFault::BadShape),
         ),
     ];
-    answers_each(&rt, rt.alloc(), &TASK, ROWS)
+    answers_each(&rt, rt.alloc(), &TASK, ROWS);
 }

@@ -1,10 +1,9 @@
 //! What is read of each kind of request.
 
 use crate::jobs::shown::asks_each;
-use std::test::Fail;
 
 #[test]
-fn reads_a_link(rt: HostRuntime) -> Result<(), Fail> {
+fn reads_a_link(rt: HostRuntime) {
     asks_each(
         &rt,
         rt.alloc(),
@@ -16,11 +15,11 @@ fn reads_a_link(rt: HostRuntime) -> Result<(), Fail> {
             (r#"{"to":"/b","link":"/a","owned":false}"#, "link /a to /b"),
             (r#"{"link":"/a","to":"/b"}"#, "link /a to /b"),
         ],
-    )
+    );
 }
 
 #[test]
-fn reads_an_execution(rt: HostRuntime) -> Result<(), Fail> {
+fn reads_an_execution(rt: HostRuntime) {
     asks_each(
         &rt,
         rt.alloc(),
@@ -29,11 +28,11 @@ fn reads_an_execution(rt: HostRuntime) -> Result<(), Fail> {
             (r#"{"owned":false,"exec":"/bin/sh"}"#, "exec /bin/sh"),
             (r#"{"exec":"/bin/sh"}"#, "exec /bin/sh"),
         ],
-    )
+    );
 }
 
 #[test]
-fn reads_a_capability(rt: HostRuntime) -> Result<(), Fail> {
+fn reads_a_capability(rt: HostRuntime) {
     asks_each(
         &rt,
         rt.alloc(),
@@ -42,11 +41,11 @@ fn reads_a_capability(rt: HostRuntime) -> Result<(), Fail> {
             (r#"{"cap":"net_raw"}"#, "cap net_raw"),
             (r#"{"cap":"checkpoint_restore"}"#, "cap checkpoint_restore"),
         ],
-    )
+    );
 }
 
 #[test]
-fn reads_a_socket(rt: HostRuntime) -> Result<(), Fail> {
+fn reads_a_socket(rt: HostRuntime) {
     asks_each(
         &rt,
         rt.alloc(),
@@ -55,11 +54,11 @@ fn reads_a_socket(rt: HostRuntime) -> Result<(), Fail> {
             (r#"{"type":"packet","net":"mctp"}"#, "net mctp packet"),
             (r#"{"net":"packet","type":"raw"}"#, "net packet raw"),
         ],
-    )
+    );
 }
 
 #[test]
-fn reads_a_change_of_the_profile(rt: HostRuntime) -> Result<(), Fail> {
+fn reads_a_change_of_the_profile(rt: HostRuntime) {
     asks_each(
         &rt,
         rt.alloc(),
@@ -68,5 +67,5 @@ fn reads_a_change_of_the_profile(rt: HostRuntime) -> Result<(), Fail> {
             (r#"{"change":"unconfined"}"#, "change unconfined"),
             (r#"{"change":"\u00e9"}"#, "change \u{e9}"),
         ],
-    )
+    );
 }

@@ -1,9 +1,9 @@
 //! Texts of jobs, and whether they are refused. The helpers have no clauses, so that a test's proof stays short.
 
+use crate::comparing::equal_in;
 use aa_jobs::{Job, JobFault, read_job};
-use std::alloc::{AllocError, Global};
+use std::alloc::Global;
 use std::process::Abort;
-use std::test::Fail;
 
 pub const WORKED: &str =
     r#"{"policy":"profile p { /etc/passwd r, }","tasks":[{"label":"p","requests":[{"file":"/etc/passwd","mask":"r"},{"file":"/etc/passwd","mask":"w"}]}]}"#;
@@ -29,18 +29,14 @@ pub const ITEMS: Frame = Frame {
 /// The fault of a row, or that its text is a job.
 pub type Answer<'a> = (&'a str, Option<JobFault>);
 
-fn read(alloc: Global, bytes: &[u8]) -> Result<Job, JobFault> {
-    read_job(alloc, bytes)
-}
-
 /// The job that a text is.
-pub fn job_of(alloc: Global, text: &str) -> Result<Job, JobFault> {
-    read(alloc, text.as_bytes())
+pub fn job_of(rt: &impl Abort, alloc: Global, text: &str) -> Job {
+    read_job(alloc, text.as_bytes()).expect(rt, "a job")
 }
 
 /// Why bytes are refused as a job, if they are.
 pub fn fault_of(alloc: Global, bytes: &[u8]) -> Option<JobFault> {
-    match read(alloc, bytes) {
+    match read_job(alloc, bytes) {
         Ok(_) => None,
         Err(fault) => Some(fault),
     }
@@ -52,16 +48,17 @@ pub fn fault(alloc: Global, text: &str) -> Option<JobFault> {
 }
 
 /// Puts a part behind a text.
-pub fn push_part(text: &mut String, part: &str) -> Result<(), AllocError> {
-    text.push_str(part)
+pub fn push_part(rt: &impl Abort, text: &mut String, part: &str) {
+    text.push_str(part).expect(rt, "memory");
 }
 
 /// The text in its frame.
-pub fn framed(alloc: Global, frame: &Frame, text: &str) -> Result<String, AllocError> {
-    let mut whole = String::from_str(alloc, frame.front)?;
-    push_part(&mut whole, text)?;
-    push_part(&mut whole, frame.end)?;
-    Ok(whole)
+pub fn framed(rt: &impl Abort, alloc: Global, frame: &Frame, text: &str) -> String {
+    let mut whole = String::new(alloc);
+    push_part(rt, &mut whole, frame.front);
+    push_part(rt, &mut whole, text);
+    push_part(rt, &mut whole, frame.end);
+    whole
 }
 
 /// The text, which is told so, is a job, or refused with that fault.
@@ -72,7 +69,7 @@ pub fn expect_fault(
     want: Option<JobFault>,
     told: &str,
 ) {
-    assert_eq!(rt; fault(alloc, text), want, "at {told}");
+    equal_in(rt, fault(alloc, text), want, told);
 }
 
 /// Each text is refused as a job, with this fault.
@@ -84,29 +81,16 @@ pub fn refuses_each(rt: &impl Abort, alloc: Global, want: JobFault, texts: &[&st
 }
 
 /// The text in its frame is a job, or refused with that fault.
-fn answers(
-    rt: &impl Abort,
-    alloc: Global,
-    frame: &Frame,
-    text: &str,
-    want: Option<JobFault>,
-) -> Result<(), AllocError> {
-    let whole = framed(alloc, frame, text)?;
+fn answers(rt: &impl Abort, alloc: Global, frame: &Frame, text: &str, want: Option<JobFault>) {
+    let whole = framed(rt, alloc, frame, text);
     expect_fault(rt, alloc, whole.as_str(), want, text);
-    Ok(())
 }
 
 /// Each text in the frame is a job, or refused with the fault beside it.
-pub fn answers_each(
-    rt: &impl Abort,
-    alloc: Global,
-    frame: &Frame,
-    rows: &[Answer],
-) -> Result<(), Fail> {
+pub fn answers_each(rt: &impl Abort, alloc: Global, frame: &Frame, rows: &[Answer]) {
     for (text, want) in rows {
-        answers(rt, alloc, frame, text, *want)?;
+        answers(rt, alloc, frame, text, *want);
     }
-    Ok(())
 }
 
 /// Each text in the frame is refused as a job, with this fault.
@@ -116,10 +100,9 @@ pub fn refuses_framed(
     frame: &Frame,
     want: JobFault,
     texts: &[&str],
-) -> Result<(), Fail> {
+) {
     let want = Some(want);
     for text in texts {
-        answers(rt, alloc, frame, text, want)?;
+        answers(rt, alloc, frame, text, want);
     }
-    Ok(())
 }

@@ -2,44 +2,43 @@
 
 use crate::comparing::holds;
 use aa_logs::{Line, Reason, Then, line_of};
-use std::alloc::{AllocError, Global};
+use std::alloc::Global;
 use std::process::Abort;
-use std::test::Fail;
 
 /// Why a line asks nothing, if it is one that is skipped.
-fn skipped(alloc: Global, line: &[u8]) -> Result<Option<Reason>, AllocError> {
-    match line_of(alloc, line)? {
-        Line::Skipped(reason) => Ok(Some(reason)),
-        Line::Other | Line::Asks(_) => Ok(None),
+fn skipped(line: &Line) -> Option<Reason> {
+    match line {
+        Line::Skipped(reason) => Some(*reason),
+        Line::Other | Line::Asks(_) => None,
     }
 }
 
 /// What became of a line's request, if it asks something.
-fn then(alloc: Global, line: &[u8]) -> Result<Option<Then>, AllocError> {
-    match line_of(alloc, line)? {
-        Line::Asks(record) => Ok(Some(record.then)),
-        Line::Other | Line::Skipped(_) => Ok(None),
+fn then(line: &Line) -> Option<Then> {
+    match line {
+        Line::Asks(record) => Some(record.then),
+        Line::Other | Line::Skipped(_) => None,
     }
 }
 
-fn are_skipped(rt: &impl Abort, alloc: Global, rows: &[(&[u8], Reason)]) -> Result<(), AllocError> {
+fn read(rt: &impl Abort, alloc: Global, line: &[u8]) -> Line {
+    line_of(alloc, line).expect(rt, "memory")
+}
+
+fn are_skipped(rt: &impl Abort, alloc: Global, rows: &[(&[u8], Reason)]) {
     for (line, reason) in rows {
-        let found = skipped(alloc, line)?;
-        holds(rt, found == Some(*reason));
+        holds(rt, skipped(&read(rt, alloc, line)) == Some(*reason));
     }
-    Ok(())
 }
 
-fn came_to(rt: &impl Abort, alloc: Global, rows: &[(&[u8], Then)]) -> Result<(), AllocError> {
+fn came_to(rt: &impl Abort, alloc: Global, rows: &[(&[u8], Then)]) {
     for (line, wanted) in rows {
-        let found = then(alloc, line)?;
-        holds(rt, found == Some(*wanted));
+        holds(rt, then(&read(rt, alloc, line)) == Some(*wanted));
     }
-    Ok(())
 }
 
 #[test]
-fn a_line_tells_what_became_of_its_request(rt: HostRuntime) -> Result<(), Fail> {
+fn a_line_tells_what_became_of_its_request(rt: HostRuntime) {
     came_to(
         &rt,
         rt.alloc(),
@@ -69,12 +68,11 @@ fn a_line_tells_what_became_of_its_request(rt: HostRuntime) -> Result<(), Fail> 
                 Then::Allowed,
             ),
         ],
-    )?;
-    Ok(())
+    );
 }
 
 #[test]
-fn a_line_that_asks_nothing_has_a_reason(rt: HostRuntime) -> Result<(), Fail> {
+fn a_line_that_asks_nothing_has_a_reason(rt: HostRuntime) {
     are_skipped(
         &rt,
         rt.alloc(),
@@ -138,16 +136,15 @@ fn a_line_that_asks_nothing_has_a_reason(rt: HostRuntime) -> Result<(), Fail> {
                 Reason::Operation,
             ),
         ],
-    )?;
-    Ok(())
+    );
 }
 
 #[test]
 fn a_growth_refused_to_a_line_is_no_memory(rt: HostRuntime) {
     let line: &[u8] =
         b"apparmor=\"DENIED\" operation=\"link\" profile=70 name=2F61 target=\"/b\" pid=1";
-    match then(rt.alloc(), line) {
-        Ok(found) => holds(&rt, found == Some(Then::Denied)),
+    match line_of(rt.alloc(), line) {
+        Ok(found) => holds(&rt, then(&found) == Some(Then::Denied)),
         Err(_) => {}
     }
 }

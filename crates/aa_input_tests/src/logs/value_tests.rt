@@ -1,36 +1,45 @@
 //! Fields of worked lines.
 
 use crate::comparing::holds;
-use aa_logs::{last_of, name_of, read_line};
-use std::alloc::{AllocError, Global};
+use aa_logs::{LogWord, last_of, name_of, read_line};
+use std::alloc::Global;
 use std::process::Abort;
-use std::test::Fail;
 
 /// A line, a key, and what the field of that key stands for, if there is one.
 type Row<'a> = (&'a [u8], &'a str, Option<&'a [u8]>);
 
-fn value(alloc: Global, line: &[u8], key: &str) -> Result<Option<Vec<u8>>, AllocError> {
-    let words = read_line(alloc, line)?;
-    match last_of(words.as_slice(), key.as_bytes()) {
-        Some(word) => Ok(Some(name_of(alloc, word)?)),
-        None => Ok(None),
+fn named(rt: &impl Abort, alloc: Global, word: &LogWord) -> Vec<u8> {
+    name_of(alloc, word).expect(rt, "memory")
+}
+
+fn is_value(
+    rt: &impl Abort,
+    alloc: Global,
+    words: &[LogWord],
+    key: &str,
+    wanted: Option<&[u8]>,
+) -> bool {
+    match (last_of(words, key.as_bytes()), wanted) {
+        (Some(word), Some(wanted)) => named(rt, alloc, word).as_slice() == wanted,
+        (None, None) => true,
+        _ => false,
     }
 }
 
-fn have_values(rt: &impl Abort, alloc: Global, rows: &[Row<'_>]) -> Result<(), AllocError> {
-    for (line, key, wanted) in rows {
-        let found = value(alloc, line, key)?;
-        match (&found, wanted) {
-            (Some(found), Some(wanted)) => holds(rt, found.as_slice() == *wanted),
-            (None, None) => {}
-            _ => holds(rt, false),
-        }
+fn has_value(rt: &impl Abort, alloc: Global, row: &Row<'_>) {
+    let (line, key, wanted) = row;
+    let words = read_line(alloc, line).expect(rt, "memory");
+    holds(rt, is_value(rt, alloc, words.as_slice(), key, *wanted));
+}
+
+fn have_values(rt: &impl Abort, alloc: Global, rows: &[Row<'_>]) {
+    for row in rows {
+        has_value(rt, alloc, row);
     }
-    Ok(())
 }
 
 #[test]
-fn a_field_stands_in_quotes_or_is_a_run(rt: HostRuntime) -> Result<(), Fail> {
+fn a_field_stands_in_quotes_or_is_a_run(rt: HostRuntime) {
     have_values(
         &rt,
         rt.alloc(),
@@ -46,12 +55,11 @@ fn a_field_stands_in_quotes_or_is_a_run(rt: HostRuntime) -> Result<(), Fail> {
             (b"1a=2", "1a", None),
             (b"_a=2", "_a", Some(b"2")),
         ],
-    )?;
-    Ok(())
+    );
 }
 
 #[test]
-fn the_last_value_of_a_key_counts(rt: HostRuntime) -> Result<(), Fail> {
+fn the_last_value_of_a_key_counts(rt: HostRuntime) {
     have_values(
         &rt,
         rt.alloc(),
@@ -59,12 +67,11 @@ fn the_last_value_of_a_key_counts(rt: HostRuntime) -> Result<(), Fail> {
             (b"pid=1 msg='pid=2'", "pid", Some(b"2'")),
             (b"pid=1 pid=\"3\"", "pid", Some(b"3")),
         ],
-    )?;
-    Ok(())
+    );
 }
 
 #[test]
-fn what_a_daemon_adds_stands_behind_its_own_separator(rt: HostRuntime) -> Result<(), Fail> {
+fn what_a_daemon_adds_stands_behind_its_own_separator(rt: HostRuntime) {
     have_values(
         &rt,
         rt.alloc(),
@@ -73,12 +80,11 @@ fn what_a_daemon_adds_stands_behind_its_own_separator(rt: HostRuntime) -> Result
             (b"ouid=0\x1dUID=\"root\"", "ouid", Some(b"0")),
             (b"a=1\tb=2", "a", Some(b"1")),
         ],
-    )?;
-    Ok(())
+    );
 }
 
 #[test]
-fn a_name_in_hexadecimal_digits_is_its_bytes(rt: HostRuntime) -> Result<(), Fail> {
+fn a_name_in_hexadecimal_digits_is_its_bytes(rt: HostRuntime) {
     have_values(
         &rt,
         rt.alloc(),
@@ -90,6 +96,5 @@ fn a_name_in_hexadecimal_digits_is_its_bytes(rt: HostRuntime) -> Result<(), Fail
             (b"name=\"2F6E\"", "name", Some(b"2F6E")),
             (b"name=00FF", "name", Some(b"\x00\xFF")),
         ],
-    )?;
-    Ok(())
+    );
 }
