@@ -1,5 +1,6 @@
 //! What a job says, in lines that tests compare. The helpers have no clauses, so that a test's proof stays short.
 
+use crate::comparing::equal_in;
 use crate::jobs::texts::{ITEMS, framed, job_of};
 use aa_jobs::{Event, EventName, Job, Task, Work};
 use aa_requests::{ExecRequest, FileRequest, LinkRequest, Request};
@@ -164,7 +165,7 @@ pub fn policies_of_tasks(rt: &impl Abort, alloc: Global, text: &str) -> Vec<u16>
 }
 
 fn expect_lines(rt: &impl Abort, lines: &[u8], wanted: &str, text: &str) {
-    assert_eq!(rt; lines, wanted.as_bytes(), "at {text}");
+    equal_in(rt, lines, wanted.as_bytes(), text);
 }
 
 /// The job has that head.
