@@ -5,7 +5,9 @@ use std::process::Abort;
 
 /// Both are the same.
 pub(crate) fn equal<T: PartialEq + Debug + Copy>(rt: &impl Abort, found: T, expected: T) {
-    assert_eq!(rt; found, expected);
+    if found != expected {
+        panic!(rt; "{found:?} in place of {expected:?}");
+    }
 }
 
 /// Both are the same, of this text.
@@ -15,7 +17,9 @@ pub(crate) fn equal_in<T: PartialEq + Debug + Copy>(
     expected: T,
     text: &str,
 ) {
-    assert_eq!(rt; found, expected, "in {text}");
+    if found != expected {
+        panic!(rt; "{found:?} in place of {expected:?} in {text}");
+    }
 }
 
 /// It is so.

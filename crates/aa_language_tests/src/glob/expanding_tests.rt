@@ -1,41 +1,11 @@
 //! Which patterns words with variables expand to.
 
 use crate::comparing::equal;
-use crate::texts::{add, expansions, is_matched, set};
+use crate::texts::{expanded, expansions, is_added, is_matched, is_set};
 use aa_faults::PolicyKind;
 use aa_glob::{Pattern, Vars};
 use std::alloc::Global;
 use std::process::Abort;
-
-fn set_to(vars: &mut Vars, name: &[u8], values: &[&[u8]]) -> Option<PolicyKind> {
-    set(vars, name, values).err()
-}
-
-fn add_to(vars: &mut Vars, name: &[u8], values: &[&[u8]]) -> Option<PolicyKind> {
-    add(vars, name, values).err()
-}
-
-/// The variable is set to these values, or refused for that.
-fn is_set(
-    rt: &impl Abort,
-    vars: &mut Vars,
-    name: &[u8],
-    values: &[&[u8]],
-    wanted: Option<PolicyKind>,
-) {
-    equal(rt, set_to(vars, name, values), wanted);
-}
-
-/// These values are added to the variable, or refused for that.
-fn is_added(
-    rt: &impl Abort,
-    vars: &mut Vars,
-    name: &[u8],
-    values: &[&[u8]],
-    wanted: Option<PolicyKind>,
-) {
-    equal(rt, add_to(vars, name, values), wanted);
-}
 
 #[test]
 fn variables_are_set_once_and_added_to_once_they_are_there(rt: HostRuntime) {
@@ -60,11 +30,6 @@ fn vars_of(rt: &impl Abort, alloc: Global, rows: &[Row<'_>]) -> Vars {
     vars
 }
 
-/// The word's expansions.
-fn patterns_of(rt: &impl Abort, alloc: Global, vars: &Vars, raw: &[u8]) -> Vec<Pattern> {
-    expansions(alloc, vars, raw).expect(rt, "expansions")
-}
-
 /// The pattern matches just that one of the paths.
 fn matches_just(rt: &impl Abort, pattern: &Pattern, number: usize, paths: &[&[u8]]) {
     for (j, path) in paths.iter().enumerate() {
@@ -74,7 +39,7 @@ fn matches_just(rt: &impl Abort, pattern: &Pattern, number: usize, paths: &[&[u8
 
 /// The word has as many expansions as there are paths, and each matches its path alone.
 fn expands_to(rt: &impl Abort, alloc: Global, vars: &Vars, raw: &[u8], paths: &[&[u8]]) {
-    let patterns = patterns_of(rt, alloc, vars, raw);
+    let patterns = expanded(rt, alloc, vars, raw);
     equal(rt, patterns.len(), paths.len());
     for (i, pattern) in patterns.iter().enumerate() {
         matches_just(rt, pattern, i, paths);
@@ -83,7 +48,7 @@ fn expands_to(rt: &impl Abort, alloc: Global, vars: &Vars, raw: &[u8], paths: &[
 
 /// The word has so many expansions.
 fn has_count(rt: &impl Abort, alloc: Global, vars: &Vars, raw: &[u8], wanted: usize) {
-    equal(rt, patterns_of(rt, alloc, vars, raw).len(), wanted);
+    equal(rt, expanded(rt, alloc, vars, raw).len(), wanted);
 }
 
 /// Why the word has none.
@@ -101,7 +66,7 @@ fn are_refused(rt: &impl Abort, alloc: Global, vars: &Vars, rows: &[(&[u8], Poli
 /// Which of the word's expansions match the path, as numbers.
 fn matching(rt: &impl Abort, alloc: Global, vars: &Vars, raw: &[u8], path: &[u8]) -> Vec<usize> {
     let mut found = Vec::new(alloc);
-    let patterns = patterns_of(rt, alloc, vars, raw);
+    let patterns = expanded(rt, alloc, vars, raw);
     for (number, pattern) in patterns.iter().enumerate() {
         if is_matched(pattern, path) {
             found.push(number).expect(rt, "memory");

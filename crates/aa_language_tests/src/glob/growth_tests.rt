@@ -48,12 +48,21 @@ fn expand_at_last(rt: &impl Abort, alloc: Global, vars: &Vars, raw: &[u8]) -> Ve
     panic!(rt; "refused each time")
 }
 
+/// The patterns behind the first, which matches the path.
+fn behind_matching<'p>(rt: &impl Abort, patterns: &'p [Pattern], path: &[u8]) -> &'p [Pattern] {
+    match patterns {
+        [pattern, rest @ ..] if is_matched(pattern, path) => rest,
+        _ => panic!(rt; "a path that its pattern does not match"),
+    }
+}
+
 /// There are as many patterns as paths, and each matches the path in its place.
 fn match_in_turn(rt: &impl Abort, patterns: &[Pattern], paths: &[&[u8]]) {
-    equal(rt, patterns.len(), paths.len());
-    for (pattern, path) in patterns.iter().zip(paths) {
-        holds(rt, is_matched(pattern, path));
+    let mut rest = patterns;
+    for path in paths {
+        rest = behind_matching(rt, rest, path);
     }
+    equal(rt, rest.len(), 0);
 }
 
 #[test]

@@ -1,7 +1,7 @@
 //! What texts are read as, and what the patterns match.
 
 use crate::comparing::{equal, holds};
-use crate::texts::{is_matched, pattern_fault, pattern_of};
+use crate::texts::{is_matched, pattern_fault, pattern_read};
 use aa_faults::PolicyKind;
 use aa_glob::Pattern;
 use std::alloc::Global;
@@ -9,10 +9,6 @@ use std::process::Abort;
 
 /// A pattern's text, texts that it matches, and texts that it doesn't.
 type Row<'a> = (&'a [u8], &'a [&'a [u8]], &'a [&'a [u8]]);
-
-fn pattern(rt: &impl Abort, alloc: Global, text: &[u8]) -> Pattern {
-    pattern_of(alloc, text).expect(rt, "a pattern")
-}
 
 /// Each of the paths is matched, or none is.
 fn matches_all(rt: &impl Abort, pattern: &Pattern, paths: &[&[u8]], wanted: bool) {
@@ -24,7 +20,7 @@ fn matches_all(rt: &impl Abort, pattern: &Pattern, paths: &[&[u8]], wanted: bool
 /// Each pattern matches each text of its first list, and none of its second.
 fn match_just(rt: &impl Abort, alloc: Global, rows: &[Row<'_>]) {
     for (text, yes, no) in rows {
-        let read = pattern(rt, alloc, text);
+        let read = pattern_read(rt, alloc, text);
         matches_all(rt, &read, yes, true);
         matches_all(rt, &read, no, false);
     }
@@ -40,16 +36,16 @@ fn are_refused(rt: &impl Abort, alloc: Global, texts: &[&[u8]], kind: PolicyKind
 /// No pattern matches the path.
 fn match_none(rt: &impl Abort, alloc: Global, texts: &[&[u8]], path: &[u8]) {
     for text in texts {
-        holds(rt, !is_matched(&pattern(rt, alloc, text), path));
+        holds(rt, !is_matched(&pattern_read(rt, alloc, text), path));
     }
 }
 
 fn front(rt: &impl Abort, alloc: Global, text: &[u8]) -> usize {
-    pattern(rt, alloc, text).literal_front()
+    pattern_read(rt, alloc, text).literal_front()
 }
 
 fn is_literal(rt: &impl Abort, alloc: Global, text: &[u8]) -> bool {
-    pattern(rt, alloc, text).is_literal()
+    pattern_read(rt, alloc, text).is_literal()
 }
 
 /// The patterns have literal fronts of so many bytes.

@@ -1,11 +1,10 @@
 //! Excerpts of worked texts.
 
 use crate::comparing::holds;
-use crate::texts::{extend, filled, joined, repeated};
+use crate::texts::{filled, joined, repeated};
 use aa_places::excerpt;
 use std::alloc::{AllocError, Global};
 use std::process::Abort;
-use std::test::Fail;
 
 /// A text, a byte, and its excerpt.
 type Row<'a> = (&'a [u8], usize, &'a [u8]);
@@ -14,16 +13,20 @@ fn lines(alloc: Global, text: &[u8], byte: usize) -> Result<Vec<u8>, AllocError>
     excerpt(alloc, text, byte)
 }
 
-fn have_excerpts(rt: &impl Abort, alloc: Global, rows: &[Row<'_>]) -> Result<(), AllocError> {
+/// The text's excerpt at the byte is this one.
+fn has_excerpt(rt: &impl Abort, alloc: Global, text: &[u8], byte: usize, wanted: &[u8]) {
+    let found = lines(alloc, text, byte).expect(rt, "memory");
+    holds(rt, found.as_slice() == wanted);
+}
+
+fn have_excerpts(rt: &impl Abort, alloc: Global, rows: &[Row<'_>]) {
     for (text, byte, wanted) in rows {
-        let found = lines(alloc, text, *byte)?;
-        holds(rt, found.as_slice() == *wanted);
+        has_excerpt(rt, alloc, text, *byte, wanted);
     }
-    Ok(())
 }
 
 #[test]
-fn a_caret_stands_below_the_byte(rt: HostRuntime) -> Result<(), Fail> {
+fn a_caret_stands_below_the_byte(rt: HostRuntime) {
     have_excerpts(
         &rt,
         rt.alloc(),
@@ -43,39 +46,23 @@ fn a_caret_stands_below_the_byte(rt: HostRuntime) -> Result<(), Fail> {
                 b"    1 | a?[0m??b\n      |        ^\n",
             ),
         ],
-    )?;
-    Ok(())
+    );
 }
 
 /// An excerpt of the first line: dots or none, a part of the line, dots or none, and spaces up to the caret.
 fn framed(
+    rt: &impl Abort,
     alloc: Global,
-    front: &[u8],
-    part: &[u8],
-    end: &[u8],
+    [front, part, end]: [&[u8]; 3],
     spaces: usize,
-) -> Result<Vec<u8>, AllocError> {
-    let gap = filled(alloc, b' ', spaces)?;
-    let mut text = Vec::from_slice(alloc, b"    1 | ")?;
-    extend(&mut text, front)?;
-    extend(&mut text, part)?;
-    extend(&mut text, end)?;
-    extend(&mut text, b"\n      | ")?;
-    extend(&mut text, gap.as_slice())?;
-    extend(&mut text, b"^\n")?;
-    Ok(text)
-}
-
-/// What an excerpt of a line of so many letters is: dots or none, letters, dots or none, and spaces up to the caret.
-fn shown(
-    alloc: Global,
-    front: &[u8],
-    count: usize,
-    end: &[u8],
-    spaces: usize,
-) -> Result<Vec<u8>, AllocError> {
-    let letters = filled(alloc, b'a', count)?;
-    framed(alloc, front, letters.as_slice(), end, spaces)
+) -> Vec<u8> {
+    let gap = filled(rt, alloc, b' ', spaces);
+    let below = joined(rt, alloc, &[b"\n      | ", gap.as_slice(), b"^\n"]);
+    joined(
+        rt,
+        alloc,
+        &[b"    1 | ", front, part, end, below.as_slice()],
+    )
 }
 
 /// What an excerpt is: dots or none, how many letters, dots or none, and how many spaces up to the caret.
@@ -87,28 +74,22 @@ fn is_cut_so(
     alloc: Global,
     (count, byte): (usize, usize),
     (front, letters, end, spaces): Shown<'_>,
-) -> Result<(), AllocError> {
-    let line = filled(alloc, b'a', count)?;
-    let wanted = shown(alloc, front, letters, end, spaces)?;
-    let found = lines(alloc, line.as_slice(), byte)?;
-    holds(rt, found.as_slice() == wanted.as_slice());
-    Ok(())
+) {
+    let part = filled(rt, alloc, b'a', letters);
+    let wanted = framed(rt, alloc, [front, part.as_slice(), end], spaces);
+    let line = filled(rt, alloc, b'a', count);
+    has_excerpt(rt, alloc, line.as_slice(), byte, wanted.as_slice());
 }
 
 /// The excerpts of lines of so many letters at a byte.
-fn are_cut_so(
-    rt: &impl Abort,
-    alloc: Global,
-    rows: &[((usize, usize), Shown<'_>)],
-) -> Result<(), AllocError> {
+fn are_cut_so(rt: &impl Abort, alloc: Global, rows: &[((usize, usize), Shown<'_>)]) {
     for (place, wanted) in rows {
-        is_cut_so(rt, alloc, *place, *wanted)?;
+        is_cut_so(rt, alloc, *place, *wanted);
     }
-    Ok(())
 }
 
 #[test]
-fn of_a_long_line_160_bytes_are_shown(rt: HostRuntime) -> Result<(), Fail> {
+fn of_a_long_line_160_bytes_are_shown(rt: HostRuntime) {
     are_cut_so(
         &rt,
         rt.alloc(),
@@ -120,31 +101,23 @@ fn of_a_long_line_160_bytes_are_shown(rt: HostRuntime) -> Result<(), Fail> {
             ((400, 200), (b"..", 160, b"..", 82)),
             ((400, 399), (b"..", 160, b"", 161)),
         ],
-    )?;
-    Ok(())
+    );
 }
 
-/// A letter, and so many umlauts, of two bytes each.
-fn behind_letter(alloc: Global, count: u32) -> Result<Vec<u8>, AllocError> {
-    let umlauts = repeated(alloc, b"\xC3\xA4", count)?;
-    joined(alloc, &[b"a", umlauts.as_slice()])
-}
-
-/// What an excerpt of a long line of umlauts is: so many of them between dots, and spaces up to the caret.
-fn shown_umlauts(alloc: Global, count: u32, spaces: usize) -> Result<Vec<u8>, AllocError> {
-    let umlauts = repeated(alloc, b"\xC3\xA4", count)?;
-    framed(alloc, b"..", umlauts.as_slice(), b"..", spaces)
+/// A text, and so many umlauts, of two bytes each, behind it.
+fn behind(rt: &impl Abort, alloc: Global, front: &[u8], count: u32) -> Vec<u8> {
+    let umlauts = repeated(rt, alloc, b"\xC3\xA4", count);
+    joined(rt, alloc, &[front, umlauts.as_slice()])
 }
 
 #[test]
-fn a_character_that_would_be_cut_is_left_out(rt: HostRuntime) -> Result<(), Fail> {
+fn a_character_that_would_be_cut_is_left_out(rt: HostRuntime) {
     let alloc = rt.alloc();
-    let line = behind_letter(alloc, 200)?;
-    let found = lines(alloc, line.as_slice(), 200)?;
+    let line = behind(&rt, alloc, b"a", 200);
     // The part from byte 120 to 280 begins and ends within an umlaut.
-    let wanted = shown_umlauts(alloc, 79, 42)?;
-    holds(&rt, found.as_slice() == wanted.as_slice());
-    Ok(())
+    let part = behind(&rt, alloc, b"", 79);
+    let wanted = framed(&rt, alloc, [b"..", part.as_slice(), b".."], 42);
+    has_excerpt(&rt, alloc, line.as_slice(), 200, wanted.as_slice());
 }
 
 #[test]

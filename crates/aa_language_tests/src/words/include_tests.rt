@@ -5,10 +5,9 @@ use crate::words::reading::{
     expect_spliced,
 };
 use aa_words::WordKind;
-use std::test::Fail;
 
 #[test]
-fn includes_without_a_source_are_missing(rt: HostRuntime) -> Result<(), Fail> {
+fn includes_without_a_source_are_missing(rt: HostRuntime) {
     let alloc = rt.alloc();
     expect_same_refusal(
         &rt,
@@ -23,7 +22,7 @@ fn includes_without_a_source_are_missing(rt: HostRuntime) -> Result<(), Fail> {
             "#include\"m\"",
         ],
         "refused 2 MissingInclude 0:0",
-    )?;
+    );
     expect_refused(
         &rt,
         alloc,
@@ -31,7 +30,7 @@ fn includes_without_a_source_are_missing(rt: HostRuntime) -> Result<(), Fail> {
             ("{ include <m>", "refused 2 MissingInclude 0:2"),
             ("a, #include <m>", "refused 2 MissingInclude 0:3"),
         ],
-    )?;
+    );
     expect_kinds(
         &rt,
         alloc,
@@ -42,11 +41,11 @@ fn includes_without_a_source_are_missing(rt: HostRuntime) -> Result<(), Fail> {
             "#include if exists <m>",
         ],
         &[],
-    )
+    );
 }
 
 #[test]
-fn includes_stand_for_the_words_of_their_sources(rt: HostRuntime) -> Result<(), Fail> {
+fn includes_stand_for_the_words_of_their_sources(rt: HostRuntime) {
     let alloc = rt.alloc();
     const WORDS: &[Spliced] = &[
         (WordKind::Name, "p", 0, 0, 0),
@@ -66,11 +65,11 @@ fn includes_stand_for_the_words_of_their_sources(rt: HostRuntime) -> Result<(), 
         &[("a", "/y w,"), ("b c", "#include <a>\n\"q r\""), ("", "")],
         "p { include \"b c\", include if exists <a>#include <>,include if exists <z>} ",
         WORDS,
-    )
+    );
 }
 
 #[test]
-fn a_rule_begins_behind_an_include(rt: HostRuntime) -> Result<(), Fail> {
+fn a_rule_begins_behind_an_include(rt: HostRuntime) {
     let alloc = rt.alloc();
     const TEXTS: &[(&str, &str)] = &[("a", "b, set c,"), ("q", "deny")];
     const WORDS: &[Spliced] = &[
@@ -84,7 +83,7 @@ fn a_rule_begins_behind_an_include(rt: HostRuntime) -> Result<(), Fail> {
         (WordKind::Comma, ",", 0, 0, 16),
         (WordKind::Name, "set", 0, 0, 17),
     ];
-    expect_spliced(&rt, alloc, TEXTS, "({include <a>set,set", WORDS)?;
+    expect_spliced(&rt, alloc, TEXTS, "({include <a>set,set", WORDS);
     expect_spliced(
         &rt,
         alloc,
@@ -94,7 +93,7 @@ fn a_rule_begins_behind_an_include(rt: HostRuntime) -> Result<(), Fail> {
             (WordKind::Name, "deny", 1, 2, 0),
             (WordKind::Comma, ",", 0, 0, 12),
         ],
-    )?;
+    );
     expect_spliced(
         &rt,
         alloc,
@@ -104,11 +103,11 @@ fn a_rule_begins_behind_an_include(rt: HostRuntime) -> Result<(), Fail> {
             (WordKind::Name, "deny", 1, 2, 0),
             (WordKind::Quoted, "b", 0, 0, 12),
         ],
-    )
+    );
 }
 
 #[test]
-fn the_first_fault_in_reading_order_is_answered(rt: HostRuntime) -> Result<(), Fail> {
+fn the_first_fault_in_reading_order_is_answered(rt: HostRuntime) {
     let alloc = rt.alloc();
     let sources = &[
         ("a", "b\0"),
@@ -128,11 +127,11 @@ fn the_first_fault_in_reading_order_is_answered(rt: HostRuntime) -> Result<(), F
             ("include <c>", "refused 4 Syntax 3:0"),
             ("x, signal include <a>", "refused 4 Syntax 0:3"),
         ],
-    )
+    );
 }
 
 #[test]
-fn includes_of_another_form(rt: HostRuntime) -> Result<(), Fail> {
+fn includes_of_another_form(rt: HostRuntime) {
     let alloc = rt.alloc();
     expect_same_refusal(
         &rt,
@@ -152,7 +151,7 @@ fn includes_of_another_form(rt: HostRuntime) -> Result<(), Fail> {
             "include <m\"",
         ],
         "refused 4 Syntax 0:0",
-    )?;
+    );
     expect_kinds(
         &rt,
         alloc,
@@ -165,7 +164,7 @@ fn includes_of_another_form(rt: HostRuntime) -> Result<(), Fail> {
             "#include <m",
         ],
         &[],
-    )?;
+    );
     expect_kinds(
         &rt,
         alloc,
@@ -177,6 +176,6 @@ fn includes_of_another_form(rt: HostRuntime) -> Result<(), Fail> {
             "deny a #include <m>",
         ],
         &[WordKind::Name, WordKind::Name],
-    )?;
-    expect_kinds(&rt, alloc, &["deny #include <m>"], &[WordKind::Name])
+    );
+    expect_kinds(&rt, alloc, &["deny #include <m>"], &[WordKind::Name]);
 }

@@ -1,14 +1,13 @@
 //! How large texts may be, how deep they may go, and how many.
 
-use crate::comparing::equal;
-use crate::texts::{filled, joined, repeated};
+use crate::texts::{extend, filled, joined, repeated};
 use crate::words::reading::{
-    add, expect_count, expect_end, expect_fault, expect_line, expect_splice_refused,
+    expect_count, expect_count_in, expect_count_over, expect_end, expect_line,
+    expect_splice_refused, is_added,
 };
 use aa_words::{PolicyFault, PolicyKind, Sources, Spot};
-use std::alloc::{AllocError, Global};
+use std::alloc::Global;
 use std::process::Abort;
-use std::test::Fail;
 
 const LARGEST: usize = 1048576;
 
@@ -22,283 +21,197 @@ const SYNTAX: PolicyFault = PolicyFault {
     at: Spot { file: 0, byte: 0 },
 };
 
-/// The fault with which a source is refused, if it is.
-fn refusal_of(sources: &mut Sources, name: &[u8], text: &[u8]) -> Option<PolicyFault> {
-    match add(sources, name, text) {
-        Ok(()) => None,
-        Err(fault) => Some(fault),
-    }
-}
-
-/// The source is refused for that.
-fn is_refused(
+/// A text in front, as many bytes of a kind, and a text behind them have so many words, or are refused for that.
+fn row_counts(
     rt: &impl Abort,
-    sources: &mut Sources,
-    name: &[u8],
-    text: &[u8],
-    fault: PolicyFault,
+    alloc: Global,
+    (front, byte, count, behind): (&[u8], u8, usize, &[u8]),
+    expected: Result<usize, PolicyFault>,
 ) {
-    equal(rt, refusal_of(sources, name, text), Some(fault));
-}
-
-/// As many parentheses, and behind them a comma and a word.
-fn in_parentheses(alloc: Global, count: usize) -> Result<Vec<u8>, AllocError> {
-    let front = filled(alloc, b'(', count)?;
-    joined(alloc, &[front.as_slice(), b",a"])
-}
-
-/// A rule that is passed over, of as many braces.
-fn in_braces(alloc: Global, count: usize) -> Result<Vec<u8>, AllocError> {
-    let braces = filled(alloc, b'{', count)?;
-    joined(alloc, &[b"set ", braces.as_slice(), b","])
-}
-
-/// As many parentheses, with a comma and a word behind them, are so many words.
-fn parentheses_count(
-    rt: &impl Abort,
-    alloc: Global,
-    count: usize,
-    expected: Option<usize>,
-) -> Result<(), AllocError> {
-    let sources = Sources::new(alloc);
-    let text = in_parentheses(alloc, count)?;
-    expect_count(rt, alloc, &sources, text.as_slice(), expected);
-    Ok(())
-}
-
-/// A rule that is passed over, of as many braces, is refused for that.
-fn braces_are_refused(
-    rt: &impl Abort,
-    alloc: Global,
-    count: usize,
-    fault: PolicyFault,
-) -> Result<(), AllocError> {
-    let sources = Sources::new(alloc);
-    let rule = in_braces(alloc, count)?;
-    expect_fault(rt, alloc, &sources, rule.as_slice(), fault);
-    Ok(())
+    let middle = filled(rt, alloc, byte, count);
+    let text = joined(rt, alloc, &[front, middle.as_slice(), behind]);
+    expect_count(rt, alloc, text.as_slice(), expected);
 }
 
 #[test]
-fn parentheses_may_be_deep(rt: HostRuntime) -> Result<(), Fail> {
-    parentheses_count(&rt, rt.alloc(), 100000, Some(100002))?;
-    braces_are_refused(&rt, rt.alloc(), 100000, SYNTAX)?;
-    Ok(())
+fn parentheses_may_be_deep(rt: HostRuntime) {
+    row_counts(&rt, rt.alloc(), (b"", b'(', 100000, b",a"), Ok(100002));
+    // A rule that is passed over, of as many braces.
+    row_counts(&rt, rt.alloc(), (b"set ", b'{', 100000, b","), Err(SYNTAX));
 }
+
+/// A letter and a number.
+fn numbered(rt: &impl Abort, alloc: Global, letter: &str, number: u32) -> String {
+    format!(in alloc; "{letter}{number}").expect(rt, "memory")
+}
+
+/// As many includes of the source of this letter and number.
+fn includes(rt: &impl Abort, alloc: Global, (letter, times): (&str, u32), number: u32) -> Vec<u8> {
+    let include = format!(in alloc; "include <{letter}{number}> ").expect(rt, "memory");
+    repeated(rt, alloc, include.as_bytes(), times)
+}
+
+/// A chain of sources, which have this letter and the numbers 1, 2, ..: each includes the next one so many times.
+type Chain<'a> = (&'a str, u32);
 
 /// Adds a source of this number that includes the next.
-fn add_link(alloc: Global, sources: &mut Sources, number: u32) -> Result<(), PolicyFault> {
-    let name = format!(in alloc; "c{number}")?;
-    let next = number.wrapping_add(1);
-    let text = format!(in alloc; "include <c{next}>")?;
-    add(sources, name.as_bytes(), text.as_bytes())
+fn add_link(rt: &impl Abort, alloc: Global, sources: &mut Sources, chain: Chain, number: u32) {
+    let name = numbered(rt, alloc, chain.0, number);
+    let text = includes(rt, alloc, chain, number.wrapping_add(1));
+    is_added(rt, sources, name.as_bytes(), text.as_slice(), None);
 }
 
-/// Sources c1, c2, .. of which each includes the next one, which is missing behind the last.
-fn chain(alloc: Global, links: u32) -> Result<Sources, PolicyFault> {
+/// A chain of so many links. The source that the last of them includes is missing.
+fn chain_of(rt: &impl Abort, alloc: Global, chain: Chain, links: u32) -> Sources {
     let mut sources = Sources::new(alloc);
     for number in 0..links {
-        add_link(alloc, &mut sources, number.wrapping_add(1))?;
+        add_link(rt, alloc, &mut sources, chain, number.wrapping_add(1));
     }
-    Ok(sources)
+    sources
 }
 
 /// The same, with an empty source of this name added behind the last.
-fn ended_chain(alloc: Global, links: u32, end: &[u8]) -> Result<Sources, PolicyFault> {
-    let mut sources = chain(alloc, links)?;
-    add(&mut sources, end, b"".as_slice())?;
-    Ok(sources)
+fn ended_chain(rt: &impl Abort, alloc: Global, chain: Chain, links: u32, end: &[u8]) -> Sources {
+    let mut sources = chain_of(rt, alloc, chain, links);
+    is_added(rt, &mut sources, end, b"", None);
+    sources
 }
 
 #[test]
-fn includes_in_a_circle_go_at_most_16_deep(rt: HostRuntime) -> Result<(), Fail> {
-    let alloc = rt.alloc();
+fn includes_in_a_circle_go_at_most_16_deep(rt: HostRuntime) {
     expect_splice_refused(
         &rt,
-        alloc,
+        rt.alloc(),
         &[("a", "include <a>")],
         &[("include <a>", "refused 3 IncludeDepth 1:0")],
-    )
+    );
 }
 
-/// A text that includes the first link of a chain of so many has so many words, or is refused.
-fn chain_counts(
-    rt: &impl Abort,
-    alloc: Global,
-    links: u32,
-    expected: Option<usize>,
-) -> Result<(), PolicyFault> {
-    let sources = chain(alloc, links)?;
-    expect_count(rt, alloc, &sources, b"include <c1>", expected);
-    Ok(())
-}
+/// The chain of which each link includes the next one once.
+const SINGLE: Chain<'static> = ("c", 1);
 
-/// The same, where the chain ends at a source of this name.
-fn ended_chain_counts(
-    rt: &impl Abort,
-    alloc: Global,
-    links: u32,
-    end: &[u8],
-    expected: Option<usize>,
-) -> Result<(), PolicyFault> {
-    let sources = ended_chain(alloc, links, end)?;
-    expect_count(rt, alloc, &sources, b"include <c1>", expected);
-    Ok(())
-}
+/// The chain of which each link includes the next one twice.
+const DOUBLE: Chain<'static> = ("a", 2);
 
 #[test]
-fn includes_go_16_deep(rt: HostRuntime) -> Result<(), Fail> {
-    chain_counts(&rt, rt.alloc(), 15, None)?;
-    ended_chain_counts(&rt, rt.alloc(), 15, b"c16", Some(0))?;
-    Ok(())
-}
-
-#[test]
-fn includes_go_at_most_16_deep(rt: HostRuntime) -> Result<(), Fail> {
+fn includes_go_16_deep(rt: HostRuntime) {
     let alloc = rt.alloc();
-    let deeper = ended_chain(alloc, 16, b"c17".as_slice())?;
+    const MISSING: PolicyFault = PolicyFault {
+        kind: PolicyKind::MissingInclude,
+        at: Spot { file: 15, byte: 0 },
+    };
+    let broken = chain_of(&rt, alloc, SINGLE, 15);
+    expect_count_over(&rt, alloc, broken, b"include <c1>", Err(MISSING));
+    let ended = ended_chain(&rt, alloc, SINGLE, 15, b"c16");
+    expect_count_over(&rt, alloc, ended, b"include <c1>", Ok(0));
+}
+
+#[test]
+fn includes_go_at_most_16_deep(rt: HostRuntime) {
+    let deeper = ended_chain(&rt, rt.alloc(), SINGLE, 16, b"c17");
     expect_line(
         &rt,
-        alloc,
+        rt.alloc(),
         &deeper,
         "include <c1>",
         "refused 3 IncludeDepth 16:0",
-    )
-}
-
-/// Adds a source of this number that includes the next one twice.
-fn add_doubling(alloc: Global, sources: &mut Sources, number: u32) -> Result<(), PolicyFault> {
-    let name = format!(in alloc; "a{number}")?;
-    let next = number.wrapping_add(1);
-    let text = format!(in alloc; "include <a{next}> include <a{next}>")?;
-    add(sources, name.as_bytes(), text.as_bytes())
-}
-
-/// Adds an empty source of this number.
-fn add_empty(alloc: Global, sources: &mut Sources, number: u32) -> Result<(), PolicyFault> {
-    let name = format!(in alloc; "a{number}")?;
-    add(sources, name.as_bytes(), b"".as_slice())
-}
-
-/// Sources a1, a2, .. of which each includes the next one twice, which is missing behind the last.
-fn doubling_chain(alloc: Global, levels: u32) -> Result<Sources, PolicyFault> {
-    let mut sources = Sources::new(alloc);
-    for before in 0..levels.saturating_sub(1) {
-        add_doubling(alloc, &mut sources, before.wrapping_add(1))?;
-    }
-    Ok(sources)
-}
-
-/// Sources a1, a2, .. of which each includes the next one twice, down to an empty one.
-fn doubling(alloc: Global, levels: u32) -> Result<Sources, PolicyFault> {
-    let mut sources = doubling_chain(alloc, levels)?;
-    add_empty(alloc, &mut sources, levels)?;
-    Ok(sources)
+    );
 }
 
 #[test]
-fn at_most_4096_readings_are_opened(rt: HostRuntime) -> Result<(), Fail> {
+fn at_most_4096_readings_are_opened(rt: HostRuntime) {
     let alloc = rt.alloc();
     const MAIN: &[u8] = b"include <a1> include <a1>";
-    let sources = doubling(alloc, 11)?;
-    expect_count(&rt, alloc, &sources, MAIN, Some(0));
-    let more = doubling(alloc, 12)?;
-    expect_fault(&rt, alloc, &more, MAIN, TOO_LARGE);
-    Ok(())
+    let most = ended_chain(&rt, alloc, DOUBLE, 10, b"a11");
+    expect_count_over(&rt, alloc, most, MAIN, Ok(0));
+    let more = ended_chain(&rt, alloc, DOUBLE, 11, b"a12");
+    expect_count_over(&rt, alloc, more, MAIN, Err(TOO_LARGE));
 }
 
-/// The source a, as large as one may be.
-fn largest_source(alloc: Global) -> Result<Sources, PolicyFault> {
-    let mut sources = Sources::new(alloc);
-    let text = filled(alloc, b'#', LARGEST)?;
-    add(&mut sources, b"a".as_slice(), text.as_slice())?;
-    Ok(sources)
+/// As many bytes of a kind are added under this name, or are refused for that.
+fn are_added(
+    rt: &impl Abort,
+    alloc: Global,
+    sources: &mut Sources,
+    name: &[u8],
+    (byte, count): (u8, usize),
+    expected: Option<PolicyFault>,
+) {
+    let text = filled(rt, alloc, byte, count);
+    is_added(rt, sources, name, text.as_slice(), expected);
 }
 
-/// A text that includes the source a so many times has so many words.
+/// A text that includes the source a so many times has so many words, or is refused for that.
 fn includes_count(
     rt: &impl Abort,
     alloc: Global,
     sources: &Sources,
     times: u32,
-    expected: Option<usize>,
-) -> Result<(), AllocError> {
-    let main = repeated(alloc, b"include <a>", times)?;
-    expect_count(rt, alloc, sources, main.as_slice(), expected);
-    Ok(())
-}
-
-/// A text that includes the source a so many times is refused for that.
-fn includes_are_refused(
-    rt: &impl Abort,
-    alloc: Global,
-    sources: &Sources,
-    times: u32,
-    fault: PolicyFault,
-) -> Result<(), AllocError> {
-    let main = repeated(alloc, b"include <a>", times)?;
-    expect_fault(rt, alloc, sources, main.as_slice(), fault);
-    Ok(())
+    expected: Result<usize, PolicyFault>,
+) {
+    let main = repeated(rt, alloc, b"include <a>", times);
+    expect_count_in(rt, alloc, sources, main.as_slice(), expected);
 }
 
 #[test]
-fn readings_have_at_most_16_mebibytes_together(rt: HostRuntime) -> Result<(), Fail> {
+fn readings_have_at_most_16_mebibytes_together(rt: HostRuntime) {
     let alloc = rt.alloc();
-    let sources = largest_source(alloc)?;
-    includes_count(&rt, alloc, &sources, 15, Some(0))?;
-    includes_are_refused(&rt, alloc, &sources, 16, TOO_LARGE)?;
-    Ok(())
+    let mut sources = Sources::new(alloc);
+    are_added(&rt, alloc, &mut sources, b"a", (b'#', LARGEST), None);
+    includes_count(&rt, alloc, &sources, 15, Ok(0));
+    includes_count(&rt, alloc, &sources, 16, Err(TOO_LARGE));
 }
 
 #[test]
-fn a_text_has_at_most_a_mebibyte(rt: HostRuntime) -> Result<(), Fail> {
+fn a_text_has_at_most_a_mebibyte(rt: HostRuntime) {
     let alloc = rt.alloc();
-    let sources = Sources::new(alloc);
     const END: Spot = Spot {
         file: 0,
         byte: 1048576,
     };
-    let text = filled(alloc, b' ', LARGEST)?;
-    expect_count(&rt, alloc, &sources, text.as_slice(), Some(0));
-    expect_end(&rt, alloc, &sources, text.as_slice(), END);
-    let longer = joined(alloc, &[text.as_slice(), b"\0"])?;
-    expect_fault(&rt, alloc, &sources, longer.as_slice(), TOO_LARGE);
-    Ok(())
+    let mut text = filled(&rt, alloc, b' ', LARGEST);
+    expect_count(&rt, alloc, text.as_slice(), Ok(0));
+    expect_end(&rt, alloc, text.as_slice(), END);
+    extend(&rt, &mut text, b"\0");
+    expect_count(&rt, alloc, text.as_slice(), Err(TOO_LARGE));
 }
 
 #[test]
-fn a_source_is_added_once_and_not_too_large(rt: HostRuntime) -> Result<(), Fail> {
+fn a_source_is_added_once_and_not_too_large(rt: HostRuntime) {
     let alloc = rt.alloc();
     let mut sources = Sources::new(alloc);
-    add(&mut sources, b"a", b"/x r,")?;
-    is_refused(&rt, &mut sources, b"a", b"", SYNTAX);
-    let text = filled(alloc, b' ', LARGEST)?;
-    add(&mut sources, b"b", text.as_slice())?;
-    let longer = filled(alloc, b' ', LARGEST + 1)?;
-    is_refused(&rt, &mut sources, b"c", longer.as_slice(), TOO_LARGE);
-    is_refused(&rt, &mut sources, b"a", longer.as_slice(), TOO_LARGE);
-    Ok(())
+    is_added(&rt, &mut sources, b"a", b"/x r,", None);
+    is_added(&rt, &mut sources, b"a", b"", Some(SYNTAX));
+    const MORE: (u8, usize) = (b' ', LARGEST + 1);
+    are_added(&rt, alloc, &mut sources, b"b", (b' ', LARGEST), None);
+    are_added(&rt, alloc, &mut sources, b"c", MORE, Some(TOO_LARGE));
+    are_added(&rt, alloc, &mut sources, b"a", MORE, Some(TOO_LARGE));
 }
 
-/// Adds an empty source whose name is this number.
-fn add_number(alloc: Global, sources: &mut Sources, number: u32) -> Result<(), PolicyFault> {
-    let name = format!(in alloc; "{number}")?;
-    add(sources, name.as_bytes(), b"".as_slice())
+/// An empty source whose name is this number is added, or refused for that.
+fn is_number_added(
+    rt: &impl Abort,
+    alloc: Global,
+    sources: &mut Sources,
+    number: u32,
+    expected: Option<PolicyFault>,
+) {
+    let name = numbered(rt, alloc, "", number);
+    is_added(rt, sources, name.as_bytes(), b"", expected);
 }
 
 /// So many empty sources, whose names are their numbers from 0 on.
-fn numbered(alloc: Global, count: u32) -> Result<Sources, PolicyFault> {
+fn numbers(rt: &impl Abort, alloc: Global, count: u32) -> Sources {
     let mut sources = Sources::new(alloc);
     for number in 0..count {
-        add_number(alloc, &mut sources, number)?;
+        is_number_added(rt, alloc, &mut sources, number, None);
     }
-    Ok(sources)
+    sources
 }
 
 #[test]
-fn at_most_4095_names_are_added(rt: HostRuntime) -> Result<(), Fail> {
-    let mut sources = numbered(rt.alloc(), 4095)?;
-    is_refused(&rt, &mut sources, b"4095", b"", TOO_LARGE);
-    is_refused(&rt, &mut sources, b"0", b"", TOO_LARGE);
-    Ok(())
+fn at_most_4095_names_are_added(rt: HostRuntime) {
+    let mut sources = numbers(&rt, rt.alloc(), 4095);
+    is_added(&rt, &mut sources, b"4095", b"", Some(TOO_LARGE));
+    is_added(&rt, &mut sources, b"0", b"", Some(TOO_LARGE));
 }

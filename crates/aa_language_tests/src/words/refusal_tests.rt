@@ -2,10 +2,9 @@
 
 use crate::words::reading::{expect_kinds, expect_refused};
 use aa_words::WordKind;
-use std::test::Fail;
 
 #[test]
-fn quotes_that_are_not_closed_are_syntax(rt: HostRuntime) -> Result<(), Fail> {
+fn quotes_that_are_not_closed_are_syntax(rt: HostRuntime) {
     let alloc = rt.alloc();
     expect_refused(
         &rt,
@@ -17,11 +16,11 @@ fn quotes_that_are_not_closed_are_syntax(rt: HostRuntime) -> Result<(), Fail> {
             ("a \"b\" \"c", "refused 4 Syntax 0:6"),
             ("@{A}=\"b c\n", "refused 4 Syntax 0:5"),
         ],
-    )
+    );
 }
 
 #[test]
-fn a_quote_straight_behind_a_run_is_syntax(rt: HostRuntime) -> Result<(), Fail> {
+fn a_quote_straight_behind_a_run_is_syntax(rt: HostRuntime) {
     let alloc = rt.alloc();
     expect_refused(
         &rt,
@@ -35,17 +34,17 @@ fn a_quote_straight_behind_a_run_is_syntax(rt: HostRuntime) -> Result<(), Fail> 
             ("deny\"b\"", "refused 4 Syntax 0:4"),
             ("@{A}=\"a\"\"b\"", "refused 4 Syntax 0:8"),
         ],
-    )?;
+    );
     expect_kinds(
         &rt,
         alloc,
         &["a \"b\""],
         &[WordKind::Name, WordKind::Quoted],
-    )
+    );
 }
 
 #[test]
-fn a_zero_byte_is_syntax_where_it_stands(rt: HostRuntime) -> Result<(), Fail> {
+fn a_zero_byte_is_syntax_where_it_stands(rt: HostRuntime) {
     let alloc = rt.alloc();
     expect_refused(
         &rt,
@@ -77,5 +76,5 @@ fn a_zero_byte_is_syntax_where_it_stands(rt: HostRuntime) -> Result<(), Fail> {
             ("@{A}=\"b\0", "refused 4 Syntax 0:7"),
             ("(=->+=\0", "refused 4 Syntax 0:6"),
         ],
-    )
+    );
 }

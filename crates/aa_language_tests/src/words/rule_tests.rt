@@ -4,12 +4,11 @@ use crate::words::reading::{
     Expected, expect_kinds, expect_refused, expect_same_refusal, expect_words,
 };
 use aa_words::WordKind;
-use std::alloc::{AllocError, Global};
+use std::alloc::Global;
 use std::process::Abort;
-use std::test::Fail;
 
 #[test]
-fn rules_that_are_passed_over_are_words(rt: HostRuntime) -> Result<(), Fail> {
+fn rules_that_are_passed_over_are_words(rt: HostRuntime) {
     let alloc = rt.alloc();
     const KEYWORDS: &[&str] = &[
         "signal",
@@ -25,8 +24,8 @@ fn rules_that_are_passed_over_are_words(rt: HostRuntime) -> Result<(), Fail> {
         "mqueue",
         "io_uring",
     ];
-    expect_same_refusal(&rt, alloc, KEYWORDS, "refused 4 Syntax 0:0")?;
-    expect_keywords(&rt, alloc, KEYWORDS)?;
+    expect_same_refusal(&rt, alloc, KEYWORDS, "refused 4 Syntax 0:0");
+    expect_keywords(&rt, alloc, KEYWORDS);
     const WORDS: &[Expected] = &[
         (WordKind::Name, "profile", 0, 7),
         (WordKind::Name, "p", 8, 9),
@@ -48,79 +47,54 @@ fn rules_that_are_passed_over_are_words(rt: HostRuntime) -> Result<(), Fail> {
         alloc,
         "profile p { signal (send, receive) peer=\"a,b\", /x r, }",
         WORDS,
-    )?;
+    );
     const MOUNT: &[Expected] = &[
         (WordKind::Name, "audit", 0, 5),
         (WordKind::Name, "deny", 6, 10),
         (WordKind::Skipped, "mount options=(rw, bind)", 11, 35),
         (WordKind::Comma, ",", 35, 36),
     ];
-    expect_words(&rt, alloc, "audit deny mount options=(rw, bind),", MOUNT)
+    expect_words(&rt, alloc, "audit deny mount options=(rw, bind),", MOUNT);
 }
 
 /// The parts of a text, one behind the other.
-fn spelled(alloc: Global, front: &str, keyword: &str, behind: &str) -> Result<String, AllocError> {
-    format!(in alloc; "{front}{keyword}{behind}")
+fn spelled(rt: &impl Abort, alloc: Global, [front, keyword, behind]: [&str; 3]) -> String {
+    format!(in alloc; "{front}{keyword}{behind}").expect(rt, "memory")
 }
 
 /// The parts of a text, one behind the other, give words of these kinds.
-fn expect_kinds_around(
-    rt: &impl Abort,
-    alloc: Global,
-    [front, keyword, behind]: [&str; 3],
-    kinds: &[WordKind],
-) -> Result<(), Fail> {
-    let text = spelled(alloc, front, keyword, behind)?;
-    expect_kinds(rt, alloc, &[text.as_str()], kinds)
-}
-
-/// The keyword with a letter behind it, and then itself, give words of these kinds.
-fn expect_kinds_longer(
-    rt: &impl Abort,
-    alloc: Global,
-    keyword: &str,
-    kinds: &[WordKind],
-) -> Result<(), Fail> {
-    let text = spelled(alloc, keyword, "s ", keyword)?;
-    expect_kinds(rt, alloc, &[text.as_str()], kinds)
+fn expect_kinds_around(rt: &impl Abort, alloc: Global, parts: [&str; 3], kinds: &[WordKind]) {
+    let text = spelled(rt, alloc, parts);
+    expect_kinds(rt, alloc, &[text.as_str()], kinds);
 }
 
 /// A rule that is passed over begins with the keyword, also behind qualifiers, but not behind `owner`, and not where more
 /// letters stand behind the keyword.
-fn expect_keyword(rt: &impl Abort, alloc: Global, keyword: &str) -> Result<(), Fail> {
+fn expect_keyword(rt: &impl Abort, alloc: Global, keyword: &str) {
+    const SKIPPED: &[WordKind] = &[WordKind::Skipped, WordKind::Comma];
+    const QUALIFIED: &[WordKind] = &[
+        WordKind::Name,
+        WordKind::Name,
+        WordKind::Skipped,
+        WordKind::Comma,
+    ];
     const NAMES: &[WordKind] = &[WordKind::Name, WordKind::Name];
-    expect_kinds_around(
-        rt,
-        alloc,
-        ["", keyword, ","],
-        &[WordKind::Skipped, WordKind::Comma],
-    )?;
-    expect_kinds_around(
-        rt,
-        alloc,
-        ["audit deny ", keyword, " a,"],
-        &[
-            WordKind::Name,
-            WordKind::Name,
-            WordKind::Skipped,
-            WordKind::Comma,
-        ],
-    )?;
-    expect_kinds_around(rt, alloc, ["owner ", keyword, ""], NAMES)?;
-    expect_kinds_longer(rt, alloc, keyword, NAMES)
+    expect_kinds_around(rt, alloc, ["", keyword, ","], SKIPPED);
+    expect_kinds_around(rt, alloc, ["audit deny ", keyword, " a,"], QUALIFIED);
+    expect_kinds_around(rt, alloc, ["owner ", keyword, ""], NAMES);
+    expect_kinds_around(rt, alloc, [keyword, "s ", keyword], NAMES);
 }
 
 /// A rule that is passed over begins with each of the keywords.
-fn expect_keywords(rt: &impl Abort, alloc: Global, keywords: &[&str]) -> Result<(), Fail> {
+fn expect_keywords(rt: &impl Abort, alloc: Global, keywords: &[&str]) {
     for keyword in keywords {
-        expect_keyword(rt, alloc, keyword)?;
+        expect_keyword(rt, alloc, keyword);
     }
-    Ok(())
 }
 
 /// One rule that is passed over, and the comma that ends it at the text's end.
-fn expect_skipped(rt: &impl Abort, alloc: Global, rule: &str) -> Result<(), Fail> {
-    let text = spelled(alloc, rule, ",", "")?;
+fn expect_skipped(rt: &impl Abort, alloc: Global, rule: &str) {
+    let text = spelled(rt, alloc, [rule, ",", ""]);
     let end = len_of(rule);
     expect_words(
         rt,
@@ -130,7 +104,7 @@ fn expect_skipped(rt: &impl Abort, alloc: Global, rule: &str) -> Result<(), Fail
             (WordKind::Skipped, rule, 0, end),
             (WordKind::Comma, ",", end, end.wrapping_add(1)),
         ],
-    )
+    );
 }
 
 fn len_of(text: &str) -> u32 {
@@ -138,15 +112,14 @@ fn len_of(text: &str) -> u32 {
 }
 
 /// Each of the rules is passed over up to the comma that ends it at the text's end.
-fn expect_skipped_each(rt: &impl Abort, alloc: Global, rules: &[&str]) -> Result<(), Fail> {
+fn expect_skipped_each(rt: &impl Abort, alloc: Global, rules: &[&str]) {
     for rule in rules {
-        expect_skipped(rt, alloc, rule)?;
+        expect_skipped(rt, alloc, rule);
     }
-    Ok(())
 }
 
 #[test]
-fn passed_over_rules_end_at_the_first_comma_outside(rt: HostRuntime) -> Result<(), Fail> {
+fn passed_over_rules_end_at_the_first_comma_outside(rt: HostRuntime) {
     let alloc = rt.alloc();
     const RULES: &[&str] = &[
         "mount {a,b} -> /c",
@@ -163,7 +136,7 @@ fn passed_over_rules_end_at_the_first_comma_outside(rt: HostRuntime) -> Result<(
         "unix->\"/a,b\"",
         "signal {[(\")]},\")]}",
     ];
-    expect_skipped_each(&rt, alloc, RULES)?;
+    expect_skipped_each(&rt, alloc, RULES);
     expect_refused(
         &rt,
         alloc,
@@ -174,11 +147,11 @@ fn passed_over_rules_end_at_the_first_comma_outside(rt: HostRuntime) -> Result<(
             ("a, signal # ,", "refused 4 Syntax 0:3"),
             ("} allow set", "refused 4 Syntax 0:8"),
         ],
-    )
+    );
 }
 
 #[test]
-fn a_change_of_profile_is_no_rule_that_is_passed_over(rt: HostRuntime) -> Result<(), Fail> {
+fn a_change_of_profile_is_no_rule_that_is_passed_over(rt: HostRuntime) {
     let alloc = rt.alloc();
     const WORDS: &[Expected] = &[
         (WordKind::Name, "audit", 0, 5),
@@ -194,11 +167,11 @@ fn a_change_of_profile_is_no_rule_that_is_passed_over(rt: HostRuntime) -> Result
         alloc,
         "audit change_profile-> q*, change_profile,",
         WORDS,
-    )
+    );
 }
 
 #[test]
-fn the_words_of_a_change_of_profile_are_words_like_others(rt: HostRuntime) -> Result<(), Fail> {
+fn the_words_of_a_change_of_profile_are_words_like_others(rt: HostRuntime) {
     let alloc = rt.alloc();
     const WORDS: &[Expected] = &[
         (WordKind::Name, "deny", 0, 4),
@@ -220,11 +193,11 @@ fn the_words_of_a_change_of_profile_are_words_like_others(rt: HostRuntime) -> Re
         alloc,
         "deny change_profile /bin/sh -> \"a,b\", allow change_profile -> /x{a,b}, change_profile",
         WORDS,
-    )
+    );
 }
 
 #[test]
-fn a_comma_in_parentheses_begins_no_rule(rt: HostRuntime) -> Result<(), Fail> {
+fn a_comma_in_parentheses_begins_no_rule(rt: HostRuntime) {
     let alloc = rt.alloc();
     expect_kinds(
         &rt,
@@ -241,7 +214,7 @@ fn a_comma_in_parentheses_begins_no_rule(rt: HostRuntime) -> Result<(), Fail> {
             WordKind::Skipped,
             WordKind::Comma,
         ],
-    )?;
+    );
     expect_kinds(
         &rt,
         alloc,
@@ -257,7 +230,7 @@ fn a_comma_in_parentheses_begins_no_rule(rt: HostRuntime) -> Result<(), Fail> {
             WordKind::Skipped,
             WordKind::Comma,
         ],
-    )?;
+    );
     expect_kinds(
         &rt,
         alloc,
@@ -269,5 +242,5 @@ fn a_comma_in_parentheses_begins_no_rule(rt: HostRuntime) -> Result<(), Fail> {
             WordKind::Comma,
             WordKind::Name,
         ],
-    )
+    );
 }

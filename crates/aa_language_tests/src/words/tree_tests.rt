@@ -5,7 +5,6 @@ use aa_trees::{candidates, folder_text, joined_path};
 use aa_words::{IncludeAt, includes_of};
 use std::alloc::{AllocError, Global};
 use std::process::Abort;
-use std::test::Fail;
 
 fn searched(
     alloc: Global,
@@ -20,52 +19,82 @@ fn is_text(found: &Vec<u8>, wanted: &[u8]) -> bool {
     found.as_slice() == wanted
 }
 
-fn are_paths(rt: &impl Abort, found: &[Vec<u8>], wanted: &[&[u8]]) {
-    equal(rt, found.len(), wanted.len());
-    for (path, text) in found.iter().zip(wanted) {
-        holds(rt, is_text(path, text));
+/// The paths behind the first, which is this one.
+fn behind_path<'f>(rt: &impl Abort, found: &'f [Vec<u8>], wanted: &[u8]) -> &'f [Vec<u8>] {
+    match found {
+        [path, rest @ ..] if is_text(path, wanted) => rest,
+        _ => panic!(rt; "another path, or none"),
     }
 }
 
+fn are_paths(rt: &impl Abort, found: &[Vec<u8>], wanted: &[&[u8]]) {
+    let mut rest = found;
+    for text in wanted {
+        rest = behind_path(rt, rest, text);
+    }
+    equal(rt, rest.len(), 0);
+}
+
+/// The include is searched at these paths.
+fn is_searched(
+    rt: &impl Abort,
+    alloc: Global,
+    (in_angles, name): (bool, &[u8]),
+    folders: &[&[u8]],
+    wanted: &[&[u8]],
+) {
+    let found = searched(alloc, in_angles, name, folders).expect(rt, "memory");
+    are_paths(rt, found.as_slice(), wanted);
+}
+
 #[test]
-fn a_name_in_angles_is_searched_in_each_folder_in_turn(rt: HostRuntime) -> Result<(), Fail> {
+fn a_name_in_angles_is_searched_in_each_folder_in_turn(rt: HostRuntime) {
     const FOLDERS: &[&[u8]] = &[b"/x", b"/y/", b"/etc/apparmor.d"];
     const WANTED: &[&[u8]] = &[
         b"/x/abstractions/base",
         b"/y/abstractions/base",
         b"/etc/apparmor.d/abstractions/base",
     ];
-    let found = searched(rt.alloc(), true, b"abstractions/base", FOLDERS)?;
-    are_paths(&rt, found.as_slice(), WANTED);
-    Ok(())
+    is_searched(
+        &rt,
+        rt.alloc(),
+        (true, b"abstractions/base"),
+        FOLDERS,
+        WANTED,
+    );
 }
 
 #[test]
-fn a_name_in_quotes_stands_as_it_is(rt: HostRuntime) -> Result<(), Fail> {
+fn a_name_in_quotes_stands_as_it_is(rt: HostRuntime) {
     const FOLDERS: &[&[u8]] = &[b"/x", b"/etc/apparmor.d"];
-    const WANTED: &[&[u8]] = &[b"local/a"];
-    let found = searched(rt.alloc(), false, b"local/a", FOLDERS)?;
-    are_paths(&rt, found.as_slice(), WANTED);
-    Ok(())
+    is_searched(&rt, rt.alloc(), (false, b"local/a"), FOLDERS, &[b"local/a"]);
 }
 
 fn lines(alloc: Global, folder: &[u8], names: &[&[u8]]) -> Result<Vec<u8>, AllocError> {
     folder_text(alloc, folder, names)
 }
 
-#[test]
-fn a_folder_stands_for_includes_of_its_files(rt: HostRuntime) -> Result<(), Fail> {
-    const NAMES: &[&[u8]] = &[b"10-a", b"20 b", b"20 b~", b".c", b"README"];
-    let text = lines(rt.alloc(), b"/etc/apparmor.d/abstractions/base.d", NAMES)?;
-    const WANTED: &[u8] =
-        b"include \"/etc/apparmor.d/abstractions/base.d/10-a\"\ninclude \"/etc/apparmor.d/abstractions/base.d/20 b\"\n";
-    holds(&rt, is_text(&text, WANTED));
-    equal(&rt, lines(rt.alloc(), b"/x", &[])?.len(), 0);
-    Ok(())
+fn lines_of(rt: &impl Abort, alloc: Global, folder: &[u8], names: &[&[u8]]) -> Vec<u8> {
+    lines(alloc, folder, names).expect(rt, "memory")
 }
 
-fn found(alloc: Global, text: &[u8]) -> Result<Vec<IncludeAt<'_>>, AllocError> {
-    includes_of(alloc, text)
+/// A folder of these files stands for this text.
+fn has_lines(rt: &impl Abort, alloc: Global, folder: &[u8], names: &[&[u8]], wanted: &[u8]) {
+    holds(rt, is_text(&lines_of(rt, alloc, folder, names), wanted));
+}
+
+#[test]
+fn a_folder_stands_for_includes_of_its_files(rt: HostRuntime) {
+    const FOLDER: &[u8] = b"/etc/apparmor.d/abstractions/base.d";
+    const NAMES: &[&[u8]] = &[b"10-a", b"20 b", b"20 b~", b".c", b"README"];
+    const WANTED: &[u8] =
+        b"include \"/etc/apparmor.d/abstractions/base.d/10-a\"\ninclude \"/etc/apparmor.d/abstractions/base.d/20 b\"\n";
+    has_lines(&rt, rt.alloc(), FOLDER, NAMES, WANTED);
+    has_lines(&rt, rt.alloc(), b"/x", &[], b"");
+}
+
+fn found<'s>(rt: &impl Abort, alloc: Global, text: &'s [u8]) -> Vec<IncludeAt<'s>> {
+    includes_of(alloc, text).expect(rt, "memory")
 }
 
 /// The include has this name, first byte, and leave to be missing.
@@ -75,28 +104,37 @@ fn is_include(rt: &impl Abort, include: &IncludeAt<'_>, name: &[u8], byte: usize
     equal(rt, include.is_optional(), optional);
 }
 
-/// The includes are these.
-fn are_includes(rt: &impl Abort, found: &[IncludeAt<'_>], wanted: &[(&[u8], usize, bool)]) {
-    equal(rt, found.len(), wanted.len());
-    for (include, (name, byte, is_optional)) in found.iter().zip(wanted) {
-        is_include(rt, include, name, *byte, *is_optional);
+/// The includes behind the first, which is this one.
+fn behind_include<'f, 's>(
+    rt: &impl Abort,
+    found: &'f [IncludeAt<'s>],
+    (name, byte, is_optional): (&[u8], usize, bool),
+) -> &'f [IncludeAt<'s>] {
+    match found {
+        [include, rest @ ..] => {
+            is_include(rt, include, name, byte, is_optional);
+            rest
+        }
+        [] => panic!(rt; "no include"),
     }
 }
 
+/// The includes are these.
+fn are_includes(rt: &impl Abort, found: &[IncludeAt<'_>], wanted: &[(&[u8], usize, bool)]) {
+    let mut rest = found;
+    for include in wanted {
+        rest = behind_include(rt, rest, *include);
+    }
+    equal(rt, rest.len(), 0);
+}
+
 /// The includes of a text are these: a name, its first byte, and whether it may be missing.
-fn has_includes(
-    rt: &impl Abort,
-    alloc: Global,
-    text: &[u8],
-    wanted: &[(&[u8], usize, bool)],
-) -> Result<(), AllocError> {
-    let includes = found(alloc, text)?;
-    are_includes(rt, includes.as_slice(), wanted);
-    Ok(())
+fn has_includes(rt: &impl Abort, alloc: Global, text: &[u8], wanted: &[(&[u8], usize, bool)]) {
+    are_includes(rt, found(rt, alloc, text).as_slice(), wanted);
 }
 
 #[test]
-fn the_includes_of_a_text_are_found_in_order(rt: HostRuntime) -> Result<(), Fail> {
+fn the_includes_of_a_text_are_found_in_order(rt: HostRuntime) {
     let text =
         b"#include <tunables/global>\nprofile x {\n  include if exists <local/x>\n  include \"/y\",\n}\n";
     has_includes(
@@ -108,54 +146,72 @@ fn the_includes_of_a_text_are_found_in_order(rt: HostRuntime) -> Result<(), Fail
             (b"local/x", 41, true),
             (b"/y", 71, false),
         ],
-    )?;
-    Ok(())
+    );
 }
 
 #[test]
-fn an_include_in_a_comment_or_a_quoted_text_is_none(rt: HostRuntime) -> Result<(), Fail> {
+fn an_include_in_a_comment_or_a_quoted_text_is_none(rt: HostRuntime) {
     let alloc = rt.alloc();
-    has_includes(&rt, alloc, b"# include <a>\n/x { \"include <b>\" r, }", &[])?;
-    has_includes(&rt, alloc, b"", &[])?;
-    Ok(())
+    has_includes(&rt, alloc, b"# include <a>\n/x { \"include <b>\" r, }", &[]);
+    has_includes(&rt, alloc, b"", &[]);
 }
 
 #[test]
-fn includes_are_found_up_to_where_the_words_break_off(rt: HostRuntime) -> Result<(), Fail> {
+fn includes_are_found_up_to_where_the_words_break_off(rt: HostRuntime) {
     has_includes(
         &rt,
         rt.alloc(),
         b"include <a>\n\0 include <b>\n",
         &[(b"a", 0, false)],
-    )?;
-    Ok(())
+    );
 }
 
 #[test]
-fn a_lines_include_is_the_file_that_it_names(rt: HostRuntime) -> Result<(), Fail> {
+fn a_lines_include_is_the_file_that_it_names(rt: HostRuntime) {
     let alloc = rt.alloc();
     const NAMES: &[&[u8]] = &[b"a>b", b"c d"];
-    let text = lines(alloc, b"/f", NAMES)?;
+    let text = lines_of(&rt, alloc, b"/f", NAMES);
     has_includes(
         &rt,
         alloc,
         text.as_slice(),
         &[(b"/f/a>b", 0, false), (b"/f/c d", 17, false)],
-    )?;
-    Ok(())
+    );
+}
+
+/// How many paths are searched, unless a growth is refused.
+fn path_count(alloc: Global, folders: &[&[u8]]) -> Option<usize> {
+    match searched(alloc, true, b"z", folders) {
+        Ok(paths) => Some(paths.len()),
+        Err(_) => None,
+    }
+}
+
+/// Whether a path is joined as it is to be, unless a growth is refused.
+fn is_joined(alloc: Global) -> Option<bool> {
+    match joined_path(alloc, b"/", b"z") {
+        Ok(path) => Some(is_text(&path, b"/z")),
+        Err(_) => None,
+    }
+}
+
+/// How long a folder's text is, unless a growth is refused.
+fn lines_len(alloc: Global, names: &[&[u8]]) -> Option<usize> {
+    match lines(alloc, b"/x", names) {
+        Ok(text) => Some(text.len()),
+        Err(_) => None,
+    }
 }
 
 #[test]
 fn a_growth_that_is_refused_gives_no_path_and_no_text(rt: HostRuntime) {
-    let folders: [&[u8]; 2] = [b"/x", b"/y"];
+    const FOLDERS: &[&[u8]] = &[b"/x", b"/y"];
     for _ in 0..4 {
-        let paths = searched(rt.alloc(), true, b"z", folders.as_slice());
-        let path = joined_path(rt.alloc(), b"/", b"z");
-        let text = lines(rt.alloc(), b"/x", folders.as_slice());
-        if let (Ok(paths), Ok(path), Ok(text)) = (paths, path, text) {
-            equal(&rt, paths.len(), 2);
-            holds(&rt, path.as_slice() == b"/z".as_slice());
-            equal(&rt, text.len(), 32);
+        let paths = path_count(rt.alloc(), FOLDERS);
+        let path = is_joined(rt.alloc());
+        let text = lines_len(rt.alloc(), FOLDERS);
+        if paths.is_some() && path.is_some() && text.is_some() {
+            equal(&rt, (paths, path, text), (Some(2), Some(true), Some(32)));
             return;
         }
     }

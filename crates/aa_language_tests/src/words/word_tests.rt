@@ -4,10 +4,9 @@ use crate::words::reading::{
     Expected, expect_end, expect_first_of_two, expect_kinds, expect_quoted_behind, expect_words,
 };
 use aa_words::{Sources, Spot, WordKind};
-use std::test::Fail;
 
 #[test]
-fn a_text_that_ends_too_early_gives_its_words(rt: HostRuntime) -> Result<(), Fail> {
+fn a_text_that_ends_too_early_gives_its_words(rt: HostRuntime) {
     let alloc = rt.alloc();
     let text = "profile p { /x r,";
     const WORDS: &[Expected] = &[
@@ -18,27 +17,24 @@ fn a_text_that_ends_too_early_gives_its_words(rt: HostRuntime) -> Result<(), Fai
         (WordKind::Name, "r", 15, 16),
         (WordKind::Comma, ",", 16, 17),
     ];
-    expect_words(&rt, alloc, text, WORDS)?;
-    let sources = Sources::new(alloc);
-    const END: Spot = Spot { file: 0, byte: 17 };
-    expect_end(&rt, alloc, &sources, text.as_bytes(), END);
-    Ok(())
+    expect_words(&rt, alloc, text, WORDS);
+    expect_end(&rt, alloc, text.as_bytes(), Spot { file: 0, byte: 17 });
 }
 
 #[test]
-fn blanks_and_comments_are_no_words(rt: HostRuntime) -> Result<(), Fail> {
+fn blanks_and_comments_are_no_words(rt: HostRuntime) {
     let alloc = rt.alloc();
-    expect_kinds(&rt, alloc, &["", " \t\r\n", "# a { , \" } /b"], &[])?;
+    expect_kinds(&rt, alloc, &["", " \t\r\n", "# a { , \" } /b"], &[]);
     expect_words(
         &rt,
         alloc,
         "#c\r\na\tb# # d",
         &[(WordKind::Name, "a", 4, 5), (WordKind::Name, "b#", 6, 8)],
-    )
+    );
 }
 
 #[test]
-fn commas_end_a_path_only_where_a_rule_ends(rt: HostRuntime) -> Result<(), Fail> {
+fn commas_end_a_path_only_where_a_rule_ends(rt: HostRuntime) {
     let alloc = rt.alloc();
     expect_kinds(
         &rt,
@@ -47,7 +43,7 @@ fn commas_end_a_path_only_where_a_rule_ends(rt: HostRuntime) -> Result<(), Fail>
             "/a,", "/a, # c", "/a,#c", "/a}, ", "/a\\\\, ", "/[a], ", "/{a}}, ",
         ],
         &[WordKind::Path, WordKind::Comma],
-    )?;
+    );
     expect_kinds(
         &rt,
         alloc,
@@ -55,14 +51,14 @@ fn commas_end_a_path_only_where_a_rule_ends(rt: HostRuntime) -> Result<(), Fail>
             "/a,b", "/{a,b}", "/{a, ", "/[,] ", "/[, ", "/a\\, ", "/a\\ b", "/a#b", "/[{,]a}",
         ],
         &[WordKind::Path],
-    )?;
+    );
     expect_kinds(
         &rt,
         alloc,
         &["/a,}"],
         &[WordKind::Path, WordKind::Comma, WordKind::Close],
-    )?;
-    expect_kinds(&rt, alloc, &["/{a, b"], &[WordKind::Path, WordKind::Name])?;
+    );
+    expect_kinds(&rt, alloc, &["/{a, b"], &[WordKind::Path, WordKind::Name]);
     expect_words(
         &rt,
         alloc,
@@ -72,11 +68,11 @@ fn commas_end_a_path_only_where_a_rule_ends(rt: HostRuntime) -> Result<(), Fail>
             (WordKind::Name, "rw", 8, 10),
             (WordKind::Comma, ",", 10, 11),
         ],
-    )
+    );
 }
 
 #[test]
-fn names_end_at_signs(rt: HostRuntime) -> Result<(), Fail> {
+fn names_end_at_signs(rt: HostRuntime) {
     let alloc = rt.alloc();
     const WORDS: &[Expected] = &[
         (WordKind::Name, "a-b", 0, 3),
@@ -87,22 +83,22 @@ fn names_end_at_signs(rt: HostRuntime) -> Result<(), Fail> {
         (WordKind::Close, "}", 12, 13),
         (WordKind::Name, "+f", 13, 15),
     ];
-    expect_words(&rt, alloc, "a-b,<c/d>{@e}+f", WORDS)
+    expect_words(&rt, alloc, "a-b,<c/d>{@e}+f", WORDS);
 }
 
 #[test]
-fn bytes_that_are_no_utf8_stand_in_words(rt: HostRuntime) -> Result<(), Fail> {
+fn bytes_that_are_no_utf8_stand_in_words(rt: HostRuntime) {
     expect_first_of_two(
         &rt,
         rt.alloc(),
+        &Sources::new(rt.alloc()),
         b"/\xff\xfe \xc3z",
-        WordKind::Path,
-        b"/\xff\xfe",
-    )
+        (WordKind::Path, b"/\xff\xfe"),
+    );
 }
 
 #[test]
-fn variables_begin_a_path(rt: HostRuntime) -> Result<(), Fail> {
+fn variables_begin_a_path(rt: HostRuntime) {
     let alloc = rt.alloc();
     expect_words(
         &rt,
@@ -113,7 +109,7 @@ fn variables_begin_a_path(rt: HostRuntime) -> Result<(), Fail> {
             (WordKind::Name, "r", 11, 12),
             (WordKind::Comma, ",", 12, 13),
         ],
-    )?;
+    );
     expect_kinds(
         &rt,
         alloc,
@@ -121,30 +117,29 @@ fn variables_begin_a_path(rt: HostRuntime) -> Result<(), Fail> {
             "@{A}b=c", "@{1A}=c", "@{}=c", "@{A", "@{A}+b", "@{A=b}=c", "/@{A}=b",
         ],
         &[WordKind::Path],
-    )?;
+    );
     expect_kinds(
         &rt,
         alloc,
         &["@{A}=b", "@{A} = b", "@{A} #\n=b"],
         &[WordKind::Path, WordKind::Equals, WordKind::Value],
-    )?;
+    );
     expect_kinds(
         &rt,
         alloc,
         &["@{A_9z}+=b"],
         &[WordKind::Path, WordKind::PlusEquals, WordKind::Value],
-    )?;
+    );
     expect_kinds(
         &rt,
         alloc,
         &["@{1A} = b", "@{A}/ = b", "@{A = b", "@{A.} = b"],
         &[WordKind::Path, WordKind::Equals, WordKind::Name],
-    )?;
-    Ok(())
+    );
 }
 
 #[test]
-fn signs_are_words(rt: HostRuntime) -> Result<(), Fail> {
+fn signs_are_words(rt: HostRuntime) {
     let alloc = rt.alloc();
     const WORDS: &[Expected] = &[
         (WordKind::Name, "a", 0, 1),
@@ -160,7 +155,7 @@ fn signs_are_words(rt: HostRuntime) -> Result<(), Fail> {
         (WordKind::PlusEquals, "+=", 12, 14),
         (WordKind::Name, "-f", 14, 16),
     ];
-    expect_words(&rt, alloc, "a=b(c)d->e+=+=-f", WORDS)?;
+    expect_words(&rt, alloc, "a=b(c)d->e+=+=-f", WORDS);
     expect_kinds(
         &rt,
         alloc,
@@ -172,17 +167,17 @@ fn signs_are_words(rt: HostRuntime) -> Result<(), Fail> {
             WordKind::Name,
             WordKind::Comma,
         ],
-    )?;
+    );
     expect_kinds(
         &rt,
         alloc,
         &["/a->b /c=(d)"],
         &[WordKind::Path, WordKind::Path],
-    )
+    );
 }
 
 #[test]
-fn quoted_words_stand_between_their_quotes(rt: HostRuntime) -> Result<(), Fail> {
+fn quoted_words_stand_between_their_quotes(rt: HostRuntime) {
     let alloc = rt.alloc();
     const WORDS: &[Expected] = &[
         (WordKind::Name, "profile", 0, 7),
@@ -193,7 +188,7 @@ fn quoted_words_stand_between_their_quotes(rt: HostRuntime) -> Result<(), Fail> 
         (WordKind::Name, "r", 26, 27),
         (WordKind::Comma, ",", 27, 28),
     ];
-    expect_words(&rt, alloc, "profile \"a b\" \"\" {\"/x\\\"y\" r,", WORDS)?;
+    expect_words(&rt, alloc, "profile \"a b\" \"\" {\"/x\\\"y\" r,", WORDS);
     expect_words(
         &rt,
         alloc,
@@ -203,15 +198,15 @@ fn quoted_words_stand_between_their_quotes(rt: HostRuntime) -> Result<(), Fail> 
             (WordKind::Name, "b", 5, 6),
             (WordKind::Quoted, "#{\n", 8, 11),
         ],
-    )?;
+    );
     const TEXTS: &[&str] = &[
         "{\"a\"", "}\"a\"", ",\"a\"", "=\"a\"", "(\"a\"", ")\"a\"", "+=\"a\"", "->\"a\"",
     ];
-    expect_quoted_behind(&rt, alloc, TEXTS)
+    expect_quoted_behind(&rt, alloc, TEXTS);
 }
 
 #[test]
-fn values_go_up_to_the_line_end(rt: HostRuntime) -> Result<(), Fail> {
+fn values_go_up_to_the_line_end(rt: HostRuntime) {
     let alloc = rt.alloc();
     const PLAIN: &[Expected] = &[
         (WordKind::Path, "@{HOME}", 0, 7),
@@ -220,7 +215,7 @@ fn values_go_up_to_the_line_end(rt: HostRuntime) -> Result<(), Fail> {
         (WordKind::Value, "/root/", 17, 23),
         (WordKind::Name, "profile", 24, 31),
     ];
-    expect_words(&rt, alloc, "@{HOME}=/home/*/ /root/\nprofile", PLAIN)?;
+    expect_words(&rt, alloc, "@{HOME}=/home/*/ /root/\nprofile", PLAIN);
     const QUOTED: &[Expected] = &[
         (WordKind::Path, "@{XDG_DESKTOP_DIR}", 0, 18),
         (WordKind::Equals, "=", 18, 19),
@@ -233,7 +228,7 @@ fn values_go_up_to_the_line_end(rt: HostRuntime) -> Result<(), Fail> {
         alloc,
         "@{XDG_DESKTOP_DIR}=\"Desk\ntop\"a\"b \"\"",
         QUOTED,
-    )?;
+    );
     const JOINED: &[Expected] = &[
         (WordKind::Path, "@{A}", 0, 4),
         (WordKind::PlusEquals, "+=", 4, 6),
@@ -242,11 +237,11 @@ fn values_go_up_to_the_line_end(rt: HostRuntime) -> Result<(), Fail> {
         (WordKind::Value, "c", 12, 13),
         (WordKind::Name, "d", 14, 15),
     ];
-    expect_words(&rt, alloc, "@{A}+=a\\ b\\\nc\nd", JOINED)
+    expect_words(&rt, alloc, "@{A}+=a\\ b\\\nc\nd", JOINED);
 }
 
 #[test]
-fn values_may_be_any_bytes(rt: HostRuntime) -> Result<(), Fail> {
+fn values_may_be_any_bytes(rt: HostRuntime) {
     let alloc = rt.alloc();
     const WORDS: &[Expected] = &[
         (WordKind::Path, "@{A}", 0, 4),
@@ -259,7 +254,7 @@ fn values_may_be_any_bytes(rt: HostRuntime) -> Result<(), Fail> {
         (WordKind::Skipped, "signal", 31, 37),
         (WordKind::Comma, ",", 37, 38),
     ];
-    expect_words(&rt, alloc, "@{A}={b,c} , ->= signal d#e #f\nsignal,", WORDS)?;
+    expect_words(&rt, alloc, "@{A}={b,c} , ->= signal d#e #f\nsignal,", WORDS);
     const BEHIND: &[WordKind] = &[
         WordKind::Path,
         WordKind::Equals,
@@ -267,6 +262,6 @@ fn values_may_be_any_bytes(rt: HostRuntime) -> Result<(), Fail> {
         WordKind::Skipped,
         WordKind::Comma,
     ];
-    expect_kinds(&rt, alloc, &["@{A}=\"b\"#c\nset,"], BEHIND)?;
-    expect_kinds(&rt, alloc, &["@{A} = b\\\r\nset,"], BEHIND)
+    expect_kinds(&rt, alloc, &["@{A}=\"b\"#c\nset,"], BEHIND);
+    expect_kinds(&rt, alloc, &["@{A} = b\\\r\nset,"], BEHIND);
 }
