@@ -203,15 +203,23 @@ fn lines_len(alloc: Global, names: &[&[u8]]) -> Option<usize> {
     }
 }
 
+/// Whether paths, a path and a text are what they are to be, unless a growth is refused.
+fn are_found(alloc: Global) -> Option<bool> {
+    const FOLDERS: &[&[u8]] = &[b"/x", b"/y"];
+    let paths = path_count(alloc, FOLDERS);
+    let path = is_joined(alloc);
+    let text = lines_len(alloc, FOLDERS);
+    match (paths, path, text) {
+        (Some(paths), Some(path), Some(text)) => Some(paths == 2 && path && text == 32),
+        _ => None,
+    }
+}
+
 #[test]
 fn a_growth_that_is_refused_gives_no_path_and_no_text(rt: HostRuntime) {
-    const FOLDERS: &[&[u8]] = &[b"/x", b"/y"];
     for _ in 0..4 {
-        let paths = path_count(rt.alloc(), FOLDERS);
-        let path = is_joined(rt.alloc());
-        let text = lines_len(rt.alloc(), FOLDERS);
-        if paths.is_some() && path.is_some() && text.is_some() {
-            equal(&rt, (paths, path, text), (Some(2), Some(true), Some(32)));
+        if let Some(all) = are_found(rt.alloc()) {
+            holds(&rt, all);
             return;
         }
     }
