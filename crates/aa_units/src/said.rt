@@ -1,6 +1,6 @@
 //! What is said of a place in a unit, and of a name whose two forms find different things.
 
-ghost use Rattle.std.specs.Prelude.{◌≡◌, option_map, IfOk};
+ghost use Rattle.std.specs.Prelude.{◌≡◌, ◌++◌, codes, option_map, IfOk};
 ghost use Rattle.aa_units.specs.Links.{place_if, excerpt_if};
 ghost use Rattle.aa_units.specs.Ambiguities.{difference, SaysAmbiguous};
 
@@ -37,6 +37,40 @@ pub fn excerpt_if(
     }
 }
 
+/// That each form finds something, at its path.
+fn both_are_found(alloc: Global, before: &[u8], here: &[u8]) -> Result<Vec<u8>, AllocError>
+    ensures { IfOk result (λ message. message.items ≡ before.now ++ codes " and " ++ here.now ++ codes " both have this name") }
+{
+    let mut message = Vec::from_slice(alloc, before)?;
+    push_text(&mut message, " and ")?;
+    message.extend_from_slice(here)?;
+    push_text(&mut message, " both have this name")?;
+    Ok(message)
+}
+
+/// That only the other form finds something, at its path.
+fn nothing_is_here(alloc: Global, before: &[u8]) -> Result<Vec<u8>, AllocError>
+    ensures { IfOk result (λ message. message.items ≡ codes "nothing has this name here, and " ++ before.now ++ codes " has it for its other form") }
+{
+    let mut message = Vec::new(alloc);
+    push_text(&mut message, "nothing has this name here, and ")?;
+    message.extend_from_slice(before)?;
+    push_text(&mut message, " has it for its other form")?;
+    Ok(message)
+}
+
+/// That only this form finds something, at its path.
+fn nothing_was_before(alloc: Global, here: &[u8]) -> Result<Vec<u8>, AllocError>
+    ensures { IfOk result (λ message. message.items ≡ here.now ++ codes " has this name, and nothing has it for its other form") }
+{
+    let mut message = Vec::from_slice(alloc, here)?;
+    push_text(
+        &mut message,
+        " has this name, and nothing has it for its other form",
+    )?;
+    Ok(message)
+}
+
 /// How the two forms of a name differ: the path that each finds, if something lies there.
 fn difference(
     alloc: Global,
@@ -45,29 +79,12 @@ fn difference(
 ) -> Result<Vec<u8>, AllocError>
     ensures { IfOk result (λ message. message.items ≡ difference (option_map (λ p. p.now) before.entry) (option_map (λ p. p.now) here.entry)) }
 {
-    let mut message = Vec::new(alloc);
     match (before, here) {
-        (Some(before), Some(here)) => {
-            message.extend_from_slice(before)?;
-            push_text(&mut message, " and ")?;
-            message.extend_from_slice(here)?;
-            push_text(&mut message, " both have this name")?;
-        }
-        (Some(before), None) => {
-            push_text(&mut message, "nothing has this name here, and ")?;
-            message.extend_from_slice(before)?;
-            push_text(&mut message, " has it for its other form")?;
-        }
-        (None, Some(here)) => {
-            message.extend_from_slice(here)?;
-            push_text(
-                &mut message,
-                " has this name, and nothing has it for its other form",
-            )?;
-        }
-        (None, None) => {}
+        (Some(before), Some(here)) => both_are_found(alloc, before, here),
+        (Some(before), None) => nothing_is_here(alloc, before),
+        (None, Some(here)) => nothing_was_before(alloc, here),
+        (None, None) => Ok(Vec::new(alloc)),
     }
-    Ok(message)
 }
 
 /// What is said of the include at a byte of a node's text, whose name is included in both forms, which find different things.

@@ -9,7 +9,7 @@ ghost use Rattle.aa_units.specs.FilesData.{IsInOrder, IsLooked, IsRead, IsFolder
 
 use aa_trees::{can_be_included, folder_text, joined_path, put_in_byte_order};
 use std::alloc::{AllocError, AllocFailed, Global};
-use std::fs::{self, File, Metadata};
+use std::fs::{self, DirEntry, File, Metadata};
 use std::io::{self, ErrorKind, Read};
 
 /// The most bytes of a text.
@@ -166,18 +166,28 @@ fn is_read(rt: &HostRuntime, path: &str) -> Result<bool, Unread> {
     }
 }
 
+/// Adds the name of a folder's entry, if it is read where the folder is included.
+fn push_name(rt: &HostRuntime, entry: &DirEntry, names: &mut Vec<Vec<u8>>) -> Result<(), Unread> {
+    if is_read(rt, entry.path().as_str())? {
+        names.push(Vec::from_slice(rt.alloc(), entry.file_name().as_bytes())?)?;
+    }
+    Ok(())
+}
+
+/// The names in a folder of the host, as it lists them, without those of folders.
+fn listed_names(rt: &HostRuntime, folder: &str) -> Result<Vec<Vec<u8>>, Unread> {
+    let mut names = Vec::new(rt.alloc());
+    for entry in fs::read_dir(rt, folder)? {
+        push_name(rt, &entry?, &mut names)?;
+    }
+    Ok(names)
+}
+
 /// The names in a folder of the host, in byte order, without those of folders.
 fn host_names(rt: &HostRuntime, folder: &[u8]) -> Result<Vec<Vec<u8>>, Unread>
     ensures { IfOk result (λ names. AreInByteOrder names.items) }
 {
-    let alloc = rt.alloc();
-    let mut names = Vec::new(alloc);
-    for entry in fs::read_dir(rt, path_text(folder)?)? {
-        let entry = entry?;
-        if is_read(rt, entry.path().as_str())? {
-            names.push(Vec::from_slice(alloc, entry.file_name().as_bytes())?)?;
-        }
-    }
+    let mut names = listed_names(rt, path_text(folder)?)?;
     put_in_byte_order(&mut names)?;
     Ok(names)
 }

@@ -1,3 +1,4 @@
+use Rattle.std.proofs.lemmas.Grind.{common_steps}
 use Rattle.std.proofs.Common.{ap, arith, length, []}
 use Rattle.std.proofs.lemmas.List.{length-map}
 use Rattle.aa_trees.specs.Texts.{texts}
@@ -16,3 +17,6 @@ report_of-requires-clause-few g c =
 
 pub report_of-requires-clause-each : goal.report_of-requires-clause-each
 report_of-requires-clause-each g c = few_all (setting_of (g.T.Tree.files c.args.tree.now) (g.T.Tree.taken c.args.tree.now) (g.T.Tree.input c.args.tree.now) c.args.wanted.now) [] (texts c.as_slice.result.now) c.in_ok-files-in-Ok.files.items c.in_ok-files-in-Ok.ensures
+
+pub returns-in_ok-files-in-Ok : goal.returns-in_ok-files-in-Ok
+returns-in_ok-files-in-Ok g c = grind (arith, common_steps)

@@ -1,4 +1,5 @@
-use Rattle.std.proofs.Common.{subst, take, []}
+use Rattle.std.proofs.lemmas.Grind.{common_steps}
+use Rattle.std.proofs.Common.{subst, take, [], arith}
 use Rattle.aa_trees.specs.Texts.{texts}
 use Rattle.aa_checks.specs.Checked.{setting_of, AreFound}
 use Rattle.aa_checks.proofs.Found.{next_path}
@@ -12,3 +13,6 @@ loop-path-preserved g c =
       found = subst (λ l. AreFound s [] l c.check_next.new.files.items) next (c.in_ok-check_next.ensures.found (texts (take c.loop-path.path-index c.args.paths.now)) c.loop-path.invariant.found);
       first = c.in_ok-check_next.ensures.first;
     }
+
+pub returns : goal.returns
+returns g c = grind (arith, common_steps)

@@ -1,4 +1,4 @@
-use Rattle.std.proofs.Common.{inl, inr, ap}
+use Rattle.std.proofs.Common.{inl, inr, ap, rules}
 use Rattle.aa_faults.specs.declared.fault.PolicyFault.{PolicyFault}
 use Rattle.aa_policies.specs.Policies.{OfText, OfWords, OfPolicy}
 use Rattle.aa_units.proofs.policy.compile_text.Goals as goal
@@ -25,3 +25,6 @@ returns-clause-cause c other =
       | inl memory ↦ absurd (other (ap (λ (f : PolicyFault). f.kind) memory))
       | inr refused ↦ OfPolicy _ (record { words = _; split = c.in-Ok.ensures.split; spelled = c.in-Ok-parse.ensures.spelled }) refused
     ]
+
+pub returns-in-Ok-compile-clause-compiled : goal.returns-in-Ok-compile-clause-compiled
+returns-in-Ok-compile-clause-compiled c = search rules

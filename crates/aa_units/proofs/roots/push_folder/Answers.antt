@@ -1,4 +1,5 @@
-use Rattle.std.proofs.Common.{ℕ, List, ◌≡◌, Contains, Vec, Some, IfSome, ◌++◌, sym, subst}
+use Rattle.std.proofs.lemmas.Grind.{common_steps}
+use Rattle.std.proofs.Common.{ℕ, List, ◌≡◌, Contains, Vec, Some, IfSome, ◌++◌, sym, subst, arith, rules}
 use Rattle.std.specs.declared.alloc.Global.{Global}
 use Rattle.std.proofs.lemmas.Result.{err_from_is_err_and}
 use Rattle.aa_trees.specs.Texts.{texts}
@@ -26,3 +27,15 @@ returns-in_err-push_file-clause-fault g c few =
     handed_on c.from_residual-in_err-push_file.result _ _ (IsFaultOf (IsLookedFor files (λ f. listed (f folder)) base folder) (IsBeyondWith files taken (λ f. listed (f folder)) base folder before)) p.1 p.2
     (folder_fault files taken base folder before now names c.loop-name.name-index name c.loop-name-test.true (sym c.name-item.is) lies c.loop-name.invariant.paths _
     (subst (λ (n : List ℕ). IsFaultOf (Contains (looked_paths base n)) (λ q. IfSome taken (λ t. slice_get (now ++ wanted_path t base folder n) 4096 ≡ Some q)) c.in_err-push_file.field-0.0) c.as_slice.ensures.value (c.in_err-push_file.ensures.fault (c.loop-name.invariant.few few))))
+
+pub loop-name-preserved : goal.loop-name-preserved
+loop-name-preserved g c = grind (arith, common_steps)
+
+pub returns-in-Err-clause-fault : goal.returns-in-Err-clause-fault
+returns-in-Err-clause-fault g c = search rules
+
+pub returns-clause-warnings : goal.returns-clause-warnings
+returns-clause-warnings g c = grind (arith, common_steps)
+
+pub returns-clause-paths : goal.returns-clause-paths
+returns-clause-paths g c = grind (arith, common_steps)
