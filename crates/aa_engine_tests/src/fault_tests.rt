@@ -1,15 +1,14 @@
 //! Why a job isn't answered, and how that is told.
 
-use crate::comparing::equal;
+use crate::comparing::{equal, equal_in};
 use crate::jobs::{COMMANDS, Command, gives};
 use aa_engine::RunFault;
 use aa_faults::{PolicyFault, PolicyKind, Spot};
 use aa_jobs::JobFault;
 use aa_policies::RefusedPolicy;
-use std::alloc::{AllocError, Global};
+use std::alloc::Global;
 use std::process::Abort;
 use std::sync::Wait;
-use std::test::Fail;
 use std::thread::Threads;
 
 // Whatever the command, and nothing is written.
@@ -103,8 +102,8 @@ fn the_first_unknown_label_is_named(rt: HostRuntime) {
 }
 
 /// How a fault is told.
-fn told(alloc: Global, fault: RunFault) -> Result<String, AllocError> {
-    format!(in alloc; "{fault}")
+fn told(rt: &impl Abort, alloc: Global, fault: RunFault) -> String {
+    format!(in alloc; "{fault}").expect(rt, "memory")
 }
 
 fn status_of(fault: RunFault) -> u8 {
@@ -112,21 +111,13 @@ fn status_of(fault: RunFault) -> u8 {
 }
 
 // The fault is told so, and ends a program with that status.
-fn is_told(
-    rt: &impl Abort,
-    alloc: Global,
-    fault: RunFault,
-    line: &str,
-    status: u8,
-) -> Result<(), Fail> {
-    let text = told(alloc, fault)?;
-    equal(rt, text.as_str(), line);
-    assert_eq!(rt; status_of(fault), status, "{line}");
-    Ok(())
+fn is_told(rt: &impl Abort, alloc: Global, fault: RunFault, line: &str, status: u8) {
+    equal(rt, told(rt, alloc, fault).as_str(), line);
+    equal_in(rt, status_of(fault), status, line);
 }
 
 #[test]
-fn each_fault_has_a_line_and_a_status(rt: HostRuntime) -> Result<(), Fail> {
+fn each_fault_has_a_line_and_a_status(rt: HostRuntime) {
     let rows = [
         (RunFault::NoMemory, "no memory", 3u8),
         (RunFault::Read, "read failed", 3),
@@ -145,7 +136,6 @@ fn each_fault_has_a_line_and_a_status(rt: HostRuntime) -> Result<(), Fail> {
         (RunFault::UnknownProfile(0), "task 0 has no profile", 1),
     ];
     for (fault, line, status) in rows {
-        is_told(&rt, rt.alloc(), fault, line, status)?;
+        is_told(&rt, rt.alloc(), fault, line, status);
     }
-    Ok(())
 }

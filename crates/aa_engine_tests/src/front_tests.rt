@@ -4,10 +4,9 @@ use crate::comparing::holds;
 use crate::jobs::{COMMANDS, Command, MOVING_JOB, answer, gives};
 use aa_engine::RunFault;
 use aa_jobs::JobFault;
-use std::alloc::{AllocError, Global};
+use std::alloc::Global;
 use std::process::Abort;
 use std::sync::Wait;
-use std::test::Fail;
 use std::thread::Threads;
 
 #[test]
@@ -24,34 +23,30 @@ fn no_front_of_a_job_is_one(rt: HostRuntime) {
 /// A policy with each fallback.
 const EXECUTING: &[u8] = b"profile p { /a pix, /b px, /c pux, /d Px -> q, /e PUx, } profile q { }";
 
-fn push(text: &mut Vec<u8>, bytes: &[u8]) -> Result<(), AllocError> {
-    text.extend_from_slice(bytes)
+fn push(rt: &impl Abort, text: &mut Vec<u8>, bytes: &[u8]) {
+    text.extend_from_slice(bytes).expect(rt, "memory");
 }
 
 /// The job of a policy, without tasks.
-fn job_of(alloc: Global, policy: &[u8]) -> Result<Vec<u8>, AllocError> {
+fn job_of(rt: &impl Abort, alloc: Global, policy: &[u8]) -> Vec<u8> {
     let mut job = Vec::new(alloc);
-    push(&mut job, b"{\"tasks\":[],\"policy\":\"")?;
-    push(&mut job, policy)?;
-    push(&mut job, b"\"}")?;
-    Ok(job)
+    push(rt, &mut job, b"{\"tasks\":[],\"policy\":\"");
+    push(rt, &mut job, policy);
+    push(rt, &mut job, b"\"}");
+    job
 }
 
 /// Whether the policy is accepted; otherwise it is refused as a policy.
-fn is_accepted<R: Abort + Threads + Wait + Sync>(
-    rt: &R,
-    alloc: Global,
-    policy: &[u8],
-) -> Result<bool, Fail> {
-    let job = job_of(alloc, policy)?;
+fn is_accepted<R: Abort + Threads + Wait + Sync>(rt: &R, alloc: Global, policy: &[u8]) -> bool {
+    let job = job_of(rt, alloc, policy);
     let mut reader = job.as_slice();
     let mut written = Vec::new(alloc);
     match answer(rt, alloc, Command::Check, &mut reader, &mut written) {
-        Ok(()) => Ok(true),
+        Ok(()) => true,
         Err(fault) => {
             holds(rt, matches!(fault, RunFault::Policy(_)));
             holds(rt, written.is_empty());
-            Ok(false)
+            false
         }
     }
 }
@@ -65,14 +60,10 @@ fn is_whole(front: &[u8]) -> bool {
 }
 
 #[test]
-fn a_front_of_a_policy_is_one_where_it_has_whole_profiles(rt: HostRuntime) -> Result<(), Fail> {
+fn a_front_of_a_policy_is_one_where_it_has_whole_profiles(rt: HostRuntime) {
     for end in 0..=EXECUTING.len() {
         let front = &EXECUTING[..end];
-        assert_eq!(rt;
-            is_accepted(&rt, rt.alloc(), front)?,
-            is_whole(front),
-            "at {end}"
-        );
+        let accepted = is_accepted(&rt, rt.alloc(), front);
+        assert_eq!(rt; accepted, is_whole(front), "at {end}");
     }
-    Ok(())
 }

@@ -3,7 +3,7 @@
 ghost use Rattle.aa_mediate.specs.Reply.{reply};
 
 use crate::comparing::equal;
-use crate::jobs::{Requests, answers, job_of, lent_answers, policies_of};
+use crate::jobs::{Requests, a_job, answers, compiled, lent_answers};
 use aa_engine::{Answered, MediateFault};
 use aa_jobs::Job;
 use aa_machine::Machine;
@@ -11,9 +11,9 @@ use aa_mediate::Mediator;
 use aa_policies::Compiled;
 use aa_requests::{Answer, Label, Request};
 use std::alloc::Global;
+use std::process::Abort;
 use std::sync::Wait;
 use std::sync::atomic::{AtomicU64, Ordering};
-use std::test::Fail;
 use std::thread;
 use std::thread::Threads;
 
@@ -110,14 +110,14 @@ fn grants<
 }
 
 /// How many requests are granted by that many workers, and whether a step gave up.
-fn granted_by<R: Threads + Wait + Sync>(
+fn granted_by<R: Abort + Threads + Wait + Sync>(
     rt: &R,
     alloc: Global,
     requests: Requests,
     workers: u32,
-) -> Result<(u64, u64), Fail> {
-    let job = job_of(alloc, TWO_TASKS).ok_or("it is a job")?;
-    let policies = policies_of(alloc, &job).ok_or("they compile")?;
+) -> (Result<u64, MediateFault>, u64) {
+    let job = a_job(rt, alloc, TWO_TASKS);
+    let policies = compiled(rt, alloc, &job);
     let gates = Gates::new(policies.as_slice());
     let granted = grants(
         rt,
@@ -127,40 +127,37 @@ fn granted_by<R: Threads + Wait + Sync>(
         policies.as_slice(),
         &gates,
         workers,
-    )?;
-    Ok((granted, gates.given_up.load(Ordering::SeqCst)))
+    );
+    (granted, gates.given_up.load(Ordering::SeqCst))
 }
 
 #[test]
-fn two_workers_decide_two_tasks_at_once(rt: HostRuntime) -> Result<(), Fail> {
+fn two_workers_decide_two_tasks_at_once(rt: HostRuntime) {
     for workers in [2, 16] {
         equal(
             &rt,
-            granted_by(&rt, rt.alloc(), Requests::Copied, workers)?,
-            (2, 0),
+            granted_by(&rt, rt.alloc(), Requests::Copied, workers),
+            (Ok(2), 0),
         );
     }
-    Ok(())
 }
 
 #[test]
-fn one_worker_decides_them_one_after_the_other(rt: HostRuntime) -> Result<(), Fail> {
+fn one_worker_decides_them_one_after_the_other(rt: HostRuntime) {
     equal(
         &rt,
-        granted_by(&rt, rt.alloc(), Requests::Copied, 1)?,
-        (2, 1),
+        granted_by(&rt, rt.alloc(), Requests::Copied, 1),
+        (Ok(2), 1),
     );
-    Ok(())
 }
 
 #[test]
-fn two_workers_decide_lent_requests_of_two_tasks_at_once(rt: HostRuntime) -> Result<(), Fail> {
+fn two_workers_decide_lent_requests_of_two_tasks_at_once(rt: HostRuntime) {
     for workers in [2, 16] {
         equal(
             &rt,
-            granted_by(&rt, rt.alloc(), Requests::Lent, workers)?,
-            (2, 0),
+            granted_by(&rt, rt.alloc(), Requests::Lent, workers),
+            (Ok(2), 0),
         );
     }
-    Ok(())
 }

@@ -1,7 +1,9 @@
 //! Tasks that a program has answered by calls of its own.
 
 use crate::comparing::equal;
-use crate::jobs::{MOVING_JOB, Requests, answers, job_of, lent_answers, policies_of};
+use crate::jobs::{
+    MOVING_JOB, Requests, a_job, answers, compiled, job_of, lent_answers, policies_of,
+};
 use aa_engine::{Answered, MediateFault};
 use aa_jobs::Job;
 use aa_machine::Machine;
@@ -89,16 +91,16 @@ fn moves<R: Threads + Wait + Sync>(
 }
 
 /// The same for a job of that text, whose policies compile.
-fn moves_of<R: Threads + Wait + Sync>(
+fn moves_of<R: Abort + Threads + Wait + Sync>(
     rt: &R,
     alloc: Global,
     requests: Requests,
     text: &[u8],
     workers: u32,
-) -> Option<Result<bool, MediateFault>> {
-    let job = job_of(alloc, text)?;
-    let policies = policies_of(alloc, &job)?;
-    Some(moves(rt, alloc, requests, &job, policies.as_slice(), workers))
+) -> Result<bool, MediateFault> {
+    let job = a_job(rt, alloc, text);
+    let policies = compiled(rt, alloc, &job);
+    moves(rt, alloc, requests, &job, policies.as_slice(), workers)
 }
 
 #[test]
@@ -106,7 +108,7 @@ fn three_tasks_are_answered_by_any_number_of_workers(rt: HostRuntime) {
     for requests in BOTH {
         for workers in [1, 2, 16] {
             let given = moves_of(&rt, rt.alloc(), requests, MOVING_JOB, workers);
-            equal(&rt, given, Some(Ok(true)));
+            equal(&rt, given, Ok(true));
         }
     }
 }
@@ -119,7 +121,7 @@ fn the_first_task_without_a_profile_is_named(rt: HostRuntime) {
     for requests in BOTH {
         for workers in [1, 2] {
             let given = moves_of(&rt, rt.alloc(), requests, UNKNOWN, workers);
-            equal(&rt, given, Some(Err(MediateFault::UnknownProfile(1))));
+            equal(&rt, given, Err(MediateFault::UnknownProfile(1)));
         }
     }
 }

@@ -1,10 +1,9 @@
 //! What `run` decides.
 
 use crate::jobs::{Command, FIRST_JOB, MOVED, MOVING_JOB, first_text, gives};
-use std::alloc::{AllocError, Global};
+use std::alloc::Global;
 use std::process::Abort;
 use std::sync::Wait;
-use std::test::Fail;
 use std::thread::Threads;
 
 // With several numbers of workers.
@@ -21,25 +20,24 @@ fn requests_are_granted_and_denied(rt: HostRuntime) {
 }
 
 // A job without what closes it, and the rest.
-fn joined(alloc: Global, front: &[u8], rest: &str) -> Result<Vec<u8>, AllocError> {
-    let mut text = Vec::from_slice(alloc, front)?;
-    text.extend_from_slice(rest.as_bytes())?;
-    Ok(text)
+fn joined(rt: &impl Abort, alloc: Global, front: &[u8], rest: &str) -> Vec<u8> {
+    let mut text = Vec::from_slice(alloc, front).expect(rt, "memory");
+    text.extend_from_slice(rest.as_bytes()).expect(rt, "memory");
+    text
 }
 
 #[test]
-fn tasks_move_whatever_the_capacity(rt: HostRuntime) -> Result<(), Fail> {
-    let front = MOVING_JOB.strip_suffix(b"}").ok_or("it is closed")?;
+fn tasks_move_whatever_the_capacity(rt: HostRuntime) {
+    let front = MOVING_JOB.strip_suffix(b"}").expect(&rt, "it is closed");
     for rest in [
         "}",
         ",\"capacity\":1}",
         ",\"capacity\":2}",
         ",\"capacity\":1024}",
     ] {
-        let job = joined(rt.alloc(), front, rest)?;
+        let job = joined(&rt, rt.alloc(), front, rest);
         runs(&rt, rt.alloc(), job.as_slice(), MOVED);
     }
-    Ok(())
 }
 
 #[test]
