@@ -1,51 +1,96 @@
 """The goals by which must-fail edits are refused: the file that tells of them, and the answers that ask for them."""
+import hashlib
 import os
 import re
 
-# What leaves the goals of a function to their answers.
+# What leaves the goals of a function to their answers; what may say how rattle tries them, and the words in it that name what it opens and cites.
 NO_TACTIC = b"#[tactic(none)]\n"
-# An answer that asks for what rattle tries by itself on a goal without one; one to a goal that is not there; and the modules that they name. Where
-# a function's answers have an error, rattle prints no offers for it, for which it would read all again.
+TACTIC = re.compile(rb"#\[tactic\(.*\)\]\n\s*")
+NAMED = r"{}\(([^()]*)\)"
+# An answer by one of the ways below, and one to a goal that is not there. Where a function's answers have an error, rattle prints no offers for it,
+# for which it would read all again.
 ANSWER = """
 pub {goal} : {goals}.{goal}
-{goal} {words} =
-  first_of
-    (search {common}.rules,
-     grind ({common}.arith, {grind}.common_steps) steps 2000000,
-     grind ({common}.arith, {grind}.elements) steps 2000000,
-     search ({grind}.pieces, {common}.arith) depth 5 fits 300,
-     grind ({common}.arith, {grind}.common_steps) steps 4000000)
+{unfolding}{goal} {words} =
+  {how}
 """
 NO_ANSWER = """
 pub no-goal : {goals}.no-goal
 no-goal c = c
 """
-MODULES = {"common": "std.proofs.Common", "grind": "std.proofs.lemmas.Grind", "goals": "{proof}.Goals"}
+# The ways to ask for a goal: by the search that rattle tries first, or by all that it tries on a goal without an answer.
+SEARCH = "search {common}.rules"
+ALL = """first_of
+    (search {common}.rules,
+{using}     grind ({common}.arith, {grind}.common_steps) steps 2000000,
+     grind ({common}.arith, {grind}.elements) steps 2000000,
+     search ({grind}.pieces, {common}.arith) depth 5 fits 300,
+     grind ({common}.arith, {grind}.common_steps) steps 4000000)"""
+USING = "     grind ({common}.arith, {using}) steps 2000000,\n"
+WAYS = {"search": SEARCH, "all": ALL}
 
 
-def answered(text, proof, goal, words):
-    """Returns the text of a proof's answers with one more, to this goal or to none."""
-    names, uses = {}, []
-    for name, module in MODULES.items():
-        module = f"Rattle.{module.format(proof=proof)}"
-        found = re.search(rf"(?m)^use {re.escape(module)} as (\S+)$", text)
-        names[name] = found[1] if found else f"rattle_{name}"
-        uses += [] if found else [f"use {module} as rattle_{name}\n"]
-    return "".join(uses) + text + (ANSWER if goal else NO_ANSWER).format(goal=goal, words=words, **names)
+class Answers:
+    """The answers of a proof, to which others are added."""
+
+    def __init__(self, text, crate, proof, tactic):
+        self.text, self.crate, self.names, self.uses = text, crate, {}, []
+        self.goals = self.name(f"Rattle.{crate}.{proof}.Goals")
+        self.common, self.grind = self.name("Rattle.std.proofs.Common"), self.name("Rattle.std.proofs.lemmas.Grind")
+        self.using, self.unfolding = self.words(tactic, "using"), self.words(tactic, "unfolding")
+
+    def name(self, module):
+        """Returns the name by which the answers know a module: the one that they have for it, or a new one."""
+        if module not in self.names:
+            found = re.search(rf"(?m)^use {re.escape(module)} as (\S+)$", self.text)
+            self.names[module] = found[1] if found else f"rattle_{len(self.names)}"
+            self.uses += [] if found else [f"use {module} as {self.names[module]}\n"]
+        return self.names[module]
+
+    def words(self, tactic, kind):
+        """Returns the definitions or lemmas that a function's own `tactic` names, as the answers know them."""
+        found = re.search(NAMED.format(kind), tactic)
+        paths = [it.strip().split("::") for it in found[1].split(",") if it.strip()] if found else []
+        return [f"{self.name('.'.join(['Rattle', self.crate if crate == 'crate' else crate, *words]))}.{word}" for crate, *words, word in paths]
+
+    def has(self, goal):
+        return re.search(rf"(?m)^pub {re.escape(goal)} :", self.text) is not None
+
+    def with_goals(self, asked, way):
+        """Returns their text with one more for each of these goals, that way, or with one to a goal that is not there."""
+        names = {"goals": self.goals, "common": self.common, "grind": self.grind}
+        names["using"] = USING.format(common=self.common, using=", ".join(self.using)) if self.using else ""
+        names["unfolding"] = f"unfolding {' '.join(self.unfolding)}\n" if self.unfolding else ""
+        how = WAYS[way].format(**names)
+        answers = [ANSWER.format(goal=goal, words=words, how=how, **names) for goal, words in asked] or [NO_ANSWER.format(**names)]
+        return "".join([*self.uses, self.text, *answers])
 
 
-class Goals:
-    """The goals by which edits were refused, in a file with a line `CRATE/EDIT GOAL WORDS` each."""
+class Note:
+    """By which goal an edit is refused: how that is asked for (`own`, where the function's own proof answers it), the words that its answer takes, and
+    a stamp of the texts of the function and of the edit, for which this was noted."""
+
+    def __init__(self, stamp, way, goal, words):
+        self.stamp, self.way, self.goal, self.words = stamp, way, goal, words
+
+
+def stamp_of(texts):
+    return hashlib.sha256(b"\0".join(texts)).hexdigest()[:12]
+
+
+class Notes:
+    """The goals by which edits were refused, in a file with a line `CRATE/EDIT STAMP WAY GOAL WORDS` each."""
 
     def __init__(self, file):
         self.file, self.known = file, {}
         if os.path.exists(file):
             with open(file, encoding="utf-8") as it:
-                self.known = {edit: (goal, words) for edit, goal, words in re.findall(r"(?m)^(\S+) (\S+) ?(.*)$", it.read())}
+                rows = [line.rstrip("\n").split(" ", 4) for line in it]
+            self.known = {edit: Note(stamp, way, goal, "".join(words)) for edit, stamp, way, goal, *words in rows}
 
     def write(self, crate, noted):
         """Writes by what the edits of a crate are refused, in place of what is told of that crate."""
-        others = {name: goal for name, goal in self.known.items() if not name.startswith(f"{crate}/")}
-        self.known = {**others, **{name: goal for name, goal in noted.items() if goal}}
+        self.known = {**{name: note for name, note in self.known.items() if not name.startswith(f"{crate}/")}, **noted}
+        rows = ((name, it.stamp, it.way, it.goal, it.words) for name, it in sorted(self.known.items()))
         with open(self.file, "w", encoding="utf-8") as it:
-            it.writelines(f"{edit} {goal} {words}".rstrip() + "\n" for edit, (goal, words) in sorted(self.known.items()))
+            it.writelines(" ".join(row).rstrip() + "\n" for row in rows)

@@ -38,7 +38,7 @@ class Function:
         in the module of its type, wherever its impl is.)"""
         for type_name in self.types:
             own = [type_name, self.name] if type_name else [*self.modules, self.name]
-            closures = [[*printed[:at], *printed[at + 1 : at + 1 + len(own)]] for at, it in enumerate(printed) if it == "fn"]
+            closures = [[*printed[:at], *printed[at + 1 : at + 1 + size]] for at, it in enumerate(printed) if it == "fn" for size in (1, len(own))]
             if any(it[-len(own) :] == own and (type_name or it == own) for it in [printed, *closures]):
                 return True
         return False
