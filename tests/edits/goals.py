@@ -18,16 +18,18 @@ NO_ANSWER = """
 pub no-goal : {goals}.no-goal
 no-goal c = c
 """
-# The ways to ask for a goal: by the search that rattle tries first, or by all that it tries on a goal without an answer.
+# The ways to ask for a goal: by the search that rattle tries first, by the one that it tries behind a test, or by all that it tries.
 SEARCH = "search {common}.rules"
+BEHIND_TEST = "search ({common}.tests, {common}.rules)"
 ALL = """first_of
     (search {common}.rules,
+     search ({common}.tests, {common}.rules),
 {using}     grind ({common}.arith, {grind}.common_steps) steps 2000000,
      grind ({common}.arith, {grind}.elements) steps 2000000,
      search ({grind}.pieces, {common}.arith) depth 5 fits 300,
      grind ({common}.arith, {grind}.common_steps) steps 4000000)"""
 USING = "     grind ({common}.arith, {using}) steps 2000000,\n"
-WAYS = {"search": SEARCH, "all": ALL}
+WAYS = {"search": SEARCH, "tests": BEHIND_TEST, "all": ALL}
 
 
 class Answers:
