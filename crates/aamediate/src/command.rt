@@ -93,13 +93,17 @@ fn replay<'a>(alloc: Global) -> clap::Command<'a> {
         .after_help(REPLAY)
 }
 
-fn command_line<'a>(alloc: Global) -> Result<clap::Command<'a>, AllocError> {
+fn program<'a>(alloc: Global) -> clap::Command<'a> {
     clap::Command::new(alloc, "aamediate")
         .version(VERSION)
         .about("Decides what AppArmor profiles permit: reads a job from standard input")
         .override_usage("aamediate <COMMAND> < JOB")
         .after_help(JOB)
         .subcommand_required(true)
+}
+
+fn command_line<'a>(alloc: Global) -> Result<clap::Command<'a>, AllocError> {
+    program(alloc)
         .subcommand(check(alloc))?
         .subcommand(run(alloc)?)?
         .subcommand(replay(alloc))

@@ -386,11 +386,18 @@ fn program<'a>(alloc: Global) -> Command<'a> {
         .subcommand_required(true)
 }
 
+fn with_command<'a>(
+    alloc: Global,
+    program: Command<'a>,
+    row: &Named,
+) -> Result<Command<'a>, AllocError> {
+    program.subcommand(command_of(alloc, row)?)
+}
+
 fn command_line<'a>(alloc: Global) -> Result<Command<'a>, AllocError> {
     let mut program = program(alloc);
     for row in COMMANDS {
-        let command = command_of(alloc, row)?;
-        program = program.subcommand(command)?;
+        program = with_command(alloc, program, row)?;
     }
     Ok(program)
 }
