@@ -18,21 +18,19 @@ NO_ANSWER = """
 pub no-goal : {goals}.no-goal
 no-goal c = c
 """
-# The ways to ask for a goal: by the search that rattle tries first, or by the one that it tries behind a test; by one of the proofs by steps that it
-# tries then; or by all of them.
+# The ways to ask for a goal: by the search that rattle tries first, by one of the proofs by steps that it tries then, or by all that it tries.
 SEARCH = "search {common}.rules"
-BEHIND_TEST = "search ({common}.tests, {common}.rules)"
 STEPS = "grind ({common}.arith, {grind}.common_steps) steps 2000000"
 ELEMENTS = "grind ({common}.arith, {grind}.elements) steps 2000000"
 ALL = f"""first_of
     ({SEARCH},
-     {BEHIND_TEST},
+     search ({{common}}.tests, {{common}}.rules),
 {{using}}     {STEPS},
      {ELEMENTS},
      search ({{grind}}.pieces, {{common}}.arith) depth 5 fits 300,
      grind ({{common}}.arith, {{grind}}.common_steps) steps 4000000)"""
 USING = "     grind ({common}.arith, {using}) steps 2000000,\n"
-WAYS = {"search": SEARCH, "tests": BEHIND_TEST, "steps": STEPS, "elements": ELEMENTS, "all": ALL}
+WAYS = {"search": SEARCH, "steps": STEPS, "elements": ELEMENTS, "all": ALL}
 
 
 class Answers:
