@@ -18,19 +18,25 @@ NO_ANSWER = """
 pub no-goal : {goals}.no-goal
 no-goal c = c
 """
-# The ways to ask for a goal: by the search that rattle tries first, by one of the proofs by steps that it tries then, or by all that it tries.
-SEARCH = "search {common}.rules"
-STEPS = "grind ({common}.arith, {grind}.common_steps) steps 2000000"
-ELEMENTS = "grind ({common}.arith, {grind}.elements) steps 2000000"
-ALL = f"""first_of
-    ({SEARCH},
-     search ({{common}}.tests, {{common}}.rules),
-{{using}}     {STEPS},
-     {ELEMENTS},
+# The ways to ask for a goal: by one of the searches that rattle tries first, behind a test by the second; by one of the proofs by steps that it tries then, the
+# first of them with the lemmas that the function's own `tactic` names; or by all that it tries.
+WAYS = {
+    "search": "search {common}.rules",
+    "tests": "search ({common}.tests, {common}.rules)",
+    "using": "grind ({common}.arith{using}) steps 2000000",
+    "steps": "grind ({common}.arith, {grind}.common_steps) steps 2000000",
+    "elements": "grind ({common}.arith, {grind}.elements) steps 2000000",
+}
+WAYS["all"] = f"""first_of
+    ({WAYS["search"]},
+     {WAYS["tests"]},
+{{or_using}}     {WAYS["elements"]},
      search ({{grind}}.pieces, {{common}}.arith) depth 5 fits 300,
      grind ({{common}}.arith, {{grind}}.common_steps) steps 4000000)"""
-USING = "     grind ({common}.arith, {using}) steps 2000000,\n"
-WAYS = {"search": SEARCH, "steps": STEPS, "elements": ELEMENTS, "all": ALL}
+# How an answer begins in a file of them, with the name of its goal.
+ANSWERS = r"(?:--.*\n)*pub (\S+) : \S+\.\1\n"
+# In which order they are tried on a goal, those of a round side by side.
+ROUNDS = (("search", "tests"), ("using", "steps", "elements"), ("all",))
 
 
 class Answers:
@@ -56,13 +62,24 @@ class Answers:
         paths = [it.strip().split("::") for it in found[1].split(",") if it.strip()] if found else []
         return [f"{self.name('.'.join(['Rattle', self.crate if crate == 'crate' else crate, *words]))}.{word}" for crate, *words, word in paths]
 
+    def keep(self, wanted):
+        """Leaves out the answers to other goals than these, but for those that what is left names."""
+        parts = re.split(r"\n\n+", self.text)
+        answers = {found[1]: part for part in parts if (found := re.match(ANSWERS, part))}
+        kept = [it for it in parts if it not in answers.values()] + [answers[it] for it in wanted if it in answers]
+        for part in kept:
+            named = (answers[it] for it in re.findall(r"[^\s(),{}]+", part) if it in answers)
+            kept += [it for it in dict.fromkeys(named) if it not in kept]
+        self.text = "\n\n".join(it for it in parts if it in kept).rstrip("\n") + "\n"
+
     def has(self, goal):
         return re.search(rf"(?m)^pub {re.escape(goal)} :", self.text) is not None
 
     def with_goals(self, asked, way):
         """Returns their text with one more for each of these goals, that way, or with one to a goal that is not there."""
         names = {"goals": self.goals, "common": self.common, "grind": self.grind}
-        names["using"] = USING.format(common=self.common, using=", ".join(self.using)) if self.using else ""
+        names["using"] = "".join(f", {it}" for it in self.using)
+        names["or_using"] = f"     {WAYS['using'].format(**names)},\n" if self.using else ""
         names["unfolding"] = f"unfolding {' '.join(self.unfolding)}\n" if self.unfolding else ""
         how = WAYS[way].format(**names)
         answers = [ANSWER.format(goal=goal, words=words, how=how, **names) for goal, words in asked] or [NO_ANSWER.format(**names)]

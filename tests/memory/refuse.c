@@ -1,7 +1,8 @@
-/* Refuses one growth of a program that is started with this library before all others: the one whose number, counted
-   from 1, REFUSE names, or from there on all of them where REFUSE_ALL is set. Where COUNT names a descriptor, the number of
-   growths so far stands in its file: it is written at each, since not every program runs what is to be run at its end. Threads count
-   together. */
+/* Refuses one growth of a program that is started with this library before all others, or from there on all of them, as often as is
+   wanted of one start: the program stops before its beginning, and goes on from there in a child for each order that it gets. ORDERS and
+   REPORTS name the descriptors. An order is the number of the growth, counted from 1 (0: none), and whether all that follow it are refused too; a
+   report is the status of the child, as waitpid gives it, and how many growths it asked for. Each child reads its input from the beginning, and may
+   take SECONDS. Threads count together. */
 typedef unsigned long size;
 
 extern void *__libc_malloc(size bytes);
@@ -10,11 +11,28 @@ extern void *__libc_realloc(void *block, size bytes);
 extern void *__libc_memalign(size alignment, size bytes);
 extern int *__errno_location(void);
 extern char *getenv(const char *name);
-extern long pwrite(int descriptor, const void *bytes, size count, long offset);
+extern long read(int descriptor, void *bytes, size count);
+extern long write(int descriptor, const void *bytes, size count);
+extern long lseek(int descriptor, long offset, int whence);
+extern int close(int descriptor);
+extern void *mmap(void *at, size bytes, int protection, int flags, int descriptor, long offset);
+extern int fork(void);
+extern int waitpid(int child, int *status, int options);
+extern unsigned alarm(unsigned seconds);
+extern void _exit(int status) __attribute__((noreturn));
 
-enum { OUT_OF_MEMORY = 12, LONGEST = 20 };
+enum { OUT_OF_MEMORY = 12, READ_AND_WRITE = 3, SHARED_AND_ANONYMOUS = 0x21, BROKEN = 125 };
 
-static unsigned long asked, refused, refuses_all, count_file;
+struct order {
+    unsigned long number, refuses_all;
+};
+struct report {
+    unsigned long status, asked;
+};
+
+static struct order order;
+/* (in a page that a child shares with what started it) */
+static unsigned long *asked;
 
 static unsigned long number(const char *name) {
     const char *text = getenv(name);
@@ -24,26 +42,33 @@ static unsigned long number(const char *name) {
 }
 
 __attribute__((constructor)) static void begin(void) {
-    refuses_all = number("REFUSE_ALL");
-    refused = number("REFUSE");
-    count_file = number("COUNT");
-    asked = 0;
-}
-
-static void tell(unsigned long number) {
-    char text[LONGEST + 1];
-    int at = LONGEST;
-    unsigned long left = number;
-    text[at] = '\n';
-    do text[--at] = (char)('0' + left % 10);
-    while (left /= 10);
-    if (pwrite((int)count_file, text + at, (size)(LONGEST + 1 - at), 0) < 0) count_file = 0;
+    int orders = (int)number("ORDERS"), reports = (int)number("REPORTS");
+    if (!orders || !reports) return;
+    void *page = mmap(0, sizeof *asked, READ_AND_WRITE, SHARED_AND_ANONYMOUS, -1, 0);
+    if (page == (void *)-1) _exit(BROKEN);
+    while (read(orders, &order, sizeof order) == (long)sizeof order) {
+        asked = page;
+        *asked = 0;
+        lseek(0, 0, 0);
+        int child = fork(), status = 0;
+        if (child == 0) {
+            close(orders);
+            close(reports);
+            alarm((unsigned)number("SECONDS"));
+            return;
+        }
+        asked = 0;
+        if (child < 0 || waitpid(child, &status, 0) != child) _exit(BROKEN);
+        struct report report = {(unsigned long)status, *(unsigned long *)page};
+        if (write(reports, &report, sizeof report) != (long)sizeof report) _exit(BROKEN);
+    }
+    _exit(0);
 }
 
 static int is_refused(void) {
-    unsigned long nth = __atomic_add_fetch(&asked, 1, __ATOMIC_SEQ_CST);
-    if (count_file) tell(nth);
-    int now = refused && (nth == refused || (refuses_all && nth > refused));
+    if (!asked) return 0;
+    unsigned long nth = __atomic_add_fetch(asked, 1, __ATOMIC_SEQ_CST);
+    int now = order.number && (nth == order.number || (order.refuses_all && nth > order.number));
     if (now) *__errno_location() = OUT_OF_MEMORY;
     return now;
 }

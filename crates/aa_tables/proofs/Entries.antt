@@ -5,7 +5,6 @@ use Rattle.std.specs.List.{position, prefix_len, position_or_len, list_any, IsDi
 use Rattle.std.specs.Cmp.Lexicographic.{nat_list_eq_equiv}
 use Rattle.std.proofs.lemmas.Bool.{or_parts}
 use Rattle.std.proofs.lemmas.List.{length-map}
-use Rattle.std.proofs.lemmas.List.Quantifiers.{position-Some}
 use Rattle.std.proofs.lemmas.List.Sums.{position_or_len_is}
 use Rattle.std.proofs.lemmas.Map.Keys.{apart_from_distinct}
 use Rattle.std.proofs.lemmas.Option.{slice_get_within, get_or_from_slice_get}
@@ -20,10 +19,6 @@ pub number_in-map : {X : Type 0} (f : X → List ℕ) (xs : List X) (name : List
 number_in-map f xs name =
     ap (λ (n : ℕ). cond (nat_lt n (length xs)) (Some n) None) (prefix_len-map f (λ entry. not (bytes_eq entry name)) xs)
     ∙ ap (λ (l : ℕ). cond (nat_lt (position_or_len (λ entry. bytes_eq entry name) (map f xs)) l) (Some (position_or_len (λ entry. bytes_eq entry name) (map f xs))) None) (sym (length-map xs f))
-
--- a number is within the table
-pub number_below : (table : List (List ℕ)) (name : List ℕ) (n : ℕ) → number_in table name ≡ Some n → n < length table
-number_below table name n e = (position-Some (λ entry. bytes_eq entry name) table n [] e).0
 
 -- whether no name stands twice
 unfoldable pub all_differ : List (List ℕ) → Bool

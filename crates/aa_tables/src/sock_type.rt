@@ -1,13 +1,18 @@
 //! Types of sockets by name.
 
-ghost use Rattle.std.specs.Prelude.{◌≡◌, ◌<◌, ℕ, Some, length, slice_get};
+ghost use Rattle.std.specs.Prelude.{◌≡◌, ◌<◌, ℕ, Some, length, map, slice_get};
 ghost use Rattle.aa_tables.specs.Tables.{number_in, sock_type_names};
 
 use crate::table::{name_at, number_in};
 use std::marker::Model;
 
 /// The names, each at its number.
-const NAMES: [&str; 6] = ["stream", "dgram", "seqpacket", "rdm", "raw", "packet"];
+fn names() -> &'static [&'static str]
+    ensures entries { map (λ entry. entry.now) result.now ≡ sock_type_names }
+    ensures count { length result.now ≡ 6 }
+{
+    &["stream", "dgram", "seqpacket", "rdm", "raw", "packet"]
+}
 
 /// A type of sockets (apparmor.d(5), "Network rules"), by its number in a table of our own.
 #[derive(Clone, Copy, Debug, PartialEq, Eq)]
@@ -30,7 +35,7 @@ impl SockType {
     pub fn from_name(name: &[u8]) -> Option<SockType>
         ensures { result ≡ number_in sock_type_names name.now }
     {
-        let number = number_in(&NAMES, name)?;
+        let number = number_in(names(), name)?;
         Some(SockType {
             number: number as u8,
         })
@@ -49,6 +54,6 @@ impl SockType {
         ensures entry { slice_get sock_type_names self ≡ Some result.now }
         ensures only { number_in sock_type_names result.now ≡ Some self }
     {
-        name_at(&NAMES, self.number as usize)
+        name_at(names(), self.number as usize)
     }
 }

@@ -1,16 +1,10 @@
-use Rattle.std.proofs.Common.{refl}
+use Rattle.std.proofs.Common.{refl, sym, ap, ◌∙◌, slice_get}
 use Rattle.aa_tables.specs.Tables.{sock_type_names}
 use Rattle.aa_tables.proofs.Entries.{found_at, all_differ}
 use Rattle.aa_tables.proofs.sock_type.SockType.name.Goals as goal
 
-pub name_at-requires : goal.name_at-requires
-unfolding sock_type_names
-name_at-requires c = c.self.invariant
-
-pub returns-clause-entry : goal.returns-clause-entry
-unfolding sock_type_names
-returns-clause-entry c = rw (← c.self.view_is) c.name_at.ensures
-
 pub returns-clause-only : goal.returns-clause-only
 unfolding sock_type_names all_differ
-returns-clause-only c = rw (← c.self.view_is) (found_at sock_type_names c.self.inside.number _ refl c.name_at.ensures)
+returns-clause-only c =
+    let at = sym (ap (λ table. slice_get table c.self.inside.number) c.names.ensures.entries) ∙ c.name_at.ensures in
+    rw (← c.self.view_is) (found_at sock_type_names c.self.inside.number _ refl at)
