@@ -1,12 +1,12 @@
 //! Reads a job, decides its requests, and writes the verdicts.
 #![tactic(auto)]
 
-mod command;
+ghost use Rattle.aa_arguments.specs.Commands.{IsAskable};
 
+use aa_arguments::{Command, command_named};
 use aa_engine::{RunFault, check_job, replay_job, run_job};
 use clap::Error;
 use clap::error::ErrorKind;
-use command::{Command, command_named};
 use std::process::ExitCode;
 use std::sync::Wait;
 use std::thread::Threads;
@@ -67,21 +67,15 @@ fn answer_job<H: Threads + Wait + Sync>(
     rt: &HostRuntime,
     threads: &H,
     command: Command,
-) -> Result<(), RunFault> {
+) -> Result<(), RunFault>
+    requires { IsAskable command }
+{
     let alloc = rt.alloc();
     let mut reader = rt.reader();
     let mut writer = io::writer(rt);
     match command {
         Command::Check => check_job(alloc, &mut reader, &mut writer),
-        Command::Run(workers) => {
-            run_job(
-                threads,
-                alloc,
-                &mut reader,
-                &mut writer,
-                workers.clamp(1, 16),
-            )
-        },
+        Command::Run(workers) => run_job(threads, alloc, &mut reader, &mut writer, workers),
         Command::Replay => replay_job(alloc, &mut reader, &mut writer),
     }
 }

@@ -1,5 +1,8 @@
 //! The command line.
 
+ghost use Rattle.std.specs.Prelude.{IfOk};
+ghost use Rattle.aa_arguments.specs.Commands.{IsWorkers, IsAskable};
+
 use clap::{Arg, ArgAction, ArgMatches, Error, value_parser};
 use std::alloc::{AllocError, Global};
 
@@ -110,15 +113,20 @@ fn command_line<'a>(alloc: Global) -> Result<clap::Command<'a>, AllocError> {
 }
 
 /// The number of workers that is given; one where there is none.
-fn workers_of(matches: Option<&ArgMatches>) -> u32 {
-    match matches {
+fn workers_of(matches: Option<&ArgMatches>) -> u32
+    ensures { IsWorkers result }
+{
+    let given = match matches {
         Some(matches) => matches.get_one::<u32>(WORKERS).unwrap_or(1),
         None => 1,
-    }
+    };
+    given.clamp(1, 16)
 }
 
 /// The command that the words of a command line name; the first word is the program's name.
-pub fn command_named(alloc: Global, words: &[String]) -> Result<Command, Error> {
+pub fn command_named(alloc: Global, words: &[String]) -> Result<Command, Error>
+    ensures { IfOk result IsAskable }
+{
     let matches = command_line(alloc)?.try_get_matches_from(words)?;
     match matches.subcommand_name() {
         Some("check") => Ok(Command::Check),
