@@ -1,13 +1,13 @@
 -- A text comes to the same at each depth that is deep enough.
-use Rattle.std.proofs.Common.{◌≡◌, ◌≢◌, ℕ, zero, suc, ◌≤◌, ◌⊎◌, max, Bool, true, false, cond, List, [], ◌∷◌, length, Option, Some, None, Result, Err, refl, sym, ap, ◌∙◌, subst, inl, inr, arith, lt-ltb}
+use Rattle.std.proofs.Common.{◌≡◌, ◌≢◌, ℕ, zero, suc, ◌≤◌, ◌⊎◌, max, Bool, cond, List, [], ◌∷◌, length, Option, Result, Err, refl, sym, ap, ◌∙◌, subst, inl, inr, arith, lt-ltb}
 use Rattle.std.specs.Prelude.{nat_lt, if◌then◌else◌}
 use Rattle.std.proofs.lemmas.Bool.{cases_lt, le-ltb}
 use Rattle.aa_faults.specs.declared.fault.PolicyKind.{PolicyKind}
 use Rattle.aa_faults.specs.declared.fault.PolicyKind.TheVariants.{Unsupported, VariableCircle, TooManyExpansions}
 use Rattle.aa_reader.specs.declared.sign.Token.{Token}
-use Rattle.aa_glob.specs.Pieces.{Piece, Plain, Use, Broken, pieces}
+use Rattle.aa_glob.specs.Pieces.{Piece, pieces}
 use Rattle.aa_glob.specs.Variables.{Variable, values_of}
-use Rattle.aa_glob.specs.Expansions.{Outcome, Texts, Stops, Deeper, both, alone, joined, in_turn, of_values, counted, is_reserved, outcome, outcome_of, expansions, Expands, in_walk, in_circle, too_many, as_texts, ExpandsOnce}
+use Rattle.aa_glob.specs.Expansions.{Outcome, Texts, Stops, Deeper, both, alone, joined, in_turn, of_values, is_reserved, outcome, outcome_of, expansions, Expands, in_walk, in_circle, too_many, as_texts, ExpandsOnce}
 
 -- where both come to texts, those that c makes of them
 abbrev pub joins : (List (List ℕ) → List (List ℕ) → List (List ℕ)) → Outcome → Outcome → Outcome
@@ -18,21 +18,11 @@ abbrev pub Below : Outcome → Outcome → Type 0
 Below x y = (x ≡ Deeper) ⊎ (x ≡ y)
 
 below_joins : (c : List (List ℕ) → List (List ℕ) → List (List ℕ)) (x x' y y' : Outcome) → Below x x' → Below y y' → Below (joins c x y) (joins c x' y')
-below_joins c x x' y y' (inl e) b = inl (ap (λ z. joins c z y) e)
-below_joins c x x' y y' (inr e) (inr g) = inr (ap (λ z. joins c z y) e ∙ ap (joins c x') g)
-below_joins c (Texts m ts) x' y y' (inr e) (inl g) = inl (ap (joins c (Texts m ts)) g)
-below_joins c (Stops fault) x' y y' (inr e) (inl g) = inr (ap (λ z. joins c z y') e)
-below_joins c Deeper x' y y' (inr e) (inl g) = inl refl
-
-below_counted : (x y : Outcome) → Below x y → Below (counted x) (counted y)
-below_counted x y (inl e) = inl (ap counted e)
-below_counted x y (inr e) = inr (ap counted e)
+below_joins c x x' y y' a b = grind arith
 
 module _ (of other : List ℕ → Outcome) (each : (n : List ℕ) → Below (of n) (other n)) where
   pub alone_below : (p : Piece) → Below (alone of p) (alone other p)
-  alone_below (Plain b) = inr refl
-  alone_below (Use name) = each name
-  alone_below Broken = inr refl
+  alone_below p = grind (arith, each)
 
   joined_below : (ps : List Piece) → Below (joined of ps) (joined other ps)
   unfolding joined
@@ -45,9 +35,7 @@ module _ (of other : List ℕ → Outcome) (each : (n : List ℕ) → Below (of 
   in_turn_below (v ∷ vs) = below_joins _ (joined of (pieces v)) (joined other (pieces v)) (in_turn of vs) (in_turn other vs) (joined_below (pieces v)) (in_turn_below vs)
 
   values_below : (b : Bool) (o : Option (List (List ℕ))) → Below (cond b (Stops Unsupported) (of_values of o)) (cond b (Stops Unsupported) (of_values other o))
-  values_below true o = inr refl
-  values_below false None = inr refl
-  values_below false (Some values) = below_counted (in_turn of values) (in_turn other values) (in_turn_below values)
+  values_below b o = grind (arith, in_turn_below)
 
 pub outcome_below : (vars : List Variable) (d e : ℕ) → d ≤ e → (name : List ℕ) → Below (outcome d vars name) (outcome e vars name)
 unfolding outcome
@@ -59,21 +47,17 @@ outcome_below vars (suc d) (suc e) le name =
 -- outcomes that are each below those of more depth
 module _ (of : ℕ → Outcome) (up : (d e : ℕ) → d ≤ e → Below (of d) (of e)) where
   same : (d e : ℕ) → d ≤ e → of d ≢ Deeper → of d ≡ of e
-  same d e le some = by (up d e le)
-    where
-      by : Below (of d) (of e) → of d ≡ of e
-      by (inl deeper) = absurd (some deeper)
-      by (inr is) = is
+  same d e le some = grind (arith, up d e le)
 
   one_outcome : (d e : ℕ) → of d ≢ Deeper → of e ≢ Deeper → of d ≡ of e
   one_outcome d e a b = grind (arith, cases_lt, same)
 
-  one_texts : (d e m n : ℕ) (ts us : List (List ℕ)) → of d ≡ Texts m ts → of e ≡ Texts n us → Texts m ts ≡ Texts n us
-  one_texts d e m n ts us a b = sym a ∙ one_outcome d e (λ z. absurd (cc (sym a ∙ z))) (λ z. absurd (cc (sym b ∙ z))) ∙ b
+  one_texts : (d e m n : ℕ) (ts us : List (List ℕ)) → of d ≡ Texts m ts → of e ≡ Texts n us → ts ≡ us
+  one_texts d e m n ts us a b = grind (arith, one_outcome d e)
 
   -- at more depth it is those texts, and at less it is deeper or they
   pub texts_above : (n d m : ℕ) (ts : List (List ℕ)) → n ≤ d → of n ≡ Texts m ts → of d ≡ Texts m ts
-  texts_above n d m ts le e = sym (same n d le (λ z. absurd (cc (sym e ∙ z)))) ∙ e
+  texts_above n d m ts le e = grind (arith, up n d le)
 
   pub texts_near : (n d m : ℕ) (ts : List (List ℕ)) → of n ≡ Texts m ts → Below (of d) (Texts m ts)
   texts_near n d m ts e = subst (Below (of d)) (texts_above n (max n d) m ts (omega arith) e) (up d (max n d) (omega arith))
@@ -85,10 +69,10 @@ pub pieces_up : (vars : List Variable) (ps : List Piece) (d e : ℕ) → d ≤ e
 pieces_up vars ps d e le = joined_below (outcome d vars) (outcome e vars) (outcome_below vars d e le) ps
 
 pub same_name : (vars : List Variable) (name : List ℕ) (d e m n : ℕ) (ts us : List (List ℕ)) → outcome d vars name ≡ Texts m ts → outcome e vars name ≡ Texts n us → ts ≡ us
-same_name vars name d e m n ts us a b = let t : Texts m ts ≡ Texts n us = one_texts (λ k. outcome k vars name) (λ j k le. outcome_below vars j k le name) d e m n ts us a b in cc t
+same_name vars name = one_texts (λ k. outcome k vars name) (λ j k le. outcome_below vars j k le name)
 
 pub same_texts : (vars : List Variable) (ps : List Piece) (d e m n : ℕ) (ts us : List (List ℕ)) → joined (outcome d vars) ps ≡ Texts m ts → joined (outcome e vars) ps ≡ Texts n us → ts ≡ us
-same_texts vars ps d e m n ts us a b = let t : Texts m ts ≡ Texts n us = one_texts (λ k. joined (outcome k vars) ps) (pieces_up vars ps) d e m n ts us a b in cc t
+same_texts vars ps = one_texts (λ k. joined (outcome k vars) ps) (pieces_up vars ps)
 
 -- what an outcome is refused for or expands to
 abbrev answer : Outcome → Result (List (List Token)) PolicyKind
@@ -111,10 +95,7 @@ module _ (vars : List Variable) (raw : List ℕ) where
   answers (as_texts d most ts e few) = grind (arith, le-ltb)
 
   one_answer : (r s : Result (List (List Token)) PolicyKind) → Answers r → Answers s → r ≡ s
-  one_answer r s (inl x) (inl y) = x.2 ∙ ap answer (one_outcome at (pieces_up vars (pieces raw)) x.0 y.0 x.1 y.1) ∙ sym y.2
-  one_answer r s (inl x) (inr y) = absurd (x.1 (y.0 x.0))
-  one_answer r s (inr x) (inl y) = absurd (y.1 (x.0 y.0))
-  one_answer r s (inr x) (inr y) = x.1 ∙ sym y.1
+  one_answer r s a b = grind (arith, one_outcome at (pieces_up vars (pieces raw)))
 
 pub expands_once : ExpandsOnce
 expands_once vars raw one other a b = one_answer vars raw one other (answers vars raw a) (answers vars raw b)

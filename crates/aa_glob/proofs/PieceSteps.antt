@@ -8,10 +8,6 @@ pub name_step : (s : List ℕ) (i d : ℕ) → i < length s → name_len (drop i
 unfolding name_len
 name_step s i d h = at_drop_more name_len s i d h
 
-pub name_nil : name_len [] ≡ 0
-unfolding name_len
-name_nil = refl
-
 pub names_end : (s : List ℕ) (n i : ℕ) → length s ≤ i → i ≤ length s → n ≡ i + name_len (drop i s) → length s ≡ n
 unfolding name_len
 names_end s n i le ge so_far = omega (arith, at_drop_all name_len s i le)
@@ -27,15 +23,13 @@ pieces_skip (suc n) (b ∷ s) = pieces_skip n s
 pub part_plain : (kept : Bool) (b : ℕ) (s : List ℕ) (keep : Bool) → (not kept && (b == 64) && begins_with 123 s) ≡ false → keep ≡ (not kept && (b == 92)) →
     pieces_from kept 0 (b ∷ s) ≡ Plain b ∷ pieces_from keep 0 s
 unfolding pieces_from
-part_plain true b s keep e k = ap (λ c. Plain b ∷ pieces_from c 0 s) (sym k)
-part_plain false b s keep e k = grind (arith)
+part_plain kept b s keep e k = grind arith
 
 -- what a name would be comes first
 pub part_named : (kept : Bool) (b : ℕ) (s : List ℕ) (rest : List Piece) → (not kept && (b == 64) && begins_with 123 s) ≡ true → behind_name (name_at (drop 1 s)) (λ n. pieces_from false n s) ≡ rest →
     pieces_from kept 0 (b ∷ s) ≡ rest
 unfolding pieces_from
-part_named true b s rest e is = absurd cc
-part_named false b s rest e is = ap (λ c. cond c (behind_name (name_at (drop 1 s)) (λ n. pieces_from false n s)) (Plain b ∷ pieces_from (b == 92) 0 s)) e ∙ is
+part_named kept b s rest e is = grind arith
 
 pub part_use : (o : Option (List ℕ)) (name s : List ℕ) (n : ℕ) → o ≡ Some name → n ≡ length name → behind_name o (λ k. pieces_from false k s) ≡ Use name ∷ pieces_from false 0 (drop (n + 2) s)
 part_use o name s n e k = ap (λ p. behind_name p (λ m. pieces_from false m s)) e ∙ ap (λ ps. Use name ∷ ps) (pieces_skip (length name + 2) s) ∙ ap (λ m. Use name ∷ pieces_from false 0 (drop (m + 2) s)) (sym k)

@@ -1,5 +1,5 @@
 -- The steps on the way of a walk.
-use Rattle.std.proofs.Common.{◌≡◌, ℕ, zero, suc, ◌+◌, ◌≤◌, max, Bool, false, List, [], ◌∷◌, Bor, Vec, Global, refl, sym, ap, ◌∙◌, subst, inl, inr, arith}
+use Rattle.std.proofs.Common.{◌≡◌, ℕ, zero, suc, ◌+◌, ◌-◌, ◌≤◌, ⊎_elim, max, Bool, false, List, [], ◌∷◌, Bor, Vec, Global, refl, sym, ap, ◌∙◌, subst, inl, inr, arith}
 use Rattle.aa_faults.specs.declared.fault.PolicyKind.{PolicyKind}
 use Rattle.aa_glob.specs.declared.walk.Step.{Step}
 use Rattle.aa_glob.specs.Variables.{Variable}
@@ -7,6 +7,7 @@ use Rattle.aa_glob.specs.Pieces.{Piece, Use, pieces, pieces_from}
 use Rattle.aa_glob.specs.Expansions.{Outcome, Texts, Stops, Deeper, followed, and_then, alone, joined, in_turn, outcome, outcome_of, counted}
 use Rattle.aa_glob.specs.Known.{Table, IsKnown, AreKnown, AreTextsKnown}
 use Rattle.aa_glob.specs.Ways.{Faults, Passes, items_of, pieces_left, rest_of, IsPart, Calls, OnWay, IsAmong}
+use Rattle.aa_glob.proofs.PieceSteps.{part_none}
 use Rattle.aa_glob.proofs.Depths.{Below, texts_above, texts_near, piece_up, outcome_below}
 use Rattle.aa_glob.proofs.Summaries.{variable_is}
 
@@ -23,16 +24,13 @@ deeper_bad x h = subst IsBad (sym h) tt
 
 -- what stops or goes deeper behind texts does so as a whole
 bad_behind : (J K : Outcome) (m : ℕ) (ts : List (List ℕ)) → IsBad (and_then J K) → and_then (followed (Texts m ts) J) K ≡ and_then J K
-bad_behind (Texts n us) (Texts k vs) m ts b = absurd b
-bad_behind J K m ts b = refl
+bad_behind J K m ts b = grind arith
 
 bad_after : (m : ℕ) (ts : List (List ℕ)) (X : Outcome) → IsBad X → and_then (Texts m ts) X ≡ X
-bad_after m ts (Texts n us) b = absurd b
-bad_after m ts X b = refl
+bad_after m ts X b = grind arith
 
 bad_within : (m : ℕ) (ts : List (List ℕ)) (X : Outcome) → IsBad (and_then (Texts m ts) X) → and_then (Texts m ts) X ≡ X
-bad_within m ts (Texts n us) b = absurd b
-bad_within m ts X b = refl
+bad_within m ts X b = grind arith
 
 -- where the one is bad, so is the other
 passes_same : (a b whole : ℕ → Outcome) → ((d : ℕ) → IsBad (a d) → b d ≡ a d) → Passes b whole → Passes a whole
@@ -49,14 +47,6 @@ one_piece of p ps all e = ap (joined of) e
 one_value : (of : List ℕ → Outcome) (v : List ℕ) (vs : List (List ℕ)) → in_turn of (v ∷ vs) ≡ and_then (joined of (pieces v)) (in_turn of vs)
 unfolding in_turn
 one_value of v vs = refl
-
-pub value_alone : (of : List ℕ → Outcome) (v : List ℕ) → in_turn of (v ∷ []) ≡ and_then (joined of (pieces v)) (Texts 0 [])
-unfolding in_turn
-value_alone of v = refl
-
-no_rest : (kept : Bool) → pieces_from kept 0 [] ≡ []
-unfolding pieces_from
-no_rest kept = refl
 
 module _ (vars : List Variable) where
   abbrev values_at : List (Vec ℕ Global) → ℕ → Outcome
@@ -87,15 +77,11 @@ module _ (vars : List Variable) where
       P : ℕ → Outcome
       P d = alone (outcome d vars) p
 
-      is : (d : ℕ) (x : Outcome) → P d ≡ x → rest_of vars f d ≡ and_then (followed x (joined (outcome d vars) (pieces_from keep 0 behind.now))) (values_at f.later.now d)
-      is d x h = next_is f p (pieces_from keep 0 behind.now) d e ∙ ap (λ y. and_then (followed y (joined (outcome d vars) (pieces_from keep 0 behind.now))) (values_at f.later.now d)) h
-
       at : (d : ℕ) → P d ≡ Texts m ts → IsBad (next d) → rest_of vars f d ≡ next d
-      at d h b = is d (Texts m ts) h ∙ bad_behind (joined (outcome d vars) (pieces_from keep 0 behind.now)) (values_at f.later.now d) m ts b
+      at d h b = grind (arith, bad_behind, next_is f p (pieces_from keep 0 behind.now) d e)
 
       deep : (d : ℕ) → next d ≡ Deeper → Below (P d) (Texts m ts) → rest_of vars f d ≡ Deeper
-      deep d h (inl deeper) = is d Deeper deeper
-      deep d h (inr texts) = at d texts (deeper_bad (next d) h) ∙ h
+      deep d h b = grind (arith, bad_behind, next_is f p (pieces_from keep 0 behind.now) d e)
 
   -- the next value
   pub part_value : (done : Table) (texts : List (List ℕ)) (f : Step) (text : Bor (List ℕ)) (others : Bor (List (Vec ℕ Global))) (v : Vec ℕ Global) → pieces_left f ≡ [] → f.later.now ≡ v ∷ others.now →
@@ -104,7 +90,7 @@ module _ (vars : List Variable) where
 
   -- a variable before its first value
   pub part_variable : (done : Table) (g : Step) → g.rest.now ≡ [] → g.later.now ≡ g.all.now → IsPart vars done (items_of g.all.now) g
-  part_variable done g none all = grind (arith, bad_within, passes_same, no_rest, end_is)
+  part_variable done g none all = grind (arith, bad_within, passes_same, part_none, end_is)
 
   -- the raw text
   pub part_raw : (done : Table) (f : Step) (raw : List ℕ) → f.kept ≡ false → f.rest.now ≡ raw → f.later.now ≡ [] → IsPart vars done (raw ∷ []) f
@@ -118,16 +104,15 @@ module _ (vars : List Variable) where
   next_stops f p behind e from is stops = record { from = from; stops = λ d h. next_is f p behind d is ∙ ap (λ x. and_then (followed x (joined (outcome d vars) behind)) (values_at f.later.now d)) (stops d h) }
 
   raw_bad : (raw : List ℕ) (d : ℕ) (x : Outcome) → IsBad x → in_turn (outcome d vars) (raw ∷ []) ≡ x → outcome_of d vars raw ≡ x
-  raw_bad raw d x b h = grind (arith, value_alone)
+  unfolding in_turn
+  raw_bad raw d x b h = grind arith
 
   pub way_stops : (done : Table) (raw : List ℕ) (e : PolicyKind) (g : Step) (fs : List Step) → OnWay vars done raw g fs → Faults (rest_of vars g) e → Faults (λ d. outcome_of d vars raw) e
   way_stops done raw e g [] w fault = grind (arith, raw_bad)
   way_stops done raw e g (f ∷ fs) w fault =
-      let whole = w.0.passes.stops e fault in way_stops done raw e f fs w.2 (next_stops f (Use g.name.now) w.1.behind e (whole.from + 1) w.1.next (at whole))
-    where
-      at : Faults (values_at g.all.now) e → (d : ℕ) → (w.0.passes.stops e fault).from + 1 ≤ d → outcome d vars g.name.now ≡ Stops e
-      at whole zero h = absurd (omega arith)
-      at whole (suc d) h = variable_is d vars g.name.now (items_of g.all.now) w.1.plain w.1.defined ∙ ap counted ((w.0.passes.stops e fault).stops d (omega arith))
+      let whole = w.0.passes.stops e fault in
+      let own = λ (d : ℕ) (le : whole.from ≤ d). variable_is d vars g.name.now (items_of g.all.now) w.1.plain w.1.defined ∙ ap counted (whole.stops d le) in
+      way_stops done raw e f fs w.2 (next_stops f (Use g.name.now) w.1.behind e (whole.from + 1) w.1.next (λ d h. subst (λ n. outcome n vars g.name.now ≡ Stops e) (omega arith) (own (d - 1) (omega arith))))
 
   -- the variable that comes next at the top is on the way already: it goes deeper than any depth
   called_deeper : (f g : Step) (done : Table) (d : ℕ) → IsPart vars done (items_of g.all.now) g → Calls vars f g.name.now (items_of g.all.now) → rest_of vars g d ≡ Deeper → outcome (suc d) vars g.name.now ≡ Deeper
@@ -137,11 +122,8 @@ module _ (vars : List Variable) where
   next_deeper f name behind d next h = next_is f (Use name) behind d next ∙ ap (λ x. and_then (followed x (joined (outcome d vars) behind)) (values_at f.later.now d)) h
 
   caller_deeper : (f g : Step) (done : Table) (d : ℕ) → IsPart vars done (items_of g.all.now) g → Calls vars f g.name.now (items_of g.all.now) → rest_of vars g d ≡ Deeper → rest_of vars f d ≡ Deeper
-  caller_deeper f g done d part c h = next_deeper f g.name.now c.behind d c.next (by (outcome_below vars d (suc d) (omega arith) g.name.now))
-    where
-      by : Below (outcome d vars g.name.now) (outcome (suc d) vars g.name.now) → outcome d vars g.name.now ≡ Deeper
-      by (inl deeper) = deeper
-      by (inr same) = same ∙ called_deeper f g done d part c h
+  caller_deeper f g done d part c h =
+      next_deeper f g.name.now c.behind d c.next (⊎_elim (λ e. e) (λ same. same ∙ called_deeper f g done d part c h) (outcome_below vars d (suc d) (omega arith) g.name.now))
 
   way_deeper : (done : Table) (raw : List ℕ) (d : ℕ) (g : Step) (fs : List Step) → OnWay vars done raw g fs → rest_of vars g d ≡ Deeper → outcome_of d vars raw ≡ Deeper
   way_deeper done raw d g [] w h = raw_bad raw d Deeper tt (w.passes.deeper d h)

@@ -1,12 +1,12 @@
 use Rattle.std.proofs.lemmas.Grind.{common_steps}
-use Rattle.std.proofs.Common.{◌-◌, ◌∙◌, [], ap, arith, get_or, sym, Vec, ℕ, Global}
+use Rattle.std.proofs.Common.{suc, ◌-◌, ◌∙◌, [], ap, arith, get_or, sym, Vec, ℕ, Global}
 use Rattle.std.proofs.lemmas.List.{get_or-map, length-map}
 use Rattle.aa_glob.specs.Ways.{items_of}
 use Rattle.aa_glob.proofs.Builds.{value_picked, ends_rise}
 use Rattle.aa_glob.proofs.building.value_at.Goals as goal
 
 pub ends_up_to-place-requires : goal.ends_up_to-place-requires
-ends_up_to-place-requires c = let r = c.requires in ends_rise r.1 0 (items_of c.args.values.now) c.args.ends.now r.3
+ends_up_to-place-requires c = let r = c.requires in λ i j d le h. ends_rise r.1 0 (items_of c.args.values.now) c.args.ends.now r.3 (suc i) (suc j) d (omega arith) (omega arith)
 
 pub unreachable-requires : goal.unreachable-requires
 unreachable-requires c =

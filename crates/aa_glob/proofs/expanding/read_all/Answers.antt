@@ -5,14 +5,14 @@ use Rattle.aa_patterns.specs.declared.pattern.Pattern.{Pattern}
 use Rattle.aa_glob.specs.Built.{text_of}
 use Rattle.aa_reader.specs.Reading.{spelled}
 use Rattle.aa_glob.specs.Expansions.{expansion}
-use Rattle.aa_glob.proofs.ExpandSteps.{behind_read, built_same, read_more, read_refused, read_end, read_start, stands_start}
+use Rattle.aa_glob.proofs.ExpandSteps.{behind_read, built_same, read_more, read_refused, read_end}
 use Rattle.aa_glob.proofs.expanding.read_all.Goals as goal
 
 pub loop-number-init : goal.loop-number-init
-loop-number-init c = grind (arith, common_steps, behind_read, read_start)
+loop-number-init c = grind (arith, common_steps, behind_read)
 
 pub build-requires-clause-stands : goal.build-requires-clause-stands
-build-requires-clause-stands c = grind (arith, common_steps, stands_start)
+build-requires-clause-stands c = grind (arith, common_steps)
 
 pub returns-in-Err : goal.returns-in-Err
 returns-in-Err c = λ most ts e few count other.

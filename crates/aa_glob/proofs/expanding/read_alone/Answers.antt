@@ -1,10 +1,12 @@
 use Rattle.std.proofs.lemmas.Grind.{common_steps}
 use Rattle.std.proofs.Common.{arith}
-use Rattle.aa_glob.proofs.ExpandSteps.{one_read, one_refused}
+use Rattle.aa_glob.specs.Expansions.{expansions}
 use Rattle.aa_glob.proofs.expanding.read_alone.Goals as goal
 
 pub returns-in-Err : goal.returns-in-Err
-returns-in-Err c = λ other. one_refused c.args.text.now c.in-Err.fault (c.in-Err.ensures other)
+unfolding expansions
+returns-in-Err c = grind (arith, common_steps)
 
 pub returns : goal.returns
-returns c = grind (arith, common_steps, one_read)
+unfolding expansions
+returns c = grind (arith, common_steps)

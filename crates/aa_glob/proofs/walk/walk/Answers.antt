@@ -3,7 +3,8 @@ use Rattle.aa_glob.specs.Pieces.{Plain, Broken, pieces_from}
 use Rattle.aa_glob.specs.Parts.{piece_of}
 use Rattle.aa_glob.specs.Ways.{unread, unread_all}
 use Rattle.aa_glob.specs.declared.pieces.Part.{Part}
-use Rattle.aa_glob.proofs.Tables.{IsPut, put_in, none_left}
+use Rattle.aa_glob.proofs.Tables.{IsPut, put_in}
+use Rattle.std.proofs.lemmas.List.{nil_from_length}
 use Rattle.aa_glob.proofs.Walks.{walk_start, walk_part, walk_value, walk_values, walk_texts, walk_back, walk_end, walk_stops, unseen_less, unread_push}
 use Rattle.aa_glob.proofs.walk.walk.Goals as goal
 
@@ -38,15 +39,15 @@ loop-part-smaller c =
 
 pub returns-in_default-pop-clause-ok : goal.returns-in_default-pop-clause-ok
 returns-in_default-pop-clause-ok c =
-    walk_end c.loop-part.invariant (none_left c.loop-part.stack.items (omega (arith, c.in_default-pop.ensures.cases.0, c.loop-part.stack.ok))) c.in_default.ensures.first (none_left _ c.in_default-split_first.ensures.cases)
+    walk_end c.loop-part.invariant (nil_from_length c.loop-part.stack.items (omega (arith, c.in_default-pop.ensures.cases.0, c.loop-part.stack.ok))) c.in_default.ensures.first (nil_from_length _ c.in_default-split_first.ensures.cases)
 
 pub variable_summary-requires : goal.variable_summary-requires
-variable_summary-requires c = walk_texts c.loop-part.invariant _ _ c.in-Some-pop.ensures.items c.in_default.ensures.first (none_left _ c.in_default-split_first.ensures.cases)
+variable_summary-requires c = walk_texts c.loop-part.invariant _ _ c.in-Some-pop.ensures.items c.in_default.ensures.first (nil_from_length _ c.in_default-split_first.ensures.cases)
 
 pub loop-part-preserved : goal.loop-part-preserved
 loop-part-preserved c =
     let called = walk_values c.loop-part.invariant _ _ c.in-Some-pop.ensures.items in
     walk_back c.loop-part.invariant _ _ c.in-Some-pop.ensures.items
     (put_in c.loop-part.done.entries c.insert.new.self.entries c.loop-part.top.name _ c.in_ok-insert.field-0 c.in_ok-insert.ensures.old c.in_ok-insert.ensures.len c.in_ok-insert.ensures.updates.0)
-    c.in_default.ensures.first (none_left _ c.in_default-split_first.ensures.cases) (λ depth right. c.in_ok-summary.ensures.texts depth c.args.vars.now c.loop-part.top.name.now right called.0 called.1)
+    c.in_default.ensures.first (nil_from_length _ c.in_default-split_first.ensures.cases) (λ depth right. c.in_ok-summary.ensures.texts depth c.args.vars.now c.loop-part.top.name.now right called.0 called.1)
     (c.in_ok-summary.ensures.ends (length c.loop-part.done.entries) c.args.vars.now (c.loop-part.invariant.right (length c.loop-part.done.entries) (omega arith)))
