@@ -6,7 +6,7 @@ use Rattle.std.proofs.Math.Seq.{take-length, take-append_seam}
 use Rattle.std.specs.Option.{is_none}
 use Rattle.aa_machine.specs.Run.{state_after}
 use Rattle.aa_lane.specs.Ends.{LaneSeen, OwnerSeen}
-use Rattle.aa_lane.specs.Answers.{answered_from, collected_by, sent_of, left_of, collected_of, uncollected_of, Collects}
+use Rattle.aa_lane.specs.Answers.{answered_from, collected_by, sent_of, left_of, collected_of, Collects}
 use Rattle.aa_lane.specs.declared.lane.Answered.{Answered}
 use Rattle.aa_feed.specs.Fed.{IsFed, HasLeft, HasCollected, IsFeed, all_of}
 
@@ -33,10 +33,6 @@ module _ {M S Q A : Type 0} (next : M → S → Q → S) (reply : M → S → Q 
         within = rw (got, sent) (omega arith);
         right = (λ i. h.right i ++ a ∷ []) ∙ sym more;
       }
-
-  -- a look finds no answer
-  pub looked : (l : LaneSeen M S) (o o' : OwnerSeen M S Q A) (answered : List (Answered M S Q A)) → IsFed next reply l o answered → o' ≡ uncollected_of o o'.found o'.log → IsFed next reply l o' answered
-  looked l o o' answered h e = subst (λ p. IsFed next reply l p answered) (sym e) (record { of = h.of; count = h.count; within = h.within; right = h.right })
 
   -- a request more is accepted
   pub accepted : (l : LaneSeen M S) (o o' : OwnerSeen M S Q A) (answered : List (Answered M S Q A)) (q : Q) → IsFed next reply l o answered → o' ≡ sent_of o q o'.log

@@ -1,5 +1,5 @@
 -- Rooms for answers, and lanes that were closed.
-use Rattle.std.proofs.Common.{◌≡◌, ℕ, suc, ◌≤◌, List, [], ◌∷◌, ◌++◌, All, map, length, take, drop, vec_capacity, sym, refl, ap, ◌∙◌, arith}
+use Rattle.std.proofs.Common.{◌≡◌, ℕ, suc, ◌≤◌, List, [], ◌∷◌, ◌++◌, All, map, length, vec_capacity, refl, arith}
 use Rattle.std.specs.Global.{Vec}
 use Rattle.std.specs.VecDeque.{deque_len}
 use Rattle.aa_lane.specs.Ends.{LaneSeen}
@@ -8,7 +8,6 @@ use Rattle.aa_feed.specs.Answers.{AreRooms}
 use Rattle.aa_feed.specs.Closed.{WereClosed, AreOutcomes}
 use Rattle.aa_feed.specs.declared.close.Outcome.{Outcome}
 use Rattle.aa_feed.specs.declared.tasks.Task.{Task}
-use Rattle.aa_feed.proofs.Cuts.{Stepped, stepped}
 
 module _ {M S Q A : Type 0} where
   pub rooms_more : (ts : List (Task M S Q A)) (rs : List (Vec (Answered M S Q A))) (t : Task M S Q A) (r : Vec (Answered M S Q A)) → AreRooms ts rs → r.items ≡ [] → deque_len t.requests ≤ vec_capacity r → AreRooms (ts ++ t ∷ []) (rs ++ r ∷ [])
@@ -16,19 +15,6 @@ module _ {M S Q A : Type 0} where
   rooms_more [] (x ∷ rs) t r h e w = absurd h
   rooms_more (x ∷ ts) [] t r h e w = absurd h
   rooms_more (x ∷ ts) (y ∷ rs) t r h e w = (h.0, h.1, rooms_more ts rs t r h.2 e w)
-
-  pub room_first : (t : Task M S Q A) (ts : List (Task M S Q A)) (rs : List (Vec (Answered M S Q A))) → AreRooms (t ∷ ts) rs → AreRooms (t ∷ []) (take 1 rs)
-  room_first t ts [] h = absurd h
-  room_first t ts (r ∷ rs) h = (h.0, h.1, tt)
-
-  pub rooms_rest : (t : Task M S Q A) (ts : List (Task M S Q A)) (rs : List (Vec (Answered M S Q A))) → AreRooms (t ∷ ts) rs → AreRooms ts (drop 1 rs)
-  rooms_rest t ts [] h = absurd h
-  rooms_rest t ts (r ∷ rs) h = h.2
-
-  -- the next task begins from the state that its lane opens with
-  pub started : (ts : List (Task M S Q A)) (t : Task M S Q A) (rest : List (Task M S Q A)) (ls : List (LaneSeen M S)) (at : ℕ) → ts ≡ t ∷ rest → map (λ (t : Task M S Q A). t.start) ts ≡ map (λ (l : LaneSeen M S). l.start) (drop at ls)
-      → Stepped (λ (l : LaneSeen M S). l.start) t.start (map (λ (t : Task M S Q A). t.start) rest) ls at
-  started ts t rest ls at e is = stepped (λ (l : LaneSeen M S). l.start) t.start (map (λ (t : Task M S Q A). t.start) rest) ls at (sym (ap (map (λ (t : Task M S Q A). t.start)) e) ∙ is)
 
   pub rooms_length : (ts : List (Task M S Q A)) (rs : List (Vec (Answered M S Q A))) → AreRooms ts rs → length rs ≡ length ts
   rooms_length [] [] h = refl

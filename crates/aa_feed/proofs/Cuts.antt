@@ -1,5 +1,5 @@
 -- A list that is taken from the front, one element after another.
-use Rattle.std.proofs.Common.{◌≡◌, ℕ, zero, suc, ◌+◌, ◌<◌, List, [], ◌∷◌, ◌++◌, map, length, get_or, take, drop, sym, refl, ap, ◌∙◌, arith, add-one}
+use Rattle.std.proofs.Common.{◌≡◌, ℕ, zero, suc, ◌<◌, List, [], ◌∷◌, ◌++◌, map, length, get_or, take, drop, sym, refl, ap, ◌∙◌, arith}
 use Rattle.std.proofs.lemmas.List.{take_all, take-append-le}
 
 pub nil : {X : Type 0} (xs : List X) → length xs ≡ 0 → xs ≡ []
@@ -44,22 +44,3 @@ module _ {X L : Type 0} (k : L → X) where
   stepped x rest [] (suc at) e = let n : length (x ∷ rest) ≡ 0 = ap length e in absurd (omega arith)
   stepped x rest (l ∷ ls) zero e = record { within = omega arith; here = λ l' is. ap (λ xs. get_or xs 0 x) e ∙ ap k (sym is); left = ap (drop 1) e }
   stepped x rest (l ∷ ls) (suc at) e = let r : Stepped x rest ls at = stepped x rest ls at e in record { within = omega (arith, r.within); here = r.here; left = r.left }
-
-  rest_suc : (ls : List L) (at : ℕ) → drop 1 (map k (drop at ls)) ≡ map k (drop (suc at) ls)
-  rest_suc [] zero = refl
-  rest_suc [] (suc at) = refl
-  rest_suc (l ∷ ls) zero = refl
-  rest_suc (l ∷ ls) (suc at) = rest_suc ls at
-
-  first_is : (ls : List L) (at : ℕ) (l : L) → at < length ls → l ≡ get_or ls at l → map k (drop at ls) ≡ k l ∷ map k (drop (suc at) ls)
-  first_is [] at l below is = absurd (omega (arith, below))
-  first_is (x ∷ ls) zero l below is = λ i. k (sym is i) ∷ map k ls
-  first_is (x ∷ ls) (suc at) l below is = first_is ls at l (omega (arith, below)) is
-
-  -- behind the first of what is left, the rest is left
-  pub rest_map : (ls : List L) (at : ℕ) → drop 1 (map k (drop at ls)) ≡ map k (drop (at + 1) ls)
-  rest_map ls at = rw add-one (rest_suc ls at)
-
-  -- what is left begins with what stands at that place
-  pub first : (xs : List X) (ls : List L) (at : ℕ) (l : L) → xs ≡ map k (drop at ls) → at < length ls → l ≡ get_or ls at l → xs ≡ k l ∷ drop 1 xs
-  first xs ls at l e below is = e ∙ first_is ls at l below is ∙ ap (λ r. k l ∷ r) (sym (ap (drop 1) e ∙ rest_suc ls at))

@@ -1,7 +1,6 @@
 -- Lanes that are the same have the same answers, and the same machine.
-use Rattle.std.proofs.Common.{◌≡◌, ℕ, zero, suc, ◌<◌, List, [], ◌∷◌, map, length, drop, get_or, All, sym, refl, ap, ◌∙◌, arith}
+use Rattle.std.proofs.Common.{◌≡◌, suc, ◌<◌, List, [], ◌∷◌, map, length, drop, get_or, All, sym, refl, ap, ◌∙◌, arith}
 use Rattle.std.proofs.lemmas.List.{length-map, get_or-map}
-use Rattle.std.proofs.Math.ListN.{set, length-set}
 use Rattle.aa_lane.specs.Ends.{LaneSeen, known}
 use Rattle.aa_lane.specs.Answers.{answered_from}
 use Rattle.aa_feed.specs.Fed.{FeedSeen, AreSame, answers_of}
@@ -21,25 +20,6 @@ module _ {M S Q : Type 0} where
       let a : y.lane ≡ x.lane = h.lanes 0 x (omega arith) in
       let b : y.all ≡ x.all = h.all 0 x (omega arith) in
       λ i. k (a i) (b i) ∷ same_map k fs gs (rest x y fs gs h) i
-
-  same_at : {B : Type 0} (k : FeedSeen M S Q → B) (fs : List (FeedSeen M S Q)) (at : ℕ) (f f' : FeedSeen M S Q) → f ≡ get_or fs at f → k f' ≡ k (get_or fs at f) → (i : ℕ) (d : FeedSeen M S Q) → k (get_or (set fs at f') i d) ≡ k (get_or fs i d)
-  same_at k [] zero f f' is e i d = refl
-  same_at k [] (suc at) f f' is e i d = refl
-  same_at k (x ∷ fs) zero f f' is e zero d = e
-  same_at k (x ∷ fs) zero f f' is e (suc i) d = refl
-  same_at k (x ∷ fs) (suc at) f f' is e zero d = refl
-  same_at k (x ∷ fs) (suc at) f f' is e (suc i) d = same_at k fs at f f' is e i d
-
-  -- where one goes on with the same lane and requests, all are the same
-  pub same_set : (fs : List (FeedSeen M S Q)) (at : ℕ) (f f' : FeedSeen M S Q) → f ≡ get_or fs at f → (f'.lane ≡ (get_or fs at f).lane) × (f'.all ≡ (get_or fs at f).all) → AreSame fs (set fs at f')
-  same_set fs at f f' is e = record { len = length-set fs at f'; lanes = λ i d below. same_at (λ (f : FeedSeen M S Q). f.lane) fs at f f' is e.0 i d; all = λ i d below. same_at (λ (f : FeedSeen M S Q). f.all) fs at f f' is e.1 i d }
-
-  pub same_on : (fs gs hs : List (FeedSeen M S Q)) → AreSame fs gs → AreSame gs hs → AreSame fs hs
-  same_on fs gs hs a b = record {
-    len = b.len ∙ a.len;
-    lanes = λ i d below. b.lanes i d (omega (arith, below, a.len)) ∙ a.lanes i d below;
-    all = λ i d below. b.all i d (omega (arith, below, a.len)) ∙ a.all i d below;
-  }
 
   pub same_machine : (m : M) (fs gs : List (FeedSeen M S Q)) → AreSame fs gs → All (λ (f : FeedSeen M S Q). f.lane.machine ≡ m) fs → All (λ (f : FeedSeen M S Q). f.lane.machine ≡ m) gs
   same_machine m fs gs h all k d b = let n : k < length fs = omega (arith, h.len) in ap (λ (l : LaneSeen M S). l.machine) (h.lanes k d n) ∙ all k d n

@@ -205,58 +205,6 @@ impl<'l, 'm, M: Machine> Feed<'l, 'm, M> {
         }
     }
 
-    // Collects an answer, if there is one.
-    fn collect_next(&mut self) -> bool
-        ensures { self.new ≡ self.old }
-    {
-        let Some(owner) = &mut self.owner else {
-            return false;
-        };
-        collect(self.lane, owner, &mut self.answered, self.sent)
-    }
-
-    // Sends the first request that is left, if there is one. An owner that has left sends none.
-    fn send_next(&mut self) -> Option<Sending>
-        ensures { self.new ≡ self.old }
-    {
-        let Some(owner) = &mut self.owner else {
-            return None;
-        };
-        let Some(request) = self.left.pop_front() else {
-            return None;
-        };
-        let sending = send(
-            self.lane,
-            owner,
-            &self.answered,
-            request,
-            &mut self.left,
-            &mut self.sent,
-        );
-        self.open = sending != Sending::Closed;
-        Some(sending)
-    }
-
-    // Leaves the lane, if all answers are there. Whether the owner has left.
-    fn leave_answered(&mut self) -> bool
-        ensures same { (self.new.lane ≡ self.old.lane) × (self.new.all ≡ self.old.all) }
-        ensures finished { result ≡ true → self.new.finished ≡ true }
-    {
-        let Some(owner) = self.owner.take() else {
-            return true;
-        };
-        match leave(self.lane, owner, &self.answered, self.sent) {
-            Ok(leaver) => {
-                self.leaver = Some(leaver);
-                true
-            }
-            Err(owner) => {
-                self.owner = Some(owner);
-                false
-            }
-        }
-    }
-
     /// Collects an answer, if there is one, and sends a request, if there is room for one; or leaves the lane, if there is nothing
     /// more to come. No answer is looked for where none is to come, and no request is sent to a full lane.
     pub fn turn(&mut self) -> Turned
@@ -264,20 +212,39 @@ impl<'l, 'm, M: Machine> Feed<'l, 'm, M> {
         ensures finished { result ≡ Turned.Left → self.new.finished ≡ true }
     {
         let room = self.room();
-        let collected = self.collect_next();
+        let Some(mut owner) = self.owner.take() else {
+            return Turned::Left;
+        };
+        let collected = collect(self.lane, &mut owner, &mut self.answered, self.sent);
         let room = room.saturating_add(u64::from(collected));
         if room > 0 {
-            if let Some(sending) = self.send_next() {
+            if let Some(request) = self.left.pop_front() {
+                let sending = send(
+                    self.lane,
+                    &mut owner,
+                    &self.answered,
+                    request,
+                    &mut self.left,
+                    &mut self.sent,
+                );
+                self.open = sending != Sending::Closed;
+                self.owner = Some(owner);
                 return turned_by(sending, collected, room);
             }
         }
-        if self.leave_answered() {
-            return Turned::Left;
-        }
-        if collected {
-            Turned::Did
-        } else {
-            Turned::Waits
+        match leave(self.lane, owner, &self.answered, self.sent) {
+            Ok(leaver) => {
+                self.leaver = Some(leaver);
+                Turned::Left
+            }
+            Err(owner) => {
+                self.owner = Some(owner);
+                if collected {
+                    Turned::Did
+                } else {
+                    Turned::Waits
+                }
+            }
         }
     }
 

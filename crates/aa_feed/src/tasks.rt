@@ -1,8 +1,8 @@
 //! Tasks, and the answers to all of them.
-ghost use Rattle.std.specs.Prelude.{◌≡◌, ◌<◌, ◌≤◌, [], ◌∷◌, IfOk, IfErr, MatchOption, MatchResult, drop, length, map, take, vec_len, vec_capacity};
+ghost use Rattle.std.specs.Prelude.{◌≡◌, ◌<◌, ◌≤◌, [], IfOk, IfErr, MatchOption, MatchResult, length, map, vec_len, vec_capacity};
 ghost use Rattle.std.specs.VecDeque.{deque_len};
 ghost use Rattle.aa_lane.specs.Ends.{IsCapacity, new_owner};
-ghost use Rattle.aa_pool.specs.Opened.{AreOpened, AreEndsOf, Denies};
+ghost use Rattle.aa_pool.specs.Opened.{Denies};
 ghost use Rattle.aa_feed.specs.Answers.{AreFeedsOf, AreRooms, answers_to};
 ghost use Rattle.aa_feed.specs.Closed.{AreOutcomes};
 ghost use Rattle.aa_feed.specs.Stage.{IsStage};
@@ -17,7 +17,6 @@ use std::alloc::{AllocError, Global};
 use std::collections::VecDeque;
 use std::sync::Wait;
 use std::thread::Threads;
-use std::vec::IntoIter;
 
 /// A state to begin from, and requests in order.
 #[derive(Drop)]
@@ -76,26 +75,6 @@ fn feed_of<'l, 'm, M: Machine>(
     Feed::new(lane, capacity, owner, start, requests, room)
 }
 
-// A feed for a lane of that capacity, with the next owner and the next room.
-fn next_feed<'l, 'm, M: Machine>(
-    lane: &'l Lane<'m, M>,
-    capacity: u32,
-    owners: &mut IntoIter<Owner<M>>,
-    task: Task<M>,
-    rooms: &mut IntoIter<Vec<Answered<M>>>,
-) -> Feed<'l, 'm, M>
-    requires owner { owners.old.rest.items ≡ new_owner lane.now ∷ drop 1 owners.old.rest.items }
-    requires start { task.start ≡ lane.now.start }
-    requires room { AreRooms (task ∷ []) (take 1 rooms.old.rest.items) }
-    ensures feed { (result.lane ≡ lane.now) × (result.all ≡ task.requests.items) }
-    ensures owners { owners.new.rest.items ≡ drop 1 owners.old.rest.items }
-    ensures rooms { rooms.new.rest.items ≡ drop 1 rooms.old.rest.items }
-{
-    let owner = next_of(owners);
-    let room = next_of(rooms);
-    feed_of(lane, capacity, owner, task, room)
-}
-
 // A feed for each lane, all of that capacity.
 fn feeds_of<'l, 'm, M: Machine>(
     lanes: &'l [Lane<'m, M>],
@@ -117,7 +96,9 @@ fn feeds_of<'l, 'm, M: Machine>(
     let mut rooms = rooms.into_iter();
     let mut at = 0;
     for task in tasks {
-        feeds.push_reserved(next_feed(&lanes[at], capacity, &mut owners, task, &mut rooms));
+        let owner = next_of(&mut owners);
+        let room = next_of(&mut rooms);
+        feeds.push_reserved(feed_of(&lanes[at], capacity, owner, task, room));
         at += 1;
     }
     feeds
@@ -142,37 +123,6 @@ pub struct Stage<'m, M: Machine> {
     ghost wide: { (vec_len lanes ≤ vec_capacity served) × (vec_len lanes ≤ vec_capacity finished) × (vec_len lanes ≤ vec_capacity outcomes) },
 }
 
-// Opens a lane for each task.
-fn open_engine<'m, M: Machine>(
-    alloc: Global,
-    machine: &'m M,
-    tasks: &[Task<M>],
-    capacity: u32,
-) -> Result<Engine<'m, M>, AllocError>
-    ensures opened { IfOk result (λ e. AreOpened machine.now (map (λ t. t.start) tasks.now) capacity e.lanes.items e.owners.items e.servers.items e.shutters.items) }
-    ensures ends { IfOk result (λ e. AreEndsOf e.lanes.items e.owners.items e.servers.items e.shutters.items) }
-{
-    let starts = starts_of(alloc, tasks)?;
-    match Engine::open(alloc, machine, starts.as_slice(), capacity) {
-        Ok(engine) => Ok(engine),
-        Err(_) => Err(AllocError),
-    }
-}
-
-// Empty lists with room for so many servers, owners that have left, and outcomes.
-fn lists_for<M: Machine>(
-    alloc: Global,
-    count: usize,
-) -> Result<(Vec<Server<M>>, Vec<Finished<M>>, Vec<Outcome<M>>), AllocError>
-    ensures empty { IfOk result (λ r. (r.0.items ≡ []) × (r.1.items ≡ []) × (r.2.items ≡ [])) }
-    ensures wide { IfOk result (λ r. (count ≤ vec_capacity r.0) × (count ≤ vec_capacity r.1) × (count ≤ vec_capacity r.2)) }
-{
-    let served = Vec::with_capacity(alloc, count)?;
-    let finished = Vec::with_capacity(alloc, count)?;
-    let outcomes = Vec::with_capacity(alloc, count)?;
-    Ok((served, finished, outcomes))
-}
-
 // Opens a lane for each task, and takes the memory for all that is to come but the feeds.
 fn open_stage<'m, M: Machine>(
     alloc: Global,
@@ -183,15 +133,22 @@ fn open_stage<'m, M: Machine>(
     ensures stage { IfOk result (λ s. IsStage machine.now s.capacity tasks.now s.lanes.items s.owners.items s.servers.items s.shutters.items s.rooms.items) }
     ensures capacity { IfOk result (λ s. s.capacity ≡ capacity) }
 {
-    let engine = open_engine(alloc, machine, tasks, capacity)?;
+    let starts = starts_of(alloc, tasks)?;
+    let Ok(
+        Engine {
+            lanes,
+            owners,
+            servers,
+            shutters,
+        },
+    ) = Engine::open(alloc, machine, starts.as_slice(), capacity)
+    else {
+        return Err(AllocError);
+    };
     let rooms = rooms_of(alloc, tasks)?;
-    let (served, finished, outcomes) = lists_for(alloc, engine.lanes.len())?;
-    let Engine {
-        lanes,
-        owners,
-        servers,
-        shutters,
-    } = engine;
+    let served = Vec::with_capacity(alloc, lanes.len())?;
+    let finished = Vec::with_capacity(alloc, lanes.len())?;
+    let outcomes = Vec::with_capacity(alloc, lanes.len())?;
     Ok(Stage {
         capacity,
         lanes,
@@ -256,9 +213,6 @@ where
     ensures closed { IfOk result (λ v. AreOutcomes M.next M.reply machine.now stage.entry.capacity (map (λ t. t.start) tasks.items) v.items) }
     ensures refused { IfErr result (λ r. r ≡ tasks) }
 {
-    let Ok(feeds) = Vec::with_capacity(alloc, stage.lanes.len()) else {
-        return Err(tasks);
-    };
     let Stage {
         capacity,
         lanes,
@@ -270,6 +224,9 @@ where
         finished,
         outcomes,
     } = stage;
+    let Ok(feeds) = Vec::with_capacity(alloc, lanes.len()) else {
+        return Err(tasks);
+    };
     let feeds = feeds_of(lanes.as_slice(), capacity, owners, tasks, rooms, feeds);
     let service = Service {
         servers,

@@ -1,4 +1,3 @@
-use Rattle.std.proofs.lemmas.Grind.{common_steps}
 use Rattle.std.proofs.Common.{◌≡◌, [], ◌∷◌, ◌++◌, map, length, sym, ap, ◌∙◌, arith, append_assoc, append-nil}
 use Rattle.std.proofs.lemmas.List.{length-map, map-append}
 use Rattle.aa_lane.specs.Ends.{known, new_shutter}
@@ -76,6 +75,3 @@ returns-clause-closed g c =
     let i = c.loop-lane.invariant in
     let e : c.loop-lane.lane-iterator.rest.items ≡ [] = nil _ (omega (arith, c.loop-lane.lane-iterator.rest.ok, (c.in-None.ensures {u = tt}).steps.0)) in
     rw append-nil at (i.closed [] (rw e tt))
-
-pub loop-lane-init : goal.loop-lane-init
-loop-lane-init g c = grind (arith, common_steps)

@@ -1,6 +1,5 @@
 use Rattle.std.proofs.Common.{rules, ◌≡◌, ◌++◌, [], ◌∷◌, ◌∙◌, sym, ap, map, arith, length, append_assoc}
 use Rattle.std.proofs.lemmas.List.{map-append}
-use Rattle.std.proofs.lemmas.Grind.{common_steps}
 use Rattle.aa_machine.specs.Run.{state_after}
 use Rattle.aa_lane.proofs.Runs.{state_after-snoc}
 use Rattle.aa_feed.proofs.Answering.{decided}
@@ -23,9 +22,3 @@ left-preserved g c =
       state = rw (p.items, requests) (c.step-answer.ensures.state ∙ ap (λ s. next m s c.in-Some.request) i.state ∙ sym (state_after-snoc (next m) (reply m) c.args.start (map (λ a. a.request) rows) c.in-Some.request));
       room = search rules;
     }
-
-pub returns-then-is_empty : goal.returns-then-is_empty
-returns-then-is_empty g c = grind (arith, common_steps)
-
-pub returns : goal.returns
-returns g c = grind (arith, common_steps)

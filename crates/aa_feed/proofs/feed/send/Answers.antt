@@ -1,4 +1,3 @@
-use Rattle.std.proofs.lemmas.Grind.{common_steps}
 use Rattle.std.proofs.Common.{◌≡◌, [], ◌∷◌, ◌++◌, length, ap, arith, append_assoc, length-append}
 use Rattle.aa_feed.proofs.Answering.{accepted}
 use Rattle.aa_feed.proofs.feed.send.Goals as goal
@@ -19,21 +18,3 @@ returns-in-Ok-clause-all g c =
     let s = c.in-Ok.ensures {u = tt} in
     let sent : c.send.new.self.sent ≡ c.args.owner.now.sent ++ c.args.request ∷ [] = ap (λ o. o.sent) s.accepted.2 in
     rw (sent, append_assoc)
-
-pub returns-then-eq-clause-fed : goal.returns-then-eq-clause-fed
-returns-then-eq-clause-fed g c = grind (arith, common_steps)
-
-pub returns-else-eq-clause-fed : goal.returns-else-eq-clause-fed
-returns-else-eq-clause-fed g c = grind (arith, common_steps)
-
-pub returns-then-eq-clause-all : goal.returns-then-eq-clause-all
-returns-then-eq-clause-all g c = grind (arith, common_steps)
-
-pub returns-else-eq-clause-all : goal.returns-else-eq-clause-all
-returns-else-eq-clause-all g c = grind (arith, common_steps)
-
-pub returns-then-eq-clause-sent : goal.returns-then-eq-clause-sent
-returns-then-eq-clause-sent g c = grind (arith, common_steps)
-
-pub returns-else-eq-clause-sent : goal.returns-else-eq-clause-sent
-returns-else-eq-clause-sent g c = grind (arith, common_steps)

@@ -1,4 +1,3 @@
-use Rattle.std.proofs.lemmas.Grind.{common_steps}
 use Rattle.std.proofs.Common.{◌≡◌, ◌≤◌, ◌<◌, ◌-◌, ◌++◌, List, [], ◌∷◌, map, length, drop, sym, refl, ap, ◌∙◌, arith, add-one, length-drop, append_assoc, append-nil}
 use Rattle.std.proofs.lemmas.List.{length-map, map-append}
 use mathlib.Core.Logic.{dite}
@@ -71,6 +70,3 @@ alone_at-requires-clause-within g c =
     let servers : c.in-Some.server.lane ∷ map (λ s. s.lane) c.next.new.self.rest.items ≡ map known (drop c.loop-server.at c.args.lanes.now) = rw ((c.in-Some.ensures {u = tt}).steps.0) at i.rest in
     let w : c.loop-server.at < length c.args.lanes.now = (next (λ s. s.lane) known c.in-Some.server c.next.new.self.rest.items c.args.lanes.now c.loop-server.at servers).within in
     omega (arith, w, i.same.len, c.requires.len)
-
-pub loop-server-init : goal.loop-server-init
-loop-server-init g c = grind (arith, common_steps)

@@ -49,14 +49,3 @@ pub push_reserved-requires : goal.push_reserved-requires
 push_reserved-requires g c =
     let s = (c.in-Some.ensures {u = tt}).steps in
     omega (arith, ap length s.0, c.loop-feed.invariant.room)
-
-pub loop-feed-init : goal.loop-feed-init
-loop-feed-init g c =
-    let gives = c.into_iter-feed-iterator.ensures.into_iter_gives.0 in
-    record {
-      answers = rw (c.requires.empty, gives);
-      of = rw (c.requires.empty, gives);
-      machine = rw gives c.requires.machine;
-      finished = rw gives c.requires.finished;
-      room = omega (arith, ap length gives, ap length c.requires.empty, c.args.room.ok, c.args.feeds.ok);
-    }

@@ -1,5 +1,3 @@
-use Rattle.std.proofs.lemmas.Grind.{common_steps}
-use Rattle.std.proofs.Common.{arith}
 use Rattle.std.proofs.Common.{◌≡◌, map, sym, ap, ◌∙◌}
 use Rattle.aa_lane.specs.Ends.{known, new_owner}
 use Rattle.aa_feed.proofs.Closing.{outcomes}
@@ -48,9 +46,3 @@ close_all-requires-clause-owners g c = c.run_all-finished.ensures.of ∙ ap (map
 
 pub close_all-requires-clause-servers : goal.close_all-requires-clause-servers
 close_all-requires-clause-servers g c = c.in_order-servers.ensures ∙ ap (map known) c.as_slice-3.ensures.value
-
-pub invariant_of-service : goal.invariant_of-service
-invariant_of-service g c = grind (arith, common_steps)
-
-pub close_all-requires-clause-shutters : goal.close_all-requires-clause-shutters
-close_all-requires-clause-shutters g c = grind (arith, common_steps)

@@ -1,4 +1,3 @@
-use Rattle.std.proofs.lemmas.Grind.{common_steps}
 use Rattle.std.proofs.Common.{◌<◌, ◌++◌, [], ◌∷◌, length, take, sym, ap, ◌∙◌, arith}
 use Rattle.std.proofs.lemmas.List.{take_more}
 use Rattle.aa_feed.proofs.Closing.{rooms_more}
@@ -17,6 +16,3 @@ loop-task-preserved g c =
       len = omega (arith, p.len, i.len);
       room = omega (arith, p.capacity, i.room);
     }
-
-pub returns : goal.returns
-returns g c = grind (arith, common_steps)

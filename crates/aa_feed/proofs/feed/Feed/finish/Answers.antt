@@ -1,6 +1,5 @@
-use Rattle.std.proofs.Common.{arith, ◌≡◌, ◌++◌, map, true, sym, ap, ◌∙◌}
+use Rattle.std.proofs.Common.{◌≡◌, ◌++◌, map, true, sym, ap, ◌∙◌}
 use Rattle.std.specs.Option.{is_none}
-use Rattle.std.proofs.lemmas.Grind.{common_steps}
 use Rattle.aa_lane.specs.Answers.{answered_from}
 use Rattle.aa_feed.proofs.Answering.{is_left, has_collected}
 use Rattle.aa_feed.proofs.feed.Feed.finish.Goals as goal
@@ -17,15 +16,3 @@ invariant_of-result g c =
     let start : c.self.inside.start ≡ c.self.inside.lane.now.start = c.self.inside.opened in
     let has = is_left next reply lane c.self.inside.owner c.self.inside.leaver done left c.self.inside.sent _ c.in-Some.leaver c.self.invariant finished c.in-Some.is in
     record { all = has_collected next reply lane c.in-Some.leaver done c.decide_rest-answers.result.items left has (c.decide_rest-answers.ensures ∙ (λ i. answered_from next reply (machine i) 0 (start i) (map (λ a. a.request) done ++ left))) }
-
-pub decide_rest-answers-requires-clause-room : goal.decide_rest-answers-requires-clause-room
-decide_rest-answers-requires-clause-room g c = grind (arith, common_steps)
-
-pub decide_rest-answers-requires-clause-right : goal.decide_rest-answers-requires-clause-right
-decide_rest-answers-requires-clause-right g c = grind (arith, common_steps)
-
-pub returns-clause-answers : goal.returns-clause-answers
-returns-clause-answers g c = grind (arith, common_steps)
-
-pub returns-clause-of : goal.returns-clause-of
-returns-clause-of g c = grind (arith, common_steps)
