@@ -1,6 +1,7 @@
 //! What a task asks.
 
-ghost use Rattle.std.specs.Prelude.{◌≡◌, ◌↔◌, ◌&&◌, false, true, IfOk, IsErrOf};
+ghost use Rattle.std.specs.Prelude.{◌≡◌, ◌↔◌, ◌&&◌, false, true, Ok, IfOk, IsErrOf};
+ghost use Rattle.aa_requests.specs.Copies.{holds_text};
 ghost use Rattle.aa_requests.specs.Requests.{is_path, is_mask, is_wanted_name};
 
 use crate::change::ChangeRequest;
@@ -96,9 +97,10 @@ impl Request {
         Request::Reload(policy)
     }
 
-    /// The same request again.
+    /// The same request again. One without a path and without a name takes no memory.
     pub fn try_clone(&self) -> Result<Request, AllocError>
-        ensures { IfOk result (λ r. r ≡ self.now) }
+        ensures same { IfOk result (λ r. r ≡ self.now) }
+        ensures never_refused { holds_text self.now ≡ false → result ≡ Ok self.now }
     {
         Ok(match self {
             Request::File(request) => Request::File(request.try_clone()?),

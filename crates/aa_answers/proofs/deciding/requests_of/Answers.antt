@@ -14,7 +14,7 @@ returns-in_default c =
 pub loop-work-preserved : goal.loop-work-preserved
 loop-work-preserved c =
     let item = rw c.in-Ask.is at c.work-item.is in
-    asking_more _ _ c.args.works.now c.loop-work.work-index c.in-Ask.request _ _ c.loop-work-test.true item c.in_ok-try_clone.ensures
+    asking_more _ _ c.args.works.now c.loop-work.work-index c.in-Ask.request _ _ c.loop-work-test.true item c.in_ok-try_clone.ensures.same
     c.in_ok-push_back.ensures.items c.loop-work.invariant
 
 pub returns : goal.returns
