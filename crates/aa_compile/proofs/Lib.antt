@@ -1,3 +1,4 @@
+mod Below
 mod GroupLemmas
 mod Counts
 mod StateLemmas

@@ -1,6 +1,7 @@
 -- Where an execution leads.
 use Rattle.std.specs.Prelude.{ℕ, List, [], ◌∷◌, ◌++◌, map, Bool, false, if◌then◌else◌, Option, Some, None, is_some, position}
 use Rattle.std.specs.Option.{option_map_or, option_and_then}
+use Rattle.std.specs.List.{slice_get}
 use Rattle.std.specs.Str.{bytes_eq}
 use Rattle.aa_profiles.specs.declared.rule.ExecKind.{ExecKind}
 use Rattle.aa_profiles.specs.declared.rule.ExecKind.TheVariants.{Inherit, Unconfined, Profile as Named, Child}
@@ -8,6 +9,7 @@ use Rattle.aa_profiles.specs.declared.rule.Fallback.{Fallback}
 use Rattle.aa_profiles.specs.declared.rule.Fallback.TheVariants.{Refuse, Inherit as Stay, Unconfined as Leave}
 use Rattle.aa_profiles.specs.declared.rule.Exec.{Exec}
 use Rattle.aa_profiles.specs.declared.rule.FileRule.{FileRule}
+use Rattle.aa_profiles.specs.declared.policy.Policy.{Policy}
 use Rattle.aa_profiles.specs.declared.policy.Profile.{Profile}
 use Rattle.aa_profiles.specs.Lawful.{has_exec}
 use Rattle.aa_rows.specs.FileRules.{file_verdict, chosen, way_of}
@@ -23,6 +25,11 @@ children profiles number = numbers_below (Some number) 0 profiles
 -- the numbers of the top-level profiles
 abbrev pub tops : List Profile → List ℕ
 tops profiles = numbers_below None 0 profiles
+
+-- the child of a profile that is attached to a path, if there is that profile
+abbrev pub attached_below : ℕ → List ℕ → Policy → Option ℕ
+attached_below parent path policy =
+    option_and_then (λ (q : Profile). attached policy.profiles (children policy.profiles parent) path) (slice_get policy.profiles parent)
 
 -- the profile with that full name
 abbrev pub named : List Profile → List ℕ → Option ℕ

@@ -12,8 +12,8 @@ ghost use Rattle.aa_rows.specs.Ways.{way_by};
 ghost use Rattle.aa_compile.specs.Found.{found_in};
 ghost use Rattle.aa_compile.specs.Numbering.{IsNumbering};
 ghost use Rattle.aa_compile.specs.States.{HasStates};
-ghost use Rattle.aa_compile.specs.Transitions.{named, transition};
-ghost use Rattle.aa_compile.specs.Checks.{tops, children, first_spot, IsRight, AreRight, IsRefused, IsAccepted};
+ghost use Rattle.aa_compile.specs.Transitions.{attached_below, named, transition};
+ghost use Rattle.aa_compile.specs.Checks.{tops, first_spot, IsRight, AreRight, IsRefused, IsAccepted};
 
 use crate::groups::{groups_of, numbers_of_tops};
 use crate::numbering::number_profiles;
@@ -150,9 +150,9 @@ impl Compiled {
         &self.rows[number as usize]
     }
 
-    /// The child of a profile that is attached to a path.
+    /// The child of a profile that is attached to a path; none where there is no such profile.
     pub fn attach_child(&self, parent: u16, path: &[u8]) -> Option<u16>
-        ensures { (p : Profile) → slice_get self.now.profiles parent ≡ Some p → result ≡ attached self.now.profiles (children self.now.profiles parent) path.now }
+        ensures { result ≡ attached_below parent path.now self.now }
     {
         if parent as usize >= self.policy.profiles.as_slice().len() {
             return None;
@@ -180,6 +180,7 @@ impl Compiled {
     }
 
     /// The profile that a way to execute leads to, if it is found.
+    #[tactic(auto, using(crate::proofs::Below::there))]
     fn found(&self, number: u16, path: &[u8], way: Way) -> Option<u16>
         requires number { number < length self.now.profiles }
         requires target { (p : Profile) (t : ℕ) → slice_get self.now.profiles number ≡ Some p → way.target ≡ Some t → t < length p.files }

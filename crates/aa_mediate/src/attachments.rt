@@ -1,7 +1,7 @@
 //! Attachments in a list of policies.
 
 ghost use Rattle.std.specs.Prelude.{◌≡◌};
-ghost use Rattle.aa_mediate.specs.Attachments.{attached_in, attached_below, attached_child_in};
+ghost use Rattle.aa_mediate.specs.Attachments.{attached_in, attached_child_in};
 
 use aa_compile::Compiled;
 
@@ -11,15 +11,6 @@ pub(crate) fn attached_in(policies: &[Compiled], policy: u16, path: &[u8]) -> Op
 {
     match policies.get(policy as usize) {
         Some(compiled) => compiled.attach(path),
-        None => None,
-    }
-}
-
-fn attached_below(compiled: &Compiled, parent: u16, path: &[u8]) -> Option<u16>
-    ensures { result ≡ attached_below parent path.now compiled.now }
-{
-    match compiled.policy().profiles.as_slice().get(parent as usize) {
-        Some(_) => compiled.attach_child(parent, path),
         None => None,
     }
 }
@@ -34,7 +25,7 @@ pub(crate) fn attached_child_in(
     ensures { result ≡ attached_child_in policies.now policy parent path.now }
 {
     match policies.get(policy as usize) {
-        Some(compiled) => attached_below(compiled, parent, path),
+        Some(compiled) => compiled.attach_child(parent, path),
         None => None,
     }
 }
