@@ -1,7 +1,9 @@
 //! The command line.
 
-ghost use Rattle.std.specs.Prelude.{IfOk};
-ghost use Rattle.aa_arguments.specs.Commands.{IsWorkers, IsAskable};
+ghost use Rattle.std.specs.Prelude.{◌≡◌, ◌↔◌, false, codes, map, option_map, string_bytes, IsTrue, IfOk, IfSome};
+ghost use Rattle.clap.specs.declared.builder.command.Command.TheViews.{out-Command as fields_of};
+ghost use Rattle.clap.specs.Words.{app_of, found_of, new_app, one_text, subcommand_name_of};
+ghost use Rattle.aa_arguments.specs.Commands.{run_line, bare_line, program_line, IsWorkers, IsAskable, AsksFor, IsAskedBy};
 
 use clap::{Arg, ArgAction, ArgMatches, Error, value_parser};
 use std::alloc::{AllocError, Global};
@@ -64,7 +66,10 @@ Each event gives one line. For example:
    "tasks": [{"label": "p", "requests": [{"file": "/etc/passwd", "mask": "r"}]}],
    "events": [[0, "send"], [0, "take"], [0, "finish"], [0, "collect"]]}"#;
 
-fn check<'a>(alloc: Global) -> clap::Command<'a> {
+fn check<'a>(alloc: Global) -> clap::Command<'a>
+    ensures app { app_of result ≡ new_app (codes "check") }
+    ensures local { (fields_of result).has_globals ≡ false }
+{
     clap::Command::new(alloc, "check")
         .about("Reads the policies of a job, and counts their rules")
         .override_usage("aamediate check < JOB")
@@ -74,7 +79,10 @@ fn check<'a>(alloc: Global) -> clap::Command<'a> {
 /// The name of the option.
 const WORKERS: &str = "workers";
 
-fn run<'a>(alloc: Global) -> Result<clap::Command<'a>, AllocError> {
+fn run<'a>(alloc: Global) -> Result<clap::Command<'a>, AllocError>
+    ensures app { IfOk result (λ c. app_of c ≡ run_line) }
+    ensures local { IfOk result (λ c. (fields_of c).has_globals ≡ false) }
+{
     let workers = Arg::new(alloc, WORKERS)
         .long(WORKERS)
         .value_name("N")
@@ -89,14 +97,20 @@ fn run<'a>(alloc: Global) -> Result<clap::Command<'a>, AllocError> {
         .arg(workers)
 }
 
-fn replay<'a>(alloc: Global) -> clap::Command<'a> {
+fn replay<'a>(alloc: Global) -> clap::Command<'a>
+    ensures app { app_of result ≡ new_app (codes "replay") }
+    ensures local { (fields_of result).has_globals ≡ false }
+{
     clap::Command::new(alloc, "replay")
         .about("Makes the events of a job happen, and says what each was answered")
         .override_usage("aamediate replay < JOB")
         .after_help(REPLAY)
 }
 
-fn program<'a>(alloc: Global) -> clap::Command<'a> {
+fn program<'a>(alloc: Global) -> clap::Command<'a>
+    ensures app { app_of result ≡ bare_line }
+    ensures local { (fields_of result).has_globals ≡ false }
+{
     clap::Command::new(alloc, "aamediate")
         .version(VERSION)
         .about("Decides what AppArmor profiles permit: reads a job from standard input")
@@ -105,16 +119,27 @@ fn program<'a>(alloc: Global) -> clap::Command<'a> {
         .subcommand_required(true)
 }
 
-fn command_line<'a>(alloc: Global) -> Result<clap::Command<'a>, AllocError> {
+fn command_line<'a>(alloc: Global) -> Result<clap::Command<'a>, AllocError>
+    ensures app { IfOk result (λ c. app_of c ≡ program_line) }
+    ensures local { IfOk result (λ c. (fields_of c).has_globals ≡ false) }
+{
     program(alloc)
         .subcommand(check(alloc))?
         .subcommand(run(alloc)?)?
         .subcommand(replay(alloc))
 }
 
+/// Whether the subcommand of that name is met.
+fn is_named(matches: &ArgMatches, name: &str) -> bool
+    ensures { IsTrue result ↔ (subcommand_name_of matches.now ≡ Some name.now) }
+{
+    matches.subcommand_matches(name).is_some()
+}
+
 /// The number of workers that is given; one where there is none.
 fn workers_of(matches: Option<&ArgMatches>) -> u32
-    ensures { IsWorkers result }
+    ensures within { IsWorkers result }
+    ensures asked { IfSome (option_map (λ m. m.now) matches.entry) (λ m. AsksFor (one_text (found_of m) (codes "workers")) result) }
 {
     let given = match matches {
         Some(matches) => matches.get_one::<u32>(WORKERS).unwrap_or(1),
@@ -125,12 +150,15 @@ fn workers_of(matches: Option<&ArgMatches>) -> u32
 
 /// The command that the words of a command line name; the first word is the program's name.
 pub fn command_named(alloc: Global, words: &[String]) -> Result<Command, Error>
-    ensures { IfOk result IsAskable }
+    ensures within { IfOk result IsAskable }
+    ensures asked { IfOk result (IsAskedBy (map string_bytes words.now)) }
 {
     let matches = command_line(alloc)?.try_get_matches_from(words)?;
-    match matches.subcommand_name() {
-        Some("check") => Ok(Command::Check),
-        Some("replay") => Ok(Command::Replay),
-        _ => Ok(Command::Run(workers_of(matches.subcommand_matches("run")))),
+    if is_named(&matches, "check") {
+        return Ok(Command::Check);
     }
+    if is_named(&matches, "replay") {
+        return Ok(Command::Replay);
+    }
+    Ok(Command::Run(workers_of(matches.subcommand_matches("run"))))
 }
