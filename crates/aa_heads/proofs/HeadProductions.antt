@@ -10,7 +10,9 @@ use Rattle.aa_words.specs.Splits.{WordData, word_data}
 use Rattle.aa_rules.specs.Grammar.{Starts, StartsAs, Lacks, LacksAll, Closes, IsPassedOver, Keyword, LacksKeyword, spot_of, is_path_kind, is_name_kind}
 use Rattle.aa_heads.specs.declared.heads.HeadFlags.{HeadFlags}
 use Rattle.aa_heads.specs.Heads.{AttachmentData, TitleData, HeadData, Stands, Fits, LacksFitting, OptionalPath, attached, attachment_of, IsNamed, IsPathNamed, IsTitle, is_flag, is_the_flag, has_flag, said_by, flags_with, NamesFlags, OpensFlags, IsFlagList, IsFlags, OptionalFlags, IsOpening, IsHead, goes_on, BeginsProfile}
+use Rattle.aa_heads.specs.HeadFaults.{ends_in_flag}
 use Rattle.aa_rules.specs.Reading.{rest_of}
+use Rattle.aa_rules.specs.RuleFaults.{is_name}
 use Rattle.aa_rules.proofs.Places.{here, nothing_here}
 use Rattle.aa_rules.proofs.Phrases.{starts_same, starts_kind, keyword_once, keyword_or_path, false_true}
 use Rattle.aa_rules.proofs.Repetition.{Reads, Reaches, many_once}
@@ -158,6 +160,12 @@ said_more ws w =
     ap (λ (b : Bool). says b (has_flag (codes "enforce") ws || is_the_flag (codes "enforce") w.kind w.text) (has_flag (codes "audit") ws || is_the_flag (codes "audit") w.kind w.text)) (has_more (codes "complain") ws w)
     ∙ ap (λ (b : Bool). says (has_flag (codes "complain") (ws ++ w ∷ [])) b (has_flag (codes "audit") ws || is_the_flag (codes "audit") w.kind w.text)) (has_more (codes "enforce") ws w)
     ∙ ap (says (has_flag (codes "complain") (ws ++ w ∷ [])) (has_flag (codes "enforce") (ws ++ w ∷ []))) (has_more (codes "audit") ws w)
+
+-- one word more stands last
+pub ends_more : (ws : List WordData) (w : WordData) → is_name w.kind ≡ ends_in_flag (ws ++ w ∷ [])
+ends_more [] w = refl
+ends_more (v ∷ []) w = refl
+ends_more (v ∷ u ∷ ws) w = ends_more (u ∷ ws) w
 
 -- a flag that stands there stays
 has_still : (flag : List ℕ) (ws others : List WordData) → has_flag flag ws ≡ true → has_flag flag (ws ++ others) ≡ true

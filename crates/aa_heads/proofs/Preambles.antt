@@ -17,7 +17,7 @@ use Rattle.aa_heads.specs.Preamble.{Names, sign_of, Assigning, LacksAssignment, 
 use Rattle.aa_rules.specs.Reading.{rest_of}
 use Rattle.aa_rules.proofs.Places.{here, nothing_here}
 use Rattle.aa_rules.proofs.Phrases.{starts_same, starts_kind, keyword_once}
-use Rattle.aa_rules.proofs.Repetition.{Reads, Reaches, many_once, reaches_start, reaches_next, reaches_end}
+use Rattle.aa_rules.proofs.Repetition.{Reads, Reaches, many_once, reaches_start, reaches_next, reaches_end, here_next}
 
 pub names_once : (text m n : List ℕ) → Names text m → Names text n → m ≡ n
 names_once text m n a b = append_cancel_right m n (codes "}") (append_cancel_left (codes "@{") _ _ (sym a.text_is ∙ b.text_is))
@@ -181,11 +181,6 @@ pub record Stands (ws rest : List WordData) (vars : List Variable) : Type 0 wher
 pub stands_start : (ws : List WordData) → Stands ws ws []
 stands_start ws = record { items = []; reach = reaches_start IsPreambleItem PreambleEnds ws; before = refl; gives = refl }
 
-here_next : (ws : List WordData) (xs : List PreambleData) (rest : List WordData) (x : PreambleData) (after : List WordData) → IsPreambleItem rest x after
-    → Many IsPreambleItem Here ws xs rest → Many IsPreambleItem Here ws (xs ++ x ∷ []) after
-here_next ws [] rest x after h m = (after, subst (λ (z : List WordData). IsPreambleItem z x after) m h, refl)
-here_next ws (y ∷ xs) rest x after h m = (m.0, m.1, here_next m.0 xs rest x after h m.2)
-
 -- variables behind items and more items
 then_more : (xs ys : List PreambleData) (o : Option (List Variable))
     → ((m : List Variable) → variables_after m (xs ++ ys) ≡ option_and_then (λ v. variables_after v ys) (variables_after m xs))
@@ -205,7 +200,7 @@ pub stands_next : (ws rest : List WordData) (vars : List Variable) (item : Pream
 stands_next ws rest vars item after more h g s = record {
   items = s.items ++ item ∷ [];
   reach = reaches_next IsPreambleItem PreambleEnds item_reads ws s.items rest item after h s.reach;
-  before = here_next ws s.items rest item after h s.before;
+  before = here_next IsPreambleItem ws s.items rest item after h s.before;
   gives = gives_more s.items (item ∷ []) vars s.gives ∙ ap (option_and_then (λ v. variables_after v [])) g;
 }
 

@@ -6,6 +6,7 @@ use Rattle.aa_faults.specs.declared.fault.PolicyKind.{PolicyKind}
 use Rattle.aa_faults.specs.declared.fault.PolicyKind.TheVariants.{NoMemory}
 use Rattle.aa_faults.specs.Kinds.{IsRefusal, no_memory}
 use Rattle.aa_heads.specs.Preamble.{IsRefusedWith}
+pub use Rattle.aa_rules.proofs.Refusals.{told_on}
 
 pub refused_by : {T : Type 0} (r : Result T PolicyFault) (e f : PolicyFault) → r ≡ Err e → e ≡ f → IsRefusal r → f.kind ≢ NoMemory
 refused_by {T} r e f eq same h =
@@ -24,9 +25,6 @@ refusal e = Err e
 pub handed_on : {T : Type 0} (r : Result T PolicyFault) (e f : PolicyFault) (P : PolicyFault → Type 0) → r ≡ Err e → e ≡ f → (f.kind ≢ NoMemory → P f)
     → IfErr r (λ x. x.kind ≢ NoMemory → P x)
 handed_on {T} r e f P eq same h = subst (λ (x : Result T PolicyFault). IfErr x (λ y. y.kind ≢ NoMemory → P y)) (sym (eq ∙ ap (λ (x : PolicyFault). refusal {T = T} x) same)) h
-
-pub told_on : {T : Type 0} (r : Result T PolicyFault) (e f : PolicyFault) (P : PolicyFault → Type 0) → r ≡ Err e → e ≡ f → P f → IfErr r P
-told_on {T} r e f P eq same h = subst (λ (x : Result T PolicyFault). IfErr x P) (sym (eq ∙ ap (λ (x : PolicyFault). refusal {T = T} x) same)) h
 
 -- memory is the cause, or it is not
 is_memory : (kind : PolicyKind) → (kind ≡ NoMemory) ⊎ (kind ≢ NoMemory)

@@ -13,6 +13,7 @@ use Rattle.aa_reader.specs.Signs.{is_letter, is_letter_or_digit}
 use Rattle.aa_glob.specs.Variables.{Variable, has_name, with_more}
 use Rattle.aa_glob.specs.Expansions.{is_reserved}
 use Rattle.aa_rules.specs.Faults.{is_word_fault}
+pub use Rattle.aa_rules.specs.Grammar.{Here}
 use Rattle.aa_rules.specs.Grammar.{Ending, Many, Starts, Lacks, Keyword, LacksKeyword, spot_of}
 
 -- a variable's name: a letter, and then letters, digits and underscores
@@ -178,10 +179,6 @@ is_preamble_fault kind = is_word_fault kind
 -- want of memory, or one of these
 abbrev pub IsPreambleRefusal : PolicyFault → Type 0
 IsPreambleRefusal e = (e ≡ no_memory) ⊎ (is_preamble_fault e.kind ≡ true)
-
--- items stand first, whatever follows
-abbrev pub Here : Ending
-Here ws rest = rest ≡ ws
 
 -- behind items that give variables, such an assignment begins
 pub record IsMisnamed (adds : Bool) (ws : List WordData) (at : Spot) : Type 0 where

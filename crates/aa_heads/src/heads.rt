@@ -4,8 +4,10 @@ ghost use Rattle.std.specs.Prelude.{◌≡◌, ◌&&◌, [], ◌<◌, ◌≤◌,
 ghost use Rattle.std.specs.Bool.{OnTrue, OnFalse};
 ghost use Rattle.aa_words.specs.Splits.{WordData, word_data, is_one_of};
 ghost use Rattle.aa_rules.specs.Faults.{is_word_fault, IsPlaceIn};
-ghost use Rattle.aa_rules.specs.Grammar.{StartsAs, LacksAll};
+ghost use Rattle.aa_rules.specs.Grammar.{StartsAs, LacksAll, is_name_kind, is_path_kind, place_of};
+ghost use Rattle.aa_rules.specs.RuleFaults.{IsFaultBy, naming_fault, is_name};
 ghost use Rattle.aa_heads.specs.Heads.{HeadData, TitleData, AttachmentData, head_data, title_data, attachment_data, Stands, Fits, LacksFitting, OptionalPath, attached, attachment_of, IsNamed, IsPathNamed, IsTitle, known_flags, is_flag, is_the_flag, said_by, flags_with, OpensFlags, IsFlagList, IsFlags, IsOpening, IsHead, goes_on, BeginsPathNamed, BeginsProfile};
+ghost use Rattle.aa_heads.specs.HeadFaults.{TitleFails, left_out_flags, flag_name_fault, flag_word_fault, flag_fault, contradict, FlagListFails, HeadStops, FlagsFail, OpeningFails, HeadFails};
 ghost use Rattle.aa_rules.specs.Reading.{rest_of};
 
 use aa_rules::{
@@ -88,15 +90,15 @@ fn attachment_of<'s>(name: &Word<'s>, path: Option<&Word<'s>>) -> Option<Attachm
 
 /// Why a head can't go on at a word behind its name: extended attributes are left out.
 fn head_fault(words: &[Word], at: usize, end: Spot) -> PolicyFault
+    ensures stops { HeadStops (rest_of words.now at) result.kind }
+    ensures at { result.at ≡ place_of (rest_of words.now at) end }
     ensures kind { is_word_fault result.kind ≡ true }
     ensures place { IsPlaceIn words.now end result.at }
 {
-    let kind = if keyword_stands(words, at, "xattrs".as_bytes()) {
-        PolicyKind::Unsupported
-    } else {
-        PolicyKind::Syntax
-    };
-    fault(kind, words, at, end)
+    if keyword_stands(words, at, "xattrs".as_bytes()) {
+        return fault(PolicyKind::Unsupported, words, at, end);
+    }
+    fault(PolicyKind::Syntax, words, at, end)
 }
 
 /// A name and an attachment, where the keyword stands before them, and the place behind them.
@@ -108,6 +110,8 @@ fn named_of<'s>(
 ) -> Result<(TitleTree<'s>, usize), PolicyFault>
     ensures found { IfOk result (λ r. IsNamed top (rest_of words.now at) (title_data r.0) (rest_of words.now r.1)) }
     ensures refused { OnErr result ((t : TitleData) (rest : List WordData) → IsNamed top (rest_of words.now at) t rest → ⊥) }
+    ensures kind { IfErr result (λ e. e.kind ≡ naming_fault is_name_kind (rest_of words.now at)) }
+    ensures at { IfErr result (λ e. e.at ≡ place_of (rest_of words.now at) end) }
     ensures cause { IfErr result (λ e. is_word_fault e.kind ≡ true) }
     ensures place { IfErr result (λ e. IsPlaceIn words.now end e.at) }
     ensures within { IfOk result (λ r. (at < r.1) × (r.1 ≤ length words.now)) }
@@ -136,6 +140,8 @@ fn path_named_of<'s>(
 ) -> Result<(TitleTree<'s>, usize), PolicyFault>
     ensures found { IfOk result (λ r. IsPathNamed top (rest_of words.now at) (title_data r.0) (rest_of words.now r.1)) }
     ensures refused { OnErr result ((t : TitleData) (rest : List WordData) → IsPathNamed top (rest_of words.now at) t rest → ⊥) }
+    ensures kind { IfErr result (λ e. e.kind ≡ naming_fault is_path_kind (rest_of words.now at)) }
+    ensures at { IfErr result (λ e. e.at ≡ place_of (rest_of words.now at) end) }
     ensures cause { IfErr result (λ e. is_word_fault e.kind ≡ true) }
     ensures place { IfErr result (λ e. IsPlaceIn words.now end e.at) }
     ensures within { IfOk result (λ r. (at < r.1) × (r.1 ≤ length words.now)) }
@@ -163,6 +169,7 @@ fn title_of<'s>(
 ) -> Result<(TitleTree<'s>, usize), PolicyFault>
     ensures found { IfOk result (λ r. IsTitle top (rest_of words.now at) (title_data r.0) (rest_of words.now r.1)) }
     ensures refused { OnErr result ((t : TitleData) (rest : List WordData) → IsTitle top (rest_of words.now at) t rest → ⊥) }
+    ensures fails { IfErr result (IsFaultBy TitleFails (rest_of words.now at) end) }
     ensures cause { IfErr result (λ e. is_word_fault e.kind ≡ true) }
     ensures place { IfErr result (λ e. IsPlaceIn words.now end e.at) }
     ensures within { IfOk result (λ r. (at < r.1) × (r.1 ≤ length words.now)) }
@@ -247,14 +254,16 @@ impl HeadFlags {
 
     /// Whether the profile is to complain and to enforce.
     fn contradict(self) -> bool
-        ensures { result ≡ (self.complain && self.enforce) }
+        ensures { result ≡ contradict self }
     {
         self.complain && self.enforce
     }
 }
 
 /// Whether a word is a flag that the rules of this crate leave out.
-fn is_left_out_flag(name: &[u8]) -> bool {
+fn is_left_out_flag(name: &[u8]) -> bool
+    ensures { result ≡ is_one_of left_out_flags name.now }
+{
     name == "kill".as_bytes()
         || name == "unconfined".as_bytes()
         || name == "prompt".as_bytes()
@@ -264,7 +273,8 @@ fn is_left_out_flag(name: &[u8]) -> bool {
 
 /// Why a name isn't read as a flag.
 fn flag_name_fault(name: &[u8]) -> PolicyKind
-    ensures { is_word_fault result ≡ true }
+    ensures kind { result ≡ flag_name_fault name.now }
+    ensures cause { is_word_fault result ≡ true }
 {
     if is_left_out_flag(name) {
         PolicyKind::Unsupported
@@ -273,23 +283,35 @@ fn flag_name_fault(name: &[u8]) -> PolicyKind
     }
 }
 
-/// Why a word among the flags, of which the first stands at `start`, isn't one: a flag with a
-/// value is left out.
-fn flag_fault(words: &[Word], start: usize, at: usize, end: Spot) -> PolicyFault
-    ensures kind { is_word_fault result.kind ≡ true }
-    ensures place { IsPlaceIn words.now end result.at }
+/// Why a word among the flags isn't one: a flag with a value is left out.
+fn flag_word_fault(word: &Word, behind_flag: bool) -> PolicyKind
+    ensures kind { result ≡ flag_word_fault behind_flag word.now.kind word.now.text.now }
+    ensures cause { is_word_fault result ≡ true }
 {
-    if at >= words.len() || at < start {
-        return fault(PolicyKind::Syntax, words, at, end);
-    }
-    let before = &words[start..at];
-    let word = &words[at];
-    let kind = match (word.kind, before) {
-        (WordKind::Name, _) => flag_name_fault(word.text),
-        (WordKind::Equals, [.., flag]) if flag.kind == WordKind::Name => PolicyKind::Unsupported,
+    match word.kind {
+        WordKind::Name => flag_name_fault(word.text),
+        WordKind::Equals if behind_flag => PolicyKind::Unsupported,
         _ => PolicyKind::Syntax,
-    };
-    fault(kind, words, at, end)
+    }
+}
+
+/// Why the flags don't go on at a place, which stands behind a flag or not.
+#[tactic(auto, using(aa_rules::proofs::Places::here, aa_rules::proofs::Places::nothing_here))]
+fn flag_fault(words: &[Word], at: usize, behind_flag: bool) -> PolicyKind
+    ensures kind { result ≡ flag_fault behind_flag (rest_of words.now at) }
+    ensures cause { is_word_fault result ≡ true }
+{
+    match words.get(at) {
+        Some(word) => flag_word_fault(word, behind_flag),
+        None => PolicyKind::Syntax,
+    }
+}
+
+/// Whether a word is a name.
+fn is_name(word: &Word) -> bool
+    ensures { result ≡ is_name word.now.kind }
+{
+    word.kind == WordKind::Name
 }
 
 /// The flags, of which the first stands at `start`, and the place behind the parenthesis that
@@ -297,21 +319,24 @@ fn flag_fault(words: &[Word], start: usize, at: usize, end: Spot) -> PolicyFault
 fn flag_list_of(words: &[Word], start: usize, end: Spot) -> Result<(HeadFlags, usize), PolicyFault>
     ensures found { IfOk result (λ r. IsFlagList (rest_of words.now start) r.0 (rest_of words.now r.1)) }
     ensures refused { OnErr result ((flags : HeadFlags) (rest : List WordData) → IsFlagList (rest_of words.now start) flags rest → ⊥) }
+    ensures fails { IfErr result (IsFaultBy FlagListFails (rest_of words.now start) end) }
     ensures cause { IfErr result (λ e. is_word_fault e.kind ≡ true) }
     ensures place { IfErr result (λ e. IsPlaceIn words.now end e.at) }
     ensures within { IfOk result (λ r. (start < r.1) × (r.1 ≤ length words.now)) }
 {
     let mut flags = HeadFlags::none();
+    let mut behind_flag = false;
     let mut at = start;
     'flags: while word_of_kind(words, at, WordKind::RightParen).is_none() {
         let Some(word) = flag_at(words, at) else {
-            return Err(flag_fault(words, start, at, end));
+            return Err(fault(flag_fault(words, at, behind_flag), words, at, end));
         };
         let more = flags.with_word(word);
         if more.contradict() {
             return Err(fault(PolicyKind::Syntax, words, at, end));
         }
         flags = more;
+        behind_flag = is_name(word);
         at += 1;
     }
     Ok((flags, at + 1))
@@ -321,6 +346,7 @@ fn flag_list_of(words: &[Word], start: usize, end: Spot) -> Result<(HeadFlags, u
 fn flags_start(words: &[Word], at: usize, end: Spot) -> Result<usize, PolicyFault>
     ensures found { IfOk result (λ r. OpensFlags (rest_of words.now at) (rest_of words.now r)) }
     ensures refused { OnErr result ((rest : List WordData) → OpensFlags (rest_of words.now at) rest → ⊥) }
+    ensures fails { IfErr result (IsFaultBy FlagsFail (rest_of words.now at) end) }
     ensures cause { IfErr result (λ e. is_word_fault e.kind ≡ true) }
     ensures place { IfErr result (λ e. IsPlaceIn words.now end e.at) }
     ensures within { IfOk result (λ r. (at < r) × (r ≤ length words.now)) }
@@ -346,6 +372,7 @@ fn flags_start(words: &[Word], at: usize, end: Spot) -> Result<usize, PolicyFaul
 fn flags_of(words: &[Word], at: usize, end: Spot) -> Result<(HeadFlags, usize), PolicyFault>
     ensures found { IfOk result (λ r. IsFlags (rest_of words.now at) r.0 (rest_of words.now r.1)) }
     ensures refused { OnErr result ((flags : HeadFlags) (rest : List WordData) → IsFlags (rest_of words.now at) flags rest → ⊥) }
+    ensures fails { IfErr result (IsFaultBy FlagsFail (rest_of words.now at) end) }
     ensures cause { IfErr result (λ e. is_word_fault e.kind ≡ true) }
     ensures place { IfErr result (λ e. IsPlaceIn words.now end e.at) }
     ensures within { IfOk result (λ r. (at < r.1) × (r.1 ≤ length words.now)) }
@@ -358,6 +385,7 @@ fn flags_of(words: &[Word], at: usize, end: Spot) -> Result<(HeadFlags, usize), 
 fn opening_of(words: &[Word], at: usize, end: Spot) -> Result<(HeadFlags, usize), PolicyFault>
     ensures found { IfOk result (λ r. IsOpening (rest_of words.now at) r.0 (rest_of words.now r.1)) }
     ensures refused { OnErr result ((flags : HeadFlags) (rest : List WordData) → IsOpening (rest_of words.now at) flags rest → ⊥) }
+    ensures fails { IfErr result (IsFaultBy OpeningFails (rest_of words.now at) end) }
     ensures cause { IfErr result (λ e. is_word_fault e.kind ≡ true) }
     ensures place { IfErr result (λ e. IsPlaceIn words.now end e.at) }
     ensures within { IfOk result (λ r. (at < r.1) × (r.1 ≤ length words.now)) }
@@ -381,6 +409,7 @@ pub fn head_of<'s>(
 ) -> Result<(HeadTree<'s>, usize), PolicyFault>
     ensures found { IfOk result (λ r. IsHead top (rest_of words.now at) (head_data r.0) (rest_of words.now r.1)) }
     ensures refused { OnErr result ((h : HeadData) (rest : List WordData) → IsHead top (rest_of words.now at) h rest → ⊥) }
+    ensures fails { IfErr result (IsFaultBy (HeadFails top) (rest_of words.now at) end) }
     ensures cause { IfErr result (λ e. is_word_fault e.kind ≡ true) }
     ensures place { IfErr result (λ e. IsPlaceIn words.now end e.at) }
     ensures within { IfOk result (λ r. (at < r.1) × (r.1 ≤ length words.now)) }

@@ -8,7 +8,9 @@ ghost use Rattle.aa_faults.specs.Kinds.{IsRefusal};
 ghost use Rattle.aa_words.specs.Splits.{WordData, word_data};
 ghost use Rattle.aa_rules.specs.Faults.{is_word_fault, IsPlaceIn, IsPlaced};
 ghost use Rattle.aa_heads.specs.Preamble.{IsAngled, CanNameAbi, NamesAbi, LacksAbiName, IsAbi, PreambleData, IsPreambleItem, PreambleEnds, IsPreamble, given, variables_of, Misnames, IsMisnamed, IsTwice, IsUndefined, misnamed, IsRefusedWith, IsPreambleRefusal};
+ghost use Rattle.aa_heads.specs.HeadFaults.{AbiFails};
 ghost use Rattle.aa_rules.specs.Reading.{rest_of};
+ghost use Rattle.aa_rules.specs.RuleFaults.{IsFaultBy};
 
 use crate::assignments::{assignment_of, begins_assignment};
 use aa_glob::Vars;
@@ -57,6 +59,7 @@ fn abi_name_at<'w, 's>(words: &'w [Word<'s>], at: usize) -> Option<&'w Word<'s>>
 pub fn abi_of(words: &[Word], at: usize, end: Spot) -> Result<usize, PolicyFault>
     ensures found { IfOk result (λ next. IsAbi (rest_of words.now at) (rest_of words.now next)) }
     ensures refused { OnErr result ((rest : List WordData) → IsAbi (rest_of words.now at) rest → ⊥) }
+    ensures fails { IfErr result (IsFaultBy AbiFails (rest_of words.now at) end) }
     ensures cause { IfErr result (λ e. is_word_fault e.kind ≡ true) }
     ensures place { IfErr result (λ e. IsPlaceIn words.now end e.at) }
     ensures within { IfOk result (λ next. (at < next) × (next ≤ length words.now)) }

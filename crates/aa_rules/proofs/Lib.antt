@@ -4,10 +4,12 @@ pub mod FileRules
 pub mod FileWords
 pub mod Letters
 pub mod Mixed
+pub mod Namings
 pub mod NetRules
 pub mod Pairs
 pub mod Phrases
 pub mod Places
 pub mod Productions
+pub mod Refusals
 pub mod Repetition
 pub mod WrongModes

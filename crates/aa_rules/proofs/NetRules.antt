@@ -1,14 +1,18 @@
 -- Rules on sockets read in one way alone.
-use Rattle.std.proofs.Common.{◌≡◌, ℕ, List, [], ◌∷◌, Some, None, refl, sym, ap, subst, ◌∙◌}
-use Rattle.std.specs.Prelude.{codes}
+use Rattle.std.proofs.Common.{◌≡◌, ℕ, List, [], ◌∷◌, Option, Some, None, refl, sym, ap, subst, ◌∙◌}
+use Rattle.std.specs.Prelude.{codes, is_some, option_map, option_and_then}
+use Rattle.std.specs.Option.{option_or}
+use Rattle.aa_faults.specs.declared.fault.PolicyKind.{PolicyKind}
 use Rattle.aa_words.specs.declared.word.WordKind.TheVariants.{Name}
 use Rattle.aa_words.specs.Splits.{WordData}
 use Rattle.aa_profiles.specs.declared.rule.NetRule.{NetRule}
 use Rattle.aa_rules.specs.declared.net_rules.Sockets.{Sockets}
 use Rattle.aa_rules.specs.declared.tree.Qualifiers.{Qualifiers}
 use Rattle.aa_rules.specs.CapRules.{NamesEnd}
-use Rattle.aa_rules.specs.NetRules.{network_of, one_name, two_names, all_families, all_kinds, sockets, IsName, IsSockets, IsNets, IsNet}
+use Rattle.aa_rules.specs.NetRules.{network_of, one_in, one_name, kinds_in, two_names, all_families, all_kinds, sockets, IsName, IsSockets, IsNets, IsNet}
 use Rattle.aa_rules.specs.Phrases.{Many, Starts, Lacks}
+use Rattle.aa_rules.specs.RuleFaults.{socket_name_fault, NetFails}
+use Rattle.aa_tables.specs.Tables.{family_names}
 use Rattle.aa_rules.proofs.Phrases.{starts_same, keyword_once}
 use Rattle.std.proofs.lemmas.Option.{same_Some}
 use Rattle.aa_rules.proofs.CapRules.{names_end_once}
@@ -67,11 +71,22 @@ found_two ws v us w after x s t l e = record { names = v.text ∷ w.text ∷ [];
 none_some : (x : Sockets) → None ≡ Some x → ⊥
 none_some x e = cc
 
--- one name that stands for nothing
-pub no_one : (ws : List WordData) (w : WordData) (after : List WordData) (x : Sockets) (rest : List WordData) → Starts Name ws w after → Lacks Name after → None ≡ one_name w.text → IsSockets ws x rest → ⊥
-no_one ws w after x rest s l e a =
-    let n = many_once IsName NamesEnd names_read ws a.names (w.text ∷ []) rest after a.names_stand (after, named ws w after s, (refl, l)) in
-    none_some x (e ∙ ap network_of (sym n.0) ∙ a.meant)
+first_apart : (v w : List ℕ) (o : Option ℕ) (q : Option Sockets) → None ≡ option_or (option_map (λ f. sockets f all_kinds) o) q → None ≡ option_and_then (λ f. option_map (sockets f) (kinds_in f w)) o
+first_apart v w None q e = refl
+first_apart v w (Some f) q e = absurd (none_some _ e)
+
+-- where the first name stands for nothing by itself, it does so before others too
+first_means : (v : List ℕ) (more : List (List ℕ)) → None ≡ one_name v → None ≡ network_of (v ∷ more)
+unfolding one_name two_names
+first_means v [] e = e
+first_means v (w ∷ []) e = first_apart v w (one_in family_names v) _ e
+first_means v (w ∷ x ∷ more) e = refl
+
+-- a name that stands for nothing, whatever follows
+pub no_one : (ws : List WordData) (w : WordData) (after : List WordData) (x : Sockets) (rest : List WordData) → Starts Name ws w after → None ≡ one_name w.text → IsSockets ws x rest → ⊥
+no_one ws w after x rest s e a =
+    let f = step IsName NamesEnd names_read ws a.names rest w.text after (named ws w after s) a.names_stand in
+    none_some x (first_means w.text f.0 e ∙ ap network_of (sym f.1) ∙ a.meant)
 
 -- the names begin with these two
 two_first : (ws : List WordData) (v : WordData) (us : List WordData) (w : WordData) (after : List WordData) (names : List (List ℕ)) (rest : List WordData) → Starts Name ws v us → Starts Name us w after
@@ -100,3 +115,25 @@ no_three ws v us w ts u after x rest s t y a =
     let g = step IsName NamesEnd names_read ts f.0 rest u.text after (named ts u after y) f.2 in
     let e : a.names ≡ v.text ∷ w.text ∷ u.text ∷ g.0 = f.1 ∙ ap (λ (z : List (List ℕ)). v.text ∷ w.text ∷ z) g.1 in
     none_some x (ap network_of (sym e) ∙ a.meant)
+
+-- ---- the name with which they stand for nothing
+
+pub fails_first : (ws : List WordData) (w : WordData) (after : List WordData) (kind : PolicyKind) → Starts Name ws w after → None ≡ one_name w.text → kind ≡ socket_name_fault w.text → NetFails ws kind ws
+fails_first ws w after kind s e k = record { names = []; name = w; after = after; before = refl; stands = s; meant = refl; meaningless = sym e; kind_is = k }
+
+pub fails_second : (ws : List WordData) (v : WordData) (us : List WordData) (w : WordData) (after : List WordData) (x : Sockets) (kind : PolicyKind) → Starts Name ws v us → Starts Name us w after
+    → Some x ≡ one_name v.text → None ≡ two_names v.text w.text → kind ≡ socket_name_fault w.text → NetFails ws kind us
+fails_second ws v us w after x kind s t o e k = record { names = v.text ∷ []; name = w; after = after; before = (us, named ws v us s, refl); stands = t; meant = ap is_some (sym o); meaningless = sym e; kind_is = k }
+
+pub fails_third : (ws : List WordData) (v : WordData) (us : List WordData) (w : WordData) (ts : List WordData) (u : WordData) (after : List WordData) (x : Sockets) (kind : PolicyKind)
+    → Starts Name ws v us → Starts Name us w ts → Starts Name ts u after → Some x ≡ two_names v.text w.text → kind ≡ socket_name_fault u.text → NetFails ws kind ts
+fails_third ws v us w ts u after x kind s t y o k = record {
+  names = v.text ∷ w.text ∷ [];
+  name = u;
+  after = after;
+  before = (us, named ws v us s, (ts, named us w ts t, refl));
+  stands = y;
+  meant = ap is_some (sym o);
+  meaningless = refl;
+  kind_is = k;
+}

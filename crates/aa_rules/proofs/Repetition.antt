@@ -2,7 +2,7 @@
 use Rattle.std.proofs.Common.{◌≡◌, List, [], ◌∷◌, ◌++◌, refl, sym, ap, subst, ◌∙◌, append_assoc}
 use Rattle.std.proofs.lemmas.List.{append-nil}
 use Rattle.aa_words.specs.Splits.{WordData}
-use Rattle.aa_rules.specs.Grammar.{Production, Ending, Many}
+use Rattle.aa_rules.specs.Grammar.{Production, Ending, Many, Here}
 
 -- no words begin with two elements or have two ends, and none begin with an element and end
 pub record Reads {X : Type 0} (Is : Production X) (Ends : Ending) : Type 0 where
@@ -62,3 +62,9 @@ many_once {X} Is Ends reads ws (x ∷ xs) (y ∷ ys) e f a b =
     let p = reads.once ws x y a.0 b.0 a.1 b.1 in
     let i = many_once Is Ends reads b.0 xs ys e f (subst (λ (z : List WordData). Many Is Ends z xs e) p.1 a.2) b.2 in
     (ap (λ (z : X). z ∷ xs) p.0 ∙ ap (λ (zs : List X). y ∷ zs) i.0, i.1)
+
+-- one more element stands first
+pub here_next : {X : Type 0} (Is : Production X) (ws : List WordData) (found : List X) (rest : List WordData) (x : X) (after : List WordData) → Is rest x after → Many Is Here ws found rest
+    → Many Is Here ws (found ++ x ∷ []) after
+here_next Is ws [] rest x after h m = (after, subst (λ (z : List WordData). Is z x after) m h, refl)
+here_next Is ws (y ∷ ys) rest x after h m = (m.0, m.1, here_next Is m.0 ys rest x after h m.2)

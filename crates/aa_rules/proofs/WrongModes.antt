@@ -9,10 +9,9 @@ use Rattle.aa_rules.specs.declared.modes.Mode.{Mode}
 use Rattle.aa_rules.specs.FileRules.{IsMode, IsPair, IsLeftOut, IsEntry}
 use Rattle.aa_rules.specs.Modes.{mode_of}
 use Rattle.aa_rules.specs.Names.{is_left_out}
-use Rattle.aa_rules.specs.Phrases.{Starts, StartsAs, is_path_kind, spot_of, Keyword, LacksKeyword}
+use Rattle.aa_rules.specs.Phrases.{Starts, StartsAs, is_path_kind, spot_of, Keyword, LacksAll}
 use Rattle.aa_rules.specs.Reading.{EntryData}
 use Rattle.aa_rules.proofs.Phrases.{starts_same, starts_kind, keyword_or_path, false_true}
-use Rattle.aa_rules.proofs.FileRules.{read_here}
 
 abbrev NoMode : Bool → List WordData → Type 0
 NoMode deny ws = (m : Mode) (rest : List WordData) → IsMode deny ws m rest → ⊥
@@ -59,17 +58,17 @@ pub behind_file : (deny : Bool) (ws bare : List WordData) → Keyword (codes "fi
 behind_file deny ws bare k none e rest a =
     none e rest (inr (record { read = file_read ws bare k; named = true; bare = bare; file_stands = k; pair = a }))
 
--- a name before a path is no mode
-pub before_path : (deny : Bool) (ws : List WordData) (w : WordData) (after : List WordData) (path : WordData) (rest : List WordData) → Starts Name ws w after → LacksKeyword (codes "file") ws
-    → StartsAs is_path_kind after path rest → NoEntry deny ws → is_left_out w.text ≡ false → mode_of deny w.text ≡ None
-before_path deny ws w after path rest s lacks p none read =
-    says_none deny w (λ m e. none (entry path m) rest (inr (record {
-      read = read_here ws w after s read;
-      named = false;
-      bare = ws;
-      file_stands = (refl, lacks);
-      pair = inr (after, record { word = w; stands = s; says = e }, record { word = path; stands = p; at_is = refl; path_is = refl });
-    }))) (mode_of deny w.text) refl
+-- behind a mode no path stands
+pub behind_mode : (deny : Bool) (ws : List WordData) (m : Mode) (after : List WordData) → IsMode deny ws m after → NoPair deny ws → LacksAll is_path_kind after
+behind_mode deny ws m after h none path rest p = none (entry path m) rest (inr (after, h, record { word = path; stands = p; at_is = refl; path_is = refl }))
+
+there : (o : Option Mode) → is_some o ≡ true → (m : Mode) × (o ≡ Some m)
+there None e = absurd cc
+there (Some m) e = (m, refl)
+
+-- a name that is a right mode
+pub right_mode : (deny : Bool) (ws : List WordData) (w : WordData) (after : List WordData) → Starts Name ws w after → is_some (mode_of deny w.text) ≡ true → (m : Mode) × IsMode deny ws m after
+right_mode deny ws w after s e = let m = there (mode_of deny w.text) e in (m.0, record { word = w; stands = s; says = m.1 })
 
 -- what is said of a result holds of its value where there is one
 pub value_there : {X : Type 0} (P : X → Type 0) (o : Option X) → IfSome o P → is_some o ≡ true → (x : X) × P x

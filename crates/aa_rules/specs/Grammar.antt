@@ -8,7 +8,7 @@ use Rattle.aa_rules.specs.CapRules.{IsCap}
 use Rattle.aa_rules.specs.ChangeRules.{IsChange}
 use Rattle.aa_rules.specs.NetRules.{IsNet}
 use Rattle.aa_rules.specs.Reading.{RuleData, OnFile, OnCap, OnNet, OnChange, Listed}
-pub use Rattle.aa_rules.specs.Phrases.{Production, Ending, Many, Starts, Lacks, is_path_kind, is_name_kind, StartsAs, LacksAll, spot_of, place_of, Keyword, LacksKeyword, Optional}
+pub use Rattle.aa_rules.specs.Phrases.{Production, Ending, Many, Here, Starts, Lacks, is_path_kind, is_name_kind, StartsAs, LacksAll, begins_as, spot_of, place_of, Keyword, LacksKeyword, Optional}
 pub use Rattle.aa_rules.specs.FileRules.{IsFile}
 
 -- ["allow" | "deny"]: whether it is deny

@@ -9,3 +9,4 @@ pub mod Names
 pub mod NetRules
 pub mod Phrases
 pub mod Reading
+pub mod RuleFaults

@@ -19,6 +19,10 @@ abbrev pub Many : {X : Type 0} → Production X → Ending → List WordData →
 Many Is Ends ws [] rest = Ends ws rest
 Many Is Ends ws (x ∷ xs) rest = (after : List WordData) × Is ws x after × Many Is Ends after xs rest
 
+-- elements stand first, whatever follows
+abbrev pub Here : Ending
+Here ws rest = rest ≡ ws
+
 -- the words begin with one of this kind, and the rest follows
 pub record Starts (kind : WordKind) (ws : List WordData) (w : WordData) (rest : List WordData) : Type 0 where
   pub words : ws ≡ w ∷ rest
@@ -47,6 +51,11 @@ pub record StartsAs (fits : WordKind → Bool) (ws : List WordData) (w : WordDat
 -- no word of these kinds stands there
 abbrev pub LacksAll : (WordKind → Bool) → List WordData → Type 0
 LacksAll fits ws = (w : WordData) (rest : List WordData) → StartsAs fits ws w rest → ⊥
+
+-- whether such a word stands there
+abbrev pub begins_as : (WordKind → Bool) → List WordData → Bool
+begins_as fits [] = false
+begins_as fits (w ∷ ws) = fits w.kind
 
 -- the place of a word
 abbrev pub spot_of : WordData → Spot

@@ -6,6 +6,7 @@ ghost use Rattle.aa_rules.specs.CapRules.{NamesEnd, IsCapName, numbers_bits, IsC
 ghost use Rattle.aa_rules.specs.Faults.{is_word_fault, IsPlaceIn};
 ghost use Rattle.aa_rules.specs.Grammar.{Many};
 ghost use Rattle.aa_rules.specs.Reading.{rest_of};
+ghost use Rattle.aa_rules.specs.RuleFaults.{IsFaultBy, CapFails};
 
 use crate::lookahead::{fault, word_of_kind};
 use crate::tree::Qualifiers;
@@ -22,6 +23,7 @@ fn caps_named(words: &[Word], start: usize, end: Spot) -> Result<(Caps, usize), 
     requires behind { start ≤ length words.now }
     ensures found { IfOk result (λ r. (numbers : List ℕ) × Many IsCapName NamesEnd (rest_of words.now start) numbers (rest_of words.now r.1) × (r.0.0 ≡ numbers_bits 0 numbers)) }
     ensures refused { OnErr result ((numbers : List ℕ) (rest : List WordData) → Many IsCapName NamesEnd (rest_of words.now start) numbers rest → ⊥) }
+    ensures fails { IfErr result (IsFaultBy CapFails (rest_of words.now start) end) }
     ensures cause { IfErr result (λ e. is_word_fault e.kind ≡ true) }
     ensures place { IfErr result (λ e. IsPlaceIn words.now end e.at) }
     ensures within { IfOk result (λ r. (start ≤ r.1) × (r.1 ≤ length words.now)) }
@@ -49,6 +51,7 @@ pub fn cap_rule_of(
     requires behind { at ≤ length words.now }
     ensures found { IfOk result (λ r. IsCaps qualifiers (rest_of words.now at) r.0 (rest_of words.now r.1)) }
     ensures refused { OnErr result ((rule : CapRule) (rest : List WordData) → IsCaps qualifiers (rest_of words.now at) rule rest → ⊥) }
+    ensures fails { IfErr result (IsFaultBy CapFails (rest_of words.now at) end) }
     ensures cause { IfErr result (λ e. is_word_fault e.kind ≡ true) }
     ensures place { IfErr result (λ e. IsPlaceIn words.now end e.at) }
     ensures within { IfOk result (λ r. (at ≤ r.1) × (r.1 ≤ length words.now)) }

@@ -5,6 +5,7 @@ ghost use Rattle.aa_words.specs.Splits.{WordData};
 ghost use Rattle.aa_rules.specs.ChangeRules.{IsAim, IsAnyAim, IsChanges};
 ghost use Rattle.aa_rules.specs.Faults.{is_word_fault, IsPlaceIn};
 ghost use Rattle.aa_rules.specs.Reading.{NameData, name_data, ChangeData, change_data, rest_of};
+ghost use Rattle.aa_rules.specs.RuleFaults.{IsFaultBy, AimFails};
 
 use crate::faults::no_name_fault;
 use crate::lookahead::{profile_name_at, spot_of, word_of_kind};
@@ -55,6 +56,7 @@ pub fn change_rule_of<'s>(
     requires behind { at ≤ length words.now }
     ensures found { IfOk result (λ r. IsChanges qualifiers (rest_of words.now at) (change_data r.0) (rest_of words.now r.1)) }
     ensures refused { OnErr result ((change : ChangeData) (rest : List WordData) → IsChanges qualifiers (rest_of words.now at) change rest → ⊥) }
+    ensures fails { IfErr result (IsFaultBy AimFails (rest_of words.now at) end) }
     ensures cause { IfErr result (λ e. is_word_fault e.kind ≡ true) }
     ensures place { IfErr result (λ e. IsPlaceIn words.now end e.at) }
     ensures within { IfOk result (λ r. (at ≤ r.1) × (r.1 ≤ length words.now)) }

@@ -7,6 +7,7 @@ ghost use Rattle.aa_rules.specs.Faults.{is_word_fault, IsPlaceIn};
 ghost use Rattle.aa_rules.specs.Phrases.{StartsAs, LacksAll};
 ghost use Rattle.aa_rules.specs.FileRules.{IsMode, IsPathFirst, IsModeFirst, IsPair, IsWhole, IsLeftOut, IsPathAndMode, IsEntry, IsArrow, IsTarget, exec_with, IsFile, whole_mode};
 ghost use Rattle.aa_rules.specs.Reading.{EntryData, entry_data, FileData, file_data, target_data, exec_data, rest_of};
+ghost use Rattle.aa_rules.specs.RuleFaults.{IsFaultBy, FileFails};
 ghost use Rattle.aa_rules.specs.declared.modes.Mode.{Mode};
 
 use crate::faults::{Preceding, no_entry_fault, no_target_fault};
@@ -192,6 +193,7 @@ pub fn file_of<'s>(
 ) -> Result<(FileTree<'s>, usize), PolicyFault>
     ensures found { IfOk result (λ r. IsFile qualifiers (rest_of words.now at) (file_data r.0) (rest_of words.now r.1)) }
     ensures refused { OnErr result ((f : FileData) (rest : List WordData) → IsFile qualifiers (rest_of words.now at) f rest → ⊥) }
+    ensures fails { IfErr result (IsFaultBy (FileFails place.qualified qualifiers.deny) (rest_of words.now at) end) }
     ensures cause { IfErr result (λ e. is_word_fault e.kind ≡ true) }
     ensures place { IfErr result (λ e. IsPlaceIn words.now end e.at) }
     ensures within { IfOk result (λ r. (at < r.1) × (r.1 ≤ length words.now)) }

@@ -127,6 +127,7 @@ pub fn keyword_stands(words: &[Word], at: usize, text: &[u8]) -> bool
 pub fn optional(words: &[Word], at: usize, text: &[u8]) -> (bool, usize)
     ensures read { Optional text.now (rest_of words.now at) result.0 (rest_of words.now result.1) }
     ensures onward { at ≤ result.1 }
+    ensures within { at < result.1 → result.1 ≤ length words.now }
 {
     if keyword_stands(words, at, text) {
         return (true, at + 1);

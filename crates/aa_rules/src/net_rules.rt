@@ -1,10 +1,11 @@
 //! Rules on sockets (apparmor.d(5), "Network rules").
 
-ghost use Rattle.std.specs.Prelude.{◌≡◌, ◌≤◌, ◌<◌, true, List, length, OnErr, IfOk, IfErr};
-ghost use Rattle.aa_words.specs.Splits.{WordData};
+ghost use Rattle.std.specs.Prelude.{◌≡◌, ◌≤◌, true, List, length, OnErr, IfOk, IfErr};
+ghost use Rattle.aa_words.specs.Splits.{WordData, is_one_of};
 ghost use Rattle.aa_rules.specs.Faults.{is_word_fault, IsPlaceIn};
 ghost use Rattle.aa_rules.specs.NetRules.{transport_kinds, one_in, one_name, is_internet, kinds_in, two_names, IsSockets, IsNets};
 ghost use Rattle.aa_rules.specs.Reading.{rest_of};
+ghost use Rattle.aa_rules.specs.RuleFaults.{IsFaultBy, NetFails, condition_words, socket_name_fault};
 ghost use Rattle.aa_tables.specs.Tables.{family_names, sock_type_names};
 
 use crate::lookahead::{fault, word_of_kind};
@@ -120,12 +121,24 @@ fn two_names(first: &[u8], second: &[u8]) -> Option<Sockets>
     Some(Sockets { families, kinds })
 }
 
+/// Whether a condition begins with a name.
+fn is_condition_word(name: &[u8]) -> bool
+    ensures { result ≡ is_one_of condition_words name.now }
+{
+    name == "icmp".as_bytes()
+        || name == "ip".as_bytes()
+        || name == "port".as_bytes()
+        || name == "peer".as_bytes()
+}
+
 /// Why a name can't stand where it stands: it is of a condition, or a family or type out of its
 /// place, or none of these.
+#[tactic(auto, unfolding(crate::specs::RuleFaults::socket_name_fault))]
 fn socket_name_fault(name: &[u8]) -> PolicyKind
-    ensures { is_word_fault result ≡ true }
+    ensures kind { result ≡ socket_name_fault name.now }
+    ensures cause { is_word_fault result ≡ true }
 {
-    if matches!(name, b"icmp" | b"ip" | b"port" | b"peer") {
+    if is_condition_word(name) {
         return PolicyKind::Unsupported;
     }
     match one_name(name) {
@@ -134,23 +147,12 @@ fn socket_name_fault(name: &[u8]) -> PolicyKind
     }
 }
 
-/// Why two names at a place stand for nothing: the first stands for something by itself, or not.
-fn names_fault(words: &[Word], at: usize, first: &[u8], second: &[u8], end: Spot) -> PolicyFault
-    requires within { at < length words.now }
-    ensures kind { is_word_fault result.kind ≡ true }
-    ensures place { IsPlaceIn words.now end result.at }
-{
-    if one_name(first).is_none() {
-        return fault(socket_name_fault(first), words, at, end);
-    }
-    fault(socket_name_fault(second), words, at + 1, end)
-}
-
 /// The sockets that are named from a place on, and the place behind them.
 fn sockets_of(words: &[Word], at: usize, end: Spot) -> Result<(Sockets, usize), PolicyFault>
     requires behind { at ≤ length words.now }
     ensures found { IfOk result (λ r. IsSockets (rest_of words.now at) r.0 (rest_of words.now r.1)) }
     ensures refused { OnErr result ((named : Sockets) (rest : List WordData) → IsSockets (rest_of words.now at) named rest → ⊥) }
+    ensures fails { IfErr result (IsFaultBy NetFails (rest_of words.now at) end) }
     ensures cause { IfErr result (λ e. is_word_fault e.kind ≡ true) }
     ensures place { IfErr result (λ e. IsPlaceIn words.now end e.at) }
     ensures within { IfOk result (λ r. (at ≤ r.1) × (r.1 ≤ length words.now)) }
@@ -162,15 +164,15 @@ fn sockets_of(words: &[Word], at: usize, end: Spot) -> Result<(Sockets, usize), 
         };
         return Ok((all, at));
     };
+    let Some(alone) = one_name(first.text) else {
+        return Err(fault(socket_name_fault(first.text), words, at, end));
+    };
     let next = at + 1;
     let Some(second) = word_of_kind(words, next, WordKind::Name) else {
-        let Some(sockets) = one_name(first.text) else {
-            return Err(fault(socket_name_fault(first.text), words, at, end));
-        };
-        return Ok((sockets, next));
+        return Ok((alone, next));
     };
     let Some(sockets) = two_names(first.text, second.text) else {
-        return Err(names_fault(words, at, first.text, second.text, end));
+        return Err(fault(socket_name_fault(second.text), words, next, end));
     };
     let behind = next + 1;
     if let Some(third) = word_of_kind(words, behind, WordKind::Name) {
@@ -189,6 +191,7 @@ pub fn net_rule_of(
     requires behind { at ≤ length words.now }
     ensures found { IfOk result (λ r. IsNets qualifiers (rest_of words.now at) r.0 (rest_of words.now r.1)) }
     ensures refused { OnErr result ((rule : NetRule) (rest : List WordData) → IsNets qualifiers (rest_of words.now at) rule rest → ⊥) }
+    ensures fails { IfErr result (IsFaultBy NetFails (rest_of words.now at) end) }
     ensures cause { IfErr result (λ e. is_word_fault e.kind ≡ true) }
     ensures place { IfErr result (λ e. IsPlaceIn words.now end e.at) }
     ensures within { IfOk result (λ r. (at ≤ r.1) × (r.1 ≤ length words.now)) }

@@ -5,6 +5,7 @@ ghost use Rattle.aa_words.specs.Splits.{WordData};
 ghost use Rattle.aa_rules.specs.Faults.{is_word_fault, IsPlaceIn};
 ghost use Rattle.aa_rules.specs.Grammar.{IsPermission, IsQualified, Says, is_keyword_byte, keyword_of, IsRule};
 ghost use Rattle.aa_rules.specs.Reading.{RuleData, rule_data, rest_of};
+ghost use Rattle.aa_rules.specs.RuleFaults.{IsFaultBy, SayingFails, RuleFails};
 
 use crate::cap_rules::cap_rule_of;
 use crate::change_rules::change_rule_of;
@@ -19,6 +20,7 @@ use aa_words::{PolicyFault, Spot, Word, WordKind};
 fn permission_of(words: &[Word], at: usize) -> (bool, usize)
     ensures read { IsPermission (rest_of words.now at) result.0 (rest_of words.now result.1) }
     ensures onward { at ≤ result.1 }
+    ensures within { at < result.1 → result.1 ≤ length words.now }
 {
     if keyword_stands(words, at, "deny".as_bytes()) {
         return (true, at + 1);
@@ -31,6 +33,7 @@ fn permission_of(words: &[Word], at: usize) -> (bool, usize)
 fn qualifiers_of(words: &[Word], at: usize) -> (Qualifiers, usize)
     ensures read { IsQualified (rest_of words.now at) result.0 (rest_of words.now result.1) }
     ensures onward { at ≤ result.1 }
+    ensures within { at < result.1 → result.1 ≤ length words.now }
 {
     let (audit, behind) = optional(words, at, "audit".as_bytes());
     let (deny, next) = permission_of(words, behind);
@@ -66,6 +69,7 @@ fn unqualified_of<'s>(
 ) -> Result<(RuleTree<'s>, usize), PolicyFault>
     ensures found { IfOk result (λ r. Says qualifiers (rest_of words.now at) (rule_data r.0) (rest_of words.now r.1)) }
     ensures refused { OnErr result ((r : RuleData) (rest : List WordData) → Says qualifiers (rest_of words.now at) r rest → ⊥) }
+    ensures fails { IfErr result (IsFaultBy (SayingFails place.qualified qualifiers.deny) (rest_of words.now at) end) }
     ensures cause { IfErr result (λ e. is_word_fault e.kind ≡ true) }
     ensures place { IfErr result (λ e. IsPlaceIn words.now end e.at) }
     ensures within { IfOk result (λ r. (at < r.1) × (r.1 ≤ length words.now)) }
@@ -97,6 +101,7 @@ pub fn rule_of<'s>(
 ) -> Result<(RuleTree<'s>, usize), PolicyFault>
     ensures found { IfOk result (λ r. IsRule (rest_of words.now at) (rule_data r.0) (rest_of words.now r.1)) }
     ensures refused { OnErr result ((r : RuleData) (rest : List WordData) → IsRule (rest_of words.now at) r rest → ⊥) }
+    ensures fails { IfErr result (IsFaultBy RuleFails (rest_of words.now at) end) }
     ensures cause { IfErr result (λ e. is_word_fault e.kind ≡ true) }
     ensures place { IfErr result (λ e. IsPlaceIn words.now end e.at) }
     ensures within { IfOk result (λ r. (at < r.1) × (r.1 ≤ length words.now)) }

@@ -1,5 +1,8 @@
 use Rattle.std.proofs.lemmas.Result.{err_from_is_err_and, on_err_weaker, IfOk-weaker}
 use Rattle.aa_rules.specs.Reading.{rest_of}
+use Rattle.aa_rules.specs.RuleFaults.{IsFaultBy}
+use Rattle.aa_rules.proofs.Refusals.{told_on, err_weaker}
+use Rattle.aa_heads.specs.HeadFaults.{FlagsFail, InList}
 use Rattle.aa_heads.proofs.HeadProductions.{no_flags}
 use Rattle.aa_heads.proofs.heads.flags_of.Goals as goal
 
@@ -14,3 +17,12 @@ returns-clause-found c =
 
 pub returns-clause-refused : goal.returns-clause-refused
 returns-clause-refused c = on_err_weaker c.flag_list_of.result (no_flags _ _ c.in_ok-inside.ensures.found) c.flag_list_of.ensures.refused
+
+pub returns-in_err-inside-clause-fails : goal.returns-in_err-inside-clause-fails
+returns-in_err-inside-clause-fails c =
+    let q = err_from_is_err_and c.from_residual.result c.from_residual.ensures.1 in
+    told_on c.from_residual.result _ _ (IsFaultBy FlagsFail (rest_of c.args.words.now c.args.at) c.args.end) q.1 q.2 c.in_err-inside.ensures.fails
+
+pub returns-clause-fails : goal.returns-clause-fails
+returns-clause-fails c =
+    err_weaker c.flag_list_of.result _ _ c.flag_list_of.ensures.fails (λ e f. record { rest = f.rest; fails = InList _ c.in_ok-inside.ensures.found f.fails; at_is = f.at_is })
