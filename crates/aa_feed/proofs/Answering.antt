@@ -1,5 +1,5 @@
 -- What sending and collecting keep of a lane that is fed.
-use Rattle.std.proofs.Common.{◌≡◌, ℕ, suc, ◌+◌, ◌<◌, ◌≤◌, List, [], ◌∷◌, ◌++◌, map, length, take, Option, Some, None, true, sym, refl, ap, ◌∙◌, subst, arith, length-append}
+use Rattle.std.proofs.Common.{◌≡◌, ℕ, suc, ◌+◌, ◌<◌, ◌≤◌, List, [], ◌∷◌, ◌++◌, map, length, take, Option, Some, None, Bool, true, sym, refl, ap, ◌∙◌, subst, arith, length-append}
 use Rattle.std.proofs.lemmas.List.{length-map, map-append}
 use Rattle.std.proofs.lemmas.Option.{slice_get_within}
 use Rattle.std.proofs.Math.Seq.{take-length, take-append_seam}
@@ -8,7 +8,7 @@ use Rattle.aa_machine.specs.Run.{state_after}
 use Rattle.aa_lane.specs.Ends.{LaneSeen, OwnerSeen}
 use Rattle.aa_lane.specs.Answers.{answered_from, collected_by, sent_of, left_of, collected_of, Collects}
 use Rattle.aa_lane.specs.declared.lane.Answered.{Answered}
-use Rattle.aa_feed.specs.Fed.{IsFed, HasLeft, HasCollected, IsFeed, all_of}
+use Rattle.aa_feed.specs.Fed.{IsFed, MayGoOn, HasLeft, HasCollected, IsFeed, all_of}
 
 module _ {M S Q A : Type 0} (next : M → S → Q → S) (reply : M → S → Q → A) where
   answered-length : (m : M) (n : ℕ) (s : S) (qs : List Q) → length (answered_from next reply m n s qs) ≡ length qs
@@ -48,27 +48,31 @@ module _ {M S Q A : Type 0} (next : M → S → Q → S) (reply : M → S → Q 
       }
 
   -- as many answers as were sent are all
-  pub has_left : (l : LaneSeen M S) (o o' : OwnerSeen M S Q A) (answered : List (Answered M S Q A)) → IsFed next reply l o answered → length answered ≡ length o.sent → o' ≡ left_of o o'.log → HasLeft next reply l o' answered
-  has_left l o o' answered h e is =
-      let all : List (Answered M S Q A) = answered_from next reply l.machine 0 l.start o.sent in
-      let n : o.got ≡ length all = omega (arith, answered-length l.machine 0 l.start o.sent, h.count) in
-      let right : answered ≡ all = h.right ∙ ap (λ k. take k all) n ∙ take-length all in
+  pub has_left : (l : LaneSeen M S) (o o' : OwnerSeen M S Q A) (answered : List (Answered M S Q A)) (left : List Q) → IsFed next reply l o answered → length answered ≡ length o.sent → (MayGoOn o → left ≡ []) → o' ≡ left_of o o'.log → HasLeft next reply l o' answered left
+  has_left l o o' answered left h e all is =
+      let given : List (Answered M S Q A) = answered_from next reply l.machine 0 l.start o.sent in
+      let n : o.got ≡ length given = omega (arith, answered-length l.machine 0 l.start o.sent, h.count) in
+      let right : answered ≡ given = h.right ∙ ap (λ k. take k given) n ∙ take-length given in
       let count : o.got ≡ length o.sent = omega (arith, h.count) in
-      subst (λ p. HasLeft next reply l p answered) (sym is) (record { of = h.of; count = count; requests = ap (map (λ (a : Answered M S Q A). a.request)) right ∙ requests_of l.machine 0 l.start o.sent; right = right })
+      subst (λ p. HasLeft next reply l p answered left) (sym is) (record { of = h.of; count = count; requests = ap (map (λ (a : Answered M S Q A). a.request)) right ∙ requests_of l.machine 0 l.start o.sent; right = right; all = all })
 
   -- a feed without an owner has the one that left
-  pub is_left : (l : LaneSeen M S) (owner leaver : Option (OwnerSeen M S Q A)) (answered : List (Answered M S Q A)) (left : List Q) (sent room : ℕ) (o : OwnerSeen M S Q A)
-      → IsFeed next reply l owner leaver answered sent × (length (all_of owner leaver left) ≤ room) → is_none owner ≡ true → leaver ≡ Some o → HasLeft next reply l o answered
-  is_left l (Some p) leaver answered left sent room o h none is = cc
-  is_left l None None answered left sent room o h none is = cc
-  is_left l None (Some p) answered left sent room o h none is = let e : p ≡ o = cc in rw e at h.0
+  pub is_left : (l : LaneSeen M S) (owner leaver : Option (OwnerSeen M S Q A)) (answered : List (Answered M S Q A)) (left : List Q) (sent room : ℕ) (is_open : Bool) (o : OwnerSeen M S Q A)
+      → IsFeed next reply l owner leaver answered left sent is_open × (length (all_of owner leaver left) ≤ room) → is_none owner ≡ true → leaver ≡ Some o → HasLeft next reply l o answered left
+  is_left l (Some p) leaver answered left sent room is_open o h none is = cc
+  is_left l None None answered left sent room is_open o h none is = cc
+  is_left l None (Some p) answered left sent room is_open o h none is = let e : p ≡ o = cc in rw e at h.0
 
   -- with what is decided of the rest, the first answers are those that the owner has collected
-  pub has_collected : (l : LaneSeen M S) (o : OwnerSeen M S Q A) (answered answers : List (Answered M S Q A)) (left : List Q) → HasLeft next reply l o answered
+  pub has_collected : (l : LaneSeen M S) (o : OwnerSeen M S Q A) (answered answers : List (Answered M S Q A)) (left : List Q) → HasLeft next reply l o answered left
       → answers ≡ answered_from next reply l.machine 0 l.start (map (λ (a : Answered M S Q A). a.request) answered ++ left) → HasCollected o answers
   has_collected l o answered answers left h is =
-      let all : map (λ (a : Answered M S Q A). a.request) answers ≡ o.sent ++ left = ap (map (λ (a : Answered M S Q A). a.request)) is ∙ requests_of l.machine 0 l.start _ ∙ ap (λ qs. qs ++ left) h.requests in
-      record { got = h.count; sent = sym (ap (take (length o.sent)) all ∙ take-append_seam o.sent left) }
+      let requests : map (λ (a : Answered M S Q A). a.request) answers ≡ o.sent ++ left = ap (map (λ (a : Answered M S Q A). a.request)) is ∙ requests_of l.machine 0 l.start _ ∙ ap (λ qs. qs ++ left) h.requests in
+      record {
+        got = h.count;
+        sent = sym (ap (take (length o.sent)) requests ∙ take-append_seam o.sent left);
+        all = λ m. omega (arith, ap length requests, length-map answers (λ (a : Answered M S Q A). a.request), length-append o.sent left, ap length (h.all m));
+      }
 
   answered-snoc : (m : M) (n : ℕ) (s : S) (qs : List Q) (a : Answered M S Q A) → a.number ≡ n + length qs → a.answer ≡ reply m (state_after (next m) (reply m) s qs) a.request
       → answered_from next reply m n s (qs ++ a.request ∷ []) ≡ answered_from next reply m n s qs ++ a ∷ []

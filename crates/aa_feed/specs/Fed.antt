@@ -1,5 +1,6 @@
 -- What a lane was fed and has answered.
-use Rattle.std.specs.Prelude.{◌≡◌, ℕ, ◌≤◌, Bool, Option, Some, None, List, ◌++◌, map, take, length, ◌<◌, All, true, slice_index_or}
+use Rattle.std.specs.Prelude.{◌≡◌, ℕ, ◌≤◌, ◌≢◌, Bool, Option, Some, None, List, [], ◌++◌, map, take, length, ◌<◌, All, true, false, slice_index_or}
+use Rattle.aa_lane.specs.WorldState.{most_accepted}
 use Rattle.aa_lane.specs.Ends.{LaneSeen, OwnerSeen, known}
 use Rattle.aa_lane.specs.Answers.{answered_from, collected_by}
 use Rattle.aa_lane.specs.declared.lane.Answered.{Answered}
@@ -17,10 +18,15 @@ module _ {M S Q A : Type 0} where
   all_of None (Some o) left = o.sent ++ left
   all_of None None left = left
 
--- an owner has collected all that it sent, and these are the first of the answers
+-- an owner wasn't told that its lane accepts nothing more, since it is shut, or has accepted as many requests as a lane does
+abbrev pub MayGoOn : {M S Q A : Type 0} → OwnerSeen M S Q A → Type 0
+MayGoOn o = (o.closed ≢ true) × (length o.sent ≢ most_accepted)
+
+-- an owner has collected all that it sent, and these are the first of the answers; they are all of them, unless it was told that the lane accepts nothing more
 pub record HasCollected {M S Q A : Type 0} (o : OwnerSeen M S Q A) (answers : List (Answered M S Q A)) : Type 0 where
   pub got : o.got ≡ length o.sent
   pub sent : o.sent ≡ take (length o.sent) (map (λ a. a.request) answers)
+  pub all : MayGoOn o → length o.sent ≡ length answers
 
 module _ {M S Q A : Type 0} (next : M → S → Q → S) (reply : M → S → Q → A) where
   -- the owner is the lane's, and has collected these answers
@@ -30,18 +36,19 @@ module _ {M S Q A : Type 0} (next : M → S → Q → S) (reply : M → S → Q 
     pub within : o.got ≤ length o.sent
     pub right : answered ≡ collected_by next reply l o
 
-  -- the owner has left its lane, and has the answers to all that it sent
-  pub record HasLeft (l : LaneSeen M S) (o : OwnerSeen M S Q A) (answered : List (Answered M S Q A)) : Type 0 where
+  -- the owner has left its lane, and has the answers to all that it sent; it left nothing unsent, unless it was told that the lane accepts nothing more
+  pub record HasLeft (l : LaneSeen M S) (o : OwnerSeen M S Q A) (answered : List (Answered M S Q A)) (left : List Q) : Type 0 where
     pub of : o.lane ≡ known l
     pub count : o.got ≡ length o.sent
     pub requests : map (λ a. a.request) answered ≡ o.sent
     pub right : answered ≡ answered_from next reply l.machine 0 l.start o.sent
+    pub all : MayGoOn o → left ≡ []
 
-  -- an owner of the lane with so many sent has collected these answers; or it has left, with all answers to what was accepted
-  abbrev pub IsFeed : LaneSeen M S → Option (OwnerSeen M S Q A) → Option (OwnerSeen M S Q A) → List (Answered M S Q A) → ℕ → Type 0
-  IsFeed l (Some o) leaver answered sent = IsFed l o answered × (sent ≡ length o.sent)
-  IsFeed l None (Some o) answered sent = HasLeft l o answered
-  IsFeed l None None answered sent = ⊥
+  -- an owner of the lane with so many sent has collected these answers, and the lane is open to it, or it was told that the lane accepts nothing more; or it has left, with all answers to what was accepted
+  abbrev pub IsFeed : LaneSeen M S → Option (OwnerSeen M S Q A) → Option (OwnerSeen M S Q A) → List (Answered M S Q A) → List Q → ℕ → Bool → Type 0
+  IsFeed l (Some o) leaver answered left sent is_open = IsFed l o answered × (sent ≡ length o.sent) × (is_open ≡ false → MayGoOn o → ⊥)
+  IsFeed l None (Some o) answered left sent is_open = HasLeft l o answered left
+  IsFeed l None None answered left sent is_open = ⊥
 
 -- each lane is the one that it was, with the same requests
 pub record AreSame {M S Q : Type 0} (fs gs : List (FeedSeen M S Q)) : Type 0 where

@@ -1,12 +1,12 @@
 //! A lane with what it is to be fed.
-ghost use Rattle.std.specs.Prelude.{◌≡◌, ◌≢◌, map, true, ◌+◌, ◌<◌, ◌≤◌, ◌++◌, [], ◌∷◌, length, vec_len, vec_capacity, IfOk, MatchResult, List};
+ghost use Rattle.std.specs.Prelude.{◌≡◌, ◌≢◌, map, true, false, ◌+◌, ◌-◌, ◌<◌, ◌≤◌, ◌++◌, [], ◌∷◌, length, vec_len, vec_capacity, IfOk, MatchOption, MatchResult, List};
 ghost use Rattle.std.specs.VecDeque.{deque_len, deque_capacity};
 ghost use Rattle.aa_machine.specs.Run.{state_after};
-ghost use Rattle.aa_lane.specs.Ends.{known, new_owner};
+ghost use Rattle.aa_lane.specs.Ends.{known, new_owner, IsCapacity};
 ghost use Rattle.aa_lane.specs.Answers.{answered_from};
-ghost use Rattle.aa_feed.specs.Fed.{IsFed, HasLeft, HasCollected, answers_of};
+ghost use Rattle.aa_feed.specs.Fed.{IsFed, MayGoOn, HasLeft, HasCollected, answers_of};
 
-use aa_lane::{Answered, Lane, Leaver, Machine, Owner, SendFault};
+use aa_lane::{Answered, Lane, Leaver, Machine, Owner};
 use std::collections::VecDeque;
 use std::marker::Model;
 
@@ -23,7 +23,7 @@ fn collect<'m, M: Machine>(
     requires fed { IsFed M.next M.reply lane.now owner.old answered.old.items }
     requires room { length owner.old.sent ≤ vec_capacity answered.old }
     ensures fed { IsFed M.next M.reply lane.now owner.new answered.new.items }
-    ensures sent { owner.new.sent ≡ owner.old.sent }
+    ensures sent { (owner.new.sent ≡ owner.old.sent) × (owner.new.closed ≡ owner.old.closed) }
     ensures room { vec_capacity answered.new ≡ vec_capacity answered.old }
 {
     if sent == answered.len() as u64 {
@@ -38,15 +38,29 @@ fn collect<'m, M: Machine>(
     }
 }
 
-// What became of a request that was to be sent.
-#[derive(Clone, Copy, PartialEq, Eq)]
-enum Sending {
-    Accepted,
-    Full,
-    Closed,
+// How many requests more a lane of that many slots has room for, after so many were sent and so many answers collected.
+fn room_for(capacity: u64, sent: u64, got: u64) -> u64
+    ensures { result ≡ capacity - (sent - got) }
+{
+    capacity.saturating_sub(sent.saturating_sub(got))
 }
 
-// Sends a request, and counts it. Where it isn't accepted it stays the first that is left.
+// The first request that is left, where the lane may accept one more.
+fn next_to_send<Q>(is_open: bool, room: u64, left: &mut VecDeque<Q>) -> Option<Q>
+    ensures { MatchOption result
+        ((left.new.items ≡ left.old.items) × (is_open ≡ true → 0 < room → left.new.items ≡ []))
+        (λ q. (0 < room) × (left.old.items ≡ q ∷ left.new.items) × (deque_len left.new < deque_capacity left.new)) }
+{
+    if !is_open {
+        return None;
+    }
+    if room == 0 {
+        return None;
+    }
+    left.pop_front()
+}
+
+// Sends a request, and counts it. Where the lane accepts nothing more it stays the first that is left. Whether it was accepted.
 fn send<'m, M: Machine>(
     lane: &Lane<'m, M>,
     owner: &mut Owner<M>,
@@ -54,46 +68,46 @@ fn send<'m, M: Machine>(
     request: M::Request,
     left: &mut VecDeque<M::Request>,
     sent: &mut u64,
-) -> Sending
+) -> bool
     requires fed { IsFed M.next M.reply lane.now owner.old answered.now.items }
     requires sent { sent.old ≡ length owner.old.sent }
+    requires slots { length owner.old.sent < owner.old.got + lane.now.table.slots }
     requires room { deque_len left.old < deque_capacity left.old }
     ensures fed { IsFed M.next M.reply lane.now owner.new answered.now.items }
     ensures sent { sent.new ≡ length owner.new.sent }
     ensures all { owner.new.sent ++ left.new.items ≡ owner.old.sent ++ request ∷ left.old.items }
+    ensures refused { result ≡ false → MayGoOn owner.new → ⊥ }
 {
     let _ = answered;
     match owner.send(lane, request) {
         Ok(number) => {
             *sent = number + 1;
-            Sending::Accepted
+            true
         }
         Err(unsent) => {
-            let fault = unsent.fault;
             match left.push_front(unsent.request) {
                 Ok(()) => {}
                 Err(_) => unreachable!(),
             }
-            if fault == SendFault::Full {
-                Sending::Full
-            } else {
-                Sending::Closed
-            }
+            false
         }
     }
 }
 
-// Leaves the lane, if all answers are there.
+// Leaves the lane, if all answers are there: then nothing is left, or the lane accepts nothing more.
 fn leave<'m, M: Machine>(
     lane: &Lane<'m, M>,
     owner: Owner<M>,
     answered: &Vec<Answered<M>>,
+    left: &VecDeque<M::Request>,
     sent: u64,
 ) -> Result<Leaver<M>, Owner<M>>
     requires fed { IsFed M.next M.reply lane.now owner answered.now.items }
     requires sent { sent ≡ length owner.sent }
-    ensures { MatchResult result (λ l. HasLeft M.next M.reply lane.now l answered.now.items × (l.sent ≡ owner.sent)) (λ o. o ≡ owner) }
+    requires all { vec_len answered.now ≡ sent → MayGoOn owner → left.now.items ≡ [] }
+    ensures { MatchResult result (λ l. HasLeft M.next M.reply lane.now l answered.now.items left.now.items × (l.sent ≡ owner.sent)) (λ o. o ≡ owner) }
 {
+    let _ = left;
     if answered.len() as u64 == sent {
         Ok(owner.exit(lane))
     } else {
@@ -114,17 +128,15 @@ pub enum Turned {
     Left,
 }
 
-// What a turn came to that sent a request, where there was room for so many and maybe an answer was collected before.
-fn turned_by(sending: Sending, collected: bool, room: u64) -> Turned
+// What a turn came to that sent a request, where there was room for so many.
+fn turned_by(accepted: bool, room: u64) -> Turned
     ensures { result ≢ Turned.Left }
 {
-    if sending == Sending::Accepted && room == 1 {
-        return Turned::Filled;
+    if accepted && room == 1 {
+        Turned::Filled
+    } else {
+        Turned::Did
     }
-    if sending == Sending::Full && !collected {
-        return Turned::Waits;
-    }
-    Turned::Did
 }
 
 /// An owner that has left its lane, with the answers to all that the lane was to be fed.
@@ -141,13 +153,14 @@ pub struct Feed<'l, 'm, M: Machine> {
     lane: &'l Lane<'m, M>,
     owner: Option<Owner<M>>,
     leaver: Option<Leaver<M>>,
-    open: bool,
+    is_open: bool,
     capacity: u64,
     sent: u64,
     start: M::State,
     left: VecDeque<M::Request>,
     answered: Vec<Answered<M>>,
     ghost opened: { start ≡ lane.now.start },
+    ghost slots: { (0 < capacity) × (capacity ≡ lane.now.table.slots) },
 }
 
 impl<'l, 'm, M: Machine> Model for Feed<'l, 'm, M> {
@@ -158,12 +171,11 @@ impl<'l, 'm, M: Machine> Model for Feed<'l, 'm, M> {
 
     ghost view = { λ f. record { lane = f.lane.now; all = all_of f.owner f.leaver f.left.items; finished = is_none f.owner } };
 
-    ghost invariant = { λ f. IsFeed M.next M.reply f.lane.now f.owner f.leaver f.answered.items f.sent × (length (all_of f.owner f.leaver f.left.items) ≤ vec_capacity f.answered) };
+    ghost invariant = { λ f. IsFeed M.next M.reply f.lane.now f.owner f.leaver f.answered.items f.left.items f.sent f.is_open × (length (all_of f.owner f.leaver f.left.items) ≤ vec_capacity f.answered) };
 }
 
 impl<'l, 'm, M: Machine> Feed<'l, 'm, M> {
-    /// A lane that is to be fed these requests, at most that many on their way at a time. There is to be room for all answers:
-    /// nothing takes memory later.
+    /// A lane of that capacity that is to be fed these requests. There is to be room for all answers: nothing takes memory later.
     pub fn new(
         lane: &'l Lane<'m, M>,
         capacity: u32,
@@ -174,6 +186,7 @@ impl<'l, 'm, M: Machine> Feed<'l, 'm, M> {
     ) -> Feed<'l, 'm, M>
         requires owner { owner ≡ new_owner lane.now }
         requires start { start ≡ lane.now.start }
+        requires capacity { IsCapacity capacity × (lane.now.table.slots ≡ capacity) }
         requires empty { room.items ≡ [] }
         requires room { deque_len left ≤ vec_capacity room }
         ensures { (result.lane ≡ lane.now) × (result.all ≡ left.items) }
@@ -182,7 +195,7 @@ impl<'l, 'm, M: Machine> Feed<'l, 'm, M> {
             lane,
             owner: Some(owner),
             leaver: None,
-            open: true,
+            is_open: true,
             capacity: u64::from(capacity),
             sent: 0,
             start,
@@ -196,43 +209,32 @@ impl<'l, 'm, M: Machine> Feed<'l, 'm, M> {
         self.sent.saturating_sub(self.answered.len() as u64)
     }
 
-    // How many requests more the lane has room for, as far as is known.
-    fn room(&self) -> u64 {
-        if self.open {
-            self.capacity.saturating_sub(self.on_their_way())
-        } else {
-            0
-        }
-    }
-
     /// Collects an answer, if there is one, and sends a request, if there is room for one; or leaves the lane, if there is nothing
-    /// more to come. No answer is looked for where none is to come, and no request is sent to a full lane.
+    /// more to come: no answer, and no request that the lane accepts. No answer is looked for where none is to come, and no
+    /// request is sent to a full lane.
     pub fn turn(&mut self) -> Turned
         ensures same { (self.new.lane ≡ self.old.lane) × (self.new.all ≡ self.old.all) }
         ensures finished { result ≡ Turned.Left → self.new.finished ≡ true }
     {
-        let room = self.room();
         let Some(mut owner) = self.owner.take() else {
             return Turned::Left;
         };
         let collected = collect(self.lane, &mut owner, &mut self.answered, self.sent);
-        let room = room.saturating_add(u64::from(collected));
-        if room > 0 {
-            if let Some(request) = self.left.pop_front() {
-                let sending = send(
-                    self.lane,
-                    &mut owner,
-                    &self.answered,
-                    request,
-                    &mut self.left,
-                    &mut self.sent,
-                );
-                self.open = sending != Sending::Closed;
-                self.owner = Some(owner);
-                return turned_by(sending, collected, room);
-            }
+        let room = room_for(self.capacity, self.sent, self.answered.len() as u64);
+        if let Some(request) = next_to_send(self.is_open, room, &mut self.left) {
+            let accepted = send(
+                self.lane,
+                &mut owner,
+                &self.answered,
+                request,
+                &mut self.left,
+                &mut self.sent,
+            );
+            self.is_open = accepted;
+            self.owner = Some(owner);
+            return turned_by(accepted, room);
         }
-        match leave(self.lane, owner, &self.answered, self.sent) {
+        match leave(self.lane, owner, &self.answered, &self.left, self.sent) {
             Ok(leaver) => {
                 self.leaver = Some(leaver);
                 Turned::Left

@@ -1,5 +1,5 @@
 //! Tasks, and the answers to all of them.
-ghost use Rattle.std.specs.Prelude.{◌≡◌, ◌<◌, ◌≤◌, [], IfOk, IfErr, MatchOption, MatchResult, length, map, vec_len, vec_capacity};
+ghost use Rattle.std.specs.Prelude.{◌≡◌, ◌<◌, ◌≤◌, [], All, IfOk, IfErr, MatchOption, MatchResult, length, map, vec_len, vec_capacity};
 ghost use Rattle.std.specs.VecDeque.{deque_len};
 ghost use Rattle.aa_lane.specs.Ends.{IsCapacity, new_owner};
 ghost use Rattle.aa_pool.specs.Opened.{Denies};
@@ -67,6 +67,7 @@ fn feed_of<'l, 'm, M: Machine>(
 ) -> Feed<'l, 'm, M>
     requires owner { owner ≡ new_owner lane.now }
     requires start { task.start ≡ lane.now.start }
+    requires capacity { IsCapacity capacity × (lane.now.table.slots ≡ capacity) }
     requires empty { room.items ≡ [] }
     requires room { deque_len task.requests ≤ vec_capacity room }
     ensures { (result.lane ≡ lane.now) × (result.all ≡ task.requests.items) }
@@ -86,6 +87,7 @@ fn feeds_of<'l, 'm, M: Machine>(
 ) -> Vec<Feed<'l, 'm, M>>
     requires owners { owners.items ≡ map new_owner lanes.now }
     requires starts { map (λ t. t.start) tasks.items ≡ map (λ l. l.start) lanes.now }
+    requires capacity { IsCapacity capacity × All (λ l. l.table.slots ≡ capacity) lanes.now }
     requires rooms { AreRooms tasks.items rooms.items }
     requires empty { feeds.items ≡ [] }
     requires room { length lanes.now ≤ vec_capacity feeds }

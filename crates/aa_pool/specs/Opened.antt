@@ -1,5 +1,5 @@
 -- What an engine is when it is opened, and what shutting all lanes does.
-use Rattle.std.specs.Prelude.{◌≡◌, ℕ, ◌<◌, ◌≤◌, ◌⊎◌, List, map, length, All, slice_index_or}
+use Rattle.std.specs.Prelude.{◌≡◌, ℕ, ◌<◌, ◌≤◌, ◌⊎◌, Some, List, map, length, All, slice_index_or}
 use Rattle.aa_lane.specs.Ends.{LaneSeen, OwnerSeen, ServerSeen, ShutterSeen, IsCapacity, known, new_owner, new_server, new_shutter}
 use Rattle.aa_lane.specs.Answers.{HappensAt, shut_of}
 use Rattle.aa_lane.specs.declared.cells.Who.TheVariants.{ByShutter}
@@ -31,10 +31,11 @@ Denies BadCapacity n c = (n ≤ 1024) × ((c ≡ 0) ⊎ (1024 < c))
 Denies TooManyLanes n c = 1024 < n
 
 module _ {M S Q A : Type 0} (next : M → S → Q → S) (reply : M → S → Q → A) where
-  -- a shutter has shut its lane, and was given this count
+  -- a shutter has shut its lane, and was given this count; one that had shut before was given the same count
   pub record HasShut (l : LaneSeen M S) (old new : ShutterSeen M S Q A) (n : ℕ) : Type 0 where
     pub is : new ≡ shut_of old n new.log
     pub happens : HappensAt next reply l ByShutter old.log Shut (Count n) new.log
+    pub again : (c : ℕ) → old.count ≡ Some c → n ≡ c
 
   -- each has, and that is its count
   abbrev pub AreShut : List (LaneSeen M S) → List (ShutterSeen M S Q A) → List (ShutterSeen M S Q A) → List ℕ → Type 0

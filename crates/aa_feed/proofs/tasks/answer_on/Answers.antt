@@ -46,3 +46,6 @@ close_all-requires-clause-owners g c = c.run_all-finished.ensures.of ∙ ap (map
 
 pub close_all-requires-clause-servers : goal.close_all-requires-clause-servers
 close_all-requires-clause-servers g c = c.in_order-servers.ensures ∙ ap (map known) c.as_slice-3.ensures.value
+
+pub feeds_of-feeds-requires-clause-capacity : goal.feeds_of-feeds-requires-clause-capacity
+feeds_of-feeds-requires-clause-capacity g c = rw c.as_slice.ensures.value (c.requires.stage.fits, λ k d below. (c.requires.stage.opened.terms k d below).1)

@@ -92,3 +92,10 @@ push_reserved-requires g c =
     let owners : c.next_of-owner.result ∷ c.next_of-owner.new.values.rest.items ≡ map new_owner (drop c.loop-task.at c.args.lanes.now) = rw c.next_of-owner.ensures at c.loop-task.invariant.owners in
     let w : c.loop-task.at < length c.args.lanes.now = (stepped new_owner c.next_of-owner.result c.next_of-owner.new.values.rest.items c.args.lanes.now c.loop-task.at owners).within in
     omega (arith, w, c.loop-task.invariant.room.0, c.loop-task.invariant.room.1)
+
+pub feed_of-requires-clause-capacity : goal.feed_of-requires-clause-capacity
+feed_of-requires-clause-capacity g c =
+    let i = c.loop-task.invariant in
+    let starts : c.in-Some.task.start ∷ map (λ t. t.start) c.next.new.self.rest.items ≡ map (λ a. a.start) (drop c.loop-task.at c.args.lanes.now) = rw ((c.in-Some.ensures {u = tt}).steps.0) at i.starts in
+    let t = stepped (λ a. a.start) c.in-Some.task.start (map (λ t. t.start) c.next.new.self.rest.items) c.args.lanes.now c.loop-task.at starts in
+    (c.requires.capacity.0, ap (λ l. l.table.slots) c.index-lanes-at.is ∙ c.requires.capacity.1 c.loop-task.at c.index-lanes-at.result t.within)
