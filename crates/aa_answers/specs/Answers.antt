@@ -1,4 +1,5 @@
 -- What a job asks for and means: each task's requests before its first exit, answered from its label on.
+-- Source: own.
 use Rattle.std.specs.Prelude.{ℕ, ◌≡◌, List, [], ◌∷◌, Option, Some, map, option_and_then, is_none, position}
 use Rattle.aa_profiles.specs.declared.policy.Policy.{Policy}
 use Rattle.aa_requests.specs.declared.label.Label.{Label}

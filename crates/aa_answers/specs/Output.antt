@@ -1,4 +1,5 @@
 -- What the commands write.
+-- Source: own.
 use Rattle.std.specs.Prelude.{ℕ, ◌+◌, List, [], ◌∷◌, ◌++◌, length, codes, decimal, flat_map, sum_by, Bool, Option, Some, if◌then◌else◌}
 use Rattle.std.specs.Option.{option_map_or}
 use Rattle.std.specs.List.{list_all, slice_get}
@@ -15,9 +16,11 @@ use Rattle.aa_audit.specs.Lines.{line}
 use Rattle.aa_answers.specs.Answers.{Answered, task_label, next_label, answers_by, ◌>>=◌}
 use Rattle.aa_mediate.specs.Reply.{reply}
 
+-- what a verdict line says
 abbrev pub verdict_word : Bool → List ℕ
 verdict_word granted = if granted then codes " granted" else codes " denied"
 
+-- what a verdict line says of the environment
 abbrev pub scrub_word : Bool → List ℕ
 scrub_word scrub = if scrub then codes " scrub" else []
 

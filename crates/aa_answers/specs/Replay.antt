@@ -1,4 +1,5 @@
 -- What `replay` writes: events that happen at the tasks of a job, each at the world of its own task.
+-- Source: own.
 use Rattle.std.specs.Prelude.{ℕ, List, [], ◌∷◌, ◌++◌, codes, decimal, Bool, true, false, Option, Some, None, option_map, if◌then◌else◌, slice_get, slice_set}
 use Rattle.std.specs.Option.{option_map_or}
 use Rattle.aa_profiles.specs.declared.policy.Policy.{Policy}
@@ -27,9 +28,11 @@ use Rattle.aa_answers.specs.Output.{outcome_text}
 abbrev pub TaskWorld : Type 0
 TaskWorld = WorldState (List Policy) Label Request Answer
 
+-- an event at a task's lane
 abbrev pub TaskEvent : Type 0
 TaskEvent = Event (List Policy) Label Request Answer
 
+-- the reply to one
 abbrev pub TaskReply : Type 0
 TaskReply = Reply (List Policy) Label Request Answer
 
@@ -68,6 +71,7 @@ without_request (Given n) = say.Given n
 without_request Nothing = say.Nothing
 without_request (Count n) = say.Count n
 
+-- an item was offered and refused
 abbrev pub is_refused : Said → Bool
 is_refused say.Spent = true
 is_refused say.Full = true
@@ -94,6 +98,7 @@ moved task name e = record {
   left = left_after name (is_refused (says task e)) task.left;
 }
 
+-- a task after an event of that name
 abbrev pub task_after : TaskState → EventName → TaskState
 task_after task name = option_map_or (moved task name) (named_event name task.left) task
 
@@ -102,6 +107,7 @@ abbrev pub given_text : Bool → List Policy → Option Answer → List ℕ
 given_text several policies None = []
 given_text several policies (Some answer) = outcome_text several policies answer
 
+-- the event offers an item
 abbrev pub is_send : EventName → Bool
 is_send names.Send = true
 is_send _ = false
@@ -139,6 +145,7 @@ event_line several policies number task name = decimal number ++ told several po
 abbrev pub tasks_after : List TaskState → Listed → List TaskState
 tasks_after tasks e = option_map_or (λ (t : TaskState). slice_set tasks e.task (task_after t e.name)) (slice_get tasks e.task) tasks
 
+-- the line of an event at its task
 abbrev pub line_at : Bool → List Policy → List TaskState → Listed → List ℕ
 line_at several policies tasks e = option_map_or (λ (t : TaskState). event_line several policies e.task t e.name) (slice_get tasks e.task) []
 

@@ -1,4 +1,5 @@
 -- The rules that decide a request, by what each rule of a list says of its object.
+-- Source: apparmor.d(5), "Qualifiers"; own.
 use Rattle.std.specs.Prelude.{ℕ, ◌+◌, ◌==◌, ◌&&◌, List, [], ◌∷◌, ◌++◌, Bool, true, false, not, Option, Some, None, option_to_list, bit_and, if◌then◌else◌}
 use Rattle.aa_said.specs.Said.{minus, perms_of}
 use Rattle.aa_rows.specs.FileRules.{is_nil}
@@ -39,6 +40,7 @@ pub record Reasons : Type 0 where
   pub allows : List Decider
   pub lacking : ℕ
 
+-- the rules that decide, without where their lists lie in memory
 abbrev pub reasons : Deciders → Reasons
 reasons d = record { listed = d.listed; denies = d.denies.items; allows = d.allows.items; lacking = d.lacking.0 }
 

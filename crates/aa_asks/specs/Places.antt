@@ -1,4 +1,5 @@
 -- Where the profiles that words spell stand, and where their rules do: the grammar once more, with the place at which each rule begins.
+-- Source: apparmor.d(5), "Profiles"; own.
 use Rattle.std.specs.Prelude.{◌≡◌, List, [], ◌∷◌, ◌++◌, map, flat_map, Option, Some, None, IsSome, true, false}
 use Rattle.aa_faults.specs.declared.fault.Spot.{Spot}
 use Rattle.aa_words.specs.Splits.{WordData}
@@ -59,6 +60,7 @@ abbrev pub rules_in : PlacedPart → List PlacedRule
 rules_in (Stated statement) = if_any statement
 rules_in (Held child) = []
 
+-- the child that a part of a body is, if it is one
 abbrev pub children_in : PlacedPart → List PlacedProfile
 children_in (Stated statement) = []
 children_in (Held child) = child ∷ []
@@ -101,6 +103,7 @@ pub record PlacesData : Type 0 where
   pub nets : List Spot
   pub changes : List Spot
 
+-- the place of a rule, if it is on files
 abbrev pub if_file : Spot → RuleData → List Spot
 if_file at (OnFile f) = at ∷ []
 if_file at (OnCap rule) = []
@@ -108,6 +111,7 @@ if_file at (OnNet rule) = []
 if_file at (OnChange c) = []
 if_file at (Listed keyword) = []
 
+-- the place of a rule, if it is on capabilities
 abbrev pub if_cap : Spot → RuleData → List Spot
 if_cap at (OnFile f) = []
 if_cap at (OnCap rule) = at ∷ []
@@ -115,6 +119,7 @@ if_cap at (OnNet rule) = []
 if_cap at (OnChange c) = []
 if_cap at (Listed keyword) = []
 
+-- the place of a rule, if it is on sockets
 abbrev pub if_net : Spot → RuleData → List Spot
 if_net at (OnFile f) = []
 if_net at (OnCap rule) = []
@@ -122,6 +127,7 @@ if_net at (OnNet rule) = at ∷ []
 if_net at (OnChange c) = []
 if_net at (Listed keyword) = []
 
+-- the place of a rule, if it is on changes of the profile
 abbrev pub if_change : Spot → RuleData → List Spot
 if_change at (OnFile f) = []
 if_change at (OnCap rule) = []
@@ -139,6 +145,7 @@ with_rules p rules = record {
   changes = p.changes ++ flat_map (λ (r : PlacedRule). if_change r.at r.rule) rules;
 }
 
+-- the places of a profile without rules
 abbrev pub no_places : Spot → PlacesData
 no_places at = record { at = at; files = []; caps = []; nets = []; changes = [] }
 

@@ -1,4 +1,5 @@
 -- What each rule of a profile says of a request's object, and so which rules decide the request.
+-- Source: apparmor.d(5), "Qualifiers", "Access Modes", "Capability rules", "Network rules", "change_profile rules"; own.
 use Rattle.std.specs.Prelude.{ℕ, List, Bool, true, ◌==◌, ◌&&◌, ◌||◌, map, Option, Some, None, if◌then◌else◌}
 use Rattle.std.specs.List.{list_any}
 use Rattle.std.specs.Option.{option_map_or}
@@ -23,6 +24,7 @@ use Rattle.aa_asks.specs.Deciders.{Reasons, reasons_by, exec_reasons, granted_be
 abbrev pub file_saying : List ℕ → Bool → FileRule → Saying
 file_saying path owned r = record { holds = applies_by any_sort path owned r; deny = r.deny; perms = r.perms }
 
+-- the rule says how the path is executed, by a literal pattern
 abbrev pub says_how_literally : List ℕ → Bool → FileRule → Bool
 says_how_literally path owned r = says_how r && applies_by is_literal path owned r
 
@@ -30,6 +32,7 @@ says_how_literally path owned r = says_how r && applies_by is_literal path owned
 abbrev pub chooses : Bool → List ℕ → Bool → FileRule → Bool
 chooses literally path owned r = if literally then says_how_literally path owned r else says_how r && applies_by any_sort path owned r
 
+-- the rule denies, and applies
 abbrev pub is_denial : List ℕ → Bool → FileRule → Bool
 is_denial path owned r = r.deny && applies_by any_sort path owned r
 
@@ -49,12 +52,15 @@ has_entry bits n = bit_at bits n == 1
 abbrev pub bit_saying : Bool → Bool → Saying
 bit_saying speaks deny = record { holds = speaks; deny = deny; perms = perms_of 1 }
 
+-- what a rule says of a capability
 abbrev pub cap_saying : ℕ → CapRule → Saying
 cap_saying cap r = bit_saying (has_entry r.caps.0 cap) r.deny
 
+-- the rule holds the family and the type
 abbrev pub net_holds : ℕ → ℕ → NetRule → Bool
 net_holds family kind r = has_entry r.families family && has_entry r.kinds kind
 
+-- what a rule says of a socket
 abbrev pub net_saying : ℕ → ℕ → NetRule → Saying
 net_saying family kind r = bit_saying (net_holds family kind r) r.deny
 
@@ -62,6 +68,7 @@ net_saying family kind r = bit_saying (net_holds family kind r) r.deny
 abbrev pub change_holds : List ℕ → ChangeRule → Bool
 change_holds name r = option_map_or (λ (p : Pattern). is_match p.items.items name) r.pattern true
 
+-- what a rule says of a change to the name
 abbrev pub change_saying : List ℕ → ChangeRule → Saying
 change_saying name r = bit_saying (change_holds name r) r.deny
 

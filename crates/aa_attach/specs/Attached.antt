@@ -1,4 +1,5 @@
 -- Which profile is attached to a path.
+-- Source: apparmor.d(5), "Profile Head"; own.
 use Rattle.std.specs.Prelude.{◌≡◌, ℕ, suc, max, List, [], ◌∷◌, map, length, Bool, false, ◌==◌, if◌then◌else◌, filter, Option, Some, None}
 use Rattle.std.specs.Bool.{nat_eq}
 use Rattle.std.specs.Option.{option_eq, option_and_then, option_map_or}
@@ -16,9 +17,11 @@ use Rattle.aa_said.specs.Patterns.{is_literal}
 abbrev pub front_of : Pattern → ℕ
 front_of p = length (take_while is_byte p.items.items)
 
+-- what is kept of an attachment's pattern
 abbrev pub attachment_by : ℕ → Pattern → Attachment
 attachment_by profile p = record { profile = profile; literal = is_literal p; front = front_of p }
 
+-- the longest literal front
 abbrev pub longest : List Attachment → ℕ
 longest [] = 0
 longest (a ∷ rest) = max a.front (longest rest)
@@ -40,9 +43,11 @@ common (n ∷ rest) = if list_all (λ k. k == n) rest then Some n else None
 abbrev pub attached_by : List Attachment → Option ℕ
 attached_by as' = common (map (λ a. a.profile) (strongest as'))
 
+-- a pattern beside its profile's number
 abbrev pub at_number : ℕ → Pattern → ℕ × Pattern
 at_number n p = (n, p)
 
+-- the attachments of the profile with that number
 abbrev pub attachments_at : List Profile → ℕ → List Pattern
 attachments_at profiles n = option_map_or (λ (p : Profile). p.attachments) (slice_get profiles n) []
 
@@ -50,9 +55,11 @@ attachments_at profiles n = option_map_or (λ (p : Profile). p.attachments) (sli
 abbrev pub attachments_by : List Profile → List ℕ → List (ℕ × Pattern)
 attachments_by profiles numbers = flat_map (λ n. map (at_number n) (attachments_at profiles n)) numbers
 
+-- the pattern
 abbrev pub pattern_of : ℕ × Pattern → Pattern
 pattern_of h = h.1
 
+-- what is kept of it
 abbrev pub attachment_of : ℕ × Pattern → Attachment
 attachment_of h = attachment_by h.0 h.1
 
@@ -65,6 +72,7 @@ pub record AnswerTable : Type 0 where
 abbrev pub answer_at : AnswerTable → List ℕ → Option ℕ
 answer_at t path = option_map_or (λ (a : Option ℕ). a) (slice_get t.answers (list_number t.table (place_of t.table path))) None
 
+-- the profile that each list of numbers attaches
 abbrev pub answers_by : List Attachment → List (List ℕ) → List (Option ℕ)
 answers_by as' lists = map (λ list. attached_by (picked as' list)) lists
 
@@ -72,6 +80,7 @@ answers_by as' lists = map (λ list. attached_by (picked as' list)) lists
 abbrev pub attached : List Profile → List ℕ → List ℕ → Option ℕ
 attached profiles numbers path = attached_by (map attachment_of (filter (λ h. is_match h.1.items.items path) (attachments_by profiles numbers)))
 
+-- the profile has that parent, or none
 abbrev pub has_parent : Option ℕ → Profile → Bool
 has_parent parent p = option_eq nat_eq p.parent parent
 
@@ -80,9 +89,11 @@ abbrev pub numbers_below : Option ℕ → ℕ → List Profile → List ℕ
 numbers_below parent k [] = []
 numbers_below parent k (p ∷ rest) = if has_parent parent p then k ∷ numbers_below parent (suc k) rest else numbers_below parent (suc k) rest
 
+-- the attachment with that number is literal
 abbrev pub literal_at : List Attachment → ℕ → Bool
 literal_at as' n = option_map_or (λ (a : Attachment). a.literal) (slice_get as' n) false
 
+-- the literal front of the attachment with that number
 abbrev pub front_at : List Attachment → ℕ → ℕ
 front_at as' n = option_map_or (λ (a : Attachment). a.front) (slice_get as' n) 0
 
@@ -90,6 +101,7 @@ front_at as' n = option_map_or (λ (a : Attachment). a.front) (slice_get as' n) 
 abbrev pub profile_if : Bool → ℕ → List Attachment → ℕ → Option ℕ
 profile_if literal front as' n = option_and_then (λ (a : Attachment). if is_strong literal front a then Some a.profile else None) (slice_get as' n)
 
+-- the profiles of those attachments that are literal, or have that front
 abbrev pub profiles_of : Bool → ℕ → List Attachment → List ℕ → List ℕ
 profiles_of literal front as' numbers = filter_map (profile_if literal front as') numbers
 

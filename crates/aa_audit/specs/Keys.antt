@@ -1,4 +1,5 @@
 -- The keys of an audit line that stand behind its profile, for each operation.
+-- Source: capabilities(7); own.
 use Rattle.std.specs.Prelude.{ℕ, List, [], ◌++◌, codes, decimal, if◌then◌else◌, slice_get, unwrap_or}
 use Rattle.aa_profiles.specs.declared.policy.Policy.{Policy}
 use Rattle.aa_tables.specs.Tables.{capability_names, family_names, sock_type_names}
@@ -30,22 +31,27 @@ denied_key Audit bits = []
 abbrev pub target_key : List Policy → Answer → List ℕ
 target_key policies answer = if answer.granted then key (codes "target") (value (label_name policies answer.label)) else []
 
+-- the keys of a line on a file
 abbrev pub file_keys : RequestedFile → Note → List ℕ
 file_keys r note =
     key (codes "name") (value r.path) ++ key (codes "requested_mask") (mask r.mask.0) ++ denied_key note.word note.perms.0
 
+-- the keys of a line on a link
 abbrev pub link_keys : RequestedLink → Note → List ℕ
 link_keys r note =
     key (codes "name") (value r.link) ++ key (codes "target") (value r.target) ++ key (codes "requested_mask") (mask 8)
     ++ denied_key note.word note.perms.0
 
+-- the keys of a line on an execution
 abbrev pub exec_keys : List Policy → RequestedExec → Answer → NoteWord → List ℕ
 exec_keys policies r answer word =
     key (codes "name") (value r.path) ++ key (codes "requested_mask") (mask 64) ++ denied_key word 64 ++ target_key policies answer
 
+-- the keys of a line on a capability
 abbrev pub capability_keys : ℕ → List ℕ
 capability_keys n = key (codes "capability") (decimal n) ++ key (codes "capname") (quoted (entry capability_names n))
 
+-- the keys of a line on a socket
 abbrev pub network_keys : ℕ → ℕ → List ℕ
 network_keys family kind =
     key (codes "family") (quoted (entry family_names family)) ++ key (codes "sock_type") (quoted (entry sock_type_names kind))
@@ -54,6 +60,7 @@ network_keys family kind =
 abbrev pub change_keys : List ℕ → List ℕ
 change_keys name = key (codes "target") (value name)
 
+-- the keys of a line, by the kind of its request
 abbrev pub keys : List Policy → Request → Answer → Note → List ℕ
 keys policies (File r) answer note = file_keys r note
 keys policies (Link r) answer note = link_keys r note

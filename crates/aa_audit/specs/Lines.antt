@@ -1,4 +1,5 @@
 -- Audit lines.
+-- Source: own.
 use Rattle.std.specs.Prelude.{ℕ, List, ◌++◌, codes, Option, Some, None, option_map, option_and_then}
 use Rattle.aa_profiles.specs.declared.policy.Policy.{Policy}
 use Rattle.aa_requests.specs.declared.label.Label.{Label}
@@ -12,6 +13,7 @@ use Rattle.aa_labels.specs.Labels.{label_name}
 use Rattle.aa_audit.specs.Values.{quoted, value}
 use Rattle.aa_audit.specs.Keys.{key, keys}
 
+-- the word of a note
 abbrev pub word_text : NoteWord → List ℕ
 word_text Denied = codes "DENIED"
 word_text Allowed = codes "ALLOWED"

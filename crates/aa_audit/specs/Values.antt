@@ -1,4 +1,5 @@
 -- How names and sets of permissions are written in a line.
+-- Source: apparmor.d(5), "Access Modes"; own.
 use Rattle.std.specs.Prelude.{ℕ, ◌+◌, ◌-◌, ◌/◌, ◌%◌, List, [], ◌∷◌, ◌++◌, Bool, not, ◌==◌, ◌&&◌, nat_le, nat_lt, if◌then◌else◌, flat_map, bit_and}
 use Rattle.std.specs.List.{list_all}
 

@@ -1,4 +1,5 @@
 -- Bytes that no item tells apart.
+-- Source: byte classes of a deterministic automaton.
 use Rattle.std.specs.Prelude.{◌↔◌, ℕ, List, [], ◌∷◌, Vec}
 use Rattle.std.specs.Global.{Global}
 use Rattle.aa_items.specs.declared.item.Item.{Item, Choice', Row_of-Item, end_of-Item, more_of-Item, Row_of-Item-Choice-0-1, end_of-Item-Choice-0-1, more_of-Item-Choice-0-1}

@@ -30,6 +30,7 @@ pub record IsDivision (of bytes : List ℕ) : Type 0 where
   pub within : (a : ℕ) → a < 256 → slice_index of a < length bytes
   pub named : (c : ℕ) → c < length bytes → (slice_index bytes c < 256) × (slice_index of (slice_index bytes c) ≡ c)
 
+-- both bytes begin the item or neither, and both go on in it or neither
 abbrev pub IsSameItem : Item → ℕ → ℕ → Type 0
 IsSameItem item a b = (Begins item a ↔ Begins item b) × (Continues item a ↔ Continues item b)
 

@@ -2,6 +2,7 @@
 use Rattle.std.specs.Prelude.{◌≡◌, ◌↔◌, ℕ, ◌<◌, Option, Some, None, List, length, Contains, slice_index_or}
 use Rattle.std.specs.List.Sorted.{IsStrictlyIncreasing}
 
+-- no pattern ends at any of so many positions
 pub record AreNoFinals (finals : List (Option ℕ)) (many : ℕ) : Type 0 where
   pub count : length finals ≡ many
   pub none : (p : ℕ) → slice_index_or finals p None ≡ None

@@ -21,6 +21,7 @@ kept hs firsts = map (head_at hs) firsts
 abbrev pub AgreeOn : Item → Item → ℕ → Type 0
 AgreeOn a b c = (Begins a c ↔ Begins b c) × (Continues a c ↔ Continues b c)
 
+-- both items may be skipped or neither, and they take the same bytes
 abbrev pub IsAlike : Item → Item → Type 0
 IsAlike a b = (IsSkippable a ↔ IsSkippable b) × ((c : ℕ) → c < 256 → AgreeOn a b c)
 
@@ -28,6 +29,7 @@ IsAlike a b = (IsSkippable a ↔ IsSkippable b) × ((c : ℕ) → c < 256 → Ag
 abbrev pub IsAt : List Node → ℕ → ℕ → Type 0
 IsAt nodes n source = (n ≡ source) ⊎ (slice_index_or nodes n Start ≡ Same source)
 
+-- the position stands behind an item like this one
 abbrev pub IsAfterLike : Node → Item → Type 0
 IsAfterLike (After i) item = IsAlike i.now item
 IsAfterLike _ item = ⊥
@@ -36,6 +38,7 @@ IsAfterLike _ item = ⊥
 abbrev pub IsBehind : List Node → ℕ → ℕ → Item → Type 0
 IsBehind nodes n source item = (n < length nodes) × (0 < n) × IsAt nodes (n - 1) source × IsAfterLike (slice_index_or nodes n Start) item
 
+-- the position joins these ends of branches
 abbrev pub HasEnds : Node → List ℕ → Type 0
 HasEnds (Join es) ends = es.items ≡ ends
 HasEnds _ ends = ⊥
@@ -64,6 +67,7 @@ pub record IsMerging (before nodes : List Node) (firsts of : List ℕ) : Type 0 
   pub tells : (hs : List (List Item)) → AllRight hs 0 before → (m : ℕ) → m < length nodes → Tells (kept hs firsts) m (slice_index_or nodes m Start)
   pub same : (hs : List (List Item)) → AllRight hs 0 before → (n : ℕ) → n < length of → SameTexts (head_at hs n) (head_at (kept hs firsts) (slice_index_or of n 0))
 
+-- positions with the same head are one
 abbrev pub IsMerged : Merged → Type 0
 IsMerged m = IsMerging m.before.now m.nodes.items m.firsts.items m.of.items
 

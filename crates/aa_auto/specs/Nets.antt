@@ -12,9 +12,11 @@ use Rattle.aa_auto.specs.Merged.{SameTexts, Tells, kept}
 use Rattle.aa_auto.specs.Spots.{AreJumps}
 use Rattle.aa_auto.specs.Finals.{AreFinals}
 
+-- the patterns of a net
 abbrev pub patterns_of : Net → List Pattern
 patterns_of net = pointed net.patterns.now
 
+-- the heads of all positions of its patterns
 abbrev pub heads_of : Net → List (List Item)
 heads_of net = heads_of_patterns (patterns_of net)
 

@@ -40,6 +40,7 @@ IsRight hs n (After item) = IsSimple item.now × (0 < n) × (head_at hs n ≡ he
 IsRight hs n (Same p) = (p < n) × (head_at hs n ≡ head_at hs p)
 IsRight hs n (Join ends) = All (λ e. e < n) ends.items × ((t : List ℕ) → Matches (head_at hs n) t ↔ SomeOf hs ends.items t)
 
+-- from the k-th on, each position is that of its head
 abbrev pub AllRight : List (List Item) → ℕ → List Node → Type 0
 AllRight hs k [] = Unit {0}
 AllRight hs k (node ∷ nodes) = IsRight hs k node × AllRight hs (k + 1) nodes
@@ -51,6 +52,7 @@ HasSources (After item) n = 0 < n
 HasSources (Same p) n = p < n
 HasSources (Join ends) n = All (λ e. e < n) ends.items
 
+-- each position follows positions before it
 abbrev pub HaveSources : List Node → Type 0
 HaveSources nodes = (n : ℕ) → n < length nodes → HasSources (slice_index_or nodes n Start) n
 
@@ -59,6 +61,7 @@ abbrev pub IsSameNode : Node → ℕ → ℕ → Type 0
 IsSameNode (After item) a b = (Begins item.now a ↔ Begins item.now b) × (Continues item.now a ↔ Continues item.now b)
 IsSameNode _ a b = Unit {0}
 
+-- no position tells the two bytes apart
 abbrev pub AreSameNodes : List Node → ℕ → ℕ → Type 0
 AreSameNodes [] a b = Unit {0}
 AreSameNodes (node ∷ nodes) a b = IsSameNode node a b × AreSameNodes nodes a b

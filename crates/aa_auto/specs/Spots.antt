@@ -12,6 +12,7 @@ use Rattle.aa_auto.specs.Nodes.{head_at}
 abbrev pub Stands : List (List Item) → List ℕ → List ℕ → Type 0
 Stands hs set s = (n : ℕ) → Contains set n ↔ ((n < length hs) × Matches (head_at hs n) s)
 
+-- the set holds exactly the positions whose heads match the text
 pub record IsSpotsOf (hs : List (List Item)) (set : List ℕ) (s : List ℕ) : Type 0 where
   pub rising : IsStrictlyIncreasing set
   pub exact : Stands hs set s
@@ -33,6 +34,7 @@ pub record AddsJumps (old new : List (List ℕ)) (node : Node) (position : ℕ) 
   pub many : length new ≡ length old
   pub exact : (p n : ℕ) → Contains (slice_index_or new p []) n ↔ (Contains (slice_index_or old p []) n ⊎ ((n ≡ position) × Jumps node position p))
 
+-- there are so many rows, all empty
 pub record AreEmpty (rows : List (List ℕ)) (many : ℕ) : Type 0 where
   pub count : length rows ≡ many
   pub empty : (p n : ℕ) → Contains (slice_index_or rows p []) n → ⊥
@@ -49,6 +51,7 @@ Seeds None old _ n = ⊥
 Seeds (Some b) old (After i) n = ((p : ℕ) × (n ≡ p + 1) × Contains old p × Begins i.now b) ⊎ (Contains old n × Continues i.now b)
 Seeds (Some b) old _ n = ⊥
 
+-- the positions that a byte leads to, or those of the empty text, before what may be skipped is skipped
 pub record AreSeeds (nodes : List Node) (byte : Option ℕ) (old seeds : List ℕ) : Type 0 where
   pub rising : IsStrictlyIncreasing seeds
   pub exact : (n : ℕ) → Contains seeds n ↔ ((n < length nodes) × Seeds byte old (slice_index_or nodes n Start) n)
@@ -68,13 +71,16 @@ abbrev pub BeginsNode : Node → ℕ → Type 0
 BeginsNode (After i) b = Begins i.now b
 BeginsNode _ b = ⊥
 
+-- the byte goes on in the item before the position
 abbrev pub ContinuesNode : Node → ℕ → Type 0
 ContinuesNode (After i) b = Continues i.now b
 ContinuesNode _ b = ⊥
 
+-- the byte begins the item before the position with that number
 abbrev pub BeginsAt : List Node → ℕ → ℕ → Type 0
 BeginsAt nodes n b = BeginsNode (slice_index_or nodes n Start) b
 
+-- the byte goes on in the item before the position with that number
 abbrev pub ContinuesAt : List Node → ℕ → ℕ → Type 0
 ContinuesAt nodes n b = ContinuesNode (slice_index_or nodes n Start) b
 
@@ -96,6 +102,7 @@ pub record AddsMoves (nodes : List Node) (byte start : ℕ) (old new : List ℕ)
   pub rising : IsStrictlyIncreasing new
   pub exact : (n : ℕ) → Contains new n ↔ (Contains old n ⊎ ((n ≡ start + 1) × BeginsAt nodes n byte) ⊎ ((n ≡ start) × ContinuesAt nodes n byte))
 
+-- the position at the start of a pattern
 abbrev pub IsStart : Node → Type 0
 IsStart Start = Unit {0}
 IsStart _ = ⊥

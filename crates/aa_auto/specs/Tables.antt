@@ -1,4 +1,5 @@
 -- What an automaton is, and what it has to do with its patterns.
+-- Source: apparmor.d(5), "Globbing"; subset construction.
 use Rattle.std.specs.Prelude.{◌≡◌, ℕ, ◌+◌, ◌*◌, ◌<◌, ◌≤◌, ◌↔◌, Some, List, [], ◌∷◌, ◌++◌, length, All, Contains, slice_get, slice_index, slice_index_or}
 use Rattle.std.specs.List.Sorted.{IsStrictlyIncreasing}
 use Rattle.aa_patterns.specs.declared.pattern.Pattern.{Pattern}
@@ -16,6 +17,7 @@ pub record Table : Type 0 where
   pub listed : List ℕ
   pub lists : List (List ℕ)
 
+-- how many states there are
 abbrev pub rows_of : Table → ℕ
 rows_of t = length t.listed
 
@@ -23,9 +25,11 @@ rows_of t = length t.listed
 abbrev pub classes_of : Table → ℕ
 classes_of t = t.width
 
+-- the number of a state's list
 abbrev pub list_number : Table → ℕ → ℕ
 list_number t row = slice_index_or t.listed row 0
 
+-- the list of a state: the numbers of the patterns that match
 abbrev pub list_at : Table → ℕ → List ℕ
 list_at t row = slice_index_or t.lists (list_number t row) []
 
@@ -34,6 +38,7 @@ abbrev pub row_after : Table → ℕ → List ℕ → ℕ
 row_after t row [] = row
 row_after t row (b ∷ s) = row_after t (slice_index t.cells (t.width * row + slice_index t.classes b)) s
 
+-- the state to which a text leads
 abbrev pub place_of : Table → List ℕ → ℕ
 place_of t s = row_after t 0 s
 
@@ -54,6 +59,7 @@ pub record HasClasses (ps : List Pattern) (n : ℕ) : Type 0 where
   pub apart : (c d : ℕ) → c < n → d < n → IsSame ps (slice_index bytes c) (slice_index bytes d) → c ≡ d
   pub each : (b : ℕ) → b < 256 → (c : ℕ) × (c < n) × IsSame ps b (slice_index bytes c)
 
+-- the automaton of these patterns: each text leads to the state of its places, and each state has the list of those that match
 pub record IsAutomaton (ps : List Pattern) (t : Table) : Type 0 where
   -- each text is answered by the list of exactly the patterns that match it
   pub matching : (s : List ℕ) → IsText s → ListsMatching ps s (list_at t (place_of t s))

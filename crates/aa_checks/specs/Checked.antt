@@ -1,4 +1,5 @@
 -- What is found of each file that the command line names.
+-- Source: own.
 use Rattle.std.specs.Prelude.{ℕ, ◌≡◌, ◌≤◌, List, [], ◌∷◌, ◌++◌, length, count_by, sum_by, is_some, IfSome, Bool, true, false, Option, Some, None, ◌⊎◌}
 use Rattle.std.specs.List.{list_any}
 use Rattle.aa_faults.specs.declared.fault.PolicyFault.{PolicyFault}
@@ -49,6 +50,7 @@ pub record Setting : Type 0 where
   pub folders : List (List ℕ)
   pub states : ℕ
 
+-- the setting that these options make
 abbrev pub setting_of : Option Files → Option Taken → Option (List ℕ) → Wanted → Setting
 setting_of files taken input w = record { files = files; taken = taken; input = input; base = w.base.now; folders = slices w.folders.now; states = w.states }
 

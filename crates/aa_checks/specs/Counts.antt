@@ -1,4 +1,5 @@
 -- What is counted of a file's profiles.
+-- Source: own.
 use Rattle.std.specs.Prelude.{ℕ, ◌≡◌, ◌==◌, List, [], ◌∷◌, map, length, filter, count_by, not, Some, slice_get}
 use Rattle.std.specs.Str.{bytes_eq}
 use Rattle.aa_faults.specs.declared.fault.Spot.{Spot}
@@ -52,6 +53,7 @@ abbrev pub distinct : List (List ℕ) → List (List ℕ)
 distinct [] = []
 distinct (k ∷ ks) = k ∷ filter (λ j. not (bytes_eq k j)) (distinct ks)
 
+-- the keywords of rules that are passed over
 abbrev pub keywords_of : List PassedOver → List (List ℕ)
 keywords_of rules = map (λ r. r.kind) rules
 
@@ -59,6 +61,7 @@ keywords_of rules = map (λ r. r.kind) rules
 abbrev pub times : List PassedOver → List ℕ → ℕ
 times rules keyword = count_by (λ r. bytes_eq keyword r.kind) rules
 
+-- a keyword, and how many rules have it
 abbrev pub counted_keyword : List PassedOver → List ℕ → List ℕ × ℕ
 counted_keyword rules keyword = (keyword, times rules keyword)
 
@@ -66,6 +69,7 @@ counted_keyword rules keyword = (keyword, times rules keyword)
 abbrev pub keyword_counts : List PassedOver → List (List ℕ × ℕ)
 keyword_counts rules = map (counted_keyword rules) (distinct (keywords_of rules))
 
+-- a keyword with its count, without where it lies in memory
 abbrev pub passed_data : Passed → List ℕ × ℕ
 passed_data p = (p.keyword.items, p.count)
 

@@ -1,4 +1,5 @@
 -- What `check` finds, as a JSON object.
+-- Source: own.
 use Rattle.std.specs.Prelude.{ℕ, List, [], ◌++◌, map, codes, decimal, is_none, Option, Some, None, Vec}
 use Rattle.std.specs.declared.alloc.Global.{Global}
 use Rattle.aa_texts.specs.declared.fault.FaultReport.{FaultReport}
@@ -19,6 +20,7 @@ json_profile p =
     ++ number_member (codes "caps") p.caps ++ number_member (codes "nets") p.nets ++ number_member (codes "patterns") p.patterns
     ++ number_member (codes "states") p.states ++ number_member (codes "passed_over") p.passed_over ++ codes "}"
 
+-- a warning, as JSON
 abbrev pub json_warning : Vec ℕ Global → List ℕ
 json_warning warning = json_bytes warning.items
 

@@ -1,4 +1,5 @@
 -- Profiles whose names come twice.
+-- Source: own.
 use Rattle.std.specs.Prelude.{ℕ, ◌≡◌, List, ◌++◌, flat_map, find, position, codes, Bool, Option, Some, None, option_map, option_to_list, if◌then◌else◌}
 use Rattle.std.specs.Option.{option_or}
 use Rattle.std.specs.List.{list_any}
@@ -10,6 +11,7 @@ use Rattle.aa_audit.specs.Values.{value}
 use Rattle.aa_checks.specs.declared.report.ProfileReport.{ProfileReport}
 use Rattle.aa_checks.specs.declared.report.FileReport.{FileReport}
 
+-- the profile has that name
 abbrev pub is_called : List ℕ → ProfileReport → Bool
 is_called name p = bytes_eq name p.name.items
 
@@ -25,6 +27,7 @@ first_with name files = find (has_name name) files
 unfoldable pub twice_text : List ℕ → List ℕ → List ℕ → List ℕ
 twice_text path name earlier = path ++ codes ": the profile " ++ value name ++ codes " is in " ++ earlier ++ codes " too"
 
+-- what is said of a name that two files have
 abbrev pub twice_by : FileReport → List ℕ → FileReport → List ℕ
 twice_by f name earlier = twice_text f.path.items name earlier.path.items
 

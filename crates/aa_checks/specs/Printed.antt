@@ -1,4 +1,5 @@
 -- What `check` finds, as it is printed.
+-- Source: own.
 use Rattle.std.specs.Prelude.{ℕ, List, [], ◌++◌, ◌==◌, length, flat_map, codes, decimal, Bool, if◌then◌else◌, is_some, Option, Some, None, Vec}
 use Rattle.std.specs.declared.alloc.Global.{Global}
 use Rattle.aa_audit.specs.Values.{value}
@@ -49,6 +50,7 @@ last_line r = decimal (length r.files.items) ++ codes " files" ++ count_text r.r
 abbrev pub report_text : CheckReport → List ℕ
 report_text r = flat_map file_text r.files.items ++ last_line r
 
+-- the line of a warning
 abbrev pub warning_line : Vec ℕ Global → List ℕ
 warning_line warning = codes "warning: " ++ warning.items ++ codes "\n"
 
@@ -56,6 +58,7 @@ warning_line warning = codes "warning: " ++ warning.items ++ codes "\n"
 abbrev pub warning_lines : Bool → List (Vec ℕ Global) → List ℕ
 warning_lines quiet warnings = if quiet then [] else flat_map warning_line warnings
 
+-- the text of a fault, if there is one
 unfoldable pub fault_if : Option FaultReport → List ℕ
 fault_if None = []
 fault_if (Some fault) = fault_text fault

@@ -1,4 +1,5 @@
 -- Two rules of a profile that conflict.
+-- Source: apparmor.d(5), "Access Modes"; own.
 use Rattle.std.specs.Prelude.{◌≡◌, ◌≢◌, ◌⊎◌, ℕ, ◌<◌, List, Bool, true, false, not, Some, IsTrue, Contains, filter, length}
 use Rattle.std.specs.List.{slice_get}
 use Rattle.aa_patterns.specs.declared.pattern.Pattern.{Pattern}
@@ -9,6 +10,7 @@ use Rattle.aa_said.specs.Patterns.{is_literal}
 use Rattle.aa_rows.specs.FileRules.{some_match, says_how, Hit, IsConflict}
 use Rattle.aa_rows.specs.Rows.{patterns_of}
 
+-- the pattern isn't literal
 abbrev pub is_no_literal : Pattern → Bool
 is_no_literal p = not (is_literal p)
 
@@ -24,6 +26,7 @@ pub record SayDifferently (a b : FileRule) : Type 0 where
 abbrev pub BothMatch : (Pattern → Bool) → FileRule → FileRule → List ℕ → Type 0
 BothMatch sort a b text = IsTrue (some_match sort text a.patterns) × IsTrue (some_match sort text b.patterns)
 
+-- the rules say differently how the text is executed, both by literal patterns or both by others
 abbrev pub ClashAt : FileRule → FileRule → List ℕ → Type 0
 ClashAt a b text = SayDifferently a b × (BothMatch is_literal a b text ⊎ BothMatch is_no_literal a b text)
 

@@ -2,6 +2,7 @@
 use Rattle.std.specs.Prelude.{◌≡◌, ℕ, ◌+◌, ◌<◌, ◌≤◌, List, [], ◌∷◌, ◌++◌, length, Bool, true, false, not, count_by, Contains, All, slice_index_or}
 use Rattle.aa_auto.specs.Tables.{Table, IsText, place_of, rows_of}
 
+-- a text is known that leads to the state
 abbrev pub IsSeen : List Bool → ℕ → Type 0
 IsSeen seen row = slice_index_or seen row false ≡ true
 

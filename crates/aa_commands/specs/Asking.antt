@@ -1,4 +1,5 @@
 -- What `ask` prints.
+-- Source: own.
 use Rattle.std.specs.Prelude.{ℕ, ◌≡◌, ◌+◌, ◌<◌, ◌≤◌, List, [], ◌++◌, length, flat_map, codes, not, if◌then◌else◌, Bool, Option, Some, None, option_map, Ok, Err}
 use Rattle.std.specs.List.{list_any}
 use Rattle.aa_trees.specs.Texts.{texts}
@@ -21,6 +22,7 @@ use Rattle.aa_commands.specs.Policies.{IsPrintedFor}
 abbrev pub verdicts_text : AskOptions → List Told → List ℕ
 verdicts_text o ts = if o.is_json then json_verdicts ts else (if o.is_quiet then [] else flat_map verdict_text ts)
 
+-- one of the requests is denied
 abbrev pub is_one_denied : List Told → Bool
 is_one_denied ts = list_any (λ (t : Told). not t.granted) ts
 
@@ -49,6 +51,7 @@ pub data IsAskedFrom (s : Setting) (o : AskOptions) (path : List ℕ) (first : L
   NoWords : (why : Unread) → IsWordsFault s.files s.input path (length first) why → SaysUnread path why out → IsAskedFrom s o path first out
   Added : (words : List (List ℕ)) → AddsWords s.files s.input path first words → length words ≤ 65536 → IsAsked s o words out → IsAskedFrom s o path first out
 
+-- the words asked are those of a file, or those given
 abbrev pub IsAskedWith : Setting → AskOptions → Option (List ℕ) → List (List ℕ) → Printed → Type 0
 IsAskedWith s o None words out = IsAsked s o words out
 IsAskedWith s o (Some path) words out = IsAskedFrom s o path words out

@@ -1,4 +1,5 @@
 -- What `check` prints.
+-- Source: own.
 use Rattle.std.specs.Prelude.{◌≡◌, ◌==◌, [], if◌then◌else◌}
 use Rattle.aa_trees.specs.Texts.{texts}
 use Rattle.aa_checks.specs.declared.report.CheckReport.{CheckReport}

@@ -1,4 +1,5 @@
 -- The policies of a job: each unit's text, and the names of its profiles.
+-- Source: own.
 use Rattle.std.specs.Prelude.{ℕ, ◌≡◌, ◌≢◌, List, ◌∷◌, ◌++◌, Vec}
 use Rattle.std.specs.List.{AllZip}
 use Rattle.std.specs.declared.alloc.Global.{Global}
@@ -40,5 +41,6 @@ pub record IsJobPolicy (limit : ℕ) (u : unit.Unit) (p : JobPolicy) : Type 0 wh
   pub text : p.text.now ≡ u.text.items
   pub names : HasNames limit u (texts p.names.now)
 
+-- each is the policy of its unit
 abbrev pub AreJobPolicies : ℕ → List unit.Unit → List JobPolicy → Type 0
 AreJobPolicies limit us ps = AllZip (IsJobPolicy limit) us ps

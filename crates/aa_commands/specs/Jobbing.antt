@@ -1,4 +1,5 @@
 -- What `job` prints.
+-- Source: own.
 use Rattle.std.specs.Prelude.{ℕ, ◌≡◌, ◌≢◌, ◌<◌, ◌≤◌, ◌++◌, nat_lt, List, [], ◌∷◌, length, flat_map, codes, decimal, if◌then◌else◌, Option, IfSome, true, false}
 use Rattle.aa_trees.specs.Texts.{texts, slices}
 use Rattle.aa_faults.specs.declared.fault.PolicyFault.{PolicyFault}
@@ -30,6 +31,7 @@ use Rattle.aa_commands.specs.JobPolicies.{IsFirstRefused, AreJobPolicies}
 abbrev pub left_out_line : ℕ → List ℕ → List ℕ
 left_out_line count what = if nat_lt 0 count then decimal count ++ what else []
 
+-- what is said where a job has several policies
 abbrev pub several_line : ℕ → List ℕ
 several_line policies = if nat_lt 1 policies then codes "several policies: no execution goes on in a profile of another file\n" else []
 

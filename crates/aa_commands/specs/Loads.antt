@@ -1,4 +1,5 @@
 -- The units of the files at some paths.
+-- Source: own.
 use Rattle.std.specs.Prelude.{ℕ, ◌≡◌, List, ◌∷◌, ◌++◌}
 use Rattle.std.specs.List.{AllZip}
 use Rattle.aa_units.specs.declared.unit.Unit as unit

@@ -1,4 +1,5 @@
 -- Logs where they lie, and their lines.
+-- Source: own.
 use Rattle.std.specs.Prelude.{ℕ, ◌≡◌, ◌+◌, List, [], ◌∷◌, ◌++◌, Option, Some}
 use Rattle.std.specs.List.{AllZip}
 use Rattle.aa_log_lines.specs.LogLines.{LogLine, log_lines}

@@ -1,4 +1,5 @@
 -- What `log` prints.
+-- Source: own.
 use Rattle.std.specs.Prelude.{ℕ, ◌≡◌, ◌≢◌, List, [], ◌∷◌, ◌++◌, Bool, Option, IfSome, is_some, MatchBool, if◌then◌else◌}
 use Rattle.aa_trees.specs.Texts.{texts, slices}
 use Rattle.aa_logs.specs.declared.chosen.Choice.{Choice}

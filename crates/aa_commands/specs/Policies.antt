@@ -1,4 +1,5 @@
 -- The one policy that files are.
+-- Source: own.
 use Rattle.std.specs.Prelude.{ℕ, ◌≡◌, ◌≢◌, List, map, Result, Ok, Err}
 use Rattle.std.specs.List.{AllZip}
 use Rattle.aa_faults.specs.declared.fault.PolicyFault.{PolicyFault}
@@ -24,6 +25,7 @@ abbrev pub AreSourcesOf : unit.Unit → Result (List Source) PolicyFault → Typ
 AreSourcesOf u (Ok sources) = sources ≡ texts_of u
 AreSourcesOf u (Err e) = e.kind ≢ NoMemory → IsFaultOfSources (texts_of u) e
 
+-- each is the sources of its unit
 abbrev pub AreGathered : List unit.Unit → List (Result (List Source) PolicyFault) → Type 0
 AreGathered us gathered = AllZip AreSourcesOf us gathered
 

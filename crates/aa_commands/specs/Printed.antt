@@ -1,4 +1,5 @@
 -- What a command prints.
+-- Source: own.
 use Rattle.std.specs.Prelude.{ℕ, List, []}
 use Rattle.aa_loading.specs.declared.output.Output.{Output}
 
@@ -8,6 +9,7 @@ pub record Printed : Type 0 where
   pub faults : List ℕ
   pub status : ℕ
 
+-- what a command prints, without where it lies in memory
 abbrev pub printed : Output → Printed
 printed o = record { answers = o.answers.items; faults = o.faults.items; status = o.status }
 

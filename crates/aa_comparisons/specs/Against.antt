@@ -1,4 +1,5 @@
 -- How requests of logs are answered now, as it is printed.
+-- Source: own.
 use Rattle.std.specs.Prelude.{ℕ, ◌≡◌, ◌==◌, ◌||◌, List, [], ◌∷◌, ◌++◌, flat_map, count_by, min, codes, Bool, if◌then◌else◌, Option, Some, None, option_map}
 use Rattle.std.specs.List.{list_any}
 use Rattle.aa_labels.specs.Labels.{label_named}
@@ -35,6 +36,7 @@ verdict_of d e = option_map (λ label. verdict_on d label e.request) (label_name
 abbrev pub is_shown : Decided → Bool → Entry → Bool
 is_shown d all e = all || changes e.then (now_of d e)
 
+-- the lines that say why, where there is a verdict
 abbrev pub reasons_if : Option Told → List ℕ
 reasons_if None = []
 reasons_if (Some verdict) = reasons_text verdict
@@ -43,6 +45,7 @@ reasons_if (Some verdict) = reasons_text verdict
 unfoldable pub change_text : List (List ℕ) → Entry → Now → Option Told → List ℕ
 change_text logs e after verdict = arrow_text e.then after ++ rest_text logs e ++ reasons_if verdict
 
+-- the lines of a request, if it is shown
 unfoldable pub shown_text : List (List ℕ) → Decided → Bool → Entry → List ℕ
 shown_text logs d all e = if is_shown d all e then change_text logs e (now_of d e) (verdict_of d e) else []
 
@@ -62,6 +65,7 @@ cell_line counts before after = count_line before after (count_in (row_of before
 unfoldable pub row_text : Counts → Then → List ℕ
 row_text counts before = cell_line counts before is.Denied ++ cell_line counts before is.Allowed ++ cell_line counts before is.Granted ++ cell_line counts before is.NoProfile
 
+-- the table of then and now
 unfoldable pub rows_text : Counts → List ℕ
 rows_text counts = row_text counts was.Denied ++ row_text counts was.Allowed ++ row_text counts was.Granted
 
@@ -69,15 +73,19 @@ rows_text counts = row_text counts was.Denied ++ row_text counts was.Allowed ++ 
 unfoldable pub json_count : Then → Now → ℕ → List ℕ
 json_count before after count = codes "{" ++ word_member (codes "then") (then_name before) ++ codes "," ++ word_member (codes "now") (now_name after) ++ count_member (codes "count") count ++ codes "}"
 
+-- a count as JSON, unless it is 0
 abbrev pub json_cell_of : Then → Now → ℕ → List (List ℕ)
 json_cell_of before after count = if count == 0 then [] else json_count before after count ∷ []
 
+-- one count of the table
 abbrev pub json_cell : Counts → Then → Now → List (List ℕ)
 json_cell counts before after = json_cell_of before after (count_in (row_of before) (column_of after) counts.rows)
 
+-- the counts of what became of requests then
 abbrev pub json_row : Counts → Then → List (List ℕ)
 json_row counts before = json_cell counts before is.Denied ++ json_cell counts before is.Allowed ++ json_cell counts before is.Granted ++ json_cell counts before is.NoProfile
 
+-- all counts of the table
 abbrev pub json_cells : Counts → List (List ℕ)
 json_cells counts = json_row counts was.Denied ++ json_row counts was.Allowed ++ json_row counts was.Granted
 

@@ -1,4 +1,5 @@
 -- What a request of a log is answered now.
+-- Source: own.
 use Rattle.std.specs.Prelude.{ℕ, List, Option, Some, None}
 use Rattle.aa_profiles.specs.declared.policy.Policy.{Policy}
 use Rattle.aa_requests.specs.declared.label.Label.{Label}
@@ -11,9 +12,11 @@ use Rattle.aa_findings.specs.declared.answer.Now.TheVariants as is
 use Rattle.aa_findings.specs.Answers.{answered}
 use Rattle.aa_verdicts.specs.Verdicts.{is_by_complain}
 
+-- what is answered, by the answer
 abbrev pub now_by : Answer → Now
 now_by a = answered a.granted (is_by_complain a)
 
+-- what is answered at a label, if the policy has it
 abbrev pub now_at : List Policy → Request → Option Label → Now
 now_at policies request (Some label) = now_by (reply policies label request)
 now_at policies request None = is.NoProfile

@@ -1,4 +1,5 @@
 -- What a policy has to pass, in this order, and what refuses it.
+-- Source: own.
 use Rattle.std.specs.Prelude.{◌≡◌, ℕ, ◌+◌, ◌<◌, List, [], ◌∷◌, map, length, Some}
 use Rattle.std.specs.List.{slice_get}
 use Rattle.aa_faults.specs.declared.fault.PolicyFault.{PolicyFault}
@@ -22,14 +23,17 @@ use Rattle.aa_compile.specs.declared.tables.ProfileRows.{ProfileRows}
 pub use Rattle.aa_compile.specs.Transitions.{children, tops}
 use Rattle.aa_compile.specs.Transitions.{targets_by}
 
+-- the fault of a kind at a place
 abbrev pub fault_at : PolicyKind → Spot → PolicyFault
 fault_at kind at = record { kind = kind; at = at }
 
+-- the fault of a profile whose rows can't be made
 abbrev pub rows_fault : RowsFault → Spot → PolicyFault
 rows_fault NoRowMemory at = no_memory
 rows_fault TooManyRows at = fault_at ManyStates at
 rows_fault Conflict at = fault_at ConflictingExec at
 
+-- the fault of attachments whose automaton can't be made
 abbrev pub states_fault : BuildFault → Spot → PolicyFault
 states_fault NoMemory at = no_memory
 states_fault TooManyStates at = fault_at ManyStates at
@@ -72,6 +76,7 @@ pub data IsRefused (profiles : List Profile) (limit : ℕ) (f : PolicyFault) : T
   ManyTops : f ≡ fault_at ManyStates (first_spot profiles) → HasPlaces (attached_patterns profiles (tops profiles)) (limit + 1) → IsRefused profiles limit f
   AtProfile : HasAutomaton (attached_patterns profiles (tops profiles)) limit → Refuses profiles limit f → IsRefused profiles limit f
 
+-- every check is passed
 pub record IsAccepted (profiles : List Profile) (limit : ℕ) : Type 0 where
   pub above : HasAutomaton (attached_patterns profiles (tops profiles)) limit
   pub each : PassBefore profiles limit (length profiles)

@@ -10,9 +10,11 @@ use Rattle.aa_attach.specs.Attached.{attached}
 use Rattle.aa_compile.specs.declared.targets.Targets.{Targets}
 use Rattle.aa_compile.specs.Transitions.{children, tops, targets_by, no_targets}
 
+-- what the target with that number leads to
 abbrev pub targets_at : List Targets → ℕ → Targets
 targets_at targets t = option_map_or (λ (x : Targets). x) (slice_get targets t) no_targets
 
+-- the profile that an execution of that kind finds
 abbrev pub found_at : List Profile → ℕ → Profile → List ℕ → ExecKind → Option ℕ → Option ℕ
 found_at profiles n p path Named (Some t) = (targets_at (targets_by profiles p) t).profile
 found_at profiles n p path Named None = attached profiles (tops profiles) path
@@ -21,5 +23,6 @@ found_at profiles n p path Child None = if is_some p.parent then None else attac
 found_at profiles n p path Inherit _ = None
 found_at profiles n p path Unconfined _ = None
 
+-- the profile that an execution in that way finds
 abbrev pub found_in : List Profile → ℕ → Profile → List ℕ → Way → Option ℕ
 found_in profiles n p path w = found_at profiles n p path w.kind w.target

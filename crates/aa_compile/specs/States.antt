@@ -1,4 +1,5 @@
 -- How many states the deterministic automaton of patterns has.
+-- Source: own.
 use Rattle.std.specs.Prelude.{◌≡◌, ℕ, ◌<◌, ◌↔◌, List}
 use Rattle.aa_patterns.specs.declared.pattern.Pattern.{Pattern}
 use Rattle.aa_patterns.specs.Places.{SamePlaces}

@@ -1,4 +1,5 @@
 -- Where an execution leads.
+-- Source: apparmor.d(5), "Profile Head", "Access Modes".
 use Rattle.std.specs.Prelude.{ℕ, List, [], ◌∷◌, ◌++◌, map, Bool, false, if◌then◌else◌, Option, Some, None, is_some, position}
 use Rattle.std.specs.Option.{option_map_or, option_and_then}
 use Rattle.std.specs.List.{slice_get}
@@ -52,11 +53,13 @@ found_by profiles n p path Child None = if is_some p.parent then None else attac
 found_by profiles n p path Inherit _ = None
 found_by profiles n p path Unconfined _ = None
 
+-- where an execution leads that finds no profile
 abbrev pub falls : Fallback → Bool → ℕ → Transition
 falls Refuse scrub n = Nowhere
 falls Stay scrub n = To (Some n) false
 falls Leave scrub n = To None scrub
 
+-- where an execution leads that finds this profile, or none
 abbrev pub goes : Fallback → Bool → ℕ → Option ℕ → Transition
 goes fallback scrub n (Some m) = To (Some m) scrub
 goes fallback scrub n None = falls fallback scrub n
@@ -68,6 +71,7 @@ leads Unconfined fallback scrub n found = To None scrub
 leads Named fallback scrub n found = goes fallback scrub n found
 leads Child fallback scrub n found = goes fallback scrub n found
 
+-- where a rule's way of execution leads
 abbrev pub leads_by : List Profile → ℕ → Profile → List ℕ → Exec → Transition
 leads_by profiles n p path e = leads e.kind e.fallback e.scrub n (found_by profiles n p path e.kind e.target)
 
@@ -81,14 +85,18 @@ transition profiles n p path owned =
 abbrev pub targets_named : List Profile → Profile → List ℕ → Targets
 targets_named profiles p name = record { profile = named profiles name; child = named_child profiles p name }
 
+-- no profile is named
 abbrev pub no_targets : Targets
 no_targets = record { profile = None; child = None }
 
+-- the name that a rule's arrow points at
 abbrev pub target_of : FileRule → Option (List ℕ)
 target_of r = option_and_then (λ (e : Exec). e.target) r.exec
 
+-- the profiles that a rule's arrow can mean
 abbrev pub targets_of_rule : List Profile → Profile → FileRule → Targets
 targets_of_rule profiles p r = option_map_or (targets_named profiles p) (target_of r) no_targets
 
+-- the same of each rule of a profile
 abbrev pub targets_by : List Profile → Profile → List Targets
 targets_by profiles p = map (targets_of_rule profiles p) p.files

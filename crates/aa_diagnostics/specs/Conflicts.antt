@@ -1,4 +1,5 @@
 -- The lines that name the two rules of a conflict.
+-- Source: own.
 use Rattle.std.specs.Prelude.{◌≡◌, ◌⊎◌, ℕ, ◌<◌, List, [], ◌∷◌, ◌++◌, codes, Option, Some, None, MatchOption, slice_get}
 use Rattle.aa_faults.specs.declared.fault.Spot.{Spot}
 use Rattle.aa_profiles.specs.declared.policy.Profile.{Profile}
@@ -23,6 +24,7 @@ IsRuleLine u at line =
 abbrev pub AreRuleLines : unit.Unit → List Spot → ℕ → List (List ℕ) → Type 0
 AreRuleLines u places number lines = MatchOption (slice_get places number) (lines ≡ []) (λ at. (line : List ℕ) × (lines ≡ line ∷ []) × IsRuleLine u at line)
 
+-- the line that tells a text which both rules match
 abbrev pub both_match : List ℕ → List ℕ
 both_match text = codes "both match " ++ value text
 
@@ -48,6 +50,7 @@ abbrev pub files_of : Option PlacesData → List Spot
 files_of None = []
 files_of (Some p) = p.files
 
+-- the places of the rules on files of a profile
 abbrev pub files_at : List PlacesData → ℕ → List Spot
 files_at places number = files_of (slice_get places number)
 

@@ -1,4 +1,5 @@
 -- What else helps: the lines behind a fault.
+-- Source: apparmor.d(5), "Variables"; own.
 use Rattle.std.specs.Prelude.{ℕ, ◌+◌, ◌==◌, ◌≡◌, ◌⊎◌, List, [], ◌∷◌, ◌++◌, map, flat_map, codes, Option, option_to_list, if◌then◌else◌}
 use Rattle.aa_faults.specs.declared.fault.Spot.{Spot}
 use Rattle.aa_faults.specs.declared.fault.PolicyKind.{PolicyKind}
@@ -25,6 +26,7 @@ use Rattle.aa_diagnostics.specs.Conflicts.{NoneHas, ShowsOne}
 abbrev pub spot_line : unit.Unit → List ℕ → Spot → List ℕ
 spot_line u what at = what ++ (path_in u at.file ++ line_and_column ((place_in (text_in u at.file) at.byte).line) ((place_in (text_in u at.file) at.byte).column))
 
+-- the line that tells a path which was tried
 abbrev pub tried : List ℕ → List ℕ
 tried path = codes "tried " ++ path
 

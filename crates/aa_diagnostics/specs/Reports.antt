@@ -1,4 +1,5 @@
 -- What is said of a fault.
+-- Source: own.
 use Rattle.std.specs.Prelude.{ℕ, ◌==◌, ◌≡◌, ◌&&◌, List, [], codes, Bool, true, false, not, None}
 use Rattle.aa_faults.specs.declared.fault.PolicyFault.{PolicyFault}
 use Rattle.aa_faults.specs.declared.fault.PolicyKind.{PolicyKind}
@@ -16,6 +17,7 @@ use Rattle.aa_units.specs.Links.{place_if, excerpt_if, AreLinks}
 use Rattle.aa_diagnostics.specs.Sentences.{message}
 use Rattle.aa_diagnostics.specs.Further.{IsFurther, ShowsEarlier}
 
+-- the kind of what is over a limit
 abbrev pub is_too_large : PolicyKind → Bool
 is_too_large TooLarge = true
 is_too_large _ = false
@@ -60,6 +62,7 @@ abbrev pub unread_kind : Unread → List ℕ
 unread_kind unread.TooLarge = codes "TooLarge"
 unread_kind _ = codes "Unreadable"
 
+-- the sentence for what can't be read
 abbrev pub unread_message : Unread → List ℕ
 unread_message unread.NoMemory = codes "it can't be read (no memory)"
 unread_message unread.NotFound = codes "it can't be read (not found)"

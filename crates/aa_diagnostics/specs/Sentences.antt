@@ -1,13 +1,16 @@
 -- What is said of a kind of fault.
+-- Source: own.
 use Rattle.std.specs.Prelude.{ℕ, length, nat_le, nat_lt, ◌++◌, List, [], codes, decimal, Option, Some, None, if◌then◌else◌}
 use Rattle.aa_faults.specs.declared.fault.PolicyKind.{PolicyKind}
 use Rattle.aa_faults.specs.declared.fault.PolicyKind.TheVariants.{NoMemory, MissingInclude, IncludeDepth, Syntax, Unsupported, UnknownWord, BadMode, WriteWithAppend, BadPattern, UndefinedVariable, VariableTwice, VariableCircle, TooManyExpansions, RelativePath, DuplicateProfile, ConflictingExec, TooManyStates, TooLarge}
 use Rattle.aa_diagnostics.specs.Words.{word_in, left_out}
 
+-- a part behind a colon, if there is one
 abbrev pub behind_colon : Option (List ℕ) → List ℕ
 behind_colon None = []
 behind_colon (Some part) = codes ": " ++ part
 
+-- the sentence for an automaton with too many states
 unfoldable pub too_many_states : ℕ → List ℕ
 too_many_states states = codes "more than " ++ decimal states ++ codes " states are needed; --states N raises the limit"
 

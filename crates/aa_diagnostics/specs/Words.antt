@@ -1,4 +1,5 @@
 -- The word at which a fault was found, and the part of the language that it stands for.
+-- Source: own.
 use Rattle.std.specs.Prelude.{ℕ, ◌==◌, ◌||◌, List, [], ◌∷◌, take, drop, Bool, not, Option, Some, None, codes, if◌then◌else◌}
 use Rattle.std.specs.List.{prefix_len}
 use Rattle.std.specs.Str.{bytes_eq}
@@ -7,6 +8,7 @@ use Rattle.std.specs.Str.{bytes_eq}
 abbrev pub ends_word : ℕ → Bool
 ends_word b = b == 32 || b == 9 || b == 13 || b == 10 || b == 44 || b == 34 || b == 40 || b == 41 || b == 61 || b == 123 || b == 125
 
+-- the run that stands first
 abbrev pub run_of : List ℕ → List ℕ
 run_of text = take (prefix_len (λ b. not (ends_word b)) text) text
 
@@ -35,6 +37,7 @@ part_by_sign (b ∷ bs) =
     else (if b == 38 then Some (codes "stacking")
     else None)))
 
+-- the first part, or else the other
 abbrev pub or_part : Option (List ℕ) → Option (List ℕ) → Option (List ℕ)
 or_part (Some part) other = Some part
 or_part None other = other

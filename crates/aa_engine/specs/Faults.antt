@@ -1,4 +1,5 @@
 -- Why an engine gives up, and with which exit status.
+-- Source: own.
 use Rattle.std.specs.Prelude.{ℕ}
 use Rattle.aa_faults.specs.declared.fault.PolicyKind.{PolicyKind}
 use Rattle.aa_faults.specs.declared.fault.PolicyKind.TheVariants as kinds
@@ -18,6 +19,7 @@ job_cause faults.BadShape = causes.Job faults.BadShape
 job_cause faults.BadRequest = causes.Job faults.BadRequest
 job_cause faults.TooLarge = causes.Job faults.TooLarge
 
+-- why a job is refused whose policy is: want of memory, or that fault
 abbrev pub cause_by_kind : PolicyKind → RefusedPolicy → RunFault
 cause_by_kind kinds.NoMemory refused = causes.NoMemory
 cause_by_kind _ refused = causes.Policy refused

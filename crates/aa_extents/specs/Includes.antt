@@ -1,4 +1,5 @@
 -- The form of an include: a keyword, then `if exists` or not, then a name between signs.
+-- Source: apparmor.d(5), "#include mechanism".
 use Rattle.std.specs.Prelude.{ℕ, ◌+◌, ◌-◌, length, is_some, List, [], ◌∷◌, take, drop, ◌==◌, ◌||◌, if◌then◌else◌, Option, Some, None, Result, Ok, Err, codes, option_and_then, Bool, true, false}
 use Rattle.std.specs.Str.{bytes_eq}
 use Rattle.aa_extents.specs.Runs.{is_white, begins_with, name_len}
@@ -16,6 +17,7 @@ behind_word word bytes = if bytes_eq (take (name_len bytes) bytes) word then Som
 abbrev pub behind_if_exists : List ℕ → Option (List ℕ)
 behind_if_exists bytes = option_and_then (λ rest. behind_word (codes "exists") (behind_white rest)) (behind_word (codes "if") bytes)
 
+-- what stands behind white space, where the form before it isn't there
 abbrev pub or_else_white : List ℕ → Option (List ℕ) → List ℕ
 or_else_white bytes None = bytes
 or_else_white bytes (Some rest) = behind_white rest
@@ -50,10 +52,12 @@ named_form (b ∷ bs) =
 unfoldable pub include_form : List ℕ → Result (List ℕ) (List ℕ)
 include_form bytes = named_form (from_sign bytes)
 
+-- an include's form was found whole
 abbrev pub has_form : Result (List ℕ) (List ℕ) → Bool
 has_form (Ok rest) = true
 has_form (Err broken) = false
 
+-- what stands behind an include's keyword has an include's form
 abbrev pub has_include_form : Option (List ℕ) → Bool
 has_include_form None = false
 has_include_form (Some rest) = has_form (include_form rest)
@@ -67,6 +71,7 @@ unfoldable pub include_name : ℕ → List ℕ → List ℕ
 include_name sign [] = []
 include_name sign (b ∷ bs) = if ends_include_name sign b then [] else b ∷ include_name sign bs
 
+-- the name behind an opening sign, up to the sign that closes it
 abbrev pub name_in_signs : List ℕ → List ℕ
 name_in_signs [] = []
 name_in_signs (b ∷ bs) = if b == 60 then include_name 62 bs else include_name 34 bs
@@ -79,6 +84,7 @@ included_name text = name_in_signs (from_sign (drop (name_len text) text))
 unfoldable pub is_optional : List ℕ → Bool
 is_optional text = is_some (behind_if_exists (behind_white (drop (name_len text) text)))
 
+-- how many bytes an include has, with a comma that stands straight behind it
 abbrev pub include_end : List ℕ → Result (List ℕ) (List ℕ) → ℕ
 include_end bytes (Ok rest) = (length bytes - length rest) + (if begins_with 44 rest then 1 else 0)
 include_end bytes (Err broken) = 0

@@ -1,4 +1,5 @@
 -- How long the runs of a text are: names, comments, paths, variables, values, quoted texts and rules that are passed over.
+-- Source: apparmor.d(5), "Format", "Globbing", "Variables"; own.
 use Rattle.std.specs.Prelude.{ℕ, suc, ◌+◌, ◌-◌, List, [], ◌∷◌, drop, Bool, true, false, not, ◌==◌, ◌&&◌, ◌||◌, if◌then◌else◌, Option, Some, None, nat_le, codes}
 use Rattle.std.specs.Str.{bytes_eq}
 use Rattle.aa_extents.specs.declared.runs.PathPlace.{PathPlace}
@@ -10,6 +11,7 @@ use Rattle.aa_extents.specs.declared.skips.SkipPlace.{SkipPlace}
 abbrev pub is_white : ℕ → Bool
 is_white b = b == 32 || b == 9 || b == 13 || b == 10
 
+-- the byte stands first
 abbrev pub begins_with : ℕ → List ℕ → Bool
 begins_with c [] = false
 begins_with c (b ∷ bs) = b == c
@@ -51,10 +53,12 @@ unfoldable pub name_len : List ℕ → ℕ
 name_len [] = 0
 name_len (b ∷ bs) = if ends_name b bs then 0 else suc (name_len bs)
 
+-- how long a comment is
 unfoldable pub comment_len : List ℕ → ℕ
 comment_len [] = 0
 comment_len (b ∷ bs) = if ends_comment b then 0 else suc (comment_len bs)
 
+-- how long a path is that goes on from this place
 unfoldable pub path_len : PathPlace → List ℕ → ℕ
 path_len p [] = 0
 path_len p (b ∷ bs) = if ends_path p b bs then 0 else suc (path_len (path_next p b) bs)
@@ -63,13 +67,16 @@ path_len p (b ∷ bs) = if ends_path p b bs then 0 else suc (path_len (path_next
 abbrev pub is_letter : ℕ → Bool
 is_letter b = (nat_le 97 b && nat_le b 122) || (nat_le 65 b && nat_le b 90)
 
+-- a variable's name ends before what is no letter, digit or _
 abbrev pub ends_variable : ℕ → Bool
 ends_variable b = not (is_letter b || (nat_le 48 b && nat_le b 57) || b == 95)
 
+-- a letter stands first
 abbrev pub begins_with_letter : List ℕ → Bool
 begins_with_letter [] = false
 begins_with_letter (b ∷ bs) = is_letter b
 
+-- how long a variable's name is
 unfoldable pub variable_len : List ℕ → ℕ
 variable_len [] = 0
 variable_len (b ∷ bs) = if ends_variable b then 0 else suc (variable_len bs)
@@ -78,6 +85,7 @@ variable_len (b ∷ bs) = if ends_variable b then 0 else suc (variable_len bs)
 abbrev pub assigns : List ℕ → Bool
 assigns bs = begins_with 61 bs || (begins_with 43 bs && begins_with 61 (drop 1 bs))
 
+-- } stands first, and an assignment's sign behind it
 abbrev pub closes_before_sign : List ℕ → Bool
 closes_before_sign bs = begins_with 125 bs && assigns (drop 1 bs)
 
@@ -92,6 +100,7 @@ abbrev pub is_braced_name : List ℕ → Bool
 is_braced_name [] = false
 is_braced_name (b ∷ bs) = b == 123 && begins_with_letter bs && bytes_eq (drop (variable_len bs) bs) (codes "}")
 
+-- the text is @{NAME} and nothing else
 unfoldable pub is_variable : List ℕ → Bool
 is_variable [] = false
 is_variable (b ∷ bs) = b == 64 && is_braced_name bs
@@ -100,6 +109,7 @@ is_variable (b ∷ bs) = b == 64 && is_braced_name bs
 abbrev pub ends_value : ℕ → List ℕ → Bool
 ends_value b bs = is_white b || b == 0 || (b == 92 && begins_with 10 bs)
 
+-- how long a value is
 unfoldable pub value_len : List ℕ → ℕ
 value_len [] = 0
 value_len (b ∷ bs) = if ends_value b bs then 0 else suc (value_len bs)
@@ -112,6 +122,7 @@ ends_quote kept b = b == 0 || (not kept && b == 34)
 abbrev pub quote_next : Bool → ℕ → Bool
 quote_next kept b = not kept && b == 92
 
+-- how long a quoted text is, where the byte before keeps the first or not
 unfoldable pub quote_len : Bool → List ℕ → ℕ
 quote_len kept [] = 0
 quote_len kept (b ∷ bs) = if ends_quote kept b then 0 else suc (quote_len (quote_next kept b) bs)
@@ -128,6 +139,7 @@ is_sign b = b == 123 || b == 125 || b == 44 || b == 61 || b == 40 || b == 41
 abbrev pub skip_start : SkipPlace
 skip_start = record { round = 0; curly = 0; square = 0; mode = Plain }
 
+-- what is passed over stands outside quotes and comments
 abbrev pub is_outside : SkipMode → Bool
 is_outside Plain = true
 is_outside Fresh = true
@@ -153,6 +165,7 @@ outside_next fresh dash b =
     else (if b == 45 then Dash
     else Plain)))
 
+-- how the byte after this one is read
 abbrev pub mode_next : SkipMode → ℕ → SkipMode
 mode_next Plain b = outside_next false false b
 mode_next Fresh b = outside_next true false b
@@ -161,12 +174,14 @@ mode_next Quoted b = if b == 92 then Kept else (if b == 34 then Fresh else Quote
 mode_next Kept b = Quoted
 mode_next Comment b = if b == 10 then Fresh else Comment
 
+-- the place after a byte of a rule that is passed over
 abbrev pub skip_next : SkipPlace → ℕ → SkipPlace
 skip_next p b =
     if is_outside p.mode
     then record { round = depth_next 40 41 p.round b; curly = depth_next 123 125 p.curly b; square = depth_next 91 93 p.square b; mode = mode_next p.mode b }
     else record { round = p.round; curly = p.curly; square = p.square; mode = mode_next p.mode b }
 
+-- how long a rule is that is passed over, from this place on
 unfoldable pub skip_len : SkipPlace → List ℕ → ℕ
 skip_len p [] = 0
 skip_len p (b ∷ bs) = if ends_skip p b then 0 else suc (skip_len (skip_next p b) bs)

@@ -1,9 +1,11 @@
 -- The kinds of refusal: their numbers and names.
+-- Source: own.
 use Rattle.std.specs.Prelude.{ℕ, List, codes, Result, Ok, Err, ◌≢◌}
 use Rattle.aa_faults.specs.declared.fault.PolicyFault.{PolicyFault}
 use Rattle.aa_faults.specs.declared.fault.PolicyKind.{PolicyKind}
 use Rattle.aa_faults.specs.declared.fault.PolicyKind.TheVariants.{NoMemory, MissingInclude, IncludeDepth, Syntax, Unsupported, UnknownWord, BadMode, WriteWithAppend, BadPattern, UndefinedVariable, VariableTwice, VariableCircle, TooManyExpansions, RelativePath, DuplicateProfile, ConflictingExec, TooManyStates, TooLarge}
 
+-- the number of a kind of refusal
 abbrev pub kind_number : PolicyKind → ℕ
 kind_number NoMemory = 1
 kind_number MissingInclude = 2
@@ -24,6 +26,7 @@ kind_number ConflictingExec = 16
 kind_number TooManyStates = 17
 kind_number TooLarge = 18
 
+-- its printed name
 abbrev pub kind_name : PolicyKind → List ℕ
 kind_name NoMemory = codes "NoMemory"
 kind_name MissingInclude = codes "MissingInclude"
@@ -48,6 +51,7 @@ kind_name TooLarge = codes "TooLarge"
 abbrev pub at_start : PolicyKind → PolicyFault
 at_start k = record { kind = k; at = record { file = 0; byte = 0 } }
 
+-- the fault of want of memory
 abbrev pub no_memory : PolicyFault
 no_memory = at_start NoMemory
 

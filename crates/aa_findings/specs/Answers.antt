@@ -1,4 +1,5 @@
 -- What requests of a log are answered now.
+-- Source: own.
 use Rattle.std.specs.Prelude.{ℕ, List, Bool, true, false, not, ◌&&◌, codes, if◌then◌else◌}
 use Rattle.aa_logs.specs.declared.line.Then.{Then}
 use Rattle.aa_logs.specs.declared.line.Then.TheVariants as was
@@ -11,6 +12,7 @@ then_name was.Denied = codes "DENIED"
 then_name was.Allowed = codes "ALLOWED"
 then_name was.Granted = codes "GRANTED"
 
+-- the word of an answer
 abbrev pub now_name : Now → List ℕ
 now_name is.Denied = codes "DENIED"
 now_name is.Allowed = codes "ALLOWED"
@@ -28,6 +30,7 @@ stays was.Allowed is.Allowed = true
 stays was.Granted is.Granted = true
 stays _ _ = false
 
+-- the policy has the profile
 abbrev pub is_answer : Now → Bool
 is_answer is.NoProfile = false
 is_answer _ = true
@@ -48,6 +51,7 @@ row_of was.Denied = 0
 row_of was.Allowed = 1
 row_of was.Granted = 2
 
+-- the column of an answer among the counts
 abbrev pub column_of : Now → ℕ
 column_of is.Denied = 0
 column_of is.Allowed = 1

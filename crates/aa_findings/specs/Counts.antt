@@ -1,12 +1,15 @@
 -- How many requests of a log are answered how, then and now.
+-- Source: own.
 use Rattle.std.specs.Prelude.{ℕ, ◌≡◌, ◌+◌, ◌-◌, ◌^◌, ◌==◌, ◌&&◌, Bool, List, [], slice_index_or, slice_set, min, if◌then◌else◌}
 use Rattle.aa_logs.specs.declared.line.Then.{Then}
 use Rattle.aa_findings.specs.declared.answer.Now.{Now}
 use Rattle.aa_findings.specs.Answers.{row_of, column_of}
 
+-- the counts of what became of requests then
 abbrev pub row_in : ℕ → List (List ℕ) → List ℕ
 row_in row rows = slice_index_or rows row []
 
+-- one count
 abbrev pub count_in : ℕ → ℕ → List (List ℕ) → ℕ
 count_in row column rows = slice_index_or (row_in row rows) column 0
 

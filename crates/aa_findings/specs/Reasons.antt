@@ -1,4 +1,5 @@
 -- Why lines ask nothing, as it is printed.
+-- Source: own.
 use Rattle.std.specs.Prelude.{ℕ, List, codes}
 use Rattle.aa_logs.specs.declared.line.Reason.{Reason}
 use Rattle.aa_logs.specs.declared.line.Reason.TheVariants.{Rule, NoProfile, Namespace, Stacked, NoNewPrivs, Path, Mask, Name, Capability, Socket, Operation, Status, OldForm, Broken}

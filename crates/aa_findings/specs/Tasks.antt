@@ -1,4 +1,5 @@
 -- The tasks that a log's requests are asked by.
+-- Source: own.
 use Rattle.std.specs.Prelude.{ℕ, nat_lt, ◌&&◌, ◌==◌, not, List, [], ◌∷◌, ◌++◌, length, map, find, Bool, true, false, Option, Some, None, if◌then◌else◌}
 use Rattle.std.specs.Str.{bytes_eq}
 use Rattle.aa_requests.specs.declared.request.Request.{Request}
@@ -23,12 +24,15 @@ pub record TaskData : Type 0 where
   pub requests : List Request
   pub over : Bool
 
+-- a task of logs without where it lies in memory
 abbrev pub task_data : LogTask → TaskData
 task_data t = record { pid = t.pid; label = t.label.items; requests = t.requests.items; over = t.is_over }
 
+-- tasks of logs without where they lie in memory
 abbrev pub tasks_data : List LogTask → List TaskData
 tasks_data ts = map task_data ts
 
+-- both are of one process, or both of none
 abbrev pub is_same_pid : Option ℕ → Option ℕ → Bool
 is_same_pid None None = true
 is_same_pid (Some a) (Some b) = a == b
@@ -39,9 +43,11 @@ is_same_pid (Some a) None = false
 abbrev pub takes : RecordData → TaskData → Bool
 takes r t = not t.over && is_same_pid t.pid r.pid && bytes_eq t.label r.profile
 
+-- the task that begins with a record
 abbrev pub begun : RecordData → TaskData
 begun r = record { pid = r.pid; label = r.profile; requests = r.request ∷ []; over = moves r.request }
 
+-- the task with one request more
 abbrev pub gone_on : Request → TaskData → TaskData
 gone_on request t = record { pid = t.pid; label = t.label; requests = t.requests ++ request ∷ []; over = moves request }
 

@@ -10,6 +10,7 @@ use Rattle.aa_glob.specs.Expansions.{Outcome, Texts, Stops, Deeper, joined, in_t
 abbrev pub IsBuilt : List ℕ → List ℕ → Type 0
 IsBuilt text t = (text ≡ t) ⊎ ((16384 < length text) × (16384 < length t))
 
+-- the pieces of what is left of a text
 abbrev pub pieces_of : Rest → List Piece
 pieces_of f = pieces_from f.kept 0 f.text.now
 
@@ -19,6 +20,7 @@ text_of (Texts most ts) number = slice_index_or ts number []
 text_of (Stops fault) number = []
 text_of Deeper number = []
 
+-- the text with that number of what is left
 abbrev pub text_at : ℕ → List Variable → Rest → List ℕ
 text_at depth vars f = text_of (joined (outcome depth vars) (pieces_of f)) f.number
 
@@ -64,10 +66,12 @@ steps of (Plain b ∷ ps) = suc (steps of ps)
 steps of (Use name ∷ ps) = suc (suc (of name + steps of ps))
 steps of (Broken ∷ ps) = suc (steps of ps)
 
+-- how many steps these texts take
 abbrev pub steps_of_texts : (List ℕ → ℕ) → List (List ℕ) → ℕ
 steps_of_texts of [] = 0
 steps_of_texts of (t ∷ ts) = steps of (pieces t) + steps_of_texts of ts
 
+-- how many steps the values of a variable take
 abbrev pub steps_of_values : (List ℕ → ℕ) → Option (List (List ℕ)) → ℕ
 steps_of_values of None = 0
 steps_of_values of (Some values) = steps_of_texts of values
@@ -77,9 +81,11 @@ abbrev pub steps_of_variable : ℕ → List Variable → List ℕ → ℕ
 steps_of_variable zero vars name = 0
 steps_of_variable (suc depth) vars name = steps_of_values (steps_of_variable depth vars) (values_of vars name)
 
+-- how many steps what is left of a text takes
 abbrev pub steps_of_rest : ℕ → List Variable → Rest → ℕ
 steps_of_rest level vars f = steps (steps_of_variable level vars) (pieces_of f)
 
+-- how many steps all that is left takes
 abbrev pub steps_of_stack : ℕ → List Variable → List Rest → ℕ
 steps_of_stack level vars [] = 0
 steps_of_stack level vars (f ∷ fs) = suc (steps_of_rest (suc level) vars f + steps_of_stack (suc level) vars fs)

@@ -1,4 +1,5 @@
 -- The expansions of a text, and why there are none.
+-- Source: own.
 use Rattle.std.specs.Prelude.{ℕ, zero, suc, ◌<◌, ◌≤◌, ◌==◌, ◌&&◌, ◌||◌, ◌≡◌, Bool, true, false, List, [], ◌∷◌, ◌++◌, map, flat_map, length, max, codes, if◌then◌else◌, nat_lt, Option, Some, None, Result, Ok, Err}
 use Rattle.std.specs.Str.{bytes_eq}
 use Rattle.aa_faults.specs.declared.fault.PolicyKind.{PolicyKind}
@@ -47,6 +48,7 @@ unfoldable pub in_turn : (List ℕ → Outcome) → List (List ℕ) → Outcome
 in_turn of [] = Texts 0 []
 in_turn of (v ∷ vs) = and_then (joined of (pieces v)) (in_turn of vs)
 
+-- a name that no text can use
 abbrev pub is_reserved : List ℕ → Bool
 is_reserved name = bytes_eq name (codes "exec_path") || bytes_eq name (codes "profile_name")
 
@@ -55,6 +57,7 @@ abbrev pub counted : Outcome → Outcome
 counted (Texts m ts) = Texts (max m (length ts)) ts
 counted other = other
 
+-- what the values of a variable come to, one after another
 abbrev pub of_values : (List ℕ → Outcome) → Option (List (List ℕ)) → Outcome
 of_values of None = Stops UndefinedVariable
 of_values of (Some values) = counted (in_turn of values)
@@ -73,6 +76,7 @@ unfoldable pub squeezed : Bool → List ℕ → List ℕ
 squeezed after [] = []
 squeezed after (b ∷ bs) = if after && b == 47 then squeezed true bs else b ∷ squeezed (b == 47) bs
 
+-- the text with each run of / made one
 abbrev pub pattern_text : List ℕ → List ℕ
 pattern_text text = squeezed false text
 
@@ -85,6 +89,7 @@ of_path text (Err fault) = Err fault
 unfoldable pub expansion : List ℕ → Result (List Token) PolicyKind
 expansion text = if nat_lt 16384 (length text) then Err TooLarge else of_path (pattern_text text) (tokens (pattern_text text))
 
+-- both lists one behind the other, or the first fault
 abbrev pub and_more : Result (List Token) PolicyKind → Result (List (List Token)) PolicyKind → Result (List (List Token)) PolicyKind
 and_more (Err fault) rest = Err fault
 and_more (Ok p) (Err fault) = Err fault

@@ -9,6 +9,7 @@ use Rattle.aa_glob.specs.Pieces.{Piece, Plain, Use, Broken, pieces}
 use Rattle.aa_glob.specs.Expansions.{outcome}
 use Rattle.aa_glob.specs.Settled.{Settled, AreEnds}
 
+-- names, with what is known of each variable
 abbrev pub Table : Type 0
 Table = List (Bor (List ℕ) × Option VariableSummary)
 
@@ -22,6 +23,7 @@ IsKnown done (Plain b) = Unit {0}
 IsKnown done (Use name) = (s : VariableSummary) × (found name done ≡ Some (Some s))
 IsKnown done Broken = ⊥
 
+-- all variables of these pieces are in the table
 abbrev pub AreKnown : Table → List Piece → Type 0
 AreKnown done [] = Unit {0}
 AreKnown done (p ∷ ps) = IsKnown done p × AreKnown done ps
@@ -37,6 +39,7 @@ pub record IsRight (depth : ℕ) (vars : List Variable) (done : Table) (name : L
   pub ends : (values : List (List ℕ)) → values_of vars name ≡ Some values → AreEnds vars 0 values s.ends.items
   pub closed : (values : List (List ℕ)) → values_of vars name ≡ Some values → AreTextsKnown done values
 
+-- what the table says of a variable is right
 abbrev pub AreRight : ℕ → List Variable → Table → Type 0
 AreRight depth vars done = (name : List ℕ) (s : VariableSummary) → found name done ≡ Some (Some s) → IsRight depth vars done name s
 

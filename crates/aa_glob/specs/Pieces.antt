@@ -1,4 +1,5 @@
 -- A text cut into bytes and variables.
+-- Source: apparmor.d(5), "Variables".
 use Rattle.std.specs.Prelude.{ℕ, zero, suc, ◌+◌, ◌==◌, ◌&&◌, ◌||◌, Bool, false, List, [], ◌∷◌, take, drop, length, if◌then◌else◌, Option, Some, None}
 use Rattle.aa_reader.specs.Signs.{is_letter, is_letter_or_digit}
 
@@ -8,6 +9,7 @@ pub data Piece : Type 0 where
   Use : List ℕ → Piece
   Broken : Piece
 
+-- the byte stands first
 abbrev pub begins_with : ℕ → List ℕ → Bool
 begins_with c [] = false
 begins_with c (b ∷ bs) = b == c
@@ -22,6 +24,7 @@ abbrev pub name_at : List ℕ → Option (List ℕ)
 name_at [] = None
 name_at (b ∷ bs) = if is_letter b && begins_with 125 (drop (name_len bs) bs) then Some (b ∷ take (name_len bs) bs) else None
 
+-- the piece of a variable, and those behind it
 abbrev pub behind_name : Option (List ℕ) → (ℕ → List Piece) → List Piece
 behind_name None rest = Broken ∷ []
 behind_name (Some name) rest = Use name ∷ rest (length name + 2)
@@ -35,5 +38,6 @@ pieces_from kept zero (b ∷ bs) =
     else (if b == 64 && begins_with 123 bs then behind_name (name_at (drop 1 bs)) (λ n. pieces_from false n bs)
     else Plain b ∷ pieces_from (b == 92) 0 bs)
 
+-- the pieces of a text
 abbrev pub pieces : List ℕ → List Piece
 pieces text = pieces_from false 0 text

@@ -4,6 +4,7 @@ use Rattle.aa_glob.specs.declared.summary.Summary.{Summary}
 use Rattle.aa_glob.specs.Variables.{Variable}
 use Rattle.aa_glob.specs.Expansions.{Outcome, Texts, outcome_of}
 
+-- the text is empty
 abbrev pub IsEmptyText : List ℕ → Type 0
 IsEmptyText t = t ≡ []
 

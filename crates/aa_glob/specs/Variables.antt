@@ -4,13 +4,16 @@ use Rattle.std.specs.List.{list_any}
 use Rattle.std.specs.Str.{bytes_eq}
 use Rattle.std.specs.Global.{Global}
 
+-- a variable's name, and its values in order
 pub record Variable : Type 0 where
   pub name : List ℕ
   pub values : List (List ℕ)
 
+-- a variable of that name is there
 abbrev pub has_name : List ℕ → List Variable → Bool
 has_name name vars = list_any (λ v. bytes_eq name v.name) vars
 
+-- the values of the variable with that name
 unfoldable pub values_of : List Variable → List ℕ → Option (List (List ℕ))
 values_of [] name = None
 values_of (v ∷ vs) name = if bytes_eq name v.name then Some v.values else values_of vs name

@@ -25,9 +25,11 @@ pub record Passes (rest whole : ℕ → Outcome) : Type 0 where
   pub stops : (fault : PolicyKind) → Faults rest fault → Faults whole fault
   pub deeper : (depth : ℕ) → rest depth ≡ Deeper → whole depth ≡ Deeper
 
+-- what the lists hold
 abbrev pub items_of : List (Vec ℕ Global) → List (List ℕ)
 items_of vs = map (λ v. v.items) vs
 
+-- the pieces that a step has left
 abbrev pub pieces_left : Step → List Piece
 pieces_left f = pieces_from f.kept 0 f.rest.now
 
@@ -73,6 +75,7 @@ abbrev pub bytes_of : List (List ℕ) → ℕ
 bytes_of [] = 0
 bytes_of (t ∷ ts) = suc (length t + bytes_of ts)
 
+-- the number, where a name isn't in the table yet
 abbrev pub unless_found : Option (Option VariableSummary) → ℕ → ℕ
 unless_found (Some _) n = 0
 unless_found None n = n
@@ -86,6 +89,7 @@ unseen (v ∷ vs) done = unless_found (found v.name done) (2 + bytes_of v.values
 abbrev pub unread : Step → ℕ
 unread f = length f.rest.now + bytes_of (items_of f.later.now)
 
+-- how much is unread in all steps
 abbrev pub unread_all : List Step → ℕ
 unread_all [] = 0
 unread_all (f ∷ fs) = suc (unread f + unread_all fs)

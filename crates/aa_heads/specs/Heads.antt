@@ -1,4 +1,5 @@
 -- The head of a profile (apparmor.d(5), "Profile Head"): how it is named, where it attaches, its flags.
+-- Source: apparmor.d(5), "Profile Head".
 use Rattle.std.specs.Prelude.{ℕ, ◌≡◌, ◌⊎◌, ◌&&◌, ◌||◌, List, [], ◌∷◌, codes, Option, Some, None, option_map, Bool, true, false, if◌then◌else◌}
 use Rattle.std.specs.List.{list_any}
 use Rattle.std.specs.Str.{bytes_eq}
@@ -35,9 +36,11 @@ pub record HeadData : Type 0 where
 abbrev pub attachment_data : AttachmentTree → AttachmentData
 attachment_data t = record { at = t.at; path = t.path.now }
 
+-- a profile's name and attachment, without where they lie in memory
 abbrev pub title_data : TitleTree → TitleData
 title_data t = record { at = t.at; name = t.name.now; attachment = option_map attachment_data t.attachment }
 
+-- a profile's head, without where it lies in memory
 abbrev pub head_data : HeadTree → HeadData
 head_data t = record { title = title_data t.title; flags = t.flags }
 
@@ -138,6 +141,7 @@ pub record NamesFlags (ws rest : List WordData) : Type 0 where
   pub equals_stands : Stands Equals after_keyword after_equals
   pub paren_stands : Stands LeftParen after_equals rest
 
+-- a profile's flags open here, with their keyword or without
 abbrev pub OpensFlags : Ending
 OpensFlags ws rest = Stands LeftParen ws rest ⊎ NamesFlags ws rest
 

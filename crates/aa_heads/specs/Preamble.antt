@@ -1,4 +1,5 @@
 -- What may stand before a policy's profiles: assignments to variables, and abi rules.
+-- Source: apparmor.d(5), "Variables", "Abi"; own.
 use Rattle.std.specs.Prelude.{⊤, ◌⊎◌, ℕ, ◌≡◌, ◌≢◌, List, [], ◌∷◌, ◌++◌, Bool, true, false, not, ◌&&◌, ◌||◌, ◌==◌, if◌then◌else◌, Option, Some, None, option_and_then, codes, Result, Ok, Err}
 use Rattle.std.specs.List.{list_all}
 use Rattle.aa_faults.specs.declared.fault.Spot.{Spot}
@@ -20,6 +21,7 @@ use Rattle.aa_rules.specs.Grammar.{Ending, Many, Starts, Lacks, Keyword, LacksKe
 abbrev pub is_variable_byte : ℕ → Bool
 is_variable_byte b = is_letter_or_digit b || b == 95
 
+-- a letter, then letters, digits and _
 abbrev pub is_variable_name : List ℕ → Bool
 is_variable_name [] = false
 is_variable_name (b ∷ bs) = is_letter b && list_all is_variable_byte bs
@@ -119,6 +121,7 @@ IsPreambleItem ws Abi rest = IsAbi ws rest
 abbrev pub PreambleEnds : Ending
 PreambleEnds ws rest = (rest ≡ ws) × LacksAssignment ws × LacksKeyword (codes "abi") ws
 
+-- the words begin with these assignments and abi lines, as many as there are
 abbrev pub IsPreamble : List WordData → List PreambleData → List WordData → Type 0
 IsPreamble ws items rest = Many IsPreambleItem PreambleEnds ws items rest
 
@@ -162,6 +165,7 @@ abbrev pub misnamed_kind : Bool → PolicyKind
 misnamed_kind false = VariableTwice
 misnamed_kind true = UndefinedVariable
 
+-- the fault of an assignment whose variable is there, or isn't
 abbrev pub misnamed : Bool → Spot → PolicyFault
 misnamed adds at = record { kind = misnamed_kind adds; at = at }
 

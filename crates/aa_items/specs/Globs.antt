@@ -47,6 +47,7 @@ abbrev pub sequences : {n : _} → Row_of-Item-Choice-0-1 n → List (List Item)
 sequences end_of-Item-Choice-0-1 = []
 sequences (more_of-Item-Choice-0-1 _ branch rest) = items-the_row-Item _ branch ∷ sequences rest
 
+-- the branches of a choice
 abbrev pub branches_of : Item → List (List Item)
 branches_of (Choice' _ branches) = sequences branches
 branches_of _ = []
@@ -56,6 +57,7 @@ abbrev pub SomeMatches : List (Vec Item Global) → List ℕ → Type 0
 SomeMatches [] s = ⊥
 SomeMatches (branch ∷ rest) s = Matches branch.items s ⊎ SomeMatches rest s
 
+-- the item is one byte
 abbrev pub is_byte : Item → Bool
 is_byte (Byte c) = true
 is_byte _ = false

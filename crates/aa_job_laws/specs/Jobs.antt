@@ -1,4 +1,5 @@
 -- A job that is written is read as that job.
+-- Source: own.
 use Rattle.std.specs.Prelude.{◌≡◌, ◌≤◌, ◌==◌, ℕ, List, [], ◌∷◌, length, map, true, not, ⊤, unwrap_or, Ok}
 use Rattle.std.specs.List.{filter}
 use Rattle.std.specs.Ordering.{nat_cmp, match_ordering}
@@ -21,6 +22,7 @@ abbrev pub AllCanBeMade : ℕ → List Request → Type 0
 AllCanBeMade policies [] = ⊤
 AllCanBeMade policies (r ∷ rs) = CanBeMade policies r × AllCanBeMade policies rs
 
+-- each request of each task can be asked for, with so many policies
 abbrev pub TasksCanBeMade : ℕ → List LogTask → Type 0
 TasksCanBeMade policies [] = ⊤
 TasksCanBeMade policies (t ∷ ts) = AllCanBeMade policies t.requests.items × TasksCanBeMade policies ts
@@ -31,6 +33,7 @@ put_text name text [] = record { name = name; text = text } ∷ []
 put_text name text (i ∷ is) =
     match_ordering (slice_cmp nat_cmp name i.name) (record { name = name; text = text } ∷ i ∷ is) (record { name = i.name; text = text } ∷ is) (i ∷ put_text name text is)
 
+-- the includes as a reader finds them, in the order of their names
 abbrev pub in_order : List Include → List jobs.Include → List jobs.Include
 in_order [] found = found
 in_order (i ∷ is) found = in_order is (put_text i.name.now i.text.now found)

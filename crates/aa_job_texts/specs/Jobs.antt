@@ -1,4 +1,5 @@
 -- A job as a JSON text.
+-- Source: own.
 use Rattle.std.specs.Prelude.{ℕ, nat_le, List, [], ◌∷◌, ◌++◌, ◌&&◌, ◌||◌, codes, decimal, length, Bool, true, false, not, Option, Some, None, if◌then◌else◌, ◌==◌, ◌-◌, ◌^◌, min, count_by, sum_by}
 use Rattle.std.specs.List.{list_all, list_any, position}
 use Rattle.std.specs.Str.{is_utf8, bytes_eq}
@@ -9,9 +10,11 @@ use Rattle.aa_job_texts.specs.declared.job.Include.{Include}
 use Rattle.aa_job_texts.specs.declared.job.JobPolicy.{JobPolicy}
 use Rattle.aa_job_texts.specs.Requests.{member, request_text, has_text}
 
+-- a comma before all but the first
 abbrev pub comma_if : Bool → List ℕ
 comma_if later = if later then codes "," else []
 
+-- the text of a request that a job can have, a comma before it
 unfoldable pub if_text : Bool → Request → List ℕ
 if_text later r = if has_text r then comma_if later ++ request_text r else []
 
@@ -28,6 +31,7 @@ has_profile label p = list_any (λ name. bytes_eq name.items label) p.names.now
 abbrev pub policy_of : List ℕ → List JobPolicy → Option ℕ
 policy_of label ps = position (has_profile label) ps
 
+-- the member of a policy's number
 abbrev pub number_text : Option ℕ → List ℕ
 number_text None = []
 number_text (Some n) = codes "," ++ key_text (codes "policy") ++ decimal n
@@ -36,16 +40,20 @@ number_text (Some n) = codes "," ++ key_text (codes "policy") ++ decimal n
 unfoldable pub decider_text : List JobPolicy → List ℕ → List ℕ
 decider_text ps label = if length ps == 1 then [] else number_text (policy_of label ps)
 
+-- the text of a task
 unfoldable pub task_text : List JobPolicy → LogTask → List ℕ
 task_text ps t = codes "{" ++ member (codes "label") t.label.items ++ codes "," ++ key_text (codes "requests") ++ codes "[" ++ requests_text false t.requests.items ++ codes "]" ++ decider_text ps t.label.items ++ codes "}"
 
+-- the texts of tasks, with commas
 unfoldable pub tasks_text : List JobPolicy → Bool → List LogTask → List ℕ
 tasks_text ps later [] = []
 tasks_text ps later (t ∷ ts) = (comma_if later ++ task_text ps t) ++ tasks_text ps true ts
 
+-- the text of an include
 unfoldable pub include_text : Include → List ℕ
 include_text i = json_bytes i.name.now ++ codes ":" ++ json_bytes i.text.now
 
+-- the texts of includes, with commas
 unfoldable pub includes_text : Bool → List Include → List ℕ
 includes_text later [] = []
 includes_text later (i ∷ is) = (comma_if later ++ include_text i) ++ includes_text true is

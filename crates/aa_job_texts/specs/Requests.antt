@@ -1,4 +1,5 @@
 -- A request as an item of a task's list in a job.
+-- Source: JSON; own.
 use Rattle.std.specs.Prelude.{ℕ, List, [], ◌++◌, ◌&&◌, codes, decimal, Bool, true, Option, unwrap_or, slice_get, if◌then◌else◌}
 use Rattle.std.specs.Str.{is_utf8}
 use Rattle.aa_tables.specs.Tables.{capability_names, family_names, sock_type_names}
@@ -16,21 +17,27 @@ member key value = key_text key ++ json_bytes value
 abbrev pub entry : List (List ℕ) → ℕ → List ℕ
 entry names n = unwrap_or (slice_get names n) []
 
+-- the end of a request, with whether the object is owned
 unfoldable pub owned_end : Bool → List ℕ
 owned_end owned = if owned then codes ",\"owned\":true}" else codes "}"
 
+-- the member of a mask
 unfoldable pub mask_member : ℕ → List ℕ
 mask_member bits = codes "," ++ key_text (codes "mask") ++ mask bits
 
+-- the text of a request for a file
 unfoldable pub file_text : RequestedFile → List ℕ
 file_text f = codes "{" ++ member (codes "file") f.path ++ mask_member f.mask.0 ++ owned_end f.owned
 
+-- the text of a request for a link
 unfoldable pub link_text : RequestedLink → List ℕ
 link_text l = codes "{" ++ member (codes "link") l.link ++ codes "," ++ member (codes "to") l.target ++ owned_end l.owned
 
+-- the text of a request to execute
 unfoldable pub exec_text : RequestedExec → List ℕ
 exec_text e = codes "{" ++ member (codes "exec") e.path ++ owned_end e.owned
 
+-- the text of a request for a socket
 unfoldable pub net_text : ℕ → ℕ → List ℕ
 net_text family kind = codes "{" ++ member (codes "net") (entry family_names family) ++ codes "," ++ member (codes "type") (entry sock_type_names kind) ++ codes "}"
 
@@ -38,6 +45,7 @@ net_text family kind = codes "{" ++ member (codes "net") (entry family_names fam
 unfoldable pub single : List ℕ → List ℕ → List ℕ
 single key value = codes "{" ++ member key value ++ codes "}"
 
+-- the text of a request to be decided by another policy
 unfoldable pub reload_text : ℕ → List ℕ
 reload_text policy = codes "{" ++ key_text (codes "reload") ++ decimal policy ++ codes "}"
 

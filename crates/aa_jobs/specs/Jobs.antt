@@ -1,4 +1,5 @@
 -- The job that bytes are.
+-- Source: the kit's serde_json; own.
 use Rattle.std.specs.Prelude.{ℕ, List, length, nat_le, if◌then◌else◌, Result, Err}
 use Rattle.std.specs.Str.{is_utf8}
 use Rattle.serde_json.specs.Data.{Data}

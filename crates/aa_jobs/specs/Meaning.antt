@@ -1,4 +1,5 @@
 -- What stands in a job means these tasks and events.
+-- Source: apparmor.d(5), "Access Modes"; capabilities(7); own.
 use Rattle.std.specs.Prelude.{◌≡◌, ℕ, ◌&&◌, ◌||◌, ◌==◌, List, length, map, codes, Bool, true, false, refl, bit_or, nat_lt, if◌then◌else◌, Result, Ok, Err}
 use Rattle.std.specs.List.{list_any, list_all}
 use Rattle.std.specs.Str.{bytes_eq}
@@ -30,6 +31,7 @@ is_letter b = b == 114 || b == 119 || b == 97 || b == 107 || b == 109
 abbrev pub bit_if : List ℕ → ℕ → ℕ → ℕ
 bit_if letters letter bit = if list_any (λ b. b == letter) letters then bit else 0
 
+-- the permissions of a mask's letters
 abbrev pub mask_bits : List ℕ → ℕ
 mask_bits letters = bit_or (bit_or (bit_or (bit_or (bit_if letters 114 1) (bit_if letters 119 2)) (bit_if letters 97 4)) (bit_if letters 107 16)) (bit_if letters 109 32)
 
@@ -41,6 +43,7 @@ file_request path letters owned = if list_all is_letter letters && is_path path 
 abbrev pub link_request : List ℕ → List ℕ → Bool → Result Request JobFault
 link_request path target owned = if is_path path && is_path target then Ok (requests.Link (record { link = path; target = target; owned = owned })) else Err BadRequest
 
+-- the request to execute a path, if it can be asked for
 abbrev pub exec_request : List ℕ → Bool → Result Request JobFault
 exec_request path owned = if is_path path then Ok (requests.Exec (record { path = path; owned = owned })) else Err BadRequest
 
@@ -50,6 +53,7 @@ cap_request name = do
   cap ← needed BadRequest (number_in capability_names name)
   Ok (requests.Cap cap)
 
+-- the request for a socket, by the names of family and type
 abbrev pub net_request : List ℕ → List ℕ → Result Request JobFault
 net_request family kind = do
   f ← needed BadRequest (number_in family_names family)
@@ -64,6 +68,7 @@ change_request name = if is_wanted_name name then Ok (requests.Change name) else
 abbrev pub reload_request : ℕ → ℕ → Result Request JobFault
 reload_request policies policy = if nat_lt policy policies then Ok (requests.Reload policy) else Err BadRequest
 
+-- what a task does: it asks this
 abbrev pub asked : Result Request JobFault → Result Work JobFault
 asked given = given >>= λ r. Ok (Ask r)
 
@@ -87,6 +92,7 @@ task_of policies w = do
 
 -- ---- events
 
+-- the event of a name
 abbrev pub event_name : List ℕ → Result EventName JobFault
 event_name name =
     if bytes_eq name (codes "send") then Ok Send
@@ -105,6 +111,7 @@ event_of tasks w = do
 
 -- ---- the job
 
+-- a value that may use that the test holds, else another
 abbrev pub if_true : {A : Type 0} (b : Bool) → (b ≡ true → A) → A → A
 if_true true f other = f refl
 if_true false f other = other
@@ -116,9 +123,11 @@ sealed policies several includes tasks states capacity events =
     (λ kept. Ok (record { policies = policies; several = several; includes = includes; tasks = tasks; states = states; capacity = capacity; events = events; limits = kept }))
     (Err TooLarge)
 
+-- the sizes of a job as it is written
 abbrev pub written_sizes : WrittenJob → Sizes
 written_sizes w = record { policies = map length w.policies; includes = include_sizes w.includes; tasks = map (λ t. length t.items) w.tasks; states = w.states; capacity = w.capacity; events = length w.events }
 
+-- the job that a written one means, or the first fault of its tasks and events
 unfoldable pub meaning : WrittenJob → Result Job JobFault
 meaning w = do
   tasks ← each (task_of (length w.policies)) w.tasks

@@ -1,4 +1,5 @@
 -- The two parts of what stands in a job: its texts, and what is done with them.
+-- Source: own.
 use Rattle.std.specs.Prelude.{ℕ, List, codes, map, Result, Ok}
 use Rattle.serde_json.specs.Data.{Data}
 use Rattle.serde_json.specs.Find.{get}
@@ -11,10 +12,12 @@ use Rattle.aa_jobs.specs.Shape.{events_from, includes_from, list_at, number_from
 use Rattle.aa_jobs.specs.Steps.{◌>>=◌, each}
 use Rattle.aa_jobs.specs.Written.{WrittenTask, WrittenEvent}
 
+-- the texts of a job as it is written
 pub record WrittenTexts : Type 0 where
   pub policies : List (List ℕ)
   pub includes : List Include
 
+-- the rest of a job as it is written
 pub record WrittenRun : Type 0 where
   pub tasks : List WrittenTask
   pub states : ℕ
@@ -28,6 +31,7 @@ texts_shape d = do
   includes ← includes_from (get (codes "includes") d)
   Ok (record { policies = policies; includes = includes })
 
+-- the tasks of a job's value, as they are written
 abbrev pub tasks_in : Data → Result (List WrittenTask) JobFault
 tasks_in d = list_at (codes "tasks") d >>= each task_shape
 
@@ -44,5 +48,6 @@ run_shape d = do
 abbrev pub raw_texts : RawTexts → WrittenTexts
 raw_texts t = record { policies = map raw_text t.policies.items; includes = map raw_include t.includes.items }
 
+-- the rest of a job, without where it lies in memory
 abbrev pub raw_run : RawRun → WrittenRun
 raw_run r = record { tasks = map raw_task r.tasks.items; states = r.states; capacity = r.capacity; events = map raw_event r.events.items }

@@ -1,4 +1,5 @@
 -- Steps that give a value or the fault that ends the reading.
+-- Source: own.
 use Rattle.std.specs.Prelude.{ℕ, ◌≡◌, List, [], ◌∷◌, Bool, ⊤, Option, Some, None, Result, Ok, Err, if◌then◌else◌}
 use Rattle.aa_jobs.specs.declared.job_fault.JobFault.{JobFault}
 use Rattle.aa_jobs.specs.declared.job_fault.JobFault.TheVariants.{NoMemory, NotJson, BadShape, BadRequest, TooLarge}

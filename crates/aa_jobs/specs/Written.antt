@@ -13,11 +13,13 @@ pub data WrittenItem : Type 0 where
   change_item : (name : List ℕ) → WrittenItem
   reload_item : (policy : ℕ) → WrittenItem
 
+-- a task as it is written
 pub record WrittenTask : Type 0 where
   pub label : List ℕ
   pub policy : ℕ
   pub items : List WrittenItem
 
+-- an event as it is written
 pub record WrittenEvent : Type 0 where
   pub task : ℕ
   pub name : List ℕ

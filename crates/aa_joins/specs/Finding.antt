@@ -1,4 +1,5 @@
 -- Which profile of joined policies has a name.
+-- Source: own.
 use Rattle.std.specs.Prelude.{ℕ, ◌≡◌, ◌+◌, List, length, option_map}
 use Rattle.std.specs.Option.{option_or}
 use Rattle.aa_joins.specs.Rows.{Rows}

@@ -1,4 +1,5 @@
 -- Policies that become one.
+-- Source: own.
 use Rattle.std.specs.Prelude.{ℕ, ◌+◌, ◌++◌, map, length, option_map}
 use Rattle.aa_profiles.specs.declared.policy.Profile.{Profile}
 use Rattle.aa_profiles.specs.declared.policy.PassedOver.{PassedOver}

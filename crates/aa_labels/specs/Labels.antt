@@ -1,4 +1,5 @@
 -- Labels and the profiles that they name, in a list of policies.
+-- Source: own.
 use Rattle.std.specs.Prelude.{ℕ, List, [], codes, Option, Some, if◌then◌else◌, option_map}
 use Rattle.std.specs.Option.{option_map_or, option_and_then}
 use Rattle.std.specs.List.{slice_get}

@@ -23,6 +23,7 @@ module _ {M S Q A : Type 0} where
   abbrev pub sent_of : OwnerSeen M S Q A → Q → List (Entry M S Q A) → OwnerSeen M S Q A
   sent_of o q log = record o { sent = o.sent ++ q ∷ []; log = log }
 
+  -- the owner once it has left
   abbrev pub left_of : OwnerSeen M S Q A → List (Entry M S Q A) → OwnerSeen M S Q A
   left_of o log = record o { left = true; log = log }
 
@@ -34,6 +35,7 @@ module _ {M S Q A : Type 0} where
   abbrev pub collected_of : OwnerSeen M S Q A → ℕ → List (Entry M S Q A) → OwnerSeen M S Q A
   collected_of o n log = record o { got = o.got + 1; found = n; log = log }
 
+  -- the owner after a look that found no answer
   abbrev pub uncollected_of : OwnerSeen M S Q A → ℕ → List (Entry M S Q A) → OwnerSeen M S Q A
   uncollected_of o n log = record o { found = n; log = log }
 
@@ -41,9 +43,11 @@ module _ {M S Q A : Type 0} where
   abbrev pub job_of : ServerSeen M S Q A → ℕ → Q → List (Entry M S Q A) → ServerSeen M S Q A
   job_of s n q log = record s { taken = s.taken ++ q ∷ []; seen = n; log = log }
 
+  -- the server after a look that found no request
   abbrev pub idle_of : ServerSeen M S Q A → ℕ → List (Entry M S Q A) → ServerSeen M S Q A
   idle_of s n log = record s { seen = n; log = log }
 
+  -- the server after a look that found the lane settled
   abbrev pub settled_of : ServerSeen M S Q A → ℕ → List (Entry M S Q A) → ServerSeen M S Q A
   settled_of s n log = record s { seen = n; settled = true; log = log }
 
@@ -69,6 +73,7 @@ module _ {M S Q A : Type 0} where
   SaysSettled (Idle t) = ⊥
   SaysSettled (Settled t) = Unit {0}
 
+  -- what serving a settled lane answers
   abbrev pub StaysSettled : Served M S Q A → Type 0
   StaysSettled (served.Did t) = ⊥
   StaysSettled (served.Idle t) = ⊥
@@ -95,15 +100,18 @@ module _ {M S Q A : Type 0} (next : M → S → Q → S) (reply : M → S → Q 
   SendHappens l o q o' (Ok n) = HappensAt l ByOwner o.log (Send q) (says.Accepted n) o'.log
   SendHappens l o q o' (Err u) = u.fault ≡ Closed → HappensAt l ByOwner o.log (Send q) (says.Unsent Closed q) o'.log
 
+  -- collecting is that event of the lane's world
   abbrev pub CollectHappens : LaneSeen M S → OwnerSeen M S Q A → OwnerSeen M S Q A → Option (Answered M S Q A) → Type 0
   CollectHappens l o o' None = HappensAt l ByOwner o.log Collect says.Nothing o'.log
   CollectHappens l o o' (Some a) = HappensAt l ByOwner o.log Collect (says.Given a.number) o'.log
 
+  -- taking is that event of the lane's world
   abbrev pub TakeHappens : LaneSeen M S → ServerSeen M S Q A → Taken M S Q A → Type 0
   TakeHappens l s (Job b) = HappensAt l ByServer s.log Take (says.Taken s.done) b.server.log
   TakeHappens l s (Idle t) = HappensAt l ByServer s.log Take says.Idle t.log
   TakeHappens l s (Settled t) = HappensAt l ByServer s.log Take says.Settled t.log
 
+  -- serving is taking, and finishing where a request was taken
   abbrev pub ServeHappens : LaneSeen M S → ServerSeen M S Q A → Served M S Q A → Type 0
   ServeHappens l s (served.Did t) = (log : List (Entry M S Q A)) × HappensAt l ByServer s.log Take (says.Taken s.done) log × HappensAt l ByServer log Finish (says.Finished s.done) t.log
   ServeHappens l s (served.Idle t) = HappensAt l ByServer s.log Take says.Idle t.log

@@ -19,12 +19,14 @@ pub record LaneId (M S : Type 0) : Type 0 where
   pub terms : Option (M × S)
   pub tag : ℕ
 
+-- a lane as contracts see it: its table, its machine, its opening state, its tag
 pub record LaneSeen (M S : Type 0) : Type 0 where
   pub table : TableId
   pub machine : M
   pub start : S
   pub tag : ℕ
 
+-- the lane as its ends know it
 abbrev pub known : {M S : Type 0} → LaneSeen M S → LaneId M S
 known l = record { table = l.table; terms = Some (l.machine, l.start); tag = l.tag }
 
@@ -59,15 +61,19 @@ module _ {M S Q A : Type 0} where
   vacant c from zero = []
   vacant c from (suc n) = (from % c, Vacant) ∷ vacant c (suc from) n
 
+  -- the lane of a seat's view
   abbrev pub lane_of : TableId → View M S Q A → ℕ → LaneId M S
   lane_of z v t = record { table = z; terms = v.terms; tag = t }
 
+  -- the owner of a seat's view
   abbrev pub owner_seen : TableId → View M S Q A → ℕ → OwnerSeen M S Q A
   owner_seen z v t = record { lane = lane_of z v t; sent = v.owner.sent; got = v.owner.got; found = v.owner.found; closed = v.owner.closed; left = v.owner.left; log = v.owner.log }
 
+  -- the server of a seat's view
   abbrev pub server_seen : TableId → View M S Q A → ℕ → ServerSeen M S Q A
   server_seen z v t = record { lane = lane_of z v t; taken = v.server.taken; done = v.server.done; seen = v.server.seen; settled = v.server.settled; log = v.server.log }
 
+  -- the shutter of a seat's view
   abbrev pub shutter_seen : TableId → View M S Q A → ℕ → ShutterSeen M S Q A
   shutter_seen z v t = record { lane = lane_of z v t; count = v.shutter.count; log = v.shutter.log }
 
@@ -133,12 +139,15 @@ Denies NoMemory c = IsCapacity c
 Denies BadCapacity c = (c ≡ 0) ⊎ (1024 < c)
 
 module _ {M S Q A : Type 0} where
+  -- a lane's owner before its first call
   abbrev pub new_owner : LaneSeen M S → OwnerSeen M S Q A
   new_owner l = record { lane = known l; sent = []; got = 0; found = 0; closed = false; left = false; log = [] }
 
+  -- a lane's server before its first call
   abbrev pub new_server : LaneSeen M S → ServerSeen M S Q A
   new_server l = record { lane = known l; taken = []; done = 0; seen = 0; settled = false; log = [] }
 
+  -- a lane's shutter before its first call
   abbrev pub new_shutter : LaneSeen M S → ShutterSeen M S Q A
   new_shutter l = record { lane = known l; count = None; log = [] }
 

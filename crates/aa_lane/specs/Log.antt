@@ -8,19 +8,23 @@ use Rattle.aa_lane.specs.declared.cells.Who.{Who}
 use Rattle.aa_lane.specs.declared.cells.Who.TheVariants.{ByOwner, ByServer, ByShutter}
 use Rattle.aa_lane.specs.declared.cells.Entry.{Entry}
 
+-- a number for each seat
 abbrev pub rank : Who → ℕ
 rank ByOwner = 0
 rank ByServer = 1
 rank ByShutter = 2
 
+-- both are one seat
 abbrev pub same : Who → Who → Bool
 same a b = rank a == rank b
 
 module _ {M S Q A : Type 0} where
+  -- the events of a log
   abbrev pub events : List (Entry M S Q A) → List (Event M S Q A)
   events [] = []
   events (e ∷ es) = e.event ∷ events es
 
+  -- the replies of a log
   abbrev pub replied : List (Entry M S Q A) → List (Reply M S Q A)
   replied [] = []
   replied (e ∷ es) = e.reply ∷ replied es

@@ -17,6 +17,7 @@ use Rattle.aa_lane.specs.declared.cells.Who.{Who}
 use Rattle.aa_lane.specs.declared.cells.Who.TheVariants.{ByOwner, ByServer, ByShutter}
 use Rattle.aa_lane.specs.declared.cells.Entry.{Entry}
 
+-- a seat with its view and what it holds
 abbrev pub Seated : (M S Q A : Type 0) → Type 0
 Seated M S Q A = Me (Cell M S Q A) (View M S Q A)
 
@@ -25,30 +26,39 @@ module _ {M S Q A : Type 0} where
   abbrev pub ready_view : View M S Q A → View M S Q A
   ready_view v = record v { owner = record v.owner { ready = true } }
 
+  -- the owner's view once a request was accepted
   abbrev pub sent_view : View M S Q A → Q → List (Entry M S Q A) → View M S Q A
   sent_view v q log = record v { owner = record v.owner { sent = v.owner.sent ++ q ∷ []; log = log } }
 
+  -- the owner's view once it found the lane shut
   abbrev pub unsent_view : View M S Q A → List (Entry M S Q A) → View M S Q A
   unsent_view v log = record v { owner = record v.owner { closed = true; log = log } }
 
+  -- the server's view once it took a request
   abbrev pub taken_view : View M S Q A → ℕ → Q → List (Entry M S Q A) → View M S Q A
   taken_view v n q log = record v { server = record v.server { taken = v.server.taken ++ q ∷ []; seen = n; log = log } }
 
+  -- the server's view after a look that found no request
   abbrev pub idle_view : View M S Q A → ℕ → Bool → List (Entry M S Q A) → View M S Q A
   idle_view v n odd log = record v { server = record v.server { seen = n; settled = v.server.settled || odd; log = log } }
 
+  -- the server's view once it answered a request
   abbrev pub finished_view : View M S Q A → List (Entry M S Q A) → View M S Q A
   finished_view v log = record v { server = record v.server { done = v.server.done + 1; log = log } }
 
+  -- the owner's view once it collected an answer
   abbrev pub collected_view : View M S Q A → ℕ → List (Entry M S Q A) → View M S Q A
   collected_view v n log = record v { owner = record v.owner { got = v.owner.got + 1; found = n; log = log } }
 
+  -- the owner's view after a look that found no answer
   abbrev pub uncollected_view : View M S Q A → ℕ → List (Entry M S Q A) → View M S Q A
   uncollected_view v n log = record v { owner = record v.owner { found = n; log = log } }
 
+  -- the shutter's view once it has shut
   abbrev pub shut_view : View M S Q A → ℕ → List (Entry M S Q A) → View M S Q A
   shut_view v n log = record v { shutter = record v.shutter { count = Some n; log = log } }
 
+  -- the owner's view once it has left
   abbrev pub left_view : View M S Q A → List (Entry M S Q A) → View M S Q A
   left_view v log = record v { owner = record v.owner { left = true; log = log } }
 
@@ -56,18 +66,23 @@ module _ {M S Q A : Type 0} where
   abbrev pub without_server : View M S Q A → View M S Q A
   without_server v = record v { serves = false }
 
+  -- the view that goes to the server
   abbrev pub only_server : View M S Q A → View M S Q A
   only_server v = record v { owns = false; shuts = false }
 
+  -- the view with the server's joined to it
   abbrev pub with_server : View M S Q A → View M S Q A → View M S Q A
   with_server v u = record v { serves = true; server = u.server }
 
+  -- the view that the shutter's was split from
   abbrev pub without_shutter : View M S Q A → View M S Q A
   without_shutter v = record v { shuts = false }
 
+  -- the view that goes to the shutter
   abbrev pub only_shutter : View M S Q A → View M S Q A
   only_shutter v = record v { owns = false; serves = false }
 
+  -- the view with the shutter's joined to it
   abbrev pub with_shutter : View M S Q A → View M S Q A → View M S Q A
   with_shutter v u = record v { shuts = true; shutter = u.shutter }
 
@@ -102,6 +117,7 @@ module _ {M S Q A : Type 0} (next : M → S → Q → S) (reply : M → S → Q 
       ((m' ≡ (unsent_view m.0 m'.0.owner.log, m.1)) × Makes slots m.0 ByOwner (Send q) (Unsent Closed q) m'.0)
   is_sent accepted slots ((k, Answered q a) ∷ xs) m m' = Unit {0}
 
+  -- what a send leaves
   abbrev pub sent : Step (Cell M S Q A) → Seated M S Q A → ℕ → Seated M S Q A → Type 0
   sent s m r m' = is_sent (r == s.first) s.slots m.1 m m' × StillClosed m.0 (r == s.first)
 
@@ -111,6 +127,7 @@ module _ {M S Q A : Type 0} (next : M → S → Q → S) (reply : M → S → Q 
       ((q : Q) × (m' ≡ (taken_view m.0 n q m'.0.server.log, (m.0.server.done % slots, Asked q) ∷ m.1)) × Makes slots m.0 ByServer Take (Taken m.0.server.done) m'.0)
       ((m' ≡ (idle_view m.0 n odd m'.0.server.log, m.1)) × Makes slots m.0 ByServer Take (cond odd Settled Idle) m'.0)
 
+  -- what a take leaves
   abbrev pub took : Step (Cell M S Q A) → Seated M S Q A → ℕ → Seated M S Q A → Type 0
   took s m r m' = is_taken (nat_lt m.0.server.done (r / 2)) s.slots (r / 2) (r % 2 == 1) m m' × StillSettled m.0 r
 
@@ -137,5 +154,6 @@ module _ {M S Q A : Type 0} (next : M → S → Q → S) (reply : M → S → Q 
       ((q : Q) × (a : A) × Gives m.0 m.0.owner.got q a × (m' ≡ (collected_view m.0 r m'.0.owner.log, (m.0.owner.got % slots, Answered q a) ∷ m.1)) × Makes slots m.0 ByOwner Collect (Given m.0.owner.got) m'.0)
       ((m' ≡ (uncollected_view m.0 r m'.0.owner.log, m.1)) × Makes slots m.0 ByOwner Collect Nothing m'.0)
 
+  -- what a collect leaves
   abbrev pub collected : Step (Cell M S Q A) → Seated M S Q A → ℕ → Seated M S Q A → Type 0
   collected s m r m' = is_collected (nat_lt m.0.owner.got r) s.slots r m m'

@@ -18,16 +18,20 @@ use Rattle.aa_lane.specs.declared.cells.ShutterNotes.{ShutterNotes}
 use Rattle.aa_lane.specs.declared.cells.View.{View}
 use Rattle.aa_lane.specs.declared.cells.Key.{Key}
 
+-- 1 for true, 0 for false
 abbrev pub bit : Bool → ℕ
 bit b = cond b 1 0
 
 module _ {M S Q A : Type 0} where
+  -- the notes of an owner that isn't there
   abbrev pub no_owner : OwnerNotes M S Q A
   no_owner = record { ready = false; sent = []; got = 0; found = 0; closed = false; left = false; log = [] }
 
+  -- the notes of a server that isn't there
   abbrev pub no_server : ServerNotes M S Q A
   no_server = record { taken = []; done = 0; seen = 0; settled = false; log = [] }
 
+  -- the notes of a shutter that isn't there
   abbrev pub no_shutter : ShutterNotes M S Q A
   no_shutter = record { count = None; log = [] }
 
@@ -39,6 +43,7 @@ module _ {M S Q A : Type 0} where
   abbrev pub spent_view : View M S Q A
   spent_view = record { terms = None; owns = false; owner = no_owner; serves = false; server = no_server; shuts = false; shutter = no_shutter }
 
+  -- the view is that seat's
   abbrev pub role : Who → View M S Q A → Bool
   role ByOwner v = v.owns
   role ByServer v = v.serves
@@ -72,6 +77,7 @@ module _ {M S Q A : Type 0} where
   pub record ShutterFits (w : WorldState M S Q A) (n : ShutterNotes M S Q A) : Type 0 where
     pub count : (c : ℕ) → n.count ≡ Some c → (w.shut ≡ true) × (c ≡ length w.accepted)
 
+  -- the notes of a seat fit the lane's world
   abbrev pub Fits : Who → List (Option (Cell M S Q A)) → WorldState M S Q A → View M S Q A → Type 0
   Fits ByOwner homes w v = OwnerFits homes w v.owner
   Fits ByServer homes w v = ServerFits w v.server

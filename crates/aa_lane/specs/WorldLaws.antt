@@ -7,6 +7,7 @@ use Rattle.aa_lane.specs.declared.event.Event.TheVariants.{Send, Take, Collect, 
 use Rattle.aa_lane.specs.declared.event.Reply.TheVariants.{Unsent, Settled, Nothing}
 
 module _ {M S Q A : Type 0} (next : M → S → Q → S) (reply : M → S → Q → A) where
+  -- what holds of worlds, whatever happens
   pub record WorldLaws : Type 0 where
     -- a request is refused as Closed only where the world is shut
     pub closed : (w : WorldState M S Q A) (q : Q) → answer_to next reply w (Send q) ≡ Unsent Closed q → w.shut ≡ true

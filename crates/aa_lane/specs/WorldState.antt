@@ -32,6 +32,7 @@ module _ {M S Q A : Type 0} where
   abbrev pub is_spent : WorldState M S Q A → Bool
   is_spent w = length w.accepted == most_accepted
 
+  -- as many requests are uncollected as the lane has room for
   abbrev pub is_full : WorldState M S Q A → Bool
   is_full w = (length w.accepted - w.collected) == w.capacity
 
@@ -80,6 +81,7 @@ module _ {M S Q A : Type 0} (next : M → S → Q → S) (reply : M → S → Q 
   after_all w [] = w
   after_all w (e ∷ es) = after_all (after w e) es
 
+  -- the replies to events, one after another
   abbrev pub answers_to : WorldState M S Q A → List (Event M S Q A) → List (Reply M S Q A)
   answers_to w [] = []
   answers_to w (e ∷ es) = answer_to w e ∷ answers_to (after w e) es

@@ -15,6 +15,7 @@ module _ {W E : Type 0} (step : W → E → W) where
   abbrev pub changed : List W → ℕ × E → List W
   changed ws t = option_map_or (λ (w : W). slice_set ws t.0 (step w t.1)) (slice_get ws t.0) ws
 
+  -- what events with tags make of the worlds
   abbrev pub all_changed : List W → List (ℕ × E) → List W
   all_changed ws [] = ws
   all_changed ws (t ∷ ts) = all_changed (changed ws t) ts
@@ -26,12 +27,15 @@ module _ {W E R : Type 0} (step : W → E → W) (says : W → E → R) where
   all_said ws (t ∷ ts) = option_map_or (λ (w : W). (t.0, says w t.1) ∷ all_said (changed step ws t) ts) (slice_get ws t.0) (all_said (changed step ws t) ts)
 
 module _ {M S Q A : Type 0} (next : M → S → Q → S) (reply : M → S → Q → A) where
+  -- the worlds of all lanes
   abbrev pub Worlds : Type 0
   Worlds = List (WorldState M S Q A)
 
+  -- the worlds after events with tags
   abbrev pub worlds_after : Worlds → List (ℕ × Event M S Q A) → Worlds
   worlds_after = all_changed (after next reply)
 
+  -- the replies to events with tags
   abbrev pub worlds_say : Worlds → List (ℕ × Event M S Q A) → List (ℕ × Reply M S Q A)
   worlds_say = all_said (after next reply) (answer_to next reply)
 

@@ -1,4 +1,5 @@
 -- Variables that an assignment begins with.
+-- Source: apparmor.d(5), "Variables".
 use Rattle.std.specs.Prelude.{ℕ, ◌≡◌, true, List, ◌∷◌, take, drop}
 use Rattle.aa_extents.specs.Runs.{assigns}
 use Rattle.aa_heads.specs.Preamble.{Names}

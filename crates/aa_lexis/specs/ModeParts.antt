@@ -1,4 +1,5 @@
 -- Modes, as the letters and the exec part that they are written with.
+-- Source: apparmor.d(5), "Access Modes".
 use Rattle.std.specs.Prelude.{ℕ, ◌≡◌, ◌⊎◌, Bool, true, false, List, [], ◌++◌, map, bit_or, unwrap_or, codes, Some, None}
 use Rattle.std.specs.List.{list_all, fold}
 use Rattle.aa_rules.specs.declared.modes.ExecMode.{ExecMode}

@@ -1,4 +1,5 @@
 -- Where a rule ends that is passed over.
+-- Source: apparmor.d(5), "Format"; own.
 use Rattle.std.specs.Prelude.{⊤, ℕ, ◌<◌, ◌≡◌, ◌==◌, ◌&&◌, ◌||◌, ◌⊎◌, Bool, true, false, List, [], ◌∷◌, ◌++◌, take}
 use Rattle.std.specs.List.{count_by, list_any}
 use Rattle.aa_extents.specs.Runs.{is_white, is_sign, begins_with}

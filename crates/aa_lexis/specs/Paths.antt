@@ -1,4 +1,5 @@
 -- Where a path ends.
+-- Source: apparmor.d(5), "Globbing"; own.
 use Rattle.std.specs.Prelude.{⊤, ℕ, zero, suc, ◌+◌, ◌<◌, ◌≤◌, ◌≡◌, ◌==◌, ◌&&◌, ◌||◌, ◌⊎◌, Bool, true, false, not, List, [], ◌∷◌, ◌++◌, drop, if◌then◌else◌}
 use Rattle.aa_extents.specs.Runs.{is_white, ends_after_comma}
 use Rattle.aa_lexis.specs.Places.{is_quoted}

@@ -1,4 +1,5 @@
 -- Places of a text, and the first at which something ends.
+-- Source: apparmor.d(5), "Globbing".
 use Rattle.std.specs.Prelude.{ℕ, zero, suc, ◌<◌, ◌==◌, Bool, false, not, List, take, drop, reverse}
 use Rattle.std.specs.List.{prefix_len}
 
@@ -15,6 +16,7 @@ pub record IsFirst (P : ℕ → Type 0) (at : ℕ) : Type 0 where
 abbrev pub EndsFirst : (List ℕ → List ℕ → Type 0) → List ℕ → ℕ → Type 0
 EndsFirst Ends text at = IsFirst (λ n. Ends (bytes_before text n) (drop n text)) at
 
+-- an odd number
 abbrev pub is_odd : ℕ → Bool
 is_odd zero = false
 is_odd (suc n) = not (is_odd n)

@@ -1,4 +1,5 @@
 -- Where a quoted text ends.
+-- Source: apparmor.d(5), "Format".
 use Rattle.std.specs.Prelude.{⊤, ℕ, suc, ◌≡◌, ◌⊎◌, true, false, List, [], ◌∷◌, drop}
 use Rattle.aa_extents.specs.Runs.{begins_with}
 use Rattle.aa_lexis.specs.Places.{is_quoted, EndsFirst}

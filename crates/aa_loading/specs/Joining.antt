@@ -1,4 +1,5 @@
 -- Units that become one policy.
+-- Source: own.
 use Rattle.std.specs.Prelude.{ℕ, ◌≡◌, ◌+◌, List, [], ◌∷◌, ◌++◌, map, None}
 use Rattle.aa_profiles.specs.declared.policy.Policy.{Policy}
 use Rattle.aa_compile.specs.Checks.{IsAccepted}
@@ -15,6 +16,7 @@ pub record JoinedData : Type 0 where
   pub owners : List ℕ
   pub places : List PlacesData
 
+-- what is joined before the first policy
 abbrev pub nothing : JoinedData
 nothing = record { rows = no_rows; owners = []; places = [] }
 

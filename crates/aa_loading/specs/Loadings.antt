@@ -1,4 +1,5 @@
 -- What is read so far, as the code has it.
+-- Source: own.
 use Rattle.std.specs.Prelude.{map}
 use Rattle.aa_asks.specs.Places.{places_data}
 use Rattle.aa_loading.specs.declared.reading.Reading.{Reading}

@@ -1,4 +1,5 @@
 -- Why units are no policy.
+-- Source: own.
 use Rattle.std.specs.Prelude.{ℕ, ◌≡◌, ◌⊎◌, List, ◌∷◌, ◌++◌, length, Some, option_map, slice_get}
 use Rattle.aa_faults.specs.declared.fault.PolicyFault.{PolicyFault}
 use Rattle.aa_profiles.specs.declared.policy.Policy.{Policy}

@@ -1,4 +1,5 @@
 -- What logs ask can be made.
+-- Source: own.
 use Rattle.std.specs.Prelude.{ℕ, List}
 use Rattle.aa_job_laws.specs.Jobs.{TasksCanBeMade}
 use Rattle.aa_log_lines.specs.LogLines.{LogLine}

@@ -1,4 +1,5 @@
 -- What is written of files and logs is read as the job of what they are.
+-- Source: own.
 use Rattle.std.specs.Prelude.{◌≡◌, ◌≤◌, ◌+◌, ◌==◌, ℕ, List, [], length, map, drop, not, Option, Some, slice_get, Ok}
 use Rattle.aa_findings.specs.declared.task.LogTask.{LogTask}
 use Rattle.aa_job_texts.specs.declared.job.JobPolicy.{JobPolicy}
@@ -24,9 +25,11 @@ pub record IsLoaded (u : unit.Unit) : Type 0 where
   pub main : List ℕ
   pub is : IsUnit files folders path main u
 
+-- each unit was loaded
 abbrev pub AreLoaded : List unit.Unit → Type 0
 AreLoaded units = (k : ℕ) (u : unit.Unit) → slice_get units k ≡ Some u → IsLoaded u
 
+-- the include that a source is in a job
 abbrev pub include_of : Source → jobs.Include
 include_of s = record { name = s.name.items; text = s.text.items }
 

@@ -1,4 +1,5 @@
 -- The job of policies, of what they include, and of tasks.
+-- Source: own.
 use Rattle.std.specs.Prelude.{ℕ, ◌≡◌, ◌++◌, List, map, true, false}
 use Rattle.aa_findings.specs.declared.task.LogTask.{LogTask}
 use Rattle.aa_job_texts.specs.declared.job.Include.{Include}
@@ -7,6 +8,7 @@ use Rattle.aa_job_texts.specs.Jobs.{job_text, is_job_text}
 use Rattle.aa_units.specs.declared.unit.Source.{Source}
 use Rattle.aa_units.specs.Numbers.{named_text}
 
+-- an include's name and text
 abbrev pub named_include : Include → List ℕ × List ℕ
 named_include i = (i.name.now, i.text.now)
 

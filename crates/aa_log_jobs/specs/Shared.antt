@@ -1,4 +1,5 @@
 -- What several units include, taken together.
+-- Source: own.
 use Rattle.std.specs.Prelude.{ℕ, ◌≡◌, ◌⊎◌, ◌↔◌, ◌<◌, ◌≤◌, ◌^◌, ◌++◌, nat_lt, min, List, [], ◌∷◌, length, take, flat_map, Bool, true, false, not, if◌then◌else◌, Option, Some, None, IsSome, option_map, option_to_list, slice_get, find, Contains, codes, ⊤}
 use Rattle.std.specs.Borrow.{Bor}
 use Rattle.std.specs.Option.{option_or, option_and_then}
@@ -30,6 +31,7 @@ pub record Meant : Type 0 where
 abbrev pub source_of : List Source → Option ℕ → Option Source
 source_of sources index = option_and_then (λ i. slice_get sources i) index
 
+-- what a unit means by a name
 abbrev pub meant_by : unit.Unit → Option ℕ → Meant
 meant_by u index = record { by = u; source = source_of u.sources.items index }
 
@@ -57,6 +59,7 @@ AgreesWith before u = (name : List ℕ) (first m : Meant) → first_meaning befo
 abbrev pub AgreeBelow : List unit.Unit → ℕ → Type 0
 AgreeBelow units n = (k : ℕ) (u : unit.Unit) → k < n → slice_get units k ≡ Some u → AgreesWith (take k units) u
 
+-- the source that is meant, if there is one
 abbrev pub source_in : Option Meant → Option Source
 source_in None = None
 source_in (Some m) = m.source
@@ -102,6 +105,7 @@ pub record StandsNowhere (u : unit.Unit) (name : List ℕ) (at : Spot) : Type 0 
   pub at_start : at ≡ record { file = 0; byte = 0 }
   pub nowhere : (file : ℕ) → file ≤ last_file u → IsFirstByte (text_in u file) name None
 
+-- the first include of that name in a unit
 abbrev pub IsFirstInclude : unit.Unit → List ℕ → Spot → Type 0
 IsFirstInclude u name at = StandsFirst u name at ⊎ StandsNowhere u name at
 
@@ -149,9 +153,11 @@ NamedIn P (Ambiguous r) = P r
 abbrev pub found_source : Option (Bor Source) → Option Source
 found_source found = option_map (λ s. s.now) found
 
+-- what a name means, without where it lies in memory
 abbrev pub meant : Meaning → Meant
 meant m = record { by = m.unit.now; source = found_source m.source }
 
+-- names with what they mean
 abbrev pub Kept : Type 0
 Kept = List (Bor (List ℕ) × Meaning)
 

@@ -1,4 +1,5 @@
 -- What the lines of logs give of a job.
+-- Source: own.
 use Rattle.std.specs.Prelude.{ℕ, ◌≡◌, ◌+◌, ◌-◌, ◌^◌, List, [], map, min, filter, fold, count_by, Bool, true, false, not, Option, Some, None, is_none, if◌then◌else◌}
 use Rattle.std.specs.List.{filter_map}
 use Rattle.aa_logs.specs.Outcomes.{RecordData, Outcome, Another, AsksNothing, AsksFor}
@@ -17,6 +18,7 @@ asked_in (AsksFor r) = Some r
 asked_in (AsksNothing cause) = None
 asked_in Another = None
 
+-- the line is one of those that are wanted
 abbrev pub is_wanted : Choice → List ℕ → Bool
 is_wanted choice line = is_chosen (map (λ n. n.items) choice.profiles.now) choice.since choice.until line
 
@@ -41,9 +43,11 @@ pub record Asking : Type 0 where
 abbrev pub with_asked : Asking → RecordData → Asking
 with_asked a r = if fits r a.tasks then record { tasks = with_record r a.tasks; over = a.over } else record { tasks = a.tasks; over = true }
 
+-- no tasks, before the first record
 abbrev pub no_tasks : Asking
 no_tasks = record { tasks = []; over = false }
 
+-- the tasks of these records
 abbrev pub asking : List RecordData → Asking
 asking rs = fold with_asked no_tasks rs
 
@@ -54,9 +58,11 @@ pub record Given : Type 0 where
   pub strangers : ℕ
   pub over : Bool
 
+-- the largest count
 abbrev pub most_strangers : ℕ
 most_strangers = 2 ^ 64 - 1
 
+-- the tasks of those records whose profiles the policies have, and how many others there are
 abbrev pub given_by : List JobPolicy → List RecordData → Given
 given_by ps rs = record {
   tasks = (asking (filter (λ r. not (is_stranger ps r)) rs)).tasks;
@@ -82,15 +88,19 @@ HasSameSettings first t = (t.policies ≡ first.policies) × (t.choice ≡ first
 
 -- ---- one record more
 
+-- one record more of a profile that no policy has
 abbrev pub one_stranger : Given → Given
 one_stranger g = record g { strangers = min (g.strangers + 1) most_strangers }
 
+-- one record more, if a job has room for it
 abbrev pub one_asked : RecordData → Given → Given
 one_asked r g = if fits r g.tasks then record g { tasks = with_record r g.tasks } else record g { over = true }
 
+-- one record more
 abbrev pub one_more : List JobPolicy → RecordData → Given → Given
 one_more ps r g = if is_stranger ps r then one_stranger g else one_asked r g
 
+-- what a line gives, with its record or without
 abbrev pub with_found : List JobPolicy → Option RecordData → Given → Given
 with_found ps None g = g
 with_found ps (Some r) g = one_more ps r g

@@ -1,4 +1,5 @@
 -- The lines of logs.
+-- Source: own.
 use Rattle.std.specs.Prelude.{ℕ, ◌+◌, ◌==◌, not, List, [], ◌∷◌, ◌++◌, map, take, Bool, if◌then◌else◌}
 
 -- a line of a log: which log of the command line's, from 0, which line, from 1, and its bytes
@@ -7,6 +8,7 @@ pub record LogLine : Type 0 where
   pub number : ℕ
   pub bytes : List ℕ
 
+-- a line of a log, with its number
 abbrev pub log_line : ℕ → ℕ → List ℕ → LogLine
 log_line log number bytes = record { log = log; number = number; bytes = bytes }
 

@@ -1,4 +1,5 @@
 -- What the fields of a line ask, and why they ask nothing.
+-- Source: as the kernel names classes and operations; as the kernel wrote masks; own.
 use Rattle.std.specs.Prelude.{◌≡◌, ℕ, ◌+◌, ◌==◌, ◌||◌, ◌&&◌, List, [], ◌∷◌, take, drop, codes, Bool, true, false, if◌then◌else◌, Option, Some, None, nat_eq, Result, Ok, Err, MatchResult}
 use Rattle.std.specs.List.{starts_with}
 use Rattle.std.specs.Option.{option_and_then, option_or}
@@ -22,6 +23,7 @@ pub data Cause : Type 0 where
   Keyword : List ℕ → Cause
   Because : Reason → Cause
 
+-- why a line asks nothing, without where its word lies in memory
 abbrev pub cause_of : Reason → Cause
 cause_of (Rule word) = Keyword word.now
 cause_of r = Because r
@@ -35,6 +37,7 @@ Refuses (Skipped r) x = x ≡ Err (cause_of r)
 abbrev pub Tells : {T A : Type 0} → (T → A) → Result T Refusal → Result A Cause → Type 0
 Tells shown r x = MatchResult r (λ t. x ≡ Ok (shown t)) (λ e. Refuses e x)
 
+-- why a record gives no request, by why that is refused
 abbrev pub because : RequestFault → Refusal
 because fault.NoMemory = NoMemory
 because fault.BadPath = Skipped Path
@@ -76,6 +79,7 @@ halves_by front [] = Some (front, Some true)
 halves_by [] (b ∷ bs) = Some (b ∷ bs, Some false)
 halves_by (a ∷ rest) (b ∷ bs) = None
 
+-- what stands before the colons of a mask, and whether the object is owned
 abbrev pub halves_at : List ℕ → Option ℕ → Option (List ℕ × Option Bool)
 halves_at text None = Some (text, None)
 halves_at text (Some n) = halves_by (take n text) (drop (n + 2) text)
@@ -85,6 +89,7 @@ abbrev pub mask_of : Option ℕ → Option Bool → Option (ℕ × Option Bool)
 mask_of None by_mask = None
 mask_of (Some bits) by_mask = if bits == 0 then None else Some (bits, by_mask)
 
+-- the permissions that a mask's letters ask, and whether the object is owned
 abbrev pub asked_mask : List ℕ → Option (ℕ × Option Bool)
 asked_mask text = option_and_then (λ h. mask_of (letters_bits 0 h.0) h.1) (halves_at text (place_of (codes "::") text))
 
@@ -92,6 +97,7 @@ asked_mask text = option_and_then (λ h. mask_of (letters_bits 0 h.0) h.1) (halv
 abbrev pub owned_in : Option Bool → List WordData → Bool
 owned_in by_mask ws = owned_by (option_and_then number_in (raw_in (codes "fsuid") ws)) (option_and_then number_in (raw_in (codes "ouid") ws)) by_mask
 
+-- the request for a capability, by its number
 abbrev pub cap_by : Option ℕ → Result Request Cause
 cap_by None = Err (Because Capability)
 cap_by (Some c) = Ok (Cap c)
@@ -100,6 +106,7 @@ cap_by (Some c) = Ok (Cap c)
 abbrev pub cap_in : List WordData → Result Request Cause
 cap_in ws = cap_by (option_and_then (number_among capability_names) (option_or (raw_in (codes "capname") ws) (raw_in (codes "name") ws)))
 
+-- the request to execute, of a path that can be asked for
 abbrev pub exec_by : Bool → Option (List ℕ) → Result Request Cause
 exec_by owned None = Err (Because Path)
 exec_by owned (Some path) = if is_path path then Ok (Exec (record { path = path; owned = owned })) else Err (Because Path)
@@ -108,6 +115,7 @@ exec_by owned (Some path) = if is_path path then Ok (Exec (record { path = path;
 abbrev pub exec_in : List WordData → Result Request Cause
 exec_in ws = exec_by (owned_in None ws) (text_in (codes "name") ws)
 
+-- the request for a link, of two paths that can be asked for
 abbrev pub link_by : Bool → Option (List ℕ) → Option (List ℕ) → Result Request Cause
 link_by owned None target = Err (Because Path)
 link_by owned (Some link) None = Err (Because Path)
@@ -117,6 +125,7 @@ link_by owned (Some link) (Some target) = if is_path link && is_path target then
 abbrev pub link_in : List WordData → Result Request Cause
 link_in ws = link_by (owned_in None ws) (text_in (codes "name") ws) (option_or (text_in (codes "target") ws) (text_in (codes "name2") ws))
 
+-- the request to change the profile, of a name that can be asked for
 abbrev pub change_by : Option (List ℕ) → Result Request Cause
 change_by None = Err (Because Name)
 change_by (Some name) = if is_wanted_name name then Ok (Change name) else Err (Because Name)
@@ -125,6 +134,7 @@ change_by (Some name) = if is_wanted_name name then Ok (Change name) else Err (B
 abbrev pub change_in : List WordData → Result Request Cause
 change_in ws = change_by (option_or (text_in (codes "target") ws) (text_in (codes "name") ws))
 
+-- the request for a socket, by family and type
 abbrev pub socket_by : Option ℕ → Option ℕ → Result Request Cause
 socket_by None kind = Err (Because Socket)
 socket_by (Some family) None = Err (Because Socket)
@@ -134,18 +144,22 @@ socket_by (Some family) (Some kind) = Ok (Net family kind)
 abbrev pub net_by : List ℕ → List ℕ → Result Request Cause
 net_by family kind = if bytes_eq family (codes "unix") then Err (Keyword (codes "unix")) else socket_by (number_among family_names family) (number_among sock_type_names kind)
 
+-- the request for a file, of a path and a mask that can be asked for
 abbrev pub masked_file : List WordData → List ℕ → Option (ℕ × Option Bool) → Result Request Cause
 masked_file ws path None = Err (Because (if starts_with nat_eq path (codes "/") then Mask else Path))
 masked_file ws path (Some m) =
     if is_path path then (if is_mask m.0 then Ok (File (record { path = path; mask = record { 0 = m.0 }; owned = owned_in m.1 ws })) else Err (Because Mask)) else Err (Because Path)
 
+-- the request for a file, by its path and the letters of its mask
 abbrev pub file_by : List WordData → List ℕ → Option (List ℕ) → Result Request Cause
 file_by ws letters None = Err (Because Operation)
 file_by ws letters (Some path) = masked_file ws path (asked_mask letters)
 
+-- the request for a file, of a record with these letters
 abbrev pub file_in : List WordData → List ℕ → Result Request Cause
 file_in ws letters = file_by ws letters (text_in (codes "name") ws)
 
+-- the request for a file, by the letters that the record has
 abbrev pub requested_by : List WordData → Option (List ℕ) → Result Request Cause
 requested_by ws None = Err (Because Operation)
 requested_by ws (Some letters) = file_in ws letters
@@ -154,6 +168,7 @@ requested_by ws (Some letters) = file_in ws letters
 abbrev pub requested : List WordData → Result Request Cause
 requested ws = requested_by ws (raw_in (codes "requested_mask") ws)
 
+-- the request for an object, or for a socket where the record has a family and a type
 abbrev pub object_by : List WordData → Option (List ℕ) → Option (List ℕ) → Result Request Cause
 object_by ws None kind = requested ws
 object_by ws (Some family) None = requested ws
@@ -172,14 +187,17 @@ by_operation ws operation =
     else (if bytes_eq operation (codes "change_profile") then change_in ws
     else object_in ws)))
 
+-- what a record asks, unless its operation is that of rules that never decide
 abbrev pub unless_over : List WordData → List ℕ → Option (List ℕ) → Result Request Cause
 unless_over ws operation None = by_operation ws operation
 unless_over ws operation (Some word) = Err (Keyword word)
 
+-- the field is there, and is that text
 abbrev pub is_text_there : List ℕ → Option (List ℕ) → Bool
 is_text_there wanted None = false
 is_text_there wanted (Some text) = bytes_eq text wanted
 
+-- what a record asks, by its operation
 abbrev pub of_operation : List WordData → Option (List ℕ) → Result Request Cause
 of_operation ws None = Err (Because Broken)
 of_operation ws (Some operation) =

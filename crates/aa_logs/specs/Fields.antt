@@ -1,4 +1,5 @@
 -- What the fields of a line tell: texts, names, numbers.
+-- Source: own.
 use Rattle.std.specs.Prelude.{ℕ, ◌+◌, ◌-◌, ◌*◌, ◌^◌, ◌&&◌, nat_le, nat_lt, nat_eq, List, [], ◌∷◌, reverse, find, Bool, if◌then◌else◌, Option, Some, None, option_map}
 use Rattle.std.specs.List.{starts_with}
 use Rattle.std.specs.Str.{bytes_eq}
@@ -13,6 +14,7 @@ field_in key ws = find (λ w. bytes_eq w.key key) (reverse ws)
 abbrev pub raw_in : List ℕ → List WordData → Option (List ℕ)
 raw_in key ws = option_map (λ w. w.text) (field_in key ws)
 
+-- the name that the value of a field stands for
 abbrev pub text_in : List ℕ → List WordData → Option (List ℕ)
 text_in key ws = option_map name_in (field_in key ws)
 
@@ -21,6 +23,7 @@ unfoldable pub place_of : List ℕ → List ℕ → Option ℕ
 place_of part [] = None
 place_of part (b ∷ bs) = if starts_with nat_eq (b ∷ bs) part then Some 0 else option_map (λ n. n + 1) (place_of part bs)
 
+-- a decimal digit
 abbrev pub is_digit : ℕ → Bool
 is_digit b = nat_le 48 b && nat_le b 57
 

@@ -1,4 +1,5 @@
 -- What a requested mask asks for, and whose the object is.
+-- Source: own.
 use Rattle.std.specs.Prelude.{ℕ, ◌==◌, ◌||◌, List, [], ◌∷◌, Bool, false, if◌then◌else◌, Option, Some, None, option_and_then, unwrap_or, bit_or}
 
 -- a letter is its one permission; to create and to delete is to write

@@ -14,6 +14,7 @@ pub record RecordData : Type 0 where
   pub request : Request
   pub pid : Option ℕ
 
+-- a record without where it lies in memory
 abbrev pub record_data : Record → RecordData
 record_data r = record { became = r.then; profile = r.profile.items; request = r.request; pid = r.pid }
 
@@ -23,6 +24,7 @@ pub data Outcome : Type 0 where
   AsksNothing : Cause → Outcome
   AsksFor : RecordData → Outcome
 
+-- what a line is, without where it lies in memory
 abbrev pub outcome : Line → Outcome
 outcome line.Other = Another
 outcome (line.Skipped r) = AsksNothing (cause_of r)

@@ -1,4 +1,5 @@
 -- What a line of a log is: another's, one that asks nothing, or a record of what was asked and what became of it.
+-- Source: as the kernel and the audit daemon write; as the kernel numbers records; as the audit daemon writes; own.
 use Rattle.std.specs.Prelude.{◌≡◌, ℕ, ◌+◌, ◌-◌, ◌==◌, ◌||◌, ◌&&◌, not, nat_le, nat_lt, nat_eq, List, [], ◌∷◌, length, take, drop, codes, count_by, Bool, true, false, if◌then◌else◌, Option, Some, None, is_some, slice_get, Result, Ok, Err}
 use Rattle.std.specs.List.{starts_with, list_any, prefix_len}
 use Rattle.std.specs.Option.{option_and_then, option_or}
@@ -16,6 +17,7 @@ use Rattle.aa_logs.specs.Fields.{raw_in, text_in, place_of, is_digit, number_in}
 use Rattle.aa_logs.specs.Asked.{Cause, Because, asked_in}
 use Rattle.aa_logs.specs.Outcomes.{RecordData, Outcome, Another, AsksNothing, AsksFor}
 
+-- the part stands somewhere in the text
 abbrev pub holds_part : List ℕ → List ℕ → Bool
 holds_part part text = is_some (place_of part text)
 
@@ -32,6 +34,7 @@ told_by_word word =
     else (if bytes_eq word (codes "HINT") || bytes_eq word (codes "STATUS") || bytes_eq word (codes "ERROR") then Some told.Status
     else None)))
 
+-- the word is one of three
 abbrev pub is_one_of : List ℕ → List ℕ → List ℕ → List ℕ → Bool
 is_one_of a b c word = bytes_eq word a || bytes_eq word b || bytes_eq word c
 
@@ -48,13 +51,16 @@ told_by_type kind =
 abbrev pub is_old_type : List ℕ → Bool
 is_old_type kind = is_one_of (codes "APPARMOR") (codes "1500") (codes "UNKNOWN[1500]") kind
 
+-- what a record's type tells
 abbrev pub type_tells : List ℕ → Result (Option Told) Cause
 type_tells kind = if is_old_type kind then Err (Because OldForm) else Ok (told_by_type kind)
 
+-- what a record's word tells
 abbrev pub word_tells : Option Told → Result (Option Told) Cause
 word_tells None = Err (Because Broken)
 word_tells (Some t) = Ok (Some t)
 
+-- what a record tells, by its word, else by its type
 abbrev pub tells : Option (List ℕ) → Option (List ℕ) → Result (Option Told) Cause
 tells (Some word) kind = word_tells (told_by_word word)
 tells None (Some kind) = type_tells kind
@@ -64,6 +70,7 @@ tells None None = Ok None
 unfoldable pub told_in : List WordData → Result (Option Told) Cause
 told_in ws = tells (raw_in (codes "apparmor") ws) (raw_in (codes "type") ws)
 
+-- what stands behind a byte that ends digits
 abbrev pub behind_end : Bool → ℕ → List ℕ → Option (List ℕ)
 behind_end good end [] = None
 behind_end good end (b ∷ rest) = if good && b == end then Some rest else None
@@ -88,6 +95,7 @@ may_be_stamp Plain key = bytes_eq key (codes "msg")
 may_be_stamp Quoted key = false
 may_be_stamp Open key = false
 
+-- the word begins as a stamp does
 abbrev pub begins_stamp : WordData → Bool
 begins_stamp w = may_be_stamp w.form w.key && starts_with nat_eq w.text (codes "audit(")
 
@@ -95,12 +103,14 @@ begins_stamp w = may_be_stamp w.form w.key && starts_with nat_eq w.text (codes "
 abbrev pub is_false_stamp : WordData → Bool
 is_false_stamp w = begins_stamp w && not (is_time (drop 6 w.text))
 
+-- its value begins with a quote that isn't closed
 abbrev pub is_form_open : Form → Bool
 is_form_open Open = true
 is_form_open Quoted = false
 is_form_open Plain = false
 is_form_open Run = false
 
+-- the word's value begins with a quote that isn't closed
 abbrev pub is_open : WordData → Bool
 is_open w = is_form_open w.form
 
@@ -108,10 +118,12 @@ is_open w = is_form_open w.form
 unfoldable pub is_broken : List WordData → Bool
 is_broken ws = list_any is_open ws || list_any is_false_stamp ws || nat_lt 1 (count_by begins_stamp ws)
 
+-- a namespace is named that isn't the first one
 abbrev pub is_other_space : Option (List ℕ) → Bool
 is_other_space None = false
 is_other_space (Some space) = not (bytes_eq space (codes "root")) && not (bytes_eq space (codes "default"))
 
+-- the profile that asked, by its name and namespace
 abbrev pub named_profile : Option (List ℕ) → Option (List ℕ) → Result (List ℕ) Cause
 named_profile None space = Err (Because NoProfile)
 named_profile (Some name) space =
@@ -122,14 +134,17 @@ named_profile (Some name) space =
 unfoldable pub profile_in : List WordData → Result (List ℕ) Cause
 profile_in ws = named_profile (option_or (text_in (codes "profile") ws) (text_in (codes "label") ws)) (text_in (codes "namespace") ws)
 
+-- the record of this request, or why there is none
 abbrev pub with_request : List WordData → Then → List ℕ → Result Request Cause → Result (Option RecordData) Cause
 with_request ws became profile (Err why) = Err why
 with_request ws became profile (Ok request) = Ok (Some (record { became = became; profile = profile; request = request; pid = option_and_then number_in (raw_in (codes "pid") ws) }))
 
+-- the record of this profile, or why there is none
 abbrev pub with_profile : List WordData → Then → Result (List ℕ) Cause → Result (Option RecordData) Cause
 with_profile ws became (Err why) = Err why
 with_profile ws became (Ok profile) = with_request ws became profile (asked_in ws)
 
+-- the record of these words, by what its word or type tells
 abbrev pub by_told : List WordData → Result (Option Told) Cause → Result (Option RecordData) Cause
 by_told ws (Err why) = Err why
 by_told ws (Ok None) = Ok None
@@ -144,11 +159,13 @@ record_by ws = if is_broken ws then Err (Because Broken) else by_told ws (told_i
 unfoldable pub record_in : List ℕ → Result (Option RecordData) Cause
 record_in line = if nat_lt 65536 (length line) then Err (Because Broken) else record_by (words_of line)
 
+-- what a line is, by its record
 abbrev pub outcome_by : Result (Option RecordData) Cause → Outcome
 outcome_by (Err why) = AsksNothing why
 outcome_by (Ok None) = Another
 outcome_by (Ok (Some r)) = AsksFor r
 
+-- the byte is CR
 abbrev pub is_return : Option ℕ → Bool
 is_return None = false
 is_return (Some b) = b == 13
@@ -157,6 +174,7 @@ is_return (Some b) = b == 13
 abbrev pub without_return : List ℕ → List ℕ
 without_return line = if is_return (slice_get line (length line - 1)) then take (length line - 1) line else line
 
+-- what a line without its end is
 abbrev pub outcome_of : List ℕ → Outcome
 outcome_of line = if is_record line then outcome_by (record_in line) else Another
 

@@ -1,4 +1,5 @@
 -- The words of a log's line.
+-- Source: as the audit daemon writes; as the kernel writes fields; as the bus daemon's lines stand in msg='..'; own.
 use Rattle.std.specs.Prelude.{ℕ, zero, suc, ◌+◌, ◌-◌, ◌==◌, ◌||◌, ◌&&◌, nat_le, nat_lt, List, [], ◌∷◌, ◌++◌, length, take, drop, map, reverse, find, option_to_list, Bool, not, Option, Some, None, if◌then◌else◌}
 use Rattle.std.specs.List.{prefix_len, position}
 use Rattle.std.specs.Str.{bytes_eq}
@@ -10,12 +11,15 @@ use Rattle.aa_logs.specs.declared.word.LogWord.{LogWord}
 abbrev pub is_separator : ℕ → Bool
 is_separator b = b == 32 || b == 9 || b == 29
 
+-- a letter
 abbrev pub is_letter : ℕ → Bool
 is_letter b = (nat_le 97 b && nat_le b 122) || (nat_le 65 b && nat_le b 90)
 
+-- a key can begin with the byte
 abbrev pub begins_key : ℕ → Bool
 begins_key b = is_letter b || b == 95
 
+-- a key can go on with the byte
 abbrev pub goes_on_key : ℕ → Bool
 goes_on_key b = begins_key b || (nat_le 48 b && nat_le b 57)
 
@@ -23,6 +27,7 @@ goes_on_key b = begins_key b || (nat_le 48 b && nat_le b 57)
 abbrev pub run_len : List ℕ → ℕ
 run_len bytes = prefix_len (λ b. not (is_separator b)) bytes
 
+-- how long a key is
 unfoldable pub key_len : List ℕ → ℕ
 key_len [] = 0
 key_len (b ∷ bs) = if begins_key b then suc (prefix_len goes_on_key bs) else 0
@@ -55,9 +60,11 @@ field_piece key (b ∷ bs) =
     else (if b == 39 then record { bytes = length key + 2; word = None }
     else plain_piece Plain key (b ∷ bs))
 
+-- the piece of a run that is no field
 abbrev pub run_piece : List ℕ → PieceData
 run_piece line = record { bytes = run_len line; word = Some (record { form = Run; key = []; text = take (run_len line) line }) }
 
+-- the piece of a field with that key, or of a run
 abbrev pub keyed_piece : List ℕ → List ℕ → List ℕ → PieceData
 keyed_piece line key [] = run_piece line
 keyed_piece line key (b ∷ value) = if nat_lt 0 (length key) && b == 61 then field_piece key value else run_piece line
@@ -79,9 +86,11 @@ words_behind zero (b ∷ bs) = option_to_list ((first_piece (b ∷ bs)).word) ++
 abbrev pub words_of : List ℕ → List WordData
 words_of line = words_behind 0 line
 
+-- a word without where it lies in memory
 abbrev pub word_data : LogWord → WordData
 word_data w = record { form = w.form; key = w.key.now; text = w.text.now }
 
+-- words without where they lie in memory
 abbrev pub words_data : List LogWord → List WordData
 words_data ws = map word_data ws
 

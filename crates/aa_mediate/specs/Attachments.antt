@@ -1,4 +1,5 @@
 -- Attachments in a list of policies.
+-- Source: apparmor.d(5), "Profile Head".
 use Rattle.std.specs.Prelude.{ℕ, List, Option}
 use Rattle.std.specs.Option.{option_and_then}
 use Rattle.std.specs.List.{slice_get}

@@ -1,4 +1,5 @@
 -- What a request asks for, and what the rules say of it, bit by bit.
+-- Source: apparmor.d(5), "Qualifiers", "change_profile rules"; own.
 use Rattle.std.specs.Prelude.{ℕ, List, Bool, if◌then◌else◌, bit_and}
 use Rattle.std.specs.List.{list_any}
 use Rattle.aa_profiles.specs.declared.rule.FileRule.{FileRule}
@@ -26,6 +27,7 @@ sorted asked missing v =
 abbrev pub plain_bits : ℕ → RuleSets → RequestBits
 plain_bits asked v = sorted asked (minus asked (granted v)) v
 
+-- the bits of a request for a file
 abbrev pub file_bits : List FileRule → RequestedFile → RequestBits
 file_bits rules r = plain_bits r.mask.0 (file_verdict rules r.path r.owned)
 

@@ -1,4 +1,5 @@
 -- From the bits of a request to its answer.
+-- Source: CPR, "Profile modes"; own.
 use Rattle.std.specs.Prelude.{ℕ, Bool, true, false, ◌==◌, if◌then◌else◌, Option, Some, None}
 use Rattle.std.specs.Option.{option_map}
 use Rattle.aa_profiles.specs.declared.policy.Profile.{Profile}
@@ -28,6 +29,7 @@ grant_note profile bits =
     if bits.missing.0 == 0 then note_of Audit (if profile.audit then bits.requested.0 else bits.audited.0)
     else note_of Allowed bits.missing.0
 
+-- an answer of these parts
 abbrev pub answered : Bool → Bool → Label → Option Note → Answer
 answered granted scrub label note = record { granted = granted; scrub = scrub; label = label; note = note }
 
@@ -41,5 +43,6 @@ decided profile label next scrub bits =
 abbrev pub unnamed : Option Note → Option Note
 unnamed note = option_map (λ (n : Note). record { word = n.word; perms = perms_of 0 }) note
 
+-- the answer with its note's permissions left out
 abbrev pub without_perms : Answer → Answer
 without_perms a = answered a.granted a.scrub a.label (unnamed a.note)

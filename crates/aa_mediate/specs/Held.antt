@@ -1,4 +1,5 @@
 -- What the rules on capabilities, sockets and changes of the profile say, on one bit.
+-- Source: apparmor.d(5), "Capability rules", "Network rules", "change_profile rules".
 use Rattle.std.specs.Prelude.{ℕ, List, Bool, true, ◌==◌, ◌&&◌, filter, map}
 use Rattle.std.specs.Option.{option_map_or}
 use Rattle.std.specs.Int.{bit_at}
@@ -18,9 +19,11 @@ holds bits n = bit_at bits n == 1
 abbrev pub saying : Bool → Bool → Saying
 saying audit deny = record { audit = audit; deny = deny; bits = 1 }
 
+-- the rule holds the capability
 abbrev pub cap_holds : ℕ → CapRule → Bool
 cap_holds cap r = holds r.caps.0 cap
 
+-- the rule holds the family and the type
 abbrev pub net_holds : ℕ → ℕ → NetRule → Bool
 net_holds family kind r = holds r.families family && holds r.kinds kind
 

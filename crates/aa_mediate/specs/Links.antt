@@ -1,4 +1,5 @@
 -- What a hard link may not add to what its target has.
+-- Source: own.
 use Rattle.std.specs.Prelude.{ℕ, List, Bool, true, false, not, ◌&&◌, if◌then◌else◌, bit_and, bit_or}
 use Rattle.std.specs.Option.{option_eq}
 use Rattle.std.specs.Str.{bytes_eq}
@@ -15,6 +16,7 @@ use Rattle.aa_rows.specs.FileRules.{file_verdict, chosen, way_of}
 use Rattle.aa_requests.specs.Requests.{RequestedLink}
 use Rattle.aa_mediate.specs.declared.bits.RequestBits.{RequestBits}
 
+-- both are of one kind
 abbrev pub same_kind : ExecKind → ExecKind → Bool
 same_kind Inherit Inherit = true
 same_kind Unconfined Unconfined = true
@@ -22,12 +24,14 @@ same_kind Named Named = true
 same_kind Child Child = true
 same_kind _ _ = false
 
+-- both have one fallback
 abbrev pub same_fallback : Fallback → Fallback → Bool
 same_fallback Refuse Refuse = true
 same_fallback Stay Stay = true
 same_fallback Leave Leave = true
 same_fallback _ _ = false
 
+-- both scrub or neither
 abbrev pub same_scrub : Bool → Bool → Bool
 same_scrub true b = b
 same_scrub false b = not b
@@ -54,6 +58,7 @@ link_bits_of link target same =
       audited = perms_of (bit_and 8 link.audited.0);
     }
 
+-- the bits of a request for a link
 abbrev pub link_bits : List FileRule → RequestedLink → RequestBits
 link_bits rules r =
     link_bits_of (file_verdict rules r.link r.owned) (file_verdict rules r.target r.owned)

@@ -1,4 +1,5 @@
 -- What a request is answered.
+-- Source: apparmor.d(5), "Access Modes", "change_profile rules"; own.
 use Rattle.std.specs.Prelude.{ℕ, List, Bool, true, false, Option, Some, None, option_map, is_some}
 use Rattle.std.specs.Option.{option_map_or, option_and_then}
 use Rattle.std.specs.List.{slice_get}
@@ -30,10 +31,12 @@ abbrev pub label_after : ℕ → ℕ → Transition → Label
 label_after k n (To next scrub) = label_by k next
 label_after k n _ = Confined k n
 
+-- the execution scrubs the environment
 abbrev pub scrubs : Transition → Bool
 scrubs (To next scrub) = scrub
 scrubs _ = false
 
+-- the label that was found, else this one
 abbrev pub found_or : Label → Option Label → Label
 found_or label found = option_map_or (λ (next : Label). next) found label
 

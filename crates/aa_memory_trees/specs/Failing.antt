@@ -1,4 +1,5 @@
 -- A tree of which one look-up fails.
+-- Source: own.
 use Rattle.std.specs.Prelude.{Option, Some, None}
 use Rattle.aa_units.specs.declared.tree.Unread.{Unread}
 use Rattle.aa_units.specs.declared.tree.Unread.TheVariants.{NoMemory}

@@ -1,4 +1,5 @@
 -- What lies at the paths of a tree in memory.
+-- Source: own.
 use Rattle.std.specs.Prelude.{ℕ, ◌≡◌, List, [], ◌∷◌, ◌++◌, Option, Some, None, is_some, map, Vec}
 use Rattle.std.specs.Option.{option_and_then}
 use Rattle.std.specs.Map.{lookup}
@@ -18,6 +19,7 @@ lying_of (planted.File bytes) = Some (File bytes.items)
 lying_of (planted.Folder names) = Some (Folder (texts names.list.items))
 lying_of (planted.Refused why) = None
 
+-- a path, and what was planted there
 abbrev pub Row : Type 0
 Row = Vec ℕ Global × Planted
 
@@ -37,6 +39,7 @@ taken_of t path = is_some (planted_at t.planted.items path)
 abbrev pub row_of : Row → List ℕ × Option Lying
 row_of row = (row.0.items, lying_of row.1)
 
+-- all that was planted
 abbrev pub rows_of : MemoryTree → List (List ℕ × Option Lying)
 rows_of t = map row_of t.planted.items
 

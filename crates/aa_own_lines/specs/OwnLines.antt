@@ -1,4 +1,5 @@
 -- What the program itself prints of a request, read as a line of a log.
+-- Source: own.
 use Rattle.std.specs.Prelude.{◌≡◌, ◌≤◌, ℕ, List, length, codes, Bool, true, false, not, ◌&&◌, nat_lt, nat_eq, Some, None}
 use Rattle.std.specs.List.{list_all, starts_with}
 use Rattle.std.specs.Str.{bytes_eq}
@@ -36,6 +37,7 @@ unowned (Net family kind) = Net family kind
 unowned (Change name) = Change name
 unowned (Reload k) = Reload k
 
+-- each is a byte
 abbrev pub are_bytes : List ℕ → Bool
 are_bytes text = list_all (λ b. nat_lt b 256) text
 
@@ -43,6 +45,7 @@ are_bytes text = list_all (λ b. nat_lt b 256) text
 abbrev pub is_own_name : List ℕ → Bool
 is_own_name name = are_bytes name && not (starts_with nat_eq name (codes ":")) && not (holds_part (codes "//&") name)
 
+-- a path of bytes that can be asked for
 abbrev pub is_path_of_bytes : List ℕ → Bool
 is_path_of_bytes path = are_bytes path && is_path path
 

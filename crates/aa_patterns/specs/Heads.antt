@@ -28,6 +28,7 @@ abbrev pub heads_of_choice : List Item → List (Vec Item Global) → List (List
 heads_of_choice h [] = []
 heads_of_choice h (branch ∷ rest) = (h ∷ heads_after h branch.items) ++ heads_of_choice h rest
 
+-- the heads of all positions of these patterns, pattern by pattern
 abbrev pub heads_of_patterns : List Pattern → List (List Item)
 heads_of_patterns [] = []
 heads_of_patterns (p ∷ ps) = ([] ∷ heads_after [] p.items.items) ++ heads_of_patterns ps

@@ -8,12 +8,15 @@ abbrev pub cuts : List ℕ → List (List ℕ × List ℕ)
 cuts [] = ([], []) ∷ []
 cuts (b ∷ bs) = ([], b ∷ bs) ∷ map (λ c. (b ∷ c.0, c.1)) (cuts bs)
 
+-- a byte but zero
 abbrev pub is_nonzero_byte : ℕ → Bool
 is_nonzero_byte b = nat_lt 0 b && nat_lt b 256
 
+-- a byte but zero and /
 abbrev pub is_name_byte : ℕ → Bool
 is_name_byte b = is_nonzero_byte b && not (b == 47)
 
+-- nothing stands there
 abbrev pub is_empty : List ℕ → Bool
 is_empty [] = true
 is_empty (b ∷ bs) = false

@@ -16,10 +16,12 @@ abbrev mutual
   weight_of_row end_of-Item = 0
   weight_of_row (more_of-Item item rest) = weight item + weight_of_row rest
 
+-- what items weigh together
 abbrev pub weight_of_items : List Item → ℕ
 weight_of_items [] = 0
 weight_of_items (item ∷ items) = weight item + weight_of_items items
 
+-- what branches weigh together
 abbrev pub weight_of_lists : List (Vec Item Global) → ℕ
 weight_of_lists [] = 0
 weight_of_lists (branch ∷ rest) = 1 + (weight_of_items branch.items + weight_of_lists rest)

@@ -1,4 +1,5 @@
 -- The line of a place with a caret below it.
+-- Source: own.
 use Rattle.std.specs.Prelude.{ℕ, zero, suc, ◌+◌, ◌-◌, ◌==◌, ◌&&◌, ◌||◌, nat_lt, List, [], ◌∷◌, ◌++◌, length, take, drop, map, flat_map, min, replicate, codes, decimal, slice_index, Bool, not, if◌then◌else◌}
 use Rattle.std.specs.List.{take_while}
 use Rattle.aa_places.specs.Places.{is_line_end, goes_on, last_line, place_in}
@@ -15,6 +16,7 @@ without_return line = if slice_index line (length line - 1) == 13 then take (len
 abbrev pub line_of : List ℕ → ℕ → List ℕ
 line_of text byte = without_return (last_line (take byte text) ++ first_line (drop byte text))
 
+-- how many bytes of its line stand before the byte
 abbrev pub offset_of : List ℕ → ℕ → ℕ
 offset_of text byte = length (last_line (take byte text))
 
@@ -53,6 +55,7 @@ unfoldable pub shown_from : ℕ → List ℕ → List ℕ
 shown_from start line =
     dots (nat_lt 0 start) ++ map visible (behind_cut start (take (character_end line (start + 160)) line)) ++ dots (nat_lt (start + 160) (length line))
 
+-- the blanks below a line's front, up to the caret
 unfoldable pub blanks_from : ℕ → ℕ → List ℕ → List ℕ
 blanks_from start offset line =
     (if nat_lt 0 start then codes "  " else []) ++ flat_map blank (behind_cut start (take offset line))
@@ -61,6 +64,7 @@ blanks_from start offset line =
 unfoldable pub aligned : ℕ → List ℕ
 aligned n = replicate (5 - length (decimal n)) 32 ++ decimal n
 
+-- a line with its number, and below it a caret
 abbrev pub excerpt_at : ℕ → List ℕ → ℕ → List ℕ
 excerpt_at number line offset =
     aligned number ++ codes " | " ++ shown_from (window_start line offset) line ++ codes "\n"

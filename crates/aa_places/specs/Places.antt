@@ -1,8 +1,10 @@
 -- The place of a byte in a text, as editors count it: lines and columns from 1.
+-- Source: UTF-8; own.
 use Rattle.std.specs.Prelude.{ℕ, ◌+◌, ◌<◌, ◌≡◌, ◌⊎◌, ◌==◌, ◌&&◌, nat_le, List, [], ◌∷◌, length, take, slice_index, Bool, true, not, if◌then◌else◌}
 use Rattle.std.specs.List.{count_by, list_any}
 use Rattle.aa_places.specs.declared.place.Place.{Place}
 
+-- LF
 abbrev pub is_line_end : ℕ → Bool
 is_line_end b = b == 10
 
@@ -10,6 +12,7 @@ is_line_end b = b == 10
 abbrev pub goes_on : ℕ → Bool
 goes_on b = nat_le 128 b && nat_le b 191
 
+-- the byte is the first of a character
 abbrev pub begins_character : ℕ → Bool
 begins_character b = not (goes_on b)
 

@@ -1,4 +1,5 @@
 -- The text of a rule as it is shown.
+-- Source: own.
 use Rattle.std.specs.Prelude.{◌≡◌, ◌⊎◌, ℕ, ◌-◌, ◌<◌, ◌≤◌, ◌==◌, ◌||◌, not, Bool, true, false, List, length, take, drop, slice_index}
 use Rattle.std.specs.List.{prefix_len, suffix_len}
 use Rattle.aa_places.specs.Places.{is_line_end, goes_on}
@@ -11,9 +12,11 @@ is_blank b = b == 32 || b == 9 || b == 13
 abbrev pub rest_of_line : List ℕ → List ℕ
 rest_of_line text = take (prefix_len (λ b. not (is_line_end b)) text) text
 
+-- the line without the blanks at its end
 abbrev pub without_blanks_behind : List ℕ → List ℕ
 without_blanks_behind line = take (length line - suffix_len is_blank line) line
 
+-- the line without the blanks around it
 abbrev pub trimmed : List ℕ → List ℕ
 trimmed line = without_blanks_behind (drop (prefix_len is_blank line) line)
 

@@ -1,4 +1,5 @@
 -- The bodies of profiles, profiles, and a policy as a whole.
+-- Source: apparmor.d(5), "Profiles", "Format"; own.
 use Rattle.std.specs.Prelude.{ℕ, ◌+◌, ◌≡◌, List, [], ◌∷◌, ◌++◌, map, flat_map, length, codes, nat_lt, if◌then◌else◌, Option, Some, None, option_map, option_and_then, true, false}
 use Rattle.aa_faults.specs.declared.fault.Spot.{Spot}
 use Rattle.aa_words.specs.Splits.{WordData}
@@ -32,6 +33,7 @@ pub record FamilyData : Type 0 where
 abbrev pub child_data : ChildTree → ChildData
 child_data t = record { head = head_data t.head; rules = map rule_data t.rules.items }
 
+-- a top-level profile with its children, without where they lie in memory
 abbrev pub family_data : FamilyTree → FamilyData
 family_data t = record { head = head_data t.head; rules = map rule_data t.rules.items; children = map child_data t.children.items }
 
@@ -65,6 +67,7 @@ abbrev pub IsBodyPart : Production PartData
 IsBodyPart ws (Stated statement) rest = IsStatement ws statement rest
 IsBodyPart ws (Held child) rest = IsChild ws child rest
 
+-- a part of a body, without where it lies in memory
 abbrev pub part_data : PartTree → PartData
 part_data (States statement) = Stated (option_map rule_data statement)
 part_data (Holds child) = Held (child_data child)
@@ -74,6 +77,7 @@ abbrev pub rules_in : PartData → List RuleData
 rules_in (Stated statement) = if_any statement
 rules_in (Held child) = []
 
+-- the child that a part of a body is, if it is one
 abbrev pub children_in : PartData → List ChildData
 children_in (Stated statement) = []
 children_in (Held child) = child ∷ []
@@ -106,6 +110,7 @@ child_name parent name = parent ++ codes "//" ++ name
 abbrev pub number_of : ℕ → Option ℕ
 number_of n = if nat_lt n 65536 then Some n else None
 
+-- a top-level profile, without its children
 abbrev pub top_profile : FamilyData → ProfileData
 top_profile f = record { at = f.head.title.at; name = f.head.title.name; parent = None; attachment = f.head.title.attachment; flags = f.head.flags; rules = f.rules }
 
@@ -139,6 +144,7 @@ abbrev pub full_name : Option ParentTree → List ℕ → List ℕ
 full_name None name = name
 full_name (Some parent) name = child_name parent.name.now name
 
+-- a profile, without where it lies in memory
 abbrev pub profile_data : ProfileTree → ProfileData
 profile_data t = record {
   at = t.head.title.at;
@@ -149,6 +155,7 @@ profile_data t = record {
   rules = map rule_data t.rules.items;
 }
 
+-- profiles, without where they lie in memory
 abbrev pub tree_data : List ProfileTree → List ProfileData
 tree_data ts = map profile_data ts
 

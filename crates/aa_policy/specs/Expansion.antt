@@ -1,4 +1,5 @@
 -- The patterns that the paths of a policy stand for and its names are read as, and the first of them that is refused.
+-- Source: apparmor.d(5), "Variables".
 use Rattle.std.specs.Prelude.{ℕ, ◌≡◌, ◌⊎◌, List, [], ◌∷◌, map, Result, Ok, Err}
 use Rattle.aa_faults.specs.declared.fault.Spot.{Spot}
 use Rattle.aa_faults.specs.declared.fault.PolicyFault.{PolicyFault}

@@ -1,4 +1,5 @@
 -- What is kept of profiles while they are read: all of them, or their names alone from where a limit is passed.
+-- Source: own.
 use Rattle.std.specs.Prelude.{ℕ, ◌+◌, ◌≡◌, ◌<◌, ◌≤◌, List, [], ◌++◌, length, Option, option_and_then, true, false}
 use Rattle.std.specs.List.{All, AllZip, sum_by}
 use Rattle.aa_patterns.specs.declared.pattern.Pattern.{Pattern}

@@ -1,4 +1,5 @@
 -- What is written means these profiles, or why it means none.
+-- Source: own.
 use Rattle.std.specs.Prelude.{◌≡◌, List, true}
 use Rattle.std.specs.List.{IsDistinct}
 use Rattle.std.specs.Str.{bytes_eq}

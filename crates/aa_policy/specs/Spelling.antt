@@ -1,4 +1,5 @@
 -- Which policy the words spell: what is written, then what it means, then what a policy keeps.
+-- Source: apparmor.d(5), "change_profile rules", "Format"; own.
 use Rattle.std.specs.Prelude.{ℕ, ◌+◌, ◌≡◌, flat_map, List, [], ◌∷◌, ◌++◌, Option, Some, None, option_map, true, Ok}
 use Rattle.std.specs.List.{list_any, AllZip, IsDistinct}
 use Rattle.std.specs.Str.{bytes_eq}
@@ -60,9 +61,11 @@ on_change (Listed keyword) = []
 abbrev pub exec_meant : ExecData → Exec
 exec_meant e = record { kind = e.mode.kind; scrub = e.mode.scrub; fallback = e.mode.fallback; target = e.target }
 
+-- the rules on files, in order
 abbrev pub files_of : List RuleData → List FileData
 files_of rules = flat_map on_file rules
 
+-- the rules on changes of the profile, in order
 abbrev pub changes_of : List RuleData → List ChangeData
 changes_of rules = flat_map on_change rules
 
@@ -158,6 +161,7 @@ attachment_paths (Some a) = record { at = a.at; text = a.path; way = AsPath } �
 abbrev pub profile_paths : ProfileData → List PathData
 profile_paths p = attachment_paths p.attachment ++ paths_of_rules p.rules
 
+-- all paths with what they are of, in the order in which they are expanded
 abbrev pub paths_of : List ProfileData → List PathData
 paths_of tree = flat_map profile_paths tree
 

@@ -1,4 +1,5 @@
 -- What every policy keeps.
+-- Source: own.
 use Rattle.std.specs.Prelude.{ℕ, ◌≡◌, ◌<◌, ◌≤◌, ◌==◌, List, map, length, codes, Bool, true, false, Option, Some, None, is_some, option_and_then, bit_and, if◌then◌else◌}
 use Rattle.std.specs.List.{All, IsDistinct, sum_by, slice_get}
 use Rattle.std.specs.Option.{option_eq}
@@ -49,6 +50,7 @@ abbrev pub ParentsComeFirst : List Profile → Type 0
 ParentsComeFirst profiles = (k n : ℕ) (p : Profile) → slice_get profiles k ≡ Some p → p.parent ≡ Some n
     → (n < k) × (option_and_then (λ q. q.parent) (slice_get profiles n) ≡ None)
 
+-- what every policy keeps: limits, parents, distinct names, and which rules say how programs are executed
 pub record IsLawful (profiles : List Profile) : Type 0 where
   pub limits : IsWithinLimits profiles
   pub distinct : IsDistinct bytes_eq (names_of profiles)

@@ -10,6 +10,7 @@ use Rattle.aa_reader.specs.Signs.{stands_for}
 abbrev pub is_range : Sign → Sign → Sign → Bool
 is_range x dash y = stands_for 45 dash && not (stands_for 45 x) && not (stands_for 45 y)
 
+-- the range of one byte
 abbrev pub only : Sign → Range
 only s = record { first = s.byte; last = s.byte }
 
@@ -20,12 +21,15 @@ ranges (x ∷ []) = only x ∷ []
 ranges (x ∷ y ∷ []) = only x ∷ ranges (y ∷ [])
 ranges (x ∷ y ∷ z ∷ rest) = if is_range x y z then record { first = x.byte; last = z.byte } ∷ ranges rest else only x ∷ ranges (y ∷ z ∷ rest)
 
+-- its first byte is no larger than its last
 abbrev pub is_rising : Range → Bool
 is_rising r = nat_le r.first r.last
 
+-- the byte is in the range
 abbrev pub holds : ℕ → Range → Bool
 holds b r = nat_le r.first b && nat_le b r.last
 
+-- the class allows the byte
 abbrev pub is_listed : Bool → List Range → ℕ → Bool
 is_listed negated rs b = if negated then not (list_any (holds b) rs) else list_any (holds b) rs
 

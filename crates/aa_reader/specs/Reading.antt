@@ -29,6 +29,7 @@ unfoldable pub class_after : ℕ → Bool → List Sign → Option (Token × ℕ
 class_after before negated ss =
     if nat_lt (class_len ss) (length ss) then option_map (λ i. (Single i, before + class_len ss + 1)) (class_of negated (take (class_len ss) ss)) else None
 
+-- the class whose inside stands first, and how many signs it has
 abbrev pub class_at : List Sign → Option (Token × ℕ)
 class_at [] = None
 class_at (s ∷ ss) = if stands_for 94 s then class_after 1 true ss else class_after 0 false (s ∷ ss)
@@ -46,12 +47,14 @@ token_at depth slash s ss =
     else (if s.byte == 92 then None
     else Some (Single (Byte s.byte), 0))))))))
 
+-- how many choices are open behind a token
 abbrev pub depth_after : ℕ → Token → ℕ
 depth_after depth Open = depth + 1
 depth_after depth Comma = depth
 depth_after depth Close = depth - 1
 depth_after depth (Single item) = depth
 
+-- the token is the byte /
 abbrev pub is_slash : Token → Bool
 is_slash (Single (Byte b)) = b == 47
 is_slash _ = false
@@ -68,6 +71,7 @@ tokens_from depth slash (suc more) (s ∷ ss) = tokens_from depth slash more ss
 tokens_from depth slash zero (s ∷ ss) =
     option_and_then (λ t. option_map (λ ts. t.0 ∷ ts) (tokens_from (depth_after depth t.0) (is_slash t.0) t.1 ss)) (token_at depth slash s ss)
 
+-- the tokens, or BadPattern where there are none
 abbrev pub or_bad : Option (List Token) → Result (List Token) PolicyKind
 or_bad None = Err BadPattern
 or_bad (Some ts) = Ok ts

@@ -12,9 +12,11 @@ abbrev pub begun : Token → List (Vec Item Global) → List Token
 begun before [] = before ∷ []
 begun before (branch ∷ rest) = before ∷ (spelled branch.items ++ begun Comma rest)
 
+-- what was read of a choice that is open
 abbrev pub begun_choice : OpenChoice → List Token
 begun_choice f = spelled f.before.items ++ begun Open f.branches.items
 
+-- what was read with these choices open
 abbrev pub so_far : List OpenChoice → List Item → List Token
 so_far stack items = flat_map begun_choice stack ++ spelled items
 

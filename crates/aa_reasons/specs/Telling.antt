@@ -1,4 +1,5 @@
 -- What the reasons that are named have to do with the answer.
+-- Source: apparmor.d(5), "Profile flags"; own.
 use Rattle.std.specs.Prelude.{◌≡◌, ◌<◌, ℕ, List, Bool, true, false, ◌==◌, ◌&&◌, ◌||◌, Some, is_some}
 use Rattle.std.specs.Option.{option_map_or}
 use Rattle.std.specs.List.{All, slice_get}

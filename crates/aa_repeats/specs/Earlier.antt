@@ -1,4 +1,5 @@
 -- Which of two variables or profiles of one name is the earlier.
+-- Source: apparmor.d(5), "Variables"; own.
 use Rattle.std.specs.Prelude.{ℕ, ◌≡◌, ◌==◌, ◌&&◌, List, [], ◌∷◌, ◌++◌, map, find, Bool, true, false, not, Option, Some, None, option_map, if◌then◌else◌}
 use Rattle.std.specs.Option.{option_or}
 use Rattle.std.specs.Str.{bytes_eq}
@@ -12,6 +13,7 @@ use Rattle.aa_profiles.specs.declared.policy.Profile.{Profile}
 use Rattle.aa_policy.specs.Spelling.{IsDuplicate}
 use Rattle.aa_repeats.specs.Named.{NamedAt}
 
+-- both are one place
 abbrev pub same_spot : Spot → Spot → Bool
 same_spot a b = a.file == b.file && a.byte == b.byte
 
@@ -34,6 +36,7 @@ pub record IsSetFirst (ws : List WordData) (at first : Spot) : Type 0 where
 abbrev pub first_named : List ℕ → List NamedAt → Option Spot
 first_named name profiles = option_map (λ (p : NamedAt). p.at) (find (λ (p : NamedAt). bytes_eq p.name name) profiles)
 
+-- a profile's name and where it stands
 abbrev pub named_profile : Profile → NamedAt
 named_profile p = record { at = p.at; name = p.name }
 
@@ -44,9 +47,11 @@ pub record IsNamedFirst (ws : List WordData) (at first : Spot) : Type 0 where
 
 -- ---- the same among words, and among names
 
+-- the word begins at the place
 abbrev pub word_stands_at : Spot → WordData → Bool
 word_stands_at at w = same_spot (spot_of w) at
 
+-- the sign sets a variable
 abbrev pub sets : WordKind → Bool
 sets Equals = true
 sets _ = false

@@ -1,4 +1,5 @@
 -- The full names of profiles, and where they stand.
+-- Source: apparmor.d(5), "Profile Head".
 use Rattle.std.specs.Prelude.{ℕ, List, ◌∷◌, map}
 use Rattle.aa_faults.specs.declared.fault.Spot.{Spot}
 use Rattle.aa_policy.specs.Bodies.{ChildData, FamilyData, ProfileData, child_name}

@@ -1,4 +1,5 @@
 -- Requests that are told apart by what is printed of them.
+-- Source: own.
 use Rattle.std.specs.Prelude.{ℕ, ◌≡◌, ◌&&◌, List, Bool, true, Some, slice_get}
 use Rattle.std.specs.List.{list_all}
 use Rattle.aa_request_words.specs.Again.{are_bytes, is_askable}

@@ -1,4 +1,5 @@
 -- Lists whose items stand with a comma between two of them.
+-- Source: own.
 use Rattle.std.specs.Prelude.{ℕ, List, [], ◌∷◌, Bool, true, false, if◌then◌else◌}
 use Rattle.aa_texts.specs.Faults.{behind_commas, with_commas}
 
@@ -6,6 +7,7 @@ use Rattle.aa_texts.specs.Faults.{behind_commas, with_commas}
 abbrev pub more_of : Bool → List (List ℕ) → List ℕ
 more_of later texts = if later then behind_commas texts else with_commas texts
 
+-- the list isn't empty
 abbrev pub is_some_of : List (List ℕ) → Bool
 is_some_of [] = false
 is_some_of (text ∷ texts) = true

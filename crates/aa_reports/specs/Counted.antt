@@ -1,4 +1,5 @@
 -- Items of a list, each once, with how often it stands there.
+-- Source: own.
 use Rattle.std.specs.Prelude.{ℕ, ◌-◌, ◌^◌, min, List, [], ◌∷◌, map, count_by, not}
 use Rattle.std.specs.List.{filter}
 use Rattle.std.specs.Str.{bytes_eq}

@@ -1,4 +1,5 @@
 -- What logs hold, by their lines.
+-- Source: own.
 use Rattle.std.specs.Prelude.{ℕ, ◌≡◌, List, [], ◌∷◌, ◌&&◌, ◌==◌, ◌≤◌, length, map, flat_map, count_by, min, Bool, true, false, not, Option, Some, None, is_none, is_some, option_map, position, if◌then◌else◌}
 use Rattle.std.specs.List.{filter}
 use Rattle.std.specs.Option.{option_or}
@@ -50,6 +51,7 @@ abbrev pub cause_order : Cause → ℕ
 cause_order (Keyword word) = 0
 cause_order (Because reason) = rank reason
 
+-- the word of a cause
 abbrev pub cause_name : Cause → List ℕ
 cause_name (Keyword word) = word
 cause_name (Because reason) = word_of reason
@@ -112,12 +114,15 @@ asked_key a = key_text a.became a.profile (word_text a.request)
 abbrev pub skipped_key : Skipped → List ℕ
 skipped_key s = s.order ∷ s.name
 
+-- a request of logs without where it lies in memory
 abbrev pub entry_data : Entry → Counted Asked
 entry_data e = record { item = record { became = e.then; profile = e.profile.items; request = e.request; place = e.first }; count = e.count }
 
+-- skipped lines without their count
 abbrev pub skipped_item : SkippedLines → Skipped
 skipped_item s = record { order = s.reason.0; name = s.reason.1.now; place = s.first }
 
+-- skipped lines without where they lie in memory
 abbrev pub skipped_data : SkippedLines → Counted Skipped
 skipped_data s = record { item = skipped_item s; count = s.count }
 

@@ -1,4 +1,5 @@
 -- What logs say, in JSON.
+-- Source: own.
 use Rattle.std.specs.Prelude.{ℕ, ◌≡◌, List, [], ◌++◌, map, codes, decimal, Option, Some, None, slice_get, unwrap_or, Vec}
 use Rattle.std.specs.declared.alloc.Global.{Global}
 use Rattle.aa_texts.specs.Jsons.{json_bytes, key_text}
@@ -31,9 +32,11 @@ place_members logs place = bytes_member (codes "path") (unwrap_or (slice_get log
 unfoldable pub entry_members : List (List ℕ) → Entry → List ℕ
 entry_members logs e = word_member (codes "then") (then_name e.then) ++ bytes_member (codes "profile") e.profile.items ++ bytes_member (codes "request") e.word.items ++ count_member (codes "count") e.count ++ place_members logs e.first
 
+-- a request of logs, as JSON
 unfoldable pub json_entry : List (List ℕ) → Entry → List ℕ
 json_entry logs e = codes "{" ++ entry_members logs e ++ codes "}"
 
+-- skipped lines, as JSON
 unfoldable pub json_skipped : List (List ℕ) → SkippedLines → List ℕ
 json_skipped logs s = codes "{" ++ word_member (codes "reason") (reason_of s) ++ count_member (codes "count") s.count ++ place_members logs s.first ++ codes "}"
 
@@ -41,6 +44,7 @@ json_skipped logs s = codes "{" ++ word_member (codes "reason") (reason_of s) ++
 unfoldable pub entries_list : List (List ℕ) → List Entry → List ℕ
 entries_list logs es = with_commas (map (json_entry logs) es)
 
+-- all skipped lines, as JSON
 unfoldable pub skipped_list : List (List ℕ) → List SkippedLines → List ℕ
 skipped_list logs skipped = with_commas (map (json_skipped logs) skipped)
 
@@ -48,12 +52,15 @@ skipped_list logs skipped = with_commas (map (json_skipped logs) skipped)
 unfoldable pub json_by_reason : List (List ℕ) → List SkippedLines → List ℕ
 json_by_reason logs reasons = codes "," ++ key_text (codes "skipped") ++ codes "[" ++ skipped_list logs reasons ++ codes "]"
 
+-- the key of the list of skipped lines
 unfoldable pub each_key : List ℕ
 each_key = key_text (codes "skipped_lines")
 
+-- the list of skipped lines, as a member
 unfoldable pub json_each_of : List (List ℕ) → List SkippedLines → List ℕ
 json_each_of logs each = codes "," ++ each_key ++ codes "[" ++ skipped_list logs each ++ codes "]"
 
+-- the requests of logs, as JSON
 unfoldable pub json_requests : List (List ℕ) → List Entry → List ℕ
 json_requests logs es = codes "{" ++ key_text (codes "requests") ++ codes "[" ++ entries_list logs es ++ codes "]"
 
@@ -62,6 +69,7 @@ abbrev pub json_each : List (List ℕ) → Option (Vec SkippedLines Global) → 
 json_each logs None = []
 json_each logs (Some each) = json_each_of logs each.items
 
+-- how many lines were left out, as a member
 abbrev pub json_left_out : Option ℕ → List ℕ
 json_left_out None = []
 json_left_out (Some count) = count_member (codes "left_out") count

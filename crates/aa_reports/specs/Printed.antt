@@ -1,4 +1,5 @@
 -- What logs say, as it is printed.
+-- Source: own.
 use Rattle.std.specs.Prelude.{ℕ, ◌≡◌, List, [], ◌++◌, ◌==◌, length, flat_map, codes, decimal, if◌then◌else◌, Option, Some, None, option_map, slice_get, unwrap_or}
 use Rattle.aa_audit.specs.Values.{value}
 use Rattle.aa_logs.specs.declared.line.Then.{Then}
@@ -22,6 +23,7 @@ rest_text logs e = codes " " ++ value e.profile.items ++ codes " " ++ e.word.ite
 unfoldable pub key_text : Then → List ℕ → List ℕ → List ℕ
 key_text became profile word = then_name became ++ codes " " ++ value profile ++ codes " " ++ word
 
+-- the line of a request of logs
 abbrev pub entry_line : List (List ℕ) → Entry → List ℕ
 entry_line logs e = then_name e.then ++ rest_text logs e
 
@@ -29,6 +31,7 @@ entry_line logs e = then_name e.then ++ rest_text logs e
 abbrev pub reason_text : ℕ → List ℕ → List ℕ
 reason_text order name = (if order == 0 then codes "rule:" else []) ++ name
 
+-- the text of why lines were skipped
 abbrev pub reason_of : SkippedLines → List ℕ
 reason_of s = reason_text s.reason.0 s.reason.1.now
 
@@ -48,6 +51,7 @@ each_skipped_text logs r = unwrap_or (option_map (λ each. flat_map (skipped_at 
 unfoldable pub labelled : List ℕ → ℕ → List ℕ
 labelled what count = what ++ decimal count
 
+-- how many lines were left out
 abbrev pub left_out_text : Option ℕ → List ℕ
 left_out_text None = []
 left_out_text (Some count) = labelled (codes " left out ") count

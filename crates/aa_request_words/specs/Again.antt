@@ -1,4 +1,5 @@
 -- What is written of a request is read as that request.
+-- Source: own.
 use Rattle.std.specs.Prelude.{◌≡◌, ℕ, List, length, Bool, true, false, ◌&&◌, nat_lt, Some}
 use Rattle.std.specs.List.{list_all}
 use Rattle.aa_tables.specs.Tables.{capability_names, family_names, sock_type_names}
@@ -8,9 +9,11 @@ use Rattle.aa_requests.specs.declared.request.Request.TheVariants.{File, Link, E
 use Rattle.aa_request_words.specs.Written.{word_text}
 use Rattle.aa_request_words.specs.Read.{request_in}
 
+-- each is a byte
 abbrev pub are_bytes : List ℕ → Bool
 are_bytes text = list_all (λ b. nat_lt b 256) text
 
+-- a path of bytes that can be asked for
 abbrev pub is_path_of_bytes : List ℕ → Bool
 is_path_of_bytes path = are_bytes path && is_path path
 

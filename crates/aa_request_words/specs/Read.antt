@@ -1,4 +1,5 @@
 -- Which request a word is.
+-- Source: apparmor.d(5), "Access Modes"; own.
 use Rattle.std.specs.Prelude.{◌≡◌, ℕ, ◌+◌, ◌-◌, ◌*◌, ◌==◌, ◌&&◌, nat_le, List, [], ◌∷◌, Bool, true, if◌then◌else◌, codes, Option, Some, None, option_map, option_and_then, bit_or, Result, Ok, Err, MatchResult}
 use Rattle.std.specs.Str.{bytes_eq}
 use Rattle.aa_tables.specs.Tables.{number_in, capability_names, family_names, sock_type_names}
@@ -15,6 +16,7 @@ use Rattle.aa_request_words.specs.declared.read.WordFault.TheVariants.{NoMemory,
 abbrev pub digit_in : ℕ → Option ℕ
 digit_in b = if nat_le 48 b && nat_le b 57 then Some (b - 48) else (if nat_le 65 b && nat_le b 70 then Some (b - 55) else None)
 
+-- the byte that two hexadecimal digits are
 abbrev pub byte_in : ℕ → ℕ → Option ℕ
 byte_in a b = option_and_then (λ high. option_map (λ low. 16 * high + low) (digit_in b)) (digit_in a)
 
@@ -47,6 +49,7 @@ unfoldable pub letters_in : ℕ → List ℕ → Option ℕ
 letters_in bits [] = Some bits
 letters_in bits (c ∷ cs) = option_and_then (λ b. letters_in (bit_or bits b) cs) (letter_in c)
 
+-- the request for a file, of a path and a mask that can be asked for
 abbrev pub file_by : Bool → Option (List ℕ) → Option ℕ → Option Request
 file_by owned None bits = None
 file_by owned (Some path) None = None
@@ -56,13 +59,16 @@ file_by owned (Some path) (Some bits) = if is_path path && is_mask bits then Som
 abbrev pub file_in : Bool → List ℕ → List ℕ → Option Request
 file_in owned letters text = file_by owned (path_in text) (letters_in 0 letters)
 
+-- the request to execute, of a path that can be asked for
 abbrev pub exec_by : Bool → Option (List ℕ) → Option Request
 exec_by owned None = None
 exec_by owned (Some path) = if is_path path then Some (Exec (record { path = path; owned = owned })) else None
 
+-- the request to execute that a word is
 abbrev pub exec_in : Bool → List ℕ → Option Request
 exec_in owned text = exec_by owned (path_in text)
 
+-- the request for a link, of two paths that can be asked for
 abbrev pub link_by : Bool → Option (List ℕ) → Option (List ℕ) → Option Request
 link_by owned None target = None
 link_by owned (Some link) None = None
@@ -72,9 +78,11 @@ link_by owned (Some link) (Some target) = if is_path link && is_path target then
 abbrev pub link_in : Bool → List ℕ → Option Request
 link_in owned text = option_and_then (λ s. link_by owned (path_in s.0) (path_in s.1)) (split_in (codes "->") text)
 
+-- the request for a capability, by its name
 abbrev pub cap_in : List ℕ → Option Request
 cap_in name = option_map Cap (number_in capability_names name)
 
+-- the request for a socket, of a family and a type
 abbrev pub net_by : Option ℕ → Option ℕ → Option Request
 net_by None kind = None
 net_by (Some family) None = None
@@ -84,9 +92,11 @@ net_by (Some family) (Some kind) = Some (Net family kind)
 abbrev pub net_in : List ℕ → Option Request
 net_in text = option_and_then (λ s. net_by (number_in family_names s.0) (number_in sock_type_names s.1)) (split_in (codes "/") text)
 
+-- the request to change the profile, of a name that can be asked for
 abbrev pub change_in : List ℕ → Option Request
 change_in name = if is_wanted_name name then Some (Change name) else None
 
+-- the request for an object, by its letters
 abbrev pub object_by : Bool → List ℕ → List ℕ → Option Request
 object_by owned letters text =
     if bytes_eq letters (codes "x") then exec_in owned text
@@ -97,6 +107,7 @@ object_by owned letters text =
 abbrev pub object_in : Bool → List ℕ → Option Request
 object_in owned word = option_and_then (λ s. object_by owned s.0 s.1) (split_in (codes ":") word)
 
+-- what is read of the text behind a front, if that stands first, else the other
 abbrev pub or_else : Option (List ℕ) → (List ℕ → Option Request) → Option Request → Option Request
 or_else None read other = other
 or_else (Some text) read other = read text
@@ -111,6 +122,7 @@ request_in owned word =
     (or_else (behind (codes "change=") word) (λ text. option_and_then change_in (hex_in text))
     (object_in owned word)))))
 
+-- why a word is no request, by why its request is refused
 abbrev pub fault_of : RequestFault → WordFault
 fault_of fault.NoMemory = NoMemory
 fault_of fault.BadPath = NoRequest

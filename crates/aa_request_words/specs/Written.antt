@@ -1,4 +1,5 @@
 -- How a request is written in one word.
+-- Source: own.
 use Rattle.std.specs.Prelude.{ℕ, List, [], ◌++◌, Bool, true, false, not, ◌&&◌, nat_le, codes, flat_map, is_some, if◌then◌else◌}
 use Rattle.std.specs.List.{list_all}
 use Rattle.aa_tables.specs.Tables.{capability_names, family_names, sock_type_names}
@@ -25,18 +26,23 @@ path_text ends_at_arrow path = if list_all is_visible path && not (ends_at_arrow
 abbrev pub owned_text : Bool → List ℕ
 owned_text owned = if owned then codes "owned:" else []
 
+-- the word of a request for a file
 abbrev pub file_word : RequestedFile → List ℕ
 file_word r = owned_text r.owned ++ letters r.mask.0 ++ codes ":" ++ path_text false r.path
 
+-- the word of a request to execute
 abbrev pub exec_word : RequestedExec → List ℕ
 exec_word r = owned_text r.owned ++ codes "x:" ++ path_text false r.path
 
+-- the word of a request for a link
 abbrev pub link_word : RequestedLink → List ℕ
 link_word r = owned_text r.owned ++ codes "l:" ++ path_text true r.link ++ codes "->" ++ path_text false r.target
 
+-- the word of a request for a capability
 abbrev pub cap_word : ℕ → List ℕ
 cap_word n = codes "cap:" ++ entry capability_names n
 
+-- the word of a request for a socket
 abbrev pub net_word : ℕ → ℕ → List ℕ
 net_word family kind = codes "net:" ++ entry family_names family ++ codes "/" ++ entry sock_type_names kind
 

@@ -1,4 +1,5 @@
 -- What a task may ask.
+-- Source: own.
 use Rattle.std.specs.Prelude.{ℕ, List, [], ◌∷◌, length, Bool, false, not, ◌==◌, ◌&&◌, nat_le, bit_and}
 use Rattle.std.specs.List.{list_any}
 use Rattle.aa_tables.specs.declared.perms.Perms.{Perms}

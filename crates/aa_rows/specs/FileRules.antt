@@ -1,4 +1,5 @@
 -- What the file rules of a profile say of an object: a path, and whether the task's user owns it.
+-- Source: apparmor.d(5), "Globbing", "Qualifiers", "Access Modes"; own.
 use Rattle.std.specs.Prelude.{◌≡◌, ◌≢◌, ℕ, List, [], ◌∷◌, Bool, true, false, not, ◌&&◌, ◌||◌, if◌then◌else◌, filter, map, Option, Some, None, is_some, Contains, IsTrue}
 use Rattle.std.specs.Option.{option_and_then}
 use Rattle.std.specs.List.{list_any}
@@ -22,6 +23,7 @@ any_sort p = true
 abbrev pub applies_by : (Pattern → Bool) → List ℕ → Bool → FileRule → Bool
 applies_by sort path owned rule = (owned || not rule.owner) && some_match sort path rule.patterns
 
+-- what a rule says, and how
 abbrev pub saying : FileRule → Saying
 saying r = record { audit = r.audit; deny = r.deny; bits = r.perms.0 }
 
@@ -37,6 +39,7 @@ says_how r = not r.deny && is_some r.exec
 abbrev pub ways_by : (Pattern → Bool) → List FileRule → List ℕ → Bool → List FileRule
 ways_by sort rules path owned = filter (λ r. says_how r && applies_by sort path owned r) rules
 
+-- the list is empty
 abbrev pub is_nil : {X : Type 0} → List X → Bool
 is_nil [] = true
 is_nil (x ∷ xs) = false
@@ -46,6 +49,7 @@ abbrev pub chosen : List FileRule → List ℕ → Bool → List FileRule
 chosen rules path owned =
     if is_nil (ways_by is_literal rules path owned) then ways_by any_sort rules path owned else ways_by is_literal rules path owned
 
+-- the first of a list
 abbrev pub first : {X : Type 0} → List X → Option X
 first [] = None
 first (x ∷ xs) = Some x
@@ -71,5 +75,6 @@ pub record IsConflict (rules : List FileRule) (a b : Hit) (text : List ℕ) : Ty
   pub say : (a.rule.exec ≡ Some one) × (b.rule.exec ≡ Some other)
   pub differ : one ≢ other
 
+-- two rules of these conflict at some text
 abbrev pub Conflicts : List FileRule → Type 0
 Conflicts rules = (a : Hit) × (b : Hit) × (text : List ℕ) × IsConflict rules a b text

@@ -6,6 +6,7 @@ use Rattle.aa_profiles.specs.declared.rule.FileRule.{FileRule}
 use Rattle.aa_rows.specs.declared.mark.Way.{Way}
 use Rattle.aa_rows.specs.declared.mark.Mark.{Mark}
 
+-- what is kept of a rule beside one of its patterns
 abbrev pub mark_by : FileRule → Option Way → Pattern → Mark
 mark_by r way p = record { audit = r.audit; deny = r.deny; owner = r.owner; perms = r.perms; way = way; literal = is_literal p }
 

@@ -1,4 +1,5 @@
 -- What is kept for each list of an automaton.
+-- Source: own.
 use Rattle.std.specs.Prelude.{◌≡◌, ℕ, List, Bool, true, false, if◌then◌else◌, map, Option, Some, Contains, is_some}
 use Rattle.std.specs.Option.{option_map, option_map_or}
 use Rattle.std.specs.List.{slice_get, list_any, flat_map}
@@ -33,9 +34,11 @@ choice_of side = if is_some side.literal.way then side.literal else side.any
 abbrev pub settled : Side → Verdict
 settled side = record { sets = side.sets; chosen = choice_of side }
 
+-- what these patterns say of what is owned, and of what isn't
 abbrev pub row_by : List Mark → Row
 row_by marks = record { owned = settled (side_by true marks); other = settled (side_by false marks) }
 
+-- the same for each list of numbers
 abbrev pub rows_by : List Mark → List (List ℕ) → List Row
 rows_by marks lists = map (λ list. row_by (picked marks list)) lists
 
@@ -69,6 +72,7 @@ numbered number rules = map (λ r. option_map number r.exec) rules
 abbrev pub TellsApart : (Exec → Way) → List FileRule → Type 0
 TellsApart number rules = (r q : FileRule) (a b : Exec) → Contains rules r → Contains rules q → r.exec ≡ Some a → q.exec ≡ Some b → number a ≡ number b → a ≡ b
 
+-- why rows can't be made, by why their automaton can't
 abbrev pub fault_of : BuildFault → RowsFault
 fault_of NoMemory = NoRowMemory
 fault_of TooManyStates = TooManyRows

@@ -1,4 +1,5 @@
 -- Rules on changes of profile: change = "change_profile" [-> name]
+-- Source: apparmor.d(5), "change_profile rules".
 use Rattle.std.specs.Prelude.{◌≡◌, List, codes, Option, Some, None, true}
 use Rattle.aa_words.specs.declared.word.WordKind.TheVariants.{Arrow}
 use Rattle.aa_words.specs.Splits.{WordData}

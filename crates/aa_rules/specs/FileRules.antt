@@ -1,4 +1,5 @@
 -- The file rules of the grammar: file = ["owner"] ( "file" | ["file"] path mode [-> name] | ["file"] mode path [-> name] )
+-- Source: apparmor.d(5), "File rules", "Access Modes".
 use Rattle.std.specs.Prelude.{ℕ, ◌≡◌, ◌⊎◌, List, codes, Option, Some, None, option_map, Bool, true, false}
 use Rattle.std.specs.Str.{bytes_eq}
 use Rattle.aa_words.specs.declared.word.WordKind.TheVariants.{Arrow, Comma, Name}

@@ -1,4 +1,5 @@
 -- The grammar: one relation for each production, `IsX words x rest`, where the words begin with an x and the rest follows.
+-- Source: apparmor.d(5), "Qualifiers"; own.
 use Rattle.std.specs.Prelude.{ℕ, ◌≡◌, List, [], codes, Bool, true, false, ◌&&◌, ◌||◌, ◌==◌, nat_lt}
 use Rattle.std.specs.List.{take_while}
 use Rattle.aa_words.specs.declared.word.WordKind.TheVariants.{Close, Comma, Skipped}
@@ -26,6 +27,7 @@ pub record IsQualified (ws : List WordData) (qualifiers : Qualifiers) (rest : Li
 abbrev pub is_keyword_byte : ℕ → Bool
 is_keyword_byte b = (nat_lt 96 b && nat_lt b 123) || b == 95
 
+-- the keyword that stands first
 abbrev pub keyword_of : List ℕ → List ℕ
 keyword_of text = take_while is_keyword_byte text
 

@@ -1,4 +1,5 @@
 -- The modes of file rules: what their letters grant, and how they let a program be executed.
+-- Source: apparmor.d(5), "Access Modes"; own.
 use Rattle.std.specs.Prelude.{ℕ, List, [], ◌∷◌, ◌++◌, Bool, true, false, not, ◌&&◌, ◌||◌, ◌==◌, if◌then◌else◌, Option, Some, None, option_map, option_and_then, bit_or, codes, is_some, drop}
 use Rattle.std.specs.Bool.{nat_eq}
 use Rattle.std.specs.List.{list_any, take_while, prefix_len, starts_with}
@@ -27,9 +28,11 @@ unfoldable pub letters_bits : ℕ → List ℕ → Option ℕ
 letters_bits bits [] = Some bits
 letters_bits bits (c ∷ cs) = option_and_then (λ b. letters_bits (bit_or bits b) cs) (letter_bits c)
 
+-- the letter is among these
 abbrev pub has_letter : ℕ → List ℕ → Bool
 has_letter c text = list_any (λ x. x == c) text
 
+-- a letter of access
 abbrev pub is_access_letter : ℕ → Bool
 is_access_letter c = is_some (letter_bits c)
 
@@ -37,6 +40,7 @@ is_access_letter c = is_some (letter_bits c)
 abbrev pub is_exec_letter : ℕ → Bool
 is_exec_letter c = c == 105 || c == 117 || c == 85 || c == 112 || c == 80 || c == 99 || c == 67 || c == 120
 
+-- how a program is executed
 abbrev pub how : ExecKind → Bool → Fallback → Option ExecMode
 how k scrub f = Some (record { kind = k; scrub = scrub; fallback = f })
 
@@ -60,6 +64,7 @@ exec_of part =
     else (if bytes_eq part (codes "CUx") then how kind.Child true fallback.Unconfined
     else None))))))))))))))
 
+-- a mode of these bits, with this exec part
 abbrev pub mode : ℕ → Option ExecMode → Mode
 mode bits exec = record { perms = record { 0 = bits }; exec = exec }
 
@@ -77,9 +82,11 @@ behind fits text = drop (prefix_len fits text) text
 abbrev pub front_of : List ℕ → List ℕ
 front_of text = take_while is_access_letter text
 
+-- the letters of a mode's exec part
 abbrev pub part_of : List ℕ → List ℕ
 part_of text = take_while is_exec_letter (behind is_access_letter text)
 
+-- what stands behind a mode's exec part
 abbrev pub back_of : List ℕ → List ℕ
 back_of text = behind is_exec_letter (behind is_access_letter text)
 

@@ -1,4 +1,5 @@
 -- Which words name a profile, and which are left out where a rule begins.
+-- Source: apparmor.d(5), "Profile Head"; own.
 use Rattle.std.specs.Prelude.{ℕ, List, [], ◌∷◌, Bool, true, false, not, ◌&&◌, ◌||◌, ◌==◌, codes}
 use Rattle.std.specs.Bool.{nat_eq}
 use Rattle.std.specs.List.{starts_with}
@@ -8,6 +9,7 @@ use Rattle.aa_faults.specs.declared.fault.PolicyKind.TheVariants.{Syntax, Unsupp
 use Rattle.aa_words.specs.Splits.{is_one_of}
 pub use Rattle.aa_words.specs.Runs.{begins_with}
 
+-- nothing stands there
 abbrev pub is_empty : List ℕ → Bool
 is_empty [] = true
 is_empty (b ∷ bs) = false

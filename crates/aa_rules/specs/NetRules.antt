@@ -1,4 +1,5 @@
 -- Rules on sockets: the names, and the families and types that they name together.
+-- Source: apparmor.d(5), "Network rules".
 use Rattle.std.specs.Prelude.{ℕ, ◌≡◌, ◌^◌, ◌+◌, ◌-◌, List, [], ◌∷◌, codes, Bool, ◌||◌, ◌==◌, if◌then◌else◌, Option, Some, None, option_map, option_and_then}
 use Rattle.std.specs.Option.{option_or}
 use Rattle.std.specs.Str.{bytes_eq}
@@ -19,6 +20,7 @@ sockets families kinds = record { families = families; kinds = kinds }
 abbrev pub all_families : ℕ
 all_families = 2 ^ 44 - 1
 
+-- all types of sockets
 abbrev pub all_kinds : ℕ
 all_kinds = 2 ^ 6 - 1
 

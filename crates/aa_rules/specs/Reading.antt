@@ -60,21 +60,27 @@ pub data RuleData : Type 0 where
 abbrev pub target_data : Option (Bor (List ℕ)) → Option (List ℕ)
 target_data target = option_map (λ name. name.now) target
 
+-- how a rule lets programs be executed, without where it lies in memory
 abbrev pub exec_data : ExecTree → ExecData
 exec_data t = record { mode = t.mode; target = target_data t.target }
 
+-- a path with its mode, without where it lies in memory
 abbrev pub entry_data : EntryTree → EntryData
 entry_data t = record { at = t.at; path = t.path.now; mode = t.mode }
 
+-- a rule on files, without where it lies in memory
 abbrev pub file_data : FileTree → FileData
 file_data t = record { qualifiers = t.qualifiers; owner = t.owner; at = t.at; path = t.path.now; perms = t.perms; exec = option_map exec_data t.exec }
 
+-- a name, without where it lies in memory
 abbrev pub name_data : NameTree → NameData
 name_data t = record { at = t.at; text = t.text.now }
 
+-- a rule on changes of the profile, without where it lies in memory
 abbrev pub change_data : ChangeTree → ChangeData
 change_data t = record { qualifiers = t.qualifiers; name = option_map name_data t.name }
 
+-- a rule, without where it lies in memory
 abbrev pub rule_data : RuleTree → RuleData
 rule_data (File t) = OnFile (file_data t)
 rule_data (Cap rule) = OnCap rule

@@ -1,4 +1,5 @@
 -- Patterns, one by one and all of a list.
+-- Source: apparmor.d(5), "Globbing".
 use Rattle.std.specs.Prelude.{◌≤◌, ℕ, List, Bool}
 use Rattle.std.specs.List.{list_all}
 use Rattle.aa_items.specs.Globs.{is_byte}

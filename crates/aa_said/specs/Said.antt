@@ -1,4 +1,5 @@
 -- What the rules of a profile say, whatever their sort.
+-- Source: apparmor.d(5), "Qualifiers"; CPR, "Rules".
 use Rattle.std.specs.Prelude.{ℕ, ◌-◌, List, [], ◌∷◌, Bool, not, ◌&&◌, if◌then◌else◌, bit_and, bit_or}
 use Rattle.aa_tables.specs.declared.perms.Perms.{Perms}
 use Rattle.aa_said.specs.declared.sets.RuleSets.{RuleSets}
@@ -13,6 +14,7 @@ pub record Saying : Type 0 where
 abbrev pub perms_of : ℕ → Perms
 perms_of bits = record { 0 = bits }
 
+-- these bits, or none
 abbrev pub bits_if : Bool → ℕ → Perms
 bits_if test bits = perms_of (if test then bits else 0)
 
@@ -25,6 +27,7 @@ said s = record {
   audited = bits_if (s.audit && not s.deny) s.bits;
 }
 
+-- what no rules say
 abbrev pub nothing : RuleSets
 nothing = record { allow = perms_of 0; deny = perms_of 0; loud = perms_of 0; audited = perms_of 0 }
 

@@ -1,4 +1,5 @@
 -- The tables of names. An entry's number is its place in the table, counted from 0.
+-- Source: apparmor.d(5), "Capability rules", "Network rules"; capabilities(7); own.
 use Rattle.std.specs.Prelude.{ℕ, ◌+◌, ◌-◌, ◌^◌, List, [], ◌∷◌, map, codes, Option, position, nat_le, ◌&&◌, if◌then◌else◌}
 use Rattle.std.specs.Str.{bytes_eq}
 

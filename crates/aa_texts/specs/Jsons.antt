@@ -1,4 +1,5 @@
 -- Texts as JSON has them.
+-- Source: JSON; own.
 use Rattle.std.specs.Prelude.{ℕ, ◌+◌, ◌/◌, ◌%◌, nat_lt, List, [], ◌∷◌, ◌++◌, flat_map, codes, decimal, Bool, if◌then◌else◌, Option, Some, None}
 use Rattle.std.specs.Str.{is_utf8}
 use Rattle.serde_json.specs.Data.{string}
@@ -9,6 +10,7 @@ use Rattle.aa_texts.specs.declared.place.PlaceAt.{PlaceAt}
 unfoldable pub json_text : List ℕ → List ℕ
 json_text text = compact_text (string text)
 
+-- the byte of a hexadecimal digit
 abbrev pub hex_digit : ℕ → ℕ
 hex_digit n = if nat_lt n 10 then n + 48 else n + 87
 
@@ -28,9 +30,11 @@ json_bytes bytes = if is_utf8 bytes then json_text bytes else in_digits bytes
 unfoldable pub key_text : List ℕ → List ℕ
 key_text key = codes "\"" ++ key ++ codes "\":"
 
+-- a truth value as JSON
 abbrev pub bool_text : Bool → List ℕ
 bool_text b = if b then codes "true" else codes "false"
 
+-- line and column, as members
 abbrev pub line_members : Option PlaceAt → List ℕ
 line_members None = []
 line_members (Some p) = codes "," ++ key_text (codes "line") ++ decimal p.line ++ codes "," ++ key_text (codes "column") ++ decimal p.column

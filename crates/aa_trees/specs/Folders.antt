@@ -1,4 +1,5 @@
 -- A folder that is included, as a text.
+-- Source: apparmor.d(5), "#include mechanism".
 use Rattle.std.specs.Prelude.{ℕ, ◌≡◌, List, [], ◌∷◌, ◌++◌, flat_map, filter, codes, Bool, true, not}
 use Rattle.std.specs.List.{list_any}
 use Rattle.aa_extents.specs.Includes.{ends_include_name, included_name}
@@ -9,9 +10,11 @@ use Rattle.aa_trees.specs.Searches.{path_in}
 abbrev pub can_stand : List ℕ → Bool
 can_stand path = not (list_any (λ b. ends_include_name 34 b) path)
 
+-- the line of a folder's text that includes a file
 unfoldable pub include_line : List ℕ → List ℕ
 include_line path = codes "include \"" ++ (path ++ codes "\"\n")
 
+-- the names of a folder's files that are read
 abbrev pub files_among : List (List ℕ) → List (List ℕ)
 files_among names = filter (λ name. not (passes_over name)) names
 

@@ -1,10 +1,13 @@
 -- Which files of a folder are read.
+-- Source: as apparmor_parser skips files of a folder.
 use Rattle.std.specs.Prelude.{ℕ, ◌-◌, ◌==◌, ◌||◌, List, [], ◌∷◌, length, drop, codes, Bool, false}
 use Rattle.std.specs.Str.{bytes_eq}
 
+-- the name ends so
 abbrev pub ends_in : List ℕ → List ℕ → Bool
 ends_in ending name = bytes_eq (drop (length name - length ending) name) ending
 
+-- a dot stands first
 abbrev pub begins_with_dot : List ℕ → Bool
 begins_with_dot [] = false
 begins_with_dot (b ∷ bs) = b == 46

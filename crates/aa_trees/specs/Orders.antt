@@ -1,4 +1,5 @@
 -- The order in which the files of a folder are read.
+-- Source: own.
 use Rattle.std.specs.Prelude.{ℕ, List, Vec}
 use Rattle.std.specs.Ordering.{nat_cmp}
 use Rattle.std.specs.Cmp.Lexicographic.{slice_cmp}

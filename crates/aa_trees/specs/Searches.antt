@@ -1,4 +1,5 @@
 -- Where an include is looked for.
+-- Source: apparmor.d(5), "#include mechanism"; own.
 use Rattle.std.specs.Prelude.{ℕ, List, [], ◌∷◌, ◌++◌, map, codes, Bool, if◌then◌else◌}
 use Rattle.aa_trees.specs.Names.{ends_in}
 

@@ -1,4 +1,5 @@
 -- What is said of a name whose two forms find different things.
+-- Source: own.
 use Rattle.std.specs.Prelude.{ℕ, ◌≡◌, ◌++◌, List, [], codes, not, Option, Some, None}
 use Rattle.aa_texts.specs.declared.fault.FaultReport.{FaultReport}
 use Rattle.aa_units.specs.declared.unit.Unit as unit

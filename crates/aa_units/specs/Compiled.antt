@@ -1,4 +1,5 @@
 -- The policy of a unit, and why it has none.
+-- Source: own.
 use Rattle.std.specs.Prelude.{ℕ, ◌≡◌, List, [], ◌∷◌, max, min}
 use Rattle.aa_faults.specs.declared.fault.PolicyFault.{PolicyFault}
 use Rattle.aa_profiles.specs.declared.policy.Policy.{Policy}

@@ -1,4 +1,5 @@
 -- What lies at the paths of a tree of files.
+-- Source: apparmor.d(5), "#include mechanism"; own.
 use Rattle.std.specs.Prelude.{ℕ, List, Bool, true, false, Option, Some, None, is_some, find, codes}
 use Rattle.std.specs.Str.{bytes_eq}
 use Rattle.aa_trees.specs.Folders.{folder_lines}

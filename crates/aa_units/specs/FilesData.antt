@@ -1,4 +1,5 @@
 -- What lies at a path, as the code has it.
+-- Source: own.
 use Rattle.std.specs.Prelude.{ℕ, ◌≡◌, ◌≢◌, List, Bool, true, false, Option, Some, None, is_some, option_map, Result, MatchResult, IfSome, IfOk, Vec, MatchBool}
 use Rattle.std.specs.declared.alloc.Global.{Global}
 use Rattle.aa_trees.specs.Orders.{AreInByteOrder}
@@ -12,6 +13,7 @@ use Rattle.aa_units.specs.declared.tree.Unread.TheVariants.{NoMemory, NotFound}
 use Rattle.aa_units.specs.Files.{Files, Taken, Lying, listed, is_input, read_at}
 use Rattle.aa_units.specs.Files.Lying.{File, Folder}
 
+-- what lies at a path, without where it lies in memory
 abbrev pub lying : Content → Lying
 lying (content.File bytes) = File bytes.items
 lying (content.Folder names) = Folder (texts names.items)
@@ -58,5 +60,6 @@ IsFile files path got = IfSome files (λ f. MatchResult got (λ text. f path ≡
 abbrev pub IsMain : Option Files → Option (List ℕ) → List ℕ → Result (Vec ℕ Global) Unread → Type 0
 IsMain files input path got = MatchBool (is_input path) (IsInput input got) (IsFile files path got)
 
+-- the text is that of the file, or of the standard input
 abbrev pub IsMainText : Option Files → Option (List ℕ) → List ℕ → List ℕ → Type 0
 IsMainText files input path text = MatchBool (is_input path) (IfSome input (λ bytes. text ≡ bytes)) (IfSome files (λ f. f path ≡ Some (File text)))

@@ -1,4 +1,5 @@
 -- How a place in a text of a unit is told, and the way to it.
+-- Source: own.
 use Rattle.std.specs.Prelude.{ℕ, ◌≡◌, ◌⊎◌, List, [], ◌∷◌, map, flat_map, Bool, Option, Some, None, if◌then◌else◌}
 use Rattle.aa_places.specs.Places.{place_in}
 use Rattle.aa_places.specs.Excerpts.{excerpt_of}
@@ -13,6 +14,7 @@ use Rattle.aa_units.specs.Trails.{IsTrail, IsWay}
 abbrev pub stands_at : List ℕ → ℕ → PlaceAt
 stands_at text byte = record { line = (place_in text byte).line; column = (place_in text byte).column; byte = byte }
 
+-- the place of a byte, if its text is there
 abbrev pub place_if : Bool → List ℕ → ℕ → Option PlaceAt
 place_if there text byte = if there then Some (stands_at text byte) else None
 
@@ -20,6 +22,7 @@ place_if there text byte = if there then Some (stands_at text byte) else None
 abbrev pub excerpt_if : Bool → List ℕ → ℕ → List ℕ
 excerpt_if there text byte = if there then excerpt_of text byte else []
 
+-- an include on the way, without where it lies in memory
 abbrev pub link_data : Link → List ℕ × PlaceAt
 link_data l = (l.path.items, l.place)
 

@@ -1,9 +1,12 @@
 -- How an include names its source.
+-- Source: apparmor.d(5), "#include mechanism".
 use Rattle.std.specs.Prelude.{ℕ, ◌==◌, ◌||◌, List, find, Bool, false, Option, Some, None}
 
+-- the byte opens an include's name
 abbrev pub opens_name : ℕ → Bool
 opens_name b = b == 60 || b == 34
 
+-- the byte is <
 abbrev pub is_angle : Option ℕ → Bool
 is_angle None = false
 is_angle (Some b) = b == 60

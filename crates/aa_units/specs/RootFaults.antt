@@ -1,4 +1,5 @@
 -- Why the files that a command line stands for can't be told.
+-- Source: own.
 use Rattle.std.specs.Prelude.{ℕ, ◌≡◌, ◌⊎◌, List, [], ◌∷◌, ◌++◌, codes, Option, Some, slice_get, IfSome, Contains}
 use Rattle.aa_trees.specs.Searches.{path_in}
 use Rattle.aa_units.specs.declared.tree.Unread.{Unread}

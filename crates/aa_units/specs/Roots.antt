@@ -1,4 +1,5 @@
 -- The files that a command line stands for.
+-- Source: own.
 use Rattle.std.specs.Prelude.{ℕ, List, [], ◌∷◌, ◌++◌, flat_map, codes, Bool, not, ◌&&◌, Option, Some, None, if◌then◌else◌}
 use Rattle.aa_trees.specs.Names.{is_leftover, passes_over}
 use Rattle.aa_trees.specs.Searches.{path_in}
@@ -20,10 +21,12 @@ wanted_path taken base folder name = if is_wanted taken base name then path_in f
 abbrev pub leftover_line : List ℕ → List ℕ → List (List ℕ)
 leftover_line path name = if is_leftover name then (path ++ codes ": passed over, by its name") ∷ [] else []
 
+-- the warning for a file that force-complain names
 abbrev pub complain_line : Taken → List ℕ → List ℕ → List ℕ → List (List ℕ)
 complain_line taken base path name =
     if is_named_in taken base (codes "force-complain") name then (path ++ codes ": force-complain isn't applied, the text decides") ∷ [] else []
 
+-- the warnings for a name of a folder
 abbrev pub warning_lines : Taken → List ℕ → List ℕ → List ℕ → List (List ℕ)
 warning_lines taken base folder name =
     leftover_line (path_in folder name) name ++ (if is_wanted taken base name then complain_line taken base (path_in folder name) name else [])
@@ -32,10 +35,12 @@ warning_lines taken base folder name =
 abbrev pub folder_of : Files → List ℕ → Option (List (List ℕ))
 folder_of files argument = if is_input argument then None else listed (files argument)
 
+-- the files that an argument stands for
 abbrev pub paths_among : Taken → List ℕ → List ℕ → Option (List (List ℕ)) → List (List ℕ)
 paths_among taken base argument None = argument ∷ []
 paths_among taken base argument (Some names) = flat_map (wanted_path taken base argument) names
 
+-- the warnings for the names of an argument's folder
 abbrev pub lines_among : Taken → List ℕ → List ℕ → Option (List (List ℕ)) → List (List ℕ)
 lines_among taken base argument None = []
 lines_among taken base argument (Some names) = flat_map (warning_lines taken base argument) names

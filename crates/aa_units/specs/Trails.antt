@@ -1,4 +1,5 @@
 -- The way on which a reading of a unit's main text first comes to a source.
+-- Source: own.
 use Rattle.std.specs.Prelude.{ℕ, zero, suc, ◌≡◌, ◌==◌, ◌&&◌, not, is_some, Bool, true, false, ◌≢◌, All, Contains, List, [], ◌∷◌, flat_map, Option, option_map, option_to_list, if◌then◌else◌}
 use Rattle.std.specs.List.{list_any}
 use Rattle.aa_extents.specs.Includes.{included_name}
@@ -7,6 +8,7 @@ use Rattle.aa_units.specs.declared.unit.Unit as unit
 use Rattle.aa_units.specs.Nodes.{source_of_node, text_of_node, node_named}
 use Rattle.aa_units.specs.declared.trail.Step.{Step}
 
+-- the step from one text to another by an include
 abbrev pub step_to : ℕ → ℕ → ℕ → Step
 step_to from byte to = record { to = to; from = from; byte = byte }
 

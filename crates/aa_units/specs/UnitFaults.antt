@@ -1,4 +1,5 @@
 -- Why a unit can't be read.
+-- Source: own.
 use Rattle.std.specs.Prelude.{ℕ, ◌≡◌, ◌≢◌, ◌≤◌, List, length, take, map, Bool, Option, Some, None, MatchOption, slice_get, Err, All, Contains}
 use Rattle.aa_words.specs.Found.{IncludeData, HasIncludes}
 use Rattle.aa_texts.specs.declared.fault.FaultReport.{FaultReport}

@@ -1,4 +1,5 @@
 -- The steps of the sources that aren't read yet, as the code keeps them.
+-- Source: own.
 use Rattle.std.specs.Prelude.{ℕ, ◌+◌, ◌≡◌, true, false, List, [], ◌∷◌, length, reverse, Option, Some, None, slice_get, Vec}
 use Rattle.std.specs.declared.alloc.Global.{Global}
 use Rattle.aa_units.specs.declared.unit.Unit as unit
@@ -15,6 +16,7 @@ Says u met node None = is_new u met node ≡ false
 Says u met node (Some None) = is_new u met node ≡ false
 Says u met node (Some (Some steps)) = (is_new u met node ≡ true) × AreSteps u node (reverse steps.items)
 
+-- what is still to be walked leads nowhere that isn't met
 pub record IsUnread (u : unit.Unit) (met : List Step) (slots : List Slot) : Type 0 where
   pub each : (node : ℕ) → Says u met node (slice_get slots node)
 
@@ -23,6 +25,7 @@ abbrev pub slot_size : Slot → ℕ
 slot_size None = 0
 slot_size (Some steps) = length steps.items
 
+-- how many steps are left at most
 abbrev pub steps_left : List Slot → ℕ
 steps_left [] = 0
 steps_left (s ∷ ss) = slot_size s + steps_left ss

@@ -1,4 +1,5 @@
 -- A walk, as the code has it.
+-- Source: apparmor.d(5), "#include mechanism"; own.
 use Rattle.std.specs.Prelude.{ℕ, ◌≡◌, ◌<◌, List, [], ◌∷◌, ◌++◌, length, take, map, Bool, Option, Some, None, All}
 use Rattle.std.specs.BTreeMap.{insert_entry, IsOrdered}
 use Rattle.aa_words.specs.Found.{IncludeData, HasIncludes}
@@ -9,6 +10,7 @@ use Rattle.aa_units.specs.declared.walk.Wanted.{Wanted}
 use Rattle.aa_units.specs.Files.{Files}
 use Rattle.aa_units.specs.Walks.{Name, Entry, by_bytes, known_of, Asked, asked_by, IsClosed, walked_texts, LiesAt, NothingAt, IsFoundAt, IsWalk, in_order}
 
+-- what an include asks for, without where it lies in memory
 abbrev pub asked : Wanted → Asked
 asked w = (w.name.items, texts w.paths.items)
 
@@ -16,6 +18,7 @@ asked w = (w.name.items, texts w.paths.items)
 abbrev pub wanted_data : Wanted → ℕ × Asked
 wanted_data w = (w.byte, asked w)
 
+-- an include's byte, and what it asks for
 abbrev pub wants : List (List ℕ) → IncludeData → ℕ × Asked
 wants folders i = (i.byte, asked_by folders i)
 

@@ -1,4 +1,5 @@
 -- A walk over the includes of a main text.
+-- Source: apparmor.d(5), "#include mechanism"; own.
 use Rattle.std.specs.Prelude.{ℕ, ◌≡◌, ◌+◌, ◌≤◌, List, ◌∷◌, length, take, map, flat_map, Option, Some, None, option_map, option_to_list, slice_get, Bool, IfSome, All, Contains, Vec}
 use Rattle.std.specs.Map.{lookup}
 use Rattle.std.specs.declared.alloc.Global.{Global}
@@ -12,6 +13,7 @@ use Rattle.aa_units.specs.declared.unit.Source.{Source}
 use Rattle.aa_units.specs.Names.{names_in_angles}
 use Rattle.aa_units.specs.Files.{Files, read_at, first_taken}
 
+-- a name
 abbrev pub Name : Type 0
 Name = Vec ℕ Global
 
@@ -19,6 +21,7 @@ Name = Vec ℕ Global
 abbrev pub Entry : Type 0
 Entry = Name × Option ℕ
 
+-- names in the order of their bytes
 abbrev pub by_bytes : Name → Name → Ordering
 by_bytes a b = slice_cmp nat_cmp a.items b.items
 
@@ -30,6 +33,7 @@ known_of entries name = lookup (λ k. is_eq (slice_cmp nat_cmp name k.items)) en
 abbrev pub Asked : Type 0
 Asked = List ℕ × List (List ℕ)
 
+-- an include's name, and the paths at which it is looked for
 abbrev pub asked_by : List (List ℕ) → IncludeData → Asked
 asked_by folders i = (included_name i.text, searched (names_in_angles i.text) (included_name i.text) folders)
 

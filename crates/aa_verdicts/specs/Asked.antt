@@ -1,4 +1,5 @@
 -- What `ask` answers: the label under which is asked, the requests, and the verdict on each.
+-- Source: own.
 use Rattle.std.specs.Prelude.{ℕ, ◌≡◌, ◌==◌, List, [], ◌∷◌, ◌++◌, length, map, flat_map, codes, Bool, false, if◌then◌else◌, Option, Some, None, option_map, Result, Ok, Err, MatchResult}
 use Rattle.aa_audit.specs.Values.{value}
 use Rattle.aa_profiles.specs.declared.policy.Policy.{Policy}
@@ -28,18 +29,23 @@ or_refused line (Some a) = Ok a
 abbrev pub said_of : List ℕ → List ℕ → List ℕ
 said_of sentence name = sentence ++ name ++ codes "\n"
 
+-- what is said where no profile has the name
 abbrev pub no_profile : List ℕ → List ℕ
 no_profile name = said_of (codes "error: no profile is called ") name
 
+-- what is said where no profile is attached to the path
 abbrev pub no_program : List ℕ → List ℕ
 no_program path = said_of (codes "error: no program has this path: ") path
 
+-- what is said of a word that is no request
 abbrev pub no_request : List ℕ → List ℕ
 no_request word = said_of (codes "error: this is no request: ") word
 
+-- a profile's name in a list
 abbrev pub listed_profile : Profile → List ℕ
 listed_profile p = codes " " ++ value p.name
 
+-- the names of a policy's profiles
 abbrev pub listed_profiles : Policy → List ℕ
 listed_profiles p = flat_map listed_profile p.profiles
 
@@ -76,6 +82,7 @@ with_first (Err line) rs = Err line
 with_first (Ok r) (Err line) = Err line
 with_first (Ok r) (Ok rs) = Ok (r ∷ rs)
 
+-- the request that a word is, or what is said of it
 abbrev pub request_of : Bool → List ℕ → Outcome Request
 request_of owned word = or_refused (no_request word) (request_in owned word)
 
@@ -93,6 +100,7 @@ in_sequence d label (r ∷ rs) = verdict_on d label r ∷ in_sequence d (reply d
 abbrev pub verdicts_on : Decided → Bool → Label → List Request → List Told
 verdicts_on d is_sequence label rs = if is_sequence then in_sequence d label rs else map (verdict_on d label) rs
 
+-- the answers to requests at a label, or the first line that refuses them
 abbrev pub answers_by : Decided → Bool → Outcome Label → Outcome (List Request) → Outcome (List Told)
 answers_by d is_sequence (Err line) rs = Err line
 answers_by d is_sequence (Ok label) (Err line) = Err line
@@ -102,6 +110,7 @@ answers_by d is_sequence (Ok label) (Ok rs) = Ok (verdicts_on d is_sequence labe
 unfoldable pub answers : Decided → Manner → List (List ℕ) → Outcome (List Told)
 answers d m words = answers_by d m.is_sequence (opening d m) (requests_of m.owned words)
 
+-- want of memory, or the line that the asking comes to
 abbrev pub IsRefusal : {A : Type 0} → AskFault → Outcome A → Type 0
 IsRefusal NoMemory o = Unit {0}
 IsRefusal (Refused line) o = o ≡ Err line.items

@@ -1,4 +1,5 @@
 -- The rules that a verdict names, and what it says that no rule allows, as the reasons of the answer have them.
+-- Source: own.
 use Rattle.std.specs.Prelude.{ℕ, List, [], ◌∷◌, ◌++◌, ◌==◌, Bool, true, false, Option, Some, option_map, option_to_list, option_and_then, if◌then◌else◌, slice_get, flat_map}
 use Rattle.aa_faults.specs.declared.fault.Spot.{Spot}
 use Rattle.aa_profiles.specs.declared.policy.Policy.{Policy}
@@ -31,6 +32,7 @@ pub record Named : Type 0 where
   pub letters : List ℕ
   pub text : List ℕ
 
+-- a rule that decided, without where it lies in memory
 abbrev pub named : DeciderLine → Named
 named l = record { is_target = l.is_target; denies = l.denies; path = l.path.items; place = l.place; letters = l.letters.items; text = l.text.items }
 
@@ -39,6 +41,7 @@ pub record Lacked : Type 0 where
   pub is_target : Bool
   pub letters : List ℕ
 
+-- letters that no rule allows, without where they lie in memory
 abbrev pub lacked : Lack → Lacked
 lacked l = record { is_target = l.is_target; letters = l.letters.items }
 
@@ -72,6 +75,7 @@ abbrev pub names_in : unit.Unit → ProfilePlaces → Bool → Reasons → List 
 names_in u places target r =
     flat_map (named_by u places r.listed target true) r.denies ++ flat_map (named_by u places r.listed target false) r.allows
 
+-- the letters that no rule allows, if there are any
 abbrev pub lacks_in : Bool → Reasons → List Lacked
 lacks_in target r = if r.lacking == 0 then [] else record { is_target = target; letters = letters_for r.listed r.lacking } ∷ []
 
@@ -79,6 +83,7 @@ lacks_in target r = if r.lacking == 0 then [] else record { is_target = target; 
 abbrev pub names_of : unit.Unit → ProfilePlaces → Option Reasons → Option Reasons → List Named
 names_of u places here target = flat_map (names_in u places false) (option_to_list here) ++ flat_map (names_in u places true) (option_to_list target)
 
+-- those of a request, and those of a link's target
 abbrev pub lacks_of : Option Reasons → Option Reasons → List Lacked
 lacks_of here target = flat_map (lacks_in false) (option_to_list here) ++ flat_map (lacks_in true) (option_to_list target)
 
@@ -95,6 +100,7 @@ unit_in units owners n = option_and_then (slice_get units) (slice_get owners n)
 abbrev pub why_here : List Policy → Label → Request → Option Reasons
 why_here policies label request = option_and_then (λ (p : Profile). reasons_of p request) (profile_at policies label)
 
+-- the rules that decide at a link's target
 abbrev pub why_target : List Policy → Label → Request → Option Reasons
 why_target policies label request = option_and_then (λ (p : Profile). target_reasons p request) (profile_at policies label)
 
@@ -104,5 +110,6 @@ named_for d label request =
     names_at (unit_in d.units.now d.owners.now (number_in label)) (slice_get d.places.now (number_in label))
     (why_here d.policies.now label request) (why_target d.policies.now label request)
 
+-- the letters of a request that no rule allows
 abbrev pub lacked_for : Decided → Label → Request → List Lacked
 lacked_for d label request = lacks_of (why_here d.policies.now label request) (why_target d.policies.now label request)

@@ -1,4 +1,5 @@
 -- The text of a rule, as it is shown.
+-- Source: own.
 use Rattle.std.specs.Prelude.{ℕ, zero, suc, nat_le, List, length, take, drop, if◌then◌else◌, slice_index}
 use Rattle.aa_places.specs.Places.{goes_on}
 use Rattle.aa_places.specs.RuleTexts.{rest_of_line, trimmed}

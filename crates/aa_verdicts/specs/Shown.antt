@@ -1,4 +1,5 @@
 -- Verdicts as they are printed.
+-- Source: own.
 use Rattle.std.specs.Prelude.{ℕ, List, [], ◌∷◌, ◌++◌, flat_map, codes, Bool, if◌then◌else◌, Option, Some, None}
 use Rattle.aa_audit.specs.Values.{value}
 use Rattle.aa_texts.specs.Texts.{place_text}
@@ -9,6 +10,7 @@ use Rattle.aa_verdicts.specs.Told.{Told}
 abbrev pub target_mark : Bool → List ℕ
 target_mark is_target = if is_target then codes "target: " else []
 
+-- what is said of a rule that decided
 abbrev pub decider_verb : Bool → List ℕ
 decider_verb denies = if denies then codes ": denies" else codes ": allows"
 
@@ -43,6 +45,7 @@ unfound_line (Some what) = codes "    " ++ what ++ codes "\n"
 unfoldable pub reasons_text : Told → List ℕ
 reasons_text t = flat_map decider_line t.deciders ++ flat_map lack_line t.lacking ++ unfound_line t.unfound
 
+-- what is said of the verdict
 abbrev pub verdict_word : Bool → List ℕ
 verdict_word granted = if granted then codes "granted " else codes "denied "
 
@@ -51,9 +54,11 @@ abbrev pub label_mark : Option (List ℕ) → List ℕ
 label_mark None = []
 label_mark (Some name) = codes " label=" ++ value name
 
+-- what is said of the environment
 abbrev pub scrub_mark : Bool → List ℕ
 scrub_mark scrub = if scrub then codes " scrub" else []
 
+-- what is said of complain mode
 abbrev pub complain_mark : Bool → List ℕ
 complain_mark complain = if complain then codes " complain" else []
 
@@ -61,5 +66,6 @@ complain_mark complain = if complain then codes " complain" else []
 unfoldable pub head_line : Told → List ℕ
 head_line t = verdict_word t.granted ++ t.word ++ label_mark t.label ++ scrub_mark t.scrub ++ complain_mark t.complain ++ codes "\n"
 
+-- the lines of a verdict
 abbrev pub verdict_text : Told → List ℕ
 verdict_text t = head_line t ++ reasons_text t

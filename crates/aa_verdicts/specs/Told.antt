@@ -1,4 +1,5 @@
 -- All that a verdict tells, by the policies, the label of the task and its request.
+-- Source: own.
 use Rattle.std.specs.Prelude.{ℕ, List, [], ◌∷◌, map, ◌==◌, ◌&&◌, ◌||◌, Bool, true, false, not, codes, Option, Some, None, option_map, if◌then◌else◌}
 use Rattle.std.specs.List.{list_any}
 use Rattle.aa_profiles.specs.declared.policy.Policy.{Policy}
@@ -26,6 +27,7 @@ pub record Told : Type 0 where
   pub lacking : List Lacked
   pub unfound : Option (List ℕ)
 
+-- a verdict without where it lies in memory
 abbrev pub told : Verdict → Told
 told v = record {
   word = v.word.items;
@@ -38,6 +40,7 @@ told v = record {
   unfound = option_map (λ what. what.now) v.unfound;
 }
 
+-- both are one label
 abbrev pub is_same : Label → Label → Bool
 is_same (Unconfined j) (Unconfined k) = j == k
 is_same (Confined j m) (Confined k n) = j == k && m == n
@@ -48,6 +51,7 @@ is_same (Confined j m) (Unconfined k) = false
 abbrev pub label_told : List Policy → Label → Label → Option (List ℕ)
 label_told policies before after = if is_same before after then None else Some (label_name policies after)
 
+-- the list is empty
 abbrev pub is_nil : {X : Type 0} → List X → Bool
 is_nil [] = true
 is_nil (x ∷ xs) = false

@@ -1,4 +1,5 @@
 -- What a verdict has of the mediator's answer, and where the rules that it names stand.
+-- Source: apparmor.d(5), "Profile flags"; own.
 use Rattle.std.specs.Prelude.{ℕ, ◌≡◌, List, Bool, true, false, Option, None}
 use Rattle.std.specs.Option.{option_map_or}
 use Rattle.aa_faults.specs.declared.fault.Spot.{Spot}
@@ -16,6 +17,7 @@ use Rattle.aa_asks.specs.declared.deciders.Listed.TheVariants.{Files, Caps, Nets
 use Rattle.aa_asks.specs.declared.places.ProfilePlaces.{ProfilePlaces}
 use Rattle.aa_verdicts.specs.declared.verdict.Verdict.{Verdict}
 
+-- complain mode granted it
 abbrev pub says_allowed : NoteWord → Bool
 says_allowed Allowed = true
 says_allowed _ = false

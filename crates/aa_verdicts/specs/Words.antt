@@ -1,8 +1,10 @@
 -- The words that a text's lines are.
+-- Source: own.
 use Rattle.std.specs.Prelude.{ℕ, ◌==◌, List, [], ◌∷◌, map, flat_map, Vec}
 use Rattle.std.specs.List.{slice_split}
 use Rattle.std.specs.declared.alloc.Global.{Global}
 
+-- what the lists hold
 abbrev pub texts : List (Vec ℕ Global) → List (List ℕ)
 texts words = map (λ w. w.items) words
 

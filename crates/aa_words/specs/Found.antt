@@ -1,4 +1,5 @@
 -- The includes of a text by itself, whatever they open.
+-- Source: apparmor.d(5), "#include mechanism".
 use Rattle.std.specs.Prelude.{ℕ, ◌+◌, ◌≡◌, ◌⊎◌, List, [], ◌∷◌, ◌++◌, length, Bool, true, false, if◌then◌else◌, Option, None}
 use Rattle.aa_words.specs.declared.piece.Place.{Place}
 use Rattle.aa_words.specs.Splits.{Part, spelled, start, piece_at, is_include}
@@ -9,6 +10,7 @@ pub record IncludeData : Type 0 where
   pub byte : ℕ
   pub text : List ℕ
 
+-- the include that a part of a text is, if it is one
 abbrev pub include_from : ℕ → Part → List IncludeData
 include_from at p = if is_include p.kind then record { byte = at; text = p.text } ∷ [] else []
 

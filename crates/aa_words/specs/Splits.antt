@@ -1,4 +1,5 @@
 -- The words of a text: it is cut into pieces, each what stands first there and as long as its kind allows.
+-- Source: apparmor.d(5), "Format", "Rule Qualifiers", "#include mechanism"; own.
 use Rattle.std.specs.Prelude.{ℕ, zero, suc, nat_lt, nat_le, Result, Ok, Err, ◌+◌, ◌-◌, ◌≤◌, ◌≡◌, List, [], ◌∷◌, ◌++◌, length, map, take, drop, flat_map, Bool, true, false, not, ◌==◌, ◌&&◌, if◌then◌else◌, Option, Some, None, codes, unwrap_or, is_some}
 use Rattle.std.specs.List.{list_any}
 use Rattle.std.specs.Str.{bytes_eq}
@@ -27,9 +28,11 @@ pub record WordData : Type 0 where
   pub text : List ℕ
   pub span : Span
 
+-- a word without where it lies in memory
 abbrev pub word_data : Word → WordData
 word_data w = record { kind = w.kind; text = w.text.now; span = w.span }
 
+-- words without where they lie in memory
 abbrev pub words_data : List Word → List WordData
 words_data ws = map word_data ws
 
@@ -42,6 +45,7 @@ pub record Part : Type 0 where
 abbrev pub start : Place
 start = record { rule = Begins; parens = 0; behind_run = false }
 
+-- a rule begins at the place
 abbrev pub is_beginning : RulePlace → Bool
 is_beginning Begins = true
 is_beginning _ = false
@@ -52,13 +56,16 @@ may_skip Begins = true
 may_skip Qualified = true
 may_skip _ = false
 
+-- an assignment's values stand at the place
 abbrev pub is_among_values : RulePlace → Bool
 is_among_values Values = true
 is_among_values _ = false
 
+-- the text is one of these
 abbrev pub is_one_of : List (List ℕ) → List ℕ → Bool
 is_one_of names text = list_any (λ n. bytes_eq text n) names
 
+-- the qualifiers of a rule
 abbrev pub qualifiers : List (List ℕ)
 qualifiers = codes "audit" ∷ codes "allow" ∷ codes "deny" ∷ []
 
@@ -191,6 +198,7 @@ is_run (Token Quoted) = true
 is_run (Token Value) = true
 is_run _ = false
 
+-- the place behind a piece
 abbrev pub place_after : Place → Piece → List ℕ → Place
 place_after place k text = record { rule = rule_after place k text; parens = parens_after place.parens k; behind_run = is_run k }
 
@@ -203,10 +211,12 @@ pub record IsPart (place : Place) (p : Part) (rest : List ℕ) : Type 0 where
   pub stands : piece_at place (p.text ++ rest) ≡ Some p.kind
   pub long : length p.text ≡ extent p.kind (p.text ++ rest)
 
+-- each part stands at the place behind those before it, as long as its kind allows
 abbrev pub AreParts : Place → List Part → Type 0
 AreParts place [] = Unit {0}
 AreParts place (p ∷ ps) = IsPart place p (spelled ps) × AreParts (place_after place p.kind p.text) ps
 
+-- the word that these bytes of a reading are
 abbrev pub reading_word : Reading → WordKind → ℕ → List ℕ → WordData
 reading_word r kind at text = record { kind = kind; text = text; span = record { reading = r.number; file = r.file; start = at; end = at + length text } }
 
@@ -222,6 +232,7 @@ kind_of QuotedValue = Some Value
 kind_of (Token kind) = Some kind
 kind_of _ = None
 
+-- the piece is a text in quotes
 abbrev pub is_in_quotes : Piece → Bool
 is_in_quotes QuotedValue = true
 is_in_quotes (Token Quoted) = true
@@ -232,6 +243,7 @@ abbrev pub token_word : Reading → Bool → ℕ → List ℕ → WordKind → W
 token_word r true at text kind = reading_word r kind (at + 1) (unquoted text)
 token_word r false at text kind = reading_word r kind at text
 
+-- the word that a piece is, if it is one
 abbrev pub words_in : Reading → Bool → ℕ → List ℕ → Option WordKind → List WordData
 words_in r in_quotes at text None = []
 words_in r in_quotes at text (Some kind) = token_word r in_quotes at text kind ∷ []
@@ -255,9 +267,11 @@ pub record Opening : Type 0 where
 abbrev pub fits : Count → List ℕ → Bool
 fits n text = nat_lt n.readings 4096 && nat_le (length text) (16777216 - n.bytes)
 
+-- the reading of an included source, and the counts with it
 abbrev pub opened : Count → ℕ × List ℕ → Opening
 opened n source = record { reading = record { number = n.readings; file = source.0 }; text = source.1; count = record { readings = n.readings + 1; bytes = n.bytes + length source.1 } }
 
+-- the fault of a kind at a place
 abbrev pub fault_of_kind : PolicyKind → Spot → PolicyFault
 fault_of_kind kind spot = record { kind = kind; at = spot }
 
@@ -274,9 +288,11 @@ pub record Setting : Type 0 where
   pub depth : ℕ
   pub reading : Reading
 
+-- what an include opens: a reading, nothing, or a fault
 abbrev pub include_opens : Setting → ℕ → List ℕ → Count → Result (Option Opening) PolicyFault
 include_opens s at text n = opens s.depth (record { file = s.reading.file; byte = at }) (is_optional text) n (source_from 1 (included_name text) s.sources)
 
+-- the piece is an include
 abbrev pub is_include : Piece → Bool
 is_include Include = true
 is_include _ = false
@@ -287,6 +303,7 @@ IncludeGives deeper n (Ok None) ws m = (ws ≡ []) × (m ≡ n)
 IncludeGives deeper n (Ok (Some o)) ws m = deeper o.reading o.text o.count ws m
 IncludeGives deeper n (Err fault) ws m = ⊥
 
+-- a piece gives these words and leaves these counts: an include those of its source, another its own
 abbrev pub PieceGives : (Reading → List ℕ → Count → List WordData → Count → Type 0) → Setting → ℕ → Piece → List ℕ → Count → Bool → List WordData → Count → Type 0
 PieceGives deeper s at k text n true ws m = IncludeGives deeper n (include_opens s at text n) ws m
 PieceGives deeper s at k text n false ws m = (ws ≡ word_of s.reading at k text) × (m ≡ n)
@@ -310,9 +327,11 @@ unfoldable pub Reads : ℕ → List (List ℕ × List ℕ) → Reading → List 
 Reads zero sources r text n ws m = ⊥
 Reads (suc d) sources r text n ws m = ReadsBy (Reads d sources) (record { sources = sources; depth = d; reading = r }) text n ws m
 
+-- the reading of the main text
 abbrev pub main_reading : Reading
 main_reading = record { number = 0; file = 0 }
 
+-- what is counted once the main text is read
 abbrev pub main_count : List ℕ → Count
 main_count main = record { readings = 1; bytes = length main }
 

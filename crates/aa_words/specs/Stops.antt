@@ -1,4 +1,5 @@
 -- Where and why a text can't be cut further: at the first place where no piece stands, or at an include that is refused.
+-- Source: own.
 use Rattle.std.specs.Prelude.{ℕ, zero, suc, false, drop, ◌==◌, ◌+◌, ◌-◌, ◌<◌, ◌≤◌, ◌≡◌, ◌⊎◌, List, [], ◌∷◌, ◌++◌, length, take, if◌then◌else◌, Option, Some, None, Result, Ok, Err, codes, Bool, ◌&&◌}
 use Rattle.std.specs.Str.{bytes_eq}
 use Rattle.aa_faults.specs.declared.fault.PolicyKind.TheVariants.{Syntax, TooLarge}
@@ -17,6 +18,7 @@ abbrev pub form_reach : List ℕ → Result (List ℕ) (List ℕ) → ℕ
 form_reach bytes (Ok rest) = 0
 form_reach bytes (Err broken) = length bytes - length broken
 
+-- the keyword of an include stands first, whole
 abbrev pub is_keyword : List ℕ → Bool
 is_keyword bytes = bytes_eq (take (name_len bytes) bytes) (codes "include")
 

@@ -19,6 +19,7 @@ pub record StandsIn (sources : List (List ℕ × List ℕ)) (main : List ℕ) (w
   pub within : w.span.end ≤ length text
   pub slice : w.text ≡ take (w.span.end - w.span.start) (drop w.span.start text)
 
+-- of two words of one reading the later begins where the earlier ends, or behind
 abbrev pub IsBehind : WordData → WordData → Type 0
 IsBehind v w = v.span.reading ≡ w.span.reading → v.span.end ≤ w.span.start
 
