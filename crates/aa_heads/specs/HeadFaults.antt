@@ -92,5 +92,6 @@ pub data AbiStops (ws rest : List WordData) : Type 0 where
   NoAbiName : Keyword (codes "abi") ws rest → LacksAbiName rest → AbiStops ws rest
   NoAbiComma : (word : WordData) → (named : List WordData) → Keyword (codes "abi") ws named → NamesAbi named word rest → Lacks Comma rest → AbiStops ws rest
 
+-- and so they are refused
 abbrev pub AbiFails : Production PolicyKind
 AbiFails ws kind rest = AbiStops ws rest × (kind ≡ Syntax)
