@@ -3,9 +3,9 @@
 
 Usage: bench/building.py FOLDER 'NAME: LIBRARY ..'     (the folder of the crate, and what would be its line of crates.txt)
 
-The program stays in out/bench. The repository's crates that it uses are proved where they stand, and keep that work; the
-program itself is proved in a temporary folder over copies of them. Its sources end in .of, so that the gate doesn't take
-them for its own. How far it is goes to standard error; standard input is for the program, which is run once.
+The program stays in out/bench. It is proved in a temporary folder over copies of the repository's crates that it uses, of which
+what this machine has proved before is taken (tools/build). Its sources end in .of, so that the gate doesn't take them for its own.
+How far it is goes to standard error.
 """
 
 import contextlib
@@ -56,12 +56,12 @@ def sum_of(folder, line, crates, known):
 
 
 def copy(folder, name, line, crates, known, to):
-    """Lays out a repository of the program and copies of the proved crates."""
+    """Lays out a repository of the program and copies of the crates."""
     shutil.copy(os.path.join(TOP, "HANDLES"), to)
     with open(os.path.join(to, "crates.txt"), "w") as file:
         file.writelines(f"{it}\n" for it in [*(known[crate][0] for crate in crates), line])
     for crate in crates:
-        for part in (*PARTS, os.path.join("out", "rlib")):
+        for part in PARTS:
             source = os.path.join(TOP, "crates", crate, part)
             if os.path.isdir(source):
                 shutil.copytree(source, os.path.join(to, "crates", crate, part))
@@ -81,12 +81,9 @@ def build(folder, line):
         with open(record) as file:
             if file.read() == wanted and os.access(program, os.X_OK):
                 return program
-    for crate in libraries.split():
-        if crate in known:
-            subprocess.run([BUILD, TOP, crate], stdout=sys.stderr, check=True)
     with tempfile.TemporaryDirectory(prefix="bench-") as to:
         copy(folder, name, line, crates, known, to)
-        subprocess.run([BUILD, to, name], stdout=subprocess.DEVNULL, check=True)
+        subprocess.run([BUILD, "--bench", to, name], stdin=subprocess.DEVNULL, stdout=subprocess.DEVNULL, check=True)
         os.makedirs(BUILT, exist_ok=True)
         shutil.copy(os.path.join(to, "crates", name, "out", name), program)
     with open(record, "w") as file:
