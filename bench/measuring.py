@@ -5,6 +5,7 @@ median of each counts: a slow moment of the machine meets all of them alike. (Th
 sometimes left alone by the machine, a long one hardly ever.)
 """
 
+import contextlib
 import json
 import math
 import os
@@ -21,12 +22,39 @@ PROGRAM = os.path.join(TOP, "crates", "aamediate", "out", "aamediate")
 FEATURES = "/usr/share/apparmor-features/features"
 
 
-def introduce(repeats):
+# What keeps a processor busy, and ends with whoever started it.
+BUSY = "import os, sys\nwhile os.getppid() == int(sys.argv[1]):\n    for _ in range(1_000_000):\n        pass"
+
+
+def introduce(repeats, program=None):
     """Says what is measured where; ends if the program isn't built."""
-    if not os.access(PROGRAM, os.X_OK):
-        sys.exit("build it first: ./aamediate --help")
+    program = program or PROGRAM
+    if not os.access(program, os.X_OK):
+        sys.exit("prove and build it first: ./aamediate --prove" if program == PROGRAM else f"{program} is no program")
     version = subprocess.run(["rt", "version"], capture_output=True, text=True).stdout.strip()
-    print(f"{version}; {os.cpu_count()} processors; medians of {repeats} runs, which take turns")
+    usable = len(os.sched_getaffinity(0))
+    print(f"{version}; {usable} of {os.cpu_count()} processors; medians of {repeats} runs, which take turns")
+
+
+def load():
+    """How many processes wanted a processor, over the last 1, 5 and 15 minutes."""
+    return " ".join(f"{it:.2f}" for it in os.getloadavg())
+
+
+@contextlib.contextmanager
+def busy(count):
+    """That many processes that do nothing but keep processors busy, until it ends."""
+    started = []
+    try:
+        for _ in range(count):
+            started.append(subprocess.Popen([sys.executable, "-c", BUSY, str(os.getpid())], stdin=subprocess.DEVNULL))
+        # (so that all of them have begun)
+        time.sleep(1 if count else 0)
+        yield
+    finally:
+        for it in started:
+            it.kill()
+            it.wait()
 
 
 def has_parser():
@@ -45,14 +73,26 @@ def job_of(policy, includes=None):
     return json.dumps(job)
 
 
-def seconds_of(command, given, refused=False):
-    """What a command takes of the processor with that standard input; it may say that a policy is refused, where that is wanted."""
+def cost_of(command, given, refused=False):
+    """What a command takes of the clock and of the processor with that standard input; it may say that a policy is refused, where that is
+    wanted."""
+    begun = time.perf_counter()
     child = subprocess.Popen(command, stdin=given, stdout=subprocess.DEVNULL, stderr=subprocess.DEVNULL)
-    _, status, used = os.wait4(child.pid, 0)
+    try:
+        _, status, used = os.wait4(child.pid, 0)
+    except BaseException:
+        child.kill()
+        raise
+    clock = time.perf_counter() - begun
     child.returncode = status
     if status and not (refused and os.waitstatus_to_exitcode(status) == 1):
         sys.exit(f"{command} ended with {status}")
-    return used.ru_utime + used.ru_stime
+    return clock, used.ru_utime + used.ru_stime
+
+
+def seconds_of(command, given, refused=False):
+    """What a command takes of the processor, as `cost_of` has it."""
+    return cost_of(command, given, refused)[1]
 
 
 def peak_of(command):
