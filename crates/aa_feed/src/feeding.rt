@@ -7,10 +7,9 @@ ghost use Rattle.aa_feed.specs.Fed.{AreSame, AreAllFed, answers_of};
 use crate::beside::{Work, side_by_side};
 use crate::feed::{Feed, Finished, Turned};
 use aa_lane::{Lane, Machine, Served, Server};
-use aa_pool::serve_all;
+use aa_pool::{Bell, Shift, serve_with};
 use std::alloc::Global;
 use std::sync::Wait;
-use std::thread;
 use std::thread::Threads;
 
 // A burst at each lane. Whether all have finished, and whether there was nothing to do at any.
@@ -30,18 +29,17 @@ fn round<'l, 'm, M: Machine>(feeds: &mut [Feed<'l, 'm, M>]) -> (bool, bool)
     (finished, idle)
 }
 
-// All lanes are fed by turns, until each owner has left. Where there is nothing to do at any, others come first.
-fn feed_all<'l, 'm, M: Machine, R: Wait>(rt: &R, feeds: &mut [Feed<'l, 'm, M>])
+// All lanes are fed by turns, until each owner has left. Where there is nothing to do at any, those who serve them come first.
+fn feed_all<'l, 'm, M: Machine, R: Wait>(rt: &R, bell: &Bell, feeds: &mut [Feed<'l, 'm, M>])
     ensures { AreAllFed feeds.old feeds.new }
 {
     'feeding: for _ in rt.forever() {
         let (finished, idle) = round(feeds);
         if finished {
+            bell.wake_all();
             return;
         }
-        if idle {
-            thread::yield_now();
-        }
+        bell.fed(rt, idle);
     }
     unreachable!()
 }
@@ -50,6 +48,7 @@ fn feed_all<'l, 'm, M: Machine, R: Wait>(rt: &R, feeds: &mut [Feed<'l, 'm, M>])
 #[derive(Drop)]
 struct Feeding<'l, 'm, M: Machine> {
     machine: &'m M,
+    bell: &'l Bell,
     feeds: Vec<Feed<'l, 'm, M>>,
 }
 
@@ -64,8 +63,12 @@ where
     ghost does = { λ f done. AreAllFed f.feeds.items done.items };
 
     fn run<R: Threads + Wait + Sync>(self, rt: &R) -> Vec<Feed<'l, 'm, M>> {
-        let Feeding { mut feeds, .. } = self;
-        feed_all(rt, feeds.as_mut_slice());
+        let Feeding {
+            bell,
+            mut feeds,
+            ..
+        } = self;
+        feed_all(rt, bell, feeds.as_mut_slice());
         feeds
     }
 }
@@ -80,16 +83,25 @@ pub struct Service<M: Machine> {
 }
 
 // Serves until the lane is settled.
-fn settle<'m, M: Machine, R: Wait>(rt: &R, lane: &Lane<'m, M>, server: Server<M>) -> Server<M>
+fn settle<'m, M: Machine, R: Wait>(
+    rt: &R,
+    bell: &Bell,
+    lane: &Lane<'m, M>,
+    server: Server<M>,
+) -> Server<M>
     requires { server.lane ≡ known lane.now }
     ensures { result.lane ≡ server.lane }
 {
     let mut server = server;
+    let mut shift = Shift::new();
     'serving: for _ in rt.forever() {
         match server.serve(lane) {
-            Served::Did(next) => server = next,
+            Served::Did(next) => {
+                bell.served(&mut shift);
+                server = next;
+            }
             Served::Idle(next) => {
-                thread::yield_now();
+                bell.looked(rt, &mut shift);
                 server = next;
             }
             Served::Settled(next) => return next,
@@ -101,6 +113,7 @@ fn settle<'m, M: Machine, R: Wait>(rt: &R, lane: &Lane<'m, M>, server: Server<M>
 // Serves one lane after the other until each is settled.
 fn settle_all<'m, M: Machine, R: Wait>(
     rt: &R,
+    bell: &Bell,
     lanes: &[Lane<'m, M>],
     servers: Vec<Server<M>>,
     room: Vec<Server<M>>,
@@ -113,7 +126,7 @@ fn settle_all<'m, M: Machine, R: Wait>(
     let mut settled = room;
     let mut at = 0;
     for server in servers {
-        settled.push_reserved(settle(rt, &lanes[at], server));
+        settled.push_reserved(settle(rt, bell, &lanes[at], server));
         at += 1;
     }
     settled
@@ -124,6 +137,7 @@ fn settle_all<'m, M: Machine, R: Wait>(
 struct Rota<'r, 'l, 'm, M: Machine, R> {
     rt: &'r R,
     alloc: Global,
+    bell: &'l Bell,
     lanes: &'l [Lane<'m, M>],
     service: Service<M>,
     workers: u32,
@@ -144,14 +158,15 @@ where
     let Rota {
         rt,
         alloc,
+        bell,
         lanes,
         service,
         workers,
     } = rota;
     let Service { servers, room } = service;
-    match serve_all(rt, alloc, lanes, servers, workers) {
+    match serve_with(rt, alloc, lanes, servers, workers, bell) {
         Ok(served) => served,
-        Err(refused) => settle_all(rt, lanes, refused.servers, room),
+        Err(refused) => settle_all(rt, bell, lanes, refused.servers, room),
     }
 }
 
@@ -161,6 +176,7 @@ fn feed_and_serve<'r, 'l, 'm, M: Machine + Sync, R: Threads + Wait + Sync>(
     rt: &'r R,
     alloc: Global,
     machine: &'m M,
+    bell: &'l Bell,
     lanes: &'l [Lane<'m, M>],
     feeds: Vec<Feed<'l, 'm, M>>,
     service: Service<M>,
@@ -179,13 +195,18 @@ where
     let rota = Rota {
         rt,
         alloc,
+        bell,
         lanes,
         service,
         workers,
     };
     let done = side_by_side::<Feeding<'l, 'm, M>, Rota<'r, 'l, 'm, M, R>, Vec<Server<M>>, _, R>(
         rt,
-        Feeding { machine, feeds },
+        Feeding {
+            machine,
+            bell,
+            feeds,
+        },
         rota,
         |rota| -> Vec<Server<M>>
             ensures { IsPermutation (map known rota.entry.lanes.now) (map (λ s. s.lane) result.items) }
@@ -296,6 +317,7 @@ fn feed_by<'l, 'm, M: Machine + Sync, R: Threads + Wait + Sync>(
     rt: &R,
     alloc: Global,
     machine: &'m M,
+    bell: &'l Bell,
     lanes: &'l [Lane<'m, M>],
     feeds: Vec<Feed<'l, 'm, M>>,
     service: Service<M>,
@@ -314,7 +336,7 @@ where
     if workers == 1 {
         return feed_by_one(rt, lanes, feeds, service);
     }
-    match feed_and_serve(rt, alloc, machine, lanes, feeds, service, workers) {
+    match feed_and_serve(rt, alloc, machine, bell, lanes, feeds, service, workers) {
         Ok(done) => done,
         Err((feeds, service)) => feed_by_one(rt, lanes, feeds, service),
     }
@@ -346,6 +368,7 @@ pub fn run_all<'l, 'm, M: Machine + Sync, R: Threads + Wait + Sync>(
     rt: &R,
     alloc: Global,
     machine: &'m M,
+    bell: &'l Bell,
     lanes: &'l [Lane<'m, M>],
     feeds: Vec<Feed<'l, 'm, M>>,
     service: Service<M>,
@@ -366,6 +389,6 @@ where
     ensures of { map (λ f. f.leaver.lane) result.0.items ≡ map known lanes.entry.now }
     ensures served { IsPermutation (map known lanes.entry.now) (map (λ s. s.lane) result.1.items) }
 {
-    let (feeds, served) = feed_by(rt, alloc, machine, lanes, feeds, service, workers);
+    let (feeds, served) = feed_by(rt, alloc, machine, bell, lanes, feeds, service, workers);
     (finish_all(machine, feeds, room), served)
 }

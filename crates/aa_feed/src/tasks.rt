@@ -12,7 +12,7 @@ use crate::feed::{Feed, Finished};
 use crate::feeding::{Service, run_all};
 use crate::next::next_of;
 use aa_lane::{Answered, Lane, Machine, Owner, Server, Shutter};
-use aa_pool::{Engine, EngineFault};
+use aa_pool::{Bell, Engine, EngineFault};
 use std::alloc::{AllocError, Global};
 use std::collections::VecDeque;
 use std::sync::Wait;
@@ -234,10 +234,12 @@ where
         servers,
         room: served,
     };
+    let bell = Bell::new();
     let (finished, served) = run_all(
         rt,
         alloc,
         machine,
+        &bell,
         lanes.as_slice(),
         feeds,
         service,

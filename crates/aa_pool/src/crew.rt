@@ -4,6 +4,7 @@ ghost use Rattle.crossbeam_queue.specs.Passes.{view, IsPassOf, IsSamePass};
 ghost use Rattle.aa_pool.specs.Once.{hand};
 ghost use Rattle.aa_pool.specs.Crew.{IsWorking};
 
+use crate::bell::{Bell, Shift};
 use crate::hand::{Hold, Puts, Queue, Takes};
 use crate::serving::{Serving, Turn};
 use std::sync::Wait;
@@ -45,25 +46,17 @@ pub fn serve_on<T: Serving, R: Wait>(
     unreachable!()
 }
 
-// How many turns in a row had nothing to do, after one more. After as many as make a round, others come first.
-fn rest(idle_turns: usize, idle: bool, round: usize) -> usize {
-    if !idle {
-        return 0;
-    }
-    let idle_turns = idle_turns.saturating_add(1);
-    if idle_turns < round {
-        return idle_turns;
-    }
-    thread::yield_now();
-    0
-}
-
 // Takes, serves and puts back, until there is nothing to take. What settles is kept.
-pub fn work<T: Serving + Drop, R: Wait>(rt: &R, queue: &Queue<T>, worker: &mut Worker<T>)
+fn take_turns<T: Serving + Drop, R: Wait>(
+    rt: &R,
+    queue: &Queue<T>,
+    bell: &Bell,
+    shift: &mut Shift,
+    worker: &mut Worker<T>,
+)
     requires { IsWorking T.place T.is_settled queue.now worker.old.pass worker.old.kept.items }
     ensures { IsWorking T.place T.is_settled queue.now worker.new.pass worker.new.kept.items }
 {
-    let mut idle_turns = 0;
     'serving: for _ in rt.forever() {
         if worker.kept.len() >= worker.kept.capacity() {
             break;
@@ -74,15 +67,32 @@ pub fn work<T: Serving + Drop, R: Wait>(rt: &R, queue: &Queue<T>, worker: &mut W
         let mut idle = false;
         if let Some(done) = serve_on(rt, queue, &mut worker.pass, taken, &mut idle) {
             worker.kept.push_reserved(done);
+            bell.settles();
         }
-        idle_turns = rest(idle_turns, idle, worker.kept.capacity());
+        bell.turned(rt, shift, idle);
     }
+}
+
+// The same, and who sleeps at its end is woken.
+pub fn work<T: Serving + Drop, R: Wait>(
+    rt: &R,
+    queue: &Queue<T>,
+    bell: &Bell,
+    worker: &mut Worker<T>,
+)
+    requires { IsWorking T.place T.is_settled queue.now worker.old.pass worker.old.kept.items }
+    ensures { IsWorking T.place T.is_settled queue.now worker.new.pass worker.new.kept.items }
+{
+    let mut shift = Shift::new();
+    take_turns(rt, queue, bell, &mut shift, worker);
+    bell.leaves(shift);
 }
 
 // All workers serve, each on a thread where one can be started, until each finds nothing to take.
 pub fn all_work<T: Serving + Drop + Send, R: Threads + Wait + Sync>(
     rt: &R,
     queue: &Queue<T>,
+    bell: &Bell,
     crew: &mut [Worker<T>],
 )
     requires { All (λ w. IsWorking T.place T.is_settled queue.now w.pass w.kept.items) crew.old }
@@ -90,5 +100,10 @@ pub fn all_work<T: Serving + Drop + Send, R: Threads + Wait + Sync>(
     ensures len { length crew.new ≡ length crew.old }
 {
     let threads = crew.len().max(1);
-    thread::for_each_mut(rt, crew, threads, &|_, worker| work(rt, queue, worker));
+    thread::for_each_mut(
+        rt,
+        crew,
+        threads,
+        &|_, worker| work(rt, queue, bell, worker),
+    );
 }

@@ -1,6 +1,7 @@
 //! A pool of workers that serve many lanes.
 #![tactic(auto)]
 
+mod bell;
 mod crew;
 mod engine;
 mod hand;
@@ -9,5 +10,6 @@ mod pool;
 mod serve;
 mod serving;
 
+pub use bell::{Bell, Shift};
 pub use engine::{Engine, EngineFault, shut_all};
-pub use serve::{PoolFault, PoolRefusal, serve_all};
+pub use serve::{PoolFault, PoolRefusal, serve_all, serve_with};

@@ -5,30 +5,29 @@ ghost use Rattle.crossbeam_queue.specs.Passes.{view, IsPassOf, IsSamePass, ruled
 ghost use Rattle.aa_pool.specs.Once.{hand};
 ghost use Rattle.aa_pool.specs.Crew.{IsWorking, IsLeading};
 
+use crate::bell::{Bell, Shift};
 use crate::crew::{Worker, all_work};
 use crate::hand::{HandsIn, Hold, Part, Queue, Room, TakesRest};
 use crate::serving::{Serving, Turn};
 use std::alloc::{AllocError, Global};
 use std::marker::Model;
 use std::sync::Wait;
-use std::thread;
 use std::thread::Threads;
 
 // Serves until it has settled.
-fn settle<T: Serving, R: Wait>(rt: &R, taken: T) -> T
+fn settle<T: Serving, R: Wait>(rt: &R, bell: &Bell, taken: T) -> T
     ensures place { T.place result ≡ T.place taken }
     ensures settled { T.is_settled result ≡ true }
 {
     let mut taken = taken;
-    let mut idle = false;
+    let mut shift = Shift::new();
     'turns: for _ in rt.forever() {
-        if idle {
-            thread::yield_now();
-        }
+        let mut idle = false;
         match taken.serve(&mut idle) {
             Turn::Settled(done) => return done,
             Turn::GoesOn(next) => taken = next,
         }
+        bell.looked_at(rt, &mut shift, idle);
     }
     unreachable!()
 }
@@ -78,6 +77,7 @@ fn take_in<T: Serving + Drop>(
 fn serve_rest<T: Serving + Drop, R: Wait>(
     rt: &R,
     queue: &Queue<T>,
+    bell: &Bell,
     pass: &mut Hold<T>,
     kept: &mut Vec<T>,
 )
@@ -91,7 +91,7 @@ fn serve_rest<T: Serving + Drop, R: Wait>(
         let Some(taken) = queue.pop_as::<TakesRest, R>(rt, pass) else {
             return;
         };
-        let done = settle(rt, taken);
+        let done = settle(rt, bell, taken);
         kept.push_reserved(done);
     }
     unreachable!()
@@ -175,7 +175,7 @@ impl<T: Serving + Drop> Pool<T> {
 
 impl<T: Serving + Drop + Send> Pool<T> {
     /// All that was handed in, once it has settled.
-    pub fn serve<R: Threads + Wait + Sync>(self, rt: &R) -> Vec<T>
+    pub fn serve<R: Threads + Wait + Sync>(self, rt: &R, bell: &Bell) -> Vec<T>
         requires { length self.handed ≤ self.room }
         ensures all { IsPermutation self.handed (map T.place result.items) }
         ensures settled { All (λ t. T.is_settled t ≡ true) result.items }
@@ -186,9 +186,9 @@ impl<T: Serving + Drop + Send> Pool<T> {
             mut crew,
             mut kept,
         } = self;
-        all_work(rt, &queue, crew.as_mut_slice());
+        all_work(rt, &queue, bell, crew.as_mut_slice());
         take_all_in(&queue, &mut pass, &mut kept, crew);
-        serve_rest(rt, &queue, &mut pass, &mut kept);
+        serve_rest(rt, &queue, bell, &mut pass, &mut kept);
         kept
     }
 }
