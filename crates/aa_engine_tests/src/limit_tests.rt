@@ -133,6 +133,17 @@ fn sixteen_workers_decide_as_many_tasks_as_there_may_be(rt: HostRuntime) {
 }
 
 #[test]
+fn any_small_number_of_tasks_is_decided(rt: HostRuntime) {
+    for tasks in 0..33u32 {
+        let job = job_of(&rt, rt.alloc(), tasks, 2, "1");
+        let text = verdicts_of(&rt, rt.alloc(), tasks, 2);
+        for workers in [1, 2] {
+            is_decided(&rt, rt.alloc(), workers, job.as_str(), text.as_str());
+        }
+    }
+}
+
+#[test]
 fn a_task_asks_as_often_as_it_may(rt: HostRuntime) {
     let text = verdicts_of(&rt, rt.alloc(), 1, 65_536);
     for (capacity, workers) in [("1", 1), ("1024", 1), ("1024", 2)] {

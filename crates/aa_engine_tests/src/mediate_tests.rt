@@ -68,24 +68,25 @@ fn are_answered_so<M: Machine<Answer = Answer>>(
     true
 }
 
-/// Whether the answers to the tasks are those of the tasks that move, or why there are none.
+/// Whether the answers to the tasks are these, or why there are none.
 fn moves<R: Threads + Wait + Sync>(
     rt: &R,
     alloc: Global,
     requests: Requests,
     job: &Job,
     policies: &[Compiled],
+    wanted: &[&[(bool, Label)]],
     workers: u32,
 ) -> Result<bool, MediateFault> {
     let mediator = Mediator::new(policies);
     match requests {
         Requests::Copied => {
             let rows = answers(rt, alloc, job, policies, &mediator, workers)?;
-            Ok(are_answered_so(rows.as_slice(), &MOVES))
+            Ok(are_answered_so(rows.as_slice(), wanted))
         }
         Requests::Lent => {
             let rows = lent_answers(rt, alloc, job, policies, &mediator, workers)?;
-            Ok(are_answered_so(rows.as_slice(), &MOVES))
+            Ok(are_answered_so(rows.as_slice(), wanted))
         }
     }
 }
@@ -96,18 +97,56 @@ fn moves_of<R: Abort + Threads + Wait + Sync>(
     alloc: Global,
     requests: Requests,
     text: &[u8],
+    wanted: &[&[(bool, Label)]],
     workers: u32,
 ) -> Result<bool, MediateFault> {
     let job = a_job(rt, alloc, text);
     let policies = compiled(rt, alloc, &job);
-    moves(rt, alloc, requests, &job, policies.as_slice(), workers)
+    moves(
+        rt,
+        alloc,
+        requests,
+        &job,
+        policies.as_slice(),
+        wanted,
+        workers,
+    )
 }
 
 #[test]
 fn three_tasks_are_answered_by_any_number_of_workers(rt: HostRuntime) {
     for requests in BOTH {
         for workers in [1, 2, 16] {
-            let given = moves_of(&rt, rt.alloc(), requests, MOVING_JOB, workers);
+            let given = moves_of(&rt, rt.alloc(), requests, MOVING_JOB, &MOVES, workers);
+            equal(&rt, given, Ok(true));
+        }
+    }
+}
+
+/// A task that asks for each kind of request: a file, a link, an execution, a change of the profile, a capability, a socket and
+/// another policy, and then for the file again.
+const EACH_KIND: &[u8] =
+    b"{\"policies\":[\"profile p { owner /f r, /l rwl, /t rw, /b Px -> q, capability chown, network inet stream, } profile q { change_profile -> p, }\",\"profile p { /f w, }\"],\"tasks\":[{\"label\":\"p\",\"requests\":[{\"file\":\"/f\",\"mask\":\"r\",\"owned\":true},{\"link\":\"/l\",\"to\":\"/t\"},{\"exec\":\"/b\"},{\"change\":\"p\"},{\"cap\":\"chown\"},{\"net\":\"inet\",\"type\":\"stream\"},{\"reload\":1},{\"file\":\"/f\",\"mask\":\"r\",\"owned\":true}]}]}";
+
+/// The profile of the same name in the other policy.
+const P_OF_OTHER: Label = Label::Confined(1, 0);
+
+const OF_EACH_KIND: [&[(bool, Label)]; 1] = [&[
+    (true, P),
+    (true, P),
+    (true, Q),
+    (true, P),
+    (true, P),
+    (true, P),
+    (true, P_OF_OTHER),
+    (false, P_OF_OTHER),
+]];
+
+#[test]
+fn requests_of_each_kind_are_answered(rt: HostRuntime) {
+    for requests in BOTH {
+        for workers in [1, 2] {
+            let given = moves_of(&rt, rt.alloc(), requests, EACH_KIND, &OF_EACH_KIND, workers);
             equal(&rt, given, Ok(true));
         }
     }
@@ -120,7 +159,7 @@ const UNKNOWN: &[u8] =
 fn the_first_task_without_a_profile_is_named(rt: HostRuntime) {
     for requests in BOTH {
         for workers in [1, 2] {
-            let given = moves_of(&rt, rt.alloc(), requests, UNKNOWN, workers);
+            let given = moves_of(&rt, rt.alloc(), requests, UNKNOWN, &MOVES, workers);
             equal(&rt, given, Err(MediateFault::UnknownProfile(1)));
         }
     }
@@ -139,7 +178,15 @@ fn is_answered<R: Abort + Threads + Wait + Sync>(
     let Some(policies) = policies_of(alloc, &job) else {
         return false;
     };
-    let given = moves(rt, alloc, requests, &job, policies.as_slice(), workers);
+    let given = moves(
+        rt,
+        alloc,
+        requests,
+        &job,
+        policies.as_slice(),
+        &MOVES,
+        workers,
+    );
     if given != Err(MediateFault::NoMemory) {
         equal(rt, given, Ok(true));
     }
