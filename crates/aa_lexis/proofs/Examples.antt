@@ -1,13 +1,22 @@
 -- The definitions at their examples.
-use Rattle.std.proofs.Common.{◌≡◌, ℕ, true, false, List, [], ◌∷◌, Some, None, refl}
+use Rattle.std.proofs.Common.{◌≡◌, ℕ, true, false, List, [], ◌∷◌, Some, None, refl, sym}
 use Rattle.std.specs.Prelude.{codes}
 use Rattle.aa_extents.specs.Runs.{path_len, quoted_len, quote_len, skip_len}
+use Rattle.aa_faults.specs.declared.fault.PolicyKind.TheVariants.{Syntax, Unsupported, UnknownWord, WriteWithAppend}
 use Rattle.aa_glob.specs.Pieces.{pieces, Use, pieces_from, name_len}
 use Rattle.aa_heads.specs.Preamble.{Names}
 use Rattle.aa_profiles.specs.declared.rule.ExecKind.TheVariants.{Profile}
 use Rattle.aa_profiles.specs.declared.rule.Fallback.TheVariants.{Inherit}
 use Rattle.aa_rules.specs.declared.modes.Mode.{Mode}
-use Rattle.aa_rules.specs.Modes.{mode, how, mode_of, exec_of, with_part, letters_bits}
+use Rattle.aa_rules.specs.Modes.{mode, how, mode_of, exec_of, with_part, letters_bits, mode_fault}
+use Rattle.aa_rules.specs.Names.{is_left_out}
+use Rattle.aa_rules.specs.NetRules.{one_name, two_names, transport_kinds}
+use Rattle.aa_rules.specs.Phrases.{Starts}
+use Rattle.aa_rules.specs.RuleFaults.{first_name_fault, rule_name_fault, socket_name_fault, NetFails}
+use Rattle.aa_tables.specs.Tables.{family_names, sock_type_names}
+use Rattle.aa_words.specs.declared.word.WordKind.TheVariants.{Name}
+use Rattle.aa_words.specs.Splits.{WordData}
+use Rattle.aa_lexis.specs.Names.{name}
 use Rattle.aa_lexis.specs.Places.{EndsFirst}
 use Rattle.aa_lexis.specs.Paths.{PathEnds}
 use Rattle.aa_lexis.specs.ModeParts.{IsModeOf}
@@ -90,3 +99,60 @@ use_or_not name e = absurd cc
 
 pub none : (name : List ℕ) → Names (codes "@{1A}") name → ⊥
 none name n = use_or_not name ((pattern_variables (codes "@{1A}") name).1 n)
+
+pub left_out_first : first_name_fault false true (codes "all") ≡ Unsupported
+unfolding first_name_fault is_left_out
+left_out_first = refl
+
+pub unknown_first : first_name_fault false false (codes "rw") ≡ UnknownWord
+unfolding first_name_fault is_left_out
+unknown_first = refl
+
+pub faulty_first : first_name_fault false true (codes "wa") ≡ WriteWithAppend
+unfolding first_name_fault is_left_out mode_fault with_part letters_bits
+faulty_first = refl
+
+pub owned_first : rule_name_fault true false false (codes "change_profile") ≡ Syntax
+unfolding rule_name_fault
+owned_first = refl
+
+pub condition_name : socket_name_fault (codes "peer") ≡ Unsupported
+unfolding socket_name_fault
+condition_name = refl
+
+pub family_name : socket_name_fault (codes "inet") ≡ Syntax
+unfolding socket_name_fault one_name family_names
+family_name = refl
+
+pub unknown_name : socket_name_fault (codes "inet4") ≡ UnknownWord
+unfolding socket_name_fault one_name transport_kinds family_names sock_type_names
+unknown_name = refl
+
+starts : (text : List ℕ) (ws : List WordData) → Starts Name (name text ∷ ws) (name text) ws
+starts text ws = record { words = refl; kind_is = refl }
+
+pub fails_first : NetFails (name (codes "peer") ∷ name (codes "inet") ∷ []) Unsupported (name (codes "peer") ∷ name (codes "inet") ∷ [])
+unfolding one_name transport_kinds family_names sock_type_names
+fails_first = record {
+  names = [];
+  name = name (codes "peer");
+  after = name (codes "inet") ∷ [];
+  before = refl;
+  stands = starts (codes "peer") (name (codes "inet") ∷ []);
+  meant = refl;
+  meaningless = refl;
+  kind_is = sym condition_name;
+}
+
+pub fails_second : NetFails (name (codes "stream") ∷ name (codes "inet") ∷ []) Syntax (name (codes "inet") ∷ [])
+unfolding one_name two_names family_names sock_type_names
+fails_second = record {
+  names = codes "stream" ∷ [];
+  name = name (codes "inet");
+  after = [];
+  before = (name (codes "inet") ∷ [], record { name = name (codes "stream"); stands = starts (codes "stream") (name (codes "inet") ∷ []); text_is = refl }, refl);
+  stands = starts (codes "inet") [];
+  meant = refl;
+  meaningless = refl;
+  kind_is = sym family_name;
+}

@@ -5,3 +5,4 @@ pub mod RunEnds
 pub mod ModeParts
 pub mod Assigned
 pub mod PassedOver
+pub mod Names

@@ -10,4 +10,7 @@ pub use laws::{
     passed_over_rules_end_first, paths_end_first, quotes_close_first, runs_end_first,
     variables_are_alike,
 };
-pub use worked::{worked_modes, worked_paths, worked_quotes, worked_rules, worked_variables};
+pub use worked::{
+    worked_first_names, worked_flags, worked_modes, worked_paths, worked_quotes, worked_rules,
+    worked_socket_names, worked_variables,
+};
