@@ -9,13 +9,14 @@ use Rattle.aa_faults.specs.declared.fault.PolicyFault.{PolicyFault}
 use Rattle.aa_faults.specs.declared.fault.PolicyKind.{PolicyKind}
 use Rattle.aa_faults.specs.declared.fault.PolicyKind.TheVariants.{NoMemory, VariableTwice, DuplicateProfile, ConflictingExec, IncludeDepth, TooLarge}
 use Rattle.aa_faults.specs.Kinds.{at_start, IsRefusal}
-use Rattle.aa_words.specs.Splits.{WordData, Splits, Opening, fits, opened, opens, fault_of_kind, main_reading, main_count}
+use Rattle.aa_words.specs.declared.word.Word.{Word}
+use Rattle.aa_words.specs.Splits.{WordData, words_data, Splits, Opening, fits, opened, opens, fault_of_kind, main_reading, main_count}
 use Rattle.aa_words.specs.Stops.{IncludeFails, Fails, IsFaultOf}
 use Rattle.aa_profiles.specs.declared.policy.Policy.{Policy}
 use Rattle.aa_profiles.specs.declared.policy.Profile.{Profile}
 use Rattle.aa_compile.specs.Checks.{IsRefused, ManyTops, AtProfile, Fails as Refutes, ManyFiles, Conflicting, ManyChildren}
 use Rattle.std.proofs.lemmas.List.{append-nil}
-use Rattle.aa_policies.specs.Policies.{Source, CanFollow, IsRefusedBehind, IsFaultOfSources, IsFaultOfWords, OfText, OfWords, OfPolicy}
+use Rattle.aa_policies.specs.Policies.{Source, CanFollow, IsRefusedBehind, IsFaultOfSources, end_of, IsFaultOfWords, OfText, OfWords, OfPolicy}
 use Rattle.aa_units.specs.declared.unit.Unit as unit
 use Rattle.aa_units.specs.Compiled.{texts_of, IsFaultOfUnit, OfSources, OfText as OfUnitText}
 use Rattle.aa_glob.specs.Variables.{Variable}
@@ -99,7 +100,8 @@ differ : {A : Type 0} (b : Bool) → b ≡ true → b ≡ false → A
 differ b t f = absurd (true≢false (sym t ∙ f))
 
 -- its text has words, which are at fault
-pub unit_words : (limit : ℕ) (u : unit.Unit) (f : PolicyFault) → is_repeated f.kind ≡ true → IsFaultOfUnit limit u f → (ws : List WordData) × HasWords u ws × IsFaultOfWords ws f
+pub unit_words : (limit : ℕ) (u : unit.Unit) (f : PolicyFault) → is_repeated f.kind ≡ true → IsFaultOfUnit limit u f
+    → (ws : List Word) × HasWords u (words_data ws) × IsFaultOfWords ws (end_of u.text.items) f
 unit_words limit u f e (OfSources s) = differ (is_shown f.kind) (shown_too f.kind e) (sources_kind (texts_of u) f s)
 unit_words limit u f e (OfUnitText fit t) =
     elim t [
@@ -176,11 +178,11 @@ pub shows_set : (limit : ℕ) (u : unit.Unit) (at : Spot) (lines : Result Lines 
     → IfOk out (λ found. IsFaultOfUnit limit u (fault VariableTwice at) → ShowsSetTwice u at (texts found.items))
 shows_set limit u at lines out through refused twice =
     shown_through (ShowsSetTwice u at) lines out through
-    (λ h r. let w = unit_words limit u (fault VariableTwice at) refl h in refused r w.0 w.1)
+    (λ h r. let w = unit_words limit u (fault VariableTwice at) refl h in refused r (words_data w.0) w.1)
     (λ h.
     let w = unit_words limit u (fault VariableTwice at) refl h in
     if_ok_more (λ (l : Lines). (ws : List WordData) → HasWords u ws → IsTwice ws at → ShowsSetTwice u at (texts l.items)) (λ (l : Lines). ShowsSetTwice u at (texts l.items)) lines
-    (λ l shows. shows w.0 w.1 (w.2.twice refl)) twice)
+    (λ l shows. shows (words_data w.0) w.1 (w.2.twice refl)) twice)
 
 pub shows_named : (limit : ℕ) (u : unit.Unit) (at : Spot) (lines : Result Lines PolicyFault) (out : Result Lines AllocError)
     → IfOk out (λ found. (IsRefusal lines × (texts found.items ≡ [])) ⊎ (lines ≡ Ok found))
@@ -192,11 +194,11 @@ shows_named limit u at lines out through refused twice =
     (λ h r.
     let w = unit_words limit u (fault DuplicateProfile at) refl h in
     let d = w.2.duplicate refl in
-    refused r w.0 w.1 d.vars d.tree d.written)
+    refused r (words_data w.0) w.1 d.vars d.tree d.written)
     (λ h.
     let w = unit_words limit u (fault DuplicateProfile at) refl h in
     if_ok_more (λ (l : Lines). (ws : List WordData) → HasWords u ws → IsDuplicate ws at → ShowsNamedTwice u at (texts l.items)) (λ (l : Lines). ShowsNamedTwice u at (texts l.items)) lines
-    (λ l shows. shows w.0 w.1 (w.2.duplicate refl)) twice)
+    (λ l shows. shows (words_data w.0) w.1 (w.2.duplicate refl)) twice)
 
 -- a conflict is shown, if there is one, or there is no policy
 pub shows_clash : (limit : ℕ) (u : unit.Unit) (at : Spot) (lines : Result Lines PolicyFault) (out : Result Lines AllocError)

@@ -2,11 +2,12 @@
 -- Source: own.
 use Rattle.std.specs.Prelude.{ℕ, ◌≡◌, List, [], ◌∷◌, ⊤, Ok, Err}
 use Rattle.aa_faults.specs.declared.fault.PolicyFault.{PolicyFault}
-use Rattle.aa_words.specs.Splits.{WordData, Splits}
+use Rattle.aa_words.specs.declared.word.Word.{Word}
+use Rattle.aa_words.specs.Splits.{WordData, words_data, Splits}
 use Rattle.aa_words.specs.Stops.{IsFaultOf}
 use Rattle.aa_profiles.specs.declared.policy.Policy.{Policy}
 use Rattle.aa_policy.specs.Spelling.{Spells}
-use Rattle.aa_policies.specs.Policies.{Source, IsFaultOfWords, IsFaultOfText, IsPolicyOf}
+use Rattle.aa_policies.specs.Policies.{Source, end_of, IsFaultOfWords, IsFaultOfText, IsPolicyOf}
 use Rattle.aa_asks.specs.Places.{PlacesData, ArePlaces}
 use Rattle.aa_loading.specs.declared.texts.Texts.{Texts}
 
@@ -20,7 +21,7 @@ pub record SpellsAt (sources : List Source) (text : List ℕ) (policy : Policy) 
 -- why a text spells no policy: it has no words, or they spell none
 pub data IsUnspelled (sources : List Source) (text : List ℕ) (e : PolicyFault) : Type 0 where
   OfText : ((words : List WordData) → Splits sources text words → ⊥) → IsFaultOf sources text e → IsUnspelled sources text e
-  OfWords : (words : List WordData) → Splits sources text words → IsFaultOfWords words e → IsUnspelled sources text e
+  OfWords : (words : List Word) → Splits sources text (words_data words) → IsFaultOfWords words (end_of text) e → IsUnspelled sources text e
 
 -- the main text, with the sources that could be handed in, spells the policy
 abbrev pub IsRead : Texts → Policy → List PlacesData → Type 0

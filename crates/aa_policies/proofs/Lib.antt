@@ -1,2 +1,2 @@
 mod Gathering
-mod Rows
+pub mod Rows

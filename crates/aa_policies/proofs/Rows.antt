@@ -1,17 +1,20 @@
 -- What words spell, and text after text.
-use Rattle.std.proofs.Common.{◌≡◌, ◌⊎◌, true, ℕ, ◌+◌, ◌<◌, ◌≤◌, List, [], ◌∷◌, ◌++◌, length, take, drop, get_or, Result, Ok, Err, ap, sym, subst, ◌∙◌, arith}
+use Rattle.std.proofs.Common.{◌≡◌, ◌⊎◌, true, ℕ, ◌+◌, ◌<◌, ◌≤◌, List, [], ◌∷◌, ◌++◌, length, take, drop, get_or, inl, inr, Result, Ok, Err, ap, sym, subst, ◌∙◌, arith}
 use Rattle.std.proofs.lemmas.List.{take_more, drop_more, take-append-drop, take_all, length-take}
 use Rattle.std.specs.Prelude.{◌≢◌, IfOk, IfErr}
+use Rattle.aa_faults.specs.declared.fault.Spot.{Spot}
 use Rattle.aa_faults.specs.declared.fault.PolicyFault.{PolicyFault}
-use Rattle.aa_faults.specs.declared.fault.PolicyKind.TheVariants.{NoMemory, UndefinedVariable, VariableTwice, DuplicateProfile, TooLarge}
-use Rattle.aa_faults.specs.Kinds.{IsRefusal}
-use Rattle.aa_words.specs.Splits.{WordData, Splits}
-use Rattle.aa_heads.specs.Preamble.{IsTwice, IsUndefined}
+use Rattle.aa_faults.specs.declared.fault.PolicyKind.TheVariants.{NoMemory, Unsupported, UndefinedVariable, VariableTwice, DuplicateProfile, TooLarge}
+use Rattle.aa_faults.specs.Kinds.{IsRefusal, no_memory}
+use Rattle.aa_words.specs.declared.word.Word.{Word}
+use Rattle.aa_words.specs.Splits.{WordData, words_data, Splits}
+use Rattle.aa_heads.specs.Preamble.{IsTwice, IsUndefined, IsRefusedWith}
 use Rattle.aa_policy.specs.Faults.{IsParseRefusal, is_path_only}
+use Rattle.aa_policy.specs.Refusals.{IsStop, IsFault, is_word_only}
 use Rattle.aa_policy.specs.Spelling.{Spells, IsPathFault, IsDuplicate, IsOverLimits, text_start}
 use Rattle.aa_profiles.specs.declared.policy.Policy.{Policy}
 use Rattle.aa_policies.specs.declared.refused.RefusedPolicy.{RefusedPolicy}
-use Rattle.aa_policies.specs.Policies.{Source, IsSpelledBy, IsPolicyOf, ArePoliciesOf, IsFaultOfText, IsFirstRefused, CanFollow, IsRefusedBy, OfText, OfWords}
+use Rattle.aa_policies.specs.Policies.{Source, IsSpelledBy, IsPolicyOf, ArePoliciesOf, end_of, IsFaultOfWords, IsFaultOfText, IsFirstRefused, CanFollow, IsRefusedBy, OfText, OfWords}
 
 -- ---- what the words of a text spell
 
@@ -20,18 +23,37 @@ pub spelled_by : (sources : List Source) (text : List ℕ) (words : List WordDat
 spelled_by sources text words (Ok p) split spelled = record { words = words; split = split; spelled = spelled }
 spelled_by sources text words (Err e) split spelled = tt
 
-pub fault_of_words : (sources : List Source) (text : List ℕ) (words : List WordData) (r : Result Policy PolicyFault) → Splits sources text words
-    → (IsRefusal r → (p : Policy) → Spells words p → ⊥)
-    → IfErr r (λ e. e.kind ≡ VariableTwice → IsTwice words e.at)
-    → IfErr r (λ e. e.kind ≡ UndefinedVariable → IsUndefined words e.at ⊎ IsPathFault words e)
-    → IfErr r (λ e. is_path_only e.kind ≡ true → IsPathFault words e)
-    → IfErr r (λ e. e.kind ≡ DuplicateProfile → IsDuplicate words e.at)
-    → IfErr r (λ e. e.kind ≡ TooLarge → IsPathFault words e ⊎ ((e.at ≡ text_start) × IsOverLimits words))
+-- a fault that isn't want of memory is the one that words are refused with
+pub exactly : (e fault : PolicyFault) → e.kind ≢ NoMemory → (e ≡ no_memory) ⊎ (e ≡ fault) → e ≡ fault
+exactly e fault other (inl memory) = absurd (other (ap (λ (f : PolicyFault). f.kind) memory))
+exactly e fault other (inr same) = same
+
+pub fault_of_words : (sources : List Source) (text : List ℕ) (words : List Word) (end : Spot) (r : Result Policy PolicyFault) → Splits sources text (words_data words) → end ≡ end_of text
+    → (IsRefusal r → (p : Policy) → Spells (words_data words) p → ⊥)
+    → IfErr r (λ e. e.kind ≡ VariableTwice → IsTwice (words_data words) e.at)
+    → IfErr r (λ e. e.kind ≡ UndefinedVariable → IsUndefined (words_data words) e.at ⊎ IsPathFault (words_data words) e)
+    → IfErr r (λ e. is_path_only e.kind ≡ true → IsPathFault (words_data words) e)
+    → IfErr r (λ e. e.kind ≡ DuplicateProfile → IsDuplicate (words_data words) e.at)
+    → IfErr r (λ e. e.kind ≡ TooLarge → IsPathFault (words_data words) e ⊎ ((e.at ≡ text_start) × IsOverLimits (words_data words)))
+    → IfErr r (λ e. is_word_only e.kind ≡ true → IsStop words end e.at)
+    → IfErr r (λ e. e.kind ≡ Unsupported → IsStop words end e.at ⊎ IsPathFault (words_data words) e)
     → IfErr r IsParseRefusal
+    → ((fault : PolicyFault) → IsFault (words_data words) fault → IsRefusedWith fault r)
     → IfErr r (λ e. e.kind ≢ NoMemory → (limit : ℕ) → IsFaultOfText sources limit text e)
-fault_of_words sources text words (Ok p) split none twice undefined at_path duplicate too_large kinds = tt
-fault_of_words sources text words (Err e) split none twice undefined at_path duplicate too_large kinds =
-    λ other limit. OfWords words split (record { none = none other; twice = twice; undefined = undefined; at_path = at_path; duplicate = duplicate; too_large = too_large; kind = kinds })
+fault_of_words sources text words end (Ok p) split ends none twice undefined at_path duplicate too_large unwritten unsupported kinds exact = tt
+fault_of_words sources text words end (Err e) split ends none twice undefined at_path duplicate too_large unwritten unsupported kinds exact =
+    λ other limit. OfWords words split (subst (λ (at : Spot). IsFaultOfWords words at e) ends (record {
+      none = none other;
+      twice = twice;
+      undefined = undefined;
+      at_path = at_path;
+      duplicate = duplicate;
+      too_large = too_large;
+      unwritten = unwritten;
+      unsupported = unsupported;
+      kind = kinds;
+      exact = λ fault is. exactly e fault other (exact fault is);
+    }))
 
 -- ---- text after text
 

@@ -1,15 +1,18 @@
 -- Which policies texts spell, and what refuses one.
 -- Source: apparmor.d(5), "Format"; own.
 use Rattle.std.specs.Prelude.{ℕ, ◌≡◌, ◌<◌, ◌≤◌, ◌⊎◌, List, [], ◌∷◌, ◌++◌, length, map, true, false}
+use Rattle.aa_faults.specs.declared.fault.Spot.{Spot}
 use Rattle.aa_faults.specs.declared.fault.PolicyFault.{PolicyFault}
 use Rattle.aa_faults.specs.declared.fault.PolicyKind.{PolicyKind}
 use Rattle.aa_faults.specs.Kinds.{at_start}
-use Rattle.aa_words.specs.Splits.{WordData, Splits}
+use Rattle.aa_words.specs.declared.word.Word.{Word}
+use Rattle.aa_words.specs.Splits.{WordData, words_data, Splits}
 use Rattle.aa_words.specs.Sources.{has_name}
 use Rattle.aa_words.specs.Stops.{IsFaultOf}
 use Rattle.aa_profiles.specs.declared.policy.Policy.{Policy}
 use Rattle.aa_policy.specs.Faults.{IsParseRefusal, is_path_only}
 use Rattle.aa_heads.specs.Preamble.{IsTwice, IsUndefined}
+use Rattle.aa_policy.specs.Refusals.{IsStop, IsFault, is_word_only}
 use Rattle.aa_policy.specs.Spelling.{Spells, IsPathFault, IsDuplicate, IsOverLimits, text_start}
 use Rattle.aa_compile.specs.Checks.{IsAccepted, IsRefused}
 use Rattle.aa_jobs.specs.declared.job.Include.{Include}
@@ -61,20 +64,28 @@ ArePoliciesOf sources limit [] [] = Unit {0}
 ArePoliciesOf sources limit (text ∷ texts) (policy ∷ policies) = IsPolicyOf sources limit text policy × ArePoliciesOf sources limit texts policies
 ArePoliciesOf sources limit _ _ = ⊥
 
--- what a fault of words that spell no policy says of them
-pub record IsFaultOfWords (words : List WordData) (e : PolicyFault) : Type 0 where
-  pub none : (policy : Policy) → Spells words policy → ⊥
-  pub twice : e.kind ≡ PolicyKind.VariableTwice → IsTwice words e.at
-  pub undefined : e.kind ≡ PolicyKind.UndefinedVariable → IsUndefined words e.at ⊎ IsPathFault words e
-  pub at_path : is_path_only e.kind ≡ true → IsPathFault words e
-  pub duplicate : e.kind ≡ PolicyKind.DuplicateProfile → IsDuplicate words e.at
-  pub too_large : e.kind ≡ PolicyKind.TooLarge → IsPathFault words e ⊎ ((e.at ≡ text_start) × IsOverLimits words)
+-- where a text ends
+abbrev pub end_of : List ℕ → Spot
+end_of text = record { file = 0; byte = length text }
+
+-- what a fault of words that spell no policy says of them and of the place where their text ends; where one of their faults isn't that
+-- of a word at which reading can't go on, it is that one
+pub record IsFaultOfWords (words : List Word) (end : Spot) (e : PolicyFault) : Type 0 where
+  pub none : (policy : Policy) → Spells (words_data words) policy → ⊥
+  pub twice : e.kind ≡ PolicyKind.VariableTwice → IsTwice (words_data words) e.at
+  pub undefined : e.kind ≡ PolicyKind.UndefinedVariable → IsUndefined (words_data words) e.at ⊎ IsPathFault (words_data words) e
+  pub at_path : is_path_only e.kind ≡ true → IsPathFault (words_data words) e
+  pub duplicate : e.kind ≡ PolicyKind.DuplicateProfile → IsDuplicate (words_data words) e.at
+  pub too_large : e.kind ≡ PolicyKind.TooLarge → IsPathFault (words_data words) e ⊎ ((e.at ≡ text_start) × IsOverLimits (words_data words))
+  pub unwritten : is_word_only e.kind ≡ true → IsStop words end e.at
+  pub unsupported : e.kind ≡ PolicyKind.Unsupported → IsStop words end e.at ⊎ IsPathFault (words_data words) e
   pub kind : IsParseRefusal e
+  pub exact : (fault : PolicyFault) → IsFault (words_data words) fault → e ≡ fault
 
 -- why a text is no policy that compiles: it has no words, they spell none, or what they spell is refused
 pub data IsFaultOfText (sources : List Source) (limit : ℕ) (text : List ℕ) (e : PolicyFault) : Type 0 where
   OfText : ((words : List WordData) → Splits sources text words → ⊥) → IsFaultOf sources text e → IsFaultOfText sources limit text e
-  OfWords : (words : List WordData) → Splits sources text words → IsFaultOfWords words e → IsFaultOfText sources limit text e
+  OfWords : (words : List Word) → Splits sources text (words_data words) → IsFaultOfWords words (end_of text) e → IsFaultOfText sources limit text e
   OfPolicy : (policy : Policy) → IsSpelledBy sources text policy → IsRefused policy.profiles limit e → IsFaultOfText sources limit text e
 
 -- of these texts it is the first that is no policy that compiles
