@@ -1,5 +1,5 @@
 -- Rules on capabilities read in one way alone, and the sets that their numbers make.
-use Rattle.std.proofs.Common.{◌≡◌, ℕ, ◌≤◌, ◌<◌, ◌^◌, List, [], ◌∷◌, ◌++◌, Some, None, refl, sym, ap, subst, ◌∙◌, arith}
+use Rattle.std.proofs.Common.{◌≡◌, ℕ, ◌≤◌, ◌<◌, ◌-◌, ◌^◌, List, [], ◌∷◌, ◌++◌, Some, None, refl, sym, ap, subst, ◌∙◌, arith}
 use Rattle.std.specs.Prelude.{codes, bit_or}
 use Rattle.std.proofs.lemmas.Nat.{le_or_l, le_or_r, pow_pos}
 use Rattle.aa_words.specs.declared.word.WordKind.TheVariants.{Name}
@@ -69,9 +69,14 @@ unfolding numbers_bits
 no_bits [] e = refl
 no_bits (n ∷ ns) e = absurd cc
 
+-- the table has 41 names
+all_are : all_caps ≡ 2 ^ 41 - 1
+unfolding capability_names
+all_are = refl
+
 -- no bit says that no name stands there
-pub caps_all : (numbers : List ℕ) → numbers_bits 0 numbers ≡ 0 → caps_of numbers ≡ all_caps
-caps_all [] e = refl
+pub caps_all : (numbers : List ℕ) → numbers_bits 0 numbers ≡ 0 → caps_of numbers ≡ 2 ^ 41 - 1
+caps_all [] e = all_are
 caps_all (n ∷ ns) e = absurd (omega (arith, e, bits_positive n ns))
 
 pub caps_some : (numbers : List ℕ) → (numbers_bits 0 numbers ≡ 0 → ⊥) → caps_of numbers ≡ numbers_bits 0 numbers

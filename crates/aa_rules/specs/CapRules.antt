@@ -1,6 +1,5 @@
 -- Rules on capabilities: the names, and the set that they name.
--- Source: apparmor.d(5), "Capability rules".
-use Rattle.std.specs.Prelude.{ℕ, ◌≡◌, ◌^◌, ◌-◌, List, [], ◌∷◌, codes, Some, bit_or}
+use Rattle.std.specs.Prelude.{ℕ, ◌≡◌, ◌^◌, ◌-◌, List, [], ◌∷◌, length, codes, Some, bit_or}
 use Rattle.aa_words.specs.declared.word.WordKind.TheVariants.{Name}
 use Rattle.aa_words.specs.Splits.{WordData}
 use Rattle.aa_profiles.specs.declared.rule.CapRule.{CapRule}
@@ -23,9 +22,9 @@ unfoldable pub numbers_bits : ℕ → List ℕ → ℕ
 numbers_bits bits [] = bits
 numbers_bits bits (n ∷ ns) = numbers_bits (bit_or bits (2 ^ n)) ns
 
--- the set of all 41 capabilities
+-- the set of all capabilities of the table
 abbrev pub all_caps : ℕ
-all_caps = 2 ^ 41 - 1
+all_caps = 2 ^ length capability_names - 1
 
 -- the capabilities of these numbers; where none is named, all
 abbrev pub caps_of : List ℕ → ℕ
