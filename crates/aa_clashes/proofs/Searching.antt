@@ -12,8 +12,9 @@ use Rattle.aa_patterns.proofs.Decided.{decided}
 use Rattle.aa_profiles.specs.declared.rule.Exec.{Exec}
 use Rattle.aa_profiles.specs.declared.rule.FileRule.{FileRule}
 use Rattle.aa_auto.specs.Tables.{Table, IsAutomaton, IsText, list_at, place_of}
-use Rattle.aa_rows.specs.FileRules.{says_how, Hit}
-use Rattle.aa_clashes.specs.Clashes.{AreOwners, Conflict, IsFree, SomeConflict}
+use Rattle.aa_rows.specs.FileRules.{says_how, Hit, Conflicts}
+use Rattle.aa_rows.proofs.MatchedTexts.{matched_text}
+use Rattle.aa_clashes.specs.Clashes.{AreOwners, Conflict, SomeConflict}
 use Rattle.aa_clashes.specs.Texts.{ReachAll}
 use Rattle.aa_clashes.proofs.Conflicting.{turned}
 use Rattle.aa_clashes.proofs.Owning.{get_in}
@@ -53,8 +54,9 @@ module _ (rules : List FileRule) (patterns : List Pattern) (owners : List ℕ) (
         match = (decided h.pattern.items.items u).1 (subst (λ (p : Pattern). Matches p.items.items u) is q.2);
       }
 
-  pub free : (texts : List (List ℕ)) → All IsText texts → ReachAll t texts → ((u : List ℕ) → Contains texts u → SomeConflict rules owners (list_at t (place_of t u)) u → ⊥) → IsFree rules
-  free texts bytes all none a b s text c =
+  pub free : (texts : List (List ℕ)) → All IsText texts → ReachAll t texts → ((u : List ℕ) → Contains texts u → SomeConflict rules owners (list_at t (place_of t u)) u → ⊥) → Conflicts rules → ⊥
+  free texts bytes all none (a, b, s, c) =
+      let text = matched_text a.pattern.items.items s ((decided a.pattern.items.items s).0 c.match.0) in
       let u = all s text in
       let byte = All-contains IsText texts u.0 bytes u.1 in
       let x = at a s u.0 text byte u.2 c.rules_are.0 (says a.rule c.one c.allow.0 c.say.0) c.patterns_are.0 c.match.0 in

@@ -5,7 +5,6 @@ use Rattle.std.specs.List.{slice_get}
 use Rattle.aa_patterns.specs.declared.pattern.Pattern.{Pattern}
 use Rattle.aa_profiles.specs.declared.rule.Exec.{Exec}
 use Rattle.aa_profiles.specs.declared.rule.FileRule.{FileRule}
-use Rattle.aa_auto.specs.Tables.{IsText}
 use Rattle.aa_said.specs.Patterns.{is_literal}
 use Rattle.aa_rows.specs.FileRules.{some_match, says_how, Hit, IsConflict}
 use Rattle.aa_rows.specs.Rows.{patterns_of}
@@ -33,10 +32,6 @@ ClashAt a b text = SayDifferently a b × (BothMatch is_literal a b text ⊎ Both
 -- the rules with these numbers conflict at the text, each by one of its patterns
 abbrev pub Conflict : List FileRule → ℕ → ℕ → List ℕ → Type 0
 Conflict rules first second text = (a : Hit) × (b : Hit) × (slice_get rules first ≡ Some a.rule) × (slice_get rules second ≡ Some b.rule) × IsConflict rules a b text
-
--- no text has two rules that conflict
-abbrev pub IsFree : List FileRule → Type 0
-IsFree rules = (a b : Hit) (text : List ℕ) → IsText text → IsConflict rules a b text → ⊥
 
 -- the patterns of the rules that say how a program is executed
 abbrev pub executing : List FileRule → List Pattern

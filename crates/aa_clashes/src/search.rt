@@ -3,8 +3,8 @@
 ghost use Rattle.std.specs.Prelude.{◌≡◌, ◌+◌, ◌<◌, ◌≤◌, ◌↔◌, ℕ, List, Contains, IfOk, IfSome, IfNone, IsTrue, Some, Err, sum_by, length};
 ghost use Rattle.std.specs.List.{slice_get};
 ghost use Rattle.aa_auto.specs.Tables.{HasPlaces, list_at, place_of};
-ghost use Rattle.aa_rows.specs.Rows.{patterns_of};
-ghost use Rattle.aa_clashes.specs.Clashes.{Conflict, ConflictsLater, OwnerConflicts, SomeConflict, IsFree};
+ghost use Rattle.aa_rows.specs.FileRules.{Conflicts};
+ghost use Rattle.aa_clashes.specs.Clashes.{Conflict, ConflictsLater, OwnerConflicts, SomeConflict, executing};
 
 use crate::pairs::clash_at;
 use crate::texts::texts_of_rows;
@@ -131,8 +131,8 @@ fn clash_among(
 }
 
 /// Two rules of a profile that say differently how one text is executed, the earlier one first, and such a text, of the shortest
-/// that there are; none where no text has two such rules. The errors are `TooManyStates`, where the patterns of the rules need an
-/// automaton of more rows than the limit, and `NoMemory`.
+/// that there are; none where no text has two such rules. The errors are `TooManyStates`, where the patterns of the rules that say
+/// how a program is executed need an automaton of more rows than the limit, and `NoMemory`.
 pub fn clash_of(
     alloc: Global,
     rules: &[FileRule],
@@ -142,8 +142,8 @@ pub fn clash_of(
     requires some { 0 < limit }
     requires limit { limit ≤ 1000000 }
     ensures found { IfOk result (λ found. IfSome found (λ c. (c.first < c.second) × Conflict rules.now c.first c.second c.text.items)) }
-    ensures none { IfOk result (λ found. IfNone found (IsFree rules.now)) }
-    ensures too_many { result ≡ Err BuildFault.TooManyStates → HasPlaces (patterns_of rules.now) (limit + 1) }
+    ensures none { IfOk result (λ found. IfNone found (Conflicts rules.now → ⊥)) }
+    ensures too_many { result ≡ Err BuildFault.TooManyStates → HasPlaces (executing rules.now) (limit + 1) }
 {
     let ways = ways_of(alloc, rules)?;
     let automaton = Automaton::of(alloc, ways.patterns.as_slice(), limit)?;

@@ -1,11 +1,10 @@
 -- Policies that are the same have the same conflicts, and their patterns the same places.
-use Rattle.std.proofs.Common.{◌≡◌, ⊎_elim, ℕ, zero, suc, ◌<◌, ◌≤◌, Bool, List, [], ◌∷◌, ◌++◌, length, take, Some, Contains, refl, sym, ap, subst, ◌∙◌, arith}
+use Rattle.std.proofs.Common.{◌≡◌, ℕ, zero, suc, ◌≤◌, Bool, List, [], ◌∷◌, ◌++◌, length, take, Some, Contains, refl, sym, ap, subst, ◌∙◌, arith}
 use Rattle.std.specs.Prelude.{IsTrue, ◌&&◌, slice_get}
-use Rattle.std.specs.List.{All, AllZip, list_all}
-use Rattle.std.proofs.lemmas.List.Elements.{All-nil, All-cons, All-append, All-weaker}
+use Rattle.std.specs.List.{AllZip, list_all}
 use Rattle.std.proofs.lemmas.Option.{slice_get_read, slice_get_within, get_or_from_slice_get, same_Some}
-use Rattle.aa_items.specs.declared.item.Item.{Item, Byte, One, Run, RunOne, Deep, DeepOne, Class, Choice', Row_of-Item, end_of-Item, more_of-Item, items-the_row-Item, Row_of-Item-Choice-0-1, end_of-Item-Choice-0-1, more_of-Item-Choice-0-1}
-use Rattle.aa_items.specs.Globs.{Allows, SomeAllows, AllAllow, Matches, IsNonzeroByte, IsNameByte, is_byte, branches_of, sequences}
+use Rattle.aa_items.specs.declared.item.Item.{Item, Choice', Row_of-Item, end_of-Item, more_of-Item, items-the_row-Item, Row_of-Item-Choice-0-1, end_of-Item-Choice-0-1, more_of-Item-Choice-0-1}
+use Rattle.aa_items.specs.Globs.{is_byte, branches_of, sequences}
 use Rattle.aa_items.specs.Sameness.{SameItem, SameBranches, SameBranch, SameItems}
 use Rattle.aa_items.proofs.Sameness.{same_items_match}
 use Rattle.aa_patterns.specs.declared.pattern.Pattern.{Pattern}
@@ -13,51 +12,11 @@ use Rattle.aa_patterns.specs.Matching.{is_match}
 use Rattle.aa_patterns.specs.Places.{Position, IsHead, IsPlace}
 use Rattle.aa_patterns.specs.Places.Position.{Gap, Within}
 use Rattle.aa_patterns.proofs.Decided.{decided}
-use Rattle.aa_auto.specs.Tables.{IsText, HasPlaces}
+use Rattle.aa_auto.specs.Tables.{HasPlaces}
 use Rattle.aa_profiles.specs.declared.rule.FileRule.{FileRule}
 use Rattle.aa_rows.specs.FileRules.{Hit, IsConflict}
 use Rattle.aa_rows.specs.Rows.{patterns_of}
 use Rattle.aa_policy.specs.Sameness.{SameRule}
-
--- ---- what is matched is a text of bytes
-
-one_byte : (s : List ℕ) (b : ℕ) → s ≡ b ∷ [] → b < 256 → IsText s
-one_byte s b e lt = subst IsText (sym e) (All-cons (λ n. n < 256) b [] lt (All-nil (λ n. n < 256)))
-
-parts : (s a b : List ℕ) → s ≡ a ++ b → IsText a → IsText b → IsText s
-parts s a b e p q = subst IsText (sym e) (All-append (λ n. n < 256) a b p q)
-
-names : (s : List ℕ) → All IsNameByte s → IsText s
-names s all = All-weaker IsNameByte (λ n. n < 256) (λ x h. h.0.1) s all
-
-nonzeros : (s : List ℕ) → All IsNonzeroByte s → IsText s
-nonzeros s all = All-weaker IsNonzeroByte (λ n. n < 256) (λ x h. h.1) s all
-
-mutual
-  allowed : (i : Item) (s : List ℕ) → Allows i s → IsText s
-  allowed (Byte c) s h = one_byte s c h.0 h.1.1
-  allowed One s h = one_byte s h.0 h.1 h.2.0.1
-  allowed Run s h = names s h
-  allowed RunOne s h = names s h.0
-  allowed Deep s h = nonzeros s h
-  allowed DeepOne s h = subst IsText (sym h.2) (All-cons (λ n. n < 256) h.0 h.1 h.3.0.1 (nonzeros h.1 h.4))
-  allowed (Class set) s h = one_byte s h.0 h.1 h.2.0.1
-  allowed (Choice' _ branches) s h = some_allowed branches s h
-
-  some_allowed : {n : _} (branches : Row_of-Item-Choice-0-1 n) (s : List ℕ) → SomeAllows branches s → IsText s
-  some_allowed end_of-Item-Choice-0-1 s h = absurd h
-  some_allowed (more_of-Item-Choice-0-1 _ branch rest) s h = ⊎_elim (λ x. all_allowed branch s x) (λ x. some_allowed rest s x) h
-
-  all_allowed : {n : _} (branch : Row_of-Item n) (s : List ℕ) → AllAllow branch s → IsText s
-  all_allowed end_of-Item s h = subst IsText (sym h) (All-nil (λ n. n < 256))
-  all_allowed (more_of-Item item rest) s h = parts s h.0 h.1 h.2 (allowed item h.0 h.3) (all_allowed rest h.1 h.4)
-
-matched_text : (items : List Item) (s : List ℕ) → Matches items s → IsText s
-matched_text [] s h = subst IsText (sym h) (All-nil (λ n. n < 256))
-matched_text (item ∷ items) s h = parts s h.0 h.1 h.2 (allowed item h.0 h.3) (matched_text items h.1 h.4)
-
-pub text_of_conflict : (rules : List FileRule) (a b : Hit) (text : List ℕ) → IsConflict rules a b text → IsText text
-text_of_conflict rules a b text h = matched_text a.pattern.items.items text ((decided a.pattern.items.items text).0 h.match.0)
 
 -- ---- lists whose elements are alike in their places
 

@@ -11,7 +11,8 @@ use Rattle.aa_profiles.specs.declared.policy.Profile.{Profile}
 use Rattle.aa_rows.specs.Rows.{patterns_of}
 use Rattle.aa_rows.specs.FileRules.{Conflicts}
 use Rattle.aa_said.specs.Patterns.{HasAutomaton}
-use Rattle.aa_clashes.specs.Clashes.{IsFree}
+use Rattle.aa_clashes.specs.Clashes.{executing}
+use Rattle.aa_clashes.proofs.Owning.{in_rules, places_of_some}
 use Rattle.aa_auto.specs.Tables.{HasPlaces}
 use Rattle.aa_compile.specs.Checks.{fault_at, IsRefused, ManyTops, AtProfile, ManyFiles, Conflicting, ManyChildren}
 use Rattle.aa_words.specs.Splits.{WordData, Splits}
@@ -24,7 +25,7 @@ use Rattle.aa_units.specs.Compiled.{texts_of}
 use Rattle.aa_diagnostics.specs.Conflicts.{HasNone, NoneHas, ShowsOne}
 use Rattle.aa_diagnostics.specs.Further.{ShowsConflictAt, ShowsIfConflict}
 use Rattle.aa_diagnostics.proofs.Few.{few_places}
-use Rattle.aa_diagnostics.proofs.Alike.{text_of_conflict, got_alike, patterns_alike, conflict_alike, many_alike}
+use Rattle.aa_diagnostics.proofs.Alike.{got_alike, patterns_alike, conflict_alike, many_alike}
 
 not_states : {A : Type 0} (at other : Spot) → fault_at ConflictingExec at ≡ fault_at TooManyStates other → A
 not_states at other e = let k : ConflictingExec ≡ TooManyStates = ap (λ (f : PolicyFault). f.kind) e in cc
@@ -34,9 +35,11 @@ has_one : (limit : ℕ) (p q : Profile) → SameProfile p q → SameProfile q p 
 has_one limit p q to back automaton (a, b, text, conflict) none =
     let other = conflict_alike p.files q.files to.files a b text conflict in
     ⊎_elim
-    (λ (free : IsFree q.files). free other.0 other.1 text (text_of_conflict p.files a b text conflict) other.2)
-    (λ (many : HasPlaces (patterns_of q.files) (limit + 1)).
-    few_places (patterns_of p.files) limit automaton (many_alike (patterns_of q.files) (patterns_of p.files) (limit + 1) (patterns_alike q.files p.files back.files) (patterns_alike p.files q.files to.files) many))
+    (λ (free : Conflicts q.files → ⊥). free (other.0, other.1, text, other.2))
+    (λ (many : HasPlaces (executing q.files) (limit + 1)).
+    few_places (patterns_of p.files) limit automaton
+    (many_alike (patterns_of q.files) (patterns_of p.files) (limit + 1) (patterns_alike q.files p.files back.files) (patterns_alike p.files q.files to.files)
+    (places_of_some (executing q.files) (patterns_of q.files) (limit + 1) (in_rules q.files) many)))
     none
 
 at_profile : (limit : ℕ) (ps qs : List Profile) (at : Spot) → AllZip SameProfile ps qs → AllZip SameProfile qs ps → (n : ℕ) (p : Profile) → slice_get ps n ≡ Some p → p.at ≡ at → HasAutomaton (patterns_of p.files) limit → Conflicts p.files → NoneHas qs at (limit + 1) → ⊥

@@ -4,8 +4,8 @@ use Rattle.std.specs.Prelude.{◌≡◌, ◌⊎◌, ℕ, ◌<◌, List, [], ◌�
 use Rattle.aa_faults.specs.declared.fault.Spot.{Spot}
 use Rattle.aa_profiles.specs.declared.policy.Profile.{Profile}
 use Rattle.aa_auto.specs.Tables.{HasPlaces}
-use Rattle.aa_rows.specs.Rows.{patterns_of}
-use Rattle.aa_clashes.specs.Clashes.{Conflict, IsFree}
+use Rattle.aa_rows.specs.FileRules.{Conflicts}
+use Rattle.aa_clashes.specs.Clashes.{Conflict, executing}
 use Rattle.aa_asks.specs.Places.{PlacesData}
 use Rattle.aa_audit.specs.Values.{value}
 use Rattle.aa_places.specs.Places.{place_in}
@@ -54,9 +54,9 @@ files_of (Some p) = p.files
 abbrev pub files_at : List PlacesData → ℕ → List Spot
 files_at places number = files_of (slice_get places number)
 
--- no text has two rules of the profile that conflict, or their automaton needs more rows than the limit
+-- no text has two rules of the profile that conflict, or the automaton of those that say how a program is executed needs more rows than the limit
 abbrev pub HasNone : Profile → ℕ → Type 0
-HasNone profile limit = IsFree profile.files ⊎ HasPlaces (patterns_of profile.files) limit
+HasNone profile limit = (Conflicts profile.files → ⊥) ⊎ HasPlaces (executing profile.files) limit
 
 -- so of each profile whose name stands there
 abbrev pub NoneHas : List Profile → Spot → ℕ → Type 0

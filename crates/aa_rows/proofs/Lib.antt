@@ -2,7 +2,7 @@ pub mod Joins
 mod SideLemmas
 mod HitLemmas
 mod DifferLemmas
-mod MatchedTexts
+pub mod MatchedTexts
 pub mod ConflictLemmas
 pub mod WayLemmas
 pub mod Named

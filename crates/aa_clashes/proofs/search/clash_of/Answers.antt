@@ -1,12 +1,11 @@
-use Rattle.std.proofs.Common.{◌+◌, All, Contains, Bor, length, sym, ap, ◌∙◌, subst, arith, rules}
+use Rattle.std.proofs.Common.{◌+◌, All, Bor, length, sym, ap, ◌∙◌, subst, arith, rules}
 use Rattle.std.proofs.lemmas.List.{length-map}
 use Rattle.aa_patterns.specs.declared.pattern.Pattern.{Pattern}
 use Rattle.aa_auto.specs.Nodes.{pointed}
 use Rattle.aa_auto.specs.Tables.{HasPlaces, IsText}
-use Rattle.aa_rows.specs.Rows.{patterns_of}
 use Rattle.aa_clashes.specs.Clashes.{AreOwners}
 use Rattle.aa_clashes.specs.Texts.{ReachAll}
-use Rattle.aa_clashes.proofs.Owning.{executing_few, in_rules, places_of_some}
+use Rattle.aa_clashes.proofs.Owning.{executing_few}
 use Rattle.aa_clashes.proofs.Searching.{none_then, free}
 use Rattle.aa_clashes.proofs.search.clash_of.Goals as goal
 
@@ -17,10 +16,9 @@ of-requires-clause-patterns c =
 
 pub returns-in_err-automaton-clause-too_many : goal.returns-in_err-automaton-clause-too_many
 returns-in_err-automaton-clause-too_many c = λ e.
-    let rules' = c.args.rules.now in
     let ps = pointed c.as_slice.result.now in
     let many : HasPlaces ps (c.args.limit + 1) = search rules in
-    places_of_some ps (patterns_of rules') (c.args.limit + 1) (λ p in'. in_rules rules' p (subst (λ qs. Contains qs p) (ap pointed c.as_slice.ensures.value ∙ c.in_ok-ways.ensures.patterns) in')) many
+    subst (λ qs. HasPlaces qs (c.args.limit + 1)) (ap pointed c.as_slice.ensures.value ∙ c.in_ok-ways.ensures.patterns) many
 
 pub returns-clause-none : goal.returns-clause-none
 returns-clause-none c =

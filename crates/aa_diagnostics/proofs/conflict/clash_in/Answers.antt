@@ -1,5 +1,6 @@
 use Rattle.std.proofs.Common.{◌<◌, IfSome, inl, subst}
-use Rattle.aa_clashes.specs.Clashes.{Conflict, IsFree}
+use Rattle.aa_rows.specs.FileRules.{Conflicts}
+use Rattle.aa_clashes.specs.Clashes.{Conflict}
 use Rattle.aa_clashes.proofs.Searching.{none_then}
 use Rattle.aa_diagnostics.proofs.conflict.clash_in.Goals as goal
 
@@ -8,4 +9,4 @@ returns-in-Ok-clause-found c =
     subst (λ rules. IfSome c.in-Ok.found (λ x. (x.first < x.second) × Conflict rules x.first x.second x.text.items)) c.as_slice.ensures c.in-Ok.ensures.found
 
 pub returns-in-Ok-clause-none : goal.returns-in-Ok-clause-none
-returns-in-Ok-clause-none c = none_then c.in-Ok.found c.in-Ok.ensures.none (λ h. inl (subst IsFree c.as_slice.ensures h))
+returns-in-Ok-clause-none c = none_then c.in-Ok.found c.in-Ok.ensures.none (λ h. inl (subst (λ rules. Conflicts rules → ⊥) c.as_slice.ensures h))
