@@ -4,6 +4,7 @@ ghost use Rattle.std.specs.Prelude.{◌≡◌, ◌+◌, ◌<◌, ◌≤◌, ◌+
 ghost use Rattle.aa_auto.specs.Nodes.{pointed};
 ghost use Rattle.aa_auto.specs.Tables.{HasPlaces};
 ghost use Rattle.std.specs.List.{list_any};
+ghost use Rattle.aa_patterns.specs.Limits.{most_patterns, most_states};
 ghost use Rattle.aa_said.specs.Gathered.{picked};
 ghost use Rattle.aa_said.specs.Patterns.{HasAutomaton};
 ghost use Rattle.aa_attach.specs.Attached.{is_strong, longest, common, attached_by, literal_at, front_at, profile_if, profiles_of, answers_by, answer_at, attachments_at, attachments_by, attachment_by, pattern_of, attachment_of, Attaches};
@@ -198,9 +199,9 @@ impl AttachRows {
         numbers: &[u16],
         limit: usize,
     ) -> Result<AttachRows, BuildFault>
-        requires few { length (attachments_by profiles.now numbers.now) ≤ 65535 }
+        requires few { length (attachments_by profiles.now numbers.now) ≤ most_patterns }
         requires some { 0 < limit }
-        requires limit { limit ≤ 1000000 }
+        requires limit { limit ≤ most_states }
         ensures ok { IfOk result (Attaches profiles.now numbers.now) }
         ensures fits { IfOk result (λ _. HasAutomaton (map pattern_of (attachments_by profiles.now numbers.now)) limit) }
         ensures too_many { result ≡ Err BuildFault.TooManyStates → HasPlaces (map pattern_of (attachments_by profiles.now numbers.now)) (limit + 1) }

@@ -1,6 +1,7 @@
 //! The automaton: a table of rows over classes of bytes, and what it answers of a text.
 
 ghost use Rattle.std.specs.Prelude.{◌≡◌, ◌+◌, ◌<◌, ◌≤◌, IfOk, IfErr, Err, [], length, slice_index_or};
+ghost use Rattle.aa_patterns.specs.Limits.{most_patterns, most_states};
 ghost use Rattle.aa_patterns.specs.Places.{DecideNext};
 ghost use Rattle.aa_auto.specs.Division.{AreClassesOf};
 ghost use Rattle.aa_auto.specs.Explored.{IsExplored};
@@ -45,9 +46,9 @@ impl Automaton {
     /// The automaton of the patterns, by subset construction, with at most `limit` rows. The errors are `TooManyStates`
     /// where the patterns need more rows, and `NoMemory`.
     pub fn build(alloc: Global, patterns: &[Pattern], limit: usize) -> Result<Automaton, BuildFault>
-        requires patterns { length patterns.now ≤ 65535 }
+        requires patterns { length patterns.now ≤ most_patterns }
         requires some { 0 < limit }
-        requires limit { limit ≤ 1000000 }
+        requires limit { limit ≤ most_states }
         ensures automaton { IfOk result (IsAutomaton patterns.now) }
         ensures within { IfOk result (λ a. rows_of a ≤ limit) }
         ensures too_many { result ≡ Err BuildFault.TooManyStates → HasPlaces patterns.now (limit + 1) }
@@ -65,9 +66,9 @@ impl Automaton {
 
     /// The same of patterns that lie apart.
     pub fn of(alloc: Global, patterns: &[&Pattern], limit: usize) -> Result<Automaton, BuildFault>
-        requires patterns { length patterns.now ≤ 65535 }
+        requires patterns { length patterns.now ≤ most_patterns }
         requires some { 0 < limit }
-        requires limit { limit ≤ 1000000 }
+        requires limit { limit ≤ most_states }
         ensures automaton { IfOk result (IsAutomaton (pointed patterns.now)) }
         ensures within { IfOk result (λ a. rows_of a ≤ limit) }
         ensures too_many { result ≡ Err BuildFault.TooManyStates → HasPlaces (pointed patterns.now) (limit + 1) }
@@ -84,7 +85,7 @@ impl Automaton {
     fn of_net(alloc: Global, net: &Net, limit: usize) -> Result<Automaton, BuildFault>
         requires net { IsNetOf net.now }
         requires some { 0 < limit }
-        requires limit { limit ≤ 1000000 }
+        requires limit { limit ≤ most_states }
         ensures automaton { IfOk result (IsAutomaton (patterns_of net.now)) }
         ensures within { IfOk result (λ a. rows_of a ≤ limit) }
         ensures too_many { result ≡ Err BuildFault.TooManyStates → HasPlaces (patterns_of net.now) (limit + 1) }

@@ -1,6 +1,7 @@
 //! How all sets of positions that some text stands at are found, row by row.
 
 ghost use Rattle.std.specs.Prelude.{◌≡◌, ◌+◌, ◌*◌, ◌<◌, ◌≤◌, ◌++◌, ℕ, Contains, IfOk, IfErr, OnOk, Err, length, slice_get, slice_index_or, [], None, Some};
+ghost use Rattle.aa_patterns.specs.Limits.{most_states};
 ghost use Rattle.aa_auto.specs.Apart.{IsApart};
 ghost use Rattle.aa_auto.specs.Explored.{AreReached, AreFilled, AreListed, Follows, Goes, Extends, IsExplored, TakesSet};
 ghost use Rattle.aa_auto.specs.Listed.{IsListing};
@@ -120,7 +121,7 @@ fn next_row(
     requires listed { AreListed net.now found.old.sets found.old.lists }
     requires row { row < length found.old.sets }
     requires few { length found.old.sets ≤ limit }
-    requires limit { limit ≤ 1000000 }
+    requires limit { limit ≤ most_states }
     ensures reached { OnOk result (AreReached net.now found.new.sets) }
     ensures listed { OnOk result (AreListed net.now found.new.sets found.new.lists) }
     ensures goes { IfOk result (λ next. Goes net.now found.new.sets row byte next) }
@@ -171,7 +172,7 @@ fn cell_of(
     requires listed { AreListed net.now found.old.sets found.old.lists }
     requires row { row < length found.old.sets }
     requires few { length found.old.sets ≤ limit }
-    requires limit { limit ≤ 1000000 }
+    requires limit { limit ≤ most_states }
     requires usual { Goes net.now found.old.sets row 255 next }
     requires noted { AreNoted net.now.nodes.items (slice_index_or found.old.sets row []) noted.now.named.items noted.now.asked.items }
     ensures reached { OnOk result (AreReached net.now found.new.sets) }
@@ -202,7 +203,7 @@ fn fill_row(
     requires listed { AreListed net.now found.old.sets found.old.lists }
     requires row { row < length found.old.sets }
     requires few { length found.old.sets ≤ limit }
-    requires limit { limit ≤ 1000000 }
+    requires limit { limit ≤ most_states }
     requires filled { AreFilled net.now found.old.sets bytes.now cells.old.items }
     requires cells { length cells.old.items ≡ length bytes.now * row }
     ensures reached { OnOk result (AreReached net.now found.new.sets) }
@@ -232,7 +233,7 @@ fn fill_rows(
 ) -> Result<Vec<u32>, BuildFault>
     requires net { IsNetOf net.now }
     requires some { 0 < limit }
-    requires limit { limit ≤ 1000000 }
+    requires limit { limit ≤ most_states }
     requires reached { AreReached net.now found.old.sets }
     requires listed { AreListed net.now found.old.sets found.old.lists }
     requires few { length found.old.sets ≤ limit }
@@ -259,7 +260,7 @@ pub(crate) fn explore(
 ) -> Result<(Found, Vec<u32>), BuildFault>
     requires net { IsNetOf net.now }
     requires some { 0 < limit }
-    requires limit { limit ≤ 1000000 }
+    requires limit { limit ≤ most_states }
     ensures explored { IfOk result (λ r. IsExplored net.now r.0.sets bytes.now r.1.items r.0.lists) }
     ensures few { IfOk result (λ r. length r.0.sets ≤ limit) }
     ensures too_many { result ≡ Err BuildFault.TooManyStates → HasPlaces (patterns_of net.now) (limit + 1) }

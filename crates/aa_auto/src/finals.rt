@@ -3,6 +3,7 @@
 ghost use Rattle.std.specs.Prelude.{◌≡◌, ◌++◌, ◌<◌, ◌≤◌, ℕ, All, Option, Some, None, Contains, IfOk, List, OnOk, length};
 ghost use Rattle.std.specs.Option.{option_to_list};
 ghost use Rattle.std.specs.List.Sorted.{IsStrictlyIncreasing};
+ghost use Rattle.aa_patterns.specs.Limits.{most_patterns};
 ghost use Rattle.aa_auto.specs.Finals.{AreFinals, AreNoFinals, ListsFinals};
 
 use std::alloc::{AllocError, Global};
@@ -26,7 +27,7 @@ pub(crate) fn finals_of(
 ) -> Result<Vec<Option<u16>>, AllocError>
     requires rising { IsStrictlyIncreasing ends.now }
     requires within { All (λ e. e < many) ends.now }
-    requires few { length ends.now ≤ 65535 }
+    requires few { length ends.now ≤ most_patterns }
     ensures { IfOk result (λ finals. AreFinals ends.now (length ends.now) many finals.items) }
 {
     let mut finals = no_finals(alloc, many)?;

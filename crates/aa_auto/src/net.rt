@@ -2,6 +2,7 @@
 
 ghost use Rattle.std.specs.Prelude.{◌≡◌, ◌<◌, ◌≤◌, All, IfOk, OnOk, length, map};
 ghost use Rattle.std.specs.List.Sorted.{IsStrictlyIncreasing};
+ghost use Rattle.aa_patterns.specs.Limits.{most_patterns};
 ghost use Rattle.aa_auto.specs.Finals.{AreFinals};
 ghost use Rattle.aa_auto.specs.Nets.{IsNetOf, patterns_of};
 ghost use Rattle.aa_auto.specs.Nodes.{HaveSources, pointed};
@@ -61,7 +62,7 @@ const POSITIONS: usize = 4294967295;
 
 /// Compiles the patterns.
 pub(crate) fn net_of<'a>(alloc: Global, patterns: &'a [&'a Pattern]) -> Result<Net<'a>, AllocError>
-    requires { length patterns.now ≤ 65535 }
+    requires { length patterns.now ≤ most_patterns }
     ensures net { IfOk result IsNetOf }
     ensures patterns { IfOk result (λ net. patterns_of net ≡ pointed patterns.now) }
 {
@@ -92,7 +93,7 @@ fn links_of(
     requires sources { HaveSources nodes.now }
     requires rising { IsStrictlyIncreasing ends.now }
     requires within { All (λ e. e < length nodes.now) ends.now }
-    requires few { length ends.now ≤ 65535 }
+    requires few { length ends.now ≤ most_patterns }
     ensures many { OnOk result (length nodes.now < 4294967296) }
     ensures jumps { IfOk result (λ r. AreJumps nodes.now (map (λ v. v.items) r.0.items)) }
     ensures finals { IfOk result (λ r. AreFinals ends.now (length ends.now) (length nodes.now) r.1.items) }

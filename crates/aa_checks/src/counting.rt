@@ -3,6 +3,7 @@
 ghost use Rattle.std.specs.Prelude.{◌≡◌, ◌+◌, ◌^◌, ◌<◌, ◌≤◌, ◌==◌, ℕ, Some, map, length, replicate, slice_get, slice_index, sum_by, count_by, IfOk, if◌then◌else◌};
 ghost use Rattle.std.specs.List.{list_any};
 ghost use Rattle.std.specs.Str.{bytes_eq};
+ghost use Rattle.aa_profiles.specs.Limits.{most_patterns};
 ghost use Rattle.aa_profiles.specs.Lawful.{file_patterns};
 ghost use Rattle.aa_profiles.specs.declared.policy.Profile.{Profile};
 ghost use Rattle.aa_rows.specs.Rows.{patterns_of};
@@ -26,7 +27,7 @@ pub(crate) struct PolicyCounts {
 
 /// How many patterns the file rules of a profile have: no policy's profile has more than 65,535.
 fn patterns_of(profile: &Profile) -> usize
-    requires { file_patterns profile.now ≤ 65535 }
+    requires { file_patterns profile.now ≤ most_patterns }
     ensures { result ≡ file_patterns profile.now }
 {
     let mut count: usize = 0;
@@ -77,7 +78,7 @@ fn profile_report(
 ) -> Result<ProfileReport, AllocError>
     requires number { number < 65536 }
     requires there { slice_get compiled.now.profiles number ≡ Some profile.now }
-    requires few { file_patterns profile.now ≤ 65535 }
+    requires few { file_patterns profile.now ≤ most_patterns }
     requires counted { passed_over ≡ passed_in compiled.now.passed_over number }
     ensures { (u : unit.Unit) → line ≡ line_at u profile.now.at → IfOk result (λ r. IsCounted u compiled.now.passed_over number profile.now r) }
 {

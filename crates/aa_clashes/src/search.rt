@@ -2,6 +2,7 @@
 
 ghost use Rattle.std.specs.Prelude.{◌≡◌, ◌+◌, ◌<◌, ◌≤◌, ◌↔◌, ℕ, List, Contains, IfOk, IfSome, IfNone, IsTrue, Some, Err, sum_by, length};
 ghost use Rattle.std.specs.List.{slice_get};
+ghost use Rattle.aa_patterns.specs.Limits.{most_patterns, most_states};
 ghost use Rattle.aa_auto.specs.Tables.{HasPlaces, list_at, place_of};
 ghost use Rattle.aa_rows.specs.FileRules.{Conflicts};
 ghost use Rattle.aa_clashes.specs.Clashes.{Conflict, ConflictsLater, OwnerConflicts, SomeConflict, executing};
@@ -138,9 +139,9 @@ pub fn clash_of(
     rules: &[FileRule],
     limit: usize,
 ) -> Result<Option<Clash>, BuildFault>
-    requires few { sum_by (λ r. length r.patterns) rules.now ≤ 65535 }
+    requires few { sum_by (λ r. length r.patterns) rules.now ≤ most_patterns }
     requires some { 0 < limit }
-    requires limit { limit ≤ 1000000 }
+    requires limit { limit ≤ most_states }
     ensures found { IfOk result (λ found. IfSome found (λ c. (c.first < c.second) × Conflict rules.now c.first c.second c.text.items)) }
     ensures none { IfOk result (λ found. IfNone found (Conflicts rules.now → ⊥)) }
     ensures too_many { result ≡ Err BuildFault.TooManyStates → HasPlaces (executing rules.now) (limit + 1) }

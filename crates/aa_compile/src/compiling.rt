@@ -3,6 +3,7 @@
 ghost use Rattle.std.specs.Prelude.{◌≡◌, ◌≤◌, ◌<◌, ◌↔◌, ◌⊎◌, ℕ, Some, length, IfOk, IfErr};
 ghost use Rattle.std.specs.List.{slice_get};
 ghost use Rattle.std.specs.Option.{is_some};
+ghost use Rattle.aa_patterns.specs.Limits.{most_states};
 ghost use Rattle.aa_faults.specs.Kinds.{no_memory};
 ghost use Rattle.aa_profiles.specs.declared.policy.Profile.{Profile};
 ghost use Rattle.aa_profiles.specs.Lawful.{IsWithinLimits, ParentsComeFirst};
@@ -83,7 +84,7 @@ fn tables_of(alloc: Global, profiles: &[Profile], limit: usize) -> Result<Tables
     requires limits { IsWithinLimits profiles.now }
     requires parents { ParentsComeFirst profiles.now }
     requires some { 0 < limit }
-    requires limit { limit ≤ 1000000 }
+    requires limit { limit ≤ most_states }
     ensures right { IfOk result (λ t. AreRight profiles.now (length profiles.now) t.rows.items) }
     ensures tops { IfOk result (λ t. Attaches profiles.now (tops profiles.now) t.tops) }
     ensures names { IfOk result (λ t. IsNumbering t.names profiles.now) }
@@ -104,7 +105,7 @@ fn tables_of(alloc: Global, profiles: &[Profile], limit: usize) -> Result<Tables
 /// Makes a policy ready. An automaton of it may have at most `limit` states.
 pub fn compile(alloc: Global, policy: Policy, limit: u32) -> Result<Compiled, CompileRefusal>
     requires some { 1 ≤ limit }
-    requires bounded { limit ≤ 1000000 }
+    requires bounded { limit ≤ most_states }
     ensures ok { IfOk result (λ c. c ≡ policy) }
     ensures accepted { IfOk result (λ _. IsAccepted policy.profiles limit) }
     ensures same { IfErr result (λ e. e.policy ≡ policy) }

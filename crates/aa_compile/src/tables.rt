@@ -6,6 +6,7 @@ ghost use Rattle.aa_profiles.specs.Lawful.{IsWithinLimits};
 ghost use Rattle.aa_rows.specs.Rows.{patterns_of};
 ghost use Rattle.std.specs.List.{slice_get};
 ghost use Rattle.std.specs.Option.{option_map_or};
+ghost use Rattle.aa_patterns.specs.Limits.{most_patterns, most_states};
 ghost use Rattle.aa_compile.specs.Groups.{lists};
 ghost use Rattle.aa_compile.specs.Transitions.{children, no_targets};
 ghost use Rattle.aa_compile.specs.Numbering.{IsNumbering};
@@ -78,9 +79,9 @@ fn rows_of_profile(
     requires group { slice_index_or (lists groups.now) number [] ≡ children profiles.now number }
     requires within { number < length groups.now }
     requires limits { IsWithinLimits profiles.now }
-    requires files { length (patterns_of profile.now.files) ≤ 65535 }
+    requires files { length (patterns_of profile.now.files) ≤ most_patterns }
     requires some { 0 < limit }
-    requires limit { limit ≤ 1000000 }
+    requires limit { limit ≤ most_states }
     ensures right { IfOk result (IsRight profiles.now number profile.now) }
     ensures passes { IfOk result (λ _. Passes profiles.now limit number profile.now) }
     ensures fails { IfErr result (λ f. (f ≡ no_memory) ⊎ Fails profiles.now limit number profile.now f) }
@@ -115,7 +116,7 @@ pub(crate) fn rows_of(
     requires many { length groups.now ≡ length profiles.now }
     requires limits { IsWithinLimits profiles.now }
     requires some { 0 < limit }
-    requires limit { limit ≤ 1000000 }
+    requires limit { limit ≤ most_states }
     ensures right { IfOk result (λ rows. AreRight profiles.now (length profiles.now) rows.items) }
     ensures passes { IfOk result (λ _. PassBefore profiles.now limit (length profiles.now)) }
     ensures fails { IfErr result (λ f. (f ≡ no_memory) ⊎ Refuses profiles.now limit f) }

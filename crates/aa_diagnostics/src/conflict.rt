@@ -1,6 +1,7 @@
 //! The two rules of a conflict, and a path that both match.
 
 ghost use Rattle.std.specs.Prelude.{◌≡◌, ◌⊎◌, ◌↔◌, ℕ, ◌+◌, ◌<◌, ◌≤◌, ◌++◌, ◌∷◌, [], List, map, IfOk, IfSome, IfNone, OnOk, IsTrue, true, false};
+ghost use Rattle.aa_patterns.specs.Limits.{most_patterns, most_states};
 ghost use Rattle.aa_faults.specs.Kinds.{IsRefusal};
 ghost use Rattle.aa_profiles.specs.Lawful.{file_patterns, IsWithinCounts};
 ghost use Rattle.aa_clashes.specs.Clashes.{Conflict};
@@ -84,9 +85,9 @@ fn push_clash(
 
 /// Two rules of a profile that conflict, if there are; none either where they need more states than the limit.
 fn clash_in(alloc: Global, profile: &Profile, limit: usize) -> Result<Option<Clash>, AllocError>
-    requires few { file_patterns profile.now ≤ 65535 }
+    requires few { file_patterns profile.now ≤ most_patterns }
     requires some { 0 < limit }
-    requires limit { limit ≤ 1000000 }
+    requires limit { limit ≤ most_states }
     ensures found { IfOk result (λ found. IfSome found (λ c. (c.first < c.second) × Conflict profile.now.files c.first c.second c.text.items)) }
     ensures none { IfOk result (λ found. IfNone found (HasNone profile.now (limit + 1))) }
 {
@@ -106,9 +107,9 @@ fn push_clash_of(
     limit: usize,
     further: &mut Vec<Vec<u8>>,
 ) -> Result<bool, AllocError>
-    requires few { file_patterns profile.now ≤ 65535 }
+    requires few { file_patterns profile.now ≤ most_patterns }
     requires some { 0 < limit }
-    requires limit { limit ≤ 1000000 }
+    requires limit { limit ≤ most_states }
     ensures shown { IfOk result (λ shown. shown ≡ true → ((lines : List (List ℕ)) × ShowsConflict unit.now profile.now places.now lines × (texts further.new.items ≡ texts further.old.items ++ lines))) }
     ensures none { IfOk result (λ shown. shown ≡ false → HasNone profile.now (limit + 1)) }
     ensures stays { IfOk result (λ shown. shown ≡ false → further.new ≡ further.old) }
@@ -136,9 +137,9 @@ fn push_clash_if(
     limit: usize,
     further: &mut Vec<Vec<u8>>,
 ) -> Result<bool, AllocError>
-    requires few { file_patterns profile.now ≤ 65535 }
+    requires few { file_patterns profile.now ≤ most_patterns }
     requires some { 0 < limit }
-    requires limit { limit ≤ 1000000 }
+    requires limit { limit ≤ most_states }
     ensures shown { IfOk result (λ shown. shown ≡ true → ((lines : List (List ℕ)) × (profile.now.at ≡ at) × ShowsConflict unit.now profile.now places.now lines × (texts further.new.items ≡ texts further.old.items ++ lines))) }
     ensures none { IfOk result (λ shown. shown ≡ false → profile.now.at ≡ at → HasNone profile.now (limit + 1)) }
     ensures stays { IfOk result (λ shown. shown ≡ false → further.new ≡ further.old) }
@@ -171,7 +172,7 @@ fn push_first_clash(
 ) -> Result<(), AllocError>
     requires counts { IsWithinCounts profiles.now }
     requires some { 0 < limit }
-    requires limit { limit ≤ 1000000 }
+    requires limit { limit ≤ most_states }
     ensures { OnOk result (((further.new ≡ further.old) × NoneHas profiles.now at (limit + 1))
         ⊎ ((lines : List (List ℕ)) × ShowsOne unit.now profiles.now (map places_data found.now) at lines × (texts further.new.items ≡ texts further.old.items ++ lines))) }
 {
@@ -195,7 +196,7 @@ fn clash_lines(
 ) -> Result<Vec<Vec<u8>>, AllocError>
     requires counts { IsWithinCounts profiles.now }
     requires some { 0 < limit }
-    requires limit { limit ≤ 1000000 }
+    requires limit { limit ≤ most_states }
     ensures { IfOk result (λ lines. (NoneHas profiles.now at (limit + 1) × (texts lines.items ≡ [])) ⊎ ShowsOne unit.now profiles.now (map places_data found.now) at (texts lines.items)) }
 {
     let mut further = Vec::new(alloc);

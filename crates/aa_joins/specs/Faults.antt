@@ -4,6 +4,7 @@ use Rattle.std.specs.Prelude.{ℕ, suc, Bool, ◌||◌, List, [], ◌∷◌, len
 use Rattle.std.specs.List.{list_any}
 use Rattle.std.specs.Option.{option_or}
 use Rattle.std.specs.Str.{bytes_eq}
+use Rattle.aa_patterns.specs.Limits.{most_patterns}
 use Rattle.aa_profiles.specs.declared.policy.Profile.{Profile}
 use Rattle.aa_profiles.specs.Lawful.{attachment_patterns}
 use Rattle.aa_joins.specs.declared.fault.Repeated.{Repeated}
@@ -34,7 +35,7 @@ repeated earlier (p ∷ ps) = option_or (option_map at_first (number_of p.name e
 -- or a rule that never decides of a profile whose number would be larger than numbers are
 abbrev pub is_too_large : Rows → Bool
 is_too_large rows =
-    nat_lt 4096 (length rows.profiles) || nat_lt 65535 (attachment_patterns None rows.profiles) || list_any (λ r. nat_lt 65535 r.profile) rows.passed_over
+    nat_lt 4096 (length rows.profiles) || nat_lt most_patterns (attachment_patterns None rows.profiles) || list_any (λ r. nat_lt 65535 r.profile) rows.passed_over
 
 -- why the second can't be joined to the first: a name that is there, or else a limit that the two together pass
 abbrev pub fault_of : Rows → Rows → Option JoinFault

@@ -2,6 +2,7 @@
 
 ghost use Rattle.std.specs.Prelude.{◌≡◌, ◌||◌, ◌+◌, ◌≤◌, None, Some, length, nat_lt, IfOk, IfErr, OnOk, OnErr};
 ghost use Rattle.std.specs.List.{list_any};
+ghost use Rattle.aa_patterns.specs.Limits.{most_patterns};
 ghost use Rattle.aa_profiles.specs.Lawful.{attachments_with, attachment_patterns};
 ghost use Rattle.aa_joins.specs.Joined.{rows_of, joined};
 ghost use Rattle.aa_joins.specs.Faults.{is_too_large, fault_of};
@@ -45,7 +46,7 @@ fn attachments_at_top(profile: &Profile) -> usize
 
 /// How many attachment patterns the top-level profiles have.
 fn count_attachments(profiles: &[Profile]) -> usize
-    requires { attachment_patterns None profiles.now ≤ 65535 }
+    requires { attachment_patterns None profiles.now ≤ most_patterns }
     ensures { result ≡ attachment_patterns None profiles.now }
 {
     let mut count = 0;
@@ -57,7 +58,7 @@ fn count_attachments(profiles: &[Profile]) -> usize
 
 /// Whether there are more profiles than a policy may have, or more attachment patterns than its top-level profiles may.
 fn is_over(profiles: usize, attachments: usize) -> bool
-    ensures { result ≡ (nat_lt 4096 profiles || nat_lt 65535 attachments) }
+    ensures { result ≡ (nat_lt 4096 profiles || nat_lt most_patterns attachments) }
 {
     profiles > MAX_PROFILES || attachments > MAX_ATTACHMENTS
 }

@@ -1,6 +1,7 @@
 //! Texts that are compiled each by themselves.
 
 ghost use Rattle.std.specs.Prelude.{◌≡◌, ◌≢◌, ◌≤◌, OnOk, IfOk, IfNone, IfErr, IfSome};
+ghost use Rattle.aa_profiles.specs.Limits.{most_states};
 ghost use Rattle.aa_faults.specs.declared.fault.PolicyKind.TheVariants.{NoMemory};
 ghost use Rattle.aa_loading.specs.Spelled.{IsGood, AreGood, IsRefusedAlone};
 ghost use Rattle.aa_loading.specs.Refused.{IsFirstAlone};
@@ -15,7 +16,7 @@ use std::alloc::Global;
 /// Reads texts, and compiles them by themselves.
 fn compile_alone(alloc: Global, texts: Texts<'_>, limit: u32) -> Result<Compiled, PolicyFault>
     requires some { 1 ≤ limit }
-    requires bounded { limit ≤ 1000000 }
+    requires bounded { limit ≤ most_states }
     ensures good { OnOk result (IsGood limit texts.entry) }
     ensures cause { IfErr result (λ e. e.kind ≢ NoMemory → IsRefusedAlone limit texts.entry e) }
 {
@@ -32,7 +33,7 @@ fn compile_alone(alloc: Global, texts: Texts<'_>, limit: u32) -> Result<Compiled
 /// The fault of the first that are refused by themselves, if there are some.
 pub(crate) fn first_alone(alloc: Global, all: &[Texts<'_>], limit: u32) -> Option<LoadingFault>
     requires some { 1 ≤ limit }
-    requires bounded { limit ≤ 1000000 }
+    requires bounded { limit ≤ most_states }
     ensures none { IfNone result (AreGood limit all.now) }
     ensures first { IfSome result (λ f. f ≢ LoadingFault.NoMemory → IsFirstAlone limit all.now f) }
 {

@@ -1,6 +1,7 @@
 //! The one policy that texts are.
 
 ghost use Rattle.std.specs.Prelude.{◌≡◌, ◌≢◌, ◌≤◌, map, IfOk, IfErr};
+ghost use Rattle.aa_profiles.specs.Limits.{most_states};
 ghost use Rattle.aa_faults.specs.declared.fault.PolicyFault.{PolicyFault};
 ghost use Rattle.aa_compile.specs.Checks.{IsAccepted, IsRefused};
 ghost use Rattle.aa_asks.specs.Places.{places_data};
@@ -34,7 +35,7 @@ pub struct Loaded<'u> {
 fn limit_of(states: u32) -> u32
     ensures is { result ≡ limit_of states }
     ensures some { 1 ≤ result }
-    ensures bounded { result ≤ 1000000 }
+    ensures bounded { result ≤ most_states }
 {
     states.max(1).min(1_000_000)
 }
@@ -42,7 +43,7 @@ fn limit_of(states: u32) -> u32
 /// What is said of texts that are refused so together.
 fn blamed(alloc: Global, all: &[Texts<'_>], limit: u32, fault: PolicyFault) -> LoadingFault
     requires some { 1 ≤ limit }
-    requires bounded { limit ≤ 1000000 }
+    requires bounded { limit ≤ most_states }
     ensures memory { fault.kind ≡ PolicyKind.NoMemory → result ≡ LoadingFault.NoMemory }
     ensures other { result ≢ LoadingFault.NoMemory → IsBlamed limit all.now fault result }
 {
@@ -63,7 +64,7 @@ fn compile_all(
     limit: u32,
 ) -> Result<Compiled, LoadingFault>
     requires some { 1 ≤ limit }
-    requires bounded { limit ≤ 1000000 }
+    requires bounded { limit ≤ most_states }
     ensures ok { IfOk result (λ c. c ≡ policy) }
     ensures accepted { IfOk result (λ _. IsAccepted policy.profiles limit) }
     ensures cause { IfErr result (λ f. f ≢ LoadingFault.NoMemory → ((e : PolicyFault) × IsRefused policy.profiles limit e × IsBlamed limit all.now e f)) }

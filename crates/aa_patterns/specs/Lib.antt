@@ -5,3 +5,4 @@ pub mod Places
 pub mod Heads
 pub mod Weights
 pub mod Flags
+pub mod Limits

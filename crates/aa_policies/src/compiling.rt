@@ -1,6 +1,7 @@
 //! From texts to compiled policies.
 
 ghost use Rattle.std.specs.Prelude.{ℕ, ◌≡◌, ◌≢◌, ◌≤◌, ◌++◌, ◌∷◌, [], length, OnOk, IfOk, IfErr};
+ghost use Rattle.aa_profiles.specs.Limits.{most_states};
 ghost use Rattle.aa_faults.specs.declared.fault.PolicyKind.TheVariants.{NoMemory};
 ghost use Rattle.aa_policies.specs.Policies.{sources_of, IsSpelledBy, IsPolicyOf, ArePoliciesOf, IsFaultOfText, IsFirstRefused, IsRefusedBy};
 ghost use Rattle.aa_profiles.specs.declared.policy.Policy.{Policy};
@@ -34,7 +35,7 @@ fn compile_text(
     limit: u32,
 ) -> Result<Compiled, PolicyFault>
     requires some { 1 ≤ limit }
-    requires bounded { limit ≤ 1000000 }
+    requires bounded { limit ≤ most_states }
     ensures compiled { IfOk result (λ c. IsPolicyOf sources.now limit text.now c) }
     ensures cause { IfErr result (λ e. e.kind ≢ NoMemory → IsFaultOfText sources.now limit text.now e) }
 {
@@ -58,7 +59,7 @@ fn push_policy(
     policies: &mut Vec<Compiled>,
 ) -> Result<(), RefusedPolicy>
     requires some { 1 ≤ limit }
-    requires bounded { limit ≤ 1000000 }
+    requires bounded { limit ≤ most_states }
     ensures added { OnOk result ((p : Policy) × IsPolicyOf sources.now limit text.now p × (policies.new.items ≡ policies.old.items ++ p ∷ [])) }
     ensures cause { IfErr result (λ r. r.fault.kind ≢ NoMemory → (r.policy ≡ number) × IsFaultOfText sources.now limit text.now r.fault) }
 {
@@ -84,7 +85,7 @@ fn policies_of(
     limit: u32,
 ) -> Result<Vec<Compiled>, RefusedPolicy>
     requires some { 1 ≤ limit }
-    requires bounded { limit ≤ 1000000 }
+    requires bounded { limit ≤ most_states }
     requires few { length texts.now ≤ 65535 }
     ensures all { IfOk result (λ v. ArePoliciesOf sources.now limit texts.now v.items) }
     ensures cause { IfErr result (λ r. r.fault.kind ≢ NoMemory → IsFirstRefused sources.now limit texts.now r) }
@@ -108,7 +109,7 @@ pub fn compile_policies(
     limit: u32,
 ) -> Result<Vec<Compiled>, RefusedPolicy>
     requires some { 1 ≤ limit }
-    requires bounded { limit ≤ 1000000 }
+    requires bounded { limit ≤ most_states }
     requires few { length texts.now ≤ 65535 }
     ensures all { IfOk result (λ v. ArePoliciesOf (sources_of includes.now) limit texts.now v.items) }
     ensures cause { IfErr result (λ r. r.fault.kind ≢ NoMemory → IsRefusedBy (sources_of includes.now) limit texts.now r) }

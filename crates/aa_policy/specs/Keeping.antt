@@ -2,6 +2,7 @@
 -- Source: own.
 use Rattle.std.specs.Prelude.{ℕ, ◌+◌, ◌≡◌, ◌<◌, ◌≤◌, List, [], ◌++◌, length, Option, option_and_then, true, false}
 use Rattle.std.specs.List.{All, AllZip, sum_by}
+use Rattle.aa_patterns.specs.Limits.{most_patterns}
 use Rattle.aa_patterns.specs.declared.pattern.Pattern.{Pattern}
 use Rattle.aa_profiles.specs.declared.rule.FileRule.{FileRule}
 use Rattle.aa_profiles.specs.declared.policy.Profile.{Profile}
@@ -19,8 +20,8 @@ patterns_in rules = sum_by (λ r. length r.patterns) rules
 -- what is kept of the file rules that a profile's body spells: all of them, unless it is noticed that they have more patterns than a profile may have; what is kept has no more
 pub record KeepsRules (spelled : List FileRule) (kept : KeptRules) : Type 0 where
   pub whole : kept.over ≡ false → kept.rules.items ≡ spelled
-  pub noticed : kept.over ≡ true → 65535 < patterns_in spelled
-  pub room : patterns_in kept.rules.items + kept.room ≡ 65535
+  pub noticed : kept.over ≡ true → most_patterns < patterns_in spelled
+  pub room : patterns_in kept.rules.items + kept.room ≡ most_patterns
 
 -- the names of the profiles stand at the same place and are the same
 pub record IsNamedAs (p q : Profile) : Type 0 where
@@ -31,8 +32,8 @@ pub record IsNamedAs (p q : Profile) : Type 0 where
 pub record KeepsProfile (spelled : Profile) (read : ReadProfile) : Type 0 where
   pub named : IsNamedAs spelled read.profile
   pub whole : read.over ≡ false → read.profile ≡ spelled
-  pub few_patterns : read.over ≡ false → file_patterns spelled ≤ 65535
-  pub noticed : read.over ≡ true → 65535 < file_patterns spelled
+  pub few_patterns : read.over ≡ false → file_patterns spelled ≤ most_patterns
+  pub noticed : read.over ≡ true → most_patterns < file_patterns spelled
 
 -- the profile of these parts
 abbrev pub read_profile : ProfileTree → List ℕ → List Pattern → BodyRules → ReadProfile
@@ -56,11 +57,11 @@ read_profile tree name attachments rules = record {
 pub record FitsBeside (profiles : List Profile) (p : Profile) : Type 0 where
   pub few : length profiles < 4096
   pub short_name : length p.name ≤ 1024
-  pub few_attachments : attachment_patterns p.parent profiles + length p.attachments ≤ 65535
+  pub few_attachments : attachment_patterns p.parent profiles + length p.attachments ≤ most_patterns
 
 -- below each parent there is room for that many attachment patterns more
 abbrev pub HasRoom : List Profile → ℕ → Type 0
-HasRoom profiles room = (parent : Option ℕ) → attachment_patterns parent profiles + room ≤ 65535
+HasRoom profiles room = (parent : Option ℕ) → attachment_patterns parent profiles + room ≤ most_patterns
 
 -- of the profile no pattern is kept, of an attachment or of a file rule
 pub record HasNoPatterns (p : Profile) : Type 0 where

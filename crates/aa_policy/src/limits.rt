@@ -3,6 +3,7 @@
 ghost use Rattle.std.specs.Prelude.{◌≡◌, ◌⊎◌, ◌+◌, ◌≤◌, ◌↔◌, ◌++◌, ◌∷◌, [], List, IsTrue, length, IfOk, IfErr, OnOk};
 ghost use Rattle.std.specs.List.{IsDistinct};
 ghost use Rattle.std.specs.Str.{bytes_eq};
+ghost use Rattle.aa_patterns.specs.Limits.{most_patterns};
 ghost use Rattle.aa_faults.specs.Kinds.{no_memory};
 ghost use Rattle.aa_profiles.specs.declared.rule.FileRule.{FileRule};
 ghost use Rattle.aa_profiles.specs.declared.policy.Profile.{Profile};
@@ -105,7 +106,7 @@ fn attachments_with(profile: &Profile, parent: Option<u16>) -> usize
 
 /// Whether the profiles below a parent may have so many attachment patterns more.
 fn has_room_below(profiles: &[Profile], parent: Option<u16>, more: usize) -> bool
-    ensures { IsTrue result ↔ (attachment_patterns parent profiles.now + more ≤ 65535) }
+    ensures { IsTrue result ↔ (attachment_patterns parent profiles.now + more ≤ most_patterns) }
 {
     if more > MAX_ATTACHMENTS {
         return false;

@@ -5,6 +5,7 @@ use Rattle.std.specs.List.{All, IsDistinct, sum_by, slice_get}
 use Rattle.std.specs.Option.{option_eq}
 use Rattle.std.specs.Bool.{nat_eq}
 use Rattle.std.specs.Str.{bytes_eq}
+use Rattle.aa_patterns.specs.Limits.{most_patterns}
 use Rattle.aa_tables.specs.declared.perms.Perms.{Perms}
 use Rattle.aa_profiles.specs.declared.rule.FileRule.{FileRule}
 use Rattle.aa_profiles.specs.declared.policy.Profile.{Profile}
@@ -38,12 +39,12 @@ attachment_patterns parent profiles = sum_by (attachments_with parent) profiles
 pub record IsWithinCounts (profiles : List Profile) : Type 0 where
   pub few : length profiles ≤ 4096
   pub short_names : All (λ p. length p.name ≤ 1024) profiles
-  pub few_patterns : All (λ p. file_patterns p ≤ 65535) profiles
+  pub few_patterns : All (λ p. file_patterns p ≤ most_patterns) profiles
 
 -- the same, and how many attachments there are
 pub record IsWithinLimits (profiles : List Profile) : Type 0 where
   pub counts : IsWithinCounts profiles
-  pub few_attachments : (parent : Option ℕ) → attachment_patterns parent profiles ≤ 65535
+  pub few_attachments : (parent : Option ℕ) → attachment_patterns parent profiles ≤ most_patterns
 
 -- a parent is an earlier top-level profile
 abbrev pub ParentsComeFirst : List Profile → Type 0

@@ -1,1 +1,2 @@
 pub mod Lawful
+pub use Rattle.aa_patterns.specs.Limits

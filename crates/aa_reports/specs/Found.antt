@@ -6,6 +6,7 @@ use Rattle.std.specs.Option.{option_or}
 use Rattle.std.specs.Str.{bytes_eq}
 use Rattle.std.specs.HashMap.{HashMap, get_by}
 use Rattle.std.specs.declared.vec.Vec.{Vec}
+use Rattle.aa_reports.specs.Limits.{most_requests}
 use Rattle.aa_requests.specs.declared.request.Request.{Request}
 use Rattle.aa_request_words.specs.Written.{word_text}
 use Rattle.aa_logs.specs.declared.line.Then.{Then}
@@ -148,7 +149,7 @@ pub record AreFound {Y S : Type 0} (asked : List Asked) (es : List Entry) (numbe
   pub counts : map entry_data es ≡ counted asked_key asked
   pub words : HaveWords es
   pub numbered : AreNumbered numbers (map entry_key es)
-  pub within : length es ≤ 1000000
+  pub within : length es ≤ most_requests
 
 -- what is kept of the lines that ask nothing, where each is wanted
 abbrev pub AreEach : List Skipped → Option (List SkippedLines) → Type 0

@@ -5,3 +5,4 @@ pub mod Listed
 pub mod Counted
 pub mod Found
 pub mod Apart
+pub mod Limits

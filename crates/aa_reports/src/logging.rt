@@ -5,6 +5,7 @@ ghost use Rattle.std.specs.Ordering.{nat_cmp};
 ghost use Rattle.std.specs.Cmp.Lexicographic.{slice_cmp};
 ghost use Rattle.std.specs.HashMap.{get_by};
 ghost use Rattle.std.specs.Str.{bytes_eq};
+ghost use Rattle.aa_reports.specs.Limits.{most_requests};
 ghost use Rattle.aa_request_words.specs.Written.{word_text};
 ghost use Rattle.aa_reports.specs.declared.logging.Entry.{Entry};
 ghost use Rattle.aa_log_lines.specs.LogLines.{LogLine, log_line};
@@ -125,8 +126,8 @@ fn add_number(
     number: usize,
 ) -> Result<(), Unread>
     ensures numbers { OnOk result (get_by (λ k. bytes_eq key.items k.items) numbers.old ≡ None → AddsKey numbers.old key.items number numbers.new) }
-    ensures room { IfErr result (λ why. IsRefused why (1000000 ≤ number)) }
-    ensures most { OnOk result (number < 1000000) }
+    ensures room { IfErr result (λ why. IsRefused why (most_requests ≤ number)) }
+    ensures most { OnOk result (number < most_requests) }
 {
     if number >= MAX_DISTINCT {
         return Err(Unread::TooLarge);
@@ -144,8 +145,8 @@ fn add_entry(
 ) -> Result<(), Unread>
     ensures entries { OnOk result (entries.new.items ≡ entries.old.items ++ entry ∷ []) }
     ensures numbers { OnOk result (get_by (λ k. bytes_eq key.items k.items) numbers.old ≡ None → AddsKey numbers.old key.items (length entries.old.items) numbers.new) }
-    ensures room { IfErr result (λ why. IsRefused why (1000000 ≤ length entries.old.items)) }
-    ensures most { OnOk result (length entries.old.items < 1000000) }
+    ensures room { IfErr result (λ why. IsRefused why (most_requests ≤ length entries.old.items)) }
+    ensures most { OnOk result (length entries.old.items < most_requests) }
 {
     add_number(numbers, key, entries.len())?;
     entries.push(entry)?;
@@ -163,7 +164,7 @@ fn count_entry(
     requires word { entry.word.items ≡ word_text entry.request }
     requires once { entry.count ≡ 1 }
     ensures found { OnOk result ((before : List Asked) → AreFound before entries.old.items numbers.old → AreFound (before ++ (entry_data entry).item ∷ []) entries.new.items numbers.new) }
-    ensures room { IfErr result (λ why. IsRefused why ((before : List Asked) → AreFound before entries.old.items numbers.old → 1000000 < length (firsts asked_key (before ++ (entry_data entry).item ∷ [])))) }
+    ensures room { IfErr result (λ why. IsRefused why ((before : List Asked) → AreFound before entries.old.items numbers.old → most_requests < length (firsts asked_key (before ++ (entry_data entry).item ∷ [])))) }
 {
     if let Some(number) = number_of(numbers, key.as_slice()) {
         count_again(entries, number);
@@ -197,7 +198,7 @@ fn count_request(
     place: LinePlace,
 ) -> Result<(), Unread>
     ensures found { OnOk result ((before : List Asked) → AreFound before entries.old.items numbers.old → AreFound (before ++ asked_at (record_data asked) place ∷ []) entries.new.items numbers.new) }
-    ensures room { IfErr result (λ why. IsRefused why ((before : List Asked) → AreFound before entries.old.items numbers.old → 1000000 < length (firsts asked_key (before ++ asked_at (record_data asked) place ∷ [])))) }
+    ensures room { IfErr result (λ why. IsRefused why ((before : List Asked) → AreFound before entries.old.items numbers.old → most_requests < length (firsts asked_key (before ++ asked_at (record_data asked) place ∷ [])))) }
 {
     let entry = entry_of(alloc, asked, place)?;
     let key = key_of(
@@ -326,7 +327,7 @@ impl<'a> LogReport<'a> {
     fn count_record(&mut self, alloc: Global, asked: Record, line: u64) -> Result<(), Unread>
         ensures counted { OnOk result (self.new ≡ record self.old { entries = self.new.entries; numbers = self.new.numbers; requests = min (self.old.requests + 1) greatest }) }
         ensures found { OnOk result ((before : List Asked) → AreFound before self.old.entries.items self.old.numbers → AreFound (before ++ asked_at (record_data asked) (record { log = self.old.log; line = line }) ∷ []) self.new.entries.items self.new.numbers) }
-        ensures room { IfErr result (λ why. IsRefused why ((before : List Asked) → AreFound before self.old.entries.items self.old.numbers → 1000000 < length (firsts asked_key (before ++ asked_at (record_data asked) (record { log = self.old.log; line = line }) ∷ [])))) }
+        ensures room { IfErr result (λ why. IsRefused why ((before : List Asked) → AreFound before self.old.entries.items self.old.numbers → most_requests < length (firsts asked_key (before ++ asked_at (record_data asked) (record { log = self.old.log; line = line }) ∷ [])))) }
     {
         let place = self.place(line);
         self.requests = self.requests.saturating_add(1);
@@ -366,7 +367,7 @@ impl<'a> LogReport<'a> {
         ensures choice { OnOk result (self.new.choice ≡ self.old.choice) }
         ensures kept { OnOk result (is_some self.new.each_skipped ≡ is_some self.old.each_skipped) }
         ensures taken { OnOk result ((before : List LogLine) → IsReport before self.old → IsReport (before ++ log_line self.old.log number line.now ∷ []) self.new) }
-        ensures room { IfErr result (λ why. IsRefused why ((before : List LogLine) → IsReport before self.old → 1000000 < distinct_in self.old.choice (before ++ log_line self.old.log number line.now ∷ []))) }
+        ensures room { IfErr result (λ why. IsRefused why ((before : List LogLine) → IsReport before self.old → most_requests < distinct_in self.old.choice (before ++ log_line self.old.log number line.now ∷ []))) }
     {
         self.lines = self.lines.saturating_add(1);
         let found = line_of(alloc, line)?;
@@ -418,7 +419,7 @@ impl Lines for LogReport<'_> {
         ensures choice { OnOk result (self.new.choice ≡ self.old.choice) }
         ensures kept { OnOk result (is_some self.new.each_skipped ≡ is_some self.old.each_skipped) }
         ensures taken { OnOk result ((before : List LogLine) → IsReport before self.old → IsReport (before ++ log_line self.old.log number line.now ∷ []) self.new) }
-        ensures room { IfErr result (λ why. IsRefused why ((before : List LogLine) → IsReport before self.old → 1000000 < distinct_in self.old.choice (before ++ log_line self.old.log number line.now ∷ []))) }
+        ensures room { IfErr result (λ why. IsRefused why ((before : List LogLine) → IsReport before self.old → most_requests < distinct_in self.old.choice (before ++ log_line self.old.log number line.now ∷ []))) }
     {
         self.count_line(alloc, line, number)
     }

@@ -1,6 +1,7 @@
 //! The automaton of a profile's file rules, and what they say at each of its lists.
 
 ghost use Rattle.std.specs.Prelude.{◌≡◌, ◌+◌, ◌<◌, ◌≤◌, ◌++◌, IfOk, OnOk, Err, length};
+ghost use Rattle.aa_patterns.specs.Limits.{most_patterns, most_states};
 ghost use Rattle.aa_auto.specs.Nodes.{pointed};
 ghost use Rattle.aa_auto.specs.Tables.{HasPlaces, IsAutomaton, rows_of as states_of};
 ghost use Rattle.aa_rows.specs.Ways.{way_by, ways_by};
@@ -71,9 +72,9 @@ fn pointers_of(alloc: Global, rules: &[FileRule]) -> Result<Vec<&Pattern>, Alloc
 
 /// The automaton of the rules' patterns.
 fn automaton_of(alloc: Global, rules: &[FileRule], limit: usize) -> Result<Automaton, BuildFault>
-    requires few { length (patterns_of rules.now) ≤ 65535 }
+    requires few { length (patterns_of rules.now) ≤ most_patterns }
     requires some { 0 < limit }
-    requires limit { limit ≤ 1000000 }
+    requires limit { limit ≤ most_states }
     ensures automaton { IfOk result (IsAutomaton (patterns_of rules.now)) }
     ensures within { IfOk result (λ a. states_of a ≤ limit) }
     ensures too_many { result ≡ Err BuildFault.TooManyStates → HasPlaces (patterns_of rules.now) (limit + 1) }
@@ -157,9 +158,9 @@ impl Model for FileRows {
 impl FileRows {
     /// The rows of these rules. The errors are `TooManyStates`, then `Conflict`; `NoMemory` may come before either.
     pub fn build(alloc: Global, rules: &[FileRule], limit: usize) -> Result<FileRows, RowsFault>
-        requires few { length (patterns_of rules.now) ≤ 65535 }
+        requires few { length (patterns_of rules.now) ≤ most_patterns }
         requires some { 0 < limit }
-        requires limit { limit ≤ 1000000 }
+        requires limit { limit ≤ most_states }
         ensures ok { IfOk result (λ r. AreRowsOf (way_by rules.now) rules.now r) }
         ensures automaton { IfOk result (λ r. IsAutomaton (patterns_of rules.now) r.table) }
         ensures free { IfOk result (λ _. Conflicts rules.now → ⊥) }

@@ -1,4 +1,5 @@
 -- Rules on capabilities: the names, and the set that they name.
+-- Source: apparmor.d(5), "Capability rules".
 use Rattle.std.specs.Prelude.{ℕ, ◌≡◌, ◌^◌, ◌-◌, List, [], ◌∷◌, length, codes, Some, bit_or}
 use Rattle.aa_words.specs.declared.word.WordKind.TheVariants.{Name}
 use Rattle.aa_words.specs.Splits.{WordData}

@@ -1,6 +1,7 @@
 -- The policy of a unit, and why it has none.
 -- Source: own.
 use Rattle.std.specs.Prelude.{ℕ, ◌≡◌, List, [], ◌∷◌, max, min}
+use Rattle.aa_profiles.specs.Limits.{most_states}
 use Rattle.aa_faults.specs.declared.fault.PolicyFault.{PolicyFault}
 use Rattle.aa_profiles.specs.declared.policy.Policy.{Policy}
 use Rattle.aa_policies.specs.Policies.{Source, CanFollow, IsRefusedBehind, IsPolicyOf, IsFaultOfSources, IsFaultOfText}
@@ -9,7 +10,7 @@ use Rattle.aa_units.specs.Numbers.{named_texts}
 
 -- how many states an automaton may have: 1 to 1,000,000
 abbrev pub limit_of : ℕ → ℕ
-limit_of states = min (max states 1) 1000000
+limit_of states = min (max states 1) most_states
 
 -- the names and texts of a unit's sources, as they are numbered
 abbrev pub texts_of : unit.Unit → List Source

@@ -1,6 +1,7 @@
 //! The policy of a unit.
 
 ghost use Rattle.std.specs.Prelude.{◌≡◌, ◌≢◌, ◌≤◌, ◌++◌, [], option_map, option_to_list, OnOk, IfOk, IfErr};
+ghost use Rattle.aa_profiles.specs.Limits.{most_states};
 ghost use Rattle.aa_faults.specs.declared.fault.PolicyKind.TheVariants.{NoMemory};
 ghost use Rattle.aa_policies.specs.Policies.{CanFollow, IsFaultOfSources, IsPolicyOf, IsFaultOfText};
 ghost use Rattle.aa_units.specs.Numbers.{named_text, named_texts_at, named_texts};
@@ -65,7 +66,7 @@ pub fn compile_text(
     limit: u32,
 ) -> Result<Compiled, PolicyFault>
     requires some { 1 ≤ limit }
-    requires bounded { limit ≤ 1000000 }
+    requires bounded { limit ≤ most_states }
     ensures compiled { IfOk result (λ c. IsPolicyOf sources.now limit text.now c) }
     ensures cause { IfErr result (λ e. e.kind ≢ NoMemory → IsFaultOfText sources.now limit text.now e) }
 {
