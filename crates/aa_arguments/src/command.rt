@@ -55,7 +55,8 @@ listed. It doesn't look at the labels of the tasks."#;
 
 const RUN: &str =
     r#"Decides as far as a task's first "exit". Each request gives its verdict, and then its audit line,
-if it has one. Each task has a queue of its own; the output is the same for any number of workers."#;
+if it has one. Each task has a queue of its own; the output is the same for any number of workers.
+Several workers want queues of 64 requests or more: the job's "capacity", 1 where it has none."#;
 
 const REPLAY: &str =
     r#"Each task has a queue of its own. The job's "events" happen at them in order: the task of a
