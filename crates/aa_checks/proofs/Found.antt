@@ -11,18 +11,24 @@ use Rattle.aa_units.specs.declared.unit.UnitFault.TheVariants.{NoMemory}
 use Rattle.aa_checks.specs.declared.report.ProfileReport.{ProfileReport}
 use Rattle.aa_checks.specs.declared.report.FileReport.{FileReport}
 use Rattle.aa_checks.specs.Counts.{CountsPolicy}
-use Rattle.aa_checks.specs.Names.{first_with, twice_text, warnings_of, IsWarned}
+use Rattle.aa_checks.specs.Names.{first_with, twice_text, warning_of, warnings_of, IsWarned}
 use Rattle.aa_checks.specs.Checked.{HasOnly, IsFoundOf, Accepted, Refused, IsSaid, Setting, IsFound, Read, Unread, IsNext, AreFound}
 
 -- what is said of a unit is not want of memory
 pub said_of_more : (e : UnitFault) (fault : FaultReport) (unread : Bool) → IsSaid e fault unread → e ≢ NoMemory
 said_of_more e fault unread said is = subst (λ x. IsSaid x fault unread) is said
 
+-- where there are no texts there is nothing
+no_texts : (lines : List (Vec ℕ Global)) → texts lines ≡ [] → lines ≡ []
+no_texts [] none = refl
+no_texts (line ∷ lines) none = cc
+
 only_warned : (files : List FileReport) (f g : FileReport) (w : IsWarned files f g) {fault : _} → HasOnly fault f → HasOnly fault g
 only_warned files f g w only = record {
   fault_is = w.fault ∙ only.fault_is;
   profiles = ap (λ v. v.items) w.profiles ∙ only.profiles;
   passed_over = ap (λ v. v.items) w.passed_over ∙ only.passed_over;
+  warnings = no_texts g.warnings.items (w.warnings ∙ ap (flat_map (warning_of files f)) only.profiles);
 }
 
 of_warned : (files : List FileReport) (f g : FileReport) (w : IsWarned files f g) {folders : List (List ℕ)} {states : ℕ} {u : _} → IsFoundOf folders states u f → IsFoundOf folders states u g

@@ -28,6 +28,7 @@ pub record HasOnly (fault : FaultReport) (f : FileReport) : Type 0 where
   pub fault_is : f.fault ≡ Some fault
   pub profiles : f.profiles.items ≡ []
   pub passed_over : f.passed_over.items ≡ []
+  pub warnings : f.warnings.items ≡ []
 
 -- what is found of a unit: its policy is counted, or its fault is told
 pub data IsFoundOf (folders : List (List ℕ)) (states : ℕ) (u : unit.Unit) (f : FileReport) : Type 0 where

@@ -1,6 +1,7 @@
 -- Where a unit first includes a name.
-use Rattle.std.proofs.Common.{◌≡◌, ℕ, Bool, true, false, cond, List, [], ◌∷◌, Option, Some, find, refl, subst, ◌∙◌}
-use Rattle.std.specs.Prelude.{◌&&◌, option_map}
+use Rattle.std.proofs.Common.{◌≡◌, ℕ, Bool, true, false, cond, List, [], ◌∷◌, map, Option, Some, find, refl, subst, ◌∙◌}
+use Rattle.std.specs.Prelude.{◌&&◌, option_map, Vec}
+use Rattle.std.specs.declared.alloc.Global.{Global}
 use Rattle.std.specs.Str.{bytes_eq}
 use Rattle.aa_extents.specs.Includes.{included_name}
 use Rattle.aa_words.specs.declared.found.IncludeAt.{IncludeAt}
@@ -34,3 +35,8 @@ stands_in u file text name o p e f h = subst (λ (t : List ℕ). IsFirstByte t n
 pub and_true : (b : Bool) → (b && true) ≡ b
 and_true true = refl
 and_true false = refl
+
+-- where there are no texts there is nothing
+pub no_lines : (lines : List (Vec ℕ Global)) → map (λ (v : Vec ℕ Global). v.items) lines ≡ [] → lines ≡ []
+no_lines [] none = refl
+no_lines (line ∷ lines) none = cc

@@ -126,6 +126,7 @@ pub record IsAmbiguous (u : unit.Unit) (name : List ℕ) (message : List ℕ) (r
   pub place : r.place ≡ place_if (not (is_folder_in u at.file)) (text_in u at.file) at.byte
   pub excerpt : r.excerpt.items ≡ excerpt_if (not (is_folder_in u at.file)) (text_in u at.file) at.byte
   pub chain : AreLinks u (node_in u at.file) r.chain.items
+  pub further : r.further.items ≡ []
 
 -- The first unit that takes a name otherwise than those before it, and what is said of it.
 pub record IsTakenOtherwise (units : List unit.Unit) (r : FaultReport) : Type 0 where

@@ -151,10 +151,14 @@ pub record AreFound {Y S : Type 0} (asked : List Asked) (es : List Entry) (numbe
   pub numbered : AreNumbered numbers (map entry_key es)
   pub within : length es ≤ most_requests
 
--- what is kept of the lines that ask nothing, where each is wanted
+-- a line by itself
+abbrev pub once : Skipped → Counted Skipped
+once s = record { item = s; count = 1 }
+
+-- what is kept of the lines that ask nothing, where each is wanted: each by itself
 abbrev pub AreEach : List Skipped → Option (List SkippedLines) → Type 0
 AreEach skipped None = Unit {0}
-AreEach skipped (Some each) = map skipped_item each ≡ skipped
+AreEach skipped (Some each) = map skipped_data each ≡ map once skipped
 
 -- how many lines aren't wanted; nothing where all are
 abbrev pub left_out_of : Choice → ℕ → Option ℕ

@@ -258,9 +258,10 @@ fn note_each(
     let Some(each) = each else {
         return Ok(());
     };
+    let count = 1;
     each.push(SkippedLines {
         reason,
-        count: 1,
+        count,
         first: place,
     })?;
     Ok(())

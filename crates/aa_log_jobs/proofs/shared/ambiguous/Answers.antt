@@ -3,7 +3,7 @@ use Rattle.std.specs.Prelude.{not}
 use Rattle.aa_units.specs.Numbers.{text_in}
 use Rattle.aa_units.specs.Nodes.{is_folder_in}
 use Rattle.aa_units.specs.Links.{place_if, excerpt_if}
-use Rattle.aa_log_jobs.proofs.Placing.{and_true}
+use Rattle.aa_log_jobs.proofs.Placing.{and_true, no_lines}
 use Rattle.aa_log_jobs.proofs.shared.ambiguous.Goals as goal
 
 pub returns : goal.returns
@@ -16,4 +16,5 @@ returns c = record {
   place = c.in_ok-report.ensures.report.place ∙ ap (λ (b : Bool). place_if b (text_in c.args.unit.now c.in_ok-at.at.file) c.in_ok-at.at.byte) (and_true (not (is_folder_in c.args.unit.now c.in_ok-at.at.file)));
   excerpt = c.in_ok-report.ensures.report.excerpt ∙ ap (λ (b : Bool). excerpt_if b (text_in c.args.unit.now c.in_ok-at.at.file) c.in_ok-at.at.byte) (and_true (not (is_folder_in c.args.unit.now c.in_ok-at.at.file)));
   chain = c.in_ok-report.ensures.report.chain;
+  further = no_lines c.in_ok-report.report.further.items (c.in_ok-report.ensures.report.further ∙ c.in_ok-report.ensures.are);
 }
