@@ -2,3 +2,4 @@ mod Answering
 mod Checking
 mod Replaying
 mod Writing
+pub mod Crossing

@@ -1,15 +1,21 @@
--- Writing the lines of a task's answers, and of task after task.
-use Rattle.std.proofs.Common.{◌≡◌, Bool, ℕ, ◌+◌, ◌<◌, ◌≤◌, List, [], ◌∷◌, ◌++◌, length, drop, get_or, map, Vec, zero, suc, Option, Some, None, refl, ap, sym, ◌∙◌, arith, append_assoc}
-use Rattle.std.specs.Prelude.{option_map, option_and_then}
-use Rattle.std.proofs.lemmas.List.{drop_more, at_drop_all, append-nil, length-map}
+-- Writing the lines of a task's answers, and joining those of task after task.
+use Rattle.std.proofs.Common.{◌≡◌, Bool, ℕ, ◌+◌, ◌<◌, ◌≤◌, List, [], ◌∷◌, ◌++◌, length, take, drop, get_or, map, zero, suc, Option, Some, None, refl, ap, sym, subst, ◌∙◌, arith, append_assoc, add-zero}
+use Rattle.std.specs.Prelude.{Result, Ok, Err, IfOk, String, option_map, option_and_then, is_none}
 use Rattle.std.specs.Global.{Global}
+use Rattle.std.specs.List.{All, position_from}
+use Rattle.std.specs.String.{string_bytes}
+use Rattle.std.proofs.lemmas.Iterator.Adapters.{position_from-zero}
+use Rattle.std.proofs.lemmas.List.Elements.{All-append}
+use Rattle.std.proofs.lemmas.List.{drop_more, at_drop_all, append-nil, take_all, take-append-le}
 use Rattle.aa_profiles.specs.declared.policy.Policy.{Policy}
 use Rattle.aa_requests.specs.declared.label.Label.{Label}
 use Rattle.aa_requests.specs.declared.request.Request.{Request}
 use Rattle.aa_requests.specs.declared.answer.Answer.{Answer}
 use Rattle.aa_jobs.specs.declared.job.Task.{Task}
-use Rattle.aa_answers.specs.Answers.{Answered, answers_by, task_label, job_answers_by}
+use Rattle.aa_answers.specs.declared.texts.TaskText.{TaskText}
+use Rattle.aa_answers.specs.Answers.{Answered, answers_by, task_label, job_answers_by, first_unknown}
 use Rattle.aa_answers.specs.Output.{verdict_line, audit_lines, task_lines, lines_from}
+use Rattle.aa_answers.specs.Texts.{IsMade, joined_lines}
 
 -- ---- answer after answer
 
@@ -51,14 +57,73 @@ writing_task_end {M} several policies task out before answers i all le so_far =
     sym (append-nil out) ∙ ap (λ (x : List ℕ). out ++ x) (sym (task_lines_nil M several policies task before))
     ∙ sym (at_drop_all (λ (x : List (Answered M)). out ++ task_lines several policies task before x) answers i le) ∙ so_far.goes_on
 
+-- ---- text after text
+
+of_one : {X : Type 0} (x : X) (P : X → Type 0) → P x → All P (x ∷ [])
+of_one x P here zero d lt = here
+of_one x P here (suc k) d lt = absurd (omega arith)
+
+-- one more of which it holds
+pub all_with : {X : Type 0} (xs more : List X) (x : X) (P : X → Type 0) → more ≡ xs ++ x ∷ [] → P x → All P xs → All P more
+all_with xs more x P e here so_far = rw e (All-append P xs (x ∷ []) so_far (of_one x P here))
+
+-- a list that was written over whole
+pub kept_whole : {X : Type 0} (after before : List X) (n : ℕ) → n ≡ length before → length after ≡ length before → take n (after ++ drop (length after) before) ≡ after
+kept_whole after before n count len =
+    let fits : n ≤ length after = omega arith in
+    take-append-le n after (drop (length after) before) fits ∙ take_all n after (omega arith)
+
+pub where_ok : {T E : Type 0} (r : Result T E) (P Q : T → Type 0) → ((x : T) → P x → Q x) → IfOk r P → IfOk r Q
+where_ok (Ok x) P Q f p = f x p
+where_ok (Err e) P Q f p = p
+
+-- the parts of a text that is there
+joined_parts : {S : Type 0} (f : S → List ℕ) (o : Option S) (q : Option (List ℕ)) (text : List ℕ)
+    → option_and_then (λ (x : S). option_and_then (λ (others : List ℕ). Some (f x ++ others)) q) o ≡ Some text
+    → (x : S) × (others : List ℕ) × (o ≡ Some x) × (q ≡ Some others) × (text ≡ f x ++ others)
+joined_parts f None q text e = absurd cc
+joined_parts f (Some x) None text e = absurd cc
+joined_parts f (Some x) (Some others) text e = (x, others, refl, refl, cc)
+
+-- what is joined, and then the lines that are left, are the lines of all
+pub record Joining {M : Type 0} (out : List ℕ) (left all : List (TaskText M)) : Type 0 where
+  pub goes_on : option_map (λ (more : List ℕ). out ++ more) (joined_lines left) ≡ joined_lines all
+
+none_before : (o : Option (List ℕ)) → option_map (λ (more : List ℕ). [] ++ more) o ≡ o
+none_before None = refl
+none_before (Some more) = refl
+
+written_behind : (out lines : List ℕ) (o : Option (List ℕ))
+    → option_map (λ (more : List ℕ). (out ++ lines) ++ more) o ≡ option_map (λ (more : List ℕ). out ++ more) (option_and_then (λ (others : List ℕ). Some (lines ++ others)) o)
+written_behind out lines None = refl
+written_behind out lines (Some more) = ap (λ (x : List ℕ). Some x) (append_assoc out lines more)
+
+pub joining_start : {M : Type 0} (out : List ℕ) (left all : List (TaskText M)) → out ≡ [] → left ≡ all → Joining out left all
+joining_start {M} out left all e same =
+    record { goes_on = ap (λ (o : List ℕ). option_map (λ (more : List ℕ). o ++ more) (joined_lines left)) e ∙ none_before (joined_lines left) ∙ ap joined_lines same }
+
+joined_step : {M : Type 0} (text : TaskText M) (lines : String Global) (rest : List (TaskText M)) → text.lines ≡ Some lines
+    → joined_lines (text ∷ rest) ≡ option_and_then (λ (others : List ℕ). Some (string_bytes lines ++ others)) (joined_lines rest)
+joined_step {M} text lines rest e = ap (λ (o : Option (String Global)). option_and_then (λ (l : String Global). option_and_then (λ (others : List ℕ). Some (string_bytes l ++ others)) (joined_lines rest)) o) e
+
+pub joining_more : {M : Type 0} (out more : List ℕ) (text : TaskText M) (lines : String Global) (left rest all : List (TaskText M))
+    → left ≡ text ∷ rest → text.lines ≡ Some lines → more ≡ out ++ string_bytes lines → Joining out left all → Joining more rest all
+joining_more {M} out more text lines left rest all here there more-is so_far = record {
+  goes_on =
+      ap (λ (o : List ℕ). option_map (λ (x : List ℕ). o ++ x) (joined_lines rest)) more-is
+      ∙ written_behind out (string_bytes lines) (joined_lines rest)
+      ∙ ap (option_map (λ (x : List ℕ). out ++ x)) (sym (joined_step text lines rest there))
+      ∙ ap (λ (ts : List (TaskText M)). option_map (λ (x : List ℕ). out ++ x) (joined_lines ts)) (sym here)
+      ∙ so_far.goes_on;
+}
+
+pub joining_end : {M : Type 0} (out : List ℕ) (left all : List (TaskText M)) → left ≡ [] → Joining out left all → joined_lines all ≡ Some out
+joining_end {M} out left all none so_far =
+    sym so_far.goes_on ∙ ap (λ (ts : List (TaskText M)). option_map (λ (x : List ℕ). out ++ x) (joined_lines ts)) none ∙ ap (λ (x : List ℕ). Some x) (append-nil out)
+
 -- ---- task after task
 
 module _ {M : Type 0} (next : M → Label → Request → Label) (decide : M → Label → Request → Answer) (machine : M) where
-  -- what is written, and then the lines of the tasks from number n on, are the lines of all; the rows from n on are those tasks'
-  pub record Writing (several : Bool) (policies : List Policy) (tasks : List Task) (rows : List (List (Answered M))) (n : ℕ) (out : List ℕ) : Type 0 where
-    pub goes_on : option_map (λ (more : List ℕ). out ++ more) (lines_from next decide machine several policies n (drop n tasks)) ≡ lines_from next decide machine several policies 0 tasks
-    pub left : job_answers_by next decide machine policies (drop n tasks) ≡ Some (drop n rows)
-
   abbrev Row : Type 0
   Row = List (Answered M)
 
@@ -82,30 +147,38 @@ module _ {M : Type 0} (next : M → Label → Request → Label) (decide : M →
       let p = parts (task_label policies task) (job_answers_by next decide machine policies rest) (answers_by next decide machine task) row rows e in
       record { label = p.0; named = p.1; answers = p.2; behind = p.3 }
 
-  meaning_nil : (policies : List Policy) → job_answers_by next decide machine policies [] ≡ Some []
+  no_row : (o : Option Label) (q : Option (List Row)) (f : Label → Row) → option_and_then (λ (l : Label). option_and_then (λ (others : List Row). Some (f l ∷ others)) q) o ≡ Some [] → ⊥
+  no_row None q f e = cc
+  no_row (Some l) None f e = cc
+  no_row (Some l) (Some others) f e = cc
+
+  -- a task has a row, and a row a task
+  task_without_row : (policies : List Policy) (task : Task) (rest : List Task) → job_answers_by next decide machine policies (task ∷ rest) ≡ Some [] → ⊥
   unfolding job_answers_by
-  meaning_nil policies = refl
+  task_without_row policies task rest e = no_row (task_label policies task) (job_answers_by next decide machine policies rest) (answers_by next decide machine task) e
 
-  -- a row that is left belongs to a task that is left
-  heads : (policies : List Policy) (tasks : List Task) (rows : List Row) (n : ℕ) (task : Task) (row : Row) → n < length rows → row ≡ get_or rows n row → n < length tasks → task ≡ get_or tasks n task
-      → job_answers_by next decide machine policies (drop n tasks) ≡ Some (drop n rows) → Head policies task (drop (n + 1) tasks) row (drop (n + 1) rows)
-  heads policies tasks rows n task row in_rows row-is in_tasks task-is e =
-      let t : drop n tasks ≡ task ∷ drop (n + 1) tasks = drop_more tasks n task in_tasks ∙ ap (λ (x : Task). x ∷ drop (n + 1) tasks) (sym task-is) in
-      let r : drop n rows ≡ row ∷ drop (n + 1) rows = drop_more rows n row in_rows ∙ ap (λ (x : Row). x ∷ drop (n + 1) rows) (sym row-is) in
-      head_of policies task (drop (n + 1) tasks) row (drop (n + 1) rows) (ap (job_answers_by next decide machine policies) (sym t) ∙ e ∙ ap (λ (x : List Row). Some x) r)
+  row_without_task : (policies : List Policy) (row : Row) (rows : List Row) → job_answers_by next decide machine policies [] ≡ Some (row ∷ rows) → ⊥
+  unfolding job_answers_by
+  row_without_task policies row rows e = cc
 
-  pub no_task : (several : Bool) (policies : List Policy) (tasks : List Task) (rows : List Row) (n : ℕ) (row : Row) (out : List ℕ) → n < length rows → length tasks ≤ n → Writing several policies tasks rows n out → ⊥
-  no_task several policies tasks rows n row out in_rows le so_far =
-      let r = drop_more rows n row in_rows in
-      let none : Some [] ≡ Some (drop n rows) = sym (meaning_nil policies) ∙ sym (at_drop_all (job_answers_by next decide machine policies) tasks n le) ∙ so_far.left in
-      cc
+  -- there are as many rows as tasks
+  pub as_many_rows : (policies : List Policy) (tasks : List Task) (rows : List Row) → job_answers_by next decide machine policies tasks ≡ Some rows → length rows ≡ length tasks
+  as_many_rows policies [] [] e = refl
+  as_many_rows policies [] (row ∷ rows) e = absurd (row_without_task policies row rows e)
+  as_many_rows policies (task ∷ rest) [] e = absurd (task_without_row policies task rest e)
+  as_many_rows policies (task ∷ rest) (row ∷ rows) e = ap suc (as_many_rows policies rest rows (head_of policies task rest row rows e).behind)
 
-  pub no_label : (several : Bool) (policies : List Policy) (tasks : List Task) (rows : List Row) (n : ℕ) (task : Task) (row : Row) (out : List ℕ) → n < length rows → row ≡ get_or rows n row → n < length tasks → task ≡ get_or tasks n task
-      → None ≡ task_label policies task → Writing several policies tasks rows n out → ⊥
-  no_label several policies tasks rows n task row out in_rows row-is in_tasks task-is unnamed so_far =
-      let h = heads policies tasks rows n task row in_rows row-is in_tasks task-is so_far.left in
-      let named : task_label policies task ≡ Some h.label = h.named in
-      cc
+  known_from : (policies : List Policy) (k : ℕ) (tasks : List Task) (rows : List Row) → job_answers_by next decide machine policies tasks ≡ Some rows
+      → position_from (λ (t : Task). is_none (task_label policies t)) k tasks ≡ None
+  known_from policies k [] rows e = refl
+  known_from policies k (task ∷ rest) [] e = absurd (task_without_row policies task rest e)
+  known_from policies k (task ∷ rest) (row ∷ rows) e =
+      let h = head_of policies task rest row rows e in
+      rw h.named (known_from policies (k + 1) rest rows h.behind)
+
+  -- where each task has answers, no label is unknown
+  pub all_known : (policies : List Policy) (tasks : List Task) (rows : List Row) → job_answers_by next decide machine policies tasks ≡ Some rows → first_unknown policies tasks ≡ None
+  all_known policies tasks rows e = position_from-zero (λ (t : Task). is_none (task_label policies t)) tasks ∙ known_from policies 0 tasks rows e
 
   mapped : (text : List ℕ) (o : Option (List ℕ)) → option_and_then (λ (others : List ℕ). Some (text ++ others)) o ≡ option_map (λ (others : List ℕ). text ++ others) o
   mapped text None = refl
@@ -120,72 +193,40 @@ module _ {M : Type 0} (next : M → Label → Request → Label) (decide : M →
   unfolding lines_from
   lines_nil several policies n = refl
 
-  written_behind : (out text : List ℕ) (o : Option (List ℕ)) → option_map (λ (more : List ℕ). (out ++ text) ++ more) o ≡ option_map (λ (more : List ℕ). out ++ more) (option_map (λ (more : List ℕ). text ++ more) o)
-  written_behind out text None = refl
-  written_behind out text (Some more) = ap (λ (x : List ℕ). Some x) (append_assoc out text more)
+  abbrev OfTask : Type 0
+  OfTask = TaskText M
 
-  none_before : (o : Option (List ℕ)) → option_map (λ (more : List ℕ). [] ++ more) o ≡ o
-  none_before None = refl
-  none_before (Some more) = refl
-
-  pub writing_start : (several : Bool) (policies : List Policy) (tasks : List Task) (rows : List Row) (out : List ℕ) → out ≡ [] → job_answers_by next decide machine policies tasks ≡ Some rows → Writing several policies tasks rows 0 out
-  writing_start several policies tasks rows out e left = record {
-    goes_on = ap (λ (o : List ℕ). option_map (λ (more : List ℕ). o ++ more) (lines_from next decide machine several policies 0 tasks)) e ∙ none_before (lines_from next decide machine several policies 0 tasks);
-    left = left;
-  }
-
-  pub writing_more : (several : Bool) (policies : List Policy) (tasks : List Task) (rows : List Row) (n : ℕ) (task : Task) (label : Label) (row : Row) (out more : List ℕ) → n < length rows → row ≡ get_or rows n row → n < length tasks → task ≡ get_or tasks n task
-      → task_label policies task ≡ Some label → more ≡ out ++ task_lines several policies n label row → Writing several policies tasks rows n out → Writing several policies tasks rows (n + 1) more
-  writing_more several policies tasks rows n task label row out more in_rows row-is in_tasks task-is named more-is so_far =
-      let rest = drop (n + 1) tasks in
-      let h = heads policies tasks rows n task row in_rows row-is in_tasks task-is so_far.left in
-      let t : drop n tasks ≡ task ∷ rest = drop_more tasks n task in_tasks ∙ ap (λ (x : Task). x ∷ rest) (sym task-is) in
-      let one : Some label ≡ Some h.label = sym named ∙ h.named in
-      let same : h.label ≡ label = cc in
-      let text = task_lines several policies n label (answers_by next decide machine task label) in
-      let text-is : task_lines several policies n label row ≡ text = ap (task_lines several policies n label) (h.answers ∙ ap (answers_by next decide machine task) same) in
-      let whole : more ≡ out ++ text = more-is ∙ ap (λ (x : List ℕ). out ++ x) text-is in
-      record {
-        goes_on =
-            ap (λ (o : List ℕ). option_map (λ (x : List ℕ). o ++ x) (lines_from next decide machine several policies (n + 1) rest)) whole
-            ∙ written_behind out text (lines_from next decide machine several policies (n + 1) rest)
-            ∙ ap (option_map (λ (x : List ℕ). out ++ x)) (sym (lines_step several policies n task rest label named))
-            ∙ ap (λ (ts : List Task). option_map (λ (x : List ℕ). out ++ x) (lines_from next decide machine several policies n ts)) (sym t)
-            ∙ so_far.goes_on;
-        left = h.behind;
-      }
-
-  no_row : (o : Option Label) (q : Option (List Row)) (f : Label → Row) → option_and_then (λ (l : Label). option_and_then (λ (others : List Row). Some (f l ∷ others)) q) o ≡ Some [] → ⊥
-  no_row None q f e = cc
-  no_row (Some l) None f e = cc
-  no_row (Some l) (Some others) f e = cc
-
-  -- a task that is left has a row that is left
-  done : (policies : List Policy) (tasks : List Task) → job_answers_by next decide machine policies tasks ≡ Some [] → tasks ≡ []
-  unfolding job_answers_by
-  done policies [] e = refl
-  done policies (task ∷ rest) e = absurd (no_row (task_label policies task) (job_answers_by next decide machine policies rest) (answers_by next decide machine task) e)
-
-  pub writing_end : (several : Bool) (policies : List Policy) (tasks : List Task) (rows : List Row) (n : ℕ) (out : List ℕ) → length rows ≤ n → Writing several policies tasks rows n out → lines_from next decide machine several policies 0 tasks ≡ Some out
-  writing_end several policies tasks rows n out le so_far =
-      let none : drop n tasks ≡ [] = done policies (drop n tasks) (so_far.left ∙ ap (λ (x : List Row). Some x) (at_drop_all (λ (r : List Row). r) rows n le)) in
-      sym so_far.goes_on ∙ ap (λ (ts : List Task). option_map (λ (x : List ℕ). out ++ x) (lines_from next decide machine several policies n ts)) none
-      ∙ ap (option_map (λ (x : List ℕ). out ++ x)) (lines_nil several policies n) ∙ ap (λ (x : List ℕ). Some x) (append-nil out)
-
--- the rows as the code has them
-abbrev pub rows_of : {M : Type 0} → List (Vec (Answered M) Global) → List (List (Answered M))
-rows_of {M} rows = map (λ (row : Vec (Answered M) Global). row.items) rows
-
-pub row_within : {M : Type 0} (rows : List (Vec (Answered M) Global)) (n : ℕ) → n < length rows → n < length (rows_of rows)
-row_within {M} rows n lt = rw length-map lt
-
-pub row_at : {M : Type 0} (rows : List (Vec (Answered M) Global)) (n : ℕ) (row : Vec (Answered M) Global) → n < length rows → row ≡ get_or rows n row → row.items ≡ get_or (rows_of rows) n row.items
-row_at {M} [] n row lt e = absurd (omega arith)
-row_at {M} (x ∷ xs) zero row lt e = ap (λ (r : Vec (Answered M) Global). r.items) e
-row_at {M} (x ∷ xs) (suc n) row lt e = row_at xs n row (omega arith) e
-
-pub rows_end : {M : Type 0} (rows : List (Vec (Answered M) Global)) (n : ℕ) → length rows ≤ n → length (rows_of rows) ≤ n
-rows_end {M} rows n le = rw length-map le
+  -- the texts that were made from number n on, joined, are the lines of the tasks
+  pub lines_joined : (several : Bool) (policies : List Policy) (n : ℕ) (tasks : List Task) (before after : List OfTask) (text : List ℕ)
+      → job_answers_by next decide machine policies tasks ≡ Some (map (λ (t : OfTask). t.answers.now) before)
+      → map (λ (t : OfTask). Some t.opening) before ≡ map (task_label policies) tasks
+      → All (λ (t : OfTask). (t.several ≡ several) × (t.policies.now ≡ policies)) before
+      → length after ≡ length before
+      → ((i : ℕ) (d : OfTask) → i < length before → IsMade (n + i) (get_or before i d) (get_or after i d))
+      → joined_lines after ≡ Some text
+      → lines_from next decide machine several policies n tasks ≡ Some text
+  lines_joined several policies n [] [] [] text answered labels alike len made joined = lines_nil several policies n ∙ joined
+  lines_joined several policies n [] [] (a ∷ afters) text answered labels alike len made joined = absurd cc
+  lines_joined several policies n [] (b ∷ bs) after text answered labels alike len made joined = absurd cc
+  lines_joined several policies n (task ∷ rest) [] after text answered labels alike len made joined = absurd cc
+  lines_joined several policies n (task ∷ rest) (b ∷ bs) [] text answered labels alike len made joined = absurd cc
+  lines_joined several policies n (task ∷ rest) (b ∷ bs) (a ∷ afters) text answered labels alike len made joined =
+      let h = head_of policies task rest b.answers.now (map (λ (t : OfTask). t.answers.now) bs) answered in
+      let named : task_label policies task ≡ Some b.opening = cc in
+      let others : map (λ (t : OfTask). Some t.opening) bs ≡ map (task_label policies) rest = cc in
+      let one : Some b.opening ≡ Some h.label = sym named ∙ h.named in
+      let same : h.label ≡ b.opening = cc in
+      let p = joined_parts (λ (l : String Global). string_bytes l) a.lines (joined_lines afters) text joined in
+      let here : IsMade n b a = subst (λ k. IsMade k b a) (add-zero n) (made zero b (omega arith)) in
+      let like = alike zero b (omega arith) in
+      let lines : string_bytes p.0 ≡ task_lines several policies n b.opening b.answers.now = rw (p.2, like.0, like.1) at here.lines in
+      let row : b.answers.now ≡ answers_by next decide machine task b.opening = h.answers ∙ ap (answers_by next decide machine task) same in
+      let behind = lines_joined several policies (n + 1) rest bs afters p.1 h.behind others (λ i d lt. alike (suc i) d (omega arith)) (omega arith) (λ i d lt. subst (λ k. IsMade k (get_or bs i d) (get_or afters i d)) (omega arith) (made (suc i) d (omega arith))) p.3 in
+      lines_step several policies n task rest b.opening named
+      ∙ ap (option_map (λ (x : List ℕ). task_lines several policies n b.opening (answers_by next decide machine task b.opening) ++ x)) behind
+      ∙ ap (λ (r : Row). Some (task_lines several policies n b.opening r ++ p.1)) (sym row)
+      ∙ ap (λ (l : List ℕ). Some (l ++ p.1)) (sym lines)
+      ∙ ap (λ (x : List ℕ). Some x) (sym p.4)
 
 -- five texts, one behind the other
 pub five : (out a b c d e one two three four whole : List ℕ) → one ≡ out ++ a → two ≡ one ++ b → three ≡ two ++ c → four ≡ three ++ d → whole ≡ four ++ e → whole ≡ out ++ (a ++ b ++ c ++ d ++ e)

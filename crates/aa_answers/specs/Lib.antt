@@ -1,3 +1,4 @@
 pub mod Answers
 pub mod Output
 pub mod Replay
+pub mod Texts

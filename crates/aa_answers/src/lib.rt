@@ -6,10 +6,12 @@ mod lending;
 mod output;
 mod replay;
 mod tasks;
+mod texts;
 
 pub use aa_feed::Answered;
 pub use deciding::mediate;
 pub use lending::{Lent, LentRequest, mediate_lent};
-pub use output::{check_output, run_output};
+pub use output::check_output;
 pub use replay::replay_output;
 pub use tasks::{MediateFault, unknown_task};
+pub use texts::run_output;

@@ -1,15 +1,12 @@
 //! The lines that the commands write.
 
-ghost use Rattle.std.specs.Prelude.{◌≡◌, ◌++◌, ◌^◌, ◌<◌, ◌*◌, OnOk, IfOk, Some, codes, decimal, flat_map, length, map, option_map, sum_by};
+ghost use Rattle.std.specs.Prelude.{◌≡◌, ◌++◌, ◌^◌, ◌<◌, ◌*◌, OnOk, IfOk, codes, decimal, flat_map, length, map, option_map, sum_by};
 ghost use Rattle.std.specs.String.{string_bytes};
 ghost use Rattle.aa_labels.specs.Labels.{label_name, policy_number};
-ghost use Rattle.aa_answers.specs.Answers.{job_answers_by};
-ghost use Rattle.aa_answers.specs.Output.{verdict_word, policy_word, outcome_text, verdict_line, audit_lines, task_lines, lines_from, keyword_text, profile_name, passed_over_line, counts_line, rules_of, policy_text, number_line, policies_from, check_text};
+ghost use Rattle.aa_answers.specs.Output.{verdict_word, policy_word, outcome_text, verdict_line, audit_lines, task_lines, keyword_text, profile_name, passed_over_line, counts_line, rules_of, policy_text, number_line, policies_from, check_text};
 
 use crate::lending::Lent;
-use crate::tasks::opening_label;
 use aa_audit::{plain_text, push_audit_line, push_value};
-use aa_jobs::{Job, Task};
 use aa_labels::{Compiled, name_of_label};
 use aa_lane::{Answered, Machine};
 use aa_profiles::{PassedOver, Policy, Profile};
@@ -115,7 +112,7 @@ fn push_audit<M: Machine<State = Label, Request = Request, Answer = Answer>>(
 }
 
 /// Appends the lines of a task that opened with a label.
-fn push_task<M: Machine<State = Label, Request = Request, Answer = Answer>>(
+pub(crate) fn push_task<M: Machine<State = Label, Request = Request, Answer = Answer>>(
     out: &mut String,
     several: bool,
     policies: &[Compiled],
@@ -132,32 +129,6 @@ fn push_task<M: Machine<State = Label, Request = Request, Answer = Answer>>(
         before = answered.answer.label;
     }
     Ok(())
-}
-
-/// The text of `run` for the tasks of a job, where a machine answers them so, lent their requests.
-pub fn run_output<M: Machine<State = Label, Request = Request, Answer = Answer>>(
-    alloc: Global,
-    several: bool,
-    tasks: &[Task],
-    policies: &[Compiled],
-    machine: &M,
-    rows: &[Vec<Answered<Lent<M>>>],
-) -> Result<String, AllocError>
-    requires { job_answers_by M.next M.reply machine.now policies.now tasks.now ≡ Some (map (λ row. row.items) rows.now) }
-    ensures { IfOk result (λ text. lines_from M.next M.reply machine.now several policies.now 0 tasks.now ≡ Some (string_bytes text)) }
-{
-    let _ = machine;
-    let mut out = String::new(alloc);
-    for (n, row) in rows.iter().enumerate() {
-        let Some(task) = tasks.get(n) else {
-            unreachable!()
-        };
-        let Some(label) = opening_label(policies, task) else {
-            unreachable!()
-        };
-        push_task(&mut out, several, policies, n as u64, label, row.as_slice())?;
-    }
-    Ok(out)
 }
 
 #[tactic(auto, unfolding(crate::specs::Output::keyword_text))]

@@ -94,12 +94,14 @@ fn answered_text<
         Err(fault) => return Err(fault),
     };
     Ok(run_output(
+        rt,
         alloc,
         job.several,
         job.tasks.as_slice(),
         policies,
         machine,
         rows.as_slice(),
+        workers,
     )?)
 }
 
