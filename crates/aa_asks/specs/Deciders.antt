@@ -1,6 +1,7 @@
 -- The rules that decide a request, by what each rule of a list says of its object.
 -- Source: apparmor.d(5), "Qualifiers"; own.
 use Rattle.std.specs.Prelude.{ℕ, ◌+◌, ◌==◌, ◌&&◌, List, [], ◌∷◌, ◌++◌, Bool, true, false, not, Option, Some, None, option_to_list, bit_and, if◌then◌else◌}
+use Rattle.aa_tables.specs.Permissions.{only_exec, beside_link_and_exec}
 use Rattle.aa_said.specs.Said.{minus, perms_of}
 use Rattle.aa_rows.specs.FileRules.{is_nil}
 use Rattle.aa_asks.specs.declared.deciders.Decider.{Decider}
@@ -57,11 +58,11 @@ reasons_by listed ss asked = record {
 unfoldable pub exec_reasons : List Saying → Reasons
 exec_reasons ss = record {
   listed = Files;
-  denies = naming_from true 64 0 ss;
-  allows = if is_nil (naming_from true 64 0 ss) then naming_from false 64 0 ss else [];
-  lacking = if is_nil (naming_from true 64 0 ss) then unnamed false 64 ss else 0;
+  denies = naming_from true only_exec 0 ss;
+  allows = if is_nil (naming_from true only_exec 0 ss) then naming_from false only_exec 0 ss else [];
+  lacking = if is_nil (naming_from true only_exec 0 ss) then unnamed false only_exec ss else 0;
 }
 
 -- what rules grant beside LINK and EXEC
 abbrev pub granted_beside : List Saying → ℕ
-granted_beside ss = minus (unnamed true 55 ss) (unnamed false (unnamed true 55 ss) ss)
+granted_beside ss = minus (unnamed true beside_link_and_exec ss) (unnamed false (unnamed true beside_link_and_exec ss) ss)

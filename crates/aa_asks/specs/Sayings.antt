@@ -1,11 +1,8 @@
 -- What each rule of a profile says of a request's object, and so which rules decide the request.
 -- Source: apparmor.d(5), "Qualifiers", "Access Modes", "Capability rules", "Network rules", "change_profile rules"; own.
-use Rattle.std.specs.Prelude.{ℕ, List, Bool, true, ◌==◌, ◌&&◌, ◌||◌, map, Option, Some, None, if◌then◌else◌}
+use Rattle.std.specs.Prelude.{ℕ, List, Bool, ◌&&◌, ◌||◌, map, Option, Some, None, if◌then◌else◌}
 use Rattle.std.specs.List.{list_any}
-use Rattle.std.specs.Option.{option_map_or}
-use Rattle.std.specs.Int.{bit_at}
-use Rattle.aa_patterns.specs.declared.pattern.Pattern.{Pattern}
-use Rattle.aa_patterns.specs.Matching.{is_match}
+use Rattle.aa_tables.specs.Permissions.{only_link}
 use Rattle.aa_profiles.specs.declared.rule.FileRule.{FileRule}
 use Rattle.aa_profiles.specs.declared.rule.CapRule.{CapRule}
 use Rattle.aa_profiles.specs.declared.rule.NetRule.{NetRule}
@@ -16,6 +13,7 @@ use Rattle.aa_requests.specs.declared.request.Request.TheVariants as asks
 use Rattle.aa_said.specs.Said.{perms_of}
 use Rattle.aa_said.specs.Patterns.{is_literal}
 use Rattle.aa_rows.specs.FileRules.{any_sort, applies_by, says_how}
+use Rattle.aa_rows.specs.Holding.{cap_holds, net_holds, change_holds}
 use Rattle.aa_asks.specs.declared.deciders.Saying.{Saying}
 use Rattle.aa_asks.specs.declared.deciders.Listed.TheVariants as lists
 use Rattle.aa_asks.specs.Deciders.{Reasons, reasons_by, exec_reasons, granted_beside}
@@ -44,29 +42,17 @@ exec_saying literally path owned r = record { holds = chooses literally path own
 abbrev pub exec_sayings : List ℕ → Bool → List FileRule → List Saying
 exec_sayings path owned rules = map (exec_saying (list_any (says_how_literally path owned) rules) path owned) rules
 
--- whether entry n is among the bits
-abbrev pub has_entry : ℕ → ℕ → Bool
-has_entry bits n = bit_at bits n == 1
-
 -- a rule that isn't about files speaks of one bit
 abbrev pub bit_saying : Bool → Bool → Saying
 bit_saying speaks deny = record { holds = speaks; deny = deny; perms = perms_of 1 }
 
 -- what a rule says of a capability
 abbrev pub cap_saying : ℕ → CapRule → Saying
-cap_saying cap r = bit_saying (has_entry r.caps.0 cap) r.deny
-
--- the rule holds the family and the type
-abbrev pub net_holds : ℕ → ℕ → NetRule → Bool
-net_holds family kind r = has_entry r.families family && has_entry r.kinds kind
+cap_saying cap r = bit_saying (cap_holds cap r) r.deny
 
 -- what a rule says of a socket
 abbrev pub net_saying : ℕ → ℕ → NetRule → Saying
 net_saying family kind r = bit_saying (net_holds family kind r) r.deny
-
--- its pattern matches the name; one without a pattern holds for every name
-abbrev pub change_holds : List ℕ → ChangeRule → Bool
-change_holds name r = option_map_or (λ (p : Pattern). is_match p.items.items name) r.pattern true
 
 -- what a rule says of a change to the name
 abbrev pub change_saying : List ℕ → ChangeRule → Saying
@@ -75,7 +61,7 @@ change_saying name r = bit_saying (change_holds name r) r.deny
 -- why a request is answered so by the rules of a profile; of a link, why at the link's path
 abbrev pub reasons_of : Profile → Request → Option Reasons
 reasons_of p (asks.File f) = Some (reasons_by lists.Files (map (file_saying f.path f.owned) p.files) f.mask.0)
-reasons_of p (asks.Link l) = Some (reasons_by lists.Files (map (file_saying l.link l.owned) p.files) 8)
+reasons_of p (asks.Link l) = Some (reasons_by lists.Files (map (file_saying l.link l.owned) p.files) only_link)
 reasons_of p (asks.Exec e) = Some (exec_reasons (exec_sayings e.path e.owned p.files))
 reasons_of p (asks.Cap c) = Some (reasons_by lists.Caps (map (cap_saying c) p.caps) 1)
 reasons_of p (asks.Net family kind) = Some (reasons_by lists.Nets (map (net_saying family kind) p.nets) 1)

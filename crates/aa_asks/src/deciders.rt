@@ -4,11 +4,11 @@ ghost use Rattle.std.specs.Prelude.{◌≡◌, ◌++◌, map, option_map, option
 ghost use Rattle.std.specs.List.{list_any};
 ghost use Rattle.aa_said.specs.Said.{minus};
 ghost use Rattle.aa_asks.specs.Deciders.{part_of, decider_if, naming_from, first_allowing_from, unnamed, reasons, reasons_by, exec_reasons, granted_beside};
-ghost use Rattle.aa_asks.specs.Sayings.{file_saying, says_how_literally, chooses, is_denial, exec_saying, exec_sayings, has_entry, bit_saying, cap_saying, net_holds, net_saying, change_holds, change_saying, reasons_of, target_reasons};
+ghost use Rattle.aa_asks.specs.Sayings.{file_saying, says_how_literally, chooses, is_denial, exec_saying, exec_sayings, bit_saying, cap_saying, net_saying, change_saying, reasons_of, target_reasons};
 
-use crate::applying::{applies, applies_literally, is_matched, says_how};
 use aa_policy::{CapRule, ChangeRule, FileRule, NetRule, Profile};
 use aa_requests::{ExecRequest, Request};
+use aa_rows::{applies, applies_literally, holds_cap, holds_change, holds_net, says_how};
 use aa_tables::{Cap, Family, Perms, SockType};
 use bitflags::Flags;
 use std::alloc::{AllocError, Global};
@@ -291,15 +291,6 @@ const BIT: Perms = Perms::READ;
 /// The bits of all permissions but LINK and EXEC.
 const BESIDE_LINK: Perms = Perms(55);
 
-fn holds_bit(bits: u64, number: u8) -> bool
-    ensures { result ≡ has_entry bits number }
-{
-    if number >= 64 {
-        return false;
-    }
-    (bits >> number) & 1 == 1
-}
-
 /// What a rule that isn't about files says, on one bit.
 fn saying_of(holds: bool, deny: bool) -> Saying
     ensures { result ≡ bit_saying holds deny }
@@ -314,7 +305,7 @@ fn saying_of(holds: bool, deny: bool) -> Saying
 fn cap_saying(rule: &CapRule, cap: Cap) -> Saying
     ensures { result ≡ cap_saying cap rule.now }
 {
-    saying_of(holds_bit(rule.caps.0, cap.number()), rule.deny)
+    saying_of(holds_cap(rule, cap), rule.deny)
 }
 
 fn cap_sayings(alloc: Global, rules: &[CapRule], cap: Cap) -> Result<Vec<Saying>, AllocError>
@@ -324,12 +315,6 @@ fn cap_sayings(alloc: Global, rules: &[CapRule], cap: Cap) -> Result<Vec<Saying>
         .iter()
         .map(|rule| cap_saying(rule, cap))
         .collect(alloc)
-}
-
-fn holds_net(rule: &NetRule, family: Family, kind: SockType) -> bool
-    ensures { result ≡ net_holds family kind rule.now }
-{
-    holds_bit(rule.families, family.number()) && holds_bit(u64::from(rule.kinds), kind.number())
 }
 
 fn net_saying(rule: &NetRule, family: Family, kind: SockType) -> Saying
@@ -350,16 +335,6 @@ fn net_sayings(
         .iter()
         .map(|rule| net_saying(rule, family, kind))
         .collect(alloc)
-}
-
-/// Whether a rule holds for a name: one without a pattern holds for every name.
-fn holds_change(rule: &ChangeRule, name: &[u8]) -> bool
-    ensures { result ≡ change_holds name.now rule.now }
-{
-    match &rule.pattern {
-        Some(pattern) => is_matched(pattern, name),
-        None => true,
-    }
 }
 
 fn change_saying(rule: &ChangeRule, name: &[u8]) -> Saying

@@ -1,7 +1,6 @@
 //! Questions on policies: which rules decide a request, and where rules stand. How a request is written in one word `aa_request_words` says.
 #![tactic(auto)]
 
-mod applying;
 mod deciders;
 mod places;
 

@@ -1,12 +1,12 @@
 -- Which profile is attached to a path.
 -- Source: apparmor.d(5), "Profile Head"; own.
 use Rattle.std.specs.Prelude.{◌≡◌, ℕ, suc, max, List, [], ◌∷◌, map, length, Bool, false, ◌==◌, if◌then◌else◌, filter, Option, Some, None}
-use Rattle.std.specs.Bool.{nat_eq}
-use Rattle.std.specs.Option.{option_eq, option_and_then, option_map_or}
+use Rattle.std.specs.Option.{option_and_then, option_map_or}
 use Rattle.std.specs.List.{list_any, list_all, take_while, slice_get, filter_map, flat_map}
 use Rattle.aa_patterns.specs.declared.pattern.Pattern.{Pattern}
 use Rattle.aa_items.specs.Globs.{is_byte}
 use Rattle.aa_profiles.specs.declared.policy.Profile.{Profile}
+use Rattle.aa_profiles.specs.Lawful.{has_parent}
 use Rattle.aa_patterns.specs.Matching.{is_match}
 use Rattle.aa_auto.specs.Tables.{Table, IsText, list_number, place_of}
 use Rattle.aa_attach.specs.declared.attach.Attachment.{Attachment}
@@ -79,10 +79,6 @@ answers_by as' lists = map (λ list. attached_by (picked as' list)) lists
 -- which of the profiles with these numbers is attached to the path
 abbrev pub attached : List Profile → List ℕ → List ℕ → Option ℕ
 attached profiles numbers path = attached_by (map attachment_of (filter (λ h. is_match h.1.items.items path) (attachments_by profiles numbers)))
-
--- the profile has that parent, or none
-abbrev pub has_parent : Option ℕ → Profile → Bool
-has_parent parent p = option_eq nat_eq p.parent parent
 
 -- the numbers, from k on, of the profiles below a parent, or of the top-level profiles
 abbrev pub numbers_below : Option ℕ → ℕ → List Profile → List ℕ

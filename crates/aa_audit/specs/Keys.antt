@@ -1,6 +1,7 @@
 -- The keys of an audit line that stand behind its profile, for each operation.
 -- Source: capabilities(7); own.
 use Rattle.std.specs.Prelude.{ℕ, List, [], ◌++◌, codes, decimal, if◌then◌else◌, slice_get, unwrap_or}
+use Rattle.aa_tables.specs.Permissions.{only_link, only_exec}
 use Rattle.aa_profiles.specs.declared.policy.Policy.{Policy}
 use Rattle.aa_tables.specs.Tables.{capability_names, family_names, sock_type_names}
 use Rattle.aa_requests.specs.Requests.{RequestedFile, RequestedLink, RequestedExec}
@@ -39,13 +40,13 @@ file_keys r note =
 -- the keys of a line on a link
 abbrev pub link_keys : RequestedLink → Note → List ℕ
 link_keys r note =
-    key (codes "name") (value r.link) ++ key (codes "target") (value r.target) ++ key (codes "requested_mask") (mask 8)
+    key (codes "name") (value r.link) ++ key (codes "target") (value r.target) ++ key (codes "requested_mask") (mask only_link)
     ++ denied_key note.word note.perms.0
 
 -- the keys of a line on an execution
 abbrev pub exec_keys : List Policy → RequestedExec → Answer → NoteWord → List ℕ
 exec_keys policies r answer word =
-    key (codes "name") (value r.path) ++ key (codes "requested_mask") (mask 64) ++ denied_key word 64 ++ target_key policies answer
+    key (codes "name") (value r.path) ++ key (codes "requested_mask") (mask only_exec) ++ denied_key word only_exec ++ target_key policies answer
 
 -- the keys of a line on a capability
 abbrev pub capability_keys : ℕ → List ℕ

@@ -2,7 +2,7 @@
 
 ghost use Rattle.std.specs.Prelude.{◌≡◌, ◌++◌, ◌∷◌, [], Some, None, length, option_map, slice_get, OnOk, IfOk, if◌then◌else◌};
 ghost use Rattle.aa_trees.specs.Texts.{texts};
-ghost use Rattle.aa_compile.specs.Numbering.{AddsNumber};
+ghost use Rattle.aa_rows.specs.Namings.{AddsName};
 ghost use Rattle.aa_checks.specs.Names.{first_with, twice_by, warning_of, warnings_of, IsFirst, AddsNames, IsWarned};
 
 use crate::report::{FileReport, ProfileReport};
@@ -97,7 +97,7 @@ fn add_name(
     name: &[u8],
     number: usize,
 ) -> Result<(), AllocError>
-    ensures { OnOk result (AddsNumber first.old name.now number first.new) }
+    ensures { OnOk result (AddsName first.old name.now number first.new) }
 {
     if first.contains_key(name) {
         return Ok(());

@@ -9,9 +9,9 @@ use Rattle.aa_patterns.specs.declared.pattern.Pattern.{Pattern}
 use Rattle.aa_patterns.specs.Matching.{is_match}
 use Rattle.aa_profiles.specs.declared.rule.FileRule.{FileRule}
 use Rattle.aa_said.specs.Patterns.{is_literal}
-use Rattle.aa_rows.specs.FileRules.{some_match, Hit, IsConflict}
+use Rattle.aa_rows.specs.FileRules.{some_match, SayDifferently, Hit, IsConflict}
 use Rattle.aa_rows.proofs.ConflictLemmas.{in_head, in_tail}
-use Rattle.aa_clashes.specs.Clashes.{is_no_literal, SayDifferently, ClashAt, Conflict}
+use Rattle.aa_clashes.specs.Clashes.{is_no_literal, ClashAt, Conflict}
 
 record Found (sort : Pattern → Bool) (text : List ℕ) (ps : List Pattern) : Type 0 where
   pattern : Pattern
@@ -47,11 +47,7 @@ module _ (rules : List FileRule) (first second : ℕ) (a b : FileRule) (text : L
       patterns_are = (f.within, g.within);
       match = (f.match, g.match);
       sort = same;
-      allow = say.allow;
-      one = say.one;
-      other = say.other;
-      say = say.say;
-      differ = say.differ;
+      say = say;
     },
   )
 
@@ -66,7 +62,7 @@ conflict rules first second a b text at other clash =
 
 clash_of_hits : (rules : List FileRule) (a b : Hit) (text : List ℕ) → IsConflict rules a b text → ClashAt a.rule b.rule text
 clash_of_hits rules a b text c = (
-  record { allow = c.allow; one = c.one; other = c.other; say = c.say; differ = c.differ },
+  c.say,
   ⊎_elim
       (λ (e : is_literal a.pattern ≡ true).
       inl (matched is_literal text a.rule.patterns a.pattern c.patterns_are.0 e c.match.0, matched is_literal text b.rule.patterns b.pattern c.patterns_are.1 (sym c.sort ∙ e) c.match.1))
@@ -85,7 +81,8 @@ clash rules first second a b text at other x =
 -- each conflicts with the other
 pub turned : (rules : List FileRule) (first second : ℕ) (text : List ℕ) → Conflict rules first second text → Conflict rules second first text
 turned rules first second text x =
-    let c = x.4 in (
+    let c = x.4 in
+    let d = c.say in (
       x.1,
       x.0,
       x.3,
@@ -95,10 +92,12 @@ turned rules first second text x =
         patterns_are = (c.patterns_are.1, c.patterns_are.0);
         match = (c.match.1, c.match.0);
         sort = sym c.sort;
-        allow = (c.allow.1, c.allow.0);
-        one = c.other;
-        other = c.one;
-        say = (c.say.1, c.say.0);
-        differ = λ e. c.differ (sym e);
+        say = record {
+          allow = (d.allow.1, d.allow.0);
+          one = d.other;
+          other = d.one;
+          say = (d.say.1, d.say.0);
+          differ = λ e. d.differ (sym e);
+        };
       },
     )

@@ -57,21 +57,22 @@ module _ (rules : List FileRule) (patterns : List Pattern) (owners : List ℕ) (
   pub free : (texts : List (List ℕ)) → All IsText texts → ReachAll t texts → ((u : List ℕ) → Contains texts u → SomeConflict rules owners (list_at t (place_of t u)) u → ⊥) → Conflicts rules → ⊥
   free texts bytes all none (a, b, s, c) =
       let text = matched_text a.pattern.items.items s ((decided a.pattern.items.items s).0 c.match.0) in
+      let d = c.say in
       let u = all s text in
       let byte = All-contains IsText texts u.0 bytes u.1 in
-      let x = at a s u.0 text byte u.2 c.rules_are.0 (says a.rule c.one c.allow.0 c.say.0) c.patterns_are.0 c.match.0 in
-      let y = at b s u.0 text byte u.2 c.rules_are.1 (says b.rule c.other c.allow.1 c.say.1) c.patterns_are.1 c.match.1 in
+      let x = at a s u.0 text byte u.2 c.rules_are.0 (says a.rule d.one d.allow.0 d.say.0) c.patterns_are.0 c.match.0 in
+      let y = at b s u.0 text byte u.2 c.rules_are.1 (says b.rule d.other d.allow.1 d.say.1) c.patterns_are.1 c.match.1 in
       let here : Conflict rules x.rule y.rule u.0 = (
         a,
         b,
         x.is,
         y.is,
-        record { rules_are = c.rules_are; patterns_are = c.patterns_are; match = (x.match, y.match); sort = c.sort; allow = c.allow; one = c.one; other = c.other; say = c.say; differ = c.differ },
+        record { rules_are = c.rules_are; patterns_are = c.patterns_are; match = (x.match, y.match); sort = c.sort; say = d },
       ) in
       ⊎_elim
       (λ (e : x.rule ≡ y.rule).
       let rule : a.rule ≡ b.rule = same_Some a.rule b.rule (sym x.is ∙ ap (slice_get rules) e ∙ y.is) in
-      c.differ (same_Some c.one c.other (sym c.say.0 ∙ ap (λ (r : FileRule). r.exec) rule ∙ c.say.1)))
+      d.differ (same_Some d.one d.other (sym d.say.0 ∙ ap (λ (r : FileRule). r.exec) rule ∙ d.say.1)))
       (λ (o : (x.rule < y.rule) ⊎ (y.rule < x.rule)).
       ⊎_elim
       (λ (l : x.rule < y.rule). none u.0 u.1 (x.number, x.among, record { one = x.rule; owner = x.owner; later = record { number = y.number; other = y.rule; among = y.among; owner = y.owner; later = l; conflict = here } }))

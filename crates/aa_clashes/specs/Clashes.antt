@@ -1,25 +1,16 @@
 -- Two rules of a profile that conflict.
 -- Source: apparmor.d(5), "Access Modes"; own.
-use Rattle.std.specs.Prelude.{◌≡◌, ◌≢◌, ◌⊎◌, ℕ, ◌<◌, List, Bool, true, false, not, Some, IsTrue, Contains, filter, length}
+use Rattle.std.specs.Prelude.{◌≡◌, ◌⊎◌, ℕ, ◌<◌, List, Bool, true, not, Some, IsTrue, Contains, filter, length}
 use Rattle.std.specs.List.{slice_get}
 use Rattle.aa_patterns.specs.declared.pattern.Pattern.{Pattern}
-use Rattle.aa_profiles.specs.declared.rule.Exec.{Exec}
 use Rattle.aa_profiles.specs.declared.rule.FileRule.{FileRule}
 use Rattle.aa_said.specs.Patterns.{is_literal}
-use Rattle.aa_rows.specs.FileRules.{some_match, says_how, Hit, IsConflict}
+use Rattle.aa_rows.specs.FileRules.{some_match, says_how, SayDifferently, Hit, IsConflict}
 use Rattle.aa_rows.specs.Rows.{patterns_of}
 
 -- the pattern isn't literal
 abbrev pub is_no_literal : Pattern → Bool
 is_no_literal p = not (is_literal p)
-
--- neither denies, and they say differently how a program is executed
-pub record SayDifferently (a b : FileRule) : Type 0 where
-  pub allow : (a.deny ≡ false) × (b.deny ≡ false)
-  pub one : Exec
-  pub other : Exec
-  pub say : (a.exec ≡ Some one) × (b.exec ≡ Some other)
-  pub differ : one ≢ other
 
 -- both match the text by patterns of that sort
 abbrev pub BothMatch : (Pattern → Bool) → FileRule → FileRule → List ℕ → Type 0

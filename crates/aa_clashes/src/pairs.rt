@@ -2,45 +2,18 @@
 
 ghost use Rattle.std.specs.Prelude.{◌≡◌, ◌≢◌, ◌↔◌, ◌&&◌, IsTrue, not};
 ghost use Rattle.aa_patterns.specs.Matching.{is_match};
-ghost use Rattle.aa_said.specs.Patterns.{is_literal};
-ghost use Rattle.aa_rows.specs.FileRules.{some_match};
-ghost use Rattle.aa_clashes.specs.Clashes.{is_no_literal, SayDifferently, ClashAt};
+ghost use Rattle.aa_rows.specs.FileRules.{some_match, SayDifferently};
+ghost use Rattle.aa_clashes.specs.Clashes.{is_no_literal, ClashAt};
 
 use aa_lists::Text;
 use aa_patterns::Pattern;
 use aa_profiles::{Exec, FileRule};
-
-fn is_matched(pattern: &Pattern, text: &[u8]) -> bool
-    ensures { result ≡ is_match pattern.now.items.items text.now }
-{
-    pattern.matches(text)
-}
-
-fn is_literal(pattern: &Pattern) -> bool
-    ensures { result ≡ is_literal pattern.now }
-{
-    pattern.is_literal()
-}
-
-fn is_literal_match(pattern: &Pattern, text: &[u8]) -> bool
-    ensures { result ≡ (is_literal pattern.now && is_match pattern.now.items.items text.now) }
-{
-    is_literal(pattern) && is_matched(pattern, text)
-}
+use aa_rows::{is_matched, matches_literally};
 
 fn is_other_match(pattern: &Pattern, text: &[u8]) -> bool
     ensures { result ≡ (is_no_literal pattern.now && is_match pattern.now.items.items text.now) }
 {
-    !is_literal(pattern) && is_matched(pattern, text)
-}
-
-fn matches_literally(rule: &FileRule, text: &[u8]) -> bool
-    ensures { result ≡ some_match is_literal text.now rule.now.patterns }
-{
-    rule.patterns
-        .as_slice()
-        .iter()
-        .any(|pattern| is_literal_match(pattern, text))
+    !pattern.is_literal() && is_matched(pattern, text)
 }
 
 fn matches_otherwise(rule: &FileRule, text: &[u8]) -> bool

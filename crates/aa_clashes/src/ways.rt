@@ -7,6 +7,7 @@ ghost use Rattle.aa_clashes.specs.Clashes.{executing, AreOwners};
 
 use aa_patterns::Pattern;
 use aa_profiles::FileRule;
+use aa_rows::says_how;
 use std::alloc::{AllocError, Global};
 
 /// The patterns, and beside each the number of its rule.
@@ -14,12 +15,6 @@ use std::alloc::{AllocError, Global};
 pub(crate) struct Ways<'a> {
     pub(crate) patterns: Vec<&'a Pattern>,
     pub(crate) owners: Vec<usize>,
-}
-
-fn says_how(rule: &FileRule) -> bool
-    ensures { result ≡ says_how rule.now }
-{
-    !rule.deny && rule.exec.is_some()
 }
 
 fn add_patterns<'a>(

@@ -2,6 +2,7 @@ pub use Rattle.aa_faults.specs.Kinds
 pub use Rattle.aa_attach.specs.Attached
 pub use Rattle.aa_rows.specs.FileRules
 pub use Rattle.aa_rows.specs.Rows
+pub use Rattle.aa_rows.specs.Namings
 pub use Rattle.aa_said.specs.Patterns
 pub mod Numbering
 pub mod Groups

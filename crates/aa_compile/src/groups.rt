@@ -2,7 +2,8 @@
 
 ghost use Rattle.std.specs.Prelude.{◌≡◌, ◌++◌, ◌∷◌, [], ◌<◌, ◌≤◌, length, ℕ, Some, None, IfOk, OnOk, slice_set, slice_index_or};
 ghost use Rattle.aa_profiles.specs.declared.policy.Profile.{Profile};
-ghost use Rattle.aa_attach.specs.Attached.{has_parent, numbers_below};
+ghost use Rattle.aa_profiles.specs.Lawful.{has_parent};
+ghost use Rattle.aa_attach.specs.Attached.{numbers_below};
 ghost use Rattle.aa_compile.specs.Groups.{lists, is_below};
 
 use aa_profiles::Profile;

@@ -76,11 +76,13 @@ conflict_alike rs ss same a b text h =
         patterns_are = (p.1, q.1);
         match = (match_alike a.pattern p.0 text p.2 h.match.0, match_alike b.pattern q.0 text q.2 h.match.1);
         sort = sym (all_bytes_alike a.pattern.items.items p.0.items.items p.2) ∙ h.sort ∙ all_bytes_alike b.pattern.items.items q.0.items.items q.2;
-        allow = (sym r.2.deny ∙ h.allow.0, sym s.2.deny ∙ h.allow.1);
-        one = h.one;
-        other = h.other;
-        say = (sym r.2.exec ∙ h.say.0, sym s.2.exec ∙ h.say.1);
-        differ = h.differ;
+        say = record {
+          allow = (sym r.2.deny ∙ h.say.allow.0, sym s.2.deny ∙ h.say.allow.1);
+          one = h.say.one;
+          other = h.say.other;
+          say = (sym r.2.exec ∙ h.say.say.0, sym s.2.exec ∙ h.say.say.1);
+          differ = h.say.differ;
+        };
       },
     )
 

@@ -119,11 +119,13 @@ module _ (rules : List FileRule) (path : List ℕ) (owned : Bool) where
           patterns_are = (a.in_patterns, b.in_patterns);
           match = (a.match, b.match);
           sort = a.sort ∙ sym b.sort;
-          allow = (a.allow, b.allow);
-          one = a.exec;
-          other = b.exec;
-          say = (a.says, b.says);
-          differ = λ same. true≢false (sym ((same_decides r.exec q.exec).1 (a.says ∙ ap Some same ∙ sym b.says)) ∙ e);
+          say = record {
+            allow = (a.allow, b.allow);
+            one = a.exec;
+            other = b.exec;
+            say = (a.says, b.says);
+            differ = λ same. true≢false (sym ((same_decides r.exec q.exec).1 (a.says ∙ ap Some same ∙ sym b.says)) ∙ e);
+          };
         },
       ))
 

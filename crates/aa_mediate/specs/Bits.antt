@@ -2,6 +2,7 @@
 -- Source: apparmor.d(5), "Qualifiers", "change_profile rules"; own.
 use Rattle.std.specs.Prelude.{ℕ, List, Bool, if◌then◌else◌, bit_and}
 use Rattle.std.specs.List.{list_any}
+use Rattle.aa_tables.specs.Permissions.{only_exec}
 use Rattle.aa_profiles.specs.declared.rule.FileRule.{FileRule}
 use Rattle.aa_said.specs.declared.sets.RuleSets.{RuleSets}
 use Rattle.aa_said.specs.Said.{perms_of, minus, granted}
@@ -34,22 +35,22 @@ file_bits rules r = plain_bits r.mask.0 (file_verdict rules r.path r.owned)
 -- EXEC is missing where an execution leads nowhere
 abbrev pub exec_missing : Transition → ℕ
 exec_missing (To next scrub) = 0
-exec_missing _ = 64
+exec_missing _ = only_exec
 
 -- and denied where a rule denies it
 abbrev pub exec_denied : Transition → ℕ
-exec_denied Denied = 64
+exec_denied Denied = only_exec
 exec_denied _ = 0
 
 -- it is reported where one of the chosen rules is an audit rule
 abbrev pub exec_bits : List FileRule → RequestedExec → Transition → RequestBits
 exec_bits rules r t =
     record {
-      requested = perms_of 64;
+      requested = perms_of only_exec;
       missing = perms_of (exec_missing t);
       denied = perms_of (exec_denied t);
       quiet = perms_of (minus (exec_denied t) (file_verdict rules r.path r.owned).loud.0);
-      audited = perms_of (if list_any (λ rule. rule.audit) (chosen rules r.path r.owned) then 64 else 0);
+      audited = perms_of (if list_any (λ rule. rule.audit) (chosen rules r.path r.owned) then only_exec else 0);
     }
 
 -- a change: the one bit is missing where the rules don't grant it, and where the name isn't found

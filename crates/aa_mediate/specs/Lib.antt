@@ -1,4 +1,5 @@
 pub use Rattle.aa_faults.specs.Kinds
+pub use Rattle.aa_rows.specs.Holding
 pub use Rattle.aa_requests.specs.Requests
 pub use Rattle.aa_compile.specs.Transitions
 pub use Rattle.aa_labels.specs.Labels

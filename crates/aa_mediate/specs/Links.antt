@@ -3,6 +3,7 @@
 use Rattle.std.specs.Prelude.{ℕ, List, Bool, true, false, not, ◌&&◌, if◌then◌else◌, bit_and, bit_or}
 use Rattle.std.specs.Option.{option_eq}
 use Rattle.std.specs.Str.{bytes_eq}
+use Rattle.aa_tables.specs.Permissions.{only_link, only_exec, link_and_exec}
 use Rattle.aa_profiles.specs.declared.rule.ExecKind.{ExecKind}
 use Rattle.aa_profiles.specs.declared.rule.ExecKind.TheVariants.{Inherit, Unconfined, Profile as Named, Child}
 use Rattle.aa_profiles.specs.declared.rule.Fallback.{Fallback}
@@ -43,19 +44,19 @@ same_exec a b = same_kind a.kind b.kind && same_scrub a.scrub b.scrub && same_fa
 -- LINK where the link's rules don't grant it; what is granted at the link and not at the target, but for LINK and EXEC; and EXEC where it is granted at the link, and not at the target or in another way
 abbrev pub link_missing : RuleSets → RuleSets → Bool → ℕ
 link_missing link target same =
-    bit_or (bit_or (minus 8 (granted link)) (minus (minus (granted link) (granted target)) 72))
-    (if has_exec (perms_of (granted link)) && not (has_exec (perms_of (granted target)) && same) then 64 else 0)
+    bit_or (bit_or (minus only_link (granted link)) (minus (minus (granted link) (granted target)) link_and_exec))
+    (if has_exec (perms_of (granted link)) && not (has_exec (perms_of (granted target)) && same) then only_exec else 0)
 
 -- of a denial and of a report, the rules at the link decide
 abbrev pub link_bits_of : RuleSets → RuleSets → Bool → RequestBits
 link_bits_of link target same =
-    let denied = bit_and 8 link.deny.0 in
+    let denied = bit_and only_link link.deny.0 in
     record {
-      requested = perms_of 8;
+      requested = perms_of only_link;
       missing = perms_of (link_missing link target same);
       denied = perms_of denied;
       quiet = perms_of (minus denied link.loud.0);
-      audited = perms_of (bit_and 8 link.audited.0);
+      audited = perms_of (bit_and only_link link.audited.0);
     }
 
 -- the bits of a request for a link

@@ -1,6 +1,7 @@
 //! The permissions that a request is about, sorted by what the rules say of them.
 
 ghost use Rattle.std.specs.Prelude.{◌≡◌, if◌then◌else◌};
+ghost use Rattle.aa_tables.specs.Permissions.{only_exec};
 ghost use Rattle.aa_said.specs.Said.{granted, minus, perms_of};
 ghost use Rattle.aa_mediate.specs.Bits.{sorted, plain_bits, exec_missing, exec_denied, change_bits};
 
@@ -67,7 +68,7 @@ pub(crate) fn of_change(sets: RuleSets, found: bool) -> RequestBits
 
 /// EXEC or nothing.
 pub(crate) fn exec_if(test: bool) -> Perms
-    ensures { result.0 ≡ (if test then 64 else 0) }
+    ensures { result.0 ≡ (if test then only_exec else 0) }
 {
     if test { Perms::EXEC } else { Perms(0) }
 }
@@ -92,11 +93,11 @@ fn denied_of_exec(transition: Transition) -> Perms
 
 /// Of an execution that leads there.
 pub(crate) fn of_exec(verdict: &Verdict, transition: Transition) -> RequestBits
-    ensures requested { result.requested ≡ perms_of 64 }
+    ensures requested { result.requested ≡ perms_of only_exec }
     ensures missing { result.missing ≡ perms_of (exec_missing transition) }
     ensures denied { result.denied ≡ perms_of (exec_denied transition) }
     ensures quiet { result.quiet ≡ perms_of (minus (exec_denied transition) verdict.now.sets.loud.0) }
-    ensures audited { result.audited ≡ perms_of (if verdict.now.chosen.audited then 64 else 0) }
+    ensures audited { result.audited ≡ perms_of (if verdict.now.chosen.audited then only_exec else 0) }
 {
     let denied = denied_of_exec(transition);
     RequestBits {

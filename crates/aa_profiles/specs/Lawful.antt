@@ -27,9 +27,13 @@ names_of profiles = map (λ p. p.name) profiles
 abbrev pub file_patterns : Profile → ℕ
 file_patterns p = sum_by (λ r. length r.patterns) p.files
 
+-- that is its parent, or it has none where none is given
+abbrev pub has_parent : Option ℕ → Profile → Bool
+has_parent parent p = option_eq nat_eq p.parent parent
+
 -- the attachment patterns of a profile, if that is its parent, or if it has none where none is given
 abbrev pub attachments_with : Option ℕ → Profile → ℕ
-attachments_with parent p = if option_eq nat_eq p.parent parent then length p.attachments else 0
+attachments_with parent p = if has_parent parent p then length p.attachments else 0
 
 -- how many attachment patterns the profiles below a parent have, or the top-level profiles
 abbrev pub attachment_patterns : Option ℕ → List Profile → ℕ

@@ -17,7 +17,8 @@ use Rattle.aa_requests.specs.declared.answer.Answer.{Answer}
 use Rattle.aa_requests.specs.Requests.{RequestedFile}
 use Rattle.aa_labels.specs.Labels.{label_named}
 use Rattle.aa_mediate.specs.declared.bits.RequestBits.{RequestBits}
-use Rattle.aa_mediate.specs.Held.{cap_holds, net_holds, change_holds, change_verdict}
+use Rattle.aa_rows.specs.Holding.{cap_holds, net_holds, change_holds}
+use Rattle.aa_mediate.specs.Held.{change_verdict}
 use Rattle.aa_mediate.specs.Bits.{change_bits}
 use Rattle.aa_mediate.specs.Decided.{answered, blocked, decided, grant_note, refusal_note}
 use Rattle.aa_mediate.specs.Reply.{reply, reply_by, reply_at, reply_in}

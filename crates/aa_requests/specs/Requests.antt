@@ -2,6 +2,7 @@
 -- Source: own.
 use Rattle.std.specs.Prelude.{ℕ, List, [], ◌∷◌, length, Bool, false, not, ◌==◌, ◌&&◌, nat_le, bit_and}
 use Rattle.std.specs.List.{list_any}
+use Rattle.aa_tables.specs.Permissions.{link_and_exec, every_permission}
 use Rattle.aa_tables.specs.declared.perms.Perms.{Perms}
 
 -- the first byte is that one
@@ -15,7 +16,7 @@ is_path path = begins_with 47 path && not (list_any (λ b. b == 0) path) && nat_
 
 -- a mask is not empty, and holds neither LINK nor EXEC, nor a bit that is no permission
 abbrev pub is_mask : ℕ → Bool
-is_mask mask = not (mask == 0) && bit_and mask 72 == 0 && nat_le mask 127
+is_mask mask = not (mask == 0) && bit_and mask link_and_exec == 0 && nat_le mask every_permission
 
 -- a file by its path, the permissions that are asked for, and whether the task's user owns it
 pub record RequestedFile : Type 0 where

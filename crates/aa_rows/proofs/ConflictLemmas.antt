@@ -16,7 +16,8 @@ use Rattle.aa_auto.specs.Tables.{Table, IsAutomaton, ListsMatching, list_at, lis
 use Rattle.aa_rows.specs.declared.mark.Way.{Way}
 use Rattle.aa_said.specs.Patterns.{is_literal}
 use Rattle.aa_rows.specs.Marks.{marks_by}
-use Rattle.aa_rows.specs.Rows.{patterns_of, numbered, TellsApart}
+use Rattle.aa_rows.specs.Ways.{numbered}
+use Rattle.aa_rows.specs.Rows.{patterns_of, TellsApart}
 use Rattle.aa_rows.specs.FileRules.{Conflicts}
 use Rattle.aa_rows.specs.Conflicts.{way_if, way_at, HasConflict}
 use Rattle.aa_rows.proofs.HitLemmas.{hits_of, mark_of, patterns_are, marks_are}
@@ -171,11 +172,13 @@ module _ (number : Exec → Way) (rules : List FileRule) (patterns : List Patter
           patterns_are = (a.in_patterns, b.in_patterns);
           match = (a.match, b.match);
           sort = a.sort ∙ sym b.sort;
-          allow = (a.allow, b.allow);
-          one = a.exec;
-          other = b.exec;
-          say = (a.says, b.says);
-          differ = λ same. d.3.differ (sym a.is ∙ ap number same ∙ b.is);
+          say = record {
+            allow = (a.allow, b.allow);
+            one = a.exec;
+            other = b.exec;
+            say = (a.says, b.says);
+            differ = λ same. d.3.differ (sym a.is ∙ ap number same ∙ b.is);
+          };
         },
       )
 
@@ -203,23 +206,24 @@ module _ (number : Exec → Way) (rules : List FileRule) (patterns : List Patter
       let b = x.1 in
       let text = x.2 in
       let c = x.3 in
+      let d = c.say in
       let bytes = matched_text a.pattern.items.items text ((decided a.pattern.items.items text).0 c.match.0) in
       let row = place_of t text in
       let list = list_at t row in
       let lists = auto.matching text bytes in
-      let p = listed (is_literal b.pattern) text list a.rule a.pattern c.one lists c.rules_are.0 c.patterns_are.0 c.match.0 c.sort c.allow.0 c.say.0 in
-      let q = listed (is_literal b.pattern) text list b.rule b.pattern c.other lists c.rules_are.1 c.patterns_are.1 c.match.1 refl c.allow.1 c.say.1 in (
+      let p = listed (is_literal b.pattern) text list a.rule a.pattern d.one lists c.rules_are.0 c.patterns_are.0 c.match.0 c.sort d.allow.0 d.say.0 in
+      let q = listed (is_literal b.pattern) text list b.rule b.pattern d.other lists c.rules_are.1 c.patterns_are.1 c.match.1 refl d.allow.1 d.say.1 in (
         list_number t row,
         is_literal b.pattern,
         auto.numbered text bytes,
         record {
           i = p.i;
           j = q.i;
-          one = number c.one;
-          other = number c.other;
+          one = number d.one;
+          other = number d.other;
           within = (p.within, q.within);
           first = p.way;
           second = q.way;
-          differ = λ same. c.differ (apart a.rule b.rule c.one c.other c.rules_are.0 c.rules_are.1 c.say.0 c.say.1 same);
+          differ = λ same. d.differ (apart a.rule b.rule d.one d.other c.rules_are.0 c.rules_are.1 d.say.0 d.say.1 same);
         },
       )

@@ -14,7 +14,8 @@ use Rattle.aa_rows.specs.declared.mark.Mark.{Mark}
 use Rattle.aa_said.specs.Gathered.{gather, picked}
 use Rattle.aa_rows.specs.Marks.{mark_by, marks_by}
 use Rattle.aa_rows.specs.Sides.{none_said, joined, one, side_by}
-use Rattle.aa_rows.specs.Rows.{RowTable, row_by, rows_by, settled, verdict_of, verdict_at, patterns_of, numbered, IsVerdictOf, AreRowsOf}
+use Rattle.aa_rows.specs.Ways.{numbered}
+use Rattle.aa_rows.specs.Rows.{RowTable, row_by, rows_by, settled, verdict_of, verdict_at, patterns_of, IsVerdictOf, AreRowsOf}
 use Rattle.aa_said.proofs.Pickeds.{picked-map}
 use Rattle.aa_said.proofs.Hits.{map_map, hits_at}
 use Rattle.aa_said.proofs.Gathers.{gather-map}

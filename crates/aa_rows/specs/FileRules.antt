@@ -63,17 +63,21 @@ pub record Hit : Type 0 where
   pub rule : FileRule
   pub pattern : Pattern
 
+-- neither denies, and they say differently how a program is executed
+pub record SayDifferently (a b : FileRule) : Type 0 where
+  pub allow : (a.deny ≡ false) × (b.deny ≡ false)
+  pub one : Exec
+  pub other : Exec
+  pub say : (a.exec ≡ Some one) × (b.exec ≡ Some other)
+  pub differ : one ≢ other
+
 -- two rules say differently how one text is executed, both by literal patterns or both by others
 pub record IsConflict (rules : List FileRule) (a b : Hit) (text : List ℕ) : Type 0 where
   pub rules_are : Contains rules a.rule × Contains rules b.rule
   pub patterns_are : Contains a.rule.patterns a.pattern × Contains b.rule.patterns b.pattern
   pub match : IsTrue (is_match a.pattern.items.items text) × IsTrue (is_match b.pattern.items.items text)
   pub sort : is_literal a.pattern ≡ is_literal b.pattern
-  pub allow : (a.rule.deny ≡ false) × (b.rule.deny ≡ false)
-  pub one : Exec
-  pub other : Exec
-  pub say : (a.rule.exec ≡ Some one) × (b.rule.exec ≡ Some other)
-  pub differ : one ≢ other
+  pub say : SayDifferently a.rule b.rule
 
 -- two rules of these conflict at some text
 abbrev pub Conflicts : List FileRule → Type 0

@@ -5,5 +5,6 @@ pub mod Ways
 pub mod Namings
 pub mod Sides
 pub mod FileRules
+pub mod Holding
 pub mod Rows
 pub mod Conflicts

@@ -1,6 +1,6 @@
 -- What is kept for each list of an automaton.
 -- Source: own.
-use Rattle.std.specs.Prelude.{◌≡◌, ℕ, List, Bool, true, false, if◌then◌else◌, map, Option, Some, Contains, is_some}
+use Rattle.std.specs.Prelude.{◌≡◌, ℕ, List, Bool, true, false, if◌then◌else◌, map, Some, Contains, is_some}
 use Rattle.std.specs.Option.{option_map, option_map_or}
 use Rattle.std.specs.List.{slice_get, list_any, flat_map}
 use Rattle.aa_patterns.specs.declared.pattern.Pattern.{Pattern}
@@ -63,10 +63,6 @@ AreRowsOf number rules r = (path : List ℕ) (owned : Bool) → IsText path → 
 -- the patterns of the rules, in order
 abbrev pub patterns_of : List FileRule → List Pattern
 patterns_of rules = flat_map (λ r. r.patterns) rules
-
--- for each rule, how it says that a program is executed
-abbrev pub numbered : (Exec → Way) → List FileRule → List (Option Way)
-numbered number rules = map (λ r. option_map number r.exec) rules
 
 -- different ways have different numbers
 abbrev pub TellsApart : (Exec → Way) → List FileRule → Type 0

@@ -4,7 +4,7 @@ ghost use Rattle.std.specs.Prelude.{◌≡◌, ◌+◌, ◌<◌, ◌≤◌, ◌+
 ghost use Rattle.aa_patterns.specs.Limits.{most_patterns, most_states};
 ghost use Rattle.aa_auto.specs.Nodes.{pointed};
 ghost use Rattle.aa_auto.specs.Tables.{HasPlaces, IsAutomaton, rows_of as states_of};
-ghost use Rattle.aa_rows.specs.Ways.{way_by, ways_by};
+ghost use Rattle.aa_rows.specs.Ways.{numbered, way_by};
 ghost use Rattle.aa_said.specs.Gathered.{picked};
 ghost use Rattle.aa_rows.specs.Marks.{marks_by};
 ghost use Rattle.aa_rows.specs.Rows.{row_by, rows_by, verdict_at, verdict_of, patterns_of, AreRowsOf, fault_of};
@@ -85,7 +85,7 @@ fn automaton_of(alloc: Global, rules: &[FileRule], limit: usize) -> Result<Autom
 
 /// The marks of the rules' patterns, in order.
 fn marks_of_rules(alloc: Global, rules: &[FileRule]) -> Result<Vec<Mark>, AllocError>
-    ensures { IfOk result (λ marks. marks.items ≡ marks_by rules.now (ways_by rules.now)) }
+    ensures { IfOk result (λ marks. marks.items ≡ marks_by rules.now (numbered (way_by rules.now) rules.now)) }
 {
     let ways = ways_of(alloc, rules)?;
     marks_of(alloc, rules, ways.as_slice())

@@ -4,12 +4,10 @@ ghost use Rattle.std.specs.Prelude.{◌≡◌};
 ghost use Rattle.std.specs.Option.{option_map_or};
 ghost use Rattle.std.specs.List.{slice_get};
 ghost use Rattle.aa_rows.specs.Rows.{choice_of, settled};
-ghost use Rattle.aa_said.specs.Said.{bits_if};
 ghost use Rattle.aa_said.specs.Gathered.{picked};
-ghost use Rattle.aa_rows.specs.Sides.{earlier, choice_if, mark_says, none_said, joined, one, side_by};
+ghost use Rattle.aa_rows.specs.Sides.{earlier, choice_if, none_said, joined, one, side_by};
 
 use crate::mark::{Mark, Way};
-use aa_profiles::Perms;
 use aa_said::RuleSets;
 
 /// How a program is executed by the first of some rules, and whether one of them reports it.
@@ -65,23 +63,6 @@ impl Chosen {
     }
 }
 
-fn perms_if(test: bool, perms: Perms) -> Perms
-    ensures { result ≡ bits_if test perms.0 }
-{
-    if test { perms } else { Perms(0) }
-}
-
-fn sets_of(mark: &Mark) -> RuleSets
-    ensures { result ≡ mark_says mark.now }
-{
-    RuleSets {
-        allow: perms_if(!mark.deny, mark.perms),
-        deny: perms_if(mark.deny, mark.perms),
-        loud: perms_if(mark.audit && mark.deny, mark.perms),
-        audited: perms_if(mark.audit && !mark.deny, mark.perms),
-    }
-}
-
 impl Side {
     /// The literal choice, or else that of all.
     fn chosen(&self) -> Chosen
@@ -127,7 +108,7 @@ impl Side {
             return Side::none();
         }
         Side {
-            sets: sets_of(mark),
+            sets: RuleSets::said(mark.audit, mark.deny, mark.perms),
             literal: chosen_if(!mark.deny && mark.literal, mark),
             any: chosen_if(!mark.deny, mark),
         }

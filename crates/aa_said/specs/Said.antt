@@ -1,6 +1,7 @@
 -- What the rules of a profile say, whatever their sort.
 -- Source: apparmor.d(5), "Qualifiers"; CPR, "Rules".
 use Rattle.std.specs.Prelude.{ℕ, ◌-◌, List, [], ◌∷◌, Bool, not, ◌&&◌, if◌then◌else◌, bit_and, bit_or}
+use Rattle.aa_tables.specs.Permissions.{every_bit}
 use Rattle.aa_tables.specs.declared.perms.Perms.{Perms}
 use Rattle.aa_said.specs.declared.sets.RuleSets.{RuleSets}
 
@@ -45,9 +46,9 @@ abbrev pub verdict : List Saying → RuleSets
 verdict [] = nothing
 verdict (s ∷ rest) = both (said s) (verdict rest)
 
--- the bits of one set that another lacks; a set has eight
+-- the bits of one set that another lacks
 abbrev pub minus : ℕ → ℕ → ℕ
-minus a b = bit_and a (255 - b)
+minus a b = bit_and a (every_bit - b)
 
 -- allowed and not denied
 abbrev pub granted : RuleSets → ℕ

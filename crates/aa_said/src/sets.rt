@@ -1,7 +1,7 @@
 //! Sets of permissions that rules name.
 
 ghost use Rattle.std.specs.Prelude.{◌≡◌};
-ghost use Rattle.aa_said.specs.Said.{both, nothing};
+ghost use Rattle.aa_said.specs.Said.{bits_if, both, nothing, said};
 
 use aa_tables::Perms;
 use bitflags::Flags;
@@ -19,6 +19,12 @@ pub struct RuleSets {
     pub audited: Perms,
 }
 
+fn perms_if(test: bool, perms: Perms) -> Perms
+    ensures { result ≡ bits_if test perms.0 }
+{
+    if test { perms } else { Perms(0) }
+}
+
 impl RuleSets {
     pub fn none() -> RuleSets
         ensures { result ≡ nothing }
@@ -28,6 +34,18 @@ impl RuleSets {
             deny: Perms(0),
             loud: Perms(0),
             audited: Perms(0),
+        }
+    }
+
+    /// What a rule that holds says of these permissions.
+    pub fn said(audit: bool, deny: bool, perms: Perms) -> RuleSets
+        ensures { result ≡ said (record { audit = audit; deny = deny; bits = perms.0 }) }
+    {
+        RuleSets {
+            allow: perms_if(!deny, perms),
+            deny: perms_if(deny, perms),
+            loud: perms_if(audit && deny, perms),
+            audited: perms_if(audit && !deny, perms),
         }
     }
 

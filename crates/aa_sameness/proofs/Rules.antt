@@ -12,7 +12,7 @@ use Rattle.aa_tables.specs.declared.perms.Perms.{Perms}
 use Rattle.aa_said.specs.Patterns.{is_literal}
 use Rattle.aa_said.specs.Said.{verdict}
 use Rattle.aa_rows.specs.FileRules.{some_match, any_sort, applies_by, saying, file_verdict, says_how, ways_by, is_nil, chosen, way_of}
-use Rattle.aa_mediate.specs.Held.{saying as said_by, change_holds, change_verdict}
+use Rattle.aa_mediate.specs.Held.{saying as said_by, change_verdict}
 use Rattle.aa_policy.specs.Sameness.{SameRule, SameChange, SameIfAny}
 use Rattle.aa_sameness.proofs.Rows.{any_alike, filter_alike, map_alike}
 use Rattle.aa_sameness.proofs.Patterns.{IsSort, any_is_sort, literal_alike, match_alike, some_match_alike}

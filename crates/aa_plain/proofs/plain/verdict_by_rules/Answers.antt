@@ -8,7 +8,7 @@ pub loop-rule-preserved : goal.loop-rule-preserved
 loop-rule-preserved c =
     let r = c.rule-item.result in
     verdict_more (applies_by any_sort c.args.path.now c.args.owned) saying c.args.rules.now c.loop-rule.rule-index r c.loop-rule.sets _ _ c.loop-rule-test.true c.rule-item.is
-    (c.with-sets.ensures ∙ ap (both c.loop-rule.sets) (c.said_if.ensures ∙ ap (λ (b : Bool). cond b (said (saying r)) nothing) c.applies_to-applies.ensures)) c.loop-rule.invariant
+    (c.with-sets.ensures ∙ ap (both c.loop-rule.sets) (c.said_if.ensures ∙ ap (λ (b : Bool). cond b (said (saying r)) nothing) c.applies-holds.ensures)) c.loop-rule.invariant
 
 pub returns : goal.returns
 returns c = verdict_all (applies_by any_sort c.args.path.now c.args.owned) saying c.args.rules.now c.loop-rule.rule-index _ _ c.loop-rule-test.false c.loop-rule.invariant
