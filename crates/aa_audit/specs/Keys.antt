@@ -1,26 +1,22 @@
 -- The keys of an audit line that stand behind its profile, for each operation.
 -- Source: capabilities(7); own.
-use Rattle.std.specs.Prelude.{ℕ, List, [], ◌++◌, codes, decimal, if◌then◌else◌, slice_get, unwrap_or}
-use Rattle.aa_tables.specs.Permissions.{only_link, only_exec}
-use Rattle.aa_profiles.specs.declared.policy.Policy.{Policy}
-use Rattle.aa_tables.specs.Tables.{capability_names, family_names, sock_type_names}
-use Rattle.aa_requests.specs.Requests.{RequestedFile, RequestedLink, RequestedExec}
-use Rattle.aa_requests.specs.declared.request.Request.{Request}
-use Rattle.aa_requests.specs.declared.request.Request.TheVariants.{File, Link, Exec, Cap, Net, Change, Reload}
-use Rattle.aa_requests.specs.declared.answer.Answer.{Answer}
-use Rattle.aa_requests.specs.declared.answer.Note.{Note}
-use Rattle.aa_requests.specs.declared.answer.NoteWord.{NoteWord}
-use Rattle.aa_requests.specs.declared.answer.NoteWord.TheVariants.{Denied, Allowed, Audit}
-use Rattle.aa_labels.specs.Labels.{label_name}
-use Rattle.aa_audit.specs.Values.{quoted, value, mask}
+use Rattle.std.specs.Prelude.{ℕ, List, [], ◌++◌, codes, decimal, if◌then◌else◌}
+use Rattle.aa_base.specs.Permissions.{only_link, only_exec}
+use Rattle.aa_model.specs.declared.policy.Policy.{Policy}
+use Rattle.aa_base.specs.Tables.{entry, capability_names, family_names, sock_type_names}
+use Rattle.aa_model.specs.Requests.{RequestedFile, RequestedLink, RequestedExec}
+use Rattle.aa_model.specs.declared.request.Request.{Request}
+use Rattle.aa_model.specs.declared.request.Request.TheVariants.{File, Link, Exec, Cap, Net, Change, Reload}
+use Rattle.aa_model.specs.declared.answer.Answer.{Answer}
+use Rattle.aa_model.specs.declared.answer.Note.{Note}
+use Rattle.aa_model.specs.declared.answer.NoteWord.{NoteWord}
+use Rattle.aa_model.specs.declared.answer.NoteWord.TheVariants.{Denied, Allowed, Audit}
+use Rattle.aa_compile.specs.Labels.{label_name}
+use Rattle.aa_base.specs.Values.{quoted, value, mask}
 
 -- a key and its value, behind a space
 unfoldable pub key : List ℕ → List ℕ → List ℕ
 key name text = codes " " ++ name ++ codes "=" ++ text
-
--- the entry of a table of names
-abbrev pub entry : List (List ℕ) → ℕ → List ℕ
-entry table n = unwrap_or (slice_get table n) []
 
 -- the permissions that are blocked; a grant of all that was asked for has no such key
 abbrev pub denied_key : NoteWord → ℕ → List ℕ

@@ -1,16 +1,16 @@
 -- Audit lines.
 -- Source: own.
 use Rattle.std.specs.Prelude.{ℕ, List, ◌++◌, codes, Option, Some, None, option_map, option_and_then}
-use Rattle.aa_profiles.specs.declared.policy.Policy.{Policy}
-use Rattle.aa_requests.specs.declared.label.Label.{Label}
-use Rattle.aa_requests.specs.declared.request.Request.{Request}
-use Rattle.aa_requests.specs.declared.request.Request.TheVariants.{File, Link, Exec, Cap, Net, Change, Reload}
-use Rattle.aa_requests.specs.declared.answer.Answer.{Answer}
-use Rattle.aa_requests.specs.declared.answer.Note.{Note}
-use Rattle.aa_requests.specs.declared.answer.NoteWord.{NoteWord}
-use Rattle.aa_requests.specs.declared.answer.NoteWord.TheVariants.{Denied, Allowed, Audit}
-use Rattle.aa_labels.specs.Labels.{label_name}
-use Rattle.aa_audit.specs.Values.{quoted, value}
+use Rattle.aa_model.specs.declared.policy.Policy.{Policy}
+use Rattle.aa_model.specs.declared.label.Label.{Label}
+use Rattle.aa_model.specs.declared.request.Request.{Request}
+use Rattle.aa_model.specs.declared.request.Request.TheVariants.{File, Link, Exec, Cap, Net, Change, Reload}
+use Rattle.aa_model.specs.declared.answer.Answer.{Answer}
+use Rattle.aa_model.specs.declared.answer.Note.{Note}
+use Rattle.aa_model.specs.declared.answer.NoteWord.{NoteWord}
+use Rattle.aa_model.specs.declared.answer.NoteWord.TheVariants.{Denied, Allowed, Audit}
+use Rattle.aa_compile.specs.Labels.{label_name}
+use Rattle.aa_base.specs.Values.{quoted, value}
 use Rattle.aa_audit.specs.Keys.{key, keys}
 
 -- the word of a note

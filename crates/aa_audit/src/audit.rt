@@ -5,9 +5,9 @@ ghost use Rattle.std.specs.String.{string_bytes};
 ghost use Rattle.aa_audit.specs.Lines.{word_text, operation_name, head_text, note_line, line};
 
 use crate::keys::{push_keys, push_name, push_text};
-use crate::values::push_quoted;
-use aa_labels::{Compiled, name_of_label};
-use aa_requests::{Answer, Label, Note, NoteWord, Request};
+use aa_base::push_quoted;
+use aa_compile::{Compiled, name_of_label};
+use aa_model::{Answer, Label, Note, NoteWord, Request};
 use std::alloc::{AllocError, Global};
 
 fn text_of_word(word: NoteWord) -> &'static str

@@ -2,15 +2,14 @@
 
 ghost use Rattle.std.specs.Prelude.{◌≡◌, ◌++◌, OnOk, codes, decimal};
 ghost use Rattle.std.specs.String.{string_bytes};
-ghost use Rattle.aa_audit.specs.Values.{quoted, value, mask};
+ghost use Rattle.aa_base.specs.Values.{quoted, value, mask};
 ghost use Rattle.aa_audit.specs.Keys.{key, denied_key, target_key, file_keys, link_keys, exec_keys, capability_keys, network_keys, change_keys, keys};
 
-use crate::values::{push_mask, push_quoted, push_value};
-use aa_labels::{Compiled, name_of_label};
-use aa_requests::{
+use aa_base::{Cap, Family, Perms, SockType, push_mask, push_quoted, push_value};
+use aa_compile::{Compiled, name_of_label};
+use aa_model::{
     Answer, ChangeRequest, ExecRequest, FileRequest, LinkRequest, Note, NoteWord, Request,
 };
-use aa_tables::{Cap, Family, Perms, SockType};
 use itoa::Buffer;
 use std::alloc::AllocError;
 

@@ -3,7 +3,5 @@
 
 mod audit;
 mod keys;
-mod values;
 
 pub use audit::{audit_line, push_audit_line};
-pub use values::{plain_text, push_mask, push_value};

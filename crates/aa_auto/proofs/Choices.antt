@@ -1,11 +1,11 @@
 -- A choice behind other items.
 use Rattle.std.proofs.Common.{◌≡◌, ℕ, ◌↔◌, ◌⊎◌, List, [], ◌∷◌, ◌++◌, Vec, Global, refl, ap, ◌∙◌, inl, inr, ⊎_elim}
-use Rattle.aa_items.specs.declared.item.Item.{Item, Choice, Row_of-Item-Choice-0-1, end_of-Item-Choice-0-1, more_of-Item-Choice-0-1, items_shown-the_row-Item-0, items-the_row-Item-Choice-0-1, items_hidden-the_row-Item-Choice-0-1-1}
-use Rattle.aa_items.specs.Globs.{Matches, SomeMatches}
-use Rattle.aa_patterns.specs.Heads.{heads_within, heads_of_branches, heads_after, heads_of_choice}
-use Rattle.aa_patterns.proofs.PlaceHeads.{along}
-use Rattle.aa_patterns.proofs.Rows.{rows_of, Allows-Choice}
-use Rattle.aa_patterns.proofs.Texts.{Matches-append, Matches-push}
+use Rattle.aa_pattern.specs.declared.item.Item.{Item, Choice, Row_of-Item-Choice-0-1, end_of-Item-Choice-0-1, more_of-Item-Choice-0-1, items_shown-the_row-Item-0, items-the_row-Item-Choice-0-1, items_hidden-the_row-Item-Choice-0-1-1}
+use Rattle.aa_pattern.specs.Globs.{Matches, SomeMatches}
+use Rattle.aa_pattern.specs.Heads.{heads_within, heads_of_branches, heads_after, heads_of_choice}
+use Rattle.aa_pattern.proofs.PlaceHeads.{along}
+use Rattle.aa_pattern.proofs.Rows.{rows_of, Allows-Choice}
+use Rattle.aa_pattern.proofs.Texts.{Matches-append, Matches-push}
 use Rattle.aa_auto.specs.Nodes.{SomeEnds}
 
 pub Matches-choice : (h : List Item) (v : Vec (Vec Item Global) Global) (t : List ℕ) → Matches (h ++ Choice v ∷ []) t ↔ SomeEnds h v.items t

@@ -3,11 +3,11 @@ use Rattle.std.proofs.Common.{◌≡◌, ℕ, ◌+◌, ◌<◌, ◌≤◌, ◌�
 use Rattle.std.proofs.lemmas.List.{get_or_append_left, get_or_push, length-map}
 use Rattle.std.proofs.lemmas.List.Elements.{All-nil, All-push}
 use Rattle.std.proofs.lemmas.Bool.{cases_lt}
-use Rattle.aa_items.specs.declared.item.Item.{Item}
+use Rattle.aa_pattern.specs.declared.item.Item.{Item}
 use Rattle.aa_auto.specs.declared.net.Net.{Net}
 use Rattle.aa_auto.specs.Nets.{IsNetOf, patterns_of, heads_of, kept_of}
-use Rattle.aa_items.specs.Globs.{Matches}
-use Rattle.aa_patterns.specs.Places.{SamePlaces}
+use Rattle.aa_pattern.specs.Globs.{Matches}
+use Rattle.aa_pattern.specs.Places.{SamePlaces}
 use Rattle.aa_auto.specs.Apart.{IsApart}
 use Rattle.aa_auto.specs.Listed.{Listing, AddsRow, row_lists}
 use Rattle.aa_auto.specs.Spots.{IsSpotsOf}
@@ -17,7 +17,7 @@ use Rattle.aa_auto.proofs.ListedLemmas.{many_rows}
 use Rattle.aa_auto.proofs.SortedLemmas.{same_rising}
 use Rattle.aa_auto.proofs.SpotsLemmas.{same_spots}
 use Rattle.aa_auto.proofs.MergeLemmas.{kept_at}
-use Rattle.aa_patterns.proofs.PlaceHeads.{In, heads_from_places, places_from_heads}
+use Rattle.aa_pattern.proofs.PlaceHeads.{In, heads_from_places, places_from_heads}
 
 pub got : {X : Type 0} (xs : List X) (i : ℕ) (x d : X) → slice_get xs i ≡ Some x → (i < length xs) × (get_or xs i d ≡ x)
 got [] i x d e = absurd (cc e)

@@ -4,12 +4,12 @@ use Rattle.std.proofs.Math.ListN.{set}
 use Rattle.std.proofs.lemmas.List.{take_more, length-map, get_or_append_left, length_push}
 use Rattle.std.proofs.lemmas.List.Elements.{Contains-push, Contains-push_cases, Contains-append_left}
 use Rattle.std.proofs.lemmas.Bool.{cases_lt}
-use Rattle.aa_items.specs.declared.item.Item.{Item}
-use Rattle.aa_patterns.specs.declared.pattern.Pattern.{Pattern}
+use Rattle.aa_pattern.specs.declared.item.Item.{Item}
+use Rattle.aa_pattern.specs.declared.pattern.Pattern.{Pattern}
 use Rattle.aa_auto.specs.declared.nodes.Node.{Node}
 use Rattle.aa_auto.specs.declared.nodes.Node.TheVariants.{Start, After, Same, Join}
-use Rattle.aa_items.specs.Steps.{IsSkippable}
-use Rattle.aa_patterns.specs.Heads.{heads_of_patterns}
+use Rattle.aa_pattern.specs.Steps.{IsSkippable}
+use Rattle.aa_pattern.specs.Heads.{heads_of_patterns}
 use Rattle.aa_auto.specs.Nodes.{IsRight, HasSources, HaveSources, AreNodes}
 use Rattle.aa_auto.specs.Merged.{Tells}
 use Rattle.aa_auto.specs.Closed.{IsUpward}

@@ -4,15 +4,15 @@ use Rattle.std.specs.Borrow.{Bor}
 use Rattle.std.proofs.lemmas.List.{get_or_append_left, get_or_push, length_push}
 use Rattle.std.proofs.lemmas.List.Elements.{All-push}
 use Rattle.std.proofs.lemmas.Bool.{cases_lt}
-use Rattle.aa_items.specs.declared.item.Item.{Item, Byte, One, Run, RunOne, Deep, DeepOne, Class, Choice'}
-use Rattle.aa_items.specs.Globs.{Matches, Allows}
-use Rattle.aa_items.specs.Steps.{Begins, Continues, IsSimple}
+use Rattle.aa_pattern.specs.declared.item.Item.{Item, Byte, One, Run, RunOne, Deep, DeepOne, Class, Choice'}
+use Rattle.aa_pattern.specs.Globs.{Matches, Allows}
+use Rattle.aa_pattern.specs.Steps.{Begins, Continues, IsSimple}
 use Rattle.aa_auto.specs.declared.nodes.Node.{Node}
 use Rattle.aa_auto.specs.declared.nodes.Node.TheVariants.{Start, After, Same, Join}
 use Rattle.aa_auto.specs.Nodes.{head_at, IsRight, AllRight, SomeOf}
 use Rattle.aa_auto.specs.Merged.{SameTexts, kept, IsAlike, IsAt, IsAfterLike, IsBehind, HasEnds, IsJoin, Tells, IsMerging, Names, AreMapped}
 use Rattle.aa_auto.proofs.SpotsLemmas.{right_of}
-use Rattle.aa_patterns.proofs.Texts.{Matches-push, IsPart, allows_part}
+use Rattle.aa_pattern.proofs.Texts.{Matches-push, IsPart, allows_part}
 
 begins_few : (i : Item) (c : ℕ) → Begins i c → c < 256
 begins_few (Byte x) c h = h.1.1

@@ -2,8 +2,8 @@
 use Rattle.std.proofs.Common.{Contains, ◌≡◌, ℕ, ◌<◌, Option, Some, List, [], ◌∷◌, length, get_or, suc, zero, slice_get, refl, arith}
 use Rattle.std.specs.List.Sorted.{IsStrictlyIncreasing}
 use Rattle.std.proofs.lemmas.Option.{slice_get_within}
-use Rattle.aa_patterns.specs.declared.pattern.Pattern.{Pattern}
-use Rattle.aa_items.specs.Globs.{Matches}
+use Rattle.aa_pattern.specs.declared.pattern.Pattern.{Pattern}
+use Rattle.aa_pattern.specs.Globs.{Matches}
 use Rattle.aa_auto.specs.declared.net.Net.{Net}
 use Rattle.aa_auto.specs.Closed.{IsUpward, IsClosure}
 use Rattle.aa_auto.specs.Spots.{IsSpotsOf, AreSeeds, LeadAlike}

@@ -1,7 +1,7 @@
 -- Patterns are compiled.
 use Rattle.std.proofs.Common.{ℕ, ◌<◌, List, length, get_or, arith, ◌∙◌, sym, subst}
 use Rattle.std.proofs.lemmas.Option.{slice_get_within}
-use Rattle.aa_patterns.specs.declared.pattern.Pattern.{Pattern}
+use Rattle.aa_pattern.specs.declared.pattern.Pattern.{Pattern}
 use Rattle.aa_auto.specs.declared.nodes.Node.{Node}
 use Rattle.aa_auto.specs.declared.net.Net.{Net}
 use Rattle.aa_auto.specs.Nodes.{AreNodes, AllRight, HaveSources, head_at}
@@ -9,7 +9,7 @@ use Rattle.aa_auto.specs.Merged.{AreMerged, kept}
 use Rattle.aa_auto.specs.Spots.{AreJumps}
 use Rattle.aa_auto.specs.Finals.{AreFinals}
 use Rattle.aa_auto.specs.Nets.{IsNetOf, patterns_of, heads_of}
-use Rattle.aa_patterns.specs.Heads.{heads_of_patterns}
+use Rattle.aa_pattern.specs.Heads.{heads_of_patterns}
 use Rattle.aa_auto.proofs.SpotsLemmas.{fits_itself}
 use Rattle.aa_auto.proofs.MergeLemmas.{texts_back, texts_on, texts_same}
 use Rattle.aa_auto.proofs.JumpLemmas.{lists, tells_sources}

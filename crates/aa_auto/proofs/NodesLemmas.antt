@@ -3,18 +3,18 @@ use Rattle.std.proofs.Common.{slice_get, ◌≡◌, ℕ, ◌+◌, ◌-◌, ◌�
 use Rattle.std.proofs.lemmas.List.{append-nil, take_all, take_more, get_or_append_left, get_or_push}
 use Rattle.std.proofs.lemmas.List.Elements.{Contains-push, Contains-push_cases, Contains-append_left, All-nil, All-push}
 use Rattle.std.proofs.lemmas.Option.{slice_get_within}
-use Rattle.aa_items.specs.declared.item.Item.{Item, Choice}
-use Rattle.aa_patterns.specs.declared.pattern.Pattern.{Pattern}
-use Rattle.aa_items.specs.Globs.{Matches}
+use Rattle.aa_pattern.specs.declared.item.Item.{Item, Choice}
+use Rattle.aa_pattern.specs.declared.pattern.Pattern.{Pattern}
+use Rattle.aa_pattern.specs.Globs.{Matches}
 use Rattle.aa_auto.specs.declared.nodes.Node.{Node}
 use Rattle.aa_auto.specs.declared.nodes.Node.TheVariants.{Start, After, Same, Join}
 use Rattle.std.specs.Borrow.{Bor}
 use Rattle.std.specs.List.Sorted.{IsStrictlyIncreasing}
-use Rattle.aa_items.specs.Steps.{IsSimple}
+use Rattle.aa_pattern.specs.Steps.{IsSimple}
 use Rattle.aa_auto.specs.Classes.{IsSameForItems, IsSameForLists, IsSame}
 use Rattle.aa_auto.proofs.SortedLemmas.{rising_push}
 use Rattle.aa_auto.proofs.SameLemmas.{AreSameNodes-append, IsSameForItems-push, IsSameForLists-push, IsSame-push, IsSameFor-Choice, same_simple}
-use Rattle.aa_patterns.specs.Heads.{heads_within, heads_after, heads_of_choice, heads_of_patterns}
+use Rattle.aa_pattern.specs.Heads.{heads_within, heads_after, heads_of_choice, heads_of_patterns}
 use Rattle.aa_auto.specs.Nodes.{Fits, SomeOf, SomeEnds, IsRight, AllRight, AddsItems, AddsItem, AddsBranches, AreNodes, AreSameNodes}
 use Rattle.aa_auto.proofs.HeadLemmas.{heads_after-push, within_none, not_choice, heads_of_choice-push, heads_of_patterns-push, pattern_either}
 use Rattle.aa_auto.proofs.Choices.{Matches-choice, SomeEnds-push, heads_within-Choice}

@@ -1,15 +1,15 @@
 -- The closed set of the positions that a byte leads to is that of the longer text.
 use Rattle.std.proofs.Common.{Contains, ◌≡◌, ℕ, ◌+◌, ◌-◌, ◌<◌, ◌↔◌, ◌⊎◌, Option, Some, None, List, [], ◌∷◌, ◌++◌, length, get_or, suc, zero, refl, sym, ap, ◌∙◌, subst, inl, inr, ⊎_elim, arith, length-append, append_assoc}
-use Rattle.aa_items.specs.declared.item.Item.{Item}
-use Rattle.aa_items.specs.Globs.{Matches}
+use Rattle.aa_pattern.specs.declared.item.Item.{Item}
+use Rattle.aa_pattern.specs.Globs.{Matches}
 use Rattle.aa_auto.specs.declared.nodes.Node.{Node}
 use Rattle.aa_auto.specs.declared.nodes.Node.TheVariants.{Start, After, Same, Join}
-use Rattle.aa_items.specs.Steps.{Begins, Continues, IsSkippable}
+use Rattle.aa_pattern.specs.Steps.{Begins, Continues, IsSkippable}
 use Rattle.aa_auto.specs.Nodes.{Fits, IsRight, AllRight}
 use Rattle.aa_auto.specs.Merged.{Tells}
 use Rattle.aa_auto.specs.Closed.{IsClosure}
 use Rattle.aa_auto.specs.Spots.{Stands, IsSpotsOf, Jumps, AreJumps, Seeds, AreSeeds, Leads, Stood, BeginsNode, ContinuesNode, LeadAlike}
-use Rattle.aa_patterns.proofs.Texts.{Matches-skip, Matches-grow}
+use Rattle.aa_pattern.proofs.Texts.{Matches-skip, Matches-grow}
 
 -- each list fits in itself
 fits_behind : (front xs : List (List Item)) → Fits (front ++ xs) (length front) xs

@@ -2,9 +2,9 @@
 -- Source: byte classes of a deterministic automaton.
 use Rattle.std.specs.Prelude.{◌↔◌, ℕ, List, [], ◌∷◌, Vec}
 use Rattle.std.specs.Global.{Global}
-use Rattle.aa_items.specs.declared.item.Item.{Item, Choice', Row_of-Item, end_of-Item, more_of-Item, Row_of-Item-Choice-0-1, end_of-Item-Choice-0-1, more_of-Item-Choice-0-1}
-use Rattle.aa_patterns.specs.declared.pattern.Pattern.{Pattern}
-use Rattle.aa_items.specs.Steps.{Begins, Continues}
+use Rattle.aa_pattern.specs.declared.item.Item.{Item, Choice', Row_of-Item, end_of-Item, more_of-Item, Row_of-Item-Choice-0-1, end_of-Item-Choice-0-1, more_of-Item-Choice-0-1}
+use Rattle.aa_pattern.specs.declared.pattern.Pattern.{Pattern}
+use Rattle.aa_pattern.specs.Steps.{Begins, Continues}
 
 abbrev mutual
   -- what the item allows begins with both bytes or with neither, and goes on with both or with neither; a choice is asked item by item

@@ -1,11 +1,11 @@
 -- Bytes that are divided into classes.
 use Rattle.std.specs.Prelude.{◌≡◌, ◌≢◌, ◌↔◌, ◌⊎◌, ℕ, ◌+◌, ◌*◌, ◌<◌, ◌≤◌, Bool, false, true, IsTrue, if◌then◌else◌, List, [], ◌∷◌, ◌++◌, length, slice_index, slice_index_or}
-use Rattle.aa_items.specs.declared.item.Item.{Item, Byte, One, Run, RunOne, Deep, DeepOne}
-use Rattle.aa_items.specs.Globs.{IsNonzeroByte}
-use Rattle.aa_patterns.specs.declared.pattern.Pattern.{Pattern}
+use Rattle.aa_pattern.specs.declared.item.Item.{Item, Byte, One, Run, RunOne, Deep, DeepOne}
+use Rattle.aa_pattern.specs.Globs.{IsNonzeroByte}
+use Rattle.aa_pattern.specs.declared.pattern.Pattern.{Pattern}
 use Rattle.aa_auto.specs.declared.nodes.Node.{Node}
 use Rattle.aa_auto.specs.declared.nodes.Node.TheVariants.{After}
-use Rattle.aa_items.specs.Steps.{Begins, Continues}
+use Rattle.aa_pattern.specs.Steps.{Begins, Continues}
 use Rattle.aa_auto.specs.Classes.{IsSame}
 use Rattle.aa_auto.specs.Nodes.{IsSameNode, AreSameNodes}
 

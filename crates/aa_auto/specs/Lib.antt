@@ -1,6 +1,6 @@
-pub use Rattle.aa_items.specs.Globs
-pub use Rattle.aa_patterns.specs.Places
-pub use Rattle.aa_items.specs.Steps
+pub use Rattle.aa_pattern.specs.Globs
+pub use Rattle.aa_pattern.specs.Places
+pub use Rattle.aa_pattern.specs.Steps
 pub mod Apart
 pub mod Classes
 pub mod Closed

@@ -1,9 +1,9 @@
 -- Positions of which those with the same head are one.
 use Rattle.std.specs.Prelude.{◌≡◌, ◌↔◌, ◌⊎◌, ℕ, ◌-◌, ◌<◌, ◌≤◌, List, [], ◌∷◌, ◌++◌, All, length, map, slice_index_or}
 use Rattle.std.specs.List.Sorted.{IsStrictlyIncreasing}
-use Rattle.aa_items.specs.declared.item.Item.{Item}
-use Rattle.aa_items.specs.Globs.{Matches}
-use Rattle.aa_items.specs.Steps.{IsSimple, Begins, Continues, IsSkippable}
+use Rattle.aa_pattern.specs.declared.item.Item.{Item}
+use Rattle.aa_pattern.specs.Globs.{Matches}
+use Rattle.aa_pattern.specs.Steps.{IsSimple, Begins, Continues, IsSkippable}
 use Rattle.aa_auto.specs.declared.nodes.Node.{Node}
 use Rattle.aa_auto.specs.declared.nodes.Node.TheVariants.{Start, After, Same, Join}
 use Rattle.aa_auto.specs.declared.merging.Merged.{Merged}

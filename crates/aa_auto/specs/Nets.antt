@@ -1,9 +1,9 @@
 -- What patterns are compiled to.
 use Rattle.std.specs.Prelude.{◌≡◌, ℕ, ◌<◌, ◌↔◌, Some, List, All, length, map, slice_get, slice_index_or}
 use Rattle.std.specs.List.Sorted.{IsStrictlyIncreasing}
-use Rattle.aa_items.specs.declared.item.Item.{Item}
-use Rattle.aa_patterns.specs.declared.pattern.Pattern.{Pattern}
-use Rattle.aa_patterns.specs.Heads.{heads_of_patterns}
+use Rattle.aa_pattern.specs.declared.item.Item.{Item}
+use Rattle.aa_pattern.specs.declared.pattern.Pattern.{Pattern}
+use Rattle.aa_pattern.specs.Heads.{heads_of_patterns}
 use Rattle.aa_auto.specs.declared.nodes.Node.TheVariants.{Start}
 use Rattle.aa_auto.specs.declared.net.Net.{Net}
 use Rattle.aa_auto.specs.Classes.{IsSame}

@@ -3,14 +3,14 @@ use Rattle.std.specs.Borrow.{Bor}
 use Rattle.std.specs.Prelude.{◌≡◌, map, ℕ, ◌+◌, ◌-◌, ◌<◌, ◌↔◌, List, [], ◌∷◌, ◌++◌, length, Contains, Vec, Some, All, slice_get, slice_index_or}
 use Rattle.std.specs.Global.{Global}
 use Rattle.std.specs.List.Sorted.{IsStrictlyIncreasing}
-use Rattle.aa_items.specs.declared.item.Item.{Item}
-use Rattle.aa_patterns.specs.declared.pattern.Pattern.{Pattern}
-use Rattle.aa_items.specs.Globs.{Matches, SomeMatches}
+use Rattle.aa_pattern.specs.declared.item.Item.{Item}
+use Rattle.aa_pattern.specs.declared.pattern.Pattern.{Pattern}
+use Rattle.aa_pattern.specs.Globs.{Matches, SomeMatches}
 use Rattle.aa_auto.specs.declared.nodes.Node.{Node}
 use Rattle.aa_auto.specs.declared.nodes.Node.TheVariants.{Start, After, Same, Join}
-use Rattle.aa_items.specs.Steps.{IsSimple, Begins, Continues}
+use Rattle.aa_pattern.specs.Steps.{IsSimple, Begins, Continues}
 use Rattle.aa_auto.specs.Classes.{IsSameFor, IsSameForItems, IsSameForLists, IsSame}
-use Rattle.aa_patterns.specs.Heads.{heads_within, heads_after, heads_of_choice, heads_of_patterns}
+use Rattle.aa_pattern.specs.Heads.{heads_within, heads_after, heads_of_choice, heads_of_patterns}
 
 -- the patterns that are pointed to
 abbrev pub pointed : List (Bor Pattern) → List Pattern

@@ -1,6 +1,6 @@
 -- What is noted of a row's positions, so that two bytes are compared without asking each of them.
 use Rattle.std.specs.Prelude.{◌≡◌, ◌↔◌, ◌⊎◌, ℕ, ◌+◌, Bool, false, true, List, Contains, length, slice_index_or}
-use Rattle.aa_items.specs.Globs.{IsNameByte}
+use Rattle.aa_pattern.specs.Globs.{IsNameByte}
 use Rattle.aa_auto.specs.declared.nodes.Node.{Node}
 use Rattle.aa_auto.specs.declared.nodes.Node.TheVariants.{Start}
 use Rattle.aa_auto.specs.Spots.{BeginsNode}

@@ -1,11 +1,11 @@
 -- Sets of positions, as rising numbers, and what one byte does to them.
 use Rattle.std.specs.Prelude.{◌≡◌, ℕ, ◌+◌, ◌<◌, ◌↔◌, ◌⊎◌, Option, Some, None, List, [], ◌∷◌, ◌++◌, length, Contains, slice_index_or}
 use Rattle.std.specs.List.Sorted.{IsStrictlyIncreasing}
-use Rattle.aa_items.specs.declared.item.Item.{Item}
-use Rattle.aa_items.specs.Globs.{Matches}
+use Rattle.aa_pattern.specs.declared.item.Item.{Item}
+use Rattle.aa_pattern.specs.Globs.{Matches}
 use Rattle.aa_auto.specs.declared.nodes.Node.{Node}
 use Rattle.aa_auto.specs.declared.nodes.Node.TheVariants.{Start, After, Same, Join}
-use Rattle.aa_items.specs.Steps.{Begins, Continues, IsSkippable}
+use Rattle.aa_pattern.specs.Steps.{Begins, Continues, IsSkippable}
 use Rattle.aa_auto.specs.Nodes.{head_at}
 
 -- the positions whose head the text matches

@@ -2,9 +2,9 @@
 -- Source: apparmor.d(5), "Globbing"; subset construction.
 use Rattle.std.specs.Prelude.{◌≡◌, ℕ, ◌+◌, ◌*◌, ◌<◌, ◌≤◌, ◌↔◌, Some, List, [], ◌∷◌, ◌++◌, length, All, Contains, slice_get, slice_index, slice_index_or}
 use Rattle.std.specs.List.Sorted.{IsStrictlyIncreasing}
-use Rattle.aa_patterns.specs.declared.pattern.Pattern.{Pattern}
-use Rattle.aa_items.specs.Globs.{Matches}
-use Rattle.aa_patterns.specs.Places.{SamePlaces}
+use Rattle.aa_pattern.specs.declared.pattern.Pattern.{Pattern}
+use Rattle.aa_pattern.specs.Globs.{Matches}
+use Rattle.aa_pattern.specs.Places.{SamePlaces}
 use Rattle.aa_auto.specs.Apart.{IsApart}
 use Rattle.aa_auto.specs.Classes.{IsSame}
 

@@ -1,8 +1,8 @@
 //! The automaton: a table of rows over classes of bytes, and what it answers of a text.
 
 ghost use Rattle.std.specs.Prelude.{◌≡◌, ◌+◌, ◌<◌, ◌≤◌, IfOk, IfErr, Err, [], length, slice_index_or};
-ghost use Rattle.aa_patterns.specs.Limits.{most_patterns, most_states};
-ghost use Rattle.aa_patterns.specs.Places.{DecideNext};
+ghost use Rattle.aa_pattern.specs.Limits.{most_patterns, most_states};
+ghost use Rattle.aa_pattern.specs.Places.{DecideNext};
 ghost use Rattle.aa_auto.specs.Division.{AreClassesOf};
 ghost use Rattle.aa_auto.specs.Explored.{IsExplored};
 ghost use Rattle.aa_auto.specs.Nets.{IsNetOf, patterns_of};
@@ -12,7 +12,7 @@ ghost use Rattle.aa_auto.specs.Tables.{IsAutomaton, BytesLeadAlike, HasPlaces, r
 use crate::build::{BuildFault, Found, explore};
 use crate::classes::Classes;
 use crate::net::{Net, net_of};
-use aa_patterns::Pattern;
+use aa_pattern::Pattern;
 use std::alloc::Global;
 use std::marker::Model;
 

@@ -1,7 +1,7 @@
 //! How all sets of positions that some text stands at are found, row by row.
 
 ghost use Rattle.std.specs.Prelude.{◌≡◌, ◌+◌, ◌*◌, ◌<◌, ◌≤◌, ◌++◌, ℕ, Contains, IfOk, IfErr, OnOk, Err, length, slice_get, slice_index_or, [], None, Some};
-ghost use Rattle.aa_patterns.specs.Limits.{most_states};
+ghost use Rattle.aa_pattern.specs.Limits.{most_states};
 ghost use Rattle.aa_auto.specs.Apart.{IsApart};
 ghost use Rattle.aa_auto.specs.Explored.{AreReached, AreFilled, AreListed, Follows, Goes, Extends, IsExplored, TakesSet};
 ghost use Rattle.aa_auto.specs.Listed.{IsListing};

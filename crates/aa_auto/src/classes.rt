@@ -4,7 +4,7 @@ ghost use Rattle.std.specs.Prelude.{◌≡◌, ◌≢◌, ◌↔◌, ◌+◌, �
 ghost use Rattle.aa_auto.specs.Division.{GivesClass, Divides, IsKey, AreKeys, IsSameItem, IsDivision, Refines, RefinesBy, AreClasses, AreAlone, NotesAlone, IsWild};
 
 use crate::nodes::Node;
-use aa_items::{Item, begins, continues};
+use aa_pattern::{Item, begins, continues};
 use std::alloc::{AllocError, Global};
 
 /// Classes of bytes.

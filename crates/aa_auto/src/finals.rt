@@ -3,7 +3,7 @@
 ghost use Rattle.std.specs.Prelude.{◌≡◌, ◌++◌, ◌<◌, ◌≤◌, ℕ, All, Option, Some, None, Contains, IfOk, List, OnOk, length};
 ghost use Rattle.std.specs.Option.{option_to_list};
 ghost use Rattle.std.specs.List.Sorted.{IsStrictlyIncreasing};
-ghost use Rattle.aa_patterns.specs.Limits.{most_patterns};
+ghost use Rattle.aa_pattern.specs.Limits.{most_patterns};
 ghost use Rattle.aa_auto.specs.Finals.{AreFinals, AreNoFinals, ListsFinals};
 
 use std::alloc::{AllocError, Global};

@@ -5,7 +5,7 @@ ghost use Rattle.aa_auto.specs.Spots.{AddsToRows, AddsJumps, AreEmpty, AreJumps}
 ghost use Rattle.aa_auto.specs.Nodes.{HasSources, HaveSources};
 
 use crate::nodes::Node;
-use aa_items::is_skippable;
+use aa_pattern::is_skippable;
 use std::alloc::{AllocError, Global};
 
 /// Adds a number to the rows of these positions.

@@ -5,7 +5,7 @@ ghost use Rattle.aa_auto.specs.Nodes.{HaveSources};
 ghost use Rattle.aa_auto.specs.Merged.{AgreeOn, IsAlike, IsAt, IsBehind, IsJoin, HasStart, AreMerged};
 
 use crate::nodes::Node;
-use aa_items::{Item, begins, continues, is_skippable};
+use aa_pattern::{Item, begins, continues, is_skippable};
 use indexmap::IndexMap;
 use std::alloc::{AllocError, Global};
 

@@ -7,7 +7,7 @@ ghost use Rattle.aa_auto.specs.Spots.{AddsMoves, AreSeeds, MovesFrom, BeginsAt, 
 
 use crate::nodes::Node;
 use crate::sorted::insert;
-use aa_items::{begins, continues};
+use aa_pattern::{begins, continues};
 use std::alloc::AllocError;
 
 /// Whether the item before the position may begin with the byte.

@@ -2,7 +2,7 @@
 
 ghost use Rattle.std.specs.Prelude.{◌≡◌, ◌<◌, ◌≤◌, All, IfOk, OnOk, length, map};
 ghost use Rattle.std.specs.List.Sorted.{IsStrictlyIncreasing};
-ghost use Rattle.aa_patterns.specs.Limits.{most_patterns};
+ghost use Rattle.aa_pattern.specs.Limits.{most_patterns};
 ghost use Rattle.aa_auto.specs.Finals.{AreFinals};
 ghost use Rattle.aa_auto.specs.Nets.{IsNetOf, patterns_of};
 ghost use Rattle.aa_auto.specs.Nodes.{HaveSources, pointed};
@@ -16,7 +16,7 @@ use crate::merging::{Kept, merge_nodes};
 use crate::moves::{beginnings, moved};
 use crate::nodes::{Node, nodes_of};
 use crate::noted::{Noted, noted_of};
-use aa_patterns::Pattern;
+use aa_pattern::Pattern;
 use std::alloc::{AllocError, Global};
 
 /// Patterns, compiled position by position.

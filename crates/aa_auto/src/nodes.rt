@@ -3,8 +3,7 @@
 ghost use Rattle.std.specs.Prelude.{◌<◌, IfOk, OnOk, vec_len, length};
 ghost use Rattle.aa_auto.specs.Nodes.{AddsItem, AddsItems, AddsBranches, AreNodes, pointed};
 
-use aa_items::Item;
-use aa_patterns::Pattern;
+use aa_pattern::{Item, Pattern};
 use std::alloc::{AllocError, Global};
 
 /// What stands before a position.

@@ -7,7 +7,7 @@ ghost use Rattle.aa_auto.specs.Spots.{LeadAlike};
 
 use crate::moves::lead_alike;
 use crate::nodes::Node;
-use aa_items::Item;
+use aa_pattern::Item;
 use std::alloc::{AllocError, Global};
 
 /// What was noted of a row's positions.

@@ -3,9 +3,9 @@ use Rattle.std.proofs.Common.{◌≡◌, ℕ, ◌<◌, ◌≤◌, List, length, 
 use Rattle.std.specs.List.{slice_get}
 use Rattle.std.specs.Option.{option_and_then}
 use Rattle.std.proofs.lemmas.Option.{slice_get_cases, slice_get_past}
-use Rattle.aa_profiles.specs.declared.policy.Policy.{Policy}
-use Rattle.aa_profiles.specs.declared.policy.Profile.{Profile}
-use Rattle.aa_attach.specs.Attached.{attached}
+use Rattle.aa_model.specs.declared.policy.Policy.{Policy}
+use Rattle.aa_model.specs.declared.policy.Profile.{Profile}
+use Rattle.aa_compile.specs.Attached.{attached}
 use Rattle.aa_compile.specs.Transitions.{children, attached_below}
 
 abbrev below : ℕ → List ℕ → Policy → Option Profile → Option ℕ

@@ -4,17 +4,17 @@ use Rattle.std.specs.List.{slice_get}
 use Rattle.std.proofs.lemmas.Bool.{cases_lt}
 use Rattle.std.proofs.lemmas.List.{length_push}
 use Rattle.std.proofs.lemmas.Option.{same_Some}
-use Rattle.aa_faults.specs.declared.fault.PolicyFault.{PolicyFault}
-use Rattle.aa_faults.specs.Kinds.{no_memory}
-use Rattle.aa_profiles.specs.declared.policy.Profile.{Profile}
+use Rattle.aa_base.specs.declared.fault.PolicyFault.{PolicyFault}
+use Rattle.aa_base.specs.Kinds.{no_memory}
+use Rattle.aa_model.specs.declared.policy.Profile.{Profile}
 use Rattle.aa_auto.specs.Tables.{HasPlaces}
 use Rattle.aa_auto.specs.declared.build.BuildFault.{BuildFault}
 use Rattle.aa_auto.specs.declared.build.BuildFault.TheVariants.{NoMemory, TooManyStates}
-use Rattle.aa_rows.specs.declared.rows.RowsFault.{RowsFault}
-use Rattle.aa_rows.specs.declared.rows.RowsFault.TheVariants.{NoMemory as NoRowMemory, TooManyStates as TooManyRows, Conflict}
-use Rattle.aa_rows.specs.FileRules.{Conflicts}
-use Rattle.aa_said.specs.Patterns.{HasAutomaton}
-use Rattle.aa_rows.specs.Rows.{patterns_of}
+use Rattle.aa_compile.specs.declared.rows.RowsFault.{RowsFault}
+use Rattle.aa_compile.specs.declared.rows.RowsFault.TheVariants.{NoMemory as NoRowMemory, TooManyStates as TooManyRows, Conflict}
+use Rattle.aa_compile.specs.FileRules.{Conflicts}
+use Rattle.aa_compile.specs.Patterns.{HasAutomaton}
+use Rattle.aa_compile.specs.Rows.{patterns_of}
 use Rattle.aa_compile.specs.declared.tables.ProfileRows.{ProfileRows}
 use Rattle.aa_compile.specs.Checks.{rows_fault, states_fault, attached_patterns, children, Passes, PassBefore, Fails, ManyFiles, Conflicting, ManyChildren, IsRight, AreRight}
 

@@ -5,12 +5,12 @@ use Rattle.std.specs.Option.{option_map_or}
 use Rattle.std.proofs.lemmas.List.{length-map}
 use Rattle.std.proofs.lemmas.List.Concat.{length-flat_map}
 use Rattle.std.proofs.lemmas.List.Sums.{sum_by-cons}
-use Rattle.aa_patterns.specs.declared.pattern.Pattern.{Pattern}
-use Rattle.aa_profiles.specs.declared.rule.FileRule.{FileRule}
-use Rattle.aa_profiles.specs.declared.policy.Profile.{Profile}
-use Rattle.aa_profiles.specs.Lawful.{IsWithinLimits, attachments_with, has_parent}
-use Rattle.aa_rows.specs.Rows.{patterns_of}
-use Rattle.aa_attach.specs.Attached.{at_number, attachments_by, numbers_below}
+use Rattle.aa_pattern.specs.declared.pattern.Pattern.{Pattern}
+use Rattle.aa_model.specs.declared.rule.FileRule.{FileRule}
+use Rattle.aa_model.specs.declared.policy.Profile.{Profile}
+use Rattle.aa_model.specs.Lawful.{IsWithinLimits, attachments_with, has_parent}
+use Rattle.aa_compile.specs.Rows.{patterns_of}
+use Rattle.aa_compile.specs.Attached.{at_number, attachments_by, numbers_below}
 
 pub files_few : (profiles : List Profile) → IsWithinLimits profiles → (k : ℕ) (p : Profile) → k < length profiles → p ≡ get_or profiles k p → length (patterns_of p.files) ≤ 65535
 files_few profiles limits k p lt is =

@@ -4,9 +4,9 @@ use Rattle.std.proofs.lemmas.List.{append-nil, take_more, length-take-le, get_or
 use Rattle.std.proofs.lemmas.Bool.{cases_Bool, eq-eqb, eqb-true}
 use Rattle.std.specs.Bool.{nat_eq}
 use Rattle.std.specs.Option.{option_eq}
-use Rattle.aa_profiles.specs.declared.policy.Profile.{Profile}
-use Rattle.aa_profiles.specs.Lawful.{has_parent}
-use Rattle.aa_attach.specs.Attached.{numbers_below}
+use Rattle.aa_model.specs.declared.policy.Profile.{Profile}
+use Rattle.aa_model.specs.Lawful.{has_parent}
+use Rattle.aa_compile.specs.Attached.{numbers_below}
 use Rattle.aa_compile.specs.Groups.{is_below}
 
 below_push : (parent : Option ℕ) (k : ℕ) (xs : List Profile) (p : Profile) → numbers_below parent k (xs ++ p ∷ []) ≡ numbers_below parent k xs ++ cond (has_parent parent p) ((k + length xs) ∷ []) []

@@ -9,20 +9,20 @@ use Rattle.std.proofs.lemmas.List.Quantifiers.{position-Some}
 use Rattle.std.proofs.lemmas.Option.{slice_get-map, slice_get-get_or, same_Some, cond_some}
 use Rattle.std.proofs.lemmas.Bool.{ltb-true}
 use Rattle.std.proofs.lemmas.Slice.Eq.{bytes_eq-Decides}
-use Rattle.aa_profiles.specs.declared.rule.ExecKind.{ExecKind}
-use Rattle.aa_profiles.specs.declared.rule.ExecKind.TheVariants.{Inherit, Unconfined, Profile as Named, Child}
-use Rattle.aa_profiles.specs.declared.rule.Exec.{Exec}
-use Rattle.aa_profiles.specs.declared.rule.FileRule.{FileRule}
-use Rattle.aa_profiles.specs.declared.policy.Profile.{Profile}
-use Rattle.aa_profiles.specs.Lawful.{has_exec}
-use Rattle.aa_rows.specs.declared.mark.Way.{Way}
-use Rattle.aa_rows.specs.declared.side.Verdict.{Verdict}
-use Rattle.aa_said.specs.Patterns.{is_literal}
-use Rattle.aa_rows.specs.Ways.{names, way_by}
-use Rattle.aa_rows.specs.FileRules.{any_sort, chosen, is_nil, way_of, ways_by}
-use Rattle.aa_rows.specs.Rows.{IsVerdictOf}
-use Rattle.aa_rows.proofs.WayLemmas.{found, named}
-use Rattle.aa_rows.proofs.ConflictLemmas.{in_head, in_tail}
+use Rattle.aa_model.specs.declared.rule.ExecKind.{ExecKind}
+use Rattle.aa_model.specs.declared.rule.ExecKind.TheVariants.{Inherit, Unconfined, Profile as Named, Child}
+use Rattle.aa_model.specs.declared.rule.Exec.{Exec}
+use Rattle.aa_model.specs.declared.rule.FileRule.{FileRule}
+use Rattle.aa_model.specs.declared.policy.Profile.{Profile}
+use Rattle.aa_model.specs.Lawful.{has_exec}
+use Rattle.aa_compile.specs.declared.mark.Way.{Way}
+use Rattle.aa_compile.specs.declared.side.Verdict.{Verdict}
+use Rattle.aa_compile.specs.Patterns.{is_literal}
+use Rattle.aa_compile.specs.Ways.{names, way_by}
+use Rattle.aa_compile.specs.FileRules.{any_sort, chosen, is_nil, way_of, ways_by}
+use Rattle.aa_compile.specs.Rows.{IsVerdictOf}
+use Rattle.aa_compile.proofs.WayLemmas.{found, named}
+use Rattle.aa_compile.proofs.ConflictLemmas.{in_head, in_tail}
 use Rattle.aa_compile.specs.declared.targets.Targets.{Targets}
 use Rattle.aa_compile.specs.declared.transition.Transition.{Transition}
 use Rattle.aa_compile.specs.declared.transition.Transition.TheVariants.{Denied, Nowhere}

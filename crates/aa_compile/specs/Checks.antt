@@ -2,23 +2,23 @@
 -- Source: own.
 use Rattle.std.specs.Prelude.{◌≡◌, ℕ, ◌+◌, ◌<◌, List, [], ◌∷◌, map, length, Some}
 use Rattle.std.specs.List.{slice_get}
-use Rattle.aa_faults.specs.declared.fault.PolicyFault.{PolicyFault}
-use Rattle.aa_faults.specs.declared.fault.PolicyKind.{PolicyKind}
-use Rattle.aa_faults.specs.declared.fault.PolicyKind.TheVariants.{ConflictingExec, TooManyStates as ManyStates}
-use Rattle.aa_faults.specs.declared.fault.Spot.{Spot}
-use Rattle.aa_faults.specs.Kinds.{no_memory}
-use Rattle.aa_patterns.specs.declared.pattern.Pattern.{Pattern}
-use Rattle.aa_profiles.specs.declared.policy.Profile.{Profile}
+use Rattle.aa_base.specs.declared.fault.PolicyFault.{PolicyFault}
+use Rattle.aa_base.specs.declared.fault.PolicyKind.{PolicyKind}
+use Rattle.aa_base.specs.declared.fault.PolicyKind.TheVariants.{ConflictingExec, TooManyStates as ManyStates}
+use Rattle.aa_base.specs.declared.fault.Spot.{Spot}
+use Rattle.aa_base.specs.Kinds.{no_memory}
+use Rattle.aa_pattern.specs.declared.pattern.Pattern.{Pattern}
+use Rattle.aa_model.specs.declared.policy.Profile.{Profile}
 use Rattle.aa_auto.specs.Tables.{HasPlaces, IsAutomaton}
 use Rattle.aa_auto.specs.declared.build.BuildFault.{BuildFault}
 use Rattle.aa_auto.specs.declared.build.BuildFault.TheVariants.{NoMemory, TooManyStates}
-use Rattle.aa_rows.specs.declared.rows.RowsFault.{RowsFault}
-use Rattle.aa_rows.specs.declared.rows.RowsFault.TheVariants.{NoMemory as NoRowMemory, TooManyStates as TooManyRows, Conflict}
-use Rattle.aa_rows.specs.FileRules.{Conflicts}
-use Rattle.aa_rows.specs.Ways.{way_by}
-use Rattle.aa_rows.specs.Rows.{AreRowsOf, patterns_of}
-use Rattle.aa_said.specs.Patterns.{HasAutomaton}
-use Rattle.aa_attach.specs.Attached.{AnswerTable, Attaches, attachments_by, pattern_of}
+use Rattle.aa_compile.specs.declared.rows.RowsFault.{RowsFault}
+use Rattle.aa_compile.specs.declared.rows.RowsFault.TheVariants.{NoMemory as NoRowMemory, TooManyStates as TooManyRows, Conflict}
+use Rattle.aa_compile.specs.FileRules.{Conflicts}
+use Rattle.aa_compile.specs.Ways.{way_by}
+use Rattle.aa_compile.specs.Rows.{AreRowsOf, patterns_of}
+use Rattle.aa_compile.specs.Patterns.{HasAutomaton}
+use Rattle.aa_compile.specs.Attached.{AnswerTable, Attaches, attachments_by, pattern_of}
 use Rattle.aa_compile.specs.declared.tables.ProfileRows.{ProfileRows}
 pub use Rattle.aa_compile.specs.Transitions.{children, tops}
 use Rattle.aa_compile.specs.Transitions.{targets_by}

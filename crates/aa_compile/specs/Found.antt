@@ -2,11 +2,11 @@
 use Rattle.std.specs.Prelude.{ℕ, List, if◌then◌else◌, Option, Some, None, is_some}
 use Rattle.std.specs.Option.{option_map_or}
 use Rattle.std.specs.List.{slice_get}
-use Rattle.aa_profiles.specs.declared.rule.ExecKind.{ExecKind}
-use Rattle.aa_profiles.specs.declared.rule.ExecKind.TheVariants.{Inherit, Unconfined, Profile as Named, Child}
-use Rattle.aa_profiles.specs.declared.policy.Profile.{Profile}
-use Rattle.aa_rows.specs.declared.mark.Way.{Way}
-use Rattle.aa_attach.specs.Attached.{attached}
+use Rattle.aa_model.specs.declared.rule.ExecKind.{ExecKind}
+use Rattle.aa_model.specs.declared.rule.ExecKind.TheVariants.{Inherit, Unconfined, Profile as Named, Child}
+use Rattle.aa_model.specs.declared.policy.Profile.{Profile}
+use Rattle.aa_compile.specs.declared.mark.Way.{Way}
+use Rattle.aa_compile.specs.Attached.{attached}
 use Rattle.aa_compile.specs.declared.targets.Targets.{Targets}
 use Rattle.aa_compile.specs.Transitions.{children, tops, targets_by, no_targets}
 

@@ -1,8 +1,8 @@
 -- How many states the deterministic automaton of patterns has.
 -- Source: own.
 use Rattle.std.specs.Prelude.{◌≡◌, ℕ, ◌<◌, ◌↔◌, List}
-use Rattle.aa_patterns.specs.declared.pattern.Pattern.{Pattern}
-use Rattle.aa_patterns.specs.Places.{SamePlaces}
+use Rattle.aa_pattern.specs.declared.pattern.Pattern.{Pattern}
+use Rattle.aa_pattern.specs.Places.{SamePlaces}
 use Rattle.aa_auto.specs.Tables.{IsText}
 
 -- texts lead to n states: two texts to one state exactly where they may stand at the same places, and some text to each state

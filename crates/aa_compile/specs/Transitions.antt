@@ -4,17 +4,17 @@ use Rattle.std.specs.Prelude.{ℕ, List, [], ◌∷◌, ◌++◌, map, Bool, fal
 use Rattle.std.specs.Option.{option_map_or, option_and_then}
 use Rattle.std.specs.List.{slice_get}
 use Rattle.std.specs.Str.{bytes_eq}
-use Rattle.aa_profiles.specs.declared.rule.ExecKind.{ExecKind}
-use Rattle.aa_profiles.specs.declared.rule.ExecKind.TheVariants.{Inherit, Unconfined, Profile as Named, Child}
-use Rattle.aa_profiles.specs.declared.rule.Fallback.{Fallback}
-use Rattle.aa_profiles.specs.declared.rule.Fallback.TheVariants.{Refuse, Inherit as Stay, Unconfined as Leave}
-use Rattle.aa_profiles.specs.declared.rule.Exec.{Exec}
-use Rattle.aa_profiles.specs.declared.rule.FileRule.{FileRule}
-use Rattle.aa_profiles.specs.declared.policy.Policy.{Policy}
-use Rattle.aa_profiles.specs.declared.policy.Profile.{Profile}
-use Rattle.aa_profiles.specs.Lawful.{has_exec}
-use Rattle.aa_rows.specs.FileRules.{file_verdict, chosen, way_of}
-use Rattle.aa_attach.specs.Attached.{attached, numbers_below}
+use Rattle.aa_model.specs.declared.rule.ExecKind.{ExecKind}
+use Rattle.aa_model.specs.declared.rule.ExecKind.TheVariants.{Inherit, Unconfined, Profile as Named, Child}
+use Rattle.aa_model.specs.declared.rule.Fallback.{Fallback}
+use Rattle.aa_model.specs.declared.rule.Fallback.TheVariants.{Refuse, Inherit as Stay, Unconfined as Leave}
+use Rattle.aa_model.specs.declared.rule.Exec.{Exec}
+use Rattle.aa_model.specs.declared.rule.FileRule.{FileRule}
+use Rattle.aa_model.specs.declared.policy.Policy.{Policy}
+use Rattle.aa_model.specs.declared.policy.Profile.{Profile}
+use Rattle.aa_model.specs.Lawful.{has_exec}
+use Rattle.aa_compile.specs.FileRules.{file_verdict, chosen, way_of}
+use Rattle.aa_compile.specs.Attached.{attached, numbers_below}
 use Rattle.aa_compile.specs.declared.targets.Targets.{Targets}
 use Rattle.aa_compile.specs.declared.transition.Transition.{Transition}
 use Rattle.aa_compile.specs.declared.transition.Transition.TheVariants.{Denied, Nowhere, To}

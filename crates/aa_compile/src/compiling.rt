@@ -3,27 +3,28 @@
 ghost use Rattle.std.specs.Prelude.{◌≡◌, ◌≤◌, ◌<◌, ◌↔◌, ◌⊎◌, ℕ, Some, length, IfOk, IfErr};
 ghost use Rattle.std.specs.List.{slice_get};
 ghost use Rattle.std.specs.Option.{is_some};
-ghost use Rattle.aa_patterns.specs.Limits.{most_states};
-ghost use Rattle.aa_faults.specs.Kinds.{no_memory};
-ghost use Rattle.aa_profiles.specs.declared.policy.Profile.{Profile};
-ghost use Rattle.aa_profiles.specs.Lawful.{IsWithinLimits, ParentsComeFirst};
-ghost use Rattle.aa_attach.specs.Attached.{attached, Attaches};
-ghost use Rattle.aa_rows.specs.Rows.{IsVerdictOf, patterns_of};
-ghost use Rattle.aa_rows.specs.Ways.{way_by};
+ghost use Rattle.aa_pattern.specs.Limits.{most_states};
+ghost use Rattle.aa_base.specs.Kinds.{no_memory};
+ghost use Rattle.aa_model.specs.declared.policy.Profile.{Profile};
+ghost use Rattle.aa_model.specs.Lawful.{IsWithinLimits, ParentsComeFirst};
+ghost use Rattle.aa_compile.specs.Attached.{attached, Attaches};
+ghost use Rattle.aa_compile.specs.Rows.{IsVerdictOf, patterns_of};
+ghost use Rattle.aa_compile.specs.Ways.{way_by};
 ghost use Rattle.aa_compile.specs.Found.{found_in};
 ghost use Rattle.aa_compile.specs.Numbering.{IsNumbering};
 ghost use Rattle.aa_compile.specs.States.{HasStates};
 ghost use Rattle.aa_compile.specs.Transitions.{attached_below, named, transition};
 ghost use Rattle.aa_compile.specs.Checks.{tops, first_spot, IsRight, AreRight, IsRefused, IsAccepted};
 
+use crate::attach::AttachRows;
 use crate::groups::{groups_of, numbers_of_tops};
+use crate::mark::Way;
 use crate::numbering::number_profiles;
+use crate::side::Verdict;
 use crate::tables::{ProfileRows, fault_of_states, rows_of};
 use crate::transition::{Transition, lead};
-use aa_attach::AttachRows;
-use aa_faults::{PolicyFault, Spot};
-use aa_profiles::{ExecKind, Perms, Policy, Profile};
-use aa_rows::{Verdict, Way};
+use aa_base::{Perms, PolicyFault, Spot};
+use aa_model::{ExecKind, Policy, Profile};
 use bitflags::Flags;
 use std::alloc::Global;
 use std::collections::HashMap;
@@ -47,8 +48,8 @@ pub struct Compiled {
 }
 
 impl Model for Compiled {
-    ghost use Rattle.aa_profiles.specs.contracts.policy.Policy as contract;
-    ghost use Rattle.aa_profiles.specs.declared.policy.Policy.{Policy};
+    ghost use Rattle.aa_model.specs.contracts.policy.Policy as contract;
+    ghost use Rattle.aa_model.specs.declared.policy.Policy.{Policy};
     ghost use Rattle.aa_compile.specs.Found.{found_in};
     ghost use Rattle.aa_compile.specs.Transitions.{transition};
     ghost use Rattle.aa_compile.specs.Checks.{IsCompiled};

@@ -1,12 +1,12 @@
 //! The numbers of the top-level profiles, and of the children of each profile.
 
 ghost use Rattle.std.specs.Prelude.{◌≡◌, ◌++◌, ◌∷◌, [], ◌<◌, ◌≤◌, length, ℕ, Some, None, IfOk, OnOk, slice_set, slice_index_or};
-ghost use Rattle.aa_profiles.specs.declared.policy.Profile.{Profile};
-ghost use Rattle.aa_profiles.specs.Lawful.{has_parent};
-ghost use Rattle.aa_attach.specs.Attached.{numbers_below};
+ghost use Rattle.aa_model.specs.declared.policy.Profile.{Profile};
+ghost use Rattle.aa_model.specs.Lawful.{has_parent};
+ghost use Rattle.aa_compile.specs.Attached.{numbers_below};
 ghost use Rattle.aa_compile.specs.Groups.{lists, is_below};
 
-use aa_profiles::Profile;
+use aa_model::Profile;
 use std::alloc::{AllocError, Global};
 
 fn is_top(profile: &Profile) -> bool

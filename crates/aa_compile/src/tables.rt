@@ -1,24 +1,24 @@
 //! What deciding by the profiles of a policy needs.
 
 ghost use Rattle.std.specs.Prelude.{◌≡◌, ◌<◌, ◌≤◌, ◌⊎◌, ℕ, [], length, slice_index_or, IfOk, IfErr};
-ghost use Rattle.aa_faults.specs.Kinds.{no_memory};
-ghost use Rattle.aa_profiles.specs.Lawful.{IsWithinLimits};
-ghost use Rattle.aa_rows.specs.Rows.{patterns_of};
+ghost use Rattle.aa_base.specs.Kinds.{no_memory};
+ghost use Rattle.aa_model.specs.Lawful.{IsWithinLimits};
+ghost use Rattle.aa_compile.specs.Rows.{patterns_of};
 ghost use Rattle.std.specs.List.{slice_get};
 ghost use Rattle.std.specs.Option.{option_map_or};
-ghost use Rattle.aa_patterns.specs.Limits.{most_patterns, most_states};
+ghost use Rattle.aa_pattern.specs.Limits.{most_patterns, most_states};
 ghost use Rattle.aa_compile.specs.Groups.{lists};
 ghost use Rattle.aa_compile.specs.Transitions.{children, no_targets};
 ghost use Rattle.aa_compile.specs.Numbering.{IsNumbering};
 ghost use Rattle.aa_compile.specs.Checks.{rows_fault, states_fault, first_spot, IsRight, AreRight, Passes, PassBefore, Fails, Refuses};
 
+use crate::attach::AttachRows;
 use crate::groups::group_at;
+use crate::rows::{FileRows, RowsFault};
 use crate::targets::{Targets, all_targets};
-use aa_attach::AttachRows;
 use aa_auto::BuildFault;
-use aa_faults::{PolicyFault, PolicyKind, Spot};
-use aa_profiles::Profile;
-use aa_rows::{FileRows, RowsFault};
+use aa_base::{PolicyFault, PolicyKind, Spot};
+use aa_model::Profile;
 use std::alloc::Global;
 use std::collections::HashMap;
 

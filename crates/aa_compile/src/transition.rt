@@ -3,8 +3,8 @@
 ghost use Rattle.std.specs.Prelude.{◌≡◌};
 ghost use Rattle.aa_compile.specs.Transitions.{falls, goes, leads};
 
-use aa_profiles::{ExecKind, Fallback};
-use aa_rows::Way;
+use crate::mark::Way;
+use aa_model::{ExecKind, Fallback};
 
 /// What the rules make of an execution.
 #[derive(Clone, Copy, Debug, PartialEq, Eq)]

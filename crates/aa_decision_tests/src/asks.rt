@@ -1,7 +1,7 @@
 //! What tasks ask, and what is reported of it, as plain data. The helpers have no clauses, so that a test's proof stays short.
 
-use aa_requests::{Label, Note, NoteWord, Request, RequestFault};
-use aa_tables::{Cap, Family, Perms, SockType};
+use aa_base::{Cap, Family, Perms, SockType};
+use aa_model::{Label, Note, NoteWord, Request, RequestFault};
 use std::alloc::Global;
 use std::process::Abort;
 

@@ -1,8 +1,10 @@
 //! Policies that are read from their texts. The helpers have no clauses, so that a test's proof stays short.
 
+use aa_base::PolicyFault;
 use aa_compile::{Compiled, compile};
-use aa_policy::{Policy, parse};
-use aa_words::{PolicyFault, Sources, WordList, words};
+use aa_model::Policy;
+use aa_policy::parse;
+use aa_words::{Sources, WordList, words};
 use std::alloc::Global;
 use std::process::Abort;
 

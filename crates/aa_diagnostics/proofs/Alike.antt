@@ -3,19 +3,19 @@ use Rattle.std.proofs.Common.{◌≡◌, ℕ, zero, suc, ◌≤◌, Bool, List, 
 use Rattle.std.specs.Prelude.{IsTrue, ◌&&◌, slice_get}
 use Rattle.std.specs.List.{AllZip, list_all}
 use Rattle.std.proofs.lemmas.Option.{slice_get_read, slice_get_within, get_or_from_slice_get, same_Some}
-use Rattle.aa_items.specs.declared.item.Item.{Item, Choice', Row_of-Item, end_of-Item, more_of-Item, items-the_row-Item, Row_of-Item-Choice-0-1, end_of-Item-Choice-0-1, more_of-Item-Choice-0-1}
-use Rattle.aa_items.specs.Globs.{is_byte, branches_of, sequences}
-use Rattle.aa_items.specs.Sameness.{SameItem, SameBranches, SameBranch, SameItems}
-use Rattle.aa_items.proofs.Sameness.{same_items_match}
-use Rattle.aa_patterns.specs.declared.pattern.Pattern.{Pattern}
-use Rattle.aa_patterns.specs.Matching.{is_match}
-use Rattle.aa_patterns.specs.Places.{Position, IsHead, IsPlace}
-use Rattle.aa_patterns.specs.Places.Position.{Gap, Within}
-use Rattle.aa_patterns.proofs.Decided.{decided}
+use Rattle.aa_pattern.specs.declared.item.Item.{Item, Choice', Row_of-Item, end_of-Item, more_of-Item, items-the_row-Item, Row_of-Item-Choice-0-1, end_of-Item-Choice-0-1, more_of-Item-Choice-0-1}
+use Rattle.aa_pattern.specs.Globs.{is_byte, branches_of, sequences}
+use Rattle.aa_pattern.specs.Sameness.{SameItem, SameBranches, SameBranch, SameItems}
+use Rattle.aa_pattern.proofs.Sameness.{same_items_match}
+use Rattle.aa_pattern.specs.declared.pattern.Pattern.{Pattern}
+use Rattle.aa_pattern.specs.Matching.{is_match}
+use Rattle.aa_pattern.specs.Places.{Position, IsHead, IsPlace}
+use Rattle.aa_pattern.specs.Places.Position.{Gap, Within}
+use Rattle.aa_pattern.proofs.Decided.{decided}
 use Rattle.aa_auto.specs.Tables.{HasPlaces}
-use Rattle.aa_profiles.specs.declared.rule.FileRule.{FileRule}
-use Rattle.aa_rows.specs.FileRules.{Hit, IsConflict}
-use Rattle.aa_rows.specs.Rows.{patterns_of}
+use Rattle.aa_model.specs.declared.rule.FileRule.{FileRule}
+use Rattle.aa_compile.specs.FileRules.{Hit, IsConflict}
+use Rattle.aa_compile.specs.Rows.{patterns_of}
 use Rattle.aa_policy.specs.Sameness.{SameRule}
 
 -- ---- lists whose elements are alike in their places

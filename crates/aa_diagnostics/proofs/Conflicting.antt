@@ -3,25 +3,25 @@ use Rattle.std.proofs.Common.{◌≡◌, ◌⊎◌, inl, inr, ⊎_elim, ℕ, ◌
 use Rattle.std.specs.Prelude.{slice_get}
 use Rattle.std.specs.List.{AllZip}
 use Rattle.std.proofs.lemmas.Option.{same_Some}
-use Rattle.aa_faults.specs.declared.fault.Spot.{Spot}
-use Rattle.aa_faults.specs.declared.fault.PolicyFault.{PolicyFault}
-use Rattle.aa_faults.specs.declared.fault.PolicyKind.TheVariants.{ConflictingExec, TooManyStates}
-use Rattle.aa_profiles.specs.declared.policy.Policy.{Policy}
-use Rattle.aa_profiles.specs.declared.policy.Profile.{Profile}
-use Rattle.aa_rows.specs.Rows.{patterns_of}
-use Rattle.aa_rows.specs.FileRules.{Conflicts}
-use Rattle.aa_said.specs.Patterns.{HasAutomaton}
-use Rattle.aa_clashes.specs.Clashes.{executing}
-use Rattle.aa_clashes.proofs.Owning.{in_rules, places_of_some}
+use Rattle.aa_base.specs.declared.fault.Spot.{Spot}
+use Rattle.aa_base.specs.declared.fault.PolicyFault.{PolicyFault}
+use Rattle.aa_base.specs.declared.fault.PolicyKind.TheVariants.{ConflictingExec, TooManyStates}
+use Rattle.aa_model.specs.declared.policy.Policy.{Policy}
+use Rattle.aa_model.specs.declared.policy.Profile.{Profile}
+use Rattle.aa_compile.specs.Rows.{patterns_of}
+use Rattle.aa_compile.specs.FileRules.{Conflicts}
+use Rattle.aa_compile.specs.Patterns.{HasAutomaton}
+use Rattle.aa_explain.specs.Clashes.{executing}
+use Rattle.aa_explain.proofs.Owning.{in_rules, places_of_some}
 use Rattle.aa_auto.specs.Tables.{HasPlaces}
 use Rattle.aa_compile.specs.Checks.{fault_at, IsRefused, ManyTops, AtProfile, ManyFiles, Conflicting, ManyChildren}
 use Rattle.aa_words.specs.Splits.{WordData, Splits}
 use Rattle.aa_policy.specs.Sameness.{SameProfile, SamePolicy}
 use Rattle.aa_policy.specs.Spelling.{Spells}
 use Rattle.aa_policy.proofs.Spelled.{spells_once}
-use Rattle.aa_asks.specs.Places.{PlacesData, ArePlaces}
-use Rattle.aa_units.specs.declared.unit.Unit as unit
-use Rattle.aa_units.specs.Compiled.{texts_of}
+use Rattle.aa_explain.specs.Places.{PlacesData, ArePlaces}
+use Rattle.aa_files.specs.declared.unit.Unit as unit
+use Rattle.aa_load.specs.UnitPolicy.{texts_of}
 use Rattle.aa_diagnostics.specs.Conflicts.{HasNone, NoneHas, ShowsOne}
 use Rattle.aa_diagnostics.specs.Further.{ShowsConflictAt, ShowsIfConflict}
 use Rattle.aa_diagnostics.proofs.Few.{few_places}

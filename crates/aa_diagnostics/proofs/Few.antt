@@ -3,9 +3,9 @@ use Rattle.std.proofs.Common.{◌≡◌, ◌⊎◌, inl, inr, ℕ, zero, suc, �
 use Rattle.std.specs.Prelude.{slice_index_or}
 use Rattle.std.proofs.lemmas.Bool.{cases_lt}
 use Rattle.std.proofs.lemmas.List.Elements.{All-get_or}
-use Rattle.aa_patterns.specs.declared.pattern.Pattern.{Pattern}
+use Rattle.aa_pattern.specs.declared.pattern.Pattern.{Pattern}
 use Rattle.aa_auto.specs.Tables.{IsText, HasPlaces, rows_of, place_of}
-use Rattle.aa_said.specs.Patterns.{HasAutomaton}
+use Rattle.aa_compile.specs.Patterns.{HasAutomaton}
 
 -- a number of those that are left where one is taken out
 abbrev without : (v x : ℕ) → (v < x) ⊎ (x ≤ v) → ℕ

@@ -1,3 +1,7 @@
+mod Naming
+mod Fronts
+mod SetTwice
+mod NamedTwice
 mod Shown
 mod OfUnit
 mod Few

@@ -3,24 +3,24 @@ use Rattle.std.proofs.Common.{◌≡◌, ◌⊎◌, inl, inr, ℕ, zero, suc, ar
 use Rattle.std.specs.Prelude.{◌==◌, Result, IfOk, Vec}
 use Rattle.std.specs.declared.alloc.Global.{Global}
 use Rattle.std.specs.declared.alloc.AllocError.{AllocError}
-use Rattle.aa_trees.specs.Texts.{texts}
-use Rattle.aa_faults.specs.declared.fault.Spot.{Spot}
-use Rattle.aa_faults.specs.declared.fault.PolicyFault.{PolicyFault}
-use Rattle.aa_faults.specs.declared.fault.PolicyKind.{PolicyKind}
-use Rattle.aa_faults.specs.declared.fault.PolicyKind.TheVariants.{NoMemory, VariableTwice, DuplicateProfile, ConflictingExec, IncludeDepth, TooLarge}
-use Rattle.aa_faults.specs.Kinds.{at_start, IsRefusal}
+use Rattle.aa_files.specs.Texts.{texts}
+use Rattle.aa_base.specs.declared.fault.Spot.{Spot}
+use Rattle.aa_base.specs.declared.fault.PolicyFault.{PolicyFault}
+use Rattle.aa_base.specs.declared.fault.PolicyKind.{PolicyKind}
+use Rattle.aa_base.specs.declared.fault.PolicyKind.TheVariants.{NoMemory, VariableTwice, DuplicateProfile, ConflictingExec, IncludeDepth, TooLarge}
+use Rattle.aa_base.specs.Kinds.{at_start, IsRefusal}
 use Rattle.aa_words.specs.declared.word.Word.{Word}
 use Rattle.aa_words.specs.Splits.{WordData, words_data, Splits, Opening, fits, opened, opens, fault_of_kind, main_reading, main_count}
 use Rattle.aa_words.specs.Stops.{IncludeFails, Fails, IsFaultOf}
-use Rattle.aa_profiles.specs.declared.policy.Policy.{Policy}
-use Rattle.aa_profiles.specs.declared.policy.Profile.{Profile}
+use Rattle.aa_model.specs.declared.policy.Policy.{Policy}
+use Rattle.aa_model.specs.declared.policy.Profile.{Profile}
 use Rattle.aa_compile.specs.Checks.{IsRefused, ManyTops, AtProfile, Fails as Refutes, ManyFiles, Conflicting, ManyChildren}
 use Rattle.std.proofs.lemmas.List.{append-nil}
 use Rattle.aa_policies.specs.Policies.{Source, CanFollow, IsRefusedBehind, IsFaultOfSources, end_of, IsFaultOfWords, OfText, OfWords, OfPolicy}
-use Rattle.aa_units.specs.declared.unit.Unit as unit
-use Rattle.aa_units.specs.Compiled.{texts_of, IsFaultOfUnit, OfSources, OfText as OfUnitText}
+use Rattle.aa_files.specs.declared.unit.Unit as unit
+use Rattle.aa_load.specs.UnitPolicy.{texts_of, IsFaultOfUnit, OfSources, OfText as OfUnitText}
 use Rattle.aa_glob.specs.Variables.{Variable}
-use Rattle.aa_heads.specs.Preamble.{IsTwice}
+use Rattle.aa_policy.specs.Preamble.{IsTwice}
 use Rattle.aa_policy.specs.Bodies.{ProfileData, IsPolicy}
 use Rattle.aa_policy.specs.Spelling.{Spells, IsDuplicate}
 use Rattle.aa_diagnostics.specs.Further.{HasWords, ShowsConflictAt, ShowsIfConflict, SpellsNothing, ShowsSetTwice, ShowsNamedTwice}

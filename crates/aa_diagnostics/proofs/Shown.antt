@@ -1,8 +1,8 @@
 -- Lines that name rules.
 use Rattle.std.proofs.Common.{◌≡◌, ℕ, List, [], ◌∷◌, Option, Some, None, MatchOption, refl, sym, subst}
 use Rattle.std.specs.Prelude.{slice_get}
-use Rattle.aa_faults.specs.declared.fault.Spot.{Spot}
-use Rattle.aa_units.specs.declared.unit.Unit as unit
+use Rattle.aa_base.specs.declared.fault.Spot.{Spot}
+use Rattle.aa_files.specs.declared.unit.Unit as unit
 use Rattle.aa_diagnostics.specs.Conflicts.{IsRuleLine, AreRuleLines}
 
 module _ (u : unit.Unit) (places : List Spot) (number : ℕ) where

@@ -1,18 +1,18 @@
 -- The lines that name the two rules of a conflict.
 -- Source: own.
 use Rattle.std.specs.Prelude.{◌≡◌, ◌⊎◌, ℕ, ◌<◌, List, [], ◌∷◌, ◌++◌, codes, Option, Some, None, MatchOption, slice_get}
-use Rattle.aa_faults.specs.declared.fault.Spot.{Spot}
-use Rattle.aa_profiles.specs.declared.policy.Profile.{Profile}
+use Rattle.aa_base.specs.declared.fault.Spot.{Spot}
+use Rattle.aa_model.specs.declared.policy.Profile.{Profile}
 use Rattle.aa_auto.specs.Tables.{HasPlaces}
-use Rattle.aa_rows.specs.FileRules.{Conflicts}
-use Rattle.aa_clashes.specs.Clashes.{Conflict, executing}
-use Rattle.aa_asks.specs.Places.{PlacesData}
-use Rattle.aa_audit.specs.Values.{value}
-use Rattle.aa_places.specs.Places.{place_in}
-use Rattle.aa_places.specs.RuleTexts.{IsRuleText}
-use Rattle.aa_texts.specs.Texts.{line_and_column}
-use Rattle.aa_units.specs.declared.unit.Unit as unit
-use Rattle.aa_units.specs.Numbers.{path_in, text_in}
+use Rattle.aa_compile.specs.FileRules.{Conflicts}
+use Rattle.aa_explain.specs.Clashes.{Conflict, executing}
+use Rattle.aa_explain.specs.Places.{PlacesData}
+use Rattle.aa_base.specs.Values.{value}
+use Rattle.aa_text.specs.Places.{place_in}
+use Rattle.aa_text.specs.RuleTexts.{IsRuleText}
+use Rattle.aa_text.specs.Texts.{line_and_column}
+use Rattle.aa_files.specs.declared.unit.Unit as unit
+use Rattle.aa_files.specs.Numbers.{path_in, text_in}
 
 -- a file's path, a place in it, and the rule that begins there
 abbrev pub IsRuleLine : unit.Unit → Spot → List ℕ → Type 0

@@ -1,25 +1,25 @@
 -- What else helps: the lines behind a fault.
 -- Source: apparmor.d(5), "Variables"; own.
 use Rattle.std.specs.Prelude.{ℕ, ◌+◌, ◌==◌, ◌≡◌, ◌⊎◌, List, [], ◌∷◌, ◌++◌, map, flat_map, codes, Option, option_to_list, if◌then◌else◌}
-use Rattle.aa_faults.specs.declared.fault.Spot.{Spot}
-use Rattle.aa_faults.specs.declared.fault.PolicyKind.{PolicyKind}
-use Rattle.aa_faults.specs.declared.fault.PolicyKind.TheVariants.{MissingInclude, VariableTwice, DuplicateProfile, ConflictingExec}
-use Rattle.aa_profiles.specs.declared.policy.Policy.{Policy}
+use Rattle.aa_base.specs.declared.fault.Spot.{Spot}
+use Rattle.aa_base.specs.declared.fault.PolicyKind.{PolicyKind}
+use Rattle.aa_base.specs.declared.fault.PolicyKind.TheVariants.{MissingInclude, VariableTwice, DuplicateProfile, ConflictingExec}
+use Rattle.aa_model.specs.declared.policy.Policy.{Policy}
 use Rattle.aa_words.specs.Splits.{WordData, Splits}
 use Rattle.aa_words.specs.Found.{IncludeData, HasIncludes}
 use Rattle.aa_glob.specs.Variables.{Variable}
 use Rattle.aa_policy.specs.Bodies.{ProfileData, IsPolicy}
 use Rattle.aa_policy.specs.Spelling.{Spells}
 use Rattle.aa_policies.specs.Policies.{CanFollow}
-use Rattle.aa_asks.specs.Places.{PlacesData, ArePlaces}
-use Rattle.aa_places.specs.Places.{place_in}
-use Rattle.aa_texts.specs.Texts.{line_and_column}
-use Rattle.aa_units.specs.declared.unit.Unit as unit
-use Rattle.aa_units.specs.Numbers.{path_in, text_in}
-use Rattle.aa_units.specs.Compiled.{limit_of, texts_of}
-use Rattle.aa_units.specs.Walks.{asked_by}
-use Rattle.aa_repeats.specs.Named.{named_of}
-use Rattle.aa_repeats.specs.Earlier.{set_again, named_again, IsSetFirst, IsNamedFirst}
+use Rattle.aa_explain.specs.Places.{PlacesData, ArePlaces}
+use Rattle.aa_text.specs.Places.{place_in}
+use Rattle.aa_text.specs.Texts.{line_and_column}
+use Rattle.aa_files.specs.declared.unit.Unit as unit
+use Rattle.aa_files.specs.Numbers.{path_in, text_in}
+use Rattle.aa_load.specs.UnitPolicy.{limit_of, texts_of}
+use Rattle.aa_files.specs.Walks.{asked_by}
+use Rattle.aa_diagnostics.specs.Named.{named_of}
+use Rattle.aa_diagnostics.specs.Earlier.{set_again, named_again, IsSetFirst, IsNamedFirst}
 use Rattle.aa_diagnostics.specs.Conflicts.{NoneHas, ShowsOne}
 
 -- what stands before it, a file's path, and a place in it

@@ -1,3 +1,5 @@
+pub mod Named
+pub mod Earlier
 pub mod Words
 pub mod Sentences
 pub mod Conflicts

@@ -1,19 +1,19 @@
 -- What is said of a fault.
 -- Source: own.
 use Rattle.std.specs.Prelude.{ℕ, ◌==◌, ◌≡◌, ◌&&◌, List, [], codes, Bool, true, false, not, None}
-use Rattle.aa_faults.specs.declared.fault.PolicyFault.{PolicyFault}
-use Rattle.aa_faults.specs.declared.fault.PolicyKind.{PolicyKind}
-use Rattle.aa_faults.specs.declared.fault.PolicyKind.TheVariants.{TooLarge}
-use Rattle.aa_faults.specs.Kinds.{kind_name}
-use Rattle.aa_trees.specs.Texts.{texts}
-use Rattle.aa_texts.specs.declared.fault.FaultReport.{FaultReport}
-use Rattle.aa_units.specs.declared.tree.Unread.{Unread}
-use Rattle.aa_units.specs.declared.tree.Unread.TheVariants as unread
-use Rattle.aa_units.specs.declared.unit.Unit as unit
-use Rattle.aa_units.specs.Numbers.{path_in, text_in}
-use Rattle.aa_units.specs.Compiled.{limit_of, IsFaultOfUnit}
-use Rattle.aa_units.specs.Nodes.{is_folder_in, node_in}
-use Rattle.aa_units.specs.Links.{place_if, excerpt_if, AreLinks}
+use Rattle.aa_base.specs.declared.fault.PolicyFault.{PolicyFault}
+use Rattle.aa_base.specs.declared.fault.PolicyKind.{PolicyKind}
+use Rattle.aa_base.specs.declared.fault.PolicyKind.TheVariants.{TooLarge}
+use Rattle.aa_base.specs.Kinds.{kind_name}
+use Rattle.aa_files.specs.Texts.{texts}
+use Rattle.aa_text.specs.declared.fault.FaultReport.{FaultReport}
+use Rattle.aa_base.specs.declared.unread.Unread.{Unread}
+use Rattle.aa_base.specs.declared.unread.Unread.TheVariants as unread
+use Rattle.aa_files.specs.declared.unit.Unit as unit
+use Rattle.aa_files.specs.Numbers.{path_in, text_in}
+use Rattle.aa_load.specs.UnitPolicy.{limit_of, IsFaultOfUnit}
+use Rattle.aa_files.specs.Nodes.{is_folder_in, node_in}
+use Rattle.aa_files.specs.Links.{place_if, excerpt_if, AreLinks}
 use Rattle.aa_diagnostics.specs.Sentences.{message}
 use Rattle.aa_diagnostics.specs.Further.{IsFurther, ShowsEarlier}
 
@@ -70,3 +70,9 @@ unread_message unread.NotAllowed = codes "it can't be read (not allowed)"
 unread_message unread.NotAFile = codes "it can't be read (not a file)"
 unread_message unread.Failed = codes "it can't be read (failed)"
 unread_message unread.TooLarge = codes "a limit on bytes, names or counts is passed"
+
+-- what is said of a unit that can't be read, and whether that is why
+abbrev pub IsSaid : UnitFault → FaultReport → Bool → Type 0
+IsSaid NoMemory fault unread = ⊥
+IsSaid (At path why) fault unread = IsOfWhole (unread_kind why) path.items (unread_message why) fault × (unread ≡ true)
+IsSaid (Ambiguous ambiguous) fault unread = (fault ≡ ambiguous) × (unread ≡ false)

@@ -1,8 +1,8 @@
 -- What is said of a kind of fault.
 -- Source: own.
 use Rattle.std.specs.Prelude.{ℕ, length, nat_le, nat_lt, ◌++◌, List, [], codes, decimal, Option, Some, None, if◌then◌else◌}
-use Rattle.aa_faults.specs.declared.fault.PolicyKind.{PolicyKind}
-use Rattle.aa_faults.specs.declared.fault.PolicyKind.TheVariants.{NoMemory, MissingInclude, IncludeDepth, Syntax, Unsupported, UnknownWord, BadMode, WriteWithAppend, BadPattern, UndefinedVariable, VariableTwice, VariableCircle, TooManyExpansions, RelativePath, DuplicateProfile, ConflictingExec, TooManyStates, TooLarge}
+use Rattle.aa_base.specs.declared.fault.PolicyKind.{PolicyKind}
+use Rattle.aa_base.specs.declared.fault.PolicyKind.TheVariants.{NoMemory, MissingInclude, IncludeDepth, Syntax, Unsupported, UnknownWord, BadMode, WriteWithAppend, BadPattern, UndefinedVariable, VariableTwice, VariableCircle, TooManyExpansions, RelativePath, DuplicateProfile, ConflictingExec, TooManyStates, TooLarge}
 use Rattle.aa_diagnostics.specs.Words.{word_in, left_out}
 
 -- a part behind a colon, if there is one

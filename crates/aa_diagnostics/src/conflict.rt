@@ -1,31 +1,30 @@
 //! The two rules of a conflict, and a path that both match.
 
 ghost use Rattle.std.specs.Prelude.{◌≡◌, ◌⊎◌, ◌↔◌, ℕ, ◌+◌, ◌<◌, ◌≤◌, ◌++◌, ◌∷◌, [], List, map, IfOk, IfSome, IfNone, OnOk, IsTrue, true, false};
-ghost use Rattle.aa_patterns.specs.Limits.{most_patterns, most_states};
-ghost use Rattle.aa_faults.specs.Kinds.{IsRefusal};
-ghost use Rattle.aa_profiles.specs.Lawful.{file_patterns, IsWithinCounts};
-ghost use Rattle.aa_clashes.specs.Clashes.{Conflict};
-ghost use Rattle.aa_trees.specs.Texts.{texts};
-ghost use Rattle.aa_asks.specs.Places.{places_data};
-ghost use Rattle.aa_units.specs.Compiled.{limit_of, texts_of};
-ghost use Rattle.aa_faults.specs.declared.fault.PolicyKind.TheVariants.{ConflictingExec};
-ghost use Rattle.aa_profiles.specs.declared.policy.Policy.{Policy};
+ghost use Rattle.aa_pattern.specs.Limits.{most_patterns, most_states};
+ghost use Rattle.aa_base.specs.Kinds.{IsRefusal};
+ghost use Rattle.aa_model.specs.Lawful.{file_patterns, IsWithinCounts};
+ghost use Rattle.aa_explain.specs.Clashes.{Conflict};
+ghost use Rattle.aa_files.specs.Texts.{texts};
+ghost use Rattle.aa_explain.specs.Places.{places_data};
+ghost use Rattle.aa_load.specs.UnitPolicy.{limit_of, texts_of};
+ghost use Rattle.aa_base.specs.declared.fault.PolicyKind.TheVariants.{ConflictingExec};
+ghost use Rattle.aa_model.specs.declared.policy.Policy.{Policy};
 ghost use Rattle.aa_words.specs.Splits.{WordData, Splits, words_data};
 ghost use Rattle.aa_policy.specs.Spelling.{Spells};
 ghost use Rattle.aa_compile.specs.Checks.{fault_at, IsRefused};
 ghost use Rattle.aa_diagnostics.specs.Further.{HasWords, ShowsConflictAt, ShowsIfConflict, SpellsNothing};
 ghost use Rattle.aa_diagnostics.specs.Conflicts.{IsRuleLine, AreRuleLines, both_match, files_at, ShowsRules, ShowsConflict, ShowsOne, HasNone, NoneHas};
 
-use aa_asks::{ProfilePlaces, rule_places};
 use aa_auto::BuildFault;
-use aa_clashes::{Clash, clash_of};
-use aa_output::push_name;
-use aa_places::rule_text;
+use aa_base::{PolicyFault, Spot};
+use aa_explain::{Clash, ProfilePlaces, clash_of, rule_places};
+use aa_files::{Unit, text_at};
+use aa_load::sources_of;
+use aa_model::Profile;
 use aa_policy::parse;
-use aa_profiles::Profile;
-use aa_texts::{push_place, push_text};
-use aa_units::{Unit, sources_of, text_at};
-use aa_words::{PolicyFault, Spot, WordList, words};
+use aa_text::{push_name, push_place, push_text, rule_text};
+use aa_words::{WordList, words};
 use std::alloc::{AllocError, Global};
 
 /// Where a rule stands, and its text.

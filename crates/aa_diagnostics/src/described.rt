@@ -1,17 +1,17 @@
 //! What is said of a fault.
 
 ghost use Rattle.std.specs.Prelude.{◌≡◌, ◌==◌, ◌&&◌, ◌++◌, [], ◌∷◌, codes, IfOk};
-ghost use Rattle.aa_faults.specs.Kinds.{kind_name};
-ghost use Rattle.aa_trees.specs.Texts.{texts, slices};
+ghost use Rattle.aa_base.specs.Kinds.{kind_name};
+ghost use Rattle.aa_files.specs.Texts.{texts, slices};
 ghost use Rattle.aa_diagnostics.specs.Further.{spot_line};
 ghost use Rattle.aa_diagnostics.specs.Sentences.{message};
 ghost use Rattle.aa_diagnostics.specs.Reports.{is_too_large, is_of_whole, has_place, IsReport, IsDescribed, IsOfWhole, unread_kind, unread_message};
 
 use crate::further::{further_of, spot_lines};
 use crate::sentence::message_of;
-use aa_texts::{FaultReport, push_text};
-use aa_units::{Unit, Unread, excerpt_if, is_folder_at, links_to, node_of, place_if, text_at};
-use aa_words::{PolicyFault, PolicyKind, Spot};
+use aa_base::{PolicyFault, PolicyKind, Spot, Unread};
+use aa_files::{Unit, excerpt_if, is_folder_at, links_to, node_of, place_if, text_at};
+use aa_text::{FaultReport, push_text};
 use std::alloc::{AllocError, Global};
 
 fn is_too_large(kind: PolicyKind) -> bool

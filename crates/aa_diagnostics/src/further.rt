@@ -1,24 +1,27 @@
 //! What else helps: where includes were looked for, and where the earlier one stands, of two that can't be there both.
 
 ghost use Rattle.std.specs.Prelude.{◌≡◌, ◌⊎◌, ◌↔◌, ◌++◌, ◌∷◌, [], List, map, codes, option_to_list, IsTrue, OnOk, IfOk};
-ghost use Rattle.aa_faults.specs.Kinds.{IsRefusal};
+ghost use Rattle.aa_base.specs.Kinds.{IsRefusal};
 ghost use Rattle.aa_glob.specs.Variables.{Variable};
-ghost use Rattle.aa_trees.specs.Texts.{texts, slices};
+ghost use Rattle.aa_files.specs.Texts.{texts, slices};
 ghost use Rattle.aa_words.specs.Splits.{WordData, words_data};
 ghost use Rattle.aa_words.specs.FoundData.{include_data};
-ghost use Rattle.aa_heads.specs.Preamble.{IsTwice};
+ghost use Rattle.aa_policy.specs.Preamble.{IsTwice};
 ghost use Rattle.aa_policy.specs.Bodies.{ProfileData, IsPolicy};
 ghost use Rattle.aa_policy.specs.Spelling.{IsDuplicate};
-ghost use Rattle.aa_repeats.specs.Named.{named_of};
-ghost use Rattle.aa_repeats.specs.Earlier.{set_again, named_again, IsSetFirst, IsNamedFirst};
-ghost use Rattle.aa_units.specs.Compiled.{limit_of, IsFaultOfUnit};
+ghost use Rattle.aa_diagnostics.specs.Named.{named_of};
+ghost use Rattle.aa_diagnostics.specs.Earlier.{set_again, named_again, IsSetFirst, IsNamedFirst};
+ghost use Rattle.aa_load.specs.UnitPolicy.{limit_of, IsFaultOfUnit};
 ghost use Rattle.aa_diagnostics.specs.Further.{spot_line, spot_lines, tried, tried_at, AreTried, ShowsFirstSet, ShowsFirstNamed, IsFurther, HasWords, ShowsSetTwice, ShowsNamedTwice, ShowsEarlier};
 
 use crate::conflict::conflict_lines;
-use aa_repeats::{earlier_profile, earlier_variable};
-use aa_texts::{push_place, push_text};
-use aa_units::{Unit, paths_of, sources_of, text_at};
-use aa_words::{IncludeAt, PolicyFault, PolicyKind, Spot, WordList, includes_of, words};
+use crate::profiles::earlier_profile;
+use crate::variables::earlier_variable;
+use aa_base::{PolicyFault, PolicyKind, Spot};
+use aa_files::{Unit, paths_of, text_at};
+use aa_load::sources_of;
+use aa_text::{push_place, push_text};
+use aa_words::{IncludeAt, WordList, includes_of, words};
 use std::alloc::{AllocError, Global};
 
 /// What stands before it, a file's path, and a place in it.

@@ -5,6 +5,13 @@ mod conflict;
 mod described;
 mod further;
 mod left_out;
+mod names;
+mod profiles;
 mod sentence;
+mod unit_faults;
+mod variables;
 
 pub use described::{describe, describe_repeated, describe_together, unreadable};
+pub use profiles::earlier_profile;
+pub use unit_faults::fault_of_unit;
+pub use variables::earlier_variable;

@@ -5,8 +5,8 @@ ghost use Rattle.aa_diagnostics.specs.Words.{left_out};
 ghost use Rattle.aa_diagnostics.specs.Sentences.{behind_colon, too_many_states, unsupported, message};
 
 use crate::left_out::part_at;
-use aa_texts::{push_number, push_text};
-use aa_words::PolicyKind;
+use aa_base::PolicyKind;
+use aa_text::{push_number, push_text};
 use std::alloc::{AllocError, Global};
 
 #[tactic(auto, unfolding(crate::specs::Sentences::too_many_states))]

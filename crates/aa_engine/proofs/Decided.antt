@@ -3,16 +3,16 @@ use Rattle.std.proofs.Common.{◌≡◌, ℕ, List, [], ◌∷◌, Option, Some,
 use Rattle.std.specs.List.{AllZip}
 use Rattle.aa_words.specs.Splits.{WordData}
 use Rattle.aa_words.proofs.Once.{reads_once}
-use Rattle.aa_profiles.specs.declared.policy.Policy.{Policy}
+use Rattle.aa_model.specs.declared.policy.Policy.{Policy}
 use Rattle.aa_policy.specs.Spelling.{Spells}
 use Rattle.aa_policy.specs.Sameness.{SamePolicy}
 use Rattle.aa_policy.proofs.Spelled.{spells_once}
 use Rattle.aa_jobs.specs.declared.job.Job.{Job}
 use Rattle.aa_policies.specs.Policies.{Source, IsPolicyOf, ArePoliciesOf, sources_of}
-use Rattle.aa_sameness.proofs.Texts.{run_alike, check_alike}
-use Rattle.aa_sameness.proofs.Replays.{replay_alike}
-use Rattle.aa_answers.specs.Output.{run_text, check_text}
-use Rattle.aa_answers.specs.Replay.{replay_text}
+use Rattle.aa_engine.proofs.Texts.{run_alike, check_alike}
+use Rattle.aa_engine.proofs.Replays.{replay_alike}
+use Rattle.aa_engine.specs.Output.{run_text, check_text}
+use Rattle.aa_engine.specs.Replay.{replay_text}
 use Rattle.aa_engine.specs.Engines.{IsOutput, IsCheckOutput, IsRunOutput, IsReplayOutput, IsDecided}
 
 -- a text is that of one policy, but for where its patterns lie

@@ -4,19 +4,19 @@ use Rattle.std.specs.Prelude.{nat_le, false, ◌≢◌, IfSome, IfErr, OnOk, OnE
 use Rattle.std.specs.Io.KnownBytes.{Appends}
 use Rattle.std.proofs.lemmas.Bool.{cases_lt, lt-leb}
 use Rattle.std.proofs.lemmas.List.{take_all, length-take}
-use Rattle.aa_faults.specs.declared.fault.PolicyKind.{PolicyKind}
-use Rattle.aa_faults.specs.declared.fault.PolicyKind.TheVariants as kinds
+use Rattle.aa_base.specs.declared.fault.PolicyKind.{PolicyKind}
+use Rattle.aa_base.specs.declared.fault.PolicyKind.TheVariants as kinds
 use Rattle.aa_policies.specs.declared.refused.RefusedPolicy.{RefusedPolicy}
 use Rattle.aa_policies.specs.Policies.{sources_of, IsRefusedBy}
 use Rattle.aa_jobs.specs.declared.job_fault.JobFault.TheVariants.{TooLarge}
 use Rattle.aa_engine.specs.declared.fault.RunFault.{RunFault}
 use Rattle.aa_engine.specs.declared.fault.RunFault.TheVariants as causes
-use Rattle.aa_answers.specs.declared.tasks.MediateFault.{MediateFault}
-use Rattle.aa_answers.specs.declared.tasks.MediateFault.TheVariants as mediates
-use Rattle.aa_answers.specs.Answers.{first_unknown}
+use Rattle.aa_engine.specs.declared.tasks.MediateFault.{MediateFault}
+use Rattle.aa_engine.specs.declared.tasks.MediateFault.TheVariants as mediates
+use Rattle.aa_engine.specs.Answers.{first_unknown}
 use Rattle.aa_engine.specs.Faults.{IsReadCause, mediate_cause, cause_by_kind, policy_cause}
 use Rattle.aa_jobs.specs.Jobs.{job_of}
-use Rattle.aa_profiles.specs.declared.policy.Policy.{Policy}
+use Rattle.aa_model.specs.declared.policy.Policy.{Policy}
 use Rattle.aa_jobs.specs.declared.job.Job.{Job}
 use Rattle.aa_engine.specs.Engines.{HandsIn, IsOutput, HasBadPolicy, Explains, IsInput, IsExplained}
 

@@ -1,17 +1,17 @@
 -- What the engines write for a job's bytes, and why they don't.
 -- Source: own.
 use Rattle.std.specs.Prelude.{ℕ, ◌≡◌, ◌≢◌, List, Option, Some, Ok, Err, IfSome}
-use Rattle.aa_profiles.specs.declared.policy.Policy.{Policy}
+use Rattle.aa_model.specs.declared.policy.Policy.{Policy}
 use Rattle.aa_jobs.specs.declared.job.Job.{Job}
 use Rattle.aa_engine.specs.declared.fault.RunFault.{RunFault}
 use Rattle.aa_engine.specs.declared.fault.RunFault.TheVariants as causes
-use Rattle.aa_faults.specs.declared.fault.PolicyKind.TheVariants.{NoMemory}
+use Rattle.aa_base.specs.declared.fault.PolicyKind.TheVariants.{NoMemory}
 use Rattle.aa_policies.specs.declared.refused.RefusedPolicy.{RefusedPolicy}
 use Rattle.aa_policies.specs.Policies.{sources_of, ArePoliciesOf, IsRefusedBy}
 use Rattle.aa_jobs.specs.Jobs.{job_of}
-use Rattle.aa_answers.specs.Answers.{first_unknown}
-use Rattle.aa_answers.specs.Output.{run_text, check_text}
-use Rattle.aa_answers.specs.Replay.{replay_text}
+use Rattle.aa_engine.specs.Answers.{first_unknown}
+use Rattle.aa_engine.specs.Output.{run_text, check_text}
+use Rattle.aa_engine.specs.Replay.{replay_text}
 
 -- the bytes hand in this job, and its texts these policies, each of which compiles
 pub record HandsIn (input : List ℕ) (job : Job) (policies : List Policy) : Type 0 where

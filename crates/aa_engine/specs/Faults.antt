@@ -1,13 +1,13 @@
 -- Why an engine gives up, and with which exit status.
 -- Source: own.
 use Rattle.std.specs.Prelude.{ℕ}
-use Rattle.aa_faults.specs.declared.fault.PolicyKind.{PolicyKind}
-use Rattle.aa_faults.specs.declared.fault.PolicyKind.TheVariants as kinds
+use Rattle.aa_base.specs.declared.fault.PolicyKind.{PolicyKind}
+use Rattle.aa_base.specs.declared.fault.PolicyKind.TheVariants as kinds
 use Rattle.aa_policies.specs.declared.refused.RefusedPolicy.{RefusedPolicy}
 use Rattle.aa_jobs.specs.declared.job_fault.JobFault.{JobFault}
 use Rattle.aa_jobs.specs.declared.job_fault.JobFault.TheVariants as faults
-use Rattle.aa_answers.specs.declared.tasks.MediateFault.{MediateFault}
-use Rattle.aa_answers.specs.declared.tasks.MediateFault.TheVariants as mediates
+use Rattle.aa_engine.specs.declared.tasks.MediateFault.{MediateFault}
+use Rattle.aa_engine.specs.declared.tasks.MediateFault.TheVariants as mediates
 use Rattle.aa_engine.specs.declared.fault.RunFault.{RunFault}
 use Rattle.aa_engine.specs.declared.fault.RunFault.TheVariants as causes
 

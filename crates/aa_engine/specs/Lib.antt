@@ -1,6 +1,7 @@
-pub use Rattle.aa_answers.specs.Answers
-pub use Rattle.aa_answers.specs.Output
-pub use Rattle.aa_answers.specs.Replay
 pub use Rattle.aa_policies.specs.Policies
+pub mod Answers
+pub mod Output
+pub mod Replay
+pub mod Texts
 pub mod Engines
 pub mod Faults

@@ -3,20 +3,23 @@
 ghost use Rattle.std.specs.Prelude.{◌≡◌, ◌≢◌, ◌<◌, ◌≤◌, ℕ, List, [], Some, length, take, IfOk, IfErr, OnOk, IsErrOf};
 ghost use Rattle.std.specs.Io.KnownBytes.{Appends, Keeps};
 ghost use Rattle.std.specs.String.{string_bytes};
-ghost use Rattle.aa_answers.specs.Answers.{first_unknown};
-ghost use Rattle.aa_answers.specs.Output.{lines_from};
+ghost use Rattle.aa_engine.specs.Answers.{first_unknown};
+ghost use Rattle.aa_engine.specs.Output.{lines_from};
 ghost use Rattle.aa_engine.specs.Engines.{HandsIn, IsCheckOutput, IsRunOutput, IsReplayOutput, IsDecided, Explains, IsInput, IsExplained};
 
 use crate::fault::{RunFault, job_fault, mediate_fault, policy_fault};
+use crate::lending::mediate_lent;
+use crate::output::check_output;
+use crate::replay::replay_output;
 use crate::stream::{read_input, write_text};
-use aa_answers::{
-    MediateFault, check_output, mediate_lent, replay_output, run_output, unknown_task,
-};
+use crate::tasks::{MediateFault, unknown_task};
+use crate::texts::run_output;
+use aa_compile::Compiled;
 use aa_jobs::{Job, read_job};
 use aa_machine::Machine;
 use aa_mediate::Mediator;
-use aa_policies::{Compiled, compile_policies};
-use aa_requests::{Answer, Label, Request};
+use aa_model::{Answer, Label, Request};
+use aa_policies::compile_policies;
 use std::alloc::Global;
 use std::io::{Read, Write};
 use std::sync::Wait;

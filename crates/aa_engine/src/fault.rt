@@ -3,8 +3,8 @@
 ghost use Rattle.std.specs.Prelude.{◌≡◌};
 ghost use Rattle.aa_engine.specs.Faults.{job_cause, policy_cause, mediate_cause, exit_status};
 
-use aa_answers::MediateFault;
-use aa_faults::PolicyKind;
+use crate::tasks::MediateFault;
+use aa_base::PolicyKind;
 use aa_jobs::JobFault;
 use aa_policies::RefusedPolicy;
 use std::alloc::{AllocError, AllocFailed};

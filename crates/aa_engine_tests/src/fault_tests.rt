@@ -2,8 +2,8 @@
 
 use crate::comparing::{equal, equal_in};
 use crate::jobs::{COMMANDS, Command, gives};
+use aa_base::{PolicyFault, PolicyKind, Spot};
 use aa_engine::RunFault;
-use aa_faults::{PolicyFault, PolicyKind, Spot};
 use aa_jobs::JobFault;
 use aa_policies::RefusedPolicy;
 use std::alloc::Global;

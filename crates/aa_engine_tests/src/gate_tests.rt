@@ -4,12 +4,13 @@ ghost use Rattle.aa_mediate.specs.Reply.{reply};
 
 use crate::comparing::equal;
 use crate::jobs::{Requests, a_job, answers, compiled, lent_answers};
-use aa_engine::{Answered, MediateFault};
+use aa_compile::Compiled;
+use aa_engine::MediateFault;
 use aa_jobs::Job;
+use aa_lane::Answered;
 use aa_machine::Machine;
 use aa_mediate::Mediator;
-use aa_policies::Compiled;
-use aa_requests::{Answer, Label, Request};
+use aa_model::{Answer, Label, Request};
 use std::alloc::Global;
 use std::process::Abort;
 use std::sync::Wait;

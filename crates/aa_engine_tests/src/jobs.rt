@@ -3,13 +3,15 @@
 ghost use Rattle.std.specs.Prelude.{◌<◌, ◌≤◌};
 
 use crate::comparing::holds;
+use aa_compile::Compiled;
 use aa_engine::{
-    Answered, Lent, MediateFault, RunFault, check_job, mediate, mediate_lent, replay_job, run_job,
+    Lent, MediateFault, RunFault, check_job, mediate, mediate_lent, replay_job, run_job,
 };
 use aa_jobs::{Job, read_job};
+use aa_lane::Answered;
 use aa_machine::Machine;
-use aa_policies::{Compiled, compile_policies};
-use aa_requests::{Answer, Label, Request};
+use aa_model::{Answer, Label, Request};
+use aa_policies::compile_policies;
 use std::alloc::Global;
 use std::io::{Read, Write};
 use std::process::Abort;

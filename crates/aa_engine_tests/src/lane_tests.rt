@@ -8,7 +8,7 @@ use crate::jobs::{FIRST_JOB, a_job, compiled};
 use aa_jobs::{Job, Task, Work};
 use aa_lane::{Answered, Ends, Lane, Owner, SendFault, Served, Server, Shutter};
 use aa_mediate::Mediator;
-use aa_requests::{Label, Request};
+use aa_model::{Label, Request};
 use std::alloc::Global;
 use std::process::Abort;
 

@@ -14,6 +14,8 @@ mod gate_tests;
 #[cfg(test)]
 mod growth_tests;
 #[cfg(test)]
+mod job_reading;
+#[cfg(test)]
 mod jobs;
 #[cfg(test)]
 mod lane_tests;

@@ -4,12 +4,13 @@ use crate::comparing::equal;
 use crate::jobs::{
     MOVING_JOB, Requests, a_job, answers, compiled, job_of, lent_answers, policies_of,
 };
-use aa_engine::{Answered, MediateFault};
+use aa_compile::Compiled;
+use aa_engine::MediateFault;
 use aa_jobs::Job;
+use aa_lane::Answered;
 use aa_machine::Machine;
 use aa_mediate::Mediator;
-use aa_policies::Compiled;
-use aa_requests::{Answer, Label};
+use aa_model::{Answer, Label};
 use std::alloc::Global;
 use std::process::Abort;
 use std::sync::Wait;

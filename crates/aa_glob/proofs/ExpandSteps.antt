@@ -3,12 +3,12 @@ use Rattle.std.proofs.Common.{◌≡◌, ◌≢◌, ℕ, ◌+◌, ◌<◌, ◌�
 use Rattle.std.specs.List.{list_any}
 use Rattle.std.proofs.lemmas.Bool.{cases_lt, and_parts, or_parts}
 use Rattle.std.proofs.lemmas.List.{append-nil, at_drop_more, at_drop_all}
-use Rattle.aa_faults.specs.declared.fault.PolicyKind.{PolicyKind}
-use Rattle.aa_faults.specs.declared.fault.PolicyKind.TheVariants.{NoMemory, TooManyExpansions}
-use Rattle.aa_reader.specs.declared.sign.Token.{Token}
+use Rattle.aa_base.specs.declared.fault.PolicyKind.{PolicyKind}
+use Rattle.aa_base.specs.declared.fault.PolicyKind.TheVariants.{NoMemory, TooManyExpansions}
+use Rattle.aa_glob.specs.declared.sign.Token.{Token}
 use Rattle.aa_glob.specs.declared.summary.Summary.{Summary}
 use Rattle.aa_glob.specs.Variables.{Variable}
-use Rattle.aa_reader.specs.Reading.{Gives}
+use Rattle.aa_glob.specs.Reading.{Gives}
 use Rattle.aa_glob.specs.Expansions.{Outcome, Texts, outcome_of, squeezed, expansion, expansions, Expands, in_walk, in_circle, too_many, as_texts, joined, outcome}
 use Rattle.aa_glob.specs.Pieces.{pieces_from}
 use Rattle.aa_glob.specs.Settled.{Settled}

@@ -1,3 +1,7 @@
+pub mod Runs
+pub mod Tokens
+pub mod ClassSteps
+pub mod Spellings
 pub mod VarSteps
 pub mod PieceSteps
 pub mod Depths

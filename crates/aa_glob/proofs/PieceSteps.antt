@@ -1,7 +1,7 @@
 -- Names and pieces, byte by byte.
 use Rattle.std.proofs.Common.{◌≡◌, ℕ, zero, suc, ◌+◌, ◌<◌, ◌≤◌, Bool, true, false, List, [], ◌∷◌, length, drop, get_or, cond, ◌==◌, not, refl, arith, sym, ap, ◌∙◌, ◌||◌, ◌&&◌, Option, Some, None}
 use Rattle.std.proofs.lemmas.List.{at_drop_more, at_drop_all}
-use Rattle.aa_reader.specs.Signs.{is_letter_or_digit}
+use Rattle.aa_glob.specs.Signs.{is_letter_or_digit}
 use Rattle.aa_glob.specs.Pieces.{Piece, Plain, Use, Broken, name_len, name_at, behind_name, begins_with, pieces_from}
 
 pub name_step : (s : List ℕ) (i d : ℕ) → i < length s → name_len (drop i s) ≡ cond (is_letter_or_digit (get_or s i d) || (get_or s i d == 95)) (suc (name_len (drop (i + 1) s))) 0

@@ -1,6 +1,6 @@
 -- The steps on the way of a walk.
 use Rattle.std.proofs.Common.{◌≡◌, ℕ, zero, suc, ◌+◌, ◌-◌, ◌≤◌, ⊎_elim, max, Bool, false, List, [], ◌∷◌, Bor, Vec, Global, refl, sym, ap, ◌∙◌, subst, inl, inr, arith}
-use Rattle.aa_faults.specs.declared.fault.PolicyKind.{PolicyKind}
+use Rattle.aa_base.specs.declared.fault.PolicyKind.{PolicyKind}
 use Rattle.aa_glob.specs.declared.walk.Step.{Step}
 use Rattle.aa_glob.specs.Variables.{Variable}
 use Rattle.aa_glob.specs.Pieces.{Piece, Use, pieces, pieces_from}

@@ -2,12 +2,12 @@
 -- Source: own.
 use Rattle.std.specs.Prelude.{ℕ, zero, suc, ◌<◌, ◌≤◌, ◌==◌, ◌&&◌, ◌||◌, ◌≡◌, Bool, true, false, List, [], ◌∷◌, ◌++◌, map, flat_map, length, max, codes, if◌then◌else◌, nat_lt, Option, Some, None, Result, Ok, Err}
 use Rattle.std.specs.Str.{bytes_eq}
-use Rattle.aa_faults.specs.declared.fault.PolicyKind.{PolicyKind}
-use Rattle.aa_faults.specs.declared.fault.PolicyKind.TheVariants.{BadPattern, Unsupported, UndefinedVariable, VariableCircle, TooManyExpansions, RelativePath, TooLarge}
-use Rattle.aa_reader.specs.declared.sign.Token.{Token}
+use Rattle.aa_base.specs.declared.fault.PolicyKind.{PolicyKind}
+use Rattle.aa_base.specs.declared.fault.PolicyKind.TheVariants.{BadPattern, Unsupported, UndefinedVariable, VariableCircle, TooManyExpansions, RelativePath, TooLarge}
+use Rattle.aa_glob.specs.declared.sign.Token.{Token}
 use Rattle.aa_glob.specs.Pieces.{Piece, Plain, Use, Broken, pieces, begins_with}
 use Rattle.aa_glob.specs.Variables.{Variable, values_of}
-use Rattle.aa_reader.specs.Reading.{tokens}
+use Rattle.aa_glob.specs.Reading.{tokens}
 
 -- What a walk of a text comes to, left to right and into the values depth first: its texts, with the most texts that a
 -- variable on the way has; the first fault; or, where it goes no deeper than it may, neither.

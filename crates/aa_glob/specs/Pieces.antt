@@ -1,7 +1,7 @@
 -- A text cut into bytes and variables.
 -- Source: apparmor.d(5), "Variables".
 use Rattle.std.specs.Prelude.{ℕ, zero, suc, ◌+◌, ◌==◌, ◌&&◌, ◌||◌, Bool, false, List, [], ◌∷◌, take, drop, length, if◌then◌else◌, Option, Some, None}
-use Rattle.aa_reader.specs.Signs.{is_letter, is_letter_or_digit}
+use Rattle.aa_glob.specs.Signs.{is_letter, is_letter_or_digit}
 
 -- a byte, a variable's name, or an @{ that no variable follows
 pub data Piece : Type 0 where

@@ -1,8 +1,8 @@
 -- The texts on the way of a walk.
 use Rattle.std.specs.Prelude.{ℕ, suc, ◌+◌, ◌≤◌, ◌≡◌, length, reverse, ◌⊎◌, false, List, [], ◌∷◌, map, Option, Some, None, Vec}
 use Rattle.std.specs.Global.{Global}
-use Rattle.aa_faults.specs.declared.fault.PolicyKind.{PolicyKind}
-use Rattle.aa_faults.specs.declared.fault.PolicyKind.TheVariants.{VariableCircle}
+use Rattle.aa_base.specs.declared.fault.PolicyKind.{PolicyKind}
+use Rattle.aa_base.specs.declared.fault.PolicyKind.TheVariants.{VariableCircle}
 use Rattle.aa_glob.specs.declared.summary.VariableSummary.{VariableSummary}
 use Rattle.aa_glob.specs.declared.walk.Step.{Step}
 use Rattle.aa_glob.specs.Variables.{Variable, values_of}

@@ -10,7 +10,7 @@ ghost use Rattle.aa_glob.specs.Built.{HasTexts, IsBuilt, Stands, IsBuilding, pie
 use crate::pieces::{Part, next_part};
 use crate::summary::{Done, known_summary};
 use crate::vars::Vars;
-use aa_faults::PolicyKind;
+use aa_base::PolicyKind;
 use std::alloc::Global;
 
 /// How many bytes an expanded text may have.

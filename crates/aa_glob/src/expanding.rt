@@ -3,17 +3,17 @@
 ghost use Rattle.std.specs.Prelude.{◌≡◌, ◌≢◌, ◌≤◌, ◌==◌, ◌&&◌, ◌∷◌, ℕ, List, [], length, map, IfOk, IfErr, Ok, Err};
 ghost use Rattle.std.specs.List.{list_any};
 ghost use Rattle.aa_glob.specs.Known.{IsWalked};
-ghost use Rattle.aa_reader.specs.Reading.{Gives, spelled};
+ghost use Rattle.aa_glob.specs.Reading.{Gives, spelled};
 ghost use Rattle.aa_glob.specs.Expansions.{pattern_text, expansion, expansions, outcome_of, Texts, Expands};
 
 use crate::building::{MAX_BYTES, Rest, build};
 use crate::pieces::starts_with;
+use crate::reader::read_pattern;
 use crate::summary::{Done, MAX_TEXTS, text_summary};
 use crate::vars::Vars;
 use crate::walk::walk;
-use aa_faults::PolicyKind;
-use aa_patterns::Pattern;
-use aa_reader::read_pattern;
+use aa_base::PolicyKind;
+use aa_pattern::Pattern;
 use std::alloc::Global;
 
 /// Whether the byte is a `/` behind another.

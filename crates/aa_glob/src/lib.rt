@@ -1,18 +1,24 @@
-//! Words with variables, and how they expand to patterns over paths. What patterns are, what they match and how they are
-//! read is passed on from the crates below.
+//! Texts read as patterns over paths, and words with variables that expand to them.
 #![tactic(auto)]
 
 mod building;
+mod classes;
 mod expanding;
 mod laws;
 mod pieces;
+mod reader;
+mod sign;
 mod summary;
+mod token_laws;
 mod vars;
 mod walk;
 
-pub use aa_items::{ByteSet, Item, begins, continues, is_one_byte, is_skippable, same_items_match};
-pub use aa_patterns::{Pattern, matching_is_decided, places_decide_matching, places_decide_next};
-pub use aa_reader::{read_pattern, tokens_decide_items};
+pub use aa_pattern::{
+    ByteSet, Item, Pattern, begins, continues, is_one_byte, is_skippable, matching_is_decided,
+    places_decide_matching, places_decide_next, same_items_match,
+};
 pub use expanding::expand;
 pub use laws::expands_once;
+pub use reader::read_pattern;
+pub use token_laws::tokens_decide_items;
 pub use vars::Vars;

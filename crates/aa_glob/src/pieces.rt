@@ -1,7 +1,7 @@
 //! A text with variables, cut into bytes and names.
 
 ghost use Rattle.std.specs.Prelude.{◌≡◌, ◌≤◌, ◌+◌, ◌==◌, ◌&&◌, ◌||◌, not, false, IsTrue, ℕ, List, [], ◌∷◌, length, drop, MatchOption, IfSome, option_map, ◌<◌};
-ghost use Rattle.aa_reader.specs.Signs.{is_letter, is_letter_or_digit};
+ghost use Rattle.aa_glob.specs.Signs.{is_letter, is_letter_or_digit};
 ghost use Rattle.aa_glob.specs.Pieces.{begins_with, name_len, name_at, behind_name, pieces_from};
 ghost use Rattle.aa_glob.specs.Parts.{piece_of};
 

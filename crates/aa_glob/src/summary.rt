@@ -9,7 +9,7 @@ ghost use Rattle.aa_glob.specs.Known.{IsKnown, AreKnown, AreTextsKnown, AreRight
 ghost use Rattle.aa_glob.specs.Parts.{piece_of};
 
 use crate::pieces::{Part, next_part};
-use aa_faults::PolicyKind;
+use aa_base::PolicyKind;
 use std::alloc::Global;
 use std::collections::BTreeMap;
 

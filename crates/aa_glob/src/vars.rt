@@ -6,7 +6,7 @@ ghost use Rattle.aa_glob.specs.NamePlaces.{place_of};
 ghost use Rattle.aa_glob.specs.Variables.{Variable, variable, has_name, with_more, values_of};
 ghost use Rattle.aa_glob.specs.Expansions.{is_reserved, outcome, Stops};
 
-use aa_faults::PolicyKind;
+use aa_base::PolicyKind;
 use std::alloc::{AllocError, Global};
 use std::collections::BTreeMap;
 use std::marker::Model;

@@ -9,7 +9,7 @@ ghost use Rattle.aa_glob.specs.Ways.{IsWalkFault, IsWalking, pieces_left, walk_l
 use crate::pieces::{Part, next_part};
 use crate::summary::{Done, variable_summary};
 use crate::vars::Vars;
-use aa_faults::PolicyKind;
+use aa_base::PolicyKind;
 use std::alloc::Global;
 use std::collections::BTreeMap;
 

@@ -5,7 +5,7 @@ use Rattle.serde_json.specs.Data.{Data}
 use Rattle.serde_json.specs.Find.{get}
 use Rattle.aa_jobs.specs.declared.job_fault.JobFault.{JobFault}
 use Rattle.aa_jobs.specs.declared.job_fault.JobFault.TheVariants.{BadShape, TooLarge}
-use Rattle.aa_jobs.specs.declared.job.Include.{Include}
+use Rattle.aa_words.specs.declared.include.Include.{Include}
 use Rattle.aa_jobs.specs.declared.shape.Part.TheVariants.{Whole}
 use Rattle.aa_jobs.specs.Jobs.{job_of, json_of, written_in, limited_meaning}
 use Rattle.aa_jobs.specs.Parts.{WrittenTexts, WrittenRun, texts_shape, run_shape}

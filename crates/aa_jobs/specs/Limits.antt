@@ -2,7 +2,7 @@
 -- Source: own.
 use Rattle.std.specs.Prelude.{ℕ, ◌&&◌, List, length, map, Bool, nat_le, nat_lt}
 use Rattle.std.specs.List.{list_all}
-use Rattle.aa_jobs.specs.declared.job.Include.{Include}
+use Rattle.aa_words.specs.declared.include.Include.{Include}
 use Rattle.aa_jobs.specs.declared.job.Task.{Task}
 use Rattle.aa_jobs.specs.declared.job.Event.{Event}
 

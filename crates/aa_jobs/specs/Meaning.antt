@@ -3,11 +3,11 @@
 use Rattle.std.specs.Prelude.{◌≡◌, ℕ, ◌&&◌, ◌||◌, ◌==◌, List, length, map, codes, Bool, true, false, refl, bit_or, nat_lt, if◌then◌else◌, Result, Ok, Err}
 use Rattle.std.specs.List.{list_any, list_all}
 use Rattle.std.specs.Str.{bytes_eq}
-use Rattle.aa_requests.specs.declared.request.Request.{Request}
-use Rattle.aa_requests.specs.declared.request.Request.TheVariants as requests
+use Rattle.aa_model.specs.declared.request.Request.{Request}
+use Rattle.aa_model.specs.declared.request.Request.TheVariants as requests
 use Rattle.aa_jobs.specs.declared.job_fault.JobFault.{JobFault}
 use Rattle.aa_jobs.specs.declared.job_fault.JobFault.TheVariants.{BadRequest, TooLarge}
-use Rattle.aa_jobs.specs.declared.job.Include.{Include}
+use Rattle.aa_words.specs.declared.include.Include.{Include}
 use Rattle.aa_jobs.specs.declared.job.Work.{Work}
 use Rattle.aa_jobs.specs.declared.job.Work.TheVariants.{Ask, Exit}
 use Rattle.aa_jobs.specs.declared.job.Task.{Task}
@@ -15,8 +15,8 @@ use Rattle.aa_jobs.specs.declared.job.EventName.{EventName}
 use Rattle.aa_jobs.specs.declared.job.EventName.TheVariants.{Send, Take, Finish, Collect, Shut}
 use Rattle.aa_jobs.specs.declared.job.Event.{Event}
 use Rattle.aa_jobs.specs.declared.job.Job.{Job}
-use Rattle.aa_tables.specs.Tables.{number_in, capability_names, family_names, sock_type_names}
-use Rattle.aa_requests.specs.Requests.{is_path, is_mask, is_wanted_name}
+use Rattle.aa_base.specs.Tables.{number_in, capability_names, family_names, sock_type_names}
+use Rattle.aa_model.specs.Requests.{is_path, is_mask, is_wanted_name}
 use Rattle.aa_jobs.specs.Steps.{◌>>=◌, needed, only_if, each}
 use Rattle.aa_jobs.specs.Written.{WrittenItem, exit_item, file_item, link_item, exec_item, cap_item, net_item, change_item, reload_item, WrittenTask, WrittenEvent, WrittenJob}
 use Rattle.aa_jobs.specs.Limits.{Sizes, include_sizes, keeps_limits}

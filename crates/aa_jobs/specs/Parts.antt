@@ -4,7 +4,7 @@ use Rattle.std.specs.Prelude.{ℕ, List, codes, map, Result, Ok}
 use Rattle.serde_json.specs.Data.{Data}
 use Rattle.serde_json.specs.Find.{get}
 use Rattle.aa_jobs.specs.declared.job_fault.JobFault.{JobFault}
-use Rattle.aa_jobs.specs.declared.job.Include.{Include}
+use Rattle.aa_words.specs.declared.include.Include.{Include}
 use Rattle.aa_jobs.specs.declared.raw.RawTexts.{RawTexts}
 use Rattle.aa_jobs.specs.declared.raw.RawRun.{RawRun}
 use Rattle.aa_jobs.specs.Raw.{raw_text, raw_task, raw_event, raw_include}

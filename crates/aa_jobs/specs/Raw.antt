@@ -1,7 +1,7 @@
 -- What the code holds while it reads, as what stands in the job.
 use Rattle.std.specs.Prelude.{ℕ, List, map}
 use Rattle.std.specs.Borrow.{Bor}
-use Rattle.aa_jobs.specs.declared.job.Include.{Include}
+use Rattle.aa_words.specs.declared.include.Include.{Include}
 use Rattle.aa_jobs.specs.declared.raw.RawItem.{RawItem}
 use Rattle.aa_jobs.specs.declared.raw.RawItem.TheVariants as raw
 use Rattle.aa_jobs.specs.declared.raw.RawTask.{RawTask}

@@ -7,7 +7,7 @@ use Rattle.serde_json.specs.Data.{Data, Items, no_items, item, Members, no_membe
 use Rattle.serde_json.specs.Find.{get, as_str, as_bool, as_number, as_u64, as_array, as_object}
 use Rattle.aa_jobs.specs.declared.job_fault.JobFault.{JobFault}
 use Rattle.aa_jobs.specs.declared.job_fault.JobFault.TheVariants.{BadShape}
-use Rattle.aa_jobs.specs.declared.job.Include.{Include}
+use Rattle.aa_words.specs.declared.include.Include.{Include}
 use Rattle.aa_jobs.specs.declared.shape.Part.{Part}
 use Rattle.aa_jobs.specs.declared.shape.Part.TheVariants.{Whole, OfTask, OfFile, OfLink, OfExec, OfCap, OfNet, OfChange, OfReload}
 use Rattle.aa_jobs.specs.Steps.{◌>>=◌, needed, only_if, each}

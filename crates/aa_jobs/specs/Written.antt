@@ -1,6 +1,6 @@
 -- What stands in a job: texts, numbers and lists.
 use Rattle.std.specs.Prelude.{ℕ, List, Bool}
-use Rattle.aa_jobs.specs.declared.job.Include.{Include}
+use Rattle.aa_words.specs.declared.include.Include.{Include}
 
 -- an item of a task's list
 pub data WrittenItem : Type 0 where

@@ -3,15 +3,9 @@
 ghost use Rattle.std.specs.Prelude.{IsTrue};
 ghost use Rattle.aa_jobs.specs.Limits.{keeps_limits};
 
-use aa_lists::{Seq, Text};
-use aa_requests::Request;
-
-/// A text that the policies may include, by its name.
-#[derive(Drop)]
-pub struct Include {
-    pub name: Text,
-    pub text: Text,
-}
+use aa_base::{Seq, Text};
+use aa_model::Request;
+use aa_words::Include;
 
 /// An item of a task's list.
 #[derive(Drop)]

@@ -10,6 +10,7 @@ mod reading;
 mod shape;
 mod tree;
 
-pub use job::{Event, EventName, Include, Job, Task, Work};
+pub use aa_words::Include;
+pub use job::{Event, EventName, Job, Task, Work};
 pub use job_fault::JobFault;
 pub use reading::read_job;

@@ -7,12 +7,12 @@ ghost use Rattle.aa_jobs.specs.Limits.{within_limits};
 ghost use Rattle.aa_jobs.specs.Meaning.{is_letter, bit_if, mask_bits, file_request, link_request, exec_request, cap_request, net_request, change_request, reload_request, asked, work_of, task_of, event_name, event_of, written_sizes, meaning};
 ghost use Rattle.aa_jobs.specs.Raw.{raw_text, raw_item, raw_task, raw_event, raw_include, raw_job};
 
-use crate::job::{Event, EventName, Include, Job, Task, Work};
+use crate::job::{Event, EventName, Job, Task, Work};
 use crate::job_fault::JobFault;
 use crate::raw::{RawEvent, RawInclude, RawItem, RawJob, RawTask};
-use aa_lists::{Seq, Text};
-use aa_requests::{Request, RequestFault};
-use aa_tables::{Cap, Family, Perms, SockType};
+use aa_base::{Cap, Family, Perms, Seq, SockType, Text};
+use aa_model::{Request, RequestFault};
+use aa_words::Include;
 use bitflags::Flags;
 use std::alloc::{AllocError, Global};
 

@@ -2,7 +2,7 @@
 
 use crate::comparing::equal;
 use crate::texts::line_of;
-use aa_faults::{PolicyFault, PolicyKind, Spot};
+use aa_base::{PolicyFault, PolicyKind, Spot};
 
 #[test]
 fn a_fault_is_printed_with_number_kind_and_place(rt: HostRuntime) {

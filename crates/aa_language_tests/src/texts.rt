@@ -2,9 +2,10 @@
 //! no contract. Those that give plain values end the test where the call fails.
 
 use crate::comparing::equal;
-use aa_faults::PolicyKind;
-use aa_glob::{Pattern, Vars, expand, read_pattern};
-use aa_words::{PolicyFault, Sources, WordList, words};
+use aa_base::{PolicyFault, PolicyKind};
+use aa_glob::{Vars, expand, read_pattern};
+use aa_pattern::Pattern;
+use aa_words::{Sources, WordList, words};
 use std::alloc::Global;
 use std::process::Abort;
 

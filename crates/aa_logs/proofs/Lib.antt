@@ -5,3 +5,6 @@ pub mod Hex
 pub mod Letters
 pub mod Pieces
 pub mod Telling
+pub mod Placed
+pub mod Cells
+pub mod Cutting

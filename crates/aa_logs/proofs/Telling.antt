@@ -1,7 +1,7 @@
 -- A mask that is asked for, beside the definition that it is of.
 use Rattle.std.proofs.Common.{◌≡◌, ℕ, List, Option, Some, None, sym, ap, subst}
 use Rattle.std.specs.Prelude.{Result, Err}
-use Rattle.aa_requests.specs.declared.request.Request.{Request}
+use Rattle.aa_model.specs.declared.request.Request.{Request}
 use Rattle.aa_logs.specs.declared.line.Reason.TheVariants.{Operation}
 use Rattle.aa_logs.specs.declared.line.Refusal.{Refusal}
 use Rattle.aa_logs.specs.Words.{WordData}

@@ -4,12 +4,12 @@ use Rattle.std.specs.Prelude.{◌≡◌, ℕ, ◌+◌, ◌==◌, ◌||◌, ◌&&
 use Rattle.std.specs.List.{starts_with}
 use Rattle.std.specs.Option.{option_and_then, option_or}
 use Rattle.std.specs.Str.{bytes_eq}
-use Rattle.aa_tables.specs.Tables.{number_in as number_among, capability_names, family_names, sock_type_names}
-use Rattle.aa_requests.specs.Requests.{is_path, is_mask, is_wanted_name}
-use Rattle.aa_requests.specs.declared.request.Request.{Request}
-use Rattle.aa_requests.specs.declared.request.Request.TheVariants.{File, Link, Exec, Cap, Net, Change}
-use Rattle.aa_requests.specs.declared.fault.RequestFault.{RequestFault}
-use Rattle.aa_requests.specs.declared.fault.RequestFault.TheVariants as fault
+use Rattle.aa_base.specs.Tables.{number_in as number_among, capability_names, family_names, sock_type_names}
+use Rattle.aa_model.specs.Requests.{is_path, is_mask, is_wanted_name}
+use Rattle.aa_model.specs.declared.request.Request.{Request}
+use Rattle.aa_model.specs.declared.request.Request.TheVariants.{File, Link, Exec, Cap, Net, Change}
+use Rattle.aa_model.specs.declared.fault.RequestFault.{RequestFault}
+use Rattle.aa_model.specs.declared.fault.RequestFault.TheVariants as fault
 use Rattle.aa_logs.specs.declared.line.Reason.{Reason}
 use Rattle.aa_logs.specs.declared.line.Reason.TheVariants.{Rule, NoProfile, Namespace, Stacked, NoNewPrivs, Path, Mask, Name, Capability, Socket, Operation, Status, OldForm, Broken}
 use Rattle.aa_logs.specs.declared.line.Refusal.{Refusal}

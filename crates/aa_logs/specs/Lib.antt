@@ -6,3 +6,8 @@ pub mod Outcomes
 pub mod Records
 pub mod Values
 pub mod Words
+pub mod Tasks
+pub mod Answers
+pub mod Counts
+pub mod Reasons
+pub mod LogLines

@@ -1,6 +1,6 @@
 -- What a line of a log is, without where it lies in memory.
 use Rattle.std.specs.Prelude.{ℕ, List, Option}
-use Rattle.aa_requests.specs.declared.request.Request.{Request}
+use Rattle.aa_model.specs.declared.request.Request.{Request}
 use Rattle.aa_logs.specs.declared.line.Then.{Then}
 use Rattle.aa_logs.specs.declared.line.Record.{Record}
 use Rattle.aa_logs.specs.declared.line.Line.{Line}

@@ -4,7 +4,7 @@ use Rattle.std.specs.Prelude.{◌≡◌, ℕ, ◌+◌, ◌-◌, ◌==◌, ◌||�
 use Rattle.std.specs.List.{starts_with, list_any, prefix_len}
 use Rattle.std.specs.Option.{option_and_then, option_or}
 use Rattle.std.specs.Str.{bytes_eq}
-use Rattle.aa_requests.specs.declared.request.Request.{Request}
+use Rattle.aa_model.specs.declared.request.Request.{Request}
 use Rattle.aa_logs.specs.declared.word.Form.{Form}
 use Rattle.aa_logs.specs.declared.word.Form.TheVariants.{Quoted, Open, Plain, Run}
 use Rattle.aa_logs.specs.declared.line.Then.{Then}

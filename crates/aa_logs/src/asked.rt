@@ -11,8 +11,8 @@ use crate::field::{begins, either_text, is_text, number_in, place_of, raw_of, te
 use crate::line::{Reason, Refusal};
 use crate::mask::{letters_of, owned_by};
 use crate::word::LogWord;
-use aa_requests::{Request, RequestFault};
-use aa_tables::{Cap, Family, Perms, SockType};
+use aa_base::{Cap, Family, Perms, SockType};
+use aa_model::{Request, RequestFault};
 use bitflags::Flags;
 use std::alloc::Global;
 

@@ -13,7 +13,7 @@ use crate::asked::asked_of;
 use crate::field::{begins, either_text, has_part, is_digit, is_text, number_in, raw_of, text_of};
 use crate::reading::read_line;
 use crate::word::{Form, LogWord};
-use aa_requests::Request;
+use aa_model::Request;
 use std::alloc::{AllocError, AllocFailed, Global};
 
 /// The most bytes of a line.

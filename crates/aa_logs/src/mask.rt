@@ -3,7 +3,7 @@
 ghost use Rattle.std.specs.Prelude.{◌≡◌, option_map};
 ghost use Rattle.aa_logs.specs.Masks.{letter_bits, letters_bits, owned_by};
 
-use aa_tables::Perms;
+use aa_base::Perms;
 use bitflags::Flags;
 
 /// What one letter asks for: to create and to delete is to write.

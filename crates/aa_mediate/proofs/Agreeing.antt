@@ -3,13 +3,13 @@ use Rattle.std.proofs.Common.{◌≡◌, ◌≢◌, ℕ, List, [], ◌∷◌, Bo
 use Rattle.std.specs.Prelude.{IsTrue, not, ◌&&◌, ◌||◌, is_some}
 use Rattle.std.specs.List.{filter, list_any}
 use Rattle.std.specs.Option.{option_eq}
-use Rattle.aa_patterns.specs.declared.pattern.Pattern.{Pattern}
-use Rattle.aa_patterns.specs.Matching.{is_match}
-use Rattle.aa_profiles.specs.declared.rule.Exec.{Exec}
-use Rattle.aa_profiles.specs.declared.rule.FileRule.{FileRule}
-use Rattle.aa_said.specs.Patterns.{is_literal}
-use Rattle.aa_rows.specs.FileRules.{any_sort, applies_by, chosen, is_nil, says_how, some_match, ways_by, Conflicts}
-use Rattle.aa_rows.proofs.ConflictLemmas.{in_cases, in_head, in_tail, not_in}
+use Rattle.aa_pattern.specs.declared.pattern.Pattern.{Pattern}
+use Rattle.aa_pattern.specs.Matching.{is_match}
+use Rattle.aa_model.specs.declared.rule.Exec.{Exec}
+use Rattle.aa_model.specs.declared.rule.FileRule.{FileRule}
+use Rattle.aa_compile.specs.Patterns.{is_literal}
+use Rattle.aa_compile.specs.FileRules.{any_sort, applies_by, chosen, is_nil, says_how, some_match, ways_by, Conflicts}
+use Rattle.aa_compile.proofs.ConflictLemmas.{in_cases, in_head, in_tail, not_in}
 use Rattle.aa_mediate.specs.Links.{same_exec}
 use Rattle.aa_mediate.proofs.SameWays.{both_true, and_true, options_same, same_decides}
 

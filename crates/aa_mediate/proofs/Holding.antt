@@ -2,9 +2,9 @@
 use Rattle.std.proofs.Common.{◌≡◌, ℕ, ◌+◌, ◌<◌, ◌≤◌, List, ◌∷◌, Bool, true, false, cond, length, drop, get_or, map, refl, sym, ap, subst, ◌∙◌}
 use Rattle.std.specs.List.{filter}
 use Rattle.std.proofs.lemmas.List.{at_drop_more, at_drop_all}
-use Rattle.aa_said.specs.declared.sets.RuleSets.{RuleSets}
-use Rattle.aa_said.specs.Said.{Saying, said, both, nothing, verdict}
-use Rattle.aa_rows.proofs.Joins.{both_joins}
+use Rattle.aa_compile.specs.declared.sets.RuleSets.{RuleSets}
+use Rattle.aa_compile.specs.Said.{Saying, said, both, nothing, verdict}
+use Rattle.aa_compile.proofs.Joins.{both_joins}
 
 module _ {R : Type 0} (holds : R → Bool) (saying : R → Saying) where
   abbrev pub verdict_by : List R → RuleSets

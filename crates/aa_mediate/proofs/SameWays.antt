@@ -6,17 +6,17 @@ use Rattle.std.specs.Str.{bytes_eq}
 use Rattle.std.proofs.lemmas.Bool.Decides.{same_from_decides}
 use Rattle.std.proofs.lemmas.Option.{same_Some}
 use Rattle.std.proofs.lemmas.Slice.Eq.{bytes_eq-Decides}
-use Rattle.aa_profiles.specs.declared.rule.ExecKind.{ExecKind}
-use Rattle.aa_profiles.specs.declared.rule.ExecKind.TheVariants.{Inherit, Unconfined, Profile as Named, Child}
-use Rattle.aa_profiles.specs.declared.rule.Fallback.{Fallback}
-use Rattle.aa_profiles.specs.declared.rule.Fallback.TheVariants.{Refuse, Inherit as Stay, Unconfined as Leave}
-use Rattle.aa_profiles.specs.declared.rule.Exec.{Exec}
-use Rattle.aa_profiles.specs.declared.rule.FileRule.{FileRule}
-use Rattle.aa_rows.specs.declared.side.Verdict.{Verdict}
-use Rattle.aa_rows.specs.FileRules.{chosen, way_of}
-use Rattle.aa_rows.specs.Rows.{IsVerdictOf}
-use Rattle.aa_rows.specs.Ways.{way_by}
-use Rattle.aa_rows.proofs.WayLemmas.{tells_apart}
+use Rattle.aa_model.specs.declared.rule.ExecKind.{ExecKind}
+use Rattle.aa_model.specs.declared.rule.ExecKind.TheVariants.{Inherit, Unconfined, Profile as Named, Child}
+use Rattle.aa_model.specs.declared.rule.Fallback.{Fallback}
+use Rattle.aa_model.specs.declared.rule.Fallback.TheVariants.{Refuse, Inherit as Stay, Unconfined as Leave}
+use Rattle.aa_model.specs.declared.rule.Exec.{Exec}
+use Rattle.aa_model.specs.declared.rule.FileRule.{FileRule}
+use Rattle.aa_compile.specs.declared.side.Verdict.{Verdict}
+use Rattle.aa_compile.specs.FileRules.{chosen, way_of}
+use Rattle.aa_compile.specs.Rows.{IsVerdictOf}
+use Rattle.aa_compile.specs.Ways.{way_by}
+use Rattle.aa_compile.proofs.WayLemmas.{tells_apart}
 use Rattle.aa_compile.proofs.Transitions.{Says, chosen_says}
 use Rattle.aa_mediate.specs.Links.{same_kind, same_fallback, same_scrub, same_exec}
 

@@ -16,23 +16,23 @@ use Rattle.std.proofs.Crossing.{crosses, Vec-sync}
 use Rattle.std.proofs.MapsCrossing.{crosses as maps}
 use Rattle.std.specs.contracts.alloc.Global as heap
 use Rattle.std.specs.contracts.vec.Vec as vector
-use Rattle.aa_items.specs.contracts.item.ByteSet as byte_set
-use Rattle.aa_items.specs.contracts.item.Item as item
-use Rattle.aa_items.specs.contracts.item.Item.TheKnot.{ring, type-Item}
-use Rattle.aa_items.specs.declared.item.Item.TheBlock.{member-Item, the_members}
-use Rattle.aa_patterns.specs.contracts.pattern.Pattern as pattern
-use Rattle.aa_profiles.specs.contracts.policy.PassedOver as passed_over
-use Rattle.aa_profiles.specs.contracts.policy.Policy as policy
-use Rattle.aa_profiles.specs.contracts.policy.Profile as profile
-use Rattle.aa_profiles.specs.contracts.rule.CapRule as cap_rule
-use Rattle.aa_profiles.specs.contracts.rule.ChangeRule as change_rule
-use Rattle.aa_profiles.specs.contracts.rule.Exec as exec
-use Rattle.aa_profiles.specs.contracts.rule.FileRule as file_rule
-use Rattle.aa_profiles.specs.contracts.rule.NetRule as net_rule
+use Rattle.aa_pattern.specs.contracts.item.ByteSet as byte_set
+use Rattle.aa_pattern.specs.contracts.item.Item as item
+use Rattle.aa_pattern.specs.contracts.item.Item.TheKnot.{ring, type-Item}
+use Rattle.aa_pattern.specs.declared.item.Item.TheBlock.{member-Item, the_members}
+use Rattle.aa_pattern.specs.contracts.pattern.Pattern as pattern
+use Rattle.aa_model.specs.contracts.policy.PassedOver as passed_over
+use Rattle.aa_model.specs.contracts.policy.Policy as policy
+use Rattle.aa_model.specs.contracts.policy.Profile as profile
+use Rattle.aa_model.specs.contracts.rule.CapRule as cap_rule
+use Rattle.aa_model.specs.contracts.rule.ChangeRule as change_rule
+use Rattle.aa_model.specs.contracts.rule.Exec as exec
+use Rattle.aa_model.specs.contracts.rule.FileRule as file_rule
+use Rattle.aa_model.specs.contracts.rule.NetRule as net_rule
 use Rattle.aa_auto.specs.contracts.automaton.Automaton as automaton
-use Rattle.aa_attach.specs.contracts.attach.AttachRows as attach_rows
-use Rattle.aa_rows.specs.contracts.rows.FileRows as file_rows
-use Rattle.aa_rows.specs.contracts.rows.Row as row
+use Rattle.aa_compile.specs.contracts.attach.AttachRows as attach_rows
+use Rattle.aa_compile.specs.contracts.rows.FileRows as file_rows
+use Rattle.aa_compile.specs.contracts.rows.Row as row
 use Rattle.aa_compile.specs.contracts.compiling.Compiled as compiled
 use Rattle.aa_compile.specs.contracts.compiling.Compiled.TheInside as inside
 use Rattle.aa_compile.specs.contracts.tables.ProfileRows as profile_rows

@@ -3,8 +3,8 @@
 use Rattle.std.specs.Prelude.{ℕ, List, Option}
 use Rattle.std.specs.Option.{option_and_then}
 use Rattle.std.specs.List.{slice_get}
-use Rattle.aa_profiles.specs.declared.policy.Policy.{Policy}
-use Rattle.aa_attach.specs.Attached.{attached}
+use Rattle.aa_model.specs.declared.policy.Policy.{Policy}
+use Rattle.aa_compile.specs.Attached.{attached}
 use Rattle.aa_compile.specs.Transitions.{tops, attached_below}
 
 -- the top-level profile of a policy that is attached to a path, if there is that policy

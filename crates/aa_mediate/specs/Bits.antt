@@ -2,14 +2,14 @@
 -- Source: apparmor.d(5), "Qualifiers", "change_profile rules"; own.
 use Rattle.std.specs.Prelude.{ℕ, List, Bool, if◌then◌else◌, bit_and}
 use Rattle.std.specs.List.{list_any}
-use Rattle.aa_tables.specs.Permissions.{only_exec}
-use Rattle.aa_profiles.specs.declared.rule.FileRule.{FileRule}
-use Rattle.aa_said.specs.declared.sets.RuleSets.{RuleSets}
-use Rattle.aa_said.specs.Said.{perms_of, minus, granted}
-use Rattle.aa_rows.specs.FileRules.{file_verdict, chosen}
+use Rattle.aa_base.specs.Permissions.{only_exec}
+use Rattle.aa_model.specs.declared.rule.FileRule.{FileRule}
+use Rattle.aa_compile.specs.declared.sets.RuleSets.{RuleSets}
+use Rattle.aa_compile.specs.Said.{perms_of, minus, granted}
+use Rattle.aa_compile.specs.FileRules.{file_verdict, chosen}
 use Rattle.aa_compile.specs.declared.transition.Transition.{Transition}
 use Rattle.aa_compile.specs.declared.transition.Transition.TheVariants.{Denied, To}
-use Rattle.aa_requests.specs.Requests.{RequestedFile, RequestedExec}
+use Rattle.aa_model.specs.Requests.{RequestedFile, RequestedExec}
 use Rattle.aa_mediate.specs.declared.bits.RequestBits.{RequestBits}
 
 -- of the bits asked for some are missing; those of them that a rule denies are quiet where no audit deny rule does; and those that an audit rule allows are reported

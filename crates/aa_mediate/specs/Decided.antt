@@ -2,13 +2,13 @@
 -- Source: CPR, "Profile modes"; own.
 use Rattle.std.specs.Prelude.{ℕ, Bool, true, false, ◌==◌, if◌then◌else◌, Option, Some, None}
 use Rattle.std.specs.Option.{option_map}
-use Rattle.aa_profiles.specs.declared.policy.Profile.{Profile}
-use Rattle.aa_said.specs.Said.{perms_of, minus}
-use Rattle.aa_requests.specs.declared.label.Label.{Label}
-use Rattle.aa_requests.specs.declared.answer.Answer.{Answer}
-use Rattle.aa_requests.specs.declared.answer.Note.{Note}
-use Rattle.aa_requests.specs.declared.answer.NoteWord.{NoteWord}
-use Rattle.aa_requests.specs.declared.answer.NoteWord.TheVariants.{Denied, Allowed, Audit}
+use Rattle.aa_model.specs.declared.policy.Profile.{Profile}
+use Rattle.aa_compile.specs.Said.{perms_of, minus}
+use Rattle.aa_model.specs.declared.label.Label.{Label}
+use Rattle.aa_model.specs.declared.answer.Answer.{Answer}
+use Rattle.aa_model.specs.declared.answer.Note.{Note}
+use Rattle.aa_model.specs.declared.answer.NoteWord.{NoteWord}
+use Rattle.aa_model.specs.declared.answer.NoteWord.TheVariants.{Denied, Allowed, Audit}
 use Rattle.aa_mediate.specs.declared.bits.RequestBits.{RequestBits}
 
 -- the bits for which a request is refused: the missing ones, in complain mode those of them that a rule denies

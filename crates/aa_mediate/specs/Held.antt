@@ -1,12 +1,12 @@
 -- What the rules on capabilities, sockets and changes of the profile say, on one bit.
 -- Source: apparmor.d(5), "Capability rules", "Network rules", "change_profile rules".
 use Rattle.std.specs.Prelude.{ℕ, List, Bool, filter, map}
-use Rattle.aa_profiles.specs.declared.rule.CapRule.{CapRule}
-use Rattle.aa_profiles.specs.declared.rule.NetRule.{NetRule}
-use Rattle.aa_profiles.specs.declared.rule.ChangeRule.{ChangeRule}
-use Rattle.aa_said.specs.declared.sets.RuleSets.{RuleSets}
-use Rattle.aa_said.specs.Said.{Saying, verdict}
-use Rattle.aa_rows.specs.Holding.{cap_holds, net_holds, change_holds}
+use Rattle.aa_model.specs.declared.rule.CapRule.{CapRule}
+use Rattle.aa_model.specs.declared.rule.NetRule.{NetRule}
+use Rattle.aa_model.specs.declared.rule.ChangeRule.{ChangeRule}
+use Rattle.aa_compile.specs.declared.sets.RuleSets.{RuleSets}
+use Rattle.aa_compile.specs.Said.{Saying, verdict}
+use Rattle.aa_compile.specs.Holding.{cap_holds, net_holds, change_holds}
 
 -- a rule that holds speaks of the one bit
 abbrev pub saying : Bool → Bool → Saying

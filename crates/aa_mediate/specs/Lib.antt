@@ -1,8 +1,8 @@
-pub use Rattle.aa_faults.specs.Kinds
-pub use Rattle.aa_rows.specs.Holding
-pub use Rattle.aa_requests.specs.Requests
+pub use Rattle.aa_base.specs.Kinds
+pub use Rattle.aa_compile.specs.Holding
+pub use Rattle.aa_model.specs.Requests
 pub use Rattle.aa_compile.specs.Transitions
-pub use Rattle.aa_labels.specs.Labels
+pub use Rattle.aa_compile.specs.Labels
 pub mod Held
 pub mod Bits
 pub mod Links

@@ -3,18 +3,18 @@
 use Rattle.std.specs.Prelude.{ℕ, List, Bool, true, false, not, ◌&&◌, if◌then◌else◌, bit_and, bit_or}
 use Rattle.std.specs.Option.{option_eq}
 use Rattle.std.specs.Str.{bytes_eq}
-use Rattle.aa_tables.specs.Permissions.{only_link, only_exec, link_and_exec}
-use Rattle.aa_profiles.specs.declared.rule.ExecKind.{ExecKind}
-use Rattle.aa_profiles.specs.declared.rule.ExecKind.TheVariants.{Inherit, Unconfined, Profile as Named, Child}
-use Rattle.aa_profiles.specs.declared.rule.Fallback.{Fallback}
-use Rattle.aa_profiles.specs.declared.rule.Fallback.TheVariants.{Refuse, Inherit as Stay, Unconfined as Leave}
-use Rattle.aa_profiles.specs.declared.rule.Exec.{Exec}
-use Rattle.aa_profiles.specs.declared.rule.FileRule.{FileRule}
-use Rattle.aa_profiles.specs.Lawful.{has_exec}
-use Rattle.aa_said.specs.declared.sets.RuleSets.{RuleSets}
-use Rattle.aa_said.specs.Said.{perms_of, minus, granted}
-use Rattle.aa_rows.specs.FileRules.{file_verdict, chosen, way_of}
-use Rattle.aa_requests.specs.Requests.{RequestedLink}
+use Rattle.aa_base.specs.Permissions.{only_link, only_exec, link_and_exec}
+use Rattle.aa_model.specs.declared.rule.ExecKind.{ExecKind}
+use Rattle.aa_model.specs.declared.rule.ExecKind.TheVariants.{Inherit, Unconfined, Profile as Named, Child}
+use Rattle.aa_model.specs.declared.rule.Fallback.{Fallback}
+use Rattle.aa_model.specs.declared.rule.Fallback.TheVariants.{Refuse, Inherit as Stay, Unconfined as Leave}
+use Rattle.aa_model.specs.declared.rule.Exec.{Exec}
+use Rattle.aa_model.specs.declared.rule.FileRule.{FileRule}
+use Rattle.aa_model.specs.Lawful.{has_exec}
+use Rattle.aa_compile.specs.declared.sets.RuleSets.{RuleSets}
+use Rattle.aa_compile.specs.Said.{perms_of, minus, granted}
+use Rattle.aa_compile.specs.FileRules.{file_verdict, chosen, way_of}
+use Rattle.aa_model.specs.Requests.{RequestedLink}
 use Rattle.aa_mediate.specs.declared.bits.RequestBits.{RequestBits}
 
 -- both are of one kind

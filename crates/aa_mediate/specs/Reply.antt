@@ -3,18 +3,18 @@
 use Rattle.std.specs.Prelude.{ℕ, List, Bool, true, false, Option, Some, None, option_map, is_some}
 use Rattle.std.specs.Option.{option_map_or, option_and_then}
 use Rattle.std.specs.List.{slice_get}
-use Rattle.aa_profiles.specs.declared.policy.Policy.{Policy}
-use Rattle.aa_profiles.specs.declared.policy.Profile.{Profile}
+use Rattle.aa_model.specs.declared.policy.Policy.{Policy}
+use Rattle.aa_model.specs.declared.policy.Profile.{Profile}
 use Rattle.aa_compile.specs.declared.transition.Transition.{Transition}
 use Rattle.aa_compile.specs.declared.transition.Transition.TheVariants.{To}
 use Rattle.aa_compile.specs.Transitions.{named, transition}
-use Rattle.aa_requests.specs.declared.label.Label.{Label}
-use Rattle.aa_requests.specs.declared.label.Label.TheVariants.{Unconfined, Confined}
-use Rattle.aa_requests.specs.Requests.{RequestedExec}
-use Rattle.aa_requests.specs.declared.request.Request.{Request}
-use Rattle.aa_requests.specs.declared.request.Request.TheVariants.{File, Link, Exec, Cap, Net, Change, Reload}
-use Rattle.aa_requests.specs.declared.answer.Answer.{Answer}
-use Rattle.aa_labels.specs.Labels.{policy_number, label_named}
+use Rattle.aa_model.specs.declared.label.Label.{Label}
+use Rattle.aa_model.specs.declared.label.Label.TheVariants.{Unconfined, Confined}
+use Rattle.aa_model.specs.Requests.{RequestedExec}
+use Rattle.aa_model.specs.declared.request.Request.{Request}
+use Rattle.aa_model.specs.declared.request.Request.TheVariants.{File, Link, Exec, Cap, Net, Change, Reload}
+use Rattle.aa_model.specs.declared.answer.Answer.{Answer}
+use Rattle.aa_compile.specs.Labels.{policy_number, label_named}
 use Rattle.aa_mediate.specs.declared.bits.RequestBits.{RequestBits}
 use Rattle.aa_mediate.specs.Attachments.{attached_in}
 use Rattle.aa_mediate.specs.Held.{cap_verdict, net_verdict, change_verdict}

@@ -1,15 +1,13 @@
 //! The permissions that a request is about, sorted by what the rules say of them.
 
 ghost use Rattle.std.specs.Prelude.{◌≡◌, if◌then◌else◌};
-ghost use Rattle.aa_tables.specs.Permissions.{only_exec};
-ghost use Rattle.aa_said.specs.Said.{granted, minus, perms_of};
+ghost use Rattle.aa_base.specs.Permissions.{only_exec};
+ghost use Rattle.aa_compile.specs.Said.{granted, minus, perms_of};
 ghost use Rattle.aa_mediate.specs.Bits.{sorted, plain_bits, exec_missing, exec_denied, change_bits};
 
 use crate::held::BIT;
-use aa_compile::Transition;
-use aa_profiles::Perms;
-use aa_rows::Verdict;
-use aa_said::RuleSets;
+use aa_base::Perms;
+use aa_compile::{RuleSets, Transition, Verdict};
 use bitflags::Flags;
 
 /// The permissions that a request is about, sorted by what the rules say of them.

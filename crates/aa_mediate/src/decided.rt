@@ -4,8 +4,8 @@ ghost use Rattle.std.specs.Prelude.{◌≡◌, true, false};
 ghost use Rattle.aa_mediate.specs.Decided.{blocked, note_of, refusal_note, grant_note, answered, decided, without_perms};
 
 use crate::bits::RequestBits;
-use aa_profiles::{Perms, Profile};
-use aa_requests::{Answer, Label, Note, NoteWord};
+use aa_base::Perms;
+use aa_model::{Answer, Label, Note, NoteWord, Profile};
 use bitflags::Flags;
 
 fn blocked_bits(profile: &Profile, bits: &RequestBits) -> Perms

@@ -1,12 +1,12 @@
 //! What the rules on capabilities, sockets and changes of the profile say.
 
 ghost use Rattle.std.specs.Prelude.{◌≡◌, if◌then◌else◌};
-ghost use Rattle.aa_said.specs.Said.{said, nothing};
+ghost use Rattle.aa_compile.specs.Said.{said, nothing};
 ghost use Rattle.aa_mediate.specs.Held.{cap_verdict, net_verdict, change_verdict, saying};
 
-use aa_profiles::{Cap, CapRule, ChangeRule, Family, NetRule, Perms, SockType};
-use aa_rows::{holds_cap, holds_change, holds_net};
-use aa_said::RuleSets;
+use aa_base::{Cap, Family, Perms, SockType};
+use aa_compile::{RuleSets, holds_cap, holds_change, holds_net};
+use aa_model::{CapRule, ChangeRule, NetRule};
 
 /// The one bit of a request that isn't about a file.
 pub(crate) const BIT: Perms = Perms(1);

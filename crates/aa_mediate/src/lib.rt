@@ -10,10 +10,9 @@ mod link;
 mod mediator;
 mod reply;
 
-pub use aa_compile::{CompileRefusal, Compiled, compile};
-pub use aa_labels::{label_of, name_of_label, profile_of};
+pub use aa_compile::{CompileRefusal, Compiled, compile, label_of, name_of_label, profile_of};
 pub use aa_machine::Machine;
-pub use aa_requests::{
+pub use aa_model::{
     Answer, ChangeRequest, ExecRequest, FileRequest, Label, LinkRequest, Note, NoteWord, Request,
     RequestFault,
 };

@@ -2,15 +2,13 @@
 
 ghost use Rattle.std.specs.Prelude.{◌≡◌, ◌<◌, true, Some, length};
 ghost use Rattle.std.specs.List.{slice_get};
-ghost use Rattle.aa_profiles.specs.declared.policy.Profile.{Profile};
+ghost use Rattle.aa_model.specs.declared.policy.Profile.{Profile};
 ghost use Rattle.aa_mediate.specs.Links.{link_missing, link_bits_of, link_bits};
 
 use crate::bits::{RequestBits, exec_if, granted_by};
-use aa_compile::Compiled;
-use aa_profiles::Perms;
-use aa_requests::LinkRequest;
-use aa_rows::Way;
-use aa_said::RuleSets;
+use aa_base::Perms;
+use aa_compile::{Compiled, RuleSets, Way};
+use aa_model::LinkRequest;
 use bitflags::Flags;
 
 fn missing_of_link(link: RuleSets, target: RuleSets, same: bool) -> Perms

@@ -8,7 +8,7 @@ use crate::attachments::{attached_child_in, attached_in};
 use crate::reply::answer_to;
 use aa_compile::Compiled;
 use aa_machine::Machine;
-use aa_requests::{Answer, Label, Request};
+use aa_model::{Answer, Label, Request};
 use std::marker::Model;
 
 /// Decides requests by compiled policies, and is seen as the list of these policies.
@@ -20,8 +20,8 @@ pub struct Mediator<'p> {
 impl<'p> Model for Mediator<'p> {
     ghost use Rattle.std.specs.Prelude.{List};
     ghost use Rattle.std.specs.Coded.{coded_list};
-    ghost use Rattle.aa_profiles.specs.contracts.policy.Policy as contract;
-    ghost use Rattle.aa_profiles.specs.declared.policy.Policy.{Policy};
+    ghost use Rattle.aa_model.specs.contracts.policy.Policy as contract;
+    ghost use Rattle.aa_model.specs.declared.policy.Policy.{Policy};
 
     ghost Value = { List Policy };
 

@@ -2,21 +2,19 @@
 
 ghost use Rattle.std.specs.Prelude.{◌≡◌, ◌<◌, Some, length, option_map};
 ghost use Rattle.std.specs.List.{slice_get};
-ghost use Rattle.aa_profiles.specs.declared.policy.Profile.{Profile};
+ghost use Rattle.aa_model.specs.declared.policy.Profile.{Profile};
 ghost use Rattle.aa_compile.specs.Transitions.{named};
 ghost use Rattle.aa_mediate.specs.Bits.{file_bits};
 ghost use Rattle.aa_mediate.specs.Reply.{label_by, label_after, scrubs, found_or, goes_to, free_in, confined_in, kept, change_reply, exec_reply, reply_free, reply_in, reply_at, reply};
-ghost use Rattle.aa_labels.specs.Labels.{policy_number};
+ghost use Rattle.aa_compile.specs.Labels.{policy_number};
 
 use crate::attachments::attached_in;
 use crate::bits::{RequestBits, of_change, of_exec, plain};
 use crate::decided::{decide, granted, refused, unnamed};
 use crate::held::{BIT, verdict_of_cap, verdict_of_change, verdict_of_net};
 use crate::link::of_link;
-use aa_compile::{Compiled, Transition};
-use aa_labels::label_of;
-use aa_profiles::Profile;
-use aa_requests::{Answer, ExecRequest, FileRequest, Label, Request};
+use aa_compile::{Compiled, Transition, label_of};
+use aa_model::{Answer, ExecRequest, FileRequest, Label, Profile, Request};
 
 fn label_of_number(policy: u16, profile: Option<u16>) -> Label
     ensures { result ≡ label_by policy profile }

@@ -3,11 +3,11 @@ use Rattle.std.proofs.Common.{◌≡◌, ℕ, ◌+◌, ◌<◌, ◌≤◌, ◌�
 use Rattle.std.specs.Prelude.{◌≢◌}
 use Rattle.std.proofs.lemmas.Bool.{cases_lt}
 use Rattle.std.proofs.lemmas.List.{drop_more, at_drop_all, append-nil}
-use Rattle.aa_faults.specs.declared.fault.PolicyFault.{PolicyFault}
-use Rattle.aa_faults.specs.declared.fault.PolicyKind.TheVariants.{NoMemory, Syntax, TooLarge}
-use Rattle.aa_faults.specs.Kinds.{at_start, no_memory}
+use Rattle.aa_base.specs.declared.fault.PolicyFault.{PolicyFault}
+use Rattle.aa_base.specs.declared.fault.PolicyKind.TheVariants.{NoMemory, Syntax, TooLarge}
+use Rattle.aa_base.specs.Kinds.{at_start, no_memory}
 use Rattle.aa_words.specs.Sources.{has_name}
-use Rattle.aa_jobs.specs.declared.job.Include.{Include}
+use Rattle.aa_words.specs.declared.include.Include.{Include}
 use Rattle.aa_policies.specs.Policies.{Source, sources_of, CanFollow, IsRefusedBehind, IsFaultOfSources}
 
 -- these sources were added, and what is left can be added behind them exactly where all can be

@@ -2,17 +2,17 @@
 use Rattle.std.proofs.Common.{◌≡◌, ◌⊎◌, true, ℕ, ◌+◌, ◌<◌, ◌≤◌, List, [], ◌∷◌, ◌++◌, length, take, drop, get_or, inl, inr, Result, Ok, Err, ap, sym, subst, ◌∙◌, arith}
 use Rattle.std.proofs.lemmas.List.{take_more, drop_more, take-append-drop, take_all, length-take}
 use Rattle.std.specs.Prelude.{◌≢◌, IfOk, IfErr}
-use Rattle.aa_faults.specs.declared.fault.Spot.{Spot}
-use Rattle.aa_faults.specs.declared.fault.PolicyFault.{PolicyFault}
-use Rattle.aa_faults.specs.declared.fault.PolicyKind.TheVariants.{NoMemory, Unsupported, UndefinedVariable, VariableTwice, DuplicateProfile, TooLarge}
-use Rattle.aa_faults.specs.Kinds.{IsRefusal, no_memory}
+use Rattle.aa_base.specs.declared.fault.Spot.{Spot}
+use Rattle.aa_base.specs.declared.fault.PolicyFault.{PolicyFault}
+use Rattle.aa_base.specs.declared.fault.PolicyKind.TheVariants.{NoMemory, Unsupported, UndefinedVariable, VariableTwice, DuplicateProfile, TooLarge}
+use Rattle.aa_base.specs.Kinds.{IsRefusal, no_memory}
 use Rattle.aa_words.specs.declared.word.Word.{Word}
 use Rattle.aa_words.specs.Splits.{WordData, words_data, Splits}
-use Rattle.aa_heads.specs.Preamble.{IsTwice, IsUndefined, IsRefusedWith}
+use Rattle.aa_policy.specs.Preamble.{IsTwice, IsUndefined, IsRefusedWith}
 use Rattle.aa_policy.specs.Faults.{IsParseRefusal, is_path_only}
 use Rattle.aa_policy.specs.Refusals.{IsStop, IsFault, is_word_only}
 use Rattle.aa_policy.specs.Spelling.{Spells, IsPathFault, IsDuplicate, IsOverLimits, text_start}
-use Rattle.aa_profiles.specs.declared.policy.Policy.{Policy}
+use Rattle.aa_model.specs.declared.policy.Policy.{Policy}
 use Rattle.aa_policies.specs.declared.refused.RefusedPolicy.{RefusedPolicy}
 use Rattle.aa_policies.specs.Policies.{Source, IsSpelledBy, IsPolicyOf, ArePoliciesOf, end_of, IsFaultOfWords, IsFaultOfText, IsFirstRefused, CanFollow, IsRefusedBy, OfText, OfWords}
 

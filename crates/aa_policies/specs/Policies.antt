@@ -1,21 +1,21 @@
 -- Which policies texts spell, and what refuses one.
 -- Source: apparmor.d(5), "Format"; own.
 use Rattle.std.specs.Prelude.{ℕ, ◌≡◌, ◌<◌, ◌≤◌, ◌⊎◌, List, [], ◌∷◌, ◌++◌, length, map, true, false}
-use Rattle.aa_faults.specs.declared.fault.Spot.{Spot}
-use Rattle.aa_faults.specs.declared.fault.PolicyFault.{PolicyFault}
-use Rattle.aa_faults.specs.declared.fault.PolicyKind.{PolicyKind}
-use Rattle.aa_faults.specs.Kinds.{at_start}
+use Rattle.aa_base.specs.declared.fault.Spot.{Spot}
+use Rattle.aa_base.specs.declared.fault.PolicyFault.{PolicyFault}
+use Rattle.aa_base.specs.declared.fault.PolicyKind.{PolicyKind}
+use Rattle.aa_base.specs.Kinds.{at_start}
 use Rattle.aa_words.specs.declared.word.Word.{Word}
 use Rattle.aa_words.specs.Splits.{WordData, words_data, Splits}
 use Rattle.aa_words.specs.Sources.{has_name}
 use Rattle.aa_words.specs.Stops.{IsFaultOf}
-use Rattle.aa_profiles.specs.declared.policy.Policy.{Policy}
+use Rattle.aa_model.specs.declared.policy.Policy.{Policy}
 use Rattle.aa_policy.specs.Faults.{IsParseRefusal, is_path_only}
-use Rattle.aa_heads.specs.Preamble.{IsTwice, IsUndefined}
+use Rattle.aa_policy.specs.Preamble.{IsTwice, IsUndefined}
 use Rattle.aa_policy.specs.Refusals.{IsStop, IsFault, is_word_only}
 use Rattle.aa_policy.specs.Spelling.{Spells, IsPathFault, IsDuplicate, IsOverLimits, text_start}
 use Rattle.aa_compile.specs.Checks.{IsAccepted, IsRefused}
-use Rattle.aa_jobs.specs.declared.job.Include.{Include}
+use Rattle.aa_words.specs.declared.include.Include.{Include}
 use Rattle.aa_policies.specs.declared.refused.RefusedPolicy.{RefusedPolicy}
 
 -- a named text

@@ -1,19 +1,18 @@
 //! From texts to compiled policies.
 
 ghost use Rattle.std.specs.Prelude.{ℕ, ◌≡◌, ◌≢◌, ◌≤◌, ◌++◌, ◌∷◌, [], length, OnOk, IfOk, IfErr};
-ghost use Rattle.aa_profiles.specs.Limits.{most_states};
-ghost use Rattle.aa_faults.specs.declared.fault.PolicyKind.TheVariants.{NoMemory};
+ghost use Rattle.aa_model.specs.Limits.{most_states};
+ghost use Rattle.aa_base.specs.declared.fault.PolicyKind.TheVariants.{NoMemory};
 ghost use Rattle.aa_policies.specs.Policies.{sources_of, IsSpelledBy, IsPolicyOf, ArePoliciesOf, IsFaultOfText, IsFirstRefused, IsRefusedBy};
-ghost use Rattle.aa_profiles.specs.declared.policy.Policy.{Policy};
+ghost use Rattle.aa_model.specs.declared.policy.Policy.{Policy};
 
 use crate::refused::RefusedPolicy;
 use crate::sources::gather_sources;
+use aa_base::{PolicyFault, Text};
 use aa_compile::{Compiled, compile};
-use aa_faults::PolicyFault;
-use aa_jobs::Include;
-use aa_lists::Text;
-use aa_policy::{Policy, parse};
-use aa_words::{Sources, words};
+use aa_model::Policy;
+use aa_policy::parse;
+use aa_words::{Include, Sources, words};
 use std::alloc::Global;
 
 /// The policy that a text spells. Refused by the first fault of its words or of their grammar.

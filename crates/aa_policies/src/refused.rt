@@ -1,6 +1,6 @@
 //! Which policy of a list is refused, and why.
 
-use aa_faults::{PolicyFault, PolicyKind};
+use aa_base::{PolicyFault, PolicyKind};
 use std::alloc::AllocFailed;
 use std::fmt;
 
@@ -26,7 +26,7 @@ impl std::error::Error for RefusedPolicy {}
 
 impl<T: Drop> From<AllocFailed<T>> for RefusedPolicy {
     ghost use Rattle.std.specs.Prelude.{◌≡◌};
-    ghost use Rattle.aa_faults.specs.Kinds.{no_memory};
+    ghost use Rattle.aa_base.specs.Kinds.{no_memory};
 
     ghost from_gives = { λ _ e. e ≡ record { policy = 0; fault = no_memory } };
 

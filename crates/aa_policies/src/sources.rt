@@ -1,12 +1,11 @@
 //! The sources that policies may include.
 
 ghost use Rattle.std.specs.Prelude.{◌≡◌, ◌≢◌, ◌⊎◌, [], IfOk, OnOk, IfErr};
-ghost use Rattle.aa_faults.specs.Kinds.{no_memory, at_start};
+ghost use Rattle.aa_base.specs.Kinds.{no_memory, at_start};
 ghost use Rattle.aa_policies.specs.Policies.{sources_of, CanFollow, IsFaultOfSources};
 
-use aa_faults::{PolicyFault, PolicyKind};
-use aa_jobs::Include;
-use aa_words::Sources;
+use aa_base::{PolicyFault, PolicyKind};
+use aa_words::{Include, Sources};
 use std::alloc::Global;
 
 /// The sources that are handed in. Refused as `Sources::add` refuses the first that can't be added.

@@ -1,19 +1,19 @@
 -- What words are answered with says all that is promised of it.
 use Rattle.std.proofs.Common.{◌≡◌, List, Bool, true, false, refl, sym, ap, ◌∙◌, ◌⊎◌, inl, inr, rules}
 use Rattle.std.specs.Prelude.{◌≢◌, Result, Ok, Err, IfOk, IfErr}
-use Rattle.aa_faults.specs.declared.fault.Spot.{Spot}
-use Rattle.aa_faults.specs.declared.fault.PolicyFault.{PolicyFault}
-use Rattle.aa_faults.specs.declared.fault.PolicyKind.{PolicyKind}
-use Rattle.aa_faults.specs.declared.fault.PolicyKind.TheVariants.{NoMemory, Syntax, Unsupported, UnknownWord, BadMode, WriteWithAppend, BadPattern, UndefinedVariable, VariableTwice, VariableCircle, TooManyExpansions, RelativePath, DuplicateProfile, TooLarge}
-use Rattle.aa_faults.specs.Kinds.{IsRefusal, no_memory, at_start}
+use Rattle.aa_base.specs.declared.fault.Spot.{Spot}
+use Rattle.aa_base.specs.declared.fault.PolicyFault.{PolicyFault}
+use Rattle.aa_base.specs.declared.fault.PolicyKind.{PolicyKind}
+use Rattle.aa_base.specs.declared.fault.PolicyKind.TheVariants.{NoMemory, Syntax, Unsupported, UnknownWord, BadMode, WriteWithAppend, BadPattern, UndefinedVariable, VariableTwice, VariableCircle, TooManyExpansions, RelativePath, DuplicateProfile, TooLarge}
+use Rattle.aa_base.specs.Kinds.{IsRefusal, no_memory, at_start}
 use Rattle.aa_words.specs.declared.word.Word.{Word}
 use Rattle.aa_words.specs.Splits.{WordData, words_data}
 use Rattle.aa_glob.specs.Variables.{Variable}
-use Rattle.aa_heads.specs.Preamble.{IsMisnamed, IsTwice, IsUndefined, IsRefusedWith, IsPreambleRefusal, is_preamble_fault, misnamed}
-use Rattle.aa_heads.proofs.Refusals.{unless_memory}
+use Rattle.aa_policy.specs.Preamble.{IsMisnamed, IsTwice, IsUndefined, IsRefusedWith, IsPreambleRefusal, is_preamble_fault, misnamed}
+use Rattle.aa_policy.proofs.Refusals.{unless_memory}
 use Rattle.aa_rules.specs.Faults.{IsPlaced}
-use Rattle.aa_profiles.specs.declared.policy.Policy.{Policy}
-use Rattle.aa_profiles.specs.declared.policy.Profile.{Profile}
+use Rattle.aa_model.specs.declared.policy.Policy.{Policy}
+use Rattle.aa_model.specs.declared.policy.Profile.{Profile}
 use Rattle.aa_policy.specs.Bodies.{ProfileData, IsPolicy}
 use Rattle.aa_policy.specs.Faults.{IsParseRefusal, IsPathRefusal, is_parse_fault, is_path_fault, is_path_only}
 use Rattle.aa_policy.specs.Expansion.{IsFirstRefused}

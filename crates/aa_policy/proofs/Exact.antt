@@ -4,22 +4,22 @@ use Rattle.std.specs.Prelude.{◌≢◌}
 use Rattle.std.specs.List.{AllZip, IsDistinct, list_any}
 use Rattle.std.specs.Str.{bytes_eq}
 use Rattle.std.proofs.lemmas.List.{map-append}
-use Rattle.aa_faults.specs.declared.fault.Spot.{Spot}
-use Rattle.aa_faults.specs.declared.fault.PolicyFault.{PolicyFault}
-use Rattle.aa_faults.specs.declared.fault.PolicyKind.{PolicyKind}
-use Rattle.aa_faults.specs.declared.fault.PolicyKind.TheVariants.{NoMemory, Unsupported, DuplicateProfile, TooLarge}
-use Rattle.aa_faults.specs.Kinds.{no_memory, at_start}
+use Rattle.aa_base.specs.declared.fault.Spot.{Spot}
+use Rattle.aa_base.specs.declared.fault.PolicyFault.{PolicyFault}
+use Rattle.aa_base.specs.declared.fault.PolicyKind.{PolicyKind}
+use Rattle.aa_base.specs.declared.fault.PolicyKind.TheVariants.{NoMemory, Unsupported, DuplicateProfile, TooLarge}
+use Rattle.aa_base.specs.Kinds.{no_memory, at_start}
 use Rattle.aa_words.specs.declared.word.Word.{Word}
 use Rattle.aa_words.specs.Splits.{WordData, words_data}
 use Rattle.aa_glob.specs.Variables.{Variable}
-use Rattle.aa_heads.specs.Preamble.{IsMisnamed, IsPreambleRefusal, is_preamble_fault, misnamed}
-use Rattle.aa_heads.proofs.Refusals.{unless_wanting}
+use Rattle.aa_policy.specs.Preamble.{IsMisnamed, IsPreambleRefusal, is_preamble_fault, misnamed}
+use Rattle.aa_policy.proofs.Refusals.{unless_wanting}
 use Rattle.aa_rules.specs.Faults.{is_word_fault, IsPlaceIn}
-use Rattle.aa_profiles.specs.declared.policy.Profile.{Profile}
+use Rattle.aa_model.specs.declared.policy.Profile.{Profile}
 use Rattle.aa_policy.specs.Bodies.{ProfileData, IsPolicy}
 use Rattle.aa_policy.specs.Expansion.{IsFirstRefused}
 use Rattle.aa_policy.specs.Faults.{IsPathRefusal, is_path_fault, is_parse_fault}
-use Rattle.aa_profiles.specs.Lawful.{IsWithinLimits, names_of}
+use Rattle.aa_model.specs.Lawful.{IsWithinLimits, names_of}
 use Rattle.aa_policy.specs.Refusals.{IsStop, IsUnwritten, is_word_only, IsFault, SetTwice, NeverSet, AtPath, NamedTwice, PastLimits}
 use Rattle.aa_policy.specs.Sameness.{SameProfile}
 use Rattle.aa_policy.specs.Spelling.{IsPathFault, IsRepeated, MeansProfiles, paths_of}

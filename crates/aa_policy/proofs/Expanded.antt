@@ -2,15 +2,15 @@
 use Rattle.std.proofs.Common.{◌≡◌, ℕ, suc, zero, ◌+◌, ◌<◌, List, drop, get_or, length, [], ◌∷◌, ◌++◌, map, Bool, true, false, cond, refl, sym, ap, ◌∙◌, subst, inl, inr, Option, Some, None}
 use Rattle.std.specs.Prelude.{flat_map, nat_lt, Result, Ok, Err}
 use Rattle.std.specs.List.{AllByRecursion}
-use Rattle.aa_faults.specs.declared.fault.Spot.{Spot}
-use Rattle.aa_faults.specs.declared.fault.PolicyKind.{PolicyKind}
-use Rattle.aa_faults.specs.declared.fault.PolicyKind.TheVariants.{RelativePath}
-use Rattle.aa_faults.specs.declared.fault.PolicyFault.{PolicyFault}
-use Rattle.aa_reader.specs.declared.sign.Token.{Token}
+use Rattle.aa_base.specs.declared.fault.Spot.{Spot}
+use Rattle.aa_base.specs.declared.fault.PolicyKind.{PolicyKind}
+use Rattle.aa_base.specs.declared.fault.PolicyKind.TheVariants.{RelativePath}
+use Rattle.aa_base.specs.declared.fault.PolicyFault.{PolicyFault}
+use Rattle.aa_glob.specs.declared.sign.Token.{Token}
 use Rattle.aa_glob.specs.Variables.{Variable, values_of}
 use Rattle.aa_glob.specs.Pieces.{Piece, Plain, Use, Broken, pieces, begins_with}
-use Rattle.aa_reader.specs.Reading.{tokens, tokens_from, or_bad}
-use Rattle.aa_reader.specs.Signs.{is_unsupported, signs}
+use Rattle.aa_glob.specs.Reading.{tokens, tokens_from, or_bad}
+use Rattle.aa_glob.specs.Signs.{is_unsupported, signs}
 use Rattle.aa_glob.specs.Expansions.{Outcome, Texts, Stops, Deeper, both, alone, joined, in_turn, is_reserved, counted, of_values, outcome, of_path, pattern_text, expansion, and_more, expansions, Expands, in_walk, in_circle, too_many, as_texts}
 use Rattle.aa_glob.proofs.Depths.{expands_once}
 use Rattle.aa_policy.specs.Expansion.{PathData, Way, AsPath, AsName, IsReadAs, IsExpanding, IsRefused, IsFirstRefused}

@@ -4,7 +4,7 @@ use Rattle.std.specs.Prelude.{flat_map}
 use Rattle.std.proofs.lemmas.List.{drop_more, drop_all, append-nil}
 use Rattle.std.proofs.lemmas.List.Concat.{flat_map-cons}
 use Rattle.aa_policy.specs.declared.tree.ProfileTree.{ProfileTree}
-use Rattle.aa_profiles.specs.declared.policy.PassedOver.{PassedOver}
+use Rattle.aa_model.specs.declared.policy.PassedOver.{PassedOver}
 use Rattle.aa_policy.specs.Bodies.{tree_data}
 use Rattle.aa_rules.specs.Reading.{rule_data}
 use Rattle.aa_policy.specs.Spelling.{listed_at, passed_over_from}

@@ -9,13 +9,13 @@ use Rattle.std.proofs.lemmas.Bool.{eq-eqb}
 use Rattle.std.proofs.lemmas.List.{length-append, append-nil}
 use Rattle.std.proofs.lemmas.List.Elements.{All-append, All-cons, All-nil, All-from_recursion, recursion_from_All}
 use Rattle.std.proofs.lemmas.List.Sums.{sum_by-append, sum_by-cons}
-use Rattle.aa_faults.specs.declared.fault.Spot.{Spot}
-use Rattle.aa_faults.specs.declared.fault.PolicyFault.{PolicyFault}
-use Rattle.aa_faults.specs.declared.fault.PolicyKind.TheVariants.{DuplicateProfile}
-use Rattle.aa_faults.specs.Kinds.{no_memory}
-use Rattle.aa_profiles.specs.declared.rule.FileRule.{FileRule}
-use Rattle.aa_profiles.specs.declared.policy.Profile.{Profile}
-use Rattle.aa_profiles.specs.Lawful.{IsWithinLimits, names_of, file_patterns, attachments_with, attachment_patterns}
+use Rattle.aa_base.specs.declared.fault.Spot.{Spot}
+use Rattle.aa_base.specs.declared.fault.PolicyFault.{PolicyFault}
+use Rattle.aa_base.specs.declared.fault.PolicyKind.TheVariants.{DuplicateProfile}
+use Rattle.aa_base.specs.Kinds.{no_memory}
+use Rattle.aa_model.specs.declared.rule.FileRule.{FileRule}
+use Rattle.aa_model.specs.declared.policy.Profile.{Profile}
+use Rattle.aa_model.specs.Lawful.{IsWithinLimits, names_of, file_patterns, attachments_with, attachment_patterns}
 use Rattle.aa_policy.specs.declared.limits.KeptRules.{KeptRules}
 use Rattle.aa_policy.specs.declared.limits.ReadProfile.{ReadProfile}
 use Rattle.aa_policy.specs.declared.limits.KeptProfiles.{KeptProfiles}

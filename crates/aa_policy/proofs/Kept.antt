@@ -10,7 +10,7 @@ use Rattle.aa_words.specs.Splits.{WordData}
 use Rattle.aa_glob.specs.Variables.{Variable}
 use Rattle.aa_policy.specs.Bodies.{ChildData, FamilyData, ProfileData, PartData, Stated, Held, IsStatement, IsChild, IsBodyPart, IsProfile, IsItem, IsPolicy, if_any, rules_in, children_in, child_name, child_profile, family, row_from}
 use Rattle.aa_rules.specs.Grammar.{Production, Ending, Many, IsRule, Closes, IsEnd}
-use Rattle.aa_heads.specs.Heads.{TitleData, IsTitle}
+use Rattle.aa_policy.specs.Heads.{TitleData, IsTitle}
 use Rattle.aa_rules.specs.Names.{is_full_name, is_right_name, is_plain_name}
 use Rattle.aa_rules.specs.Reading.{RuleData, OnFile, OnCap, OnNet, OnChange, Listed}
 use Rattle.aa_policy.specs.Spelling.{on_file, files_of}

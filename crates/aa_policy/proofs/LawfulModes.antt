@@ -13,7 +13,7 @@ use Rattle.aa_rules.specs.declared.tree.Qualifiers.{Qualifiers}
 use Rattle.aa_rules.specs.Modes.{letter_bits, letters_bits, has_letter, exec_of, mode, with_part, part_of, front_of, back_of, mode_of}
 use Rattle.aa_rules.specs.FileRules.{IsPair, IsEntry, IsFile, exec_with}
 use Rattle.aa_rules.specs.Reading.{EntryData, ExecData, FileData}
-use Rattle.aa_profiles.specs.Lawful.{has_exec}
+use Rattle.aa_model.specs.Lawful.{has_exec}
 use Rattle.aa_policy.specs.Spelling as spelling
 
 abbrev IsLow : Option ℕ → Type 0

@@ -1,3 +1,6 @@
+pub mod HeadProductions
+pub mod Preambles
+pub mod Refusals
 pub mod Growth
 pub mod LawfulModes
 pub mod Distinct

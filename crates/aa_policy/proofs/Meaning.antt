@@ -5,17 +5,17 @@ use Rattle.std.specs.List.{AllByRecursion, AllZip}
 use Rattle.std.proofs.lemmas.List.{map_more, append-nil, length-map}
 use Rattle.std.proofs.lemmas.List.Concat.{flat_map-cons}
 use Rattle.std.proofs.lemmas.Grind.{flat_map-append}
-use Rattle.aa_patterns.specs.declared.pattern.Pattern.{Pattern}
+use Rattle.aa_pattern.specs.declared.pattern.Pattern.{Pattern}
 use Rattle.aa_glob.specs.Variables.{Variable}
-use Rattle.aa_profiles.specs.declared.rule.ChangeRule.{ChangeRule}
-use Rattle.aa_profiles.specs.declared.rule.FileRule.{FileRule}
-use Rattle.aa_profiles.specs.declared.policy.Profile.{Profile}
+use Rattle.aa_model.specs.declared.rule.ChangeRule.{ChangeRule}
+use Rattle.aa_model.specs.declared.rule.FileRule.{FileRule}
+use Rattle.aa_model.specs.declared.policy.Profile.{Profile}
 use Rattle.aa_rules.specs.declared.tree.RuleTree.{RuleTree}
 use Rattle.aa_policy.specs.declared.tree.ProfileTree.{ProfileTree}
-use Rattle.aa_reader.specs.Reading.{spelled}
+use Rattle.aa_glob.specs.Reading.{spelled}
 use Rattle.aa_policy.specs.Expansion.{PathData, IsExpanding, alone, tokens_of}
 use Rattle.aa_policy.specs.Bodies.{ProfileData, profile_data, tree_data}
-use Rattle.aa_heads.specs.Heads.{AttachmentData}
+use Rattle.aa_policy.specs.Heads.{AttachmentData}
 use Rattle.aa_rules.specs.Reading.{NameData, RuleData, OnFile, OnCap, OnNet, OnChange, Listed, rule_data}
 use Rattle.aa_policy.specs.Spelling.{AttachesTo, Aims, MeansRule, MeansChange, MeansProfile, MeansProfiles, on_file, files_of, on_change, changes_of, rule_paths, named_paths, change_paths, paths_of_rules, attachment_paths, profile_paths, paths_of}
 

@@ -5,9 +5,9 @@ use Rattle.std.specs.List.{slice_get}
 use Rattle.std.proofs.lemmas.List.{map-append, append-nil, append_assoc, length-append, length-map}
 use Rattle.std.proofs.lemmas.Option.{same_Some, slice_get-map, slice_get_within}
 use Rattle.aa_glob.specs.Variables.{Variable}
-use Rattle.aa_profiles.specs.declared.policy.Profile.{Profile}
+use Rattle.aa_model.specs.declared.policy.Profile.{Profile}
 use Rattle.aa_policy.specs.Bodies.{ChildData, FamilyData, ProfileData, number_of, child_profile, family, row_from}
-use Rattle.aa_profiles.specs.Lawful.{ParentsComeFirst}
+use Rattle.aa_model.specs.Lawful.{ParentsComeFirst}
 use Rattle.aa_policy.specs.Spelling.{MeansProfiles}
 
 -- ---- parents alone

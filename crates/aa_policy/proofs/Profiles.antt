@@ -9,15 +9,15 @@ use Rattle.aa_glob.specs.Variables.{Variable}
 use Rattle.std.specs.Str.{bytes_eq}
 use Rattle.aa_words.specs.Splits.{WordData}
 use Rattle.aa_rules.specs.Grammar.{Keyword, LacksKeyword, LacksAll, Many, IsRule, Closes, IsEnd, is_path_kind}
-use Rattle.aa_heads.specs.Heads.{HeadData, IsHead, BeginsProfile}
-use Rattle.aa_heads.specs.Preamble.{PreambleData, IsAbi, IsPreamble, variables_of}
+use Rattle.aa_policy.specs.Heads.{HeadData, IsHead, BeginsProfile}
+use Rattle.aa_policy.specs.Preamble.{PreambleData, IsAbi, IsPreamble, variables_of}
 use Rattle.aa_rules.specs.Reading.{RuleData}
 use Rattle.aa_policy.specs.Bodies.{ChildData, FamilyData, ProfileData, PartData, Stated, Held, IsStatement, IsChild, IsBodyPart, IsProfile, IsItem, IsPolicy, if_any, rules_in, children_in, row_from, row_of, family}
 use Rattle.aa_rules.proofs.Phrases.{keyword_apart, keyword_or_path}
 use Rattle.aa_rules.proofs.Productions.{rule_once, closes_once, rule_apart, end_once, keyword_or_close}
 use Rattle.aa_rules.proofs.Repetition.{Reads, many_once}
-use Rattle.aa_heads.proofs.HeadProductions.{head_once, head_begins, profile_or_closes}
-use Rattle.aa_heads.proofs.Preambles.{abi_once, preamble_once}
+use Rattle.aa_policy.proofs.HeadProductions.{head_once, head_begins, profile_or_closes}
+use Rattle.aa_policy.proofs.Preambles.{abi_once, preamble_once}
 use Rattle.aa_policy.proofs.RuleWords.{rule_or_keyword, rule_or_profile, no_rule_begins_abi}
 
 no_word : (w : WordData) (rest : List WordData) → [] ≡ w ∷ rest → ⊥

@@ -11,7 +11,7 @@ use Rattle.aa_rules.specs.Grammar.{IsPermission, IsQualified, Says, IsRule}
 use Rattle.aa_rules.specs.declared.modes.Mode.{Mode}
 use Rattle.aa_rules.specs.FileRules.{IsMode, IsPair, IsEntry, IsFile}
 use Rattle.aa_rules.specs.Modes.{mode_of, letters_bits}
-use Rattle.aa_heads.specs.Heads.{Fits, goes_on, BeginsPathNamed, BeginsProfile}
+use Rattle.aa_policy.specs.Heads.{Fits, goes_on, BeginsPathNamed, BeginsProfile}
 use Rattle.aa_rules.specs.Phrases.{Keyword, is_path_kind}
 use Rattle.aa_rules.specs.Reading.{EntryData, FileData, RuleData, OnFile, OnCap, OnNet, OnChange, Listed}
 use Rattle.aa_rules.proofs.Phrases.{starts_same, starts_kind, keyword_apart, other_left_out, keyword_or_path, left_out, false_true}

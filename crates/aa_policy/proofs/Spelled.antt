@@ -6,26 +6,26 @@ use Rattle.std.specs.List.{All, AllByRecursion, AllZip, IsDistinct, list_any}
 use Rattle.std.proofs.lemmas.List.{map-append}
 use Rattle.std.proofs.lemmas.List.Elements.{All-from_recursion, recursion_from_All, length_all_zip}
 use Rattle.std.specs.Cmp.Lexicographic.{nat_list_eq_equiv}
-use Rattle.aa_faults.specs.declared.fault.Spot.{Spot}
-use Rattle.aa_faults.specs.declared.fault.PolicyFault.{PolicyFault}
-use Rattle.aa_faults.specs.declared.fault.PolicyKind.{PolicyKind}
+use Rattle.aa_base.specs.declared.fault.Spot.{Spot}
+use Rattle.aa_base.specs.declared.fault.PolicyFault.{PolicyFault}
+use Rattle.aa_base.specs.declared.fault.PolicyKind.{PolicyKind}
 use Rattle.aa_words.specs.Splits.{WordData}
-use Rattle.aa_patterns.specs.declared.pattern.Pattern.{Pattern}
-use Rattle.aa_reader.specs.declared.sign.Token.{Token}
-use Rattle.aa_reader.specs.Reading.{spelled}
+use Rattle.aa_pattern.specs.declared.pattern.Pattern.{Pattern}
+use Rattle.aa_glob.specs.declared.sign.Token.{Token}
+use Rattle.aa_glob.specs.Reading.{spelled}
 use Rattle.aa_glob.specs.Variables.{Variable}
 use Rattle.aa_glob.proofs.Depths.{expands_once}
-use Rattle.aa_reader.proofs.Spellings.{tokens_decide_items}
-use Rattle.aa_profiles.specs.declared.rule.ChangeRule.{ChangeRule}
-use Rattle.aa_profiles.specs.declared.rule.Exec.{Exec}
-use Rattle.aa_profiles.specs.declared.rule.FileRule.{FileRule}
-use Rattle.aa_profiles.specs.declared.policy.Profile.{Profile}
-use Rattle.aa_profiles.specs.declared.policy.Policy.{Policy}
+use Rattle.aa_glob.proofs.Spellings.{tokens_decide_items}
+use Rattle.aa_model.specs.declared.rule.ChangeRule.{ChangeRule}
+use Rattle.aa_model.specs.declared.rule.Exec.{Exec}
+use Rattle.aa_model.specs.declared.rule.FileRule.{FileRule}
+use Rattle.aa_model.specs.declared.policy.Profile.{Profile}
+use Rattle.aa_model.specs.declared.policy.Policy.{Policy}
 use Rattle.aa_policy.specs.Expansion.{tokens_of, IsFirstRefused}
 use Rattle.aa_policy.specs.Bodies.{ProfileData, IsPolicy, if_any}
-use Rattle.aa_heads.specs.Heads.{AttachmentData}
+use Rattle.aa_policy.specs.Heads.{AttachmentData}
 use Rattle.aa_rules.specs.Reading.{FileData, NameData, ChangeData}
-use Rattle.aa_profiles.specs.Lawful.{IsLawful, IsLawfulRule, IsWithinLimits, IsWithinCounts, file_patterns, has_exec, names_of}
+use Rattle.aa_model.specs.Lawful.{IsLawful, IsLawfulRule, IsWithinLimits, IsWithinCounts, file_patterns, has_exec, names_of}
 use Rattle.aa_policy.specs.Sameness.{SamePatterns, SameIfAny, SameRule, SameChange, SameProfile, SamePolicy}
 use Rattle.aa_policy.specs.Spelling.{Spells, IsRepeated, AttachesTo, Aims, MeansRule, MeansChange, MeansProfile, MeansProfiles, exec_meant, files_of, changes_of, paths_of, passed_over_from}
 use Rattle.aa_policy.proofs.Attachments.{same_sum, same_attachments}

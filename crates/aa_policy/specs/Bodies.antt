@@ -1,7 +1,7 @@
 -- The bodies of profiles, profiles, and a policy as a whole.
 -- Source: apparmor.d(5), "Profiles", "Format"; own.
 use Rattle.std.specs.Prelude.{ℕ, ◌+◌, ◌≡◌, List, [], ◌∷◌, ◌++◌, map, flat_map, length, codes, nat_lt, if◌then◌else◌, Option, Some, None, option_map, option_and_then, true, false}
-use Rattle.aa_faults.specs.declared.fault.Spot.{Spot}
+use Rattle.aa_base.specs.declared.fault.Spot.{Spot}
 use Rattle.aa_words.specs.Splits.{WordData}
 use Rattle.aa_glob.specs.Variables.{Variable}
 use Rattle.aa_policy.specs.declared.tree.ChildTree.{ChildTree}
@@ -11,9 +11,9 @@ use Rattle.aa_policy.specs.declared.tree.ProfileTree.{ProfileTree}
 use Rattle.aa_policy.specs.declared.bodies.PartTree.{PartTree}
 use Rattle.aa_policy.specs.declared.bodies.PartTree.TheVariants.{States, Holds}
 use Rattle.aa_rules.specs.Grammar.{Production, Many, IsRule, Closes, IsEnd}
-use Rattle.aa_heads.specs.declared.heads.HeadFlags.{HeadFlags}
-use Rattle.aa_heads.specs.Heads.{AttachmentData, attachment_data, HeadData, head_data, IsHead}
-use Rattle.aa_heads.specs.Preamble.{PreambleData, IsAbi, IsPreamble, variables_of}
+use Rattle.aa_policy.specs.declared.heads.HeadFlags.{HeadFlags}
+use Rattle.aa_policy.specs.Heads.{AttachmentData, attachment_data, HeadData, head_data, IsHead}
+use Rattle.aa_policy.specs.Preamble.{PreambleData, IsAbi, IsPreamble, variables_of}
 use Rattle.aa_rules.specs.Reading.{RuleData, rule_data}
 
 -- ---- what is written

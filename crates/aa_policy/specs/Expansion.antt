@@ -1,13 +1,13 @@
 -- The patterns that the paths of a policy stand for and its names are read as, and the first of them that is refused.
 -- Source: apparmor.d(5), "Variables".
 use Rattle.std.specs.Prelude.{ℕ, ◌≡◌, ◌⊎◌, List, [], ◌∷◌, map, Result, Ok, Err}
-use Rattle.aa_faults.specs.declared.fault.Spot.{Spot}
-use Rattle.aa_faults.specs.declared.fault.PolicyFault.{PolicyFault}
-use Rattle.aa_faults.specs.declared.fault.PolicyKind.{PolicyKind}
-use Rattle.aa_patterns.specs.declared.pattern.Pattern.{Pattern}
-use Rattle.aa_reader.specs.declared.sign.Token.{Token}
+use Rattle.aa_base.specs.declared.fault.Spot.{Spot}
+use Rattle.aa_base.specs.declared.fault.PolicyFault.{PolicyFault}
+use Rattle.aa_base.specs.declared.fault.PolicyKind.{PolicyKind}
+use Rattle.aa_pattern.specs.declared.pattern.Pattern.{Pattern}
+use Rattle.aa_glob.specs.declared.sign.Token.{Token}
 use Rattle.aa_glob.specs.Variables.{Variable}
-use Rattle.aa_reader.specs.Reading.{spelled, tokens}
+use Rattle.aa_glob.specs.Reading.{spelled, tokens}
 use Rattle.aa_glob.specs.Expansions.{Expands}
 
 -- the tokens that spell each pattern, in order

@@ -1,10 +1,10 @@
 -- Which kinds of refusal come from where.
 -- Source: own.
 use Rattle.std.specs.Prelude.{◌≡◌, ◌⊎◌, Bool, true, false}
-use Rattle.aa_faults.specs.declared.fault.PolicyFault.{PolicyFault}
-use Rattle.aa_faults.specs.Kinds.{no_memory}
-use Rattle.aa_faults.specs.declared.fault.PolicyKind.{PolicyKind}
-use Rattle.aa_faults.specs.declared.fault.PolicyKind.TheVariants.{Syntax, Unsupported, UnknownWord, BadMode, WriteWithAppend, BadPattern, UndefinedVariable, VariableTwice, VariableCircle, TooManyExpansions, RelativePath, DuplicateProfile, TooLarge}
+use Rattle.aa_base.specs.declared.fault.PolicyFault.{PolicyFault}
+use Rattle.aa_base.specs.Kinds.{no_memory}
+use Rattle.aa_base.specs.declared.fault.PolicyKind.{PolicyKind}
+use Rattle.aa_base.specs.declared.fault.PolicyKind.TheVariants.{Syntax, Unsupported, UnknownWord, BadMode, WriteWithAppend, BadPattern, UndefinedVariable, VariableTwice, VariableCircle, TooManyExpansions, RelativePath, DuplicateProfile, TooLarge}
 
 -- the kinds of a path that doesn't expand
 abbrev pub is_path_fault : PolicyKind → Bool

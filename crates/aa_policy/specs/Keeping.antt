@@ -2,11 +2,11 @@
 -- Source: own.
 use Rattle.std.specs.Prelude.{ℕ, ◌+◌, ◌≡◌, ◌<◌, ◌≤◌, List, [], ◌++◌, length, Option, option_and_then, true, false}
 use Rattle.std.specs.List.{All, AllZip, sum_by}
-use Rattle.aa_patterns.specs.Limits.{most_patterns}
-use Rattle.aa_patterns.specs.declared.pattern.Pattern.{Pattern}
-use Rattle.aa_profiles.specs.declared.rule.FileRule.{FileRule}
-use Rattle.aa_profiles.specs.declared.policy.Profile.{Profile}
-use Rattle.aa_profiles.specs.Lawful.{IsWithinLimits, file_patterns, attachment_patterns}
+use Rattle.aa_pattern.specs.Limits.{most_patterns}
+use Rattle.aa_pattern.specs.declared.pattern.Pattern.{Pattern}
+use Rattle.aa_model.specs.declared.rule.FileRule.{FileRule}
+use Rattle.aa_model.specs.declared.policy.Profile.{Profile}
+use Rattle.aa_model.specs.Lawful.{IsWithinLimits, file_patterns, attachment_patterns}
 use Rattle.aa_policy.specs.declared.expansion.BodyRules.{BodyRules}
 use Rattle.aa_policy.specs.declared.limits.KeptRules.{KeptRules}
 use Rattle.aa_policy.specs.declared.limits.ReadProfile.{ReadProfile}

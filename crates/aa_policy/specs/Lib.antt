@@ -1,8 +1,10 @@
-pub use Rattle.aa_glob.specs.Expansions
-pub use Rattle.aa_items.specs.Globs
 pub use Rattle.aa_glob.specs.Variables
-pub use Rattle.aa_heads.specs.Preamble
-pub use Rattle.aa_profiles.specs.Lawful
+pub use Rattle.aa_glob.specs.Expansions
+pub use Rattle.aa_pattern.specs.Globs
+pub use Rattle.aa_model.specs.Lawful
+pub mod HeadFaults
+pub mod Heads
+pub mod Preamble
 pub mod Bodies
 pub mod Expansion
 pub mod Faults

@@ -3,13 +3,13 @@
 use Rattle.std.specs.Prelude.{◌≡◌, List, true}
 use Rattle.std.specs.List.{IsDistinct}
 use Rattle.std.specs.Str.{bytes_eq}
-use Rattle.aa_faults.specs.declared.fault.PolicyFault.{PolicyFault}
-use Rattle.aa_faults.specs.declared.fault.PolicyKind.TheVariants.{DuplicateProfile, TooLarge}
-use Rattle.aa_faults.specs.Kinds.{at_start}
+use Rattle.aa_base.specs.declared.fault.PolicyFault.{PolicyFault}
+use Rattle.aa_base.specs.declared.fault.PolicyKind.TheVariants.{DuplicateProfile, TooLarge}
+use Rattle.aa_base.specs.Kinds.{at_start}
 use Rattle.aa_words.specs.Splits.{WordData}
 use Rattle.aa_glob.specs.Variables.{Variable}
-use Rattle.aa_profiles.specs.declared.policy.Profile.{Profile}
-use Rattle.aa_profiles.specs.Lawful.{IsWithinLimits, names_of}
+use Rattle.aa_model.specs.declared.policy.Profile.{Profile}
+use Rattle.aa_model.specs.Lawful.{IsWithinLimits, names_of}
 use Rattle.aa_policy.specs.Bodies.{ProfileData, IsPolicy}
 use Rattle.aa_policy.specs.Expansion.{IsFirstRefused}
 use Rattle.aa_policy.specs.Faults.{is_path_fault}

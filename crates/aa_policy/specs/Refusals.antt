@@ -1,15 +1,15 @@
 -- Why words spell no policy.
 -- Source: own.
 use Rattle.std.specs.Prelude.{◌≡◌, List, Bool, true, false}
-use Rattle.aa_faults.specs.declared.fault.Spot.{Spot}
-use Rattle.aa_faults.specs.declared.fault.PolicyFault.{PolicyFault}
-use Rattle.aa_faults.specs.declared.fault.PolicyKind.{PolicyKind}
-use Rattle.aa_faults.specs.declared.fault.PolicyKind.TheVariants.{Syntax, UnknownWord, BadMode, WriteWithAppend, UndefinedVariable, VariableTwice, DuplicateProfile, TooLarge}
+use Rattle.aa_base.specs.declared.fault.Spot.{Spot}
+use Rattle.aa_base.specs.declared.fault.PolicyFault.{PolicyFault}
+use Rattle.aa_base.specs.declared.fault.PolicyKind.{PolicyKind}
+use Rattle.aa_base.specs.declared.fault.PolicyKind.TheVariants.{Syntax, UnknownWord, BadMode, WriteWithAppend, UndefinedVariable, VariableTwice, DuplicateProfile, TooLarge}
 use Rattle.aa_words.specs.declared.word.Word.{Word}
 use Rattle.aa_words.specs.Splits.{WordData, words_data}
 use Rattle.aa_glob.specs.Variables.{Variable}
 use Rattle.aa_rules.specs.Faults.{IsPlaceIn}
-use Rattle.aa_heads.specs.Preamble.{IsTwice, IsUndefined}
+use Rattle.aa_policy.specs.Preamble.{IsTwice, IsUndefined}
 use Rattle.aa_policy.specs.Bodies.{ProfileData, IsPolicy}
 use Rattle.aa_policy.specs.Spelling.{IsPathFault, IsDuplicate, IsOverLimits, text_start}
 

@@ -1,12 +1,12 @@
 -- When two policies are the same.
 use Rattle.std.specs.Prelude.{◌≡◌, List, Option, Some, None}
 use Rattle.std.specs.List.{AllZip}
-use Rattle.aa_patterns.specs.declared.pattern.Pattern.{Pattern}
-use Rattle.aa_items.specs.Sameness.{SameItems}
-use Rattle.aa_profiles.specs.declared.rule.ChangeRule.{ChangeRule}
-use Rattle.aa_profiles.specs.declared.rule.FileRule.{FileRule}
-use Rattle.aa_profiles.specs.declared.policy.Profile.{Profile}
-use Rattle.aa_profiles.specs.declared.policy.Policy.{Policy}
+use Rattle.aa_pattern.specs.declared.pattern.Pattern.{Pattern}
+use Rattle.aa_pattern.specs.Sameness.{SameItems}
+use Rattle.aa_model.specs.declared.rule.ChangeRule.{ChangeRule}
+use Rattle.aa_model.specs.declared.rule.FileRule.{FileRule}
+use Rattle.aa_model.specs.declared.policy.Profile.{Profile}
+use Rattle.aa_model.specs.declared.policy.Policy.{Policy}
 
 -- as many patterns, each of the same items in its place, wherever these lie in memory
 abbrev pub SamePatterns : List Pattern → List Pattern → Type 0

@@ -3,24 +3,24 @@
 use Rattle.std.specs.Prelude.{ℕ, ◌+◌, ◌≡◌, flat_map, List, [], ◌∷◌, ◌++◌, Option, Some, None, option_map, true, Ok}
 use Rattle.std.specs.List.{list_any, AllZip, IsDistinct}
 use Rattle.std.specs.Str.{bytes_eq}
-use Rattle.aa_faults.specs.declared.fault.Spot.{Spot}
-use Rattle.aa_faults.specs.declared.fault.PolicyFault.{PolicyFault}
+use Rattle.aa_base.specs.declared.fault.Spot.{Spot}
+use Rattle.aa_base.specs.declared.fault.PolicyFault.{PolicyFault}
 use Rattle.aa_words.specs.Splits.{WordData}
-use Rattle.aa_patterns.specs.declared.pattern.Pattern.{Pattern}
+use Rattle.aa_pattern.specs.declared.pattern.Pattern.{Pattern}
 use Rattle.aa_glob.specs.Variables.{Variable}
-use Rattle.aa_profiles.specs.declared.rule.CapRule.{CapRule}
-use Rattle.aa_profiles.specs.declared.rule.ChangeRule.{ChangeRule}
-use Rattle.aa_profiles.specs.declared.rule.Exec.{Exec}
-use Rattle.aa_profiles.specs.declared.rule.FileRule.{FileRule}
-use Rattle.aa_profiles.specs.declared.rule.NetRule.{NetRule}
-use Rattle.aa_profiles.specs.declared.policy.Profile.{Profile}
-use Rattle.aa_profiles.specs.declared.policy.PassedOver.{PassedOver}
-use Rattle.aa_profiles.specs.declared.policy.Policy.{Policy}
+use Rattle.aa_model.specs.declared.rule.CapRule.{CapRule}
+use Rattle.aa_model.specs.declared.rule.ChangeRule.{ChangeRule}
+use Rattle.aa_model.specs.declared.rule.Exec.{Exec}
+use Rattle.aa_model.specs.declared.rule.FileRule.{FileRule}
+use Rattle.aa_model.specs.declared.rule.NetRule.{NetRule}
+use Rattle.aa_model.specs.declared.policy.Profile.{Profile}
+use Rattle.aa_model.specs.declared.policy.PassedOver.{PassedOver}
+use Rattle.aa_model.specs.declared.policy.Policy.{Policy}
 use Rattle.aa_policy.specs.Expansion.{PathData, AsPath, AsName, StandsFor, IsFirstRefused}
 use Rattle.aa_policy.specs.Bodies.{ProfileData, IsPolicy}
-use Rattle.aa_heads.specs.Heads.{AttachmentData}
-use Rattle.aa_profiles.specs.Lawful.{IsWithinLimits, names_of}
-use Rattle.aa_reader.specs.Reading.{spelled, tokens}
+use Rattle.aa_policy.specs.Heads.{AttachmentData}
+use Rattle.aa_model.specs.Lawful.{IsWithinLimits, names_of}
+use Rattle.aa_glob.specs.Reading.{spelled, tokens}
 use Rattle.aa_rules.specs.Reading.{ExecData, FileData, NameData, ChangeData, RuleData, OnFile, OnCap, OnNet, OnChange, Listed}
 
 -- ---- what is written, and what it means

@@ -4,7 +4,8 @@ ghost use Rattle.std.specs.Prelude.{◌≡◌, ◌++◌, OnOk, IfOk, map, flat_m
 ghost use Rattle.aa_rules.specs.Reading.{rule_data};
 ghost use Rattle.aa_policy.specs.Spelling.{cap_rules_of, net_rules_of};
 
-use aa_rules::{CapRule, NetRule, RuleTree};
+use aa_model::{CapRule, NetRule};
+use aa_rules::RuleTree;
 use std::alloc::{AllocError, Global};
 
 /// Adds a rule to those before it, if it is on capabilities.

@@ -1,17 +1,19 @@
 //! Bodies of profiles, and the profiles themselves (apparmor.d(5), "Profiles").
 
 ghost use Rattle.std.specs.Prelude.{◌≡◌, ◌<◌, ◌≤◌, ◌+◌, ◌++◌, true, List, Option, map, flat_map, length, option_map, OnOk, OnErr, IfOk, IfErr};
-ghost use Rattle.aa_faults.specs.Kinds.{IsRefusal};
+ghost use Rattle.aa_base.specs.Kinds.{IsRefusal};
 ghost use Rattle.aa_words.specs.Splits.{WordData};
 ghost use Rattle.aa_rules.specs.Faults.{is_word_fault, IsWordRefusal, IsPlaceIn, IsPlaced};
 ghost use Rattle.aa_rules.specs.Grammar.{Closes, Many};
 ghost use Rattle.aa_policy.specs.Bodies.{ChildData, FamilyData, PartData, IsStatement, IsChild, IsBodyPart, IsProfile, if_any, rules_in, children_in, child_data, family_data, part_data};
 ghost use Rattle.aa_rules.specs.Reading.{RuleData, rest_of, rule_data};
 
+use crate::heads::{begins_profile, head_of};
+use crate::preamble::abi_of;
 use crate::tree::{ChildTree, FamilyTree};
-use aa_heads::{abi_of, begins_profile, head_of};
+use aa_base::{PolicyFault, PolicyKind, Spot};
 use aa_rules::{RuleTree, closes, fault, keyword_stands, rule_of};
-use aa_words::{PolicyFault, PolicyKind, Spot, Word};
+use aa_words::Word;
 use std::alloc::{AllocError, Global};
 
 /// A statement, which has a rule unless it is an abi rule, and the place behind it.

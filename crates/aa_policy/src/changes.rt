@@ -3,18 +3,19 @@
 ghost use Rattle.std.specs.Prelude.{◌≡◌, ◌≢◌, ◌++◌, List, flat_map, map, option_map, Ok, IfOk, IfErr, OnOk};
 ghost use Rattle.std.specs.List.{AllZip};
 ghost use Rattle.aa_glob.specs.Variables.{Variable};
-ghost use Rattle.aa_reader.specs.Reading.{spelled, tokens};
-ghost use Rattle.aa_profiles.specs.declared.rule.ChangeRule.{ChangeRule};
+ghost use Rattle.aa_glob.specs.Reading.{spelled, tokens};
+ghost use Rattle.aa_model.specs.declared.rule.ChangeRule.{ChangeRule};
 ghost use Rattle.aa_policy.specs.Expansion.{AsName, IsRefused, IsFirstRefused};
 ghost use Rattle.aa_policy.specs.Faults.{IsPathRefusal};
 ghost use Rattle.aa_rules.specs.Reading.{name_data, change_data, rule_data};
 ghost use Rattle.aa_policy.specs.Spelling.{Aims, MeansChange, on_change, changes_of, named_paths, change_paths};
 
 use crate::refusal::refusal_at;
-use aa_glob::{Pattern, read_pattern};
-use aa_profiles::ChangeRule;
+use aa_base::{PolicyFault, PolicyKind};
+use aa_glob::read_pattern;
+use aa_model::ChangeRule;
+use aa_pattern::Pattern;
 use aa_rules::{ChangeTree, NameTree, RuleTree};
-use aa_words::{PolicyFault, PolicyKind};
 use std::alloc::Global;
 
 /// The pattern that a name is read as.

@@ -2,29 +2,29 @@
 
 ghost use Rattle.std.specs.Prelude.{◌≡◌, ◌≢◌, ◌++◌, List, flat_map, map, option_map, IfOk, IfErr, OnOk};
 ghost use Rattle.std.specs.List.{AllZip};
-ghost use Rattle.aa_profiles.specs.declared.rule.FileRule.{FileRule};
-ghost use Rattle.aa_profiles.specs.declared.policy.Profile.{Profile};
+ghost use Rattle.aa_model.specs.declared.rule.FileRule.{FileRule};
+ghost use Rattle.aa_model.specs.declared.policy.Profile.{Profile};
 ghost use Rattle.aa_policy.specs.Expansion.{AsPath, StandsFor, IsRefused, IsFirstRefused};
 ghost use Rattle.aa_policy.specs.Faults.{IsPathRefusal};
 ghost use Rattle.aa_policy.specs.Keeping.{KeepsRules, KeepsProfile, KeepsProfiles, read_profile};
 ghost use Rattle.aa_policy.specs.Bodies.{full_name, profile_data, tree_data};
-ghost use Rattle.aa_heads.specs.Heads.{attachment_data};
+ghost use Rattle.aa_policy.specs.Heads.{attachment_data};
 ghost use Rattle.aa_rules.specs.Reading.{target_data, exec_data, file_data, rule_data};
 ghost use Rattle.aa_policy.specs.Spelling.{AttachesTo, MeansRule, MeansChange, MeansProfile, MeansProfiles, exec_meant, on_file, files_of, cap_rules_of, net_rules_of, changes_of, paths_of_rules, attachment_paths, rule_paths, profile_paths, paths_of};
 
 use crate::access::{cap_rules, net_rules};
 use crate::changes::change_rules;
+use crate::heads::AttachmentTree;
 use crate::limits::{
     KeptProfiles, KeptRules, ReadProfile, no_profiles, no_rules, push_profile, push_rule,
 };
 use crate::refusal::refusal_at;
 use crate::tree::ProfileTree;
-use aa_glob::{Pattern, Vars, expand};
-use aa_heads::AttachmentTree;
-use aa_lists::{Seq, Text};
-use aa_profiles::{CapRule, ChangeRule, Exec, FileRule, NetRule, Profile};
+use aa_base::{PolicyFault, PolicyKind, Seq, Spot, Text};
+use aa_glob::{Vars, expand};
+use aa_model::{CapRule, ChangeRule, Exec, FileRule, NetRule, Profile};
+use aa_pattern::Pattern;
 use aa_rules::{ExecTree, FileTree, RuleTree};
-use aa_words::{PolicyFault, PolicyKind, Spot};
 use std::alloc::{AllocError, Global};
 
 /// The patterns that a path stands for.

@@ -1,21 +1,23 @@
 //! The first pass: reads what is written, word by word.
 
 ghost use Rattle.std.specs.Prelude.{Bool, ◌≡◌, ◌<◌, ◌≤◌, ◌++◌, true, List, Option, map, length, option_map, OnOk, OnErr, IfOk, IfErr};
-ghost use Rattle.aa_faults.specs.declared.fault.Spot.{Spot};
-ghost use Rattle.aa_faults.specs.Kinds.{IsRefusal};
+ghost use Rattle.aa_base.specs.declared.fault.Spot.{Spot};
+ghost use Rattle.aa_base.specs.Kinds.{IsRefusal};
 ghost use Rattle.aa_words.specs.Splits.{WordData, words_data};
 ghost use Rattle.aa_rules.specs.Faults.{IsWordRefusal, IsPlaced};
 ghost use Rattle.aa_policy.specs.Bodies.{FamilyData, ProfileData, IsItem, IsPolicy, row_of, family_data, profile_data, tree_data};
 ghost use Rattle.aa_glob.specs.Variables.{Variable};
-ghost use Rattle.aa_heads.specs.Preamble.{IsMisnamed, IsTwice, IsUndefined, misnamed, IsRefusedWith, IsPreambleRefusal};
+ghost use Rattle.aa_policy.specs.Preamble.{IsMisnamed, IsTwice, IsUndefined, misnamed, IsRefusedWith, IsPreambleRefusal};
 ghost use Rattle.aa_rules.specs.Reading.{rest_of};
 
+use crate::assignments::begins_assignment;
 use crate::bodies::profile_of;
 use crate::families::push_family;
+use crate::preamble::{abi_of, preamble_of};
 use crate::tree::{FamilyTree, PolicyTree, ProfileTree};
-use aa_heads::{abi_of, begins_assignment, preamble_of};
+use aa_base::{PolicyFault, PolicyKind, Spot};
 use aa_rules::{fault, item_fault, keyword_stands, path_at};
-use aa_words::{PolicyFault, PolicyKind, Spot, Word};
+use aa_words::Word;
 use std::alloc::{AllocError, Global};
 
 /// An item behind the preamble: a profile, or an abi rule; and the place behind it.

@@ -3,17 +3,16 @@
 ghost use Rattle.std.specs.Prelude.{◌≡◌, ◌⊎◌, ◌+◌, ◌≤◌, ◌↔◌, ◌++◌, ◌∷◌, [], List, IsTrue, length, IfOk, IfErr, OnOk};
 ghost use Rattle.std.specs.List.{IsDistinct};
 ghost use Rattle.std.specs.Str.{bytes_eq};
-ghost use Rattle.aa_patterns.specs.Limits.{most_patterns};
-ghost use Rattle.aa_faults.specs.Kinds.{no_memory};
-ghost use Rattle.aa_profiles.specs.declared.rule.FileRule.{FileRule};
-ghost use Rattle.aa_profiles.specs.declared.policy.Profile.{Profile};
-ghost use Rattle.aa_profiles.specs.Lawful.{names_of, attachments_with, attachment_patterns};
+ghost use Rattle.aa_pattern.specs.Limits.{most_patterns};
+ghost use Rattle.aa_base.specs.Kinds.{no_memory};
+ghost use Rattle.aa_model.specs.declared.rule.FileRule.{FileRule};
+ghost use Rattle.aa_model.specs.declared.policy.Profile.{Profile};
+ghost use Rattle.aa_model.specs.Lawful.{names_of, attachments_with, attachment_patterns};
 ghost use Rattle.aa_policy.specs.Keeping.{KeepsRules, KeepsProfile, KeepsProfiles, FitsBeside, HasRoom, HasNoPatterns, IsNamedAs};
 ghost use Rattle.aa_policy.specs.Spelling.{IsRepeated};
 
-use aa_lists::Seq;
-use aa_profiles::{FileRule, Profile};
-use aa_words::{PolicyFault, PolicyKind};
+use aa_base::{PolicyFault, PolicyKind, Seq};
+use aa_model::{FileRule, Profile};
 use std::alloc::{AllocError, Global};
 use std::collections::BTreeSet;
 

@@ -6,8 +6,8 @@ ghost use Rattle.aa_rules.specs.Reading.{rule_data};
 ghost use Rattle.aa_policy.specs.Spelling.{listed_at, passed_over_from};
 
 use crate::tree::ProfileTree;
-use aa_lists::Text;
-use aa_profiles::PassedOver;
+use aa_base::Text;
+use aa_model::PassedOver;
 use aa_rules::RuleTree;
 use std::alloc::{AllocError, Global};
 

@@ -1,27 +1,27 @@
 //! Gives the policy that a text's words spell.
 
 ghost use Rattle.std.specs.Prelude.{◌≡◌, ◌⊎◌, List, true, IfOk, IfErr};
-ghost use Rattle.aa_faults.specs.declared.fault.PolicyFault.{PolicyFault};
-ghost use Rattle.aa_faults.specs.Kinds.{IsRefusal, no_memory};
+ghost use Rattle.aa_base.specs.declared.fault.PolicyFault.{PolicyFault};
+ghost use Rattle.aa_base.specs.Kinds.{IsRefusal, no_memory};
 ghost use Rattle.aa_words.specs.Splits.{WordData, words_data};
 ghost use Rattle.aa_policy.specs.Faults.{IsParseRefusal, is_path_only};
-ghost use Rattle.aa_heads.specs.Preamble.{IsTwice, IsUndefined, IsRefusedWith};
+ghost use Rattle.aa_policy.specs.Preamble.{IsTwice, IsUndefined, IsRefusedWith};
 ghost use Rattle.aa_policy.specs.Bodies.{tree_data};
 ghost use Rattle.aa_policy.specs.Meant.{IsWritten, AreMeant, IsMeaningless};
 ghost use Rattle.aa_policy.specs.Refusals.{IsStop, IsFault, is_word_only};
 ghost use Rattle.aa_policy.specs.Sameness.{SamePolicy};
 ghost use Rattle.aa_policy.specs.Spelling.{Spells, IsPathFault, IsDuplicate, IsOverLimits, passed_over_from, text_start};
-ghost use Rattle.aa_profiles.specs.declared.policy.Policy.{Policy};
+ghost use Rattle.aa_model.specs.declared.policy.Policy.{Policy};
 
 use crate::expansion::profiles;
 use crate::items::tree_of;
 use crate::limits::check_names;
 use crate::listing::rules_passed_over;
 use crate::tree::ProfileTree;
+use aa_base::{PolicyFault, PolicyKind, Seq};
 use aa_glob::Vars;
-use aa_lists::Seq;
-use aa_profiles::{Policy, Profile};
-use aa_words::{PolicyFault, PolicyKind, WordList};
+use aa_model::{Policy, Profile};
+use aa_words::WordList;
 use std::alloc::Global;
 
 /// The profiles that are written, looked at one by one and then together.

@@ -1,9 +1,9 @@
 //! Refusals of paths and names.
 
 ghost use Rattle.std.specs.Prelude.{◌≡◌, ◌≢◌};
-ghost use Rattle.aa_faults.specs.Kinds.{no_memory};
+ghost use Rattle.aa_base.specs.Kinds.{no_memory};
 
-use aa_words::{PolicyFault, PolicyKind, Spot};
+use aa_base::{PolicyFault, PolicyKind, Spot};
 
 /// A refusal at the word of a path or a name; want of memory points at no word.
 pub fn refusal_at(kind: PolicyKind, at: Spot) -> PolicyFault

@@ -1,7 +1,7 @@
 //! What a text's words say as they are written, before any of it is given a meaning.
 
+use crate::heads::HeadTree;
 use aa_glob::Vars;
-use aa_heads::HeadTree;
 use aa_rules::RuleTree;
 
 /// A child profile as it is written.

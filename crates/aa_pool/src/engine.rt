@@ -3,7 +3,8 @@ ghost use Rattle.std.specs.Prelude.{◌≡◌, ◌+◌, ◌<◌, ◌≤◌, ◌+
 ghost use Rattle.aa_lane.specs.Ends.{known, IsCapacity};
 ghost use Rattle.aa_pool.specs.Opened.{AreOpened, AreEndsOf, Denies, AreShut};
 
-use aa_lane::{Lane, Machine, Owner, Server, Shutter};
+use aa_lane::{Lane, Owner, Server, Shutter};
+use aa_machine::Machine;
 use std::alloc::{AllocError, Global};
 
 /// Why lanes weren't opened. Where several hold, the last of them is answered.

@@ -3,7 +3,8 @@ ghost use Rattle.std.specs.Prelude.{◌≡◌};
 ghost use Rattle.aa_lane.specs.Ends.{known};
 
 use crate::serving::{Serving, Turn};
-use aa_lane::{Lane, Machine, Served, Server};
+use aa_lane::{Lane, Served, Server};
+use aa_machine::Machine;
 
 /// How many requests are answered in one turn at most.
 const MOST_A_TURN: u32 = 64;

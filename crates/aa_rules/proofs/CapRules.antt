@@ -4,11 +4,11 @@ use Rattle.std.specs.Prelude.{codes, bit_or}
 use Rattle.std.proofs.lemmas.Nat.{le_or_l, le_or_r, pow_pos}
 use Rattle.aa_words.specs.declared.word.WordKind.TheVariants.{Name}
 use Rattle.aa_words.specs.Splits.{WordData}
-use Rattle.aa_profiles.specs.declared.rule.CapRule.{CapRule}
+use Rattle.aa_model.specs.declared.rule.CapRule.{CapRule}
 use Rattle.aa_rules.specs.declared.tree.Qualifiers.{Qualifiers}
 use Rattle.aa_rules.specs.CapRules.{NamesEnd, IsCapName, numbers_bits, all_caps, caps_of, IsCaps, IsCap}
 use Rattle.aa_rules.specs.Phrases.{Many, Starts}
-use Rattle.aa_tables.specs.Tables.{number_in, capability_names}
+use Rattle.aa_base.specs.Tables.{number_in, capability_names}
 use Rattle.aa_rules.proofs.Phrases.{starts_same, keyword_once}
 use Rattle.std.proofs.lemmas.Option.{same_Some}
 use Rattle.aa_rules.proofs.Repetition.{Reads, many_once}

@@ -1,6 +1,6 @@
 -- A rule on changes of profile reads in one way alone.
 use Rattle.std.proofs.Common.{◌≡◌, ℕ, List, refl, sym, ap, ◌∙◌, Option, Some, None}
-use Rattle.aa_faults.specs.declared.fault.Spot.{Spot}
+use Rattle.aa_base.specs.declared.fault.Spot.{Spot}
 use Rattle.aa_words.specs.declared.word.WordKind.TheVariants.{Arrow}
 use Rattle.aa_words.specs.Splits.{WordData}
 use Rattle.aa_rules.specs.declared.tree.Qualifiers.{Qualifiers}

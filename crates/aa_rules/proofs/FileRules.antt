@@ -3,11 +3,11 @@ use Rattle.std.proofs.Common.{◌≡◌, ◌⊎◌, inl, inr, ℕ, List, ◌∷�
 use Rattle.std.specs.Prelude.{codes}
 use Rattle.std.specs.Option.{IfNone}
 use Rattle.std.proofs.lemmas.Option.{same_Some}
-use Rattle.aa_faults.specs.declared.fault.Spot.{Spot}
+use Rattle.aa_base.specs.declared.fault.Spot.{Spot}
 use Rattle.aa_words.specs.declared.word.WordKind.{WordKind}
 use Rattle.aa_words.specs.declared.word.WordKind.TheVariants.{Arrow, Comma, Name}
 use Rattle.aa_words.specs.Splits.{WordData}
-use Rattle.aa_tables.specs.declared.perms.Perms.{Perms}
+use Rattle.aa_base.specs.declared.perms.Perms.{Perms}
 use Rattle.aa_rules.specs.declared.modes.ExecMode.{ExecMode}
 use Rattle.aa_rules.specs.declared.modes.Mode.{Mode}
 use Rattle.aa_rules.specs.declared.tree.Qualifiers.{Qualifiers}

@@ -1,7 +1,7 @@
 -- What stands where a profile's name has to.
 use Rattle.std.proofs.Common.{◌≡◌, List, [], ◌∷◌, Bool, true, false, refl, sym, ap, ◌∙◌}
 use Rattle.std.specs.Prelude.{if◌then◌else◌}
-use Rattle.aa_faults.specs.declared.fault.PolicyKind.TheVariants.{Syntax}
+use Rattle.aa_base.specs.declared.fault.PolicyKind.TheVariants.{Syntax}
 use Rattle.aa_words.specs.declared.word.WordKind.{WordKind}
 use Rattle.aa_words.specs.Splits.{WordData}
 use Rattle.aa_rules.specs.Names.{name_fault}

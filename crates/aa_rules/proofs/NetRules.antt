@@ -2,17 +2,17 @@
 use Rattle.std.proofs.Common.{◌≡◌, ℕ, List, [], ◌∷◌, Option, Some, None, refl, sym, ap, subst, ◌∙◌}
 use Rattle.std.specs.Prelude.{codes, is_some, option_map, option_and_then}
 use Rattle.std.specs.Option.{option_or}
-use Rattle.aa_faults.specs.declared.fault.PolicyKind.{PolicyKind}
+use Rattle.aa_base.specs.declared.fault.PolicyKind.{PolicyKind}
 use Rattle.aa_words.specs.declared.word.WordKind.TheVariants.{Name}
 use Rattle.aa_words.specs.Splits.{WordData}
-use Rattle.aa_profiles.specs.declared.rule.NetRule.{NetRule}
+use Rattle.aa_model.specs.declared.rule.NetRule.{NetRule}
 use Rattle.aa_rules.specs.declared.net_rules.Sockets.{Sockets}
 use Rattle.aa_rules.specs.declared.tree.Qualifiers.{Qualifiers}
 use Rattle.aa_rules.specs.CapRules.{NamesEnd}
 use Rattle.aa_rules.specs.NetRules.{network_of, one_in, one_name, kinds_in, two_names, all_families, all_kinds, sockets, IsName, IsSockets, IsNets, IsNet}
 use Rattle.aa_rules.specs.Phrases.{Many, Starts, Lacks}
 use Rattle.aa_rules.specs.RuleFaults.{socket_name_fault, NetFails}
-use Rattle.aa_tables.specs.Tables.{family_names}
+use Rattle.aa_base.specs.Tables.{family_names}
 use Rattle.aa_rules.proofs.Phrases.{starts_same, keyword_once}
 use Rattle.std.proofs.lemmas.Option.{same_Some}
 use Rattle.aa_rules.proofs.CapRules.{names_end_once}

@@ -10,8 +10,8 @@ use Rattle.aa_rules.specs.Phrases.{Starts, Keyword, LacksKeyword, is_path_kind}
 use Rattle.aa_rules.specs.CapRules.{IsCaps}
 use Rattle.aa_rules.specs.ChangeRules.{IsChanges}
 use Rattle.aa_rules.specs.NetRules.{IsNets}
-use Rattle.aa_profiles.specs.declared.rule.CapRule.{CapRule}
-use Rattle.aa_profiles.specs.declared.rule.NetRule.{NetRule}
+use Rattle.aa_model.specs.declared.rule.CapRule.{CapRule}
+use Rattle.aa_model.specs.declared.rule.NetRule.{NetRule}
 use Rattle.aa_rules.specs.Reading.{FileData, ChangeData, RuleData, OnFile, OnCap, OnNet, OnChange, Listed}
 use Rattle.aa_rules.proofs.Phrases.{starts_same, starts_kind, keyword_once, keyword_apart, optional_once, false_true, no_keyword, left_out}
 use Rattle.aa_rules.proofs.CapRules.{cap_once}

@@ -1,7 +1,7 @@
 -- What a `?` hands on.
 use Rattle.std.proofs.Common.{◌≡◌, ap, sym, subst, ◌∙◌}
 use Rattle.std.specs.Prelude.{Result, Ok, Err, IfErr}
-use Rattle.aa_faults.specs.declared.fault.PolicyFault.{PolicyFault}
+use Rattle.aa_base.specs.declared.fault.PolicyFault.{PolicyFault}
 
 abbrev refusal : {T : Type 0} → PolicyFault → Result T PolicyFault
 refusal e = Err e

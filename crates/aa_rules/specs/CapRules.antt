@@ -3,10 +3,10 @@
 use Rattle.std.specs.Prelude.{ℕ, ◌≡◌, ◌^◌, ◌-◌, List, [], ◌∷◌, length, codes, Some, bit_or}
 use Rattle.aa_words.specs.declared.word.WordKind.TheVariants.{Name}
 use Rattle.aa_words.specs.Splits.{WordData}
-use Rattle.aa_profiles.specs.declared.rule.CapRule.{CapRule}
+use Rattle.aa_model.specs.declared.rule.CapRule.{CapRule}
 use Rattle.aa_rules.specs.declared.tree.Qualifiers.{Qualifiers}
 use Rattle.aa_rules.specs.Phrases.{Ending, Many, Starts, Lacks, Keyword}
-use Rattle.aa_tables.specs.Tables.{number_in, capability_names}
+use Rattle.aa_base.specs.Tables.{number_in, capability_names}
 
 -- names end at a word that is none, which is left
 abbrev pub NamesEnd : Ending

@@ -4,8 +4,8 @@ use Rattle.std.specs.Prelude.{ℕ, ◌≡◌, ◌⊎◌, List, codes, Option, So
 use Rattle.std.specs.Str.{bytes_eq}
 use Rattle.aa_words.specs.declared.word.WordKind.TheVariants.{Arrow, Comma, Name}
 use Rattle.aa_words.specs.Splits.{WordData}
-use Rattle.aa_profiles.specs.declared.rule.ExecKind.{ExecKind}
-use Rattle.aa_profiles.specs.declared.rule.ExecKind.TheVariants as kind
+use Rattle.aa_model.specs.declared.rule.ExecKind.{ExecKind}
+use Rattle.aa_model.specs.declared.rule.ExecKind.TheVariants as kind
 use Rattle.aa_rules.specs.declared.modes.ExecMode.{ExecMode}
 use Rattle.aa_rules.specs.declared.modes.Mode.{Mode}
 use Rattle.aa_rules.specs.declared.tree.Qualifiers.{Qualifiers}

@@ -1,4 +1,4 @@
-pub use Rattle.aa_tables.specs.Tables
+pub use Rattle.aa_base.specs.Tables
 pub mod CapRules
 pub mod ChangeRules
 pub mod Faults

@@ -4,12 +4,12 @@ use Rattle.std.specs.Prelude.{ℕ, List, [], ◌∷◌, ◌++◌, Bool, true, fa
 use Rattle.std.specs.Bool.{nat_eq}
 use Rattle.std.specs.List.{list_any, take_while, prefix_len, starts_with}
 use Rattle.std.specs.Str.{bytes_eq}
-use Rattle.aa_faults.specs.declared.fault.PolicyKind.{PolicyKind}
-use Rattle.aa_faults.specs.declared.fault.PolicyKind.TheVariants.{Unsupported, BadMode, WriteWithAppend}
-use Rattle.aa_profiles.specs.declared.rule.ExecKind.{ExecKind}
-use Rattle.aa_profiles.specs.declared.rule.ExecKind.TheVariants as kind
-use Rattle.aa_profiles.specs.declared.rule.Fallback.{Fallback}
-use Rattle.aa_profiles.specs.declared.rule.Fallback.TheVariants as fallback
+use Rattle.aa_base.specs.declared.fault.PolicyKind.{PolicyKind}
+use Rattle.aa_base.specs.declared.fault.PolicyKind.TheVariants.{Unsupported, BadMode, WriteWithAppend}
+use Rattle.aa_model.specs.declared.rule.ExecKind.{ExecKind}
+use Rattle.aa_model.specs.declared.rule.ExecKind.TheVariants as kind
+use Rattle.aa_model.specs.declared.rule.Fallback.{Fallback}
+use Rattle.aa_model.specs.declared.rule.Fallback.TheVariants as fallback
 use Rattle.aa_rules.specs.declared.modes.ExecMode.{ExecMode}
 use Rattle.aa_rules.specs.declared.modes.Mode.{Mode}
 

@@ -5,12 +5,12 @@ use Rattle.std.specs.Option.{option_or}
 use Rattle.std.specs.Str.{bytes_eq}
 use Rattle.aa_words.specs.declared.word.WordKind.TheVariants.{Name}
 use Rattle.aa_words.specs.Splits.{WordData}
-use Rattle.aa_profiles.specs.declared.rule.NetRule.{NetRule}
+use Rattle.aa_model.specs.declared.rule.NetRule.{NetRule}
 use Rattle.aa_rules.specs.declared.tree.Qualifiers.{Qualifiers}
 use Rattle.aa_rules.specs.declared.net_rules.Sockets.{Sockets}
 use Rattle.aa_rules.specs.CapRules.{NamesEnd}
 use Rattle.aa_rules.specs.Phrases.{Many, Starts, Keyword}
-use Rattle.aa_tables.specs.Tables.{number_in, family_names, sock_type_names}
+use Rattle.aa_base.specs.Tables.{number_in, family_names, sock_type_names}
 
 -- bit n of a set stands for number n of its table
 abbrev pub sockets : ℕ → ℕ → Sockets

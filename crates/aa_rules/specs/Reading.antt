@@ -1,17 +1,17 @@
 -- What a text's rules are as they are written, before any of it is given a meaning.
 use Rattle.std.specs.Prelude.{ℕ, Bool, List, Option, option_map, drop}
 use Rattle.std.specs.Borrow.{Bor}
-use Rattle.aa_faults.specs.declared.fault.Spot.{Spot}
+use Rattle.aa_base.specs.declared.fault.Spot.{Spot}
 use Rattle.aa_words.specs.declared.word.Word.{Word}
 use Rattle.aa_words.specs.Splits.{WordData, words_data}
-use Rattle.aa_tables.specs.declared.perms.Perms.{Perms}
+use Rattle.aa_base.specs.declared.perms.Perms.{Perms}
 use Rattle.aa_rules.specs.declared.modes.ExecMode.{ExecMode}
 use Rattle.aa_rules.specs.declared.modes.Mode.{Mode}
 use Rattle.aa_rules.specs.declared.tree.ChangeTree.{ChangeTree}
 use Rattle.aa_rules.specs.declared.tree.EntryTree.{EntryTree}
 use Rattle.aa_rules.specs.declared.tree.ExecTree.{ExecTree}
-use Rattle.aa_profiles.specs.declared.rule.CapRule.{CapRule}
-use Rattle.aa_profiles.specs.declared.rule.NetRule.{NetRule}
+use Rattle.aa_model.specs.declared.rule.CapRule.{CapRule}
+use Rattle.aa_model.specs.declared.rule.NetRule.{NetRule}
 use Rattle.aa_rules.specs.declared.tree.FileTree.{FileTree}
 use Rattle.aa_rules.specs.declared.tree.NameTree.{NameTree}
 use Rattle.aa_rules.specs.declared.tree.Qualifiers.{Qualifiers}

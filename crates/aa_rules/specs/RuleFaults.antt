@@ -2,10 +2,10 @@
 -- is at its first word, or behind the text where it has none.
 use Rattle.std.specs.Prelude.{ℕ, ◌≡◌, List, [], ◌∷◌, ◌++◌, codes, Option, Some, None, is_some, is_none, unwrap_or, Bool, true, false, not, ◌&&◌, ◌==◌, ◌^◌, drop, if◌then◌else◌, bit_and}
 use Rattle.std.specs.Str.{bytes_eq}
-use Rattle.aa_faults.specs.declared.fault.Spot.{Spot}
-use Rattle.aa_faults.specs.declared.fault.PolicyFault.{PolicyFault}
-use Rattle.aa_faults.specs.declared.fault.PolicyKind.{PolicyKind}
-use Rattle.aa_faults.specs.declared.fault.PolicyKind.TheVariants.{Syntax, Unsupported, UnknownWord, BadMode}
+use Rattle.aa_base.specs.declared.fault.Spot.{Spot}
+use Rattle.aa_base.specs.declared.fault.PolicyFault.{PolicyFault}
+use Rattle.aa_base.specs.declared.fault.PolicyKind.{PolicyKind}
+use Rattle.aa_base.specs.declared.fault.PolicyKind.TheVariants.{Syntax, Unsupported, UnknownWord, BadMode}
 use Rattle.aa_words.specs.declared.word.WordKind.{WordKind}
 use Rattle.aa_words.specs.declared.word.WordKind.TheVariants.{Open, Comma, Equals, LeftParen, Path, Name}
 use Rattle.aa_words.specs.Splits.{WordData, is_one_of}
@@ -19,7 +19,7 @@ use Rattle.aa_rules.specs.Names.{is_left_out, name_fault}
 use Rattle.aa_rules.specs.NetRules.{IsName, one_name, network_of}
 use Rattle.aa_rules.specs.Phrases.{Production, Many, Here, Starts, Lacks, StartsAs, LacksAll, is_path_kind, is_name_kind, begins_as, Keyword, LacksKeyword, Optional, place_of}
 use Rattle.aa_rules.specs.Reading.{EntryData, RuleData, OnNet, OnChange}
-use Rattle.aa_tables.specs.Tables.{number_in, capability_names}
+use Rattle.aa_base.specs.Tables.{number_in, capability_names}
 
 -- a refusal that says so: of that kind, at the first word of the rest, or behind the text
 pub record IsFaultBy (Fails : Production PolicyKind) (ws : List WordData) (end : Spot) (e : PolicyFault) : Type 0 where

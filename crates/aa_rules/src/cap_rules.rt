@@ -10,9 +10,9 @@ ghost use Rattle.aa_rules.specs.RuleFaults.{IsFaultBy, CapFails};
 
 use crate::lookahead::{fault, word_of_kind};
 use crate::tree::Qualifiers;
-use aa_profiles::CapRule;
-use aa_tables::{Cap, Caps};
-use aa_words::{PolicyFault, PolicyKind, Spot, Word, WordKind};
+use aa_base::{Cap, Caps, PolicyFault, PolicyKind, Spot};
+use aa_model::CapRule;
+use aa_words::{Word, WordKind};
 use bitflags::Flags;
 
 /// All capabilities.

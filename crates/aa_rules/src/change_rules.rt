@@ -11,7 +11,8 @@ use crate::faults::no_name_fault;
 use crate::lookahead::{profile_name_at, spot_of, word_of_kind};
 use crate::names::is_target_name;
 use crate::tree::{ChangeTree, NameTree, Qualifiers};
-use aa_words::{PolicyFault, Spot, Word, WordKind};
+use aa_base::{PolicyFault, Spot};
+use aa_words::{Word, WordKind};
 
 /// The name behind an arrow.
 fn aim_of<'s>(words: &[Word<'s>], at: usize) -> Option<NameTree<'s>>

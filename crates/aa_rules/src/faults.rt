@@ -14,8 +14,8 @@ use crate::lookahead::{fault, is_name_kind, is_path_kind, keyword_stands, path_a
 use crate::modes::{Mode, mode_fault, takes_target};
 use crate::names::{is_left_out, name_fault};
 use crate::tree::RuleTree;
-use aa_tables::Perms;
-use aa_words::{PolicyFault, PolicyKind, Spot, Word, WordKind};
+use aa_base::{Perms, PolicyFault, PolicyKind, Spot};
+use aa_words::{Word, WordKind};
 use bitflags::Flags;
 
 /// Whether a word that can be a path stands at a place.

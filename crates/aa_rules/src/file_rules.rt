@@ -15,7 +15,8 @@ use crate::lookahead::{optional, path_at, profile_name_at, spot_of, word_of_kind
 use crate::modes::{ExecMode, Mode, mode_of, takes_target};
 use crate::names::{is_left_out, is_target_name};
 use crate::tree::{EntryTree, ExecTree, FileTree, Qualifiers};
-use aa_words::{PolicyFault, Spot, Word, WordKind};
+use aa_base::{PolicyFault, Spot};
+use aa_words::{Word, WordKind};
 
 /// The mode at a place.
 fn mode_at(words: &[Word], at: usize, deny: bool) -> Option<Mode>

@@ -12,7 +12,7 @@ mod net_rules;
 mod rules;
 mod tree;
 
-pub use aa_profiles::{CapRule, ExecKind, Fallback, NetRule};
+pub use aa_model::{CapRule, ExecKind, Fallback, NetRule};
 pub use faults::item_fault;
 pub use lookahead::{
     closes, fault, keyword_stands, path_at, profile_name_at, spot_of, word_of_kind,

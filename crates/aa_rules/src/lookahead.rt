@@ -7,7 +7,8 @@ ghost use Rattle.aa_rules.specs.Faults.{IsPlaceIn};
 ghost use Rattle.aa_rules.specs.Grammar.{Starts, StartsAs, Lacks, LacksAll, is_path_kind, is_name_kind, spot_of, place_of, Keyword, LacksKeyword, Optional, Closes};
 ghost use Rattle.aa_rules.specs.Reading.{rest_of};
 
-use aa_words::{PolicyFault, PolicyKind, Spot, Word, WordKind};
+use aa_base::{PolicyFault, PolicyKind, Spot};
+use aa_words::{Word, WordKind};
 
 /// Where a word stands.
 pub fn spot_of(word: &Word) -> Spot

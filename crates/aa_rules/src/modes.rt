@@ -7,9 +7,8 @@ ghost use Rattle.aa_rules.specs.FileRules.{names_profile, takes_target};
 ghost use Rattle.aa_rules.specs.Modes.{letter_bits, letters_bits, has_letter, is_access_letter, is_exec_letter, how, exec_of, with_part, parts_of, writes_and_appends, mode_of, begins_mixed, frees_part, is_mixed, mode_fault};
 
 use crate::names::begins_with_all;
-use aa_profiles::{ExecKind, Fallback};
-use aa_tables::Perms;
-use aa_words::PolicyKind;
+use aa_base::{Perms, PolicyKind};
+use aa_model::{ExecKind, Fallback};
 use bitflags::Flags;
 
 /// How a mode lets a program be executed.

@@ -7,7 +7,7 @@ ghost use Rattle.std.specs.Str.{bytes_eq};
 ghost use Rattle.aa_rules.specs.Faults.{is_word_fault};
 ghost use Rattle.aa_rules.specs.Names.{begins_with, holds_pair, holds, is_single_name, is_full_name, is_right_name, is_plain_name, is_target_name, name_fault, is_left_out};
 
-use aa_words::PolicyKind;
+use aa_base::PolicyKind;
 
 /// Whether the first byte is this one.
 pub fn begins_with(text: &[u8], b: u8) -> bool

@@ -6,13 +6,13 @@ ghost use Rattle.aa_rules.specs.Faults.{is_word_fault, IsPlaceIn};
 ghost use Rattle.aa_rules.specs.NetRules.{transport_kinds, one_in, one_name, is_internet, kinds_in, two_names, IsSockets, IsNets};
 ghost use Rattle.aa_rules.specs.Reading.{rest_of};
 ghost use Rattle.aa_rules.specs.RuleFaults.{IsFaultBy, NetFails, condition_words, socket_name_fault};
-ghost use Rattle.aa_tables.specs.Tables.{family_names, sock_type_names};
+ghost use Rattle.aa_base.specs.Tables.{family_names, sock_type_names};
 
 use crate::lookahead::{fault, word_of_kind};
 use crate::tree::Qualifiers;
-use aa_profiles::NetRule;
-use aa_tables::{Family, SockType};
-use aa_words::{PolicyFault, PolicyKind, Spot, Word, WordKind};
+use aa_base::{Family, PolicyFault, PolicyKind, SockType, Spot};
+use aa_model::NetRule;
+use aa_words::{Word, WordKind};
 
 /// Families and types together: bit n stands for entry n of the table of each.
 #[derive(Clone, Copy, Debug, PartialEq, Eq)]

@@ -14,7 +14,8 @@ use crate::file_rules::file_of;
 use crate::lookahead::{keyword_stands, optional, word_of_kind};
 use crate::net_rules::net_rule_of;
 use crate::tree::{Qualifiers, RuleTree};
-use aa_words::{PolicyFault, Spot, Word, WordKind};
+use aa_base::{PolicyFault, Spot};
+use aa_words::{Word, WordKind};
 
 /// Whether `deny` stands at a place, and the place behind it or behind `allow`.
 fn permission_of(words: &[Word], at: usize) -> (bool, usize)

@@ -1,9 +1,8 @@
 //! What the words of a rule say as they are written, before any of it is given a meaning.
 
 use crate::modes::{ExecMode, Mode};
-use aa_profiles::{CapRule, NetRule};
-use aa_tables::Perms;
-use aa_words::Spot;
+use aa_base::{Perms, Spot};
+use aa_model::{CapRule, NetRule};
 
 /// What stands before a rule (apparmor.d(5), "Qualifiers"). `allow` says what holds without it.
 #[derive(Clone, Copy, Debug, PartialEq, Eq)]

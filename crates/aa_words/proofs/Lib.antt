@@ -1,3 +1,5 @@
+pub mod Extents
+pub mod Forms
 pub mod Pieces
 pub mod Named
 pub mod Order

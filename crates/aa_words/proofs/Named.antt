@@ -8,9 +8,9 @@ use Rattle.aa_words.specs.Splits.{source_from}
 use Rattle.std.specs.Global.{Vec}
 use Rattle.std.specs.Str.{bytes_eq}
 use Rattle.indexmap.specs.IndexMap.{insert_entry}
-use Rattle.aa_faults.specs.declared.fault.PolicyFault.{PolicyFault}
-use Rattle.aa_faults.specs.declared.fault.PolicyKind.TheVariants.{NoMemory, Syntax}
-use Rattle.aa_faults.specs.Kinds.{at_start, no_memory}
+use Rattle.aa_base.specs.declared.fault.PolicyFault.{PolicyFault}
+use Rattle.aa_base.specs.declared.fault.PolicyKind.TheVariants.{NoMemory, Syntax}
+use Rattle.aa_base.specs.Kinds.{at_start, no_memory}
 use Rattle.aa_words.specs.Sources.{has_name, entries}
 
 -- a look-up by name finds what the list of names has

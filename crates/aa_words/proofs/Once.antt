@@ -1,9 +1,9 @@
 -- A text has one list of words, and none where its reading stops.
 use Rattle.std.proofs.Common.{◌≡◌, ◌≢◌, IfErr, ℕ, zero, suc, ◌+◌, ◌<◌, ◌⊎◌, inl, inr, Bool, true, false, List, [], ◌∷◌, ◌++◌, length, take, Option, Some, None, Result, Ok, Err, refl, sym, ap, subst, ◌∙◌, arith, append_assoc}
 use Rattle.std.proofs.lemmas.List.{length-append}
-use Rattle.aa_faults.specs.declared.fault.PolicyFault.{PolicyFault}
-use Rattle.aa_faults.specs.declared.fault.PolicyKind.TheVariants.{NoMemory}
-use Rattle.aa_faults.specs.Kinds.{IsRefusal, no_memory}
+use Rattle.aa_base.specs.declared.fault.PolicyFault.{PolicyFault}
+use Rattle.aa_base.specs.declared.fault.PolicyKind.TheVariants.{NoMemory}
+use Rattle.aa_base.specs.Kinds.{IsRefusal, no_memory}
 use Rattle.aa_words.specs.declared.piece.Piece.{Piece}
 use Rattle.aa_words.specs.declared.piece.Piece.TheVariants.{Include}
 use Rattle.aa_words.specs.declared.piece.Place.{Place}

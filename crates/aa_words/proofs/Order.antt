@@ -4,8 +4,8 @@ use Rattle.std.specs.List.{All}
 use Rattle.std.specs.Str.{bytes_eq}
 use Rattle.std.proofs.lemmas.List.{take_at, drop_at, length-append, length-take-le, take-append-drop}
 use Rattle.std.proofs.lemmas.List.Elements.{All-nil, All-cons, All-append}
-use Rattle.aa_faults.specs.declared.fault.PolicyFault.{PolicyFault}
-use Rattle.aa_faults.specs.declared.fault.Spot.{Spot}
+use Rattle.aa_base.specs.declared.fault.PolicyFault.{PolicyFault}
+use Rattle.aa_base.specs.declared.fault.Spot.{Spot}
 use Rattle.aa_words.specs.declared.word.WordKind.{WordKind}
 use Rattle.aa_words.specs.declared.word.WordKind.TheVariants.{Quoted, Value}
 use Rattle.aa_words.specs.declared.piece.Piece.{Piece}
@@ -13,7 +13,7 @@ use Rattle.aa_words.specs.declared.piece.Piece.TheVariants.{QuotedValue, Token}
 use Rattle.aa_words.specs.declared.piece.Place.{Place}
 use Rattle.aa_words.specs.declared.reading.Reading.{Reading}
 use Rattle.aa_words.specs.declared.reading.Count.{Count}
-use Rattle.aa_extents.specs.Includes.{included_name, is_optional}
+use Rattle.aa_words.specs.Includes.{included_name, is_optional}
 use Rattle.aa_words.specs.Splits.{WordData, Part, spelled, AreParts, reading_word, kind_of, is_in_quotes, unquoted, token_word, words_in, word_of, place_after, start, source_from, Opening, Setting, opened, opens, fits, include_opens, is_include, IncludeGives, PieceGives, Gives, Reads, main_reading, main_count}
 use Rattle.aa_words.specs.WordLists.{text_of_file, StandsIn, IsBehind, Rise}
 use Rattle.aa_words.proofs.Pieces.{some, part_long}

@@ -6,9 +6,9 @@ use Rattle.aa_words.specs.declared.piece.Piece.{Piece}
 use Rattle.aa_words.specs.declared.piece.Piece.TheVariants.{Blank, JoinedLine, Comment, Include, Variable, QuotedValue, Token}
 use Rattle.aa_words.specs.declared.piece.Place.{Place}
 use Rattle.aa_words.specs.Splits.{run_after, extent, Part, IsPart, piece_at}
-use Rattle.aa_extents.specs.Runs.{path_start}
-use Rattle.aa_extents.proofs.Extents.{comment_le, assigned_le, quoted_le, path_le, value_le, skipped_le, name_le}
-use Rattle.aa_extents.proofs.Forms.{include_len_le}
+use Rattle.aa_words.specs.Runs.{path_start}
+use Rattle.aa_words.proofs.Extents.{comment_le, assigned_le, quoted_le, path_le, value_le, skipped_le, name_le}
+use Rattle.aa_words.proofs.Forms.{include_len_le}
 
 -- nothing stands in an empty text
 pub piece_short : (place : Place) (bytes : List ℕ) → length bytes < 1 → piece_at place bytes ≡ None

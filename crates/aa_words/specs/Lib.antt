@@ -1,6 +1,6 @@
-pub use Rattle.aa_faults.specs.Kinds
-pub use Rattle.aa_extents.specs.Runs
-pub use Rattle.aa_extents.specs.Includes
+pub use Rattle.aa_base.specs.Kinds
+pub mod Runs
+pub mod Includes
 pub mod Splits
 pub mod Stops
 pub mod Sources

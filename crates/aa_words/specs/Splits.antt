@@ -14,13 +14,13 @@ use Rattle.aa_words.specs.declared.piece.RulePlace.TheVariants.{Begins, Qualifie
 use Rattle.aa_words.specs.declared.piece.Place.{Place}
 use Rattle.aa_words.specs.declared.reading.Reading.{Reading}
 use Rattle.aa_words.specs.declared.reading.Count.{Count}
-use Rattle.aa_faults.specs.declared.fault.Spot.{Spot}
-use Rattle.aa_faults.specs.declared.fault.PolicyKind.{PolicyKind}
-use Rattle.aa_faults.specs.declared.fault.PolicyKind.TheVariants.{MissingInclude, IncludeDepth, TooLarge}
-use Rattle.aa_faults.specs.declared.fault.PolicyFault.{PolicyFault}
-use Rattle.aa_faults.specs.Kinds.{at_start}
-use Rattle.aa_extents.specs.Runs.{is_white, begins_with, name_len, comment_len, path_len, path_start, is_variable, assigned_len, value_len, quoted_len, skipped_len}
-use Rattle.aa_extents.specs.Includes.{is_hash_include, include_form, has_form, include_len, included_name, is_optional}
+use Rattle.aa_base.specs.declared.fault.Spot.{Spot}
+use Rattle.aa_base.specs.declared.fault.PolicyKind.{PolicyKind}
+use Rattle.aa_base.specs.declared.fault.PolicyKind.TheVariants.{MissingInclude, IncludeDepth, TooLarge}
+use Rattle.aa_base.specs.declared.fault.PolicyFault.{PolicyFault}
+use Rattle.aa_base.specs.Kinds.{at_start}
+use Rattle.aa_words.specs.Runs.{is_white, begins_with, name_len, comment_len, path_len, path_start, is_variable, assigned_len, value_len, quoted_len, skipped_len}
+use Rattle.aa_words.specs.Includes.{is_hash_include, include_form, has_form, include_len, included_name, is_optional}
 
 -- a word without where it lies in memory
 pub record WordData : Type 0 where

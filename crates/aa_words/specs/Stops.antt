@@ -2,15 +2,15 @@
 -- Source: own.
 use Rattle.std.specs.Prelude.{ℕ, zero, suc, false, drop, ◌==◌, ◌+◌, ◌-◌, ◌<◌, ◌≤◌, ◌≡◌, ◌⊎◌, List, [], ◌∷◌, ◌++◌, length, take, if◌then◌else◌, Option, Some, None, Result, Ok, Err, codes, Bool, ◌&&◌}
 use Rattle.std.specs.Str.{bytes_eq}
-use Rattle.aa_faults.specs.declared.fault.PolicyKind.TheVariants.{Syntax, TooLarge}
-use Rattle.aa_faults.specs.declared.fault.PolicyFault.{PolicyFault}
+use Rattle.aa_base.specs.declared.fault.PolicyKind.TheVariants.{Syntax, TooLarge}
+use Rattle.aa_base.specs.declared.fault.PolicyFault.{PolicyFault}
 use Rattle.aa_words.specs.declared.piece.Piece.TheVariants.{Include}
 use Rattle.aa_words.specs.declared.piece.Place.{Place}
 use Rattle.aa_words.specs.declared.reading.Reading.{Reading}
 use Rattle.aa_words.specs.declared.reading.Count.{Count}
-use Rattle.aa_extents.specs.Runs.{begins_with, name_len, quote_len, skipped_len}
-use Rattle.aa_extents.specs.Includes.{include_form}
-use Rattle.aa_faults.specs.Kinds.{at_start, no_memory}
+use Rattle.aa_words.specs.Runs.{begins_with, name_len, quote_len, skipped_len}
+use Rattle.aa_words.specs.Includes.{include_form}
+use Rattle.aa_base.specs.Kinds.{at_start, no_memory}
 use Rattle.aa_words.specs.Splits.{WordData, start, is_beginning, Part, spelled, IsPart, place_after, piece_at, extent, Opening, Setting, include_opens, fault_of_kind, Gives, Reads, main_reading, main_count}
 
 -- how far the form of an include goes before it breaks off

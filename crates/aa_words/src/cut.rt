@@ -1,18 +1,20 @@
 //! What stands first in a text, and how long it is.
 
 ghost use Rattle.std.specs.Prelude.{◌≡◌, ◌+◌, ◌<◌, ◌≤◌, length, take, drop, IfNone, IfSome, Some, None, ◌∷◌, if◌then◌else◌};
-ghost use Rattle.aa_extents.specs.Includes.{include_form, has_form};
+ghost use Rattle.aa_words.specs.Includes.{include_form, has_form};
 ghost use Rattle.aa_words.specs.declared.piece.Piece.TheVariants.{Include};
 ghost use Rattle.aa_words.specs.Splits.{quote_at, skip_at, name_at, value_at, run_at, word_at, piece_at, run_after, extent};
 
+use crate::includes::{begins_hash_include, form_of_include, include_length};
 use crate::piece::{
     Piece, Place, RulePlace, begins_rule, is_passed_over, may_begin_skipped, stands_among_values,
 };
-use crate::word::WordKind;
-use aa_extents::{
-    assigned_length, begins_hash_include, comment_length, form_of_include, include_length,
-    is_white_space, name_length, path_length, quoted_length, skipped_length, value_length,
+use crate::runs::{
+    assigned_length, comment_length, is_white_space, name_length, path_length, quoted_length,
+    value_length,
 };
+use crate::skips::skipped_length;
+use crate::word::WordKind;
 
 /// How long the piece goes on after its first byte.
 #[tactic(auto, unfolding(crate::specs::Splits::run_after))]
@@ -47,7 +49,7 @@ fn first_quoted(behind_run: bool, piece: Piece, rest: &[u8]) -> Option<Piece>
 }
 
 /// A rule that is passed over, behind whose first byte `rest` follows.
-#[tactic(auto, using(aa_extents::proofs::Extents::skipped_le))]
+#[tactic(auto, using(crate::proofs::Extents::skipped_le))]
 fn first_skipped(rest: &[u8]) -> Option<Piece>
     ensures { result ≡ skip_at rest.now }
 {
@@ -70,7 +72,7 @@ fn first_include(behind: &[u8]) -> Option<Piece>
 }
 
 /// A Name, or what begins with the run that a Name would have.
-#[tactic(auto, using(aa_extents::proofs::Extents::name_le))]
+#[tactic(auto, using(crate::proofs::Extents::name_le))]
 fn first_name(text: &[u8], rest: &[u8], rule: RulePlace) -> Option<Piece>
     requires { rest.now ≡ drop 1 text.now }
     ensures { result ≡ name_at rule text.now }

@@ -1,14 +1,14 @@
 //! The includes of a text by itself.
 
 ghost use Rattle.std.specs.Prelude.{◌≡◌, ◌≤◌, ◌+◌, ◌^◌, ◌<◌, length, map, IfOk, OnOk, ◌++◌};
-ghost use Rattle.aa_extents.specs.Includes.{included_name, is_optional};
+ghost use Rattle.aa_words.specs.Includes.{included_name, is_optional};
 ghost use Rattle.aa_words.specs.Splits.{is_include};
 ghost use Rattle.aa_words.specs.Found.{IncludeData, include_from, HasIncludes};
 ghost use Rattle.aa_words.specs.FoundData.{includes_data};
 
 use crate::cut::next_piece;
+use crate::includes::{may_be_missing, name_of_include};
 use crate::piece::{Piece, Place, place_behind, stands_for_source};
-use aa_extents::{may_be_missing, name_of_include};
 use std::alloc::{AllocError, Global};
 
 /// An include, as it stands in a text.

@@ -2,21 +2,21 @@
 
 ghost use Rattle.std.specs.Prelude.{◌≡◌, ℕ, suc, ◌+◌, ◌^◌, ◌<◌, ◌≤◌, length, IfOk, IfErr, OnOk, List, ◌++◌, ◌⊎◌, Ok, Err, option_map, IfSome, true};
 ghost use Rattle.std.specs.List.{All};
-ghost use Rattle.aa_faults.specs.Kinds.{IsRefusal, at_start, no_memory};
+ghost use Rattle.aa_base.specs.Kinds.{IsRefusal, at_start, no_memory};
 ghost use Rattle.aa_words.specs.Splits.{WordData, words_data, Splits, unquoted, word_of, include_opens, PartGives, Reads, opens, source_from, is_include};
 ghost use Rattle.aa_words.specs.Openings.{opening_data, setting_data};
-ghost use Rattle.aa_extents.specs.Includes.{included_name, is_optional};
+ghost use Rattle.aa_words.specs.Includes.{included_name, is_optional};
 ghost use Rattle.aa_words.specs.Stops.{IncludeFails, Fails, IsFaultOf};
 ghost use Rattle.aa_words.specs.WordLists.{StandsIn, Rise};
 
 use crate::cut::next_piece;
+use crate::includes::{may_be_missing, name_of_include};
 use crate::piece::{Piece, Place, place_behind, stands_for_source, stands_in_quotes, word_kind};
 use crate::reading::{Count, Reading};
 use crate::sources::{MAX_TEXT, Sources};
 use crate::stops::fault_of;
 use crate::word::{Span, Word, WordList};
-use aa_extents::{may_be_missing, name_of_include};
-use aa_faults::{PolicyFault, PolicyKind, Spot};
+use aa_base::{PolicyFault, PolicyKind, Spot};
 use std::alloc::Global;
 
 /// What stands between the quotes.

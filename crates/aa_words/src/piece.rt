@@ -3,11 +3,11 @@
 ghost use Rattle.std.specs.Prelude.{◌≡◌, ◌+◌, ◌^◌, ◌<◌, ◌≤◌};
 ghost use Rattle.std.specs.List.{list_any};
 ghost use Rattle.std.specs.Str.{bytes_eq};
-ghost use Rattle.aa_extents.specs.Runs.{is_variable};
+ghost use Rattle.aa_words.specs.Runs.{is_variable};
 ghost use Rattle.aa_words.specs.Splits.{kind_of, is_include, is_in_quotes, is_one_of, qualifiers, passed_over, may_skip, is_among_values, behind_name_word, behind_blank, behind_assigning, rule_after, parens_after, is_run, place_after, is_beginning, start};
 
+use crate::runs::is_whole_variable;
 use crate::word::WordKind;
-use aa_extents::is_whole_variable;
 
 /// What a text begins with.
 #[derive(Clone, Copy)]

@@ -1,11 +1,11 @@
 //! Named texts that a policy may include.
 
 ghost use Rattle.std.specs.Prelude.{◌≡◌, ◌+◌, ◌<◌, ◌≤◌, ◌↔◌, ◌⊎◌, [], ◌∷◌, ◌++◌, length, OnOk, OnErr, IfErr, IsErrOf, IsTrue, IfSome, IfNone, Some, None, false};
-ghost use Rattle.aa_faults.specs.Kinds.{at_start, no_memory};
+ghost use Rattle.aa_base.specs.Kinds.{at_start, no_memory};
 ghost use Rattle.aa_words.specs.Sources.{has_name};
 ghost use Rattle.aa_words.specs.Splits.{source_from};
 
-use aa_faults::{PolicyFault, PolicyKind};
+use aa_base::{PolicyFault, PolicyKind};
 use indexmap::IndexMap;
 use std::alloc::{AllocError, Global};
 use std::marker::Model;

@@ -1,16 +1,18 @@
 //! Why a text can't be cut further.
 
 ghost use Rattle.std.specs.Prelude.{◌≡◌, ◌+◌, ◌^◌, ◌<◌, ◌≤◌, length};
-ghost use Rattle.aa_extents.specs.Includes.{include_form};
+ghost use Rattle.aa_words.specs.Includes.{include_form};
 ghost use Rattle.aa_words.specs.Stops.{reach, form_reach, ahead, fault_at};
 
+use crate::includes::{behind_keyword, form_of_include};
 use crate::piece::{Place, begins_rule};
 use crate::reading::Reading;
-use aa_extents::{behind_keyword, form_of_include, quote_length, skipped_length};
-use aa_faults::{PolicyFault, PolicyKind, Spot};
+use crate::runs::quote_length;
+use crate::skips::skipped_length;
+use aa_base::{PolicyFault, PolicyKind, Spot};
 
 /// How far the form of an include goes before it breaks off, where `rest` stands behind its keyword.
-#[tactic(auto, using(aa_extents::proofs::Forms::broken_le))]
+#[tactic(auto, using(crate::proofs::Forms::broken_le))]
 fn form_length(text: &[u8], rest: &[u8]) -> usize
     requires { length rest.now ≤ length text.now }
     ensures form { result ≡ form_reach text.now (include_form rest.now) }
@@ -23,7 +25,7 @@ fn form_length(text: &[u8], rest: &[u8]) -> usize
 }
 
 /// How far a reading gets where no piece stands.
-#[tactic(auto, using(aa_extents::proofs::Extents::quote_le, aa_extents::proofs::Extents::skipped_le, aa_extents::proofs::Forms::behind_word_le), unfolding(crate::specs::Stops::reach))]
+#[tactic(auto, using(crate::proofs::Extents::quote_le, crate::proofs::Extents::skipped_le, crate::proofs::Forms::behind_word_le), unfolding(crate::specs::Stops::reach))]
 fn reach_of(text: &[u8], place: Place) -> usize
     ensures reach { result ≡ reach place text.now }
     ensures within { result ≤ length text.now }

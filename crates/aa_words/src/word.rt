@@ -1,6 +1,6 @@
 //! Words, and where they stand.
 
-use aa_faults::Spot;
+use aa_base::Spot;
 
 /// Where a word stands in its source.
 #[derive(Clone, Copy, Debug, PartialEq, Eq)]

@@ -1,6 +1,6 @@
 //! The command line.
 
-use aa_units::searched_folders;
+use aa_files::searched_folders;
 use clap::error::Error;
 use clap::{Arg, ArgAction, ArgMatches, Command};
 use std::alloc::{AllocError, Global};

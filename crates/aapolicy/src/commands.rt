@@ -1,10 +1,13 @@
 //! What the command line asks of each command.
 
 use crate::command::{base_of, copies_of, folders_of, second_of, states_of, values_of};
-use aa_commands::{
-    AskOptions, CheckOptions, Choice, JobOptions, LogOptions, Manner, NoMemory, Output, Wanted,
-    ask_files, check_files, job_files, log_files, refused,
-};
+use aa_ask::{AskOptions, Manner, ask_files};
+use aa_check::{CheckOptions, check_files};
+use aa_command::{Output, Settings, refused};
+use aa_job::{JobOptions, job_files};
+use aa_log::{LogOptions, log_files};
+use aa_logs::Choice;
+use aa_text::NoMemory;
 use clap::ArgMatches;
 use std::alloc::{AllocError, Global};
 
@@ -19,19 +22,19 @@ fn value_of<'a>(matches: &ArgMatches<'a>, id: &str) -> Option<&'a [u8]> {
 fn run_check(
     rt: &HostRuntime,
     matches: &ArgMatches<'_>,
-    wanted: &Wanted<'_>,
+    settings: &Settings<'_>,
 ) -> Result<Output, NoMemory> {
     let alloc = rt.alloc();
     let mut files = copies_of(alloc, matches, "PROFILE")?;
     if files.is_empty() {
-        files.push(Vec::from_slice(alloc, wanted.base)?)?;
+        files.push(Vec::from_slice(alloc, settings.base)?)?;
     }
     let options = CheckOptions {
         files: files.as_slice(),
         is_json: matches.get_flag("json"),
         is_quiet: matches.get_flag("quiet"),
     };
-    check_files(alloc, rt, wanted, &options)
+    check_files(alloc, rt, settings, &options)
 }
 
 /// The files with profiles of `ask`.
@@ -44,7 +47,7 @@ fn asked_files(alloc: Global, matches: &ArgMatches<'_>) -> Result<Vec<Vec<u8>>, 
 fn run_ask(
     rt: &HostRuntime,
     matches: &ArgMatches<'_>,
-    wanted: &Wanted<'_>,
+    settings: &Settings<'_>,
 ) -> Result<Output, NoMemory> {
     let alloc = rt.alloc();
     let files = asked_files(alloc, matches)?;
@@ -61,13 +64,13 @@ fn run_ask(
         is_quiet: matches.get_flag("quiet"),
     };
     let words = copies_of(alloc, matches, "WORD")?;
-    ask_files(alloc, rt, wanted, &options, words)
+    ask_files(alloc, rt, settings, &options, words)
 }
 
 fn run_log(
     rt: &HostRuntime,
     matches: &ArgMatches<'_>,
-    wanted: &Wanted<'_>,
+    settings: &Settings<'_>,
     choice: Choice<'_>,
 ) -> Result<Output, NoMemory> {
     let alloc = rt.alloc();
@@ -81,13 +84,13 @@ fn run_log(
         wants_all: matches.get_flag("all"),
         is_json: matches.get_flag("json"),
     };
-    log_files(alloc, rt, rt, wanted, &options)
+    log_files(alloc, rt, rt, settings, &options)
 }
 
 fn run_job(
     rt: &HostRuntime,
     matches: &ArgMatches<'_>,
-    wanted: &Wanted<'_>,
+    settings: &Settings<'_>,
     choice: Choice<'_>,
 ) -> Result<Output, NoMemory> {
     let alloc = rt.alloc();
@@ -98,7 +101,7 @@ fn run_job(
         logs: logs.as_slice(),
         choice,
     };
-    job_files(alloc, rt, rt, wanted, &options)
+    job_files(alloc, rt, rt, settings, &options)
 }
 
 /// Which lines of logs the command line wants, of profiles of these names; none where a second is no number.
@@ -115,7 +118,7 @@ fn run_with_logs(
     rt: &HostRuntime,
     name: &str,
     matches: &ArgMatches<'_>,
-    wanted: &Wanted<'_>,
+    settings: &Settings<'_>,
 ) -> Result<Output, NoMemory> {
     let alloc = rt.alloc();
     let profiles = copies_of(alloc, matches, "profile")?;
@@ -124,8 +127,8 @@ fn run_with_logs(
         return refused(alloc, line, 2);
     };
     match name {
-        "job" => run_job(rt, matches, wanted, choice),
-        _ => run_log(rt, matches, wanted, choice),
+        "job" => run_job(rt, matches, settings, choice),
+        _ => run_log(rt, matches, settings, choice),
     }
 }
 
@@ -134,12 +137,12 @@ fn run_wanted(
     rt: &HostRuntime,
     name: &str,
     matches: &ArgMatches<'_>,
-    wanted: &Wanted<'_>,
+    settings: &Settings<'_>,
 ) -> Result<Output, NoMemory> {
     match name {
-        "check" => run_check(rt, matches, wanted),
-        "ask" => run_ask(rt, matches, wanted),
-        _ => run_with_logs(rt, name, matches, wanted),
+        "check" => run_check(rt, matches, settings),
+        "ask" => run_ask(rt, matches, settings),
+        _ => run_with_logs(rt, name, matches, settings),
     }
 }
 
@@ -153,10 +156,10 @@ pub fn run_named(rt: &HostRuntime, matches: &ArgMatches<'_>) -> Result<Output, N
     let Some(states) = states_of(matches) else {
         return refused(alloc, "error: --states takes a number, 1 to 1000000\n", 2);
     };
-    let wanted = Wanted {
+    let settings = Settings {
         base: base_of(matches),
         folders: folders.as_slice(),
         states,
     };
-    run_wanted(rt, name, matches, &wanted)
+    run_wanted(rt, name, matches, &settings)
 }

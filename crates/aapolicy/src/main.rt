@@ -4,7 +4,7 @@
 mod command;
 mod commands;
 
-use aa_loading::{Output, Unwritten, exit_status, write_output};
+use aa_command::{Output, Unwritten, exit_status, write_output};
 use clap::error::{Error, ErrorKind};
 use command::matches_of;
 use commands::run_named;

@@ -2,9 +2,9 @@
 
 use crate::comparing::{equal, holds};
 use aa_auto::{Automaton, BuildFault};
-use aa_faults::PolicyKind;
-use aa_patterns::Pattern;
-use aa_reader::read_pattern;
+use aa_base::PolicyKind;
+use aa_glob::read_pattern;
+use aa_pattern::Pattern;
 use std::alloc::Global;
 use std::process::Abort;
 

@@ -2,8 +2,8 @@
 
 use crate::comparing::{equal, holds};
 use crate::compile::clashes::{conflict, is_found};
-use aa_clashes::Clash;
-use aa_words::PolicyKind;
+use aa_base::PolicyKind;
+use aa_explain::Clash;
 use std::alloc::Global;
 use std::process::Abort;
 

@@ -1,15 +1,14 @@
 //! Policies that are read from their texts, and the conflict of their first profile, as plain data.
 
 ghost use Rattle.std.specs.Prelude.{◌≤◌};
-ghost use Rattle.aa_profiles.specs.Lawful.{file_patterns};
+ghost use Rattle.aa_model.specs.Lawful.{file_patterns};
 
 use crate::comparing::holds_in;
 use crate::texts::read;
 use aa_auto::BuildFault;
-use aa_clashes::{Clash, clash_of};
-use aa_policy::Policy;
-use aa_profiles::Profile;
-use aa_words::{PolicyFault, PolicyKind};
+use aa_base::{PolicyFault, PolicyKind};
+use aa_explain::{Clash, clash_of};
+use aa_model::{Policy, Profile};
 use std::alloc::Global;
 use std::process::Abort;
 

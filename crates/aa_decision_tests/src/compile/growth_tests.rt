@@ -3,9 +3,9 @@
 use crate::comparing::equal;
 use crate::compile::policies::{are_attached, are_executed};
 use crate::texts::compiled;
+use aa_base::PolicyKind;
 use aa_compile::Compiled;
 use aa_compile::Transition::To;
-use aa_faults::PolicyKind;
 use std::alloc::Global;
 use std::process::Abort;
 

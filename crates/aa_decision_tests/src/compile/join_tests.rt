@@ -1,7 +1,7 @@
 //! Policies that become one.
 
 use crate::compile::joins::{has_profiles, has_rules};
-use aa_joins::{JoinFault, Repeated};
+use aa_load::{JoinFault, Repeated};
 
 #[test]
 fn no_policies_have_no_profile(rt: HostRuntime) {

@@ -3,8 +3,9 @@
 
 use crate::comparing::{equal, equal_in, holds_in};
 use crate::texts::spelled;
-use aa_joins::{JoinFault, Joining};
-use aa_policy::{PassedOver, Policy, Profile, Text};
+use aa_base::Text;
+use aa_load::{JoinFault, Joining};
+use aa_model::{PassedOver, Policy, Profile};
 use std::alloc::Global;
 use std::process::Abort;
 

@@ -1,7 +1,7 @@
 //! Labels, their names and their profiles.
 
 use crate::compile::labels::{Called, Named, There, calls_each, finds_each, has_each};
-use aa_labels::Label::{Confined, Unconfined};
+use aa_model::Label::{Confined, Unconfined};
 
 const TWO: &[&str] = &["profile p { profile h { } }", "profile q { } profile p { }"];
 

@@ -2,8 +2,8 @@
 
 use crate::comparing::{equal_at, equal_in};
 use crate::texts::policies;
-use aa_compile::Compiled;
-use aa_labels::{Label, label_of, name_of_label, profile_of};
+use aa_compile::{Compiled, label_of, name_of_label, profile_of};
+use aa_model::Label;
 use std::alloc::Global;
 use std::process::Abort;
 

@@ -2,9 +2,9 @@
 
 use crate::asks::{Ask, FIRST};
 use crate::compile::lines::{Row, says_all};
-use aa_requests::Label;
-use aa_requests::NoteWord::{Allowed, Audit, Denied};
-use aa_tables::Perms;
+use aa_base::Perms;
+use aa_model::Label;
+use aa_model::NoteWord::{Allowed, Audit, Denied};
 
 const EXECUTIONS_DENIED_ALLOWED_AND_REPORTED: &[Row] = &[
     (

@@ -4,10 +4,10 @@ use crate::asks::{Ask, FIRST, request};
 use crate::comparing::equal;
 use crate::compile::lines::{Row, is_line};
 use crate::texts::compiled;
+use aa_base::Perms;
 use aa_compile::Compiled;
-use aa_requests::NoteWord::Allowed;
-use aa_requests::RequestFault;
-use aa_tables::Perms;
+use aa_model::NoteWord::Allowed;
+use aa_model::RequestFault;
 use std::alloc::Global;
 use std::process::Abort;
 

@@ -3,10 +3,9 @@
 use crate::asks::{Ask, FIRST};
 use crate::comparing::{equal, equal_in};
 use crate::compile::lines::{Row, says_all};
-use aa_audit::{plain_text, push_mask, push_value};
-use aa_requests::Label;
-use aa_requests::NoteWord::{Audit, Denied};
-use aa_tables::Perms;
+use aa_base::{Perms, plain_text, push_mask, push_value};
+use aa_model::Label;
+use aa_model::NoteWord::{Audit, Denied};
 use std::alloc::Global;
 use std::process::Abort;
 

@@ -2,8 +2,8 @@
 
 use crate::asks::{Ask, FIRST};
 use crate::compile::lines::{Row, says_all};
-use aa_requests::NoteWord::{Allowed, Audit, Denied};
-use aa_tables::Perms;
+use aa_base::Perms;
+use aa_model::NoteWord::{Allowed, Audit, Denied};
 
 const CAPABILITIES_DENIED_ALLOWED_AND_REPORTED: &[Row] = &[
     (

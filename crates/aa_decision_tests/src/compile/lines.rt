@@ -5,7 +5,7 @@ use crate::comparing::equal;
 use crate::texts::policies;
 use aa_audit::{audit_line, push_audit_line};
 use aa_compile::Compiled;
-use aa_requests::{Answer, Label, NoteWord, Request};
+use aa_model::{Answer, Label, NoteWord, Request};
 use std::alloc::{AllocError, Global};
 use std::process::Abort;
 

@@ -2,7 +2,7 @@
 
 use crate::comparing::equal;
 use crate::compile::lists::{Found, Source, accepted, finds_each, profiles_of};
-use aa_policies::Compiled;
+use aa_compile::Compiled;
 use std::alloc::Global;
 use std::process::Abort;
 

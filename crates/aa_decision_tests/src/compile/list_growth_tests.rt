@@ -2,8 +2,8 @@
 
 use crate::comparing::equal;
 use crate::compile::lists::{Found, compiled, finds_each, refusal};
-use aa_faults::PolicyKind;
-use aa_policies::Compiled;
+use aa_base::PolicyKind;
+use aa_compile::Compiled;
 use std::alloc::Global;
 use std::process::Abort;
 

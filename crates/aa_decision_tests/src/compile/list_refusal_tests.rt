@@ -2,7 +2,7 @@
 
 use crate::comparing::{equal, equal_at};
 use crate::compile::lists::{Source, refusal};
-use aa_faults::{PolicyFault, PolicyKind, Spot};
+use aa_base::{PolicyFault, PolicyKind, Spot};
 use aa_policies::RefusedPolicy;
 use std::alloc::{AllocError, Global};
 use std::process::Abort;

@@ -4,10 +4,10 @@
 ghost use Rattle.std.specs.Prelude.{◌<◌, ◌≤◌, length};
 
 use crate::comparing::equal_at;
-use aa_faults::{PolicyFault, PolicyKind};
-use aa_jobs::Include;
-use aa_lists::Text;
-use aa_policies::{Compiled, RefusedPolicy, compile_policies};
+use aa_base::{PolicyFault, PolicyKind, Text};
+use aa_compile::Compiled;
+use aa_policies::{RefusedPolicy, compile_policies};
+use aa_words::Include;
 use std::alloc::{AllocError, Global};
 use std::process::Abort;
 

@@ -2,7 +2,8 @@
 
 use crate::comparing::equal_at;
 use crate::texts::policies;
-use aa_mediate::{Compiled, Mediator};
+use aa_compile::Compiled;
+use aa_mediate::Mediator;
 use std::alloc::Global;
 use std::process::Abort;
 

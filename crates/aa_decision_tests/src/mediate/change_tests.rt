@@ -6,7 +6,7 @@ use crate::mediate::tasks::Then::{
     Allowed, Denied, Granted, Moved, MovedAllowed, MovedAudited, Refused,
 };
 use crate::mediate::tasks::{FREE, NONE, Row, answers_each};
-use aa_mediate::Label::{Confined, Unconfined};
+use aa_model::Label::{Confined, Unconfined};
 
 const UNCONFINED: &[Row] = &[
     (FREE, Change("q"), Moved(Confined(0, 1))),

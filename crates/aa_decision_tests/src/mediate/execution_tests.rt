@@ -6,8 +6,8 @@ use crate::mediate::tasks::Then::{
     Audited, Denied, Granted, Moved, MovedAllowed, Refused, Scrubbed,
 };
 use crate::mediate::tasks::{FREE, Row, answers_each};
-use aa_mediate::Label::Confined;
-use aa_tables::Perms;
+use aa_base::Perms;
+use aa_model::Label::Confined;
 
 const BY_FALLBACKS: &[Row] = &[
     (FIRST, Exec("/a"), Granted),

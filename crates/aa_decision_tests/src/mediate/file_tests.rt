@@ -4,7 +4,7 @@ use crate::asks::Ask::{Exec, File, Owned};
 use crate::asks::FIRST;
 use crate::mediate::tasks::Then::{Allowed, Audited, Denied, Granted, Refused};
 use crate::mediate::tasks::{READING_AND_WRITING, Row, WRITING, answers_each};
-use aa_tables::Perms;
+use aa_base::Perms;
 
 const PLAIN: &[Row] = &[
     (FIRST, File("/etc/passwd", Perms::READ), Granted),

@@ -5,9 +5,9 @@ use crate::asks::{Ask, FIRST};
 use crate::mediate::tasks::Then::{Denied, Granted, Moved, Refused, Scrubbed};
 use crate::mediate::tasks::{FREE, Row, answers_each, refuses_all};
 use crate::texts::policies;
-use aa_mediate::Label;
-use aa_mediate::Label::{Confined, Unconfined};
-use aa_tables::Perms;
+use aa_base::Perms;
+use aa_model::Label;
+use aa_model::Label::{Confined, Unconfined};
 use std::alloc::Global;
 use std::process::Abort;
 

@@ -4,7 +4,7 @@ use crate::asks::Ask::{Link, OwnedLink};
 use crate::asks::FIRST;
 use crate::mediate::tasks::Then::{Audited, Denied, Granted, Refused};
 use crate::mediate::tasks::{Row, WRITING, answers_each};
-use aa_tables::Perms;
+use aa_base::Perms;
 
 const NO_MORE_THAN_THE_TARGET: &[Row] = &[
     (FIRST, Link("/l/n", "/t/b"), Granted),

@@ -1,10 +1,9 @@
 //! What is compiled says what the rules say one by one.
 
 use crate::comparing::equal_in;
+use crate::plain::verdict_by_rules;
 use crate::texts::policies;
-use aa_mediate::Compiled;
-use aa_plain::verdict_by_rules;
-use aa_said::RuleSets;
+use aa_compile::{Compiled, RuleSets};
 use std::process::Abort;
 
 /// What is compiled says of an object, where there is a profile.

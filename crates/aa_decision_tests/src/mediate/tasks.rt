@@ -4,8 +4,11 @@
 use crate::asks::{Ask, Told, asked, note};
 use crate::comparing::equal_at;
 use crate::texts::policies;
-use aa_mediate::{Answer, Compiled, Label, Machine, Mediator, NoteWord, Request};
-use aa_tables::Perms;
+use aa_base::Perms;
+use aa_compile::Compiled;
+use aa_machine::Machine;
+use aa_mediate::Mediator;
+use aa_model::{Answer, Label, NoteWord, Request};
 use std::alloc::Global;
 use std::process::Abort;
 

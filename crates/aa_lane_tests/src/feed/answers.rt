@@ -3,7 +3,7 @@ ghost use Rattle.std.specs.Prelude.{◌<◌, ◌≤◌};
 
 use crate::comparing::equal;
 use crate::feed::sums::{Sum, rights, tasks_of, unchanged};
-use aa_feed::{EngineFault, Outcome, Refusal, answer_all};
+use aa_pool::{EngineFault, Outcome, Refusal, answer_all};
 use std::alloc::Global;
 use std::sync::Wait;
 use std::thread::Threads;

@@ -2,7 +2,8 @@
 ghost use Rattle.std.specs.Prelude.{◌<◌, ◌≤◌};
 
 use crate::comparing::{equal, holds};
-use aa_feed::{Machine, Task, answer_all};
+use aa_machine::Machine;
+use aa_pool::{Task, answer_all};
 use std::alloc::Global;
 use std::collections::VecDeque;
 use std::process::Abort;

@@ -1,7 +1,9 @@
 //! A machine that adds up, and tasks for it.
 ghost use Rattle.std.specs.Prelude.{◌≡◌, ◌+◌, ◌%◌};
 
-use aa_feed::{Answered, Machine, Task};
+use aa_lane::Answered;
+use aa_machine::Machine;
+use aa_pool::Task;
 use std::alloc::{AllocError, Global};
 use std::collections::VecDeque;
 

@@ -2,7 +2,8 @@
 ghost use Rattle.std.specs.Prelude.{◌≡◌};
 ghost use Rattle.aa_lane.specs.Ends.{known};
 
-use aa_lane::{Answered, Ends, Lane, Machine, Owner, SendFault, Served, Server, Shutter, Unsent};
+use aa_lane::{Answered, Ends, Lane, Owner, SendFault, Served, Server, Shutter, Unsent};
+use aa_machine::Machine;
 use std::alloc::Global;
 use std::process::Abort;
 

@@ -9,7 +9,8 @@ ghost use Rattle.aa_lane.specs.declared.event.Reply.TheVariants.{Accepted, Count
 
 use crate::comparing::{equal, holds};
 use crate::lane::bench::open;
-use aa_lane::{Ends, Lane, Leaver, Machine, Owner, Served, Server, Shutter, Totals, Unsent};
+use aa_lane::{Ends, Lane, Leaver, Owner, Served, Server, Shutter, Totals, Unsent};
+use aa_machine::Machine;
 use std::alloc::Global;
 use std::process::Abort;
 

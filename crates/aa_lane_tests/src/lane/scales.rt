@@ -4,7 +4,8 @@ ghost use Rattle.aa_lane.specs.Ends.{known};
 
 use crate::comparing::equal;
 use crate::lane::bench::{Bench, Outcome, Step};
-use aa_lane::{Answered, Lane, Machine, Owner, Unsent};
+use aa_lane::{Answered, Lane, Owner, Unsent};
+use aa_machine::Machine;
 use std::alloc::Global;
 use std::marker::Model;
 use std::process::Abort;

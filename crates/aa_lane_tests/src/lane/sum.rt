@@ -1,7 +1,8 @@
 //! A machine that adds numbers, and what happens at its lanes as plain data.
 ghost use Rattle.std.specs.Prelude.{◌+◌, ◌%◌};
 
-use aa_lane::{Event, Machine, Reply, SendFault};
+use aa_lane::{Event, Reply, SendFault};
+use aa_machine::Machine;
 
 /// Adds the request to the state, modulo 1,000, and answers the new state.
 #[derive(Drop)]

@@ -4,7 +4,8 @@ ghost use Rattle.aa_lane.specs.Ends.{known};
 
 use crate::comparing::equal;
 use crate::pool::sums::{Sum, accepts, all_shut, collected, sum_up_to};
-use aa_lane::{Lane, Machine, Owner, Server, Shutter};
+use aa_lane::{Lane, Owner, Server, Shutter};
+use aa_machine::Machine;
 use aa_pool::{Engine, EngineFault, serve_all};
 use std::alloc::Global;
 use std::sync::Wait;

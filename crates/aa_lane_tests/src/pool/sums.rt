@@ -3,7 +3,8 @@ ghost use Rattle.std.specs.Prelude.{◌≡◌, ◌+◌, ◌%◌, map};
 ghost use Rattle.aa_lane.specs.Ends.{known};
 ghost use Rattle.aa_pool.specs.Opened.{AreEndsOf};
 
-use aa_lane::{Lane, Machine, Owner, Shutter};
+use aa_lane::{Lane, Owner, Shutter};
+use aa_machine::Machine;
 use aa_pool::{Engine, shut_all};
 use std::alloc::Global;
 use std::process::Abort;

@@ -2,8 +2,9 @@
 
 use crate::comparing::equal;
 use crate::texts::{expanded, expansions, is_added, is_matched, is_set};
-use aa_faults::PolicyKind;
-use aa_glob::{Pattern, Vars};
+use aa_base::PolicyKind;
+use aa_glob::Vars;
+use aa_pattern::Pattern;
 use std::alloc::Global;
 use std::process::Abort;
 

@@ -3,8 +3,9 @@
 
 use crate::comparing::{equal, holds};
 use crate::texts::{add, expansions, is_matched, pattern_of, set};
-use aa_faults::PolicyKind;
-use aa_glob::{Pattern, Vars};
+use aa_base::PolicyKind;
+use aa_glob::Vars;
+use aa_pattern::Pattern;
 use std::alloc::Global;
 use std::process::Abort;
 

@@ -5,8 +5,9 @@ use crate::texts::{
     expansions, extend, filled, is_added, is_matched, is_set, joined, pattern_fault, pattern_read,
     repeated,
 };
-use aa_faults::PolicyKind;
-use aa_glob::{Item, Pattern, Vars};
+use aa_base::PolicyKind;
+use aa_glob::Vars;
+use aa_pattern::{Item, Pattern};
 use std::alloc::Global;
 use std::process::Abort;
 

@@ -2,8 +2,8 @@
 
 use crate::comparing::{equal, holds};
 use crate::texts::{is_matched, pattern_fault, pattern_read};
-use aa_faults::PolicyKind;
-use aa_glob::Pattern;
+use aa_base::PolicyKind;
+use aa_pattern::Pattern;
 use std::alloc::Global;
 use std::process::Abort;
 

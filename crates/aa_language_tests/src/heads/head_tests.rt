@@ -3,8 +3,9 @@
 use crate::comparing::{equal_in, holds_in};
 use crate::heads::reading::{begins_in, head_in};
 use crate::texts::words_of;
-use aa_heads::HeadTree;
-use aa_words::{PolicyFault, Sources};
+use aa_base::PolicyFault;
+use aa_policy::HeadTree;
+use aa_words::Sources;
 use std::alloc::Global;
 use std::process::Abort;
 

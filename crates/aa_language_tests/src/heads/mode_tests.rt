@@ -1,8 +1,10 @@
 //! Modes: letters, exec parts, and whether anything is wrong with them.
 
 use crate::comparing::{equal_in, holds_in};
-use aa_rules::{ExecKind, ExecMode, Fallback, FileTree, RuleTree, rule_of};
-use aa_words::{PolicyFault, Span, Spot, Word, WordKind};
+use aa_base::{PolicyFault, Spot};
+use aa_model::{ExecKind, Fallback};
+use aa_rules::{ExecMode, FileTree, RuleTree, rule_of};
+use aa_words::{Span, Word, WordKind};
 use bitflags::Flags;
 use std::process::Abort;
 

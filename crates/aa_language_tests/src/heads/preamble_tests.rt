@@ -2,9 +2,11 @@
 
 use crate::comparing::{equal, equal_in, holds_in};
 use crate::texts::{expansions, is_matched, words_of};
-use aa_glob::{Pattern, Vars};
-use aa_heads::preamble_of;
-use aa_words::{PolicyFault, Sources, WordList};
+use aa_base::PolicyFault;
+use aa_glob::Vars;
+use aa_pattern::Pattern;
+use aa_policy::preamble_of;
+use aa_words::{Sources, WordList};
 use std::alloc::Global;
 use std::process::Abort;
 

@@ -1,7 +1,8 @@
 //! The calls that the tests make of what is tested, each in a function without clauses, so that a test's proof stays short.
 
-use aa_heads::{HeadTree, begins_profile, head_of};
-use aa_words::{PolicyFault, WordList};
+use aa_base::PolicyFault;
+use aa_policy::{HeadTree, begins_profile, head_of};
+use aa_words::WordList;
 
 /// The head that the words begin with, and the place behind it.
 pub(crate) fn head_in<'s>(

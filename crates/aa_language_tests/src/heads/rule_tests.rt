@@ -2,8 +2,9 @@
 
 use crate::comparing::equal;
 use crate::texts::words_of;
+use aa_base::Spot;
 use aa_rules::{FileTree, RuleTree, rule_of};
-use aa_words::{Sources, Spot, WordList};
+use aa_words::{Sources, WordList};
 use bitflags::Flags;
 use std::alloc::Global;
 use std::process::Abort;

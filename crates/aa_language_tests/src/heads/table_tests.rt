@@ -1,7 +1,7 @@
 //! Tests of the tables of names.
 
 use crate::comparing::{equal, equal_in, holds_in};
-use aa_tables::{Cap, Caps, Family, SockType};
+use aa_base::{Cap, Caps, Family, SockType};
 use bitflags::Flags;
 use std::alloc::Global;
 use std::process::Abort;

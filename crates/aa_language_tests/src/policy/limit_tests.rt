@@ -2,7 +2,7 @@
 
 use crate::comparing::{equal, equal_in};
 use crate::policy::reading::{named_refusal, read, refusal};
-use aa_policy::{FileRule, Policy};
+use aa_model::{FileRule, Policy};
 use std::alloc::Global;
 use std::fmt::Debug;
 use std::process::Abort;

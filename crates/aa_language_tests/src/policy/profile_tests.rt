@@ -2,8 +2,10 @@
 
 use crate::comparing::{equal, holds};
 use crate::policy::reading::{has_flags, has_profiles, lists, matches_each};
-use aa_policy::{Seq, Text, matching_is_decided, parse, spelled_once};
-use aa_words::{Span, Spot, Word, WordKind, WordList};
+use aa_base::{Seq, Spot, Text};
+use aa_pattern::matching_is_decided;
+use aa_policy::{parse, spelled_once};
+use aa_words::{Span, Word, WordKind, WordList};
 use std::alloc::Global;
 use std::process::Abort;
 

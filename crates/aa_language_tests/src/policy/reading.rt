@@ -2,12 +2,13 @@
 
 use crate::comparing::{equal_in, holds_in};
 use crate::texts::{is_matched, words_of};
-use aa_glob::Pattern;
-use aa_policy::{
+use aa_base::{PolicyFault, Text};
+use aa_model::{
     CapRule, ChangeRule, Exec, ExecKind, Fallback, FileRule, NetRule, PassedOver, Policy, Profile,
-    Text, parse,
 };
-use aa_words::{PolicyFault, Sources, WordList};
+use aa_pattern::Pattern;
+use aa_policy::parse;
+use aa_words::{Sources, WordList};
 use bitflags::Flags;
 use std::alloc::Global;
 use std::process::Abort;

@@ -1,7 +1,7 @@
 //! What file rules say, and the rules that are passed over.
 
 use crate::policy::reading::{ExecRow, has_execs, has_files, has_profiles, lists, matches_each};
-use aa_policy::{ExecKind, Fallback};
+use aa_model::{ExecKind, Fallback};
 use std::alloc::Global;
 use std::process::Abort;
 

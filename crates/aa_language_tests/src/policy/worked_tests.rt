@@ -3,7 +3,7 @@
 use crate::policy::reading::{
     ExecRow, FileRow, has_caps, has_execs, has_files, has_flags, has_nets,
 };
-use aa_policy::{ExecKind, Fallback};
+use aa_model::{ExecKind, Fallback};
 use std::alloc::Global;
 use std::process::Abort;
 

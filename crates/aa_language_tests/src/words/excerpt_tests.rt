@@ -2,7 +2,7 @@
 
 use crate::comparing::holds;
 use crate::texts::{filled, joined, repeated};
-use aa_places::excerpt;
+use aa_text::excerpt;
 use std::alloc::{AllocError, Global};
 use std::process::Abort;
 

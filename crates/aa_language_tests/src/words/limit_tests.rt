@@ -5,7 +5,8 @@ use crate::words::reading::{
     expect_count, expect_count_in, expect_count_over, expect_end, expect_line,
     expect_splice_refused, is_added,
 };
-use aa_words::{PolicyFault, PolicyKind, Sources, Spot};
+use aa_base::{PolicyFault, PolicyKind, Spot};
+use aa_words::Sources;
 use std::alloc::Global;
 use std::process::Abort;
 

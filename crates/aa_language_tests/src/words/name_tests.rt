@@ -1,7 +1,7 @@
 //! Which names are passed over.
 
 use crate::comparing::equal;
-use aa_trees::{can_be_included, is_passed_over, leaves_a_warning};
+use aa_files::{can_be_included, is_passed_over, leaves_a_warning};
 use std::process::Abort;
 
 fn passes(name: &[u8]) -> bool {

@@ -1,7 +1,7 @@
 //! Places of worked texts.
 
 use crate::comparing::equal;
-use aa_places::{Place, place_of};
+use aa_text::{Place, place_of};
 use std::process::Abort;
 
 /// A text, a byte, and its line and column.

@@ -3,7 +3,8 @@
 
 use crate::comparing::{equal, equal_in, holds, holds_in};
 use crate::texts::{line_of, words_of, words_read};
-use aa_words::{PolicyFault, Sources, Span, Spot, Word, WordKind};
+use aa_base::{PolicyFault, Spot};
+use aa_words::{Sources, Span, Word, WordKind};
 use std::alloc::Global;
 use std::process::Abort;
 

@@ -1,7 +1,7 @@
 //! Where includes are looked for, and what folders stand for.
 
 use crate::comparing::{equal, holds};
-use aa_trees::{candidates, folder_text, joined_path};
+use aa_files::{candidates, folder_text, joined_path};
 use aa_words::{IncludeAt, includes_of};
 use std::alloc::{AllocError, Global};
 use std::process::Abort;

@@ -3,7 +3,8 @@
 use crate::words::reading::{
     Expected, expect_end, expect_first_of_two, expect_kinds, expect_quoted_behind, expect_words,
 };
-use aa_words::{Sources, Spot, WordKind};
+use aa_base::Spot;
+use aa_words::{Sources, WordKind};
 
 #[test]
 fn a_text_that_ends_too_early_gives_its_words(rt: HostRuntime) {

@@ -2,8 +2,8 @@ use Rattle.std.proofs.Common.{◌≡◌, ℕ, List, ◌++◌, ap, ◌∙◌, app
 use Rattle.std.specs.Prelude.{codes}
 use Rattle.std.specs.String.{string_bytes}
 use Rattle.std.proofs.lemmas.Result.{IfOk-equal}
-use Rattle.aa_tables.specs.declared.perms.Perms.{Perms}
-use Rattle.aa_audit.specs.Values.{value, mask}
+use Rattle.aa_base.specs.declared.perms.Perms.{Perms}
+use Rattle.aa_base.specs.Values.{value, mask}
 use Rattle.aa_audit.specs.Keys.{key, denied_key}
 use Rattle.aa_audit.proofs.keys.push_file.Goals as goal
 

@@ -1,5 +1,5 @@
 use Rattle.std.proofs.Common.{◌+◌, ◌*◌, ◌<◌, take, vec_len, length}
-use Rattle.aa_patterns.specs.Weights.{weight, weight_of_items, weight_of_lists}
+use Rattle.aa_pattern.specs.Weights.{weight, weight_of_items, weight_of_lists}
 use Rattle.aa_auto.specs.Nodes.{AddsItems, AddsBranches}
 use Rattle.aa_auto.proofs.nodes.+nodes.Given as goal
 

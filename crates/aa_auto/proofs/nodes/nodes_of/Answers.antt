@@ -1,7 +1,7 @@
 use Rattle.std.proofs.Common.{◌≡◌, ◌<◌, arith, ap, sym, ◌∙◌, ◌-◌, length, get_or}
 use Rattle.std.specs.Borrow.{Bor}
 use Rattle.std.proofs.lemmas.List.{get_or-map, length-map}
-use Rattle.aa_patterns.specs.declared.pattern.Pattern.{Pattern}
+use Rattle.aa_pattern.specs.declared.pattern.Pattern.{Pattern}
 use Rattle.aa_auto.proofs.NodesLemmas.{nodes_none, nodes_more, nodes_all}
 use Rattle.aa_auto.specs.Nodes.{pointed}
 use Rattle.aa_auto.proofs.nodes.nodes_of.Goals as goal

@@ -1,6 +1,6 @@
 use Rattle.std.proofs.Common.{◌≤◌, None, length, refl, sym, subst, ◌∙◌, arith}
 use Rattle.std.proofs.lemmas.Option.{slice_get_read}
-use Rattle.aa_attach.specs.Attached.{attachments_by}
+use Rattle.aa_compile.specs.Attached.{attachments_by}
 use Rattle.aa_compile.proofs.Counts.{attachments_few}
 use Rattle.aa_compile.proofs.compiling.tables_of.Goals as goal
 

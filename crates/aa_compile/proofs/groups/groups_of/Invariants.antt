@@ -1,5 +1,5 @@
 use Rattle.std.proofs.Common.{◌≡◌, ℕ, ◌<◌, length, take, get_or, [], Some}
-use Rattle.aa_attach.specs.Attached.{numbers_below}
+use Rattle.aa_compile.specs.Attached.{numbers_below}
 use Rattle.aa_compile.specs.Groups.{lists}
 use Rattle.aa_compile.proofs.groups.groups_of.Given as goal
 

@@ -1,5 +1,5 @@
 use Rattle.std.proofs.Common.{◌≡◌, ◌++◌, drop, None}
-use Rattle.aa_attach.specs.Attached.{numbers_below}
+use Rattle.aa_compile.specs.Attached.{numbers_below}
 use Rattle.aa_compile.proofs.groups.numbers_of_tops.Given as goal
 
 abbrev pub invariant-loop-number : goal.invariant-loop-number

@@ -1,6 +1,6 @@
 use Rattle.std.proofs.Common.{◌≡◌, length, refl, inl, inr, ⊎_elim}
 use Rattle.std.proofs.lemmas.Option.{slice_get_read}
-use Rattle.aa_faults.specs.Kinds.{no_memory}
+use Rattle.aa_base.specs.Kinds.{no_memory}
 use Rattle.aa_compile.specs.Checks.{Fails}
 use Rattle.aa_compile.proofs.Counts.{files_few}
 use Rattle.aa_compile.proofs.CheckLemmas.{right_more, passed_more}

@@ -1,9 +1,9 @@
 use Rattle.std.proofs.Common.{◌+◌, ◌≤◌, Some, length, sym, subst, ◌∙◌}
 use Rattle.aa_auto.specs.Tables.{HasPlaces}
-use Rattle.aa_rows.specs.FileRules.{Conflicts}
-use Rattle.aa_said.specs.Patterns.{HasAutomaton}
-use Rattle.aa_rows.specs.Rows.{patterns_of}
-use Rattle.aa_attach.specs.Attached.{attachments_by}
+use Rattle.aa_compile.specs.FileRules.{Conflicts}
+use Rattle.aa_compile.specs.Patterns.{HasAutomaton}
+use Rattle.aa_compile.specs.Rows.{patterns_of}
+use Rattle.aa_compile.specs.Attached.{attachments_by}
 use Rattle.aa_compile.specs.Checks.{attached_patterns}
 use Rattle.aa_compile.proofs.Counts.{attachments_few}
 use Rattle.aa_compile.proofs.CheckLemmas.{files_fail, children_fail}

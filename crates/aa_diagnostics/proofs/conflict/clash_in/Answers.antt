@@ -1,7 +1,7 @@
 use Rattle.std.proofs.Common.{◌<◌, IfSome, inl, subst}
-use Rattle.aa_rows.specs.FileRules.{Conflicts}
-use Rattle.aa_clashes.specs.Clashes.{Conflict}
-use Rattle.aa_clashes.proofs.Searching.{none_then}
+use Rattle.aa_compile.specs.FileRules.{Conflicts}
+use Rattle.aa_explain.specs.Clashes.{Conflict}
+use Rattle.aa_explain.proofs.Searching.{none_then}
 use Rattle.aa_diagnostics.proofs.conflict.clash_in.Goals as goal
 
 pub returns-in-Ok-clause-found : goal.returns-in-Ok-clause-found

@@ -1,10 +1,10 @@
 use Rattle.std.proofs.Common.{◌≡◌, ◌⊎◌, ℕ, ◌+◌, List, [], inl, inr, ap, sym, subst, ◌∙◌, ◌++◌, Vec}
 use Rattle.std.specs.declared.alloc.Global.{Global}
-use Rattle.aa_faults.specs.declared.fault.Spot.{Spot}
-use Rattle.aa_profiles.specs.declared.policy.Profile.{Profile}
-use Rattle.aa_asks.specs.Places.{PlacesData}
-use Rattle.aa_units.specs.declared.unit.Unit as unit
-use Rattle.aa_trees.specs.Texts.{texts}
+use Rattle.aa_base.specs.declared.fault.Spot.{Spot}
+use Rattle.aa_model.specs.declared.policy.Profile.{Profile}
+use Rattle.aa_explain.specs.Places.{PlacesData}
+use Rattle.aa_files.specs.declared.unit.Unit as unit
+use Rattle.aa_files.specs.Texts.{texts}
 use Rattle.aa_diagnostics.specs.Conflicts.{ShowsOne, NoneHas}
 use Rattle.aa_diagnostics.proofs.OfUnit.{Lines}
 use Rattle.aa_diagnostics.proofs.conflict.clash_lines.Goals as goal

@@ -1,15 +1,15 @@
 use Rattle.std.proofs.Common.{◌≡◌, ◌⊎◌, ℕ, ◌+◌, List, [], sym, subst, rules}
 use Rattle.std.proofs.lemmas.Result.{err_from_is_err_and}
 use Rattle.std.specs.Prelude.{map}
-use Rattle.aa_faults.specs.declared.fault.Spot.{Spot}
-use Rattle.aa_profiles.specs.declared.policy.Profile.{Profile}
+use Rattle.aa_base.specs.declared.fault.Spot.{Spot}
+use Rattle.aa_model.specs.declared.policy.Profile.{Profile}
 use Rattle.aa_words.specs.Splits.{WordData, words_data}
 use Rattle.aa_policy.specs.Bodies.{IsPolicy}
-use Rattle.aa_heads.proofs.Refusals.{refused_by}
-use Rattle.aa_asks.specs.declared.places.ProfilePlaces.{ProfilePlaces}
-use Rattle.aa_asks.specs.Places.{places_data}
-use Rattle.aa_units.specs.declared.unit.Unit as unit
-use Rattle.aa_units.specs.Compiled.{limit_of}
+use Rattle.aa_policy.proofs.Refusals.{refused_by}
+use Rattle.aa_explain.specs.declared.places.ProfilePlaces.{ProfilePlaces}
+use Rattle.aa_explain.specs.Places.{places_data}
+use Rattle.aa_files.specs.declared.unit.Unit as unit
+use Rattle.aa_load.specs.UnitPolicy.{limit_of}
 use Rattle.aa_diagnostics.specs.Conflicts.{ShowsOne, NoneHas}
 use Rattle.aa_diagnostics.proofs.Conflicting.{shown_or_none, own_shown}
 use Rattle.aa_diagnostics.proofs.conflict.conflict_in.Goals as goal

@@ -1,9 +1,9 @@
 use Rattle.std.proofs.Common.{List, sym, subst}
 use Rattle.std.proofs.lemmas.Result.{err_from_is_err_and, IfOk-weaker}
-use Rattle.aa_profiles.specs.declared.policy.Policy.{Policy}
+use Rattle.aa_model.specs.declared.policy.Policy.{Policy}
 use Rattle.aa_words.specs.Splits.{WordData, words_data}
 use Rattle.aa_policy.specs.Spelling.{Spells}
-use Rattle.aa_heads.proofs.Refusals.{refused_by}
+use Rattle.aa_policy.proofs.Refusals.{refused_by}
 use Rattle.aa_diagnostics.proofs.OfUnit.{handed_in, lent_words, own_words}
 use Rattle.aa_diagnostics.proofs.conflict.conflict_lines.Goals as goal
 

@@ -1,5 +1,5 @@
 use Rattle.std.proofs.Common.{◌≡◌, ℕ, ◌+◌, ◌<◌, Some, slice_get}
-use Rattle.aa_profiles.specs.declared.policy.Profile.{Profile}
+use Rattle.aa_model.specs.declared.policy.Profile.{Profile}
 use Rattle.aa_diagnostics.specs.Conflicts.{HasNone}
 use Rattle.aa_diagnostics.proofs.conflict.push_first_clash.Given as goal
 

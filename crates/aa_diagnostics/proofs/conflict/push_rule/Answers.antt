@@ -1,7 +1,7 @@
 use Rattle.std.proofs.Common.{[], ◌∷◌, length, refl, sym, ap, ◌∙◌, append-nil}
 use Rattle.std.proofs.lemmas.List.{map_push}
 use Rattle.std.proofs.lemmas.Option.{slice_get_read, slice_get_past}
-use Rattle.aa_trees.specs.Texts.{texts}
+use Rattle.aa_files.specs.Texts.{texts}
 use Rattle.aa_diagnostics.proofs.Shown.{one_line, no_line}
 use Rattle.aa_diagnostics.proofs.conflict.push_rule.Goals as goal
 

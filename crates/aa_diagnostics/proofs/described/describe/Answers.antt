@@ -1,5 +1,5 @@
-use Rattle.aa_texts.specs.declared.fault.FaultReport.{FaultReport}
-use Rattle.aa_trees.specs.Texts.{texts, slices}
+use Rattle.aa_text.specs.declared.fault.FaultReport.{FaultReport}
+use Rattle.aa_files.specs.Texts.{texts, slices}
 use Rattle.aa_diagnostics.specs.Reports.{IsReport, IsDescribed}
 use Rattle.aa_diagnostics.proofs.OfUnit.{if_ok_more}
 use Rattle.aa_diagnostics.proofs.described.describe.Goals as goal

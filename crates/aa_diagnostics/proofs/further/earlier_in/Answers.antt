@@ -1,8 +1,8 @@
 use Rattle.std.proofs.Common.{Option, ap, ◌∙◌}
 use Rattle.std.proofs.lemmas.Result.{err_from_is_err_and}
 use Rattle.std.specs.Prelude.{codes}
-use Rattle.aa_faults.specs.declared.fault.Spot.{Spot}
-use Rattle.aa_heads.proofs.Refusals.{refused_by}
+use Rattle.aa_base.specs.declared.fault.Spot.{Spot}
+use Rattle.aa_policy.proofs.Refusals.{refused_by}
 use Rattle.aa_diagnostics.specs.Further.{spot_lines}
 use Rattle.aa_diagnostics.proofs.further.earlier_in.Goals as goal
 

@@ -3,7 +3,7 @@ use Rattle.std.proofs.lemmas.Result.{err_from_is_err_and, IfOk-weaker}
 use Rattle.aa_words.specs.Splits.{WordData, words_data}
 use Rattle.aa_policy.specs.Bodies.{IsPolicy}
 use Rattle.aa_policy.specs.Spelling.{IsDuplicate}
-use Rattle.aa_heads.proofs.Refusals.{refused_by}
+use Rattle.aa_policy.proofs.Refusals.{refused_by}
 use Rattle.aa_diagnostics.proofs.OfUnit.{handed_in, lent_words, own_words}
 use Rattle.aa_diagnostics.proofs.further.earlier_lines.Goals as goal
 

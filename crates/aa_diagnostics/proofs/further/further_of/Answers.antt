@@ -1,8 +1,8 @@
 use Rattle.std.proofs.Common.{sym, subst}
 use Rattle.std.specs.Prelude.{IfOk}
-use Rattle.aa_faults.specs.declared.fault.PolicyKind.{PolicyKind}
-use Rattle.aa_trees.specs.Texts.{texts, slices}
-use Rattle.aa_units.specs.Compiled.{limit_of, IsFaultOfUnit}
+use Rattle.aa_base.specs.declared.fault.PolicyKind.{PolicyKind}
+use Rattle.aa_files.specs.Texts.{texts, slices}
+use Rattle.aa_load.specs.UnitPolicy.{limit_of, IsFaultOfUnit}
 use Rattle.aa_diagnostics.specs.Further.{IsFurther, ShowsEarlier}
 use Rattle.aa_diagnostics.proofs.OfUnit.{shows_set, shows_named, shows_clash, shows_own_clash}
 use Rattle.aa_diagnostics.proofs.further.further_of.Goals as goal

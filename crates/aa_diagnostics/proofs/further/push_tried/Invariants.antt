@@ -1,5 +1,5 @@
 use Rattle.std.proofs.Common.{◌≡◌, ◌++◌, map, take}
-use Rattle.aa_trees.specs.Texts.{texts}
+use Rattle.aa_files.specs.Texts.{texts}
 use Rattle.aa_diagnostics.specs.Further.{tried}
 use Rattle.aa_diagnostics.proofs.further.push_tried.Given as goal
 

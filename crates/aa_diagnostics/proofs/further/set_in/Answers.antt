@@ -1,6 +1,6 @@
 use Rattle.std.proofs.Common.{Option, ap, ◌∙◌}
 use Rattle.std.specs.Prelude.{codes}
-use Rattle.aa_faults.specs.declared.fault.Spot.{Spot}
+use Rattle.aa_base.specs.declared.fault.Spot.{Spot}
 use Rattle.aa_diagnostics.specs.Further.{spot_lines}
 use Rattle.aa_diagnostics.proofs.further.set_in.Goals as goal
 

@@ -1,8 +1,8 @@
 use Rattle.std.proofs.Common.{List, subst}
 use Rattle.std.proofs.lemmas.Result.{err_from_is_err_and, IfOk-weaker}
 use Rattle.aa_words.specs.Splits.{WordData, words_data}
-use Rattle.aa_heads.specs.Preamble.{IsTwice}
-use Rattle.aa_heads.proofs.Refusals.{refused_by}
+use Rattle.aa_policy.specs.Preamble.{IsTwice}
+use Rattle.aa_policy.proofs.Refusals.{refused_by}
 use Rattle.aa_diagnostics.proofs.OfUnit.{handed_in, lent_words, own_words}
 use Rattle.aa_diagnostics.proofs.further.set_lines.Goals as goal
 

@@ -1,6 +1,6 @@
 use Rattle.std.proofs.Common.{◌≡◌, ◌∙◌, ap, List, flat_map, take}
 use Rattle.std.proofs.lemmas.List.{take_all}
-use Rattle.aa_trees.specs.Texts.{slices}
+use Rattle.aa_files.specs.Texts.{slices}
 use Rattle.aa_words.specs.declared.found.IncludeAt.{IncludeAt}
 use Rattle.aa_words.specs.FoundData.{includes_data}
 use Rattle.aa_diagnostics.specs.Further.{tried_at}

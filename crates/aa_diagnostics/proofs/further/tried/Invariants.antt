@@ -1,5 +1,5 @@
 use Rattle.std.proofs.Common.{◌≡◌, flat_map, take}
-use Rattle.aa_trees.specs.Texts.{texts, slices}
+use Rattle.aa_files.specs.Texts.{texts, slices}
 use Rattle.aa_words.specs.FoundData.{includes_data}
 use Rattle.aa_diagnostics.specs.Further.{tried_at}
 use Rattle.aa_diagnostics.proofs.further.tried.Given as goal

@@ -1,6 +1,6 @@
 use Rattle.std.proofs.Common.{◌≡◌, ap, Err}
-use Rattle.aa_answers.specs.declared.tasks.MediateFault.{MediateFault}
-use Rattle.aa_answers.specs.declared.tasks.MediateFault.TheVariants.{UnknownProfile}
+use Rattle.aa_engine.specs.declared.tasks.MediateFault.{MediateFault}
+use Rattle.aa_engine.specs.declared.tasks.MediateFault.TheVariants.{UnknownProfile}
 use Rattle.aa_engine.proofs.engine.answered_text.Goals as goal
 
 pub returns-in-Err-clause-unknown : goal.returns-in-Err-clause-unknown

@@ -1,7 +1,7 @@
 use denote.Param.Send.{sendable}
 use Rattle.std.proofs.Common.{ap, Err}
 use Rattle.std.proofs.Crossing.{crosses}
-use Rattle.aa_answers.specs.declared.tasks.MediateFault.{MediateFault}
+use Rattle.aa_engine.specs.declared.tasks.MediateFault.{MediateFault}
 use Rattle.aa_mediate.proofs.Shared.{mediator_sync}
 use Rattle.aa_engine.proofs.Inputs.{unknown_explained}
 use Rattle.aa_engine.proofs.engine.run_text.Goals as goal

@@ -1,9 +1,9 @@
 use Rattle.std.proofs.lemmas.Grind.{common_steps}
 use Rattle.std.proofs.Common.{◌≡◌, ◌∙◌, ◌∷◌, [], map, get_or, sym, ap, arith}
 use Rattle.std.proofs.lemmas.List.{map-append}
-use Rattle.aa_patterns.specs.declared.pattern.Pattern.{Pattern}
+use Rattle.aa_pattern.specs.declared.pattern.Pattern.{Pattern}
 use Rattle.aa_glob.specs.Built.{text_of}
-use Rattle.aa_reader.specs.Reading.{spelled}
+use Rattle.aa_glob.specs.Reading.{spelled}
 use Rattle.aa_glob.specs.Expansions.{expansion}
 use Rattle.aa_glob.proofs.ExpandSteps.{behind_read, built_same, read_more, read_refused, read_end}
 use Rattle.aa_glob.proofs.expanding.read_all.Goals as goal

@@ -1,5 +1,5 @@
 use Rattle.std.proofs.Common.{◌≡◌, ◌≤◌, ℕ, List, map, drop, length}
-use Rattle.aa_reader.specs.Reading.{spelled}
+use Rattle.aa_glob.specs.Reading.{spelled}
 use Rattle.aa_glob.specs.Expansions.{expansions, outcome_of, Texts}
 use Rattle.aa_glob.proofs.ExpandSteps.{behind_read}
 use Rattle.aa_glob.proofs.expanding.read_all.Given as goal

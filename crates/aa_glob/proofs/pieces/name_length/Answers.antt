@@ -1,6 +1,6 @@
 use Rattle.std.proofs.Common.{rules}
 use Rattle.std.proofs.Common.{sym, ◌∙◌}
-use Rattle.aa_reader.proofs.Runs.{stops_not, goes_yet}
+use Rattle.aa_glob.proofs.Runs.{stops_not, goes_yet}
 use Rattle.aa_glob.proofs.PieceSteps.{name_step, names_end}
 use Rattle.aa_glob.proofs.pieces.name_length.Goals as goal
 

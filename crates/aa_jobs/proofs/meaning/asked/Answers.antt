@@ -1,5 +1,5 @@
 use Rattle.std.proofs.Common.{◌≡◌, Result, Ok, ap, subst}
-use Rattle.aa_requests.specs.declared.request.Request.{Request}
+use Rattle.aa_model.specs.declared.request.Request.{Request}
 use Rattle.aa_jobs.specs.declared.job_fault.JobFault.{JobFault}
 use Rattle.aa_jobs.specs.Meaning.{asked}
 use Rattle.aa_jobs.specs.Steps.{Gives, Refuses}

@@ -1,8 +1,8 @@
 use Rattle.std.proofs.Common.{Bool, false, cond, get_or, ap, ◌∙◌}
 use Rattle.std.proofs.lemmas.List.{get_or_default}
-use Rattle.aa_profiles.specs.declared.rule.CapRule.{CapRule}
-use Rattle.aa_said.specs.Said.{said, both, nothing}
-use Rattle.aa_rows.specs.Holding.{cap_holds}
+use Rattle.aa_model.specs.declared.rule.CapRule.{CapRule}
+use Rattle.aa_compile.specs.Said.{said, both, nothing}
+use Rattle.aa_compile.specs.Holding.{cap_holds}
 use Rattle.aa_mediate.specs.Held.{saying}
 use Rattle.aa_mediate.proofs.Holding.{verdict_more, verdict_all}
 use Rattle.aa_mediate.proofs.held.verdict_of_cap.Goals as goal

@@ -1,5 +1,5 @@
 use Rattle.std.proofs.Common.{◌≡◌, drop}
-use Rattle.aa_said.specs.Said.{both}
+use Rattle.aa_compile.specs.Said.{both}
 use Rattle.aa_mediate.specs.Held.{cap_verdict}
 use Rattle.aa_mediate.proofs.held.verdict_of_cap.Given as goal
 

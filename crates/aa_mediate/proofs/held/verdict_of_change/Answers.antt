@@ -1,7 +1,7 @@
 use Rattle.std.proofs.Common.{Bool, cond, ap, ◌∙◌}
-use Rattle.aa_profiles.specs.declared.rule.ChangeRule.{ChangeRule}
-use Rattle.aa_said.specs.Said.{said, both, nothing}
-use Rattle.aa_rows.specs.Holding.{change_holds}
+use Rattle.aa_model.specs.declared.rule.ChangeRule.{ChangeRule}
+use Rattle.aa_compile.specs.Said.{said, both, nothing}
+use Rattle.aa_compile.specs.Holding.{change_holds}
 use Rattle.aa_mediate.specs.Held.{saying}
 use Rattle.aa_mediate.proofs.Holding.{verdict_more, verdict_all}
 use Rattle.aa_mediate.proofs.held.verdict_of_change.Goals as goal

@@ -1,8 +1,8 @@
 use Rattle.std.proofs.Common.{List, ℕ, subst, ap, ◌∙◌}
-use Rattle.aa_said.specs.declared.sets.RuleSets.{RuleSets}
-use Rattle.aa_rows.specs.FileRules.{file_verdict}
-use Rattle.aa_rows.specs.Rows.{IsVerdictOf}
-use Rattle.aa_rows.specs.Ways.{way_by}
+use Rattle.aa_compile.specs.declared.sets.RuleSets.{RuleSets}
+use Rattle.aa_compile.specs.FileRules.{file_verdict}
+use Rattle.aa_compile.specs.Rows.{IsVerdictOf}
+use Rattle.aa_compile.specs.Ways.{way_by}
 use Rattle.aa_mediate.specs.Links.{link_bits_of}
 use Rattle.aa_mediate.proofs.SameWays.{same_ways}
 use Rattle.aa_mediate.proofs.link.of_link.Goals as goal

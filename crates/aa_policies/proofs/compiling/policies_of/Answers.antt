@@ -1,6 +1,6 @@
 use Rattle.std.specs.Prelude.{◌≢◌}
 use Rattle.std.proofs.lemmas.Result.{err_from_is_err_and}
-use Rattle.aa_faults.specs.declared.fault.PolicyKind.TheVariants.{NoMemory}
+use Rattle.aa_base.specs.declared.fault.PolicyKind.TheVariants.{NoMemory}
 use Rattle.aa_policies.specs.Policies.{IsFirstRefused}
 use Rattle.aa_policies.proofs.Rows.{more, all, refused_at, handed_on}
 use Rattle.aa_policies.proofs.compiling.policies_of.Goals as goal

@@ -1,5 +1,5 @@
 use Rattle.std.proofs.Common.{ap, Err}
-use Rattle.aa_faults.specs.declared.fault.PolicyFault.{PolicyFault}
+use Rattle.aa_base.specs.declared.fault.PolicyFault.{PolicyFault}
 use Rattle.aa_policies.proofs.Gathering.{gathering_start, gathering_more, gathering_end, is_short, is_fresh, refused_here, fault_here, ok_err}
 use Rattle.aa_policies.proofs.sources.gather_sources.Goals as goal
 

@@ -5,7 +5,7 @@ use Rattle.aa_policy.specs.Bodies.{IsBodyPart, rules_in, children_in, part_data}
 use Rattle.aa_rules.specs.Grammar.{Closes}
 use Rattle.aa_rules.specs.Reading.{rest_of}
 use Rattle.aa_policy.proofs.Profiles.{part_reads, more_given}
-use Rattle.aa_heads.proofs.Refusals.{refused_by}
+use Rattle.aa_policy.proofs.Refusals.{refused_by}
 use Rattle.aa_rules.proofs.Repetition.{reaches_next, reaches_end, reaches_none}
 use Rattle.aa_policy.proofs.bodies.body_of.Goals as goal
 

@@ -1,6 +1,6 @@
 use Rattle.std.proofs.lemmas.Result.{err_from_is_err_and}
 use Rattle.aa_policy.proofs.Profiles.{no_child_part, no_part}
-use Rattle.aa_heads.proofs.Refusals.{refused_by}
+use Rattle.aa_policy.proofs.Refusals.{refused_by}
 use Rattle.aa_policy.proofs.bodies.body_part_of.Goals as goal
 
 pub returns-in_err-child-clause-refused : goal.returns-in_err-child-clause-refused

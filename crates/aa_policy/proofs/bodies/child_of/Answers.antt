@@ -1,6 +1,6 @@
 use Rattle.std.proofs.lemmas.Result.{err_from_is_err_and}
 use Rattle.aa_policy.proofs.Profiles.{no_child_head, no_child_body}
-use Rattle.aa_heads.proofs.Refusals.{refused_by}
+use Rattle.aa_policy.proofs.Refusals.{refused_by}
 use Rattle.aa_policy.proofs.bodies.child_of.Goals as goal
 
 pub returns-in_err-head-clause-refused : goal.returns-in_err-head-clause-refused

@@ -1,6 +1,6 @@
 use Rattle.std.proofs.Common.{inl}
 use Rattle.std.proofs.lemmas.Result.{err_from_is_err_and}
-use Rattle.aa_heads.proofs.Refusals.{handed_on}
+use Rattle.aa_policy.proofs.Refusals.{handed_on}
 use Rattle.aa_policy.proofs.changes.aimed_pattern.Goals as goal
 
 pub returns-in_err-pattern_of-in-Some-clause-refused : goal.returns-in_err-pattern_of-in-Some-clause-refused

@@ -3,7 +3,7 @@ use Rattle.aa_rules.specs.Reading.{rule_data}
 use Rattle.aa_policy.specs.Spelling.{MeansChange, on_change, change_paths}
 use Rattle.aa_policy.proofs.Expanded.{refused_at, passed_at}
 use Rattle.aa_policy.proofs.Meaning.{rules_more, change_expands}
-use Rattle.aa_heads.proofs.Refusals.{handed_on}
+use Rattle.aa_policy.proofs.Refusals.{handed_on}
 use Rattle.aa_policy.proofs.changes.change_rules.Goals as goal
 
 pub returns-in_err-push_change_rule-clause-refused : goal.returns-in_err-push_change_rule-clause-refused

@@ -1,7 +1,7 @@
 use Rattle.std.proofs.Common.{take, drop, map, List}
 use Rattle.std.specs.Prelude.{flat_map}
 use Rattle.std.specs.List.{AllZip}
-use Rattle.aa_faults.specs.declared.fault.PolicyFault.{PolicyFault}
+use Rattle.aa_base.specs.declared.fault.PolicyFault.{PolicyFault}
 use Rattle.aa_glob.specs.Variables.{Variable}
 use Rattle.aa_policy.specs.Expansion.{IsFirstRefused}
 use Rattle.aa_rules.specs.Reading.{rule_data}

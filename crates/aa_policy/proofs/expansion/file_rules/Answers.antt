@@ -7,7 +7,7 @@ use Rattle.aa_rules.specs.Reading.{rule_data}
 use Rattle.aa_policy.specs.Spelling.{MeansRule, files_of, on_file, rule_paths}
 use Rattle.aa_policy.proofs.Expanded.{refused_at, passed_at}
 use Rattle.aa_policy.proofs.Meaning.{rules_more, rule_expands}
-use Rattle.aa_heads.proofs.Refusals.{handed_on}
+use Rattle.aa_policy.proofs.Refusals.{handed_on}
 use Rattle.aa_policy.proofs.expansion.file_rules.Goals as goal
 
 pub loop-rule-init : goal.loop-rule-init

@@ -1,8 +1,8 @@
 use Rattle.std.proofs.Common.{List, take, drop, map}
 use Rattle.std.specs.Prelude.{flat_map}
 use Rattle.std.specs.List.{AllZip}
-use Rattle.aa_faults.specs.declared.fault.PolicyFault.{PolicyFault}
-use Rattle.aa_profiles.specs.declared.rule.FileRule.{FileRule}
+use Rattle.aa_base.specs.declared.fault.PolicyFault.{PolicyFault}
+use Rattle.aa_model.specs.declared.rule.FileRule.{FileRule}
 use Rattle.aa_policy.specs.Expansion.{IsFirstRefused}
 use Rattle.aa_policy.specs.Keeping.{KeepsRules}
 use Rattle.aa_rules.specs.Reading.{rule_data}

@@ -1,5 +1,5 @@
 use Rattle.aa_policy.proofs.Expanded.{fault_of_path}
-use Rattle.aa_heads.proofs.Refusals.{memory_or}
+use Rattle.aa_policy.proofs.Refusals.{memory_or}
 use Rattle.aa_policy.specs.Faults.{is_path_fault}
 use Rattle.aa_policy.proofs.expansion.patterns_of.Goals as goal
 

@@ -1,5 +1,5 @@
 use Rattle.std.proofs.Common.{refl, subst, sym}
-use Rattle.aa_profiles.specs.declared.policy.Profile.{Profile}
+use Rattle.aa_model.specs.declared.policy.Profile.{Profile}
 use Rattle.aa_policy.specs.declared.limits.ReadProfile.{ReadProfile}
 use Rattle.aa_policy.specs.Bodies.{profile_data}
 use Rattle.aa_policy.specs.Keeping.{KeepsProfile, read_profile}

@@ -7,7 +7,7 @@ use Rattle.aa_policy.specs.Bodies.{profile_data, tree_data}
 use Rattle.aa_policy.specs.Spelling.{MeansProfile, MeansProfiles, profile_paths}
 use Rattle.aa_policy.proofs.Expanded.{refused_at, passed_at}
 use Rattle.aa_policy.proofs.Meaning.{profiles_more, profile_expands}
-use Rattle.aa_heads.proofs.Refusals.{handed_on}
+use Rattle.aa_policy.proofs.Refusals.{handed_on}
 use Rattle.aa_policy.proofs.expansion.profiles.Goals as goal
 
 pub loop-one-init : goal.loop-one-init

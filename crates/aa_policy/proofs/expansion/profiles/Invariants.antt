@@ -1,6 +1,6 @@
 use Rattle.std.proofs.Common.{List, take, drop}
-use Rattle.aa_faults.specs.declared.fault.PolicyFault.{PolicyFault}
-use Rattle.aa_profiles.specs.declared.policy.Profile.{Profile}
+use Rattle.aa_base.specs.declared.fault.PolicyFault.{PolicyFault}
+use Rattle.aa_model.specs.declared.policy.Profile.{Profile}
 use Rattle.aa_policy.specs.Expansion.{IsFirstRefused}
 use Rattle.aa_policy.specs.Keeping.{KeepsProfiles}
 use Rattle.aa_policy.specs.Bodies.{tree_data}

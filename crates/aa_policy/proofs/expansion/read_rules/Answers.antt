@@ -1,7 +1,7 @@
 use Rattle.std.proofs.lemmas.Result.{err_from_is_err_and}
 use Rattle.aa_policy.proofs.Expanded.{expanding_then, refused_before}
 use Rattle.aa_policy.proofs.Meaning.{rules_expand}
-use Rattle.aa_heads.proofs.Refusals.{handed_on}
+use Rattle.aa_policy.proofs.Refusals.{handed_on}
 use Rattle.aa_rules.specs.Reading.{rule_data}
 use Rattle.std.proofs.Common.{map}
 use Rattle.aa_policy.proofs.expansion.read_rules.Goals as goal

@@ -7,7 +7,7 @@ use Rattle.aa_rules.specs.Grammar.{IsEnd}
 use Rattle.aa_rules.specs.Reading.{rest_of}
 use Rattle.aa_rules.proofs.Places.{nothing_here, something_here}
 use Rattle.aa_policy.proofs.Profiles.{item_reads, no_preamble, no_items, row_next}
-use Rattle.aa_heads.proofs.Refusals.{refused_by, refused_with}
+use Rattle.aa_policy.proofs.Refusals.{refused_by, refused_with}
 use Rattle.aa_rules.proofs.Repetition.{reaches_start, reaches_next, reaches_end, reaches_none}
 use Rattle.aa_policy.proofs.items.tree_of.Goals as goal
 

@@ -1,7 +1,7 @@
 use Rattle.std.proofs.Common.{◌≡◌, take, List, ℕ}
 use Rattle.std.specs.List.{IsDistinct, list_any}
 use Rattle.std.specs.Str.{bytes_eq}
-use Rattle.aa_profiles.specs.Lawful.{names_of}
+use Rattle.aa_model.specs.Lawful.{names_of}
 use Rattle.aa_policy.proofs.limits.check_names.Given as goal
 
 abbrev pub invariant-loop-profile : goal.invariant-loop-profile

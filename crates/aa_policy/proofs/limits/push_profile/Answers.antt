@@ -1,6 +1,6 @@
 use Rattle.std.proofs.Common.{List, length, ◌-◌, refl, ◌∙◌, sym, ap}
-use Rattle.aa_patterns.specs.declared.pattern.Pattern.{Pattern}
-use Rattle.aa_profiles.specs.declared.policy.Profile.{Profile}
+use Rattle.aa_pattern.specs.declared.pattern.Pattern.{Pattern}
+use Rattle.aa_model.specs.declared.policy.Profile.{Profile}
 use Rattle.aa_policy.proofs.Keeping.{name_kept, profile_kept, past_before, past_alone, past_beside, same_fit, same_named, true_false}
 use Rattle.aa_policy.proofs.limits.push_profile.Goals.{then-kept-via-then-kept, then-kept-via-else-kept+then-over, then-kept-via-else-kept+else-over+then-not-fits_beside}
 use Rattle.aa_policy.proofs.limits.push_profile.Goals as goal

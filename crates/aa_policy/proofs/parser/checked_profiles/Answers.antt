@@ -1,12 +1,12 @@
 use Rattle.std.proofs.Common.{◌⊎◌, ◌≡◌, List, inr, subst, sym}
 use Rattle.std.specs.List.{AllZip}
 use Rattle.std.proofs.lemmas.Result.{err_from_is_err_and}
-use Rattle.aa_faults.specs.Kinds.{no_memory}
-use Rattle.aa_profiles.specs.declared.policy.Profile.{Profile}
+use Rattle.aa_base.specs.Kinds.{no_memory}
+use Rattle.aa_model.specs.declared.policy.Profile.{Profile}
 use Rattle.aa_policy.specs.Bodies.{tree_data}
 use Rattle.aa_policy.specs.Keeping.{IsNamedAs}
 use Rattle.aa_policy.specs.Meant.{AreMeant, IsMeaningless, OfLimit}
-use Rattle.aa_heads.proofs.Refusals.{told_on}
+use Rattle.aa_policy.proofs.Refusals.{told_on}
 use Rattle.aa_policy.proofs.Keeping.{kept_answer, kept_distinct}
 use Rattle.aa_policy.proofs.Answered.{of_name, of_path}
 use Rattle.aa_policy.proofs.parser.checked_profiles.Goals as goal

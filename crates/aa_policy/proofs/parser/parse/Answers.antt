@@ -1,9 +1,9 @@
 use Rattle.std.proofs.Common.{List, Result, Err, ap, subst, sym, ◌∙◌}
 use Rattle.std.proofs.lemmas.Result.{err_from_is_err_and}
-use Rattle.aa_faults.specs.declared.fault.PolicyFault.{PolicyFault}
+use Rattle.aa_base.specs.declared.fault.PolicyFault.{PolicyFault}
 use Rattle.aa_words.specs.declared.word.Word.{Word}
 use Rattle.aa_words.specs.Splits.{words_data}
-use Rattle.aa_profiles.specs.declared.policy.Policy.{Policy}
+use Rattle.aa_model.specs.declared.policy.Policy.{Policy}
 use Rattle.aa_policy.specs.declared.tree.ProfileTree.{ProfileTree}
 use Rattle.aa_policy.specs.Bodies.{IsPolicy, tree_data}
 use Rattle.aa_policy.proofs.Answered.{Answers, meant, stopped}

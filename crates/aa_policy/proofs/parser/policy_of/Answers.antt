@@ -1,6 +1,6 @@
 use Rattle.std.proofs.Common.{List, subst, sym}
-use Rattle.aa_profiles.specs.declared.policy.Profile.{Profile}
-use Rattle.aa_profiles.specs.Lawful.{IsLawful}
+use Rattle.aa_model.specs.declared.policy.Profile.{Profile}
+use Rattle.aa_model.specs.Lawful.{IsLawful}
 use Rattle.aa_policy.specs.Bodies.{tree_data}
 use Rattle.aa_policy.proofs.Meaning.{few_trees}
 use Rattle.aa_policy.proofs.Spelled.{lawful}

@@ -1,5 +1,5 @@
 use Rattle.std.proofs.Common.{◌≡◌, ℕ, ap, sym, ◌∙◌, rules}
-use Rattle.aa_profiles.specs.declared.rule.CapRule.{CapRule}
+use Rattle.aa_model.specs.declared.rule.CapRule.{CapRule}
 use Rattle.aa_rules.specs.declared.tree.Qualifiers.{Qualifiers}
 use Rattle.aa_rules.proofs.CapRules.{caps_all, caps_some}
 use Rattle.aa_rules.proofs.cap_rules.cap_rule_of.Goals as goal

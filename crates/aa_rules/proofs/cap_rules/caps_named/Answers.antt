@@ -6,7 +6,7 @@ use Rattle.aa_words.specs.Splits.{word_data}
 use Rattle.aa_rules.specs.CapRules.{NamesEnd, IsCapName, numbers_bits}
 use Rattle.aa_rules.specs.Phrases.{Lacks}
 use Rattle.aa_rules.specs.Reading.{rest_of}
-use Rattle.aa_tables.specs.Tables.{capability_names}
+use Rattle.aa_base.specs.Tables.{capability_names}
 use Rattle.aa_rules.proofs.CapRules.{cap_names_read, bits_more, no_name, not_the_end}
 use Rattle.aa_rules.proofs.Repetition.{reaches_start, reaches_next, reaches_end, reaches_none, here_next}
 use Rattle.aa_rules.proofs.cap_rules.caps_named.Goals as goal

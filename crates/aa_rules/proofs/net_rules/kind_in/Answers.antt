@@ -1,7 +1,7 @@
 use Rattle.std.proofs.Common.{◌∙◌, ap, arith}
 use Rattle.std.specs.Prelude.{ℕ, ◌^◌, Some, option_map}
 use Rattle.std.proofs.lemmas.Nat.{one_shl}
-use Rattle.aa_tables.specs.Tables.{sock_type_names}
+use Rattle.aa_base.specs.Tables.{sock_type_names}
 use Rattle.aa_rules.proofs.net_rules.kind_in.Goals as goal
 
 pub overflow_shl-result : goal.overflow_shl-result

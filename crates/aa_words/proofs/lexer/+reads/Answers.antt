@@ -1,7 +1,7 @@
 use Rattle.std.proofs.Common.{◌≡◌, ◌⊎◌, ◌++◌, ◌<◌, suc, List, [], length, rules, tests, arith, inl, inr, refl, sym, ap, ◌∙◌, append_assoc}
 use Rattle.std.proofs.lemmas.List.{append-nil}
 use Rattle.std.proofs.lemmas.Result.{err_from_is_err_and}
-use Rattle.aa_faults.specs.Kinds.{no_memory}
+use Rattle.aa_base.specs.Kinds.{no_memory}
 use Rattle.aa_words.specs.Splits.{WordData}
 use Rattle.aa_words.specs.Stops.{Fails}
 use Rattle.aa_words.proofs.Cuts.{read_start, read_step, read_end}

@@ -1,6 +1,6 @@
 use Rattle.std.proofs.Common.{arith}
 use Rattle.std.proofs.lemmas.Grind.{common_steps}
-use Rattle.aa_patterns.proofs.PlaceLaws.{decide_next}
+use Rattle.aa_pattern.proofs.PlaceLaws.{decide_next}
 use Rattle.aa_auto.proofs.LawLemmas.{same_bytes}
 use Rattle.aa_auto.proofs.automaton.Automaton.build.Goals as goal
 

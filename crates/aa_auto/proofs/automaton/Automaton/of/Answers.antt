@@ -1,6 +1,6 @@
 use Rattle.std.proofs.Common.{subst, ◌+◌, IfOk}
 use Rattle.aa_auto.specs.Tables.{IsAutomaton, HasPlaces}
-use Rattle.aa_patterns.proofs.PlaceLaws.{decide_next}
+use Rattle.aa_pattern.proofs.PlaceLaws.{decide_next}
 use Rattle.aa_auto.proofs.LawLemmas.{same_bytes}
 use Rattle.aa_auto.specs.Nodes.{pointed}
 use Rattle.aa_auto.proofs.automaton.Automaton.of.Goals as goal

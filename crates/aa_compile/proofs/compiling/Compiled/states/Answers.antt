@@ -1,5 +1,5 @@
 use Rattle.std.proofs.Common.{◌↔◌, ◌≡◌, sym, subst}
-use Rattle.aa_rows.specs.Rows.{patterns_of}
+use Rattle.aa_compile.specs.Rows.{patterns_of}
 use Rattle.aa_compile.specs.States.{HasStates}
 use Rattle.aa_compile.proofs.StateLemmas.{counted}
 use Rattle.aa_compile.proofs.compiling.Compiled.states.Goals as goal

@@ -1,6 +1,6 @@
 use Rattle.std.proofs.Common.{sym, subst}
-use Rattle.aa_rows.specs.Rows.{IsVerdictOf}
-use Rattle.aa_rows.specs.Ways.{way_by}
+use Rattle.aa_compile.specs.Rows.{IsVerdictOf}
+use Rattle.aa_compile.specs.Ways.{way_by}
 use Rattle.aa_compile.proofs.Bytes.{text_of}
 use Rattle.aa_compile.proofs.compiling.Compiled.verdict.Goals as goal
 

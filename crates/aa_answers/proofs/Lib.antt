@@ -1,5 +1,0 @@
-mod Answering
-mod Checking
-mod Replaying
-mod Writing
-pub mod Crossing

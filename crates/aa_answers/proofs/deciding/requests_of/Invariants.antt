@@ -1,7 +1,0 @@
-use Rattle.std.proofs.Common.{drop}
-use Rattle.aa_answers.specs.Answers.{asked}
-use Rattle.aa_answers.proofs.Answering.{Asking}
-use Rattle.aa_answers.proofs.deciding.requests_of.Given as goal
-
-abbrev pub invariant-loop-work : goal.invariant-loop-work
-invariant-loop-work l = Asking l.requests.items (drop l.work-index l.works) (asked l.works)

@@ -1,6 +1,0 @@
-use Rattle.std.proofs.Common.{drop}
-use Rattle.aa_answers.proofs.Replaying.{Opening}
-use Rattle.aa_answers.proofs.replay.open_tasks.Given as goal
-
-abbrev pub invariant-loop-task : goal.invariant-loop-task
-invariant-loop-task l = Opening l.policies l.capacity l.states.items (drop l.task-index l.tasks) l.tasks

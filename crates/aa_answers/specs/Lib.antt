@@ -1,4 +1,0 @@
-pub mod Answers
-pub mod Output
-pub mod Replay
-pub mod Texts

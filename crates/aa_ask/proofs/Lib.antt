@@ -1,0 +1,9 @@
+mod Bits
+mod Named
+mod Telling
+pub mod Ruled
+pub mod Commas
+pub mod Views
+pub mod Turns
+mod Denials
+pub mod Words

@@ -1,0 +1,62 @@
+-- What `ask` prints.
+-- Source: own.
+use Rattle.std.specs.Prelude.{ℕ, ◌≡◌, ◌+◌, ◌<◌, ◌≤◌, List, [], ◌++◌, length, flat_map, codes, not, if◌then◌else◌, Bool, Option, Some, None, option_map, Ok, Err}
+use Rattle.std.specs.List.{list_any}
+use Rattle.aa_files.specs.Texts.{texts}
+use Rattle.aa_base.specs.declared.unread.Unread.{Unread}
+use Rattle.aa_base.specs.declared.unread.Unread.TheVariants as unread
+use Rattle.aa_files.specs.Files.{Files}
+use Rattle.aa_files.specs.FilesData.{IsMain, IsMainText}
+use Rattle.aa_ask.specs.Told.{Told}
+use Rattle.aa_ask.specs.Shown.{verdict_text}
+use Rattle.aa_ask.specs.Json.{json_verdicts}
+use Rattle.aa_ask.specs.Asked.{Outcome, answers}
+use Rattle.aa_ask.specs.Words.{word_lines}
+use Rattle.aa_command.specs.Setting.{Setting}
+use Rattle.aa_ask.specs.declared.command.AskOptions.{AskOptions}
+use Rattle.aa_command.specs.Printed.{Printed, answers_alone, faults_alone}
+use Rattle.aa_command.specs.Refusals.{SaysUnread}
+use Rattle.aa_command.specs.Policies.{IsPrintedFor}
+
+-- verdicts as they are wanted: as JSON, as text, or not at all
+abbrev pub verdicts_text : AskOptions → List Told → List ℕ
+verdicts_text o ts = if o.is_json then json_verdicts ts else (if o.is_quiet then [] else flat_map verdict_text ts)
+
+-- one of the requests is denied
+abbrev pub is_one_denied : List Told → Bool
+is_one_denied ts = list_any (λ (t : Told). not t.granted) ts
+
+-- the verdicts, with 4 where one is denied; or the line that refuses
+abbrev pub ask_printed : AskOptions → Outcome (List Told) → Printed
+ask_printed o (Err line) = faults_alone line 1
+ask_printed o (Ok ts) = answers_alone (verdicts_text o ts) (if is_one_denied ts then 4 else 0)
+
+-- some words, and behind them those of the file at a path
+pub record AddsWords (files : Option Files) (input : Option (List ℕ)) (path : List ℕ) (first words : List (List ℕ)) : Type 0 where
+  pub text : List ℕ
+  pub main : IsMainText files input path text
+  pub added : words ≡ first ++ word_lines text
+
+-- why they can't stand behind so many: the file can't be read, or they are too many
+pub data IsWordsFault (files : Option Files) (input : Option (List ℕ)) (path : List ℕ) (count : ℕ) (why : Unread) : Type 0 where
+  OfFile : IsMain files input path (Err why) → IsWordsFault files input path count why
+  TooMany : (text : List ℕ) → IsMainText files input path text → why ≡ unread.TooLarge → 65536 < count + length (word_lines text) → IsWordsFault files input path count why
+
+-- what is printed where these words are asked: the verdicts on them by the one policy that the files are, or why they are none
+abbrev pub IsAsked : Setting → AskOptions → List (List ℕ) → Printed → Type 0
+IsAsked s o words out = IsPrintedFor s (texts o.files.now) (λ d printed. printed ≡ ask_printed o (answers d o.manner words)) out
+
+-- what is printed where the words of a file are asked too
+pub data IsAskedFrom (s : Setting) (o : AskOptions) (path : List ℕ) (first : List (List ℕ)) (out : Printed) : Type 0 where
+  NoWords : (why : Unread) → IsWordsFault s.files s.input path (length first) why → SaysUnread path why out → IsAskedFrom s o path first out
+  Added : (words : List (List ℕ)) → AddsWords s.files s.input path first words → length words ≤ 65536 → IsAsked s o words out → IsAskedFrom s o path first out
+
+-- the words asked are those of a file, or those given
+abbrev pub IsAskedWith : Setting → AskOptions → Option (List ℕ) → List (List ℕ) → Printed → Type 0
+IsAskedWith s o None words out = IsAsked s o words out
+IsAskedWith s o (Some path) words out = IsAskedFrom s o path words out
+
+-- What `ask` prints, with these words on the command line. More than 65,536 of them are refused before anything is read.
+pub data IsAskOutput (s : Setting) (o : AskOptions) (words : List (List ℕ)) (out : Printed) : Type 0 where
+  TooMany : 65536 < length words → out ≡ faults_alone (codes "error: ask takes at most 65536 words\n") 2 → IsAskOutput s o words out
+  Few : length words ≤ 65536 → IsAskedWith s o (option_map (λ path. path.now) o.from) words out → IsAskOutput s o words out

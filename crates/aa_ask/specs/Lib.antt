@@ -1,0 +1,10 @@
+pub mod Telling
+pub mod Verdicts
+pub mod Ruled
+pub mod Named
+pub mod Told
+pub mod Shown
+pub mod Json
+pub mod Asked
+pub mod Words
+pub mod Command

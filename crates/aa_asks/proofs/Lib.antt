@@ -1,3 +1,0 @@
-mod Deciding
-pub mod Placing
-mod Plain

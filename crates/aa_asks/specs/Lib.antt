@@ -1,3 +1,0 @@
-pub mod Deciders
-pub mod Sayings
-pub mod Places

@@ -1,6 +1,0 @@
-use Rattle.std.proofs.Common.{◌≡◌, take}
-use Rattle.aa_attach.specs.Attached.{answers_by}
-use Rattle.aa_attach.proofs.attach.answers_of.Given as goal
-
-abbrev pub invariant-loop-number : goal.invariant-loop-number
-invariant-loop-number l = l.answers.items ≡ answers_by l.attachments (take l.number l.automaton.lists)

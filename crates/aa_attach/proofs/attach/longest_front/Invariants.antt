@@ -1,7 +1,0 @@
-use Rattle.std.proofs.Common.{◌≡◌, drop, max}
-use Rattle.aa_said.specs.Gathered.{picked}
-use Rattle.aa_attach.specs.Attached.{longest}
-use Rattle.aa_attach.proofs.attach.longest_front.Given as goal
-
-abbrev pub invariant-loop-number : goal.invariant-loop-number
-invariant-loop-number l = max l.front (longest (picked l.attachments (drop l.number-index l.numbers))) ≡ longest (picked l.attachments l.numbers)

@@ -1,7 +1,0 @@
-use Rattle.std.proofs.Common.{◌≡◌, drop}
-use Rattle.aa_attach.specs.Attached.{common, profiles_of}
-use Rattle.aa_attach.proofs.Agreed.{agree}
-use Rattle.aa_attach.proofs.attach.only.Given as goal
-
-abbrev pub invariant-loop-number : goal.invariant-loop-number
-invariant-loop-number l = agree l.found (profiles_of l.literal l.front l.attachments (drop l.number-index l.numbers)) ≡ common (profiles_of l.literal l.front l.attachments l.numbers)

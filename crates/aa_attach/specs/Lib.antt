@@ -1,3 +1,0 @@
-pub use Rattle.aa_profiles.specs.Lawful
-pub use Rattle.aa_said.specs.Patterns
-pub mod Attached

@@ -1,0 +1,3 @@
+mod Entries
+pub mod FirstNumbers
+pub mod Shown

@@ -1,0 +1,5 @@
+pub mod FirstNumbers
+pub mod Kinds
+pub mod Tables
+pub mod Permissions
+pub mod Values

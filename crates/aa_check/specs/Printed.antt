@@ -1,0 +1,72 @@
+-- What `check` finds, as it is printed.
+-- Source: own.
+use Rattle.std.specs.Prelude.{ℕ, List, [], ◌++◌, ◌==◌, length, flat_map, codes, decimal, Bool, if◌then◌else◌, is_some, Option, Some, None, Vec}
+use Rattle.std.specs.declared.alloc.Global.{Global}
+use Rattle.aa_base.specs.Values.{value}
+use Rattle.aa_text.specs.declared.fault.FaultReport.{FaultReport}
+use Rattle.aa_text.specs.Faults.{fault_text}
+use Rattle.aa_check.specs.declared.report.ProfileReport.{ProfileReport}
+use Rattle.aa_check.specs.declared.report.Passed.{Passed}
+use Rattle.aa_check.specs.declared.report.FileReport.{FileReport}
+use Rattle.aa_check.specs.declared.report.CheckReport.{CheckReport}
+
+-- a number behind a space, and what it counts
+unfoldable pub count_text : ℕ → List ℕ → List ℕ
+count_text count what = codes " " ++ decimal count ++ what
+
+-- how many rules a profile has on files, on capabilities and on sockets
+unfoldable pub rules_text : ProfileReport → List ℕ
+rules_text p = count_text p.files (codes " file") ++ count_text p.caps (codes " capability") ++ count_text p.nets (codes " network")
+
+-- the patterns of its file rules, the states of their automaton, and its rules that are passed over
+unfoldable pub sizes_text : ProfileReport → List ℕ
+sizes_text p = count_text p.patterns (codes " patterns") ++ count_text p.states (codes " states") ++ count_text p.passed_over (codes " passed over\n")
+
+-- the line of a profile: its name as audit lines have it, and its counts
+unfoldable pub profile_line : ProfileReport → List ℕ
+profile_line p = codes "  profile " ++ value p.name.items ++ rules_text p ++ sizes_text p
+
+-- a keyword, and how often it comes
+unfoldable pub passed_text : Passed → List ℕ
+passed_text p = codes " " ++ p.keyword.items ++ count_text p.count []
+
+-- the line of the keywords, where there are any
+unfoldable pub passed_line : List Passed → List ℕ
+passed_line passed = if length passed == 0 then [] else codes "  passed over" ++ flat_map passed_text passed ++ codes "\n"
+
+-- whether a file is refused, and its path
+unfoldable pub file_line : FileReport → List ℕ
+file_line f = (if is_some f.fault then codes "refused " else codes "ok ") ++ f.path.items ++ codes "\n"
+
+-- what is found of a file
+abbrev pub file_text : FileReport → List ℕ
+file_text f = file_line f ++ flat_map profile_line f.profiles.items ++ passed_line f.passed_over.items
+
+-- how many files, how many of them are refused, and how many profiles
+unfoldable pub last_line : CheckReport → List ℕ
+last_line r = decimal (length r.files.items) ++ codes " files" ++ count_text r.refused (codes " refused") ++ count_text r.profiles (codes " profiles\n")
+
+-- what stands on standard output
+abbrev pub report_text : CheckReport → List ℕ
+report_text r = flat_map file_text r.files.items ++ last_line r
+
+-- the line of a warning
+abbrev pub warning_line : Vec ℕ Global → List ℕ
+warning_line warning = codes "warning: " ++ warning.items ++ codes "\n"
+
+-- no warnings where quiet is wanted
+abbrev pub warning_lines : Bool → List (Vec ℕ Global) → List ℕ
+warning_lines quiet warnings = if quiet then [] else flat_map warning_line warnings
+
+-- the text of a fault, if there is one
+unfoldable pub fault_if : Option FaultReport → List ℕ
+fault_if None = []
+fault_if (Some fault) = fault_text fault
+
+-- the fault of a file, and what is warned of it
+abbrev pub file_faults : Bool → FileReport → List ℕ
+file_faults quiet f = fault_if f.fault ++ warning_lines quiet f.warnings.items
+
+-- what stands on standard error
+abbrev pub faults_text : Bool → CheckReport → List ℕ
+faults_text quiet r = warning_lines quiet r.warnings.items ++ flat_map (file_faults quiet) r.files.items

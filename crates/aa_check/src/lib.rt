@@ -1,0 +1,17 @@
+//! What `check` finds of the files of a policy, each by itself, and how that is printed.
+#![tactic(auto)]
+
+mod checked;
+mod checking;
+mod command;
+mod counting;
+mod jsons;
+mod lines;
+mod naming;
+mod report;
+
+pub use checked::{push_faults, push_report};
+pub use checking::check;
+pub use command::{CheckOptions, check_files};
+pub use jsons::push_json_report;
+pub use report::{CheckReport, FileReport, Passed, ProfileReport};

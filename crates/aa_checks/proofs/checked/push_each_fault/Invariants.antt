@@ -1,6 +1,0 @@
-use Rattle.std.proofs.Common.{◌≡◌, ◌++◌, take, flat_map}
-use Rattle.aa_checks.specs.Printed.{file_faults}
-use Rattle.aa_checks.proofs.checked.push_each_fault.Given as goal
-
-abbrev pub invariant-loop-file : goal.invariant-loop-file
-invariant-loop-file l = l.out.items ≡ l.initial.out.items ++ flat_map (file_faults l.is_quiet) (take l.file-index l.files)

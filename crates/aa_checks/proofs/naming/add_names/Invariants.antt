@@ -1,6 +1,0 @@
-use Rattle.std.proofs.Common.{take}
-use Rattle.aa_checks.specs.Names.{AddsNames}
-use Rattle.aa_checks.proofs.naming.add_names.Given as goal
-
-abbrev pub invariant-loop-profile : goal.invariant-loop-profile
-invariant-loop-profile l = AddsNames l.initial.first (take l.profile-index l.profiles) l.number l.first

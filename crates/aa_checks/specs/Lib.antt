@@ -1,5 +1,0 @@
-pub mod Printed
-pub mod Jsons
-pub mod Counts
-pub mod Names
-pub mod Checked

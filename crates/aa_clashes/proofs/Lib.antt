@@ -1,4 +1,0 @@
-pub mod Conflicting
-pub mod Owning
-pub mod Leading
-pub mod Searching

@@ -1,0 +1,8 @@
+use Rattle.std.proofs.Common.{take}
+use Rattle.aa_files.specs.Texts.{texts}
+use Rattle.aa_command.specs.Setting.{setting_of}
+use Rattle.aa_command.specs.Loads.{AreLoaded}
+use Rattle.aa_command.proofs.policy.load_units.Given as goal
+
+abbrev pub invariant-loop-path : goal.invariant-loop-path
+invariant-loop-path g l = AreLoaded (setting_of (g.T.Tree.files l.tree) (g.T.Tree.taken l.tree) (g.T.Tree.input l.tree) l.settings) (texts (take l.path-index l.paths)) l.units.items

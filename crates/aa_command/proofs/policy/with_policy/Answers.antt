@@ -1,0 +1,28 @@
+use Rattle.std.proofs.lemmas.Result.{IfOk-weaker}
+use Rattle.std.proofs.Common.{arith}
+use Rattle.std.proofs.lemmas.List.{length-map}
+use Rattle.aa_files.specs.Texts.{texts}
+use Rattle.aa_command.specs.declared.output.Output.{Output}
+use Rattle.aa_command.specs.Setting.{setting_of}
+use Rattle.aa_command.specs.Printed.{printed}
+use Rattle.aa_command.specs.Refusals.{SaysUnitFault}
+use Rattle.aa_command.specs.Policies.{IsPrintedFor, NoRoots}
+use Rattle.aa_command.proofs.Deciding.{printed_for}
+use Rattle.aa_command.proofs.policy.with_policy.Goals as goal
+
+pub returns-in-Ok : goal.returns-in-Ok
+returns-in-Ok g c =
+    let s = setting_of (g.T.Tree.files c.args.tree.now) (g.T.Tree.taken c.args.tree.now) (g.T.Tree.input c.args.tree.now) c.args.settings.now in
+    let roots = c.in-Ok.roots in
+    printed_for s (texts c.args.arguments.now) roots.paths.items c.as_slice.result.now (texts roots.warnings.items) (g.U.Use.gives c.args.user.now) c.with_paths.result (record {
+      few = omega (arith, length-map roots.paths.items (λ v. v.items), c.in-Ok.ensures.few);
+      paths_are = c.in-Ok.ensures.paths;
+      warnings_are = c.in-Ok.ensures.warnings;
+    }) c.as_slice.ensures.value c.with_paths.ensures
+
+pub returns-in-Err : goal.returns-in-Err
+returns-in-Err g c =
+    let s = setting_of (g.T.Tree.files c.args.tree.now) (g.T.Tree.taken c.args.tree.now) (g.T.Tree.input c.args.tree.now) c.args.settings.now in
+    let e = c.in-Err.fault in
+    IfOk-weaker c.unit_refused.result (λ (o : Output). SaysUnitFault e (printed o)) (λ (o : Output). IsPrintedFor s (texts c.args.arguments.now) (g.U.Use.gives c.args.user.now) (printed o))
+    (λ o says. NoRoots e c.in-Err.ensures.fault says) c.unit_refused.ensures

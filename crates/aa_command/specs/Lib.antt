@@ -1,0 +1,6 @@
+pub mod Setting
+pub mod Printed
+pub mod Refusals
+pub mod Loads
+pub mod Policies
+pub mod LogFiles

@@ -1,0 +1,18 @@
+//! What the commands on files share: their settings, the one policy of all files, what is said where nothing is answered, and how an output is written.
+#![tactic(auto)]
+
+mod decided;
+mod logs;
+mod output;
+mod policy;
+mod refusals;
+mod settings;
+mod writing;
+
+pub use decided::Decided;
+pub use logs::{Logs, UnreadLog};
+pub use output::Output;
+pub use policy::{Use, load_units, with_policy};
+pub use refusals::{fault_refused, path_refused, policy_refused, refused, unit_refused};
+pub use settings::Settings;
+pub use writing::{Unwritten, exit_status, write_output};

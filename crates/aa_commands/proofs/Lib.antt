@@ -1,9 +1,0 @@
-pub mod Units
-pub mod Lending
-pub mod Outputs
-pub mod Deciding
-pub mod Words
-pub mod Lines
-pub mod Replays
-pub mod Naming
-pub mod Tasking

@@ -1,6 +1,0 @@
-use Rattle.std.proofs.Common.{take}
-use Rattle.aa_commands.specs.Policies.{AreTextsOf}
-use Rattle.aa_commands.proofs.joined.lend_texts.Given as goal
-
-abbrev pub invariant-loop-number : goal.invariant-loop-number
-invariant-loop-number l = AreTextsOf (take l.number l.units) l.texts.items

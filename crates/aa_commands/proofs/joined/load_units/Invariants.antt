@@ -1,8 +1,0 @@
-use Rattle.std.proofs.Common.{take}
-use Rattle.aa_trees.specs.Texts.{texts}
-use Rattle.aa_checks.specs.Checked.{setting_of}
-use Rattle.aa_commands.specs.Loads.{AreLoaded}
-use Rattle.aa_commands.proofs.joined.load_units.Given as goal
-
-abbrev pub invariant-loop-path : goal.invariant-loop-path
-invariant-loop-path g l = AreLoaded (setting_of (g.T.Tree.files l.tree) (g.T.Tree.taken l.tree) (g.T.Tree.input l.tree) l.wanted) (texts (take l.path-index l.paths)) l.units.items

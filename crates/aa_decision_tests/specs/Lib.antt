@@ -1,0 +1,1 @@
+pub use Rattle.aa_compile.specs.FileRules

@@ -1,0 +1,7 @@
+mod Deciding
+pub mod Placing
+mod Plain
+pub mod Conflicting
+pub mod Owning
+pub mod Leading
+pub mod Searching

@@ -1,5 +1,0 @@
-use Rattle.std.proofs.Common.{◌≡◌}
-use Rattle.aa_feed.proofs.feed.Feed.burst.Given as goal
-
-abbrev pub invariant-turns : goal.invariant-turns
-invariant-turns g l = (l.self.lane ≡ l.fn.self.lane) × (l.self.all ≡ l.fn.self.all)

@@ -1,5 +1,0 @@
-use Rattle.std.proofs.Common.{◌≡◌}
-use Rattle.aa_feed.proofs.feeding.alone.Given as goal
-
-abbrev pub invariant-bursts : goal.invariant-bursts
-invariant-bursts g l = (l.server.lane ≡ l.fn.server.lane) × (l.feed.lane ≡ l.fn.feed.lane) × (l.feed.all ≡ l.fn.feed.all)

@@ -1,5 +1,0 @@
-use Rattle.std.proofs.Common.{◌≡◌}
-use Rattle.aa_feed.proofs.feeding.serve_burst.Given as goal
-
-abbrev pub invariant-requests : goal.invariant-requests
-invariant-requests g l = l.server.lane ≡ l.fn.server.lane

@@ -1,4 +1,0 @@
-pub mod Fed
-pub mod Answers
-pub mod Closed
-pub mod Stage

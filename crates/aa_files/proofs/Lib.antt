@@ -1,0 +1,12 @@
+pub mod Lines
+mod Known
+mod Walking
+mod Lists
+mod Taken
+mod Walked
+mod Wanting
+mod Faulted
+mod Rooted
+pub mod Readings
+pub mod Steps
+pub mod Ways

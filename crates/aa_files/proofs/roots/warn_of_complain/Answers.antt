@@ -1,0 +1,17 @@
+use Rattle.std.proofs.Common.{Contains, length, ◌<◌, arith, sym}
+use Rattle.std.proofs.lemmas.Result.{err_from_is_err_and}
+use Rattle.aa_files.specs.RootFaults.{IsFaultOf, looked_paths}
+use Rattle.aa_files.proofs.Faulted.{handed_on}
+use Rattle.aa_files.proofs.Rooted.{added_if, faults_weaker}
+use Rattle.aa_files.proofs.roots.warn_of_complain.Goals as goal
+
+pub returns-clause-lines : goal.returns-clause-lines
+returns-clause-lines g c = added_if _ _ _ _ _ _ c.in_ok-push_line_if.ensures c.in_ok-is_named.ensures.told
+
+pub returns-in_err-is_named-clause-fault : goal.returns-in_err-is_named-clause-fault
+returns-in_err-is_named-clause-fault g c =
+    let paths = looked_paths c.args.base.now c.args.name.now in
+    let p = err_from_is_err_and c.from_residual.result c.from_residual.ensures.1 in
+    let within : 1 < length paths = omega arith in
+    handed_on c.from_residual.result _ _ (IsFaultOf (Contains paths) (λ _. ⊥)) p.1 p.2
+    (faults_weaker _ _ (Contains paths) (λ _. ⊥) (λ q is. (1, within, sym is)) (λ q h. h) _ c.in_err-is_named.ensures.fault)

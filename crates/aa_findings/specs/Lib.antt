@@ -1,4 +1,0 @@
-pub mod Tasks
-pub mod Answers
-pub mod Counts
-pub mod Reasons

@@ -1,3 +1,0 @@
-pub mod HeadProductions
-pub mod Preambles
-pub mod Refusals

@@ -1,5 +1,0 @@
-use Rattle.aa_items.proofs.Sameness.{same_items_match}
-use Rattle.aa_items.proofs.laws.same_items_match.Goals as goal
-
-pub returns : goal.returns
-returns c = same_items_match

@@ -1,3 +1,0 @@
-pub mod Globs
-pub mod Steps
-pub mod Sameness

@@ -1,0 +1,5 @@
+pub mod Placing
+pub mod Sharing
+pub mod Taking
+pub mod Naming
+pub mod Tasking

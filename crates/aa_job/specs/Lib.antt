@@ -1,0 +1,5 @@
+pub mod Shared
+pub mod Tasks
+pub mod Jobs
+pub mod Policies
+pub mod Command

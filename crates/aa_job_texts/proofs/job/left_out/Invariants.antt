@@ -1,6 +1,0 @@
-use Rattle.std.proofs.Common.{◌≡◌, take}
-use Rattle.aa_job_texts.specs.Jobs.{left_out}
-use Rattle.aa_job_texts.proofs.job.left_out.Given as goal
-
-abbrev pub invariant-loop-task : goal.invariant-loop-task
-invariant-loop-task l = l.count ≡ left_out (take l.task-index l.tasks)

@@ -1,7 +1,0 @@
-use Rattle.std.proofs.Common.{◌++◌, List, take}
-use Rattle.aa_profiles.specs.declared.policy.Profile.{Profile}
-use Rattle.aa_joins.specs.Numbers.{AreNumbers, AreNew}
-use Rattle.aa_joins.proofs.numbers.note_all.Given as goal
-
-abbrev pub invariant-loop-place : goal.invariant-loop-place
-invariant-loop-place l = (earlier : List Profile) → AreNew l.fn.numbers.entries l.before earlier l.profiles → AreNumbers l.numbers.entries (earlier ++ take l.place l.profiles)

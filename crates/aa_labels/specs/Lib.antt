@@ -1,2 +1,0 @@
-pub use Rattle.aa_compile.specs.Transitions
-pub mod Labels

@@ -1,5 +1,0 @@
-use Rattle.aa_lexis.proofs.OpenBraces.{braces_lack}
-use Rattle.aa_lexis.proofs.laws.open_braces_lack_their_own.Goals as goal
-
-pub returns : goal.returns
-returns c = braces_lack

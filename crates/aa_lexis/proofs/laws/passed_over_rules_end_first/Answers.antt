@@ -1,5 +1,0 @@
-use Rattle.aa_lexis.proofs.PassedOver.{rules_first}
-use Rattle.aa_lexis.proofs.laws.passed_over_rules_end_first.Goals as goal
-
-pub returns : goal.returns
-returns c = rules_first

@@ -1,5 +1,0 @@
-use Rattle.aa_lexis.proofs.Examples.{quote}
-use Rattle.aa_lexis.proofs.worked.worked_quotes.Goals as goal
-
-pub returns : goal.returns
-returns c = quote

@@ -1,0 +1,13 @@
+pub use Rattle.aa_model.specs.Lawful
+pub use Rattle.aa_policies.specs.Policies
+pub mod Rows
+pub mod Joined
+pub mod Faults
+pub mod Finding
+pub mod Numbers
+pub mod Kept
+pub mod UnitPolicy
+pub mod Spelled
+pub mod Joining
+pub mod Refused
+pub mod Loadings

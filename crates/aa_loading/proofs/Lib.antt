@@ -1,4 +1,0 @@
-pub mod Cuts
-pub mod Adding
-pub mod Single
-pub mod Streams

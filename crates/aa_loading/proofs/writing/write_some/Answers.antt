@@ -1,5 +1,0 @@
-use Rattle.aa_loading.proofs.Streams.{kept_first}
-use Rattle.aa_loading.proofs.writing.write_some.Goals as goal
-
-pub returns-in-Ok-clause-bytes : goal.returns-in-Ok-clause-bytes
-returns-in-Ok-clause-bytes g c = kept_first _ _ _ _ c.loop.invariant c.in-Ok.ensures.bytes

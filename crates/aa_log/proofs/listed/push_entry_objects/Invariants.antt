@@ -1,0 +1,10 @@
+use Rattle.std.proofs.Common.{◌≡◌, ◌++◌, map, length}
+use Rattle.aa_log.specs.Listed.{json_entry, entries_list}
+use Rattle.aa_log.specs.Commas.{more_of}
+use Rattle.aa_log.proofs.listed.push_entry_objects.Given as goal
+
+abbrev pub invariant-loop-rest : goal.invariant-loop-rest
+invariant-loop-rest l = l.out.items ++ more_of l.is_later (map (json_entry (map (λ log. log.now) l.logs)) (map (λ e. e.now) l.rest)) ≡ l.initial.out.items ++ entries_list (map (λ log. log.now) l.logs) (map (λ e. e.now) l.entries)
+
+abbrev pub decreases-loop-rest : goal.decreases-loop-rest
+decreases-loop-rest l = length l.rest

@@ -1,0 +1,10 @@
+use Rattle.std.proofs.Common.{◌≡◌, map, length, rules}
+use Rattle.std.proofs.lemmas.List.{length-map}
+use Rattle.aa_log.specs.Orders.{reason_key, up_to}
+use Rattle.aa_log.proofs.Sorting.{sorted_by}
+use Rattle.aa_log.proofs.logging.order_by_reason.Goals as goal
+
+pub returns : goal.returns
+returns c =
+    let whole : c.in_ok-numbers.numbers.items ≡ up_to (length (map reason_key c.args.skipped.now)) = cc (c.in_ok-numbers.ensures, length-map c.args.skipped.now reason_key) in
+    sorted_by (map reason_key c.args.skipped.now) c.in_ok-numbers.numbers.items c.sort_by.new.self.items whole c.in_ok-sort_by.ensures.permutation c.in_ok-sort_by.ensures.sorted c.in_ok-sort_by.ensures.stable (λ a r f' k. search rules)

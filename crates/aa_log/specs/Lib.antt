@@ -1,0 +1,11 @@
+pub mod Orders
+pub mod Printed
+pub mod Commas
+pub mod Listed
+pub mod Counted
+pub mod Found
+pub mod Apart
+pub mod Limits
+pub mod Replayed
+pub mod Against
+pub mod Command

@@ -1,0 +1,173 @@
+//! What `log` prints.
+
+ghost use Rattle.std.specs.Prelude.{◌≡◌, ◌≢◌, true, false, ℕ, ◌++◌, List, [], Some, is_some, OnOk, IfOk, IfErr, IfSome};
+ghost use Rattle.aa_files.specs.Texts.{slices};
+ghost use Rattle.aa_logs.specs.LogLines.{LogLine, log_lines};
+ghost use Rattle.aa_log.specs.Found.{HasSameSettings, IsReport};
+ghost use Rattle.aa_command.specs.Setting.{setting_of};
+ghost use Rattle.aa_command.specs.Printed.{printed, answers_alone};
+ghost use Rattle.aa_log.specs.Command.{IsFoundIn, IsFirstUnreadLog, IsLogText, IsReplayText, IsReplayed, IsReportOutput, IsLogOutput};
+
+use crate::against::{push_against, push_json_against};
+use crate::listed::push_json_report;
+use crate::logging::LogReport;
+use crate::printing::push_report;
+use aa_base::Unread;
+use aa_command::{Decided, Logs, Output, Settings, UnreadLog, Use, path_refused, with_policy};
+use aa_files::Tree;
+use aa_logs::{Choice, Counts};
+use aa_text::NoMemory;
+use std::alloc::{AllocError, Global};
+
+/// Which logs are read, against which files, and how what is found is printed.
+#[derive(Clone, Copy)]
+pub struct LogOptions<'a> {
+    pub logs: &'a [&'a [u8]],
+    pub choice: Choice<'a>,
+    /// Whether the place of each line that is skipped is printed.
+    pub wants_skipped: bool,
+    /// The files whose profiles answer now what was asked; none where that isn't settings.
+    pub against: &'a [Vec<u8>],
+    /// Whether what stays is printed too.
+    pub wants_all: bool,
+    pub is_json: bool,
+}
+
+/// Reads a log as the one of that number.
+fn read_report<R: Logs>(
+    alloc: Global,
+    reader: &R,
+    number: usize,
+    path: &[u8],
+    report: &mut LogReport<'_>,
+) -> Result<(), Unread>
+    ensures taken { OnOk result (IfSome (R.lying reader.now) (λ files. (bytes : List ℕ) × (files path.now ≡ Some bytes)
+        × ((before : List LogLine) → IsReport before report.old → IsReport (before ++ log_lines number bytes) report.new))) }
+    ensures keeps { OnOk result (HasSameSettings report.old report.new) }
+{
+    report.log = number;
+    reader.read_lines(alloc, path, report)
+}
+
+/// Reads logs one after another.
+fn read_reports<'a, R: Logs>(
+    alloc: Global,
+    reader: &R,
+    logs: &'a [&'a [u8]],
+    report: &mut LogReport<'_>,
+) -> Result<(), UnreadLog<'a>>
+    requires { IsReport [] report.old }
+    ensures found { OnOk result (IsFoundIn (R.lying reader.now) report.old.choice (is_some report.old.each_skipped) (slices logs.now) report.new) }
+    ensures unread { IfErr result (λ unread. IsFirstUnreadLog (R.lying reader.now) report.old.choice (is_some report.old.each_skipped) (slices logs.now) unread.path.now) }
+{
+    let mut number: usize = 0;
+    for path in logs {
+        match read_report(alloc, reader, number, path, report) {
+            Ok(()) => number += 1,
+            Err(why) => return Err(UnreadLog { path, why }),
+        }
+    }
+    Ok(())
+}
+
+fn push_said(
+    out: &mut Vec<u8>,
+    alloc: Global,
+    options: &LogOptions<'_>,
+    report: &LogReport<'_>,
+) -> Result<(), AllocError>
+    ensures { OnOk result ((text : List ℕ) × IsLogText options.now report.now text × (out.new.items ≡ out.old.items ++ text)) }
+{
+    if options.is_json {
+        return push_json_report(out, alloc, options.logs, report);
+    }
+    push_report(out, alloc, options.logs, report)
+}
+
+/// Says what logs ask.
+fn report_printed(
+    alloc: Global,
+    options: &LogOptions<'_>,
+    report: &LogReport<'_>,
+) -> Result<Output, NoMemory>
+    ensures { IfOk result (λ out. (text : List ℕ) × IsLogText options.now report.now text × (printed out ≡ answers_alone text 0)) }
+{
+    let mut output = Output::new(alloc);
+    push_said(&mut output.answers, alloc, options, report)?;
+    Ok(output)
+}
+
+fn push_replayed(
+    out: &mut Vec<u8>,
+    alloc: Global,
+    options: &LogOptions<'_>,
+    report: &LogReport<'_>,
+    decided: Decided<'_>,
+) -> Result<Counts, AllocError>
+    ensures { IfOk result (λ counts. (text : List ℕ) × IsReplayText options.now report.now decided.entry counts text × (out.old.items ≡ [] → out.new.items ≡ text)) }
+{
+    if options.is_json {
+        return push_json_against(out, alloc, options.logs, report, decided, options.wants_all);
+    }
+    push_against(out, alloc, options.logs, report, decided, options.wants_all)
+}
+
+/// Answers what logs ask by the policy of files.
+#[derive(Drop)]
+struct Replaying<'a> {
+    options: &'a LogOptions<'a>,
+    report: &'a LogReport<'a>,
+}
+
+impl Use for Replaying<'_> {
+    ghost gives = { λ r d out. IsReplayed r.options.now r.report.now d out };
+
+    fn use_policy(&self, alloc: Global, decided: Decided<'_>) -> Result<Output, NoMemory> {
+        let mut output = Output::new(alloc);
+        let answers = &mut output.answers;
+        let counts = push_replayed(answers, alloc, self.options, self.report, decided)?;
+        output.status = if counts.has_newly_denied() { 4 } else { 0 };
+        Ok(output)
+    }
+}
+
+fn is_none_named(files: &[Vec<u8>]) -> bool
+    ensures none { result ≡ true → files.now ≡ [] }
+    ensures some { result ≡ false → files.now ≢ [] }
+{
+    files.is_empty()
+}
+
+/// Says what logs ask, or how files answer that now.
+fn log_report<T: Tree>(
+    alloc: Global,
+    tree: &T,
+    settings: &Settings<'_>,
+    options: &LogOptions<'_>,
+    report: &LogReport<'_>,
+) -> Result<Output, NoMemory>
+    ensures { IfOk result (λ out. IsReportOutput (setting_of (T.files tree.now) (T.taken tree.now) (T.input tree.now) settings.now) options.now report.now (printed out)) }
+{
+    if is_none_named(options.against) {
+        return report_printed(alloc, options, report);
+    }
+    let replaying = Replaying { options, report };
+    with_policy(alloc, tree, settings, options.against, &replaying)
+}
+
+/// Says what the lines of logs ask, or how the one policy that files are answers that now.
+pub fn log_files<T: Tree, R: Logs>(
+    alloc: Global,
+    tree: &T,
+    reader: &R,
+    settings: &Settings<'_>,
+    options: &LogOptions<'_>,
+) -> Result<Output, NoMemory>
+    ensures { IfOk result (λ out. IsLogOutput (setting_of (T.files tree.now) (T.taken tree.now) (T.input tree.now) settings.now) (R.lying reader.now) options.now (printed out)) }
+{
+    let mut report = LogReport::new(alloc, options.choice, options.wants_skipped);
+    match read_reports(alloc, reader, options.logs, &mut report) {
+        Ok(()) => log_report(alloc, tree, settings, options, &report),
+        Err(unread) => path_refused(alloc, unread.path, unread.why),
+    }
+}

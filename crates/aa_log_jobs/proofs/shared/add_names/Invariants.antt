@@ -1,5 +1,0 @@
-use Rattle.aa_log_jobs.proofs.Sharing.{Adding}
-use Rattle.aa_log_jobs.proofs.shared.add_names.Given as goal
-
-abbrev pub invariant-loop-name : goal.invariant-loop-name
-invariant-loop-name l = Adding l.unit l.name-iterator l.initial.meanings.entries l.meanings.entries

@@ -1,3 +1,0 @@
-pub mod Shared
-pub mod Tasks
-pub mod Jobs

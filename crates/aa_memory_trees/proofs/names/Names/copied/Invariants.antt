@@ -1,6 +1,0 @@
-use Rattle.std.proofs.Common.{◌≡◌, take}
-use Rattle.aa_trees.specs.Texts.{texts}
-use Rattle.aa_memory_trees.proofs.names.Names.copied.Given as goal
-
-abbrev pub invariant-loop-name : goal.invariant-loop-name
-invariant-loop-name l = texts l.copy.items ≡ texts (take l.name-index l.self.list.items)

@@ -1,6 +1,0 @@
-use Rattle.std.proofs.Common.{◌≡◌, take}
-use Rattle.aa_trees.specs.Texts.{texts, slices}
-use Rattle.aa_memory_trees.proofs.tree.copies_of.Given as goal
-
-abbrev pub invariant-loop-name : goal.invariant-loop-name
-invariant-loop-name l = texts l.copies.items ≡ slices (take l.name-index l.names)

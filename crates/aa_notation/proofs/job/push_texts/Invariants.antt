@@ -1,0 +1,9 @@
+use Rattle.std.proofs.Common.{◌≡◌, ◌++◌, length, false}
+use Rattle.aa_notation.specs.Jobs.{texts_text}
+use Rattle.aa_notation.proofs.job.push_texts.Given as goal
+
+abbrev pub invariant-loop-rest : goal.invariant-loop-rest
+invariant-loop-rest l = l.out.items ++ texts_text l.is_later l.rest ≡ l.initial.out.items ++ texts_text false l.policies
+
+abbrev pub decreases-loop-rest : goal.decreases-loop-rest
+decreases-loop-rest l = length l.rest

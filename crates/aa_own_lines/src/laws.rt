@@ -1,9 +1,0 @@
-//! The law of the program's own lines.
-
-ghost use Rattle.aa_own_lines.specs.OwnLines.{OwnLinesAreRead};
-
-/// The audit line of a request is read as that request, of the profile that asked and with what became of it; whose file it was
-/// no line tells. It does nothing: its contract is a law.
-pub fn own_lines_are_read()
-    ensures { OwnLinesAreRead }
-{}

@@ -1,0 +1,12 @@
+pub mod Sameness
+pub mod Rows
+pub mod Equivalences
+pub mod Texts
+pub mod Choices
+pub mod FlagSteps
+pub mod GapSteps
+pub mod Fronts
+pub mod HalfSteps
+pub mod PlaceHeads
+pub mod PlaceLaws
+pub mod Decided

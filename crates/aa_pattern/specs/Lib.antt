@@ -1,0 +1,9 @@
+pub mod Globs
+pub mod Steps
+pub mod Sameness
+pub mod Matching
+pub mod Places
+pub mod Heads
+pub mod Weights
+pub mod Flags
+pub mod Limits

@@ -1,8 +1,0 @@
-use Rattle.std.proofs.lemmas.Grind.{common_steps}
-use Rattle.std.proofs.Common.{arith, length-set}
-use Rattle.aa_patterns.proofs.GapSteps.{begins_gap}
-use Rattle.aa_patterns.proofs.gaps.begin.Goals as goal
-use Rattle.aa_patterns.proofs.gaps.begin.Goals.{then-gaps-i, else-gaps-i}
-
-pub loop-i-preserved : goal.loop-i-preserved
-loop-i-preserved c = grind (arith, common_steps, length-set, begins_gap)

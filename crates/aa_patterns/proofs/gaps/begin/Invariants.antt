@@ -1,6 +1,0 @@
-use Rattle.std.proofs.Common.{◌≤◌, ◌↔◌, ℕ, [], IsTrue, false, take, get_or}
-use Rattle.aa_items.specs.Globs.{Matches}
-use Rattle.aa_patterns.proofs.gaps.begin.Given as goal
-
-abbrev pub invariant-loop-i : goal.invariant-loop-i
-invariant-loop-i l = (g : ℕ) → g ≤ l.i → IsTrue (get_or l.gaps g false) ↔ Matches (take g l.items) []

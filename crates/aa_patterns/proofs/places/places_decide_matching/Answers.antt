@@ -1,7 +1,0 @@
-use Rattle.std.proofs.lemmas.Grind.{common_steps}
-use Rattle.std.proofs.Common.{arith}
-use Rattle.aa_patterns.proofs.PlaceLaws.{decide_matching}
-use Rattle.aa_patterns.proofs.places.places_decide_matching.Goals as goal
-
-pub returns : goal.returns
-returns c = grind (arith, common_steps, decide_matching)

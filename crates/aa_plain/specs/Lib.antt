@@ -1,1 +1,0 @@
-pub use Rattle.aa_rows.specs.FileRules

@@ -1,2 +1,0 @@
-pub mod Lawful
-pub use Rattle.aa_patterns.specs.Limits

@@ -1,4 +1,0 @@
-pub mod Runs
-pub mod Tokens
-pub mod ClassSteps
-pub mod Spellings

@@ -1,3 +1,0 @@
-mod Bits
-mod Named
-mod Telling

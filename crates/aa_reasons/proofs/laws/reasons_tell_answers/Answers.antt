@@ -1,5 +1,0 @@
-use Rattle.aa_reasons.proofs.Telling.{reasons_tell_answers}
-use Rattle.aa_reasons.proofs.laws.reasons_tell_answers.Goals as goal
-
-pub returns : goal.returns
-returns c = reasons_tell_answers

@@ -1,4 +1,0 @@
-mod Naming
-mod Fronts
-mod SetTwice
-mod NamedTwice

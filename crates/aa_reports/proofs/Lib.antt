@@ -1,9 +1,0 @@
-pub mod Listing
-pub mod Sorting
-pub mod Counting
-pub mod Entries
-pub mod Reasons
-pub mod Results
-pub mod Taking
-pub mod Apart
-pub mod Askable

@@ -1,5 +1,0 @@
-use Rattle.aa_reports.proofs.Apart.{keys_tell}
-use Rattle.aa_reports.proofs.laws.keys_tell.Goals as goal
-
-pub returns : goal.returns
-returns c = keys_tell

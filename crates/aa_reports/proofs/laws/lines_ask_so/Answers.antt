@@ -1,5 +1,0 @@
-use Rattle.aa_reports.proofs.Askable.{lines_ask_so}
-use Rattle.aa_reports.proofs.laws.lines_ask_so.Goals as goal
-
-pub returns : goal.returns
-returns c = lines_ask_so

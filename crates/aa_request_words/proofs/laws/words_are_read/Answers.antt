@@ -1,5 +1,0 @@
-use Rattle.aa_request_words.proofs.Reading.{words_are_read}
-use Rattle.aa_request_words.proofs.laws.words_are_read.Goals as goal
-
-pub returns : goal.returns
-returns c = words_are_read

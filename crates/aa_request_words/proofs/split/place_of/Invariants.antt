@@ -1,7 +1,0 @@
-use Rattle.std.proofs.Common.{◌≡◌, drop}
-use Rattle.aa_request_words.specs.Parts.{place_of}
-use Rattle.aa_request_words.proofs.Loops.{moved}
-use Rattle.aa_request_words.proofs.split.place_of.Given as goal
-
-abbrev pub invariant-loop-at : goal.invariant-loop-at
-invariant-loop-at l = moved l.at (place_of l.part (drop l.at l.text)) ≡ place_of l.part l.text

@@ -1,4 +1,0 @@
-pub mod Again
-pub mod Parts
-pub mod Read
-pub mod Written

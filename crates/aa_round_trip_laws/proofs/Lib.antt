@@ -1,0 +1,13 @@
+pub mod Fields
+pub mod Names
+pub mod Parts
+pub mod Sound
+pub mod Operations
+pub mod Own
+pub mod Items
+pub mod Jobs
+pub mod Regrouped
+pub mod Requests
+pub mod Tasks
+pub mod Printing
+pub mod Making

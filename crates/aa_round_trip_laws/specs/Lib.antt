@@ -1,0 +1,5 @@
+pub mod OwnLines
+pub mod Again
+pub mod Jobs
+pub mod Printed
+pub mod Made

@@ -1,3 +1,0 @@
-pub mod Gathers
-pub mod Pickeds
-pub mod Hits

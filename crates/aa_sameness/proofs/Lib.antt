@@ -1,8 +1,0 @@
-mod Rows
-mod Patterns
-mod Rules
-mod Profiles
-mod Replies
-pub mod Texts
-pub mod Replays
-mod Words

@@ -1,5 +1,0 @@
-use Rattle.aa_sameness.proofs.Texts.{check_alike}
-use Rattle.aa_sameness.proofs.laws.same_policies_check_alike.Goals as goal
-
-pub returns : goal.returns
-returns c = λ ps qs h several. check_alike several ps qs h

@@ -1,5 +1,0 @@
-use Rattle.aa_sameness.proofs.Replies.{replies_alike}
-use Rattle.aa_sameness.proofs.laws.same_policies_reply_alike.Goals as goal
-
-pub returns : goal.returns
-returns c = replies_alike

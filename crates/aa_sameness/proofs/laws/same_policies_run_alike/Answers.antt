@@ -1,5 +1,0 @@
-use Rattle.aa_sameness.proofs.Texts.{run_alike}
-use Rattle.aa_sameness.proofs.laws.same_policies_run_alike.Goals as goal
-
-pub returns : goal.returns
-returns c = λ ps qs h several tasks. run_alike ps qs h several tasks

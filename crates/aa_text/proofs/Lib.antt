@@ -1,0 +1,7 @@
+pub mod Cuts
+pub mod Lines
+pub mod Rising
+pub mod Utf8
+pub mod Behind
+pub mod Plain
+pub mod Written

@@ -1,0 +1,75 @@
+-- The line of a place with a caret below it.
+-- Source: own.
+use Rattle.std.specs.Prelude.{ℕ, zero, suc, ◌+◌, ◌-◌, ◌==◌, ◌&&◌, ◌||◌, nat_lt, List, [], ◌∷◌, ◌++◌, length, take, drop, map, flat_map, min, replicate, codes, decimal, slice_index, Bool, not, if◌then◌else◌}
+use Rattle.std.specs.List.{take_while}
+use Rattle.aa_text.specs.Places.{is_line_end, goes_on, last_line, place_in}
+
+-- what stands before the first line end
+abbrev pub first_line : List ℕ → List ℕ
+first_line text = take_while (λ b. not (is_line_end b)) text
+
+-- a CR before the line's end is none of its bytes
+abbrev pub without_return : List ℕ → List ℕ
+without_return line = if slice_index line (length line - 1) == 13 then take (length line - 1) line else line
+
+-- the line on which a byte stands, and how many of its bytes stand before it
+abbrev pub line_of : List ℕ → ℕ → List ℕ
+line_of text byte = without_return (last_line (take byte text) ++ first_line (drop byte text))
+
+-- how many bytes of its line stand before the byte
+abbrev pub offset_of : List ℕ → ℕ → ℕ
+offset_of text byte = length (last_line (take byte text))
+
+-- Of a longer line 160 bytes are shown: from 80 before the place on, or the first or the last 160.
+abbrev pub window_start : List ℕ → ℕ → ℕ
+window_start line offset = min (offset - 80) (length line - 160)
+
+-- what is left behind the rest of a character that was cut
+unfoldable pub from_character : List ℕ → List ℕ
+from_character [] = []
+from_character (b ∷ bs) = if goes_on b then from_character bs else b ∷ bs
+
+-- the last place up to this one at which no character is cut
+unfoldable pub character_end : List ℕ → ℕ → ℕ
+character_end line zero = 0
+character_end line (suc n) = if goes_on (slice_index line (suc n)) then character_end line n else suc n
+
+-- the bytes of a line between two places, without a character that is cut at the first
+abbrev pub behind_cut : ℕ → List ℕ → List ℕ
+behind_cut start bytes = if start == 0 then bytes else from_character (drop start bytes)
+
+-- control bytes but tab are shown as ?
+abbrev pub visible : ℕ → ℕ
+visible b = if (nat_lt b 32 && not (b == 9)) || b == 127 then 63 else b
+
+-- where a line is cut, two dots stand
+abbrev pub dots : Bool → List ℕ
+dots cut = if cut then codes ".." else []
+
+-- below a tab stands a tab, and below every other character a space
+abbrev pub blank : ℕ → List ℕ
+blank b = if b == 9 then 9 ∷ [] else (if goes_on b then [] else 32 ∷ [])
+
+-- what is shown of the line from the window's start on, and what stands below it up to the caret
+unfoldable pub shown_from : ℕ → List ℕ → List ℕ
+shown_from start line =
+    dots (nat_lt 0 start) ++ map visible (behind_cut start (take (character_end line (start + 160)) line)) ++ dots (nat_lt (start + 160) (length line))
+
+-- the blanks below a line's front, up to the caret
+unfoldable pub blanks_from : ℕ → ℕ → List ℕ → List ℕ
+blanks_from start offset line =
+    (if nat_lt 0 start then codes "  " else []) ++ flat_map blank (behind_cut start (take offset line))
+
+-- a number, right-aligned to five columns
+unfoldable pub aligned : ℕ → List ℕ
+aligned n = replicate (5 - length (decimal n)) 32 ++ decimal n
+
+-- a line with its number, and below it a caret
+abbrev pub excerpt_at : ℕ → List ℕ → ℕ → List ℕ
+excerpt_at number line offset =
+    aligned number ++ codes " | " ++ shown_from (window_start line offset) line ++ codes "\n"
+    ++ codes "      | " ++ blanks_from (window_start line offset) offset line ++ codes "^\n"
+
+-- the line's number and bytes, and below its place a caret
+abbrev pub excerpt_of : List ℕ → ℕ → List ℕ
+excerpt_of text byte = excerpt_at ((place_in text byte).line) (line_of text byte) (offset_of text byte)

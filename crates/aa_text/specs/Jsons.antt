@@ -1,0 +1,44 @@
+-- Texts as JSON has them.
+-- Source: JSON; own.
+use Rattle.std.specs.Prelude.{ℕ, ◌+◌, ◌/◌, ◌%◌, nat_lt, List, [], ◌∷◌, ◌++◌, flat_map, codes, decimal, Bool, if◌then◌else◌, Option, Some, None}
+use Rattle.std.specs.Str.{is_utf8}
+use Rattle.serde_json.specs.Data.{string}
+use Rattle.serde_json.specs.Written.{compact_text}
+use Rattle.aa_text.specs.declared.position.PlaceAt.{PlaceAt}
+
+-- a text between quotes, with what JSON wants to be escaped
+unfoldable pub json_text : List ℕ → List ℕ
+json_text text = compact_text (string text)
+
+-- the byte of a hexadecimal digit
+abbrev pub hex_digit : ℕ → ℕ
+hex_digit n = if nat_lt n 10 then n + 48 else n + 87
+
+-- a byte in two hexadecimal digits, the higher first
+abbrev pub hex_pair : ℕ → List ℕ
+hex_pair b = hex_digit (b / 16) ∷ hex_digit (b % 16) ∷ []
+
+-- bytes in an object, as their hexadecimal digits
+unfoldable pub in_digits : List ℕ → List ℕ
+in_digits bytes = codes "{\"hex\":\"" ++ flat_map hex_pair bytes ++ codes "\"}"
+
+-- bytes as a JSON text, or where they are no UTF-8, as an object with their hexadecimal digits
+unfoldable pub json_bytes : List ℕ → List ℕ
+json_bytes bytes = if is_utf8 bytes then json_text bytes else in_digits bytes
+
+-- a member's key with its colon
+unfoldable pub key_text : List ℕ → List ℕ
+key_text key = codes "\"" ++ key ++ codes "\":"
+
+-- a truth value as JSON
+abbrev pub bool_text : Bool → List ℕ
+bool_text b = if b then codes "true" else codes "false"
+
+-- line and column, as members
+abbrev pub line_members : Option PlaceAt → List ℕ
+line_members None = []
+line_members (Some p) = codes "," ++ key_text (codes "line") ++ decimal p.line ++ codes "," ++ key_text (codes "column") ++ decimal p.column
+
+-- the members of a path and of a place in it
+unfoldable pub json_place : List ℕ → Option PlaceAt → List ℕ
+json_place path place = key_text (codes "path") ++ json_bytes path ++ line_members place

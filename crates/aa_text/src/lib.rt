@@ -1,0 +1,28 @@
+//! Texts that are made piece by piece: lines and columns, excerpts, JSON, faults and names as they are printed.
+#![tactic(auto)]
+
+mod cut;
+mod fault;
+mod json_text;
+mod line;
+mod memory;
+mod name;
+mod place;
+mod place_laws;
+mod position;
+mod reading_laws;
+mod ruled;
+mod shown;
+mod text;
+
+pub use fault::{FaultReport, Link, push_fault, push_json_fault};
+pub use json_text::{is_text, push_bool, push_json_bytes, push_json_text, push_key};
+pub use memory::NoMemory;
+pub use name::push_name;
+pub use place::{Place, place_of};
+pub use place_laws::places_rise;
+pub use position::{PlaceAt, place_at, push_json_place, push_place, push_where};
+pub use reading_laws::{texts_are_read, values_are_read};
+pub use ruled::rule_text;
+pub use shown::excerpt;
+pub use text::{push_number, push_text};

@@ -1,7 +1,0 @@
-use Rattle.std.proofs.Common.{◌≡◌, take}
-use Rattle.aa_trees.specs.Folders.{folder_lines}
-use Rattle.aa_trees.specs.Texts.{slices}
-use Rattle.aa_trees.proofs.folder.folder_text.Given as goal
-
-abbrev pub invariant-loop-name : goal.invariant-loop-name
-invariant-loop-name l = l.out.items ≡ folder_lines l.folder (slices (take l.name-index l.names))

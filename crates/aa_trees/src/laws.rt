@@ -1,8 +1,0 @@
-//! What a folder's text includes.
-
-ghost use Rattle.aa_trees.specs.Folders.{LinesIncludeTheirPaths};
-
-/// A law and no work: a line of a folder's text includes the path that it is made of.
-pub fn lines_include_their_paths()
-    ensures { LinesIncludeTheirPaths }
-{}

@@ -1,5 +1,0 @@
-use Rattle.std.proofs.Common.{rules}
-use Rattle.aa_units.proofs.said.ambiguous.Goals as goal
-
-pub returns : goal.returns
-returns c = search rules

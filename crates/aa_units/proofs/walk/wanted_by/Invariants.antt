@@ -1,8 +1,0 @@
-use Rattle.std.proofs.Common.{◌≡◌, map, take}
-use Rattle.aa_trees.specs.Texts.{slices}
-use Rattle.aa_words.specs.FoundData.{includes_data}
-use Rattle.aa_units.specs.WalkData.{wanted_data, wants}
-use Rattle.aa_units.proofs.walk.wanted_by.Given as goal
-
-abbrev pub invariant-loop-include : goal.invariant-loop-include
-invariant-loop-include l = map wanted_data l.wanted.items ≡ map (wants (slices l.folders)) (includes_data (take l.include-index l.include-items))

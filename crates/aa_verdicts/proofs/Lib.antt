@@ -1,4 +1,0 @@
-pub mod Ruled
-pub mod Commas
-pub mod Views
-pub mod Turns

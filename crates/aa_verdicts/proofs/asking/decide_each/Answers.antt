@@ -1,6 +1,0 @@
-use Rattle.std.proofs.Common.{arith}
-use Rattle.std.proofs.lemmas.Grind.{common_steps}
-use Rattle.aa_verdicts.proofs.asking.decide_each.Goals as goal
-
-pub loop-request-preserved : goal.loop-request-preserved
-loop-request-preserved c = grind (arith, common_steps)

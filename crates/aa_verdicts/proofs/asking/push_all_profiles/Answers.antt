@@ -1,6 +1,0 @@
-use Rattle.std.proofs.Common.{arith}
-use Rattle.std.proofs.lemmas.Grind.{common_steps}
-use Rattle.aa_verdicts.proofs.asking.push_all_profiles.Goals as goal
-
-pub loop-compiled-preserved : goal.loop-compiled-preserved
-loop-compiled-preserved c = grind (arith, common_steps)

@@ -1,6 +1,0 @@
-use Rattle.std.proofs.Common.{◌≡◌, ◌++◌, take, flat_map}
-use Rattle.aa_verdicts.specs.Asked.{listed_profiles}
-use Rattle.aa_verdicts.proofs.asking.push_all_profiles.Given as goal
-
-abbrev pub invariant-loop-compiled : goal.invariant-loop-compiled
-invariant-loop-compiled l = l.out.items ≡ l.initial.out.items ++ flat_map listed_profiles (take l.compiled-index l.policies)

@@ -1,6 +1,0 @@
-use Rattle.std.proofs.Common.{◌≡◌, ◌++◌, take, flat_map}
-use Rattle.aa_verdicts.specs.Asked.{listed_profile}
-use Rattle.aa_verdicts.proofs.asking.push_profiles.Given as goal
-
-abbrev pub invariant-loop-profile : goal.invariant-loop-profile
-invariant-loop-profile l = l.out.items ≡ l.initial.out.items ++ flat_map listed_profile (take l.profile-index l.profiles)

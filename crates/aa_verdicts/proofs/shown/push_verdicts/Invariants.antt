@@ -1,7 +1,0 @@
-use Rattle.std.proofs.Common.{◌≡◌, ◌++◌, map, take, flat_map}
-use Rattle.aa_verdicts.specs.Told.{told}
-use Rattle.aa_verdicts.specs.Shown.{verdict_text}
-use Rattle.aa_verdicts.proofs.shown.push_verdicts.Given as goal
-
-abbrev pub invariant-loop-verdict : goal.invariant-loop-verdict
-invariant-loop-verdict l = l.out.items ≡ l.initial.out.items ++ flat_map verdict_text (map told (take l.verdict-index l.verdicts))

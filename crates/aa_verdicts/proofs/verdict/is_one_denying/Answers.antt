@@ -1,6 +1,0 @@
-use Rattle.std.proofs.Common.{sym, ◌∙◌}
-use Rattle.aa_verdicts.proofs.Views.{any_denies}
-use Rattle.aa_verdicts.proofs.verdict.is_one_denying.Goals as goal
-
-pub returns : goal.returns
-returns c = c.denies_one.ensures ∙ sym (any_denies c.args.deciders.now)

@@ -1,0 +1,22 @@
+//! Tests of what `aapolicy` reads and prints, over trees of files in memory: which files are read, whole reports, request words and the lines of logs.
+#![tactic(auto)]
+
+#[cfg(test)]
+mod asks;
+#[cfg(test)]
+mod checks;
+#[cfg(test)]
+mod comparing;
+mod failing;
+#[cfg(test)]
+mod logs;
+mod names;
+#[cfg(test)]
+mod planting;
+mod tree;
+#[cfg(test)]
+mod units;
+
+pub use failing::FailingTree;
+pub use names::Names;
+pub use tree::{MemoryTree, Planted};
