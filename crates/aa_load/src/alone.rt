@@ -8,9 +8,9 @@ ghost use Rattle.aa_load.specs.Refused.{IsFirstAlone};
 
 use crate::fault::{LoadingFault, of_texts};
 use crate::texts::Texts;
-use crate::unit_policy::compile_text;
 use aa_base::PolicyFault;
 use aa_compile::Compiled;
+use aa_policies::compile_text;
 use std::alloc::Global;
 
 /// Reads texts, and compiles them by themselves.

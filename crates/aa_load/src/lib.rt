@@ -21,4 +21,4 @@ pub use joining::Joining;
 pub use laws::joined_policies_find_both;
 pub use loaded::{Loaded, load_policy};
 pub use texts::Texts;
-pub use unit_policy::{compile_text, compile_unit, sources_of};
+pub use unit_policy::{compile_unit, sources_of};

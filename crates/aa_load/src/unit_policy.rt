@@ -1,17 +1,16 @@
 //! The policy of a unit.
 
-ghost use Rattle.std.specs.Prelude.{◌≡◌, ◌≢◌, ◌≤◌, ◌++◌, [], option_map, option_to_list, OnOk, IfOk, IfErr};
-ghost use Rattle.aa_model.specs.Limits.{most_states};
+ghost use Rattle.std.specs.Prelude.{◌≡◌, ◌≢◌, ◌++◌, [], option_map, option_to_list, OnOk, IfOk, IfErr};
 ghost use Rattle.aa_base.specs.declared.fault.PolicyKind.TheVariants.{NoMemory};
-ghost use Rattle.aa_policies.specs.Policies.{CanFollow, IsFaultOfSources, IsPolicyOf, IsFaultOfText};
+ghost use Rattle.aa_policies.specs.Policies.{CanFollow, IsFaultOfSources};
 ghost use Rattle.aa_files.specs.Numbers.{named_text, named_texts_at, named_texts};
 ghost use Rattle.aa_load.specs.UnitPolicy.{limit_of, texts_of, IsRefusedOf, IsPolicyOfUnit, IsFaultOfUnit};
 
 use aa_base::PolicyFault;
-use aa_compile::{Compiled, compile};
+use aa_compile::Compiled;
 use aa_files::{Source, Unit};
-use aa_policy::parse;
-use aa_words::{Sources, words};
+use aa_policies::compile_text;
+use aa_words::Sources;
 use std::alloc::Global;
 
 fn add_found(sources: &mut Sources, source: Option<&Source>) -> Result<(), PolicyFault>
@@ -57,32 +56,6 @@ pub fn sources_of(alloc: Global, unit: &Unit) -> Result<Sources, PolicyFault>
     ensures cause { IfErr result (λ e. e.kind ≢ NoMemory → IsFaultOfSources (texts_of unit.now) e) }
 {
     gather(alloc, unit.sources.as_slice(), unit.order.as_slice())
-}
-
-/// The policy that a text spells with these sources. Refused by the first fault of its words, of its grammar, or of compiling it.
-pub fn compile_text(
-    alloc: Global,
-    sources: &Sources,
-    text: &[u8],
-    limit: u32,
-) -> Result<Compiled, PolicyFault>
-    requires some { 1 ≤ limit }
-    requires bounded { limit ≤ most_states }
-    ensures compiled { IfOk result (λ c. IsPolicyOf sources.now limit text.now c) }
-    ensures cause { IfErr result (λ e. e.kind ≢ NoMemory → IsFaultOfText sources.now limit text.now e) }
-{
-    let list = match words(alloc, sources, text) {
-        Ok(list) => list,
-        Err(fault) => return Err(fault),
-    };
-    let policy = match parse(alloc, &list) {
-        Ok(policy) => policy,
-        Err(fault) => return Err(fault),
-    };
-    match compile(alloc, policy, limit) {
-        Ok(compiled) => Ok(compiled),
-        Err(refusal) => Err(refusal.fault),
-    }
 }
 
 fn limit_of(states: u32) -> u32

@@ -27,7 +27,7 @@ fn policy_of(alloc: Global, sources: &Sources, text: &[u8]) -> Result<Policy, Po
 }
 
 /// The policy that a text spells, compiled. Refused by the first fault of its words, of their grammar, or of compiling it.
-fn compile_text(
+pub fn compile_text(
     alloc: Global,
     sources: &Sources,
     text: &[u8],

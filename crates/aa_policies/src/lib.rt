@@ -6,5 +6,5 @@ mod refused;
 mod sources;
 
 pub use aa_compile::Compiled;
-pub use compiling::compile_policies;
+pub use compiling::{compile_policies, compile_text};
 pub use refused::RefusedPolicy;
