@@ -1,22 +1,17 @@
 -- What is found of each file that the command line names.
 -- Source: own.
-use Rattle.std.specs.Prelude.{ℕ, ◌≡◌, ◌≤◌, List, [], ◌∷◌, ◌++◌, length, count_by, sum_by, is_some, IfSome, Bool, true, false, Option, Some, None, ◌⊎◌}
+use Rattle.std.specs.Prelude.{ℕ, ◌≡◌, List, [], ◌∷◌, ◌++◌, length, count_by, sum_by, is_some, false, Some, None, ◌⊎◌}
 use Rattle.std.specs.List.{list_any}
 use Rattle.aa_base.specs.declared.fault.PolicyFault.{PolicyFault}
 use Rattle.aa_model.specs.declared.policy.Policy.{Policy}
-use Rattle.aa_files.specs.Texts.{texts, slices}
+use Rattle.aa_files.specs.Texts.{texts}
 use Rattle.aa_text.specs.declared.fault.FaultReport.{FaultReport}
 use Rattle.aa_files.specs.declared.unit.Unit as unit
 use Rattle.aa_files.specs.declared.unit.UnitFault.{UnitFault}
-use Rattle.aa_files.specs.declared.unit.UnitFault.TheVariants.{NoMemory, At, Ambiguous}
 use Rattle.aa_load.specs.UnitPolicy.{limit_of, IsPolicyOfUnit, IsFaultOfUnit}
-use Rattle.aa_files.specs.Files.{Files, Taken}
-use Rattle.aa_files.specs.Roots.{root_paths, root_lines}
 use Rattle.aa_files.specs.UnitFaults.{IsLoadFault}
 use Rattle.aa_files.specs.RootFaults.{IsRootFault}
 use Rattle.aa_diagnostics.specs.Reports.{IsDescribed, IsSaid}
-use Rattle.aa_files.specs.FilesData.{IsMainText}
-use Rattle.aa_files.specs.WalkData.{IsUnit}
 use Rattle.aa_check.specs.declared.report.FileReport.{FileReport}
 use Rattle.aa_check.specs.declared.report.CheckReport.{CheckReport}
 use Rattle.aa_command.specs.Setting.{Setting, IsLoaded, AreRoots}

@@ -1,4 +1,5 @@
 -- Which rules on capabilities, sockets and changes of the profile hold for what is asked.
+-- Source: apparmor.d(5), "Capability rules", "Network rules", "change_profile rules".
 use Rattle.std.specs.Prelude.{ℕ, List, Bool, true, ◌==◌, ◌&&◌}
 use Rattle.std.specs.Option.{option_map_or}
 use Rattle.std.specs.Int.{bit_at}
@@ -12,9 +13,11 @@ use Rattle.aa_model.specs.declared.rule.ChangeRule.{ChangeRule}
 abbrev pub holds : ℕ → ℕ → Bool
 holds bits n = bit_at bits n == 1
 
+-- the capability is among those that it names
 abbrev pub cap_holds : ℕ → CapRule → Bool
 cap_holds cap r = holds r.caps.0 cap
 
+-- so are the family and the kind of the socket
 abbrev pub net_holds : ℕ → ℕ → NetRule → Bool
 net_holds family kind r = holds r.families family && holds r.kinds kind
 

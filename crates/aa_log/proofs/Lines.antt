@@ -1,7 +1,6 @@
 -- The lines of logs, one log after another.
-use Rattle.std.proofs.Common.{◌≡◌, ℕ, ◌+◌, ◌<◌, ◌≤◌, List, [], ◌∷◌, ◌++◌, length, take, drop, get_or, Bool, Option, Some, None, IfSome, is_some, Bor, refl, ap, sym, subst, ◌∙◌, arith, append_assoc}
-use Rattle.std.proofs.lemmas.List.{append-nil, take_more, take_all, drop_more, take-append-drop, map-append, length-map, length-take}
-use Rattle.std.proofs.lemmas.Slice.Zip.{all_zipped_more, AllZip-long}
+use Rattle.std.proofs.Common.{◌≡◌, ℕ, ◌+◌, ◌<◌, ◌≤◌, List, [], ◌∷◌, ◌++◌, length, take, drop, get_or, Bool, Option, Some, None, IfSome, is_some, Bor, refl, ap, sym, subst, ◌∙◌}
+use Rattle.std.proofs.lemmas.List.{take_all}
 use Rattle.aa_files.specs.Texts.{slices}
 use Rattle.aa_logs.specs.declared.chosen.Choice.{Choice}
 use Rattle.aa_logs.specs.LogLines.{LogLine, log_lines}

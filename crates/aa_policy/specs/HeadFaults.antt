@@ -1,4 +1,5 @@
 -- At which word of a profile's head, of an abi rule or of a preamble reading can't go on, and why: a relation for each production, as for rules.
+-- Source: apparmor.d(5), "Profile Head", "Variables"; own.
 use Rattle.std.specs.Prelude.{ℕ, ◌≡◌, ◌&&◌, List, [], ◌∷◌, ◌++◌, codes, Bool, true, false, if◌then◌else◌}
 use Rattle.aa_base.specs.declared.fault.PolicyKind.{PolicyKind}
 use Rattle.aa_base.specs.declared.fault.PolicyKind.TheVariants.{Syntax, Unsupported, UnknownWord}

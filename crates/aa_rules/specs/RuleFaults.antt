@@ -1,5 +1,6 @@
 -- At which word of a rule reading can't go on, and why: a relation for each production, `XFails words kind rest`, where the words are read up to the rest, and a fault of this kind
 -- is at its first word, or behind the text where it has none.
+-- Source: apparmor.d(5), "Format"; own.
 use Rattle.std.specs.Prelude.{ℕ, ◌≡◌, List, [], ◌∷◌, ◌++◌, codes, Option, Some, None, is_some, is_none, unwrap_or, Bool, true, false, not, ◌&&◌, ◌==◌, ◌^◌, drop, if◌then◌else◌, bit_and}
 use Rattle.std.specs.Str.{bytes_eq}
 use Rattle.aa_base.specs.declared.fault.Spot.{Spot}
