@@ -6,4 +6,4 @@ pub mod Commas
 pub mod Views
 pub mod Turns
 mod Denials
-pub mod Words
+pub mod ReadWords

@@ -9,7 +9,7 @@ use Rattle.aa_policy.specs.Sameness.{SamePolicy}
 use Rattle.aa_policy.proofs.Spelled.{spells_once}
 use Rattle.aa_jobs.specs.declared.job.Job.{Job}
 use Rattle.aa_policies.specs.Policies.{Source, IsPolicyOf, ArePoliciesOf, sources_of}
-use Rattle.aa_engine.proofs.Texts.{run_alike, check_alike}
+use Rattle.aa_engine.proofs.SameTexts.{run_alike, check_alike}
 use Rattle.aa_engine.proofs.Replays.{replay_alike}
 use Rattle.aa_engine.specs.Output.{run_text, check_text}
 use Rattle.aa_engine.specs.Replay.{replay_text}

@@ -8,7 +8,7 @@ mod Patterns
 mod Rules
 mod Profiles
 mod Replies
-pub mod Texts
+pub mod SameTexts
 pub mod Replays
 mod Words
 mod Inputs

@@ -20,7 +20,7 @@ use Rattle.aa_engine.specs.Replay.{TaskWorld, TaskEvent, TaskState, named_event,
 use Rattle.aa_policy.specs.Sameness.{SamePolicy}
 use Rattle.aa_engine.proofs.Rows.{IsAlike, got_alike}
 use Rattle.aa_engine.proofs.Replies.{label_named_alike, replies_alike}
-use Rattle.aa_engine.proofs.Texts.{outcome_alike}
+use Rattle.aa_engine.proofs.SameTexts.{outcome_alike}
 
 -- a world by another machine
 abbrev by : List Policy → TaskWorld → TaskWorld

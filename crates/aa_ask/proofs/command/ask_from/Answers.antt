@@ -1,7 +1,7 @@
 use Rattle.std.proofs.Common.{arith, vec_len}
 use Rattle.aa_files.specs.Texts.{texts}
 use Rattle.aa_command.specs.Setting.{setting_of}
-use Rattle.aa_ask.proofs.Words.{asked_added, asked_unread}
+use Rattle.aa_ask.proofs.ReadWords.{asked_added, asked_unread}
 use Rattle.aa_ask.proofs.command.ask_from.Goals as goal
 
 pub returns-in-Ok : goal.returns-in-Ok

@@ -1,4 +1,4 @@
-use Rattle.aa_engine.proofs.Texts.{check_alike}
+use Rattle.aa_engine.proofs.SameTexts.{check_alike}
 use Rattle.aa_engine.proofs.laws.same_policies_check_alike.Goals as goal
 
 pub returns : goal.returns

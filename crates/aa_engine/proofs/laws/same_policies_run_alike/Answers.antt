@@ -1,4 +1,4 @@
-use Rattle.aa_engine.proofs.Texts.{run_alike}
+use Rattle.aa_engine.proofs.SameTexts.{run_alike}
 use Rattle.aa_engine.proofs.laws.same_policies_run_alike.Goals as goal
 
 pub returns : goal.returns

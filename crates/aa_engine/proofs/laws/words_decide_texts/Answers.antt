@@ -1,4 +1,4 @@
-use Rattle.aa_engine.proofs.Texts.{run_alike, check_alike}
+use Rattle.aa_engine.proofs.SameTexts.{run_alike, check_alike}
 use Rattle.aa_engine.proofs.Replays.{replay_alike}
 use Rattle.aa_engine.proofs.Words.{all_spelled_once}
 use Rattle.aa_engine.proofs.laws.words_decide_texts.Goals as goal
