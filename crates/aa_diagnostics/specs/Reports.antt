@@ -10,6 +10,8 @@ use Rattle.aa_text.specs.declared.fault.FaultReport.{FaultReport}
 use Rattle.aa_base.specs.declared.unread.Unread.{Unread}
 use Rattle.aa_base.specs.declared.unread.Unread.TheVariants as unread
 use Rattle.aa_files.specs.declared.unit.Unit as unit
+use Rattle.aa_files.specs.declared.unit.UnitFault.{UnitFault}
+use Rattle.aa_files.specs.declared.unit.UnitFault.TheVariants.{NoMemory, At, Ambiguous}
 use Rattle.aa_files.specs.Numbers.{path_in, text_in}
 use Rattle.aa_load.specs.UnitPolicy.{limit_of, IsFaultOfUnit}
 use Rattle.aa_files.specs.Nodes.{is_folder_in, node_in}
@@ -73,6 +75,6 @@ unread_message unread.TooLarge = codes "a limit on bytes, names or counts is pas
 
 -- what is said of a unit that can't be read, and whether that is why
 abbrev pub IsSaid : UnitFault → FaultReport → Bool → Type 0
-IsSaid NoMemory fault unread = ⊥
-IsSaid (At path why) fault unread = IsOfWhole (unread_kind why) path.items (unread_message why) fault × (unread ≡ true)
-IsSaid (Ambiguous ambiguous) fault unread = (fault ≡ ambiguous) × (unread ≡ false)
+IsSaid NoMemory fault is_unread = ⊥
+IsSaid (At path why) fault is_unread = IsOfWhole (unread_kind why) path.items (unread_message why) fault × (is_unread ≡ true)
+IsSaid (Ambiguous ambiguous) fault is_unread = (fault ≡ ambiguous) × (is_unread ≡ false)
