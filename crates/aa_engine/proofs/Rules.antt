@@ -12,6 +12,7 @@ use Rattle.aa_base.specs.declared.perms.Perms.{Perms}
 use Rattle.aa_compile.specs.Patterns.{is_literal}
 use Rattle.aa_compile.specs.Said.{verdict}
 use Rattle.aa_compile.specs.FileRules.{some_match, any_sort, applies_by, saying, file_verdict, says_how, ways_by, is_nil, chosen, way_of}
+use Rattle.aa_compile.specs.Holding.{change_holds}
 use Rattle.aa_mediate.specs.Held.{saying as said_by, change_verdict}
 use Rattle.aa_policy.specs.Sameness.{SameRule, SameChange, SameIfAny}
 use Rattle.aa_engine.proofs.Rows.{any_alike, filter_alike, map_alike}
