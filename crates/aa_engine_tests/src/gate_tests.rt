@@ -23,15 +23,18 @@ use std::thread::Threads;
 #[derive(Drop)]
 struct Gates<'p> {
     mediator: Mediator<'p>,
+    /// How often a step looks whether the other is there.
+    looks: u32,
     confined: AtomicU64,
     unconfined: AtomicU64,
     given_up: AtomicU64,
 }
 
 impl<'p> Gates<'p> {
-    fn new(policies: &'p [Compiled]) -> Gates<'p> {
+    fn new(policies: &'p [Compiled], looks: u32) -> Gates<'p> {
         Gates {
             mediator: Mediator::new(policies),
+            looks,
             confined: AtomicU64::new(0),
             unconfined: AtomicU64::new(0),
             given_up: AtomicU64::new(0),
@@ -44,7 +47,7 @@ impl<'p> Gates<'p> {
             Label::Unconfined(_) => (&self.unconfined, &self.confined),
         };
         mine.store(1, Ordering::SeqCst);
-        for _ in 0..10_000_000u32 {
+        for _ in 0..self.looks {
             if other.load(Ordering::SeqCst) == 1 {
                 return;
             }
@@ -119,7 +122,9 @@ fn granted_by<R: Abort + Threads + Wait + Sync>(
 ) -> (Result<u64, MediateFault>, u64) {
     let job = a_job(rt, alloc, TWO_TASKS);
     let policies = compiled(rt, alloc, &job);
-    let gates = Gates::new(policies.as_slice());
+    // (to one worker nobody comes, however long it waits)
+    let looks = if workers == 1 { 1_000 } else { 10_000_000 };
+    let gates = Gates::new(policies.as_slice(), looks);
     let granted = grants(
         rt,
         alloc,
