@@ -335,7 +335,8 @@ where
     ensures fed { AreAllFed feeds.entry.items result.0.items }
     ensures served { IsPermutation (map known lanes.entry.now) (map (λ s. s.lane) result.1.items) }
 {
-    if workers == 1 {
+    // (a lane has one server, so several workers would take turns at one lane, and wait for each other)
+    if workers == 1 || lanes.len() < 2 {
         return feed_by_one(rt, lanes, feeds, service);
     }
     match feed_and_serve(rt, alloc, machine, bell, lanes, feeds, service, workers) {
