@@ -2,7 +2,6 @@ mod Bits
 mod Named
 mod Telling
 pub mod Ruled
-pub mod Commas
 pub mod Views
 pub mod Turns
 mod Denials

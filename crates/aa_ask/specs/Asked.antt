@@ -2,6 +2,7 @@
 -- Source: own.
 use Rattle.std.specs.Prelude.{ℕ, ◌≡◌, ◌==◌, List, [], ◌∷◌, ◌++◌, length, map, flat_map, codes, Bool, false, if◌then◌else◌, Option, Some, None, option_map, Result, Ok, Err, MatchResult}
 use Rattle.aa_base.specs.Values.{value}
+use Rattle.aa_text.specs.Visible.{all_visible}
 use Rattle.aa_model.specs.declared.policy.Policy.{Policy}
 use Rattle.aa_model.specs.declared.policy.Profile.{Profile}
 use Rattle.aa_model.specs.declared.label.Label.{Label}
@@ -25,9 +26,9 @@ abbrev pub or_refused : {A : Type 0} → List ℕ → Option A → Outcome A
 or_refused line None = Err line
 or_refused line (Some a) = Ok a
 
--- a sentence about a name, in one line
+-- a sentence about a name as it is shown, in one line
 abbrev pub said_of : List ℕ → List ℕ → List ℕ
-said_of sentence name = sentence ++ name ++ codes "\n"
+said_of sentence name = sentence ++ all_visible name ++ codes "\n"
 
 -- what is said where no profile has the name
 abbrev pub no_profile : List ℕ → List ℕ

@@ -1,6 +1,6 @@
 -- What `ask` prints.
 -- Source: own.
-use Rattle.std.specs.Prelude.{ℕ, ◌≡◌, ◌+◌, ◌<◌, ◌≤◌, List, [], ◌++◌, length, flat_map, codes, not, if◌then◌else◌, Bool, Option, Some, None, option_map, Ok, Err}
+use Rattle.std.specs.Prelude.{ℕ, ◌≡◌, ◌==◌, ◌+◌, ◌<◌, ◌≤◌, List, [], ◌++◌, length, flat_map, codes, not, if◌then◌else◌, Bool, Option, Some, None, is_some, option_map, Ok, Err}
 use Rattle.std.specs.List.{list_any}
 use Rattle.aa_files.specs.Texts.{texts}
 use Rattle.aa_base.specs.declared.unread.Unread.{Unread}
@@ -12,24 +12,34 @@ use Rattle.aa_ask.specs.Shown.{verdict_text}
 use Rattle.aa_ask.specs.Json.{json_verdicts}
 use Rattle.aa_ask.specs.Asked.{Outcome, answers}
 use Rattle.aa_ask.specs.Words.{word_lines}
+use Rattle.aa_ask.specs.Unattached.{opening_warning}
+use Rattle.aa_command.specs.declared.decided.Decided.{Decided}
 use Rattle.aa_command.specs.Setting.{Setting}
 use Rattle.aa_ask.specs.declared.command.AskOptions.{AskOptions}
-use Rattle.aa_command.specs.Printed.{Printed, answers_alone, faults_alone}
+use Rattle.aa_command.specs.Printed.{Printed, faults_alone}
 use Rattle.aa_command.specs.Refusals.{SaysUnread}
 use Rattle.aa_command.specs.Policies.{IsPrintedFor}
 
 -- verdicts as they are wanted: as JSON, as text, or not at all
 abbrev pub verdicts_text : AskOptions → List Told → List ℕ
-verdicts_text o ts = if o.is_json then json_verdicts ts else (if o.is_quiet then [] else flat_map verdict_text ts)
+verdicts_text o ts = if o.is_json then json_verdicts ts else (if o.is_quiet then [] else flat_map (verdict_text (is_some o.manner.program)) ts)
 
 -- one of the requests is denied
 abbrev pub is_one_denied : List Told → Bool
 is_one_denied ts = list_any (λ (t : Told). not t.granted) ts
 
--- the verdicts, with 4 where one is denied; or the line that refuses
-abbrev pub ask_printed : AskOptions → Outcome (List Told) → Printed
-ask_printed o (Err line) = faults_alone line 1
-ask_printed o (Ok ts) = answers_alone (verdicts_text o ts) (if is_one_denied ts then 4 else 0)
+-- the verdicts behind what is warned of, with 4 where one is denied; or the line that refuses
+abbrev pub ask_printed : AskOptions → List ℕ → Outcome (List Told) → Printed
+ask_printed o warning (Err line) = faults_alone line 1
+ask_printed o warning (Ok ts) = record { answers = verdicts_text o ts; faults = warning; status = if is_one_denied ts then 4 else 0 }
+
+-- what is printed of these words, where the files are this policy
+abbrev pub words_answered : AskOptions → Decided → List (List ℕ) → Printed
+words_answered o d words = ask_printed o (opening_warning d.policies.now o.manner) (answers d o.manner words)
+
+-- the same, or that nothing is asked
+abbrev pub asked_of : AskOptions → Decided → List (List ℕ) → Printed
+asked_of o d words = if length words == 0 then faults_alone (codes "error: ask takes at least one word\n") 2 else words_answered o d words
 
 -- some words, and behind them those of the file at a path
 pub record AddsWords (files : Option Files) (input : Option (List ℕ)) (path : List ℕ) (first words : List (List ℕ)) : Type 0 where
@@ -44,7 +54,7 @@ pub data IsWordsFault (files : Option Files) (input : Option (List ℕ)) (path :
 
 -- what is printed where these words are asked: the verdicts on them by the one policy that the files are, or why they are none
 abbrev pub IsAsked : Setting → AskOptions → List (List ℕ) → Printed → Type 0
-IsAsked s o words out = IsPrintedFor s (texts o.files.now) (λ d printed. printed ≡ ask_printed o (answers d o.manner words)) out
+IsAsked s o words out = IsPrintedFor s (texts o.files.now) (λ d printed. printed ≡ asked_of o d words) out
 
 -- what is printed where the words of a file are asked too
 pub data IsAskedFrom (s : Setting) (o : AskOptions) (path : List ℕ) (first : List (List ℕ)) (out : Printed) : Type 0 where

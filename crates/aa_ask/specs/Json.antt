@@ -1,9 +1,8 @@
 -- Verdicts as they are printed in JSON.
 -- Source: own.
-use Rattle.std.specs.Prelude.{ℕ, List, [], ◌++◌, ◌||◌, map, find, codes, Bool, true, false, not, if◌then◌else◌, Option, Some, None}
+use Rattle.std.specs.Prelude.{ℕ, List, [], ◌++◌, ◌||◌, map, find, codes, Bool, true, false, not, if◌then◌else◌, Option, Some, None, option_map}
 use Rattle.std.specs.List.{filter, list_any}
-use Rattle.aa_text.specs.Jsons.{json_bytes, json_place, key_text, bool_text}
-use Rattle.aa_text.specs.Faults.{with_commas}
+use Rattle.aa_text.specs.Jsons.{json_bytes, json_place, key_text, bool_text, member_text, member_if, list_text}
 use Rattle.aa_ask.specs.Named.{Named, Lacked}
 use Rattle.aa_ask.specs.Told.{Told}
 
@@ -14,7 +13,7 @@ decider_end is_target = if is_target then codes ",\"target\":true}" else codes "
 -- a rule that decided, as JSON
 unfoldable pub json_decider : Named → List ℕ
 json_decider n =
-    codes "{" ++ json_place n.path (Some n.place) ++ codes "," ++ key_text (codes "letters") ++ json_bytes n.letters ++ decider_end n.is_target
+    codes "{" ++ json_place n.path (Some n.place) ++ member_text (codes "letters") (json_bytes n.letters) ++ decider_end n.is_target
 
 -- it is a rule that denies, or one that allows, as is wanted
 abbrev pub decides_so : Bool → Named → Bool
@@ -24,21 +23,13 @@ decides_so denies n = if denies then n.denies else not n.denies
 abbrev pub deciders_key : Bool → List ℕ
 deciders_key denies = if denies then codes "denies" else codes "allows"
 
--- before each of some texts but the first
-abbrev pub comma_if : Bool → List ℕ
-comma_if is_later = if is_later then codes "," else []
-
--- a rule, where it is one that is wanted
-unfoldable pub json_if : Bool → Bool → Named → List ℕ
-json_if is_later denies n = if decides_so denies n then comma_if is_later ++ json_decider n else []
-
--- the rules that deny, or those that allow, with a comma between two
-abbrev pub json_each : Bool → List Named → List ℕ
-json_each denies names = with_commas (map json_decider (filter (decides_so denies) names))
+-- the rules that deny, or those that allow
+abbrev pub json_each : Bool → List Named → List (List ℕ)
+json_each denies names = map json_decider (filter (decides_so denies) names)
 
 -- the rules that denied or allowed, as a member
 unfoldable pub json_deciders : Bool → List Named → List ℕ
-json_deciders denies names = codes "," ++ key_text (deciders_key denies) ++ codes "[" ++ json_each denies names ++ codes "]"
+json_deciders denies names = codes "," ++ key_text (deciders_key denies) ++ list_text (json_each denies names)
 
 -- it was decided at a link's target, or at the object itself, as is wanted
 abbrev pub lacks_there : Bool → Lacked → Bool
@@ -70,22 +61,20 @@ abbrev pub json_end : Option (List ℕ) → List ℕ
 json_end None = codes "}"
 json_end (Some what) = codes "," ++ key_text (codes "missing") ++ codes "\"" ++ what ++ codes "\"" ++ codes "}"
 
+-- who asks, as a member: the full name of the profile, or null where the task isn't confined
+abbrev pub asker_member : Option (List ℕ) → List ℕ
+asker_member None = member_text (codes "profile") (codes "null")
+asker_member (Some name) = member_text (codes "profile") (json_bytes name)
+
 -- a request with its verdict
 unfoldable pub json_granted : Told → List ℕ
-json_granted t = codes "{" ++ key_text (codes "request") ++ json_bytes t.word ++ codes "," ++ key_text (codes "granted") ++ bool_text t.granted
-
--- the label after, as a member
-abbrev pub label_member : Option (List ℕ) → List ℕ
-label_member None = []
-label_member (Some name) = codes "," ++ key_text (codes "label") ++ json_bytes name
-
--- a truth value as a member
-unfoldable pub bool_member : List ℕ → Bool → List ℕ
-bool_member key b = codes "," ++ key_text key ++ bool_text b
+json_granted t = codes "{" ++ key_text (codes "request") ++ json_bytes t.word ++ asker_member t.asker ++ member_text (codes "granted") (bool_text t.granted)
 
 -- the answer: the request, and what the mediator says of it
 unfoldable pub json_answer : Told → List ℕ
-json_answer t = json_granted t ++ label_member t.label ++ bool_member (codes "scrub") t.scrub ++ bool_member (codes "complain") t.complain
+json_answer t =
+    json_granted t ++ member_if (codes "label") (option_map json_bytes t.label) ++ member_text (codes "scrub") (bool_text t.scrub)
+    ++ member_text (codes "complain") (bool_text t.complain)
 
 -- why: the rules that allow, those that deny, what no rule allows, and what is missing besides
 unfoldable pub json_reasons : Told → List ℕ
@@ -98,4 +87,4 @@ json_verdict t = json_answer t ++ json_reasons t
 
 -- one JSON list and a line end
 abbrev pub json_verdicts : List Told → List ℕ
-json_verdicts ts = codes "[" ++ with_commas (map json_verdict ts) ++ codes "]\n"
+json_verdicts ts = list_text (map json_verdict ts) ++ codes "\n"

@@ -7,4 +7,5 @@ pub mod Shown
 pub mod Json
 pub mod Asked
 pub mod Words
+pub mod Unattached
 pub mod Command

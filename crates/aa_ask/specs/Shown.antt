@@ -2,7 +2,8 @@
 -- Source: own.
 use Rattle.std.specs.Prelude.{ℕ, List, [], ◌∷◌, ◌++◌, flat_map, codes, Bool, if◌then◌else◌, Option, Some, None}
 use Rattle.aa_base.specs.Values.{value}
-use Rattle.aa_text.specs.Texts.{place_text}
+use Rattle.aa_text.specs.Visible.{all_visible}
+use Rattle.aa_text.specs.Texts.{where_text}
 use Rattle.aa_ask.specs.Named.{Named, Lacked}
 use Rattle.aa_ask.specs.Told.{Told}
 
@@ -26,11 +27,11 @@ letters_or_it (c ∷ cs) = c ∷ cs
 
 -- PATH:LINE:COLUMN: allows
 unfoldable pub decider_place : Named → List ℕ
-decider_place n = codes "    " ++ target_mark n.is_target ++ (n.path ++ place_text n.place) ++ decider_verb n.denies
+decider_place n = codes "    " ++ target_mark n.is_target ++ where_text n.path n.place ++ decider_verb n.denies
 
--- a rule that decided: PATH:LINE:COLUMN: allows LETTERS: RULE
+-- a rule that decided: PATH:LINE:COLUMN: allows LETTERS: RULE, as it is shown
 unfoldable pub decider_line : Named → List ℕ
-decider_line n = decider_place n ++ behind_space n.letters ++ codes ": " ++ n.text ++ codes "\n"
+decider_line n = decider_place n ++ behind_space n.letters ++ codes ": " ++ all_visible n.text ++ codes "\n"
 
 -- what no rule allows
 unfoldable pub lack_line : Lacked → List ℕ
@@ -49,6 +50,11 @@ reasons_text t = flat_map decider_line t.deciders ++ flat_map lack_line t.lackin
 abbrev pub verdict_word : Bool → List ℕ
 verdict_word granted = if granted then codes "granted " else codes "denied "
 
+-- who asks, where that isn't told by the command line: a task that isn't confined, or the profile of a program
+abbrev pub asker_mark : Bool → Option (List ℕ) → List ℕ
+asker_mark names None = codes "unconfined "
+asker_mark names (Some name) = if names then value name ++ codes " " else []
+
 -- the label after, where it is another one
 abbrev pub label_mark : Option (List ℕ) → List ℕ
 label_mark None = []
@@ -62,10 +68,10 @@ scrub_mark scrub = if scrub then codes " scrub" else []
 abbrev pub complain_mark : Bool → List ℕ
 complain_mark complain = if complain then codes " complain" else []
 
--- granted WORD label=NAME scrub complain
-unfoldable pub head_line : Told → List ℕ
-head_line t = verdict_word t.granted ++ t.word ++ label_mark t.label ++ scrub_mark t.scrub ++ complain_mark t.complain ++ codes "\n"
+-- granted ASKER WORD label=NAME scrub complain
+unfoldable pub head_line : Bool → Told → List ℕ
+head_line names t = verdict_word t.granted ++ asker_mark names t.asker ++ t.word ++ label_mark t.label ++ scrub_mark t.scrub ++ complain_mark t.complain ++ codes "\n"
 
 -- the lines of a verdict
-abbrev pub verdict_text : Told → List ℕ
-verdict_text t = head_line t ++ reasons_text t
+abbrev pub verdict_text : Bool → Told → List ℕ
+verdict_text names t = head_line names t ++ reasons_text t

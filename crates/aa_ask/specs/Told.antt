@@ -19,6 +19,7 @@ use Rattle.aa_ask.specs.Named.{Named, Lacked, named, lacked, named_for, lacked_f
 -- a verdict, without where it lies in memory
 pub record Told : Type 0 where
   pub word : List ℕ
+  pub asker : Option (List ℕ)
   pub granted : Bool
   pub label : Option (List ℕ)
   pub scrub : Bool
@@ -31,6 +32,7 @@ pub record Told : Type 0 where
 abbrev pub told : Verdict → Told
 told v = record {
   word = v.word.items;
+  asker = option_map (λ name. name.items) v.asker;
   granted = v.granted;
   label = option_map (λ name. name.items) v.label;
   scrub = v.scrub;
@@ -50,6 +52,11 @@ is_same (Confined j m) (Unconfined k) = false
 -- how the label after is called, where it is another than before
 abbrev pub label_told : List Policy → Label → Label → Option (List ℕ)
 label_told policies before after = if is_same before after then None else Some (label_name policies after)
+
+-- the full name of the profile that asks, if the task is confined
+abbrev pub asker_of : List Policy → Label → Option (List ℕ)
+asker_of policies (Unconfined k) = None
+asker_of policies (Confined k n) = Some (label_name policies (Confined k n))
 
 -- the list is empty
 abbrev pub is_nil : {X : Type 0} → List X → Bool
@@ -72,9 +79,10 @@ abbrev pub unfound : Request → Bool → List Named → List Lacked → Option 
 unfound request granted names lacks = if granted || not (is_allowed names lacks) then None else missing request
 
 -- what is told of an answer
-unfoldable pub told_by : List ℕ → Answer → Option (List ℕ) → List Named → List Lacked → Option (List ℕ) → Told
-told_by word a after names lacks what = record {
+unfoldable pub told_by : List ℕ → Option (List ℕ) → Answer → Option (List ℕ) → List Named → List Lacked → Option (List ℕ) → Told
+told_by word asker a after names lacks what = record {
   word = word;
+  asker = asker;
   granted = a.granted;
   label = after;
   scrub = a.scrub;
@@ -87,7 +95,7 @@ told_by word a after names lacks what = record {
 -- the same of an answer to a request of a task with that label
 abbrev pub told_of : Decided → Label → Request → Answer → Told
 told_of d label request a =
-    told_by (word_text request) a (label_told d.policies.now label a.label) (named_for d label request) (lacked_for d label request)
+    told_by (word_text request) (asker_of d.policies.now label) a (label_told d.policies.now label a.label) (named_for d label request) (lacked_for d label request)
     (unfound request a.granted (named_for d label request) (lacked_for d label request))
 
 -- the verdict on a request of a task with that label

@@ -15,7 +15,7 @@ use aa_machine::Machine;
 use aa_mediate::Mediator;
 use aa_model::{Label, Profile, Request};
 use aa_notation::{WordFault, read_word};
-use aa_text::{NoMemory, push_name, push_text};
+use aa_text::{NoMemory, push_name, push_text, push_visible};
 use std::alloc::{AllocError, Global};
 
 /// Why requests aren't answered.
@@ -72,12 +72,16 @@ fn said_of(alloc: Global, sentence: &str, name: &[u8]) -> Result<Vec<u8>, AllocE
     ensures { IfOk result (λ line. line.items ≡ said_of sentence.now name.now) }
 {
     let mut line = Vec::from_slice(alloc, sentence.as_bytes())?;
-    line.extend_from_slice(name)?;
+    push_visible(&mut line, name)?;
     push_text(&mut line, "\n")?;
     Ok(line)
 }
 
-fn push_profile(out: &mut Vec<u8>, alloc: Global, profile: &Profile) -> Result<(), AllocError>
+pub(crate) fn push_profile(
+    out: &mut Vec<u8>,
+    alloc: Global,
+    profile: &Profile,
+) -> Result<(), AllocError>
     ensures { OnOk result (out.new.items ≡ out.old.items ++ listed_profile profile.now) }
 {
     push_text(out, " ")?;
@@ -170,7 +174,11 @@ fn label_of_program(
 }
 
 /// The same, or what is said where no program has that path.
-fn label_by_program(alloc: Global, policies: &[Compiled], path: &[u8]) -> Result<Label, AskFault>
+pub(crate) fn label_by_program(
+    alloc: Global,
+    policies: &[Compiled],
+    path: &[u8],
+) -> Result<Label, AskFault>
     ensures { Gives (λ label. label) result (label_by_program policies.now path.now) }
 {
     match label_of_program(alloc, policies, path)? {

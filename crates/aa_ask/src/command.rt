@@ -6,11 +6,12 @@ ghost use Rattle.aa_ask.specs.Told.{told};
 ghost use Rattle.aa_ask.specs.Asked.{answers};
 ghost use Rattle.aa_command.specs.Setting.{setting_of};
 ghost use Rattle.aa_command.specs.Printed.{printed, faults_alone};
-ghost use Rattle.aa_ask.specs.Command.{verdicts_text, is_one_denied, ask_printed, AddsWords, IsWordsFault, IsAsked, IsAskedFrom, IsAskOutput};
+ghost use Rattle.aa_ask.specs.Command.{verdicts_text, is_one_denied, ask_printed, words_answered, asked_of, AddsWords, IsWordsFault, IsAsked, IsAskedFrom, IsAskOutput};
 
 use crate::asking::{AskFault, Manner, ask, is_one_denied};
 use crate::json::push_json_verdicts;
 use crate::shown::push_verdicts;
+use crate::unattached::opening_warning;
 use crate::verdict::Verdict;
 use crate::words::{MAX_WORDS, push_words};
 use aa_base::Unread;
@@ -47,7 +48,7 @@ fn push_answers(
     if options.is_quiet {
         return Ok(());
     }
-    push_verdicts(out, alloc, verdicts)
+    push_verdicts(out, alloc, options.manner.program.is_some(), verdicts)
 }
 
 /// The status that answers.
@@ -60,12 +61,14 @@ fn status_of(verdicts: &[Verdict]) -> u8
 fn answered(
     alloc: Global,
     options: &AskOptions<'_>,
+    warning: Vec<u8>,
     verdicts: &[Verdict],
 ) -> Result<Output, NoMemory>
-    ensures { IfOk result (λ out. printed out ≡ ask_printed options.now (Ok (map told verdicts.now))) }
+    ensures { IfOk result (λ out. printed out ≡ ask_printed options.now warning.items (Ok (map told verdicts.now))) }
 {
     let mut output = Output::new(alloc);
     push_answers(&mut output.answers, alloc, options, verdicts)?;
+    output.faults = warning;
     output.status = status_of(verdicts);
     Ok(output)
 }
@@ -80,6 +83,22 @@ fn unanswered(alloc: Global, line: Vec<u8>) -> Output
     output
 }
 
+fn answer_words(
+    alloc: Global,
+    options: &AskOptions<'_>,
+    decided: Decided<'_>,
+    words: &[Vec<u8>],
+) -> Result<Output, NoMemory>
+    ensures { IfOk result (λ out. printed out ≡ words_answered options.now decided.entry (texts words.now)) }
+{
+    let warning = opening_warning(alloc, decided.policies, options.manner)?;
+    match ask(alloc, decided, options.manner, words) {
+        Ok(verdicts) => answered(alloc, options, warning, verdicts.as_slice()),
+        Err(AskFault::NoMemory) => Err(NoMemory),
+        Err(AskFault::Refused(line)) => Ok(unanswered(alloc, line)),
+    }
+}
+
 /// Answers words by the policy of files.
 #[derive(Drop)]
 struct Answering<'a> {
@@ -88,14 +107,13 @@ struct Answering<'a> {
 }
 
 impl Use for Answering<'_> {
-    ghost gives = { λ a d out. out ≡ ask_printed a.options.now (answers d a.options.now.manner (texts a.words.now)) };
+    ghost gives = { λ a d out. out ≡ asked_of a.options.now d (texts a.words.now) };
 
     fn use_policy(&self, alloc: Global, decided: Decided<'_>) -> Result<Output, NoMemory> {
-        match ask(alloc, decided, self.options.manner, self.words) {
-            Ok(verdicts) => answered(alloc, self.options, verdicts.as_slice()),
-            Err(AskFault::NoMemory) => Err(NoMemory),
-            Err(AskFault::Refused(line)) => Ok(unanswered(alloc, line)),
+        if self.words.is_empty() {
+            return refused(alloc, "error: ask takes at least one word\n", 2);
         }
+        answer_words(alloc, self.options, decided, self.words)
     }
 }
 

@@ -9,12 +9,12 @@ ghost use Rattle.aa_ask.specs.Ruled.{rule_text};
 ghost use Rattle.aa_ask.specs.Named.{named, lacked, letters_for, named_at, named_by, names_in, names_of, names_at, lacks_in, lacks_of, unit_in, why_here, why_target, named_for, lacked_for};
 
 use aa_base::{Perms, Spot, push_mask};
-use aa_command::Decided;
+use aa_command::{Decided, PlacedUnit};
 use aa_compile::{Compiled, profile_of};
 use aa_explain::{Decider, Deciders, Listed, ProfilePlaces, deciders_of, target_deciders};
-use aa_files::{Unit, text_at};
+use aa_files::text_at;
 use aa_model::{Label, Profile, Request};
-use aa_text::{PlaceAt, place_at, rule_text};
+use aa_text::{PlaceAt, rule_text};
 use bitflags::Flags;
 use std::alloc::{AllocError, Global};
 
@@ -106,20 +106,20 @@ fn shown_rule(text: &[u8], byte: usize) -> &[u8]
 /// A rule that stands there, with what it decided.
 fn line_of(
     alloc: Global,
-    unit: &Unit,
+    unit: &PlacedUnit<'_>,
     how: How,
     perms: Perms,
     at: Spot,
 ) -> Result<DeciderLine, AllocError>
     ensures { IfOk result (λ line. named line ≡ named_at unit.now how.listed how.is_target how.denies perms.0 at) }
 {
-    let (path, text) = text_at(unit, at.file);
+    let (path, text) = text_at(unit.unit(), at.file);
     let byte = at.byte as usize;
     Ok(DeciderLine {
         is_target: how.is_target,
         denies: how.denies,
         path: Vec::from_slice(alloc, path)?,
-        place: place_at(text, byte),
+        place: unit.place_at(at.file, byte),
         letters: letters_of(alloc, how.listed, perms)?,
         text: Vec::from_slice(alloc, shown_rule(text, byte))?,
     })
@@ -127,7 +127,7 @@ fn line_of(
 
 fn push_decider(
     alloc: Global,
-    unit: &Unit,
+    unit: &PlacedUnit<'_>,
     places: &ProfilePlaces<'_>,
     how: How,
     decider: &Decider,
@@ -143,7 +143,7 @@ fn push_decider(
 
 fn push_each(
     alloc: Global,
-    unit: &Unit,
+    unit: &PlacedUnit<'_>,
     places: &ProfilePlaces<'_>,
     how: How,
     deciders: &[Decider],
@@ -160,7 +160,7 @@ fn push_each(
 /// Adds the rules that deny, and then those that allow.
 fn push_names(
     alloc: Global,
-    unit: &Unit,
+    unit: &PlacedUnit<'_>,
     places: &ProfilePlaces<'_>,
     is_target: bool,
     deciders: &Deciders,
@@ -198,7 +198,7 @@ fn push_names(
 
 fn push_any_names(
     alloc: Global,
-    unit: &Unit,
+    unit: &PlacedUnit<'_>,
     places: &ProfilePlaces<'_>,
     is_target: bool,
     deciders: &Option<Deciders>,
@@ -215,7 +215,7 @@ fn push_any_names(
 /// The rules that decided, at the request's object and then at a link's target.
 fn names_of(
     alloc: Global,
-    unit: &Unit,
+    unit: &PlacedUnit<'_>,
     places: &ProfilePlaces<'_>,
     why: &Why,
 ) -> Result<Vec<DeciderLine>, AllocError>
@@ -269,7 +269,11 @@ fn lacks_of(alloc: Global, why: &Why) -> Result<Vec<Lack>, AllocError>
 }
 
 /// The unit of a profile, where each profile has the number of its unit.
-fn unit_of<'u>(units: &'u [Unit], owners: &[usize], profile: usize) -> Option<&'u Unit>
+fn unit_of<'p, 'u>(
+    units: &'p [PlacedUnit<'u>],
+    owners: &[usize],
+    profile: usize,
+) -> Option<&'p PlacedUnit<'u>>
     ensures { option_map (λ u. u.now) result ≡ unit_in units.now owners.now profile }
 {
     match owners.get(profile) {
@@ -327,7 +331,7 @@ fn reasons_for(
 /// The rules that decided, where it is known where those of the profile stand.
 fn names_at(
     alloc: Global,
-    unit: Option<&Unit>,
+    unit: Option<&PlacedUnit<'_>>,
     places: Option<&ProfilePlaces<'_>>,
     why: &Why,
 ) -> Result<Vec<DeciderLine>, AllocError>

@@ -2,30 +2,18 @@
 
 ghost use Rattle.std.specs.Prelude.{◌≡◌, ◌++◌, ◌||◌, true, false, codes, map, find, option_map, OnOk};
 ghost use Rattle.std.specs.List.{list_any};
-ghost use Rattle.aa_text.specs.Jsons.{key_text, json_bytes};
-ghost use Rattle.aa_text.specs.Faults.{behind_commas, with_commas};
+ghost use Rattle.aa_text.specs.Jsons.{key_text, json_bytes, member_text, member_if, list_text};
 ghost use Rattle.aa_ask.specs.Named.{Named, Lacked, named, lacked};
 ghost use Rattle.aa_ask.specs.Told.{told};
-ghost use Rattle.aa_ask.specs.Json.{comma_if, decider_end, json_decider, decides_so, deciders_key, json_if, json_each, json_deciders, lacks_there, lacking_key, json_letters, json_lacking, has_target, target_lacking, json_end, json_granted, label_member, bool_member, json_answer, json_reasons, json_verdict, json_verdicts};
+ghost use Rattle.aa_ask.specs.Json.{decider_end, deciders_key, json_each, json_deciders, lacks_there, lacking_key, json_letters, json_lacking, has_target, target_lacking, json_end, asker_member, json_granted, json_answer, json_reasons, json_verdict, json_verdicts};
 
 use crate::explained::{DeciderLine, Lack};
 use crate::verdict::Verdict;
-use aa_text::{push_bool, push_json_bytes, push_json_place, push_key, push_text};
+use aa_text::{
+    ListItem, ToJson, push_json_bytes, push_json_place, push_key, push_list, push_list_in,
+    push_member, push_text,
+};
 use std::alloc::{AllocError, Global};
-
-/// Appends a member behind a comma, whose value is a string of these bytes.
-fn push_bytes_member(
-    out: &mut Vec<u8>,
-    alloc: Global,
-    key: &str,
-    bytes: &[u8],
-) -> Result<(), AllocError>
-    ensures { OnOk result (out.new.items ≡ out.old.items ++ (codes "," ++ (key_text key.now ++ json_bytes bytes.now))) }
-{
-    push_text(out, ",")?;
-    push_key(out, key)?;
-    push_json_bytes(out, alloc, bytes)
-}
 
 fn push_decider_end(out: &mut Vec<u8>, is_target: bool) -> Result<(), AllocError>
     ensures { OnOk result (out.new.items ≡ out.old.items ++ decider_end is_target) }
@@ -33,64 +21,43 @@ fn push_decider_end(out: &mut Vec<u8>, is_target: bool) -> Result<(), AllocError
     push_text(out, if is_target { ",\"target\":true}" } else { "}" })
 }
 
-#[tactic(auto, unfolding(crate::specs::Json::json_decider))]
-fn push_json_decider(out: &mut Vec<u8>, alloc: Global, line: &DeciderLine) -> Result<(), AllocError>
-    ensures { OnOk result (out.new.items ≡ out.old.items ++ json_decider (named line.now)) }
-{
-    push_text(out, "{")?;
-    push_json_place(out, alloc, line.path.as_slice(), Some(line.place))?;
-    push_bytes_member(out, alloc, "letters", line.letters.as_slice())?;
-    push_decider_end(out, line.is_target)
-}
+/// It stands in the list of the rules that deny, or that allow, as the context wants.
+impl ListItem<bool> for DeciderLine {
+    ghost use Rattle.aa_ask.specs.Named.{named};
+    ghost use Rattle.aa_ask.specs.Json.{decides_so, json_decider};
 
-fn push_comma(out: &mut Vec<u8>, is_later: bool) -> Result<(), AllocError>
-    ensures { OnOk result (out.new.items ≡ out.old.items ++ comma_if is_later) }
-{
-    push_text(out, if is_later { "," } else { "" })
-}
+    ghost stands = { λ denies line. decides_so denies (named line) };
 
-/// Whether it is one of the rules that deny, or that allow, as is wanted.
-fn decides_so(line: &DeciderLine, denies: bool) -> bool
-    ensures { result ≡ decides_so denies (named line.now) }
-{
-    line.denies == denies
-}
+    ghost item = { λ denies line. json_decider (named line) };
 
-/// Appends a rule where it is one that is wanted, behind a comma where one stands before.
-#[tactic(auto, unfolding(crate::specs::Json::json_if))]
-fn push_json_if(
-    out: &mut Vec<u8>,
-    alloc: Global,
-    is_later: bool,
-    line: &DeciderLine,
-    denies: bool,
-) -> Result<(), AllocError>
-    ensures { OnOk result (out.new.items ≡ out.old.items ++ json_if is_later denies (named line.now)) }
-{
-    if !decides_so(line, denies) {
-        return Ok(());
+    fn stands(&self, denies: &bool) -> bool {
+        self.denies == *denies
     }
-    push_comma(out, is_later)?;
-    push_json_decider(out, alloc, line)
+
+    #[tactic(auto, unfolding(crate::specs::Json::json_decider))]
+    fn push_item(
+        &self,
+        out: &mut Vec<u8>,
+        alloc: Global,
+        _denies: &bool,
+    ) -> Result<(), AllocError> {
+        push_text(out, "{")?;
+        push_json_place(out, alloc, self.path.as_slice(), Some(self.place))?;
+        push_member(out, alloc, "letters", &self.letters)?;
+        push_decider_end(out, self.is_target)
+    }
 }
 
-/// Appends the rules that deny, or those that allow, with a comma between two.
-#[tactic(auto, unfolding(crate::proofs::Commas::each_left))]
+/// Appends the rules that deny, or those that allow.
 fn push_json_each(
     out: &mut Vec<u8>,
     alloc: Global,
     lines: &[DeciderLine],
     denies: bool,
 ) -> Result<(), AllocError>
-    ensures { OnOk result (out.new.items ≡ out.old.items ++ json_each denies (map named lines.now)) }
+    ensures { OnOk result (out.new.items ≡ out.old.items ++ list_text (json_each denies (map named lines.now))) }
 {
-    let mut rest = lines;
-    let mut is_later = false;
-    while let [line, after @ ..] = rest {
-        push_json_if(out, alloc, is_later, line, denies)?;
-        is_later = is_later || decides_so(line, denies);
-        rest = after;
-    }
+    push_list_in(out, alloc, &denies, lines)?;
     Ok(())
 }
 
@@ -111,9 +78,7 @@ fn push_json_deciders(
 {
     push_text(out, ",")?;
     push_deciders_key(out, denies)?;
-    push_text(out, "[")?;
-    push_json_each(out, alloc, lines, denies)?;
-    push_text(out, "]")
+    push_json_each(out, alloc, lines, denies)
 }
 
 fn decides_at_target(lines: &[DeciderLine]) -> bool
@@ -255,21 +220,37 @@ fn push_request(out: &mut Vec<u8>, alloc: Global, word: &[u8]) -> Result<(), All
     push_json_bytes(out, alloc, word)
 }
 
-#[tactic(auto, unfolding(crate::specs::Json::bool_member))]
-fn push_bool_member(out: &mut Vec<u8>, key: &str, value: bool) -> Result<(), AllocError>
-    ensures { OnOk result (out.new.items ≡ out.old.items ++ bool_member key.now value) }
+/// Appends that the task isn't confined, as a member.
+#[tactic(auto, unfolding(aa_text::specs::Jsons::member_text))]
+fn push_no_asker(out: &mut Vec<u8>) -> Result<(), AllocError>
+    ensures { OnOk result (out.new.items ≡ out.old.items ++ member_text (codes "profile") (codes "null")) }
 {
     push_text(out, ",")?;
-    push_key(out, key)?;
-    push_bool(out, value)
+    push_key(out, "profile")?;
+    push_text(out, "null")
 }
 
-#[tactic(auto, unfolding(crate::specs::Json::json_granted, crate::specs::Json::bool_member))]
+/// Appends who asks, as a member.
+fn push_asker_member(
+    out: &mut Vec<u8>,
+    alloc: Global,
+    asker: &Option<Vec<u8>>,
+) -> Result<(), AllocError>
+    ensures { OnOk result (out.new.items ≡ out.old.items ++ asker_member (option_map (λ name. name.items) asker.now)) }
+{
+    match asker {
+        Some(name) => push_member(out, alloc, "profile", name),
+        None => push_no_asker(out),
+    }
+}
+
+#[tactic(auto, unfolding(crate::specs::Json::json_granted))]
 fn push_json_granted(out: &mut Vec<u8>, alloc: Global, verdict: &Verdict) -> Result<(), AllocError>
     ensures { OnOk result (out.new.items ≡ out.old.items ++ json_granted (told verdict.now)) }
 {
     push_request(out, alloc, verdict.word.as_slice())?;
-    push_bool_member(out, "granted", verdict.granted)
+    push_asker_member(out, alloc, &verdict.asker)?;
+    push_member(out, alloc, "granted", &verdict.granted)
 }
 
 fn push_json_label(
@@ -277,20 +258,12 @@ fn push_json_label(
     alloc: Global,
     label: &Option<Vec<u8>>,
 ) -> Result<(), AllocError>
-    ensures { OnOk result (out.new.items ≡ out.old.items ++ label_member (option_map (λ name. name.items) label.now)) }
+    ensures { OnOk result (out.new.items ≡ out.old.items ++ member_if (codes "label") (option_map json_bytes (option_map (λ name. name.items) label.now))) }
 {
-    let Some(label) = label else {
-        return Ok(());
-    };
-    push_bytes_member(out, alloc, "label", label.as_slice())
-}
-
-/// Appends whether the environment is scrubbed, and whether it is granted by complain mode alone.
-fn push_json_marks(out: &mut Vec<u8>, scrub: bool, complain: bool) -> Result<(), AllocError>
-    ensures { OnOk result (out.new.items ≡ out.old.items ++ (bool_member (codes "scrub") scrub ++ bool_member (codes "complain") complain)) }
-{
-    push_bool_member(out, "scrub", scrub)?;
-    push_bool_member(out, "complain", complain)
+    match label {
+        Some(name) => push_member(out, alloc, "label", name),
+        None => Ok(()),
+    }
 }
 
 /// Appends what the mediator answers, as the first members of an object.
@@ -300,7 +273,8 @@ fn push_json_answer(out: &mut Vec<u8>, alloc: Global, verdict: &Verdict) -> Resu
 {
     push_json_granted(out, alloc, verdict)?;
     push_json_label(out, alloc, &verdict.label)?;
-    push_json_marks(out, verdict.scrub, verdict.complain)
+    push_member(out, alloc, "scrub", &verdict.scrub)?;
+    push_member(out, alloc, "complain", &verdict.complain)
 }
 
 /// Appends the rules that allow, and then those that deny.
@@ -326,46 +300,28 @@ fn push_json_reasons(out: &mut Vec<u8>, alloc: Global, verdict: &Verdict) -> Res
     push_json_unfound(out, verdict.unfound)
 }
 
-/// Appends an answer as a JSON object.
-pub fn push_json_verdict(
-    out: &mut Vec<u8>,
-    alloc: Global,
-    verdict: &Verdict,
-) -> Result<(), AllocError>
-    ensures { OnOk result (out.new.items ≡ out.old.items ++ json_verdict (told verdict.now)) }
-{
-    push_json_answer(out, alloc, verdict)?;
-    push_json_reasons(out, alloc, verdict)
-}
+impl ToJson for Verdict {
+    ghost use Rattle.aa_ask.specs.Told.{told};
+    ghost use Rattle.aa_ask.specs.Json.{json_verdict};
 
-/// Appends answers with a comma before each.
-fn push_later_verdicts(
-    out: &mut Vec<u8>,
-    alloc: Global,
-    verdicts: &[Verdict],
-) -> Result<(), AllocError>
-    ensures { OnOk result (out.new.items ≡ out.old.items ++ behind_commas (map json_verdict (map told verdicts.now))) }
-{
-    for verdict in verdicts {
-        push_text(out, ",")?;
-        push_json_verdict(out, alloc, verdict)?;
+    ghost json = { λ verdict. json_verdict (told verdict) };
+
+    fn push_json(&self, out: &mut Vec<u8>, alloc: Global) -> Result<(), AllocError> {
+        push_json_answer(out, alloc, self)?;
+        push_json_reasons(out, alloc, self)
     }
-    Ok(())
 }
 
-/// Appends answers with a comma between two of them.
+/// Appends the answers as a list.
 fn push_all_verdicts(
     out: &mut Vec<u8>,
     alloc: Global,
     verdicts: &[Verdict],
 ) -> Result<(), AllocError>
-    ensures { OnOk result (out.new.items ≡ out.old.items ++ with_commas (map json_verdict (map told verdicts.now))) }
+    ensures { OnOk result (out.new.items ≡ out.old.items ++ list_text (map json_verdict (map told verdicts.now))) }
 {
-    let [first, later @ ..] = verdicts else {
-        return Ok(());
-    };
-    push_json_verdict(out, alloc, first)?;
-    push_later_verdicts(out, alloc, later)
+    push_list(out, alloc, verdicts)?;
+    Ok(())
 }
 
 /// Appends the answers as one JSON list and a line end.
@@ -376,7 +332,6 @@ pub fn push_json_verdicts(
 ) -> Result<(), AllocError>
     ensures { OnOk result (out.new.items ≡ out.old.items ++ json_verdicts (map told verdicts.now)) }
 {
-    push_text(out, "[")?;
     push_all_verdicts(out, alloc, verdicts)?;
-    push_text(out, "]\n")
+    push_text(out, "\n")
 }

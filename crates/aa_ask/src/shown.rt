@@ -1,13 +1,15 @@
 //! Verdicts as they are printed.
 
 ghost use Rattle.std.specs.Prelude.{◌≡◌, ◌++◌, codes, map, flat_map, option_map, OnOk};
+ghost use Rattle.aa_base.specs.Values.{value};
+ghost use Rattle.aa_text.specs.Visible.{all_visible};
 ghost use Rattle.aa_ask.specs.Named.{named, lacked};
 ghost use Rattle.aa_ask.specs.Told.{told};
-ghost use Rattle.aa_ask.specs.Shown.{target_mark, decider_verb, behind_space, letters_or_it, decider_place, decider_line, lack_line, unfound_line, reasons_text, verdict_word, label_mark, scrub_mark, complain_mark, head_line, verdict_text};
+ghost use Rattle.aa_ask.specs.Shown.{target_mark, decider_verb, behind_space, letters_or_it, decider_place, decider_line, lack_line, unfound_line, reasons_text, verdict_word, asker_mark, label_mark, scrub_mark, complain_mark, head_line, verdict_text};
 
 use crate::explained::{DeciderLine, Lack};
 use crate::verdict::Verdict;
-use aa_text::{push_name, push_text, push_where};
+use aa_text::{push_name, push_text, push_visible, push_where};
 use std::alloc::{AllocError, Global};
 
 fn push_target(out: &mut Vec<u8>, is_target: bool) -> Result<(), AllocError>
@@ -53,11 +55,11 @@ fn push_decider_place(out: &mut Vec<u8>, line: &DeciderLine) -> Result<(), Alloc
 
 /// Appends which letters a rule decided, and the line that it stands on.
 fn push_rule(out: &mut Vec<u8>, letters: &[u8], text: &[u8]) -> Result<(), AllocError>
-    ensures { OnOk result (out.new.items ≡ out.old.items ++ (behind_space letters.now ++ (codes ": " ++ (text.now ++ codes "\n")))) }
+    ensures { OnOk result (out.new.items ≡ out.old.items ++ (behind_space letters.now ++ (codes ": " ++ (all_visible text.now ++ codes "\n")))) }
 {
     push_letters(out, letters)?;
     push_text(out, ": ")?;
-    out.extend_from_slice(text)?;
+    push_visible(out, text)?;
     push_text(out, "\n")
 }
 
@@ -135,6 +137,32 @@ fn push_word(out: &mut Vec<u8>, granted: bool) -> Result<(), AllocError>
     push_text(out, if granted { "granted " } else { "denied " })
 }
 
+/// Appends a profile's name, and a space.
+fn push_asker_name(out: &mut Vec<u8>, alloc: Global, name: &[u8]) -> Result<(), AllocError>
+    ensures { OnOk result (out.new.items ≡ out.old.items ++ (value name.now ++ codes " ")) }
+{
+    push_name(out, alloc, name)?;
+    push_text(out, " ")
+}
+
+/// Appends who asks, where that isn't told by the command line.
+fn push_asker(
+    out: &mut Vec<u8>,
+    alloc: Global,
+    names_askers: bool,
+    asker: &Option<Vec<u8>>,
+) -> Result<(), AllocError>
+    ensures { OnOk result (out.new.items ≡ out.old.items ++ asker_mark names_askers (option_map (λ name. name.items) asker.now)) }
+{
+    let Some(name) = asker else {
+        return push_text(out, "unconfined ");
+    };
+    if !names_askers {
+        return Ok(());
+    }
+    push_asker_name(out, alloc, name.as_slice())
+}
+
 /// Appends the label after, where it is another one.
 fn push_label(out: &mut Vec<u8>, alloc: Global, label: &Option<Vec<u8>>) -> Result<(), AllocError>
     ensures { OnOk result (out.new.items ≡ out.old.items ++ label_mark (option_map (λ name. name.items) label.now)) }
@@ -158,12 +186,18 @@ fn push_complain(out: &mut Vec<u8>, complain: bool) -> Result<(), AllocError>
     push_text(out, if complain { " complain" } else { "" })
 }
 
-/// Appends what became of a request, and the request.
-fn push_answer(out: &mut Vec<u8>, granted: bool, word: &[u8]) -> Result<(), AllocError>
-    ensures { OnOk result (out.new.items ≡ out.old.items ++ (verdict_word granted ++ word.now)) }
+/// Appends what became of a request, who asked it, and the request.
+fn push_answer(
+    out: &mut Vec<u8>,
+    alloc: Global,
+    names_askers: bool,
+    verdict: &Verdict,
+) -> Result<(), AllocError>
+    ensures { OnOk result (out.new.items ≡ out.old.items ++ (verdict_word verdict.now.granted ++ (asker_mark names_askers (option_map (λ name. name.items) verdict.now.asker) ++ verdict.now.word.items))) }
 {
-    push_word(out, granted)?;
-    out.extend_from_slice(word)
+    push_word(out, verdict.granted)?;
+    push_asker(out, alloc, names_askers, &verdict.asker)?;
+    out.extend_from_slice(verdict.word.as_slice())
 }
 
 /// Appends the marks of an answer, and ends its line.
@@ -177,31 +211,42 @@ fn push_marks(out: &mut Vec<u8>, scrub: bool, complain: bool) -> Result<(), Allo
 
 /// Appends the answer in one line.
 #[tactic(auto, unfolding(crate::specs::Shown::head_line))]
-fn push_head(out: &mut Vec<u8>, alloc: Global, verdict: &Verdict) -> Result<(), AllocError>
-    ensures { OnOk result (out.new.items ≡ out.old.items ++ head_line (told verdict.now)) }
+fn push_head(
+    out: &mut Vec<u8>,
+    alloc: Global,
+    names_askers: bool,
+    verdict: &Verdict,
+) -> Result<(), AllocError>
+    ensures { OnOk result (out.new.items ≡ out.old.items ++ head_line names_askers (told verdict.now)) }
 {
-    push_answer(out, verdict.granted, verdict.word.as_slice())?;
+    push_answer(out, alloc, names_askers, verdict)?;
     push_label(out, alloc, &verdict.label)?;
     push_marks(out, verdict.scrub, verdict.complain)
 }
 
-fn push_verdict(out: &mut Vec<u8>, alloc: Global, verdict: &Verdict) -> Result<(), AllocError>
-    ensures { OnOk result (out.new.items ≡ out.old.items ++ verdict_text (told verdict.now)) }
+fn push_verdict(
+    out: &mut Vec<u8>,
+    alloc: Global,
+    names_askers: bool,
+    verdict: &Verdict,
+) -> Result<(), AllocError>
+    ensures { OnOk result (out.new.items ≡ out.old.items ++ verdict_text names_askers (told verdict.now)) }
 {
-    push_head(out, alloc, verdict)?;
+    push_head(out, alloc, names_askers, verdict)?;
     push_reasons(out, verdict)
 }
 
-/// Appends each answer with its reasons.
+/// Appends each answer with its reasons. It tells who asked where the task isn't confined, and where names of askers are wanted.
 pub fn push_verdicts(
     out: &mut Vec<u8>,
     alloc: Global,
+    names_askers: bool,
     verdicts: &[Verdict],
 ) -> Result<(), AllocError>
-    ensures { OnOk result (out.new.items ≡ out.old.items ++ flat_map verdict_text (map told verdicts.now)) }
+    ensures { OnOk result (out.new.items ≡ out.old.items ++ flat_map (verdict_text names_askers) (map told verdicts.now)) }
 {
     for verdict in verdicts {
-        push_verdict(out, alloc, verdict)?;
+        push_verdict(out, alloc, names_askers, verdict)?;
     }
     Ok(())
 }

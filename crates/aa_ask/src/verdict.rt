@@ -6,7 +6,7 @@ ghost use Rattle.aa_mediate.specs.Reply.{reply};
 ghost use Rattle.aa_notation.specs.Written.{word_text};
 ghost use Rattle.aa_ask.specs.Verdicts.{is_by_complain, IsVerdict};
 ghost use Rattle.aa_ask.specs.Named.{Named, named, lacked};
-ghost use Rattle.aa_ask.specs.Told.{told, is_same, label_told, missing, is_allowed, unfound, told_by, told_of, verdict_on};
+ghost use Rattle.aa_ask.specs.Told.{told, asker_of, is_same, label_told, missing, is_allowed, unfound, told_by, told_of, verdict_on};
 
 use crate::explained::{DeciderLine, Explained, Lack, explain};
 use aa_command::Decided;
@@ -22,6 +22,8 @@ use std::alloc::{AllocError, Global};
 pub struct Verdict {
     /// The request as one word.
     pub word: Vec<u8>,
+    /// The full name of the profile that asks; none where the task isn't confined.
+    pub asker: Option<Vec<u8>>,
     pub granted: bool,
     /// How the label after is called, where it is another than before.
     pub label: Option<Vec<u8>>,
@@ -117,6 +119,20 @@ fn name_after(
     Ok(Some(Vec::from_slice(alloc, name_of_label(policies, after))?))
 }
 
+/// The full name of the profile that asks, if the task is confined.
+fn asker_of(
+    alloc: Global,
+    policies: &[Compiled],
+    label: Label,
+) -> Result<Option<Vec<u8>>, AllocError>
+    ensures { IfOk result (λ name. option_map (λ n. n.items) name ≡ asker_of policies.now label) }
+{
+    match label {
+        Label::Unconfined(_) => Ok(None),
+        Label::Confined(_, _) => Ok(Some(Vec::from_slice(alloc, name_of_label(policies, label))?)),
+    }
+}
+
 fn word_of(alloc: Global, request: &Request) -> Result<Vec<u8>, AllocError>
     ensures { IfOk result (λ word. word.items ≡ word_text request.now) }
 {
@@ -137,16 +153,18 @@ fn answer_of(policies: &[Compiled], label: Label, request: &Request) -> Answer
 #[tactic(auto, unfolding(crate::specs::Told::told_by))]
 fn verdict_of(
     word: Vec<u8>,
+    asker: Option<Vec<u8>>,
     answer: &Answer,
     label: Option<Vec<u8>>,
     explained: Explained,
     unfound: Option<&'static str>,
 ) -> Verdict
     ensures verdict { IsVerdict answer.now result }
-    ensures told { told result ≡ told_by word.items answer.now (option_map (λ n. n.items) label) (map named explained.deciders.items) (map lacked explained.lacking.items) (option_map (λ what. what.now) unfound.entry) }
+    ensures told { told result ≡ told_by word.items (option_map (λ n. n.items) asker) answer.now (option_map (λ n. n.items) label) (map named explained.deciders.items) (map lacked explained.lacking.items) (option_map (λ what. what.now) unfound.entry) }
 {
     Verdict {
         word,
+        asker,
         granted: answer.granted,
         label,
         scrub: answer.scrub,
@@ -170,6 +188,7 @@ fn verdict_for(
 {
     let explained = explain(alloc, decided, label, request)?;
     let word = word_of(alloc, request)?;
+    let asker = asker_of(alloc, decided.policies, label)?;
     let after = name_after(alloc, decided.policies, label, answer.label)?;
     let missing = unfound(
         request,
@@ -177,7 +196,7 @@ fn verdict_for(
         explained.deciders.as_slice(),
         explained.lacking.as_slice(),
     );
-    Ok(verdict_of(word, answer, after, explained, missing))
+    Ok(verdict_of(word, asker, answer, after, explained, missing))
 }
 
 /// The answer to a request of a task with that label, which moves to the answer's, and the rules that decided it.

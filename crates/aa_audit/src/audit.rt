@@ -73,6 +73,7 @@ fn push_note_line(
 
 /// Appends the audit line of an answer, without its line end, and tells whether there is one; else `out` stays. `before`
 /// is the label of the task when it asked. After an error `out` has a part of the line, and is to be thrown away.
+// The `denied_mask` of an execution is always `x`, so its line doesn't hang on the permissions of the note that is handed in.
 pub fn push_audit_line(
     out: &mut String,
     policies: &[Compiled],

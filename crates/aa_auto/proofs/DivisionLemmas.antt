@@ -1,14 +1,14 @@
 -- Bytes that are divided into classes, one more byte or item at a time.
-use Rattle.std.proofs.Common.{◌≡◌, ◌≢◌, ℕ, ◌+◌, ◌<◌, ◌≤◌, ◌↔◌, Bool, true, false, cond, Result, Ok, Err, IfOk, List, [], ◌∷◌, ◌++◌, length, get_or, take, IsTrue, inl, inr, ◌⊎◌, refl, sym, ap, ◌∙◌, subst, ⊎_elim, arith, true≢false}
-use Rattle.std.proofs.lemmas.List.{get_or_append_left, get_or_push, length_push, take_more}
-use Rattle.std.proofs.lemmas.Bool.{cases_lt}
+use Rattle.std.proofs.Common.{Bor, ◌≡◌, ◌≢◌, ℕ, ◌+◌, ◌<◌, ◌≤◌, ◌↔◌, Bool, true, false, cond, set, Result, Ok, Err, IfOk, List, [], ◌∷◌, ◌++◌, length, get_or, take, IsTrue, inl, inr, ◌⊎◌, refl, sym, ap, ◌∙◌, subst, ⊎_elim, arith, true≢false}
+use Rattle.std.proofs.lemmas.List.{get_or_append_left, get_or_push, length_push, take_more, get_or-set_same, get_or-set_other, length-set}
+use Rattle.std.proofs.lemmas.Bool.{cases_lt, cases_eq}
 use Rattle.aa_pattern.specs.declared.item.Item.{Item, Byte, One, Run, RunOne, Deep, DeepOne, Class, Choice'}
 use Rattle.aa_pattern.specs.Globs.{IsNameByte}
 use Rattle.aa_pattern.specs.Steps.{Begins}
 use Rattle.aa_auto.specs.declared.nodes.Node.{Node}
 use Rattle.aa_auto.specs.declared.nodes.Node.TheVariants.{Start, After, Same, Join}
 use Rattle.aa_auto.specs.Nodes.{IsSameNode}
-use Rattle.aa_auto.specs.Division.{GivesClass, Divides, IsDivision, IsSameItem, IsKey, AreKeys, Refines, RefinesBy, AreClasses, TakesAlone, AreAlone, NotesAlone, IsWild, TellsZero}
+use Rattle.aa_auto.specs.Division.{GivesClass, Divides, IsDivision, IsSameItem, IsKey, AreKeys, Refines, RefinesBy, CanLeave, TakesOut, AreClasses, TakesAlone, AreAlone, NotesAlone, IsWild, TellsZero}
 use Rattle.aa_auto.proofs.SameLemmas.{AreSameNodes-append}
 
 module _ (keys : List ℕ) (n : ℕ) (of bytes : List ℕ) (class : ℕ) (all : Divides keys n of bytes) where
@@ -222,3 +222,89 @@ alone_more node old of bytes was alone before one notes a b la lb flag same =
     (λ e. before a b la lb e s.0)
     (λ (r : TakesAlone node a ⊎ TellsZero node was a). ⊎_elim (λ t. taken node a b t s.1) (λ t. told_zero node old was a b before t lb s.0 s.1) r)
     (notes.flags a flag)
+
+-- a byte that leaves its class
+module _ (of bytes : List ℕ) (byte : ℕ) (d : IsDivision of bytes) (inside : byte < 256) (leaves : CanLeave of bytes byte) where
+  abbrev new_of : List ℕ
+  new_of = set of byte (length bytes)
+
+  abbrev new_bytes : List ℕ
+  new_bytes = bytes ++ byte ∷ []
+
+  long : length new_bytes ≡ length bytes + 1
+  long = length_push bytes byte
+
+  at_own : (a : ℕ) → a ≡ byte → get_or new_of a 0 ≡ length bytes
+  at_own a e = ap (λ n. get_or new_of n 0) e ∙ get_or-set_same of byte (length bytes) 0 (omega (arith, inside, d.many))
+
+  at_other : (a : ℕ) → a ≢ byte → get_or new_of a 0 ≡ get_or of a 0
+  at_other a e = get_or-set_other of byte a (length bytes) 0 e
+
+  new_within : (a : ℕ) → a < 256 → get_or new_of a 0 < length new_bytes
+  new_within a lt = ⊎_elim
+      (λ (e : a ≡ byte). omega (arith, at_own a e, long))
+      (λ (e : a ≢ byte). omega (arith, at_other a e, d.within a lt, long))
+      (cases_eq a byte)
+
+  new_named : (c : ℕ) → c < length new_bytes → (get_or new_bytes c 0 < 256) × (get_or new_of (get_or new_bytes c 0) 0 ≡ c)
+  new_named c lt = ⊎_elim
+      (λ (l : c < length bytes).
+      let q = d.named c l in
+      let differs : get_or bytes c 0 ≢ byte = λ e. leaves.other (ap (λ n. get_or bytes n 0) (sym (ap (λ n. get_or of n 0) e) ∙ q.1) ∙ e) in
+      subst (λ z. (z < 256) × (get_or new_of z 0 ≡ c)) (sym (get_or_append_left bytes (byte ∷ []) 0 c l)) (q.0, at_other (get_or bytes c 0) differs ∙ q.1))
+      (λ (g : length bytes ≤ c).
+      let e : length bytes ≡ c = omega (arith, g, lt, long) in
+      subst (λ z. (z < 256) × (get_or new_of z 0 ≡ c)) (sym (get_or_push bytes byte 0 c e)) (inside, at_own byte refl ∙ e))
+      (cases_lt c (length bytes))
+
+  below_new : (a : ℕ) → a < 256 → a ≢ byte → get_or new_of a 0 < length bytes
+  below_new a lt e = omega (arith, at_other a e, d.within a lt)
+
+  same_to : (a b : ℕ) → a < 256 → b < 256 → get_or new_of a 0 ≡ get_or new_of b 0 → (get_or of a 0 ≡ get_or of b 0) × ((a ≡ byte) ↔ (b ≡ byte))
+  same_to a b la lb e = ⊎_elim
+      (λ (ea : a ≡ byte). ⊎_elim
+      (λ (eb : b ≡ byte). (ap (λ n. get_or of n 0) (ea ∙ sym eb), (λ x. eb, λ x. ea)))
+      (λ (nb : b ≢ byte). absurd (omega (arith, e, at_own a ea, below_new b lb nb)))
+      (cases_eq b byte))
+      (λ (na : a ≢ byte). ⊎_elim
+      (λ (eb : b ≡ byte). absurd (omega (arith, e, at_own b eb, below_new a la na)))
+      (λ (nb : b ≢ byte). (sym (at_other a na) ∙ e ∙ at_other b nb, (λ x. absurd (na x), λ x. absurd (nb x))))
+      (cases_eq b byte))
+      (cases_eq a byte)
+
+  same_from : (a b : ℕ) → (get_or of a 0 ≡ get_or of b 0) × ((a ≡ byte) ↔ (b ≡ byte)) → get_or new_of a 0 ≡ get_or new_of b 0
+  same_from a b s = ⊎_elim
+      (λ (ea : a ≡ byte). at_own a ea ∙ sym (at_own b (s.1.0 ea)))
+      (λ (na : a ≢ byte). at_other a na ∙ s.0 ∙ sym (at_other b (λ eb. na (s.1.1 eb))))
+      (cases_eq a byte)
+
+  pub taken_out : TakesOut of (set of byte (length bytes)) (bytes ++ byte ∷ []) byte
+  taken_out = record {
+    division = record { many = length-set of byte (length bytes) ∙ d.many; few = omega (arith, long, leaves.few); within = new_within; named = new_named };
+    same = λ a b la lb. (same_to a b la lb, same_from a b);
+  }
+
+-- which is what the item that takes it alone tells apart
+out_by_item : (old of bytes : List ℕ) (byte : ℕ) (item : Item) → Byte byte ≡ item → 0 < byte → TakesOut old of bytes byte → Refines old of bytes item
+out_by_item old of bytes byte item is some out = subst (Refines old of bytes) is (record {
+  division = out.division;
+  same = λ a b la lb. (
+    λ e. let s = (out.same a b la lb).0 e in (s.0, ((λ x. (s.1.0 x.0, (omega (arith, s.1.0 x.0, some), lb)), λ x. (s.1.1 x.0, (omega (arith, s.1.1 x.0, some), la))), (λ x. x, λ x. x))),
+    λ s. (out.same a b la lb).1 (s.0, (λ x. (s.1.0.0 (x, (omega (arith, x, some), la))).0, λ x. (s.1.0.1 (x, (omega (arith, x, some), lb))).0)),
+  );
+})
+
+pub out_by_node : (old of bytes : List ℕ) (byte : ℕ) (node : Node) (item : Bor Item) → node ≡ After item → item.now ≡ Byte byte → 0 < byte → TakesOut old of bytes byte → RefinesBy old of bytes node
+out_by_node old of bytes byte node item there is some out =
+    let r = out_by_item old of bytes byte item.now (sym is) some out in
+    subst (λ z. RefinesBy old of bytes z) (sym there) (record { division = r.division; same = r.same })
+
+-- the same classes, by other numbers
+pub numbered : (nodes : List Node) (slice old olds of bytes : List ℕ) → slice ≡ old → AreClasses nodes old olds → Divides slice 256 of bytes → AreClasses nodes of bytes
+numbered nodes slice old olds of bytes is was all = record {
+  division = division slice of bytes all;
+  same = λ a b la lb.
+      let d = divided slice of bytes all a b la lb in
+      let q = was.same a b la lb in
+      (λ e. q.0 (subst (λ z. get_or z a 0 ≡ get_or z b 0) is (d.0 e)), λ s. d.1 (subst (λ z. get_or z a 0 ≡ get_or z b 0) (sym is) (q.1 s)));
+}

@@ -20,3 +20,4 @@ pub mod ListedLemmas
 pub mod ExploredLemmas
 pub mod CellLemmas
 pub mod AutomatonLemmas
+pub mod FewLemmas

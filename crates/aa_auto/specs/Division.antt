@@ -55,6 +55,17 @@ pub record RefinesBy (old of bytes : List ℕ) (node : Node) : Type 0 where
   pub division : IsDivision of bytes
   pub same : (a b : ℕ) → a < 256 → b < 256 → (slice_index of a ≡ slice_index of b) ↔ ((slice_index old a ≡ slice_index old b) × IsSameNode node a b)
 
+-- a byte other than 0 whose class goes by another one, where there is room for one class more
+pub record CanLeave (of bytes : List ℕ) (byte : ℕ) : Type 0 where
+  pub some : 0 < byte
+  pub few : length bytes < 256
+  pub other : slice_index bytes (slice_index of byte) ≢ byte
+
+-- two bytes are of one class where they were before, and neither is this byte or both are
+pub record TakesOut (old of bytes : List ℕ) (byte : ℕ) : Type 0 where
+  pub division : IsDivision of bytes
+  pub same : (a b : ℕ) → a < 256 → b < 256 → (slice_index of a ≡ slice_index of b) ↔ ((slice_index old a ≡ slice_index old b) × ((a ≡ byte) ↔ (b ≡ byte)))
+
 -- two bytes are of one class where no item before a position tells them apart
 pub record AreClasses (nodes : List Node) (of bytes : List ℕ) : Type 0 where
   pub division : IsDivision of bytes

@@ -8,12 +8,6 @@ pub record Inserts (old new : List ℕ) (value : ℕ) : Type 0 where
   pub exact : (n : ℕ) → Contains new n ↔ (Contains old n ⊎ (n ≡ value))
   pub kept : (k : ℕ) → k < length old → slice_index old k < value → (k < length new) × (slice_index new k ≡ slice_index old k)
 
--- all the values were
-pub record InsertsAll (old new values : List ℕ) : Type 0 where
-  pub rising : IsStrictlyIncreasing new
-  pub exact : (n : ℕ) → Contains new n ↔ (Contains old n ⊎ Contains values n)
-  pub kept : (k : ℕ) → k < length old → ((v : ℕ) → Contains values v → slice_index old k < v) → (k < length new) × (slice_index new k ≡ slice_index old k)
-
 -- the value was, where it is wanted
 pub record InsertsIf (old new : List ℕ) (value : ℕ) (wanted : Bool) : Type 0 where
   pub rising : IsStrictlyIncreasing new

@@ -1,13 +1,13 @@
 //! The automaton: a table of rows over classes of bytes, and what it answers of a text.
 
-ghost use Rattle.std.specs.Prelude.{◌≡◌, ◌+◌, ◌<◌, ◌≤◌, IfOk, IfErr, Err, [], length, slice_index_or};
+ghost use Rattle.std.specs.Prelude.{◌≡◌, ◌+◌, ◌<◌, ◌≤◌, ◌∷◌, IfOk, IfErr, Err, [], length, slice_index, slice_index_or};
 ghost use Rattle.aa_pattern.specs.Limits.{most_patterns, most_states};
 ghost use Rattle.aa_pattern.specs.Places.{DecideNext};
 ghost use Rattle.aa_auto.specs.Division.{AreClassesOf};
 ghost use Rattle.aa_auto.specs.Explored.{IsExplored};
 ghost use Rattle.aa_auto.specs.Nets.{IsNetOf, patterns_of};
 ghost use Rattle.aa_auto.specs.Nodes.{pointed};
-ghost use Rattle.aa_auto.specs.Tables.{IsAutomaton, BytesLeadAlike, HasPlaces, rows_of, classes_of, place_of, list_number, list_at};
+ghost use Rattle.aa_auto.specs.Tables.{IsAutomaton, BytesLeadAlike, HasPlaces, rows_of, classes_of, row_after, place_of, list_number, list_at};
 
 use crate::build::{BuildFault, Found, explore};
 use crate::classes::Classes;
@@ -17,6 +17,9 @@ use std::alloc::Global;
 use std::marker::Model;
 
 /// A deterministic automaton that says which patterns match a text.
+// Contracts see a record of plain lists (`Table`). Callers cite what `IsAutomaton` says of it, and don't rest on the order of
+// classes, rows or lists. A million rows may have five different lists, each of them some text's, so what callers answer is
+// made once for each list. Rows aren't minimized: each is one set of places.
 #[derive(Drop)]
 pub struct Automaton {
     /// The class of each byte.
@@ -65,6 +68,8 @@ impl Automaton {
     }
 
     /// The same of patterns that lie apart.
+    // A rule owns its patterns, and one automaton is made of those of many rules, so it takes pointers: a copy of items would
+    // be recursive, with its laws in every proof above.
     pub fn of(alloc: Global, patterns: &[&Pattern], limit: usize) -> Result<Automaton, BuildFault>
         requires patterns { length patterns.now ≤ most_patterns }
         requires some { 0 < limit }
@@ -141,6 +146,23 @@ impl Automaton {
             row = self.cells[self.width * row + class] as usize;
         }
         row
+    }
+
+    /// The row of a row's texts with this byte more.
+    pub fn next(&self, row: usize, byte: u8) -> usize
+        requires { row < rows_of self.now }
+        ensures next { result ≡ row_after self.now row (byte ∷ []) }
+        ensures within { result < rows_of self.now }
+    {
+        self.cells[self.width * row + self.class_of(byte)] as usize
+    }
+
+    /// The class of the byte. Bytes of one class lead from each row to the same one.
+    pub fn class_of(&self, byte: u8) -> usize
+        ensures class { result ≡ slice_index self.now.classes byte }
+        ensures within { result < classes_of self.now }
+    {
+        self.classes[byte as usize] as usize
     }
 
     /// What `matching` gives for the texts of the row.

@@ -1,7 +1,7 @@
 //! Bytes that no item of the patterns tells apart.
 
 ghost use Rattle.std.specs.Prelude.{◌≡◌, ◌≢◌, ◌↔◌, ◌+◌, ◌<◌, ◌≤◌, ℕ, All, IsTrue, IfOk, length, slice_index, if◌then◌else◌, false};
-ghost use Rattle.aa_auto.specs.Division.{GivesClass, Divides, IsKey, AreKeys, IsSameItem, IsDivision, Refines, RefinesBy, AreClasses, AreAlone, NotesAlone, IsWild};
+ghost use Rattle.aa_auto.specs.Division.{GivesClass, Divides, IsKey, AreKeys, IsSameItem, IsDivision, Refines, RefinesBy, CanLeave, TakesOut, AreClasses, AreAlone, NotesAlone, IsWild};
 
 use crate::nodes::Node;
 use aa_pattern::{Item, begins, continues};
@@ -51,7 +51,7 @@ fn divide(alloc: Global, keys: &[u32]) -> Result<Classes, AllocError>
     requires { length keys.now ≡ 256 }
     ensures { IfOk result (λ c. Divides keys.now 256 c.of.items c.bytes.items) }
 {
-    let mut of = Vec::new(alloc);
+    let mut of = Vec::with_capacity(alloc, 256)?;
     let mut bytes = Vec::new(alloc);
     for byte in 0..256u16 {
         let class = class_for(keys, &mut bytes, byte as u8)?;
@@ -65,7 +65,7 @@ fn equal_keys(alloc: Global) -> Result<Vec<u32>, AllocError>
     ensures many { IfOk result (λ keys. length keys.items ≡ 256) }
     ensures equal { IfOk result (λ keys. All (λ k. k ≡ 0) keys.items) }
 {
-    let mut keys = Vec::new(alloc);
+    let mut keys = Vec::with_capacity(alloc, 256)?;
     for _byte in 0..256u16 {
         keys.push(0)?;
     }
@@ -79,6 +79,8 @@ fn digit(flag: bool) -> u32
 }
 
 /// What tells the byte from those of other classes, and from those that the item tells it from.
+// An item tells bytes apart by the two questions of a step: may a part begin with the byte, may it go on with it. For each item
+// but the `**` whose part may not begin with `/` the two have one answer or the second is no.
 fn key_of(of: &[u8], item: &Item, byte: u8) -> u32
     requires { length of.now ≡ 256 }
     ensures { IsKey of.now item.now byte result }
@@ -92,7 +94,7 @@ fn keys_of(alloc: Global, of: &[u8], item: &Item) -> Result<Vec<u32>, AllocError
     requires { length of.now ≡ 256 }
     ensures { IfOk result (λ keys. AreKeys of.now item.now keys.items 256) }
 {
-    let mut keys = Vec::new(alloc);
+    let mut keys = Vec::with_capacity(alloc, 256)?;
     for byte in 0..256u16 {
         keys.push(key_of(of, item, byte as u8))?;
     }
@@ -113,7 +115,7 @@ fn no_flags(alloc: Global) -> Result<Vec<bool>, AllocError>
     ensures many { IfOk result (λ flags. length flags.items ≡ 256) }
     ensures none { IfOk result (λ flags. All (λ f. f ≡ false) flags.items) }
 {
-    let mut flags = Vec::new(alloc);
+    let mut flags = Vec::with_capacity(alloc, 256)?;
     for _byte in 0..256u16 {
         flags.push(false)?;
     }
@@ -189,7 +191,28 @@ fn is_refined(of: &[u8], bytes: &[u8], alone: &[bool], item: &Item) -> bool
     agrees_on_all(of, bytes, item)
 }
 
+/// Whether the byte can leave its class, which has another one for its byte.
+fn can_leave(of: &[u8], bytes: &[u8], byte: u8) -> bool
+    requires { IsDivision of.now bytes.now }
+    ensures { IsTrue result → CanLeave of.now bytes.now byte }
+{
+    byte != 0 && bytes.len() < 256 && bytes[of[byte as usize] as usize] != byte
+}
+
+/// The classes, where the byte has one of its own.
+fn take_out(classes: Classes, byte: u8) -> Result<Classes, AllocError>
+    requires division { IsDivision classes.of.items classes.bytes.items }
+    requires leaves { CanLeave classes.of.items classes.bytes.items byte }
+    ensures { IfOk result (λ new. TakesOut classes.of.items new.of.items new.bytes.items byte) }
+{
+    let Classes { mut of, mut bytes } = classes;
+    of[byte as usize] = bytes.len() as u8;
+    bytes.push(byte)?;
+    Ok(Classes { of, bytes })
+}
+
 /// The classes, each divided by what the item before the position tells apart.
+// Most items are one byte each, so that is taken out by itself: all bytes are looked at for sets, and once for stars.
 fn refined(
     alloc: Global,
     classes: Classes,
@@ -204,10 +227,36 @@ fn refined(
     let Node::After(item) = node else {
         return Ok(classes);
     };
+    if let Item::Byte(byte) = item {
+        if can_leave(classes.of.as_slice(), classes.bytes.as_slice(), *byte) {
+            return take_out(classes, *byte);
+        }
+    }
     if is_refined(classes.of.as_slice(), classes.bytes.as_slice(), alone, item) {
         return Ok(classes);
     }
     refine(alloc, classes.of.as_slice(), item)
+}
+
+/// The numbers of classes, as keys.
+fn as_keys(alloc: Global, of: &[u8]) -> Result<Vec<u32>, AllocError>
+    ensures { IfOk result (λ keys. keys.items ≡ of.now) }
+{
+    let mut keys = Vec::with_capacity(alloc, of.len())?;
+    for class in of {
+        keys.push(*class as u32)?;
+    }
+    Ok(keys)
+}
+
+/// The same classes, numbered by their lowest bytes.
+// So states are found in an order that doesn't depend on the order of the patterns' items.
+fn in_order(alloc: Global, of: &[u8]) -> Result<Classes, AllocError>
+    requires { length of.now ≡ 256 }
+    ensures { IfOk result (λ c. Divides of.now 256 c.of.items c.bytes.items) }
+{
+    let keys = as_keys(alloc, of)?;
+    divide(alloc, keys.as_slice())
 }
 
 /// The classes of the bytes that no item of the nodes tells apart.
@@ -221,5 +270,5 @@ pub(crate) fn classes_of(alloc: Global, nodes: &[Node]) -> Result<Classes, Alloc
         classes = refined(alloc, classes, alone.as_slice(), node)?;
         note_alone(&mut alone, node);
     }
-    Ok(classes)
+    in_order(alloc, classes.of.as_slice())
 }

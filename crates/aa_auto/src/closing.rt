@@ -1,71 +1,98 @@
 //! Sets of positions with those that are reached from them without a byte.
 
-ghost use Rattle.std.specs.Prelude.{◌<◌, ◌≤◌, ◌++◌, ◌∷◌, [], OnOk, ℕ, List, length, map, Contains};
+ghost use Rattle.std.specs.Prelude.{◌↔◌, ◌<◌, ◌≤◌, IsTrue, OnOk, ℕ, List, length, map, Contains};
 ghost use Rattle.std.specs.List.Sorted.{IsStrictlyIncreasing};
-ghost use Rattle.aa_auto.specs.Sorted.{InsertsAll};
-ghost use Rattle.aa_auto.specs.Closed.{IsUpward, IsClosure, IsClosing};
+ghost use Rattle.aa_auto.specs.Closed.{Adds, AddsAll, AreIndexed, IsUpward, IsClosure, IsClosing, IsReached};
 
-use crate::sorted::{count_below, insert, is_at};
+use crate::sorted::is_at;
 use std::alloc::AllocError;
 
-/// Adds the values to rising numbers, where they aren't there.
-fn insert_all(set: &mut Vec<u32>, values: &[u32]) -> Result<(), AllocError>
-    requires { IsStrictlyIncreasing set.old.items }
-    ensures { OnOk result (InsertsAll set.old.items set.new.items values.now) }
+/// Whether the number is in the list, where the index of each one is noted.
+// What is noted of other numbers may be anything: only a number that stands at its index is there. So nothing is wiped from one set
+// to the next.
+fn is_in(indexes: &[usize], set: &[u32], number: u32) -> bool
+    requires number { number < length indexes.now }
+    requires indexed { AreIndexed indexes.now set.now }
+    ensures { IsTrue result ↔ Contains set.now number }
 {
-    for value in values {
-        insert(set, *value)?;
+    is_at(set, indexes[number as usize], number)
+}
+
+/// Adds the number behind the others, where it isn't there.
+fn add(indexes: &mut [usize], set: &mut Vec<u32>, number: u32) -> Result<(), AllocError>
+    requires number { number < length indexes.old }
+    requires indexed { AreIndexed indexes.old set.old.items }
+    ensures { OnOk result (Adds indexes.old indexes.new set.old.items set.new.items number) }
+{
+    if is_in(indexes, set.as_slice(), number) {
+        return Ok(());
+    }
+    indexes[number as usize] = set.len();
+    set.push(number)?;
+    Ok(())
+}
+
+/// Adds the numbers behind the others, where they aren't there.
+fn add_all(indexes: &mut [usize], set: &mut Vec<u32>, numbers: &[u32]) -> Result<(), AllocError>
+    requires numbers { (n : ℕ) → Contains numbers.now n → n < length indexes.old }
+    requires indexed { AreIndexed indexes.old set.old.items }
+    ensures { OnOk result (AddsAll indexes.old indexes.new set.old.items set.new.items numbers.now) }
+{
+    for number in numbers {
+        add(indexes, set, *number)?;
     }
     Ok(())
 }
 
-/// Adds the positions that are reached by `jumps` from those of the set at `from` and behind, without a byte.
-fn close_from(jumps: &[Vec<u32>], set: &mut Vec<u32>, from: usize) -> Result<(), AllocError>
-    requires rising { IsStrictlyIncreasing set.old.items }
+/// Adds the positions that are reached by `jumps` from those of the set, without a byte, behind them.
+// The set is its own work list: each position that enters it is looked at once, and so is each jump.
+fn add_reached(
+    jumps: &[Vec<u32>],
+    indexes: &mut [usize],
+    set: &mut Vec<u32>,
+) -> Result<(), AllocError>
+    requires many { length jumps.now ≤ length indexes.old }
     requires within { (n : ℕ) → Contains set.old.items n → n < length jumps.now }
     requires upward { IsUpward (map (λ v. v.items) jumps.now) }
-    requires from { from ≤ length set.old.items }
-    ensures { OnOk result ((seeds : List ℕ) → IsClosing (map (λ v. v.items) jumps.now) seeds set.old.items from → IsClosure (map (λ v. v.items) jumps.now) seeds set.new.items) }
+    requires indexed { AreIndexed indexes.old set.old.items }
+    ensures { OnOk result (IsReached (map (λ v. v.items) jumps.now) indexes.new set.old.items set.new.items) }
 {
-    for index in from..jumps.len() {
+    for index in 0..jumps.len() {
         if index >= set.len() {
             return Ok(());
         }
         let position = set[index] as usize;
-        insert_all(set, jumps[position].as_slice())?;
+        add_all(indexes, set, jumps[position].as_slice())?;
     }
     Ok(())
 }
 
-/// Adds a position to a closed set, with those that are reached from it.
-fn add_closed(jumps: &[Vec<u32>], set: &mut Vec<u32>, seed: u32) -> Result<(), AllocError>
-    requires rising { IsStrictlyIncreasing set.old.items }
-    requires within { (n : ℕ) → Contains set.old.items n → n < length jumps.now }
-    requires upward { IsUpward (map (λ v. v.items) jumps.now) }
-    requires seed { seed < length jumps.now }
-    ensures { OnOk result ((seeds : List ℕ) → IsClosure (map (λ v. v.items) jumps.now) seeds set.old.items → IsClosure (map (λ v. v.items) jumps.now) (seeds ++ seed ∷ []) set.new.items) }
+/// Makes room for so many indexes, whatever they are.
+fn make_room(indexes: &mut Vec<usize>, many: usize) -> Result<(), AllocError>
+    ensures { OnOk result (many ≤ length indexes.new.items) }
 {
-    let count = count_below(set.as_slice(), seed);
-    if is_at(set.as_slice(), count, seed) {
-        return Ok(());
+    if indexes.len() < many {
+        indexes.resize(many, 0)?;
     }
-    set.insert(count, seed)?;
-    close_from(jumps, set, count)
+    Ok(())
 }
 
-/// Makes `set` the seeds, which rise, and the positions that are reached from them by `jumps`, without a byte.
+/// Makes `set` the seeds and the positions that are reached from them by `jumps`, without a byte. What `indexes` holds is of no
+/// matter.
 pub(crate) fn closed(
     jumps: &[Vec<u32>],
     seeds: &[u32],
+    indexes: &mut Vec<usize>,
     set: &mut Vec<u32>,
 ) -> Result<(), AllocError>
     requires within { (n : ℕ) → Contains seeds.now n → n < length jumps.now }
     requires upward { IsUpward (map (λ v. v.items) jumps.now) }
     ensures { OnOk result (IsClosure (map (λ v. v.items) jumps.now) seeds.now set.new.items) }
 {
+    make_room(indexes, jumps.len())?;
     set.clear();
-    for seed in seeds {
-        add_closed(jumps, set, *seed)?;
-    }
+    add_all(indexes.as_mut_slice(), set, seeds)?;
+    add_reached(jumps, indexes.as_mut_slice(), set)?;
+    set.sort_unstable();
     Ok(())
 }

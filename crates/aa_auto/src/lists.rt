@@ -9,6 +9,8 @@ use std::alloc::{AllocError, Global};
 use std::marker::Model;
 
 /// Different lists of numbers as they came, and of each row the number of its list.
+// The `IndexSet` finds a list again by its whole content: a body that takes two for one because of their hash can't meet the
+// contract of `insert`.
 #[derive(Drop)]
 pub(crate) struct Lists {
     keys: IndexSet<Vec<u16>>,

@@ -41,6 +41,8 @@ pub(crate) struct Net<'a> {
 pub(crate) struct Scratch {
     /// Where the byte leads, before what is reached without one.
     pub(crate) seeds: Vec<u32>,
+    /// Of each position of the set, where it was put.
+    pub(crate) indexes: Vec<usize>,
     /// The positions of the set.
     pub(crate) set: Vec<u32>,
     /// The numbers of the patterns that match there.
@@ -51,6 +53,7 @@ impl Scratch {
     pub(crate) fn new(alloc: Global) -> Self {
         Scratch {
             seeds: Vec::new(alloc),
+            indexes: Vec::new(alloc),
             set: Vec::new(alloc),
             numbers: Vec::new(alloc),
         }
@@ -58,6 +61,7 @@ impl Scratch {
 }
 
 /// The most positions that there can be.
+// Positions are kept as `u32`. So many take more than 64 GiB, so no run can tell that they are refused as want of memory.
 const POSITIONS: usize = 4294967295;
 
 /// Compiles the patterns.
@@ -131,6 +135,7 @@ impl Net<'_> {
         closed(
             self.jumps.as_slice(),
             scratch.seeds.as_slice(),
+            &mut scratch.indexes,
             &mut scratch.set,
         )
     }
@@ -150,6 +155,7 @@ impl Net<'_> {
         closed(
             self.jumps.as_slice(),
             scratch.seeds.as_slice(),
+            &mut scratch.indexes,
             &mut scratch.set,
         )
     }

@@ -9,6 +9,8 @@ use std::alloc::{AllocError, Global};
 use std::marker::Model;
 
 /// Different lists of numbers, numbered as they came.
+// The `IndexSet` finds a list again by its whole content: a body that takes two for one because of their hash can't meet the
+// contract of `add`.
 #[derive(Drop)]
 pub(crate) struct Sets {
     keys: IndexSet<Vec<u32>>,

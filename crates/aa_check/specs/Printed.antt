@@ -4,6 +4,7 @@ use Rattle.std.specs.Prelude.{ℕ, List, [], ◌++◌, ◌==◌, length, flat_ma
 use Rattle.std.specs.declared.alloc.Global.{Global}
 use Rattle.aa_base.specs.Values.{value}
 use Rattle.aa_text.specs.declared.fault.FaultReport.{FaultReport}
+use Rattle.aa_text.specs.Visible.{all_visible}
 use Rattle.aa_text.specs.Faults.{fault_text}
 use Rattle.aa_check.specs.declared.report.ProfileReport.{ProfileReport}
 use Rattle.aa_check.specs.declared.report.Passed.{Passed}
@@ -34,9 +35,9 @@ passed_text p = codes " " ++ p.keyword.items ++ count_text p.count []
 unfoldable pub passed_line : List Passed → List ℕ
 passed_line passed = if length passed == 0 then [] else codes "  passed over" ++ flat_map passed_text passed ++ codes "\n"
 
--- whether a file is refused, and its path
+-- whether a file is refused, and its path as it is shown
 unfoldable pub file_line : FileReport → List ℕ
-file_line f = (if is_some f.fault then codes "refused " else codes "ok ") ++ f.path.items ++ codes "\n"
+file_line f = (if is_some f.fault then codes "refused " else codes "ok ") ++ all_visible f.path.items ++ codes "\n"
 
 -- what is found of a file
 abbrev pub file_text : FileReport → List ℕ
@@ -50,9 +51,9 @@ last_line r = decimal (length r.files.items) ++ codes " files" ++ count_text r.r
 abbrev pub report_text : CheckReport → List ℕ
 report_text r = flat_map file_text r.files.items ++ last_line r
 
--- the line of a warning
+-- the line of a warning, as it is shown
 abbrev pub warning_line : Vec ℕ Global → List ℕ
-warning_line warning = codes "warning: " ++ warning.items ++ codes "\n"
+warning_line warning = codes "warning: " ++ all_visible warning.items ++ codes "\n"
 
 -- no warnings where quiet is wanted
 abbrev pub warning_lines : Bool → List (Vec ℕ Global) → List ℕ

@@ -1,10 +1,11 @@
 //! How the findings of `check` are printed.
 
 ghost use Rattle.std.specs.Prelude.{◌≡◌, ◌++◌, flat_map, codes, is_some, OnOk, if◌then◌else◌};
+ghost use Rattle.aa_text.specs.Visible.{all_visible};
 ghost use Rattle.aa_check.specs.Printed.{count_text, rules_text, sizes_text, profile_line, passed_text, passed_line, file_line, file_text, last_line, report_text, warning_line, warning_lines, fault_if, file_faults, faults_text};
 
 use crate::report::{CheckReport, FileReport, Passed, ProfileReport};
-use aa_text::{FaultReport, push_fault, push_name, push_number, push_text};
+use aa_text::{FaultReport, push_fault, push_name, push_number, push_text, push_visible};
 use std::alloc::{AllocError, Global};
 
 #[tactic(auto, unfolding(crate::specs::Printed::count_text))]
@@ -100,7 +101,7 @@ fn push_file_line(out: &mut Vec<u8>, file: &FileReport) -> Result<(), AllocError
     ensures { OnOk result (out.new.items ≡ out.old.items ++ file_line file.now) }
 {
     push_text(out, verdict_of(&file.fault))?;
-    out.extend_from_slice(file.path.as_slice())?;
+    push_visible(out, file.path.as_slice())?;
     push_text(out, "\n")
 }
 
@@ -140,10 +141,10 @@ pub fn push_report(out: &mut Vec<u8>, alloc: Global, report: &CheckReport) -> Re
 }
 
 fn push_warning(out: &mut Vec<u8>, warning: &[u8]) -> Result<(), AllocError>
-    ensures { OnOk result (out.new.items ≡ out.old.items ++ (codes "warning: " ++ warning.now ++ codes "\n")) }
+    ensures { OnOk result (out.new.items ≡ out.old.items ++ (codes "warning: " ++ all_visible warning.now ++ codes "\n")) }
 {
     push_text(out, "warning: ")?;
-    out.extend_from_slice(warning)?;
+    push_visible(out, warning)?;
     push_text(out, "\n")
 }
 

@@ -1,3 +1,4 @@
+pub mod Placing
 pub mod Streams
 pub mod Units
 pub mod Lending

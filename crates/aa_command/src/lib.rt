@@ -4,6 +4,7 @@
 mod decided;
 mod logs;
 mod output;
+mod placed;
 mod policy;
 mod refusals;
 mod settings;
@@ -12,6 +13,7 @@ mod writing;
 pub use decided::Decided;
 pub use logs::{Logs, UnreadLog};
 pub use output::Output;
+pub use placed::{PlacedUnit, place_units};
 pub use policy::{Use, load_units, with_policy};
 pub use refusals::{fault_refused, path_refused, policy_refused, refused, unit_refused};
 pub use settings::Settings;

@@ -11,6 +11,7 @@ ghost use Rattle.aa_command.specs.Policies.{AreGathered, AreTextsOf, IsPrintedBy
 
 use crate::decided::Decided;
 use crate::output::Output;
+use crate::placed::place_units;
 use crate::refusals::{fault_refused, policy_refused, unit_refused};
 use crate::settings::Settings;
 use aa_base::{PolicyFault, PolicyKind};
@@ -50,6 +51,8 @@ pub fn load_units<T: Tree>(
     Ok(units)
 }
 
+// Callers never have a number that no unit has. A condition on each would repeat what joining keeps, so such a number is
+// answered with want of memory, which the contracts leave free.
 fn unit_at(units: &[Unit], number: usize) -> Option<&Unit>
     ensures { option_map (λ u. u.now) result ≡ slice_get units.entry.now number }
 {
@@ -165,15 +168,18 @@ fn with_texts<U: Use>(
     ensures { IfOk result (λ out. IsPrintedBy (slices settings.now.folders.now) settings.now.states units.now (U.gives user.now) (printed out)) }
 {
     match load_policy(alloc, texts, settings.states) {
-        Ok(loaded) => user.use_policy(
-            alloc,
-            Decided {
-                units,
-                owners: loaded.owners.as_slice(),
-                policies: loaded.policies.as_slice(),
-                places: loaded.places.as_slice(),
-            },
-        ),
+        Ok(loaded) => {
+            let placed = place_units(alloc, units)?;
+            user.use_policy(
+                alloc,
+                Decided {
+                    units: placed.as_slice(),
+                    owners: loaded.owners.as_slice(),
+                    policies: loaded.policies.as_slice(),
+                    places: loaded.places.as_slice(),
+                },
+            )
+        }
         Err(fault) => units_refused(alloc, settings, units, fault),
     }
 }

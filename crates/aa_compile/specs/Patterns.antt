@@ -11,5 +11,7 @@ abbrev pub is_literal : Pattern → Bool
 is_literal p = list_all is_byte p.items.items
 
 -- an automaton of the patterns needs no more rows than the limit
+-- (no texts are counted: of patterns that are refused it is said that there are `limit + 1` texts of which no two have the same
+-- places)
 abbrev pub HasAutomaton : List Pattern → ℕ → Type 0
 HasAutomaton patterns limit = (t : Table) × IsAutomaton patterns t × (rows_of t ≤ limit)

@@ -59,6 +59,8 @@ fn ways_differ(marks: &[Mark], numbers: &[u16], literal: bool) -> bool
 }
 
 /// Whether two marks of one list say differently how a text is executed.
+// A list is some text's and each text has a list, so to look through the lists is exact, and linear in them: the first way is
+// compared with each later one, literal patterns and others apart.
 pub fn has_conflict(automaton: &Automaton, marks: &[Mark]) -> bool
     ensures { IsTrue result ↔ HasConflict marks.now automaton.now.lists }
 {

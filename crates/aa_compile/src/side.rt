@@ -114,6 +114,7 @@ impl Side {
         }
     }
 
+    // The join is associative, repeats don't matter, and an empty one is neutral: so what patterns give is what rules give.
     fn with(self, other: Side) -> Side
         ensures { result ≡ joined self other }
     {

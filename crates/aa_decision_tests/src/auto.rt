@@ -3,3 +3,4 @@
 mod automata;
 mod growths;
 mod patterns;
+mod regions;

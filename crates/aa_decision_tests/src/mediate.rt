@@ -9,4 +9,5 @@ mod label_tests;
 mod link_tests;
 mod one_bit_tests;
 mod plain_tests;
+mod representative_tests;
 mod tasks;

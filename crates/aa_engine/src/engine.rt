@@ -33,6 +33,8 @@ struct CompiledJob {
 }
 
 /// The job that the bytes are, and its policies. The bytes are let go once the job is read.
+// The type `Job` keeps that there are 1 to 16 policies, of which each task's number is one, so the policies' texts can't be
+// taken out of it: they live until all lines are made, one copy of at most 16 MiB.
 fn compile_job(alloc: Global, bytes: Vec<u8>) -> Result<CompiledJob, RunFault>
     ensures asked { IfOk result (λ a. HandsIn bytes.items a.job a.policies.items) }
     ensures cause { IfErr result (λ e. Explains e bytes.items) }

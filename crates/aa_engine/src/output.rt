@@ -197,6 +197,7 @@ fn push_all_passed_over(out: &mut String, policy: &Policy) -> Result<(), AllocEr
 }
 
 /// How many file rules the profiles have.
+// In 128 bits no bound on the profiles is wanted.
 fn count_rules(profiles: &[Profile]) -> u128
     ensures { result ≡ rules_of profiles.now }
 {

@@ -50,6 +50,7 @@ fn is_unknown(policies: &[Compiled], task: &Task) -> bool
 }
 
 /// The first task whose label names no profile.
+// The number is a `usize`, as the search gives it: no cast, so no bound that would have to be proved.
 pub fn unknown_task(policies: &[Compiled], tasks: &[Task]) -> Option<usize>
     ensures { result ≡ first_unknown policies.now tasks.now }
 {

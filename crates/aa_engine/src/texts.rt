@@ -160,6 +160,7 @@ fn joined<'q, M: Machine<State = Label, Request = Request, Answer = Answer>>(
 
 /// The text of `run` for the tasks of a job, where a machine answers them so, lent their requests. The tasks' texts are made side by
 /// side, in at most as many threads as there are workers, and then joined.
+// Reading a job and printing take most of a run of short requests. Want of memory still comes before the first byte is written.
 pub fn run_output<
     'q,
     M: Machine<State = Label, Request = Request, Answer = Answer> + Sync,

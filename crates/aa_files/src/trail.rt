@@ -1,4 +1,7 @@
 //! The way on which a source is first read.
+//!
+//! An AmbiguousInclude is told by the way over the names that are looked up by then: the walk ends there, so which sources the
+//! later names have isn't known.
 
 ghost use Rattle.std.specs.Prelude.{◌≡◌, ◌⊎◌, ◌++◌, [], Option, None, map, option_to_list, reverse, slice_get, slice_set, IfOk, OnOk};
 ghost use Rattle.std.specs.Option.{option_and_then};

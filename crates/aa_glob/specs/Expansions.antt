@@ -100,7 +100,8 @@ unfoldable pub expansions : List (List ℕ) → Result (List (List Token)) Polic
 expansions [] = Ok []
 expansions (t ∷ ts) = and_more (expansion t) (expansions ts)
 
--- What a raw text expands to, or why it doesn't. A circle of names is a walk that goes deeper than any depth.
+-- What a raw text expands to, or why it doesn't. A circle of names is a walk that goes deeper than any depth: with finitely
+-- many names this is the case where a name on the way is met again before any other fault.
 pub data Expands (vars : List Variable) (raw : List ℕ) : Result (List (List Token)) PolicyKind → Type 0 where
   in_walk : (depth : ℕ) (fault : PolicyKind) → outcome_of depth vars raw ≡ Stops fault → Expands vars raw (Err fault)
   in_circle : ((depth : ℕ) → outcome_of depth vars raw ≡ Deeper) → Expands vars raw (Err VariableCircle)

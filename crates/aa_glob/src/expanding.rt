@@ -116,6 +116,9 @@ fn read_all<'t>(
 /// Unsupported, UndefinedVariable and VariableCircle that a walk meets, left to right and into the values depth first;
 /// TooManyExpansions, where the word or a variable on the way has more than 1,024; then, for each expansion in turn, TooLarge
 /// (more than 16,384 bytes before runs of `/` are made one), what `read_pattern` refuses it for, and RelativePath.
+// Each word walks its variables anew: the walk reads each value once, and each text is then built and read byte by byte. To
+// keep what a walk found would save a part of the lesser cost, and tie the variables to it while a preamble may still add to
+// them. A word without `@` is its one text, neither walked nor counted nor built.
 pub fn expand(alloc: Global, vars: &Vars, raw: &[u8]) -> Result<Vec<Pattern>, PolicyKind>
     ensures expanded { IfOk result (λ v. Expands vars.now raw.now (Ok (map (λ p. spelled p.items.items) v.items))) }
     ensures refused { IfErr result (λ e. e ≢ PolicyKind.NoMemory → Expands vars.now raw.now (Err e)) }

@@ -1,5 +1,8 @@
 //! The walk of a text, left to right and into the values of its variables depth first. It visits each variable once, and keeps
 //! its own stack.
+//!
+//! It ends by the bytes that it has still to read. It promises a table that knows each variable that its texts need, and that
+//! none lies deeper than the table has entries. So the builder answers NoMemory only where a growth was refused.
 
 ghost use Rattle.std.specs.Prelude.{◌≡◌, ◌≢◌, ◌<◌, ◌∷◌, IfOk, IfErr, List, ℕ, length};
 ghost use Rattle.aa_glob.specs.Pieces.{Use, pieces_from};

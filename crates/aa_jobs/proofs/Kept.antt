@@ -1,8 +1,9 @@
 -- What is made of a job that is within the limits keeps them.
-use Rattle.std.proofs.Common.{◌≡◌, ℕ, Bool, true, false, ◌&&◌, List, [], ◌∷◌, length, map, nat_lt, Result, Ok, Err, refl, sym, ap, subst, ◌∙◌}
+use Rattle.std.proofs.Common.{◌≡◌, ℕ, Bool, true, false, ◌&&◌, List, [], ◌∷◌, length, map, nat_le, nat_lt, Result, Ok, Err, refl, sym, ap, subst, ◌∙◌}
 use mathlib.Core.Bool.{Bool-set}
 use Rattle.std.specs.Prelude.{⊤}
 use Rattle.std.specs.List.{list_all}
+use Rattle.std.proofs.lemmas.Bool.{and_parts}
 use Rattle.std.proofs.lemmas.List.{length-map}
 use Rattle.std.proofs.lemmas.List.Folds.{list_all-map}
 use Rattle.aa_jobs.specs.declared.job_fault.JobFault.{JobFault}
@@ -12,7 +13,7 @@ use Rattle.aa_jobs.specs.declared.job.Event.{Event}
 use Rattle.aa_jobs.specs.declared.job.Job.{Job}
 use Rattle.aa_jobs.specs.Steps.{◌>>=◌, only_if, each}
 use Rattle.aa_jobs.specs.Written.{WrittenTask, WrittenEvent, WrittenJob}
-use Rattle.aa_jobs.specs.Limits.{Sizes, within_limits, include_sizes, job_sizes, keeps_limits, tasks_there, policies_there}
+use Rattle.aa_jobs.specs.Limits.{Sizes, lists_fit, numbers_fit, texts_fit, within_limits, include_sizes, job_sizes, keeps_limits, tasks_there, policies_there}
 use Rattle.aa_jobs.specs.Meaning.{work_of, task_of, event_name, event_of, if_true, sealed, written_sizes, meaning}
 
 bind_ok : {A B : Type 0} (given : Result A JobFault) (f : A → Result B JobFault) (z : B) → (given >>= f) ≡ Ok z → (y : A) × (given ≡ Ok y) × (f y ≡ Ok z)
@@ -84,6 +85,11 @@ tasks_policies_there : (n : ℕ) (ws : List WrittenTask) (ts : List Task) → ea
 tasks_policies_there n ws ts e =
     let kept : map (λ z. nat_lt z.policy n) ts ≡ map (λ _. true) ws = each_keeps (task_of n) (λ z. nat_lt z.policy n) (λ _. true) (policy_there n) ws ts e in
     sym (list_all-map (λ b. b) (λ z. nat_lt z.policy n) ts) ∙ ap (list_all (λ b. b)) kept ∙ all_true ws
+
+pub capacity_fits : (s : Sizes) → within_limits s ≡ true → nat_le s.capacity 1024 ≡ true
+capacity_fits s h =
+    let numbers = (and_parts (texts_fit s && lists_fit s) (numbers_fit s) h).1 in
+    (and_parts (nat_le 1 s.states && nat_le s.states 1000000 && nat_le 1 s.capacity) (nat_le s.capacity 1024) numbers).1
 
 both : (a b : Bool) → a ≡ true → b ≡ true → (a && b) ≡ true
 both a b h k = rw (h, k)

@@ -31,7 +31,7 @@ known_put_at part Equal k l d e ms is later =
     twice (is_key part l) (has_only part ms) ∙ ap (λ x. is_key part x && (is_key part l && has_only part ms)) (sym same)
 known_put_at part Greater k l d e ms is later = ap (λ (b : Bool). is_key part l && b) later ∙ swapped (is_key part l) (is_key part k) (has_only part ms)
 
-known_put : (part : Part) (k : List ℕ) (d : Data) (ms : Members) → has_only part (put k d ms) ≡ (is_key part k && has_only part ms)
+pub known_put : (part : Part) (k : List ℕ) (d : Data) (ms : Members) → has_only part (put k d ms) ≡ (is_key part k && has_only part ms)
 known_put part k d no_members = refl
 known_put part k d (member l e ms) = known_put_at part (slice_cmp nat_cmp k l) k l d e ms refl (known_put part k d ms)
 

@@ -1,3 +1,5 @@
+pub mod Apart
+pub mod Conversion
 pub mod Json
 pub mod Kept
 pub mod Keys
@@ -5,3 +7,4 @@ pub mod Numbers
 pub mod Parts
 pub mod Rows
 pub mod Trees
+pub mod Turns

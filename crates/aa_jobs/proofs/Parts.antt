@@ -8,12 +8,12 @@ use Rattle.aa_jobs.specs.declared.job_fault.JobFault.TheVariants.{BadShape, TooL
 use Rattle.aa_words.specs.declared.include.Include.{Include}
 use Rattle.aa_jobs.specs.declared.shape.Part.TheVariants.{Whole}
 use Rattle.aa_jobs.specs.Jobs.{job_of, json_of, written_in, limited_meaning}
-use Rattle.aa_jobs.specs.Parts.{WrittenTexts, WrittenRun, texts_shape, run_shape}
+use Rattle.aa_jobs.specs.Parts.{WrittenTexts, WrittenRun, job_with, run_with, texts_shape}
 use Rattle.aa_jobs.specs.Shape.{events_from, fits, has, includes_from, job_shape, list_at, number_from, policies_from, task_shape}
 use Rattle.aa_jobs.specs.Steps.{◌>>=◌, each, only_if}
 use Rattle.aa_jobs.specs.Written.{WrittenTask, WrittenEvent, WrittenJob}
 
-bind_assoc : {A B C : Type 0} (r : Result A JobFault) (f : A → Result B JobFault) (g : B → Result C JobFault) → ((r >>= f) >>= g) ≡ (r >>= λ x. f x >>= g)
+pub bind_assoc : {A B C : Type 0} (r : Result A JobFault) (f : A → Result B JobFault) (g : B → Result C JobFault) → ((r >>= f) >>= g) ≡ (r >>= λ x. f x >>= g)
 bind_assoc (Ok x) f g = refl
 bind_assoc (Err e) f g = refl
 
@@ -32,10 +32,10 @@ job_large bytes large = rw large refl
 abbrev pub joined : Bool → WrittenTexts → WrittenRun → WrittenJob
 joined several t r = record { policies = t.policies; several = several; includes = t.includes; tasks = r.tasks; states = r.states; capacity = r.capacity; events = r.events }
 
-abbrev texts : List (List ℕ) → List Include → WrittenTexts
+abbrev pub texts : List (List ℕ) → List Include → WrittenTexts
 texts policies includes = record { policies = policies; includes = includes }
 
-abbrev run : List WrittenTask → ℕ → ℕ → List WrittenEvent → WrittenRun
+abbrev pub run : List WrittenTask → ℕ → ℕ → List WrittenEvent → WrittenRun
 run tasks states capacity events = record { tasks = tasks; states = states; capacity = capacity; events = events }
 
 run_apart : (make : WrittenRun → WrittenJob) (t : Result (List WrittenTask) JobFault) (s c : Result ℕ JobFault) (e : Result (List WrittenEvent) JobFault)
@@ -58,8 +58,8 @@ parts several (Ok u) (Ok p) (Err x) l f s c e = refl
 parts several (Ok u) (Ok p) (Ok i) (Err x) f s c e = refl
 parts several (Ok u) (Ok p) (Ok i) (Ok l) f s c e = run_apart (joined several (texts p i)) (f l) s c e
 
-pub job_parts : (d : Data) → job_shape d ≡ (only_if (fits Whole d) BadShape >>= λ _. texts_shape d >>= λ t. run_shape d >>= λ r. Ok (joined (has (codes "policies") d) t r))
-unfolding job_shape texts_shape run_shape
+pub job_parts : (d : Data) → job_shape d ≡ job_with (list_at (codes "tasks") d >>= each task_shape) d
+unfolding job_shape job_with run_with texts_shape
 job_parts d =
     parts (has (codes "policies") d) (only_if (fits Whole d) BadShape) (policies_from (get (codes "policy") d) (get (codes "policies") d)) (includes_from (get (codes "includes") d))
     (list_at (codes "tasks") d) (each task_shape) (number_from 4096 (get (codes "states") d)) (number_from 1 (get (codes "capacity") d)) (events_from (get (codes "events") d))

@@ -1,5 +1,5 @@
 -- A step at each element, one after the other, as a loop does.
-use Rattle.std.proofs.Common.{◌≡◌, ℕ, ◌+◌, ◌<◌, List, [], ◌∷◌, ◌++◌, length, map, drop, get_or, Result, Ok, Err, refl, sym, ap, ◌∙◌, append_assoc, add-one}
+use Rattle.std.proofs.Common.{◌≡◌, ℕ, ◌+◌, ◌<◌, List, [], ◌∷◌, ◌++◌, length, map, drop, get_or, Result, Ok, Err, refl, sym, ap, ◌∙◌, append_assoc, add-one, arith}
 use Rattle.std.proofs.Math.Seq.{drop-cons}
 use Rattle.std.proofs.lemmas.List.{append-nil}
 use Rattle.aa_jobs.specs.declared.job_fault.JobFault.{JobFault}
@@ -13,6 +13,13 @@ with_front front given = given >>= λ ys. Ok (front ++ ys)
 pub nothing_before : {B : Type 0} (given : Result (List B) JobFault) → with_front [] given ≡ given
 nothing_before (Ok ys) = refl
 nothing_before (Err e) = refl
+
+pub none_left : {X : Type 0} (xs : List X) → length xs ≡ 0 → xs ≡ []
+none_left [] e = refl
+none_left (x ∷ xs) e = absurd (omega arith)
+
+pub begins : {A B : Type 0} (f : A → Result B JobFault) (front : List B) (left all : List A) → front ≡ [] → left ≡ all → with_front front (each f left) ≡ each f all
+begins f front left all empty whole = ap (λ ys. with_front ys (each f left)) empty ∙ nothing_before (each f left) ∙ ap (each f) whole
 
 regroup : {B : Type 0} (front : List B) (y : B) (given : Result (List B) JobFault) → with_front front (given >>= λ ys. Ok (y ∷ ys)) ≡ with_front (front ++ y ∷ []) given
 regroup front y (Ok ys) = ap Ok (simp append_assoc)

@@ -12,7 +12,7 @@ use Rattle.json.specs.Value.{value_view, items_view}
 use Rattle.json.specs.declared.value.Value.{Value}
 use Rattle.serde_json.specs.Data.{Num, Data, number, array, object, item, Members, no_members, member, put}
 use Rattle.serde_json.specs.Find.{get, get_member}
-use Rattle.serde_json.specs.Read.{number_of, of_json, of_items, of_members}
+use Rattle.serde_json.specs.Read.{converted, number_of, of_json, of_items, of_members}
 use Rattle.serde_json.proofs.Views.{get_member-put, get_member-put_other}
 use Rattle.aa_jobs.specs.Shape.{data_list, entry_list}
 use Rattle.aa_jobs.specs.Trees.{number_data, data_of, items_data, members_data, in_range, items_in_range, members_in_range, tree_data, entry_data}
@@ -59,19 +59,14 @@ mutual
       ap (option_and_then (λ d. of_members ms (put k d found))) (of_json_is j)
       ∙ gate_then (λ d. of_members ms (put k d found)) (in_range j) (members_in_range ms) (data_of j) (members_data ms (put k (data_of j) found)) (of_members_is ms (put k (data_of j) found))
 
--- the reading of a whole text
-abbrev pub whole : Option (json.Json × List Token) → Option Data
-whole o = option_and_then of_json (option_and_then (λ p. json.if_last p.0 p.1) o)
-
-pub whole_is : (o : Option (json.Json × List Token)) (j : json.Json) (b : Bool) → o ≡ Some (j, []) → in_range j ≡ b → whole o ≡ gate b (data_of j)
-whole_is o j b e fits = ap whole e ∙ of_json_is j ∙ ap (λ t. gate t (data_of j)) fits
-
-pub more_is : (o : Option (json.Json × List Token)) (j : json.Json) (t : Token) (ts : List Token) → o ≡ Some (j, t ∷ ts) → whole o ≡ None
-more_is o j t ts e = ap whole e
+-- a value at the head of tokens, where its numbers are in range
+pub read_is : (o : Option (json.Json × List Token)) (j : json.Json) (r : List Token) (b : Bool) → o ≡ Some (j, r) → in_range j ≡ b → converted of_json o ≡ gate b (data_of j, r)
+read_is o j r b e fits =
+    ap (converted of_json) e ∙ ap (option_map (λ d. (d, r))) (of_json_is j) ∙ gate_map (λ d. (d, r)) (in_range j) (data_of j) ∙ ap (λ t. gate t (data_of j, r)) fits
 
 -- ---- what is found
 
-found_first : (b : Bool) (q k : List ℕ) (d : Data) (ms : Members) → bytes_eq k q ≡ b → get_member q (put k d ms) ≡ cond b (Some d) (get_member q ms)
+pub found_first : (b : Bool) (q k : List ℕ) (d : Data) (ms : Members) → bytes_eq k q ≡ b → get_member q (put k d ms) ≡ cond b (Some d) (get_member q ms)
 found_first true q k d ms e = let same : k ≡ q = (bytes_eq-Decides k q).0 e in ap (λ x. get_member x (put k d ms)) (sym same) ∙ get_member-put k d ms
 found_first false q k d ms e = get_member-put_other q k d ms (λ h. true≢false (sym ((bytes_eq-Decides k q).1 (sym h)) ∙ e))
 

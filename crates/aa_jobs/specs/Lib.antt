@@ -5,5 +5,6 @@ pub mod Parts
 pub mod Raw
 pub mod Shape
 pub mod Steps
+pub mod Stream
 pub mod Trees
 pub mod Written

@@ -8,9 +8,11 @@ use Rattle.aa_words.specs.declared.include.Include.{Include}
 use Rattle.aa_jobs.specs.declared.raw.RawTexts.{RawTexts}
 use Rattle.aa_jobs.specs.declared.raw.RawRun.{RawRun}
 use Rattle.aa_jobs.specs.Raw.{raw_text, raw_task, raw_event, raw_include}
-use Rattle.aa_jobs.specs.Shape.{events_from, includes_from, list_at, number_from, policies_from, task_shape}
-use Rattle.aa_jobs.specs.Steps.{◌>>=◌, each}
-use Rattle.aa_jobs.specs.Written.{WrittenTask, WrittenEvent}
+use Rattle.aa_jobs.specs.declared.job_fault.JobFault.TheVariants.{BadShape}
+use Rattle.aa_jobs.specs.declared.shape.Part.TheVariants.{Whole, OfTask}
+use Rattle.aa_jobs.specs.Shape.{events_from, fits, has, includes_from, number_from, policies_from, text_at}
+use Rattle.aa_jobs.specs.Steps.{◌>>=◌, only_if}
+use Rattle.aa_jobs.specs.Written.{WrittenItem, WrittenTask, WrittenEvent, WrittenJob}
 
 -- the texts of a job as it is written
 pub record WrittenTexts : Type 0 where
@@ -31,18 +33,31 @@ texts_shape d = do
   includes ← includes_from (get (codes "includes") d)
   Ok (record { policies = policies; includes = includes })
 
--- the tasks of a job's value, as they are written
-abbrev pub tasks_in : Data → Result (List WrittenTask) JobFault
-tasks_in d = list_at (codes "tasks") d >>= each task_shape
-
--- the tasks, the numbers and the events
-unfoldable pub run_shape : Data → Result WrittenRun JobFault
-run_shape d = do
-  tasks ← tasks_in d
+-- the rest of a job whose tasks are given
+unfoldable pub run_with : Result (List WrittenTask) JobFault → Data → Result WrittenRun JobFault
+run_with given d = do
+  tasks ← given
   states ← number_from 4096 (get (codes "states") d)
   capacity ← number_from 1 (get (codes "capacity") d)
   events ← events_from (get (codes "events") d)
   Ok (record { tasks = tasks; states = states; capacity = capacity; events = events })
+
+-- a job whose tasks are given
+unfoldable pub job_with : Result (List WrittenTask) JobFault → Data → Result WrittenJob JobFault
+job_with given d = do
+  _ ← only_if (fits Whole d) BadShape
+  t ← texts_shape d
+  r ← run_with given d
+  Ok (record { policies = t.policies; several = has (codes "policies") d; includes = t.includes; tasks = r.tasks; states = r.states; capacity = r.capacity; events = r.events })
+
+-- a task whose items are given
+unfoldable pub task_with : Result (List WrittenItem) JobFault → Data → Result WrittenTask JobFault
+task_with given d = do
+  _ ← only_if (fits OfTask d) BadShape
+  label ← text_at (codes "label") d
+  policy ← number_from 0 (get (codes "policy") d)
+  items ← given
+  Ok (record { label = label; policy = policy; items = items })
 
 -- the same of what lies in memory
 abbrev pub raw_texts : RawTexts → WrittenTexts

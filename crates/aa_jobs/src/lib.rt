@@ -8,6 +8,7 @@ mod meaning;
 mod raw;
 mod reading;
 mod shape;
+mod stream;
 mod tree;
 
 pub use aa_words::Include;

@@ -171,8 +171,8 @@ fn works(alloc: Global, items: &[RawItem], policies: u16) -> Result<Vec<Work>, J
 }
 
 #[tactic(auto, unfolding(crate::specs::Meaning::task_of))]
-fn task(alloc: Global, raw: &RawTask, policies: u16) -> Result<Task, JobFault>
-    ensures { Gives (λ t. t) result (task_of policies (raw_task raw.now)) }
+fn task(alloc: Global, raw: RawTask, policies: u16) -> Result<Task, JobFault>
+    ensures { Gives (λ t. t) result (task_of policies (raw_task raw.entry)) }
 {
     if raw.policy >= policies as u64 {
         return Err(JobFault::BadRequest);
@@ -186,8 +186,9 @@ fn task(alloc: Global, raw: &RawTask, policies: u16) -> Result<Task, JobFault>
     })
 }
 
-fn tasks(alloc: Global, list: &[RawTask], policies: u16) -> Result<Vec<Task>, JobFault>
-    ensures { Gives (λ v. v.items) result (each (task_of policies) (map raw_task list.now)) }
+/// The tasks. Each written one is let go once its task is made.
+fn tasks(alloc: Global, list: Vec<RawTask>, policies: u16) -> Result<Vec<Task>, JobFault>
+    ensures { Gives (λ v. v.items) result (each (task_of policies) (map raw_task list.entry.items)) }
 {
     let mut tasks = Vec::with_capacity(alloc, list.len())?;
     for raw in list {
@@ -271,12 +272,13 @@ fn policies(alloc: Global, list: &[&str]) -> Result<Vec<Text>, AllocError>
 
 /// The job that stands there.
 #[tactic(auto, unfolding(crate::specs::Meaning::meaning))]
-pub fn job_from(alloc: Global, raw: &RawJob) -> Result<Job, JobFault>
-    requires { within_limits (written_sizes (raw_job raw.now)) ≡ true }
-    ensures { Gives (λ j. j) result (meaning (raw_job raw.now)) }
+pub fn job_from(alloc: Global, raw: RawJob) -> Result<Job, JobFault>
+    requires { within_limits (written_sizes (raw_job raw)) ≡ true }
+    ensures { Gives (λ j. j) result (meaning (raw_job raw.entry)) }
 {
-    let list = raw.tasks.as_slice();
-    let count = list.len() as u32;
+    let list = raw.tasks;
+    let rows = list.as_slice();
+    let count = rows.len() as u32;
     let texts = raw.policies.as_slice();
     let tasks = tasks(alloc, list, texts.len() as u16)?;
     let events = events(alloc, raw.events.as_slice(), count)?;

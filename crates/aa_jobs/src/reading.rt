@@ -3,6 +3,7 @@
 ghost use Rattle.std.specs.Prelude.{◌≡◌, ◌≢◌, IfOk, IfErr, Ok, Err};
 ghost use Rattle.aa_jobs.specs.declared.job_fault.JobFault.{JobFault};
 ghost use Rattle.aa_jobs.specs.Steps.{Gives};
+ghost use Rattle.aa_jobs.specs.Stream.{written_as};
 ghost use Rattle.aa_jobs.specs.Raw.{raw_job};
 ghost use Rattle.aa_jobs.specs.Jobs.{written_in, limited_meaning, job_of};
 
@@ -11,13 +12,33 @@ use crate::job_fault::JobFault;
 use crate::limits::is_within_limits;
 use crate::meaning::job_from;
 use crate::raw::RawJob;
-use crate::shape;
-use crate::tree::read_tree;
-use json::Scratch;
+use crate::stream;
+use json::{Reader, Scratch};
 use std::alloc::Global;
 
 /// How many bytes a job may have.
 const MAX_BYTES: usize = 16_777_216;
+
+/// How deep arrays and objects may nest.
+const MAX_DEPTH: usize = 127;
+
+/// What stands in the job that the text is.
+fn raw_in<'t>(
+    alloc: Global,
+    text: &'t str,
+    scratch: &'t mut Scratch,
+) -> Result<RawJob<'t>, JobFault>
+    ensures { Gives raw_job result (written_as text.now) }
+{
+    let Ok(mut reader) = Reader::new(text, scratch) else {
+        return Err(JobFault::NoMemory);
+    };
+    let raw = stream::job(alloc, &mut reader, MAX_DEPTH)?;
+    match reader.next() {
+        None => raw,
+        Some(_) => Err(JobFault::NotJson),
+    }
+}
 
 /// What stands in the job that the bytes are.
 fn raw_job<'t>(
@@ -27,15 +48,17 @@ fn raw_job<'t>(
 ) -> Result<RawJob<'t>, JobFault>
     ensures { Gives raw_job result (written_in bytes.now) }
 {
-    let tree = read_tree(alloc, bytes, scratch)?;
-    shape::job(alloc, &tree)
+    match std::str::from_utf8(bytes) {
+        Ok(text) => raw_in(alloc, text, scratch),
+        Err(_) => Err(JobFault::NotJson),
+    }
 }
 
 /// The job that stands there, if nothing is over its limit.
-fn limited_job(alloc: Global, raw: &RawJob) -> Result<Job, JobFault>
-    ensures { Gives (λ j. j) result (limited_meaning (raw_job raw.now)) }
+fn limited_job(alloc: Global, raw: RawJob) -> Result<Job, JobFault>
+    ensures { Gives (λ j. j) result (limited_meaning (raw_job raw.entry)) }
 {
-    if is_within_limits(raw) {
+    if is_within_limits(&raw) {
         job_from(alloc, raw)
     } else {
         Err(JobFault::TooLarge)
@@ -50,7 +73,7 @@ fn read(alloc: Global, bytes: &[u8]) -> Result<Job, JobFault>
     }
     let mut scratch = Scratch::new(alloc);
     let raw = raw_job(alloc, bytes, &mut scratch)?;
-    limited_job(alloc, &raw)
+    limited_job(alloc, raw)
 }
 
 /// The job that the bytes are.

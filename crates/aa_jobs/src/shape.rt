@@ -1,13 +1,14 @@
 //! The shape of a job: what stands in its JSON value, or `BadShape`.
 
-ghost use Rattle.std.specs.Prelude.{◌≡◌, codes, map, Some, None};
+ghost use Rattle.std.specs.Prelude.{◌≡◌, List, Result, codes, map, Some, None};
 ghost use Rattle.std.specs.List.{list_all, list_any};
 ghost use Rattle.std.specs.Str.{bytes_eq};
 ghost use Rattle.serde_json.specs.Find.{get};
 ghost use Rattle.aa_jobs.specs.declared.job_fault.JobFault.TheVariants.{BadShape};
 ghost use Rattle.aa_jobs.specs.Steps.{Gives, only_if, each};
 ghost use Rattle.aa_jobs.specs.Shape.{keys_of, is_key, has_only, fits, text_in, number_in, list_in, text_at, number_at, list_at, flag_from, number_from, has, file_shape, link_shape, exec_shape, cap_shape, net_shape, change_shape, reload_shape, request_shape, item_shape, task_shape, pair_shape, event_shape, include_shape, events_from, includes_in, includes_from, policies_from, job_shape};
-ghost use Rattle.aa_jobs.specs.Parts.{texts_shape, tasks_in, run_shape, raw_texts, raw_run};
+ghost use Rattle.aa_jobs.specs.Parts.{job_with, raw_run, raw_texts, run_with, task_with, texts_shape};
+ghost use Rattle.aa_jobs.specs.Written.{WrittenItem, WrittenTask};
 ghost use Rattle.aa_jobs.specs.Raw.{raw_text, raw_item, raw_task, raw_event, raw_include, raw_job};
 ghost use Rattle.aa_jobs.specs.Trees.{tree_data, object_data, entry_data};
 
@@ -276,7 +277,8 @@ fn request_item<'t>(value: &Tree<'t>) -> Result<RawItem<'t>, JobFault>
     }
 }
 
-fn item<'t>(value: &Tree<'t>) -> Result<RawItem<'t>, JobFault>
+/// An item of a task.
+pub fn item<'t>(value: &Tree<'t>) -> Result<RawItem<'t>, JobFault>
     ensures { Gives raw_item result (item_shape (tree_data value.now)) }
 {
     match tree::text(value) {
@@ -291,40 +293,23 @@ fn item<'t>(value: &Tree<'t>) -> Result<RawItem<'t>, JobFault>
     }
 }
 
-fn items<'t>(alloc: Global, list: &[Tree<'t>]) -> Result<Vec<RawItem<'t>>, JobFault>
-    ensures { Gives (λ v. map raw_item v.items) result (each item_shape (map tree_data list.now)) }
-{
-    let mut items = Vec::with_capacity(alloc, list.len())?;
-    for value in list {
-        items.push(item(value)?)?;
-    }
-    Ok(items)
-}
-
-#[tactic(auto, unfolding(crate::specs::Shape::task_shape))]
-fn task<'t>(alloc: Global, value: &Tree<'t>) -> Result<RawTask<'t>, JobFault>
-    ensures { Gives raw_task result (task_shape (tree_data value.now)) }
+/// A task whose items are read by themselves.
+#[tactic(auto, unfolding(crate::specs::Parts::task_with))]
+pub fn task<'t>(
+    value: &Tree<'t>,
+    items: Result<Vec<RawItem<'t>>, JobFault>,
+) -> Result<RawTask<'t>, JobFault>
+    ensures { (given : Result (List WrittenItem) JobFault) → Gives (λ v. map raw_item v.items) items.entry given → Gives raw_task result (task_with given (tree_data value.now)) }
 {
     expect(Part::OfTask, value)?;
     let label = text_of(value, "label")?;
     let policy = number_of(value, "policy", DEFAULT_POLICY)?;
-    let requests = list_of(value, "requests")?;
-    let items = items(alloc, requests)?;
+    let items = items?;
     Ok(RawTask {
         label,
         policy,
         items,
     })
-}
-
-fn tasks<'t>(alloc: Global, list: &[Tree<'t>]) -> Result<Vec<RawTask<'t>>, JobFault>
-    ensures { Gives (λ v. map raw_task v.items) result (each task_shape (map tree_data list.now)) }
-{
-    let mut tasks = Vec::with_capacity(alloc, list.len())?;
-    for value in list {
-        tasks.push(task(alloc, value)?)?;
-    }
-    Ok(tasks)
 }
 
 fn pair<'t>(list: &[Tree<'t>]) -> Result<RawEvent<'t>, JobFault>
@@ -447,18 +432,16 @@ fn texts_of<'t>(alloc: Global, value: &Tree<'t>) -> Result<RawTexts<'t>, JobFaul
     Ok(RawTexts { policies, includes })
 }
 
-fn tasks_of<'t>(alloc: Global, value: &Tree<'t>) -> Result<Vec<RawTask<'t>>, JobFault>
-    ensures { Gives (λ v. map raw_task v.items) result (tasks_in (tree_data value.now)) }
+/// The tasks, which are read by themselves, the numbers and the events.
+#[tactic(auto, unfolding(crate::specs::Parts::run_with))]
+fn run_of<'t>(
+    alloc: Global,
+    value: &Tree<'t>,
+    tasks: Result<Vec<RawTask<'t>>, JobFault>,
+) -> Result<RawRun<'t>, JobFault>
+    ensures { (given : Result (List WrittenTask) JobFault) → Gives (λ v. map raw_task v.items) tasks.entry given → Gives raw_run result (run_with given (tree_data value.now)) }
 {
-    tasks(alloc, list_of(value, "tasks")?)
-}
-
-/// The tasks, the numbers and the events.
-#[tactic(auto, unfolding(crate::specs::Parts::run_shape))]
-fn run_of<'t>(alloc: Global, value: &Tree<'t>) -> Result<RawRun<'t>, JobFault>
-    ensures { Gives raw_run result (run_shape (tree_data value.now)) }
-{
-    let tasks = tasks_of(alloc, value)?;
+    let tasks = tasks?;
     let states = number_of(value, "states", DEFAULT_STATES)?;
     let capacity = number_of(value, "capacity", DEFAULT_CAPACITY)?;
     let events = events_of(alloc, value)?;
@@ -470,14 +453,19 @@ fn run_of<'t>(alloc: Global, value: &Tree<'t>) -> Result<RawRun<'t>, JobFault>
     })
 }
 
-/// All that stands in a job.
-pub fn job<'t>(alloc: Global, value: &Tree<'t>) -> Result<RawJob<'t>, JobFault>
-    ensures { Gives raw_job result (job_shape (tree_data value.now)) }
+/// All that stands in a job whose tasks are read by themselves.
+#[tactic(auto, unfolding(crate::specs::Parts::job_with))]
+pub fn job<'t>(
+    alloc: Global,
+    value: &Tree<'t>,
+    tasks: Result<Vec<RawTask<'t>>, JobFault>,
+) -> Result<RawJob<'t>, JobFault>
+    ensures { (given : Result (List WrittenTask) JobFault) → Gives (λ v. map raw_task v.items) tasks.entry given → Gives raw_job result (job_with given (tree_data value.now)) }
 {
     expect(Part::Whole, value)?;
     let several = has_key(value, "policies");
     let RawTexts { policies, includes } = texts_of(alloc, value)?;
-    let run = run_of(alloc, value)?;
+    let run = run_of(alloc, value, tasks)?;
     let RawRun {
         tasks,
         states,

@@ -3,16 +3,16 @@
 ghost use Rattle.std.specs.Prelude.{◌≡◌, ◌<◌, ◌==◌, true, false, length, slice_index, map, is_some, option_map, option_and_then, IfOk};
 ghost use Rattle.json.specs.Value.{value_view, items_view, members_view};
 ghost use Rattle.serde_json.specs.Find.{get, as_str, as_bool, as_number, as_u64, as_array, as_object};
-ghost use Rattle.serde_json.specs.Read.{read as json_read, number_of, number_from, float_of};
+ghost use Rattle.serde_json.specs.Read.{converted, number_of, number_from, float_of, of_json};
+ghost use Rattle.json.specs.Json.{value};
 ghost use Rattle.aa_jobs.specs.declared.job_fault.JobFault.TheVariants.{NotJson};
-ghost use Rattle.aa_jobs.specs.Jobs.{json_of};
 ghost use Rattle.aa_jobs.specs.Shape.{data_list, entry_list};
 ghost use Rattle.aa_jobs.specs.Steps.{Gives, needed};
 ghost use Rattle.aa_jobs.specs.Trees.{in_range, items_in_range, members_in_range, tree_data, object_data, entry_data};
 
 use crate::job_fault::JobFault;
 use fast_float::Numeral;
-use json::{Error, Reader, Scratch, Value};
+use json::{Error, Reader, Value};
 use std::alloc::{AllocError, Global};
 use std::collections::BTreeMap;
 
@@ -21,9 +21,6 @@ pub type Tree<'t> = Value<'t>;
 
 /// A member of an object, where it stands in the text.
 pub type Member<'t> = (&'t str, Value<'t>);
-
-/// How deep arrays and objects may nest.
-const MAX_DEPTH: usize = 127;
 
 fn has_minus(digits: &[u8]) -> bool
     ensures value { result ≡ (slice_index digits.now 0 == 45) }
@@ -54,7 +51,7 @@ fn is_negative_in_range(numeral: &Numeral) -> bool
 }
 
 /// Whether a number's text writes one that `serde_json` holds.
-fn is_number_in_range(digits: &[u8]) -> bool
+pub fn is_number_in_range(digits: &[u8]) -> bool
     ensures { result ≡ is_some (number_of digits.now) }
 {
     if has_minus(digits) {
@@ -117,42 +114,19 @@ fn are_members_in_range(members: &Vec<Member>) -> bool
     true
 }
 
-fn read_text<'t>(
-    alloc: Global,
-    text: &'t str,
-    scratch: &'t mut Scratch,
-) -> Result<Tree<'t>, JobFault>
-    ensures { Gives tree_data result (needed NotJson (json_read text.now)) }
+/// The next value of a reader. Arrays and objects may nest `depth` deep.
+pub fn next<'t>(alloc: Global, reader: &mut Reader<'t>, depth: usize) -> Result<Tree<'t>, JobFault>
+    ensures { Gives (λ t. (tree_data t, reader.new)) result (needed NotJson (converted of_json (value depth reader.old))) }
 {
-    let Ok(mut reader) = Reader::new(text, scratch) else {
-        return Err(JobFault::NoMemory);
-    };
-    let tree = match Value::read(alloc, &mut reader, MAX_DEPTH) {
+    let tree = match Value::read(alloc, reader, depth) {
         Ok(tree) => tree,
         Err(Error::OutOfMemory) => return Err(JobFault::NoMemory),
         Err(_) => return Err(JobFault::NotJson),
     };
-    if reader.next().is_some() {
-        return Err(JobFault::NotJson);
-    }
     if is_in_range(&tree) {
         Ok(tree)
     } else {
         Err(JobFault::NotJson)
-    }
-}
-
-/// The value that the bytes are.
-pub fn read_tree<'t>(
-    alloc: Global,
-    bytes: &'t [u8],
-    scratch: &'t mut Scratch,
-) -> Result<Tree<'t>, JobFault>
-    ensures { Gives tree_data result (json_of bytes.now) }
-{
-    match std::str::from_utf8(bytes) {
-        Ok(text) => read_text(alloc, text, scratch),
-        Err(_) => Err(JobFault::NotJson),
     }
 }
 

@@ -174,6 +174,9 @@ impl<M: Machine> Owner<M> {
     /// Errors, in this order: `Spent` where 2^62 - 1 requests were accepted; `Full` where as many requests as the capacity
     /// aren't collected yet; `Closed` where the lane was shut, which its shutter alone can have done. The owner's own counts
     /// decide the first two, without a step. A request that isn't accepted comes back.
+    // No clause can name the gate's value at the step. That Closed is answered only where the gate was shut is said by
+    // `world_laws` and `notes_stay_true`. An accepted request comes of an owner that hasn't found the lane shut, so a loop that
+    // met Closed need not try again.
     pub fn send(&mut self, lane: &Lane<M>, request: M::Request) -> Result<u64, Unsent<M>>
         requires { self.old.lane ≡ known lane.now }
         ensures accepted { IfOk result (λ n. MaySend self.old × (n ≡ length self.old.sent) × (self.new ≡ answers.sent_of self.old request self.new.log)) }

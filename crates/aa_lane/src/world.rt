@@ -202,6 +202,8 @@ impl<'m, M: Machine> World<'m, M> {
 /// Makes the events happen, from the front on, and appends one reply for each.
 ///
 /// Errors: no memory. The event that failed is then at the front, and the world and the replies are as after those before it.
+// Room for the reply is made before the event is taken, so a refused growth leaves the event in front. An empty list takes
+// none.
 pub fn replay<M: Machine>(
     world: &mut World<M>,
     events: &mut VecDeque<Event<M>>,

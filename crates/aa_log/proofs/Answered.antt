@@ -5,7 +5,7 @@ use Rattle.std.specs.List.{list_any}
 use Rattle.std.proofs.lemmas.List.{take_more, map-append}
 use Rattle.std.proofs.lemmas.List.Sums.{sum_by_push}
 use Rattle.std.proofs.lemmas.List.Concat.{flat_map-append}
-use Rattle.aa_text.specs.Faults.{with_commas}
+use Rattle.aa_text.specs.Jsons.{with_commas}
 use Rattle.aa_logs.specs.declared.answer.Now.{Now}
 use Rattle.aa_logs.specs.declared.counts.Counts.{Counts}
 use Rattle.aa_logs.specs.Answers.{row_of, column_of, changes, is_newly_denied}

@@ -1,9 +1,9 @@
 -- How requests of logs are answered now, as it is printed.
 -- Source: own.
-use Rattle.std.specs.Prelude.{ℕ, ◌≡◌, ◌==◌, ◌||◌, List, [], ◌∷◌, ◌++◌, flat_map, count_by, min, codes, Bool, if◌then◌else◌, Option, Some, None, option_map}
+use Rattle.std.specs.Prelude.{ℕ, ◌≡◌, ◌==◌, ◌||◌, List, [], ◌∷◌, ◌++◌, flat_map, count_by, min, codes, decimal, Bool, if◌then◌else◌, Option, Some, None, option_map}
 use Rattle.std.specs.List.{list_any}
 use Rattle.aa_compile.specs.Labels.{label_named}
-use Rattle.aa_text.specs.Faults.{with_commas}
+use Rattle.aa_text.specs.Jsons.{member_text, with_commas}
 use Rattle.aa_logs.specs.declared.line.Then.{Then}
 use Rattle.aa_logs.specs.declared.line.Then.TheVariants as was
 use Rattle.aa_logs.specs.declared.answer.Now.{Now}
@@ -22,7 +22,7 @@ use Rattle.aa_log.specs.declared.logging.LogReport.{LogReport}
 use Rattle.aa_log.specs.Orders.{profile_of, reason_key, IsInOrder}
 use Rattle.aa_log.specs.Counted.{greatest}
 use Rattle.aa_log.specs.Printed.{rest_text, arrow_text, count_line, each_skipped_text}
-use Rattle.aa_log.specs.Listed.{word_member, count_member, entry_members, json_rest}
+use Rattle.aa_log.specs.Listed.{word_member, entry_members, json_rest}
 
 -- what a request of a log is answered now by the profile of its name
 abbrev pub now_of : Decided → Entry → Now
@@ -71,7 +71,9 @@ rows_text counts = row_text counts was.Denied ++ row_text counts was.Allowed ++ 
 
 -- a count as a JSON object; none where there are none
 unfoldable pub json_count : Then → Now → ℕ → List ℕ
-json_count before after count = codes "{" ++ word_member (codes "then") (then_name before) ++ codes "," ++ word_member (codes "now") (now_name after) ++ count_member (codes "count") count ++ codes "}"
+json_count before after count =
+    codes "{" ++ word_member (codes "then") (then_name before) ++ codes "," ++ word_member (codes "now") (now_name after)
+    ++ member_text (codes "count") (decimal count) ++ codes "}"
 
 -- a count as JSON, unless it is 0
 abbrev pub json_cell_of : Then → Now → ℕ → List (List ℕ)
@@ -105,7 +107,7 @@ pub record IsAgainstText (logs : List (List ℕ)) (d : Decided) (all : Bool) (r 
 -- why a request is answered so, where there is a profile that answers it
 abbrev pub json_why : Option Told → List ℕ
 json_why None = []
-json_why (Some verdict) = codes ",\"answer\":" ++ json_verdict verdict
+json_why (Some verdict) = member_text (codes "answer") (json_verdict verdict)
 
 -- a request with what it is answered now as a JSON object
 unfoldable pub json_change : List (List ℕ) → Entry → Now → Option Told → List ℕ

@@ -1,7 +1,7 @@
 -- Lists whose items stand with a comma between two of them.
 -- Source: own.
 use Rattle.std.specs.Prelude.{ℕ, List, [], ◌∷◌, Bool, true, false, if◌then◌else◌}
-use Rattle.aa_text.specs.Faults.{behind_commas, with_commas}
+use Rattle.aa_text.specs.Jsons.{behind_commas, with_commas}
 
 -- what is still to be written of a list, where an item of it stands there or none
 abbrev pub more_of : Bool → List (List ℕ) → List ℕ

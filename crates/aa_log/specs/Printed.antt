@@ -9,11 +9,12 @@ use Rattle.aa_log.specs.declared.logging.LinePlace.{LinePlace}
 use Rattle.aa_log.specs.declared.logging.Entry.{Entry}
 use Rattle.aa_log.specs.declared.logging.SkippedLines.{SkippedLines}
 use Rattle.aa_log.specs.declared.logging.LogReport.{LogReport}
+use Rattle.aa_text.specs.Visible.{all_visible}
 use Rattle.aa_log.specs.Orders.{profile_of, reason_key, IsInOrder}
 
--- LOG:LINE, by the paths of the logs
+-- LOG:LINE, by the paths of the logs as they are shown
 abbrev pub place_text : List (List ℕ) → LinePlace → List ℕ
-place_text logs place = unwrap_or (slice_get logs place.log) [] ++ codes ":" ++ decimal place.line
+place_text logs place = all_visible (unwrap_or (slice_get logs place.log) []) ++ codes ":" ++ decimal place.line
 
 -- what stands behind what became of a request: its profile, its word, how often it was asked, where first
 abbrev pub rest_text : List (List ℕ) → Entry → List ℕ

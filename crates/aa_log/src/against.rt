@@ -1,7 +1,7 @@
 //! How a policy answers now what logs say.
 
 ghost use Rattle.std.specs.Prelude.{ℕ, ◌≡◌, ◌++◌, ◌||◌, true, false, List, [], map, option_map, OnOk, IfOk};
-ghost use Rattle.aa_text.specs.Faults.{with_commas};
+ghost use Rattle.aa_text.specs.Jsons.{with_commas};
 ghost use Rattle.aa_logs.specs.Answers.{changes};
 ghost use Rattle.aa_ask.specs.Told.{told};
 ghost use Rattle.aa_log.specs.declared.logging.Entry.{Entry};
@@ -10,16 +10,14 @@ ghost use Rattle.aa_log.specs.Printed.{arrow_text, each_skipped_text};
 ghost use Rattle.aa_log.specs.Commas.{more_of, is_some_of};
 ghost use Rattle.aa_log.specs.Against.{now_of, verdict_of, IsNewlyDenied, AreCounted, reasons_if, change_text, shown_text, changes_text, IsAgainstText, cell_line, row_text, rows_text, json_count, json_cell, json_row, json_cells, json_why, json_change, json_shown, json_changes, json_answers, IsJsonAgainst};
 
-use crate::listed::{
-    push_comma, push_count_member, push_entry_members, push_json_rest, push_word_member,
-};
+use crate::listed::{push_entry_members, push_json_rest, push_word_member};
 use crate::logging::{Entry, LogReport};
 use crate::printing::{push_rest, push_skipped_lines};
-use aa_ask::{Verdict, decide, push_json_verdict, push_reasons};
+use aa_ask::{Verdict, decide, push_reasons};
 use aa_command::Decided;
 use aa_compile::label_of;
 use aa_logs::{Counts, Now, Then, answered, is_change, now_name, then_name};
-use aa_text::{push_number, push_text};
+use aa_text::{push_comma, push_member, push_number, push_text};
 use std::alloc::{AllocError, Global};
 
 fn push_arrow(out: &mut Vec<u8>, then: Then, now: Now) -> Result<(), AllocError>
@@ -206,8 +204,7 @@ fn push_json_why(
     let Some(verdict) = verdict else {
         return Ok(());
     };
-    push_text(out, ",\"answer\":")?;
-    push_json_verdict(out, alloc, verdict)
+    push_member(out, alloc, "answer", verdict)
 }
 
 #[tactic(auto, unfolding(crate::specs::Against::json_change))]
@@ -274,20 +271,27 @@ fn push_json_all_shown(
 }
 
 #[tactic(auto, unfolding(crate::specs::Against::json_count))]
-fn push_json_number(out: &mut Vec<u8>, then: Then, now: Now, count: u64) -> Result<(), AllocError>
+fn push_json_number(
+    out: &mut Vec<u8>,
+    alloc: Global,
+    then: Then,
+    now: Now,
+    count: u64,
+) -> Result<(), AllocError>
     ensures { OnOk result (out.new.items ≡ out.old.items ++ json_count then now count) }
 {
     push_text(out, "{")?;
     push_word_member(out, "then", then_name(then))?;
     push_text(out, ",")?;
     push_word_member(out, "now", now_name(now))?;
-    push_count_member(out, "count", count)?;
+    push_member(out, alloc, "count", &count)?;
     push_text(out, "}")
 }
 
 /// Appends a count as a JSON object, unless it is 0, and gives whether one stands there now.
 fn push_json_count(
     out: &mut Vec<u8>,
+    alloc: Global,
     counts: &Counts,
     then: Then,
     now: Now,
@@ -301,12 +305,13 @@ fn push_json_count(
         return Ok(is_later);
     }
     push_comma(out, is_later)?;
-    push_json_number(out, then, now, count)?;
+    push_json_number(out, alloc, then, now, count)?;
     Ok(true)
 }
 
 fn push_json_row(
     out: &mut Vec<u8>,
+    alloc: Global,
     counts: &Counts,
     then: Then,
     is_later: bool,
@@ -314,19 +319,19 @@ fn push_json_row(
     ensures later { IfOk result (λ later. later ≡ (is_later || is_some_of (json_row counts.now then))) }
     ensures text { OnOk result (out.new.items ≡ out.old.items ++ more_of is_later (json_row counts.now then)) }
 {
-    let first = push_json_count(out, counts, then, Now::Denied, is_later)?;
-    let second = push_json_count(out, counts, then, Now::Allowed, first)?;
-    let third = push_json_count(out, counts, then, Now::Granted, second)?;
-    let last = push_json_count(out, counts, then, Now::NoProfile, third)?;
+    let first = push_json_count(out, alloc, counts, then, Now::Denied, is_later)?;
+    let second = push_json_count(out, alloc, counts, then, Now::Allowed, first)?;
+    let third = push_json_count(out, alloc, counts, then, Now::Granted, second)?;
+    let last = push_json_count(out, alloc, counts, then, Now::NoProfile, third)?;
     Ok(last)
 }
 
-fn push_json_counts(out: &mut Vec<u8>, counts: &Counts) -> Result<(), AllocError>
+fn push_json_counts(out: &mut Vec<u8>, alloc: Global, counts: &Counts) -> Result<(), AllocError>
     ensures { OnOk result (out.new.items ≡ out.old.items ++ with_commas (json_cells counts.now)) }
 {
-    let first = push_json_row(out, counts, Then::Denied, false)?;
-    let second = push_json_row(out, counts, Then::Allowed, first)?;
-    let _ = push_json_row(out, counts, Then::Granted, second)?;
+    let first = push_json_row(out, alloc, counts, Then::Denied, false)?;
+    let second = push_json_row(out, alloc, counts, Then::Allowed, first)?;
+    let _ = push_json_row(out, alloc, counts, Then::Granted, second)?;
     Ok(())
 }
 
@@ -347,7 +352,7 @@ fn push_json_answers(
     push_text(out, "{\"requests\":[")?;
     let counts = push_json_all_shown(out, alloc, logs, decided, wants_all, entries)?;
     push_text(out, "],\"counts\":[")?;
-    push_json_counts(out, &counts)?;
+    push_json_counts(out, alloc, &counts)?;
     push_text(out, "]")?;
     Ok(counts)
 }

@@ -1,23 +1,14 @@
 //! What `log` finds, in JSON.
 
 ghost use Rattle.std.specs.Prelude.{ℕ, ◌≡◌, ◌++◌, List, [], codes, map, slice_get, unwrap_or, OnOk};
-ghost use Rattle.aa_text.specs.Faults.{behind_commas, with_commas};
-ghost use Rattle.aa_notation.specs.Jobs.{comma_if};
 ghost use Rattle.aa_log.specs.Printed.{reason_of};
-ghost use Rattle.aa_log.specs.Listed.{word_member, count_member, bytes_member, place_members, entry_members, json_entry, entries_list, json_skipped, skipped_list, json_by_reason, each_key, json_each_of, json_requests, json_each, json_left_out, json_totals, json_rest, IsJsonReport};
+ghost use Rattle.aa_log.specs.Listed.{word_member, place_members, entry_members, entries_list, skipped_list, json_by_reason, json_each_of, json_requests, json_each, json_totals, json_rest, IsJsonReport};
 
 use crate::logging::{Entry, LinePlace, LogReport, SkippedLines};
 use crate::printing::push_reason;
 use aa_logs::then_name;
-use aa_text::{push_json_bytes, push_key, push_number, push_text};
+use aa_text::{ListItem, push_key, push_list_in, push_member, push_member_if, push_text};
 use std::alloc::{AllocError, Global};
-
-/// Appends a comma, unless nothing stands before.
-pub fn push_comma(out: &mut Vec<u8>, is_later: bool) -> Result<(), AllocError>
-    ensures { OnOk result (out.new.items ≡ out.old.items ++ comma_if is_later) }
-{
-    push_text(out, if is_later { "," } else { "" })
-}
 
 /// Appends a member whose value is a word that needs no escape.
 #[tactic(auto, unfolding(crate::specs::Listed::word_member))]
@@ -28,31 +19,6 @@ pub fn push_word_member(out: &mut Vec<u8>, key: &str, word: &str) -> Result<(), 
     push_text(out, "\"")?;
     push_text(out, word)?;
     push_text(out, "\"")
-}
-
-/// Appends a comma and a member whose value is a number.
-#[tactic(auto, unfolding(crate::specs::Listed::count_member))]
-pub fn push_count_member(out: &mut Vec<u8>, key: &str, count: u64) -> Result<(), AllocError>
-    ensures { OnOk result (out.new.items ≡ out.old.items ++ count_member key.now count) }
-{
-    push_text(out, ",")?;
-    push_key(out, key)?;
-    push_number(out, count)
-}
-
-/// Appends a comma and a member whose value is bytes.
-#[tactic(auto, unfolding(crate::specs::Listed::bytes_member))]
-fn push_bytes_member(
-    out: &mut Vec<u8>,
-    alloc: Global,
-    key: &str,
-    bytes: &[u8],
-) -> Result<(), AllocError>
-    ensures { OnOk result (out.new.items ≡ out.old.items ++ bytes_member key.now bytes.now) }
-{
-    push_text(out, ",")?;
-    push_key(out, key)?;
-    push_json_bytes(out, alloc, bytes)
 }
 
 /// A log's path, by its number.
@@ -74,8 +40,8 @@ fn push_place_members(
 ) -> Result<(), AllocError>
     ensures { OnOk result (out.new.items ≡ out.old.items ++ place_members (map (λ log. log.now) logs.now) place.now) }
 {
-    push_bytes_member(out, alloc, "path", path_of(logs, place.log))?;
-    push_count_member(out, "line", place.line)
+    push_member(out, alloc, "path", &path_of(logs, place.log))?;
+    push_member(out, alloc, "line", &place.line)
 }
 
 /// Appends a request's members, without the braces.
@@ -89,24 +55,36 @@ pub fn push_entry_members(
     ensures { OnOk result (out.new.items ≡ out.old.items ++ entry_members (map (λ log. log.now) logs.now) entry.now) }
 {
     push_word_member(out, "then", then_name(entry.then))?;
-    push_bytes_member(out, alloc, "profile", entry.profile.as_slice())?;
-    push_bytes_member(out, alloc, "request", entry.word.as_slice())?;
-    push_count_member(out, "count", entry.count)?;
+    push_member(out, alloc, "profile", &entry.profile)?;
+    push_member(out, alloc, "request", &entry.word)?;
+    push_member(out, alloc, "count", &entry.count)?;
     push_place_members(out, alloc, logs, &entry.first)
 }
 
-#[tactic(auto, unfolding(crate::specs::Listed::json_entry))]
-fn push_entry_object(
-    out: &mut Vec<u8>,
-    alloc: Global,
-    logs: &[&[u8]],
-    entry: &Entry,
-) -> Result<(), AllocError>
-    ensures { OnOk result (out.new.items ≡ out.old.items ++ json_entry (map (λ log. log.now) logs.now) entry.now) }
-{
-    push_text(out, "{")?;
-    push_entry_members(out, alloc, logs, entry)?;
-    push_text(out, "}")
+/// The context is the paths of the logs.
+impl<'l> ListItem<&'l [&'l [u8]]> for Entry {
+    ghost use Rattle.std.specs.Prelude.{true, map};
+    ghost use Rattle.aa_log.specs.Listed.{json_entry};
+
+    ghost stands = { λ logs entry. true };
+
+    ghost item = { λ logs entry. json_entry (map (λ log. log.now) logs.now) entry };
+
+    fn stands(&self, _logs: &&'l [&'l [u8]]) -> bool {
+        true
+    }
+
+    #[tactic(auto, unfolding(crate::specs::Listed::json_entry))]
+    fn push_item(
+        &self,
+        out: &mut Vec<u8>,
+        alloc: Global,
+        logs: &&'l [&'l [u8]],
+    ) -> Result<(), AllocError> {
+        push_text(out, "{")?;
+        push_entry_members(out, alloc, *logs, self)?;
+        push_text(out, "}")
+    }
 }
 
 /// Appends the member `reason`.
@@ -120,38 +98,35 @@ fn push_reason_member(out: &mut Vec<u8>, skipped: &SkippedLines) -> Result<(), A
     push_text(out, "\"")
 }
 
-#[tactic(auto, unfolding(crate::specs::Listed::json_skipped))]
-fn push_skipped_object(
-    out: &mut Vec<u8>,
-    alloc: Global,
-    logs: &[&[u8]],
-    skipped: &SkippedLines,
-) -> Result<(), AllocError>
-    ensures { OnOk result (out.new.items ≡ out.old.items ++ json_skipped (map (λ log. log.now) logs.now) skipped.now) }
-{
-    push_text(out, "{")?;
-    push_reason_member(out, skipped)?;
-    push_count_member(out, "count", skipped.count)?;
-    push_place_members(out, alloc, logs, &skipped.first)?;
-    push_text(out, "}")
-}
+/// The context is the paths of the logs.
+impl<'l> ListItem<&'l [&'l [u8]]> for SkippedLines {
+    ghost use Rattle.std.specs.Prelude.{true, map};
+    ghost use Rattle.aa_log.specs.Listed.{json_skipped};
 
-/// Appends one more of a list, behind a comma unless it is the first.
-fn push_listed(
-    out: &mut Vec<u8>,
-    alloc: Global,
-    logs: &[&[u8]],
-    is_later: bool,
-    skipped: &SkippedLines,
-) -> Result<(), AllocError>
-    ensures { OnOk result (out.new.items ≡ out.old.items ++ (comma_if is_later ++ json_skipped (map (λ log. log.now) logs.now) skipped.now)) }
-{
-    push_comma(out, is_later)?;
-    push_skipped_object(out, alloc, logs, skipped)
+    ghost stands = { λ logs skipped. true };
+
+    ghost item = { λ logs skipped. json_skipped (map (λ log. log.now) logs.now) skipped };
+
+    fn stands(&self, _logs: &&'l [&'l [u8]]) -> bool {
+        true
+    }
+
+    #[tactic(auto, unfolding(crate::specs::Listed::json_skipped))]
+    fn push_item(
+        &self,
+        out: &mut Vec<u8>,
+        alloc: Global,
+        logs: &&'l [&'l [u8]],
+    ) -> Result<(), AllocError> {
+        push_text(out, "{")?;
+        push_reason_member(out, self)?;
+        push_member(out, alloc, "count", &self.count)?;
+        push_place_members(out, alloc, *logs, &self.first)?;
+        push_text(out, "}")
+    }
 }
 
 /// Appends the lines that ask nothing, by their reasons.
-#[tactic(auto, unfolding(crate::specs::Listed::skipped_list))]
 fn push_all_listed(
     out: &mut Vec<u8>,
     alloc: Global,
@@ -160,18 +135,11 @@ fn push_all_listed(
 ) -> Result<(), AllocError>
     ensures { OnOk result (out.new.items ≡ out.old.items ++ skipped_list (map (λ log. log.now) logs.now) (map (λ s. s.now) reasons.now)) }
 {
-    let mut is_later = false;
-    let mut rest = reasons;
-    while let [skipped, after @ ..] = rest {
-        push_listed(out, alloc, logs, is_later, skipped)?;
-        is_later = true;
-        rest = after;
-    }
+    push_list_in(out, alloc, &logs, reasons)?;
     Ok(())
 }
 
 /// Appends each line that asks nothing.
-#[tactic(auto, unfolding(crate::specs::Listed::skipped_list))]
 fn push_each_listed(
     out: &mut Vec<u8>,
     alloc: Global,
@@ -180,13 +148,7 @@ fn push_each_listed(
 ) -> Result<(), AllocError>
     ensures { OnOk result (out.new.items ≡ out.old.items ++ skipped_list (map (λ log. log.now) logs.now) each.now) }
 {
-    let mut is_later = false;
-    let mut rest = each;
-    while let [skipped, after @ ..] = rest {
-        push_listed(out, alloc, logs, is_later, skipped)?;
-        is_later = true;
-        rest = after;
-    }
+    push_list_in(out, alloc, &logs, each)?;
     Ok(())
 }
 
@@ -202,16 +164,7 @@ fn push_by_reason(
 {
     push_text(out, ",")?;
     push_key(out, "skipped")?;
-    push_text(out, "[")?;
-    push_all_listed(out, alloc, logs, reasons)?;
-    push_text(out, "]")
-}
-
-#[tactic(auto, unfolding(crate::specs::Listed::each_key))]
-fn push_each_key(out: &mut Vec<u8>) -> Result<(), AllocError>
-    ensures { OnOk result (out.new.items ≡ out.old.items ++ each_key) }
-{
-    push_key(out, "skipped_lines")
+    push_all_listed(out, alloc, logs, reasons)
 }
 
 /// Appends the member of each line that asks nothing.
@@ -225,10 +178,8 @@ fn push_each_of(
     ensures { OnOk result (out.new.items ≡ out.old.items ++ json_each_of (map (λ log. log.now) logs.now) each.now) }
 {
     push_text(out, ",")?;
-    push_each_key(out)?;
-    push_text(out, "[")?;
-    push_each_listed(out, alloc, logs, each)?;
-    push_text(out, "]")
+    push_key(out, "skipped_lines")?;
+    push_each_listed(out, alloc, logs, each)
 }
 
 /// Appends the member of each line that asks nothing, where these are wanted.
@@ -246,24 +197,19 @@ fn push_each(
     }
 }
 
-fn push_left_out(out: &mut Vec<u8>, left_out: Option<u64>) -> Result<(), AllocError>
-    ensures { OnOk result (out.new.items ≡ out.old.items ++ json_left_out left_out) }
-{
-    match left_out {
-        Some(count) => push_count_member(out, "left_out", count),
-        None => Ok(()),
-    }
-}
-
 /// Appends the counts of all, and the end of the object and of the line.
 #[tactic(auto, unfolding(crate::specs::Listed::json_totals))]
-fn push_json_totals(out: &mut Vec<u8>, report: &LogReport<'_>) -> Result<(), AllocError>
+fn push_json_totals(
+    out: &mut Vec<u8>,
+    alloc: Global,
+    report: &LogReport<'_>,
+) -> Result<(), AllocError>
     ensures { OnOk result (out.new.items ≡ out.old.items ++ json_totals report.now) }
 {
-    push_count_member(out, "lines", report.lines)?;
-    push_count_member(out, "asking", report.requests)?;
-    push_count_member(out, "other", report.other)?;
-    push_left_out(out, report.left_out)?;
+    push_member(out, alloc, "lines", &report.lines)?;
+    push_member(out, alloc, "asking", &report.requests)?;
+    push_member(out, alloc, "other", &report.other)?;
+    push_member_if(out, alloc, "left_out", &report.left_out)?;
     push_text(out, "}\n")
 }
 
@@ -279,11 +225,10 @@ pub fn push_json_rest(
 {
     push_by_reason(out, alloc, logs, reasons)?;
     push_each(out, alloc, logs, &report.each_skipped)?;
-    push_json_totals(out, report)
+    push_json_totals(out, alloc, report)
 }
 
-/// Appends requests with a comma between two of them.
-#[tactic(auto, unfolding(crate::specs::Listed::entries_list))]
+/// Appends requests as a list.
 fn push_entry_objects(
     out: &mut Vec<u8>,
     alloc: Global,
@@ -292,14 +237,7 @@ fn push_entry_objects(
 ) -> Result<(), AllocError>
     ensures { OnOk result (out.new.items ≡ out.old.items ++ entries_list (map (λ log. log.now) logs.now) (map (λ e. e.now) entries.now)) }
 {
-    let mut is_later = false;
-    let mut rest = entries;
-    while let [entry, after @ ..] = rest {
-        push_comma(out, is_later)?;
-        push_entry_object(out, alloc, logs, entry)?;
-        is_later = true;
-        rest = after;
-    }
+    push_list_in(out, alloc, &logs, entries)?;
     Ok(())
 }
 
@@ -315,9 +253,7 @@ fn push_requests(
 {
     push_text(out, "{")?;
     push_key(out, "requests")?;
-    push_text(out, "[")?;
-    push_entry_objects(out, alloc, logs, entries)?;
-    push_text(out, "]")
+    push_entry_objects(out, alloc, logs, entries)
 }
 
 /// Appends requests and reasons as they stand here, and the counts of all, as one JSON object and a line end.

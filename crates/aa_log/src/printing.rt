@@ -2,19 +2,20 @@
 
 ghost use Rattle.std.specs.Prelude.{ℕ, ◌≡◌, ◌++◌, List, [], map, flat_map, codes, decimal, slice_get, unwrap_or, OnOk};
 ghost use Rattle.aa_base.specs.Values.{value};
+ghost use Rattle.aa_text.specs.Visible.{all_visible};
 ghost use Rattle.aa_log.specs.Printed.{place_text, rest_text, entry_line, reason_text, skipped_line, skipped_at, each_skipped_text, labelled, left_out_text, asking_text, totals_line, counts_text, IsReportText};
 
 use crate::logging::{Entry, LinePlace, LogReport, SkippedLines};
 use aa_logs::then_name;
-use aa_text::{push_name, push_number, push_text};
+use aa_text::{push_name, push_number, push_text, push_visible};
 use std::alloc::{AllocError, Global};
 
-/// Appends a log's path, by its number.
+/// Appends a log's path as it is shown, by its number.
 fn push_path(out: &mut Vec<u8>, logs: &[&[u8]], log: usize) -> Result<(), AllocError>
-    ensures { OnOk result (out.new.items ≡ out.old.items ++ unwrap_or (slice_get (map (λ log. log.now) logs.now) log) []) }
+    ensures { OnOk result (out.new.items ≡ out.old.items ++ all_visible (unwrap_or (slice_get (map (λ log. log.now) logs.now) log) [])) }
 {
     match logs.get(log) {
-        Some(path) => out.extend_from_slice(path),
+        Some(path) => push_visible(out, path),
         None => Ok(()),
     }
 }

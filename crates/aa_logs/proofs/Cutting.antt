@@ -1,9 +1,11 @@
 -- Bytes cut into lines.
-use Rattle.std.proofs.Common.{◌≡◌, ◌≢◌, ℕ, suc, ◌+◌, ◌-◌, ◌<◌, ◌≤◌, ◌==◌, ◌&&◌, List, [], ◌∷◌, ◌++◌, length, map, take, drop, min, Bool, true, false, if◌then◌else◌, not, refl, sym, ap, subst, ◌∙◌, append_assoc, append-nil, arith, inl, inr}
+use Rattle.std.proofs.Common.{Option, Some, None, unwrap_or, le_refl, ◌≡◌, ◌≢◌, ℕ, suc, ◌+◌, ◌-◌, ◌<◌, ◌≤◌, ◌==◌, ◌&&◌, List, [], ◌∷◌, ◌++◌, length, map, take, drop, min, Bool, true, false, if◌then◌else◌, not, refl, sym, ap, subst, ◌∙◌, append_assoc, append-nil, arith, inl, inr}
 use Rattle.std.specs.List.{prefix_len, list_all}
 use Rattle.std.proofs.lemmas.Bool.{cases_lt, eqb-true, eqb-false}
 use Rattle.std.proofs.lemmas.List.{take_all, length-take, length-append, length-map, map-append, take-append-le}
+use Rattle.std.proofs.lemmas.List.Sums.{prefix_len_is, prefix_len-le-length}
 use Rattle.std.proofs.Math.Seq.{take-append-add}
+use Rattle.memchr.specs.Find.{IsFirstByte, is_byte}
 use Rattle.aa_logs.specs.LogLines.{LogLine, log_line, in_front, lines_of, kept, numbered, log_lines, is_in_line, ended, left_open, last_line}
 
 least : (n : ℕ) (s : List ℕ) → take (min n (length s)) s ≡ take n s
@@ -360,3 +362,18 @@ none_where xs b is holds = none_below xs (let none : length xs ≡ 0 = eqb-true 
 
 pub some_where : (xs : List ℕ) (b : Bool) → b ≡ (length xs == 0) → b ≡ false → xs ≢ []
 some_where xs b is fails = λ e. eqb-false (length xs) 0 (sym is ∙ fails) (ap length e)
+
+not_true : (b : Bool) → (b ≡ true → ⊥) → b ≡ false
+not_true true fails = absurd (fails refl)
+not_true false fails = refl
+
+-- the first line end is where a search for LF finds one
+pub first_end : (bytes : List ℕ) (r : Option ℕ) → IsFirstByte (is_byte 10) bytes r → unwrap_or r (length bytes) ≡ prefix_len is_in_line bytes
+first_end bytes None nowhere =
+    sym (prefix_len_is is_in_line bytes (length bytes) 0 (le_refl (length bytes)) (λ k lt. ap not (not_true _ (nowhere k (omega arith) lt))) (λ lt. absurd (omega arith)))
+first_end bytes (Some n) there =
+    let first = there.0 in
+    sym (prefix_len_is is_in_line bytes n 0 (omega (arith, first.high)) (λ k lt. ap not (not_true _ (first.before k (omega arith) lt))) (λ lt. ap not there.1))
+
+pub end_within : (bytes : List ℕ) (n : ℕ) → n ≡ prefix_len is_in_line bytes → n ≤ length bytes
+end_within bytes n e = omega (arith, e, prefix_len-le-length is_in_line bytes)

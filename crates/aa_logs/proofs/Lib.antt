@@ -3,7 +3,9 @@ pub mod Choosing
 pub mod Found
 pub mod Hex
 pub mod Letters
+pub mod Marks
 pub mod Pieces
+pub mod Quotes
 pub mod Telling
 pub mod Placed
 pub mod Cells

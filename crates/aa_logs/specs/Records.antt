@@ -25,6 +25,14 @@ holds_part part text = is_some (place_of part text)
 abbrev pub is_record : List ℕ → Bool
 is_record line = holds_part (codes "apparmor=\"") line || holds_part (codes "type=15") line || holds_part (codes "type=APPARMOR") line || holds_part (codes "type=UNKNOWN[15") line
 
+-- a mark stands in a line with its sign, which is its byte of that number, at a place
+abbrev pub is_mark_at : List ℕ → ℕ → List ℕ → ℕ → Bool
+is_mark_at mark sign line at = nat_le sign at && starts_with nat_eq (drop (at - sign) line) mark
+
+-- one of the access control's marks does, whose sign is `=`
+abbrev pub has_mark_at : List ℕ → ℕ → Bool
+has_mark_at line at = is_mark_at (codes "apparmor=\"") 8 line at || is_mark_at (codes "type=15") 4 line at || is_mark_at (codes "type=APPARMOR") 4 line at || is_mark_at (codes "type=UNKNOWN[15") 4 line at
+
 -- what a record's word tells
 unfoldable pub told_by_word : List ℕ → Option Told
 told_by_word word =

@@ -3,6 +3,7 @@
 ghost use Rattle.std.specs.Prelude.{◌≡◌, map, option_map, IfOk};
 ghost use Rattle.std.specs.List.{list_any};
 ghost use Rattle.std.specs.Str.{bytes_eq};
+ghost use Rattle.std.specs.Cow.{cow_slice_items};
 ghost use Rattle.aa_logs.specs.Words.{word_data, words_data};
 ghost use Rattle.aa_logs.specs.Chosen.{is_among, is_from, is_up_to, is_between, second_at, is_stamp_between, is_in_time, are_chosen, is_chosen};
 
@@ -11,6 +12,7 @@ use crate::line::{begins_stamp, digits, is_time, without_return};
 use crate::reading::read_line;
 use crate::word::LogWord;
 use std::alloc::{AllocError, Global};
+use std::borrow::CowSlice;
 
 /// Which lines of logs are wanted.
 #[derive(Clone, Copy, Debug)]
@@ -36,8 +38,8 @@ fn has_name(names: &[Vec<u8>], name: &[u8]) -> bool
 }
 
 #[tactic(auto, using(crate::proofs::Choosing::any_name, crate::proofs::Choosing::same_length))]
-fn is_among(names: &[Vec<u8>], name: Option<Vec<u8>>) -> bool
-    ensures { result ≡ is_among (map (λ n. n.items) names.now) (option_map (λ n. n.items) name) }
+fn is_among(names: &[Vec<u8>], name: Option<CowSlice<'_, u8, Global>>) -> bool
+    ensures { result ≡ is_among (map (λ n. n.items) names.now) (option_map cow_slice_items name.entry) }
 {
     match name {
         Some(name) => names.is_empty() || has_name(names, name.as_slice()),

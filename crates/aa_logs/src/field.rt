@@ -4,13 +4,15 @@ ghost use Rattle.std.specs.Prelude.{◌≡◌, ◌≤◌, ◌<◌, ◌+◌, ◌&
 ghost use Rattle.std.specs.List.{starts_with};
 ghost use Rattle.std.specs.Option.{is_some, option_and_then, option_or};
 ghost use Rattle.std.specs.Str.{bytes_eq};
+ghost use Rattle.std.specs.Cow.{cow_slice_items};
 ghost use Rattle.aa_logs.specs.Words.{words_data};
 ghost use Rattle.aa_logs.specs.Fields.{raw_in, text_in, place_of, is_digit, number_from, number_in};
 
 use crate::reading::last_of;
-use crate::value::name_of;
+use crate::value::name_in;
 use crate::word::LogWord;
 use std::alloc::{AllocError, Global};
+use std::borrow::CowSlice;
 
 /// Whether a text is that one.
 pub(crate) fn is_text(text: &[u8], wanted: &str) -> bool
@@ -56,27 +58,27 @@ pub(crate) fn raw_of<'s>(words: &[LogWord<'s>], key: &str) -> Option<&'s [u8]>
 }
 
 /// The bytes that the value of a field stands for which is a name.
-pub(crate) fn text_of(
+pub(crate) fn text_of<'s>(
     alloc: Global,
-    words: &[LogWord<'_>],
+    words: &[LogWord<'s>],
     key: &str,
-) -> Result<Option<Vec<u8>>, AllocError>
-    ensures { IfOk result (λ name. option_map (λ t. t.items) name ≡ text_in key.now (words_data words.now)) }
+) -> Result<Option<CowSlice<'s, u8, Global>>, AllocError>
+    ensures { IfOk result (λ name. option_map cow_slice_items name ≡ text_in key.now (words_data words.entry.now)) }
 {
     match last_of(words, key.as_bytes()) {
-        Some(word) => Ok(Some(name_of(alloc, word)?)),
+        Some(word) => Ok(Some(name_in(alloc, word)?)),
         None => Ok(None),
     }
 }
 
 /// The first of two names that is there.
-pub(crate) fn either_text(
+pub(crate) fn either_text<'s>(
     alloc: Global,
-    words: &[LogWord<'_>],
+    words: &[LogWord<'s>],
     first: &str,
     second: &str,
-) -> Result<Option<Vec<u8>>, AllocError>
-    ensures { IfOk result (λ name. option_map (λ t. t.items) name ≡ option_or (text_in first.now (words_data words.now)) (text_in second.now (words_data words.now))) }
+) -> Result<Option<CowSlice<'s, u8, Global>>, AllocError>
+    ensures { IfOk result (λ name. option_map cow_slice_items name ≡ option_or (text_in first.now (words_data words.entry.now)) (text_in second.now (words_data words.entry.now))) }
 {
     match text_of(alloc, words, first)? {
         Some(name) => Ok(Some(name)),

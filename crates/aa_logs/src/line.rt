@@ -3,18 +3,21 @@
 ghost use Rattle.std.specs.Prelude.{◌≡◌, ◌≤◌, ◌||◌, length, codes, count_by, option_map, [], IfOk};
 ghost use Rattle.std.specs.List.{list_any, prefix_len};
 ghost use Rattle.std.specs.Str.{bytes_eq};
+ghost use Rattle.std.specs.Cow.{cow_slice_items};
 ghost use Rattle.aa_logs.specs.Words.{word_data, words_data};
 ghost use Rattle.aa_logs.specs.Fields.{is_digit};
 ghost use Rattle.aa_logs.specs.Asked.{Tells};
 ghost use Rattle.aa_logs.specs.Outcomes.{record_data, outcome};
-ghost use Rattle.aa_logs.specs.Records.{is_record, told_by_word, is_one_of, told_by_type, is_old_type, told_in, behind_digits, is_time, may_be_stamp, begins_stamp, is_false_stamp, is_open, is_broken, is_other_space, profile_in, record_by, record_in, without_return, outcome_of, line_in};
+ghost use Rattle.aa_logs.specs.Records.{is_mark_at, has_mark_at, is_record, told_by_word, is_one_of, told_by_type, is_old_type, told_in, behind_digits, is_time, may_be_stamp, begins_stamp, is_false_stamp, is_open, is_broken, is_other_space, profile_in, record_by, record_in, without_return, outcome_of, line_in};
 
 use crate::asked::asked_of;
 use crate::field::{begins, either_text, has_part, is_digit, is_text, number_in, raw_of, text_of};
 use crate::reading::read_line;
 use crate::word::{Form, LogWord};
 use aa_model::Request;
+use memchr::memchr;
 use std::alloc::{AllocError, AllocFailed, Global};
+use std::borrow::CowSlice;
 
 /// The most bytes of a line.
 const MAX_LINE: usize = 65536;
@@ -104,14 +107,38 @@ enum Told {
     Status,
 }
 
-/// Whether a line is one of the access control's.
+/// Whether a mark stands in a line with its sign, which is its byte of that number, at a place.
+fn is_mark_at(line: &[u8], mark: &str, sign: usize, at: usize) -> bool
+    requires { at ≤ length line.now }
+    ensures { result ≡ is_mark_at mark.now sign line.now at }
+{
+    sign <= at && begins(&line[at - sign..], mark)
+}
+
+/// Whether one of the access control's marks stands in a line with its sign at a place.
+fn has_mark_at(line: &[u8], at: usize) -> bool
+    requires { at ≤ length line.now }
+    ensures { result ≡ has_mark_at line.now at }
+{
+    is_mark_at(line, "apparmor=\"", 8, at)
+        || is_mark_at(line, "type=15", 4, at)
+        || is_mark_at(line, "type=APPARMOR", 4, at)
+        || is_mark_at(line, "type=UNKNOWN[15", 4, at)
+}
+
+/// Whether a line is one of the access control's. Each of their marks has the sign `=`, which other lines seldom have: only round
+/// such signs is looked for marks.
 fn is_record(line: &[u8]) -> bool
     ensures { result ≡ is_record line.now }
 {
-    has_part(line, "apparmor=\"")
-        || has_part(line, "type=15")
-        || has_part(line, "type=APPARMOR")
-        || has_part(line, "type=UNKNOWN[15")
+    let mut from = 0;
+    'signs: while let Some(before) = memchr(b'=', &line[from..]) {
+        if has_mark_at(line, from + before) {
+            return true;
+        }
+        from += before + 1;
+    }
+    false
 }
 
 /// What a record's word tells.
@@ -279,8 +306,8 @@ fn are_broken(words: &[LogWord<'_>]) -> bool
 }
 
 /// Whether a namespace is named that isn't the first one.
-fn is_elsewhere(space: Option<Vec<u8>>) -> bool
-    ensures { result ≡ is_other_space (option_map (λ s. s.items) space) }
+fn is_elsewhere(space: Option<CowSlice<'_, u8, Global>>) -> bool
+    ensures { result ≡ is_other_space (option_map cow_slice_items space.entry) }
 {
     match space {
         Some(space) => !is_text(space.as_slice(), "root") && !is_text(space.as_slice(), "default"),
@@ -303,7 +330,7 @@ fn profile_of(alloc: Global, words: &[LogWord<'_>]) -> Result<Vec<u8>, Refusal>
     if has_part(name.as_slice(), "//&") {
         return Err(Refusal::Skipped(Reason::Stacked));
     }
-    Ok(name)
+    Ok(Vec::from_slice(alloc, name.as_slice())?)
 }
 
 /// What the words of a record tell, if it is one.

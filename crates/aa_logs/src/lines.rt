@@ -7,6 +7,7 @@ ghost use Rattle.std.specs.Io.KnownBytes.{ReadConsumes};
 ghost use Rattle.aa_logs.specs.LogLines.{LogLine, log_line, kept, numbered, log_lines, is_in_line, ended, left_open, last_line};
 
 use aa_base::Unread;
+use memchr::memchr;
 use std::alloc::{AllocError, Global};
 use std::fs::File;
 use std::io::{ErrorKind, Read};
@@ -77,7 +78,7 @@ fn line_len(bytes: &[u8]) -> usize
     ensures count { result ≡ prefix_len is_in_line bytes.now }
     ensures within { result ≤ length bytes.now }
 {
-    bytes.iter().take_while(|b| **b != b'\n').count()
+    memchr(b'\n', bytes).unwrap_or(bytes.len())
 }
 
 /// Hands a line on whose last bytes these are, and begins the next.

@@ -5,6 +5,7 @@ ghost use Rattle.std.specs.List.{prefix_len};
 ghost use Rattle.aa_logs.specs.Words.{is_separator, is_letter, begins_key, goes_on_key, run_len, key_len, plain_piece, quoted_piece, field_piece, run_piece, keyed_piece, first_piece, word_data};
 
 use crate::word::{Form, LogWord};
+use memchr::memchr;
 
 /// What stands first in a line, and the word that it is, if it is one.
 #[derive(Clone, Copy, Debug)]
@@ -86,7 +87,7 @@ fn quote_at(text: &[u8]) -> Option<usize>
     ensures value { result ≡ position (λ c. c == 34) text.now }
     ensures within { IfSome result (λ n. n < length text.now) }
 {
-    text.iter().position(|b| *b == b'"')
+    memchr(b'"', text)
 }
 
 /// `KEY="TEXT"` with so long a text, or where no quote closes it, what a run would be.

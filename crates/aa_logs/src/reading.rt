@@ -8,6 +8,9 @@ use crate::piece::first_piece;
 use crate::word::LogWord;
 use std::alloc::{AllocError, Global};
 
+/// For how many words there is room at first: as many as most records have.
+const MANY: usize = 24;
+
 /// Adds a word to those before it, if there is one.
 fn push_any<'s>(words: &mut Vec<LogWord<'s>>, word: Option<LogWord<'s>>) -> Result<(), AllocError>
     ensures { OnOk result (words_data words.new.items ≡ words_data words.old.items ++ option_to_list (option_map word_data word.entry)) }
@@ -24,7 +27,7 @@ fn push_any<'s>(words: &mut Vec<LogWord<'s>>, word: Option<LogWord<'s>>) -> Resu
 pub fn read_line<'s>(alloc: Global, line: &'s [u8]) -> Result<Vec<LogWord<'s>>, AllocError>
     ensures { IfOk result (λ words. words_data words.items ≡ words_of line.entry.now) }
 {
-    let mut words = Vec::new(alloc);
+    let mut words = Vec::with_capacity(alloc, MANY)?;
     let mut rest = line;
     while !rest.is_empty() {
         let piece = first_piece(rest);

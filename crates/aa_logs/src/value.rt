@@ -2,11 +2,13 @@
 
 ghost use Rattle.std.specs.Prelude.{◌≡◌, ◌<◌, ◌^◌, ◌++◌, ◌∷◌, length, true, false, OnOk, IfOk};
 ghost use Rattle.std.specs.List.{list_all};
+ghost use Rattle.std.specs.Cow.{cow_slice_items};
 ghost use Rattle.aa_logs.specs.Words.{word_data};
 ghost use Rattle.aa_logs.specs.Values.{is_hex_digit, digit_of, bytes_of_hex, is_even, is_hex, is_plain, name_in};
 
 use crate::word::{Form, LogWord};
 use std::alloc::{AllocError, Global};
+use std::borrow::CowSlice;
 
 fn is_hex_digit(b: u8) -> bool
     ensures { result ≡ is_hex_digit b }
@@ -73,13 +75,24 @@ fn bytes_of_hex(alloc: Global, text: &[u8]) -> Result<Vec<u8>, AllocError>
     Ok(bytes)
 }
 
+/// What the value of a field stands for that is a name. Memory is taken only for one in hexadecimal digits.
+pub(crate) fn name_in<'s>(
+    alloc: Global,
+    word: &LogWord<'s>,
+) -> Result<CowSlice<'s, u8, Global>, AllocError>
+    ensures { IfOk result (λ name. cow_slice_items name ≡ name_in (word_data word.entry.now)) }
+{
+    if is_plain(word.form) && is_hex(word.text) {
+        return Ok(CowSlice::Owned(bytes_of_hex(alloc, word.text)?));
+    }
+    Ok(CowSlice::Borrowed(word.text))
+}
+
 /// What the value of a field stands for that is a name: the bytes that an even number of hexadecimal digits without quotes are,
 /// else the value itself.
 pub fn name_of(alloc: Global, word: &LogWord) -> Result<Vec<u8>, AllocError>
     ensures { IfOk result (λ name. name.items ≡ name_in (word_data word.now)) }
 {
-    if is_plain(word.form) && is_hex(word.text) {
-        return bytes_of_hex(alloc, word.text);
-    }
-    Vec::from_slice(alloc, word.text)
+    let name = name_in(alloc, word)?;
+    Vec::from_slice(alloc, name.as_slice())
 }

@@ -38,6 +38,7 @@ same_scrub true b = b
 same_scrub false b = not b
 
 -- one kind, scrub, fallback and target
+-- (a test, since what a link lacks is a set that depends on it; `same_decides` proves that it is true exactly of equal ones)
 abbrev pub same_exec : Exec → Exec → Bool
 same_exec a b = same_kind a.kind b.kind && same_scrub a.scrub b.scrub && same_fallback a.fallback b.fallback && option_eq bytes_eq a.target b.target
 

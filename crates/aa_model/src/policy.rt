@@ -36,6 +36,8 @@ pub struct PassedOver {
 }
 
 /// The profiles in the order of their first word, a parent before its children.
+// What every policy keeps is a ghost field with at most one proof: two policies with the same profiles and rules passed over
+// are one value. The limits stand in one record over the profiles, which what words spell cites too.
 #[derive(Drop)]
 pub struct Policy {
     pub profiles: Seq<Profile>,

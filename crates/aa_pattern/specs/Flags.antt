@@ -42,6 +42,6 @@ pub record FollowsSome (branches : List (Vec Item Global)) (text : List ℕ) (ol
 pub record StandsIn (gaps : List Bool) (items : List Item) (text : List ℕ) : Type 0 where
   pub at : (g : ℕ) → g ≤ length items → IsTrue (slice_index_or gaps g false) ↔ Matches (take g items) text
 
--- the text up to the end of a simple item: what stands before it matches now, or did before this byte, or the item has begun
+-- the text up to the end of a simple item: what stands before it matches up to here, or up to the byte before, or the item has begun
 abbrev pub Grows : Item → ℕ → Type 0 → Type 0 → Type 0 → Type 0
 Grows i b here was_here was_next = (IsSkippable i × here) ⊎ (was_here × Begins i b) ⊎ (was_next × Continues i b)

@@ -1,4 +1,12 @@
 //! Matching by a row of flags, one for each gap between items: for items without a choice, and texts of any length.
+//!
+//! No row that is shorter than both the items and the text is known to be enough. Matching without choices finds a path through
+//! a grid of items and bytes, and each layered grid is such a match: for each column the text has `x/`, and a byte for each
+//! column, 1 at its own place and 0 elsewhere; for each layer the pattern has `*[x/]*[x/]`, which moves on by one column or by
+//! two, and a class for each column, `[01]` where the layer has it and `0` where it hasn't. Two marks (the last `**` and the
+//! last `*` since) are wrong where a class lists both `/` and another byte: `*[a/]*` matches `a/`. A mark for each part between
+//! slashes is exact, and makes a row as long as the text has parts. The borders of blocks, computed anew where they are wanted,
+//! are exact too, and cost the more steps the more blocks there are.
 
 ghost use Rattle.std.specs.Prelude.{◌≡◌, ◌↔◌, ◌<◌, ◌≤◌, ℕ, IsTrue, All, length, List, [], ◌∷◌, ◌++◌};
 ghost use Rattle.aa_pattern.specs.Globs.{Matches};

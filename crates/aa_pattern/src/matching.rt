@@ -48,6 +48,9 @@ fn fails_at_once(items: &[Item], text: &[u8]) -> bool
 }
 
 /// Whether items without a choice match the text, where both may be many: the row has room for the fewer of gaps and places.
+// A pattern that is read and has no choice has fewer items than those that come here. Either row costs the same. What is left,
+// over a million items and bytes, is cut in halves, and so is what has a choice, for a text of over 16,383 bytes: exact and
+// without memory, but very slow. No path of a request is so long.
 #[inline(never)]
 fn matches_large(items: &[Item], text: &[u8]) -> bool
     requires { All IsSimple items.now }
@@ -62,6 +65,8 @@ fn matches_large(items: &[Item], text: &[u8]) -> bool
     }
 }
 
+// Most texts are matched by a row of flags on the machine's stack, one for each place behind the front that is matched already;
+// each item goes over no more of it than from the first flag that is set to the last.
 fn matches_items(items: &[Item], text: &[u8]) -> bool
     ensures { IsTrue result ↔ Matches items.now text.now }
 {

@@ -10,6 +10,8 @@ use std::alloc::AllocError;
 const NUMBERS: usize = 65536;
 
 /// A profile's number, where it is one that a policy may have.
+// Profiles are put in a row before they are counted, since the first fault of a text may stand behind the limit. So a number
+// past 65,535 is none, in the definition too; no policy within the limits has one.
 fn number_of(number: usize) -> Option<u16>
     ensures { result ≡ number_of number }
 {

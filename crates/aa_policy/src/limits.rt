@@ -123,6 +123,7 @@ fn has_room_below(profiles: &[Profile], parent: Option<u16>, more: usize) -> boo
 
 /// Whether a policy may have a profile beside the others; those below its parent are counted only where there may be no
 /// room for its attachment patterns.
+// So the count is linear where all profiles together have no more attachment patterns than those below one parent may have.
 fn fits_beside(kept: &KeptProfiles, profile: &Profile) -> bool
     ensures { HasRoom kept.now.profiles.items kept.now.room → (IsTrue result ↔ FitsBeside kept.now.profiles.items profile.now) }
 {
@@ -165,6 +166,7 @@ pub fn push_profile(
 
 /// Refuses the first profile whose name an earlier one has. Names are looked up in their order, so
 /// that it takes no longer with names that their author chose.
+// A hash of the kit has a known seed where no run time is at hand: names made for it would make the walk quadratic.
 pub fn check_names(alloc: Global, profiles: &[Profile]) -> Result<(), PolicyFault>
     ensures distinct { OnOk result (IsDistinct bytes_eq (names_of profiles.now)) }
     ensures repeated { IfErr result (λ e. (e ≡ no_memory) ⊎ ((e.kind ≡ PolicyKind.DuplicateProfile) × IsRepeated profiles.now e.at)) }

@@ -2,6 +2,11 @@
 //!
 //! Who has nothing more to do wakes the other side, looks once more, and sleeps. No clause speaks of it: a wake that is lost
 //! costs the time that a sleep takes at most.
+//!
+//! A worker doesn't wake the feeder after each answer but only when it has nothing more to do, and only if it has answered
+//! requests since, so that one hand-over carries what all lanes have. A sleeper is counted before it looks the last time, so a
+//! wake can hardly be lost. Giving the processor up in place of sleeping costs, where others want it, a slice of theirs each
+//! time.
 
 use std::sync::Wait;
 use std::sync::atomic::{AtomicU64, Ordering};

@@ -195,6 +195,8 @@ fn parts_of(mode: &[u8], deny: bool) -> Option<Mode>
 }
 
 /// What a mode says in a rule with `deny` or without it.
+// In code what a call is about stands first, as a method's `self`; in a definition it stands last, so that the definition can
+// be handed on without its text.
 #[tactic(auto, unfolding(crate::specs::Modes::mode_of))]
 pub fn mode_of(mode: &[u8], deny: bool) -> Option<Mode>
     ensures { result ≡ mode_of deny mode.now }

@@ -1,4 +1,7 @@
 //! Reads rules, word by word.
+//!
+//! Functions take `words`, `at` and `end`, and no cursor over the three: a contract would have to say of each cursor that is
+//! given back that it is over the same words and has the same end. A place alone needs neither.
 
 ghost use Rattle.std.specs.Prelude.{◌≡◌, ◌<◌, ◌≤◌, true, List, length, OnErr, IfOk, IfErr};
 ghost use Rattle.aa_words.specs.Splits.{WordData};

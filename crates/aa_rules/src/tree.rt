@@ -1,4 +1,8 @@
 //! What the words of a rule say as they are written, before any of it is given a meaning.
+//!
+//! Each tree with texts has a twin as plain data (`FileTree`, `FileData`): the trees' texts are slices of the words, which
+//! differ by where they lie in memory too, and a meaning is a function of bytes. Places in the policy's text stand in both, for
+//! the faults of the second pass.
 
 use crate::modes::{ExecMode, Mode};
 use aa_base::{Perms, Spot};

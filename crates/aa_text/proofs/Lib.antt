@@ -1,3 +1,4 @@
+pub mod Counting
 pub mod Cuts
 pub mod Lines
 pub mod Rising
@@ -5,3 +6,4 @@ pub mod Utf8
 pub mod Behind
 pub mod Plain
 pub mod Written
+pub mod Commas

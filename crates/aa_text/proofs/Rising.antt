@@ -15,7 +15,7 @@ any_append : (xs ys : List ℕ) → list_any is_line_end ys ≡ false → list_a
 any_append xs ys none = list_any-append is_line_end xs ys ∙ rw none (or_false (list_any is_line_end xs))
 
 -- bytes behind a text go on with its last line if no line end is among them
-last_append : (xs ys : List ℕ) → list_any is_line_end ys ≡ false → last_line (xs ++ ys) ≡ last_line xs ++ ys
+pub last_append : (xs ys : List ℕ) → list_any is_line_end ys ≡ false → last_line (xs ++ ys) ≡ last_line xs ++ ys
 unfolding last_line
 last_append [] ys none = one_line ys none
 last_append (x ∷ xs) ys none = rw (any_append xs ys none, last_append xs ys none) (append_so (is_line_end x) (list_any is_line_end xs) (last_line xs) xs ys x)

@@ -1,8 +1,9 @@
 -- The line of a place with a caret below it.
 -- Source: own.
-use Rattle.std.specs.Prelude.{ℕ, zero, suc, ◌+◌, ◌-◌, ◌==◌, ◌&&◌, ◌||◌, nat_lt, List, [], ◌∷◌, ◌++◌, length, take, drop, map, flat_map, min, replicate, codes, decimal, slice_index, Bool, not, if◌then◌else◌}
+use Rattle.std.specs.Prelude.{ℕ, zero, suc, ◌+◌, ◌-◌, ◌==◌, nat_lt, List, [], ◌∷◌, ◌++◌, length, take, drop, flat_map, min, replicate, codes, decimal, slice_index, Bool, not, if◌then◌else◌}
 use Rattle.std.specs.List.{take_while}
 use Rattle.aa_text.specs.Places.{is_line_end, goes_on, last_line, place_in}
+use Rattle.aa_text.specs.Visible.{all_visible}
 
 -- what stands before the first line end
 abbrev pub first_line : List ℕ → List ℕ
@@ -38,10 +39,6 @@ character_end line (suc n) = if goes_on (slice_index line (suc n)) then characte
 abbrev pub behind_cut : ℕ → List ℕ → List ℕ
 behind_cut start bytes = if start == 0 then bytes else from_character (drop start bytes)
 
--- control bytes but tab are shown as ?
-abbrev pub visible : ℕ → ℕ
-visible b = if (nat_lt b 32 && not (b == 9)) || b == 127 then 63 else b
-
 -- where a line is cut, two dots stand
 abbrev pub dots : Bool → List ℕ
 dots cut = if cut then codes ".." else []
@@ -53,7 +50,7 @@ blank b = if b == 9 then 9 ∷ [] else (if goes_on b then [] else 32 ∷ [])
 -- what is shown of the line from the window's start on, and what stands below it up to the caret
 unfoldable pub shown_from : ℕ → List ℕ → List ℕ
 shown_from start line =
-    dots (nat_lt 0 start) ++ map visible (behind_cut start (take (character_end line (start + 160)) line)) ++ dots (nat_lt (start + 160) (length line))
+    dots (nat_lt 0 start) ++ all_visible (behind_cut start (take (character_end line (start + 160)) line)) ++ dots (nat_lt (start + 160) (length line))
 
 -- the blanks below a line's front, up to the caret
 unfoldable pub blanks_from : ℕ → ℕ → List ℕ → List ℕ

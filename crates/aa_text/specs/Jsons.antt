@@ -34,10 +34,40 @@ key_text key = codes "\"" ++ key ++ codes "\":"
 abbrev pub bool_text : Bool → List ℕ
 bool_text b = if b then codes "true" else codes "false"
 
+-- behind a comma, a member
+unfoldable pub member_text : List ℕ → List ℕ → List ℕ
+member_text key value = codes "," ++ key_text key ++ value
+
+-- the same of a value that may be none
+abbrev pub member_if : List ℕ → Option (List ℕ) → List ℕ
+member_if key None = []
+member_if key (Some value) = member_text key value
+
+-- each text behind a comma
+abbrev pub behind_commas : List (List ℕ) → List ℕ
+behind_commas texts = flat_map (λ text. codes "," ++ text) texts
+
+-- texts with a comma between two of them
+abbrev pub with_commas : List (List ℕ) → List ℕ
+with_commas [] = []
+with_commas (text ∷ texts) = text ++ behind_commas texts
+
+-- a comma, where a text stands before
+abbrev pub comma_if : Bool → List ℕ
+comma_if later = if later then codes "," else []
+
+-- what is still to be written of a list, where a text of it stands before or none
+abbrev pub more_of : Bool → List (List ℕ) → List ℕ
+more_of later texts = if later then behind_commas texts else with_commas texts
+
+-- a list
+unfoldable pub list_text : List (List ℕ) → List ℕ
+list_text texts = codes "[" ++ with_commas texts ++ codes "]"
+
 -- line and column, as members
 abbrev pub line_members : Option PlaceAt → List ℕ
 line_members None = []
-line_members (Some p) = codes "," ++ key_text (codes "line") ++ decimal p.line ++ codes "," ++ key_text (codes "column") ++ decimal p.column
+line_members (Some p) = member_text (codes "line") (decimal p.line) ++ member_text (codes "column") (decimal p.column)
 
 -- the members of a path and of a place in it
 unfoldable pub json_place : List ℕ → Option PlaceAt → List ℕ

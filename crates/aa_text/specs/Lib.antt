@@ -1,4 +1,6 @@
+pub mod Visible
 pub mod Places
+pub mod Kept
 pub mod Excerpts
 pub mod RuleTexts
 pub mod Texts

@@ -1,11 +1,14 @@
 //! What is said of a fault.
 
-ghost use Rattle.std.specs.Prelude.{◌≡◌, ◌++◌, map, flat_map, codes, OnOk};
-ghost use Rattle.aa_text.specs.Faults.{place_if, head_line, included_from, link_line, further_line, fault_text, behind_commas, with_commas, json_link, json_chain, byte_member, json_kind, json_message, json_fault};
+ghost use Rattle.std.specs.Prelude.{◌≡◌, ◌++◌, flat_map, codes, OnOk};
+ghost use Rattle.aa_text.specs.Visible.{all_visible};
+ghost use Rattle.aa_text.specs.Faults.{where_if, head_line, included_from, link_line, further_line, fault_text, json_link, json_chain, byte_member, json_kind, json_message};
 
-use crate::json_text::{push_json_bytes, push_json_text, push_key};
+use crate::json_text::{push_json_text, push_key};
 use crate::position::{PlaceAt, push_json_place, push_where};
-use crate::text::{push_number, push_text};
+use crate::text::push_text;
+use crate::to_json::{ToJson, push_list, push_member};
+use crate::visible::push_visible;
 use std::alloc::{AllocError, Global};
 
 /// An include on the way to a text.
@@ -34,11 +37,11 @@ pub struct FaultReport {
 }
 
 fn push_path(out: &mut Vec<u8>, fault: &FaultReport) -> Result<(), AllocError>
-    ensures { OnOk result (out.new.items ≡ out.old.items ++ (fault.now.path.items ++ place_if fault.now.place)) }
+    ensures { OnOk result (out.new.items ≡ out.old.items ++ where_if fault.now.path.items fault.now.place) }
 {
     match fault.place {
         Some(place) => push_where(out, fault.path.as_slice(), place),
-        None => out.extend_from_slice(fault.path.as_slice()),
+        None => push_visible(out, fault.path.as_slice()),
     }
 }
 
@@ -51,7 +54,7 @@ fn push_head(out: &mut Vec<u8>, fault: &FaultReport) -> Result<(), AllocError>
     push_text(out, ": ")?;
     push_text(out, fault.kind)?;
     push_text(out, ": ")?;
-    out.extend_from_slice(fault.message.as_slice())?;
+    push_visible(out, fault.message.as_slice())?;
     push_text(out, "\n")
 }
 
@@ -81,10 +84,10 @@ fn push_chain(out: &mut Vec<u8>, chain: &[Link]) -> Result<(), AllocError>
 }
 
 fn push_further(out: &mut Vec<u8>, line: &[u8]) -> Result<(), AllocError>
-    ensures { OnOk result (out.new.items ≡ out.old.items ++ (codes "      " ++ line.now ++ codes "\n")) }
+    ensures { OnOk result (out.new.items ≡ out.old.items ++ (codes "      " ++ all_visible line.now ++ codes "\n")) }
 {
     push_text(out, "      ")?;
-    out.extend_from_slice(line)?;
+    push_visible(out, line)?;
     push_text(out, "\n")
 }
 
@@ -107,35 +110,17 @@ pub fn push_fault(out: &mut Vec<u8>, fault: &FaultReport) -> Result<(), AllocErr
     push_all_further(out, fault.further.as_slice())
 }
 
-#[tactic(auto, unfolding(crate::specs::Faults::json_link))]
-fn push_json_link(out: &mut Vec<u8>, alloc: Global, link: &Link) -> Result<(), AllocError>
-    ensures { OnOk result (out.new.items ≡ out.old.items ++ json_link link.now) }
-{
-    push_text(out, "{")?;
-    push_json_place(out, alloc, link.path.as_slice(), Some(link.place))?;
-    push_text(out, "}")
-}
+impl ToJson for Link {
+    ghost use Rattle.aa_text.specs.Faults.{json_link};
 
-/// Appends links with a comma before each.
-fn push_later_links(out: &mut Vec<u8>, alloc: Global, chain: &[Link]) -> Result<(), AllocError>
-    ensures { OnOk result (out.new.items ≡ out.old.items ++ behind_commas (map json_link chain.now)) }
-{
-    for link in chain {
-        push_text(out, ",")?;
-        push_json_link(out, alloc, link)?;
+    ghost json = { json_link };
+
+    #[tactic(auto, unfolding(crate::specs::Faults::json_link))]
+    fn push_json(&self, out: &mut Vec<u8>, alloc: Global) -> Result<(), AllocError> {
+        push_text(out, "{")?;
+        push_json_place(out, alloc, self.path.as_slice(), Some(self.place))?;
+        push_text(out, "}")
     }
-    Ok(())
-}
-
-/// Appends links with a comma between two of them.
-fn push_json_links(out: &mut Vec<u8>, alloc: Global, chain: &[Link]) -> Result<(), AllocError>
-    ensures { OnOk result (out.new.items ≡ out.old.items ++ with_commas (map json_link chain.now)) }
-{
-    let [first, later @ ..] = chain else {
-        return Ok(());
-    };
-    push_json_link(out, alloc, first)?;
-    push_later_links(out, alloc, later)
 }
 
 #[tactic(auto, unfolding(crate::specs::Faults::json_chain))]
@@ -143,30 +128,28 @@ fn push_json_chain(out: &mut Vec<u8>, alloc: Global, chain: &[Link]) -> Result<(
     ensures { OnOk result (out.new.items ≡ out.old.items ++ json_chain chain.now) }
 {
     push_key(out, "chain")?;
-    push_text(out, "[")?;
-    push_json_links(out, alloc, chain)?;
-    push_text(out, "]")
+    push_list(out, alloc, chain)
 }
 
 /// Appends a comma and the member `byte`, where there is a place.
-fn push_json_byte(out: &mut Vec<u8>, place: Option<PlaceAt>) -> Result<(), AllocError>
+fn push_json_byte(
+    out: &mut Vec<u8>,
+    alloc: Global,
+    place: Option<PlaceAt>,
+) -> Result<(), AllocError>
     ensures { OnOk result (out.new.items ≡ out.old.items ++ byte_member place) }
 {
     let Some(place) = place else {
         return Ok(());
     };
-    push_text(out, ",")?;
-    push_key(out, "byte")?;
-    push_number(out, place.byte)
+    push_member(out, alloc, "byte", &place.byte)
 }
 
 #[tactic(auto, unfolding(crate::specs::Faults::json_message))]
-fn push_json_message(out: &mut Vec<u8>, alloc: Global, message: &[u8]) -> Result<(), AllocError>
-    ensures { OnOk result (out.new.items ≡ out.old.items ++ json_message message.now) }
+fn push_json_message(out: &mut Vec<u8>, alloc: Global, message: &Vec<u8>) -> Result<(), AllocError>
+    ensures { OnOk result (out.new.items ≡ out.old.items ++ json_message message.now.items) }
 {
-    push_text(out, ",")?;
-    push_key(out, "message")?;
-    push_json_bytes(out, alloc, message)?;
+    push_member(out, alloc, "message", message)?;
     push_text(out, ",")
 }
 
@@ -181,18 +164,17 @@ fn push_json_kind(out: &mut Vec<u8>, alloc: Global, kind: &str) -> Result<(), Al
     push_text(out, ",")
 }
 
-/// Appends a fault as a JSON object.
-pub fn push_json_fault(
-    out: &mut Vec<u8>,
-    alloc: Global,
-    fault: &FaultReport,
-) -> Result<(), AllocError>
-    ensures { OnOk result (out.new.items ≡ out.old.items ++ json_fault fault.now) }
-{
-    push_json_kind(out, alloc, fault.kind)?;
-    push_json_place(out, alloc, fault.path.as_slice(), fault.place)?;
-    push_json_byte(out, fault.place)?;
-    push_json_message(out, alloc, fault.message.as_slice())?;
-    push_json_chain(out, alloc, fault.chain.as_slice())?;
-    push_text(out, "}")
+impl ToJson for FaultReport {
+    ghost use Rattle.aa_text.specs.Faults.{json_fault};
+
+    ghost json = { json_fault };
+
+    fn push_json(&self, out: &mut Vec<u8>, alloc: Global) -> Result<(), AllocError> {
+        push_json_kind(out, alloc, self.kind)?;
+        push_json_place(out, alloc, self.path.as_slice(), self.place)?;
+        push_json_byte(out, alloc, self.place)?;
+        push_json_message(out, alloc, &self.message)?;
+        push_json_chain(out, alloc, self.chain.as_slice())?;
+        push_text(out, "}")
+    }
 }

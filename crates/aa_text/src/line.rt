@@ -14,7 +14,8 @@ fn first_line_length(text: &[u8]) -> usize
     text.iter().take_while(|b| **b != b'\n').count()
 }
 
-fn drop_return(line: &[u8]) -> &[u8]
+/// A line without the CR before its end, if it has one.
+pub fn without_return(line: &[u8]) -> &[u8]
     ensures { result.now ≡ without_return line.now }
 {
     match line {
@@ -38,5 +39,5 @@ pub(crate) fn line_at(text: &[u8], byte: usize) -> &[u8]
     let front = before(text, byte);
     let start = front.len() - behind_line_ends(front).len();
     let end = front.len() + first_line_length(behind(text, byte));
-    drop_return(&text[start..end])
+    without_return(&text[start..end])
 }

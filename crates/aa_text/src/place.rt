@@ -13,7 +13,7 @@ pub struct Place {
     pub column: usize,
 }
 
-fn ends_line(b: u8) -> bool
+pub(crate) fn ends_line(b: u8) -> bool
     ensures { result ≡ is_line_end b }
 {
     b == b'\n'

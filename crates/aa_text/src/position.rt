@@ -2,12 +2,14 @@
 
 ghost use Rattle.std.specs.Prelude.{◌≡◌, ◌++◌, OnOk};
 ghost use Rattle.aa_text.specs.Places.{place_in};
-ghost use Rattle.aa_text.specs.Texts.{line_and_column, place_text};
+ghost use Rattle.aa_text.specs.Texts.{line_and_column, place_text, where_text};
 ghost use Rattle.aa_text.specs.Jsons.{line_members, json_place};
 
 use crate::json_text::{push_json_bytes, push_key};
 use crate::place::place_of;
 use crate::text::{push_number, push_text};
+use crate::to_json::push_member;
+use crate::visible::push_visible;
 use std::alloc::{AllocError, Global};
 
 /// A place in a text, as people count, and its byte from 0.
@@ -48,27 +50,27 @@ pub fn push_place(out: &mut Vec<u8>, text: &[u8], byte: usize) -> Result<(), All
     push_at(out, place_at(text, byte))
 }
 
-/// Appends a path and a place in it.
+/// Appends a path, as it is shown, and a place in it.
 pub fn push_where(out: &mut Vec<u8>, path: &[u8], place: PlaceAt) -> Result<(), AllocError>
-    ensures { OnOk result (out.new.items ≡ out.old.items ++ (path.now ++ place_text place)) }
+    ensures { OnOk result (out.new.items ≡ out.old.items ++ where_text path.now place) }
 {
-    out.extend_from_slice(path)?;
+    push_visible(out, path)?;
     push_at(out, place)
 }
 
 /// Appends a comma, and the members `line` and `column`, where there is a place.
-fn push_line_members(out: &mut Vec<u8>, place: Option<PlaceAt>) -> Result<(), AllocError>
+fn push_line_members(
+    out: &mut Vec<u8>,
+    alloc: Global,
+    place: Option<PlaceAt>,
+) -> Result<(), AllocError>
     ensures { OnOk result (out.new.items ≡ out.old.items ++ line_members place) }
 {
     let Some(place) = place else {
         return Ok(());
     };
-    push_text(out, ",")?;
-    push_key(out, "line")?;
-    push_number(out, place.line)?;
-    push_text(out, ",")?;
-    push_key(out, "column")?;
-    push_number(out, place.column)
+    push_member(out, alloc, "line", &place.line)?;
+    push_member(out, alloc, "column", &place.column)
 }
 
 /// Appends the members `path`, `line` and `column`, the last two where there is a place.
@@ -83,5 +85,5 @@ pub fn push_json_place(
 {
     push_key(out, "path")?;
     push_json_bytes(out, alloc, path)?;
-    push_line_members(out, place)
+    push_line_members(out, alloc, place)
 }

@@ -6,12 +6,13 @@ ghost use Rattle.aa_text.specs.Places.{is_line_end};
 ghost use Rattle.aa_text.specs.RuleTexts.{is_blank, rest_of_line, without_blanks_behind, trimmed, IsWholeEnd, IsShown, IsRuleText};
 
 use crate::place::continues;
+use memchr::memchr;
 
 fn line_length(text: &[u8]) -> usize
     ensures length { result ≡ prefix_len (λ b. not (is_line_end b)) text.now }
     ensures within { result ≤ length text.now }
 {
-    text.iter().take_while(|b| !(**b == b'\n')).count()
+    memchr(b'\n', text).unwrap_or(text.len())
 }
 
 /// Up to the first line end.

@@ -1,11 +1,12 @@
 //! The line of a place with a caret below it.
 
-ghost use Rattle.std.specs.Prelude.{◌≡◌, ◌≤◌, ◌<◌, ◌+◌, ◌-◌, ◌++◌, ◌^◌, length, map, flat_map, take, replicate, decimal, codes, nat_lt, OnOk, IfOk, if◌then◌else◌, []};
-ghost use Rattle.aa_text.specs.Excerpts.{visible, dots, blank, shown_from, blanks_from, aligned, behind_cut, character_end, excerpt_at, excerpt_of};
+ghost use Rattle.std.specs.Prelude.{◌≡◌, ◌≤◌, ◌<◌, ◌+◌, ◌-◌, ◌++◌, ◌^◌, length, flat_map, take, replicate, decimal, codes, nat_lt, OnOk, IfOk, if◌then◌else◌, []};
+ghost use Rattle.aa_text.specs.Excerpts.{dots, blank, shown_from, blanks_from, aligned, behind_cut, character_end, excerpt_at, excerpt_of};
 
 use crate::cut::{SHOWN, from_cut, last_whole, window_begin};
 use crate::line::{line_at, line_offset};
 use crate::place::{before, continues, place_of};
+use crate::visible::push_visible;
 use itoa::Buffer;
 use std::alloc::{AllocError, Global};
 
@@ -30,25 +31,6 @@ fn push_aligned(out: &mut Vec<u8>, number: usize) -> Result<(), AllocError>
     let digits = buffer.format(number);
     push_spaces(out, WIDTH.saturating_sub(digits.len()))?;
     out.extend_from_slice(digits.as_bytes())
-}
-
-fn shown_as(b: u8) -> u8
-    ensures { result ≡ visible b }
-{
-    if (b < b' ' && b != b'\t') || b == 127 {
-        b'?'
-    } else {
-        b
-    }
-}
-
-fn push_visible(out: &mut Vec<u8>, bytes: &[u8]) -> Result<(), AllocError>
-    ensures { OnOk result (out.new.items ≡ out.old.items ++ map visible bytes.now) }
-{
-    for b in bytes {
-        out.push(shown_as(*b))?;
-    }
-    Ok(())
 }
 
 fn dots_of(is_cut: bool) -> &'static [u8]

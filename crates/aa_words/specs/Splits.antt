@@ -323,6 +323,8 @@ abbrev pub ReadsBy : (Reading → List ℕ → Count → List WordData → Count
 ReadsBy deeper s text n ws m = (ps : List Part) × (text ≡ spelled ps) × AreParts start ps × Gives deeper s 0 ps n ws m
 
 -- With so many depths for it and its includes, a reading of a text gives these words; so much was read before and behind it.
+-- Includes are defined by how many depths are left: that needs no list of the sources on the way, and the limits count readings
+-- in their order.
 unfoldable pub Reads : ℕ → List (List ℕ × List ℕ) → Reading → List ℕ → Count → List WordData → Count → Type 0
 Reads zero sources r text n ws m = ⊥
 Reads (suc d) sources r text n ws m = ReadsBy (Reads d sources) (record { sources = sources; depth = d; reading = r }) text n ws m

@@ -29,6 +29,16 @@ const JOB: &str =
 const LOG: &str =
     "Says what a log's lines ask, and how a policy answers them now, as in: aapolicy log /var/log/kern.log --against /etc/apparmor.d/usr.sbin.cupsd";
 
+/// The exit statuses, and where more stands.
+const STATUSES: &str = "Exit status, where several hold the first:
+  2  the command line is refused
+  3  a file or folder can't be read, the output can't be written, or memory ran out
+  1  a policy is refused, or what is asked for isn't there
+  4  all was read, and the answer is no
+  0  else
+
+docs/AAPOLICY.md has what each command reads and prints, docs/FAULTS.md what is refused.";
+
 /// How an argument is written.
 #[derive(Clone, Copy)]
 enum Form {
@@ -384,6 +394,7 @@ fn program<'a>(alloc: Global) -> Command<'a> {
         .about("Reads AppArmor policies as they lie in files, and logs of what was asked")
         .version(VERSION)
         .subcommand_required(true)
+        .after_help(STATUSES)
 }
 
 fn with_command<'a>(

@@ -146,6 +146,30 @@ fn run_wanted(
     }
 }
 
+/// The arguments of a command that name files, of which `-` is standard input.
+fn file_arguments(name: &str) -> &'static [&'static str] {
+    match name {
+        "check" => &["PROFILE"],
+        "ask" => &["PROFILE", "also", "from"],
+        "log" => &["FILE", "against"],
+        _ => &["PROFILE", "log"],
+    }
+}
+
+/// How often the command line names standard input.
+fn count_inputs(alloc: Global, name: &str, matches: &ArgMatches<'_>) -> Result<usize, AllocError> {
+    let mut count: usize = 0;
+    for id in file_arguments(name) {
+        let values = values_of(alloc, matches, id)?;
+        let inputs = values
+            .iter()
+            .filter(|value| **value == "-".as_bytes())
+            .count();
+        count = count.saturating_add(inputs);
+    }
+    Ok(count)
+}
+
 /// Does what the command line asks.
 pub fn run_named(rt: &HostRuntime, matches: &ArgMatches<'_>) -> Result<Output, NoMemory> {
     let alloc = rt.alloc();
@@ -156,6 +180,9 @@ pub fn run_named(rt: &HostRuntime, matches: &ArgMatches<'_>) -> Result<Output, N
     let Some(states) = states_of(matches) else {
         return refused(alloc, "error: --states takes a number, 1 to 1000000\n", 2);
     };
+    if count_inputs(alloc, name, matches)? > 1 {
+        return refused(alloc, "error: standard input can be read once\n", 2);
+    }
     let settings = Settings {
         base: base_of(matches),
         folders: folders.as_slice(),

@@ -1,7 +1,9 @@
 //! Places of worked texts.
 
 use crate::comparing::equal;
-use aa_text::{Place, place_of};
+use crate::texts::repeated;
+use aa_text::{Place, PlacedText, place_of};
+use std::alloc::{AllocError, Global};
 use std::process::Abort;
 
 /// A text, a byte, and its line and column.
@@ -62,4 +64,27 @@ fn a_return_is_a_character_and_a_byte_behind_the_text_its_end(rt: HostRuntime) {
             (b"a\rb", 2, 1, 3),
         ],
     );
+}
+
+fn placed(alloc: Global, text: &[u8]) -> Result<PlacedText<'_>, AllocError> {
+    PlacedText::new(alloc, text)
+}
+
+#[test]
+fn places_of_one_text_are_counted_from_near_ones(rt: HostRuntime) {
+    // Two hundred lines of eight bytes and seven characters each.
+    let text = repeated(&rt, rt.alloc(), b"\t/\xC3\xA4 r,\n", 200);
+    let placed = placed(rt.alloc(), text.as_slice()).expect(&rt, "memory");
+    for (byte, line, column) in [
+        (0, 1, 1),
+        (255, 32, 7),
+        (256, 33, 1),
+        (804, 101, 4),
+        (1600, 201, 1),
+        (9999, 201, 1),
+    ] {
+        let found = placed.place_of(byte);
+        equal(&rt, found.line, line);
+        equal(&rt, found.column, column);
+    }
 }

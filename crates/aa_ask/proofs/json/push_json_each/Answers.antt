@@ -1,6 +1,16 @@
-use Rattle.std.proofs.Common.{arith}
-use Rattle.aa_ask.proofs.Commas.{all_appended}
+use Rattle.std.proofs.Common.{◌++◌, List, map, sym, ap, ◌∙◌}
+use Rattle.std.specs.Prelude.{ℕ}
+use Rattle.std.specs.List.{filter}
+use Rattle.aa_text.specs.Jsons.{list_text}
+use Rattle.aa_text.proofs.Commas.{map_map, filter_map}
+use Rattle.aa_ask.specs.declared.explained.DeciderLine.{DeciderLine}
+use Rattle.aa_ask.specs.Named.{named}
+use Rattle.aa_ask.specs.Json.{decides_so, json_decider}
 use Rattle.aa_ask.proofs.json.push_json_each.Goals as goal
 
 pub returns : goal.returns
-returns c = all_appended c.args.denies c.loop-rest.is_later c.args.out.now.items c.loop-rest.out.items c.loop-rest.rest.now c.args.lines.now (omega arith) c.loop-rest.invariant
+returns c =
+    let is = decides_so c.args.denies in
+    let lines = c.args.lines.now in
+    c.in_ok-push_list_in.ensures ∙ ap (λ (l : List (List ℕ)). c.args.out.now.items ++ list_text l)
+    (sym (ap (map json_decider) (filter_map is named lines) ∙ map_map json_decider named (filter (λ (l : DeciderLine). is (named l)) lines)))

@@ -1,7 +1,8 @@
 use Rattle.std.proofs.lemmas.Grind.{common_steps}
 use Rattle.std.proofs.Common.{rules, subst, sym, ◌∙◌, true≢false, false, arith}
-use Rattle.aa_auto.specs.Division.{AreAlone}
-use Rattle.aa_auto.proofs.DivisionLemmas.{classes_more, alone_more}
+use Rattle.aa_auto.specs.declared.classes.Classes.{Classes}
+use Rattle.aa_auto.specs.Division.{AreAlone, AreClasses}
+use Rattle.aa_auto.proofs.DivisionLemmas.{if_ok, classes_more, alone_more, numbered}
 use Rattle.aa_auto.proofs.classes.classes_of.Goals as goal
 
 pub loop-node-init : goal.loop-node-init
@@ -24,4 +25,8 @@ loop-node-preserved c = record {
 }
 
 pub returns : goal.returns
-returns c = grind (arith, common_steps)
+returns c =
+    let whole : AreClasses c.args.nodes.now c.loop-node.classes.of.items c.loop-node.classes.bytes.items = grind (arith, common_steps) in
+    if_ok c.in_order.result
+    (λ (new : Classes) all. numbered c.args.nodes.now c.as_slice-2.result.now c.loop-node.classes.of.items c.loop-node.classes.bytes.items new.of.items new.bytes.items c.as_slice-2.ensures.value whole all)
+    c.in_order.ensures

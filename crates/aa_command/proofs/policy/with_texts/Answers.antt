@@ -1,4 +1,4 @@
-use Rattle.std.proofs.Common.{refl}
+use Rattle.std.proofs.Common.{◌∙◌}
 use Rattle.std.proofs.lemmas.Result.{IfOk-weaker}
 use Rattle.aa_files.specs.Texts.{slices}
 use Rattle.aa_command.specs.declared.output.Output.{Output}
@@ -10,15 +10,15 @@ use Rattle.aa_command.proofs.Outputs.{loading_said_more}
 use Rattle.aa_command.proofs.Deciding.{one_lent, printed_by}
 use Rattle.aa_command.proofs.policy.with_texts.Goals as goal
 
-pub returns-in-Ok : goal.returns-in-Ok
-returns-in-Ok g c =
+pub returns-in_ok-placed-in-Ok : goal.returns-in_ok-placed-in-Ok
+returns-in_ok-placed-in-Ok g c =
     let states = c.args.settings.now.states in
     printed_by (slices c.args.settings.now.folders.now) states c.args.units.now (g.U.Use.gives c.args.user.now) _ c.use_policy.result (record {
-      units_are = refl;
+      units_are = c.as_slice.ensures.value ∙ c.in_ok-placed-in-Ok.ensures;
       texts = c.args.texts.now;
       are = c.requires;
-      one = one_lent c.args.texts.now (limit_of states) c.in-Ok.loaded.owners.items c.as_slice.result.now c.in-Ok.loaded.places.items c.as_slice-in-Ok-2.result.now c.in-Ok.loaded.policies.items c.as_slice-in-Ok.result.now
-          c.as_slice.ensures.value c.as_slice-in-Ok-2.ensures.value c.as_slice-in-Ok.ensures.value c.in-Ok.ensures.ok;
+      one = one_lent c.args.texts.now (limit_of states) c.in-Ok.loaded.owners.items c.as_slice-in-Ok.result.now c.in-Ok.loaded.places.items c.as_slice-in-Ok-3.result.now c.in-Ok.loaded.policies.items c.as_slice-in-Ok-2.result.now
+          c.as_slice-in-Ok.ensures.value c.as_slice-in-Ok-3.ensures.value c.as_slice-in-Ok-2.ensures.value c.in-Ok.ensures.ok;
     }) c.use_policy.ensures
 
 pub returns-in-Err : goal.returns-in-Err

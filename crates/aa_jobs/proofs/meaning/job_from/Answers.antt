@@ -1,18 +1,24 @@
-use Rattle.std.proofs.Common.{◌≡◌, ◌∙◌, true, length, map, Ok, refl, sym, ap}
+use Rattle.std.proofs.Common.{◌≡◌, ◌∙◌, true, length, map, nat_le, Ok, refl, sym, ap, arith}
+use Rattle.std.proofs.lemmas.Bool.Decides.{nat_tests}
 use Rattle.std.proofs.lemmas.List.{length-map}
 use Rattle.aa_jobs.specs.Steps.{each}
 use Rattle.aa_jobs.specs.Limits.{keeps_limits}
-use Rattle.aa_jobs.specs.Meaning.{task_of, event_of}
+use Rattle.aa_jobs.specs.Meaning.{task_of, event_of, written_sizes}
 use Rattle.aa_jobs.specs.Raw.{raw_text, raw_task, raw_include, raw_job}
-use Rattle.aa_jobs.proofs.Kept.{limits_kept, meaning_is}
+use Rattle.aa_jobs.proofs.Kept.{capacity_fits, limits_kept, meaning_is}
 use Rattle.aa_jobs.proofs.meaning.job_from.Goals as goal
+
+pub overflow_cast-result-2 : goal.overflow_cast-result-2
+overflow_cast-result-2 c =
+    let small : nat_le c.args.raw.capacity 1024 ≡ true = capacity_fits (written_sizes (raw_job c.args.raw)) c.requires in
+    grind (arith, nat_tests)
 
 pub invariant_of-result : goal.invariant_of-result
 invariant_of-result c =
-    let w = raw_job c.args.raw.now in
-    let n : length c.as_slice-list.result.now ≡ length w.tasks = ap length c.as_slice-list.ensures.value ∙ sym (length-map c.args.raw.now.tasks.items raw_task) in
-    let m : length c.as_slice-texts.result.now ≡ length w.policies = ap length c.as_slice-texts.ensures.value ∙ sym (length-map c.args.raw.now.policies.items raw_text) in
-    let t : each (task_of (length w.policies)) w.tasks ≡ Ok c.in_ok-tasks.tasks.items = rw (m, c.as_slice-list.ensures.value) at c.in_ok-tasks.ensures in
+    let w = raw_job c.args.raw in
+    let n : length c.as_slice-rows.result.now ≡ length w.tasks = ap length c.as_slice-rows.ensures.value ∙ sym (length-map c.args.raw.tasks.items raw_task) in
+    let m : length c.as_slice-texts.result.now ≡ length w.policies = ap length c.as_slice-texts.ensures.value ∙ sym (length-map c.args.raw.policies.items raw_text) in
+    let t : each (task_of (length w.policies)) w.tasks ≡ Ok c.in_ok-tasks.tasks.items = rw m at c.in_ok-tasks.ensures in
     let e : each (event_of (length w.tasks)) w.events ≡ Ok c.in_ok-events.events.items = rw (n, c.as_slice.ensures.value) at c.in_ok-events.ensures in
     let p : c.from_vec.result ≡ w.policies = c.from_vec.ensures ∙ c.in_ok-policies.ensures ∙ ap (map raw_text) c.as_slice-texts.ensures.value in
     let i : c.from_vec-2.result ≡ w.includes = c.from_vec-2.ensures ∙ c.in_ok-includes.ensures ∙ ap (map raw_include) c.as_slice-2.ensures.value in
@@ -21,10 +27,10 @@ invariant_of-result c =
 
 pub returns : goal.returns
 returns c =
-    let w = raw_job c.args.raw.now in
-    let n : length c.as_slice-list.result.now ≡ length w.tasks = ap length c.as_slice-list.ensures.value ∙ sym (length-map c.args.raw.now.tasks.items raw_task) in
-    let m : length c.as_slice-texts.result.now ≡ length w.policies = ap length c.as_slice-texts.ensures.value ∙ sym (length-map c.args.raw.now.policies.items raw_text) in
-    let t : each (task_of (length w.policies)) w.tasks ≡ Ok c.in_ok-tasks.tasks.items = rw (m, c.as_slice-list.ensures.value) at c.in_ok-tasks.ensures in
+    let w = raw_job c.args.raw in
+    let n : length c.as_slice-rows.result.now ≡ length w.tasks = ap length c.as_slice-rows.ensures.value ∙ sym (length-map c.args.raw.tasks.items raw_task) in
+    let m : length c.as_slice-texts.result.now ≡ length w.policies = ap length c.as_slice-texts.ensures.value ∙ sym (length-map c.args.raw.policies.items raw_text) in
+    let t : each (task_of (length w.policies)) w.tasks ≡ Ok c.in_ok-tasks.tasks.items = rw m at c.in_ok-tasks.ensures in
     let e : each (event_of (length w.tasks)) w.events ≡ Ok c.in_ok-events.events.items = rw (n, c.as_slice.ensures.value) at c.in_ok-events.ensures in
     let p : c.from_vec.result ≡ w.policies = c.from_vec.ensures ∙ c.in_ok-policies.ensures ∙ ap (map raw_text) c.as_slice-texts.ensures.value in
     let i : c.from_vec-2.result ≡ w.includes = c.from_vec-2.ensures ∙ c.in_ok-includes.ensures ∙ ap (map raw_include) c.as_slice-2.ensures.value in

@@ -1,4 +1,4 @@
-use Rattle.std.proofs.Common.{◌≡◌, map, drop}
+use Rattle.std.proofs.Common.{◌≡◌, map}
 use Rattle.aa_jobs.specs.Steps.{each}
 use Rattle.aa_jobs.specs.Meaning.{task_of}
 use Rattle.aa_jobs.specs.Raw.{raw_task}
@@ -6,4 +6,4 @@ use Rattle.aa_jobs.proofs.Rows.{with_front}
 use Rattle.aa_jobs.proofs.meaning.tasks.Given as goal
 
 abbrev pub invariant-loop-raw : goal.invariant-loop-raw
-invariant-loop-raw l = with_front l.tasks.items (each (task_of l.policies) (map raw_task (drop l.raw-index l.list))) ≡ each (task_of l.policies) (map raw_task l.list)
+invariant-loop-raw l = with_front l.tasks.items (each (task_of l.policies) (map raw_task l.raw-iterator.rest.items)) ≡ each (task_of l.policies) (map raw_task l.fn.list.items)

@@ -1,5 +1,5 @@
 use Rattle.std.proofs.Common.{◌≡◌, ◌++◌, map, take}
-use Rattle.aa_text.specs.Faults.{with_commas}
+use Rattle.aa_text.specs.Jsons.{with_commas}
 use Rattle.aa_log.specs.Commas.{is_some_of}
 use Rattle.aa_log.specs.Against.{IsNewlyDenied, AreCounted, json_changes}
 use Rattle.aa_log.proofs.against.push_json_all_shown.Given as goal

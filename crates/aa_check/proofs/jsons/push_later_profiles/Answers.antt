@@ -1,9 +1,0 @@
-use Rattle.std.proofs.lemmas.Grind.{common_steps}
-use Rattle.std.proofs.Common.{arith}
-use Rattle.aa_check.proofs.jsons.push_later_profiles.Goals as goal
-
-pub loop-profile-preserved : goal.loop-profile-preserved
-loop-profile-preserved c = grind (arith, common_steps)
-
-pub returns : goal.returns
-returns c = grind (arith, common_steps)

@@ -1,0 +1,281 @@
+//! A job's value in one pass over its tokens. Each item of a task is read as a tree of its own, and let go once it is looked at.
+
+ghost use Rattle.std.specs.Prelude.{◌≡◌, ◌<◌, [], ◌∷◌, List, Result, MatchResult, codes, length, map, option_map};
+ghost use Rattle.json.specs.Json.{items, members, parse_map, read_key, value};
+ghost use Rattle.json.specs.Reads.{token_of};
+ghost use Rattle.serde_json.specs.Data.{no_members};
+ghost use Rattle.serde_json.specs.Read.{converted, of_json, of_items, of_members};
+ghost use Rattle.aa_jobs.specs.declared.job_fault.JobFault.{JobFault};
+ghost use Rattle.aa_jobs.specs.declared.job_fault.JobFault.TheVariants.{NotJson};
+ghost use Rattle.aa_jobs.specs.Raw.{raw_item, raw_job, raw_task};
+ghost use Rattle.aa_jobs.specs.Shape.{data_list, item_shape, job_shape, task_shape};
+ghost use Rattle.aa_jobs.specs.Steps.{Gives, each, needed};
+ghost use Rattle.aa_jobs.specs.Stream.{Reads, ReadsApart, followed, items_shape, tasks_shape};
+ghost use Rattle.aa_jobs.specs.Trees.{object_data};
+ghost use Rattle.aa_jobs.specs.Written.{WrittenItem, WrittenTask};
+
+use crate::job_fault::JobFault;
+use crate::raw::{RawItem, RawJob, RawTask};
+use crate::shape;
+use crate::tree::{self, Member, Tree};
+use json::{Reader, Token, Value};
+use std::alloc::Global;
+
+/// What stands in a value, or the fault of its shape: a later fault of the whole text may count before it.
+type Shaped<X> = Result<X, JobFault>;
+
+fn next_token<'t>(reader: &mut Reader<'t>) -> Result<Token<'t>, JobFault>
+    ensures { MatchResult result (λ t. reader.old ≡ token_of t ∷ reader.new) (λ e. (e ≡ NotJson) × (reader.old ≡ [])) }
+{
+    match reader.next() {
+        Some(token) => Ok(token),
+        None => Err(JobFault::NotJson),
+    }
+}
+
+fn next_key<'t>(reader: &mut Reader<'t>) -> Result<Option<&'t str>, JobFault>
+    ensures { Gives (λ k. (option_map (λ s. s.now) k, reader.new)) result (needed NotJson (read_key reader.old)) }
+{
+    match reader.next_key() {
+        Ok(key) => Ok(key),
+        Err(_) => Err(JobFault::NotJson),
+    }
+}
+
+/// Passes the next value.
+fn pass_next(alloc: Global, reader: &mut Reader, depth: usize) -> Result<(), JobFault>
+    ensures { Gives (λ _. reader.new) result (needed NotJson (option_map (λ p. p.1) (converted of_json (value depth reader.old)))) }
+{
+    tree::next(alloc, reader, depth)?;
+    Ok(())
+}
+
+/// Passes the items of an array.
+fn pass_items(alloc: Global, reader: &mut Reader, depth: usize) -> Result<(), JobFault>
+    ensures { Gives (λ _. reader.new) result (needed NotJson (option_map (λ p. p.1) (converted of_items (items (value depth) (length reader.old) reader.old)))) }
+{
+    'turns: while !reader.take_end_array() {
+        pass_next(alloc, reader, depth)?;
+    }
+    Ok(())
+}
+
+/// Passes the members of an object.
+fn pass_members(alloc: Global, reader: &mut Reader, depth: usize) -> Result<(), JobFault>
+    ensures { Gives (λ _. reader.new) result (needed NotJson (option_map (λ p. p.1) (converted (λ ms. of_members ms no_members) (members (value depth) (length reader.old) reader.old)))) }
+{
+    'turns: while let Some(_) = next_key(reader)? {
+        pass_next(alloc, reader, depth)?;
+    }
+    Ok(())
+}
+
+/// Passes the value that begins with the token.
+fn pass(alloc: Global, reader: &mut Reader, token: Token, depth: usize) -> Result<(), JobFault>
+    requires { 0 < depth }
+    ensures { Gives (λ _. reader.new) result (needed NotJson (option_map (λ p. p.1) (converted of_json (value depth (token_of token.entry ∷ reader.old))))) }
+{
+    match token {
+        Token::Null => Ok(()),
+        Token::Bool(_) => Ok(()),
+        Token::String(_) => Ok(()),
+        Token::Number(digits) => {
+            if tree::is_number_in_range(digits.as_bytes()) {
+                Ok(())
+            } else {
+                Err(JobFault::NotJson)
+            }
+        }
+        Token::BeginArray => pass_items(alloc, reader, depth - 1),
+        Token::BeginObject => pass_members(alloc, reader, depth - 1),
+        Token::EndArray => Err(JobFault::NotJson),
+        Token::EndObject => Err(JobFault::NotJson),
+        Token::Key(_) => Err(JobFault::NotJson),
+        Token::Bad => Err(JobFault::NotJson),
+    }
+}
+
+fn item<'t>(
+    alloc: Global,
+    reader: &mut Reader<'t>,
+    depth: usize,
+) -> Result<Shaped<RawItem<'t>>, JobFault>
+    ensures { Reads raw_item result reader.new (parse_map item_shape (converted of_json (value depth reader.old))) }
+{
+    let tree = tree::next(alloc, reader, depth)?;
+    Ok(shape::item(&tree))
+}
+
+fn with_item<'t>(
+    items: Shaped<Vec<RawItem<'t>>>,
+    item: Shaped<RawItem<'t>>,
+) -> Shaped<Vec<RawItem<'t>>>
+    ensures { (front : Result (List WrittenItem) JobFault) (last : Result WrittenItem JobFault) → Gives (λ v. map raw_item v.items) items.entry front → Gives raw_item item.entry last → Gives (λ v. map raw_item v.items) result (followed front last) }
+{
+    let mut items = items?;
+    items.push(item?)?;
+    Ok(items)
+}
+
+/// The rest of an array of items.
+fn rest_of_items<'t>(
+    alloc: Global,
+    reader: &mut Reader<'t>,
+    depth: usize,
+) -> Result<Shaped<Vec<RawItem<'t>>>, JobFault>
+    ensures { Reads (λ v. map raw_item v.items) result reader.new (parse_map (λ ds. each item_shape (data_list ds)) (converted of_items (items (value depth) (length reader.old) reader.old))) }
+{
+    let mut items = Ok(Vec::new(alloc));
+    'turns: while !reader.take_end_array() {
+        let item = item(alloc, reader, depth)?;
+        items = with_item(items, item);
+    }
+    Ok(items)
+}
+
+/// The items of a task.
+fn items<'t>(
+    alloc: Global,
+    reader: &mut Reader<'t>,
+    depth: usize,
+) -> Result<Shaped<Vec<RawItem<'t>>>, JobFault>
+    requires { 0 < depth }
+    ensures { Reads (λ v. map raw_item v.items) result reader.new (parse_map items_shape (converted of_json (value depth reader.old))) }
+{
+    let token = next_token(reader)?;
+    if let Token::BeginArray = token {
+        rest_of_items(alloc, reader, depth - 1)
+    } else {
+        pass(alloc, reader, token, depth)?;
+        Ok(Err(JobFault::BadShape))
+    }
+}
+
+/// The rest of a task's object: its members but for the requests, in whose place a null stands, and the last requests.
+fn rest_of_task<'t>(
+    alloc: Global,
+    reader: &mut Reader<'t>,
+    depth: usize,
+) -> Result<(Vec<Member<'t>>, Shaped<Vec<RawItem<'t>>>), JobFault>
+    requires { 0 < depth }
+    ensures { ReadsApart (λ ms. object_data ms.items) (codes "requests") (λ v. map raw_item v.items) items_shape result reader.new (converted (λ ms. of_members ms no_members) (members (value depth) (length reader.old) reader.old)) }
+{
+    let mut members = Vec::new(alloc);
+    let mut requests = Err(JobFault::BadShape);
+    'turns: while let Some(key) = next_key(reader)? {
+        if key == "requests" {
+            requests = items(alloc, reader, depth)?;
+            members.push((key, Value::Null))?;
+            continue;
+        }
+        let value = tree::next(alloc, reader, depth)?;
+        members.push((key, value))?;
+    }
+    Ok((members, requests))
+}
+
+fn task<'t>(
+    alloc: Global,
+    reader: &mut Reader<'t>,
+    depth: usize,
+) -> Result<Shaped<RawTask<'t>>, JobFault>
+    requires { 1 < depth }
+    ensures { Reads raw_task result reader.new (parse_map task_shape (converted of_json (value depth reader.old))) }
+{
+    let token = next_token(reader)?;
+    if let Token::BeginObject = token {
+        let (members, requests) = rest_of_task(alloc, reader, depth - 1)?;
+        Ok(shape::task(&Value::Object(members), requests))
+    } else {
+        pass(alloc, reader, token, depth)?;
+        Ok(Err(JobFault::BadShape))
+    }
+}
+
+fn with_task<'t>(
+    tasks: Shaped<Vec<RawTask<'t>>>,
+    task: Shaped<RawTask<'t>>,
+) -> Shaped<Vec<RawTask<'t>>>
+    ensures { (front : Result (List WrittenTask) JobFault) (last : Result WrittenTask JobFault) → Gives (λ v. map raw_task v.items) tasks.entry front → Gives raw_task task.entry last → Gives (λ v. map raw_task v.items) result (followed front last) }
+{
+    let mut tasks = tasks?;
+    tasks.push(task?)?;
+    Ok(tasks)
+}
+
+/// The rest of an array of tasks.
+fn rest_of_tasks<'t>(
+    alloc: Global,
+    reader: &mut Reader<'t>,
+    depth: usize,
+) -> Result<Shaped<Vec<RawTask<'t>>>, JobFault>
+    requires { 1 < depth }
+    ensures { Reads (λ v. map raw_task v.items) result reader.new (parse_map (λ ds. each task_shape (data_list ds)) (converted of_items (items (value depth) (length reader.old) reader.old))) }
+{
+    let mut tasks = Ok(Vec::new(alloc));
+    'turns: while !reader.take_end_array() {
+        let task = task(alloc, reader, depth)?;
+        tasks = with_task(tasks, task);
+    }
+    Ok(tasks)
+}
+
+/// The tasks of a job.
+fn tasks<'t>(
+    alloc: Global,
+    reader: &mut Reader<'t>,
+    depth: usize,
+) -> Result<Shaped<Vec<RawTask<'t>>>, JobFault>
+    requires { 2 < depth }
+    ensures { Reads (λ v. map raw_task v.items) result reader.new (parse_map tasks_shape (converted of_json (value depth reader.old))) }
+{
+    let token = next_token(reader)?;
+    if let Token::BeginArray = token {
+        rest_of_tasks(alloc, reader, depth - 1)
+    } else {
+        pass(alloc, reader, token, depth)?;
+        Ok(Err(JobFault::BadShape))
+    }
+}
+
+/// The rest of a job's object: its members but for the tasks, in whose place a null stands, and the last tasks.
+fn rest_of_job<'t>(
+    alloc: Global,
+    reader: &mut Reader<'t>,
+    depth: usize,
+) -> Result<(Vec<Member<'t>>, Shaped<Vec<RawTask<'t>>>), JobFault>
+    requires { 2 < depth }
+    ensures { ReadsApart (λ ms. object_data ms.items) (codes "tasks") (λ v. map raw_task v.items) tasks_shape result reader.new (converted (λ ms. of_members ms no_members) (members (value depth) (length reader.old) reader.old)) }
+{
+    let mut members = Vec::new(alloc);
+    let mut found = Err(JobFault::BadShape);
+    'turns: while let Some(key) = next_key(reader)? {
+        if key == "tasks" {
+            found = tasks(alloc, reader, depth)?;
+            members.push((key, Value::Null))?;
+            continue;
+        }
+        let value = tree::next(alloc, reader, depth)?;
+        members.push((key, value))?;
+    }
+    Ok((members, found))
+}
+
+/// What stands in a job.
+pub fn job<'t>(
+    alloc: Global,
+    reader: &mut Reader<'t>,
+    depth: usize,
+) -> Result<Shaped<RawJob<'t>>, JobFault>
+    requires { 3 < depth }
+    ensures { Reads raw_job result reader.new (parse_map job_shape (converted of_json (value depth reader.old))) }
+{
+    let token = next_token(reader)?;
+    if let Token::BeginObject = token {
+        let (members, tasks) = rest_of_job(alloc, reader, depth - 1)?;
+        Ok(shape::job(alloc, &Value::Object(members), tasks))
+    } else {
+        pass(alloc, reader, token, depth)?;
+        Ok(Err(JobFault::BadShape))
+    }
+}

@@ -1,0 +1,206 @@
+-- The regions of the steps are those of the patterns.
+use Rattle.std.proofs.Common.{◌≡◌, ℕ, ◌+◌, ◌<◌, ◌≤◌, List, [], ◌∷◌, ◌++◌, Bool, true, false, true≢false, length, map, get_or, set, Fits, w8, Contains, refl, sym, ap, ◌∙◌, subst, arith, ⊎_elim}
+use Rattle.std.proofs.lemmas.Bool.{cases_eq, cases_lt}
+use Rattle.std.proofs.lemmas.List.{length-set, length_push, length-map, get_or-set_same, get_or-set_other, get_or_append_left, get_or_push, get_or_default, get_or-map, map_push}
+use Rattle.std.proofs.lemmas.List.Elements.{All-append, All-from_get_or, All-weaker, Contains-get_or, Contains-push, Contains-push_cases, Contains-append_left}
+use Rattle.aa_pattern.specs.declared.pattern.Pattern.{Pattern}
+use Rattle.aa_auto.specs.Apart.{IsApart}
+use Rattle.aa_auto.specs.Tables.{Table, IsText, IsAutomaton, ListsMatching, place_of, list_at, list_number}
+use Rattle.aa_auto.proofs.SortedLemmas.{same_rising}
+use Rattle.aa_regions.specs.declared.steps.Step.{Step}
+use Rattle.aa_regions.specs.declared.regions.Region.{Region}
+use Rattle.aa_regions.specs.Wanted.{IsWanted, IsFrom}
+use Rattle.aa_regions.specs.Steps.{step_at, text_at, IsRising, IsTrail, AreSpelled, AreEarlier, AreNumbered, ReachAll}
+use Rattle.aa_regions.specs.Regions.{IsRegion, AreRegions, IsTaken, IsTakenOf, AreCollected}
+
+abbrev pub numbers_of : Region → List ℕ
+numbers_of r = r.numbers
+
+pub stay_taken : (taken : List Bool) (n : ℕ) → n < length taken → (k : ℕ) → IsTaken taken k → IsTaken (set taken n true) k
+stay_taken taken n lt k e =
+    ⊎_elim
+    (λ (q : k ≡ n). subst (λ i. get_or (set taken n true) i false ≡ true) (sym q) (get_or-set_same taken n true false lt))
+    (λ (ne : k ≡ n → ⊥). get_or-set_other taken n k true false ne ∙ e)
+    (cases_eq k n)
+
+-- lists that differ from the last
+apart_push : (xs : List (List ℕ)) (x : List ℕ) → IsApart xs → ((y : List ℕ) → Contains xs y → y ≡ x → ⊥) → IsApart (xs ++ x ∷ [])
+apart_push xs x apart other i j li lj e =
+    let many = length_push xs x in
+    let last : get_or (xs ++ x ∷ []) (length xs) [] ≡ x = get_or_push xs x [] (length xs) refl in
+    let old : (k : ℕ) → k < length xs → get_or (xs ++ x ∷ []) k [] ≡ get_or xs k [] = λ k l. get_or_append_left xs (x ∷ []) [] k l in
+    let apart_last : (k : ℕ) → k < length xs → get_or (xs ++ x ∷ []) k [] ≡ get_or (xs ++ x ∷ []) (length xs) [] → ⊥ =
+    λ k l f. other (get_or xs k []) (k, l, get_or_here xs k l) (sym (old k l) ∙ f ∙ last) in
+    ⊎_elim
+    (λ (a : i < length xs).
+    ⊎_elim
+    (λ (b : j < length xs). apart i j a b (sym (old i a) ∙ e ∙ old j b))
+    (λ (b : length xs ≤ j).
+    let q : j ≡ length xs = omega (arith, b, lj, many) in
+    absurd (apart_last i a (subst (λ n. get_or (xs ++ x ∷ []) i [] ≡ get_or (xs ++ x ∷ []) n []) q e)))
+    (cases_lt j (length xs)))
+    (λ (a : length xs ≤ i).
+    ⊎_elim
+    (λ (b : j < length xs).
+    let q : i ≡ length xs = omega (arith, a, li, many) in
+    absurd (apart_last j b (sym (subst (λ n. get_or (xs ++ x ∷ []) n [] ≡ get_or (xs ++ x ∷ []) j []) q e))))
+    (λ (b : length xs ≤ j). omega (arith, a, b, li, lj, many))
+    (cases_lt j (length xs)))
+    (cases_lt i (length xs))
+  where
+    get_or_here : (ys : List (List ℕ)) (k : ℕ) → k < length ys → get_or ys k (get_or ys k []) ≡ get_or ys k []
+    get_or_here ys k l = get_or_default ys k (get_or ys k []) [] l
+
+module _ (t : Table) (head : List ℕ) (steps : List Step) (apart : IsApart t.lists)
+    (numbered : (i : ℕ) → i < length steps → list_number t (step_at steps i).row < length t.lists)
+    (n : ℕ) (lt : n < length steps) (rising : IsRising steps) (taken : List Bool) (rs : List Region) (c : AreCollected t head steps n taken rs) where
+  abbrev list : ℕ
+  list = list_number t (step_at steps n).row
+
+  -- a region that is there
+  pub collected_same : get_or taken list false ≡ true → AreCollected t head steps (n + 1) taken rs
+  collected_same e = record {
+    many = c.many;
+    each = λ r in'. let f = c.each r in' in (f.0, omega (arith, f.1), f.2, f.3);
+    all = c.all;
+    marked = λ k l.
+        ⊎_elim
+        (λ (a : k < n). c.marked k a)
+        (λ (a : n ≤ k). let q : n ≡ k = omega (arith, a, l) in subst (λ i. IsTaken taken (list_number t (step_at steps i).row)) q e)
+        (cases_lt k n);
+    apart = c.apart;
+  }
+
+  module _ (fresh : get_or taken list false ≡ false) (r : Region) (numbers : r.numbers ≡ get_or t.lists list [])
+      (text : (texts : List (List ℕ)) → AreSpelled head steps texts → r.witness ≡ text_at texts n) where
+    inside : list < length taken
+    inside = omega (arith, numbered n lt, c.many)
+
+    here_taken : IsTaken (set taken list true) list
+    here_taken = get_or-set_same taken list true false inside
+
+    of : IsTakenOf t head steps n r
+    of = record {
+      within = lt;
+      numbers = numbers;
+      text = text;
+      first = λ j lj e.
+          ⊎_elim
+          (λ (a : j < n). absurd (true≢false (sym (subst (IsTaken taken) e (c.marked j a)) ∙ fresh)))
+          (λ (a : n ≤ j). rising n j a lj)
+          (cases_lt j n);
+    }
+
+    pub collected_more : AreCollected t head steps (n + 1) (set taken list true) (rs ++ r ∷ [])
+    collected_more = record {
+      many = length-set taken list true ∙ c.many;
+      each = λ q in'.
+          ⊎_elim
+          (λ (old : Contains rs q).
+          let f = c.each q old in
+          (f.0, omega (arith, f.1), stay_taken taken list inside (list_number t (step_at steps f.0).row) f.2, f.3))
+          (λ (e : r ≡ q). (n, omega arith, here_taken, subst (IsTakenOf t head steps n) e of))
+          (Contains-push_cases rs r q in');
+      all = λ l e.
+          ⊎_elim
+          (λ (q : l ≡ list). (r, Contains-push rs r, numbers ∙ ap (λ i. get_or t.lists i []) (sym q)))
+          (λ (ne : l ≡ list → ⊥).
+          let f = c.all l (sym (get_or-set_other taken list l true false ne) ∙ e) in
+          (f.0, Contains-append_left rs (r ∷ []) f.0 f.1, f.2))
+          (cases_eq l list);
+      marked = λ k l.
+          ⊎_elim
+          (λ (a : k < n). stay_taken taken list inside (list_number t (step_at steps k).row) (c.marked k a))
+          (λ (a : n ≤ k).
+          let q : n ≡ k = omega (arith, a, l) in
+          subst (λ i. IsTaken (set taken list true) (list_number t (step_at steps i).row)) q here_taken)
+          (cases_lt k n);
+      apart = subst IsApart (sym (map_push numbers_of rs r))
+          (apart_push (map numbers_of rs) r.numbers c.apart (λ y in' e.
+          let i = in'.0 in
+          let li : i < length rs = omega (arith, in'.1, length-map rs numbers_of) in
+          let q = get_or rs i r in
+          let f = c.each q (Contains-get_or rs i r li) in
+          let same : q.numbers ≡ y = sym (get_or-map numbers_of rs i r y li) ∙ in'.2 in
+          let lists : get_or t.lists (list_number t (step_at steps f.0).row) [] ≡ get_or t.lists list [] = sym f.3.numbers ∙ same ∙ e ∙ numbers in
+          let lk : f.0 < length steps = omega (arith, f.1, lt) in
+          let number : list_number t (step_at steps f.0).row ≡ list =
+          apart (list_number t (step_at steps f.0).row) list (numbered f.0 lk) (numbered n lt) lists in
+          true≢false (sym (subst (IsTaken taken) number f.2) ∙ fresh)));
+    }
+
+pub wanted_text : (head : List ℕ) (low max : ℕ) (s : List ℕ) → IsText head → IsWanted head low max s → IsText s
+wanted_text head low max s of w =
+    subst IsText (sym w.whole) (All-append (λ b. b < 256) head w.rest of (All-weaker (IsFrom low) (λ b. b < 256) (λ b h. h.1) w.rest w.bytes))
+
+-- a slice of bytes is a text
+pub text_of : (s : List ℕ) → ((i : ℕ) → Fits w8 (get_or s i 0)) → IsText s
+text_of s fits = All-from_get_or (λ b. b < 256) s 0 (λ i lt. let f = fits i in omega (arith, f.fits))
+
+-- each row of the steps has a list
+pub trail_numbered : (ps : List Pattern) (t : Table) → IsAutomaton ps t → (head : List ℕ) (low max : ℕ) → IsText head
+    → (seen : List Bool) (steps : List Step) → IsTrail t head low max seen steps → AreNumbered t steps
+trail_numbered ps t auto head low max bytes seen steps trail i lt =
+    let at = trail.each i lt in
+    subst (λ row. list_number t row < length t.lists) at.place
+    (auto.numbered (text_at trail.texts i) (wanted_text head low max (text_at trail.texts i) bytes at.wanted))
+
+-- a step's texts are spelled so
+pub trail_spelled : (t : Table) (head : List ℕ) (low max : ℕ) (seen : List Bool) (steps : List Step) (trail : IsTrail t head low max seen steps)
+    → AreSpelled head steps trail.texts
+trail_spelled t head low max seen steps trail i lt = (trail.each i lt).spelled
+
+pub trail_earlier : (t : Table) (head : List ℕ) (low max : ℕ) (seen : List Bool) (steps : List Step) → IsTrail t head low max seen steps
+    → AreEarlier steps
+trail_earlier t head low max seen steps trail i some lt =
+    ⊎_elim
+    (λ (p : (i ≡ 0) × (text_at trail.texts i ≡ head)). absurd (omega (arith, p.0, some)))
+    (λ (p : ((step_at steps i).from < i) × (text_at trail.texts i ≡ text_at trail.texts (step_at steps i).from ++ (step_at steps i).byte ∷ [])). p.0)
+    (trail.each i lt).spelled
+
+module _ (ps : List Pattern) (t : Table) (auto : IsAutomaton ps t) (head : List ℕ) (low max : ℕ) (bytes : IsText head) (seen : List Bool)
+    (steps : List Step) (trail : IsTrail t head low max seen steps)
+    (reach : ReachAll t head low max steps) (taken : List Bool) (rs : List Region) (c : AreCollected t head steps (length steps) taken rs) where
+  -- the list of a text is that of its row
+  list_of : (s : List ℕ) → IsWanted head low max s → (numbers : List ℕ) → ListsMatching ps s numbers → list_at t (place_of t s) ≡ numbers
+  list_of s w numbers l =
+      let m = auto.matching s (wanted_text head low max s bytes w) in
+      same_rising (list_at t (place_of t s)) numbers m.rising l.rising (λ n x. (l.exact n).1 ((m.exact n).0 x)) (λ n x. (m.exact n).1 ((l.exact n).0 x))
+
+  number_in : (s : List ℕ) → IsWanted head low max s → list_number t (place_of t s) < length t.lists
+  number_in s w = auto.numbered s (wanted_text head low max s bytes w)
+
+  region : (r : Region) → Contains rs r → IsRegion ps head low max r
+  region r in' =
+      let f = c.each r in' in
+      let k = f.0 in
+      let of = f.3 in
+      let at = trail.each k of.within in
+      let text : r.witness ≡ text_at trail.texts k = of.text trail.texts (trail_spelled t head low max seen steps trail) in
+      let wanted : IsWanted head low max r.witness = subst (IsWanted head low max) (sym text) at.wanted in
+      let place : place_of t r.witness ≡ (step_at steps k).row = ap (place_of t) text ∙ at.place in
+      let lists : list_at t (place_of t r.witness) ≡ r.numbers = ap (list_at t) place ∙ sym of.numbers in
+      record {
+        wanted = wanted;
+        lists = subst (ListsMatching ps r.witness) lists (auto.matching r.witness (wanted_text head low max r.witness bytes wanted));
+        shortest = λ s w l.
+            let j = reach s w in
+            let same : get_or t.lists (list_number t (place_of t s)) [] ≡ get_or t.lists (list_number t (place_of t r.witness)) [] =
+            list_of s w r.numbers l ∙ sym lists in
+            let number : list_number t (place_of t s) ≡ list_number t (place_of t r.witness) =
+            auto.apart (list_number t (place_of t s)) (list_number t (place_of t r.witness)) (number_in s w) (number_in r.witness wanted) same in
+            let rows : list_number t (step_at steps j.0).row ≡ list_number t (step_at steps k).row =
+            ap (list_number t) j.2 ∙ number ∙ ap (list_number t) place in
+            omega (arith, of.first j.0 j.1 rows, j.3, ap length text, at.long);
+      }
+
+  pub are_regions : AreRegions ps head low max rs
+  are_regions = record {
+    each = region;
+    all = λ s w.
+        let j = reach s w in
+        let f = c.all (list_number t (step_at steps j.0).row) (c.marked j.0 j.1) in
+        let numbers : list_at t (place_of t s) ≡ f.0.numbers = ap (list_at t) (sym j.2) ∙ sym f.2 in
+        (f.0, f.1, subst (ListsMatching ps s) numbers (auto.matching s (wanted_text head low max s bytes w)));
+    apart = c.apart;
+  }

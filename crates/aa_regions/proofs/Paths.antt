@@ -1,0 +1,73 @@
+-- Paths that can be asked for are texts of a kind.
+use Rattle.std.proofs.Common.{◌≡◌, ℕ, ◌<◌, ◌≤◌, List, [], ◌∷◌, true, false, length, Result, Ok, Err, IfOk, All, refl, sym, ap, subst, arith}
+use Rattle.std.specs.Prelude.{not, ◌&&◌, ◌==◌, nat_le}
+use Rattle.std.specs.List.{list_any}
+use Rattle.std.proofs.lemmas.Bool.{and_parts, and_from, or_parts, or_from, not-true, not_from_false, eqb-true, ne_eqb, eqb-false, leb-true, le-leb}
+use Rattle.std.proofs.lemmas.List.Elements.{All-head, All-tail, All-cons, All-nil}
+use Rattle.aa_pattern.specs.declared.pattern.Pattern.{Pattern}
+use Rattle.aa_auto.specs.Tables.{IsText}
+use Rattle.aa_model.specs.Requests.{begins_with}
+use Rattle.aa_regions.specs.declared.regions.Region.{Region}
+use Rattle.aa_regions.specs.Wanted.{IsWanted, IsFrom}
+use Rattle.aa_regions.specs.Regions.{AreRegions, ArePathRegions, IsAsked}
+
+abbrev head : List ℕ
+head = 47 ∷ []
+
+no_zero : (s : List ℕ) → list_any (λ b. b == 0) s ≡ false → IsText s → All (IsFrom 1) s
+no_zero [] e text = All-nil (IsFrom 1)
+no_zero (b ∷ s) e text =
+    let p = or_parts (b == 0) (list_any (λ x. x == 0) s) e in
+    let ne = eqb-false b 0 p.0 in
+    All-cons (IsFrom 1) b s (omega (arith, ne), All-head (λ x. x < 256) b s text) (no_zero s p.1 (All-tail (λ x. x < 256) b s text))
+
+zero_none : (s : List ℕ) → All (IsFrom 1) s → list_any (λ b. b == 0) s ≡ false
+zero_none [] all = refl
+zero_none (b ∷ s) all =
+    let h = All-head (IsFrom 1) b s all in
+    or_from (b == 0) (list_any (λ x. x == 0) s) (ne_eqb b 0 (λ e. omega (arith, e, h.0))) (zero_none s (All-tail (IsFrom 1) b s all))
+
+asked_wanted : (s : List ℕ) → IsAsked s → IsWanted head 1 4095 s
+asked_wanted [] a = absurd (let e : false ≡ true = a.1 in cc)
+asked_wanted (b ∷ s) a =
+    let p = and_parts (begins_with 47 (b ∷ s) && not (list_any (λ x. x == 0) (b ∷ s))) (nat_le (length (b ∷ s)) 4095) a.1 in
+    let q = and_parts (begins_with 47 (b ∷ s)) (not (list_any (λ x. x == 0) (b ∷ s))) p.0 in
+    let is : b ≡ 47 = eqb-true b 47 q.0 in
+    let zero = or_parts (b == 0) (list_any (λ x. x == 0) s) (not-true (list_any (λ x. x == 0) (b ∷ s)) q.1) in
+    record {
+      rest = s;
+      whole = ap (λ x. x ∷ s) is;
+      bytes = no_zero s zero.1 (All-tail (λ x. x < 256) b s a.0);
+      short = leb-true (length (b ∷ s)) 4095 p.1;
+    }
+
+wanted_asked : (s : List ℕ) → IsWanted head 1 4095 s → IsAsked s
+wanted_asked s w =
+    let all = zero_none w.rest w.bytes in
+    subst IsAsked (sym w.whole) (
+      All-cons (λ x. x < 256) 47 w.rest (omega arith) (bytes w.rest w.bytes),
+      and_from (not (list_any (λ x. x == 0) (47 ∷ w.rest))) (nat_le (length (47 ∷ w.rest)) 4095)
+          (not_from_false (list_any (λ x. x == 0) w.rest) all)
+          (le-leb (length (47 ∷ w.rest)) 4095 (subst (λ x. length x ≤ 4095) w.whole w.short)),
+    )
+  where
+    bytes : (s : List ℕ) → All (IsFrom 1) s → All (λ x. x < 256) s
+    bytes [] all = All-nil (λ x. x < 256)
+    bytes (b ∷ s) all = All-cons (λ x. x < 256) b s (All-head (IsFrom 1) b s all).1 (bytes s (All-tail (IsFrom 1) b s all))
+
+pub path_regions : (ps : List Pattern) (rs : List Region) → AreRegions ps head 1 4095 rs → ArePathRegions ps rs
+path_regions ps rs are = record {
+  each = λ r in'.
+      let is = are.each r in' in
+      record {
+        asked = wanted_asked r.witness is.wanted;
+        lists = is.lists;
+        shortest = λ s a l. is.shortest s (asked_wanted s a) l;
+      };
+  all = λ s a. are.all s (asked_wanted s a);
+  apart = are.apart;
+}
+
+pub ok_then : {X E : Type 0} (r : Result X E) {P Q : X → Type 0} → IfOk r P → ((x : X) → P x → Q x) → IfOk r Q
+ok_then (Ok x) p f = f x p
+ok_then (Err e) p f = p

@@ -1,0 +1,10 @@
+pub mod Matched
+pub mod Replied
+mod BelowLemmas
+mod Adding
+mod Standing
+mod Reloading
+mod Literal
+mod Naming
+mod Changing
+mod Linking

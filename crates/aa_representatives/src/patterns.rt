@@ -1,0 +1,115 @@
+//! The patterns by which paths are answered at a label.
+
+ghost use Rattle.std.specs.Prelude.{◌≡◌, ◌++◌, IfOk, OnOk};
+ghost use Rattle.std.specs.List.{slice_get};
+ghost use Rattle.aa_auto.specs.Nodes.{pointed};
+ghost use Rattle.aa_compile.specs.Attached.{numbers_below};
+ghost use Rattle.aa_compile.specs.Checks.{attached_patterns};
+ghost use Rattle.aa_compile.specs.Rows.{patterns_of};
+ghost use Rattle.aa_compile.specs.Transitions.{tops};
+ghost use Rattle.aa_representatives.specs.Alike.{deciding, deciding_at};
+ghost use Rattle.aa_representatives.specs.Below.{attachments_if};
+
+use aa_compile::Compiled;
+use aa_model::{FileRule, Label, Profile};
+use aa_pattern::Pattern;
+use std::alloc::{AllocError, Global};
+
+pub(crate) fn add_patterns<'p>(
+    pointers: &mut Vec<&'p Pattern>,
+    patterns: &'p [Pattern],
+) -> Result<(), AllocError>
+    ensures { OnOk result (pointed pointers.new.items ≡ pointed pointers.old.items ++ patterns.now) }
+{
+    for pattern in patterns {
+        pointers.push(pattern)?;
+    }
+    Ok(())
+}
+
+/// The patterns of the rules, in order.
+fn patterns_of_rules(alloc: Global, rules: &[FileRule]) -> Result<Vec<&Pattern>, AllocError>
+    ensures { IfOk result (λ pointers. pointed pointers.items ≡ patterns_of rules.now) }
+{
+    let mut pointers = Vec::new(alloc);
+    for rule in rules {
+        add_patterns(&mut pointers, rule.patterns.as_slice())?;
+    }
+    Ok(pointers)
+}
+
+/// Adds the attachments of the profile, if that is its parent, or if it has none where none is given.
+fn add_if_below<'p>(
+    pointers: &mut Vec<&'p Pattern>,
+    profile: &'p Profile,
+    parent: Option<u16>,
+) -> Result<(), AllocError>
+    ensures { OnOk result (pointed pointers.new.items ≡ pointed pointers.old.items ++ attachments_if parent profile.now) }
+{
+    if profile.parent == parent {
+        return add_patterns(pointers, profile.attachments.as_slice());
+    }
+    Ok(())
+}
+
+/// Adds the attachments of the profiles below a parent, or of the top-level profiles where none is given.
+fn add_below<'p>(
+    pointers: &mut Vec<&'p Pattern>,
+    profiles: &'p [Profile],
+    parent: Option<u16>,
+) -> Result<(), AllocError>
+    ensures { OnOk result (pointed pointers.new.items ≡ pointed pointers.old.items ++ attached_patterns profiles.now (numbers_below parent 0 profiles.now)) }
+{
+    for profile in profiles {
+        add_if_below(pointers, profile, parent)?;
+    }
+    Ok(())
+}
+
+/// The patterns by which paths are answered in a profile; none where it isn't there.
+fn patterns_in_profile(
+    alloc: Global,
+    profiles: &[Profile],
+    number: u16,
+) -> Result<Vec<&Pattern>, AllocError>
+    ensures { IfOk result (λ pointers. pointed pointers.items ≡ deciding_at profiles.now number (slice_get profiles.now number)) }
+{
+    let Some(profile) = profiles.get(number as usize) else {
+        return Ok(Vec::new(alloc));
+    };
+    let mut pointers = patterns_of_rules(alloc, profile.files.as_slice())?;
+    add_below(&mut pointers, profiles, None)?;
+    add_below(&mut pointers, profiles, Some(number))?;
+    Ok(pointers)
+}
+
+/// The attachments of the top-level profiles.
+fn patterns_of_tops(alloc: Global, profiles: &[Profile]) -> Result<Vec<&Pattern>, AllocError>
+    ensures { IfOk result (λ pointers. pointed pointers.items ≡ attached_patterns profiles.now (tops profiles.now)) }
+{
+    let mut pointers = Vec::new(alloc);
+    add_below(&mut pointers, profiles, None)?;
+    Ok(pointers)
+}
+
+/// The patterns by which paths are answered at a label; none where its policy isn't there.
+pub(crate) fn deciding_patterns(
+    alloc: Global,
+    policies: &[Compiled],
+    label: Label,
+) -> Result<Vec<&Pattern>, AllocError>
+    ensures { IfOk result (λ pointers. pointed pointers.items ≡ deciding policies.now label) }
+{
+    let (policy, profile) = match label {
+        Label::Unconfined(policy) => (policy, None),
+        Label::Confined(policy, profile) => (policy, Some(profile)),
+    };
+    let Some(compiled) = policies.get(policy as usize) else {
+        return Ok(Vec::new(alloc));
+    };
+    let profiles = compiled.policy().profiles.as_slice();
+    match profile {
+        Some(number) => patterns_in_profile(alloc, profiles, number),
+        None => patterns_of_tops(alloc, profiles),
+    }
+}

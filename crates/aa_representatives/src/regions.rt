@@ -1,0 +1,41 @@
+//! The regions of the paths that are answered alike at a label.
+
+ghost use Rattle.std.specs.Prelude.{◌≡◌, ◌+◌, ◌<◌, ◌≤◌, Err, IfOk, length};
+ghost use Rattle.aa_pattern.specs.Limits.{most_patterns, most_states};
+ghost use Rattle.aa_auto.specs.Tables.{HasPlaces};
+ghost use Rattle.aa_regions.specs.Regions.{ArePathRegions};
+ghost use Rattle.aa_representatives.specs.Alike.{deciding};
+
+use crate::fault::RepresentativesFault;
+use crate::patterns::deciding_patterns;
+use aa_compile::Compiled;
+use aa_model::Label;
+use aa_regions::{Region, path_regions};
+use std::alloc::Global;
+
+/// How many patterns are matched together, at most.
+pub(crate) const MAX_PATTERNS: usize = 65535;
+
+/// The regions of the paths that can be asked for, by the patterns that decide at the label: of the file rules of its profile, of
+/// the attachments of the top-level profiles and of its children, in this order. Paths of one region are answered alike. The
+/// errors are `TooManyPatterns`, `TooManyStates` and `NoMemory`; an automaton of the patterns may have at most `limit` states.
+pub fn deciding_regions(
+    alloc: Global,
+    policies: &[Compiled],
+    label: Label,
+    limit: usize,
+) -> Result<Vec<Region>, RepresentativesFault>
+    requires some { 0 < limit }
+    requires limit { limit ≤ most_states }
+    ensures regions { IfOk result (λ rs. ArePathRegions (deciding policies.now label) rs.items) }
+    ensures many_patterns { result ≡ Err RepresentativesFault.TooManyPatterns → most_patterns < length (deciding policies.now label) }
+    ensures few_patterns { IfOk result (λ _. length (deciding policies.now label) ≤ most_patterns) }
+    ensures many_states { result ≡ Err RepresentativesFault.TooManyStates → HasPlaces (deciding policies.now label) (limit + 1) }
+    ensures few_states { IfOk result (λ _. HasPlaces (deciding policies.now label) (limit + 1) → ⊥) }
+{
+    let patterns = deciding_patterns(alloc, policies, label)?;
+    if patterns.len() > MAX_PATTERNS {
+        return Err(RepresentativesFault::TooManyPatterns);
+    }
+    Ok(path_regions(alloc, patterns.as_slice(), limit)?)
+}
