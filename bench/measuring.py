@@ -36,6 +36,19 @@ def introduce(repeats, program=None):
     print(f"{version}; {usable} of {os.cpu_count()} processors; medians of {repeats} runs, which take turns")
 
 
+def figure(ratio):
+    """A ratio as tables have it."""
+    return f"{ratio:.2f}" if ratio >= 0.095 else f"{ratio:.2g}"
+
+
+def row(what, beside, ratios, wanted=""):
+    """Notes a row of the table that bench/all writes: what took how many times as long as what stands beside it, and how long is wanted.
+    No ratio means that there was nothing to measure beside. Where a bench runs by itself nothing is noted."""
+    if "BENCH_ROWS" in os.environ:
+        with open(os.environ["BENCH_ROWS"], "a") as file:
+            file.write(json.dumps([what, beside, "; ".join(map(figure, ratios)) or "not there", wanted]) + "\n")
+
+
 def load():
     """How many processes wanted a processor, over the last 1, 5 and 15 minutes."""
     return " ".join(f"{it:.2f}" for it in os.getloadavg())
@@ -144,3 +157,4 @@ def table(title, command, cases, repeats, more=lambda text: ""):
             fourfold = f"{(time / before[0]) ** (math.log(4) / math.log(size / before[1])):.2f}"
         print(f"{name:>28} {len(text):>13} {time * 1000:>8.1f}ms {growth:>7} {fourfold:>10}{more(text)}", flush=True)
         before = (time, size)
+    row(f"`{command}`, {title.partition(' (')[0]}: {name}", "a fourth of them", [float(fourfold)], "4.6")

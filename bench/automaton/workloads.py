@@ -16,7 +16,7 @@ import sys
 import tempfile
 
 sys.path.insert(0, os.path.dirname(os.path.dirname(os.path.abspath(__file__))))
-from measuring import FEATURES, has_parser
+from measuring import FEATURES, has_parser, row
 
 RUNS = 5
 
@@ -43,7 +43,7 @@ def mixed(count):
 
 
 def workloads():
-    """Name, lines before the profile, the rules' paths, and the patterns."""
+    """Name, lines before the profile, the rules' paths, and the patterns. Those of a kind are one row of the table of all benches."""
     for n in (100, 1000, 10000):
         paths = [f"/usr/lib/x/{i}/file" for i in range(n)]
         yield f"{n} literals", "", paths, paths
@@ -91,9 +91,22 @@ def large(program):
     return said, used.ru_maxrss * 1024, used.ru_utime + used.ru_stime
 
 
+KINDS = {"literals": "literals", "trees": "trees (`DIR/**`)", "libraries": "patterns that begin with `**`", "behind usr": "of `/{,usr/}**/lib{i}.so`",
+         "behind run": "of `/run/[0-9]*/app{i}/**`", "free bytes": "free bytes behind a letter anywhere", "mixed": "rules of mixed forms", "numbers": "numbers of four digits"}
+
+
+def number_in(name):
+    return next(int(word) for word in name.split() if word.isdigit())
+
+
+def kind_of(name):
+    """What the patterns of a workload are, in words."""
+    return KINDS[" ".join(word for word in name.split() if not word.isdigit())]
+
+
 def main():
     program = os.path.abspath(sys.argv[1])
-    words, is_compared = sys.argv[2:], has_parser()
+    words, is_compared, ratios = sys.argv[2:], has_parser(), {}
     print(f"{'workload':16} {'patterns':>8} {'ours s':>9} {'parser s':>9} {'ratio':>7}  rows and classes")
     for name, before, paths, patterns in workloads():
         if words and not any(w in name for w in words):
@@ -106,7 +119,13 @@ def main():
             if is_compared:
                 theirs, other = median(["apparmor_parser", "-QKS", "--features-file", FEATURES, profile.name])
                 beside = f"{theirs:9.4f} {ours / theirs:7.2f}" if other[1] == 0 else f"the parser ended with {other[1]}"
+                if other[1] == 0:
+                    ratios.setdefault(kind_of(name), []).append((number_in(name), ours / theirs))
         print(f"{name:16} {len(patterns):8} {ours:9.4f} {beside}  {last[2].decode().strip()}", flush=True)
+    for kind, found in ratios.items():
+        row(f"{'; '.join(f'{number:,}' for number, _ in found)} {kind}", "the parser", [ratio for _, ratio in found])
+    if not is_compared:
+        row("automata of literals, trees and what begins with `**`", "the parser", [])
     said, peak, seconds = large(program)
     print(f"a large automaton: {said}, {peak // 1024 // 1024} MiB at most, {seconds:.2f} s")
 

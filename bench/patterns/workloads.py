@@ -7,10 +7,14 @@ PROGRAM is the built program `aa_glob_bench` and PLAIN the matcher of plain/main
 rounds, patterns and paths from standard input. Each figure is the median of five runs of the whole process in seconds of the
 processor, less that of a run of no round; the programs have to count the same matches.
 """
+import os
 import resource
 import statistics
 import subprocess
 import sys
+
+sys.path.insert(0, os.path.dirname(os.path.dirname(os.path.abspath(__file__))))
+from measuring import row
 
 RUNS = 5
 FORMS = (
@@ -86,12 +90,15 @@ def main():
     workloads = [("all forms with 100 paths", patterns, of_forms(PATHS, 1000)[::10] + of_forms(PATHS, 90))]
     for form, path in zip(FORMS, PATHS):
         workloads.append((form.replace("{i}", "N").replace("{{", "{").replace("}}", "}"), of_forms([form], 1000), of_forms([path], 100)))
+    ratios = []
     for name, patterns, paths in workloads:
         ours, ours_said = matching(program, 20, patterns, paths)
         theirs, theirs_said = matching(plain, 20, patterns, paths)
         if ours_said != theirs_said:
             sys.exit(f"{name}: {ours_said} and {theirs_said}")
+        ratios.append(ours / theirs)
         print(f"{name:40} {ours:8.4f} {theirs:9.4f} {ours / theirs:7.2f}  {ours_said.decode().strip()}", flush=True)
+    row("`Pattern::matches`: all forms; the best form; the worst", "a backtracking matcher in Rust", [ratios[0], min(ratios[1:]), max(ratios[1:])])
 
 
 main()
