@@ -414,17 +414,17 @@ fn command_line<'a>(alloc: Global) -> Result<Command<'a>, AllocError> {
 }
 
 /// The words of the command line, read. The first word is the program's name.
-pub fn matches_of<'a>(alloc: Global, words: &'a [String]) -> Result<ArgMatches<'a>, Error> {
+pub(crate) fn matches_of<'a>(alloc: Global, words: &'a [String]) -> Result<ArgMatches<'a>, Error> {
     command_line(alloc)?.try_get_matches_from(words)
 }
 
 /// The folder in which policies lie.
-pub fn base_of<'a>(matches: &ArgMatches<'a>) -> &'a [u8] {
+pub(crate) fn base_of<'a>(matches: &ArgMatches<'a>) -> &'a [u8] {
     matches.get_str("base").unwrap_or(BASE).as_bytes()
 }
 
 /// The folders in which includes are searched, in order.
-pub fn folders_of<'a>(
+pub(crate) fn folders_of<'a>(
     alloc: Global,
     matches: &ArgMatches<'a>,
 ) -> Result<Vec<&'a [u8]>, AllocError> {
@@ -433,7 +433,7 @@ pub fn folders_of<'a>(
 }
 
 /// The values of an argument, as bytes.
-pub fn values_of<'a>(
+pub(crate) fn values_of<'a>(
     alloc: Global,
     matches: &ArgMatches<'a>,
     id: &str,
@@ -448,7 +448,7 @@ pub fn values_of<'a>(
 }
 
 /// The values of an argument, copied.
-pub fn copies_of(
+pub(crate) fn copies_of(
     alloc: Global,
     matches: &ArgMatches<'_>,
     id: &str,
@@ -463,7 +463,7 @@ pub fn copies_of(
 }
 
 /// How many states an automaton may have; none where the number is none that may be given.
-pub fn states_of(matches: &ArgMatches<'_>) -> Option<u32> {
+pub(crate) fn states_of(matches: &ArgMatches<'_>) -> Option<u32> {
     let Some(text) = matches.get_str("states") else {
         return Some(STATES);
     };
@@ -474,7 +474,7 @@ pub fn states_of(matches: &ArgMatches<'_>) -> Option<u32> {
 }
 
 /// The second that an option gives, if it is there; none where it is no number.
-pub fn second_of(matches: &ArgMatches<'_>, id: &str) -> Option<Option<u64>> {
+pub(crate) fn second_of(matches: &ArgMatches<'_>, id: &str) -> Option<Option<u64>> {
     match matches.get_str(id) {
         Some(text) => match text.parse::<u64>() {
             Ok(second) => Some(Some(second)),

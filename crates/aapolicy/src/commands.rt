@@ -171,7 +171,7 @@ fn count_inputs(alloc: Global, name: &str, matches: &ArgMatches<'_>) -> Result<u
 }
 
 /// Does what the command line asks.
-pub fn run_named(rt: &HostRuntime, matches: &ArgMatches<'_>) -> Result<Output, NoMemory> {
+pub(crate) fn run_named(rt: &HostRuntime, matches: &ArgMatches<'_>) -> Result<Output, NoMemory> {
     let alloc = rt.alloc();
     let Some((name, matches)) = matches.subcommand() else {
         return refused(alloc, "error: no command is given\n", 2);
