@@ -3,3 +3,4 @@ pub mod Tally
 pub mod Firsts
 pub mod Counted
 pub mod Found
+mod Pieces

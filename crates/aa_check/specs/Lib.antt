@@ -1,5 +1,8 @@
 pub mod Printed
 pub mod Jsons
+pub mod Gcc
+pub mod Sarif
+pub mod Notified
 pub mod Counts
 pub mod Names
 pub mod Checked

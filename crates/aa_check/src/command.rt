@@ -4,12 +4,15 @@ ghost use Rattle.std.specs.Prelude.{◌≡◌, ◌++◌, [], OnOk, IfOk, if◌th
 ghost use Rattle.aa_command.specs.Setting.{setting_of};
 ghost use Rattle.aa_check.specs.Printed.{report_text};
 ghost use Rattle.aa_command.specs.Printed.{printed};
-ghost use Rattle.aa_check.specs.Command.{check_printed, IsCheckOutput};
+ghost use Rattle.aa_check.specs.Command.{answers_in, faults_in, check_printed, IsCheckOutput};
 
 use crate::checked::{push_faults, push_report};
 use crate::checking::check;
+use crate::form::Form;
+use crate::gcc::push_gcc_report;
 use crate::jsons::push_json_report;
 use crate::report::CheckReport;
+use crate::sarif::push_sarif_report;
 use aa_command::{Output, Settings};
 use aa_files::Tree;
 use aa_text::NoMemory;
@@ -19,17 +22,17 @@ use std::alloc::{AllocError, Global};
 #[derive(Clone, Copy)]
 pub struct CheckOptions<'a> {
     pub files: &'a [Vec<u8>],
-    pub is_json: bool,
-    /// Whether faults alone are printed.
+    pub form: Form,
+    /// Whether faults alone are printed; it says nothing of JSON and SARIF.
     pub is_quiet: bool,
 }
 
-/// Appends what is found, unless quiet is wanted.
+/// Appends what is found for people, unless quiet is wanted.
 fn push_found(
     out: &mut Vec<u8>,
     alloc: Global,
-    report: &CheckReport,
     is_quiet: bool,
+    report: &CheckReport,
 ) -> Result<(), AllocError>
     ensures { OnOk result (out.new.items ≡ out.old.items ++ (if is_quiet then [] else report_text report.now)) }
 {
@@ -37,6 +40,39 @@ fn push_found(
         return Ok(());
     }
     push_report(out, alloc, report)
+}
+
+/// Appends what stands on standard output.
+fn push_answers(
+    out: &mut Vec<u8>,
+    alloc: Global,
+    form: Form,
+    is_quiet: bool,
+    report: &CheckReport,
+) -> Result<(), AllocError>
+    ensures { OnOk result (out.new.items ≡ out.old.items ++ answers_in form is_quiet report.now) }
+{
+    match form {
+        Form::Text => push_found(out, alloc, is_quiet, report),
+        Form::Json => push_json_report(out, alloc, report),
+        Form::Gcc => push_gcc_report(out, is_quiet, report),
+        Form::Sarif => push_sarif_report(out, alloc, report),
+    }
+}
+
+/// Appends what stands on standard error.
+fn push_faults_apart(
+    out: &mut Vec<u8>,
+    form: Form,
+    is_quiet: bool,
+    report: &CheckReport,
+) -> Result<(), AllocError>
+    ensures { OnOk result (out.new.items ≡ out.old.items ++ faults_in form is_quiet report.now) }
+{
+    match form {
+        Form::Text => push_faults(out, report, is_quiet),
+        _ => Ok(()),
+    }
 }
 
 fn report_printed(
@@ -47,12 +83,14 @@ fn report_printed(
     ensures { IfOk result (λ out. printed out ≡ check_printed options.now report.now) }
 {
     let mut output = Output::new(alloc);
-    if options.is_json {
-        push_json_report(&mut output.answers, alloc, report)?;
-    } else {
-        push_faults(&mut output.faults, report, options.is_quiet)?;
-        push_found(&mut output.answers, alloc, report, options.is_quiet)?;
-    }
+    push_faults_apart(&mut output.faults, options.form, options.is_quiet, report)?;
+    push_answers(
+        &mut output.answers,
+        alloc,
+        options.form,
+        options.is_quiet,
+        report,
+    )?;
     output.status = report.status();
     Ok(output)
 }

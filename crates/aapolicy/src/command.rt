@@ -102,11 +102,18 @@ const CHECK_ARGUMENTS: &[Argument] = &[
         help: "A file with profiles, or a folder of such files; - is standard input [default: the base folder]",
     },
     Argument {
+        name: "format",
+        letter: None,
+        form: Form::Value("FORM"),
+        barred: Some("json"),
+        help: "How to answer: text, json, gcc (PATH:LINE:COLUMN: error: SENTENCE, a line each) or sarif (version 2.1.0) [default: text]",
+    },
+    Argument {
         name: "json",
         letter: None,
         form: Form::Flag,
         barred: None,
-        help: "Answer in JSON",
+        help: "Answer in JSON, as --format json",
     },
     Argument {
         name: "quiet",

@@ -2,7 +2,7 @@
 
 use crate::command::{base_of, copies_of, folders_of, second_of, states_of, values_of};
 use aa_ask::{AskOptions, Manner, ask_files};
-use aa_check::{CheckOptions, check_files};
+use aa_check::{CheckOptions, Form, check_files};
 use aa_command::{Output, Settings, refused};
 use aa_job::{JobOptions, job_files};
 use aa_log::{LogOptions, log_files};
@@ -19,6 +19,20 @@ fn value_of<'a>(matches: &ArgMatches<'a>, id: &str) -> Option<&'a [u8]> {
     }
 }
 
+/// The form of the answer that is wanted; none where there is no such form.
+fn form_of(matches: &ArgMatches<'_>) -> Option<Form> {
+    if matches.get_flag("json") {
+        return Some(Form::Json);
+    }
+    match matches.get_str("format") {
+        None | Some("text") => Some(Form::Text),
+        Some("json") => Some(Form::Json),
+        Some("gcc") => Some(Form::Gcc),
+        Some("sarif") => Some(Form::Sarif),
+        Some(_) => None,
+    }
+}
+
 fn run_check(
     rt: &HostRuntime,
     matches: &ArgMatches<'_>,
@@ -29,9 +43,13 @@ fn run_check(
     if files.is_empty() {
         files.push(Vec::from_slice(alloc, settings.base)?)?;
     }
+    let Some(form) = form_of(matches) else {
+        let line = "error: --format takes text, json, gcc or sarif\n";
+        return refused(alloc, line, 2);
+    };
     let options = CheckOptions {
         files: files.as_slice(),
-        is_json: matches.get_flag("json"),
+        form,
         is_quiet: matches.get_flag("quiet"),
     };
     check_files(alloc, rt, settings, &options)
@@ -161,10 +179,7 @@ fn count_inputs(alloc: Global, name: &str, matches: &ArgMatches<'_>) -> Result<u
     let mut count: usize = 0;
     for id in file_arguments(name) {
         let values = values_of(alloc, matches, id)?;
-        let inputs = values
-            .iter()
-            .filter(|value| **value == "-".as_bytes())
-            .count();
+        let inputs = values.iter().filter(|value| **value == "-".as_bytes()).count();
         count = count.saturating_add(inputs);
     }
     Ok(count)

@@ -1,0 +1,14 @@
+-- Lists of what SARIF has of a report, as texts.
+-- Source: own.
+use Rattle.std.specs.Prelude.{ℕ, List, map}
+use Rattle.aa_check.specs.declared.sarif.Notification.{Notification}
+use Rattle.aa_check.specs.declared.sarif.RelatedPlace.{RelatedPlace}
+use Rattle.aa_check.specs.Sarif.{notification_text, link_text}
+
+-- the texts of the warnings in a list
+abbrev pub notified : List Notification → List (List ℕ)
+notified list = map (λ (n : Notification). notification_text n.bytes.now) list
+
+-- the texts of the includes in a list
+abbrev pub related : List RelatedPlace → List (List ℕ)
+related list = map (λ (r : RelatedPlace). link_text r.link.now) list

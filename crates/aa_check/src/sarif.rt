@@ -1,0 +1,438 @@
+//! How the findings of `check` are written as a SARIF log.
+
+ghost use Rattle.std.specs.Prelude.{◌≡◌, ◌++◌, ◌<◌, not, map, flat_map, codes, OnOk, IfOk};
+ghost use Rattle.aa_text.specs.Jsons.{json_bytes, member_text};
+ghost use Rattle.aa_check.specs.Sarif.{is_alphanumeric, is_plain, capital_digit, uri_byte, scheme_of, uri_text, ascii_of, as_text, message_text, start_line, region_text, region_member, place_member, location_text, link_text, links_member, rule_members, fault_members, result_text, has_result, result_of, notification_text, notifications, all_notifications, results_member, notifications_member, invocations_text, sarif_head, sarif_report};
+ghost use Rattle.aa_check.specs.Notified.{notified, related};
+
+use crate::report::{CheckReport, FileReport};
+use aa_text::{
+    FaultReport, Link, ListItem, PlaceAt, ToJson, is_text, push_json_bytes, push_json_text,
+    push_key, push_list, push_list_in, push_list_member, push_member, push_number, push_text,
+};
+use std::alloc::{AllocError, Global};
+
+fn is_alphanumeric(b: u8) -> bool
+    ensures { result ≡ is_alphanumeric b }
+{
+    (b'0' <= b && b <= b'9') || (b'A' <= b && b <= b'Z') || (b'a' <= b && b <= b'z')
+}
+
+/// Whether a byte stands for itself in the path of a URI.
+fn is_plain(b: u8) -> bool
+    ensures { result ≡ is_plain b }
+{
+    is_alphanumeric(b) || b == b'-' || b == b'.' || b == b'_' || b == b'~' || b == b'/'
+}
+
+fn capital_digit(n: u8) -> u8
+    requires { n < 16 }
+    ensures { result ≡ capital_digit n }
+{
+    if n < 10 { n + b'0' } else { n + (b'A' - 10) }
+}
+
+fn push_uri_byte(out: &mut Vec<u8>, b: u8) -> Result<(), AllocError>
+    ensures { OnOk result (out.new.items ≡ out.old.items ++ uri_byte b) }
+{
+    if is_plain(b) {
+        out.push(b)?;
+        return Ok(());
+    }
+    out.push(b'%')?;
+    out.push(capital_digit(b / 16))?;
+    out.push(capital_digit(b % 16))?;
+    Ok(())
+}
+
+fn push_uri_bytes(out: &mut Vec<u8>, path: &[u8]) -> Result<(), AllocError>
+    ensures { OnOk result (out.new.items ≡ out.old.items ++ flat_map uri_byte path.now) }
+{
+    for b in path {
+        push_uri_byte(out, *b)?;
+    }
+    Ok(())
+}
+
+fn scheme_of(path: &[u8]) -> &'static str
+    ensures { result.now ≡ scheme_of path.now }
+{
+    match path {
+        [b'/', ..] => "file://",
+        _ => "",
+    }
+}
+
+/// Appends a path as a URI: an absolute path as that of a file, another one relative.
+#[tactic(auto, unfolding(crate::specs::Sarif::uri_text))]
+fn push_uri(out: &mut Vec<u8>, path: &[u8]) -> Result<(), AllocError>
+    ensures { OnOk result (out.new.items ≡ out.old.items ++ uri_text path.now) }
+{
+    push_text(out, "\"")?;
+    push_text(out, scheme_of(path))?;
+    push_uri_bytes(out, path)?;
+    push_text(out, "\"")
+}
+
+fn ascii_of(b: u8) -> u8
+    ensures { result ≡ ascii_of b }
+{
+    if b < 128 { b } else { b'?' }
+}
+
+fn ascii_bytes(alloc: Global, bytes: &[u8]) -> Result<Vec<u8>, AllocError>
+    ensures { IfOk result (λ text. text.items ≡ map ascii_of bytes.now) }
+{
+    let mut text = Vec::new(alloc);
+    for b in bytes {
+        text.push(ascii_of(*b))?;
+    }
+    Ok(text)
+}
+
+/// Appends bytes as a text: those that are no UTF-8 with `?` in place of each that is no ASCII.
+fn push_as_text(out: &mut Vec<u8>, alloc: Global, bytes: &[u8]) -> Result<(), AllocError>
+    ensures { OnOk result (out.new.items ≡ out.old.items ++ json_bytes (as_text bytes.now)) }
+{
+    if is_text(bytes) {
+        return push_json_bytes(out, alloc, bytes);
+    }
+    let text = ascii_bytes(alloc, bytes)?;
+    push_json_bytes(out, alloc, text.as_slice())
+}
+
+/// A message.
+#[derive(Clone, Copy)]
+struct Message<'a> {
+    bytes: &'a [u8],
+}
+
+impl ToJson for Message<'_> {
+    ghost json = { λ m. message_text m.bytes.now };
+
+    #[tactic(auto, unfolding(crate::specs::Sarif::message_text))]
+    fn push_json(&self, out: &mut Vec<u8>, alloc: Global) -> Result<(), AllocError> {
+        push_text(out, "{")?;
+        push_key(out, "text")?;
+        push_as_text(out, alloc, self.bytes)?;
+        push_text(out, "}")
+    }
+}
+
+#[tactic(auto, unfolding(crate::specs::Sarif::start_line))]
+fn push_start_line(out: &mut Vec<u8>, line: usize) -> Result<(), AllocError>
+    ensures { OnOk result (out.new.items ≡ out.old.items ++ start_line line) }
+{
+    push_key(out, "startLine")?;
+    push_number(out, line)
+}
+
+/// A place, by its line and column.
+#[derive(Clone, Copy)]
+struct Region {
+    line: usize,
+    column: usize,
+}
+
+impl ToJson for Region {
+    ghost json = { λ r. region_text r.line r.column };
+
+    #[tactic(auto, unfolding(crate::specs::Sarif::region_text))]
+    fn push_json(&self, out: &mut Vec<u8>, alloc: Global) -> Result<(), AllocError> {
+        push_text(out, "{")?;
+        push_start_line(out, self.line)?;
+        push_member(out, alloc, "startColumn", &self.column)?;
+        push_text(out, "}")
+    }
+}
+
+fn region_of(place: PlaceAt) -> Region
+    ensures line { result.line ≡ place.line }
+    ensures column { result.column ≡ place.column }
+{
+    Region {
+        line: place.line,
+        column: place.column,
+    }
+}
+
+fn push_region_member(
+    out: &mut Vec<u8>,
+    alloc: Global,
+    place: Option<PlaceAt>,
+) -> Result<(), AllocError>
+    ensures { OnOk result (out.new.items ≡ out.old.items ++ region_member place) }
+{
+    match place {
+        Some(place) => push_member(out, alloc, "region", &region_of(place)),
+        None => Ok(()),
+    }
+}
+
+/// Appends a file, and a place in it if there is one, as the first member of an object.
+#[tactic(auto, unfolding(crate::specs::Sarif::place_member))]
+fn push_place_member(
+    out: &mut Vec<u8>,
+    alloc: Global,
+    path: &[u8],
+    place: Option<PlaceAt>,
+) -> Result<(), AllocError>
+    ensures { OnOk result (out.new.items ≡ out.old.items ++ place_member path.now place) }
+{
+    push_key(out, "physicalLocation")?;
+    push_text(out, "{")?;
+    push_key(out, "artifactLocation")?;
+    push_text(out, "{")?;
+    push_key(out, "uri")?;
+    push_uri(out, path)?;
+    push_text(out, "}")?;
+    push_region_member(out, alloc, place)?;
+    push_text(out, "}")
+}
+
+/// Where a fault is.
+#[derive(Clone, Copy)]
+struct Location<'a> {
+    path: &'a [u8],
+    place: Option<PlaceAt>,
+}
+
+impl ToJson for Location<'_> {
+    ghost json = { λ l. location_text l.path.now l.place };
+
+    #[tactic(auto, unfolding(crate::specs::Sarif::location_text))]
+    fn push_json(&self, out: &mut Vec<u8>, alloc: Global) -> Result<(), AllocError> {
+        push_text(out, "[{")?;
+        push_place_member(out, alloc, self.path, self.place)?;
+        push_text(out, "}]")
+    }
+}
+
+/// An include on the way to a fault.
+#[derive(Clone, Copy)]
+struct RelatedPlace<'a> {
+    link: &'a Link,
+}
+
+impl ToJson for RelatedPlace<'_> {
+    ghost json = { λ r. link_text r.link.now };
+
+    #[tactic(auto, unfolding(crate::specs::Sarif::link_text))]
+    fn push_json(&self, out: &mut Vec<u8>, alloc: Global) -> Result<(), AllocError> {
+        let bytes: &[u8] = b"included here";
+        push_text(out, "{")?;
+        push_place_member(out, alloc, self.link.path.as_slice(), Some(self.link.place))?;
+        push_member(out, alloc, "message", &Message { bytes })?;
+        push_text(out, "}")
+    }
+}
+
+fn related_places<'a>(alloc: Global, links: &'a [Link]) -> Result<Vec<RelatedPlace<'a>>, AllocError>
+    ensures { IfOk result (λ list. related list.items ≡ map link_text links.now) }
+{
+    let mut list = Vec::new(alloc);
+    for link in links {
+        list.push(RelatedPlace { link })?;
+    }
+    Ok(list)
+}
+
+/// Appends the includes on the way to a fault, as a member.
+#[tactic(auto, unfolding(crate::specs::Sarif::links_member))]
+fn push_links(out: &mut Vec<u8>, alloc: Global, links: &[Link]) -> Result<(), AllocError>
+    ensures { OnOk result (out.new.items ≡ out.old.items ++ links_member links.now) }
+{
+    let list = related_places(alloc, links)?;
+    push_list_member(out, alloc, "relatedLocations", list.as_slice())
+}
+
+/// Appends the message of a fault and where it is, as members.
+#[tactic(auto, unfolding(crate::specs::Sarif::fault_members))]
+fn push_fault_members(
+    out: &mut Vec<u8>,
+    alloc: Global,
+    fault: &FaultReport,
+) -> Result<(), AllocError>
+    ensures { OnOk result (out.new.items ≡ out.old.items ++ fault_members fault.now) }
+{
+    let bytes = fault.message.as_slice();
+    push_member(out, alloc, "message", &Message { bytes })?;
+    let path = fault.path.as_slice();
+    let place = fault.place;
+    push_member(out, alloc, "locations", &Location { path, place })
+}
+
+#[tactic(auto, unfolding(aa_text::specs::Jsons::member_text))]
+fn push_error_level(out: &mut Vec<u8>) -> Result<(), AllocError>
+    ensures { OnOk result (out.new.items ≡ out.old.items ++ member_text (codes "level") (codes "\"error\"")) }
+{
+    push_text(out, ",")?;
+    push_key(out, "level")?;
+    push_text(out, "\"error\"")
+}
+
+/// Opens the object of a fault, and appends its kind.
+#[tactic(auto, unfolding(crate::specs::Sarif::rule_members))]
+fn push_rule_members(out: &mut Vec<u8>, alloc: Global, kind: &str) -> Result<(), AllocError>
+    ensures { OnOk result (out.new.items ≡ out.old.items ++ rule_members kind.now) }
+{
+    push_text(out, "{")?;
+    push_key(out, "ruleId")?;
+    push_json_text(out, alloc, kind)?;
+    push_error_level(out)
+}
+
+#[tactic(auto, unfolding(crate::specs::Sarif::result_text))]
+fn push_result(out: &mut Vec<u8>, alloc: Global, fault: &FaultReport) -> Result<(), AllocError>
+    ensures { OnOk result (out.new.items ≡ out.old.items ++ result_text fault.now) }
+{
+    push_rule_members(out, alloc, fault.kind)?;
+    push_fault_members(out, alloc, fault)?;
+    push_links(out, alloc, fault.chain.as_slice())?;
+    push_text(out, "}")
+}
+
+/// A file stands among the results where it has a fault.
+impl ListItem<()> for FileReport {
+    ghost stands = { λ _ file. has_result file };
+
+    ghost item = { λ _ file. result_of file };
+
+    fn stands(&self, _context: &()) -> bool {
+        self.fault.is_some()
+    }
+
+    fn push_item(&self, out: &mut Vec<u8>, alloc: Global, _context: &()) -> Result<(), AllocError> {
+        match &self.fault {
+            Some(fault) => push_result(out, alloc, fault),
+            None => Ok(()),
+        }
+    }
+}
+
+#[tactic(auto, unfolding(crate::specs::Sarif::results_member, aa_text::specs::Jsons::member_text))]
+fn push_results(out: &mut Vec<u8>, alloc: Global, files: &[FileReport]) -> Result<(), AllocError>
+    ensures { OnOk result (out.new.items ≡ out.old.items ++ results_member files.now) }
+{
+    push_text(out, ",")?;
+    push_key(out, "results")?;
+    push_list_in(out, alloc, &(), files)
+}
+
+/// A warning.
+#[derive(Clone, Copy)]
+struct Notification<'a> {
+    bytes: &'a [u8],
+}
+
+impl ToJson for Notification<'_> {
+    ghost json = { λ n. notification_text n.bytes.now };
+
+    #[tactic(auto, unfolding(crate::specs::Sarif::notification_text))]
+    fn push_json(&self, out: &mut Vec<u8>, alloc: Global) -> Result<(), AllocError> {
+        push_text(out, "{")?;
+        push_key(out, "level")?;
+        push_text(out, "\"warning\"")?;
+        let bytes = self.bytes;
+        push_member(out, alloc, "message", &Message { bytes })?;
+        push_text(out, "}")
+    }
+}
+
+fn add_notifications<'r>(
+    list: &mut Vec<Notification<'r>>,
+    warnings: &'r [Vec<u8>],
+) -> Result<(), AllocError>
+    ensures { OnOk result (notified list.new.items ≡ notified list.old.items ++ notifications warnings.now) }
+{
+    for warning in warnings {
+        let bytes = warning.as_slice();
+        list.push(Notification { bytes })?;
+    }
+    Ok(())
+}
+
+/// All warnings: those of no file's own, and then each file's.
+fn all_notifications<'r>(
+    alloc: Global,
+    report: &'r CheckReport,
+) -> Result<Vec<Notification<'r>>, AllocError>
+    ensures { IfOk result (λ list. notified list.items ≡ all_notifications report.now) }
+{
+    let mut list = Vec::new(alloc);
+    add_notifications(&mut list, report.warnings.as_slice())?;
+    for file in &report.files {
+        add_notifications(&mut list, file.warnings.as_slice())?;
+    }
+    Ok(list)
+}
+
+/// Appends what is warned of, as the first member of an object.
+#[tactic(auto, unfolding(crate::specs::Sarif::notifications_member))]
+fn push_notifications(
+    out: &mut Vec<u8>,
+    alloc: Global,
+    warnings: &[Notification<'_>],
+) -> Result<(), AllocError>
+    ensures { OnOk result (out.new.items ≡ out.old.items ++ notifications_member (notified warnings.now)) }
+{
+    push_key(out, "toolExecutionNotifications")?;
+    push_list(out, alloc, warnings)
+}
+
+/// How checking went: what is warned of, and whether all could be read.
+#[derive(Clone, Copy)]
+struct Invocations<'w, 'b> {
+    is_successful: bool,
+    warnings: &'w [Notification<'b>],
+}
+
+impl ToJson for Invocations<'_, '_> {
+    ghost json = { λ i. invocations_text i.is_successful (notified i.warnings.now) };
+
+    #[tactic(auto, unfolding(crate::specs::Sarif::invocations_text))]
+    fn push_json(&self, out: &mut Vec<u8>, alloc: Global) -> Result<(), AllocError> {
+        push_text(out, "[{")?;
+        push_notifications(out, alloc, self.warnings)?;
+        push_member(out, alloc, "executionSuccessful", &self.is_successful)?;
+        push_text(out, "}]")
+    }
+}
+
+fn run_of<'w, 'b>(report: &CheckReport, warnings: &'w [Notification<'b>]) -> Invocations<'w, 'b>
+    ensures success { result.is_successful ≡ not report.now.is_unread }
+    ensures warnings { result.warnings.now ≡ warnings.entry.now }
+{
+    Invocations {
+        is_successful: !report.is_unread,
+        warnings,
+    }
+}
+
+/// Appends what stands before the findings.
+#[tactic(auto, unfolding(crate::specs::Sarif::sarif_head))]
+fn push_sarif_head(out: &mut Vec<u8>) -> Result<(), AllocError>
+    ensures { OnOk result (out.new.items ≡ out.old.items ++ sarif_head) }
+{
+    push_text(
+        out,
+        "{\"$schema\":\"https://json.schemastore.org/sarif-2.1.0.json\",\"version\":\"2.1.0\",\"runs\":[{\"tool\":{\"driver\":{\"name\":\"aapolicy\"}},\"columnKind\":\"unicodeCodePoints\"",
+    )
+}
+
+/// Appends the findings as one SARIF log (version 2.1.0) and a line end: a result for each fault, with its place and the includes
+/// on the way to it, and a notification for each warning.
+pub fn push_sarif_report(
+    out: &mut Vec<u8>,
+    alloc: Global,
+    report: &CheckReport,
+) -> Result<(), AllocError>
+    ensures { OnOk result (out.new.items ≡ out.old.items ++ sarif_report report.now) }
+{
+    let warnings = all_notifications(alloc, report)?;
+    push_sarif_head(out)?;
+    push_results(out, alloc, report.files.as_slice())?;
+    let run = run_of(report, warnings.as_slice());
+    push_member(out, alloc, "invocations", &run)?;
+    push_text(out, "}]}\n")
+}
