@@ -1,6 +1,7 @@
 -- What `ask` answers: the label under which is asked, the requests, and the verdict on each.
 -- Source: own.
-use Rattle.std.specs.Prelude.{ℕ, ◌≡◌, ◌==◌, List, [], ◌∷◌, ◌++◌, length, map, flat_map, codes, Bool, false, if◌then◌else◌, Option, Some, None, option_map, Result, Ok, Err, MatchResult}
+use Rattle.std.specs.Prelude.{ℕ, ◌≡◌, ◌==◌, List, [], ◌∷◌, ◌++◌, length, map, flat_map, codes, Bool, false, if◌then◌else◌, Option, Some, None, option_map, option_and_then, Result, Ok, Err, MatchResult}
+use Rattle.std.specs.Option.{option_or}
 use Rattle.aa_base.specs.Values.{value}
 use Rattle.aa_text.specs.Visible.{all_visible}
 use Rattle.aa_model.specs.declared.policy.Policy.{Policy}
@@ -8,6 +9,7 @@ use Rattle.aa_model.specs.declared.policy.Profile.{Profile}
 use Rattle.aa_model.specs.declared.label.Label.{Label}
 use Rattle.aa_model.specs.declared.label.Label.TheVariants.{Unconfined, Confined}
 use Rattle.aa_model.specs.declared.request.Request.{Request}
+use Rattle.aa_model.specs.declared.request.Request.TheVariants as asks
 use Rattle.aa_compile.specs.Labels.{label_named}
 use Rattle.aa_mediate.specs.Reply.{reply}
 use Rattle.aa_notation.specs.Read.{request_in}
@@ -54,9 +56,22 @@ listed_profiles p = flat_map listed_profile p.profiles
 abbrev pub which_profile : List Policy → List ℕ
 which_profile policies = codes "error: --profile NAME tells which profile asks, or --program PATH:" ++ flat_map listed_profiles policies ++ codes "\n"
 
--- the label of that name
+-- the name that a request to change to it asks for
+abbrev pub changed_to : Request → Option (List ℕ)
+changed_to (asks.Change name) = Some name
+changed_to _ = None
+
+-- the name that stands in hexadecimal digits, as names are printed that hold other bytes
+unfoldable pub name_in_digits : List ℕ → Option (List ℕ)
+name_in_digits digits = option_and_then changed_to (request_in false (codes "change=" ++ digits))
+
+-- the label of that name, or else of the name that stands so in digits
+abbrev pub label_called : List Policy → List ℕ → Option Label
+label_called policies name = option_or (label_named policies 0 name) (option_and_then (label_named policies 0) (name_in_digits name))
+
+-- the same, or what is said where there is none
 abbrev pub label_by_name : List Policy → List ℕ → Outcome Label
-label_by_name policies name = or_refused (no_profile name) (label_named policies 0 name)
+label_by_name policies name = or_refused (no_profile name) (label_called policies name)
 
 -- the label that a task gets which isn't confined and executes that program
 abbrev pub label_by_program : List Policy → List ℕ → Outcome Label

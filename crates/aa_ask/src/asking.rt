@@ -1,11 +1,12 @@
 //! What `ask` answers.
 
-ghost use Rattle.std.specs.Prelude.{◌≡◌, ◌++◌, codes, map, flat_map, option_map, false, not, OnOk, IfOk};
+ghost use Rattle.std.specs.Prelude.{◌≡◌, ◌++◌, codes, map, flat_map, option_map, option_and_then, false, not, OnOk, IfOk};
+ghost use Rattle.aa_compile.specs.Labels.{label_named};
 ghost use Rattle.std.specs.List.{list_any};
 ghost use Rattle.aa_mediate.specs.Reply.{reply};
 ghost use Rattle.aa_notation.specs.Read.{request_in};
 ghost use Rattle.aa_ask.specs.Told.{told, verdict_on};
-ghost use Rattle.aa_ask.specs.Asked.{said_of, listed_profile, listed_profiles, which_profile, label_by_name, label_by_program, only_label, opening, request_of, requests_of, in_sequence, verdicts_on, answers, Gives};
+ghost use Rattle.aa_ask.specs.Asked.{said_of, listed_profile, listed_profiles, which_profile, changed_to, name_in_digits, label_called, label_by_name, label_by_program, only_label, opening, request_of, requests_of, in_sequence, verdicts_on, answers, Gives};
 ghost use Rattle.aa_ask.specs.Words.{texts};
 
 use crate::verdict::{Verdict, decide};
@@ -130,11 +131,70 @@ fn which_profile(alloc: Global, policies: &[Compiled]) -> Result<Vec<u8>, AllocE
     Ok(line)
 }
 
-/// The label of a profile by its name.
+/// The word that asks to change to the profile whose name stands in hexadecimal digits.
+fn change_word(alloc: Global, digits: &[u8]) -> Result<Vec<u8>, AllocError>
+    ensures { IfOk result (λ word. word.items ≡ codes "change=" ++ digits.now) }
+{
+    let mut word = Vec::from_slice(alloc, "change=".as_bytes())?;
+    word.extend_from_slice(digits)?;
+    Ok(word)
+}
+
+/// The name that a request to change to it asks for, copied.
+fn changed_to(alloc: Global, request: &Request) -> Result<Option<Vec<u8>>, AllocError>
+    ensures { IfOk result (λ name. option_map (λ n. n.items) name ≡ changed_to request.now) }
+{
+    match request {
+        Request::Change(change) => Ok(Some(Vec::from_slice(alloc, change.name())?)),
+        _ => Ok(None),
+    }
+}
+
+/// The name that stands in hexadecimal digits, as names are printed that hold other bytes.
+#[tactic(auto, unfolding(crate::specs::Asked::name_in_digits))]
+fn name_in_digits(alloc: Global, digits: &[u8]) -> Result<Option<Vec<u8>>, AllocError>
+    ensures { IfOk result (λ name. option_map (λ n. n.items) name ≡ name_in_digits digits.now) }
+{
+    let word = change_word(alloc, digits)?;
+    match read_word(alloc, word.as_slice(), false) {
+        Ok(request) => changed_to(alloc, &request),
+        Err(WordFault::NoRequest) => Ok(None),
+        Err(WordFault::NoMemory) => Err(AllocError),
+    }
+}
+
+fn label_in_digits(
+    alloc: Global,
+    policies: &[Compiled],
+    digits: &[u8],
+) -> Result<Option<Label>, AllocError>
+    ensures { IfOk result (λ label. label ≡ option_and_then (label_named policies.now 0) (name_in_digits digits.now)) }
+{
+    match name_in_digits(alloc, digits)? {
+        Some(name) => Ok(label_of(policies, 0, name.as_slice())),
+        None => Ok(None),
+    }
+}
+
+/// The label of a profile by its name, or else of the one whose name stands so in hexadecimal digits.
+fn label_called(
+    alloc: Global,
+    policies: &[Compiled],
+    name: &[u8],
+) -> Result<Option<Label>, AllocError>
+    ensures { IfOk result (λ label. label ≡ label_called policies.now name.now) }
+{
+    match label_of(policies, 0, name) {
+        Some(label) => Ok(Some(label)),
+        None => label_in_digits(alloc, policies, name),
+    }
+}
+
+/// The same, or what is said where there is none.
 fn label_by_name(alloc: Global, policies: &[Compiled], name: &[u8]) -> Result<Label, AskFault>
     ensures { Gives (λ label. label) result (label_by_name policies.now name.now) }
 {
-    match label_of(policies, 0, name) {
+    match label_called(alloc, policies, name)? {
         Some(label) => Ok(label),
         None => { Err(AskFault::Refused(said_of(alloc, "error: no profile is called ", name)?)) }
     }

@@ -6,7 +6,7 @@ use aa_check::{CheckOptions, Form, check_files};
 use aa_command::{Output, Settings, refused};
 use aa_job::{JobOptions, job_files};
 use aa_log::{LogOptions, log_files};
-use aa_logs::Choice;
+use aa_logs::{Choice, Form as Written, LogWord, name_of};
 use aa_text::NoMemory;
 use clap::ArgMatches;
 use std::alloc::{AllocError, Global};
@@ -131,6 +131,21 @@ fn choice_of<'a>(matches: &ArgMatches<'_>, profiles: &'a [Vec<u8>]) -> Option<Ch
     })
 }
 
+/// The names of profiles whose lines are wanted: each as it stands, and what it is in hexadecimal digits, as names are printed that
+/// hold other bytes.
+fn profiles_of(alloc: Global, matches: &ArgMatches<'_>) -> Result<Vec<Vec<u8>>, AllocError> {
+    let mut profiles = copies_of(alloc, matches, "profile")?;
+    for name in values_of(alloc, matches, "profile")? {
+        let word = LogWord {
+            form: Written::Plain,
+            key: &[],
+            text: name,
+        };
+        profiles.push(name_of(alloc, &word)?)?;
+    }
+    Ok(profiles)
+}
+
 /// Does what a command that reads logs asks, or says why not.
 fn run_with_logs(
     rt: &HostRuntime,
@@ -139,7 +154,7 @@ fn run_with_logs(
     settings: &Settings<'_>,
 ) -> Result<Output, NoMemory> {
     let alloc = rt.alloc();
-    let profiles = copies_of(alloc, matches, "profile")?;
+    let profiles = profiles_of(alloc, matches)?;
     let Some(choice) = choice_of(matches, profiles.as_slice()) else {
         let line = "error: --since and --until take a number of seconds\n";
         return refused(alloc, line, 2);
@@ -179,7 +194,10 @@ fn count_inputs(alloc: Global, name: &str, matches: &ArgMatches<'_>) -> Result<u
     let mut count: usize = 0;
     for id in file_arguments(name) {
         let values = values_of(alloc, matches, id)?;
-        let inputs = values.iter().filter(|value| **value == "-".as_bytes()).count();
+        let inputs = values
+            .iter()
+            .filter(|value| **value == "-".as_bytes())
+            .count();
         count = count.saturating_add(inputs);
     }
     Ok(count)
