@@ -41,7 +41,7 @@ zero_none (b ∷ s) all =
     or_from (b == 0) (list_any (λ x. x == 0) s) (ne_eqb b 0 (λ e. omega (arith, e, h.0))) (zero_none s (All-tail (IsFrom 1) b s all))
 
 -- a name that can be asked for is a text of the kind
-asked_wanted : (s : List ℕ) → IsText s → is_wanted_name s ≡ true → IsWanted [] 1 1024 s
+pub asked_wanted : (s : List ℕ) → IsText s → is_wanted_name s ≡ true → IsWanted [] 1 1024 s
 asked_wanted s text e =
     let p = and_parts (not (length s == 0) && not (list_any (λ b. b == 0) s)) (nat_le (length s) 1024) e in
     let q = and_parts (not (length s == 0)) (not (list_any (λ b. b == 0) s)) p.0 in
@@ -54,7 +54,7 @@ some_byte : (s : List ℕ) → (s ≡ [] → ⊥) → not (length s == 0) ≡ tr
 some_byte [] ne = absurd (ne refl)
 some_byte (b ∷ s) ne = not_from_false (length (b ∷ s) == 0) (ne_eqb (length (b ∷ s)) 0 (λ e. omega (arith, e)))
 
-wanted_name : (s : List ℕ) → IsWanted [] 1 1024 s → (s ≡ [] → ⊥) → is_wanted_name s ≡ true
+pub wanted_name : (s : List ℕ) → IsWanted [] 1 1024 s → (s ≡ [] → ⊥) → is_wanted_name s ≡ true
 wanted_name s w ne =
     and_from (not (length s == 0) && not (list_any (λ b. b == 0) s)) (nat_le (length s) 1024)
     (and_from (not (length s == 0)) (not (list_any (λ b. b == 0) s)) (some_byte s ne) (not_from_false (list_any (λ b. b == 0) s) (zero_none s (from_one s w))))
@@ -64,7 +64,7 @@ wanted_name s w ne =
 pub witness_text : (ps : List Pattern) (regions : List Region) → AreRegions ps [] 1 1024 regions → (r : Region) → Contains regions r → IsText r.witness
 witness_text ps regions are r c = All-weaker (IsFrom 1) (λ b. b < 256) (λ b from. from.1) r.witness (from_one r.witness (are.each r c).wanted)
 
-nonzero : (s : List ℕ) → IsWanted [] 1 1024 s → All IsNonzeroByte s
+pub nonzero : (s : List ℕ) → IsWanted [] 1 1024 s → All IsNonzeroByte s
 nonzero s w = All-weaker (IsFrom 1) IsNonzeroByte (λ b from. (omega (arith, from.0), from.1)) s (from_one s w)
 
 module _ (policies : List Policy) (label : Label) (ps : List Pattern) (np : AreNamePatterns policies label ps) (regions : List Region) (are : AreRegions ps [] 1 1024 regions) (rs : List Request)

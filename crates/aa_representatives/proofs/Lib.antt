@@ -8,3 +8,7 @@ mod Literal
 mod Naming
 mod Changing
 mod Linking
+mod Entering
+mod BothSaid
+mod BothStanding
+mod BothChanging

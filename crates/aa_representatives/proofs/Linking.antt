@@ -38,7 +38,7 @@ use Rattle.aa_representatives.proofs.Matched.{verdict_alike, chosen_alike}
 use Rattle.aa_representatives.proofs.Replied.{files_alike}
 use Rattle.aa_representatives.proofs.Standing.{region_of}
 
-abbrev link_at : List ℕ → List ℕ → Bool → Request
+abbrev pub link_at : List ℕ → List ℕ → Bool → Request
 link_at s v owned = Link (record { link = s; target = v; owned = owned })
 
 -- links between paths of which the same is said are answered alike
@@ -76,7 +76,7 @@ numbers_same rules (Some s) (Some t) f g e =
     ap Some (tells_apart rules x.rule y.rule s t x.in_rules y.in_rules x.says y.says (same_Some (way_by rules s) (way_by rules t) e))
 
 -- two paths with one verdict
-one_way : (rules : List FileRule) (s u : List ℕ) (owned : Bool) (x : Verdict) → IsVerdictOf (way_by rules) rules s owned x → IsVerdictOf (way_by rules) rules u owned x → way_of (chosen rules s owned) ≡ way_of (chosen rules u owned)
+pub one_way : (rules : List FileRule) (s u : List ℕ) (owned : Bool) (x : Verdict) → IsVerdictOf (way_by rules) rules s owned x → IsVerdictOf (way_by rules) rules u owned x → way_of (chosen rules s owned) ≡ way_of (chosen rules u owned)
 one_way rules s u owned x a b =
     numbers_same rules (way_of (chosen rules s owned)) (way_of (chosen rules u owned)) (λ e. chosen_says rules s owned e) (λ e. chosen_says rules u owned e) (sym a.way ∙ b.way)
 
@@ -84,7 +84,7 @@ say_from : (rules : List FileRule) (s u : List ℕ) (c : Class) → IsClassOf ru
 say_from rules s u c a b true = (sym a.owned.sets ∙ b.owned.sets, one_way rules s u true c.owned a.owned b.owned)
 say_from rules s u c a b false = (sym a.other.sets ∙ b.other.sets, one_way rules s u false c.other a.other b.other)
 
-say_then : (rules : List FileRule) (s u w : List ℕ) → SayAlike rules s u → SayAlike rules u w → SayAlike rules s w
+pub say_then : (rules : List FileRule) (s u w : List ℕ) → SayAlike rules s u → SayAlike rules u w → SayAlike rules s w
 say_then rules s u w f g owned = ((f owned).0 ∙ (g owned).0, (f owned).1 ∙ (g owned).1)
 
 -- what holds of the first elements, and of one more

@@ -42,10 +42,10 @@ module _ (policies : List Policy) (m u : ℕ) (e : slice_get policies m ≡ None
   reloads_reply_alike label = reload_by label (slice_get policies (policy_number label))
 
 -- the request for one more policy
-pub reloads_add : (n : ℕ) (was now : List Request) (x : Request) → now ≡ was ++ x ∷ [] → x ≡ Reload n → n < 65536 → Adds IsReload [] was → Adds IsReload [] now
-reloads_add n was now x e is lt adds =
+pub reloads_add : (n : ℕ) (first was now : List Request) (x : Request) → now ≡ was ++ x ∷ [] → x ≡ Reload n → n < 65536 → Adds IsReload first was → Adds IsReload first now
+reloads_add n first was now x e is lt adds =
     let kind : IsReload x = subst IsReload (sym is) lt in
-    adds_both IsReload [] was now adds (subst (Adds IsReload was) (sym e) (adds_one IsReload was x kind))
+    adds_both IsReload first was now adds (subst (Adds IsReload was) (sym e) (adds_one IsReload was x kind))
 
 pub reloads_more : (n : ℕ) (was now : List Request) (x : Request) → now ≡ was ++ x ∷ [] → x ≡ Reload n → ((m : ℕ) → m < n → Contains was (Reload m)) → (m : ℕ) → m < n + 1 → Contains now (Reload m)
 reloads_more n was now x e is before m l =
@@ -75,5 +75,5 @@ module _ (policies : List Policy) (count : ℕ) (is : count ≡ min (length poli
   reload_for (Net f s) asked = absurd asked
   reload_for (Change name) asked = absurd asked
 
-  pub reloads_stand : Adds IsReload [] rs → AreRepresentatives policies label IsReload rs
-  reloads_stand adds = record { each = adds_each IsReload [] rs refl adds; all = reload_for }
+  pub reloads_stand : (none : List Request) → none ≡ [] → Adds IsReload none rs → AreRepresentatives policies label IsReload rs
+  reloads_stand none e adds = record { each = adds_each IsReload none rs e adds; all = reload_for }

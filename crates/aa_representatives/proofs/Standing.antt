@@ -46,7 +46,7 @@ region_of ps regions are s asked =
     let r = are.all s asked in
     (r.0, r.1, same_list ps s r.0.witness r.0.numbers r.2 (are.each r.0 r.1).lists)
 
-mask_small : (m : ℕ) → is_mask m ≡ true → m < 128
+pub mask_small : (m : ℕ) → is_mask m ≡ true → m < 128
 mask_small m e = let l = leb-true m 127 (and_parts (not (m == 0) && bit_and m link_and_exec == 0) (nat_le m every_permission) e).1 in omega (arith, l)
 
 module _ (policies : List Policy) (label : Label) (regions : List Region) (are : ArePathRegions (deciding policies label) regions) (rs : List Request) where

@@ -1,3 +1,4 @@
+pub use Rattle.aa_base.specs.Tables
 pub use Rattle.aa_mediate.specs.Reply
 pub mod Alike
 pub mod Below
@@ -6,3 +7,4 @@ pub mod Askable
 pub mod Representatives
 pub mod Names
 pub mod Classes
+pub mod Both

@@ -42,7 +42,7 @@ fn add_change(alloc: Global, requests: &mut Vec<Request>, name: &[u8]) -> Result
 }
 
 /// Adds this request at the name of each region.
-fn add_changes(
+pub(crate) fn add_changes(
     alloc: Global,
     requests: &mut Vec<Request>,
     regions: &[Region],
@@ -58,7 +58,7 @@ fn add_changes(
 }
 
 /// The regions of the texts that a name may be, and of the empty one.
-fn regions_of_names(
+pub(crate) fn regions_of_names(
     alloc: Global,
     patterns: &[&Pattern],
     limit: usize,

@@ -48,7 +48,7 @@ fn same_choice(one: Chosen, other: Chosen) -> bool
     one.audited == other.audited
 }
 
-fn same_verdict(one: Verdict, other: Verdict) -> bool
+pub(crate) fn same_verdict(one: Verdict, other: Verdict) -> bool
     ensures { result ≡ true → one ≡ other }
 {
     if !same_sets(one.sets, other.sets) {

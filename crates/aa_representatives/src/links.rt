@@ -75,7 +75,11 @@ fn add_links_at(
 }
 
 /// Adds these requests at each of the paths, to each of them.
-fn add_links(alloc: Global, requests: &mut Vec<Request>, paths: &[Text]) -> Result<(), AllocError>
+pub(crate) fn add_links(
+    alloc: Global,
+    requests: &mut Vec<Request>,
+    paths: &[Text],
+) -> Result<(), AllocError>
     requires { (s : List ℕ) → Contains paths.now s → IsAsked s }
     ensures adds { OnOk result (Adds IsLink requests.old.items requests.new.items) }
     ensures has { OnOk result ((s u : List ℕ) → Contains paths.now s → Contains paths.now u → HasLinks s u requests.new.items) }

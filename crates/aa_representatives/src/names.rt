@@ -118,3 +118,19 @@ pub(crate) fn changing_patterns(
         None => Ok(Vec::new(alloc)),
     }
 }
+
+/// The patterns by which the names of changes are answered at one of two labels, each in policies of its own.
+pub(crate) fn changing_patterns_of_both<'p>(
+    alloc: Global,
+    one: &'p [Compiled],
+    from: Label,
+    other: &'p [Compiled],
+    to: Label,
+) -> Result<Vec<&'p Pattern>, AllocError>
+    ensures { IfOk result (λ pointers. pointed pointers.items ≡ changing one.now from ++ changing other.now to) }
+{
+    let mut pointers = changing_patterns(alloc, one, from)?;
+    let mut more = changing_patterns(alloc, other, to)?;
+    pointers.append(&mut more)?;
+    Ok(pointers)
+}

@@ -9,6 +9,7 @@ ghost use Rattle.aa_compile.specs.Rows.{patterns_of};
 ghost use Rattle.aa_compile.specs.Transitions.{tops};
 ghost use Rattle.aa_representatives.specs.Alike.{deciding, deciding_at};
 ghost use Rattle.aa_representatives.specs.Below.{attachments_if};
+ghost use Rattle.aa_representatives.specs.Both.{deciding_both};
 
 use aa_compile::Compiled;
 use aa_model::{FileRule, Label, Profile};
@@ -112,4 +113,20 @@ pub(crate) fn deciding_patterns(
         Some(number) => patterns_in_profile(alloc, profiles, number),
         None => patterns_of_tops(alloc, profiles),
     }
+}
+
+/// The patterns by which paths are answered at one of two labels, each in policies of its own.
+pub(crate) fn deciding_patterns_of_both<'p>(
+    alloc: Global,
+    one: &'p [Compiled],
+    from: Label,
+    other: &'p [Compiled],
+    to: Label,
+) -> Result<Vec<&'p Pattern>, AllocError>
+    ensures { IfOk result (λ pointers. pointed pointers.items ≡ deciding_both one.now from other.now to) }
+{
+    let mut pointers = deciding_patterns(alloc, one, from)?;
+    let mut more = deciding_patterns(alloc, other, to)?;
+    pointers.append(&mut more)?;
+    Ok(pointers)
 }

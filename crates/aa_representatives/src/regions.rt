@@ -2,19 +2,42 @@
 
 ghost use Rattle.std.specs.Prelude.{◌≡◌, ◌+◌, ◌<◌, ◌≤◌, Err, IfOk, length};
 ghost use Rattle.aa_pattern.specs.Limits.{most_patterns, most_states};
+ghost use Rattle.aa_auto.specs.Nodes.{pointed};
 ghost use Rattle.aa_auto.specs.Tables.{HasPlaces};
 ghost use Rattle.aa_regions.specs.Regions.{ArePathRegions};
 ghost use Rattle.aa_representatives.specs.Alike.{deciding};
+ghost use Rattle.aa_representatives.specs.Both.{deciding_both};
 
 use crate::fault::RepresentativesFault;
-use crate::patterns::deciding_patterns;
+use crate::patterns::{deciding_patterns, deciding_patterns_of_both};
 use aa_compile::Compiled;
 use aa_model::Label;
+use aa_pattern::Pattern;
 use aa_regions::{Region, path_regions};
 use std::alloc::Global;
 
 /// How many patterns are matched together, at most.
 pub(crate) const MAX_PATTERNS: usize = 65535;
+
+/// The regions of the paths that can be asked for, by these patterns.
+fn regions_by(
+    alloc: Global,
+    patterns: &[&Pattern],
+    limit: usize,
+) -> Result<Vec<Region>, RepresentativesFault>
+    requires some { 0 < limit }
+    requires limit { limit ≤ most_states }
+    ensures regions { IfOk result (λ rs. ArePathRegions (pointed patterns.now) rs.items) }
+    ensures many_patterns { result ≡ Err RepresentativesFault.TooManyPatterns → most_patterns < length (pointed patterns.now) }
+    ensures few_patterns { IfOk result (λ _. length (pointed patterns.now) ≤ most_patterns) }
+    ensures many_states { result ≡ Err RepresentativesFault.TooManyStates → HasPlaces (pointed patterns.now) (limit + 1) }
+    ensures few_states { IfOk result (λ _. HasPlaces (pointed patterns.now) (limit + 1) → ⊥) }
+{
+    if patterns.len() > MAX_PATTERNS {
+        return Err(RepresentativesFault::TooManyPatterns);
+    }
+    Ok(path_regions(alloc, patterns, limit)?)
+}
 
 /// The regions of the paths that can be asked for, by the patterns that decide at the label: of the file rules of its profile, of
 /// the attachments of the top-level profiles and of its children, in this order. Paths of one region are answered alike. The
@@ -34,8 +57,27 @@ pub fn deciding_regions(
     ensures few_states { IfOk result (λ _. HasPlaces (deciding policies.now label) (limit + 1) → ⊥) }
 {
     let patterns = deciding_patterns(alloc, policies, label)?;
-    if patterns.len() > MAX_PATTERNS {
-        return Err(RepresentativesFault::TooManyPatterns);
-    }
-    Ok(path_regions(alloc, patterns.as_slice(), limit)?)
+    regions_by(alloc, patterns.as_slice(), limit)
+}
+
+/// The same by the patterns that decide at one of two labels, each in policies of its own. Paths of one region are answered alike
+/// at each of the labels.
+pub(crate) fn deciding_regions_of_both(
+    alloc: Global,
+    one: &[Compiled],
+    from: Label,
+    other: &[Compiled],
+    to: Label,
+    limit: usize,
+) -> Result<Vec<Region>, RepresentativesFault>
+    requires some { 0 < limit }
+    requires limit { limit ≤ most_states }
+    ensures regions { IfOk result (λ rs. ArePathRegions (deciding_both one.now from other.now to) rs.items) }
+    ensures many_patterns { result ≡ Err RepresentativesFault.TooManyPatterns → most_patterns < length (deciding_both one.now from other.now to) }
+    ensures few_patterns { IfOk result (λ _. length (deciding_both one.now from other.now to) ≤ most_patterns) }
+    ensures many_states { result ≡ Err RepresentativesFault.TooManyStates → HasPlaces (deciding_both one.now from other.now to) (limit + 1) }
+    ensures few_states { IfOk result (λ _. HasPlaces (deciding_both one.now from other.now to) (limit + 1) → ⊥) }
+{
+    let patterns = deciding_patterns_of_both(alloc, one, from, other, to)?;
+    regions_by(alloc, patterns.as_slice(), limit)
 }

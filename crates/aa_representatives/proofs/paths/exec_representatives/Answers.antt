@@ -2,7 +2,7 @@ use Rattle.std.proofs.Common.{List, Contains, subst}
 use Rattle.aa_regions.specs.declared.regions.Region.{Region}
 use Rattle.aa_representatives.specs.Representatives.{HasExecs}
 use Rattle.aa_representatives.proofs.Standing.{execs_stand}
-use Rattle.aa_representatives.proofs.representatives.exec_representatives.Goals as goal
+use Rattle.aa_representatives.proofs.paths.exec_representatives.Goals as goal
 
 pub returns-clause-representatives : goal.returns-clause-representatives
 returns-clause-representatives c =

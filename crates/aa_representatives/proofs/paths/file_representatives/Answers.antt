@@ -2,7 +2,7 @@ use Rattle.std.proofs.Common.{List, Contains, subst}
 use Rattle.aa_regions.specs.declared.regions.Region.{Region}
 use Rattle.aa_representatives.specs.Representatives.{HasFiles}
 use Rattle.aa_representatives.proofs.Standing.{files_stand}
-use Rattle.aa_representatives.proofs.representatives.file_representatives.Goals as goal
+use Rattle.aa_representatives.proofs.paths.file_representatives.Goals as goal
 
 pub returns-clause-representatives : goal.returns-clause-representatives
 returns-clause-representatives c =

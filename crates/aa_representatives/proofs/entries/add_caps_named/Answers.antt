@@ -1,0 +1,22 @@
+use Rattle.std.proofs.Common.{◌≡◌, ℕ, List, Some, Contains}
+use Rattle.aa_base.specs.Tables.{number_in, capability_names}
+use Rattle.aa_model.specs.declared.request.Request.TheVariants.{Cap}
+use Rattle.aa_representatives.specs.Askable.{IsCap}
+use Rattle.aa_representatives.proofs.Adding.{adds_both, adds_keep}
+use Rattle.aa_representatives.proofs.Entering.{names_more, names_all}
+use Rattle.aa_representatives.proofs.entries.add_caps_named.Goals as goal
+
+pub loop-name-preserved : goal.loop-name-preserved
+loop-name-preserved c =
+    let was = c.loop-name.requests.items in
+    let now = c.add_cap.new.requests.items in
+    let made = c.in_ok-add_cap.ensures in
+    record {
+      adds = adds_both IsCap c.args.requests.now.items was now c.loop-name.invariant.adds made.adds;
+      has = λ name n d e.
+          names_more (λ entry. entry.now) c.args.names.now c.loop-name.name-index _ (λ (s : List ℕ). (m : ℕ) → number_in capability_names s ≡ Some m → Contains now (Cap m))
+          c.loop-name-test.true (λ s d m e. adds_keep IsCap was now made.adds (Cap m) (c.loop-name.invariant.has s m d e)) made.has name d n e;
+    }
+
+pub returns-clause-has : goal.returns-clause-has
+returns-clause-has c = λ name n d e. c.loop-name.invariant.has name n (names_all (λ entry. entry.now) c.args.names.now c.loop-name.name-index c.loop-name-test.false name d) e
