@@ -1,0 +1,4 @@
+mod Adding
+mod Running
+mod Pairing
+mod Listing

@@ -1,0 +1,26 @@
+use Rattle.std.proofs.Common.{List, Contains, subst}
+use Rattle.aa_differences.specs.declared.labels.Labels.{Labels}
+use Rattle.aa_differences.specs.Differences.{ListAllAt, ListAll}
+use Rattle.aa_differences.proofs.Listing.{list_everywhere, none_same, same_none}
+use Rattle.aa_differences.proofs.differences.policy_differences.Goals as goal
+
+pub differences_of-requires-clause-labels : goal.differences_of-requires-clause-labels
+differences_of-requires-clause-labels c = λ x d. c.in_ok-labels.ensures.each x (subst (λ (l : List Labels). Contains l x) c.as_slice.ensures.value d)
+
+pub returns-clause-all : goal.returns-clause-all
+returns-clause-all c =
+    let ps = c.args.old.now in
+    let qs = c.args.new.now in
+    let ds = c.in_ok-differences.differences.items in
+    list_everywhere ps qs c.in_ok-labels.labels.items c.in_ok-labels.ensures.all ds
+    (subst (λ (l : List Labels). (x : Labels) → Contains l x → ListAllAt ps qs x.from x.to ds) c.as_slice.ensures.value c.in_ok-differences.ensures.all)
+
+pub returns-clause-none : goal.returns-clause-none
+returns-clause-none c =
+    let ps = c.args.old.now in
+    let qs = c.args.new.now in
+    let ds = c.in_ok-differences.differences.items in
+    let all : ListAll ps qs ds =
+    list_everywhere ps qs c.in_ok-labels.labels.items c.in_ok-labels.ensures.all ds
+    (subst (λ (l : List Labels). (x : Labels) → Contains l x → ListAllAt ps qs x.from x.to ds) c.as_slice.ensures.value c.in_ok-differences.ensures.all) in
+    (λ e. none_same ps qs ds e all, λ same. same_none ps qs ds same c.in_ok-differences.ensures.each)

@@ -1,0 +1,50 @@
+-- Requests that two lists of policies answer differently.
+-- Source: own.
+use Rattle.std.specs.Prelude.{◌≡◌, ◌⊎◌, List, Contains}
+use Rattle.aa_model.specs.declared.policy.Policy.{Policy}
+use Rattle.aa_model.specs.declared.label.Label.{Label}
+use Rattle.aa_model.specs.declared.request.Request.{Request}
+use Rattle.aa_mediate.specs.Reply.{reply}
+use Rattle.aa_representatives.specs.Askable.{IsAskable, SameKind}
+use Rattle.aa_differences.specs.declared.at_labels.Difference.{Difference}
+use Rattle.aa_differences.specs.Same.{SameLabel, SameAnswer, AnsweredAlike}
+
+-- a request that can be asked, with its answers at two labels that are called the same: a task can tell them apart
+pub record IsDifference (ps qs : List Policy) (d : Difference) : Type 0 where
+  pub labels : SameLabel ps qs d.from d.to
+  pub asked : IsAskable d.request
+  pub old : d.old ≡ reply ps d.from d.request
+  pub new : d.new ≡ reply qs d.to d.request
+  pub differ : SameAnswer ps qs d.old d.new → ⊥
+
+-- one of the differences is of the request's kind and at these labels, and has its answers
+pub record IsEntryOf (ps qs : List Policy) (l m : Label) (r : Request) (d : Difference) : Type 0 where
+  pub from : d.from ≡ l
+  pub to : d.to ≡ m
+  pub kind : SameKind r d.request
+  pub old : d.old ≡ reply ps l r
+  pub new : d.new ≡ reply qs m r
+
+-- the request is answered the same at the two labels, or has an entry
+abbrev pub IsListedAt : List Policy → List Policy → Label → Label → Request → List Difference → Type 0
+IsListedAt ps qs l m r ds = AnsweredAlike ps qs l m r ⊎ ((d : Difference) × Contains ds d × IsEntryOf ps qs l m r d)
+
+-- so each that can be asked
+abbrev pub ListAllAt : List Policy → List Policy → Label → Label → List Difference → Type 0
+ListAllAt ps qs l m ds = (r : Request) → IsAskable r → IsListedAt ps qs l m r ds
+
+-- differences are added: those that were there stay, what was none isn't added, and the request is answered the same or has an entry
+pub record AddsAt (ps qs : List Policy) (l m : Label) (r : Request) (was now : List Difference) : Type 0 where
+  pub kept : (d : Difference) → Contains was d → Contains now d
+  pub each : ((d : Difference) → Contains was d → IsDifference ps qs d) → (d : Difference) → Contains now d → IsDifference ps qs d
+  pub listed : IsListedAt ps qs l m r now
+
+-- so at all labels that are called the same
+abbrev pub ListAll : List Policy → List Policy → List Difference → Type 0
+ListAll ps qs ds = (l m : Label) → SameLabel ps qs l m → ListAllAt ps qs l m ds
+
+-- differences are added: those that were there stay, what was none isn't added, and all at the two labels are listed
+pub record AddsAllAt (ps qs : List Policy) (l m : Label) (was now : List Difference) : Type 0 where
+  pub kept : (d : Difference) → Contains was d → Contains now d
+  pub each : ((d : Difference) → Contains was d → IsDifference ps qs d) → (d : Difference) → Contains now d → IsDifference ps qs d
+  pub listed : ListAllAt ps qs l m now

@@ -1,0 +1,14 @@
+//! Requests that two lists of policies answer differently, at labels that are called the same.
+#![tactic(auto)]
+
+mod answers;
+mod at_labels;
+mod differences;
+mod fault;
+mod labels;
+mod laws;
+
+pub use at_labels::{Difference, label_differences};
+pub use differences::policy_differences;
+pub use fault::DifferencesFault;
+pub use laws::same_policies_run_alike;
