@@ -57,6 +57,7 @@ pub data Kind : Type 0 where
   OfChange : Kind
   OfReload : Kind
 
+-- the kind of a request
 abbrev pub kind_of : Request → Kind
 kind_of (File r) = OfFile
 kind_of (Link r) = OfLink

@@ -1,15 +1,12 @@
 //! Requests that stand for all others at two labels at once, kind by kind.
 
-ghost use Rattle.std.specs.Prelude.{◌≡◌, ◌+◌, ◌<◌, ◌≤◌, ℕ, List, Err, IfOk, OnOk, Contains, length};
+ghost use Rattle.std.specs.Prelude.{◌≡◌, ◌+◌, ◌<◌, ◌≤◌, Err, IfOk, Contains, length};
 ghost use Rattle.aa_pattern.specs.Limits.{most_patterns, most_states};
-ghost use Rattle.aa_auto.specs.Nodes.{pointed};
 ghost use Rattle.aa_auto.specs.Tables.{HasPlaces};
-ghost use Rattle.aa_model.specs.declared.policy.Policy.{Policy};
 ghost use Rattle.aa_model.specs.declared.label.Label.{Label};
 ghost use Rattle.aa_model.specs.declared.request.Request.{Request};
 ghost use Rattle.aa_representatives.specs.Askable.{IsAskable, IsFile, IsLink, IsExec, IsCap, IsNet, IsChange, IsReload};
-ghost use Rattle.aa_representatives.specs.Both.{deciding_both, many_names_of_both, AreNamePatternsOfBoth, HaveNamePlacesOfBoth, StandAtBoth};
-ghost use Rattle.aa_representatives.specs.Representatives.{Adds};
+ghost use Rattle.aa_representatives.specs.Both.{deciding_both, many_names_of_both, HaveNamePlacesOfBoth, StandAtBoth};
 
 use crate::changes::{add_changes, regions_of_names};
 use crate::entries::{add_caps, add_nets};
@@ -20,7 +17,7 @@ use crate::links::add_links;
 use crate::names::{changing_patterns_of_both, name_patterns};
 use crate::patterns::add_patterns;
 use crate::regions::deciding_regions_of_both;
-use crate::reloads::add_reloads;
+use crate::reloads::{MAX_POLICY, add_reloads};
 use crate::said::paths_to_link;
 use aa_compile::Compiled;
 use aa_model::{Label, Request};
@@ -82,9 +79,6 @@ pub(crate) fn at_names(
     add_changes(alloc, &mut requests, regions.as_slice())?;
     Ok(requests)
 }
-
-/// The highest number of a policy.
-const MAX_POLICY: usize = 65535;
 
 /// Requests for capabilities and sockets, and to be decided by another policy.
 pub(crate) fn by_numbers(

@@ -11,7 +11,7 @@ use aa_model::Request;
 use std::alloc::{AllocError, Global};
 
 /// The highest number of a policy.
-const MAX_POLICY: usize = 65535;
+pub(crate) const MAX_POLICY: usize = 65535;
 
 /// Adds the requests to be decided by each of the first policies.
 pub(crate) fn add_reloads(requests: &mut Vec<Request>, count: usize) -> Result<(), AllocError>
