@@ -3,6 +3,7 @@
 
 mod attachment_tests;
 mod change_tests;
+mod difference_tests;
 mod execution_tests;
 mod file_tests;
 mod label_tests;
