@@ -9,6 +9,8 @@ import sys
 
 SUMS = os.path.join(os.path.dirname(os.path.abspath(__file__)), "sums")
 PROGRAMS = ("aamediate", "aapolicy")
+# The crate that is built as a static library for other languages.
+LIBRARY = "aa_library"
 # What a proved program is made of, and what one without proofs is.
 ALL, CODE = ("src", "specs", "proofs"), ("src",)
 # For a guess alone: what a crate's proof takes of a processor, in seconds, and each of its lines.

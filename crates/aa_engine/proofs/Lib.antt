@@ -14,3 +14,4 @@ mod Words
 mod Inputs
 mod Streams
 mod Decided
+mod InTurn

@@ -23,12 +23,12 @@ use Rattle.aa_engine.specs.Texts.{IsMade, joined_lines}
 pub record WritingTask {M : Type 0} (several : Bool) (policies : List Policy) (task : ℕ) (out : List ℕ) (before : Label) (rest : List (Answered M)) (all : List ℕ) : Type 0 where
   pub goes_on : out ++ task_lines several policies task before rest ≡ all
 
-task_lines_step : {M : Type 0} (several : Bool) (policies : List Policy) (task : ℕ) (before : Label) (a : Answered M) (rest : List (Answered M))
+pub task_lines_step : {M : Type 0} (several : Bool) (policies : List Policy) (task : ℕ) (before : Label) (a : Answered M) (rest : List (Answered M))
     → task_lines several policies task before (a ∷ rest) ≡ verdict_line several policies task a ++ (audit_lines policies before a ++ task_lines several policies task a.answer.label rest)
 unfolding task_lines
 task_lines_step {M} several policies task before a rest = refl
 
-task_lines_nil : (M : Type 0) (several : Bool) (policies : List Policy) (task : ℕ) (before : Label) → task_lines {M = M} several policies task before [] ≡ []
+pub task_lines_nil : (M : Type 0) (several : Bool) (policies : List Policy) (task : ℕ) (before : Label) → task_lines {M = M} several policies task before [] ≡ []
 unfolding task_lines
 task_lines_nil M several policies task before = refl
 
@@ -184,12 +184,12 @@ module _ {M : Type 0} (next : M → Label → Request → Label) (decide : M →
   mapped text None = refl
   mapped text (Some others) = refl
 
-  lines_step : (several : Bool) (policies : List Policy) (n : ℕ) (task : Task) (rest : List Task) (label : Label) → task_label policies task ≡ Some label
+  pub lines_step : (several : Bool) (policies : List Policy) (n : ℕ) (task : Task) (rest : List Task) (label : Label) → task_label policies task ≡ Some label
       → lines_from next decide machine several policies n (task ∷ rest) ≡ option_map (λ (others : List ℕ). task_lines several policies n label (answers_by next decide machine task label) ++ others) (lines_from next decide machine several policies (n + 1) rest)
   unfolding lines_from
   lines_step several policies n task rest label e = rw e (mapped (task_lines several policies n label (answers_by next decide machine task label)) (lines_from next decide machine several policies (n + 1) rest))
 
-  lines_nil : (several : Bool) (policies : List Policy) (n : ℕ) → lines_from next decide machine several policies n [] ≡ Some []
+  pub lines_nil : (several : Bool) (policies : List Policy) (n : ℕ) → lines_from next decide machine several policies n [] ≡ Some []
   unfolding lines_from
   lines_nil several policies n = refl
 

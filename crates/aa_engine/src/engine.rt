@@ -1,8 +1,9 @@
 //! The engines: a job's bytes in, lines out.
 
-ghost use Rattle.std.specs.Prelude.{◌≡◌, ◌≢◌, ◌<◌, ◌≤◌, ℕ, List, [], Some, length, take, IfOk, IfErr, OnOk, IsErrOf};
+ghost use Rattle.std.specs.Prelude.{◌≡◌, ◌≢◌, ◌<◌, ◌≤◌, ℕ, List, [], Ok, Some, length, take, IfOk, IfErr, OnOk, IsErrOf};
 ghost use Rattle.std.specs.Io.KnownBytes.{Appends, Keeps};
 ghost use Rattle.std.specs.String.{string_bytes};
+ghost use Rattle.aa_jobs.specs.Jobs.{job_of};
 ghost use Rattle.aa_engine.specs.Answers.{first_unknown};
 ghost use Rattle.aa_engine.specs.Output.{lines_from};
 ghost use Rattle.aa_engine.specs.Engines.{HandsIn, IsCheckOutput, IsRunOutput, IsReplayOutput, IsDecided, Explains, IsInput, IsExplained};
@@ -27,25 +28,20 @@ use std::thread::Threads;
 
 /// A job with its policies, compiled.
 #[derive(Drop)]
-struct CompiledJob {
-    job: Job,
-    policies: Vec<Compiled>,
+pub(crate) struct CompiledJob {
+    pub job: Job,
+    pub policies: Vec<Compiled>,
 }
 
-/// The job that the bytes are, and its policies. The bytes are let go once the job is read.
+/// The job with its policies.
 // The type `Job` keeps that there are 1 to 16 policies, of which each task's number is one, so the policies' texts can't be
 // taken out of it: they live until all lines are made, one copy of at most 16 MiB.
-fn compile_job(alloc: Global, bytes: Vec<u8>) -> Result<CompiledJob, RunFault>
-    ensures asked { IfOk result (λ a. HandsIn bytes.items a.job a.policies.items) }
-    ensures cause { IfErr result (λ e. Explains e bytes.items) }
+fn with_policies(alloc: Global, job: Job) -> Result<CompiledJob, RunFault>
+    ensures asked { (input : List ℕ) → job_of input ≡ Ok job → IfOk result (λ a. HandsIn input a.job a.policies.items) }
+    ensures cause { (input : List ℕ) → job_of input ≡ Ok job → IfErr result (λ e. Explains e input) }
     ensures unwritten { IfErr result (λ e. e ≢ RunFault.Write) }
     ensures labels { (t : ℕ) → IsErrOf result (RunFault.UnknownProfile t) → ⊥ }
 {
-    let job = match read_job(alloc, bytes.as_slice()) {
-        Ok(job) => job,
-        Err(fault) => return Err(job_fault(fault)),
-    };
-    drop(bytes);
     match compile_policies(
         alloc,
         job.includes.as_slice(),
@@ -57,8 +53,36 @@ fn compile_job(alloc: Global, bytes: Vec<u8>) -> Result<CompiledJob, RunFault>
     }
 }
 
+/// The job that the bytes are, and its policies. The bytes are let go once the job is read.
+fn compile_job(alloc: Global, bytes: Vec<u8>) -> Result<CompiledJob, RunFault>
+    ensures asked { IfOk result (λ a. HandsIn bytes.items a.job a.policies.items) }
+    ensures cause { IfErr result (λ e. Explains e bytes.items) }
+    ensures unwritten { IfErr result (λ e. e ≢ RunFault.Write) }
+    ensures labels { (t : ℕ) → IsErrOf result (RunFault.UnknownProfile t) → ⊥ }
+{
+    let job = match read_job(alloc, bytes.as_slice()) {
+        Ok(job) => job,
+        Err(fault) => return Err(job_fault(fault)),
+    };
+    drop(bytes);
+    with_policies(alloc, job)
+}
+
+/// The job that bytes in a caller's hands are, and its policies.
+pub(crate) fn compile_bytes(alloc: Global, bytes: &[u8]) -> Result<CompiledJob, RunFault>
+    ensures asked { IfOk result (λ a. HandsIn bytes.now a.job a.policies.items) }
+    ensures cause { IfErr result (λ e. Explains e bytes.now) }
+    ensures unwritten { IfErr result (λ e. e ≢ RunFault.Write) }
+    ensures labels { (t : ℕ) → IsErrOf result (RunFault.UnknownProfile t) → ⊥ }
+{
+    match read_job(alloc, bytes) {
+        Ok(job) => with_policies(alloc, job),
+        Err(fault) => Err(job_fault(fault)),
+    }
+}
+
 /// The text of `check` for a job and its policies.
-fn check_text(alloc: Global, asked: &CompiledJob) -> Result<String, RunFault>
+pub(crate) fn check_text(alloc: Global, asked: &CompiledJob) -> Result<String, RunFault>
     ensures text { (input : List ℕ) → HandsIn input asked.now.job asked.now.policies.items → IfOk result (λ text. IsCheckOutput input (string_bytes text)) }
     ensures cause { (input : List ℕ) → IfErr result (λ e. Explains e input) }
     ensures unwritten { IfErr result (λ e. e ≢ RunFault.Write) }
@@ -147,7 +171,7 @@ fn run_text_of<R: Threads + Wait + Sync>(
 }
 
 /// The text of `replay` for a job and its policies.
-fn replay_text(alloc: Global, asked: &CompiledJob) -> Result<String, RunFault>
+pub(crate) fn replay_text(alloc: Global, asked: &CompiledJob) -> Result<String, RunFault>
     ensures text { (input : List ℕ) → HandsIn input asked.now.job asked.now.policies.items → IfOk result (λ text. IsReplayOutput input (string_bytes text)) }
     ensures cause { (input : List ℕ) → HandsIn input asked.now.job asked.now.policies.items → IfErr result (λ e. Explains e input) }
     ensures unwritten { IfErr result (λ e. e ≢ RunFault.Write) }

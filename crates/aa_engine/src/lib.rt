@@ -4,6 +4,8 @@
 mod deciding;
 mod engine;
 mod fault;
+mod in_memory;
+mod in_turn;
 mod laws;
 mod lending;
 mod output;
@@ -16,6 +18,7 @@ pub use aa_lane::Answered;
 pub use deciding::mediate;
 pub use engine::{check_job, replay_job, run_job};
 pub use fault::RunFault;
+pub use in_memory::{check_bytes, replay_bytes, run_bytes};
 pub use laws::{
     same_policies_check_alike, same_policies_replay_alike, same_policies_reply_alike,
     same_policies_run_alike, words_decide_texts,

@@ -76,7 +76,7 @@ fn push_numbers(out: &mut String, task: u64, number: u64) -> Result<(), AllocErr
 
 /// Appends the verdict on a request.
 #[tactic(auto, unfolding(crate::specs::Output::verdict_line))]
-fn push_verdict<M: Machine<State = Label, Request = Request, Answer = Answer>>(
+pub(crate) fn push_verdict<M: Machine<State = Label, Request = Request, Answer = Answer>>(
     out: &mut String,
     several: bool,
     policies: &[Compiled],
@@ -92,7 +92,7 @@ fn push_verdict<M: Machine<State = Label, Request = Request, Answer = Answer>>(
 
 /// Appends the audit line of an answer, if it has one.
 #[tactic(auto, unfolding(crate::specs::Output::audit_lines))]
-fn push_audit<M: Machine<State = Label, Request = Request, Answer = Answer>>(
+pub(crate) fn push_audit<M: Machine<State = Label, Request = Request, Answer = Answer>>(
     out: &mut String,
     policies: &[Compiled],
     before: Label,

@@ -1,0 +1,64 @@
+//! The library `libaamediate`: bytes in, texts out, for programs in any language that calls C.
+//!
+//! Each call takes a buffer for its text and one for the line on a fault. Nothing is kept between two calls.
+#![tactic(auto)]
+
+mod answering;
+mod fault_line;
+mod handing;
+
+ghost use Rattle.aa_engine.specs.Engines.{IsCheckOutput, IsRunOutput, IsReplayOutput, IsDecided};
+ghost use Rattle.aa_library.specs.Answered.{IsAnswered};
+
+use aa_engine::{check_bytes, replay_bytes, run_bytes};
+use answering::answer;
+pub use handing::Sizes;
+use std::alloc::Global;
+
+/// What `aamediate check` writes for the bytes of a job.
+#[unsafe(no_mangle)]
+pub extern "C" fn aamediate_check(
+    alloc: Global,
+    job: &[u8],
+    text: &mut [u8],
+    fault: &mut [u8],
+    sizes: &mut Sizes,
+) -> u32
+    ensures answered { IsAnswered IsCheckOutput job.now text.old text.new fault.old fault.new sizes.new result }
+    ensures decided { IsDecided IsCheckOutput }
+{
+    let made = check_bytes(alloc, job);
+    answer(alloc, made, text, fault, sizes)
+}
+
+/// What `aamediate run` writes for the bytes of a job. The tasks are answered one after the other.
+#[unsafe(no_mangle)]
+pub extern "C" fn aamediate_run(
+    alloc: Global,
+    job: &[u8],
+    text: &mut [u8],
+    fault: &mut [u8],
+    sizes: &mut Sizes,
+) -> u32
+    ensures answered { IsAnswered IsRunOutput job.now text.old text.new fault.old fault.new sizes.new result }
+    ensures decided { IsDecided IsRunOutput }
+{
+    let made = run_bytes(alloc, job);
+    answer(alloc, made, text, fault, sizes)
+}
+
+/// What `aamediate replay` writes for the bytes of a job.
+#[unsafe(no_mangle)]
+pub extern "C" fn aamediate_replay(
+    alloc: Global,
+    job: &[u8],
+    text: &mut [u8],
+    fault: &mut [u8],
+    sizes: &mut Sizes,
+) -> u32
+    ensures answered { IsAnswered IsReplayOutput job.now text.old text.new fault.old fault.new sizes.new result }
+    ensures decided { IsDecided IsReplayOutput }
+{
+    let made = replay_bytes(alloc, job);
+    answer(alloc, made, text, fault, sizes)
+}

@@ -1,0 +1,46 @@
+package aamediate
+
+import (
+	"bytes"
+	"errors"
+	"strings"
+	"sync"
+	"testing"
+)
+
+const job = `{"policy":"profile web { /srv/** r, }","tasks":[{"label":"web","requests":[
+	{"file":"/srv/a","mask":"r"}]}]}`
+
+func TestAJobIsAnswered(t *testing.T) {
+	text, err := Run([]byte(job))
+	if err != nil || string(text) != "0 0 granted label=\"web\"\n" {
+		t.Fatalf("%q, %v", text, err)
+	}
+}
+
+func TestWhatIsNoJobIsRefused(t *testing.T) {
+	for _, given := range [][]byte{nil, {}, []byte("{"), {255, 254}} {
+		_, err := Check(given)
+		var fault *Fault
+		if !errors.As(err, &fault) || !fault.IsRefused() || !strings.HasPrefix(fault.Line, "job ") {
+			t.Fatalf("%v", err)
+		}
+	}
+}
+
+func TestEightCallAtOnce(t *testing.T) {
+	wanted, _ := Run([]byte(job))
+	var all sync.WaitGroup
+	for range [8]int{} {
+		all.Add(1)
+		go func() {
+			defer all.Done()
+			for range [100]int{} {
+				if text, err := Run([]byte(job)); err != nil || !bytes.Equal(text, wanted) {
+					t.Errorf("%q, %v", text, err)
+				}
+			}
+		}()
+	}
+	all.Wait()
+}

@@ -1,0 +1,3 @@
+module example.org/aamediate
+
+go 1.19

@@ -1,0 +1,42 @@
+"""Calls of the library, also side by side: python3 -m unittest tests"""
+
+import threading
+import unittest
+
+import aamediate
+
+JOB = b'{"policy":"profile web { /srv/** r, }","tasks":[{"label":"web","requests":[{"file":"/srv/a","mask":"r"}]}]}'
+
+
+class Calls(unittest.TestCase):
+    def test_a_job_is_answered(self):
+        self.assertEqual(aamediate.run(JOB), b'0 0 granted label="web"\n')
+        self.assertEqual(aamediate.check(JOB), b"ok 1 profiles 1 file rules 0 passed over\n")
+
+    def test_what_is_no_job_is_refused(self):
+        for given in (b"", b"{", b"\xff\xfe", b"[]"):
+            with self.assertRaises(aamediate.Refused) as why:
+                aamediate.check(given)
+            self.assertTrue(why.exception.line.startswith("job "))
+
+    def test_bytes_are_wanted(self):
+        for given in (None, "{}", 1):
+            self.assertRaises(TypeError, aamediate.run, given)
+
+    def test_a_long_text_comes_whole(self):
+        requests = b",".join([b'{"file":"/etc/a","mask":"r"}'] * 4096)
+        job = b'{"policy":"profile web { }","tasks":[{"label":"web","requests":[%s]}]}' % requests
+        self.assertEqual(aamediate.run(job).count(b"\n"), 2 * 4096)
+
+    def test_eight_threads_call_at_once(self):
+        wanted, got = aamediate.run(JOB), []
+        threads = [threading.Thread(target=lambda: got.extend(aamediate.run(JOB) for _ in range(100))) for _ in range(8)]
+        for it in threads:
+            it.start()
+        for it in threads:
+            it.join()
+        self.assertEqual(got, [wanted] * 800)
+
+
+if __name__ == "__main__":
+    unittest.main()

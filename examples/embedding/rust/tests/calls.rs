@@ -1,0 +1,49 @@
+//! Calls of the library, also side by side.
+use aamediate::{check, replay, run, Cause};
+use std::thread;
+
+const JOB: &str = r#"{"policy":"profile web { /srv/** r, }","tasks":[{"label":"web","requests":[
+    {"file":"/srv/a","mask":"r"},{"file":"/etc/a","mask":"r"}]}]}"#;
+
+#[test]
+fn a_job_is_answered() {
+    let text = String::from_utf8(run(JOB.as_bytes()).unwrap()).unwrap();
+    let lines: Vec<&str> = text.lines().collect();
+    assert_eq!(lines[0], "0 0 granted label=\"web\"");
+    assert_eq!(lines[1], "0 1 denied label=\"web\"");
+    assert!(lines[2].contains("apparmor=\"DENIED\""), "{}", lines[2]);
+    assert_eq!(check(JOB.as_bytes()).unwrap(), b"ok 1 profiles 1 file rules 0 passed over\n");
+}
+
+#[test]
+fn what_is_no_job_is_refused() {
+    for call in [check, run, replay] {
+        for bytes in [&b""[..], b"{", b"\xff\xfe", b"[]"] {
+            let fault = call(bytes).unwrap_err();
+            assert_eq!(fault.cause, Cause::Refused);
+            assert!(fault.line.starts_with("job "), "{}", fault.line);
+        }
+    }
+}
+
+#[test]
+fn a_long_text_comes_whole() {
+    let requests = vec![r#"{"file":"/etc/a","mask":"r"}"#; 4096].join(",");
+    let job = format!(r#"{{"policy":"profile web {{ }}","tasks":[{{"label":"web","requests":[{requests}]}}]}}"#);
+    let text = run(job.as_bytes()).unwrap();
+    assert_eq!(text.iter().filter(|byte| **byte == b'\n').count(), 2 * 4096);
+}
+
+#[test]
+fn eight_threads_call_at_once() {
+    let wanted = run(JOB.as_bytes());
+    thread::scope(|scope| {
+        for _ in 0..8 {
+            scope.spawn(|| {
+                for _ in 0..100 {
+                    assert_eq!(run(JOB.as_bytes()), wanted);
+                }
+            });
+        }
+    });
+}
