@@ -17,7 +17,7 @@
        the input, while the call runs;
      - malloc, realloc and free come from one allocator, which aligns a block to each power of two up to 16 that divides its size;
      - no call is made in a signal handler, or in the child of a fork of a process with threads;
-     - a thread that calls has 1 MiB of stack left. */
+     - a thread that calls has AAMEDIATE_STACK bytes of stack left: glibc's threads and Rust's have by themselves, those of musl and macOS don't. */
 #ifndef AAMEDIATE_H
 #define AAMEDIATE_H
 
@@ -44,6 +44,9 @@ struct aamediate_sizes {
 
 /* As many bytes as a line on a job's fault takes at most. */
 #define AAMEDIATE_FAULT_SIZE 128
+
+/* As many bytes of stack as a call takes at most. */
+#define AAMEDIATE_STACK 1572864
 
 /* What `aamediate check` writes for a job: how many profiles and rules each of its policies has. */
 uint32_t aamediate_check(const uint8_t *job, size_t job_size, uint8_t *text, size_t text_size, uint8_t *fault, size_t fault_size,

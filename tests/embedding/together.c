@@ -1,14 +1,18 @@
 /* Calls the library with what a careless or an unlucky program hands in: together COMMAND FILE.. reads each file as a job, and looks, of each,
-   that eight threads at once get what one gets, that each buffer of too few bytes is told of and stays as it is, that no byte beyond the text is
-   written, and that each growth that is refused, alone or with all that follow it, is told of or changes nothing. Then come bytes made by chance, whole
-   and torn from the files. Linked with --wrap=malloc and --wrap=realloc. It ends with 0, or says what isn't so and ends with 1. */
+   that eight threads at once, each with the stack that the header names, get what one gets, that each buffer of too few bytes is told of and
+   stays as it is, that no byte beyond the text is written, that each growth that is refused, alone or with all that follow it, is told of or changes
+   nothing, and that a call frees just what it has taken. Then come bytes made by chance, whole and torn from the files. With `bytes` before COMMAND
+   there are more of these, and nothing else. Linked with --wrap for malloc, realloc and free. It ends with 0, or says what isn't so and ends
+   with 1. */
 #include <aamediate.h>
 #include <pthread.h>
 #include <stdio.h>
 #include <stdlib.h>
 #include <string.h>
 
-enum { THREADS = 8, TIMES = 4, STACK = 1 << 20, GUARD = 64, MARK = 0xa5, MOST_GROWTHS = 400 };
+/* (what a thread's own frames and the C library take is beside the stack of a call) */
+enum { THREADS = 8, TIMES = 4, STACK = AAMEDIATE_STACK + (32 << 10), GUARD = 64, MARK = 0xa5, MOST_GROWTHS = 400 };
+enum { NEAR = 32, FEW_CHANGES = 8, MANY_CHANGES = 64, LONG = 1024 };
 
 typedef uint32_t call(const uint8_t *, size_t, uint8_t *, size_t, uint8_t *, size_t, struct aamediate_sizes *);
 
@@ -19,19 +23,35 @@ static const struct { const char *name; call *does; } calls[] = {
 struct bytes { uint8_t *at; size_t size; };
 struct answer { uint32_t status; struct aamediate_sizes sizes; uint8_t *text; uint8_t fault[AAMEDIATE_FAULT_SIZE]; };
 
-/* Growths are counted, and refused from the first of that number on, or it alone. 0: none is. */
+/* Growths are counted, and refused from the first of that number on, or it alone. 0: none is. How many blocks are held is counted too. */
 static __thread unsigned long asked, first_refused, refuses_all;
+static __thread long held;
 
 void *__real_malloc(size_t size);
 void *__real_realloc(void *at, size_t size);
+void __real_free(void *at);
 
 static int is_refused(void) {
     asked++;
     return first_refused && (asked == first_refused || (refuses_all && asked > first_refused));
 }
 
-void *__wrap_malloc(size_t size) { return is_refused() ? NULL : __real_malloc(size); }
-void *__wrap_realloc(void *at, size_t size) { return is_refused() ? NULL : __real_realloc(at, size); }
+void *__wrap_malloc(size_t size) {
+    void *at = is_refused() ? NULL : __real_malloc(size);
+    held += at != NULL;
+    return at;
+}
+
+void *__wrap_realloc(void *at, size_t size) {
+    void *to = is_refused() ? NULL : __real_realloc(at, size);
+    held += !at && to;
+    return to;
+}
+
+void __wrap_free(void *at) {
+    held -= at != NULL;
+    __real_free(at);
+}
 
 static const char *about;
 
@@ -56,9 +76,11 @@ static int is_marked(const uint8_t *at, size_t size) {
 
 /* One call with a text of that many bytes, and a guard behind it. */
 static struct answer asked_for(call *does, struct bytes job, size_t size) {
-    struct answer it = {.text = room(size)};
+    struct answer it = {.text = room(size), .sizes = {MARK, MARK}};
     memset(it.fault, MARK, sizeof it.fault);
+    long before = held;
     it.status = does(job.at, job.size, it.text, size, it.fault, sizeof it.fault, &it.sizes);
+    expect(held == before, "a block is kept, or one is freed that the call hasn't taken");
     expect(is_marked(it.text + size, GUARD), "bytes beyond the buffer are written");
     int is_written = it.status == AAMEDIATE_ANSWERED;
     size_t beyond = is_written ? it.sizes.text : 0;
@@ -72,7 +94,7 @@ static struct answer whole(call *does, struct bytes job) {
     struct answer it = asked_for(does, job, 0);
     if (it.status == AAMEDIATE_TOO_SMALL || it.sizes.text) {
         size_t size = it.sizes.text;
-        free(it.text);
+        __real_free(it.text);
         it = asked_for(does, job, size);
         expect(it.status != AAMEDIATE_TOO_SMALL, "the size that was told is too small");
         expect(it.status != AAMEDIATE_ANSWERED || it.sizes.text == size, "another size is told");
@@ -92,7 +114,7 @@ static void *call_again(void *given) {
     for (int n = 0; n < TIMES; n++) {
         struct answer got = whole(it->does, it->job);
         expect(is_same(got, it->wanted), "a thread beside others gets another answer");
-        free(got.text);
+        __real_free(got.text);
     }
     return NULL;
 }
@@ -108,32 +130,56 @@ static void side_by_side(struct share share) {
     pthread_attr_destroy(&how);
 }
 
-/* Each size below the text's is told of, of long texts some. */
+/* Each room below the text's is told of, of long texts some. */
 static void too_small(struct share it) {
     size_t size = it.wanted.status == AAMEDIATE_ANSWERED ? it.wanted.sizes.text : 0;
-    for (size_t less = 1; less <= size; less += less < 16 ? 1 : less) {
+    for (size_t less = 1; less <= size; less += size < LONG || less < 16 ? 1 : less) {
         struct answer got = asked_for(it.does, it.job, size - less);
         expect(got.status == AAMEDIATE_TOO_SMALL && got.sizes.text == size, "a buffer that is too small isn't told of");
-        free(got.text);
+        __real_free(got.text);
     }
 }
 
+/* Of a line that has too little room its front is written, and its size is told. */
+static void short_lines(struct share it) {
+    for (size_t size = 0; size < it.wanted.sizes.fault; size++) {
+        uint8_t text[GUARD], fault[AAMEDIATE_FAULT_SIZE];
+        struct aamediate_sizes sizes = {MARK, MARK};
+        memset(text, MARK, sizeof text);
+        memset(fault, MARK, sizeof fault);
+        uint32_t status = it.does(it.job.at, it.job.size, text, sizeof text, fault, size, &sizes);
+        expect(status == it.wanted.status && sizes.fault == it.wanted.sizes.fault && !sizes.text, "a line that has no room changes what is told");
+        expect(!memcmp(fault, it.wanted.fault, size) && is_marked(fault + size, sizeof fault - size), "another part of a line is written");
+        expect(is_marked(text, sizeof text), "a refused job leaves bytes in the buffer");
+    }
+}
+
+/* How many growths a call asks for. */
+static unsigned long growths_of(struct share it) {
+    asked = first_refused = 0;
+    struct answer got = asked_for(it.does, it.job, it.wanted.sizes.text);
+    expect(is_same(got, it.wanted), "the same bytes have another answer");
+    __real_free(got.text);
+    return asked;
+}
+
+/* Refuses each growth, of many those at both ends and some between. */
 static void refused_growths(struct share it) {
-    for (refuses_all = 0; refuses_all < 2; refuses_all++) {
-        unsigned long n = 0;
-        do {
-            size_t size = it.wanted.sizes.text;
+    unsigned long growths = growths_of(it), step = growths / MOST_GROWTHS + 1, told = 0;
+    for (refuses_all = 0; refuses_all < 2; refuses_all++)
+        for (unsigned long n = 1; n <= growths; n += n < NEAR || n + NEAR > growths ? 1 : step) {
             asked = 0;
-            first_refused = ++n;
-            struct answer got = asked_for(it.does, it.job, size);
+            first_refused = n;
+            struct answer got = asked_for(it.does, it.job, it.wanted.sizes.text);
             first_refused = 0;
             int is_told = got.status == AAMEDIATE_FAILED && got.sizes.text == 0 && got.sizes.fault == 9 && !memcmp(got.fault, "no memory", 9);
             expect(is_told || is_same(got, it.wanted), "a growth that is refused changes the answer");
-            expect(is_told || !refuses_all || asked < n, "all growths are refused, and there is an answer");
-            free(got.text);
-        } while (asked >= n && n < MOST_GROWTHS);
-    }
-    asked = 0;
+            expect(is_told || !refuses_all, "all growths are refused, and there is an answer");
+            told += is_told;
+            __real_free(got.text);
+        }
+    refuses_all = 0;
+    expect(told || !growths, "no growth that is refused is told of");
 }
 
 static struct bytes bytes_of(const char *path) {
@@ -152,35 +198,78 @@ static uint64_t by_chance(void) {
     return state ^= state << 17;
 }
 
-/* Bytes by chance, and a job cut off or with some bytes changed, get some status. */
-static void any_bytes(call *does, struct bytes job) {
-    uint8_t *at = room(job.size);
-    for (int n = 0; n < 8; n++) {
-        memcpy(at, job.at, job.size);
-        size_t size = job.size ? by_chance() % (job.size + 1) : 0;
-        for (int k = 0; k < n && size; k++) at[by_chance() % size] = (uint8_t)by_chance();
-        struct answer got = whole(does, (struct bytes){at, size});
-        expect(got.status == AAMEDIATE_ANSWERED || got.status == AAMEDIATE_REFUSED, "bytes that are no job have another status");
-        free(got.text);
+/* A copy of bytes in a block of just their number, so that what is read behind them is found by a tool that looks. */
+static struct bytes copied(const uint8_t *from, size_t size) {
+    struct bytes it = {__real_malloc(size), size};
+    if (size && !it.at) abort();
+    /* (an empty block may have no place) */
+    if (!it.at) it.at = __real_malloc(1);
+    memcpy(it.at, from, size);
+    return it;
+}
+
+/* Changes a byte, sets a sign of JSON or of a policy, leaves bytes out, or says them twice. The buffer has so many bytes. */
+static size_t changed(uint8_t *at, size_t size, size_t most) {
+    static const char signs[] = "{}[]\",:\\\0\xff/@*?^-09 \n";
+    size_t place = by_chance() % size, many = by_chance() % 16 + 1;
+    if (many > size - place) many = size - place;
+    switch (by_chance() % 4) {
+    case 0: at[place] = (uint8_t)by_chance(); return size;
+    case 1: at[place] = (uint8_t)signs[by_chance() % (sizeof signs - 1)]; return size;
+    case 2: memmove(at + place, at + place + many, size - place - many); return size - many;
     }
-    free(at);
+    if (size + many > most) return size;
+    memmove(at + place + many, at + place, size - place);
+    return size + many;
+}
+
+/* Whatever the bytes are, they are answered or refused by a line. */
+static void any_answer(call *does, const uint8_t *at, size_t size) {
+    struct bytes given = copied(at, size);
+    struct answer got = whole(does, given);
+    expect(got.status == AAMEDIATE_ANSWERED || (got.status == AAMEDIATE_REFUSED && got.sizes.fault), "bytes that are no job have another status");
+    __real_free(got.text);
+    __real_free(given.at);
+}
+
+/* Bytes by chance, and a job cut off or with some changes. */
+static void any_bytes(call *does, struct bytes job, int times) {
+    size_t most = job.size + LONG;
+    uint8_t *at = room(most);
+    for (int n = 0; n < times; n++) {
+        size_t size = n % 2 ? by_chance() % (job.size + 1) : job.size;
+        memcpy(at, job.at, size);
+        for (int k = n % FEW_CHANGES; k > 0 && size; k--) size = changed(at, size, most);
+        any_answer(does, at, size);
+        size = by_chance() % 64;
+        for (size_t k = 0; k < size; k++) at[k] = (uint8_t)by_chance();
+        any_answer(does, at, size);
+    }
+    __real_free(at);
+}
+
+static void look(call *does, struct bytes job) {
+    struct share share = {does, job, whole(does, job)};
+    too_small(share);
+    short_lines(share);
+    side_by_side(share);
+    refused_growths(share);
+    any_bytes(does, job, FEW_CHANGES);
+    __real_free(share.wanted.text);
 }
 
 int main(int count, char **words) {
+    int has_bytes = count > 1 && !strcmp(words[1], "bytes"), first = has_bytes ? 3 : 2;
     call *does = NULL;
     for (size_t n = 0; n < sizeof calls / sizeof *calls; n++)
-        if (count > 2 && !strcmp(words[1], calls[n].name)) does = calls[n].does;
+        if (count > first && !strcmp(words[first - 1], calls[n].name)) does = calls[n].does;
     if (!does) return 2;
-    for (int n = 2; n < count; n++) {
+    for (int n = first; n < count; n++) {
         about = words[n];
         struct bytes job = bytes_of(words[n]);
-        struct share share = {does, job, whole(does, job)};
-        too_small(share);
-        side_by_side(share);
-        refused_growths(share);
-        any_bytes(does, job);
-        free(share.wanted.text);
-        free(job.at);
+        if (has_bytes) any_bytes(does, job, MANY_CHANGES);
+        else look(does, job);
+        __real_free(job.at);
     }
     return 0;
 }

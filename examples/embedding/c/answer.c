@@ -22,6 +22,7 @@ int main(int count, char **words) {
     uint8_t fault[AAMEDIATE_FAULT_SIZE], *text = NULL, *job = malloc(MOST_JOB + 1);
     if (!job) return fputs("no memory\n", stderr), AAMEDIATE_FAILED;
     size_t job_size = fread(job, 1, MOST_JOB + 1, stdin);
+    if (ferror(stdin)) return fputs("read failed\n", stderr), AAMEDIATE_FAILED;
     /* (a guess, mostly enough: where it is too little, all is done again) */
     struct aamediate_sizes sizes = {.text = 4096 + 8 * job_size};
     uint32_t status;

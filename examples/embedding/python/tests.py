@@ -1,4 +1,4 @@
-"""Calls of the library, also side by side: python3 -m unittest tests"""
+"""Calls of the library as it is installed, also side by side: python3 -m unittest tests"""
 
 import threading
 import unittest
@@ -14,13 +14,13 @@ class Calls(unittest.TestCase):
         self.assertEqual(aamediate.check(JOB), b"ok 1 profiles 1 file rules 0 passed over\n")
 
     def test_what_is_no_job_is_refused(self):
-        for given in (b"", b"{", b"\xff\xfe", b"[]"):
+        for given in (None, b"", bytearray(), memoryview(b""), b"{", b"\xff\xfe", b"[]"):
             with self.assertRaises(aamediate.Refused) as why:
                 aamediate.check(given)
             self.assertTrue(why.exception.line.startswith("job "))
 
     def test_bytes_are_wanted(self):
-        for given in (None, "{}", 1):
+        for given in ("{}", 1, [1]):
             self.assertRaises(TypeError, aamediate.run, given)
 
     def test_a_long_text_comes_whole(self):

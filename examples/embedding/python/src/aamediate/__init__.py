@@ -39,9 +39,8 @@ def _declared(name):
 
 
 def _answer(call, given):
-    # (a `bytes` has a pointer that isn't null, also where it is empty, and nothing else is taken)
-    if not isinstance(given, bytes):
-        raise TypeError("bytes are wanted")
+    # (a `bytes` has a pointer that isn't null, also where it is empty)
+    given = b"" if given is None else bytes(memoryview(given))
     line, sizes, room = ctypes.create_string_buffer(_LINE), _Sizes(), _ROOM + _ROOM_A_BYTE * len(given)
     while True:
         text = ctypes.create_string_buffer(room)
