@@ -53,7 +53,7 @@ void __wrap_free(void *at) {
     __real_free(at);
 }
 
-static const char *about;
+static __thread const char *about;
 
 static void expect(int holds, const char *what) {
     if (holds) return;
@@ -107,11 +107,16 @@ static int is_same(struct answer one, struct answer other) {
         && (one.status != AAMEDIATE_ANSWERED || !memcmp(one.text, other.text, one.sizes.text)) && !memcmp(one.fault, other.fault, one.sizes.fault);
 }
 
-struct share { call *does; struct bytes job; struct answer wanted; };
+struct share { const char *path; call *does; struct bytes job; struct answer wanted; };
 
-static void *call_again(void *given) {
-    struct share *it = given;
-    for (int n = 0; n < TIMES; n++) {
+/* All jobs, and the one with which a thread begins. */
+struct turn { const struct share *shares; size_t count, first; };
+
+static void *call_all(void *given) {
+    const struct turn *turn = given;
+    for (size_t n = 0; n < TIMES * turn->count; n++) {
+        const struct share *it = &turn->shares[(turn->first + n) % turn->count];
+        about = it->path;
         struct answer got = whole(it->does, it->job);
         expect(is_same(got, it->wanted), "a thread beside others gets another answer");
         __real_free(got.text);
@@ -119,13 +124,17 @@ static void *call_again(void *given) {
     return NULL;
 }
 
-static void side_by_side(struct share share) {
+/* Threads that answer other jobs at the same time, and each of them again and again. */
+static void side_by_side(const struct share *shares, size_t count) {
     pthread_t threads[THREADS];
+    struct turn turns[THREADS];
     pthread_attr_t how;
     pthread_attr_init(&how);
     pthread_attr_setstacksize(&how, STACK);
-    for (int n = 0; n < THREADS; n++)
-        if (pthread_create(&threads[n], &how, call_again, &share)) abort();
+    for (size_t n = 0; n < THREADS; n++) {
+        turns[n] = (struct turn){shares, count, n * count / THREADS};
+        if (pthread_create(&threads[n], &how, call_all, &turns[n])) abort();
+    }
     for (int n = 0; n < THREADS; n++) pthread_join(threads[n], NULL);
     pthread_attr_destroy(&how);
 }
@@ -138,6 +147,13 @@ static void too_small(struct share it) {
         expect(got.status == AAMEDIATE_TOO_SMALL && got.sizes.text == size, "a buffer that is too small isn't told of");
         __real_free(got.text);
     }
+}
+
+/* With more room than the text takes, the rest stays as it is. */
+static void more_room(struct share it) {
+    struct answer got = asked_for(it.does, it.job, it.wanted.sizes.text + LONG);
+    expect(is_same(got, it.wanted), "with more room there is another answer");
+    __real_free(got.text);
 }
 
 /* Of a line that has too little room its front is written, and its size is told. */
@@ -248,14 +264,12 @@ static void any_bytes(call *does, struct bytes job, int times) {
     __real_free(at);
 }
 
-static void look(call *does, struct bytes job) {
-    struct share share = {does, job, whole(does, job)};
-    too_small(share);
-    short_lines(share);
-    side_by_side(share);
-    refused_growths(share);
-    any_bytes(does, job, FEW_CHANGES);
-    __real_free(share.wanted.text);
+static void look(struct share it) {
+    too_small(it);
+    more_room(it);
+    short_lines(it);
+    refused_growths(it);
+    any_bytes(it.does, it.job, FEW_CHANGES);
 }
 
 int main(int count, char **words) {
@@ -264,12 +278,21 @@ int main(int count, char **words) {
     for (size_t n = 0; n < sizeof calls / sizeof *calls; n++)
         if (count > first && !strcmp(words[first - 1], calls[n].name)) does = calls[n].does;
     if (!does) return 2;
-    for (int n = first; n < count; n++) {
-        about = words[n];
-        struct bytes job = bytes_of(words[n]);
+    size_t jobs = (size_t)(count - first);
+    struct share *shares = __real_malloc(jobs * sizeof *shares);
+    if (!shares) abort();
+    for (size_t n = 0; n < jobs; n++) {
+        about = words[(size_t)first + n];
+        struct bytes job = bytes_of(about);
+        shares[n] = (struct share){about, does, job, whole(does, job)};
         if (has_bytes) any_bytes(does, job, MANY_CHANGES);
-        else look(does, job);
-        __real_free(job.at);
+        else look(shares[n]);
     }
+    if (!has_bytes) side_by_side(shares, jobs);
+    for (size_t n = 0; n < jobs; n++) {
+        __real_free(shares[n].wanted.text);
+        __real_free(shares[n].job.at);
+    }
+    __real_free(shares);
     return 0;
 }
