@@ -46,7 +46,7 @@ struct aamediate_sizes {
 #define AAMEDIATE_FAULT_SIZE 128
 
 /* As many bytes of stack as a call takes at most. */
-#define AAMEDIATE_STACK 1572864
+#define AAMEDIATE_STACK 1835008
 
 /* What `aamediate check` writes for a job: how many profiles and rules each of its policies has. */
 uint32_t aamediate_check(const uint8_t *job, size_t job_size, uint8_t *text, size_t text_size, uint8_t *fault, size_t fault_size,

@@ -1,7 +1,7 @@
 //! Safe calls of `libaamediate`.
 //!
 //! They may be made from several threads at once, but not in a signal handler, nor between `fork` and `exec` in the child of a process with
-//! threads. A thread needs a stack of 1.5 MiB for them; those of std have 2 MiB.
+//! threads. A thread needs 1.75 MiB of stack for them; those of std have 2 MiB.
 
 use std::fmt;
 
