@@ -36,12 +36,37 @@ struct Sizes {
     fault: usize,
 }
 
-type Call = unsafe extern "C" fn(*const u8, usize, *mut u8, usize, *mut u8, usize, *mut Sizes) -> u32;
+type Call =
+    unsafe extern "C" fn(*const u8, usize, *mut u8, usize, *mut u8, usize, *mut Sizes) -> u32;
 
 extern "C" {
-    fn aamediate_check(job: *const u8, job_size: usize, text: *mut u8, text_size: usize, fault: *mut u8, fault_size: usize, sizes: *mut Sizes) -> u32;
-    fn aamediate_run(job: *const u8, job_size: usize, text: *mut u8, text_size: usize, fault: *mut u8, fault_size: usize, sizes: *mut Sizes) -> u32;
-    fn aamediate_replay(job: *const u8, job_size: usize, text: *mut u8, text_size: usize, fault: *mut u8, fault_size: usize, sizes: *mut Sizes) -> u32;
+    fn aamediate_check(
+        job: *const u8,
+        job_size: usize,
+        text: *mut u8,
+        text_size: usize,
+        fault: *mut u8,
+        fault_size: usize,
+        sizes: *mut Sizes,
+    ) -> u32;
+    fn aamediate_run(
+        job: *const u8,
+        job_size: usize,
+        text: *mut u8,
+        text_size: usize,
+        fault: *mut u8,
+        fault_size: usize,
+        sizes: *mut Sizes,
+    ) -> u32;
+    fn aamediate_replay(
+        job: *const u8,
+        job_size: usize,
+        text: *mut u8,
+        text_size: usize,
+        fault: *mut u8,
+        fault_size: usize,
+        sizes: *mut Sizes,
+    ) -> u32;
 }
 
 const ANSWERED: u32 = 0;
@@ -63,7 +88,15 @@ fn answer(call: Call, job: &[u8]) -> Result<Vec<u8>, Fault> {
         // SAFETY: the pointers and sizes are those of slices, which are never null; the three that are written are borrowed by
         // nobody else, and so overlap nothing; and a thread of std has more stack than a call takes.
         let status = unsafe {
-            call(job.as_ptr(), job.len(), text.as_mut_ptr(), text.len(), line.as_mut_ptr(), line.len(), &mut sizes)
+            call(
+                job.as_ptr(),
+                job.len(),
+                text.as_mut_ptr(),
+                text.len(),
+                line.as_mut_ptr(),
+                line.len(),
+                &mut sizes,
+            )
         };
         match status {
             ANSWERED => {
@@ -72,7 +105,11 @@ fn answer(call: Call, job: &[u8]) -> Result<Vec<u8>, Fault> {
             }
             TOO_SMALL => text.resize(sizes.text, 0),
             _ => {
-                let cause = if status == REFUSED { Cause::Refused } else { Cause::Failed };
+                let cause = if status == REFUSED {
+                    Cause::Refused
+                } else {
+                    Cause::Failed
+                };
                 let line = String::from_utf8_lossy(&line[..sizes.fault.min(LINE)]).into_owned();
                 return Err(Fault { cause, line });
             }

@@ -25,7 +25,11 @@ fn main() -> ExitCode {
         },
         Err(fault) => {
             eprintln!("{fault}");
-            ExitCode::from(if fault.cause == aamediate::Cause::Refused { 1 } else { 3 })
+            ExitCode::from(if fault.cause == aamediate::Cause::Refused {
+                1
+            } else {
+                3
+            })
         }
     }
 }

@@ -12,7 +12,10 @@ fn a_job_is_answered() {
     assert_eq!(lines[0], "0 0 granted label=\"web\"");
     assert_eq!(lines[1], "0 1 denied label=\"web\"");
     assert!(lines[2].contains("apparmor=\"DENIED\""), "{}", lines[2]);
-    assert_eq!(check(JOB.as_bytes()).unwrap(), b"ok 1 profiles 1 file rules 0 passed over\n");
+    assert_eq!(
+        check(JOB.as_bytes()).unwrap(),
+        b"ok 1 profiles 1 file rules 0 passed over\n"
+    );
 }
 
 #[test]
@@ -29,7 +32,9 @@ fn what_is_no_job_is_refused() {
 #[test]
 fn a_long_text_comes_whole() {
     let requests = vec![r#"{"file":"/etc/a","mask":"r"}"#; 4096].join(",");
-    let job = format!(r#"{{"policy":"profile web {{ }}","tasks":[{{"label":"web","requests":[{requests}]}}]}}"#);
+    let job = format!(
+        r#"{{"policy":"profile web {{ }}","tasks":[{{"label":"web","requests":[{requests}]}}]}}"#
+    );
     let text = run(job.as_bytes()).unwrap();
     assert_eq!(text.iter().filter(|byte| **byte == b'\n').count(), 2 * 4096);
 }
