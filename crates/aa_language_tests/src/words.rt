@@ -7,7 +7,6 @@ mod limit_tests;
 mod name_tests;
 mod place_tests;
 mod reading;
-mod refusal_tests;
 mod rule_tests;
 mod tree_tests;
 mod word_tests;

@@ -1,7 +1,7 @@
 //! Which patterns words with variables expand to.
 
 use crate::comparing::equal;
-use crate::texts::{expanded, expansions, is_added, is_matched, is_set};
+use crate::texts::{expanded, is_added, is_matched, is_set};
 use aa_base::PolicyKind;
 use aa_glob::Vars;
 use aa_pattern::Pattern;
@@ -50,18 +50,6 @@ fn expands_to(rt: &impl Abort, alloc: Global, vars: &Vars, raw: &[u8], paths: &[
 /// The word has so many expansions.
 fn has_count(rt: &impl Abort, alloc: Global, vars: &Vars, raw: &[u8], wanted: usize) {
     equal(rt, expanded(rt, alloc, vars, raw).len(), wanted);
-}
-
-/// Why the word has none.
-fn refusal(alloc: Global, vars: &Vars, raw: &[u8]) -> Option<PolicyKind> {
-    expansions(alloc, vars, raw).err()
-}
-
-/// Each word has no expansions, for that.
-fn are_refused(rt: &impl Abort, alloc: Global, vars: &Vars, rows: &[(&[u8], PolicyKind)]) {
-    for (raw, kind) in rows {
-        equal(rt, refusal(alloc, vars, raw), Some(*kind));
-    }
 }
 
 /// Which of the word's expansions match the path, as numbers.
@@ -120,31 +108,6 @@ fn runs_of_slashes_become_one(rt: HostRuntime) {
 }
 
 #[test]
-fn circles_and_names_that_are_not_there(rt: HostRuntime) {
-    let alloc = rt.alloc();
-    const GIVEN: &[Row<'_>] = &[
-        (b"A", &[b"@{B}"]),
-        (b"B", &[b"@{A}"]),
-        (b"C", &[b"@{C}"]),
-        (b"D", &[b"x", b"@{"]),
-    ];
-    let vars = vars_of(&rt, alloc, GIVEN);
-    const ROWS: &[(&[u8], PolicyKind)] = &[
-        (b"/@{A}", PolicyKind::VariableCircle),
-        (b"/@{C}@{X}", PolicyKind::VariableCircle),
-        (b"/@{X}@{C}", PolicyKind::UndefinedVariable),
-        (b"/@{D}@{C}", PolicyKind::BadPattern),
-        (b"/@{exec_path}", PolicyKind::Unsupported),
-        (b"/@{}", PolicyKind::BadPattern),
-        (b"/@{1}", PolicyKind::BadPattern),
-        (b"a", PolicyKind::RelativePath),
-        (b"", PolicyKind::RelativePath),
-    ];
-    are_refused(&rt, alloc, &vars, ROWS);
-    expands_to(&rt, alloc, &vars, b"/\\@{X}", &[b"/@X"]);
-}
-
-#[test]
 fn a_variable_that_is_used_twice_is_no_circle(rt: HostRuntime) {
     let alloc = rt.alloc();
     const GIVEN: &[Row<'_>] = &[(b"A", &[b"@{B}@{B}", b"@{B}"]), (b"B", &[b"x"])];
@@ -153,54 +116,8 @@ fn a_variable_that_is_used_twice_is_no_circle(rt: HostRuntime) {
 }
 
 #[test]
-fn too_many_expansions(rt: HostRuntime) {
+fn a_backslash_keeps_the_sign_of_a_variable(rt: HostRuntime) {
     let alloc = rt.alloc();
-    let vars = vars_of(&rt, alloc, &[(b"A", &[b"x", b"y"])]);
-    const TEN: &[u8] = b"/@{A}@{A}@{A}@{A}@{A}@{A}@{A}@{A}@{A}@{A}";
-    has_count(&rt, alloc, &vars, TEN, 1024);
-    const ELEVEN: &[u8] = b"/@{A}@{A}@{A}@{A}@{A}@{A}@{A}@{A}@{A}@{A}@{A}";
-    are_refused(
-        &rt,
-        alloc,
-        &vars,
-        &[(ELEVEN, PolicyKind::TooManyExpansions)],
-    );
-}
-
-#[test]
-fn texts_of_at_most_16384_bytes(rt: HostRuntime) {
-    let alloc = rt.alloc();
-    let long = [b'a'; 1023];
-    let vars = vars_of(&rt, alloc, &[(b"A", &[long.as_slice()])]);
-    const SIXTEEN: &[u8] =
-        b"/@{A}/@{A}/@{A}/@{A}/@{A}/@{A}/@{A}/@{A}/@{A}/@{A}/@{A}/@{A}/@{A}/@{A}/@{A}/@{A}";
-    has_count(&rt, alloc, &vars, SIXTEEN, 1);
-    const MORE: &[u8] =
-        b"/@{A}/@{A}/@{A}/@{A}/@{A}/@{A}/@{A}/@{A}/@{A}/@{A}/@{A}/@{A}/@{A}/@{A}/@{A}/@{A}b";
-    are_refused(&rt, alloc, &vars, &[(MORE, PolicyKind::TooLarge)]);
-}
-
-/// Sets a variable that uses another one twice.
-fn set_to_double(rt: &impl Abort, vars: &mut Vars, name: u8, before: u8) {
-    let value = [b'@', b'{', before, b'}', b'@', b'{', before, b'}'];
-    is_set(rt, vars, &[name], &[value.as_slice()], None);
-}
-
-/// A chain of variables, each of which uses the one before it twice. The first has that value.
-fn doubling(rt: &impl Abort, alloc: Global, first: &[u8]) -> Vars {
-    let names = b"ABCDEFGHIJKLMNOPQRSTUVWXYZabcdefghijklmno";
-    let mut vars = vars_of(rt, alloc, &[(b"A", &[first])]);
-    for i in 1..names.len() {
-        set_to_double(rt, &mut vars, names[i], names[i - 1]);
-    }
-    vars
-}
-
-#[test]
-fn a_chain_that_doubles_is_refused_at_once(rt: HostRuntime) {
-    let alloc = rt.alloc();
-    let vars = doubling(&rt, alloc, b"x");
-    are_refused(&rt, alloc, &vars, &[(b"/@{o}", PolicyKind::TooLarge)]);
-    let empty = doubling(&rt, alloc, b"");
-    expands_to(&rt, alloc, &empty, b"/@{o}", &[b"/"]);
+    let vars = vars_of(&rt, alloc, &[]);
+    expands_to(&rt, alloc, &vars, b"/\\@{X}", &[b"/@X"]);
 }

@@ -63,58 +63,6 @@ fn are_literal(rt: &impl Abort, alloc: Global, rows: &[(&[u8], bool)]) {
 }
 
 #[test]
-fn stars_between_slashes_match_at_least_one_byte(rt: HostRuntime) {
-    const ROWS: &[Row<'_>] = &[
-        (b"/tmp/*", &[b"/tmp/a"], &[b"/tmp/", b"/tmp/a/"]),
-        (b"/tmp/*/", &[b"/tmp/a/"], &[b"/tmp/", b"/tmp/a"]),
-        (b"/tmp/**/", &[b"/tmp/a/b/"], &[b"/tmp/", b"/tmp/a"]),
-        (b"/tmp/**", &[b"/tmp/a", b"/tmp/a/"], &[b"/tmp/"]),
-        (b"/{**,}", &[b"/"], &[]),
-        (b"/**", &[b"/x"], &[b"/"]),
-    ];
-    match_just(&rt, rt.alloc(), ROWS);
-}
-
-#[test]
-fn stars_elsewhere_match_nothing_too(rt: HostRuntime) {
-    const ROWS: &[Row<'_>] = &[
-        (b"/a*", &[b"/a", b"/ab"], &[b"/a/", b"/"]),
-        (b"/a**", &[b"/a", b"/a/b"], &[b"/", b"a"]),
-        (b"/x{b,/*}", &[b"/xb", b"/x/", b"/x/y"], &[b"/x", b"/x/y/"]),
-        (b"/*.so", &[b"/.so", b"/a.so"], &[b"/a/b.so"]),
-        (
-            b"/**/**/**/x",
-            &[b"/a/b/c/x", b"/a/b/c/d/x"],
-            &[b"/a/b/x", b"/x"],
-        ),
-    ];
-    match_just(&rt, rt.alloc(), ROWS);
-}
-
-#[test]
-fn choices_and_classes(rt: HostRuntime) {
-    const ROWS: &[Row<'_>] = &[
-        (b"/x{,y}", &[b"/x", b"/xy"], &[b"/xyy", b"/"]),
-        (b"/{a}b", &[b"/ab"], &[b"/a", b"/b"]),
-        (
-            b"/{a{b,c},d}e",
-            &[b"/abe", b"/ace", b"/de"],
-            &[b"/ae", b"/abce"],
-        ),
-        (b"/a[^b]c", &[b"/a/c", b"/axc"], &[b"/abc", b"/ac"]),
-        (b"/[a-c]", &[b"/a", b"/b", b"/c"], &[b"/d", b"/-", b"/"]),
-        (b"/[-a]", &[b"/-", b"/a"], &[b"/b"]),
-        (b"/[a-]", &[b"/-", b"/a"], &[b"/b"]),
-        (b"/[a-c-e]", &[b"/b", b"/-", b"/e"], &[b"/d"]),
-        (b"/[a\\-c]", &[b"/a", b"/-", b"/c"], &[b"/b"]),
-        (b"/[\\]]", &[b"/]"], &[b"/\\"]),
-        (b"/a],b", &[b"/a],b"], &[b"/a"]),
-        (b"/?", &[b"/a"], &[b"/", b"//"]),
-    ];
-    match_just(&rt, rt.alloc(), ROWS);
-}
-
-#[test]
 fn nothing_matches_a_zero_byte(rt: HostRuntime) {
     let alloc = rt.alloc();
     const TEXTS: &[&[u8]] = &[b"/**", b"/?", b"/[^a]", b"/\x00", b"/*", b"/[\x00-\xff]"];
@@ -131,34 +79,12 @@ fn nothing_matches_a_zero_byte(rt: HostRuntime) {
 }
 
 #[test]
-fn a_backslash_keeps_the_next_byte(rt: HostRuntime) {
+fn what_no_word_of_a_rule_can_be_is_read_too(rt: HostRuntime) {
     let alloc = rt.alloc();
-    const ROWS: &[Row<'_>] = &[(b"/a\\*", &[b"/a*"], &[b"/ab", b"/a", b"/a\\"])];
+    const ROWS: &[Row<'_>] = &[(b"/a**", &[], &[b"a"])];
     match_just(&rt, alloc, ROWS);
     are_literal(&rt, alloc, &[(b"/a\\*", true)]);
-    const KEPT_LETTERS: &[&[u8]] = &[b"/a\\b", b"/[\\w]", b"/a\\0{"];
-    are_refused(&rt, alloc, KEPT_LETTERS, PolicyKind::Unsupported);
-    are_refused(&rt, alloc, &[b"/a\\"], PolicyKind::BadPattern);
-}
-
-#[test]
-fn bad_patterns(rt: HostRuntime) {
-    const TEXTS: &[&[u8]] = &[
-        b"/[]", b"/[^]", b"/[c-a]", b"/{a", b"/a}", b"/[a", b"/{a}}", b"/{[}]", b"[", b"{",
-    ];
-    are_refused(&rt, rt.alloc(), TEXTS, PolicyKind::BadPattern);
-}
-
-#[test]
-fn choices_are_at_most_sixteen_deep(rt: HostRuntime) {
-    const ROWS: &[Row<'_>] = &[(
-        b"/{{{{{{{{{{{{{{{{a}}}}}}}}}}}}}}}}",
-        &[b"/a"],
-        &[b"/", b"/b"],
-    )];
-    match_just(&rt, rt.alloc(), ROWS);
-    const SEVENTEEN: &[&[u8]] = &[b"/{{{{{{{{{{{{{{{{{a}}}}}}}}}}}}}}}}}"];
-    are_refused(&rt, rt.alloc(), SEVENTEEN, PolicyKind::BadPattern);
+    are_refused(&rt, alloc, &[b"/a\\", b"[", b"{"], PolicyKind::BadPattern);
 }
 
 #[test]

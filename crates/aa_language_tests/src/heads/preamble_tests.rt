@@ -31,14 +31,6 @@ fn preamble(rt: &impl Abort, alloc: Global, text: &str) -> (Vars, usize) {
     read(alloc, text).expect(rt, "a preamble")
 }
 
-/// The kind's number and the byte of the refusal, where the text is refused.
-fn refusal(alloc: Global, text: &str) -> Option<(u8, u32)> {
-    match read(alloc, text) {
-        Ok(_) => None,
-        Err(fault) => Some((fault.kind.number(), fault.at.byte)),
-    }
-}
-
 /// The pattern matches those of the paths that are this one.
 fn matches_alone(pattern: &Pattern, path: &str, paths: &[&str]) -> bool {
     let mut all = true;
@@ -127,46 +119,6 @@ fn preambles_end_where_no_item_begins(rt: HostRuntime) {
             ("@{a-b} = x", 0),
             ("@{A}=a\n@{A}/ = b", 3),
             ("\"abi\" <x>,", 0),
-        ],
-    );
-}
-
-/// The texts are refused, each with that number at that byte.
-fn refuses_each(rt: &impl Abort, alloc: Global, rows: &[(&str, u8, u32)]) {
-    for (text, number, byte) in rows {
-        equal_in(rt, refusal(alloc, text), Some((*number, *byte)), text);
-    }
-}
-
-#[test]
-fn preambles_are_refused_at_the_first_fault(rt: HostRuntime) {
-    refuses_each(
-        &rt,
-        rt.alloc(),
-        &[
-            ("@{A}+=x", 10, 0),
-            ("abi <x>,\n@{A}+=a", 10, 9),
-            ("@{a}=x\n@{A}+=y", 10, 7),
-            ("@{AB}=x\n@{A}+=y", 10, 8),
-            ("@{A}=x\n@{A}=y", 11, 7),
-            ("@{A}=x\n@{A}+=y\n@{A}=y\n@{B}+=z", 11, 15),
-            ("@{profile_name}=x", 5, 0),
-            ("@{exec_path}+=x", 5, 0),
-            ("@{A}=x\n@{exec_path}=", 5, 7),
-            ("@{A}=", 4, 5),
-            ("@{A}=\nprofile p { }", 4, 6),
-            ("@{A}=x\n@{A}+=\nabi <x>,", 4, 14),
-            ("@{A}+=", 10, 0),
-            ("@{A}=x\n@{A}=", 11, 7),
-            ("abi", 4, 3),
-            ("abi x,", 4, 4),
-            ("abi /x,", 4, 4),
-            ("abi <x,", 4, 4),
-            ("abi x>,", 4, 4),
-            ("abi <,", 4, 4),
-            ("abi <x>", 4, 7),
-            ("abi <x> <y>,", 4, 8),
-            ("@{A}=x\nabi \"y\" }", 4, 15),
         ],
     );
 }

@@ -1,37 +1,7 @@
-//! Policies that are cut short or changed, and names that are there already.
+//! Policies that are cut short or changed.
 
-use crate::comparing::{equal, equal_in};
+use crate::comparing::equal;
 use crate::policy::reading::refusal;
-use std::alloc::Global;
-use std::process::Abort;
-
-/// A text, and what it is refused with, if it is: the kind's number, the file and the byte.
-type Row = (&'static str, Option<(u8, u16, u32)>);
-
-/// Each of the texts is read or refused as it says.
-fn are_refused(rt: &impl Abort, alloc: Global, rows: &[Row]) {
-    for (text, found) in rows {
-        equal_in(rt, refusal(alloc, text.as_bytes()), *found, text);
-    }
-}
-
-#[test]
-fn a_name_that_is_there_already_is_refused_at_the_later_one(rt: HostRuntime) {
-    are_refused(
-        &rt,
-        rt.alloc(),
-        &[
-            ("profile p { } profile p { }", Some((15, 0, 22))),
-            (
-                "profile p { } profile q { } profile p { } profile q { }",
-                Some((15, 0, 36)),
-            ),
-            ("profile p { } profile pp { } profile P { }", None),
-            ("profile a/b { }", None),
-            ("profile unconfined2 { }", None),
-        ],
-    );
-}
 
 #[test]
 fn no_front_of_a_policy_is_one(rt: HostRuntime) {

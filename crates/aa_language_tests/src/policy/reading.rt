@@ -41,44 +41,6 @@ pub fn refusal(alloc: Global, text: &[u8]) -> Option<(u8, u16, u32)> {
     }
 }
 
-/// The kind's name, the file and the byte of the refusal, where the text is refused.
-pub fn named_refusal(alloc: Global, text: &[u8]) -> Option<(&'static str, u16, u32)> {
-    match read(alloc, text) {
-        Ok(_) => None,
-        Err(fault) => Some((fault.kind.name(), fault.at.file, fault.at.byte)),
-    }
-}
-
-/// A text, the number of its refusal, and the byte that this points at.
-pub type Row = (&'static str, u8, u32);
-
-/// Each of the texts is refused as it says.
-pub fn refuses_each(rt: &impl Abort, alloc: Global, rows: &[Row]) {
-    for (text, number, byte) in rows {
-        equal_in(
-            rt,
-            refusal(alloc, text.as_bytes()),
-            Some((*number, 0, *byte)),
-            text,
-        );
-    }
-}
-
-/// A text, the name of its refusal, and the byte that this points at.
-pub type NamedRow = (&'static str, &'static str, u32);
-
-/// Each of the texts is refused as it says, by the kind's name.
-pub fn refuses_each_by_name(rt: &impl Abort, alloc: Global, rows: &[NamedRow]) {
-    for (text, kind, byte) in rows {
-        equal_in(
-            rt,
-            named_refusal(alloc, text.as_bytes()),
-            Some((*kind, 0, *byte)),
-            text,
-        );
-    }
-}
-
 /// A row that says what a part of a policy is.
 trait Describes {
     type Part;

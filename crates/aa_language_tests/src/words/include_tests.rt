@@ -1,36 +1,11 @@
 //! Texts that include others.
 
-use crate::words::reading::{
-    Spliced, expect_kinds, expect_refused, expect_same_refusal, expect_splice_refused,
-    expect_spliced,
-};
+use crate::words::reading::{Spliced, expect_kinds, expect_spliced};
 use aa_words::WordKind;
 
 #[test]
-fn includes_without_a_source_are_missing(rt: HostRuntime) {
+fn includes_that_may_be_missing_are_no_words(rt: HostRuntime) {
     let alloc = rt.alloc();
-    expect_same_refusal(
-        &rt,
-        alloc,
-        &[
-            "include <m>",
-            "include \"a b\"",
-            "include\"m\"",
-            "include <>",
-            "include\r\n\t<m>",
-            "#include <m>",
-            "#include\"m\"",
-        ],
-        "refused 2 MissingInclude 0:0",
-    );
-    expect_refused(
-        &rt,
-        alloc,
-        &[
-            ("{ include <m>", "refused 2 MissingInclude 0:2"),
-            ("a, #include <m>", "refused 2 MissingInclude 0:3"),
-        ],
-    );
     expect_kinds(
         &rt,
         alloc,
@@ -107,51 +82,8 @@ fn a_rule_begins_behind_an_include(rt: HostRuntime) {
 }
 
 #[test]
-fn the_first_fault_in_reading_order_is_answered(rt: HostRuntime) {
-    let alloc = rt.alloc();
-    let sources = &[
-        ("a", "b\0"),
-        ("b", "  include <z>"),
-        ("c", "\"q"),
-        ("d", "include <b>"),
-    ];
-    expect_splice_refused(
-        &rt,
-        alloc,
-        sources,
-        &[
-            ("include <a> \0", "refused 4 Syntax 1:1"),
-            ("\0 include <a>", "refused 4 Syntax 0:0"),
-            ("include <b> include <a>", "refused 2 MissingInclude 2:2"),
-            ("\n include <d>", "refused 2 MissingInclude 2:2"),
-            ("include <c>", "refused 4 Syntax 3:0"),
-            ("x, signal include <a>", "refused 4 Syntax 0:3"),
-        ],
-    );
-}
-
-#[test]
 fn includes_of_another_form(rt: HostRuntime) {
     let alloc = rt.alloc();
-    expect_same_refusal(
-        &rt,
-        alloc,
-        &[
-            "include",
-            "include m",
-            "include =",
-            "include <m",
-            "include <m\n>",
-            "include \"m\n\"",
-            "include \"m",
-            "include if <m>",
-            "include ifexists <m>",
-            "include if exists<m>",
-            "include exists <m>",
-            "include <m\"",
-        ],
-        "refused 4 Syntax 0:0",
-    );
     expect_kinds(
         &rt,
         alloc,

@@ -1,8 +1,8 @@
 //! What texts give, in plain values that tests compare. The helpers have no clauses, so that a test's proof stays short, and
 //! those that hold words borrow their sources: to own what words borrow from costs a proof much.
 
-use crate::comparing::{equal, equal_in, holds, holds_in};
-use crate::texts::{line_of, words_of, words_read};
+use crate::comparing::{equal, holds, holds_in};
+use crate::texts::{words_of, words_read};
 use aa_base::{PolicyFault, Spot};
 use aa_words::{Sources, Span, Word, WordKind};
 use std::alloc::Global;
@@ -13,9 +13,6 @@ pub(crate) type Expected<'e> = (WordKind, &'e str, u32, u32);
 
 /// A word of a text that includes others: its kind, its text, its reading, its source, and its first byte.
 pub(crate) type Spliced<'e> = (WordKind, &'e str, u32, u16, u32);
-
-/// A text and the line of its fault.
-pub(crate) type Refused<'e> = (&'e str, &'e str);
 
 /// The fault with which a source is refused, if it is.
 fn refusal_of(sources: &mut Sources, name: &[u8], text: &[u8]) -> Option<PolicyFault> {
@@ -219,48 +216,4 @@ pub(crate) fn expect_first_of_two(
 ) {
     let found = words_read(rt, alloc, sources, text);
     holds(rt, is_first_of_two(found.list.as_slice(), kind, bytes));
-}
-
-/// The fault of a text that is refused.
-fn fault_of(rt: &impl Abort, alloc: Global, sources: &Sources, main: &str) -> PolicyFault {
-    words_of(alloc, sources, main.as_bytes())
-        .err()
-        .expect(rt, main)
-}
-
-/// A text that may include these sources is refused with this line.
-pub(crate) fn expect_line(
-    rt: &impl Abort,
-    alloc: Global,
-    sources: &Sources,
-    main: &str,
-    expected: &str,
-) {
-    let line = line_of(rt, alloc, fault_of(rt, alloc, sources, main));
-    equal_in(rt, line.as_str(), expected, main);
-}
-
-/// Each text that may include these sources is refused with the line beside it.
-pub(crate) fn expect_splice_refused(
-    rt: &impl Abort,
-    alloc: Global,
-    texts: &[(&str, &str)],
-    rows: &[Refused],
-) {
-    let sources = sources_of(rt, alloc, texts);
-    for (main, expected) in rows {
-        expect_line(rt, alloc, &sources, main, expected);
-    }
-}
-
-/// Each text is refused with the line beside it.
-pub(crate) fn expect_refused(rt: &impl Abort, alloc: Global, rows: &[Refused]) {
-    expect_splice_refused(rt, alloc, &[], rows);
-}
-
-/// Each of these texts is refused with this line.
-pub(crate) fn expect_same_refusal(rt: &impl Abort, alloc: Global, texts: &[&str], expected: &str) {
-    for text in texts {
-        expect_refused(rt, alloc, &[(text, expected)]);
-    }
 }

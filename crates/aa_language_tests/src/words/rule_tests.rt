@@ -1,8 +1,6 @@
 //! Rules that are passed over, and where rules begin.
 
-use crate::words::reading::{
-    Expected, expect_kinds, expect_refused, expect_same_refusal, expect_words,
-};
+use crate::words::reading::{Expected, expect_kinds, expect_words};
 use aa_words::WordKind;
 use std::alloc::Global;
 use std::process::Abort;
@@ -24,7 +22,6 @@ fn rules_that_are_passed_over_are_words(rt: HostRuntime) {
         "mqueue",
         "io_uring",
     ];
-    expect_same_refusal(&rt, alloc, KEYWORDS, "refused 4 Syntax 0:0");
     expect_keywords(&rt, alloc, KEYWORDS);
     const WORDS: &[Expected] = &[
         (WordKind::Name, "profile", 0, 7),
@@ -137,17 +134,6 @@ fn passed_over_rules_end_at_the_first_comma_outside(rt: HostRuntime) {
         "signal {[(\")]},\")]}",
     ];
     expect_skipped_each(&rt, alloc, RULES);
-    expect_refused(
-        &rt,
-        alloc,
-        &[
-            ("signal (send,", "refused 4 Syntax 0:0"),
-            ("signal [,) }", "refused 4 Syntax 0:0"),
-            ("deny signal \"a,", "refused 4 Syntax 0:5"),
-            ("a, signal # ,", "refused 4 Syntax 0:3"),
-            ("} allow set", "refused 4 Syntax 0:8"),
-        ],
-    );
 }
 
 #[test]

@@ -204,6 +204,12 @@ fn quoted_words_stand_between_their_quotes(rt: HostRuntime) {
         "{\"a\"", "}\"a\"", ",\"a\"", "=\"a\"", "(\"a\"", ")\"a\"", "+=\"a\"", "->\"a\"",
     ];
     expect_quoted_behind(&rt, alloc, TEXTS);
+    expect_kinds(
+        &rt,
+        alloc,
+        &["a \"b\""],
+        &[WordKind::Name, WordKind::Quoted],
+    );
 }
 
 #[test]
