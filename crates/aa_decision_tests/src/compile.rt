@@ -1,5 +1,5 @@
 //! Tests of compiled policies, from outside, over policies that are read from their texts: worked rows on conflicts, states,
-//! attachments, executions and file rules, labels and their names, audit lines, policies that become one, two rules that
+//! attachments and file rules, labels and their names, audit lines, policies that become one, two rules that
 //! conflict, lists of policies, and refused growths.
 
 mod attachment_tests;
@@ -7,7 +7,6 @@ mod clash_growth_tests;
 mod clash_tests;
 mod clashes;
 mod conflict_tests;
-mod execution_tests;
 mod file_tests;
 mod growth_tests;
 mod join_tests;

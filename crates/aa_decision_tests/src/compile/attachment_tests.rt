@@ -1,32 +1,6 @@
-//! Which profile is attached to a path.
+//! Which profile is attached where there is none, and below a parent.
 
-use crate::compile::policies::{
-    Attached, AttachedChild, Found, attaches, attaches_children, finds,
-};
-
-const STRONGEST: &[Attached] = &[
-    ("/usr/sin/x", None),
-    ("/usr/bin/x", Some(3)),
-    ("/usr/bin/y", Some(2)),
-    ("/usr/lib/x", Some(0)),
-    ("/etc", None),
-    ("", None),
-];
-
-#[test]
-fn the_strongest_attachment_wins(rt: HostRuntime) {
-    let text =
-        "profile a /usr/*/x { } profile b /usr/?in/x { } profile c /usr/bin/y { } profile d /usr/bin/* { }";
-    attaches(&rt, rt.alloc(), text, 4096, STRONGEST);
-}
-
-const LITERAL: &[Attached] = &[("/x", None), ("/y", None), ("/z", Some(2))];
-
-#[test]
-fn two_literal_attachments_attach_none(rt: HostRuntime) {
-    let text = "profile a /x { } profile b /x { } profile c /* { } profile d /{y,y*} { }";
-    attaches(&rt, rt.alloc(), text, 4096, LITERAL);
-}
+use crate::compile::policies::{AttachedChild, Found, attaches, attaches_children, finds};
 
 const FAMILIES: &str =
     "profile p { profile c /x { } profile d /x* { } } profile q { profile c /x* { } }";
@@ -49,6 +23,7 @@ fn children_are_attached_below_their_parent_alone(rt: HostRuntime) {
 #[test]
 fn no_profile_attaches_nothing(rt: HostRuntime) {
     attaches(&rt, rt.alloc(), "", 1, &[("/bin/ls", None)]);
+    attaches(&rt, rt.alloc(), FAMILIES, 4096, &[("", None)]);
     attaches_children(&rt, rt.alloc(), "", 1, &[(0, "/bin/ls", None)]);
 }
 

@@ -131,11 +131,6 @@ pub fn are_executed(rt: &impl Abort, policy: &Compiled, rows: &[Executed]) {
     }
 }
 
-/// Executions lead there in the text's policy.
-pub fn executes(rt: &impl Abort, alloc: Global, text: &str, rows: &[Executed]) {
-    are_executed(rt, &policy(rt, alloc, text, 4096), rows);
-}
-
 /// A profile, a path, whether it is owned, and the bits that the profile's rules allow, deny, deny with a line, and report.
 pub type Bits = (u16, &'static str, bool, Option<[u8; 4]>);
 

@@ -15,7 +15,6 @@ use std::process::Abort;
 /// What a task is answered. The label stays but where one is named, and what permissions are named are reported.
 #[derive(Clone, Copy)]
 pub enum Then {
-    Granted,
     Refused,
     /// Refused, and reported.
     Denied(Perms),
@@ -23,9 +22,6 @@ pub enum Then {
     Allowed(Perms),
     /// Granted, and reported since a rule or the profile asks for it.
     Audited(Perms),
-    Moved(Label),
-    /// The same with a scrubbed environment.
-    Scrubbed(Label),
     MovedAllowed(Label, Perms),
     MovedAudited(Label, Perms),
 }
@@ -33,10 +29,10 @@ pub enum Then {
 /// A task's label, what it asks, and what it is answered.
 pub type Row = (Label, Ask, Then);
 
-fn answer(granted: bool, scrub: bool, label: Label, told: Told) -> Answer {
+fn answer(granted: bool, label: Label, told: Told) -> Answer {
     Answer {
         granted,
-        scrub,
+        scrub: false,
         label,
         note: note(told),
     }
@@ -45,19 +41,14 @@ fn answer(granted: bool, scrub: bool, label: Label, told: Told) -> Answer {
 /// The answer that a row says, and the label that the task has from then on.
 fn said(before: Label, then: Then) -> (Answer, Label) {
     let answer = match then {
-        Then::Granted => answer(true, false, before, None),
-        Then::Refused => answer(false, false, before, None),
-        Then::Denied(perms) => answer(false, false, before, Some((NoteWord::Denied, perms))),
-        Then::Allowed(perms) => answer(true, false, before, Some((NoteWord::Allowed, perms))),
-        Then::Audited(perms) => answer(true, false, before, Some((NoteWord::Audit, perms))),
-        Then::Moved(label) => answer(true, false, label, None),
-        Then::Scrubbed(label) => answer(true, true, label, None),
+        Then::Refused => answer(false, before, None),
+        Then::Denied(perms) => answer(false, before, Some((NoteWord::Denied, perms))),
+        Then::Allowed(perms) => answer(true, before, Some((NoteWord::Allowed, perms))),
+        Then::Audited(perms) => answer(true, before, Some((NoteWord::Audit, perms))),
         Then::MovedAllowed(label, perms) => {
-            answer(true, false, label, Some((NoteWord::Allowed, perms)))
+            answer(true, label, Some((NoteWord::Allowed, perms)))
         }
-        Then::MovedAudited(label, perms) => {
-            answer(true, false, label, Some((NoteWord::Audit, perms)))
-        }
+        Then::MovedAudited(label, perms) => { answer(true, label, Some((NoteWord::Audit, perms))) }
     };
     (answer, answer.label)
 }
@@ -120,9 +111,6 @@ pub const FREE: Label = Label::Unconfined(0);
 
 /// No permission: that of a note on a request that isn't about a file.
 pub const NONE: Perms = Perms(0);
-
-/// WRITE and APPEND.
-pub const WRITING: Perms = Perms(6);
 
 /// READ, WRITE and APPEND.
 pub const READING_AND_WRITING: Perms = Perms(7);
