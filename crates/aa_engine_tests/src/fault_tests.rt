@@ -1,22 +1,12 @@
-//! Why a job isn't answered, and how that is told.
+//! How it is told why a job isn't answered.
 
 use crate::comparing::{equal, equal_in};
-use crate::jobs::{COMMANDS, Command, gives};
 use aa_base::{PolicyFault, PolicyKind, Spot};
 use aa_engine::RunFault;
 use aa_jobs::JobFault;
 use aa_policies::RefusedPolicy;
 use std::alloc::Global;
 use std::process::Abort;
-use std::sync::Wait;
-use std::thread::Threads;
-
-// Whatever the command, and nothing is written.
-fn refused<R: Abort + Threads + Wait + Sync>(rt: &R, alloc: Global, job: &[u8], fault: RunFault) {
-    for command in COMMANDS {
-        gives(rt, alloc, command, job, Err(fault), b"");
-    }
-}
 
 fn policy_fault(policy: u16, kind: PolicyKind, byte: u32) -> RunFault {
     RunFault::Policy(RefusedPolicy {
@@ -26,79 +16,6 @@ fn policy_fault(policy: u16, kind: PolicyKind, byte: u32) -> RunFault {
             at: Spot { file: 0, byte },
         },
     })
-}
-
-#[test]
-fn a_refused_job_writes_nothing(rt: HostRuntime) {
-    let rows: [(&[u8], JobFault); 5] = [
-        (b"{", JobFault::NotJson),
-        (b"", JobFault::NotJson),
-        (b"{\"policy\":\"\"}", JobFault::BadShape),
-        (
-            b"{\"policy\":\"\",\"tasks\":[],\"capacity\":0}",
-            JobFault::TooLarge,
-        ),
-        (
-            b"{\"policy\":\"profile\",\"tasks\":[{\"label\":\"p\",\"requests\":[{\"file\":\"etc\",\"mask\":\"r\"}]}]}",
-            JobFault::BadRequest,
-        ),
-    ];
-    for (job, fault) in rows {
-        refused(&rt, rt.alloc(), job, RunFault::Job(fault));
-    }
-}
-
-#[test]
-fn a_refused_policy_writes_nothing(rt: HostRuntime) {
-    let rows: [(&[u8], RunFault); 5] = [
-        (
-            b"{\"policy\":\"profile p { /x wa, }\",\"tasks\":[]}",
-            policy_fault(0, PolicyKind::WriteWithAppend, 15),
-        ),
-        (
-            b"{\"policy\":\"profile p { /x rz, }\",\"tasks\":[{\"label\":\"z\",\"requests\":[]}]}",
-            policy_fault(0, PolicyKind::BadMode, 15),
-        ),
-        (
-            b"{\"policies\":[\"profile p { /x r, }\",\"profile p { /x wa, }\"],\"tasks\":[]}",
-            policy_fault(1, PolicyKind::WriteWithAppend, 15),
-        ),
-        (
-            b"{\"policy\":\"profile p { /bin/* px, /bin/l* ix, }\",\"tasks\":[]}",
-            policy_fault(0, PolicyKind::ConflictingExec, 8),
-        ),
-        (
-            b"{\"policy\":\"profile p { /etc/passwd r, }\",\"tasks\":[],\"states\":4}",
-            policy_fault(0, PolicyKind::TooManyStates, 8),
-        ),
-    ];
-    for (job, fault) in rows {
-        refused(&rt, rt.alloc(), job, fault);
-    }
-}
-
-#[test]
-fn the_first_unknown_label_is_named(rt: HostRuntime) {
-    let rows: [(&[u8], usize); 3] = [
-        (
-            b"{\"policy\":\"profile p { }\",\"tasks\":[{\"label\":\"z\",\"requests\":[]}]}",
-            0,
-        ),
-        (
-            b"{\"policy\":\"profile p { }\",\"tasks\":[{\"label\":\"p\",\"requests\":[]},{\"label\":\"z\",\"requests\":[]},{\"label\":\"y\",\"requests\":[]}]}",
-            1,
-        ),
-        (
-            b"{\"policies\":[\"profile p { }\",\"profile q { }\"],\"tasks\":[{\"label\":\"p\",\"requests\":[]},{\"label\":\"unconfined\",\"policy\":1,\"requests\":[]},{\"label\":\"p\",\"policy\":1,\"requests\":[]}]}",
-            2,
-        ),
-    ];
-    for (job, task) in rows {
-        let wanted = Err(RunFault::UnknownProfile(task));
-        gives(&rt, rt.alloc(), Command::Run(1), job, wanted, b"");
-        gives(&rt, rt.alloc(), Command::Run(2), job, wanted, b"");
-        gives(&rt, rt.alloc(), Command::Replay, job, wanted, b"");
-    }
 }
 
 /// How a fault is told.

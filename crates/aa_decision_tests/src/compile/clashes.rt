@@ -3,7 +3,6 @@
 ghost use Rattle.std.specs.Prelude.{◌≤◌};
 ghost use Rattle.aa_model.specs.Lawful.{file_patterns};
 
-use crate::comparing::holds_in;
 use crate::texts::read;
 use aa_auto::BuildFault;
 use aa_base::{PolicyFault, PolicyKind};
@@ -44,11 +43,6 @@ pub fn conflict(alloc: Global, text: &str, limit: u16) -> Result<Option<Clash>, 
     first_conflict(alloc, &policy, limit)
 }
 
-/// The same of a policy whose automaton is within 65,535 states.
-fn conflict_of(rt: &impl Abort, alloc: Global, text: &str) -> Option<Clash> {
-    conflict(alloc, text, 65535).expect(rt, text)
-}
-
 /// Whether these two rules are found, and that text.
 pub fn is_found(clash: &Option<Clash>, first: usize, second: usize, text: &str) -> bool {
     match clash {
@@ -58,24 +52,6 @@ pub fn is_found(clash: &Option<Clash>, first: usize, second: usize, text: &str) 
                 && clash.text.as_slice() == text.as_bytes()
         }
         None => false,
-    }
-}
-
-/// A text, and the numbers of the two rules with the path at which they conflict.
-pub type Row = (&'static str, usize, usize, &'static str);
-
-/// Each of the texts has that conflict.
-pub fn finds_each(rt: &impl Abort, alloc: Global, rows: &[Row]) {
-    for (text, first, second, path) in rows {
-        let clash = conflict_of(rt, alloc, text);
-        holds_in(rt, is_found(&clash, *first, *second, path), text);
-    }
-}
-
-/// None of the texts has one.
-pub fn finds_none(rt: &impl Abort, alloc: Global, rows: &[&'static str]) {
-    for text in rows {
-        holds_in(rt, conflict_of(rt, alloc, text).is_none(), text);
     }
 }
 

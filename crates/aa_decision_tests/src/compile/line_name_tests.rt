@@ -5,7 +5,7 @@ use crate::comparing::{equal, equal_in};
 use crate::compile::lines::{Row, says_all};
 use aa_base::{Perms, plain_text, push_mask, push_value};
 use aa_model::Label;
-use aa_model::NoteWord::{Audit, Denied};
+use aa_model::NoteWord::Audit;
 use std::alloc::Global;
 use std::process::Abort;
 
@@ -76,22 +76,13 @@ fn every_letter_of_a_mask(rt: HostRuntime) {
     are_letters(&rt, rt.alloc(), MASKS);
 }
 
-const LABELS_OF_TWO_POLICIES: &[Row] = &[
-    (
-        Label::Confined(1, 0),
-        Ask::File("/x", Perms(1)),
-        Some((Denied, Perms(1))),
-        Label::Confined(1, 0),
-        "apparmor=\"DENIED\" operation=\"file\" profile=612062 name=\"/x\" requested_mask=\"r\" denied_mask=\"r\"",
-    ),
-    (
-        FIRST,
-        Ask::Exec("/h"),
-        Some((Audit, Perms(64))),
-        Label::Confined(1, 1),
-        "apparmor=\"AUDIT\" operation=\"exec\" profile=\"p\" name=\"/h\" requested_mask=\"x\" target=6120622F2F68",
-    ),
-];
+const LABELS_OF_TWO_POLICIES: &[Row] = &[(
+    FIRST,
+    Ask::Exec("/h"),
+    Some((Audit, Perms(64))),
+    Label::Confined(1, 1),
+    "apparmor=\"AUDIT\" operation=\"exec\" profile=\"p\" name=\"/h\" requested_mask=\"x\" target=6120622F2F68",
+)];
 
 #[test]
 fn labels_of_two_policies(rt: HostRuntime) {

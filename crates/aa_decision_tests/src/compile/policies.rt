@@ -1,28 +1,10 @@
 //! Policies that are read from their texts and compiled, and what they say, as plain data.
 
 use crate::comparing::{equal_at, equal_in};
-use crate::texts::{compiled, policy, spelled};
+use crate::texts::{policy, spelled};
 use aa_compile::{Compiled, Transition, compile};
 use std::alloc::Global;
 use std::process::Abort;
-
-/// The number of the fault for which the text is refused, and the byte at which it points.
-pub fn refusal(alloc: Global, text: &str, limit: u32) -> Option<(u8, u32)> {
-    match compiled(alloc, text, limit) {
-        Ok(_) => None,
-        Err(fault) => Some((fault.kind.number(), fault.at.byte)),
-    }
-}
-
-/// A text, a limit of states, and the refusal: its number, and the byte at which it points.
-pub type Row = (&'static str, u32, Option<(u8, u32)>);
-
-/// Each of the texts is accepted or refused as it says.
-pub fn refuses_each(rt: &impl Abort, alloc: Global, rows: &[Row]) {
-    for (text, limit, expected) in rows {
-        equal_in(rt, refusal(alloc, text, *limit), *expected, text);
-    }
-}
 
 /// How many profiles the policy has that a refused compilation hands back, where it is refused.
 pub fn handed_back(rt: &impl Abort, alloc: Global, text: &str, limit: u32) -> Option<usize> {

@@ -2,8 +2,6 @@
 
 use crate::comparing::holds;
 use crate::job_reading::shown::{has_head, has_tasks, policies_of_tasks};
-use crate::job_reading::texts::{Answer, Frame, answers_each};
-use aa_jobs::JobFault;
 
 /// A job of three policies, with tasks in the last and in the first.
 const SEVERAL: &str =
@@ -49,51 +47,4 @@ fn reads_requests_to_reload(rt: HostRuntime) {
         SEVERAL,
         "task p 2\nreload 1\nexit\nreload 2\ntask q 0\n",
     );
-}
-
-/// A job of three policies, whose task has further members.
-const TASK: Frame = Frame {
-    front: r#"{"policies":["","",""],"tasks":[{"label":"p""#,
-    end: "}]}",
-};
-
-#[test]
-fn a_policy_that_is_asked_for_is_there(rt: HostRuntime) {
-    const ROWS: &[Answer] = &[
-        (r#","requests":[{"reload":0}]"#, None),
-        (r#","requests":[{"reload":2}]"#, None),
-        (r#","requests":[{"reload":3}]"#, Some(JobFault::BadRequest)),
-        (
-            r#","requests":[{"reload":65536}]"#,
-            Some(JobFault::BadRequest),
-        ),
-        (
-            r#","requests":["exit",{"reload":65537}]"#,
-            Some(JobFault::BadRequest),
-        ),
-        (
-            r#","requests":[{"reload":18446744073709551615}]"#,
-            Some(JobFault::BadRequest),
-        ),
-        (
-            r#","requests":[{"reload":18446744073709551616}]"#,
-            Some(JobFault::BadShape),
-        ),
-        (r#","requests":[],"policy":0"#, None),
-        (r#","requests":[],"policy":2"#, None),
-        (r#","requests":[],"policy":3"#, Some(JobFault::BadRequest)),
-        (
-            r#","requests":[],"policy":65536"#,
-            Some(JobFault::BadRequest),
-        ),
-        (
-            r#","requests":[],"policy":18446744073709551615"#,
-            Some(JobFault::BadRequest),
-        ),
-        (
-            r#","requests":[],"policy":18446744073709551616"#,
-            Some(JobFault::BadShape),
-        ),
-    ];
-    answers_each(&rt, rt.alloc(), &TASK, ROWS);
 }

@@ -2,7 +2,7 @@
 
 use crate::comparing::equal;
 use crate::job_reading::shown::{asks_each, has_events, has_head, has_tasks};
-use crate::job_reading::texts::{Answer, Frame, MEMBERS, WORKED, answers_each};
+use crate::job_reading::texts::{WORKED, fault_of};
 use aa_jobs::JobFault;
 use std::alloc::Global;
 use std::process::Abort;
@@ -60,31 +60,15 @@ fn each_letter_is_its_one_bit(rt: HostRuntime) {
 }
 
 #[test]
-fn the_last_value_of_a_key_counts(rt: HostRuntime) {
-    const ROWS: &[Answer] = &[
-        (r#","states":0,"states":7"#, None),
-        (r#","states":7,"states":0"#, Some(JobFault::TooLarge)),
-        (r#","states":"a","states":7"#, None),
-        (r#","states":7,"states":"a""#, Some(JobFault::BadShape)),
-        (r#","policy":1"#, Some(JobFault::BadShape)),
-    ];
-    answers_each(&rt, rt.alloc(), &MEMBERS, ROWS);
-}
-
-/// A job of one task with one event.
-const EVENT: Frame = Frame {
-    front: r#"{"policy":"","tasks":[{"label":"p","requests":[]}],"events":[["#,
-    end: "]]}",
-};
-
-#[test]
-fn an_event_names_a_task_that_is_there(rt: HostRuntime) {
-    const ROWS: &[Answer] = &[
-        (r#"0,"collect""#, None),
-        (r#"1,"collect""#, Some(JobFault::BadRequest)),
-        (r#"0,"sent""#, Some(JobFault::BadRequest)),
-    ];
-    answers_each(&rt, rt.alloc(), &EVENT, ROWS);
+fn each_proper_prefix_of_a_job_is_no_json(rt: HostRuntime) {
+    let bytes = WORKED.as_bytes();
+    for end in 0..bytes.len() {
+        equal(
+            &rt,
+            fault_of(rt.alloc(), &bytes[..end]),
+            Some(JobFault::NotJson),
+        );
+    }
 }
 
 /// How a fault is told.
