@@ -3,86 +3,10 @@
 use crate::comparing::equal;
 use crate::planting::{tree_beside, tree_of};
 use crate::tree::MemoryTree;
-use crate::units::reading::{Found, add_many, add_numbered, is_read, is_refused, reads, unit_at};
+use crate::units::reading::{add_many, add_numbered, is_read, is_refused, unit_at};
 use aa_base::Unread;
 use std::alloc::Global;
 use std::process::Abort;
-
-/// What is found of a folder whose files are `B`, `a`, `a b`, `a>` and one with a letter beyond ASCII.
-const IN_BYTE_ORDER: &[Found] = &[
-    (
-        "d",
-        "/b/d",
-        "include \"/b/d/B\"\ninclude \"/b/d/a\"\ninclude \"/b/d/a b\"\ninclude \"/b/d/a>\"\ninclude \"/b/d/\u{e4}\"\n",
-    ),
-    ("/b/d/B", "/b/d/B", "# B\n"),
-    ("/b/d/a", "/b/d/a", "# a\n"),
-    ("/b/d/a b", "/b/d/a b", "# a b\n"),
-];
-
-#[test]
-fn a_folder_that_is_included_is_the_text_of_its_files_in_byte_order(rt: HostRuntime) {
-    reads(
-        &rt,
-        rt.alloc(),
-        &[
-            ("/m", "include <d>\n"),
-            ("/b/d/a b", "# a b\n"),
-            ("/b/d/B", "# B\n"),
-            ("/b/d/a", "# a\n"),
-        ],
-        &[("/b/d", &["a b", "\u{e4}", "a", "B", "a>"])],
-        IN_BYTE_ORDER,
-    );
-}
-
-/// The names of a folder's files, of which five are read.
-const MANY_NAMES: &[&str] = &[
-    ".hidden",
-    "README",
-    "a.dpkg-new",
-    "a.dpkg-old",
-    "a.dpkg-dist",
-    "a.dpkg-bak",
-    "a.dpkg-remove",
-    "a.pacsave",
-    "a.pacnew",
-    "a.rpmnew",
-    "a.rpmsave",
-    "a.orig",
-    "a.rej",
-    "a~",
-    "README.a",
-    "a.bak",
-    "a.swp",
-    "#a#",
-    "dpkg-new",
-];
-
-const MANY_LINES: &str =
-    "include \"/b/d/#a#\"\ninclude \"/b/d/README.a\"\ninclude \"/b/d/a.bak\"\ninclude \"/b/d/a.swp\"\ninclude \"/b/d/dpkg-new\"\n";
-
-#[test]
-fn a_folder_that_is_included_leaves_out_names_that_are_passed_over(rt: HostRuntime) {
-    reads(
-        &rt,
-        rt.alloc(),
-        &[("/m", "include <d>\n")],
-        &[("/b/d", MANY_NAMES)],
-        &[("d", "/b/d", MANY_LINES)],
-    );
-}
-
-#[test]
-fn a_folder_without_files_is_an_empty_text(rt: HostRuntime) {
-    reads(
-        &rt,
-        rt.alloc(),
-        &[("/m", "include <d>\ninclude \"/e/\"\n")],
-        &[("/b/d", &[]), ("/e/", &[".a"])],
-        &[("d", "/b/d", ""), ("/e/", "/e/", "")],
-    );
-}
 
 #[test]
 fn a_link_in_a_folder_that_leads_nowhere_has_its_line_and_no_source(rt: HostRuntime) {

@@ -1,13 +1,12 @@
 //! What is read from trees in memory, in plain values that tests compare. The helpers have no clauses, so that a test's proof
 //! stays short.
 
-use crate::comparing::holds_in;
 use crate::names::Names;
 use crate::planting::{File, Folder, Refusal, push_copies, push_text, tree_of};
 use crate::tree::{MemoryTree, Planted};
 use aa_base::Unread;
 use aa_files::{Roots, Source, Tree, Unit, UnitFault, load, roots_of};
-use aa_text::{FaultReport, push_fault, push_number};
+use aa_text::push_number;
 use std::alloc::Global;
 use std::process::Abort;
 
@@ -209,35 +208,5 @@ pub(crate) fn is_refused<T: Tree>(
     assert!(rt;
         is_refused_unit(&loaded(alloc, tree, path), settings),
         "not refused so"
-    );
-}
-
-/// What is said of a file with a name that lies at two paths.
-fn ambiguity<T: Tree>(rt: &impl Abort, alloc: Global, tree: &T, path: &str) -> FaultReport {
-    match loaded(alloc, tree, path) {
-        Err(UnitFault::Ambiguous(fault)) => fault,
-        _ => panic!(rt; "not refused for a name at two paths"),
-    }
-}
-
-fn said_of(rt: &impl Abort, alloc: Global, fault: &FaultReport) -> Vec<u8> {
-    let mut said = Vec::new(alloc);
-    push_fault(&mut said, fault).expect(rt, "memory");
-    said
-}
-
-/// What is said of a file with a name that lies at two paths begins so.
-pub(crate) fn is_ambiguous<T: Tree>(
-    rt: &impl Abort,
-    alloc: Global,
-    tree: &T,
-    path: &str,
-    settings: &str,
-) {
-    let said = said_of(rt, alloc, &ambiguity(rt, alloc, tree, path));
-    holds_in(
-        rt,
-        said.as_slice().starts_with(settings.as_bytes()),
-        settings,
     );
 }
