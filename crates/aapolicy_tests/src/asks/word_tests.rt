@@ -1,4 +1,4 @@
-//! Request words.
+//! Request words that are written.
 
 use crate::comparing::holds;
 use aa_notation::{WordFault, push_word, read_word};
@@ -22,15 +22,6 @@ fn come_back(rt: &impl Abort, alloc: Global, words: &[&[u8]]) {
     }
 }
 
-fn are_none(rt: &impl Abort, alloc: Global, words: &[&[u8]]) {
-    for word in words {
-        match again(alloc, word, false) {
-            Ok(_) => holds(rt, false),
-            Err(fault) => holds(rt, fault == WordFault::NoRequest),
-        }
-    }
-}
-
 #[test]
 fn a_request_is_written_as_it_is_read_whichever_growth_is_refused(rt: HostRuntime) {
     come_back(
@@ -50,30 +41,6 @@ fn a_request_is_written_as_it_is_read_whichever_growth_is_refused(rt: HostRuntim
             b"net:inet/stream",
             b"change:shell",
             b"change=612062",
-        ],
-    );
-}
-
-#[test]
-fn what_has_no_form_is_no_request(rt: HostRuntime) {
-    are_none(
-        &rt,
-        rt.alloc(),
-        &[
-            b"",
-            b"r",
-            b":/x",
-            b"q:/x",
-            b"r:x",
-            b"r:2f",
-            b"r:2F6",
-            b"l:/a",
-            b"x:",
-            b"cap:fly",
-            b"net:inet",
-            b"net:inet/tin",
-            b"change:",
-            b"owned:cap:kill",
         ],
     );
 }
