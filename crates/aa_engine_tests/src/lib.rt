@@ -2,8 +2,6 @@
 #![tactic(auto)]
 
 #[cfg(test)]
-mod check_tests;
-#[cfg(test)]
 mod comparing;
 #[cfg(test)]
 mod fault_tests;
@@ -23,8 +21,6 @@ mod lane_tests;
 mod limit_tests;
 #[cfg(test)]
 mod mediate_tests;
-#[cfg(test)]
-mod replay_tests;
 #[cfg(test)]
 mod run_tests;
 #[cfg(test)]
