@@ -9,4 +9,5 @@ pub mod Apart
 pub mod Askable
 pub mod Answered
 mod Lines
+pub mod Saying
 pub mod Replays

@@ -8,4 +8,5 @@ pub mod Apart
 pub mod Limits
 pub mod Replayed
 pub mod Against
+pub mod Said
 pub mod Command

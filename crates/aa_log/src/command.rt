@@ -1,17 +1,19 @@
 //! What `log` prints.
 
-ghost use Rattle.std.specs.Prelude.{◌≡◌, ◌≢◌, true, false, ℕ, ◌++◌, List, [], Some, is_some, OnOk, IfOk, IfErr, IfSome};
+ghost use Rattle.std.specs.Prelude.{◌≡◌, ◌≢◌, true, false, ℕ, ◌++◌, List, [], Some, is_some, OnOk, IfOk, IfErr, IfSome, if◌then◌else◌};
 ghost use Rattle.aa_files.specs.Texts.{slices};
 ghost use Rattle.aa_logs.specs.LogLines.{LogLine, log_lines};
-ghost use Rattle.aa_log.specs.Found.{HasSameSettings, IsReport};
+ghost use Rattle.aa_log.specs.Said.{HasSaidTheSame, IsSaid, status_or};
 ghost use Rattle.aa_command.specs.Setting.{setting_of};
-ghost use Rattle.aa_command.specs.Printed.{printed, answers_alone};
-ghost use Rattle.aa_log.specs.Command.{IsFoundIn, IsFirstUnreadLog, IsLogText, IsReplayText, IsReplayed, IsReportOutput, IsLogOutput};
+ghost use Rattle.aa_command.specs.Printed.{printed};
+ghost use Rattle.aa_log.specs.Command.{said_printed, IsFoundIn, IsFirstUnreadLog, IsLogText, IsReplayText, IsReplayed, IsReportOutput, IsLogOutput};
 
 use crate::against::{push_against, push_json_against};
 use crate::listed::push_json_report;
 use crate::logging::LogReport;
 use crate::printing::push_report;
+use crate::said::SaidReport;
+use crate::warned::push_unclear;
 use aa_base::Unread;
 use aa_command::{Decided, Logs, Output, Settings, UnreadLog, Use, path_refused, with_policy};
 use aa_files::Tree;
@@ -39,14 +41,14 @@ fn read_report<R: Logs>(
     reader: &R,
     number: usize,
     path: &[u8],
-    report: &mut LogReport<'_>,
+    said: &mut SaidReport<'_>,
 ) -> Result<(), Unread>
     ensures taken { OnOk result (IfSome (R.lying reader.now) (λ files. (bytes : List ℕ) × (files path.now ≡ Some bytes)
-        × ((before : List LogLine) → IsReport before report.old → IsReport (before ++ log_lines number bytes) report.new))) }
-    ensures keeps { OnOk result (HasSameSettings report.old report.new) }
+        × ((before : List LogLine) → IsSaid before said.old → IsSaid (before ++ log_lines number bytes) said.new))) }
+    ensures keeps { OnOk result (HasSaidTheSame said.old said.new) }
 {
-    report.log = number;
-    reader.read_lines(alloc, path, report)
+    said.report.log = number;
+    reader.read_lines(alloc, path, said)
 }
 
 /// Reads logs one after another.
@@ -54,15 +56,15 @@ fn read_reports<'a, R: Logs>(
     alloc: Global,
     reader: &R,
     logs: &'a [&'a [u8]],
-    report: &mut LogReport<'_>,
+    said: &mut SaidReport<'_>,
 ) -> Result<(), UnreadLog<'a>>
-    requires { IsReport [] report.old }
-    ensures found { OnOk result (IsFoundIn (R.lying reader.now) report.old.choice (is_some report.old.each_skipped) (slices logs.now) report.new) }
-    ensures unread { IfErr result (λ unread. IsFirstUnreadLog (R.lying reader.now) report.old.choice (is_some report.old.each_skipped) (slices logs.now) unread.path.now) }
+    requires { IsSaid [] said.old }
+    ensures found { OnOk result (IsFoundIn (R.lying reader.now) said.old.report.choice (is_some said.old.report.each_skipped) (slices logs.now) said.new) }
+    ensures unread { IfErr result (λ unread. IsFirstUnreadLog (R.lying reader.now) said.old.report.choice (is_some said.old.report.each_skipped) (slices logs.now) unread.path.now) }
 {
     let mut number: usize = 0;
     for path in logs {
-        match read_report(alloc, reader, number, path, report) {
+        match read_report(alloc, reader, number, path, said) {
             Ok(()) => number += 1,
             Err(why) => return Err(UnreadLog { path, why }),
         }
@@ -84,16 +86,28 @@ fn push_said(
     push_report(out, alloc, options.logs, report)
 }
 
+/// The status, or 1 where a line isn't understood.
+fn status_or(said: &SaidReport<'_>, status: u8) -> u8
+    ensures { result ≡ status_or said.now.first_unclear status }
+{
+    match said.first_unclear {
+        Some(_) => 1,
+        None => status,
+    }
+}
+
 /// Says what logs ask.
 fn report_printed(
     alloc: Global,
     options: &LogOptions<'_>,
-    report: &LogReport<'_>,
+    said: &SaidReport<'_>,
 ) -> Result<Output, NoMemory>
-    ensures { IfOk result (λ out. (text : List ℕ) × IsLogText options.now report.now text × (printed out ≡ answers_alone text 0)) }
+    ensures { IfOk result (λ out. (text : List ℕ) × IsLogText options.now said.now.report text × (printed out ≡ said_printed options.now said.now text 0)) }
 {
     let mut output = Output::new(alloc);
-    push_said(&mut output.answers, alloc, options, report)?;
+    push_unclear(&mut output.faults, options.logs, said)?;
+    push_said(&mut output.answers, alloc, options, &said.report)?;
+    output.status = status_or(said, 0);
     Ok(output)
 }
 
@@ -112,21 +126,29 @@ fn push_replayed(
     push_against(out, alloc, options.logs, report, decided, options.wants_all)
 }
 
+/// 4 where something is denied now that wasn't.
+fn status_of(counts: &Counts) -> u8
+    ensures { result ≡ (if counts.now.has_newly_denied then 4 else 0) }
+{
+    if counts.has_newly_denied() { 4 } else { 0 }
+}
+
 /// Answers what logs ask by the policy of files.
 #[derive(Drop)]
 struct Replaying<'a> {
     options: &'a LogOptions<'a>,
-    report: &'a LogReport<'a>,
+    said: &'a SaidReport<'a>,
 }
 
 impl Use for Replaying<'_> {
-    ghost gives = { λ r d out. IsReplayed r.options.now r.report.now d out };
+    ghost gives = { λ r d out. IsReplayed r.options.now r.said.now d out };
 
     fn use_policy(&self, alloc: Global, decided: Decided<'_>) -> Result<Output, NoMemory> {
         let mut output = Output::new(alloc);
+        push_unclear(&mut output.faults, self.options.logs, self.said)?;
         let answers = &mut output.answers;
-        let counts = push_replayed(answers, alloc, self.options, self.report, decided)?;
-        output.status = if counts.has_newly_denied() { 4 } else { 0 };
+        let counts = push_replayed(answers, alloc, self.options, &self.said.report, decided)?;
+        output.status = status_or(self.said, status_of(&counts));
         Ok(output)
     }
 }
@@ -144,18 +166,18 @@ fn log_report<T: Tree>(
     tree: &T,
     settings: &Settings<'_>,
     options: &LogOptions<'_>,
-    report: &LogReport<'_>,
+    said: &SaidReport<'_>,
 ) -> Result<Output, NoMemory>
-    ensures { IfOk result (λ out. IsReportOutput (setting_of (T.files tree.now) (T.taken tree.now) (T.input tree.now) settings.now) options.now report.now (printed out)) }
+    ensures { IfOk result (λ out. IsReportOutput (setting_of (T.files tree.now) (T.taken tree.now) (T.input tree.now) settings.now) options.now said.now (printed out)) }
 {
     if is_none_named(options.against) {
-        return report_printed(alloc, options, report);
+        return report_printed(alloc, options, said);
     }
-    let replaying = Replaying { options, report };
+    let replaying = Replaying { options, said };
     with_policy(alloc, tree, settings, options.against, &replaying)
 }
 
-/// Says what the lines of logs ask, or how the one policy that files are answers that now.
+/// Says what the lines of logs ask, or how the one policy that files are answers that now; which lines aren't understood, it warns of.
 pub fn log_files<T: Tree, R: Logs>(
     alloc: Global,
     tree: &T,
@@ -165,9 +187,9 @@ pub fn log_files<T: Tree, R: Logs>(
 ) -> Result<Output, NoMemory>
     ensures { IfOk result (λ out. IsLogOutput (setting_of (T.files tree.now) (T.taken tree.now) (T.input tree.now) settings.now) (R.lying reader.now) options.now (printed out)) }
 {
-    let mut report = LogReport::new(alloc, options.choice, options.wants_skipped);
-    match read_reports(alloc, reader, options.logs, &mut report) {
-        Ok(()) => log_report(alloc, tree, settings, options, &report),
+    let mut said = SaidReport::new(alloc, options.choice, options.wants_skipped);
+    match read_reports(alloc, reader, options.logs, &mut said) {
+        Ok(()) => log_report(alloc, tree, settings, options, &said),
         Err(unread) => path_refused(alloc, unread.path, unread.why),
     }
 }

@@ -7,6 +7,8 @@ mod laws;
 mod listed;
 mod logging;
 mod printing;
+mod said;
+mod warned;
 
 pub use against::{push_against, push_json_against};
 pub use command::{LogOptions, log_files};
@@ -14,3 +16,4 @@ pub use laws::{keys_tell, lines_ask_so, requests_tell};
 pub use listed::{push_entry_members, push_json_report, push_json_rest, push_word_member};
 pub use logging::{Entry, LinePlace, LogReport, SkippedLines};
 pub use printing::{push_entry, push_line_place, push_report, push_rest, push_skipped_lines};
+pub use said::SaidReport;

@@ -148,7 +148,7 @@ pub fn push_skipped_lines(
 }
 
 #[tactic(auto, unfolding(crate::specs::Printed::labelled))]
-fn push_count(out: &mut Vec<u8>, what: &str, count: u64) -> Result<(), AllocError>
+pub(crate) fn push_count(out: &mut Vec<u8>, what: &str, count: u64) -> Result<(), AllocError>
     ensures { OnOk result (out.new.items ≡ out.old.items ++ labelled what.now count) }
 {
     push_text(out, what)?;

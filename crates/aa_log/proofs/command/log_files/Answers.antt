@@ -14,17 +14,17 @@ returns-in-Ok g c =
     let s = setting_of (g.T.Tree.files c.args.tree.now) (g.T.Tree.taken c.args.tree.now) (g.T.Tree.input c.args.tree.now) c.args.settings.now in
     let lying = g.R.Logs.lying c.args.reader.now in
     let o = c.args.options.now in
-    let first = c.new-report.result in
-    let r = c.read_reports.new.report in
+    let first = c.new-said.result in
+    let r = c.read_reports.new.said in
     IfOk-weaker c.log_report.result (λ (out : Output). IsReportOutput s o r (printed out)) (λ (out : Output). IsLogOutput s lying o (printed out)) (λ out p.
-    Found r (found_for lying first.choice o.choice (is_some first.each_skipped) o.wants_skipped (slices o.logs.now) r c.new-report.ensures.choice c.new-report.ensures.each c.in-Ok.ensures.found) p) c.log_report.ensures
+    Found r (found_for lying first.report.choice o.choice (is_some first.report.each_skipped) o.wants_skipped (slices o.logs.now) r c.new-said.ensures.choice c.new-said.ensures.each c.in-Ok.ensures.found) p) c.log_report.ensures
 
 pub returns : goal.returns
 returns g c =
     let s = setting_of (g.T.Tree.files c.args.tree.now) (g.T.Tree.taken c.args.tree.now) (g.T.Tree.input c.args.tree.now) c.args.settings.now in
     let lying = g.R.Logs.lying c.args.reader.now in
     let o = c.args.options.now in
-    let first = c.new-report.result in
+    let first = c.new-said.result in
     let unread = c.in-Err.unread in
     IfOk-weaker c.path_refused.result (λ (out : Output). SaysUnread unread.path.now unread.why (printed out)) (λ (out : Output). IsLogOutput s lying o (printed out)) (λ out says.
-    UnreadLog unread.path.now unread.why (unread_for lying first.choice o.choice (is_some first.each_skipped) o.wants_skipped (slices o.logs.now) unread.path.now c.new-report.ensures.choice c.new-report.ensures.each c.in-Err.ensures.unread) says) c.path_refused.ensures.says
+    UnreadLog unread.path.now unread.why (unread_for lying first.report.choice o.choice (is_some first.report.each_skipped) o.wants_skipped (slices o.logs.now) unread.path.now c.new-said.ensures.choice c.new-said.ensures.each c.in-Err.ensures.unread) says) c.path_refused.ensures.says
