@@ -12,7 +12,7 @@ use Rattle.aa_logs.specs.Tasks.{with_record, fits}
 use Rattle.aa_notation.specs.declared.job.JobPolicy.{JobPolicy}
 use Rattle.aa_logs.specs.LogLines.{LogLine}
 use Rattle.aa_job.specs.declared.job.JobTasks.{JobTasks}
-use Rattle.aa_job.specs.Tasks.{asked_by, asked_by_lines, is_stranger, Asking, with_asked, asking, Given, most_strangers, given_by, given, HasTaken, one_stranger, one_asked, one_more, with_found}
+use Rattle.aa_job.specs.Tasks.{asked_by_line, asked_by_lines, is_stranger, Asking, with_asked, asking, Given, most_strangers, given_by, given, HasTaken, one_stranger, one_asked, one_more, with_found}
 
 -- those that a profile of the policies asks
 abbrev known : List JobPolicy → List RecordData → List RecordData
@@ -56,12 +56,12 @@ found_more ps rs (Some r) = given_more ps rs r
 -- a line more
 pub takes_more : (old new : JobTasks) (before : List LogLine) (l : LogLine)
     → new.policies ≡ old.policies → new.choice ≡ old.choice
-    → given new ≡ with_found old.policies.now (asked_by old.choice l.bytes) (given old)
+    → given new ≡ with_found old.policies.now (asked_by_line old.choice l) (given old)
     → HasTaken old before → HasTaken new (before ++ l ∷ [])
 takes_more old new before l same_policies same_choice step taken =
     step
-    ∙ ap (with_found old.policies.now (asked_by old.choice l.bytes)) taken
-    ∙ sym (found_more old.policies.now (asked_by_lines old.choice before) (asked_by old.choice l.bytes))
-    ∙ ap (given_by old.policies.now) (sym (filter_map-append (λ (x : LogLine). asked_by old.choice x.bytes) before (l ∷ [])))
+    ∙ ap (with_found old.policies.now (asked_by_line old.choice l)) taken
+    ∙ sym (found_more old.policies.now (asked_by_lines old.choice before) (asked_by_line old.choice l))
+    ∙ ap (given_by old.policies.now) (sym (filter_map-append (asked_by_line old.choice) before (l ∷ [])))
     ∙ sym (ap (λ (c : Choice). given_by old.policies.now (asked_by_lines c (before ++ l ∷ []))) same_choice)
     ∙ sym (ap (λ (p : Bor (List JobPolicy)). given_by p.now (asked_by_lines new.choice (before ++ l ∷ []))) same_policies)

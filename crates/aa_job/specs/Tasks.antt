@@ -10,6 +10,7 @@ use Rattle.aa_logs.specs.Tasks.{TaskData, tasks_data, with_record, fits}
 use Rattle.aa_notation.specs.declared.job.JobPolicy.{JobPolicy}
 use Rattle.aa_notation.specs.Jobs.{policy_of}
 use Rattle.aa_logs.specs.LogLines.{LogLine}
+use Rattle.aa_messages.specs.Said.{said_in}
 use Rattle.aa_job.specs.declared.job.JobTasks.{JobTasks}
 
 -- what a line asks, if it asks something that can be decided
@@ -26,9 +27,13 @@ is_wanted choice line = is_chosen (map (λ n. n.items) choice.profiles.now) choi
 abbrev pub asked_by : Choice → List ℕ → Option RecordData
 asked_by choice line = if is_wanted choice line then asked_in (line_in line) else None
 
+-- what the message of a line asks, where it is chosen, however often the line says it
+abbrev pub asked_by_line : Choice → LogLine → Option RecordData
+asked_by_line choice l = asked_by choice (said_in l.bytes).text
+
 -- what the chosen ones of some lines ask, in their order
 abbrev pub asked_by_lines : Choice → List LogLine → List RecordData
-asked_by_lines choice lines = filter_map (λ (l : LogLine). asked_by choice l.bytes) lines
+asked_by_lines choice lines = filter_map (asked_by_line choice) lines
 
 -- no policy has the profile that asks
 abbrev pub is_stranger : List JobPolicy → RecordData → Bool

@@ -4,12 +4,14 @@ ghost use Rattle.std.specs.Prelude.{◌≡◌, ◌≢◌, ◌++◌, ◌∷◌, [
 ghost use Rattle.aa_logs.specs.Outcomes.{record_data};
 ghost use Rattle.aa_notation.specs.Jobs.{left_out};
 ghost use Rattle.aa_logs.specs.LogLines.{LogLine, log_line};
+ghost use Rattle.aa_messages.specs.Said.{said_in};
 ghost use Rattle.aa_job.specs.Tasks.{any_log, HasSameSettings, asked_by, given, HasTaken, one_asked, one_more, with_found};
 ghost use Rattle.aa_job.specs.Jobs.{AreIncludes, IsJobWritten, IsNoText};
 
 use aa_base::Unread;
 use aa_files::Source;
 use aa_logs::{Choice, Line, Lines, LogTask, Record, is_chosen, line_of, take_record};
+use aa_messages::said_in;
 use aa_notation::{Include, JobPolicy, is_job_text, left_out, policy_of, push_job_text};
 use std::alloc::{AllocError, AllocFailed, Global};
 
@@ -104,6 +106,15 @@ impl<'a> JobTasks<'a> {
         }
         self.add(alloc, asked)
     }
+
+    /// Adds what the message of a line asks, once.
+    fn add_said(&mut self, alloc: Global, line: &[u8]) -> Result<(), AllocError>
+        ensures ok { OnOk result (given self.new ≡ with_found self.old.policies.now (asked_by self.old.choice (said_in line.now).text) (given self.old)) }
+        ensures stays { (self.new.policies ≡ self.old.policies) × (self.new.choice ≡ self.old.choice) }
+    {
+        let said = said_in(alloc, line)?;
+        self.add_line(alloc, said.text.as_slice())
+    }
 }
 
 impl Lines for JobTasks<'_> {
@@ -120,7 +131,7 @@ impl Lines for JobTasks<'_> {
         ensures stays { (self.new.policies ≡ self.old.policies) × (self.new.choice ≡ self.old.choice) }
         ensures refused { IfErr result (λ why. why ≡ Unread.NoMemory) }
     {
-        Ok(self.add_line(alloc, line)?)
+        Ok(self.add_said(alloc, line)?)
     }
 }
 

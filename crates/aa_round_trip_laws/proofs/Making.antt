@@ -23,7 +23,8 @@ use Rattle.aa_notation.specs.declared.job.JobPolicy.{JobPolicy}
 use Rattle.aa_round_trip_laws.specs.Again.{CanBeMade}
 use Rattle.aa_round_trip_laws.specs.Jobs.{AllCanBeMade, TasksCanBeMade}
 use Rattle.aa_logs.specs.LogLines.{LogLine}
-use Rattle.aa_job.specs.Tasks.{asked_by, asked_by_lines, is_wanted, is_stranger, Asking, with_asked, no_tasks, Given, asked_in as asked_of}
+use Rattle.aa_messages.specs.Said.{said_in}
+use Rattle.aa_job.specs.Tasks.{asked_by, asked_by_line, asked_by_lines, is_wanted, is_stranger, Asking, with_asked, no_tasks, Given, asked_in as asked_of}
 use Rattle.aa_round_trip_laws.specs.Made.{LogsAskWhatCanBeMade}
 
 -- ---- the request of a line
@@ -183,7 +184,7 @@ AllMade n rs = AllByRecursion (λ (r : RecordData). CanBeMade n r.request) rs
 
 lines_made : (n : ℕ) (choice : Choice) (lines : List LogLine) → AllMade n (asked_by_lines choice lines)
 lines_made n choice [] = tt
-lines_made n choice (l ∷ ls) = by (asked_by choice l.bytes) (chosen_made n choice l.bytes) (lines_made n choice ls)
+lines_made n choice (l ∷ ls) = by (asked_by_line choice l) (chosen_made n choice (said_in l.bytes).text) (lines_made n choice ls)
   where
     by : (o : Option RecordData) → MadeIf n o → AllMade n (asked_by_lines choice ls) → AllMade n (cons_option o (asked_by_lines choice ls))
     by None h g = g
