@@ -1,6 +1,6 @@
 -- Lines of logs that aren't understood.
 -- Source: as ausearch(8) writes under `-i`; the Journal JSON Format, as systemd has it; own.
-use Rattle.std.specs.Prelude.{ℕ, ◌==◌, ◌||◌, ◌&&◌, nat_le, nat_lt, nat_eq, List, length, take, codes, Bool, true, false, is_some}
+use Rattle.std.specs.Prelude.{ℕ, ◌==◌, ◌||◌, ◌&&◌, nat_le, nat_lt, nat_eq, List, length, take, codes, Bool, true, false, not, Option, Some, None}
 use Rattle.std.specs.List.{starts_with, list_any}
 use Rattle.aa_logs.specs.Outcomes.{Outcome, Another, AsksNothing, AsksFor}
 use Rattle.aa_logs.specs.Records.{line_in}
@@ -17,9 +17,14 @@ is_binary b = (nat_le 1 b && nat_le b 6) || (nat_le 14 b && nat_le b 26) || b ==
 abbrev pub is_no_text : List ℕ → Bool
 is_no_text line = list_any is_binary (take 32 line)
 
+-- a value stands there without quotes
+abbrev pub is_bare : Option (List ℕ) → Bool
+is_bare None = false
+is_bare (Some value) = not (starts_with nat_eq value (codes "\""))
+
 -- a record of the audit daemon whose fields stand without quotes, as people are shown it
 abbrev pub is_interpreted : List ℕ → Bool
-is_interpreted line = (starts_with nat_eq line (codes "type=") || starts_with nat_eq line (codes "node=")) && is_some (behind_part (codes "apparmor=") line)
+is_interpreted line = (starts_with nat_eq line (codes "type=") || starts_with nat_eq line (codes "node=")) && is_bare (behind_part (codes "apparmor=") line)
 
 -- what such a line can hide is no record that is read: it is too long, an object, no text, or a record in another form
 abbrev pub may_hide : List ℕ → Bool

@@ -1,9 +1,10 @@
 //! Lines of logs that aren't understood.
 
-ghost use Rattle.std.specs.Prelude.{◌≡◌, ◌≤◌, length, take, IfOk};
+ghost use Rattle.std.specs.Prelude.{◌≡◌, ◌≤◌, length, take, codes, IfOk};
 ghost use Rattle.std.specs.List.{list_any};
 ghost use Rattle.aa_logs.specs.Outcomes.{outcome};
-ghost use Rattle.aa_messages.specs.Unclear.{is_binary, is_no_text, is_interpreted, may_hide, is_another, is_unclear};
+ghost use Rattle.aa_messages.specs.Parts.{behind_part};
+ghost use Rattle.aa_messages.specs.Unclear.{is_binary, is_no_text, is_bare, is_interpreted, may_hide, is_another, is_unclear};
 
 use crate::journal::begins_object;
 use crate::part::{begins, behind_part};
@@ -39,11 +40,21 @@ fn is_no_text(line: &[u8]) -> bool
     front_of(line, TELLING).iter().any(|b| is_binary(*b))
 }
 
+/// Whether what became of a request stands there without quotes.
+fn is_bare(line: &[u8]) -> bool
+    ensures { result ≡ is_bare (behind_part (codes "apparmor=") line.now) }
+{
+    match behind_part(line, "apparmor=") {
+        Some(value) => !begins(value, "\""),
+        None => false,
+    }
+}
+
 /// Whether a line is a record of the audit daemon as people are shown it.
 fn is_interpreted(line: &[u8]) -> bool
     ensures { result ≡ is_interpreted line.now }
 {
-    (begins(line, "type=") || begins(line, "node=")) && behind_part(line, "apparmor=").is_some()
+    (begins(line, "type=") || begins(line, "node=")) && is_bare(line)
 }
 
 fn may_hide(line: &[u8]) -> bool
