@@ -1,8 +1,10 @@
 //! What stands in a text behind a part of it.
 
-ghost use Rattle.std.specs.Prelude.{◌≡◌, nat_eq, option_map};
+ghost use Rattle.std.specs.Prelude.{◌≡◌, ◌<◌, length, nat_eq, option_map};
 ghost use Rattle.std.specs.List.{starts_with};
 ghost use Rattle.aa_messages.specs.Parts.{behind_front, behind_part, before_bracket};
+
+use memchr::memmem;
 
 /// Whether a text begins so.
 pub(crate) fn begins(text: &[u8], front: &str) -> bool
@@ -22,18 +24,14 @@ pub(crate) fn behind_front<'t>(text: &'t [u8], front: &str) -> Option<&'t [u8]>
 }
 
 /// What stands behind a part where it stands first.
-#[tactic(auto, unfolding(crate::specs::Parts::behind_part))]
 pub(crate) fn behind_part<'t>(text: &'t [u8], part: &str) -> Option<&'t [u8]>
+    requires { 0 < length part.now }
     ensures { option_map (λ t. t.now) result ≡ behind_part part.now text.entry.now }
 {
-    let mut rest = text;
-    while let [_, after @ ..] = rest {
-        if let Some(behind) = behind_front(rest, part) {
-            return Some(behind);
-        }
-        rest = after;
+    match memmem::find(text, part.as_bytes()) {
+        Some(at) => Some(&text[at + part.len()..]),
+        None => None,
     }
-    None
 }
 
 /// What stands before the bracket that ends a text.
