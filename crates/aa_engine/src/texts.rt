@@ -130,11 +130,25 @@ fn lines_of<M: Machine<State = Label, Request = Request, Answer = Answer>>(
     Ok(lines)
 }
 
-/// A text behind another. Where nothing stands before it, it isn't copied.
-fn appended(mut front: String, text: String) -> Result<String, AllocError>
+/// How many bytes the lines of all have.
+fn length_of<'q, M: Machine<State = Label, Request = Request, Answer = Answer>>(
+    texts: &[TaskText<'_, 'q, M>],
+) -> usize {
+    let mut length: usize = 0;
+    for text in texts {
+        if let Some(lines) = &text.lines {
+            length = length.saturating_add(lines.len());
+        }
+    }
+    length
+}
+
+/// A text behind another. Where nothing stands before it, it isn't copied, and gets room for so many bytes in all.
+fn appended(mut front: String, mut text: String, room: usize) -> Result<String, AllocError>
     ensures { IfOk result (λ both. string_bytes both ≡ string_bytes front ++ string_bytes text) }
 {
     if front.is_empty() {
+        text.reserve_exact(room.saturating_sub(text.len()))?;
         return Ok(text);
     }
     front.push_str(text.as_str())?;
@@ -148,12 +162,13 @@ fn joined<'q, M: Machine<State = Label, Request = Request, Answer = Answer>>(
 ) -> Result<String, AllocError>
     ensures { IfOk result (λ text. joined_lines texts.entry.items ≡ Some (string_bytes text)) }
 {
+    let length = length_of(texts.as_slice());
     let mut out = String::new(alloc);
     for text in texts {
         let Some(lines) = text.lines else {
             return Err(AllocError);
         };
-        out = appended(out, lines)?;
+        out = appended(out, lines, length)?;
     }
     Ok(out)
 }
