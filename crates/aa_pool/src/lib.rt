@@ -11,6 +11,7 @@ mod feeding;
 mod hand;
 mod lane_server;
 mod next;
+mod patience;
 mod pool;
 mod serve;
 mod serving;

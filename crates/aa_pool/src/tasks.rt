@@ -236,7 +236,7 @@ where
         servers,
         room: served,
     };
-    let bell = Bell::new();
+    let bell = Bell::new(capacity);
     let (finished, served) = run_all(
         rt,
         alloc,
