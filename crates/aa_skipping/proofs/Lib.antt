@@ -9,3 +9,4 @@ mod Leading
 mod Changing
 mod Answering
 mod Targets
+mod Running
