@@ -1,3 +1,9 @@
+mod Rows
+mod SamePatterns
+mod SameRules
+mod SameProfiles
+mod SameReplies
+mod Zipped
 mod Adding
 mod Running
 mod Pairing

@@ -2,4 +2,5 @@ pub use Rattle.aa_representatives.specs.Both
 pub use Rattle.aa_machine.specs.Run
 pub mod Same
 pub mod Differences
+pub mod Sameness
 pub mod Pairs

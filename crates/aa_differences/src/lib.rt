@@ -7,8 +7,10 @@ mod differences;
 mod fault;
 mod labels;
 mod laws;
+mod patterns;
+mod sameness;
 
 pub use at_labels::{Difference, label_differences};
 pub use differences::policy_differences;
 pub use fault::DifferencesFault;
-pub use laws::same_policies_run_alike;
+pub use laws::{same_bodies_reply_alike, same_policies_run_alike};

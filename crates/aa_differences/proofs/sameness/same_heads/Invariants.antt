@@ -1,0 +1,7 @@
+use Rattle.std.proofs.Common.{take}
+use Rattle.std.specs.List.{AllZip}
+use Rattle.aa_differences.specs.Sameness.{SameTops}
+use Rattle.aa_differences.proofs.sameness.same_heads.Given as goal
+
+abbrev pub invariant-loop-number : goal.invariant-loop-number
+invariant-loop-number l = AllZip SameTops (take l.number l.one) (take l.number l.other)
