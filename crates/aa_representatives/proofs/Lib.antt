@@ -1,8 +1,8 @@
 pub mod Matched
 pub mod Replied
 mod BelowLemmas
-mod Adding
-mod Standing
+pub mod Adding
+pub mod Standing
 mod Reloading
 mod Literal
 mod Naming

@@ -14,7 +14,7 @@ use Rattle.aa_compile.specs.Transitions.{tops, children}
 use Rattle.aa_model.specs.declared.label.Label.{Label}
 use Rattle.aa_model.specs.declared.label.Label.TheVariants.{Unconfined, Confined}
 use Rattle.aa_model.specs.declared.request.Request.TheVariants.{File, Link, Exec, Change}
-use Rattle.aa_compile.specs.Labels.{policy_number, label_named}
+use Rattle.aa_compile.specs.Labels.{policy_number, profile_in, label_named}
 use Rattle.aa_mediate.specs.Reply.{reply}
 
 -- each of the patterns matches both texts or neither
@@ -35,6 +35,16 @@ deciding_by label None = []
 -- those at a label, by the policy that the label names
 abbrev pub deciding : List Policy → Label → List Pattern
 deciding policies label = deciding_by label (slice_get policies (policy_number label))
+
+-- the patterns of the file rules of a profile, if there is one
+abbrev pub filing_at : Option Profile → List Pattern
+filing_at (Some p) = patterns_of p.files
+filing_at None = []
+
+-- the patterns by which requests to use files are answered at a label; a task without a profile may use all
+abbrev pub filing : List Policy → Label → List Pattern
+filing policies (Confined k n) = filing_at (profile_in policies k n)
+filing policies (Unconfined k) = []
 
 -- the pattern, if there is one
 abbrev pub patterns_in : Option Pattern → List Pattern

@@ -24,5 +24,5 @@ pub use fault::RepresentativesFault;
 pub use laws::alike_paths_reply_alike;
 pub use links::link_representatives;
 pub use paths::{exec_representatives, file_representatives};
-pub use regions::deciding_regions;
+pub use regions::{deciding_regions, deciding_regions_and, filing_regions_and};
 pub use reloads::reload_representatives;

@@ -1,17 +1,17 @@
 //! The patterns by which paths are answered at a label.
 
-ghost use Rattle.std.specs.Prelude.{◌≡◌, ◌++◌, IfOk, OnOk};
+ghost use Rattle.std.specs.Prelude.{◌≡◌, ◌++◌, ◌∷◌, [], IfOk, OnOk};
 ghost use Rattle.std.specs.List.{slice_get};
 ghost use Rattle.aa_auto.specs.Nodes.{pointed};
 ghost use Rattle.aa_compile.specs.Attached.{numbers_below};
 ghost use Rattle.aa_compile.specs.Checks.{attached_patterns};
 ghost use Rattle.aa_compile.specs.Rows.{patterns_of};
 ghost use Rattle.aa_compile.specs.Transitions.{tops};
-ghost use Rattle.aa_representatives.specs.Alike.{deciding, deciding_at};
+ghost use Rattle.aa_representatives.specs.Alike.{deciding, deciding_at, filing};
 ghost use Rattle.aa_representatives.specs.Below.{attachments_if};
 ghost use Rattle.aa_representatives.specs.Both.{deciding_both};
 
-use aa_compile::Compiled;
+use aa_compile::{Compiled, profile_of};
 use aa_model::{FileRule, Label, Profile};
 use aa_pattern::Pattern;
 use std::alloc::{AllocError, Global};
@@ -128,5 +128,50 @@ pub(crate) fn deciding_patterns_of_both<'p>(
     let mut pointers = deciding_patterns(alloc, one, from)?;
     let mut more = deciding_patterns(alloc, other, to)?;
     pointers.append(&mut more)?;
+    Ok(pointers)
+}
+
+/// The patterns by which requests to use files are answered at a label; none where its profile isn't there.
+fn filing_patterns(
+    alloc: Global,
+    policies: &[Compiled],
+    label: Label,
+) -> Result<Vec<&Pattern>, AllocError>
+    ensures { IfOk result (λ pointers. pointed pointers.items ≡ filing policies.now label) }
+{
+    let Label::Confined(policy, number) = label else {
+        return Ok(Vec::new(alloc));
+    };
+    match profile_of(policies, policy, number) {
+        Some(profile) => patterns_of_rules(alloc, profile.files.as_slice()),
+        None => Ok(Vec::new(alloc)),
+    }
+}
+
+/// These patterns, and one more behind them.
+pub(crate) fn filing_patterns_and<'p>(
+    alloc: Global,
+    policies: &'p [Compiled],
+    label: Label,
+    pattern: &'p Pattern,
+) -> Result<Vec<&'p Pattern>, AllocError>
+    ensures { IfOk result (λ pointers. pointed pointers.items ≡ filing policies.now label ++ pattern.now ∷ []) }
+{
+    let mut pointers = filing_patterns(alloc, policies, label)?;
+    pointers.push(pattern)?;
+    Ok(pointers)
+}
+
+/// The patterns by which paths are answered at a label, and one more behind them.
+pub(crate) fn deciding_patterns_and<'p>(
+    alloc: Global,
+    policies: &'p [Compiled],
+    label: Label,
+    pattern: &'p Pattern,
+) -> Result<Vec<&'p Pattern>, AllocError>
+    ensures { IfOk result (λ pointers. pointed pointers.items ≡ deciding policies.now label ++ pattern.now ∷ []) }
+{
+    let mut pointers = deciding_patterns(alloc, policies, label)?;
+    pointers.push(pattern)?;
     Ok(pointers)
 }

@@ -1,15 +1,17 @@
 //! The regions of the paths that are answered alike at a label.
 
-ghost use Rattle.std.specs.Prelude.{◌≡◌, ◌+◌, ◌<◌, ◌≤◌, Err, IfOk, length};
+ghost use Rattle.std.specs.Prelude.{◌≡◌, ◌+◌, ◌<◌, ◌≤◌, ◌++◌, ◌∷◌, [], Err, IfOk, length};
 ghost use Rattle.aa_pattern.specs.Limits.{most_patterns, most_states};
 ghost use Rattle.aa_auto.specs.Nodes.{pointed};
 ghost use Rattle.aa_auto.specs.Tables.{HasPlaces};
 ghost use Rattle.aa_regions.specs.Regions.{ArePathRegions};
-ghost use Rattle.aa_representatives.specs.Alike.{deciding};
+ghost use Rattle.aa_representatives.specs.Alike.{deciding, filing};
 ghost use Rattle.aa_representatives.specs.Both.{deciding_both};
 
 use crate::fault::RepresentativesFault;
-use crate::patterns::{deciding_patterns, deciding_patterns_of_both};
+use crate::patterns::{
+    deciding_patterns, deciding_patterns_and, deciding_patterns_of_both, filing_patterns_and,
+};
 use aa_compile::Compiled;
 use aa_model::Label;
 use aa_pattern::Pattern;
@@ -79,5 +81,46 @@ pub(crate) fn deciding_regions_of_both(
     ensures few_states { IfOk result (λ _. HasPlaces (deciding_both one.now from other.now to) (limit + 1) → ⊥) }
 {
     let patterns = deciding_patterns_of_both(alloc, one, from, other, to)?;
+    regions_by(alloc, patterns.as_slice(), limit)
+}
+
+/// The same by these patterns and one more, which matches all paths of a region or none.
+pub fn deciding_regions_and(
+    alloc: Global,
+    policies: &[Compiled],
+    label: Label,
+    pattern: &Pattern,
+    limit: usize,
+) -> Result<Vec<Region>, RepresentativesFault>
+    requires some { 0 < limit }
+    requires limit { limit ≤ most_states }
+    ensures regions { IfOk result (λ rs. ArePathRegions (deciding policies.now label ++ pattern.now ∷ []) rs.items) }
+    ensures many_patterns { result ≡ Err RepresentativesFault.TooManyPatterns → most_patterns < length (deciding policies.now label ++ pattern.now ∷ []) }
+    ensures few_patterns { IfOk result (λ _. length (deciding policies.now label ++ pattern.now ∷ []) ≤ most_patterns) }
+    ensures many_states { result ≡ Err RepresentativesFault.TooManyStates → HasPlaces (deciding policies.now label ++ pattern.now ∷ []) (limit + 1) }
+    ensures few_states { IfOk result (λ _. HasPlaces (deciding policies.now label ++ pattern.now ∷ []) (limit + 1) → ⊥) }
+{
+    let patterns = deciding_patterns_and(alloc, policies, label, pattern)?;
+    regions_by(alloc, patterns.as_slice(), limit)
+}
+
+/// The same by the patterns of the file rules of the label's profile alone, and one more. Requests to use files at paths of one region
+/// are answered alike.
+pub fn filing_regions_and(
+    alloc: Global,
+    policies: &[Compiled],
+    label: Label,
+    pattern: &Pattern,
+    limit: usize,
+) -> Result<Vec<Region>, RepresentativesFault>
+    requires some { 0 < limit }
+    requires limit { limit ≤ most_states }
+    ensures regions { IfOk result (λ rs. ArePathRegions (filing policies.now label ++ pattern.now ∷ []) rs.items) }
+    ensures many_patterns { result ≡ Err RepresentativesFault.TooManyPatterns → most_patterns < length (filing policies.now label ++ pattern.now ∷ []) }
+    ensures few_patterns { IfOk result (λ _. length (filing policies.now label ++ pattern.now ∷ []) ≤ most_patterns) }
+    ensures many_states { result ≡ Err RepresentativesFault.TooManyStates → HasPlaces (filing policies.now label ++ pattern.now ∷ []) (limit + 1) }
+    ensures few_states { IfOk result (λ _. HasPlaces (filing policies.now label ++ pattern.now ∷ []) (limit + 1) → ⊥) }
+{
+    let patterns = filing_patterns_and(alloc, policies, label, pattern)?;
     regions_by(alloc, patterns.as_slice(), limit)
 }

@@ -1,0 +1,80 @@
+-- The best of all requests that stand for a word is the word's.
+use Rattle.std.proofs.Common.{◌≡◌, ◌⊎◌, ℕ, ◌+◌, ◌<◌, ◌≤◌, List, length, get_or, Bool, true, false, Option, Some, None, Contains, refl, sym, ap, ◌∙◌, subst, arith, ⊎_elim}
+use Rattle.std.proofs.lemmas.Bool.{cases_lt, ltb-true, ltb-false}
+use Rattle.std.proofs.lemmas.List.{get_or_default}
+use Rattle.aa_model.specs.declared.policy.Policy.{Policy}
+use Rattle.aa_model.specs.declared.label.Label.{Label}
+use Rattle.aa_model.specs.declared.request.Request.{Request}
+use Rattle.aa_mediate.specs.Reply.{reply}
+use Rattle.aa_quantifiers.specs.declared.word.Word.{Word}
+use Rattle.aa_quantifiers.specs.Words.{IsOf, path_length}
+use Rattle.aa_quantifiers.specs.Shorter.{is_shorter_than}
+use Rattle.aa_quantifiers.specs.Quantities.{grants, IsAnswered, IsShortest, AllAre, StandForWord, IsAmong, IsBest}
+
+is_true : (b : Bool) → (b ≡ false → ⊥) → b ≡ true
+is_true true f = refl
+is_true false f = absurd (f refl)
+
+is_false : (b : Bool) → (b ≡ true → ⊥) → b ≡ false
+is_false true f = absurd (f refl)
+is_false false f = refl
+
+module _ (ps : List Policy) (l : Label) (w : Word) (rs : List Request) (stand : StandForWord ps l w rs) where
+  pub shortest_is : (granted : Bool) (r : Request) → IsBest ps l granted rs (length rs) (Some r) → IsShortest ps l w granted r
+  shortest_is granted r best = record {
+    is = stand.each r best.0;
+    answer = best.1;
+    shortest = λ q is answer.
+        let s = stand.all q is in
+        let le : path_length r ≤ path_length s.0 = best.2 s.0 s.1 (ap grants (sym s.2) ∙ answer) in
+        omega (arith, le, s.3);
+  }
+
+  pub none_is : (granted : Bool) → IsBest ps l granted rs (length rs) None → (r : Request) → IsOf w r → IsAnswered ps l granted r → ⊥
+  none_is granted none r is answer = let s = stand.all r is in none s.0 s.1 (ap grants (sym s.2) ∙ answer)
+
+  pub all_granted : IsBest ps l false rs (length rs) None → AllAre ps l w true
+  all_granted none r is = is_true (grants (reply ps l r)) (none_is false none r is)
+
+  pub all_refused : IsBest ps l true rs (length rs) None → AllAre ps l w false
+  all_refused none r is = is_false (grants (reply ps l r)) (none_is true none r is)
+
+  pub no_request : IsBest ps l true rs (length rs) None → IsBest ps l false rs (length rs) None → (r : Request) → IsOf w r → ⊥
+  no_request none other r is = none_is true none r is (all_granted other r is)
+
+-- one request more
+module _ (ps : List Policy) (l : Label) (granted : Bool) (rs : List Request) (n : ℕ) (r : Request) (lt : n < length rs) (here : r ≡ get_or rs n r) where
+  earlier : (q : Request) → IsAmong rs n q → IsAmong rs (n + 1) q
+  earlier q (k, less, e) = (k, omega (arith, less), e)
+
+  this : IsAmong rs (n + 1) r
+  this = (n, omega arith, sym here)
+
+  -- one of the first n + 1 is one of the first n, or this one
+  one_of : (P : Request → Type 0) → ((q : Request) → IsAmong rs n q → P q) → P r → (q : Request) → IsAmong rs (n + 1) q → P q
+  one_of P before now q (k, less, e) =
+      ⊎_elim
+      (λ (below : k < n). before q (k, below, e))
+      (λ (above : n ≤ k).
+      let same : n ≡ k = omega (arith, less, above) in
+      subst P (here ∙ get_or_default rs n r q lt ∙ ap (λ (m : ℕ). get_or rs m q) same ∙ e) now)
+      (cases_lt k n)
+
+  pub passed : (best : Option Request) → (IsAnswered ps l granted r → ⊥) → IsBest ps l granted rs n best → IsBest ps l granted rs (n + 1) best
+  passed (Some b) not_so (among, answer, least) = (earlier b among, answer, one_of (λ q. IsAnswered ps l granted q → path_length b ≤ path_length q) least (λ so. absurd (not_so so)))
+  passed None not_so none = one_of (λ q. IsAnswered ps l granted q → ⊥) none not_so
+
+  pub no_shorter : (best : Option Request) → is_shorter_than r best ≡ false → IsBest ps l granted rs n best → IsBest ps l granted rs (n + 1) best
+  no_shorter (Some b) longer (among, answer, least) =
+      (earlier b among, answer, one_of (λ q. IsAnswered ps l granted q → path_length b ≤ path_length q) least (λ so. omega (arith, ltb-false (path_length r) (path_length b) longer)))
+  no_shorter None longer none = absurd (let e : true ≡ false = longer in cc)
+
+  pub taken : (best : Option Request) → is_shorter_than r best ≡ true → IsAnswered ps l granted r → IsBest ps l granted rs n best → IsBest ps l granted rs (n + 1) (Some r)
+  taken best shorter so is = (this, so, one_of (λ q. IsAnswered ps l granted q → path_length r ≤ path_length q) (before best shorter is) (λ _. omega arith))
+    where
+      before : (best : Option Request) → is_shorter_than r best ≡ true → IsBest ps l granted rs n best → (q : Request) → IsAmong rs n q → IsAnswered ps l granted q → path_length r ≤ path_length q
+      before (Some b) short (among, answer, least) q in' other = omega (arith, ltb-true (path_length r) (path_length b) short, least q in' other)
+      before None short none q in' other = absurd (none q in' other)
+
+  pub passed_over : (best : Option Request) → (IsAnswered ps l granted r → ⊥) ⊎ (is_shorter_than r best ≡ false) → IsBest ps l granted rs n best → IsBest ps l granted rs (n + 1) best
+  passed_over best why is = ⊎_elim (λ (no : IsAnswered ps l granted r → ⊥). passed best no is) (λ (longer : is_shorter_than r best ≡ false). no_shorter best longer is) why

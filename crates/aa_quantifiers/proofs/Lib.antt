@@ -1,0 +1,4 @@
+mod Filing
+mod Standing
+mod Adding
+mod Best

@@ -1,0 +1,6 @@
+pub use Rattle.aa_representatives.specs.Alike
+pub mod Faults
+pub mod Words
+pub mod Quantities
+pub mod Candidates
+pub mod Shorter

@@ -1,0 +1,302 @@
+//! Requests of a word that stand for all of them.
+
+ghost use Rattle.std.specs.Prelude.{◌≡◌, ◌≢◌, ◌+◌, ◌<◌, ◌≤◌, ◌∷◌, [], true, Err, IfOk, OnOk, Contains, length};
+ghost use Rattle.aa_pattern.specs.Limits.{most_patterns, most_states};
+ghost use Rattle.aa_pattern.specs.Matching.{is_match};
+ghost use Rattle.aa_auto.specs.Tables.{HasPlaces};
+ghost use Rattle.aa_base.specs.declared.perms.Perms.{Perms};
+ghost use Rattle.aa_model.specs.Requests.{is_mask};
+ghost use Rattle.aa_model.specs.declared.request.Request.{Request};
+ghost use Rattle.aa_regions.specs.declared.regions.Region.{Region};
+ghost use Rattle.aa_regions.specs.Regions.{IsAsked};
+ghost use Rattle.aa_representatives.specs.Representatives.{Adds};
+ghost use Rattle.aa_quantifiers.specs.declared.word.Word.{Word};
+ghost use Rattle.aa_quantifiers.specs.Words.{asks_for, IsOf, patterns_at};
+ghost use Rattle.aa_quantifiers.specs.Candidates.{HasFilesBy, HasFilesOf, HasExecsOf};
+ghost use Rattle.aa_quantifiers.specs.Quantities.{StandForWord};
+
+use crate::fault::QuantityFault;
+use crate::word::{ExecsWord, FilesWord, Word};
+use aa_base::Perms;
+use aa_compile::{Compiled, is_matched};
+use aa_model::{Label, Request, RequestFault};
+use aa_regions::Region;
+use aa_representatives::{deciding_regions_and, filing_regions_and};
+use std::alloc::{AllocError, Global};
+
+/// Adds the request to use a file, where the mask can be asked for.
+fn add_file(
+    alloc: Global,
+    requests: &mut Vec<Request>,
+    word: &FilesWord,
+    path: &[u8],
+    mask: Perms,
+    owned: bool,
+) -> Result<(), AllocError>
+    requires asked { IsAsked path.now }
+    requires matched { is_match word.now.pattern.items.items path.now ≡ true }
+    requires among { Contains word.now.masks mask }
+    requires whose { asks_for word.now.whose owned ≡ true }
+    ensures adds { OnOk result (Adds (IsOf (Word.Files word.now)) requests.old.items requests.new.items) }
+    ensures has { OnOk result (is_mask mask.0 ≡ true → Contains requests.new.items (Request.File (record { path = path.now; mask = mask; owned = owned }))) }
+{
+    match Request::file(alloc, path, mask, owned) {
+        Ok(request) => {
+            requests.push(request)?;
+            Ok(())
+        }
+        Err(RequestFault::BadMask) => Ok(()),
+        Err(_) => Err(AllocError),
+    }
+}
+
+/// Adds it, where files of that owner are asked for.
+fn add_file_if_asked(
+    alloc: Global,
+    requests: &mut Vec<Request>,
+    word: &FilesWord,
+    path: &[u8],
+    mask: Perms,
+    owned: bool,
+) -> Result<(), AllocError>
+    requires asked { IsAsked path.now }
+    requires matched { is_match word.now.pattern.items.items path.now ≡ true }
+    requires among { Contains word.now.masks mask }
+    ensures adds { OnOk result (Adds (IsOf (Word.Files word.now)) requests.old.items requests.new.items) }
+    ensures has { OnOk result (is_mask mask.0 ≡ true → asks_for word.now.whose owned ≡ true → Contains requests.new.items (Request.File (record { path = path.now; mask = mask; owned = owned }))) }
+{
+    if !word.whose.asks(owned) {
+        return Ok(());
+    }
+    add_file(alloc, requests, word, path, mask, owned)
+}
+
+/// Adds those of others, and then of the owner.
+fn add_files_by(
+    alloc: Global,
+    requests: &mut Vec<Request>,
+    word: &FilesWord,
+    path: &[u8],
+    mask: Perms,
+) -> Result<(), AllocError>
+    requires asked { IsAsked path.now }
+    requires matched { is_match word.now.pattern.items.items path.now ≡ true }
+    requires among { Contains word.now.masks mask }
+    ensures adds { OnOk result (Adds (IsOf (Word.Files word.now)) requests.old.items requests.new.items) }
+    ensures has { OnOk result (HasFilesBy word.now.whose path.now mask requests.new.items) }
+{
+    add_file_if_asked(alloc, requests, word, path, mask, false)?;
+    add_file_if_asked(alloc, requests, word, path, mask, true)?;
+    Ok(())
+}
+
+/// Adds those by each of these masks.
+fn add_files_to(
+    alloc: Global,
+    requests: &mut Vec<Request>,
+    word: &FilesWord,
+    path: &[u8],
+    masks: &[Perms],
+) -> Result<(), AllocError>
+    requires asked { IsAsked path.now }
+    requires matched { is_match word.now.pattern.items.items path.now ≡ true }
+    requires among { (m : Perms) → Contains masks.now m → Contains word.now.masks m }
+    ensures adds { OnOk result (Adds (IsOf (Word.Files word.now)) requests.old.items requests.new.items) }
+    ensures has { OnOk result (HasFilesOf word.now.whose path.now masks.now requests.new.items) }
+{
+    for mask in masks {
+        add_files_by(alloc, requests, word, path, *mask)?;
+    }
+    Ok(())
+}
+
+/// Adds those by each of the word's masks.
+fn add_files_at(
+    alloc: Global,
+    requests: &mut Vec<Request>,
+    word: &FilesWord,
+    path: &[u8],
+) -> Result<(), AllocError>
+    requires asked { IsAsked path.now }
+    requires matched { is_match word.now.pattern.items.items path.now ≡ true }
+    ensures adds { OnOk result (Adds (IsOf (Word.Files word.now)) requests.old.items requests.new.items) }
+    ensures has { OnOk result (HasFilesOf word.now.whose path.now word.now.masks requests.new.items) }
+{
+    add_files_to(alloc, requests, word, path, word.masks.as_slice())
+}
+
+/// Adds those at the path of a region, where the word's pattern matches it.
+fn add_files_if_matched(
+    alloc: Global,
+    requests: &mut Vec<Request>,
+    word: &FilesWord,
+    path: &[u8],
+) -> Result<(), AllocError>
+    requires asked { IsAsked path.now }
+    ensures adds { OnOk result (Adds (IsOf (Word.Files word.now)) requests.old.items requests.new.items) }
+    ensures has { OnOk result (is_match word.now.pattern.items.items path.now ≡ true → HasFilesOf word.now.whose path.now word.now.masks requests.new.items) }
+{
+    let is_met = is_matched(&word.pattern, path);
+    if !is_met {
+        return Ok(());
+    }
+    add_files_at(alloc, requests, word, path)
+}
+
+/// Requests to use files, at the paths of the regions.
+fn files_of(alloc: Global, word: &FilesWord, regions: &[Region]) -> Result<Vec<Request>, AllocError>
+    requires { (r : Region) → Contains regions.now r → IsAsked r.witness }
+    ensures each { IfOk result (λ rs. (r : Request) → Contains rs.items r → IsOf (Word.Files word.now) r) }
+    ensures has { IfOk result (λ rs. (r : Region) → Contains regions.now r → is_match word.now.pattern.items.items r.witness ≡ true → HasFilesOf word.now.whose r.witness word.now.masks rs.items) }
+{
+    let mut requests = Vec::new(alloc);
+    for region in regions {
+        add_files_if_matched(alloc, &mut requests, word, region.witness.as_slice())?;
+    }
+    Ok(requests)
+}
+
+/// Adds the request to execute a file, where files of that owner are asked for.
+fn add_exec_if_asked(
+    alloc: Global,
+    requests: &mut Vec<Request>,
+    word: &ExecsWord,
+    path: &[u8],
+    owned: bool,
+) -> Result<(), AllocError>
+    requires asked { IsAsked path.now }
+    requires matched { is_match word.now.pattern.items.items path.now ≡ true }
+    ensures adds { OnOk result (Adds (IsOf (Word.Execs word.now)) requests.old.items requests.new.items) }
+    ensures has { OnOk result (asks_for word.now.whose owned ≡ true → Contains requests.new.items (Request.Exec (record { path = path.now; owned = owned }))) }
+{
+    if !word.whose.asks(owned) {
+        return Ok(());
+    }
+    match Request::exec(alloc, path, owned) {
+        Ok(request) => {
+            requests.push(request)?;
+            Ok(())
+        }
+        Err(_) => Err(AllocError),
+    }
+}
+
+/// Adds those of others, and then of the owner.
+fn add_execs_at(
+    alloc: Global,
+    requests: &mut Vec<Request>,
+    word: &ExecsWord,
+    path: &[u8],
+) -> Result<(), AllocError>
+    requires asked { IsAsked path.now }
+    requires matched { is_match word.now.pattern.items.items path.now ≡ true }
+    ensures adds { OnOk result (Adds (IsOf (Word.Execs word.now)) requests.old.items requests.new.items) }
+    ensures has { OnOk result (HasExecsOf word.now.whose path.now requests.new.items) }
+{
+    add_exec_if_asked(alloc, requests, word, path, false)?;
+    add_exec_if_asked(alloc, requests, word, path, true)?;
+    Ok(())
+}
+
+/// Adds those at the path of a region, where the word's pattern matches it.
+fn add_execs_if_matched(
+    alloc: Global,
+    requests: &mut Vec<Request>,
+    word: &ExecsWord,
+    path: &[u8],
+) -> Result<(), AllocError>
+    requires asked { IsAsked path.now }
+    ensures adds { OnOk result (Adds (IsOf (Word.Execs word.now)) requests.old.items requests.new.items) }
+    ensures has { OnOk result (is_match word.now.pattern.items.items path.now ≡ true → HasExecsOf word.now.whose path.now requests.new.items) }
+{
+    if !is_matched(&word.pattern, path) {
+        return Ok(());
+    }
+    add_execs_at(alloc, requests, word, path)
+}
+
+/// Requests to execute files, at the paths of the regions.
+fn execs_of(alloc: Global, word: &ExecsWord, regions: &[Region]) -> Result<Vec<Request>, AllocError>
+    requires { (r : Region) → Contains regions.now r → IsAsked r.witness }
+    ensures each { IfOk result (λ rs. (r : Request) → Contains rs.items r → IsOf (Word.Execs word.now) r) }
+    ensures has { IfOk result (λ rs. (r : Region) → Contains regions.now r → is_match word.now.pattern.items.items r.witness ≡ true → HasExecsOf word.now.whose r.witness rs.items) }
+{
+    let mut requests = Vec::new(alloc);
+    for region in regions {
+        add_execs_if_matched(alloc, &mut requests, word, region.witness.as_slice())?;
+    }
+    Ok(requests)
+}
+
+fn of_files(
+    alloc: Global,
+    policies: &[Compiled],
+    label: Label,
+    word: &FilesWord,
+    limit: usize,
+) -> Result<Vec<Request>, QuantityFault>
+    requires some { 0 < limit }
+    requires limit { limit ≤ most_states }
+    ensures stand { IfOk result (λ rs. StandForWord policies.now label (Word.Files word.now) rs.items) }
+    ensures many_patterns { result ≡ Err QuantityFault.TooManyPatterns → most_patterns < length (patterns_at policies.now label (Word.Files word.now)) }
+    ensures few_patterns { IfOk result (λ _. length (patterns_at policies.now label (Word.Files word.now)) ≤ most_patterns) }
+    ensures many_states { result ≡ Err QuantityFault.TooManyStates → HasPlaces (patterns_at policies.now label (Word.Files word.now)) (limit + 1) }
+    ensures few_states { IfOk result (λ _. HasPlaces (patterns_at policies.now label (Word.Files word.now)) (limit + 1) → ⊥) }
+    ensures made { result ≢ Err QuantityFault.NoRequest }
+{
+    let regions = filing_regions_and(alloc, policies, label, &word.pattern, limit)?;
+    let requests = files_of(alloc, word, regions.as_slice())?;
+    Ok(requests)
+}
+
+fn of_execs(
+    alloc: Global,
+    policies: &[Compiled],
+    label: Label,
+    word: &ExecsWord,
+    limit: usize,
+) -> Result<Vec<Request>, QuantityFault>
+    requires some { 0 < limit }
+    requires limit { limit ≤ most_states }
+    ensures stand { IfOk result (λ rs. StandForWord policies.now label (Word.Execs word.now) rs.items) }
+    ensures many_patterns { result ≡ Err QuantityFault.TooManyPatterns → most_patterns < length (patterns_at policies.now label (Word.Execs word.now)) }
+    ensures few_patterns { IfOk result (λ _. length (patterns_at policies.now label (Word.Execs word.now)) ≤ most_patterns) }
+    ensures many_states { result ≡ Err QuantityFault.TooManyStates → HasPlaces (patterns_at policies.now label (Word.Execs word.now)) (limit + 1) }
+    ensures few_states { IfOk result (λ _. HasPlaces (patterns_at policies.now label (Word.Execs word.now)) (limit + 1) → ⊥) }
+    ensures made { result ≢ Err QuantityFault.NoRequest }
+{
+    let regions = deciding_regions_and(alloc, policies, label, &word.pattern, limit)?;
+    let requests = execs_of(alloc, word, regions.as_slice())?;
+    Ok(requests)
+}
+
+fn of_one(alloc: Global, request: &Request) -> Result<Vec<Request>, AllocError>
+    ensures { IfOk result (λ rs. rs.items ≡ request.now ∷ []) }
+{
+    let mut requests = Vec::new(alloc);
+    requests.push(request.try_clone()?)?;
+    Ok(requests)
+}
+
+/// Requests of the word such that each is answered at the label as one of them whose path is no longer.
+pub(crate) fn standing_for(
+    alloc: Global,
+    policies: &[Compiled],
+    label: Label,
+    word: &Word,
+    limit: usize,
+) -> Result<Vec<Request>, QuantityFault>
+    requires some { 0 < limit }
+    requires limit { limit ≤ most_states }
+    ensures stand { IfOk result (λ rs. StandForWord policies.now label word.now rs.items) }
+    ensures many_patterns { result ≡ Err QuantityFault.TooManyPatterns → most_patterns < length (patterns_at policies.now label word.now) }
+    ensures few_patterns { IfOk result (λ _. length (patterns_at policies.now label word.now) ≤ most_patterns) }
+    ensures many_states { result ≡ Err QuantityFault.TooManyStates → HasPlaces (patterns_at policies.now label word.now) (limit + 1) }
+    ensures made { result ≢ Err QuantityFault.NoRequest }
+{
+    match word {
+        Word::Files(word) => of_files(alloc, policies, label, word, limit),
+        Word::Execs(word) => of_execs(alloc, policies, label, word, limit),
+        Word::One(request) => Ok(of_one(alloc, request)?),
+    }
+}
