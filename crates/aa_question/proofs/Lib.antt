@@ -1,0 +1,6 @@
+pub mod Answered
+pub mod Fronts
+pub mod Json
+pub mod Lists
+pub mod Members
+pub mod Rows

@@ -1,0 +1,4 @@
+pub mod Memory
+pub mod Values
+pub mod Questions
+pub mod Answers
