@@ -1,11 +1,12 @@
 /* AppArmor policies, checked and decided inside your program: link libaamediate.a. Each call does what a command of the program
-   aamediate does with a job, and gives that command's text byte for byte. EMBEDDING.md says more.
+   aamediate does with a job, or one of aapolicy with policy files in memory, and gives that command's text byte for byte. EMBEDDING.md
+   says more.
 
    Each call takes an input and two buffers, as a pointer and a number of bytes:
      text    is for the answer. It is written whole, or where it has too few bytes not at all.
-     fault   is for a line on why there is no answer, as the command says it on standard error. As many bytes of it are written
-             as there is room for.
-   Afterwards `sizes` says how many bytes the whole text takes, and the whole line: 0 where there is none. Where the status is
+     fault   is for what the command says on standard error: of a job a line on why there is no answer, without its end; of a question
+             all lines, also of warnings beside an answer. As many bytes of it are written as there is room for.
+   Afterwards `sizes` says how many bytes the whole text takes, and what is said: 0 where there is none. Where the status is
    AAMEDIATE_TOO_SMALL, call again with a text of sizes->text bytes. Neither ends with a zero byte.
 
    What the caller owns stays its own: nothing of it is kept when a call returns, and nothing has to be freed. The memory that a call
@@ -28,12 +29,14 @@
 extern "C" {
 #endif
 
-/* What a call returns. All but the last are exit statuses of the program. */
+/* What a call returns. All but the last are exit statuses of the programs. */
 enum aamediate_status {
     AAMEDIATE_ANSWERED = 0,
-    AAMEDIATE_REFUSED = 1,   /* the job or a policy is at fault */
-    AAMEDIATE_FAILED = 3,    /* memory ran out */
-    AAMEDIATE_TOO_SMALL = 5  /* the text has too few bytes: nothing was written */
+    AAMEDIATE_REFUSED = 1,     /* the job or a policy is at fault */
+    AAMEDIATE_NO_QUESTION = 2, /* of aapolicy_check and aapolicy_ask: the question isn't understood */
+    AAMEDIATE_FAILED = 3,      /* memory ran out; or of a question, a text is missing or too large */
+    AAMEDIATE_DENIED = 4,      /* of aapolicy_ask: answered, and a request is denied */
+    AAMEDIATE_TOO_SMALL = 5    /* the text has too few bytes: nothing was written */
 };
 
 /* In bytes. */
@@ -42,7 +45,7 @@ struct aamediate_sizes {
     size_t fault;
 };
 
-/* As many bytes as a line on a job's fault takes at most. */
+/* As many bytes as a line on a job's fault takes at most. What is said of a question may be longer. */
 #define AAMEDIATE_FAULT_SIZE 128
 
 /* As many bytes of stack as a call takes at most. */
@@ -59,6 +62,14 @@ uint32_t aamediate_run(const uint8_t *job, size_t job_size, uint8_t *text, size_
 /* What `aamediate replay` writes: a line for each event of the job. */
 uint32_t aamediate_replay(const uint8_t *job, size_t job_size, uint8_t *text, size_t text_size, uint8_t *fault, size_t fault_size,
                           struct aamediate_sizes *sizes);
+
+/* What `aapolicy check --json` prints of a question's files, also where one is refused. A question is a JSON object, as EMBEDDING.md has it. */
+uint32_t aapolicy_check(const uint8_t *question, size_t question_size, uint8_t *text, size_t text_size, uint8_t *fault, size_t fault_size,
+                        struct aamediate_sizes *sizes);
+
+/* What `aapolicy ask --json` prints to a question's words: a verdict on each, and the rules that decide. */
+uint32_t aapolicy_ask(const uint8_t *question, size_t question_size, uint8_t *text, size_t text_size, uint8_t *fault, size_t fault_size,
+                      struct aamediate_sizes *sizes);
 
 #ifdef __cplusplus
 }

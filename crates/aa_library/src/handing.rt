@@ -4,7 +4,7 @@ ghost use Rattle.std.specs.Prelude.{◌≡◌, ◌≤◌, length};
 ghost use Rattle.aa_library.specs.Answered.{HandsOut, front_of, put};
 
 /// The status that a buffer has no room for its text.
-const TOO_SMALL: u32 = 5;
+pub const TOO_SMALL: u32 = 5;
 
 /// How many bytes a text takes, and the line on a fault.
 #[repr(C)]
@@ -15,7 +15,7 @@ pub struct Sizes {
 }
 
 /// Copies a text to the front of a buffer.
-fn put(text: &[u8], buffer: &mut [u8])
+pub fn put(text: &[u8], buffer: &mut [u8])
     requires { length text.now ≤ length buffer.old }
     ensures { buffer.new ≡ put text.now buffer.old }
 {

@@ -6,13 +6,18 @@
 mod answering;
 mod fault_line;
 mod handing;
+mod questioning;
 
 ghost use Rattle.aa_engine.specs.Engines.{IsCheckOutput, IsRunOutput, IsReplayOutput, IsDecided};
+ghost use Rattle.aa_question.specs.Answers.{IsCheckOf, IsAskOf};
 ghost use Rattle.aa_library.specs.Answered.{IsAnswered};
+ghost use Rattle.aa_library.specs.Questioned.{IsQuestioned};
 
 use aa_engine::{check_bytes, replay_bytes, run_bytes};
+use aa_question::{ask_question, check_question};
 use answering::answer;
 pub use handing::Sizes;
+use questioning::hand;
 use std::alloc::Global;
 
 /// What `aamediate check` writes for the bytes of a job.
@@ -61,4 +66,34 @@ pub extern "C" fn aamediate_replay(
 {
     let made = replay_bytes(alloc, job);
     answer(alloc, made, text, fault, sizes)
+}
+
+/// What `aapolicy check --json` prints of the files of the question that bytes are.
+#[unsafe(no_mangle)]
+pub extern "C" fn aapolicy_check(
+    alloc: Global,
+    question: &[u8],
+    text: &mut [u8],
+    fault: &mut [u8],
+    sizes: &mut Sizes,
+) -> u32
+    ensures { IsQuestioned IsCheckOf question.now text.old text.new fault.old fault.new sizes.new result }
+{
+    let made = check_question(alloc, question);
+    hand(made, text, fault, sizes)
+}
+
+/// What `aapolicy ask --json` prints to the words of the question that bytes are.
+#[unsafe(no_mangle)]
+pub extern "C" fn aapolicy_ask(
+    alloc: Global,
+    question: &[u8],
+    text: &mut [u8],
+    fault: &mut [u8],
+    sizes: &mut Sizes,
+) -> u32
+    ensures { IsQuestioned IsAskOf question.now text.old text.new fault.old fault.new sizes.new result }
+{
+    let made = ask_question(alloc, question);
+    hand(made, text, fault, sizes)
 }
