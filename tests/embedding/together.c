@@ -1,4 +1,4 @@
-/* Calls the library with what a careless or an unlucky program hands in: together COMMAND FILE.. reads each file as a job, and looks, of each,
+/* Calls the library with what a careless or an unlucky program hands in: together COMMAND FILE.. reads each file as a job or a question, and looks, of each,
    that eight threads at once, each with the stack that the header names, get what one gets, that each buffer of too few bytes is told of and
    stays as it is, that no byte beyond the text is written, that each growth that is refused, alone or with all that follow it, is told of or changes
    nothing, and that a call frees just what it has taken. Then come bytes made by chance, whole and torn from the files. With `bytes` before COMMAND
@@ -12,16 +12,17 @@
 
 /* (what a thread's own frames and the C library take is beside the stack of a call) */
 enum { THREADS = 8, TIMES = 4, STACK = AAMEDIATE_STACK + (32 << 10), GUARD = 64, MARK = 0xa5, MOST_GROWTHS = 400 };
-enum { NEAR = 32, FEW_CHANGES = 8, MANY_CHANGES = 64, LONG = 1024 };
+enum { NEAR = 32, FEW_CHANGES = 8, MANY_CHANGES = 64, LONG = 1024, SAID = 65536 };
 
 typedef uint32_t call(const uint8_t *, size_t, uint8_t *, size_t, uint8_t *, size_t, struct aamediate_sizes *);
 
 static const struct { const char *name; call *does; } calls[] = {
     {"check", aamediate_check}, {"run", aamediate_run}, {"replay", aamediate_replay},
+    {"policy-check", aapolicy_check}, {"policy-ask", aapolicy_ask},
 };
 
 struct bytes { uint8_t *at; size_t size; };
-struct answer { uint32_t status; struct aamediate_sizes sizes; uint8_t *text; uint8_t fault[AAMEDIATE_FAULT_SIZE]; };
+struct answer { uint32_t status; struct aamediate_sizes sizes; uint8_t *text, *fault; };
 
 /* Growths are counted, and refused from the first of that number on, or it alone. 0: none is. How many blocks are held is counted too. */
 static __thread unsigned long asked, first_refused, refuses_all;
@@ -76,35 +77,39 @@ static int is_marked(const uint8_t *at, size_t size) {
 
 /* One call with a text of that many bytes, and a guard behind it. */
 static struct answer asked_for(call *does, struct bytes job, size_t size) {
-    struct answer it = {.text = room(size), .sizes = {MARK, MARK}};
-    memset(it.fault, MARK, sizeof it.fault);
+    struct answer it = {.text = room(size), .fault = room(SAID), .sizes = {MARK, MARK}};
     long before = held;
-    it.status = does(job.at, job.size, it.text, size, it.fault, sizeof it.fault, &it.sizes);
+    it.status = does(job.at, job.size, it.text, size, it.fault, SAID, &it.sizes);
     expect(held == before, "a block is kept, or one is freed that the call hasn't taken");
     expect(is_marked(it.text + size, GUARD), "bytes beyond the buffer are written");
-    int is_written = it.status == AAMEDIATE_ANSWERED;
-    size_t beyond = is_written ? it.sizes.text : 0;
+    int is_written = it.status != AAMEDIATE_TOO_SMALL;
+    size_t beyond = is_written ? it.sizes.text : 0, said = is_written && it.sizes.fault < SAID ? it.sizes.fault : is_written ? SAID : 0;
     expect(!is_written || it.sizes.text <= size, "a text that has no room is called whole");
     expect(is_marked(it.text + beyond, size - beyond), "bytes that are no text are written");
-    expect(is_marked(it.fault + it.sizes.fault, sizeof it.fault - it.sizes.fault), "bytes beyond the line are written");
+    expect(is_marked(it.fault + said, SAID + GUARD - said), "bytes beyond the line are written");
     return it;
+}
+
+static void let_go(struct answer it) {
+    __real_free(it.text);
+    __real_free(it.fault);
 }
 
 static struct answer whole(call *does, struct bytes job) {
     struct answer it = asked_for(does, job, 0);
     if (it.status == AAMEDIATE_TOO_SMALL || it.sizes.text) {
         size_t size = it.sizes.text;
-        __real_free(it.text);
+        let_go(it);
         it = asked_for(does, job, size);
         expect(it.status != AAMEDIATE_TOO_SMALL, "the size that was told is too small");
-        expect(it.status != AAMEDIATE_ANSWERED || it.sizes.text == size, "another size is told");
+        expect(it.sizes.text == size, "another size is told");
     }
     return it;
 }
 
 static int is_same(struct answer one, struct answer other) {
     return one.status == other.status && one.sizes.text == other.sizes.text && one.sizes.fault == other.sizes.fault
-        && (one.status != AAMEDIATE_ANSWERED || !memcmp(one.text, other.text, one.sizes.text)) && !memcmp(one.fault, other.fault, one.sizes.fault);
+        && (one.status == AAMEDIATE_TOO_SMALL || !memcmp(one.text, other.text, one.sizes.text)) && !memcmp(one.fault, other.fault, SAID);
 }
 
 struct share { const char *path; call *does; struct bytes job; struct answer wanted; };
@@ -119,7 +124,7 @@ static void *call_all(void *given) {
         about = it->path;
         struct answer got = whole(it->does, it->job);
         expect(is_same(got, it->wanted), "a thread beside others gets another answer");
-        __real_free(got.text);
+        let_go(got);
     }
     return NULL;
 }
@@ -141,11 +146,11 @@ static void side_by_side(const struct share *shares, size_t count) {
 
 /* Each room below the text's is told of, of long texts some. */
 static void too_small(struct share it) {
-    size_t size = it.wanted.status == AAMEDIATE_ANSWERED ? it.wanted.sizes.text : 0;
+    size_t size = it.wanted.sizes.text;
     for (size_t less = 1; less <= size; less += size < LONG || less < 16 ? 1 : less) {
         struct answer got = asked_for(it.does, it.job, size - less);
         expect(got.status == AAMEDIATE_TOO_SMALL && got.sizes.text == size, "a buffer that is too small isn't told of");
-        __real_free(got.text);
+        let_go(got);
     }
 }
 
@@ -153,13 +158,15 @@ static void too_small(struct share it) {
 static void more_room(struct share it) {
     struct answer got = asked_for(it.does, it.job, it.wanted.sizes.text + LONG);
     expect(is_same(got, it.wanted), "with more room there is another answer");
-    __real_free(got.text);
+    let_go(got);
 }
 
 /* Of a line that has too little room its front is written, and its size is told. */
 static void short_lines(struct share it) {
-    for (size_t size = 0; size < it.wanted.sizes.fault; size++) {
-        uint8_t text[GUARD], fault[AAMEDIATE_FAULT_SIZE];
+    /* (beside an answer it is told as well, and its buffer is looked at there) */
+    size_t most = it.wanted.sizes.text ? 0 : it.wanted.sizes.fault < LONG ? it.wanted.sizes.fault : LONG;
+    for (size_t size = 0; size < most; size++) {
+        uint8_t text[GUARD], fault[LONG];
         struct aamediate_sizes sizes = {MARK, MARK};
         memset(text, MARK, sizeof text);
         memset(fault, MARK, sizeof fault);
@@ -175,7 +182,7 @@ static unsigned long growths_of(struct share it) {
     asked = first_refused = 0;
     struct answer got = asked_for(it.does, it.job, it.wanted.sizes.text);
     expect(is_same(got, it.wanted), "the same bytes have another answer");
-    __real_free(got.text);
+    let_go(got);
     return asked;
 }
 
@@ -188,11 +195,11 @@ static void refused_growths(struct share it) {
             first_refused = n;
             struct answer got = asked_for(it.does, it.job, it.wanted.sizes.text);
             first_refused = 0;
-            int is_told = got.status == AAMEDIATE_FAILED && got.sizes.text == 0 && got.sizes.fault == 9 && !memcmp(got.fault, "no memory", 9);
+            int is_told = got.status == AAMEDIATE_FAILED && got.sizes.text == 0 && got.sizes.fault - 9 < 2 && !memcmp(got.fault, "no memory\n", got.sizes.fault);
             expect(is_told || is_same(got, it.wanted), "a growth that is refused changes the answer");
             expect(is_told || !refuses_all, "all growths are refused, and there is an answer");
             told += is_told;
-            __real_free(got.text);
+            let_go(got);
         }
     refuses_all = 0;
     expect(told || !growths, "no growth that is refused is told of");
@@ -243,8 +250,10 @@ static size_t changed(uint8_t *at, size_t size, size_t most) {
 static void any_answer(call *does, const uint8_t *at, size_t size) {
     struct bytes given = copied(at, size);
     struct answer got = whole(does, given);
-    expect(got.status == AAMEDIATE_ANSWERED || (got.status == AAMEDIATE_REFUSED && got.sizes.fault), "bytes that are no job have another status");
-    __real_free(got.text);
+    int is_said = got.status == AAMEDIATE_ANSWERED || got.sizes.text || got.sizes.fault;
+    int is_of_job = got.status == AAMEDIATE_ANSWERED || got.status == AAMEDIATE_REFUSED, is_asked = does == aapolicy_check || does == aapolicy_ask;
+    expect(is_said && got.status <= AAMEDIATE_DENIED && (is_of_job || is_asked), "bytes that are no job have another status");
+    let_go(got);
     __real_free(given.at);
 }
 
@@ -290,7 +299,7 @@ int main(int count, char **words) {
     }
     if (!has_bytes) side_by_side(shares, jobs);
     for (size_t n = 0; n < jobs; n++) {
-        __real_free(shares[n].wanted.text);
+        let_go(shares[n].wanted);
         __real_free(shares[n].job.at);
     }
     __real_free(shares);

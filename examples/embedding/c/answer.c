@@ -1,41 +1,48 @@
-/* Answers the job on standard input: answer check|run|replay < job.json. Build it by: cc answer.c -laamediate -o answer */
+/* Answers the job or the question on standard input: answer check|run|replay|policy-check|policy-ask < input.json. Build it by:
+   cc answer.c -laamediate -o answer */
 #include <aamediate.h>
 #include <stdio.h>
 #include <stdlib.h>
 #include <string.h>
 
-/* A job of more bytes is refused. */
-enum { MOST_JOB = 16 << 20 };
+/* An input of more bytes is refused. */
+enum { MOST = 64 << 20 };
 
 typedef uint32_t call(const uint8_t *, size_t, uint8_t *, size_t, uint8_t *, size_t, struct aamediate_sizes *);
 
-static const struct { const char *name; call *does; } calls[] = {
-    {"check", aamediate_check}, {"run", aamediate_run}, {"replay", aamediate_replay},
+/* What is said of a job is a line without its end. */
+static const struct { const char *name; call *does; const char *end; } calls[] = {
+    {"check", aamediate_check, "\n"}, {"run", aamediate_run, "\n"}, {"replay", aamediate_replay, "\n"},
+    {"policy-check", aapolicy_check, ""}, {"policy-ask", aapolicy_ask, ""},
 };
 
-int main(int count, char **words) {
-    call *does = NULL;
-    for (size_t n = 0; n < sizeof calls / sizeof *calls; n++)
-        if (count == 2 && !strcmp(words[1], calls[n].name)) does = calls[n].does;
-    if (!does) return fputs("usage: answer check|run|replay\n", stderr), 2;
+static uint8_t *room_for(size_t size) {
+    uint8_t *at = malloc(size + 1);
+    if (!at) fputs("no memory\n", stderr), exit(AAMEDIATE_FAILED);
+    return at;
+}
 
-    uint8_t fault[AAMEDIATE_FAULT_SIZE], *text = NULL, *job = malloc(MOST_JOB + 1);
-    if (!job) return fputs("no memory\n", stderr), AAMEDIATE_FAILED;
-    size_t job_size = fread(job, 1, MOST_JOB + 1, stdin);
+int main(int count, char **words) {
+    size_t n = 0, many = sizeof calls / sizeof *calls;
+    while (n < many && (count != 2 || strcmp(words[1], calls[n].name))) n++;
+    if (n == many) return fputs("usage: answer check|run|replay|policy-check|policy-ask\n", stderr), 2;
+
+    uint8_t *input = room_for(MOST), *text = NULL, *fault = NULL;
+    size_t size = fread(input, 1, MOST + 1, stdin);
     if (ferror(stdin)) return fputs("read failed\n", stderr), AAMEDIATE_FAILED;
     /* (a guess, mostly enough: where it is too little, all is done again) */
-    struct aamediate_sizes sizes = {.text = 4096 + 8 * job_size};
+    struct aamediate_sizes room, sizes = {.text = 4096 + 8 * size, .fault = 4096};
     uint32_t status;
     do {
-        size_t room = sizes.text;
+        room = sizes;
         free(text);
-        if (!(text = malloc(room))) return fputs("no memory\n", stderr), AAMEDIATE_FAILED;
-        status = does(job, job_size, text, room, fault, sizeof fault, &sizes);
-    } while (status == AAMEDIATE_TOO_SMALL);
+        free(fault);
+        text = room_for(room.text);
+        fault = room_for(room.fault);
+        status = calls[n].does(input, size, text, room.text, fault, room.fault, &sizes);
+    } while (sizes.text > room.text || sizes.fault > room.fault);
 
-    if (status == AAMEDIATE_ANSWERED && fwrite(text, 1, sizes.text, stdout) != sizes.text) status = AAMEDIATE_FAILED;
-    if (sizes.fault) fprintf(stderr, "%.*s\n", (int)sizes.fault, (const char *)fault);
-    free(text);
-    free(job);
+    if (sizes.fault) fprintf(stderr, "%.*s%s", (int)sizes.fault, (const char *)fault, calls[n].end);
+    if (fwrite(text, 1, sizes.text, stdout) != sizes.text) status = AAMEDIATE_FAILED;
     return (int)status;
 }

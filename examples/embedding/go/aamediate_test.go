@@ -28,6 +28,21 @@ func TestWhatIsNoJobIsRefused(t *testing.T) {
 	}
 }
 
+func TestAQuestionIsAnswered(t *testing.T) {
+	found, err := PolicyAsk([]byte(`{"files":[{"name":"web","text":"profile web { /srv/** r, }"}],"words":["r:/srv/a","r:/etc/a"]}`))
+	if err != nil || found.Status != 4 || !strings.Contains(string(found.Text), `"request":"r:/srv/a","profile":"web","granted":true`) {
+		t.Fatalf("%v, %v", found, err)
+	}
+}
+
+func TestWhatIsNoQuestionIsRefused(t *testing.T) {
+	_, err := PolicyCheck([]byte(`{"file":[]}`))
+	var fault *Fault
+	if !errors.As(err, &fault) || fault.Status != 2 || !strings.Contains(fault.Line, "unknown member: file") {
+		t.Fatalf("%v", err)
+	}
+}
+
 func TestEightCallAtOnce(t *testing.T) {
 	wanted, _ := Run([]byte(job))
 	var all sync.WaitGroup

@@ -1,11 +1,18 @@
 """Calls of the library as it is installed, also side by side: python3 -m unittest tests"""
 
+import json
 import threading
 import unittest
 
 import aamediate
 
 JOB = b'{"policy":"profile web { /srv/** r, }","tasks":[{"label":"web","requests":[{"file":"/srv/a","mask":"r"}]}]}'
+
+QUESTION = {"files": [{"name": "web", "text": "profile web { /srv/** r, }"}], "words": ["r:/srv/a", "r:/etc/a"]}
+
+
+def bytes_of(**members):
+    return json.dumps({**QUESTION, **members}).encode()
 
 
 class Calls(unittest.TestCase):
@@ -18,6 +25,21 @@ class Calls(unittest.TestCase):
             with self.assertRaises(aamediate.Refused) as why:
                 aamediate.check(given)
             self.assertTrue(why.exception.line.startswith("job "))
+
+    def test_a_question_is_answered(self):
+        found = aamediate.policy_ask(bytes_of())
+        self.assertEqual((found.status, found.said), (4, ""))
+        self.assertEqual([it["granted"] for it in json.loads(found.text)], [True, False])
+        self.assertEqual(aamediate.policy_ask(bytes_of(words=["r:/srv/a"])).status, 0)
+        self.assertEqual(aamediate.policy_check(bytes_of()).status, 0)
+        self.assertEqual(aamediate.policy_check(bytes_of(files=[{"name": "web", "text": "profile web {"}])).status, 1)
+
+    def test_what_is_no_question_is_refused(self):
+        for given, said in ((b"{", "no JSON"), (b"[]", "no object"), (bytes_of(file=[]), "unknown member: file"), (bytes_of(words=1), ": words")):
+            with self.assertRaises(aamediate.Refused) as why:
+                aamediate.policy_ask(given)
+            self.assertIn(said, why.exception.line)
+            self.assertEqual(why.exception.status, 2)
 
     def test_bytes_are_wanted(self):
         for given in ("{}", 1, [1]):

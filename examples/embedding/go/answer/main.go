@@ -1,4 +1,4 @@
-// Answers the job on standard input: answer check|run|replay < job.json
+// Answers the job or the question on standard input: answer check|run|replay|policy-check|policy-ask < input.json
 package main
 
 import (
@@ -6,33 +6,46 @@ import (
 	"fmt"
 	"io"
 	"os"
+	"strings"
 
 	"example.org/aamediate"
 )
 
+func ofJob(call func([]byte) ([]byte, error)) func([]byte) (aamediate.Answer, error) {
+	return func(given []byte) (aamediate.Answer, error) {
+		text, err := call(given)
+		return aamediate.Answer{Text: text}, err
+	}
+}
+
 func main() {
-	calls := map[string]func([]byte) ([]byte, error){"check": aamediate.Check, "run": aamediate.Run, "replay": aamediate.Replay}
-	var call func([]byte) ([]byte, error)
+	calls := map[string]func([]byte) (aamediate.Answer, error){
+		"check": ofJob(aamediate.Check), "run": ofJob(aamediate.Run), "replay": ofJob(aamediate.Replay),
+		"policy-check": aamediate.PolicyCheck, "policy-ask": aamediate.PolicyAsk,
+	}
+	var call func([]byte) (aamediate.Answer, error)
 	if len(os.Args) == 2 {
 		call = calls[os.Args[1]]
 	}
 	if call == nil {
-		fmt.Fprintln(os.Stderr, "usage: answer check|run|replay")
+		fmt.Fprintln(os.Stderr, "usage: answer check|run|replay|policy-check|policy-ask")
 		os.Exit(2)
 	}
-	job, err := io.ReadAll(os.Stdin)
+	given, err := io.ReadAll(os.Stdin)
+	var found aamediate.Answer
 	if err == nil {
-		var text []byte
-		if text, err = call(job); err == nil {
-			_, err = os.Stdout.Write(text)
+		if found, err = call(given); err == nil {
+			fmt.Fprint(os.Stderr, found.Said)
+			_, err = os.Stdout.Write(found.Text)
 		}
 	}
 	if err != nil {
-		fmt.Fprintln(os.Stderr, err)
+		fmt.Fprintln(os.Stderr, strings.TrimSuffix(err.Error(), "\n"))
 		var fault *aamediate.Fault
 		if errors.As(err, &fault) {
 			os.Exit(fault.Status)
 		}
 		os.Exit(3)
 	}
+	os.Exit(found.Status)
 }

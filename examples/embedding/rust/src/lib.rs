@@ -10,11 +10,13 @@ use std::fmt;
 pub enum Cause {
     /// The job or a policy is at fault.
     Refused,
-    /// Memory ran out.
+    /// The question isn't understood.
+    NoQuestion,
+    /// Memory ran out, or of a question a text is missing or too large.
     Failed,
 }
 
-/// Why there is no answer, with the line that the command says on standard error.
+/// Why there is no answer, with what the command says on standard error.
 #[derive(Clone, Debug, PartialEq, Eq)]
 pub struct Fault {
     pub cause: Cause,
@@ -28,6 +30,17 @@ impl fmt::Display for Fault {
 }
 
 impl std::error::Error for Fault {}
+
+/// What `aapolicy` prints.
+#[derive(Clone, Debug, PartialEq, Eq)]
+pub struct Answer {
+    /// What it prints on standard output.
+    pub text: Vec<u8>,
+    /// How it ends: 0, 4 where a request is denied, 1 or 3 where a file is refused or missing.
+    pub status: u32,
+    /// What it warns of.
+    pub said: String,
+}
 
 #[repr(C)]
 #[derive(Default)]
@@ -67,67 +80,95 @@ extern "C" {
         fault_size: usize,
         sizes: *mut Sizes,
     ) -> u32;
+    fn aapolicy_check(
+        question: *const u8,
+        question_size: usize,
+        text: *mut u8,
+        text_size: usize,
+        fault: *mut u8,
+        fault_size: usize,
+        sizes: *mut Sizes,
+    ) -> u32;
+    fn aapolicy_ask(
+        question: *const u8,
+        question_size: usize,
+        text: *mut u8,
+        text_size: usize,
+        fault: *mut u8,
+        fault_size: usize,
+        sizes: *mut Sizes,
+    ) -> u32;
 }
 
-const ANSWERED: u32 = 0;
 const REFUSED: u32 = 1;
-const TOO_SMALL: u32 = 5;
+const NO_QUESTION: u32 = 2;
 
-/// What is tried first, in bytes, and for each byte of the job: mostly enough. Where it is too little, all is done again.
+/// What is tried first, in bytes, and for each byte that is given: mostly enough. Where it is too little, all is done again.
 const ROOM: usize = 4096;
 const ROOM_A_BYTE: usize = 8;
 
-/// As many bytes as a line on a fault takes at most.
-const LINE: usize = 128;
-
-fn answer(call: Call, job: &[u8]) -> Result<Vec<u8>, Fault> {
-    let mut text = vec![0; ROOM + ROOM_A_BYTE * job.len()];
-    let mut line = [0; LINE];
+fn answer(call: Call, given: &[u8]) -> Result<Answer, Fault> {
+    let mut text = vec![0; ROOM + ROOM_A_BYTE * given.len()];
+    let mut said = vec![0; ROOM];
     let mut sizes = Sizes::default();
     loop {
         // SAFETY: the pointers and sizes are those of slices, which are never null; the three that are written are borrowed by
         // nobody else, and so overlap nothing; and a thread of std has more stack than a call takes.
         let status = unsafe {
             call(
-                job.as_ptr(),
-                job.len(),
+                given.as_ptr(),
+                given.len(),
                 text.as_mut_ptr(),
                 text.len(),
-                line.as_mut_ptr(),
-                line.len(),
+                said.as_mut_ptr(),
+                said.len(),
                 &mut sizes,
             )
         };
-        match status {
-            ANSWERED => {
-                text.truncate(sizes.text);
-                return Ok(text);
-            }
-            TOO_SMALL => text.resize(sizes.text, 0),
-            _ => {
-                let cause = if status == REFUSED {
-                    Cause::Refused
-                } else {
-                    Cause::Failed
-                };
-                let line = String::from_utf8_lossy(&line[..sizes.fault.min(LINE)]).into_owned();
-                return Err(Fault { cause, line });
-            }
+        if sizes.text <= text.len() && sizes.fault <= said.len() {
+            text.truncate(sizes.text);
+            let said = String::from_utf8_lossy(&said[..sizes.fault]).into_owned();
+            return found(status, text, said);
         }
+        text.resize(sizes.text.max(text.len()), 0);
+        said.resize(sizes.fault.max(said.len()), 0);
     }
+}
+
+/// The answer, or the fault: what isn't answered has no text.
+fn found(status: u32, text: Vec<u8>, said: String) -> Result<Answer, Fault> {
+    if status == 0 || !text.is_empty() {
+        return Ok(Answer { text, status, said });
+    }
+    let cause = match status {
+        REFUSED => Cause::Refused,
+        NO_QUESTION => Cause::NoQuestion,
+        _ => Cause::Failed,
+    };
+    Err(Fault { cause, line: said })
 }
 
 /// What `aamediate check` writes for the bytes of a job.
 pub fn check(job: &[u8]) -> Result<Vec<u8>, Fault> {
-    answer(aamediate_check, job)
+    Ok(answer(aamediate_check, job)?.text)
 }
 
 /// What `aamediate run` writes for the bytes of a job.
 pub fn run(job: &[u8]) -> Result<Vec<u8>, Fault> {
-    answer(aamediate_run, job)
+    Ok(answer(aamediate_run, job)?.text)
 }
 
 /// What `aamediate replay` writes for the bytes of a job.
 pub fn replay(job: &[u8]) -> Result<Vec<u8>, Fault> {
-    answer(aamediate_replay, job)
+    Ok(answer(aamediate_replay, job)?.text)
+}
+
+/// What `aapolicy check --json` prints of the files of a question.
+pub fn policy_check(question: &[u8]) -> Result<Answer, Fault> {
+    answer(aapolicy_check, question)
+}
+
+/// What `aapolicy ask --json` prints to the words of a question.
+pub fn policy_ask(question: &[u8]) -> Result<Answer, Fault> {
+    answer(aapolicy_ask, question)
 }

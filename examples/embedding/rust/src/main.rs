@@ -1,35 +1,56 @@
-//! Answers the job on standard input: aamediate check|run|replay < job.json
+//! Answers the job or the question on standard input: aamediate check|run|replay|policy-check|policy-ask < input.json
+use aamediate::{Answer, Cause, Fault};
 use std::io::{self, Read, Write};
 use std::process::ExitCode;
 
-fn main() -> ExitCode {
-    let word = std::env::args().nth(1);
-    let call = match word.as_deref() {
-        Some("check") => aamediate::check,
-        Some("run") => aamediate::run,
-        Some("replay") => aamediate::replay,
-        _ => {
-            eprintln!("usage: aamediate check|run|replay");
-            return ExitCode::from(2);
-        }
+/// The answer of the call of that name, if there is one.
+fn answer(word: &str, given: &[u8]) -> Option<Result<Answer, Fault>> {
+    let call = match word {
+        "check" => aamediate::check,
+        "run" => aamediate::run,
+        "replay" => aamediate::replay,
+        "policy-check" => return Some(aamediate::policy_check(given)),
+        "policy-ask" => return Some(aamediate::policy_ask(given)),
+        _ => return None,
     };
-    let mut job = Vec::new();
-    if let Err(error) = io::stdin().read_to_end(&mut job) {
+    let said = String::new();
+    Some(call(given).map(|text| Answer {
+        text,
+        status: 0,
+        said,
+    }))
+}
+
+fn status_of(fault: &Fault) -> u8 {
+    match fault.cause {
+        Cause::Refused => 1,
+        Cause::NoQuestion => 2,
+        Cause::Failed => 3,
+    }
+}
+
+fn main() -> ExitCode {
+    let word = std::env::args().nth(1).unwrap_or_default();
+    let mut given = Vec::new();
+    if let Err(error) = io::stdin().read_to_end(&mut given) {
         eprintln!("{error}");
         return ExitCode::from(3);
     }
-    match call(&job) {
-        Ok(text) => match io::stdout().write_all(&text) {
-            Ok(()) => ExitCode::SUCCESS,
-            Err(_) => ExitCode::from(3),
-        },
-        Err(fault) => {
-            eprintln!("{fault}");
-            ExitCode::from(if fault.cause == aamediate::Cause::Refused {
-                1
-            } else {
-                3
-            })
+    match answer(&word, &given) {
+        None => {
+            eprintln!("usage: aamediate check|run|replay|policy-check|policy-ask");
+            ExitCode::from(2)
+        }
+        Some(Ok(found)) => {
+            eprint!("{}", found.said);
+            match io::stdout().write_all(&found.text) {
+                Ok(()) => ExitCode::from(found.status as u8),
+                Err(_) => ExitCode::from(3),
+            }
+        }
+        Some(Err(fault)) => {
+            eprintln!("{}", fault.line.trim_end_matches('\n'));
+            ExitCode::from(status_of(&fault))
         }
     }
 }

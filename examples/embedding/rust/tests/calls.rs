@@ -1,5 +1,5 @@
 //! Calls of the library, also side by side.
-use aamediate::{check, replay, run, Cause};
+use aamediate::{check, policy_ask, policy_check, replay, run, Cause};
 use std::thread;
 
 const JOB: &str = r#"{"policy":"profile web { /srv/** r, }","tasks":[{"label":"web","requests":[
@@ -26,6 +26,31 @@ fn what_is_no_job_is_refused() {
             assert_eq!(fault.cause, Cause::Refused);
             assert!(fault.line.starts_with("job "), "{}", fault.line);
         }
+    }
+}
+
+#[test]
+fn a_question_is_answered() {
+    let question = br#"{"files":[{"name":"web","text":"profile web { /srv/** r, }"}],"words":["r:/srv/a","r:/etc/a"]}"#;
+    let found = policy_ask(question).unwrap();
+    let text = String::from_utf8(found.text).unwrap();
+    assert_eq!((found.status, found.said.as_str()), (4, ""));
+    assert!(text.contains(r#""request":"r:/srv/a","profile":"web","granted":true"#));
+    assert!(text.contains(r#""request":"r:/etc/a","profile":"web","granted":false"#));
+    assert_eq!(policy_check(question).unwrap().status, 0);
+}
+
+#[test]
+fn what_is_no_question_is_refused() {
+    for (given, said) in [
+        (&b"{"[..], "no JSON"),
+        (b"[]", "no object"),
+        (br#"{"file":[]}"#, "unknown member: file"),
+        (br#"{"files":[]}"#, "understood: files"),
+    ] {
+        let fault = policy_ask(given).unwrap_err();
+        assert_eq!(fault.cause, Cause::NoQuestion);
+        assert!(fault.line.contains(said), "{}", fault.line);
     }
 }
 

@@ -1,19 +1,30 @@
-"""Answers the job on standard input: python3 -m aamediate check|run|replay < job.json"""
+"""Answers the job or the question on standard input: python3 -m aamediate check|run|replay|policy-check|policy-ask < input.json"""
 
 import sys
 
 import aamediate
 
 CALLS = {"check": aamediate.check, "run": aamediate.run, "replay": aamediate.replay}
+ASKING = {"policy-check": aamediate.policy_check, "policy-ask": aamediate.policy_ask}
+
+
+def answer(word, given):
+    """What is printed, and the exit status."""
+    if word in CALLS:
+        return aamediate.Answer(CALLS[word](given), 0, "")
+    return ASKING[word](given)
 
 
 def main():
-    if len(sys.argv) != 2 or sys.argv[1] not in CALLS:
-        sys.exit(print("usage: aamediate check|run|replay", file=sys.stderr) or 2)
+    if len(sys.argv) != 2 or sys.argv[1] not in (*CALLS, *ASKING):
+        sys.exit(print("usage: aamediate check|run|replay|policy-check|policy-ask", file=sys.stderr) or 2)
     try:
-        sys.stdout.buffer.write(CALLS[sys.argv[1]](sys.stdin.buffer.read()))
+        found = answer(sys.argv[1], sys.stdin.buffer.read())
+        sys.stderr.write(found.said)
+        sys.stdout.buffer.write(found.text)
+        sys.exit(found.status)
     except aamediate.Fault as fault:
-        print(fault.line, file=sys.stderr)
+        sys.stderr.write(fault.line.removesuffix("\n") + "\n")
         sys.exit(fault.status)
 
 
