@@ -34,7 +34,7 @@ enum aamediate_status {
     AAMEDIATE_ANSWERED = 0,
     AAMEDIATE_REFUSED = 1,     /* the job or a policy is at fault */
     AAMEDIATE_NO_QUESTION = 2, /* of aapolicy_check and aapolicy_ask: the question isn't understood */
-    AAMEDIATE_FAILED = 3,      /* memory ran out; or of a question, a text is missing or too large */
+    AAMEDIATE_FAILED = 3,      /* memory ran out, or a text of a question has over 1,048,576 bytes */
     AAMEDIATE_DENIED = 4,      /* of aapolicy_ask: answered, and a request is denied */
     AAMEDIATE_TOO_SMALL = 5    /* the text has too few bytes: nothing was written */
 };

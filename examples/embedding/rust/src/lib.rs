@@ -12,7 +12,7 @@ pub enum Cause {
     Refused,
     /// The question isn't understood.
     NoQuestion,
-    /// Memory ran out, or of a question a text is missing or too large.
+    /// Memory ran out, or a text of a question has over 1,048,576 bytes.
     Failed,
 }
 
@@ -36,7 +36,7 @@ impl std::error::Error for Fault {}
 pub struct Answer {
     /// What it prints on standard output.
     pub text: Vec<u8>,
-    /// How it ends: 0, 4 where a request is denied, 1 or 3 where a file is refused or missing.
+    /// How it ends: 0, 4 where a request is denied, 1 or 3 where a file is refused.
     pub status: u32,
     /// What it warns of.
     pub said: String,
