@@ -1,6 +1,6 @@
 //! What `check` finds.
 
-ghost use Rattle.std.specs.Prelude.{◌≡◌, ◌≢◌, ◌↔◌, ◌≤◌, ◌++◌, ◌∷◌, ℕ, List, [], None, false, length, count_by, sum_by, is_some, All, IsTrue, IfOk, OnOk};
+ghost use Rattle.std.specs.Prelude.{◌≡◌, ◌≢◌, ◌↔◌, ◌≤◌, ◌++◌, ◌∷◌, ℕ, List, [], None, false, length, count_by, sum_by, is_some, option_map, option_to_list, codes, All, IsTrue, IfOk, OnOk};
 ghost use Rattle.std.specs.List.{list_any};
 ghost use Rattle.aa_base.specs.declared.fault.PolicyKind.TheVariants.{NoMemory as WantOfMemory};
 ghost use Rattle.aa_files.specs.Texts.{texts, slices};
@@ -10,7 +10,7 @@ ghost use Rattle.aa_check.specs.Counts.{CountsPolicy};
 ghost use Rattle.aa_check.specs.Names.{IsFirst};
 ghost use Rattle.aa_command.specs.Setting.{setting_of};
 ghost use Rattle.aa_diagnostics.specs.Reports.{IsSaid};
-ghost use Rattle.aa_check.specs.Checked.{HasOnly, IsFoundOf, IsFound, AreFound, CountsFiles, HasOneRefused, IsChecked};
+ghost use Rattle.aa_check.specs.Checked.{HasOnly, none_there, IsFoundOf, IsFound, AreFound, CountsFiles, HasOneRefused, IsChecked};
 
 use crate::counting::{PolicyCounts, count_policy};
 use crate::naming::{FirstFiles, warned};
@@ -22,7 +22,7 @@ use aa_diagnostics::{describe, fault_of_unit, unreadable};
 use aa_files::{Tree, Unit, UnitFault, load, roots_of};
 use aa_load::compile_unit;
 use aa_text::{FaultReport, NoMemory};
-use std::alloc::Global;
+use std::alloc::{AllocError, Global};
 use std::collections::HashMap;
 
 /// A file that is refused.
@@ -235,6 +235,32 @@ fn untold(alloc: Global, fault: UnitFault) -> Result<CheckReport, NoMemory>
     Ok(report_of(files, Vec::new(alloc)))
 }
 
+fn there_is_none(alloc: Global) -> Result<Vec<u8>, AllocError>
+    ensures { IfOk result (λ line. line.items ≡ codes "no file with profiles is there") }
+{
+    Vec::from_slice(alloc, "no file with profiles is there".as_bytes())
+}
+
+/// What is warned of where there is no file.
+fn none_line(alloc: Global, paths: &[Vec<u8>]) -> Result<Option<Vec<u8>>, AllocError>
+    ensures { IfOk result (λ line. option_map (λ l. l.items) line ≡ none_there (texts paths.now)) }
+{
+    match paths {
+        [] => Ok(Some(there_is_none(alloc)?)),
+        [_, ..] => Ok(None),
+    }
+}
+
+fn with_line(others: Vec<Vec<u8>>, line: Option<Vec<u8>>) -> Result<Vec<Vec<u8>>, AllocError>
+    ensures { IfOk result (λ warnings. texts warnings.items ≡ texts others.items ++ option_to_list (option_map (λ l. l.items) line)) }
+{
+    let mut warnings = others;
+    if let Some(line) = line {
+        warnings.push(line)?;
+    }
+    Ok(warnings)
+}
+
 /// Reads and compiles each file by itself.
 pub fn check<T: Tree>(
     alloc: Global,
@@ -247,7 +273,9 @@ pub fn check<T: Tree>(
     match roots_of(alloc, tree, settings.base, arguments) {
         Ok(roots) => {
             let files = check_files(alloc, tree, settings, roots.paths.as_slice())?;
-            Ok(report_of(files, roots.warnings))
+            let line = none_line(alloc, roots.paths.as_slice())?;
+            let warnings = with_line(roots.warnings, line)?;
+            Ok(report_of(files, warnings))
         }
         Err(fault) => untold(alloc, fault),
     }
