@@ -15,7 +15,7 @@ use Rattle.aa_base.specs.declared.unread.Unread.{Unread}
 use Rattle.aa_command.specs.Setting.{Setting}
 use Rattle.aa_log.specs.declared.command.LogOptions.{LogOptions}
 use Rattle.aa_command.specs.Printed.{Printed}
-use Rattle.aa_command.specs.Refusals.{SaysUnread}
+use Rattle.aa_log.specs.Refused.{SaysUnreadLog}
 use Rattle.aa_command.specs.LogFiles.{LogFiles, AreLogs, lines_from}
 use Rattle.aa_command.specs.Policies.{IsPrintedFor}
 
@@ -60,5 +60,5 @@ pub record IsFirstUnreadLog (lying : Option LogFiles) (choice : Choice) (wants_s
 
 -- what `log` prints: why the first of the logs that isn't read can't be, or what is printed of what is found in them
 pub data IsLogOutput (s : Setting) (lying : Option LogFiles) (o : LogOptions) (out : Printed) : Type 0 where
-  UnreadLog : (path : List ℕ) (why : Unread) → IsFirstUnreadLog lying o.choice o.wants_skipped (slices o.logs.now) path → SaysUnread path why out → IsLogOutput s lying o out
+  UnreadLog : (path : List ℕ) (why : Unread) → IsFirstUnreadLog lying o.choice o.wants_skipped (slices o.logs.now) path → SaysUnreadLog path why out → IsLogOutput s lying o out
   Found : (r : SaidReport) → IsFoundIn lying o.choice o.wants_skipped (slices o.logs.now) r → IsReportOutput s o r out → IsLogOutput s lying o out

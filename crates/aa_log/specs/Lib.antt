@@ -9,4 +9,5 @@ pub mod Limits
 pub mod Replayed
 pub mod Against
 pub mod Said
+pub mod Refused
 pub mod Command

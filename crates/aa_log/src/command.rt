@@ -12,10 +12,11 @@ use crate::against::{push_against, push_json_against};
 use crate::listed::push_json_report;
 use crate::logging::LogReport;
 use crate::printing::push_report;
+use crate::refused::log_refused;
 use crate::said::SaidReport;
 use crate::warned::push_unclear;
 use aa_base::Unread;
-use aa_command::{Decided, Logs, Output, Settings, UnreadLog, Use, path_refused, with_policy};
+use aa_command::{Decided, Logs, Output, Settings, UnreadLog, Use, with_policy};
 use aa_files::Tree;
 use aa_logs::{Choice, Counts};
 use aa_text::NoMemory;
@@ -190,6 +191,6 @@ pub fn log_files<T: Tree, R: Logs>(
     let mut said = SaidReport::new(alloc, options.choice, options.wants_skipped);
     match read_reports(alloc, reader, options.logs, &mut said) {
         Ok(()) => log_report(alloc, tree, settings, options, &said),
-        Err(unread) => path_refused(alloc, unread.path, unread.why),
+        Err(unread) => log_refused(alloc, unread.path, unread.why),
     }
 }

@@ -7,6 +7,7 @@ mod laws;
 mod listed;
 mod logging;
 mod printing;
+mod refused;
 mod said;
 mod warned;
 

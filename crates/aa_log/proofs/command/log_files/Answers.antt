@@ -4,7 +4,7 @@ use Rattle.aa_files.specs.Texts.{slices}
 use Rattle.aa_command.specs.declared.output.Output.{Output}
 use Rattle.aa_command.specs.Setting.{setting_of}
 use Rattle.aa_command.specs.Printed.{printed}
-use Rattle.aa_command.specs.Refusals.{SaysUnread}
+use Rattle.aa_log.specs.Refused.{SaysUnreadLog}
 use Rattle.aa_log.specs.Command.{IsReportOutput, IsLogOutput, UnreadLog, Found}
 use Rattle.aa_log.proofs.Lines.{found_for, unread_for}
 use Rattle.aa_log.proofs.command.log_files.Goals as goal
@@ -26,5 +26,5 @@ returns g c =
     let o = c.args.options.now in
     let first = c.new-said.result in
     let unread = c.in-Err.unread in
-    IfOk-weaker c.path_refused.result (λ (out : Output). SaysUnread unread.path.now unread.why (printed out)) (λ (out : Output). IsLogOutput s lying o (printed out)) (λ out says.
-    UnreadLog unread.path.now unread.why (unread_for lying first.report.choice o.choice (is_some first.report.each_skipped) o.wants_skipped (slices o.logs.now) unread.path.now c.new-said.ensures.choice c.new-said.ensures.each c.in-Err.ensures.unread) says) c.path_refused.ensures.says
+    IfOk-weaker c.log_refused.result (λ (out : Output). SaysUnreadLog unread.path.now unread.why (printed out)) (λ (out : Output). IsLogOutput s lying o (printed out)) (λ out says.
+    UnreadLog unread.path.now unread.why (unread_for lying first.report.choice o.choice (is_some first.report.each_skipped) o.wants_skipped (slices o.logs.now) unread.path.now c.new-said.ensures.choice c.new-said.ensures.each c.in-Err.ensures.unread) says) c.log_refused.ensures
