@@ -84,6 +84,10 @@ abbrev pub halves_at : List ℕ → Option ℕ → Option (List ℕ × Option Bo
 halves_at text None = Some (text, None)
 halves_at text (Some n) = halves_by (take n text) (drop (n + 2) text)
 
+-- the same of a whole mask
+abbrev pub halves_in : List ℕ → Option (List ℕ × Option Bool)
+halves_in text = halves_at text (place_of (codes "::") text)
+
 -- a mask's permissions, and whose the object is by an old mask; none is no mask
 abbrev pub mask_of : Option ℕ → Option Bool → Option (ℕ × Option Bool)
 mask_of None by_mask = None
@@ -91,11 +95,15 @@ mask_of (Some bits) by_mask = if bits == 0 then None else Some (bits, by_mask)
 
 -- the permissions that a mask's letters ask, and whether the object is owned
 abbrev pub asked_mask : List ℕ → Option (ℕ × Option Bool)
-asked_mask text = option_and_then (λ h. mask_of (letters_bits 0 h.0) h.1) (halves_at text (place_of (codes "::") text))
+asked_mask text = option_and_then (λ h. mask_of (letters_bits 0 h.0) h.1) (halves_in text)
 
 -- whether the object is the task's user's, by the fields and an old mask
 abbrev pub owned_in : Option Bool → List WordData → Bool
 owned_in by_mask ws = owned_by (option_and_then number_in (raw_in (codes "fsuid") ws)) (option_and_then number_in (raw_in (codes "ouid") ws)) by_mask
+
+-- whose the object is, by the halves of a requested mask, where it has some
+abbrev pub mask_owner : List WordData → Option Bool
+mask_owner ws = option_and_then (λ h. h.1) (option_and_then halves_in (raw_in (codes "requested_mask") ws))
 
 -- the request for a capability, by its number
 abbrev pub cap_by : Option ℕ → Result Request Cause
@@ -113,7 +121,7 @@ exec_by owned (Some path) = if is_path path then Ok (Exec (record { path = path;
 
 -- an execution of the file by its name
 abbrev pub exec_in : List WordData → Result Request Cause
-exec_in ws = exec_by (owned_in None ws) (text_in (codes "name") ws)
+exec_in ws = exec_by (owned_in (mask_owner ws) ws) (text_in (codes "name") ws)
 
 -- the request for a link, of two paths that can be asked for
 abbrev pub link_by : Bool → Option (List ℕ) → Option (List ℕ) → Result Request Cause
@@ -123,7 +131,7 @@ link_by owned (Some link) (Some target) = if is_path link && is_path target then
 
 -- a link at its name to its target, or to its second name
 abbrev pub link_in : List WordData → Result Request Cause
-link_in ws = link_by (owned_in None ws) (text_in (codes "name") ws) (option_or (text_in (codes "target") ws) (text_in (codes "name2") ws))
+link_in ws = link_by (owned_in (mask_owner ws) ws) (text_in (codes "name") ws) (option_or (text_in (codes "target") ws) (text_in (codes "name2") ws))
 
 -- the request to change the profile, of a name that can be asked for
 abbrev pub change_by : Option (List ℕ) → Result Request Cause
@@ -146,7 +154,7 @@ net_by family kind = if bytes_eq family (codes "unix") then Err (Keyword (codes 
 
 -- the request for a file, of a path and a mask that can be asked for
 abbrev pub masked_file : List WordData → List ℕ → Option (ℕ × Option Bool) → Result Request Cause
-masked_file ws path None = Err (Because (if starts_with nat_eq path (codes "/") then Mask else Path))
+masked_file ws path None = Err (Because (if is_path path then Mask else Path))
 masked_file ws path (Some m) =
     if is_path path then (if is_mask m.0 then Ok (File (record { path = path; mask = record { 0 = m.0 }; owned = owned_in m.1 ws })) else Err (Because Mask)) else Err (Because Path)
 

@@ -1,11 +1,13 @@
 //! The request that the fields of a line are.
 
-ghost use Rattle.std.specs.Prelude.{◌≡◌, ◌==◌, ◌||◌, option_map, None, Some, Ok, Err, codes};
+ghost use Rattle.std.specs.Prelude.{◌≡◌, ◌==◌, ◌||◌, option_map, None, Some, Ok, Err, codes, if◌then◌else◌};
 ghost use Rattle.std.specs.Option.{option_and_then, option_or};
+ghost use Rattle.aa_model.specs.Requests.{is_path};
+ghost use Rattle.aa_logs.specs.declared.line.Reason.TheVariants.{Mask, Path};
 ghost use Rattle.aa_logs.specs.Words.{words_data};
 ghost use Rattle.aa_logs.specs.Masks.{letters_bits};
 ghost use Rattle.aa_logs.specs.Fields.{raw_in, place_of};
-ghost use Rattle.aa_logs.specs.Asked.{Tells, keyword_of, passed_over, halves_by, halves_at, mask_of, asked_mask, owned_in, is_text_there, cap_in, exec_in, link_in, change_in, net_by, file_in, requested, object_in, by_operation, asked_in, because, made_of};
+ghost use Rattle.aa_logs.specs.Asked.{Tells, Because, keyword_of, passed_over, halves_by, halves_at, halves_in, mask_owner, mask_of, asked_mask, owned_in, is_text_there, cap_in, exec_in, link_in, change_in, net_by, file_in, requested, object_in, by_operation, asked_in, because, made_of};
 
 use crate::field::{begins, either_text, is_text, number_in, place_of, raw_of, text_of};
 use crate::line::{Reason, Refusal};
@@ -125,11 +127,20 @@ fn halves_by<'t>(front: &'t [u8], back: &'t [u8]) -> Option<(&'t [u8], Option<bo
 
 /// The letters of a mask, and whose object it is by an old mask.
 fn halves_of(text: &[u8]) -> Option<(&[u8], Option<bool>)>
-    ensures { option_map (λ h. (h.0.now, h.1)) result ≡ halves_at text.entry.now (place_of (codes "::") text.entry.now) }
+    ensures { option_map (λ h. (h.0.now, h.1)) result ≡ halves_in text.entry.now }
 {
     match place_of(text, "::") {
         Some(at) => halves_by(&text[..at], &text[at + 2..]),
         None => Some((text, None)),
+    }
+}
+
+fn owner_in(text: &[u8]) -> Option<bool>
+    ensures { result ≡ option_and_then (λ h. h.1) (halves_in text.now) }
+{
+    match halves_of(text) {
+        Some((_, owned)) => owned,
+        None => None,
     }
 }
 
@@ -154,6 +165,16 @@ fn is_owned(words: &[LogWord<'_>], by_mask: Option<bool>) -> bool
     ensures { result ≡ owned_in by_mask (words_data words.now) }
 {
     owned_by(number_in(words, "fsuid"), number_in(words, "ouid"), by_mask)
+}
+
+/// Whose the object is, by an old mask.
+fn mask_owner(words: &[LogWord<'_>]) -> Option<bool>
+    ensures { result ≡ mask_owner (words_data words.now) }
+{
+    match raw_of(words, "requested_mask") {
+        Some(letters) => owner_in(letters),
+        None => None,
+    }
 }
 
 /// The name of a capability.
@@ -184,7 +205,8 @@ fn exec_of(alloc: Global, words: &[LogWord<'_>]) -> Result<Request, Refusal>
     let Some(path) = text_of(alloc, words, "name")? else {
         return Err(Refusal::Skipped(Reason::Path));
     };
-    made(Request::exec(alloc, path.as_slice(), is_owned(words, None)))
+    let owned = is_owned(words, mask_owner(words));
+    made(Request::exec(alloc, path.as_slice(), owned))
 }
 
 fn link_of(alloc: Global, words: &[LogWord<'_>]) -> Result<Request, Refusal>
@@ -196,7 +218,7 @@ fn link_of(alloc: Global, words: &[LogWord<'_>]) -> Result<Request, Refusal>
     let Some(target) = either_text(alloc, words, "target", "name2")? else {
         return Err(Refusal::Skipped(Reason::Path));
     };
-    let owned = is_owned(words, None);
+    let owned = is_owned(words, mask_owner(words));
     made(Request::link(alloc, link.as_slice(), target.as_slice(), owned))
 }
 
@@ -221,6 +243,13 @@ fn net_of(family: &[u8], kind: &[u8]) -> Result<Request, Refusal>
     }
 }
 
+/// Why a line with a mask that is none gives no request: its path, where that can't be asked for, or else the mask.
+fn no_mask(alloc: Global, path: &[u8]) -> Result<Request, Refusal>
+    ensures { Tells (λ r. r) result (Err (Because (if is_path path.now then Mask else Path))) }
+{
+    made(Request::file(alloc, path, Perms(0), false))
+}
+
 fn file_of(alloc: Global, words: &[LogWord<'_>], letters: &[u8]) -> Result<Request, Refusal>
     ensures { Tells (λ r. r) result (file_in (words_data words.now) letters.now) }
 {
@@ -228,8 +257,7 @@ fn file_of(alloc: Global, words: &[LogWord<'_>], letters: &[u8]) -> Result<Reque
         return Err(Refusal::Skipped(Reason::Operation));
     };
     let Some(asked) = asked_by(letters) else {
-        let is_path = begins(path.as_slice(), "/");
-        return Err(Refusal::Skipped(if is_path { Reason::Mask } else { Reason::Path }));
+        return no_mask(alloc, path.as_slice());
     };
     let owned = is_owned(words, asked.owned);
     made(Request::file(alloc, path.as_slice(), asked.mask, owned))
