@@ -1,6 +1,6 @@
 -- The word at which a fault was found, and the part of the language that it stands for.
 -- Source: own.
-use Rattle.std.specs.Prelude.{ℕ, ◌==◌, ◌||◌, List, [], ◌∷◌, take, drop, Bool, not, Option, Some, None, codes, if◌then◌else◌}
+use Rattle.std.specs.Prelude.{ℕ, ◌-◌, ◌==◌, ◌||◌, length, List, [], ◌∷◌, take, drop, Bool, not, Option, Some, None, codes, if◌then◌else◌}
 use Rattle.std.specs.List.{prefix_len}
 use Rattle.std.specs.Str.{bytes_eq}
 
@@ -27,6 +27,32 @@ part_by_word word =
     else (if bytes_eq word (codes "xattrs") then Some (codes "xattrs")
     else None)))))
 
+-- parts of heads of profiles and of changes that are left out, by their words
+abbrev pub part_of_head : List ℕ → Option (List ℕ)
+part_of_head word =
+    if bytes_eq word (codes "unconfined") then Some (codes "a flag or a profile called so")
+    else (if bytes_eq word (codes "kill") || bytes_eq word (codes "default_allow") then Some (codes "a flag called so")
+    else (if bytes_eq word (codes "profile") then Some (codes "a profile in a child")
+    else (if bytes_eq word (codes "safe") || bytes_eq word (codes "unsafe") then Some (codes "a change that says so")
+    else None)))
+
+-- an exec part of mixed case
+abbrev pub is_mixed_part : List ℕ → Bool
+is_mixed_part part = bytes_eq part (codes "pUx") || bytes_eq part (codes "Pux") || bytes_eq part (codes "cUx") || bytes_eq part (codes "Cux")
+
+-- the word ends in an exec part of mixed case
+abbrev pub is_mixed : List ℕ → Bool
+is_mixed word = is_mixed_part (drop (length word - 3) word)
+
+-- parts of rules that are left out, by their words
+abbrev pub part_of_rule : List ℕ → Option (List ℕ)
+part_of_rule word =
+    if bytes_eq word (codes "->") then Some (codes "a target without an execution")
+    else (if bytes_eq word (codes "icmp") then Some (codes "icmp")
+    else (if bytes_eq word (codes "ip") || bytes_eq word (codes "port") || bytes_eq word (codes "peer") then Some (codes "an address")
+    else (if is_mixed word then Some (codes "a mode of mixed case")
+    else None)))
+
 -- the same by the sign with which a word begins
 abbrev pub part_by_sign : List ℕ → Option (List ℕ)
 part_by_sign [] = None
@@ -35,7 +61,8 @@ part_by_sign (b ∷ bs) =
     else (if b == 36 then Some (codes "a conditional")
     else (if b == 58 then Some (codes "a namespace")
     else (if b == 38 then Some (codes "stacking")
-    else None)))
+    else (if b == 64 then Some (codes "a variable here")
+    else None))))
 
 -- the first part, or else the other
 abbrev pub or_part : Option (List ℕ) → Option (List ℕ) → Option (List ℕ)
@@ -44,4 +71,4 @@ or_part None other = other
 
 -- the part of the language that a word stands for which is left out, where the word tells
 unfoldable pub left_out : List ℕ → Option (List ℕ)
-left_out word = or_part (part_by_word word) (part_by_sign word)
+left_out word = or_part (part_by_word word) (or_part (part_of_head word) (or_part (part_of_rule word) (part_by_sign word)))

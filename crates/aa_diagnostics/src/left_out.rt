@@ -3,7 +3,7 @@
 ghost use Rattle.std.specs.Prelude.{◌≡◌, ◌≤◌, ◌||◌, length, codes, not, option_map};
 ghost use Rattle.std.specs.List.{prefix_len};
 ghost use Rattle.std.specs.Str.{bytes_eq};
-ghost use Rattle.aa_diagnostics.specs.Words.{ends_word, word_in, part_by_word, part_by_sign, left_out};
+ghost use Rattle.aa_diagnostics.specs.Words.{ends_word, word_in, part_by_word, part_of_head, is_mixed_part, is_mixed, part_of_rule, part_by_sign, or_part, left_out};
 
 /// Whether a word is that one.
 fn is_word(word: &[u8], name: &str) -> bool
@@ -55,6 +55,71 @@ fn part_by_word(word: &[u8]) -> Option<&'static str>
     }
 }
 
+fn is_kill(word: &[u8]) -> bool
+    ensures { result ≡ (bytes_eq word.now (codes "kill") || bytes_eq word.now (codes "default_allow")) }
+{
+    is_word(word, "kill") || is_word(word, "default_allow")
+}
+
+fn is_safe(word: &[u8]) -> bool
+    ensures { result ≡ (bytes_eq word.now (codes "safe") || bytes_eq word.now (codes "unsafe")) }
+{
+    is_word(word, "safe") || is_word(word, "unsafe")
+}
+
+/// The part of heads of profiles and of changes that a word stands for.
+fn part_of_head(word: &[u8]) -> Option<&'static str>
+    ensures { option_map (λ p. p.now) result ≡ part_of_head word.now }
+{
+    if is_word(word, "unconfined") {
+        Some("a flag or a profile called so")
+    } else if is_kill(word) {
+        Some("a flag called so")
+    } else if is_word(word, "profile") {
+        Some("a profile in a child")
+    } else if is_safe(word) {
+        Some("a change that says so")
+    } else {
+        None
+    }
+}
+
+fn is_address(word: &[u8]) -> bool
+    ensures { result ≡ (bytes_eq word.now (codes "ip") || bytes_eq word.now (codes "port") || bytes_eq word.now (codes "peer")) }
+{
+    is_word(word, "ip") || is_word(word, "port") || is_word(word, "peer")
+}
+
+fn is_mixed_part(part: &[u8]) -> bool
+    ensures { result ≡ is_mixed_part part.now }
+{
+    is_word(part, "pUx") || is_word(part, "Pux") || is_word(part, "cUx") || is_word(part, "Cux")
+}
+
+/// Whether a word ends in an exec part of mixed case.
+fn is_mixed(word: &[u8]) -> bool
+    ensures { result ≡ is_mixed word.now }
+{
+    is_mixed_part(&word[word.len().saturating_sub(3)..])
+}
+
+/// The part of rules that a word stands for.
+fn part_of_rule(word: &[u8]) -> Option<&'static str>
+    ensures { option_map (λ p. p.now) result ≡ part_of_rule word.now }
+{
+    if is_word(word, "->") {
+        Some("a target without an execution")
+    } else if is_word(word, "icmp") {
+        Some("icmp")
+    } else if is_address(word) {
+        Some("an address")
+    } else if is_mixed(word) {
+        Some("a mode of mixed case")
+    } else {
+        None
+    }
+}
+
 /// The part of the language that a word stands for by the sign with which it begins.
 fn part_by_sign(word: &[u8]) -> Option<&'static str>
     ensures { option_map (λ p. p.now) result ≡ part_by_sign word.now }
@@ -64,7 +129,27 @@ fn part_by_sign(word: &[u8]) -> Option<&'static str>
         [b'$', ..] => Some("a conditional"),
         [b':', ..] => Some("a namespace"),
         [b'&', ..] => Some("stacking"),
+        [b'@', ..] => Some("a variable here"),
         _ => None,
+    }
+}
+
+/// The part of rules that a word stands for, or else by the sign with which it begins.
+fn rule_or_sign(word: &[u8]) -> Option<&'static str>
+    ensures { option_map (λ p. p.now) result ≡ or_part (part_of_rule word.now) (part_by_sign word.now) }
+{
+    match part_of_rule(word) {
+        Some(part) => Some(part),
+        None => part_by_sign(word),
+    }
+}
+
+fn head_or_rule(word: &[u8]) -> Option<&'static str>
+    ensures { option_map (λ p. p.now) result ≡ or_part (part_of_head word.now) (or_part (part_of_rule word.now) (part_by_sign word.now)) }
+{
+    match part_of_head(word) {
+        Some(part) => Some(part),
+        None => rule_or_sign(word),
     }
 }
 
@@ -75,7 +160,7 @@ fn left_out(word: &[u8]) -> Option<&'static str>
 {
     match part_by_word(word) {
         Some(part) => Some(part),
-        None => part_by_sign(word),
+        None => head_or_rule(word),
     }
 }
 
