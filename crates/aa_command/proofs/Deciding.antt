@@ -15,7 +15,7 @@ use Rattle.aa_load.specs.declared.texts.Texts.{Texts}
 use Rattle.aa_load.specs.Joining.{IsOnePolicy}
 use Rattle.aa_command.specs.Printed.{Printed, printed}
 use Rattle.aa_command.specs.Loads.{AreLoaded}
-use Rattle.aa_command.specs.Policies.{IsDecidedBy, IsPrintedBy, Decides, IsPrintedAt, Read, IsPrintedFor, Rooted}
+use Rattle.aa_command.specs.Policies.{IsDecidedBy, IsPrintedBy, Decides, IsPrintedAt, Read, behind_warnings, IsPrintedFor, Rooted}
 
 -- the same policy, as its parts are lent
 pub one_lent : (ts : List Texts) (limit : ℕ) (owners lent : List ℕ) (places lent' : List ProfilePlaces) (policies lent'' : List Policy)
@@ -32,8 +32,7 @@ printed_at s paths us lent gives r are is given =
     IfOk-weaker r (λ (o : Output). IsPrintedBy s.folders s.states lent gives (printed o)) (λ (o : Output). IsPrintedAt s paths gives (printed o)) (λ o g.
     Read us are (subst (λ (l : List unit.Unit). IsPrintedBy s.folders s.states l gives (printed o)) is g)) given
 
-pub printed_for : (s : Setting) (arguments : List (List ℕ)) (paths lent : List (Vec ℕ Global)) (warnings : List (List ℕ)) (gives : Decided → Printed → Type 0) (r : Result Output NoMemory) → AreRoots s arguments (texts paths) warnings → lent ≡ paths
-    → IfOk r (λ (o : Output). IsPrintedAt s (texts lent) gives (printed o)) → IfOk r (λ (o : Output). IsPrintedFor s arguments gives (printed o))
-printed_for s arguments paths lent warnings gives r are is given =
-    IfOk-weaker r (λ (o : Output). IsPrintedAt s (texts lent) gives (printed o)) (λ (o : Output). IsPrintedFor s arguments gives (printed o)) (λ o g.
-    Rooted (texts paths) warnings are (subst (λ (l : List (Vec ℕ Global)). IsPrintedAt s (texts l) gives (printed o)) is g)) given
+pub printed_for : (s : Setting) (arguments : List (List ℕ)) (paths lent : List (Vec ℕ Global)) (warnings : List (List ℕ)) (gives : Decided → Printed → Type 0) (own out : Printed) → AreRoots s arguments (texts paths) warnings → lent ≡ paths
+    → IsPrintedAt s (texts lent) gives own → out ≡ behind_warnings warnings own → IsPrintedFor s arguments gives out
+printed_for s arguments paths lent warnings gives own out are is given behind =
+    Rooted (texts paths) warnings own are (subst (λ (l : List (Vec ℕ Global)). IsPrintedAt s (texts l) gives own) is given) behind

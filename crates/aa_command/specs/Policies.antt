@@ -1,6 +1,7 @@
 -- The one policy that files are.
 -- Source: own.
-use Rattle.std.specs.Prelude.{ℕ, ◌≡◌, ◌≢◌, List, map, Result, Ok, Err}
+use Rattle.std.specs.Prelude.{ℕ, ◌≡◌, ◌≢◌, ◌++◌, List, map, flat_map, codes, Result, Ok, Err}
+use Rattle.aa_text.specs.Visible.{all_visible}
 use Rattle.std.specs.List.{AllZip}
 use Rattle.aa_base.specs.declared.fault.PolicyFault.{PolicyFault}
 use Rattle.aa_base.specs.declared.fault.PolicyKind.TheVariants.{NoMemory}
@@ -61,7 +62,15 @@ pub data IsPrintedAt (s : Setting) (paths : List (List ℕ)) (gives : Decided �
   Unread : (e : UnitFault) → IsFirstUnread s paths e → SaysUnitFault e out → IsPrintedAt s paths gives out
   Read : (units : List unit.Unit) → AreLoaded s paths units → IsPrintedBy s.folders s.states units gives out → IsPrintedAt s paths gives out
 
--- what is printed by the files that arguments stand for, or why these can't be told
+-- the line of a warning, as it is shown
+abbrev pub warning_line : List ℕ → List ℕ
+warning_line warning = codes "warning: " ++ all_visible warning ++ codes "\n"
+
+-- what is printed, behind warnings
+abbrev pub behind_warnings : List (List ℕ) → Printed → Printed
+behind_warnings warnings own = record { answers = own.answers; faults = flat_map warning_line warnings ++ own.faults; status = own.status }
+
+-- what is printed by the files that arguments stand for, behind what is warned of others, or why these can't be told
 pub data IsPrintedFor (s : Setting) (arguments : List (List ℕ)) (gives : Decided → Printed → Type 0) (out : Printed) : Type 0 where
   NoRoots : (e : UnitFault) → IsRootFault s.files s.taken s.base arguments e → SaysUnitFault e out → IsPrintedFor s arguments gives out
-  Rooted : (paths warnings : List (List ℕ)) → AreRoots s arguments paths warnings → IsPrintedAt s paths gives out → IsPrintedFor s arguments gives out
+  Rooted : (paths warnings : List (List ℕ)) (own : Printed) → AreRoots s arguments paths warnings → IsPrintedAt s paths gives own → out ≡ behind_warnings warnings own → IsPrintedFor s arguments gives out

@@ -8,6 +8,7 @@ mod placed;
 mod policy;
 mod refusals;
 mod settings;
+mod warnings;
 mod writing;
 
 pub use decided::Decided;

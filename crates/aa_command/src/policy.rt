@@ -14,6 +14,7 @@ use crate::output::Output;
 use crate::placed::place_units;
 use crate::refusals::{fault_refused, policy_refused, unit_refused};
 use crate::settings::Settings;
+use crate::warnings::behind_warnings;
 use aa_base::{PolicyFault, PolicyKind};
 use aa_diagnostics::{describe_repeated, describe_together};
 use aa_files::{Tree, Unit, UnitFault, load, roots_of};
@@ -225,7 +226,10 @@ pub fn with_policy<T: Tree, U: Use>(
     ensures { IfOk result (λ out. IsPrintedFor (setting_of (T.files tree.now) (T.taken tree.now) (T.input tree.now) settings.now) (texts arguments.now) (U.gives user.now) (printed out)) }
 {
     match roots_of(alloc, tree, settings.base, arguments) {
-        Ok(roots) => with_paths(alloc, tree, settings, roots.paths.as_slice(), user),
+        Ok(roots) => {
+            let own = with_paths(alloc, tree, settings, roots.paths.as_slice(), user)?;
+            Ok(behind_warnings(alloc, roots.warnings.as_slice(), own)?)
+        }
         Err(fault) => unit_refused(alloc, fault),
     }
 }

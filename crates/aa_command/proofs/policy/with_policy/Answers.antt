@@ -1,24 +1,26 @@
 use Rattle.std.proofs.lemmas.Result.{IfOk-weaker}
-use Rattle.std.proofs.Common.{arith}
+use Rattle.std.proofs.Common.{ℕ, List, Vec, ap, ◌∙◌, arith}
+use Rattle.std.specs.declared.alloc.Global.{Global}
 use Rattle.std.proofs.lemmas.List.{length-map}
 use Rattle.aa_files.specs.Texts.{texts}
 use Rattle.aa_command.specs.declared.output.Output.{Output}
 use Rattle.aa_command.specs.Setting.{setting_of}
 use Rattle.aa_command.specs.Printed.{printed}
 use Rattle.aa_command.specs.Refusals.{SaysUnitFault}
-use Rattle.aa_command.specs.Policies.{IsPrintedFor, NoRoots}
+use Rattle.aa_command.specs.Policies.{behind_warnings, IsPrintedFor, NoRoots}
 use Rattle.aa_command.proofs.Deciding.{printed_for}
 use Rattle.aa_command.proofs.policy.with_policy.Goals as goal
 
-pub returns-in-Ok : goal.returns-in-Ok
-returns-in-Ok g c =
+pub returns-in_ok-behind_warnings-in-Ok : goal.returns-in_ok-behind_warnings-in-Ok
+returns-in_ok-behind_warnings-in-Ok g c =
     let s = setting_of (g.T.Tree.files c.args.tree.now) (g.T.Tree.taken c.args.tree.now) (g.T.Tree.input c.args.tree.now) c.args.settings.now in
     let roots = c.in-Ok.roots in
-    printed_for s (texts c.args.arguments.now) roots.paths.items c.as_slice.result.now (texts roots.warnings.items) (g.U.Use.gives c.args.user.now) c.with_paths.result (record {
+    let own = printed c.in_ok-own-in-Ok.own in
+    printed_for s (texts c.args.arguments.now) roots.paths.items c.as_slice.result.now (texts roots.warnings.items) (g.U.Use.gives c.args.user.now) own (printed c.in_ok-behind_warnings-in-Ok.field-0) (record {
       few = omega (arith, length-map roots.paths.items (λ v. v.items), c.in-Ok.ensures.few);
       paths_are = c.in-Ok.ensures.paths;
       warnings_are = c.in-Ok.ensures.warnings;
-    }) c.as_slice.ensures.value c.with_paths.ensures
+    }) c.as_slice.ensures.value c.in_ok-own-in-Ok.ensures (c.in_ok-behind_warnings-in-Ok.ensures ∙ ap (λ (ws : List (Vec ℕ Global)). behind_warnings (texts ws) own) c.as_slice-in-Ok.ensures.value)
 
 pub returns-in-Err : goal.returns-in-Err
 returns-in-Err g c =
