@@ -1,7 +1,6 @@
 mod Bits
 mod Named
 mod Telling
-pub mod Ruled
 pub mod Views
 pub mod Turns
 mod Denials

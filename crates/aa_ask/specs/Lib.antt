@@ -1,6 +1,5 @@
 pub mod Telling
 pub mod Verdicts
-pub mod Ruled
 pub mod Named
 pub mod Told
 pub mod Shown

@@ -17,11 +17,11 @@ use Rattle.aa_explain.specs.Deciders.{Reasons}
 use Rattle.aa_explain.specs.Sayings.{reasons_of, target_reasons}
 use Rattle.aa_files.specs.declared.unit.Unit as unit
 use Rattle.aa_files.specs.Numbers.{path_in, text_in}
+use Rattle.aa_rule_text.specs.RuleTexts.{rule_text}
 use Rattle.aa_ask.specs.declared.explained.DeciderLine.{DeciderLine}
 use Rattle.aa_ask.specs.declared.explained.Lack.{Lack}
 use Rattle.aa_command.specs.declared.decided.Decided.{Decided}
 use Rattle.aa_ask.specs.Verdicts.{profile_at, number_in, spots_of}
-use Rattle.aa_ask.specs.Ruled.{rule_text}
 
 -- a rule that decided: where it stands, which permissions it decided, and how its line reads
 pub record Named : Type 0 where

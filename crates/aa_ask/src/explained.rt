@@ -5,7 +5,6 @@ ghost use Rattle.aa_base.specs.Values.{quoted};
 ghost use Rattle.aa_explain.specs.Deciders.{reasons};
 ghost use Rattle.aa_explain.specs.Sayings.{reasons_of, target_reasons};
 ghost use Rattle.aa_ask.specs.Verdicts.{profile_at, number_in, spots_of};
-ghost use Rattle.aa_ask.specs.Ruled.{rule_text};
 ghost use Rattle.aa_ask.specs.Named.{named, lacked, letters_for, named_at, named_by, names_in, names_of, names_at, lacks_in, lacks_of, unit_in, why_here, why_target, named_for, lacked_for};
 
 use aa_base::{Perms, Spot, push_mask};
@@ -14,7 +13,8 @@ use aa_compile::{Compiled, profile_of};
 use aa_explain::{Decider, Deciders, Listed, ProfilePlaces, deciders_of, target_deciders};
 use aa_files::text_at;
 use aa_model::{Label, Profile, Request};
-use aa_text::{PlaceAt, rule_text};
+use aa_rule_text::rule_text;
+use aa_text::PlaceAt;
 use bitflags::Flags;
 use std::alloc::{AllocError, Global};
 
@@ -28,7 +28,7 @@ pub struct DeciderLine {
     pub place: PlaceAt,
     /// The letters of the permissions that it decided; none where the request isn't for a file.
     pub letters: Vec<u8>,
-    /// The line that it stands on.
+    /// How it reads.
     pub text: Vec<u8>,
 }
 
@@ -96,13 +96,6 @@ fn spot_in(places: &ProfilePlaces<'_>, listed: Listed, rule: usize) -> Option<Sp
     spots.get(rule).copied()
 }
 
-/// The text of the rule that begins at a byte.
-fn shown_rule(text: &[u8], byte: usize) -> &[u8]
-    ensures { result.now ≡ rule_text text.now byte }
-{
-    rule_text(text, byte)
-}
-
 /// A rule that stands there, with what it decided.
 fn line_of(
     alloc: Global,
@@ -121,7 +114,7 @@ fn line_of(
         path: Vec::from_slice(alloc, path)?,
         place: unit.place_at(at.file, byte),
         letters: letters_of(alloc, how.listed, perms)?,
-        text: Vec::from_slice(alloc, shown_rule(text, byte))?,
+        text: rule_text(alloc, text, byte)?,
     })
 }
 

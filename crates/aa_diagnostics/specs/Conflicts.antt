@@ -9,16 +9,15 @@ use Rattle.aa_explain.specs.Clashes.{Conflict, executing}
 use Rattle.aa_explain.specs.Places.{PlacesData}
 use Rattle.aa_base.specs.Values.{value}
 use Rattle.aa_text.specs.Places.{place_in}
-use Rattle.aa_text.specs.RuleTexts.{IsRuleText}
 use Rattle.aa_text.specs.Texts.{line_and_column}
 use Rattle.aa_files.specs.declared.unit.Unit as unit
 use Rattle.aa_files.specs.Numbers.{path_in, text_in}
+use Rattle.aa_rule_text.specs.RuleTexts.{rule_text}
 
 -- a file's path, a place in it, and the rule that begins there
 abbrev pub IsRuleLine : unit.Unit → Spot → List ℕ → Type 0
 IsRuleLine u at line =
-    (rule : List ℕ) × IsRuleText (text_in u at.file) at.byte rule
-    × (line ≡ path_in u at.file ++ (line_and_column ((place_in (text_in u at.file) at.byte).line) ((place_in (text_in u at.file) at.byte).column) ++ (codes ": " ++ rule)))
+    line ≡ path_in u at.file ++ (line_and_column ((place_in (text_in u at.file) at.byte).line) ((place_in (text_in u at.file) at.byte).column) ++ (codes ": " ++ rule_text (text_in u at.file) at.byte))
 
 -- a line for the rule with that number, if it is known where it stands
 abbrev pub AreRuleLines : unit.Unit → List Spot → ℕ → List (List ℕ) → Type 0

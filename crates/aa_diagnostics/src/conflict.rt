@@ -23,7 +23,8 @@ use aa_files::{Unit, text_at};
 use aa_load::sources_of;
 use aa_model::Profile;
 use aa_policy::parse;
-use aa_text::{push_name, push_place, push_text, rule_text};
+use aa_rule_text::rule_text;
+use aa_text::{push_name, push_place, push_text};
 use aa_words::{WordList, words};
 use std::alloc::{AllocError, Global};
 
@@ -36,7 +37,7 @@ fn rule_line(alloc: Global, unit: &Unit, at: Spot) -> Result<Vec<u8>, AllocError
     let mut line = Vec::from_slice(alloc, path)?;
     push_place(&mut line, text, byte)?;
     push_text(&mut line, ": ")?;
-    line.extend_from_slice(rule_text(text, byte))?;
+    line.extend_from_slice(rule_text(alloc, text, byte)?.as_slice())?;
     Ok(line)
 }
 
