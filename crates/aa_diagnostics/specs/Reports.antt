@@ -71,7 +71,7 @@ unread_message unread.NotFound = codes "it can't be read (not found)"
 unread_message unread.NotAllowed = codes "it can't be read (not allowed)"
 unread_message unread.NotAFile = codes "it can't be read (not a file)"
 unread_message unread.Failed = codes "it can't be read (failed)"
-unread_message unread.TooLarge = codes "a limit on bytes, names or counts is passed"
+unread_message unread.TooLarge = codes "a file has at most 1,048,576 bytes, a command line 4,096 files, a profile file 4,095 included texts, and ask 65,536 words"
 
 -- what is said of a unit that can't be read, and whether that is why
 abbrev pub IsSaid : UnitFault → FaultReport → Bool → Type 0

@@ -1,6 +1,6 @@
 -- What is said of a kind of fault.
 -- Source: own.
-use Rattle.std.specs.Prelude.{ℕ, length, nat_le, nat_lt, ◌++◌, List, [], codes, decimal, Option, Some, None, if◌then◌else◌}
+use Rattle.std.specs.Prelude.{ℕ, length, nat_le, nat_lt, ◌==◌, ◌&&◌, ◌++◌, List, [], ◌∷◌, drop, codes, decimal, Bool, false, Option, Some, None, if◌then◌else◌}
 use Rattle.aa_base.specs.declared.fault.PolicyKind.{PolicyKind}
 use Rattle.aa_base.specs.declared.fault.PolicyKind.TheVariants.{NoMemory, MissingInclude, IncludeDepth, Syntax, Unsupported, UnknownWord, BadMode, WriteWithAppend, BadPattern, UndefinedVariable, VariableTwice, VariableCircle, TooManyExpansions, RelativePath, DuplicateProfile, ConflictingExec, TooManyStates, TooLarge}
 use Rattle.aa_diagnostics.specs.Words.{word_in, left_out}
@@ -18,6 +18,21 @@ too_many_states states = codes "more than " ++ decimal states ++ codes " states 
 unfoldable pub unsupported : List ℕ → ℕ → List ℕ
 unsupported text byte = codes "this part of the language is left out" ++ behind_colon (left_out (word_in text byte))
 
+-- the mark that some editors put before a text in UTF-8
+abbrev pub begins_with_mark : List ℕ → Bool
+begins_with_mark (a ∷ b ∷ c ∷ rest) = a == 239 && b == 187 && c == 191
+begins_with_mark _ = false
+
+-- a word that no table has is the mark, or another
+abbrev pub unknown : List ℕ → List ℕ
+unknown text = if begins_with_mark text then codes "a byte order mark stands here; save the text without it" else codes "no table has this word"
+
+-- a limit is passed: at a word that of its expansion, else one of the whole
+abbrev pub too_large : ℕ → List ℕ
+too_large byte =
+    if nat_lt 0 byte then codes "this expands to more than 16,384 bytes"
+    else codes "it has more than 4,096 profiles, 65,535 patterns in one automaton, 4,096 readings of texts, or 16,777,216 bytes with all that it includes"
+
 -- what is wrong at a byte of a text, in one sentence; an automaton may have so many states
 abbrev pub message : ℕ → List ℕ → ℕ → PolicyKind → List ℕ
 message states text byte NoMemory = codes "no memory"
@@ -25,7 +40,7 @@ message states text byte MissingInclude = codes "nothing of that name is there"
 message states text byte IncludeDepth = codes "includes go more than 16 deep here"
 message states text byte Syntax = if nat_le (length text) byte then codes "the text ends too early" else codes "this can't stand here"
 message states text byte Unsupported = unsupported text byte
-message states text byte UnknownWord = codes "no table has this word"
+message states text byte UnknownWord = unknown (drop byte text)
 message states text byte BadMode = codes "this is no mode that can stand here"
 message states text byte WriteWithAppend = codes "a mode has w or a, not both"
 message states text byte BadPattern = codes "this pattern can't be read"
@@ -37,4 +52,4 @@ message states text byte TooManyExpansions = codes "this stands for more than 1,
 message states text byte DuplicateProfile = codes "an earlier profile has this name"
 message states text byte ConflictingExec = codes "two rules of this profile say otherwise how one program runs"
 message states text byte TooManyStates = too_many_states states
-message states text byte TooLarge = if nat_lt 0 byte then codes "this expands to more than 16,384 bytes" else codes "a limit on bytes, names or counts is passed"
+message states text byte TooLarge = too_large byte

@@ -144,7 +144,9 @@ fn unread_message(why: Unread) -> &'static str
         Unread::NotAllowed => "it can't be read (not allowed)",
         Unread::NotAFile => "it can't be read (not a file)",
         Unread::Failed => "it can't be read (failed)",
-        Unread::TooLarge => "a limit on bytes, names or counts is passed",
+        Unread::TooLarge => {
+            "a file has at most 1,048,576 bytes, a command line 4,096 files, a profile file 4,095 included texts, and ask 65,536 words"
+        }
     }
 }
 

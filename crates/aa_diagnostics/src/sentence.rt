@@ -1,8 +1,8 @@
 //! What is said of a kind of fault.
 
-ghost use Rattle.std.specs.Prelude.{◌≡◌, ◌++◌, codes, option_map, nat_le, nat_lt, length, OnOk, IfOk, if◌then◌else◌};
+ghost use Rattle.std.specs.Prelude.{◌≡◌, ◌++◌, codes, option_map, nat_le, length, drop, OnOk, IfOk, if◌then◌else◌};
 ghost use Rattle.aa_diagnostics.specs.Words.{left_out};
-ghost use Rattle.aa_diagnostics.specs.Sentences.{behind_colon, too_many_states, unsupported, message};
+ghost use Rattle.aa_diagnostics.specs.Sentences.{behind_colon, too_many_states, unsupported, begins_with_mark, unknown, too_large, message};
 
 use crate::left_out::part_at;
 use aa_base::PolicyKind;
@@ -46,13 +46,44 @@ fn syntax(text: &[u8], byte: usize) -> &'static str
     }
 }
 
+/// Whether the mark stands first that some editors put before a text in UTF-8.
+fn begins_with_mark(text: &[u8]) -> bool
+    ensures { result ≡ begins_with_mark text.now }
+{
+    match text {
+        [a, b, c, ..] => *a == 0xEF && *b == 0xBB && *c == 0xBF,
+        _ => false,
+    }
+}
+
+/// The bytes from a place on.
+fn from_place(text: &[u8], byte: usize) -> &[u8]
+    ensures { result.now ≡ drop byte text.now }
+{
+    if byte < text.len() {
+        &text[byte..]
+    } else {
+        &[]
+    }
+}
+
+fn unknown(text: &[u8]) -> &'static str
+    ensures { result.now ≡ unknown text.now }
+{
+    if begins_with_mark(text) {
+        "a byte order mark stands here; save the text without it"
+    } else {
+        "no table has this word"
+    }
+}
+
 fn too_large(byte: usize) -> &'static str
-    ensures { result.now ≡ (if nat_lt 0 byte then codes "this expands to more than 16,384 bytes" else codes "a limit on bytes, names or counts is passed") }
+    ensures { result.now ≡ too_large byte }
 {
     if byte > 0 {
         "this expands to more than 16,384 bytes"
     } else {
-        "a limit on bytes, names or counts is passed"
+        "it has more than 4,096 profiles, 65,535 patterns in one automaton, 4,096 readings of texts, or 16,777,216 bytes with all that it includes"
     }
 }
 
@@ -72,7 +103,7 @@ fn push_message(
         PolicyKind::IncludeDepth => push_text(out, "includes go more than 16 deep here"),
         PolicyKind::Syntax => push_text(out, syntax(text, byte)),
         PolicyKind::Unsupported => push_unsupported(out, text, byte),
-        PolicyKind::UnknownWord => push_text(out, "no table has this word"),
+        PolicyKind::UnknownWord => push_text(out, unknown(from_place(text, byte))),
         PolicyKind::BadMode => push_text(out, "this is no mode that can stand here"),
         PolicyKind::WriteWithAppend => push_text(out, "a mode has w or a, not both"),
         PolicyKind::BadPattern => push_text(out, "this pattern can't be read"),
