@@ -4,7 +4,6 @@ use Rattle.std.proofs.lemmas.List.{length-drop, take_all, drop-append-le, take-a
 use Rattle.std.proofs.Math.Seq.{take-append-add}
 use Rattle.std.specs.List.{list_any, prefix_len}
 use Rattle.std.proofs.lemmas.List.Sums.{prefix_len-le-length, prefix_len_is}
-use Rattle.memchr.specs.Find.{IsFirstByte, is_byte}
 use Rattle.aa_text.specs.Places.{is_line_end, last_line}
 
 -- what the loop has found: the rest's last line if a line end is to come, else the line behind the last one so far
@@ -92,18 +91,3 @@ line_across text byte n = joined (take byte text) (drop byte text) text n (sym (
 -- a text's front with the first line behind it is no longer than the text
 pub front_le : (text : List ℕ) (byte : ℕ) → length (take byte text) + prefix_len (λ b. not (is_line_end b)) (drop byte text) ≤ length text
 front_le text byte = omega (arith, prefix_len-le-length (λ b. not (is_line_end b)) (drop byte text), length-append (take byte text) (drop byte text), ap length (take-append-drop byte text))
-
-not_true : (b : Bool) → (b ≡ true → ⊥) → b ≡ false
-not_true true fails = absurd (fails refl)
-not_true false fails = refl
-
--- the first line end is where a search for LF finds one
-pub first_end : (text : List ℕ) (r : Option ℕ) → IsFirstByte (is_byte 10) text r → unwrap_or r (length text) ≡ prefix_len (λ b. not (is_line_end b)) text
-first_end text None nowhere =
-    sym (prefix_len_is (λ b. not (is_line_end b)) text (length text) 0 (le_refl (length text)) (λ k lt. ap not (not_true _ (nowhere k (omega arith) lt))) (λ lt. absurd (omega arith)))
-first_end text (Some n) there =
-    let first = there.0 in
-    sym (prefix_len_is (λ b. not (is_line_end b)) text n 0 (omega (arith, first.high)) (λ k lt. ap not (not_true _ (first.before k (omega arith) lt))) (λ lt. ap not there.1))
-
-pub end_within : (text : List ℕ) (n : ℕ) → n ≡ prefix_len (λ b. not (is_line_end b)) text → n ≤ length text
-end_within text n e = omega (arith, e, prefix_len-le-length (λ b. not (is_line_end b)) text)

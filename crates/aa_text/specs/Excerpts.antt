@@ -1,7 +1,9 @@
 -- The line of a place with a caret below it.
 -- Source: own.
-use Rattle.std.specs.Prelude.{ℕ, zero, suc, ◌+◌, ◌-◌, ◌==◌, nat_lt, List, [], ◌∷◌, ◌++◌, length, take, drop, flat_map, min, replicate, codes, decimal, slice_index, Bool, not, if◌then◌else◌}
+use Rattle.std.specs.Prelude.{ℕ, zero, suc, ◌+◌, ◌-◌, ◌==◌, nat_lt, List, [], ◌∷◌, ◌++◌, length, take, drop, flat_map, min, replicate, codes, decimal, slice_index, Bool, false, not, if◌then◌else◌, unwrap_or, chars}
 use Rattle.std.specs.List.{take_while}
+use Rattle.std.specs.Str.{is_utf8}
+use Rattle.unicode_width.specs.Width.{char_width}
 use Rattle.aa_text.specs.Places.{is_line_end, goes_on, last_line, place_in}
 use Rattle.aa_text.specs.Visible.{all_visible}
 
@@ -43,9 +45,21 @@ behind_cut start bytes = if start == 0 then bytes else from_character (drop star
 abbrev pub dots : Bool → List ℕ
 dots cut = if cut then codes ".." else []
 
--- below a tab stands a tab, and below every other character a space
+-- how many columns of a terminal a character takes: a control byte stands as one sign
+abbrev pub columns : ℕ → ℕ
+columns c = unwrap_or (char_width false c) 1
+
+-- below a tab stands a tab, and below every other character as many spaces as it takes columns
+abbrev pub below : ℕ → List ℕ
+below c = if c == 9 then 9 ∷ [] else replicate (columns c) 32
+
+-- the same of bytes that are no UTF-8, each character one column wide
 abbrev pub blank : ℕ → List ℕ
 blank b = if b == 9 then 9 ∷ [] else (if goes_on b then [] else 32 ∷ [])
+
+-- what stands below bytes
+unfoldable pub all_below : List ℕ → List ℕ
+all_below bytes = if is_utf8 bytes then flat_map below (chars bytes) else flat_map blank bytes
 
 -- what is shown of the line from the window's start on, and what stands below it up to the caret
 unfoldable pub shown_from : ℕ → List ℕ → List ℕ
@@ -55,7 +69,7 @@ shown_from start line =
 -- the blanks below a line's front, up to the caret
 unfoldable pub blanks_from : ℕ → ℕ → List ℕ → List ℕ
 blanks_from start offset line =
-    (if nat_lt 0 start then codes "  " else []) ++ flat_map blank (behind_cut start (take offset line))
+    (if nat_lt 0 start then codes "  " else []) ++ all_below (behind_cut start (take offset line))
 
 -- a number, right-aligned to five columns
 unfoldable pub aligned : ℕ → List ℕ

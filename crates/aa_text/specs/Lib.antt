@@ -2,7 +2,6 @@ pub mod Visible
 pub mod Places
 pub mod Kept
 pub mod Excerpts
-pub mod RuleTexts
 pub mod Texts
 pub mod Jsons
 pub mod Faults

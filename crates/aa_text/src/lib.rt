@@ -12,7 +12,6 @@ mod place_laws;
 mod placed;
 mod position;
 mod reading_laws;
-mod ruled;
 mod shown;
 mod text;
 mod to_json;
@@ -28,7 +27,6 @@ pub use place_laws::places_rise;
 pub use placed::PlacedText;
 pub use position::{PlaceAt, place_at, push_json_place, push_place, push_where};
 pub use reading_laws::{texts_are_read, values_are_read};
-pub use ruled::rule_text;
 pub use shown::excerpt;
 pub use text::{push_number, push_text};
 pub use to_json::{
