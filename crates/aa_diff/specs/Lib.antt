@@ -1,0 +1,10 @@
+pub mod Signs
+pub mod Changes
+pub mod Rules
+pub mod Findings
+pub mod Gathered
+pub mod Joined
+pub mod Printed
+pub mod Report
+pub mod Sides
+pub mod Command

@@ -1,0 +1,109 @@
+-- Findings as they are printed.
+-- Source: own.
+use Rattle.std.specs.Prelude.{ℕ, List, [], ◌∷◌, ◌++◌, ◌==◌, ◌&&◌, not, Bool, true, false, codes, decimal, flat_map, Option, Some, None, if◌then◌else◌}
+use Rattle.std.specs.List.{list_any}
+use Rattle.aa_base.specs.Values.{value}
+use Rattle.aa_model.specs.declared.policy.Policy.{Policy}
+use Rattle.aa_model.specs.declared.label.Label.{Label}
+use Rattle.aa_model.specs.declared.request.Request.{Request}
+use Rattle.aa_model.specs.declared.request.Request.TheVariants.{File, Link, Exec, Change}
+use Rattle.aa_base.specs.declared.perms.Perms.{Perms}
+use Rattle.aa_compile.specs.Labels.{label_name}
+use Rattle.aa_notation.specs.Written.{word_text}
+use Rattle.aa_diff.specs.declared.signs.Sign.{Sign}
+use Rattle.aa_diff.specs.declared.signs.Sign.TheVariants.{Gain, Loss, Other}
+use Rattle.aa_diff.specs.declared.finding.Who.{Who}
+use Rattle.aa_diff.specs.declared.finding.Who.TheVariants.{Owner, Others}
+use Rattle.aa_diff.specs.declared.finding.Finding.{Finding}
+use Rattle.aa_diff.specs.Signs.{is_confined}
+use Rattle.aa_diff.specs.Changes.{is_same}
+use Rattle.aa_diff.specs.Findings.{is_profile}
+
+-- the task's user's objects
+abbrev pub is_owner : Who → Bool
+is_owner Owner = true
+is_owner _ = false
+
+-- a request by these permissions, for an object of the task's user or of another
+abbrev pub asked_by : Perms → Bool → Request → Request
+asked_by letters owned (File r) = File (record { path = r.path; mask = letters; owned = owned })
+asked_by letters owned (Link r) = Link (record { link = r.link; target = r.target; owned = owned })
+asked_by letters owned (Exec r) = Exec (record { path = r.path; owned = owned })
+asked_by letters owned r = r
+
+-- the first request of a finding, by all its permissions
+abbrev pub asked_of : Finding → Request
+asked_of f = asked_by f.letters (is_owner f.who) f.request
+
+-- it holds of others' objects alone
+abbrev pub others_text : Who → List ℕ
+others_text Others = codes " of others"
+others_text _ = []
+
+-- the sign at the head of a line
+abbrev pub sign_text : Sign → List ℕ
+sign_text Gain = codes "+"
+sign_text Loss = codes "-"
+sign_text Other = codes "~"
+
+-- how many there are besides
+abbrev pub more_text : ℕ → List ℕ
+more_text n = if n == 0 then [] else codes ", and " ++ decimal n ++ codes " more"
+
+-- the sign and the request of a line
+unfoldable pub line_start : Finding → List ℕ
+line_start f = codes "  " ++ sign_text f.sign ++ codes " " ++ word_text (asked_of f) ++ others_text f.who
+
+-- how it was answered and is, how many there are besides, and the lines of the rules
+unfoldable pub line_end : Finding → List ℕ
+line_end f = codes " " ++ f.change ++ more_text f.more ++ codes "\n" ++ f.rules
+
+-- the line of a finding, and those of its rules
+abbrev pub line_text : Finding → List ℕ
+line_text f = line_start f ++ line_end f
+
+-- what became of a profile
+abbrev pub gone_text : Sign → List ℕ
+gone_text Gain = codes " is new, and with it "
+gone_text Loss = codes " is gone, and with it "
+gone_text Other = codes " is another, and with it "
+
+-- the name that a request to change to it asks for
+abbrev pub name_asked : Request → List ℕ
+name_asked (Change name) = name
+name_asked _ = []
+
+-- the line of a profile that is gone or new
+unfoldable pub profile_text : Finding → List ℕ
+profile_text f = codes "profile " ++ value (name_asked f.request) ++ gone_text f.sign ++ word_text f.request ++ codes "\n"
+
+-- the same, if it is one
+abbrev pub profile_if : Finding → List ℕ
+profile_if f = if is_profile f then profile_text f else []
+
+-- it is about what else unconfined tasks are answered
+abbrev pub is_free : Finding → Bool
+is_free f = not (is_confined f.from) && not (is_profile f)
+
+-- its line, if it is
+abbrev pub free_if : Finding → List ℕ
+free_if f = if is_free f then line_text f else []
+
+-- the lines of unconfined tasks behind their heading, if there are any
+abbrev pub free_text : List Finding → List ℕ
+free_text fs = if list_any is_free fs then codes "unconfined\n" ++ flat_map free_if fs else []
+
+-- a label is that of the line before
+abbrev pub is_behind : Option Label → Label → Bool
+is_behind None l = false
+is_behind (Some m) l = is_same m l
+
+-- the heading of a profile, where the line before is of another
+abbrev pub heading : List Policy → Option Label → Label → List ℕ
+heading ps before l = if is_behind before l then [] else codes "profile " ++ value (label_name ps l) ++ codes "\n"
+
+-- the lines of confined tasks, each profile's behind its heading
+abbrev pub confined_text : List Policy → Option Label → List Finding → List ℕ
+confined_text ps before [] = []
+confined_text ps before (f ∷ fs) =
+    if is_confined f.from then heading ps before f.from ++ line_text f ++ confined_text ps (Some f.from) fs else confined_text ps before fs

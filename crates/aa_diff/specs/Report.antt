@@ -1,0 +1,86 @@
+-- The report of the differences of two policies.
+-- Source: own.
+use Rattle.std.specs.Prelude.{ℕ, List, [], ◌∷◌, ◌++◌, ◌+◌, ◌==◌, ◌&&◌, ◌||◌, not, min, Bool, codes, decimal, count_by, flat_map, length, Option, Some, None, if◌then◌else◌}
+use Rattle.std.specs.List.{list_any}
+use Rattle.std.specs.Str.{bytes_eq}
+use Rattle.aa_model.specs.declared.policy.Policy.{Policy}
+use Rattle.aa_model.specs.declared.label.Label.{Label}
+use Rattle.aa_compile.specs.Labels.{label_name}
+use Rattle.aa_files.specs.Texts.{texts}
+use Rattle.aa_command.specs.declared.decided.Decided.{Decided}
+use Rattle.aa_ask.specs.Unattached.{first_profiles}
+use Rattle.aa_differences.specs.declared.at_labels.Difference.{Difference}
+use Rattle.aa_diff.specs.declared.signs.Sign.{Sign}
+use Rattle.aa_diff.specs.declared.signs.Sign.TheVariants.{Gain, Loss, Other}
+use Rattle.aa_diff.specs.declared.finding.Finding.{Finding}
+use Rattle.aa_diff.specs.declared.report.Wanted.{Wanted}
+use Rattle.aa_diff.specs.Signs.{is_confined, sign_number}
+use Rattle.aa_diff.specs.Findings.{is_profile, is_counted}
+use Rattle.aa_diff.specs.Gathered.{gathered}
+use Rattle.aa_diff.specs.Joined.{joined_all}
+use Rattle.aa_diff.specs.Printed.{name_asked, profile_if, free_text, is_behind, confined_text}
+
+-- the name of the profile that a finding is about, or unconfined
+abbrev pub called : List Policy → Finding → List ℕ
+called ps f = if is_profile f then name_asked f.request else label_name ps f.from
+
+-- the name is one of these, or there are none
+abbrev pub is_named : List (List ℕ) → List ℕ → Bool
+is_named names name = length names == 0 || list_any (λ n. bytes_eq n name) names
+
+-- a finding is shown: any or a gain, of any profile or of one of these
+abbrev pub is_wanted : List Policy → Wanted → Finding → Bool
+is_wanted ps w f = (not w.gains || sign_number f.sign == 0) && is_named (texts w.profiles.now) (called ps f)
+
+-- the finding, if it is shown
+abbrev pub wanted_of : List Policy → Wanted → Finding → List Finding
+wanted_of ps w f = if is_wanted ps w f then f ∷ [] else []
+
+-- those that are shown
+abbrev pub shown_of : List Policy → Wanted → List Finding → List Finding
+shown_of ps w fs = flat_map (wanted_of ps w) fs
+
+-- the findings that differences are, joined as far as they can be
+unfoldable pub lines_of : Decided → Decided → List Difference → List Finding
+lines_of d e xs = joined_all [] (joined_all [] (gathered d e [] xs []))
+
+-- one more, where it can be counted
+abbrev pub one_more : ℕ → ℕ
+one_more n = min (n + 1) 18446744073709551615
+
+-- a profile more is counted where the line before is of another
+abbrev pub headed_next : ℕ → Option Label → Label → ℕ
+headed_next n before l = if is_behind before l then n else one_more n
+
+-- how many profiles have a heading, and n before
+abbrev pub headed : ℕ → Option Label → List Finding → ℕ
+headed n before [] = n
+headed n before (f ∷ fs) = if is_confined f.from then headed (headed_next n before f.from) (Some f.from) fs else headed n before fs
+
+-- a profile that is gone, or one that is new
+abbrev pub is_profile_with : Sign → Finding → Bool
+is_profile_with sign f = is_profile f && sign_number f.sign == sign_number sign
+
+-- how many profiles are in one policy or the other
+abbrev pub profiles_counted : List Policy → List Finding → ℕ
+profiles_counted ps fs = min (length (first_profiles ps) + count_by (is_profile_with Gain) fs) 18446744073709551615
+
+-- a number, and what it counts
+unfoldable pub count_text : ℕ → List ℕ → List ℕ
+count_text n what = decimal n ++ what
+
+-- how many profiles differ, are gone and are new
+abbrev pub profile_counts : List Policy → List Finding → List ℕ
+profile_counts ps fs =
+    count_text (profiles_counted ps fs) (codes " profiles compared: ") ++ count_text (headed 0 None fs) (codes " differ, ")
+    ++ count_text (count_by (is_profile_with Loss) fs) (codes " gone, ") ++ count_text (count_by (is_profile_with Gain) fs) (codes " new; ")
+
+-- how many lines have each sign
+abbrev pub line_counts : List Finding → List ℕ
+line_counts fs =
+    codes "lines: " ++ count_text (count_by (is_counted Gain) fs) (codes " gain, ") ++ count_text (count_by (is_counted Loss) fs) (codes " lose, ")
+    ++ count_text (count_by (is_counted Other) fs) (codes " other\n")
+
+-- the findings of each profile, profiles that are gone or new, the findings of unconfined tasks, and how many there are
+abbrev pub report_text : List Policy → List Finding → List ℕ
+report_text ps fs = confined_text ps None fs ++ flat_map profile_if fs ++ free_text fs ++ profile_counts ps fs ++ line_counts fs

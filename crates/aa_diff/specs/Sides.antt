@@ -1,0 +1,46 @@
+-- Which side is refused.
+-- Source: own.
+use Rattle.std.specs.Prelude.{ℕ, ◌≡◌, ◌+◌, ◌<◌, List, ◌++◌, codes}
+use Rattle.aa_files.specs.declared.unit.Unit as unit
+use Rattle.aa_command.specs.declared.decided.Decided.{Decided}
+use Rattle.aa_command.specs.Setting.{Setting, AreRoots}
+use Rattle.aa_command.specs.Printed.{Printed}
+use Rattle.aa_command.specs.Loads.{AreLoaded}
+use Rattle.aa_command.specs.Policies.{IsDecidedBy, IsPrintedFor}
+
+-- the files that arguments stand for are one policy
+pub record IsRead (s : Setting) (arguments : List (List ℕ)) (d : Decided) : Type 0 where
+  pub paths : List (List ℕ)
+  pub warnings : List (List ℕ)
+  pub roots : AreRoots s arguments paths warnings
+  pub units : List unit.Unit
+  pub loaded : AreLoaded s paths units
+  pub decided : IsDecidedBy s.states units d
+
+-- they are none, and this is printed of it
+abbrev pub IsRefused : Setting → List (List ℕ) → Printed → Type 0
+IsRefused s arguments out = IsPrintedFor s arguments (λ _ _. ⊥) out
+
+-- a side can't be compared, and why
+abbrev pub refused_text : List ℕ → List ℕ → List ℕ
+refused_text side faults = codes "error: " ++ side ++ codes " can't be compared:\n" ++ faults
+
+-- what is printed of a refused side
+abbrev pub behind : List ℕ → Printed → Printed
+behind side said = record { answers = said.answers; faults = refused_text side said.faults; status = said.status }
+
+-- what is printed of a side: that it is refused, or what its policy gives
+pub data IsOfSide (side : List ℕ) (s : Setting) (arguments : List (List ℕ)) (gives : Decided → Printed → Type 0) (out : Printed) : Type 0 where
+  Refused : (said : Printed) → IsRefused s arguments said → out ≡ behind side said → IsOfSide side s arguments gives out
+  Compared : (d : Decided) → IsRead s arguments d → gives d out → IsOfSide side s arguments gives out
+
+-- the status of what a policy gave, between two calls
+abbrev pub marked : Printed → Printed
+marked p = record { answers = p.answers; faults = p.faults; status = p.status + 128 }
+
+-- what a policy gave, marked
+pub record IsMarked (gives : Decided → Printed → Type 0) (d : Decided) (out : Printed) : Type 0 where
+  pub given : Printed
+  pub gives_it : gives d given
+  pub low : given.status < 128
+  pub is : out ≡ marked given

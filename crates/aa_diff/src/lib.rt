@@ -1,0 +1,18 @@
+//! What `diff` prints: the requests that two policies of files answer differently, line by line, with the rules that account for it.
+#![tactic(auto)]
+
+mod change;
+mod command;
+mod finding;
+mod gathering;
+mod joining;
+mod printing;
+mod report;
+mod rules;
+mod sides;
+mod signs;
+
+pub use command::{DiffOptions, diff_files};
+pub use finding::{Finding, Who};
+pub use report::{Wanted, push_report};
+pub use signs::{Sign, sign_of};

@@ -1,0 +1,273 @@
+//! Findings as they are printed.
+
+ghost use Rattle.std.specs.Prelude.{◌≡◌, ◌++◌, codes, Option, Some, None, flat_map, option_map, OnOk, IfOk, if◌then◌else◌};
+ghost use Rattle.std.specs.List.{list_any};
+ghost use Rattle.aa_base.specs.Values.{value};
+ghost use Rattle.aa_notation.specs.Written.{word_text};
+ghost use Rattle.aa_diff.specs.declared.finding.Finding.{Finding};
+ghost use Rattle.aa_diff.specs.Printed.{is_owner, asked_by, asked_of, others_text, sign_text, more_text, line_start, line_end, line_text, gone_text, name_asked, profile_text, profile_if, free_if, is_free, is_behind, heading, confined_text, free_text};
+
+use crate::change::is_same;
+use crate::finding::{Finding, Who, is_profile, who_number};
+use crate::signs::{Sign, is_confined};
+use aa_compile::{Compiled, name_of_label};
+use aa_model::{Label, Request, RequestFault};
+use aa_notation::push_word;
+use aa_text::{push_name, push_number, push_text};
+use std::alloc::{AllocError, Global};
+
+fn is_owner(who: Who) -> bool
+    ensures { result ≡ is_owner who }
+{
+    match who {
+        Who::Owner => true,
+        _ => false,
+    }
+}
+
+// The request of a finding can be asked for, so that with its permissions can: what refuses it is answered with want of memory,
+// which the contracts leave free.
+fn asked_by(alloc: Global, finding: &Finding, owned: bool) -> Result<Request, RequestFault>
+    ensures { IfOk result (λ request. request ≡ asked_by finding.now.letters owned finding.now.request) }
+{
+    match &finding.request {
+        Request::File(file) => Request::file(alloc, file.path(), finding.letters, owned),
+        Request::Link(link) => Request::link(alloc, link.link(), link.target(), owned),
+        Request::Exec(exec) => Request::exec(alloc, exec.path(), owned),
+        other => match other.try_clone() {
+            Ok(request) => Ok(request),
+            Err(_) => Err(RequestFault::NoMemory),
+        },
+    }
+}
+
+/// The first request of a finding, by all its permissions.
+fn asked_of(alloc: Global, finding: &Finding) -> Result<Request, AllocError>
+    ensures { IfOk result (λ request. request ≡ asked_of finding.now) }
+{
+    match asked_by(alloc, finding, is_owner(finding.who)) {
+        Ok(request) => Ok(request),
+        Err(_) => Err(AllocError),
+    }
+}
+
+/// Appends the first request of a finding as one word.
+fn push_asked(out: &mut Vec<u8>, alloc: Global, finding: &Finding) -> Result<(), AllocError>
+    ensures { OnOk result (out.new.items ≡ out.old.items ++ word_text (asked_of finding.now)) }
+{
+    let request = asked_of(alloc, finding)?;
+    push_word(out, &request)
+}
+
+fn push_others(out: &mut Vec<u8>, who: Who) -> Result<(), AllocError>
+    ensures { OnOk result (out.new.items ≡ out.old.items ++ others_text who) }
+{
+    match who {
+        Who::Others => push_text(out, " of others"),
+        _ => Ok(()),
+    }
+}
+
+fn sign_text(sign: Sign) -> &'static str
+    ensures { result.now ≡ sign_text sign }
+{
+    match sign {
+        Sign::Gain => "+",
+        Sign::Loss => "-",
+        Sign::Other => "~",
+    }
+}
+
+fn push_more(out: &mut Vec<u8>, more: u64) -> Result<(), AllocError>
+    ensures { OnOk result (out.new.items ≡ out.old.items ++ more_text more) }
+{
+    if more == 0 {
+        return Ok(());
+    }
+    push_text(out, ", and ")?;
+    push_number(out, more)?;
+    push_text(out, " more")
+}
+
+/// Appends the sign and the request of a line.
+#[tactic(auto, unfolding(crate::specs::Printed::line_start))]
+fn push_start(out: &mut Vec<u8>, alloc: Global, finding: &Finding) -> Result<(), AllocError>
+    ensures { OnOk result (out.new.items ≡ out.old.items ++ line_start finding.now) }
+{
+    push_text(out, "  ")?;
+    push_text(out, sign_text(finding.sign))?;
+    push_text(out, " ")?;
+    push_asked(out, alloc, finding)?;
+    push_others(out, finding.who)
+}
+
+/// Appends the rest of a line, and the lines of its rules.
+#[tactic(auto, unfolding(crate::specs::Printed::line_end))]
+fn push_end(out: &mut Vec<u8>, finding: &Finding) -> Result<(), AllocError>
+    ensures { OnOk result (out.new.items ≡ out.old.items ++ line_end finding.now) }
+{
+    push_text(out, " ")?;
+    out.extend_from_slice(finding.change.as_slice())?;
+    push_more(out, finding.more)?;
+    push_text(out, "\n")?;
+    out.extend_from_slice(finding.rules.as_slice())
+}
+
+/// Appends the line of a finding, and the lines of its rules.
+fn push_line(out: &mut Vec<u8>, alloc: Global, finding: &Finding) -> Result<(), AllocError>
+    ensures { OnOk result (out.new.items ≡ out.old.items ++ line_text finding.now) }
+{
+    push_start(out, alloc, finding)?;
+    push_end(out, finding)
+}
+
+fn gone_text(sign: Sign) -> &'static str
+    ensures { result.now ≡ gone_text sign }
+{
+    match sign {
+        Sign::Gain => " is new, and with it ",
+        Sign::Loss => " is gone, and with it ",
+        Sign::Other => " is another, and with it ",
+    }
+}
+
+/// The name that a request to change to it asks for.
+pub(crate) fn name_asked(request: &Request) -> &[u8]
+    ensures { result.now ≡ name_asked request.now }
+{
+    match request {
+        Request::Change(change) => change.name(),
+        _ => &[],
+    }
+}
+
+/// Appends the line of a profile that is gone or new.
+#[tactic(auto, unfolding(crate::specs::Printed::profile_text))]
+fn push_profile(out: &mut Vec<u8>, alloc: Global, finding: &Finding) -> Result<(), AllocError>
+    ensures { OnOk result (out.new.items ≡ out.old.items ++ profile_text finding.now) }
+{
+    push_text(out, "profile ")?;
+    push_name(out, alloc, name_asked(&finding.request))?;
+    push_text(out, gone_text(finding.sign))?;
+    push_word(out, &finding.request)?;
+    push_text(out, "\n")
+}
+
+fn push_profile_if(out: &mut Vec<u8>, alloc: Global, finding: &Finding) -> Result<(), AllocError>
+    ensures { OnOk result (out.new.items ≡ out.old.items ++ profile_if finding.now) }
+{
+    if !is_profile(finding) {
+        return Ok(());
+    }
+    push_profile(out, alloc, finding)
+}
+
+/// Appends the lines of profiles that are gone or new.
+pub(crate) fn push_profiles(
+    out: &mut Vec<u8>,
+    alloc: Global,
+    findings: &[Finding],
+) -> Result<(), AllocError>
+    ensures { OnOk result (out.new.items ≡ out.old.items ++ flat_map profile_if findings.now) }
+{
+    for finding in findings {
+        push_profile_if(out, alloc, finding)?;
+    }
+    Ok(())
+}
+
+/// Whether it is about what else unconfined tasks are answered.
+fn is_free(finding: &Finding) -> bool
+    ensures { result ≡ is_free finding.now }
+{
+    !is_confined(finding.from) && !is_profile(finding)
+}
+
+fn is_one_free(findings: &[Finding]) -> bool
+    ensures { result ≡ list_any is_free findings.now }
+{
+    findings.iter().any(|finding| is_free(finding))
+}
+
+fn push_free_if(out: &mut Vec<u8>, alloc: Global, finding: &Finding) -> Result<(), AllocError>
+    ensures { OnOk result (out.new.items ≡ out.old.items ++ free_if finding.now) }
+{
+    if !is_free(finding) {
+        return Ok(());
+    }
+    push_line(out, alloc, finding)
+}
+
+fn push_each_free(out: &mut Vec<u8>, alloc: Global, findings: &[Finding]) -> Result<(), AllocError>
+    ensures { OnOk result (out.new.items ≡ out.old.items ++ flat_map free_if findings.now) }
+{
+    for finding in findings {
+        push_free_if(out, alloc, finding)?;
+    }
+    Ok(())
+}
+
+/// Appends the lines of unconfined tasks behind their heading, if there are any.
+pub(crate) fn push_free(
+    out: &mut Vec<u8>,
+    alloc: Global,
+    findings: &[Finding],
+) -> Result<(), AllocError>
+    ensures { OnOk result (out.new.items ≡ out.old.items ++ free_text findings.now) }
+{
+    if !is_one_free(findings) {
+        return Ok(());
+    }
+    push_text(out, "unconfined\n")?;
+    push_each_free(out, alloc, findings)
+}
+
+/// Whether a label is that of the line before.
+pub(crate) fn is_behind(before: Option<Label>, label: Label) -> bool
+    ensures { result ≡ is_behind before label }
+{
+    match before {
+        Some(before) => is_same(before, label),
+        None => false,
+    }
+}
+
+/// Appends the heading of a profile, where the line before is of another.
+fn push_heading(
+    out: &mut Vec<u8>,
+    alloc: Global,
+    policies: &[Compiled],
+    before: Option<Label>,
+    label: Label,
+) -> Result<(), AllocError>
+    ensures { OnOk result (out.new.items ≡ out.old.items ++ heading policies.now before label) }
+{
+    if is_behind(before, label) {
+        return Ok(());
+    }
+    push_text(out, "profile ")?;
+    push_name(out, alloc, name_of_label(policies, label))?;
+    push_text(out, "\n")
+}
+
+/// Appends the lines of confined tasks, each profile's behind its heading.
+pub(crate) fn push_confined(
+    out: &mut Vec<u8>,
+    alloc: Global,
+    policies: &[Compiled],
+    findings: &[Finding],
+) -> Result<(), AllocError>
+    ensures { OnOk result (out.new.items ≡ out.old.items ++ confined_text policies.now None findings.now) }
+{
+    let mut before: Option<Label> = None;
+    let mut rest = findings;
+    while let [finding, after @ ..] = rest {
+        if is_confined(finding.from) {
+            push_heading(out, alloc, policies, before, finding.from)?;
+            push_line(out, alloc, finding)?;
+            before = Some(finding.from);
+        }
+        rest = after;
+    }
+    Ok(())
+}

@@ -1,0 +1,259 @@
+//! The report of the differences of two policies.
+
+ghost use Rattle.std.specs.Prelude.{◌≡◌, ◌++◌, ◌==◌, [], None, codes, count_by, flat_map, length, OnOk, IfOk};
+ghost use Rattle.std.specs.List.{list_any};
+ghost use Rattle.std.specs.Str.{bytes_eq};
+ghost use Rattle.aa_files.specs.Texts.{texts};
+ghost use Rattle.aa_ask.specs.Unattached.{first_profiles};
+ghost use Rattle.aa_diff.specs.Findings.{is_counted};
+ghost use Rattle.aa_diff.specs.Report.{called, is_named, is_wanted, wanted_of, shown_of, lines_of, headed_next, headed, is_profile_with, profiles_counted, count_text, profile_counts, line_counts, report_text};
+
+use crate::finding::{Finding, copy_of, is_counted, is_profile};
+use crate::gathering::gather;
+use crate::joining::join_all;
+use crate::printing::{is_behind, name_asked, push_confined, push_free, push_profiles};
+use crate::signs::{Sign, is_confined, sign_number};
+use aa_command::Decided;
+use aa_compile::{Compiled, name_of_label};
+use aa_differences::Difference;
+use aa_model::Label;
+use aa_text::{push_number, push_text};
+use std::alloc::{AllocError, Global};
+
+/// Which findings are shown.
+#[derive(Clone, Copy)]
+pub struct Wanted<'a> {
+    /// Whether gains alone are.
+    pub gains: bool,
+    /// The profiles whose findings are, by their full names; of all where there are none.
+    pub profiles: &'a [Vec<u8>],
+}
+
+/// The name of the profile that a finding is about, or `unconfined`.
+fn called<'f>(policies: &'f [Compiled], finding: &'f Finding) -> &'f [u8]
+    ensures { result.now ≡ called policies.now finding.now }
+{
+    if is_profile(finding) {
+        return name_asked(&finding.request);
+    }
+    name_of_label(policies, finding.from)
+}
+
+fn is_among(names: &[Vec<u8>], name: &[u8]) -> bool
+    ensures { result ≡ list_any (λ n. bytes_eq n.items name.now) names.now }
+{
+    names.iter().any(|known| known.as_slice() == name)
+}
+
+fn is_named(names: &[Vec<u8>], name: &[u8]) -> bool
+    ensures { result ≡ is_named (texts names.now) name.now }
+{
+    names.is_empty() || is_among(names, name)
+}
+
+fn is_wanted(policies: &[Compiled], wanted: Wanted<'_>, finding: &Finding) -> bool
+    ensures { result ≡ is_wanted policies.now wanted.entry finding.now }
+{
+    (!wanted.gains || sign_number(finding.sign) == 0)
+        && is_named(wanted.profiles, called(policies, finding))
+}
+
+fn add_wanted(
+    policies: &[Compiled],
+    wanted: Wanted<'_>,
+    finding: &Finding,
+    shown: &mut Vec<Finding>,
+) -> Result<(), AllocError>
+    ensures { OnOk result (shown.new.items ≡ shown.old.items ++ wanted_of policies.now wanted.entry finding.now) }
+{
+    if is_wanted(policies, wanted, finding) {
+        shown.push(copy_of(finding)?)?;
+    }
+    Ok(())
+}
+
+/// Those of the findings that are wanted.
+fn shown_of(
+    alloc: Global,
+    policies: &[Compiled],
+    wanted: Wanted<'_>,
+    findings: &[Finding],
+) -> Result<Vec<Finding>, AllocError>
+    ensures { IfOk result (λ fs. fs.items ≡ shown_of policies.now wanted.entry findings.now) }
+{
+    let mut shown = Vec::new(alloc);
+    for finding in findings {
+        add_wanted(policies, wanted, finding, &mut shown)?;
+    }
+    Ok(shown)
+}
+
+/// The findings that differences are, joined as far as they can be.
+#[tactic(auto, unfolding(crate::specs::Report::lines_of))]
+pub(crate) fn lines_of(
+    alloc: Global,
+    old: Decided<'_>,
+    new: Decided<'_>,
+    differences: &[Difference],
+) -> Result<Vec<Finding>, AllocError>
+    ensures { IfOk result (λ fs. fs.items ≡ lines_of old.entry new.entry differences.now) }
+{
+    let gathered = gather(alloc, old, new, differences)?;
+    let joined = join_all(alloc, gathered.as_slice())?;
+    join_all(alloc, joined.as_slice())
+}
+
+/// The findings that are shown.
+pub(crate) fn wanted_lines(
+    alloc: Global,
+    old: Decided<'_>,
+    new: Decided<'_>,
+    wanted: Wanted<'_>,
+    differences: &[Difference],
+) -> Result<Vec<Finding>, AllocError>
+    ensures { IfOk result (λ fs. fs.items ≡ shown_of old.entry.policies.now wanted.entry (lines_of old.entry new.entry differences.now)) }
+{
+    let lines = lines_of(alloc, old, new, differences)?;
+    shown_of(alloc, old.policies, wanted, lines.as_slice())
+}
+
+/// Counts a profile more where the line before is of another.
+fn headed_next(count: u64, before: Option<Label>, label: Label) -> u64
+    ensures { result ≡ headed_next count before label }
+{
+    if is_behind(before, label) {
+        return count;
+    }
+    count.saturating_add(1)
+}
+
+/// How many profiles have a heading.
+fn headed(findings: &[Finding]) -> u64
+    ensures { result ≡ headed 0 None findings.now }
+{
+    let mut count: u64 = 0;
+    let mut before: Option<Label> = None;
+    let mut rest = findings;
+    while let [finding, after @ ..] = rest {
+        if is_confined(finding.from) {
+            count = headed_next(count, before, finding.from);
+            before = Some(finding.from);
+        }
+        rest = after;
+    }
+    count
+}
+
+fn is_profile_with(sign: Sign, finding: &Finding) -> bool
+    ensures { result ≡ is_profile_with sign finding.now }
+{
+    is_profile(finding) && sign_number(finding.sign) == sign_number(sign)
+}
+
+/// How many profiles are gone, or new.
+fn count_profiles(sign: Sign, findings: &[Finding]) -> usize
+    ensures { result ≡ count_by (is_profile_with sign) findings.now }
+{
+    findings
+        .iter()
+        .filter(|finding| is_profile_with(sign, finding))
+        .count()
+}
+
+/// How many lines have a sign.
+fn count_lines(sign: Sign, findings: &[Finding]) -> usize
+    ensures { result ≡ count_by (is_counted sign) findings.now }
+{
+    findings
+        .iter()
+        .filter(|finding| is_counted(sign, finding))
+        .count()
+}
+
+/// How many profiles the first policy has.
+fn profiles_of(policies: &[Compiled]) -> usize
+    ensures { result ≡ length (first_profiles policies.now) }
+{
+    match policies.get(0) {
+        Some(compiled) => compiled.policy().profiles.as_slice().len(),
+        None => 0,
+    }
+}
+
+/// How many profiles are in one policy or the other.
+fn profiles_counted(policies: &[Compiled], findings: &[Finding]) -> usize
+    ensures { result ≡ profiles_counted policies.now findings.now }
+{
+    profiles_of(policies).saturating_add(count_profiles(Sign::Gain, findings))
+}
+
+/// Appends a number, and what it counts.
+#[tactic(auto, unfolding(crate::specs::Report::count_text))]
+fn push_count(out: &mut Vec<u8>, count: usize, what: &str) -> Result<(), AllocError>
+    ensures { OnOk result (out.new.items ≡ out.old.items ++ count_text count what.now) }
+{
+    push_number(out, count)?;
+    push_text(out, what)
+}
+
+/// Appends how many profiles are compared.
+#[tactic(auto, unfolding(crate::specs::Report::count_text))]
+fn push_compared(
+    out: &mut Vec<u8>,
+    policies: &[Compiled],
+    findings: &[Finding],
+) -> Result<(), AllocError>
+    ensures { OnOk result (out.new.items ≡ out.old.items ++ count_text (profiles_counted policies.now findings.now) (codes " profiles compared: ")) }
+{
+    push_number(out, profiles_counted(policies, findings))?;
+    push_text(out, " profiles compared: ")
+}
+
+/// Appends how many profiles differ.
+#[tactic(auto, unfolding(crate::specs::Report::count_text))]
+fn push_headed(out: &mut Vec<u8>, findings: &[Finding]) -> Result<(), AllocError>
+    ensures { OnOk result (out.new.items ≡ out.old.items ++ count_text (headed 0 None findings.now) (codes " differ, ")) }
+{
+    push_number(out, headed(findings))?;
+    push_text(out, " differ, ")
+}
+
+/// Appends how many profiles differ, are gone and are new.
+fn push_profile_counts(
+    out: &mut Vec<u8>,
+    policies: &[Compiled],
+    findings: &[Finding],
+) -> Result<(), AllocError>
+    ensures { OnOk result (out.new.items ≡ out.old.items ++ profile_counts policies.now findings.now) }
+{
+    push_compared(out, policies, findings)?;
+    push_headed(out, findings)?;
+    push_count(out, count_profiles(Sign::Loss, findings), " gone, ")?;
+    push_count(out, count_profiles(Sign::Gain, findings), " new; ")
+}
+
+/// Appends how many lines have each sign.
+fn push_line_counts(out: &mut Vec<u8>, findings: &[Finding]) -> Result<(), AllocError>
+    ensures { OnOk result (out.new.items ≡ out.old.items ++ line_counts findings.now) }
+{
+    push_text(out, "lines: ")?;
+    push_count(out, count_lines(Sign::Gain, findings), " gain, ")?;
+    push_count(out, count_lines(Sign::Loss, findings), " lose, ")?;
+    push_count(out, count_lines(Sign::Other, findings), " other\n")
+}
+
+/// Appends findings: those of each profile, profiles that are gone or new, those of unconfined tasks, and how many there are.
+pub fn push_report(
+    out: &mut Vec<u8>,
+    alloc: Global,
+    policies: &[Compiled],
+    findings: &[Finding],
+) -> Result<(), AllocError>
+    ensures { OnOk result (out.new.items ≡ out.old.items ++ report_text policies.now findings.now) }
+{
+    push_confined(out, alloc, policies, findings)?;
+    push_profiles(out, alloc, findings)?;
+    push_free(out, alloc, findings)?;
+    push_profile_counts(out, policies, findings)?;
+    push_line_counts(out, findings)
+}
