@@ -12,7 +12,7 @@ use Rattle.std.proofs.lemmas.Slice.Eq.{bytes_eq-Decides}
 use Rattle.std.proofs.lemmas.Bool.{cases_Bool, ltb-false}
 use Rattle.aa_log.specs.Counted.{greatest, firsts, times, Counted, counted}
 
-eq_true : (x y : List ℕ) → bytes_eq x y ≡ true → x ≡ y
+pub eq_true : (x y : List ℕ) → bytes_eq x y ≡ true → x ≡ y
 eq_true x y e = (bytes_eq-Decides x y).0 e
 
 eq_self : (x : List ℕ) → bytes_eq x x ≡ true
@@ -129,6 +129,15 @@ module _ {A : Type 0} where
   unfolding item
   with_one key [] a = item a 1 ∷ []
   with_one key (c ∷ cs) a = cond (bytes_eq (key c.item) (key a)) (record { item = c.item; count = min (c.count + 1) greatest } ∷ cs) (c ∷ with_one key cs a)
+
+  pub one-nil : (key : A → List ℕ) (a : A) → with_one key [] a ≡ record { item = a; count = 1 } ∷ []
+  unfolding with_one item
+  one-nil key a = refl
+
+  pub one-cons : (key : A → List ℕ) (c : Counted A) (cs : List (Counted A)) (a : A)
+      → with_one key (c ∷ cs) a ≡ cond (bytes_eq (key c.item) (key a)) (record { item = c.item; count = min (c.count + 1) greatest } ∷ cs) (c ∷ with_one key cs a)
+  unfolding with_one
+  one-cons key c cs a = refl
 
   -- an item more, where no two of those that are there have one key
   one_of : (key : A → List ℕ) (n : A → ℕ) (ks : List A) (a : A) → Distinct key ks

@@ -29,7 +29,7 @@ module _ {X Y : Type 0} where
 
 module _ {X : Type 0} where
   -- the first place that passes, in a list with one element more
-  position_push : (p : X → Bool) (xs : List X) (y : X) → position p (xs ++ y ∷ []) ≡ option_or (position p xs) (cond (p y) (Some (length xs)) None)
+  pub position_push : (p : X → Bool) (xs : List X) (y : X) → position p (xs ++ y ∷ []) ≡ option_or (position p xs) (cond (p y) (Some (length xs)) None)
   position_push p xs y =
       let n : ℕ = length xs in
       let whole : take (n + 1) (xs ++ y ∷ []) ≡ xs ++ y ∷ [] = take_all (n + 1) (xs ++ y ∷ []) (omega (arith, length-append xs (y ∷ []))) in
@@ -39,28 +39,28 @@ module _ {X : Type 0} where
       ∙ ap (λ (l : List X). option_or (position p l) (cond (p y) (Some n) None)) front
 
   -- an element that is there
-  record IsThere (xs : List X) (n : ℕ) : Type 0 where
+  pub record IsThere (xs : List X) (n : ℕ) : Type 0 where
     pub element : X
     pub is : slice_get xs n ≡ Some element
 
-  there_is : (xs : List X) (n : ℕ) → n < length xs → IsThere xs n
+  pub there_is : (xs : List X) (n : ℕ) → n < length xs → IsThere xs n
   there_is [] n lt = absurd (omega (arith, lt))
   there_is (x ∷ xs) zero lt = record { element = x; is = refl }
   there_is (x ∷ xs) (suc n) lt = let rest = there_is xs n (omega (arith, lt)) in record { element = rest.element; is = rest.is }
 
-  get_there : (xs : List X) (n : ℕ) (e d : X) → slice_get xs n ≡ Some e → get_or xs n d ≡ e
+  pub get_there : (xs : List X) (n : ℕ) (e d : X) → slice_get xs n ≡ Some e → get_or xs n d ≡ e
   get_there [] n e d is = absurd (cc)
   get_there (x ∷ xs) zero e d is = cc
   get_there (x ∷ xs) (suc n) e d is = get_there xs n e d is
 
 module _ {X Z : Type 0} where
-  map_there : (f : X → Z) (xs : List X) (n : ℕ) (e : X) → slice_get xs n ≡ Some e → slice_get (map f xs) n ≡ Some (f e)
+  pub map_there : (f : X → Z) (xs : List X) (n : ℕ) (e : X) → slice_get xs n ≡ Some e → slice_get (map f xs) n ≡ Some (f e)
   map_there f [] n e is = absurd (cc)
   map_there f (x ∷ xs) zero e is = (let here : x ≡ e = cc in ap (λ (y : X). Some (f y)) here)
   map_there f (x ∷ xs) (suc n) e is = map_there f xs n e is
 
   -- what is read alike of an element and of what stands in its place is read alike of the whole
-  keep_map : (f : X → Z) (xs : List X) (n : ℕ) (e new : X) → slice_get xs n ≡ Some e → f new ≡ f e → map f (set xs n new) ≡ map f xs
+  pub keep_map : (f : X → Z) (xs : List X) (n : ℕ) (e new : X) → slice_get xs n ≡ Some e → f new ≡ f e → map f (set xs n new) ≡ map f xs
   keep_map f [] n e new is same = refl
   keep_map f (x ∷ xs) zero e new is same = (let here : x ≡ e = cc in ap (λ (z : Z). z ∷ map f xs) (same ∙ ap f (sym here)))
   keep_map f (x ∷ xs) (suc n) e new is same = ap (λ (l : List Z). f x ∷ l) (keep_map f xs n e new is same)
@@ -103,14 +103,14 @@ counted_new es new e a w none is data_is =
     ap (map entry_data) is ∙ map-append entry_data es (e ∷ []) ∙ ap (λ (c : Counted Asked). map entry_data es ++ c ∷ []) data_is
     ∙ sym (behind_all asked_key (map entry_data es) a (place_in es (asked_key a) w ∙ none))
 
-words_new : (es new : List Entry) (e : Entry) → HaveWords es → new ≡ es ++ e ∷ [] → e.word.items ≡ word_text e.request → HaveWords new
+pub words_new : (es new : List Entry) (e : Entry) → HaveWords es → new ≡ es ++ e ∷ [] → e.word.items ≡ word_text e.request → HaveWords new
 words_new es new e w is word =
     let words = λ (x : Entry). x.word.items in
     let texts = λ (x : Entry). word_text x.request in
     ap (map words) is ∙ map-append words es (e ∷ []) ∙ ap (λ (l : List (List ℕ)). l ++ e.word.items ∷ []) w ∙ ap (λ (x : List ℕ). map texts es ++ x ∷ []) word
     ∙ sym (ap (map texts) is ∙ map-append texts es (e ∷ []))
 
-numbered_new : {Y S : Type 0} (numbers after : HashMap (Vec ℕ Y) ℕ S) (es new : List Entry) (e : Entry) (key : List ℕ) → AreNumbered numbers (map entry_key es) → AddsKey numbers key (length es) after → new ≡ es ++ e ∷ [] → entry_key e ≡ key → AreNumbered after (map entry_key new)
+pub numbered_new : {Y S : Type 0} (numbers after : HashMap (Vec ℕ Y) ℕ S) (es new : List Entry) (e : Entry) (key : List ℕ) → AreNumbered numbers (map entry_key es) → AddsKey numbers key (length es) after → new ≡ es ++ e ∷ [] → entry_key e ≡ key → AreNumbered after (map entry_key new)
 numbered_new numbers after es new e key numbered adds is key_is = λ other.
     let p : List ℕ → Bool = λ k. bytes_eq k other in
     let keys : List (List ℕ) = map entry_key es in

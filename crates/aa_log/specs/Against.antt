@@ -19,6 +19,7 @@ use Rattle.aa_log.specs.declared.logging.Entry.{Entry}
 use Rattle.aa_log.specs.Replayed.{now_for}
 use Rattle.aa_log.specs.declared.logging.SkippedLines.{SkippedLines}
 use Rattle.aa_log.specs.declared.logging.LogReport.{LogReport}
+use Rattle.aa_log.specs.declared.said.SaidReport.{SaidReport}
 use Rattle.aa_log.specs.Orders.{profile_of, reason_key, IsInOrder}
 use Rattle.aa_log.specs.Counted.{greatest}
 use Rattle.aa_log.specs.Printed.{rest_text, arrow_text, count_line, each_skipped_text}
@@ -127,11 +128,11 @@ json_answers logs d all es counts = codes "{\"requests\":[" ++ with_commas (json
 
 -- the same as one JSON object and a line end: the requests that are shown, in order, how many have which answers, the lines that ask
 -- nothing, and the counts of all
-pub record IsJsonAgainst (logs : List (List ℕ)) (d : Decided) (all : Bool) (r : LogReport) (counts : Counts) (text : List ℕ) : Type 0 where
+pub record IsJsonAgainst (logs : List (List ℕ)) (d : Decided) (all : Bool) (s : SaidReport) (counts : Counts) (text : List ℕ) : Type 0 where
   pub entries : List Entry
-  pub ordered : IsInOrder profile_of r.entries.items entries
+  pub ordered : IsInOrder profile_of s.report.entries.items entries
   pub reasons : List SkippedLines
-  pub by_reason : IsInOrder reason_key r.skipped.items reasons
+  pub by_reason : IsInOrder reason_key s.report.skipped.items reasons
   pub newly : IsNewlyDenied d entries counts
   pub counted : AreCounted d entries counts
-  pub printed : text ≡ json_answers logs d all entries counts ++ json_rest logs reasons r
+  pub printed : text ≡ json_answers logs d all entries counts ++ json_rest logs reasons s

@@ -5,7 +5,6 @@ use Rattle.aa_files.specs.Texts.{texts, slices}
 use Rattle.aa_logs.specs.declared.chosen.Choice.{Choice}
 use Rattle.aa_logs.specs.declared.counts.Counts.{Counts}
 use Rattle.aa_command.specs.declared.decided.Decided.{Decided}
-use Rattle.aa_log.specs.declared.logging.LogReport.{LogReport}
 use Rattle.aa_log.specs.declared.said.SaidReport.{SaidReport}
 use Rattle.aa_log.specs.Said.{unclear_text, status_or, IsSaid}
 use Rattle.aa_log.specs.Printed.{IsReportText}
@@ -20,12 +19,12 @@ use Rattle.aa_command.specs.LogFiles.{LogFiles, AreLogs, lines_from}
 use Rattle.aa_command.specs.Policies.{IsPrintedFor}
 
 -- what is found in logs, as it is wanted: as JSON or as text
-abbrev pub IsLogText : LogOptions → LogReport → List ℕ → Type 0
-IsLogText o r text = MatchBool o.is_json (IsJsonReport (slices o.logs.now) r text) (IsReportText (slices o.logs.now) r text)
+abbrev pub IsLogText : LogOptions → SaidReport → List ℕ → Type 0
+IsLogText o s text = MatchBool o.is_json (IsJsonReport (slices o.logs.now) s text) (IsReportText (slices o.logs.now) s.report text)
 
 -- the same as a policy answers it now
-abbrev pub IsReplayText : LogOptions → LogReport → Decided → Counts → List ℕ → Type 0
-IsReplayText o r d counts text = MatchBool o.is_json (IsJsonAgainst (slices o.logs.now) d o.wants_all r counts text) (IsAgainstText (slices o.logs.now) d o.wants_all r counts text)
+abbrev pub IsReplayText : LogOptions → SaidReport → Decided → Counts → List ℕ → Type 0
+IsReplayText o s d counts text = MatchBool o.is_json (IsJsonAgainst (slices o.logs.now) d o.wants_all s counts text) (IsAgainstText (slices o.logs.now) d o.wants_all s.report counts text)
 
 -- answers, behind what is warned of, with that status or 1 where a line isn't understood
 abbrev pub said_printed : LogOptions → SaidReport → List ℕ → ℕ → Printed
@@ -35,12 +34,12 @@ said_printed o s text status = record { answers = text; faults = unclear_text (s
 pub record IsReplayed (o : LogOptions) (s : SaidReport) (d : Decided) (out : Printed) : Type 0 where
   pub counts : Counts
   pub text : List ℕ
-  pub is_text : IsReplayText o s.report d counts text
+  pub is_text : IsReplayText o s d counts text
   pub printed : out ≡ said_printed o s text (if counts.has_newly_denied then 4 else 0)
 
 -- what is printed of logs in which that is found: that, or how the one policy that the files are answers it now
 pub data IsReportOutput (s : Setting) (o : LogOptions) (r : SaidReport) (out : Printed) : Type 0 where
-  Said : (text : List ℕ) → o.against.now ≡ [] → IsLogText o r.report text → out ≡ said_printed o r text 0 → IsReportOutput s o r out
+  Said : (text : List ℕ) → o.against.now ≡ [] → IsLogText o r text → out ≡ said_printed o r text 0 → IsReportOutput s o r out
   Replayed : o.against.now ≢ [] → IsPrintedFor s (texts o.against.now) (IsReplayed o r) out → IsReportOutput s o r out
 
 -- what is found in the logs at these paths by that choice of lines, with each skipped line where that is wanted: where it is

@@ -7,7 +7,7 @@ use Rattle.aa_logs.specs.Answers.{then_name}
 use Rattle.aa_log.specs.declared.logging.LinePlace.{LinePlace}
 use Rattle.aa_log.specs.declared.logging.Entry.{Entry}
 use Rattle.aa_log.specs.declared.logging.SkippedLines.{SkippedLines}
-use Rattle.aa_log.specs.declared.logging.LogReport.{LogReport}
+use Rattle.aa_log.specs.declared.said.SaidReport.{SaidReport}
 use Rattle.aa_log.specs.Orders.{profile_of, reason_key, IsInOrder}
 use Rattle.aa_log.specs.Printed.{reason_of}
 
@@ -59,20 +59,29 @@ abbrev pub json_each : List (List ℕ) → Option (Vec SkippedLines Global) → 
 json_each logs None = []
 json_each logs (Some each) = json_each_of logs each.items
 
+-- how many lines aren't understood and where the first is, as JSON
+unfoldable pub json_unclear : List (List ℕ) → ℕ → LinePlace → List ℕ
+json_unclear logs count first = codes "{" ++ key_text (codes "count") ++ decimal count ++ place_members logs first ++ codes "}"
+
+-- the member of these lines, where there are some
+abbrev pub unclear_member : List (List ℕ) → ℕ → Option LinePlace → List ℕ
+unclear_member logs count None = []
+unclear_member logs count (Some first) = member_text (codes "unclear") (json_unclear logs count first)
+
 -- the counts of all, and the end of the object and of the line
-unfoldable pub json_totals : LogReport → List ℕ
-json_totals r =
-    member_text (codes "lines") (decimal r.lines) ++ member_text (codes "asking") (decimal r.requests) ++ member_text (codes "other") (decimal r.other)
-    ++ member_if (codes "left_out") (option_map decimal r.left_out) ++ codes "}\n"
+unfoldable pub json_totals : List (List ℕ) → SaidReport → List ℕ
+json_totals logs s =
+    member_text (codes "lines") (decimal s.report.lines) ++ member_text (codes "asking") (decimal s.report.requests) ++ member_text (codes "other") (decimal s.report.other)
+    ++ member_if (codes "left_out") (option_map decimal s.report.left_out) ++ unclear_member logs s.unclear s.first_unclear ++ codes "}\n"
 
 -- the lines that ask nothing by their reasons, each of them where these are wanted, and the counts of all
-abbrev pub json_rest : List (List ℕ) → List SkippedLines → LogReport → List ℕ
-json_rest logs reasons r = json_by_reason logs reasons ++ json_each logs r.each_skipped ++ json_totals r
+abbrev pub json_rest : List (List ℕ) → List SkippedLines → SaidReport → List ℕ
+json_rest logs reasons s = json_by_reason logs reasons ++ json_each logs s.report.each_skipped ++ json_totals logs s
 
 -- what is printed of logs as one JSON object and a line end: the requests in order, and behind them the rest
-pub record IsJsonReport (logs : List (List ℕ)) (r : LogReport) (text : List ℕ) : Type 0 where
+pub record IsJsonReport (logs : List (List ℕ)) (s : SaidReport) (text : List ℕ) : Type 0 where
   pub entries : List Entry
-  pub ordered : IsInOrder profile_of r.entries.items entries
+  pub ordered : IsInOrder profile_of s.report.entries.items entries
   pub reasons : List SkippedLines
-  pub by_reason : IsInOrder reason_key r.skipped.items reasons
-  pub printed : text ≡ json_requests logs entries ++ json_rest logs reasons r
+  pub by_reason : IsInOrder reason_key s.report.skipped.items reasons
+  pub printed : text ≡ json_requests logs entries ++ json_rest logs reasons s

@@ -13,6 +13,7 @@ ghost use Rattle.aa_log.specs.Against.{now_of, verdict_of, IsNewlyDenied, AreCou
 use crate::listed::{push_entry_members, push_json_rest, push_word_member};
 use crate::logging::{Entry, LogReport};
 use crate::printing::{push_rest, push_skipped_lines};
+use crate::said::SaidReport;
 use aa_ask::{Verdict, decide, push_reasons};
 use aa_command::Decided;
 use aa_compile::label_of;
@@ -362,17 +363,17 @@ pub fn push_json_against(
     out: &mut Vec<u8>,
     alloc: Global,
     logs: &[&[u8]],
-    report: &LogReport<'_>,
+    said: &SaidReport<'_>,
     decided: Decided<'_>,
     wants_all: bool,
 ) -> Result<Counts, AllocError>
-    ensures { IfOk result (λ counts. (text : List ℕ) × IsJsonAgainst (map (λ log. log.now) logs.now) decided.entry wants_all report.now counts text × (out.new.items ≡ out.old.items ++ text)) }
+    ensures { IfOk result (λ counts. (text : List ℕ) × IsJsonAgainst (map (λ log. log.now) logs.now) decided.entry wants_all said.now counts text × (out.new.items ≡ out.old.items ++ text)) }
 {
-    let entries = report.in_order(alloc)?;
-    let reasons = report.reasons_in_order(alloc)?;
+    let entries = said.report.in_order(alloc)?;
+    let reasons = said.report.reasons_in_order(alloc)?;
     let listed = entries.as_slice();
     let causes = reasons.as_slice();
     let counts = push_json_answers(out, alloc, logs, decided, wants_all, listed)?;
-    push_json_rest(out, alloc, logs, causes, report)?;
+    push_json_rest(out, alloc, logs, causes, said)?;
     Ok(counts)
 }

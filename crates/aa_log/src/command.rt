@@ -10,7 +10,6 @@ ghost use Rattle.aa_log.specs.Command.{said_printed, IsFoundIn, IsFirstUnreadLog
 
 use crate::against::{push_against, push_json_against};
 use crate::listed::push_json_report;
-use crate::logging::LogReport;
 use crate::printing::push_report;
 use crate::refused::log_refused;
 use crate::said::SaidReport;
@@ -77,14 +76,14 @@ fn push_said(
     out: &mut Vec<u8>,
     alloc: Global,
     options: &LogOptions<'_>,
-    report: &LogReport<'_>,
+    said: &SaidReport<'_>,
 ) -> Result<(), AllocError>
-    ensures { OnOk result ((text : List ℕ) × IsLogText options.now report.now text × (out.new.items ≡ out.old.items ++ text)) }
+    ensures { OnOk result ((text : List ℕ) × IsLogText options.now said.now text × (out.new.items ≡ out.old.items ++ text)) }
 {
     if options.is_json {
-        return push_json_report(out, alloc, options.logs, report);
+        return push_json_report(out, alloc, options.logs, said);
     }
-    push_report(out, alloc, options.logs, report)
+    push_report(out, alloc, options.logs, &said.report)
 }
 
 /// The status, or 1 where a line isn't understood.
@@ -97,17 +96,17 @@ fn status_or(said: &SaidReport<'_>, status: u8) -> u8
     }
 }
 
-/// Says what logs ask.
-fn report_printed(
+/// Says what is found in logs: which lines aren't understood, and what the lines ask.
+pub fn report_printed(
     alloc: Global,
     options: &LogOptions<'_>,
     said: &SaidReport<'_>,
 ) -> Result<Output, NoMemory>
-    ensures { IfOk result (λ out. (text : List ℕ) × IsLogText options.now said.now.report text × (printed out ≡ said_printed options.now said.now text 0)) }
+    ensures { IfOk result (λ out. (text : List ℕ) × IsLogText options.now said.now text × (printed out ≡ said_printed options.now said.now text 0)) }
 {
     let mut output = Output::new(alloc);
     push_unclear(&mut output.faults, options.logs, said)?;
-    push_said(&mut output.answers, alloc, options, &said.report)?;
+    push_said(&mut output.answers, alloc, options, said)?;
     output.status = status_or(said, 0);
     Ok(output)
 }
@@ -116,15 +115,16 @@ fn push_replayed(
     out: &mut Vec<u8>,
     alloc: Global,
     options: &LogOptions<'_>,
-    report: &LogReport<'_>,
+    said: &SaidReport<'_>,
     decided: Decided<'_>,
 ) -> Result<Counts, AllocError>
-    ensures { IfOk result (λ counts. (text : List ℕ) × IsReplayText options.now report.now decided.entry counts text × (out.old.items ≡ [] → out.new.items ≡ text)) }
+    ensures { IfOk result (λ counts. (text : List ℕ) × IsReplayText options.now said.now decided.entry counts text × (out.old.items ≡ [] → out.new.items ≡ text)) }
 {
+    let all = options.wants_all;
     if options.is_json {
-        return push_json_against(out, alloc, options.logs, report, decided, options.wants_all);
+        return push_json_against(out, alloc, options.logs, said, decided, all);
     }
-    push_against(out, alloc, options.logs, report, decided, options.wants_all)
+    push_against(out, alloc, options.logs, &said.report, decided, all)
 }
 
 /// 4 where something is denied now that wasn't.
@@ -148,7 +148,7 @@ impl Use for Replaying<'_> {
         let mut output = Output::new(alloc);
         push_unclear(&mut output.faults, self.options.logs, self.said)?;
         let answers = &mut output.answers;
-        let counts = push_replayed(answers, alloc, self.options, &self.said.report, decided)?;
+        let counts = push_replayed(answers, alloc, self.options, self.said, decided)?;
         output.status = status_or(self.said, status_of(&counts));
         Ok(output)
     }

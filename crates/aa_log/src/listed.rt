@@ -1,13 +1,17 @@
 //! What `log` finds, in JSON.
 
 ghost use Rattle.std.specs.Prelude.{ℕ, ◌≡◌, ◌++◌, List, [], codes, map, slice_get, unwrap_or, OnOk};
+ghost use Rattle.aa_text.specs.Jsons.{member_text};
 ghost use Rattle.aa_log.specs.Printed.{reason_of};
-ghost use Rattle.aa_log.specs.Listed.{word_member, place_members, entry_members, entries_list, skipped_list, json_by_reason, json_each_of, json_requests, json_each, json_totals, json_rest, IsJsonReport};
+ghost use Rattle.aa_log.specs.Listed.{word_member, place_members, entry_members, entries_list, skipped_list, json_by_reason, json_each_of, json_requests, json_each, json_unclear, unclear_member, json_totals, json_rest, IsJsonReport};
 
-use crate::logging::{Entry, LinePlace, LogReport, SkippedLines};
+use crate::logging::{Entry, LinePlace, SkippedLines};
 use crate::printing::push_reason;
+use crate::said::SaidReport;
 use aa_logs::then_name;
-use aa_text::{ListItem, push_key, push_list_in, push_member, push_member_if, push_text};
+use aa_text::{
+    ListItem, push_key, push_list_in, push_member, push_member_if, push_number, push_text,
+};
 use std::alloc::{AllocError, Global};
 
 /// Appends a member whose value is a word that needs no escape.
@@ -197,19 +201,70 @@ fn push_each(
     }
 }
 
+/// Appends how many lines aren't understood, and where the first is.
+#[tactic(auto, unfolding(crate::specs::Listed::json_unclear))]
+fn push_json_unclear(
+    out: &mut Vec<u8>,
+    alloc: Global,
+    logs: &[&[u8]],
+    count: u64,
+    first: &LinePlace,
+) -> Result<(), AllocError>
+    ensures { OnOk result (out.new.items ≡ out.old.items ++ json_unclear (map (λ log. log.now) logs.now) count first.now) }
+{
+    push_text(out, "{")?;
+    push_key(out, "count")?;
+    push_number(out, count)?;
+    push_place_members(out, alloc, logs, first)?;
+    push_text(out, "}")
+}
+
+/// Appends the member of the lines that aren't understood.
+#[tactic(auto, unfolding(aa_text::specs::Jsons::member_text))]
+fn push_unclear_of(
+    out: &mut Vec<u8>,
+    alloc: Global,
+    logs: &[&[u8]],
+    count: u64,
+    first: &LinePlace,
+) -> Result<(), AllocError>
+    ensures { OnOk result (out.new.items ≡ out.old.items ++ member_text (codes "unclear") (json_unclear (map (λ log. log.now) logs.now) count first.now)) }
+{
+    push_text(out, ",")?;
+    push_key(out, "unclear")?;
+    push_json_unclear(out, alloc, logs, count, first)
+}
+
+/// Appends that member, where there are some.
+fn push_unclear_member(
+    out: &mut Vec<u8>,
+    alloc: Global,
+    logs: &[&[u8]],
+    said: &SaidReport<'_>,
+) -> Result<(), AllocError>
+    ensures { OnOk result (out.new.items ≡ out.old.items ++ unclear_member (map (λ log. log.now) logs.now) said.now.unclear said.now.first_unclear) }
+{
+    match &said.first_unclear {
+        Some(first) => push_unclear_of(out, alloc, logs, said.unclear, first),
+        None => Ok(()),
+    }
+}
+
 /// Appends the counts of all, and the end of the object and of the line.
 #[tactic(auto, unfolding(crate::specs::Listed::json_totals))]
 fn push_json_totals(
     out: &mut Vec<u8>,
     alloc: Global,
-    report: &LogReport<'_>,
+    logs: &[&[u8]],
+    said: &SaidReport<'_>,
 ) -> Result<(), AllocError>
-    ensures { OnOk result (out.new.items ≡ out.old.items ++ json_totals report.now) }
+    ensures { OnOk result (out.new.items ≡ out.old.items ++ json_totals (map (λ log. log.now) logs.now) said.now) }
 {
-    push_member(out, alloc, "lines", &report.lines)?;
-    push_member(out, alloc, "asking", &report.requests)?;
-    push_member(out, alloc, "other", &report.other)?;
-    push_member_if(out, alloc, "left_out", &report.left_out)?;
+    push_member(out, alloc, "lines", &said.report.lines)?;
+    push_member(out, alloc, "asking", &said.report.requests)?;
+    push_member(out, alloc, "other", &said.report.other)?;
+    push_member_if(out, alloc, "left_out", &said.report.left_out)?;
+    push_unclear_member(out, alloc, logs, said)?;
     push_text(out, "}\n")
 }
 
@@ -219,13 +274,13 @@ pub fn push_json_rest(
     alloc: Global,
     logs: &[&[u8]],
     reasons: &[&SkippedLines],
-    report: &LogReport<'_>,
+    said: &SaidReport<'_>,
 ) -> Result<(), AllocError>
-    ensures { OnOk result (out.new.items ≡ out.old.items ++ json_rest (map (λ log. log.now) logs.now) (map (λ s. s.now) reasons.now) report.now) }
+    ensures { OnOk result (out.new.items ≡ out.old.items ++ json_rest (map (λ log. log.now) logs.now) (map (λ s. s.now) reasons.now) said.now) }
 {
     push_by_reason(out, alloc, logs, reasons)?;
-    push_each(out, alloc, logs, &report.each_skipped)?;
-    push_json_totals(out, alloc, report)
+    push_each(out, alloc, logs, &said.report.each_skipped)?;
+    push_json_totals(out, alloc, logs, said)
 }
 
 /// Appends requests as a list.
@@ -263,12 +318,12 @@ fn push_json_found(
     logs: &[&[u8]],
     entries: &[&Entry],
     reasons: &[&SkippedLines],
-    report: &LogReport<'_>,
+    said: &SaidReport<'_>,
 ) -> Result<(), AllocError>
-    ensures { OnOk result (out.new.items ≡ out.old.items ++ (json_requests (map (λ log. log.now) logs.now) (map (λ e. e.now) entries.now) ++ json_rest (map (λ log. log.now) logs.now) (map (λ s. s.now) reasons.now) report.now)) }
+    ensures { OnOk result (out.new.items ≡ out.old.items ++ (json_requests (map (λ log. log.now) logs.now) (map (λ e. e.now) entries.now) ++ json_rest (map (λ log. log.now) logs.now) (map (λ s. s.now) reasons.now) said.now)) }
 {
     push_requests(out, alloc, logs, entries)?;
-    push_json_rest(out, alloc, logs, reasons, report)
+    push_json_rest(out, alloc, logs, reasons, said)
 }
 
 /// Appends what the logs' lines ask, and what they don't, as one JSON object and a line end.
@@ -276,14 +331,14 @@ pub fn push_json_report(
     out: &mut Vec<u8>,
     alloc: Global,
     logs: &[&[u8]],
-    report: &LogReport<'_>,
+    said: &SaidReport<'_>,
 ) -> Result<(), AllocError>
-    ensures { OnOk result ((text : List ℕ) × IsJsonReport (map (λ log. log.now) logs.now) report.now text × (out.new.items ≡ out.old.items ++ text)) }
+    ensures { OnOk result ((text : List ℕ) × IsJsonReport (map (λ log. log.now) logs.now) said.now text × (out.new.items ≡ out.old.items ++ text)) }
 {
-    let entries = report.in_order(alloc)?;
-    let reasons = report.reasons_in_order(alloc)?;
+    let entries = said.report.in_order(alloc)?;
+    let reasons = said.report.reasons_in_order(alloc)?;
     let listed = entries.as_slice();
     let causes = reasons.as_slice();
-    push_json_found(out, alloc, logs, listed, causes, report)?;
+    push_json_found(out, alloc, logs, listed, causes, said)?;
     Ok(())
 }

@@ -13,7 +13,7 @@ returns-then-is_none_named g c =
     let s = setting_of (g.T.Tree.files c.args.tree.now) (g.T.Tree.taken c.args.tree.now) (g.T.Tree.input c.args.tree.now) c.args.settings.now in
     let o = c.args.options.now in
     let r = c.args.said.now in
-    IfOk-weaker c.report_printed.result (λ (out : Output). (text : List ℕ) × IsLogText o r.report text × (printed out ≡ said_printed o r text 0)) (λ (out : Output). IsReportOutput s o r (printed out))
+    IfOk-weaker c.report_printed.result (λ (out : Output). (text : List ℕ) × IsLogText o r text × (printed out ≡ said_printed o r text 0)) (λ (out : Output). IsReportOutput s o r (printed out))
     (λ out t. Said t.0 (c.is_none_named.ensures.none c.if-is_none_named.true) t.1 t.2) c.report_printed.ensures
 
 pub returns : goal.returns

@@ -11,12 +11,12 @@ returns c =
     let logs : List (List ℕ) = map (λ (log : Bor (List ℕ)). log.now) c.args.logs.now in
     let es : List Entry = map (λ (e : Bor Entry). e.now) c.as_slice-listed.result.now in
     let rs : List SkippedLines = map (λ (s : Bor SkippedLines). s.now) c.as_slice-causes.result.now in (
-      json_requests logs es ++ json_rest logs rs c.args.report.now,
+      json_requests logs es ++ json_rest logs rs c.args.said.now,
       record {
         entries = es;
-        ordered = subst (λ (l : List (Bor Entry)). IsInOrder profile_of c.args.report.now.entries.items (map (λ (e : Bor Entry). e.now) l)) (sym c.as_slice-listed.ensures.value) c.in_ok-entries.ensures;
+        ordered = subst (λ (l : List (Bor Entry)). IsInOrder profile_of c.args.said.now.report.entries.items (map (λ (e : Bor Entry). e.now) l)) (sym c.as_slice-listed.ensures.value) c.in_ok-entries.ensures;
         reasons = rs;
-        by_reason = subst (λ (l : List (Bor SkippedLines)). IsInOrder reason_key c.args.report.now.skipped.items (map (λ (s : Bor SkippedLines). s.now) l)) (sym c.as_slice-causes.ensures.value) c.in_ok-reasons.ensures;
+        by_reason = subst (λ (l : List (Bor SkippedLines)). IsInOrder reason_key c.args.said.now.report.skipped.items (map (λ (s : Bor SkippedLines). s.now) l)) (sym c.as_slice-causes.ensures.value) c.in_ok-reasons.ensures;
         printed = refl;
       },
       c.in_ok-push_json_found.ensures,
