@@ -5,6 +5,8 @@ pub mod Entries
 pub mod Reasons
 pub mod Results
 pub mod Taking
+pub mod Joining
+mod Whole
 pub mod Apart
 pub mod Askable
 pub mod Answered

@@ -1,8 +1,6 @@
 -- Lists whose items stand with a comma between two of them.
-use Rattle.std.proofs.Common.{◌≡◌, ◌∙◌, ℕ, ◌-◌, ◌<◌, ◌≤◌, List, [], ◌∷◌, ◌++◌, ◌||◌, length, map, take, drop, get_or, Bool, true, false, refl, sym, ap, append_assoc, append-nil, arith}
-use Rattle.std.proofs.lemmas.List.{take_all}
-use Rattle.aa_text.specs.Jsons.{behind_commas, with_commas}
-use Rattle.aa_text.specs.Jsons.{comma_if}
+use Rattle.std.proofs.Common.{◌≡◌, ◌∙◌, ℕ, List, [], ◌∷◌, ◌++◌, ◌||◌, Bool, true, false, refl, sym, ap, append_assoc}
+use Rattle.aa_text.specs.Jsons.{behind_commas}
 use Rattle.aa_log.specs.Commas.{more_of, is_some_of}
 
 behind_both : (xs ys : List (List ℕ)) → behind_commas (xs ++ ys) ≡ behind_commas xs ++ behind_commas ys

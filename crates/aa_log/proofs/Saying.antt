@@ -1,6 +1,6 @@
 -- What is found in logs, once a line more is taken.
 use Rattle.std.proofs.Common.{◌≡◌, ℕ, ◌+◌, List, [], ◌∷◌, ◌++◌, Bool, true, false, cond, Option, Some, None, refl, sym, ap, subst, ◌∙◌, append-nil, arith}
-use Rattle.std.specs.Prelude.{min, flat_map, count_by, find, replicate, option_map}
+use Rattle.std.specs.Prelude.{min, count_by, find, replicate, option_map}
 use Rattle.std.specs.Option.{option_or}
 use Rattle.std.proofs.lemmas.List.{append_assoc, replicate_more}
 use Rattle.std.proofs.lemmas.List.Sums.{sum_by_push}

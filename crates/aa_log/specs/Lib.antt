@@ -4,6 +4,8 @@ pub mod Commas
 pub mod Listed
 pub mod Counted
 pub mod Found
+pub mod Joined
+pub mod Whole
 pub mod Apart
 pub mod Limits
 pub mod Replayed

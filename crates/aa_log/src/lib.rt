@@ -13,7 +13,7 @@ mod warned;
 
 pub use against::{push_against, push_json_against};
 pub use command::{LogOptions, log_files, report_printed};
-pub use laws::{keys_tell, lines_ask_so, requests_tell};
+pub use laws::{keys_tell, lines_are_merged, lines_ask_so, requests_tell};
 pub use listed::{push_entry_members, push_json_report, push_json_rest, push_word_member};
 pub use logging::{Entry, LinePlace, LogReport, SkippedLines};
 pub use printing::{push_entry, push_line_place, push_report, push_rest, push_skipped_lines};
