@@ -23,6 +23,9 @@ const CHECK: &str =
 const ASK: &str =
     "Decides requests, and names the rules that decided, as in: aapolicy ask /etc/apparmor.d/usr.sbin.cupsd r:/etc/passwd x:/bin/sh cap:net_admin";
 
+const DIFF: &str =
+    "Says which requests two policies answer differently, and names the rules, as in: aapolicy diff old/apparmor.d new/apparmor.d";
+
 const JOB: &str =
     "Prints the job that aamediate run decides alike, as in: aapolicy job /etc/apparmor.d/usr.sbin.cupsd --log /var/log/kern.log";
 
@@ -121,6 +124,45 @@ const CHECK_ARGUMENTS: &[Argument] = &[
         form: Form::Flag,
         barred: None,
         help: "Print faults alone",
+    },
+];
+
+/// What `diff` takes.
+const DIFF_ARGUMENTS: &[Argument] = &[
+    Argument {
+        name: "OLD",
+        letter: None,
+        form: Form::NeededWord,
+        barred: None,
+        help: "A file with profiles, or a folder of such files; - is standard input",
+    },
+    Argument {
+        name: "NEW",
+        letter: None,
+        form: Form::NeededWord,
+        barred: None,
+        help: "What it is compared with",
+    },
+    Argument {
+        name: "old-base",
+        letter: None,
+        form: Form::Value("DIR"),
+        barred: None,
+        help: "The folder in which includes of OLD are searched last, in place of the base folder",
+    },
+    Argument {
+        name: "gains",
+        letter: None,
+        form: Form::Flag,
+        barred: None,
+        help: "Print what is newly granted alone",
+    },
+    Argument {
+        name: "profile",
+        letter: None,
+        form: Form::Values("NAME"),
+        barred: None,
+        help: "Print lines of the profile with this full name alone, or of unconfined tasks; of each of these, where there are several",
     },
 ];
 
@@ -369,6 +411,12 @@ const COMMANDS: &[Named] = &[
         more: &[],
     },
     Named {
+        name: "diff",
+        about: DIFF,
+        arguments: DIFF_ARGUMENTS,
+        more: &[],
+    },
+    Named {
         name: "job",
         about: JOB,
         arguments: JOB_ARGUMENTS,
@@ -430,13 +478,30 @@ pub(crate) fn base_of<'a>(matches: &ArgMatches<'a>) -> &'a [u8] {
     matches.get_str("base").unwrap_or(BASE).as_bytes()
 }
 
+/// The folder in which includes of the old policy are searched last.
+pub(crate) fn old_base_of<'a>(matches: &ArgMatches<'a>) -> &'a [u8] {
+    match matches.get_str("old-base") {
+        Some(base) => base.as_bytes(),
+        None => base_of(matches),
+    }
+}
+
+/// The folders in which includes are searched, in order, where that is the last.
+pub(crate) fn folders_before<'a>(
+    alloc: Global,
+    matches: &ArgMatches<'a>,
+    base: &'a [u8],
+) -> Result<Vec<&'a [u8]>, AllocError> {
+    let named = values_of(alloc, matches, "Include")?;
+    searched_folders(alloc, named.as_slice(), base)
+}
+
 /// The folders in which includes are searched, in order.
 pub(crate) fn folders_of<'a>(
     alloc: Global,
     matches: &ArgMatches<'a>,
 ) -> Result<Vec<&'a [u8]>, AllocError> {
-    let named = values_of(alloc, matches, "Include")?;
-    searched_folders(alloc, named.as_slice(), base_of(matches))
+    folders_before(alloc, matches, base_of(matches))
 }
 
 /// The values of an argument, as bytes.

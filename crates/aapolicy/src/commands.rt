@@ -1,9 +1,12 @@
 //! What the command line asks of each command.
 
-use crate::command::{base_of, copies_of, folders_of, second_of, states_of, values_of};
+use crate::command::{
+    base_of, copies_of, folders_before, folders_of, old_base_of, second_of, states_of, values_of,
+};
 use aa_ask::{AskOptions, Manner, ask_files};
 use aa_check::{CheckOptions, Form, check_files};
 use aa_command::{Output, Settings, refused};
+use aa_diff::{DiffOptions, Wanted, diff_files};
 use aa_job::{JobOptions, job_files};
 use aa_log::{LogOptions, log_files};
 use aa_logs::{Choice, Form as Written, LogWord, name_of};
@@ -83,6 +86,33 @@ fn run_ask(
     };
     let words = copies_of(alloc, matches, "WORD")?;
     ask_files(alloc, rt, settings, &options, words)
+}
+
+fn run_diff(
+    rt: &HostRuntime,
+    matches: &ArgMatches<'_>,
+    settings: &Settings<'_>,
+) -> Result<Output, NoMemory> {
+    let alloc = rt.alloc();
+    let old = copies_of(alloc, matches, "OLD")?;
+    let new = copies_of(alloc, matches, "NEW")?;
+    let profiles = profiles_of(alloc, matches)?;
+    let base = old_base_of(matches);
+    let folders = folders_before(alloc, matches, base)?;
+    let before = Settings {
+        base,
+        folders: folders.as_slice(),
+        states: settings.states,
+    };
+    let options = DiffOptions {
+        old: old.as_slice(),
+        new: new.as_slice(),
+        wanted: Wanted {
+            gains: matches.get_flag("gains"),
+            profiles: profiles.as_slice(),
+        },
+    };
+    diff_files(alloc, rt, &before, settings, &options)
 }
 
 fn run_log(
@@ -175,6 +205,7 @@ fn run_wanted(
     match name {
         "check" => run_check(rt, matches, settings),
         "ask" => run_ask(rt, matches, settings),
+        "diff" => run_diff(rt, matches, settings),
         _ => run_with_logs(rt, name, matches, settings),
     }
 }
@@ -184,6 +215,7 @@ fn file_arguments(name: &str) -> &'static [&'static str] {
     match name {
         "check" => &["PROFILE"],
         "ask" => &["PROFILE", "also", "from"],
+        "diff" => &["OLD", "NEW"],
         "log" => &["FILE", "against"],
         _ => &["PROFILE", "log"],
     }
