@@ -12,17 +12,23 @@ use Rattle.aa_text.specs.declared.memory.NoMemory.{NoMemory as NoMemoryLeft}
 use Rattle.aa_command.specs.declared.output.Output.{Output}
 use Rattle.aa_command.specs.Printed.{Printed, printed}
 use Rattle.aa_command.specs.Refusals.{SaysUnitFault, SaysLoadingFault}
-use Rattle.aa_command.specs.Policies.{IsPrintedBy, Refused, Decides, IsPrintedAt, Unread, Read, IsPrintedFor, NoRoots, Rooted}
-use Rattle.aa_diff.specs.Sides.{IsRead, IsRefused, behind, marked, IsMarked, IsOfSide, Refused as SideRefused, Compared}
+use Rattle.aa_command.specs.Policies.{IsPrintedBy, Refused, Decides, IsPrintedAt, Unread, Read, IsPrintedFor, NoRoots, Rooted, behind_warnings}
+use Rattle.aa_diff.specs.Sides.{IsRefused, behind, marked, IsMarked, IsGiven, IsOfSide, Refused as SideRefused, Compared}
 
 -- what is printed of the files of arguments: that they are refused, or what their policy gives
 pub split : (s : Setting) (arguments : List (List ℕ)) (gives : Decided → Printed → Type 0) (out : Printed) → IsPrintedFor s arguments gives out
-    → IsRefused s arguments out ⊎ ((d : Decided) × IsRead s arguments d × gives d out)
+    → IsRefused s arguments out ⊎ ((d : Decided) × IsGiven s arguments gives d out)
 split s arguments gives out (NoRoots e root says) = inl (NoRoots e root says)
-split s arguments gives out (Rooted paths warnings roots (Unread e first says)) = inl (Rooted paths warnings roots (Unread e first says))
-split s arguments gives out (Rooted paths warnings roots (Read units loaded (Refused f none says))) = inl (Rooted paths warnings roots (Read units loaded (Refused f none says)))
-split s arguments gives out (Rooted paths warnings roots (Read units loaded (Decides d decided given))) =
-    inr (d, record { paths = paths; warnings = warnings; roots = roots; units = units; loaded = loaded; decided = decided }, given)
+split s arguments gives out (Rooted paths warnings own roots (Unread e first says) is) = inl (Rooted paths warnings own roots (Unread e first says) is)
+split s arguments gives out (Rooted paths warnings own roots (Read units loaded (Refused f none says)) is) =
+    inl (Rooted paths warnings own roots (Read units loaded (Refused f none says)) is)
+split s arguments gives out (Rooted paths warnings own roots (Read units loaded (Decides d decided given)) is) =
+    inr (d, record {
+      read = record { paths = paths; warnings = warnings; roots = roots; units = units; loaded = loaded; decided = decided };
+      own = own;
+      gives_it = given;
+      is = is;
+    })
 
 status_low : (out said : Printed) → out ≡ said → said.status < 128 → out.status < 128
 status_low out said e low = subst (λ (n : ℕ). n < 128) (sym (ap (λ (p : Printed). p.status) e)) low
@@ -42,9 +48,11 @@ loading_low folders states us (fault.Together e) out says = status_low out _ say
 -- a refusal has a low status
 pub refused_low : (s : Setting) (arguments : List (List ℕ)) (out : Printed) → IsRefused s arguments out → out.status < 128
 refused_low s arguments out (NoRoots e root says) = unit_low e out says
-refused_low s arguments out (Rooted paths warnings roots (Unread e first says)) = unit_low e out says
-refused_low s arguments out (Rooted paths warnings roots (Read units loaded (Refused f none says))) = loading_low s.folders s.states units f out says
-refused_low s arguments out (Rooted paths warnings roots (Read units loaded (Decides d decided given))) = absurd given
+refused_low s arguments out (Rooted paths warnings own roots (Unread e first says) is) =
+    status_low out (behind_warnings warnings own) is (unit_low e own says)
+refused_low s arguments out (Rooted paths warnings own roots (Read units loaded (Refused f none says)) is) =
+    status_low out (behind_warnings warnings own) is (loading_low s.folders s.states units f own says)
+refused_low s arguments out (Rooted paths warnings own roots (Read units loaded (Decides d decided given)) is) = absurd given
 
 same_parts : (p q : Printed) → p.answers ≡ q.answers → p.faults ≡ q.faults → p.status ≡ q.status → p ≡ q
 same_parts p q a f n =
@@ -57,21 +65,26 @@ marked_once p q e =
     same_parts p q (ap (λ (x : Printed). x.answers) e) (ap (λ (x : Printed). x.faults) e) (omega (arith, ap (λ (x : Printed). x.status) e))
 
 module _ (side : List ℕ) (s : Setting) (arguments : List (List ℕ)) (gives : Decided → Printed → Type 0) where
-  -- what is marked was given
+  -- what is marked was given, behind warnings too
+  marked_is : (d : Decided) (out given : Printed) (g : IsGiven s arguments (IsMarked gives) d out) → out ≡ marked given → behind_warnings g.read.warnings g.gives_it.given ≡ given
+  marked_is d out given g is =
+      let own : out ≡ marked (behind_warnings g.read.warnings g.gives_it.given) = g.is ∙ ap (behind_warnings g.read.warnings) g.gives_it.is in
+      marked_once (behind_warnings g.read.warnings g.gives_it.given) given (sym own ∙ is)
+
   pub given_side : (out given : Printed) → 128 ≤ out.status → out ≡ marked given → IsPrintedFor s arguments (IsMarked gives) out → IsOfSide side s arguments gives given
   given_side out given high is printed =
       ⊎_elim
       (λ (refused : IsRefused s arguments out). absurd (let low = refused_low s arguments out refused in omega (arith, high, low)))
-      (λ (h : (d : Decided) × IsRead s arguments d × IsMarked gives d out).
-      Compared h.0 h.1 (subst (λ (p : Printed). gives h.0 p) (marked_once h.2.given given (sym h.2.is ∙ is)) h.2.gives_it))
+      (λ (h : (d : Decided) × IsGiven s arguments (IsMarked gives) d out).
+      Compared h.0 (record { read = h.1.read; own = h.1.gives_it.given; gives_it = h.1.gives_it.gives_it; is = sym (marked_is h.0 out given h.1 is) }))
       (split s arguments (IsMarked gives) out printed)
 
   pub given_low : (out given : Printed) → 128 ≤ out.status → out ≡ marked given → IsPrintedFor s arguments (IsMarked gives) out → given.status < 128
   given_low out given high is printed =
       ⊎_elim
       (λ (refused : IsRefused s arguments out). absurd (let low = refused_low s arguments out refused in omega (arith, high, low)))
-      (λ (h : (d : Decided) × IsRead s arguments d × IsMarked gives d out).
-      subst (λ (p : Printed). p.status < 128) (marked_once h.2.given given (sym h.2.is ∙ is)) h.2.low)
+      (λ (h : (d : Decided) × IsGiven s arguments (IsMarked gives) d out).
+      subst (λ (p : Printed). p.status < 128) (marked_is h.0 out given h.1 is) h.1.gives_it.low)
       (split s arguments (IsMarked gives) out printed)
 
   -- what isn't is a refusal
@@ -79,8 +92,8 @@ module _ (side : List ℕ) (s : Setting) (arguments : List (List ℕ)) (gives : 
   refused_side out low printed =
       ⊎_elim
       (λ (refused : IsRefused s arguments out). SideRefused out refused refl)
-      (λ (h : (d : Decided) × IsRead s arguments d × IsMarked gives d out).
-      absurd (let n = ap (λ (p : Printed). p.status) h.2.is in omega (arith, low, n)))
+      (λ (h : (d : Decided) × IsGiven s arguments (IsMarked gives) d out).
+      absurd (let n = ap (λ (p : Printed). p.status) (h.1.is ∙ ap (behind_warnings h.1.read.warnings) h.1.gives_it.is) in omega (arith, low, n)))
       (split s arguments (IsMarked gives) out printed)
 
   -- which it is is told by the status

@@ -6,7 +6,7 @@ use Rattle.aa_command.specs.declared.decided.Decided.{Decided}
 use Rattle.aa_command.specs.Setting.{Setting, AreRoots}
 use Rattle.aa_command.specs.Printed.{Printed}
 use Rattle.aa_command.specs.Loads.{AreLoaded}
-use Rattle.aa_command.specs.Policies.{IsDecidedBy, IsPrintedFor}
+use Rattle.aa_command.specs.Policies.{IsDecidedBy, IsPrintedFor, behind_warnings}
 
 -- the files that arguments stand for are one policy
 pub record IsRead (s : Setting) (arguments : List (List ℕ)) (d : Decided) : Type 0 where
@@ -29,10 +29,17 @@ refused_text side faults = codes "error: " ++ side ++ codes " can't be compared:
 abbrev pub behind : List ℕ → Printed → Printed
 behind side said = record { answers = said.answers; faults = refused_text side said.faults; status = said.status }
 
+-- what their policy gives, behind what is warned of other files
+pub record IsGiven (s : Setting) (arguments : List (List ℕ)) (gives : Decided → Printed → Type 0) (d : Decided) (out : Printed) : Type 0 where
+  pub read : IsRead s arguments d
+  pub own : Printed
+  pub gives_it : gives d own
+  pub is : out ≡ behind_warnings read.warnings own
+
 -- what is printed of a side: that it is refused, or what its policy gives
 pub data IsOfSide (side : List ℕ) (s : Setting) (arguments : List (List ℕ)) (gives : Decided → Printed → Type 0) (out : Printed) : Type 0 where
   Refused : (said : Printed) → IsRefused s arguments said → out ≡ behind side said → IsOfSide side s arguments gives out
-  Compared : (d : Decided) → IsRead s arguments d → gives d out → IsOfSide side s arguments gives out
+  Compared : (d : Decided) → IsGiven s arguments gives d out → IsOfSide side s arguments gives out
 
 -- the status of what a policy gave, between two calls
 abbrev pub marked : Printed → Printed
