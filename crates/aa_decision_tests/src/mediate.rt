@@ -6,5 +6,8 @@ mod difference_tests;
 mod label_tests;
 mod note_tests;
 mod plain_tests;
+mod quantity_tests;
 mod representative_tests;
+mod skipping_tests;
+mod skips;
 mod tasks;
