@@ -25,6 +25,7 @@ type Row = (
 );
 
 const READ: &[Perms] = &[Perms::READ];
+
 const WRITE: &[Perms] = &[Perms::WRITE, Perms::APPEND];
 
 const FILES: &[Row] = &[
@@ -160,7 +161,10 @@ fn is_seen(rt: &impl Abort, found: Option<&Request>, wanted: Option<Seen>, text:
 fn are_so(rt: &impl Abort, alloc: Global, row: &Row) {
     let policies = policies(rt, alloc, &[row.0]);
     let word = files_word(rt, alloc, row);
-    let found = quantity_of(alloc, policies.as_slice(), FIRST, &word, 4096).expect(rt, "a quantity");
+    let found = quantity_of(alloc, policies.as_slice(), FIRST, &word, 4096).expect(
+        rt,
+        "a quantity",
+    );
     let (granted, refused) = shown(&found);
     is_seen(rt, granted, row.4, row.0);
     is_seen(rt, refused, row.5, row.0);
@@ -173,12 +177,7 @@ fn all_some_or_none_of_the_files_are_granted(rt: HostRuntime) {
     }
 }
 
-fn is_program(
-    rt: &impl Abort,
-    found: Option<&Request>,
-    wanted: Option<&'static str>,
-    text: &str,
-) {
+fn is_program(rt: &impl Abort, found: Option<&Request>, wanted: Option<&'static str>, text: &str) {
     match (found, wanted) {
         (Some(Request::Exec(exec)), Some(path)) => equal_in(rt, exec.path(), path.as_bytes(), text),
         (found, wanted) => holds(rt, found.is_none() && wanted.is_none()),
@@ -191,7 +190,10 @@ fn run_so(rt: &impl Abort, alloc: Global, row: &Program) {
         pattern: pattern_of(rt, alloc, row.1),
         whose: Whose::Both,
     });
-    let found = quantity_of(alloc, policies.as_slice(), FIRST, &word, 4096).expect(rt, "a quantity");
+    let found = quantity_of(alloc, policies.as_slice(), FIRST, &word, 4096).expect(
+        rt,
+        "a quantity",
+    );
     let (granted, refused) = shown(&found);
     is_program(rt, granted, row.2, row.0);
     is_program(rt, refused, row.3, row.0);
