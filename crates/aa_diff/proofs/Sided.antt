@@ -23,12 +23,15 @@ split s arguments gives out (Rooted paths warnings own roots (Unread e first say
 split s arguments gives out (Rooted paths warnings own roots (Read units loaded (Refused f none says)) is) =
     inl (Rooted paths warnings own roots (Read units loaded (Refused f none says)) is)
 split s arguments gives out (Rooted paths warnings own roots (Read units loaded (Decides d decided given)) is) =
-    inr (d, record {
-      read = record { paths = paths; warnings = warnings; roots = roots; units = units; loaded = loaded; decided = decided };
-      own = own;
-      gives_it = given;
-      is = is;
-    })
+    inr (
+      d,
+      record {
+        read = record { paths = paths; warnings = warnings; roots = roots; units = units; loaded = loaded; decided = decided };
+        own = own;
+        gives_it = given;
+        is = is;
+      },
+    )
 
 status_low : (out said : Printed) → out ≡ said → said.status < 128 → out.status < 128
 status_low out said e low = subst (λ (n : ℕ). n < 128) (sym (ap (λ (p : Printed). p.status) e)) low
