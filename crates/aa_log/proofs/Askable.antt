@@ -22,7 +22,7 @@ use Rattle.aa_logs.specs.declared.line.Reason.TheVariants.{Namespace, Stacked}
 use Rattle.aa_logs.specs.Words.{WordData, is_separator, run_len, key_len, plain_piece, quoted_piece, field_piece, run_piece, keyed_piece, first_piece, words_behind, words_of}
 use Rattle.aa_logs.specs.Values.{is_hex_digit, digit_of, bytes_of_hex, is_even, is_hex, is_plain, name_in}
 use Rattle.aa_logs.specs.Fields.{field_in, raw_in, text_in}
-use Rattle.aa_logs.specs.Asked.{Cause, Keyword, Because, cap_by, cap_in, exec_by, exec_in, link_by, link_in, change_by, change_in, socket_by, net_by, masked_file, file_by, requested_by, object_by, object_in, by_operation, unless_over, of_operation, asked_in, owned_in, passed_over, asked_mask, is_text_there}
+use Rattle.aa_logs.specs.Asked.{Cause, Keyword, Because, cap_by, cap_in, exec_by, exec_in, link_by, link_in, change_by, change_in, socket_by, net_by, masked_file, file_by, requested_by, object_by, object_in, by_operation, unless_over, of_operation, asked_in, owned_in, passed_over, asked_mask, is_text_there, mask_owner}
 use Rattle.aa_logs.specs.Outcomes.{RecordData, Outcome, Another, AsksNothing, AsksFor}
 use Rattle.aa_logs.specs.Records.{is_record, told_by_word, told_by_type, is_one_of, is_old_type, word_tells, tells, told_in, is_broken, named_profile, profile_in, with_request, with_profile, by_told, record_by, record_in, outcome_by, without_return, outcome_of, line_in, is_return, holds_part, is_other_space}
 use Rattle.aa_logs.specs.LogLines.{LogLine}
@@ -223,8 +223,8 @@ operation_ok ws operation h =
     let target = text_ok (codes "target") ws h in
     let second = text_ok (codes "name2") ws h in
     ok_if (bytes_eq operation (codes "capable")) (cap_in ws) _ (λ is. cap_ok (option_or (raw_in (codes "capname") ws) (raw_in (codes "name") ws)))
-    (ok_if (bytes_eq operation (codes "exec")) (exec_in ws) _ (λ is. exec_ok (owned_in None ws) (text_in (codes "name") ws) name)
-    (ok_if (bytes_eq operation (codes "link") || bytes_eq operation (codes "inode_link")) (link_in ws) _ (λ is. link_ok (owned_in None ws) (text_in (codes "name") ws) (option_or (text_in (codes "target") ws) (text_in (codes "name2") ws)) name (either_passes are_bytes (text_in (codes "target") ws) (text_in (codes "name2") ws) target second))
+    (ok_if (bytes_eq operation (codes "exec")) (exec_in ws) _ (λ is. exec_ok (owned_in (mask_owner ws) ws) (text_in (codes "name") ws) name)
+    (ok_if (bytes_eq operation (codes "link") || bytes_eq operation (codes "inode_link")) (link_in ws) _ (λ is. link_ok (owned_in (mask_owner ws) ws) (text_in (codes "name") ws) (option_or (text_in (codes "target") ws) (text_in (codes "name2") ws)) name (either_passes are_bytes (text_in (codes "target") ws) (text_in (codes "name2") ws) target second))
     (ok_if (bytes_eq operation (codes "change_profile")) (change_in ws) (object_in ws) (λ is. change_ok (option_or (text_in (codes "target") ws) (text_in (codes "name") ws)) (either_passes are_bytes (text_in (codes "target") ws) (text_in (codes "name") ws) target name))
     (object_ok ws (raw_in (codes "family") ws) (raw_in (codes "sock_type") ws) h))))
 

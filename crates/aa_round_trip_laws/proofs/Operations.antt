@@ -125,7 +125,7 @@ link_of link target = Link (record { link = link; target = target; owned = false
 
 pub link_record : (word : NoteWord) (profile link target : List ℕ) (blocked : ℕ) → is_own_name profile ≡ true → is_path_of_bytes link ≡ true → is_path_of_bytes target ≡ true
     → record_by (link_words word profile link target blocked) ≡ Ok (Some (own_record (became word) profile (link_of link target)))
-unfolding field_in told_in told_by_word profile_in asked_in by_operation keyword_of
+unfolding field_in told_in told_by_word profile_in asked_in by_operation keyword_of place_of letters
 link_record note.Denied profile link target blocked h p q =
     let ws = link_words note.Denied profile link target blocked in
     let tail = mask_words note.Denied 8 blocked in
@@ -168,7 +168,7 @@ exec_sound note.Audit false target = refl
 
 pub exec_record : (word : NoteWord) (granted : Bool) (profile path target : List ℕ) → is_own_name profile ≡ true → is_path_of_bytes path ≡ true
     → record_by (exec_words word granted profile path target) ≡ Ok (Some (own_record (became word) profile (exec_of path)))
-unfolding field_in told_in told_by_word profile_in asked_in by_operation keyword_of
+unfolding field_in told_in told_by_word profile_in asked_in by_operation keyword_of place_of letters
 exec_record note.Denied true profile path target h p =
     record_from (exec_words note.Denied true profile path target) (became note.Denied) profile (exec_of path) (sound_names profile (codes "name") path (mask_words note.Denied 64 64 ++ target_words true target) refl (exec_sound note.Denied true target)) refl (own_profile profile h) (exec_read false path p) refl
 exec_record note.Denied false profile path target h p =
