@@ -104,13 +104,14 @@ fn run_diff(
         folders: folders.as_slice(),
         states: settings.states,
     };
+    let wanted = Wanted {
+        gains: matches.get_flag("gains"),
+        profiles: profiles.as_slice(),
+    };
     let options = DiffOptions {
         old: old.as_slice(),
         new: new.as_slice(),
-        wanted: Wanted {
-            gains: matches.get_flag("gains"),
-            profiles: profiles.as_slice(),
-        },
+        wanted,
     };
     diff_files(alloc, rt, &before, settings, &options)
 }
