@@ -181,7 +181,7 @@ class Manual:
 
     def is_on(self, heading, command):
         """Whether a section is on a command, and so on its page."""
-        return self.page_of(command) != self.name and f"`{self.name} {command.name}`" in heading
+        return self.page_of(command) != self.name and re.search(rf"`{self.name} {command.name}[` ]", heading)
 
     def sections_on(self, command):
         """What the page of docs/ says of a command."""
