@@ -1,176 +1,97 @@
 //! How those who feed lanes and those who serve them wait for one another.
 //!
-//! Where requests take less time than it costs to share them, one worker is enough, and the others rest. From time to time each of
-//! them looks how many requests were answered meanwhile; where those were few, requests take long, and all go to work. Every now and
-//! then they rest again but for one, to see whether that is still so. How long a rest takes is the only clock.
+//! Who has nothing more to do wakes the other side, looks once more, and sleeps. No clause speaks of it: a wake that is lost
+//! costs the time that a sleep takes at most.
 //!
-//! Who has nothing more to do wakes the other side, looks a few times more, and sleeps. No clause speaks of it: a wake that is lost costs
-//! the time that a sleep takes at most. A worker doesn't wake the feeder after each answer, but when it has nothing more to do, and
-//! where requests take long when it and the others have served half the lanes: so one hand-over carries what all lanes have.
-//! A sleeper is counted before it looks the last time, so a wake can hardly be lost. Giving the processor up in place of
-//! sleeping costs, where others want it, a slice of theirs each time.
+//! A worker doesn't wake the feeder after each answer but only when it has nothing more to do, and only if it has answered
+//! requests since, so that one hand-over carries what all lanes have. A sleeper is counted before it looks the last time, so a
+//! wake can hardly be lost. Giving the processor up in place of sleeping costs, where others want it, a slice of theirs each
+//! time.
 
-use crate::patience::Patience;
 use std::sync::Wait;
 use std::sync::atomic::{AtomicU64, Ordering};
 use std::thread::Parker;
 use std::time::Duration;
 
-// How many microseconds a sleep or a rest takes at most.
+// How many microseconds a sleep takes at most.
 const LONGEST: u64 = 2000;
 
-// How many the first sleep takes where nobody feeds who would wake a worker.
-const FIRST_SLEEP: u64 = 20;
+// How many microseconds the first sleep takes where nobody feeds who would wake a worker.
+const SHORTEST: u64 = 20;
 
-// How many the first rest takes, and how many more than it was to take.
-const FIRST_REST: u64 = 100;
-
-const LATER: u64 = 50;
-
-// After how many turns in a row that did something a worker tells the others of them.
+// After how many turns in a row that did something a worker wakes another.
 const MANY_TURNS: u32 = 8;
 
-// After how many requests it is seen the first time whether they still take long, and after how many more at most.
-const FIRST_TRIAL: u64 = 512;
-
-const NEXT_TRIAL: u64 = 65_536;
-
-// How often the feeder looks again at all lanes at most, where each holds few requests and where it holds many; and a worker.
-const LOOKS: u32 = 8;
-
-const FEW_LOOKS: u32 = 1;
-
-const WORKERS_LOOKS: u32 = 3;
-
-// How many requests are many for a lane. How many answers a microsecond are many: as many as a lane holds, which one turn hands over,
-// but no more than this.
-const MANY_REQUESTS: u32 = 16;
-
-const MANY_ANSWERS: u32 = 4;
-
-/// What the feeder of some lanes and the workers that serve them share, to know of one another and to wake each other.
+/// What the feeder of some lanes and the workers that serve them share, to wake each other.
 #[derive(Drop)]
 pub struct Bell {
     is_fed: bool,
-    looks: u32,
-    many: u64,
     feeder: Parker,
     drowsy: AtomicU64,
     unsettled: AtomicU64,
-    takes_long: AtomicU64,
-    awake: AtomicU64,
     sleepers: AtomicU64,
     rings: AtomicU64,
-    rests: AtomicU64,
-    answered: AtomicU64,
-    trial: AtomicU64,
 }
 
 /// How a worker gets on.
 #[derive(Drop)]
 pub struct Shift {
-    patience: Patience,
     idle_turns: u64,
     busy_turns: u32,
-    answered: u64,
-    owes: u64,
+    owes: bool,
     heard: Option<u32>,
     nap: u64,
 }
 
 impl Shift {
-    fn new() -> Shift {
+    /// A worker that begins.
+    pub fn new() -> Shift {
         Shift {
-            patience: Patience::new(WORKERS_LOOKS),
             idle_turns: 0,
             busy_turns: 0,
-            answered: 0,
-            owes: 0,
+            owes: false,
             heard: None,
-            nap: FIRST_SLEEP,
+            nap: SHORTEST,
         }
     }
 }
 
-// What can be slept on of a word.
-fn low(word: &AtomicU64) -> u32 {
-    (word.load(Ordering::SeqCst) & 0xffff_ffff) as u32
-}
-
 impl Bell {
-    /// For lanes of that capacity whose feeder wakes workers by it.
-    pub fn new(capacity: u32) -> Bell {
-        let looks = if capacity < MANY_REQUESTS {
-            LOOKS
-        } else {
-            FEW_LOOKS
-        };
-        Bell::with(true, looks, u64::from(capacity.min(MANY_ANSWERS)))
+    /// For lanes whose feeder wakes workers by it.
+    pub fn new() -> Bell {
+        Bell::with(true)
     }
 
     /// For lanes whose feeders, if there are any, know nothing of it.
     pub fn without_feeder() -> Bell {
-        Bell::with(false, FEW_LOOKS, 0)
+        Bell::with(false)
     }
 
-    fn with(is_fed: bool, looks: u32, many: u64) -> Bell {
+    fn with(is_fed: bool) -> Bell {
         Bell {
             is_fed,
-            looks,
-            many,
             feeder: Parker::new(),
             drowsy: AtomicU64::new(0),
             unsettled: AtomicU64::new(0),
-            takes_long: AtomicU64::new(if is_fed { 0 } else { 1 }),
-            awake: AtomicU64::new(0),
             sleepers: AtomicU64::new(0),
             rings: AtomicU64::new(0),
-            rests: AtomicU64::new(0),
-            answered: AtomicU64::new(0),
-            trial: AtomicU64::new(FIRST_TRIAL),
         }
     }
 
-    // Whether requests take long, as was seen last.
-    fn takes_long(&self) -> bool {
-        self.takes_long.load(Ordering::SeqCst) == 1
-    }
-
-    fn awake(&self) -> u64 {
-        self.awake.load(Ordering::SeqCst)
-    }
-
-    /// The feeder begins.
-    pub fn patience(&self) -> Patience {
-        Patience::new(self.looks)
-    }
-
-    /// The feeder has looked at all lanes, and says whether there was nothing to do. If there was something, a worker that sleeps is woken,
-    /// where requests take long or none is awake. If there wasn't, the feeder is to look a few times more, and where that finds nothing
-    /// either, it sleeps.
-    pub fn fed<R: Wait>(&self, rt: &R, patience: &mut Patience, idle: bool) {
+    /// The feeder has looked at all lanes, and says whether there was nothing to do. If there was something, a worker is woken; if
+    /// there wasn't, the feeder is to look once more, and where that finds nothing either, it sleeps.
+    pub fn fed<R: Wait>(&self, rt: &R, idle: bool) {
         if !idle {
-            patience.is_rewarded();
             if self.drowsy.load(Ordering::SeqCst) == 1 {
                 self.drowsy.store(0, Ordering::SeqCst);
             }
-            if self.takes_long() || self.awake() == 0 {
-                self.wake_worker();
-            }
-        } else if !patience.looks_again() {
-            self.may_sleep(rt, patience);
-        }
-    }
-
-    // The feeder counts as one that sleeps, and looks a last time; then it sleeps.
-    fn may_sleep<R: Wait>(&self, rt: &R, patience: &mut Patience) {
-        if self.drowsy.load(Ordering::SeqCst) == 0 {
+            self.wake_worker();
+        } else if self.drowsy.load(Ordering::SeqCst) == 0 {
             self.drowsy.store(1, Ordering::SeqCst);
-            return;
+        } else {
+            self.feeder.park_timeout(rt, Duration::from_micros(LONGEST));
+            self.drowsy.store(0, Ordering::SeqCst);
         }
-        patience.is_disappointed();
-        self.feeder.park_timeout(rt, Duration::from_micros(LONGEST));
-        self.drowsy.store(0, Ordering::SeqCst);
     }
 
     // Wakes the feeder, if it sleeps or is about to.
@@ -181,7 +102,7 @@ impl Bell {
         }
     }
 
-    // Wakes one worker that had nothing to do, if one sleeps or is about to.
+    // Wakes one worker, if one sleeps or is about to.
     fn wake_worker(&self) {
         if self.sleepers.load(Ordering::SeqCst) > 0 {
             self.rings.fetch_add(1, Ordering::SeqCst);
@@ -189,17 +110,10 @@ impl Bell {
         }
     }
 
-    // Wakes all workers that rest.
-    fn wake_resting(&self) {
-        self.rests.fetch_add(1, Ordering::SeqCst);
-        self.rests.wake_all();
-    }
-
     /// All workers are woken: what is to be fed was fed, or a worker has found nothing left to serve.
     pub fn wake_all(&self) {
         self.rings.fetch_add(1, Ordering::SeqCst);
         self.rings.wake_all();
-        self.wake_resting();
     }
 
     /// So many lanes are to be served.
@@ -212,157 +126,61 @@ impl Bell {
         self.unsettled.fetch_sub(1, Ordering::SeqCst);
     }
 
-    /// A worker comes. Where another is at work it rests first.
-    pub fn comes<R: Wait>(&self, rt: &R) -> Shift {
-        let mut shift = Shift::new();
-        self.awake.fetch_add(1, Ordering::SeqCst);
-        self.rests_if_spare(rt, &mut shift);
-        shift
-    }
-
-    /// A worker has had a turn, in which it answered so many requests. After as many turns with none as there are lanes for each that is
-    /// awake it has made a round.
-    pub fn turned<R: Wait>(&self, rt: &R, shift: &mut Shift, did: u64) {
-        if did > 0 {
-            self.served(rt, shift, did);
+    /// A worker has had a turn, and says whether there was nothing to do in it. After as many of those as there are lanes it has
+    /// made a round.
+    pub fn turned<R: Wait>(&self, rt: &R, shift: &mut Shift, idle: bool) {
+        if !idle {
+            self.served(shift);
             return;
         }
         shift.idle_turns = shift.idle_turns.saturating_add(1);
-        let seen = shift.idle_turns.saturating_mul(self.awake().max(1));
-        if seen >= self.unsettled.load(Ordering::SeqCst) {
+        if shift.idle_turns >= self.unsettled.load(Ordering::SeqCst) {
             self.looked(rt, shift);
         }
     }
 
     /// One that serves a single lane has had a turn.
-    pub fn looked_at<R: Wait>(&self, rt: &R, shift: &mut Shift, did: u64) {
-        if did == 0 {
+    pub fn looked_at<R: Wait>(&self, rt: &R, shift: &mut Shift, idle: bool) {
+        if idle {
             self.looked(rt, shift);
         } else {
-            self.served(rt, shift, did);
+            self.served(shift);
         }
     }
 
     /// A worker has answered requests.
-    pub fn served<R: Wait>(&self, rt: &R, shift: &mut Shift, did: u64) {
+    pub fn served(&self, shift: &mut Shift) {
         self.stay_awake(shift);
-        shift.patience.is_rewarded();
         shift.idle_turns = 0;
-        shift.nap = FIRST_SLEEP;
-        shift.owes = shift.owes.saturating_add(1);
-        shift.answered = shift.answered.saturating_add(did);
+        shift.owes = true;
+        shift.nap = SHORTEST;
         shift.busy_turns = shift.busy_turns.wrapping_add(1);
         if shift.busy_turns % MANY_TURNS == 0 {
-            self.tells(shift);
-        }
-        if self.takes_long() {
-            self.pays_in_time(shift);
-        } else {
-            self.rests_if_spare(rt, shift);
-        }
-    }
-
-    // A worker tells how many requests it has answered. Where they take long, one that sleeps is woken, and after many of them it is seen
-    // whether they still do.
-    fn tells(&self, shift: &mut Shift) {
-        if self.is_fed {
-            let did = shift.answered;
-            let answered = self
-                .answered
-                .fetch_add(did, Ordering::SeqCst)
-                .wrapping_add(did);
-            if answered >= self.trial.load(Ordering::SeqCst) && self.takes_long() {
-                let next = answered.saturating_add(answered.min(NEXT_TRIAL));
-                self.trial.store(next, Ordering::SeqCst);
-                self.takes_long.store(0, Ordering::SeqCst);
-            }
-        }
-        shift.answered = 0;
-        if self.takes_long() {
             self.wake_worker();
         }
     }
 
-    // A worker wakes the feeder, if it has answered requests since it last did.
-    fn pays(&self, shift: &mut Shift) {
-        if shift.owes > 0 {
-            self.wake_feeder();
-            shift.owes = 0;
-        }
-    }
-
-    // The same, once it and the others that are awake have served half the lanes.
-    fn pays_in_time(&self, shift: &mut Shift) {
-        let served = shift.owes.saturating_mul(self.awake());
-        if served.saturating_mul(2) >= self.unsettled.load(Ordering::SeqCst) {
-            self.pays(shift);
-        }
-    }
-
-    // A worker rests, where requests don't take long and another is awake.
-    fn rests_if_spare<R: Wait>(&self, rt: &R, shift: &mut Shift) {
-        if self.takes_long() || self.awake() < 2 {
-            return;
-        }
-        if self.awake.fetch_sub(1, Ordering::SeqCst) > 1 {
-            self.pays(shift);
-            self.rests(rt);
-        }
-        self.awake.fetch_add(1, Ordering::SeqCst);
-        shift.idle_turns = 0;
-    }
-
-    // A worker rests until requests take long, or nobody else is there.
-    fn rests<R: Wait>(&self, rt: &R) {
-        let mut rest = FIRST_REST;
-        'resting: for _ in rt.forever() {
-            if self.awake() == 0 && self.sleepers.load(Ordering::SeqCst) == 0 {
-                return;
-            }
-            let heard = low(&self.rests);
-            let before = self.answered.load(Ordering::SeqCst);
-            self.rests
-                .park_timeout(rt, heard, Duration::from_micros(rest));
-            if low(&self.rests) != heard || self.takes_long() {
-                return;
-            }
-            let after = self.answered.load(Ordering::SeqCst);
-            if self.awake() > 0 && self.were_few(after.wrapping_sub(before), after, rest) {
-                self.takes_long.store(1, Ordering::SeqCst);
-                self.wake_resting();
-                return;
-            }
-            rest = rest.saturating_mul(2).min(LONGEST);
-        }
-    }
-
-    // Whether so many answers, of so many in all, are few for a rest of so many microseconds. Where there are none at all, the lanes may not
-    // have been fed yet.
-    fn were_few(&self, answers: u64, all: u64, rest: u64) -> bool {
-        let took = rest.saturating_add(LATER);
-        answers < took.saturating_mul(self.many) && (all > 0 || rest > FIRST_REST)
-    }
-
-    /// A worker has made a round, and there was nothing to do. It wakes the feeder, if it has answered requests since it last did, and
-    /// is to look a few times more; where that finds nothing either, it sleeps.
+    /// A worker has made a round, and there was nothing to do. It wakes the feeder, if it has answered requests since it last
+    /// did, and is to look once more; where that finds nothing either, it sleeps.
     pub fn looked<R: Wait>(&self, rt: &R, shift: &mut Shift) {
         shift.idle_turns = 0;
-        if let Some(heard) = shift.heard {
-            shift.patience.is_disappointed();
-            let nap = if self.is_fed { LONGEST } else { shift.nap };
-            shift.nap = shift.nap.saturating_mul(2).min(LONGEST);
-            self.rings
-                .park_timeout(rt, heard, Duration::from_micros(nap));
-            self.stay_awake(shift);
-            return;
-        }
-        self.pays(shift);
-        if !shift.patience.looks_again() {
-            shift.busy_turns = 0;
-            self.tells(shift);
-            self.awake.fetch_sub(1, Ordering::SeqCst);
-            self.sleepers.fetch_add(1, Ordering::SeqCst);
-            shift.heard = Some(low(&self.rings));
+        shift.busy_turns = 0;
+        match shift.heard {
+            Some(heard) => {
+                let nap = if self.is_fed { LONGEST } else { shift.nap };
+                shift.nap = shift.nap.saturating_mul(2).min(LONGEST);
+                self.rings
+                    .park_timeout(rt, heard, Duration::from_micros(nap));
+                self.stay_awake(shift);
+            }
+            None => {
+                if shift.owes {
+                    self.wake_feeder();
+                    shift.owes = false;
+                }
+                self.sleepers.fetch_add(1, Ordering::SeqCst);
+                shift.heard = Some((self.rings.load(Ordering::SeqCst) & 0xffff_ffff) as u32);
+            }
         }
     }
 
@@ -370,16 +188,16 @@ impl Bell {
     fn stay_awake(&self, shift: &mut Shift) {
         if shift.heard.take().is_some() {
             self.sleepers.fetch_sub(1, Ordering::SeqCst);
-            self.awake.fetch_add(1, Ordering::SeqCst);
         }
     }
 
-    /// A worker has found nothing left to serve. The others, if they sleep or rest, are to find that too.
+    /// A worker has found nothing left to serve. The others, if they sleep, are to find that too.
     pub fn leaves(&self, shift: Shift) {
         let mut shift = shift;
         self.stay_awake(&mut shift);
-        self.pays(&mut shift);
-        self.awake.fetch_sub(1, Ordering::SeqCst);
+        if shift.owes {
+            self.wake_feeder();
+        }
         self.wake_all();
     }
 }

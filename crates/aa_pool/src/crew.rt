@@ -19,13 +19,13 @@ pub struct Worker<T: Serving + Drop> {
 }
 
 // Serves what was taken last for one turn, and puts it back, unless it has settled. Where the queue refuses it, another turn follows.
-// Says how many requests were answered.
+// Says whether there was nothing to do.
 pub fn serve_on<T: Serving, R: Wait>(
     rt: &R,
     queue: &Queue<T>,
     pass: &mut Hold<T>,
     taken: T,
-    did: &mut u64,
+    idle: &mut bool,
 ) -> Option<T>
     requires queue { IsPassOf queue.now pass.old }
     requires part { 0 < (view pass.old).parts }
@@ -35,7 +35,7 @@ pub fn serve_on<T: Serving, R: Wait>(
 {
     let mut taken = taken;
     'turns: for _ in rt.forever() {
-        match taken.serve(did) {
+        match taken.serve(idle) {
             Turn::Settled(done) => return Some(done),
             Turn::GoesOn(next) => match queue.push_as::<Puts, R>(rt, pass, next) {
                 Ok(()) => return None,
@@ -64,12 +64,12 @@ fn take_turns<T: Serving + Drop, R: Wait>(
         let Some(taken) = queue.pop_as::<Takes, R>(rt, &mut worker.pass) else {
             break;
         };
-        let mut did = 0;
-        if let Some(done) = serve_on(rt, queue, &mut worker.pass, taken, &mut did) {
+        let mut idle = false;
+        if let Some(done) = serve_on(rt, queue, &mut worker.pass, taken, &mut idle) {
             worker.kept.push_reserved(done);
             bell.settles();
         }
-        bell.turned(rt, shift, did);
+        bell.turned(rt, shift, idle);
     }
 }
 
@@ -83,7 +83,7 @@ pub fn work<T: Serving + Drop, R: Wait>(
     requires { IsWorking T.place T.is_settled queue.now worker.old.pass worker.old.kept.items }
     ensures { IsWorking T.place T.is_settled queue.now worker.new.pass worker.new.kept.items }
 {
-    let mut shift = bell.comes(rt);
+    let mut shift = Shift::new();
     take_turns(rt, queue, bell, &mut shift, worker);
     bell.leaves(shift);
 }

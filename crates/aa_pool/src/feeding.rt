@@ -4,7 +4,7 @@ ghost use Rattle.std.specs.List.Sorted.{IsPermutation};
 ghost use Rattle.aa_lane.specs.Ends.{known};
 ghost use Rattle.aa_pool.specs.Fed.{AreSame, AreAllFed, answers_of};
 
-use crate::bell::Bell;
+use crate::bell::{Bell, Shift};
 use crate::beside::{Work, side_by_side};
 use crate::feed::{Feed, Finished, Turned};
 use crate::serve::serve_with;
@@ -35,14 +35,13 @@ fn round<'l, 'm, M: Machine>(feeds: &mut [Feed<'l, 'm, M>]) -> (bool, bool)
 fn feed_all<'l, 'm, M: Machine, R: Wait>(rt: &R, bell: &Bell, feeds: &mut [Feed<'l, 'm, M>])
     ensures { AreAllFed feeds.old feeds.new }
 {
-    let mut patience = bell.patience();
     'feeding: for _ in rt.forever() {
         let (finished, idle) = round(feeds);
         if finished {
             bell.wake_all();
             return;
         }
-        bell.fed(rt, &mut patience, idle);
+        bell.fed(rt, idle);
     }
     unreachable!()
 }
@@ -96,21 +95,18 @@ fn settle<'m, M: Machine, R: Wait>(
     ensures { result.lane ≡ server.lane }
 {
     let mut server = server;
-    let mut shift = bell.comes(rt);
+    let mut shift = Shift::new();
     'serving: for _ in rt.forever() {
         match server.serve(lane) {
             Served::Did(next) => {
-                bell.served(rt, &mut shift, 1);
+                bell.served(&mut shift);
                 server = next;
             }
             Served::Idle(next) => {
                 bell.looked(rt, &mut shift);
                 server = next;
             }
-            Served::Settled(next) => {
-                bell.leaves(shift);
-                return next;
-            }
+            Served::Settled(next) => return next,
         }
     }
     unreachable!()

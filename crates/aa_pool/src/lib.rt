@@ -11,7 +11,6 @@ mod feeding;
 mod hand;
 mod lane_server;
 mod next;
-mod patience;
 mod pool;
 mod serve;
 mod serving;

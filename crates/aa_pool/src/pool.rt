@@ -5,7 +5,7 @@ ghost use Rattle.crossbeam_queue.specs.Passes.{view, IsPassOf, IsSamePass, ruled
 ghost use Rattle.aa_pool.specs.Once.{hand};
 ghost use Rattle.aa_pool.specs.Crew.{IsWorking, IsLeading};
 
-use crate::bell::Bell;
+use crate::bell::{Bell, Shift};
 use crate::crew::{Worker, all_work};
 use crate::hand::{HandsIn, Hold, Part, Queue, Room, TakesRest};
 use crate::serving::{Serving, Turn};
@@ -20,17 +20,14 @@ fn settle<T: Serving, R: Wait>(rt: &R, bell: &Bell, taken: T) -> T
     ensures settled { T.is_settled result ≡ true }
 {
     let mut taken = taken;
-    let mut shift = bell.comes(rt);
+    let mut shift = Shift::new();
     'turns: for _ in rt.forever() {
-        let mut did = 0;
-        match taken.serve(&mut did) {
-            Turn::Settled(done) => {
-                bell.leaves(shift);
-                return done;
-            }
+        let mut idle = false;
+        match taken.serve(&mut idle) {
+            Turn::Settled(done) => return done,
             Turn::GoesOn(next) => taken = next,
         }
-        bell.looked_at(rt, &mut shift, did);
+        bell.looked_at(rt, &mut shift, idle);
     }
     unreachable!()
 }

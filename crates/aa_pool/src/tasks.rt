@@ -236,7 +236,7 @@ where
         servers,
         room: served,
     };
-    let bell = Bell::new(capacity);
+    let bell = Bell::new();
     let (finished, served) = run_all(
         rt,
         alloc,

@@ -14,7 +14,7 @@ use std::thread;
 use std::thread::Threads;
 
 /// How many requests each task has.
-const REQUESTS: u64 = 1000;
+const REQUESTS: u64 = 200;
 
 /// A request of one of the two tasks, and its number there.
 #[derive(Clone, Copy)]
@@ -121,7 +121,7 @@ fn workers_go_on_as_long_as_there_are_requests(rt: HostRuntime) {
             equal(
                 &rt,
                 answered_by(&rt, rt.alloc(), capacity, workers),
-                (2000, 0),
+                (400, 0),
             );
         }
     }
