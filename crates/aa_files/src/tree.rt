@@ -1,8 +1,6 @@
 //! What lies at a path.
 
-ghost use Rattle.std.specs.Prelude.{◌≡◌, ◌≢◌, ◌||◌, ℕ, nat_eq, List, Option, Some, None, codes, IfOk, IfErr};
-ghost use Rattle.std.specs.List.{starts_with};
-ghost use Rattle.std.specs.Str.{bytes_eq};
+ghost use Rattle.std.specs.Prelude.{◌≡◌, ◌≢◌, ℕ, List, Option, Some, None, IfOk, IfErr};
 ghost use Rattle.aa_files.specs.Folders.{folder_lines};
 ghost use Rattle.aa_files.specs.Orders.{AreInByteOrder};
 ghost use Rattle.aa_files.specs.Texts.{texts};
@@ -72,13 +70,6 @@ fn path_text(path: &[u8]) -> Result<&str, Unread> {
         Ok(text) => Ok(text),
         Err(_) => Err(Unread::NotFound),
     }
-}
-
-/// Whether a path names what the caller has opened, as `<(..)` does in shells: a pipe is read there, which elsewhere may never end.
-fn is_opened(path: &str) -> bool
-    ensures { result ≡ (bytes_eq path.now (codes "/dev/stdin") || starts_with nat_eq path.now (codes "/dev/fd/")) }
-{
-    path == "/dev/stdin" || path.starts_with("/dev/fd/")
 }
 
 fn within_limit(bytes: Vec<u8>) -> Result<Vec<u8>, Unread> {
@@ -162,7 +153,7 @@ impl Tree for HostRuntime {
         if found.is_dir() {
             return Ok(Content::Folder(host_names(self, path)?));
         }
-        if !found.is_file() && !is_opened(text) {
+        if !found.is_file() {
             return Err(Unread::NotAFile);
         }
         Ok(Content::File(read_file(self, text)?))
