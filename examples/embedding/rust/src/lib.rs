@@ -52,53 +52,30 @@ struct Sizes {
 type Call =
     unsafe extern "C" fn(*const u8, usize, *mut u8, usize, *mut u8, usize, *mut Sizes) -> u32;
 
-extern "C" {
-    fn aamediate_check(
-        job: *const u8,
-        job_size: usize,
-        text: *mut u8,
-        text_size: usize,
-        fault: *mut u8,
-        fault_size: usize,
-        sizes: *mut Sizes,
-    ) -> u32;
-    fn aamediate_run(
-        job: *const u8,
-        job_size: usize,
-        text: *mut u8,
-        text_size: usize,
-        fault: *mut u8,
-        fault_size: usize,
-        sizes: *mut Sizes,
-    ) -> u32;
-    fn aamediate_replay(
-        job: *const u8,
-        job_size: usize,
-        text: *mut u8,
-        text_size: usize,
-        fault: *mut u8,
-        fault_size: usize,
-        sizes: *mut Sizes,
-    ) -> u32;
-    fn aapolicy_check(
-        question: *const u8,
-        question_size: usize,
-        text: *mut u8,
-        text_size: usize,
-        fault: *mut u8,
-        fault_size: usize,
-        sizes: *mut Sizes,
-    ) -> u32;
-    fn aapolicy_ask(
-        question: *const u8,
-        question_size: usize,
-        text: *mut u8,
-        text_size: usize,
-        fault: *mut u8,
-        fault_size: usize,
-        sizes: *mut Sizes,
-    ) -> u32;
+/// Declares calls: all have the same parameters.
+macro_rules! calls {
+    ($($name:ident),*) => {
+        extern "C" {
+            $(fn $name(
+                given: *const u8,
+                given_size: usize,
+                text: *mut u8,
+                text_size: usize,
+                fault: *mut u8,
+                fault_size: usize,
+                sizes: *mut Sizes,
+            ) -> u32;)*
+        }
+    };
 }
+
+calls!(
+    aamediate_check,
+    aamediate_run,
+    aamediate_replay,
+    aapolicy_check,
+    aapolicy_ask
+);
 
 const REFUSED: u32 = 1;
 const NO_QUESTION: u32 = 2;
