@@ -48,7 +48,18 @@ missing asked allow deny fa fl fd =
     let fg : minus allow deny < 256 = omega (arith, minus_le allow deny) in
     same (minus asked (minus allow deny)) (bit_or (bit_and asked deny) (minus (minus asked deny) allow)) (omega (arith, minus_le asked (minus allow deny)))
     (or_below (bit_and asked deny) (minus (minus asked deny) allow) (omega (arith, and_le_l asked deny)) (omega (arith, minus_le (minus asked deny) allow, minus_le asked deny)))
-    (λ i low. omega (arith, minus_bit asked (minus allow deny) i fg low, minus_bit allow deny i fd low, bit_at_or (bit_and asked deny) (minus (minus asked deny) allow) i, bit_at_and asked deny i, minus_bit (minus asked deny) allow i fl low, minus_bit asked deny i fd low, bit_at-lt asked i, bit_at-lt deny i, bit_at-lt allow i))
+    (λ i low. omega (
+      arith,
+      minus_bit asked (minus allow deny) i fg low,
+      minus_bit allow deny i fd low,
+      bit_at_or (bit_and asked deny) (minus (minus asked deny) allow) i,
+      bit_at_and asked deny i,
+      minus_bit (minus asked deny) allow i fl low,
+      minus_bit asked deny i fd low,
+      bit_at-lt asked i,
+      bit_at-lt deny i,
+      bit_at-lt allow i,
+    ))
 
 -- what is denied isn't granted
 pub denied : (asked allow deny : ℕ) → asked < 256 → allow < 256 → deny < 256 → bit_and (minus asked (minus allow deny)) deny ≡ bit_and asked deny

@@ -14,6 +14,7 @@ use Rattle.aa_explain.specs.declared.deciders.Saying.{Saying}
 use Rattle.aa_explain.specs.Deciders.{part_of, naming_from, unnamed, reasons_by}
 use Rattle.aa_ask.specs.Telling.{grant}
 use Rattle.aa_ask.proofs.Bits.{minus_le, minus_nothing, minus_part, minus_both, or_below, and_either, missing, denied, none_of_both}
+use Rattle.aa_diagnostics.proofs.SetTwice.{and_true, and_false}
 
 -- what one rule names with that verdict, and what all of them do
 abbrev part : Bool → Saying → ℕ
@@ -73,14 +74,6 @@ naming_is deny asked n (s ∷ ss) fits fit =
     ∙ (ap (λ m. m == 0 && bit_and asked (named deny ss) == 0) (part_is deny s asked)
     ∙ (sym (none_of_both (bit_and p asked) (bit_and asked (named deny ss)))
     ∙ ap (λ m. m == 0) (sym (and_either asked p (named deny ss) fits (part_fits deny s (All-head HasByte s ss fit)) (named_fits deny ss rest))))))
-
-and_true : (b : Bool) → (b && true) ≡ b
-and_true true = refl
-and_true false = refl
-
-and_false : (b : Bool) → (b && false) ≡ false
-and_false true = refl
-and_false false = refl
 
 -- what isn't granted, by what rules name
 abbrev blocked_by : Bool → ℕ → ℕ → ℕ → ℕ

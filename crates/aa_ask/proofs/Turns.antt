@@ -40,25 +40,39 @@ unfolding requests_of
 one_refused owned rs text others line e = rw e refl
 
 -- one word more is read
-pub read_more : (owned : Bool) (words : List (Vec ℕ Global)) (i : ℕ) (w : Vec ℕ Global) (text : List ℕ) (rs : List Request) (r : Request) → i < length words → w ≡ get_or words i w → text ≡ w.items → requests_of owned (texts (take i words)) ≡ Ok rs → request_of owned text ≡ Ok r → requests_of owned (texts (take (i + 1) words)) ≡ Ok (rs ++ r ∷ [])
+pub read_more : (owned : Bool) (words : List (Vec ℕ Global)) (i : ℕ) (w : Vec ℕ Global) (text : List ℕ) (rs : List Request) (r : Request)
+    → i < length words → w ≡ get_or words i w → text ≡ w.items → requests_of owned (texts (take i words)) ≡ Ok rs
+    → request_of owned text ≡ Ok r → requests_of owned (texts (take (i + 1) words)) ≡ Ok (rs ++ r ∷ [])
 read_more owned words i w text rs r h at is before e =
-    let more : texts (take (i + 1) words) ≡ texts (take i words) ++ text ∷ [] = ap texts (take_more words i w h ∙ ap (λ (v : Vec ℕ Global). take i words ++ v ∷ []) (sym at)) ∙ (map-append (λ (v : Vec ℕ Global). v.items) (take i words) (w ∷ []) ∙ ap (λ (t : List ℕ). texts (take i words) ++ t ∷ []) (sym is)) in
+    let more : texts (take (i + 1) words) ≡ texts (take i words) ++ text ∷ [] = ap texts
+    (take_more words i w h ∙ ap (λ (v : Vec ℕ Global). take i words ++ v ∷ []) (sym at))
+    ∙ (map-append (λ (v : Vec ℕ Global). v.items) (take i words) (w ∷ []) ∙ ap (λ (t : List ℕ). texts (take i words) ++ t ∷ []) (sym is)) in
     ap (requests_of owned) more ∙ (requests_joined owned (texts (take i words)) (text ∷ []) ∙ (ap (λ (o : Outcome (List Request)). joined o (requests_of owned (text ∷ []))) before ∙ one_read owned rs text r e))
 
 -- a word is none
-pub read_stops : (owned : Bool) (words : List (Vec ℕ Global)) (i : ℕ) (w : Vec ℕ Global) (text : List ℕ) (rs : List Request) (line : List ℕ) → i < length words → w ≡ get_or words i w → text ≡ w.items → requests_of owned (texts (take i words)) ≡ Ok rs → request_of owned text ≡ Err line → requests_of owned (texts words) ≡ Err line
+pub read_stops : (owned : Bool) (words : List (Vec ℕ Global)) (i : ℕ) (w : Vec ℕ Global) (text : List ℕ) (rs : List Request) (line : List ℕ)
+    → i < length words → w ≡ get_or words i w → text ≡ w.items → requests_of owned (texts (take i words)) ≡ Ok rs
+    → request_of owned text ≡ Err line → requests_of owned (texts words) ≡ Err line
 read_stops owned words i w text rs line h at is before e =
-    let parts : words ≡ take i words ++ w ∷ drop (suc i) words = sym (take-append-drop i words) ∙ ap (λ (vs : List (Vec ℕ Global)). take i words ++ vs) (drop-cons words i w h ∙ ap (λ (v : Vec ℕ Global). v ∷ drop (suc i) words) (sym at)) in
+    let parts : words ≡ take i words ++ w ∷ drop (suc i) words = sym (take-append-drop i words)
+    ∙ ap (λ (vs : List (Vec ℕ Global)). take i words ++ vs)
+    (drop-cons words i w h ∙ ap (λ (v : Vec ℕ Global). v ∷ drop (suc i) words) (sym at)) in
     let others = texts (drop (suc i) words) in
-    let all : texts words ≡ texts (take i words) ++ text ∷ others = ap texts parts ∙ (map-append (λ (v : Vec ℕ Global). v.items) (take i words) (w ∷ drop (suc i) words) ∙ ap (λ (t : List ℕ). texts (take i words) ++ t ∷ others) (sym is)) in
-    ap (requests_of owned) all ∙ (requests_joined owned (texts (take i words)) (text ∷ others) ∙ (ap (λ (o : Outcome (List Request)). joined o (requests_of owned (text ∷ others))) before ∙ one_refused owned rs text others line e))
+    let all : texts words ≡ texts (take i words) ++ text ∷ others = ap texts parts
+    ∙ (map-append (λ (v : Vec ℕ Global). v.items) (take i words) (w ∷ drop (suc i) words)
+    ∙ ap (λ (t : List ℕ). texts (take i words) ++ t ∷ others) (sym is)) in
+    ap (requests_of owned) all ∙
+    (requests_joined owned (texts (take i words)) (text ∷ others)
+    ∙ (ap (λ (o : Outcome (List Request)). joined o (requests_of owned (text ∷ others))) before ∙ one_refused owned rs text others line e))
 
 pub none_read : (owned : Bool) → requests_of owned [] ≡ Ok []
 unfolding requests_of
 none_read owned = refl
 
 -- what a word is refused with, all are
-pub refused_with : (owned : Bool) (words : List (Vec ℕ Global)) (i : ℕ) (w : Vec ℕ Global) (text : List ℕ) (rs : List Request) (f : AskFault) → i < length words → w ≡ get_or words i w → text ≡ w.items → requests_of owned (texts (take i words)) ≡ Ok rs → IsRefusal f (request_of owned text) → IsRefusal f (requests_of owned (texts words))
+pub refused_with : (owned : Bool) (words : List (Vec ℕ Global)) (i : ℕ) (w : Vec ℕ Global) (text : List ℕ) (rs : List Request) (f : AskFault)
+    → i < length words → w ≡ get_or words i w → text ≡ w.items → requests_of owned (texts (take i words)) ≡ Ok rs
+    → IsRefusal f (request_of owned text) → IsRefusal f (requests_of owned (texts words))
 refused_with owned words i w text rs NoMemory h at is before e = tt
 refused_with owned words i w text rs (Refused line) h at is before e = read_stops owned words i w text rs line.items h at is before e
 

@@ -1,5 +1,6 @@
 -- Sets that are closed position by position.
-use Rattle.std.proofs.Common.{Bool, true, false, IsTrue, Contains, map, ◌≡◌, ℕ, ◌+◌, ◌≤◌, ◌<◌, ◌↔◌, List, [], ◌∷◌, ◌++◌, length, get_or, set, take, suc, zero, Vec, Global, refl, sym, ap, ◌∙◌, subst, inl, inr, ⊎_elim, arith}
+use Rattle.std.proofs.Common.{Bool, true, false, IsTrue, Contains, map, ◌≡◌, ℕ, ◌+◌, ◌≤◌, ◌<◌, ◌↔◌, List, [], ◌∷◌, ◌++◌}
+use Rattle.std.proofs.Common.{length, get_or, set, take, suc, zero, Vec, Global, refl, sym, ap, ◌∙◌, subst, inl, inr, ⊎_elim, arith}
 use Rattle.std.specs.List.{IsDistinct}
 use Rattle.std.specs.List.Sorted.{IsPermutation, IsSorted}
 use Rattle.std.specs.Ordering.{nat_cmp}
@@ -22,7 +23,8 @@ stands indexes xs number is c =
     subst (λ i. (i < length xs) × (get_or xs i 0 ≡ number)) (sym e) (q.1, q.2)
 
 -- so the test at its index tells whether it is there
-pub told_by_index : (indexes xs : List ℕ) (number index : ℕ) (t : Bool) → index ≡ get_or indexes number 0 → AreIndexed indexes xs → (IsTrue t ↔ ((index < length xs) × (get_or xs index 0 ≡ number))) → IsTrue t ↔ Contains xs number
+pub told_by_index : (indexes xs : List ℕ) (number index : ℕ) (t : Bool) → index ≡ get_or indexes number 0 → AreIndexed indexes xs
+    → (IsTrue t ↔ ((index < length xs) × (get_or xs index 0 ≡ number))) → IsTrue t ↔ Contains xs number
 told_by_index indexes xs number index t e is test = (
   λ yes. let q = test.0 yes in contains_at xs index number q.0 q.1,
   λ c. test.1 (subst (λ i. (i < length xs) × (get_or xs i 0 ≡ number)) (sym e) (stands indexes xs number is c)),
@@ -86,7 +88,8 @@ only_added was indexes xs new values n none all h =
     ⊎_elim (λ o. let c : Contains [] n = subst (λ z. Contains z n) none o in absurd (omega (arith, c.1))) (λ v. v) ((all.exact n).0 h)
 
 -- one number more
-pub all_more : (was indexes more old mid new values : List ℕ) (k v : ℕ) → k < length values → v ≡ get_or values k 0 → AddsAll was indexes old mid (take k values) → Adds indexes more mid new v → AddsAll was more old new (take (k + 1) values)
+pub all_more : (was indexes more old mid new values : List ℕ) (k v : ℕ) → k < length values → v ≡ get_or values k 0
+    → AddsAll was indexes old mid (take k values) → Adds indexes more mid new v → AddsAll was more old new (take (k + 1) values)
 all_more was indexes more old mid new values k v lt is front one = subst (λ z. AddsAll was more old new z) (sym (take_more values k 0 lt ∙ ap (λ z. take k values ++ z ∷ []) (sym is))) (record {
   many = one.many ∙ front.many;
   indexed = one.indexed;
@@ -171,7 +174,8 @@ module _ (rows : List (List ℕ)) (old : List ℕ) where
   }
 
 -- and in order it is the closed set
-pub closed_by_sort : (rows : List (List ℕ)) (was indexes first none seeds old xs new : List ℕ) → none ≡ [] → AddsAll was first none old seeds → IsReached rows indexes old xs → IsPermutation xs new → IsSorted nat_cmp new → IsClosure rows seeds new
+pub closed_by_sort : (rows : List (List ℕ)) (was indexes first none seeds old xs new : List ℕ) → none ≡ [] → AddsAll was first none old seeds
+    → IsReached rows indexes old xs → IsPermutation xs new → IsSorted nat_cmp new → IsClosure rows seeds new
 closed_by_sort rows was indexes first none seeds old xs new empty all reached moved ordered = record {
   rising = IsStrictlyIncreasing-from_distinct new (IsNonDecreasingBy-from_sort (λ n. n) new ordered) (IsDistinct-IsPermutation eqb flips xs new moved (distinct indexes xs reached.indexed));
   within = λ n h. reached.within n (back n h);

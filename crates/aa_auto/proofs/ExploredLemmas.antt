@@ -1,5 +1,6 @@
 -- Sets of places that are found one after the other.
-use Rattle.std.proofs.Common.{◌≡◌, ℕ, ◌+◌, ◌<◌, ◌≤◌, ◌↔◌, ◌⊎◌, List, [], ◌∷◌, ◌++◌, length, get_or, suc, zero, slice_get, Some, None, All, refl, sym, ap, ◌∙◌, subst, inl, inr, ⊎_elim, arith, length-append}
+use Rattle.std.proofs.Common.{◌≡◌, ℕ, ◌+◌, ◌<◌, ◌≤◌, ◌↔◌, ◌⊎◌, List, [], ◌∷◌, ◌++◌, length, get_or, suc, zero}
+use Rattle.std.proofs.Common.{slice_get, Some, None, All, refl, sym, ap, ◌∙◌, subst, inl, inr, ⊎_elim, arith, length-append}
 use Rattle.std.proofs.lemmas.List.{get_or_append_left, get_or_push, length-map}
 use Rattle.std.proofs.lemmas.List.Elements.{All-nil, All-push}
 use Rattle.std.proofs.lemmas.Bool.{cases_lt}
@@ -122,7 +123,8 @@ module _ (net : Net) where
       ))
       takes
     where
-      only : (numbers : List ℕ) → Lists net x numbers → (row : ℕ) (s : List ℕ) → row < length (x ∷ []) → IsSpotsOf (kept_of net) (get_or (x ∷ []) row []) s → ListsMatching (patterns_of net) s (get_or (numbers ∷ []) row [])
+      only : (numbers : List ℕ) → Lists net x numbers → (row : ℕ) (s : List ℕ) → row < length (x ∷ [])
+          → IsSpotsOf (kept_of net) (get_or (x ∷ []) row []) s → ListsMatching (patterns_of net) s (get_or (numbers ∷ []) row [])
       only numbers listed zero s lt set = listed.lists s set
       only numbers listed (suc row) s lt set = absurd (omega arith)
 
@@ -195,7 +197,9 @@ module _ (net : Net) where
         many : (numbers : List ℕ) → length (row_lists was_lists ++ numbers ∷ []) ≡ length (old ++ x ∷ [])
         many numbers = omega (arith, as_many, length-append (row_lists was_lists) (numbers ∷ []), length-append old (x ∷ []))
 
-        exact : (numbers : List ℕ) → Lists net x numbers → (r : ℕ) (s : List ℕ) → r < length (old ++ x ∷ []) → IsSpotsOf (kept_of net) (get_or (old ++ x ∷ []) r []) s → ListsMatching (patterns_of net) s (get_or (row_lists was_lists ++ numbers ∷ []) r [])
+        exact : (numbers : List ℕ) → Lists net x numbers → (r : ℕ) (s : List ℕ) → r < length (old ++ x ∷ [])
+            → IsSpotsOf (kept_of net) (get_or (old ++ x ∷ []) r []) s
+            → ListsMatching (patterns_of net) s (get_or (row_lists was_lists ++ numbers ∷ []) r [])
         exact numbers of_x r s lt set =
             ⊎_elim
             (λ (l : r < length old).

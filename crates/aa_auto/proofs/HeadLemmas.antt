@@ -8,17 +8,6 @@ use Rattle.aa_pattern.specs.Weights.{weight, weight_of_items, weight_of_lists}
 use Rattle.aa_pattern.specs.Steps.{IsSimple}
 use Rattle.aa_pattern.specs.Heads.{heads_within, heads_after, heads_of_choice, heads_of_patterns}
 
-pub weight_at : (items : List Item) (k : ℕ) (d : Item) → k < length items → weight (get_or items k d) ≤ weight_of_items items
-weight_at [] k d h = absurd (omega arith)
-weight_at (i ∷ items) zero d h = omega arith
-weight_at (i ∷ items) (suc k) d h = omega (arith, weight_at items k d (omega arith))
-
-pub weight_of_at : (branches : List (Vec Item Global)) (k : ℕ) (d : Vec Item Global) → k < length branches →
-    weight_of_items (get_or branches k d).items < weight_of_lists branches
-weight_of_at [] k d h = absurd (omega arith)
-weight_of_at (b ∷ branches) zero d h = omega arith
-weight_of_at (b ∷ branches) (suc k) d h = omega (arith, weight_of_at branches k d (omega arith))
-
 pub within_none : (h : List Item) (i : Item) → IsSimple i → heads_within h i ≡ []
 within_none h (Byte c) _ = refl
 within_none h One _ = refl

@@ -1,6 +1,8 @@
 -- Bytes that no item tells apart, one more item at a time.
 use Rattle.std.proofs.Common.{ℕ, ◌↔◌, List, [], ◌∷◌, ◌++◌, Vec, Global, sym, subst}
-use Rattle.aa_pattern.specs.declared.item.Item.{Item, Byte, One, Run, RunOne, Deep, DeepOne, Class, Choice, Choice', Row_of-Item, end_of-Item, more_of-Item, items-the_row-Item, items_shown-the_row-Item-0, Row_of-Item-Choice-0-1, end_of-Item-Choice-0-1, more_of-Item-Choice-0-1, items-the_row-Item-Choice-0-1, items_hidden-the_row-Item-Choice-0-1-1}
+use Rattle.aa_pattern.specs.declared.item.Item.{Item, Byte, One, Run, RunOne, Deep, DeepOne, Class, Choice, Choice', Row_of-Item, end_of-Item, more_of-Item}
+use Rattle.aa_pattern.specs.declared.item.Item.{items-the_row-Item, items_shown-the_row-Item-0, Row_of-Item-Choice-0-1, end_of-Item-Choice-0-1}
+use Rattle.aa_pattern.specs.declared.item.Item.{more_of-Item-Choice-0-1, items-the_row-Item-Choice-0-1, items_hidden-the_row-Item-Choice-0-1-1}
 use Rattle.aa_pattern.specs.declared.pattern.Pattern.{Pattern}
 use Rattle.aa_auto.specs.declared.nodes.Node.{Node}
 use Rattle.aa_pattern.specs.Steps.{IsSimple, Begins, Continues}

@@ -1,5 +1,6 @@
 -- Lists of numbers as keys.
-use Rattle.std.proofs.Common.{◌++◌, cond, false, ◌≡◌, ℕ, ◌<◌, ◌≤◌, true, List, [], ◌∷◌, length, get_or, map, suc, zero, slice_get, Option, Some, None, Vec, Global, refl, sym, ap, ◌∙◌, ⊎_elim, arith, true≢false, nat_eq}
+use Rattle.std.proofs.Common.{◌++◌, cond, false, ◌≡◌, ℕ, ◌<◌, ◌≤◌, true, List, [], ◌∷◌, length, get_or, map, suc, zero, slice_get}
+use Rattle.std.proofs.Common.{Option, Some, None, Vec, Global, refl, sym, ap, ◌∙◌, ⊎_elim, arith, true≢false, nat_eq}
 use Rattle.std.specs.List.{IsDistinct, position, list_any}
 use Rattle.std.proofs.lemmas.List.{get_or_push, length_push, map-append}
 use Rattle.std.proofs.lemmas.List.Quantifiers.{position-Some}

@@ -1,5 +1,7 @@
 -- Rising numbers, with one more.
-use Rattle.std.proofs.Common.{Bool, true, false, IsTrue, true≢false, ◌↔◌, Contains, ◌≡◌, ◌≢◌, ℕ, ◌+◌, ◌-◌, ◌≤◌, ◌<◌, ◌⊎◌, List, [], ◌∷◌, ◌++◌, All, length, get_or, suc, zero, refl, sym, ap, ◌∙◌, subst, inl, inr, ⊎_elim, arith}
+use Rattle.std.proofs.Common.{Bool, true, false, IsTrue, true≢false, ◌↔◌, Contains, ◌≡◌, ◌≢◌, ℕ, ◌+◌, ◌-◌, ◌≤◌, ◌<◌}
+use Rattle.std.proofs.Common.{◌⊎◌, List, [], ◌∷◌, ◌++◌, All, length, get_or, suc, zero, refl, sym, ap, ◌∙◌, subst, inl, inr, ⊎_elim}
+use Rattle.std.proofs.Common.{arith}
 use Rattle.std.specs.List.{insert}
 use Rattle.std.specs.List.Sorted.{IsStrictlyIncreasing}
 use Rattle.std.proofs.lemmas.List.{get_or_default, get_or_append_left, get_or_push, length_push}
@@ -137,17 +139,17 @@ insert_made {xs} {ys} {zs} at v same up le below above differs made =
     (cases_lt v (get_or xs k 0)))
     (cases_lt at k)))
 
-first_least : (z : ℕ) (zs : List ℕ) (n : ℕ) → IsStrictlyIncreasing (z ∷ zs) → Contains (z ∷ zs) n → (z ≡ n) ⊎ ((z < n) × Contains zs n)
+pub first_least : (z : ℕ) (zs : List ℕ) (n : ℕ) → IsStrictlyIncreasing (z ∷ zs) → Contains (z ∷ zs) n → (z ≡ n) ⊎ ((z < n) × Contains zs n)
 first_least z zs n up c = at (at_of (z ∷ zs) n c).0 (at_of (z ∷ zs) n c).1 (at_of (z ∷ zs) n c).2
   where
     at : (k : ℕ) → k < length (z ∷ zs) → get_or (z ∷ zs) k 0 ≡ n → (z ≡ n) ⊎ ((z < n) × Contains zs n)
     at zero lt e = inl e
     at (suc k) lt e = inr (omega (arith, rises (z ∷ zs) up 0 (suc k) (omega arith) lt, e), contains_at zs k n (omega (arith, lt)) e)
 
-rising_tail : (z : ℕ) (zs : List ℕ) → IsStrictlyIncreasing (z ∷ zs) → IsStrictlyIncreasing zs
+pub rising_tail : (z : ℕ) (zs : List ℕ) → IsStrictlyIncreasing (z ∷ zs) → IsStrictlyIncreasing zs
 rising_tail z zs up k lt = let e : suc k + 1 ≡ suc (k + 1) = omega arith in subst (λ n. get_or (z ∷ zs) (suc k) 0 < get_or (z ∷ zs) n 0) e (up (suc k) (omega (arith, lt)))
 
-behind_first : (z : ℕ) (zs : List ℕ) (n : ℕ) → Contains zs n → Contains (z ∷ zs) n
+pub behind_first : (z : ℕ) (zs : List ℕ) (n : ℕ) → Contains zs n → Contains (z ∷ zs) n
 behind_first z zs n c = let q = at_of zs n c in contains_at (z ∷ zs) (suc q.0) n (omega (arith, q.1)) q.2
 
 -- rising numbers with the same elements

@@ -3,7 +3,9 @@
 use Rattle.std.specs.Prelude.{ℕ, List, codes, Result, Ok, Err, ◌≢◌}
 use Rattle.aa_base.specs.declared.fault.PolicyFault.{PolicyFault}
 use Rattle.aa_base.specs.declared.fault.PolicyKind.{PolicyKind}
-use Rattle.aa_base.specs.declared.fault.PolicyKind.TheVariants.{NoMemory, MissingInclude, IncludeDepth, Syntax, Unsupported, UnknownWord, BadMode, WriteWithAppend, BadPattern, UndefinedVariable, VariableTwice, VariableCircle, TooManyExpansions, RelativePath, DuplicateProfile, ConflictingExec, TooManyStates, TooLarge}
+use Rattle.aa_base.specs.declared.fault.PolicyKind.TheVariants.{NoMemory, MissingInclude, IncludeDepth, Syntax, Unsupported, UnknownWord, BadMode}
+use Rattle.aa_base.specs.declared.fault.PolicyKind.TheVariants.{WriteWithAppend, BadPattern, UndefinedVariable, VariableTwice, VariableCircle}
+use Rattle.aa_base.specs.declared.fault.PolicyKind.TheVariants.{TooManyExpansions, RelativePath, DuplicateProfile, ConflictingExec, TooManyStates, TooLarge}
 
 -- the number of a kind of refusal
 abbrev pub kind_number : PolicyKind → ℕ

@@ -45,7 +45,8 @@ found_warned s path files f g w (Read u loaded of read) = Read u loaded (of_warn
 found_warned s path files f g w (Unread e fault why said only) = Unread e fault why (subst (λ b. IsSaid e fault b) (sym w.is_unread) said) (only_warned files f g w only)
 
 -- one file more
-pub found_more : (s : Setting) (before : List FileReport) (paths : List (List ℕ)) (files : List FileReport) (path : List ℕ) (f : FileReport) → AreFound s before paths files → IsNext s (before ++ files) path f → AreFound s before (paths ++ path ∷ []) (files ++ f ∷ [])
+pub found_more : (s : Setting) (before : List FileReport) (paths : List (List ℕ)) (files : List FileReport) (path : List ℕ) (f : FileReport)
+    → AreFound s before paths files → IsNext s (before ++ files) path f → AreFound s before (paths ++ path ∷ []) (files ++ f ∷ [])
 found_more s before [] [] path f found next = (subst (λ (b : List FileReport). IsNext s b path f) (append-nil before) next, tt)
 found_more s before [] (g ∷ gs) path f found next = absurd found
 found_more s before (p ∷ ps) [] path f found next = absurd found
@@ -96,7 +97,8 @@ found_behind s paths name files slice more f g is_slice is_more at found warned 
     subst (λ (l : List FileReport). AreFound s [] (paths ++ name ∷ []) l) (sym is_more) (found_more s [] paths files name g so_far next)
 
 -- the paths up to the next one
-pub next_path : (paths : List (Vec ℕ Global)) (i : ℕ) (path : Vec ℕ Global) (name : List ℕ) → i < length paths → path ≡ get_or paths i path → name ≡ path.items → texts (take i paths) ++ name ∷ [] ≡ texts (take (i + 1) paths)
+pub next_path : (paths : List (Vec ℕ Global)) (i : ℕ) (path : Vec ℕ Global) (name : List ℕ) → i < length paths → path ≡ get_or paths i path
+    → name ≡ path.items → texts (take i paths) ++ name ∷ [] ≡ texts (take (i + 1) paths)
 next_path paths i path name lt item is_name =
     let one : texts (take (i + 1) paths) ≡ texts (take i paths) ++ path.items ∷ [] =
     ap texts (take_more paths i path lt ∙ ap (λ (x : Vec ℕ Global). take i paths ++ x ∷ []) (sym item)) ∙ map-append (λ (v : Vec ℕ Global). v.items) (take i paths) (path ∷ []) in

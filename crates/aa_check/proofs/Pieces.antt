@@ -15,7 +15,8 @@ four_pieces old m1 m2 m3 new a b c d text is first second third fourth =
     two_pieces old m3 new (a ++ b ++ c) d text is (two_pieces old m2 m3 (a ++ b) c (a ++ b ++ c) refl (two_pieces old m1 m2 a b (a ++ b) refl first second) third) fourth
 
 -- line and column
-pub region_pieces : (old m1 m2 m3 new : List ℕ) (line column : ℕ) → m1 ≡ old ++ codes "{" → m2 ≡ m1 ++ start_line line → m3 ≡ m2 ++ member_text (codes "startColumn") (decimal column) → new ≡ m3 ++ codes "}" → new ≡ old ++ region_text line column
+pub region_pieces : (old m1 m2 m3 new : List ℕ) (line column : ℕ) → m1 ≡ old ++ codes "{" → m2 ≡ m1 ++ start_line line
+    → m3 ≡ m2 ++ member_text (codes "startColumn") (decimal column) → new ≡ m3 ++ codes "}" → new ≡ old ++ region_text line column
 unfolding region_text
 region_pieces old m1 m2 m3 new line column first second third fourth =
     four_pieces old m1 m2 m3 new (codes "{") (start_line line) (member_text (codes "startColumn") (decimal column)) (codes "}") _ refl first second third fourth
@@ -30,4 +31,5 @@ pub report_pieces : (r : CheckReport) (old m1 m2 m3 new : List ℕ) (success : B
     → m1 ≡ old ++ sarif_head → m2 ≡ m1 ++ results_member r.files.items → m3 ≡ m2 ++ member_text (codes "invocations") (invocations_text success warnings) → new ≡ m3 ++ codes "}]}\n" → new ≡ old ++ sarif_report r
 report_pieces r old m1 m2 m3 new success warnings success_is warnings_are first second third fourth =
     four_pieces old m1 m2 m3 new sarif_head (results_member r.files.items) (member_text (codes "invocations") (invocations_text (not r.is_unread) (all_notifications r))) (codes "}]}\n") (sarif_report r) refl first second
-    (third ∙ ap (λ (s : Bool). m2 ++ member_text (codes "invocations") (invocations_text s warnings)) success_is ∙ ap (λ (w : List (List ℕ)). m2 ++ member_text (codes "invocations") (invocations_text (not r.is_unread) w)) warnings_are) fourth
+    (third ∙ ap (λ (s : Bool). m2 ++ member_text (codes "invocations") (invocations_text s warnings)) success_is
+    ∙ ap (λ (w : List (List ℕ)). m2 ++ member_text (codes "invocations") (invocations_text (not r.is_unread) w)) warnings_are) fourth

@@ -45,7 +45,8 @@ tallied_old rules i r seen lt item so_far old =
     ∙ cond-true (is_among r.kind (distinct ks)) (distinct ks) (distinct ks ++ r.kind ∷ []) (same_seen rules ks seen r.kind so_far ∙ old)))
 
 -- one that didn't
-pub tallied_new : (rules : List PassedOver) (i : ℕ) (r : PassedOver) (seen more : List Passed) (count : ℕ) (key : Vec ℕ Global) → i < length rules → r ≡ get_or rules i r → map passed_data seen ≡ tally rules (keywords_of (take i rules))
+pub tallied_new : (rules : List PassedOver) (i : ℕ) (r : PassedOver) (seen more : List Passed) (count : ℕ) (key : Vec ℕ Global) → i < length rules
+    → r ≡ get_or rules i r → map passed_data seen ≡ tally rules (keywords_of (take i rules))
     → is_seen r.kind seen ≡ false → key.items ≡ r.kind → count ≡ times rules r.kind → more ≡ seen ++ record { keyword = key; count = count } ∷ []
     → map passed_data more ≡ tally rules (keywords_of (take (i + 1) rules))
 tallied_new rules i r seen more count key lt item so_far new is_key is_count is_more =

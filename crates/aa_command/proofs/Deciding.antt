@@ -32,7 +32,8 @@ printed_at s paths us lent gives r are is given =
     IfOk-weaker r (λ (o : Output). IsPrintedBy s.folders s.states lent gives (printed o)) (λ (o : Output). IsPrintedAt s paths gives (printed o)) (λ o g.
     Read us are (subst (λ (l : List unit.Unit). IsPrintedBy s.folders s.states l gives (printed o)) is g)) given
 
-pub printed_for : (s : Setting) (arguments : List (List ℕ)) (paths lent : List (Vec ℕ Global)) (warnings : List (List ℕ)) (gives : Decided → Printed → Type 0) (own out : Printed) → AreRoots s arguments (texts paths) warnings → lent ≡ paths
+pub printed_for : (s : Setting) (arguments : List (List ℕ)) (paths lent : List (Vec ℕ Global)) (warnings : List (List ℕ))
+    (gives : Decided → Printed → Type 0) (own out : Printed) → AreRoots s arguments (texts paths) warnings → lent ≡ paths
     → IsPrintedAt s (texts lent) gives own → out ≡ behind_warnings warnings own → IsPrintedFor s arguments gives out
 printed_for s arguments paths lent warnings gives own out are is given behind =
     Rooted (texts paths) warnings own are (subst (λ (l : List (Vec ℕ Global)). IsPrintedAt s (texts l) gives own) is given) behind

@@ -11,7 +11,8 @@ use Rattle.aa_files.specs.declared.unit.Unit as unit
 use Rattle.aa_load.specs.UnitPolicy.{texts_of}
 use Rattle.aa_command.specs.Policies.{AreSourcesOf}
 
-pub sources_told : (u : unit.Unit) (r : Result (List Source) PolicyFault) → IfOk r (λ (sources : List Source). sources ≡ texts_of u) → IfErr r (λ (e : PolicyFault). e.kind ≢ NoMemory → IsFaultOfSources (texts_of u) e) → AreSourcesOf u r
+pub sources_told : (u : unit.Unit) (r : Result (List Source) PolicyFault) → IfOk r (λ (sources : List Source). sources ≡ texts_of u)
+    → IfErr r (λ (e : PolicyFault). e.kind ≢ NoMemory → IsFaultOfSources (texts_of u) e) → AreSourcesOf u r
 sources_told u (Ok sources) is cause = is
 sources_told u (Err e) is cause = cause
 

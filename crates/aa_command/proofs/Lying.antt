@@ -12,7 +12,8 @@ unfolding lines_from
 lines_more n [] bytes = let same : n ≡ n + 0 = omega arith in append-nil (log_lines n bytes) ∙ ap (λ (m : ℕ). log_lines m bytes) same
 lines_more n (b ∷ bs) bytes =
     let here : n + 1 + length bs ≡ n + length (b ∷ bs) = omega arith in
-    ap (λ (l : List LogLine). log_lines n b ++ l) (lines_more (n + 1) bs bytes ∙ ap (λ (m : ℕ). lines_from (n + 1) bs ++ log_lines m bytes) here) ∙ sym (append_assoc (log_lines n b) (lines_from (n + 1) bs) (log_lines (n + length (b ∷ bs)) bytes))
+    ap (λ (l : List LogLine). log_lines n b ++ l) (lines_more (n + 1) bs bytes ∙ ap (λ (m : ℕ). lines_from (n + 1) bs ++ log_lines m bytes) here)
+    ∙ sym (append_assoc (log_lines n b) (lines_from (n + 1) bs) (log_lines (n + length (b ∷ bs)) bytes))
 
 -- a path more, and the log there
 pub logs_more : (files : LogFiles) (paths : List (Bor (List ℕ))) (i : ℕ) (d path : Bor (List ℕ)) (logs : List (List ℕ)) (bytes : List ℕ) → i < length paths → path ≡ get_or paths i d

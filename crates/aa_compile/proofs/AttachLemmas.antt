@@ -20,15 +20,20 @@ pub profiles_picked : (literal : Bool) (front : ℕ) (as' : List Attachment) (ns
 profiles_picked literal front as' [] = refl
 profiles_picked literal front as' (n ∷ ns) = ap (cons_option (profile_if literal front as' n)) (profiles_picked literal front as' ns) ∙ at (slice_get as' n)
   where
-    strong : (a : Attachment) (b : Bool) → cons_option (cond b (Some a.profile) None) (map (λ a. a.profile) (filter (is_strong literal front) (picked as' ns))) ≡ map (λ a. a.profile) (cond b (a ∷ filter (is_strong literal front) (picked as' ns)) (filter (is_strong literal front) (picked as' ns)))
+    strong : (a : Attachment) (b : Bool)
+        → cons_option (cond b (Some a.profile) None) (map (λ a. a.profile) (filter (is_strong literal front) (picked as' ns))) ≡ map (λ a. a.profile)
+        (cond b (a ∷ filter (is_strong literal front) (picked as' ns)) (filter (is_strong literal front) (picked as' ns)))
     strong a true = refl
     strong a false = refl
 
-    at : (o : Option Attachment) → cons_option (option_and_then (λ (a : Attachment). cond (is_strong literal front a) (Some a.profile) None) o) (map (λ a. a.profile) (filter (is_strong literal front) (picked as' ns))) ≡ map (λ a. a.profile) (filter (is_strong literal front) (cons_option o (picked as' ns)))
+    at : (o : Option Attachment) → cons_option (option_and_then (λ (a : Attachment). cond (is_strong literal front a) (Some a.profile) None) o)
+        (map (λ a. a.profile) (filter (is_strong literal front) (picked as' ns))) ≡ map (λ a. a.profile)
+        (filter (is_strong literal front) (cons_option o (picked as' ns)))
     at None = refl
     at (Some a) = strong a (is_strong literal front a)
 
-pub longest_step : (as' : List Attachment) (ns : List ℕ) (i acc next total : ℕ) → i < length ns → next ≡ max acc (front_at as' (get_or ns i 0)) → max acc (longest (picked as' (drop i ns))) ≡ total → max next (longest (picked as' (drop (i + 1) ns))) ≡ total
+pub longest_step : (as' : List Attachment) (ns : List ℕ) (i acc next total : ℕ) → i < length ns → next ≡ max acc (front_at as' (get_or ns i 0))
+    → max acc (longest (picked as' (drop i ns))) ≡ total → max next (longest (picked as' (drop (i + 1) ns))) ≡ total
 longest_step as' ns i acc next total lt e so_far =
     let here : longest (picked as' (drop i ns)) ≡ max (front_at as' (get_or ns i 0)) (longest (picked as' (drop (i + 1) ns))) =
     at_drop_more (λ l. longest (picked as' l)) ns i 0 lt ∙ at (slice_get as' (get_or ns i 0)) (picked as' (drop (i + 1) ns)) in

@@ -20,13 +20,16 @@ pattern_parts n [] = refl
 pattern_parts n (p ∷ ps) = ap (λ l. p ∷ l) (pattern_parts n ps)
 
 -- the attachments of one more profile
-pub attachments_more : (profiles : List Profile) (ns : List ℕ) (i : ℕ) → i < length ns → attachments_by profiles (take (i + 1) ns) ≡ attachments_by profiles (take i ns) ++ map (at_number (get_or ns i 0)) (attachments_at profiles (get_or ns i 0))
+pub attachments_more : (profiles : List Profile) (ns : List ℕ) (i : ℕ) → i < length ns
+    → attachments_by profiles (take (i + 1) ns) ≡ attachments_by profiles (take i ns) ++ map (at_number (get_or ns i 0))
+    (attachments_at profiles (get_or ns i 0))
 attachments_more profiles ns i lt =
     ap (attachments_by profiles) (take_more ns i 0 lt)
     ∙ flat_map-append (λ n. map (at_number n) (attachments_at profiles n)) (take i ns) (get_or ns i 0 ∷ [])
     ∙ ap (λ l. attachments_by profiles (take i ns) ++ l) (append-nil (map (at_number (get_or ns i 0)) (attachments_at profiles (get_or ns i 0))))
 
-pub answers_are : (profiles : List Profile) (numbers : List ℕ) (patterns : List Pattern) (as' : List Attachment) (t : AnswerTable) → patterns ≡ map pattern_of (attachments_by profiles numbers) → as' ≡ map attachment_of (attachments_by profiles numbers)
+pub answers_are : (profiles : List Profile) (numbers : List ℕ) (patterns : List Pattern) (as' : List Attachment) (t : AnswerTable)
+    → patterns ≡ map pattern_of (attachments_by profiles numbers) → as' ≡ map attachment_of (attachments_by profiles numbers)
     → IsAutomaton patterns t.table → t.answers ≡ answers_by as' t.table.lists → Attaches profiles numbers t
 answers_are profiles numbers patterns as' t flat are auto answers path text =
     let hits = attachments_by profiles numbers in

@@ -19,12 +19,17 @@ use Rattle.aa_compile.specs.declared.tables.ProfileRows.{ProfileRows}
 use Rattle.aa_compile.specs.Checks.{rows_fault, states_fault, attached_patterns, children, Passes, PassBefore, Fails, ManyFiles, Conflicting, ManyChildren, IsRight, AreRight}
 
 module _ (profiles : List Profile) (limit number : ℕ) (p : Profile) where
-  pub files_fail : {T : Type 0} (r : Result T RowsFault) (fault : RowsFault) (f : PolicyFault) → f ≡ rows_fault fault p.at → r ≡ Err fault → (r ≡ Err Conflict → Conflicts p.files) → (r ≡ Err Conflict → HasAutomaton (patterns_of p.files) limit) → (r ≡ Err TooManyRows → HasPlaces (patterns_of p.files) (limit + 1)) → (f ≡ no_memory) ⊎ Fails profiles limit number p f
+  pub files_fail : {T : Type 0} (r : Result T RowsFault) (fault : RowsFault) (f : PolicyFault) → f ≡ rows_fault fault p.at → r ≡ Err fault
+      → (r ≡ Err Conflict → Conflicts p.files) → (r ≡ Err Conflict → HasAutomaton (patterns_of p.files) limit)
+      → (r ≡ Err TooManyRows → HasPlaces (patterns_of p.files) (limit + 1)) → (f ≡ no_memory) ⊎ Fails profiles limit number p f
   files_fail r NoRowMemory f e is conflict fits many = inl e
   files_fail r TooManyRows f e is conflict fits many = inr (ManyFiles e (many is))
   files_fail r Conflict f e is conflict fits many = inr (Conflicting e (fits is) (conflict is))
 
-  pub children_fail : {T : Type 0} (r : Result T BuildFault) (fault : BuildFault) (f : PolicyFault) → f ≡ states_fault fault p.at → r ≡ Err fault → HasAutomaton (patterns_of p.files) limit → (Conflicts p.files → ⊥) → (r ≡ Err TooManyStates → HasPlaces (attached_patterns profiles (children profiles number)) (limit + 1)) → (f ≡ no_memory) ⊎ Fails profiles limit number p f
+  pub children_fail : {T : Type 0} (r : Result T BuildFault) (fault : BuildFault) (f : PolicyFault) → f ≡ states_fault fault p.at → r ≡ Err fault
+      → HasAutomaton (patterns_of p.files) limit → (Conflicts p.files → ⊥)
+      → (r ≡ Err TooManyStates → HasPlaces (attached_patterns profiles (children profiles number)) (limit + 1))
+      → (f ≡ no_memory) ⊎ Fails profiles limit number p f
   children_fail r NoMemory f e is fits free many = inl e
   children_fail r TooManyStates f e is fits free many = inr (ManyChildren e fits free (many is))
 
@@ -38,7 +43,8 @@ snoc_cases (z ∷ xs) y x (suc k) e =
     (λ (h : (k ≡ length xs) × (y ≡ x)). inr (ap suc h.0, h.1))
     (snoc_cases xs y x k e)
 
-pub right_more : (profiles : List Profile) (i : ℕ) (rows new : List ProfileRows) (p : Profile) (r : ProfileRows) → AreRight profiles i rows → slice_get profiles i ≡ Some p → IsRight profiles i p r → new ≡ rows ++ r ∷ [] → AreRight profiles (i + 1) new
+pub right_more : (profiles : List Profile) (i : ℕ) (rows new : List ProfileRows) (p : Profile) (r : ProfileRows) → AreRight profiles i rows
+    → slice_get profiles i ≡ Some p → IsRight profiles i p r → new ≡ rows ++ r ∷ [] → AreRight profiles (i + 1) new
 right_more profiles i rows new p r are at is e = record {
   many = ap length e ∙ length_push rows r ∙ ap (λ n. n + 1) are.many;
   each = λ k q s here found.

@@ -1,5 +1,6 @@
 -- Rules that conflict, and marks that do.
-use Rattle.std.proofs.Common.{◌≡◌, ◌⊎◌, ℕ, ◌<◌, List, [], ◌∷◌, ◌++◌, map, Bool, true, false, true≢false, cond, Option, Some, None, refl, sym, ap, ◌∙◌, subst, arith, Contains, get_or, length, suc, zero, inl, inr, ⊎_elim}
+use Rattle.std.proofs.Common.{◌≡◌, ◌⊎◌, ℕ, ◌<◌, List, [], ◌∷◌, ◌++◌, map, Bool, true, false, true≢false, cond, Option, Some, None}
+use Rattle.std.proofs.Common.{refl, sym, ap, ◌∙◌, subst, arith, Contains, get_or, length, suc, zero, inl, inr, ⊎_elim}
 use Rattle.std.specs.Prelude.{IsTrue, not, ◌&&◌}
 use Rattle.std.specs.List.{slice_get}
 use Rattle.std.specs.Option.{option_map, option_and_then}
@@ -76,10 +77,10 @@ of_hit (q ∷ rules) h c =
     (λ (d : Contains (hits_of rules) h). let t = of_hit rules h d in (in_tail q h.0 rules t.0, t.1))
     (Contains-append_cases (map (pair q) q.patterns) (hits_of rules) h c)
 
-got_in : {X : Type 0} (xs : List X) (n : ℕ) (x : X) → slice_get xs n ≡ Some x → Contains xs x
+pub got_in : {X : Type 0} (xs : List X) (n : ℕ) (x : X) → slice_get xs n ≡ Some x → Contains xs x
 got_in xs n x e = (n, slice_get_within xs n x e, get_or_from_slice_get xs n x x e)
 
-get_in : {X : Type 0} (xs : List X) (x : X) → Contains xs x → (n : ℕ) × (slice_get xs n ≡ Some x)
+pub get_in : {X : Type 0} (xs : List X) (x : X) → Contains xs x → (n : ℕ) × (slice_get xs n ≡ Some x)
 get_in xs x c = (c.0, slice_get-get_or xs c.0 x c.1 ∙ ap Some c.2)
 
 -- a mark of a sort that says how
@@ -103,7 +104,9 @@ way_from : (number : Exec → Way) (o : Option Exec) (w : Way) → option_map nu
 way_from number None w h = absurd (let f = h in cc)
 way_from number (Some e) w h = (e, refl, same_Some (number e) w h)
 
-hit_from : (number : Exec → Way) (o : Option (FileRule × Pattern)) (literal : Bool) (w : Way) → option_and_then (way_if literal) (option_map (mark_of number) o) ≡ Some w → (h : FileRule × Pattern) × (o ≡ Some h) × (way_if literal (mark_of number h) ≡ Some w)
+hit_from : (number : Exec → Way) (o : Option (FileRule × Pattern)) (literal : Bool) (w : Way)
+    → option_and_then (way_if literal) (option_map (mark_of number) o) ≡ Some w
+    → (h : FileRule × Pattern) × (o ≡ Some h) × (way_if literal (mark_of number h) ≡ Some w)
 hit_from number None literal w e = absurd (let f = e in cc)
 hit_from number (Some h) literal w e = (h, refl, e)
 
@@ -188,7 +191,9 @@ module _ (number : Exec → Way) (rules : List FileRule) (patterns : List Patter
     within : i < length list
     way : way_at (marks_by rules ways) literal (get_or list i 0) ≡ Some w
 
-  listed : (literal : Bool) (text list : List ℕ) (r : FileRule) (p : Pattern) (e : Exec) → ListsMatching patterns text list → Contains rules r → Contains r.patterns p → IsTrue (is_match p.items.items text) → is_literal p ≡ literal → r.deny ≡ false → r.exec ≡ Some e → Listed literal (number e) list
+  listed : (literal : Bool) (text list : List ℕ) (r : FileRule) (p : Pattern) (e : Exec) → ListsMatching patterns text list → Contains rules r
+      → Contains r.patterns p → IsTrue (is_match p.items.items text) → is_literal p ≡ literal → r.deny ≡ false → r.exec ≡ Some e
+      → Listed literal (number e) list
   listed literal text list r p e lists c d match sort allow says =
       let h = get_in hits (pair r p) (hit_in rules r p c d) in
       let at = (lists.exact h.0).1 (p, pattern_at h.0 ∙ ap (option_map (λ (h : FileRule × Pattern). h.1)) h.1, (decided p.items.items text).0 match) in

@@ -29,7 +29,9 @@ gather_agree join none f g same [] = refl
 gather_agree join none f g same (x ∷ xs) = ap (λ m. join m (gather join none f xs)) (same x) ∙ ap (join (g x)) (gather_agree join none f g same xs)
 
 -- a part of what they give
-pub gather_part : {X M N : Type 0} (join : M → M → M) (none : M) (meet : N → N → N) (nil : N) (part : M → N) → ((a b : M) → part (join a b) ≡ meet (part a) (part b)) → part none ≡ nil → (f : X → M) (xs : List X) → part (gather join none f xs) ≡ gather meet nil (λ x. part (f x)) xs
+pub gather_part : {X M N : Type 0} (join : M → M → M) (none : M) (meet : N → N → N) (nil : N) (part : M → N)
+    → ((a b : M) → part (join a b) ≡ meet (part a) (part b)) → part none ≡ nil → (f : X → M) (xs : List X)
+    → part (gather join none f xs) ≡ gather meet nil (λ x. part (f x)) xs
 gather_part join none meet nil part joins nils f [] = nils
 gather_part join none meet nil part joins nils f (x ∷ xs) = joins (f x) (gather join none f xs) ∙ ap (meet (part (f x))) (gather_part join none meet nil part joins nils f xs)
 
@@ -87,16 +89,21 @@ module _ {R P M : Type 0} (join : M → M → M) (none : M) (laws : IsJoin join 
       ∙ sym (gather_cond_rule g (list_any (λ p. sort p && matches p) (patterns r)) r (filter (λ r. list_any (λ p. sort p && matches p) (patterns r)) rs))
 
 -- a test that what is given takes with it
-pub gather_tested : {R M : Type 0} (join : M → M → M) (none : M) → IsJoin join none → (t q : R → Bool) (g : R → M) (rs : List R) → gather join none (λ r. cond (t r) (g r) none) (filter q rs) ≡ gather join none g (filter (λ r. t r && q r) rs)
+pub gather_tested : {R M : Type 0} (join : M → M → M) (none : M) → IsJoin join none → (t q : R → Bool) (g : R → M) (rs : List R)
+    → gather join none (λ r. cond (t r) (g r) none) (filter q rs) ≡ gather join none g (filter (λ r. t r && q r) rs)
 gather_tested join none laws t q g [] = refl
 gather_tested join none laws t q g (r ∷ rs) =
     outer (q r) ∙ ap (λ m. cond (q r) (join (cond (t r) (g r) none) m) m) (gather_tested join none laws t q g rs) ∙ both_ways (t r) (q r)
   where
-    outer : (b : Bool) → gather join none (λ r. cond (t r) (g r) none) (cond b (r ∷ filter q rs) (filter q rs)) ≡ cond b (join (cond (t r) (g r) none) (gather join none (λ r. cond (t r) (g r) none) (filter q rs))) (gather join none (λ r. cond (t r) (g r) none) (filter q rs))
+    outer : (b : Bool) → gather join none (λ r. cond (t r) (g r) none) (cond b (r ∷ filter q rs) (filter q rs)) ≡ cond b
+        (join (cond (t r) (g r) none) (gather join none (λ r. cond (t r) (g r) none) (filter q rs)))
+        (gather join none (λ r. cond (t r) (g r) none) (filter q rs))
     outer true = refl
     outer false = refl
 
-    both_ways : (a b : Bool) → cond b (join (cond a (g r) none) (gather join none g (filter (λ r. t r && q r) rs))) (gather join none g (filter (λ r. t r && q r) rs)) ≡ gather join none g (cond (a && b) (r ∷ filter (λ r. t r && q r) rs) (filter (λ r. t r && q r) rs))
+    both_ways : (a b : Bool) → cond b (join (cond a (g r) none) (gather join none g (filter (λ r. t r && q r) rs)))
+        (gather join none g (filter (λ r. t r && q r) rs)) ≡ gather join none g
+        (cond (a && b) (r ∷ filter (λ r. t r && q r) rs) (filter (λ r. t r && q r) rs))
     both_ways true true = refl
     both_ways true false = refl
     both_ways false true = laws.left (gather join none g (filter (λ r. t r && q r) rs))
@@ -107,7 +114,8 @@ module _ {X M : Type 0} (join : M → M → M) (none : M) (laws : IsJoin join no
   abbrev pub rest_of : List ℕ → M
   rest_of ns = gather join none f (picked xs ns)
 
-  pub gather_more : (ns : List ℕ) (i : ℕ) (x : X) (acc next total : M) → i < length ns → slice_get xs (get_or ns i 0) ≡ Some x → next ≡ join acc (f x) → join acc (rest_of (drop i ns)) ≡ total → join next (rest_of (drop (i + 1) ns)) ≡ total
+  pub gather_more : (ns : List ℕ) (i : ℕ) (x : X) (acc next total : M) → i < length ns → slice_get xs (get_or ns i 0) ≡ Some x
+      → next ≡ join acc (f x) → join acc (rest_of (drop i ns)) ≡ total → join next (rest_of (drop (i + 1) ns)) ≡ total
   gather_more ns i x acc next total lt at e so_far =
       let here : rest_of (drop i ns) ≡ join (f x) (rest_of (drop (i + 1) ns)) = at_drop_more rest_of ns i 0 lt ∙ ap (λ o. gather join none f (cons_option o (picked xs (drop (i + 1) ns)))) at in
       ap (λ m. join m (rest_of (drop (i + 1) ns))) e ∙ laws.assoc acc (f x) (rest_of (drop (i + 1) ns)) ∙ ap (join acc) (sym here) ∙ so_far
@@ -121,7 +129,9 @@ module _ {X M : Type 0} (join : M → M → M) (none : M) (laws : IsJoin join no
   gather_all ns i acc total le so_far = sym (laws.right acc) ∙ sym (ap (join acc) (at_drop_all rest_of ns i le)) ∙ so_far
 
   -- whether the number names an element or not
-  pub gather_next : (ns : List ℕ) (i : ℕ) (acc next total : M) → i < length ns → next ≡ join acc (option_map_or f (slice_get xs (get_or ns i 0)) none) → join acc (rest_of (drop i ns)) ≡ total → join next (rest_of (drop (i + 1) ns)) ≡ total
+  pub gather_next : (ns : List ℕ) (i : ℕ) (acc next total : M) → i < length ns
+      → next ≡ join acc (option_map_or f (slice_get xs (get_or ns i 0)) none) → join acc (rest_of (drop i ns)) ≡ total
+      → join next (rest_of (drop (i + 1) ns)) ≡ total
   gather_next ns i acc next total lt e so_far = at (slice_get xs (get_or ns i 0)) refl
     where
       at : (o : Option X) → slice_get xs (get_or ns i 0) ≡ o → join next (rest_of (drop (i + 1) ns)) ≡ total

@@ -21,7 +21,8 @@ below_push parent k (x ∷ xs) p = at (has_parent parent x) (below_push parent (
     same = omega arith
 
     at : (b : Bool) → numbers_below parent (suc k) (xs ++ p ∷ []) ≡ numbers_below parent (suc k) xs ++ cond (has_parent parent p) ((k + length (x ∷ xs)) ∷ []) []
-        → cond b (k ∷ numbers_below parent (suc k) (xs ++ p ∷ [])) (numbers_below parent (suc k) (xs ++ p ∷ [])) ≡ cond b (k ∷ numbers_below parent (suc k) xs) (numbers_below parent (suc k) xs) ++ cond (has_parent parent p) ((k + length (x ∷ xs)) ∷ []) []
+        → cond b (k ∷ numbers_below parent (suc k) (xs ++ p ∷ [])) (numbers_below parent (suc k) (xs ++ p ∷ [])) ≡ cond b
+        (k ∷ numbers_below parent (suc k) xs) (numbers_below parent (suc k) xs) ++ cond (has_parent parent p) ((k + length (x ∷ xs)) ∷ []) []
     at true e = ap (λ l. k ∷ l) e
     at false e = e
 

@@ -1,39 +1,12 @@
 -- Elements by the numbers of those that pass a test.
-use Rattle.std.proofs.Common.{◌≡◌, ◌⊎◌, Bool, true, false, true≢false, List, [], ◌∷◌, map, ℕ, ◌+◌, ◌<◌, ◌≤◌, suc, zero, length, get_or, Contains, subst, refl, sym, ap, ◌∙◌, Option, Some, None, ⊎_elim, inl, inr, arith}
+use Rattle.std.proofs.Common.{◌≡◌, ◌⊎◌, Bool, true, false, true≢false, List, [], ◌∷◌, map, ℕ, ◌+◌, ◌<◌, ◌≤◌, suc, zero}
+use Rattle.std.proofs.Common.{length, get_or, Contains, subst, refl, sym, ap, ◌∙◌, Option, Some, None, ⊎_elim, inl, inr, arith}
 use Rattle.std.specs.List.{filter, filter_map, slice_get, cons_option}
 use Rattle.std.specs.List.Sorted.{IsStrictlyIncreasing}
 use Rattle.std.proofs.lemmas.Bool.{cases_Bool, cases_lt, cond-true, cond-false}
 use Rattle.std.proofs.lemmas.List.{get_or_default}
 use Rattle.aa_compile.specs.Gathered.{picked}
-
-rises : (xs : List ℕ) → IsStrictlyIncreasing xs → (i j : ℕ) → i < j → j < length xs → get_or xs i 0 < get_or xs j 0
-rises xs up i zero lt within = absurd (omega arith)
-rises xs up i (suc j) lt within =
-    let e : j + 1 ≡ suc j = omega arith in
-    let last : get_or xs j 0 < get_or xs (suc j) 0 = subst (λ n. get_or xs j 0 < get_or xs n 0) e (up j (omega arith)) in
-    ⊎_elim
-    (λ (l : i < j). omega (arith, rises xs up i j l (omega arith), last))
-    (λ (g : j ≤ i). let s : j ≡ i = omega arith in subst (λ n. get_or xs n 0 < get_or xs (suc j) 0) s last)
-    (cases_lt i j)
-
-contains_at : (xs : List ℕ) (k n : ℕ) → k < length xs → get_or xs k 0 ≡ n → Contains xs n
-contains_at xs k n lt e = (k, lt, get_or_default xs k n 0 lt ∙ e)
-
-at_of : (xs : List ℕ) (n : ℕ) → Contains xs n → (k : ℕ) × (k < length xs) × (get_or xs k 0 ≡ n)
-at_of xs n c = (c.0, c.1, get_or_default xs c.0 0 n c.1 ∙ c.2)
-
-first_least : (z : ℕ) (zs : List ℕ) (n : ℕ) → IsStrictlyIncreasing (z ∷ zs) → Contains (z ∷ zs) n → (z ≡ n) ⊎ ((z < n) × Contains zs n)
-first_least z zs n up c = at (at_of (z ∷ zs) n c).0 (at_of (z ∷ zs) n c).1 (at_of (z ∷ zs) n c).2
-  where
-    at : (k : ℕ) → k < length (z ∷ zs) → get_or (z ∷ zs) k 0 ≡ n → (z ≡ n) ⊎ ((z < n) × Contains zs n)
-    at zero lt e = inl e
-    at (suc k) lt e = inr (omega (arith, rises (z ∷ zs) up 0 (suc k) (omega arith) lt, e), contains_at zs k n (omega (arith, lt)) e)
-
-rising_tail : (z : ℕ) (zs : List ℕ) → IsStrictlyIncreasing (z ∷ zs) → IsStrictlyIncreasing zs
-rising_tail z zs up k lt = let e : suc k + 1 ≡ suc (k + 1) = omega arith in subst (λ n. get_or (z ∷ zs) (suc k) 0 < get_or (z ∷ zs) n 0) e (up (suc k) (omega (arith, lt)))
-
-behind_first : (z : ℕ) (zs : List ℕ) (n : ℕ) → Contains zs n → Contains (z ∷ zs) n
-behind_first z zs n c = let q = at_of zs n c in contains_at (z ∷ zs) (suc q.0) n (omega (arith, q.1)) q.2
+use Rattle.aa_auto.proofs.SortedLemmas.{rises, contains_at, at_of, first_least, rising_tail, behind_first}
 
 above_first : (z : ℕ) (zs : List ℕ) (n : ℕ) → IsStrictlyIncreasing (z ∷ zs) → Contains zs n → z < n
 above_first z zs n rise c = let q = at_of zs n c in omega (arith, rises (z ∷ zs) rise 0 (suc q.0) (omega arith) (omega (arith, q.1)), q.2)

@@ -50,7 +50,9 @@ module _ (number : Exec → Way) where
   abbrev made : Option Exec → Bool → Chosen
   made e audit = record { way = option_map number e; audited = audit }
 
-  literal_cases : (applies deny literal : Bool) (e : Option Exec) (audit : Bool) → cond applies (cond ((not deny && literal) && is_some (option_map number e)) (made e audit) no_choice) no_choice ≡ cond literal (cond applies (cond (not deny && is_some e) (made e audit) no_choice) no_choice) no_choice
+  literal_cases : (applies deny literal : Bool) (e : Option Exec) (audit : Bool)
+      → cond applies (cond ((not deny && literal) && is_some (option_map number e)) (made e audit) no_choice) no_choice ≡ cond literal
+      (cond applies (cond (not deny && is_some e) (made e audit) no_choice) no_choice) no_choice
   literal_cases true true true None audit = refl
   literal_cases true true true (Some x) audit = refl
   literal_cases true true false None audit = refl
@@ -68,7 +70,9 @@ module _ (number : Exec → Way) where
   literal_cases false false false None audit = refl
   literal_cases false false false (Some x) audit = refl
 
-  any_cases : (applies deny : Bool) (e : Option Exec) (audit : Bool) → cond applies (cond (not deny && is_some (option_map number e)) (made e audit) no_choice) no_choice ≡ cond applies (cond (not deny && is_some e) (made e audit) no_choice) no_choice
+  any_cases : (applies deny : Bool) (e : Option Exec) (audit : Bool)
+      → cond applies (cond (not deny && is_some (option_map number e)) (made e audit) no_choice) no_choice ≡ cond applies
+      (cond (not deny && is_some e) (made e audit) no_choice) no_choice
   any_cases true true None audit = refl
   any_cases true true (Some x) audit = refl
   any_cases true false None audit = refl

@@ -52,7 +52,8 @@ pub record Passes (profiles : List Profile) (limit number : ℕ) (p : Profile) :
 pub data Fails (profiles : List Profile) (limit number : ℕ) (p : Profile) (f : PolicyFault) : Type 0 where
   ManyFiles : f ≡ fault_at ManyStates p.at → HasPlaces (patterns_of p.files) (limit + 1) → Fails profiles limit number p f
   Conflicting : f ≡ fault_at ConflictingExec p.at → HasAutomaton (patterns_of p.files) limit → Conflicts p.files → Fails profiles limit number p f
-  ManyChildren : f ≡ fault_at ManyStates p.at → HasAutomaton (patterns_of p.files) limit → (Conflicts p.files → ⊥) → HasPlaces (attached_patterns profiles (children profiles number)) (limit + 1) → Fails profiles limit number p f
+  ManyChildren : f ≡ fault_at ManyStates p.at → HasAutomaton (patterns_of p.files) limit → (Conflicts p.files → ⊥)
+      → HasPlaces (attached_patterns profiles (children profiles number)) (limit + 1) → Fails profiles limit number p f
 
 -- the profiles before a number pass
 abbrev pub PassBefore : List Profile → ℕ → ℕ → Type 0

@@ -42,7 +42,8 @@ has_one limit p q to back automaton (a, b, text, conflict) none =
     (places_of_some (executing q.files) (patterns_of q.files) (limit + 1) (in_rules q.files) many)))
     none
 
-at_profile : (limit : ℕ) (ps qs : List Profile) (at : Spot) → AllZip SameProfile ps qs → AllZip SameProfile qs ps → (n : ℕ) (p : Profile) → slice_get ps n ≡ Some p → p.at ≡ at → HasAutomaton (patterns_of p.files) limit → Conflicts p.files → NoneHas qs at (limit + 1) → ⊥
+at_profile : (limit : ℕ) (ps qs : List Profile) (at : Spot) → AllZip SameProfile ps qs → AllZip SameProfile qs ps → (n : ℕ) (p : Profile)
+    → slice_get ps n ≡ Some p → p.at ≡ at → HasAutomaton (patterns_of p.files) limit → Conflicts p.files → NoneHas qs at (limit + 1) → ⊥
 at_profile limit ps qs at to back n p is stands automaton conflicts none =
     let q = got_alike SameProfile ps qs n p to is in
     let again = got_alike SameProfile qs ps n q.0 back q.1 in

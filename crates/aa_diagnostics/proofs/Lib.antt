@@ -1,6 +1,6 @@
 mod Naming
 mod Fronts
-mod SetTwice
+pub mod SetTwice
 mod NamedTwice
 mod Shown
 mod OfUnit

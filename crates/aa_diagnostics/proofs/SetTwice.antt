@@ -24,11 +24,11 @@ same_test true y f g = sym (f refl)
 same_test false true f g = g refl
 same_test false false f g = refl
 
-and_false : (b : Bool) → (b && false) ≡ false
+pub and_false : (b : Bool) → (b && false) ≡ false
 and_false true = refl
 and_false false = refl
 
-and_true : (b : Bool) → (b && true) ≡ b
+pub and_true : (b : Bool) → (b && true) ≡ b
 and_true true = refl
 and_true false = refl
 
@@ -131,7 +131,7 @@ or_nothing : (o : Option Spot) → is_some o ≡ is_some (option_or o None)
 or_nothing (Some s) = refl
 or_nothing None = refl
 
-or_false : (b : Bool) → (b || false) ≡ b
+pub or_false : (b : Bool) → (b || false) ≡ b
 or_false true = refl
 or_false false = refl
 

@@ -2,7 +2,9 @@
 -- Source: own.
 use Rattle.std.specs.Prelude.{ℕ, length, nat_le, nat_lt, ◌==◌, ◌&&◌, ◌++◌, List, [], ◌∷◌, drop, codes, decimal, Bool, false, Option, Some, None, if◌then◌else◌}
 use Rattle.aa_base.specs.declared.fault.PolicyKind.{PolicyKind}
-use Rattle.aa_base.specs.declared.fault.PolicyKind.TheVariants.{NoMemory, MissingInclude, IncludeDepth, Syntax, Unsupported, UnknownWord, BadMode, WriteWithAppend, BadPattern, UndefinedVariable, VariableTwice, VariableCircle, TooManyExpansions, RelativePath, DuplicateProfile, ConflictingExec, TooManyStates, TooLarge}
+use Rattle.aa_base.specs.declared.fault.PolicyKind.TheVariants.{NoMemory, MissingInclude, IncludeDepth, Syntax, Unsupported, UnknownWord, BadMode}
+use Rattle.aa_base.specs.declared.fault.PolicyKind.TheVariants.{WriteWithAppend, BadPattern, UndefinedVariable, VariableTwice, VariableCircle}
+use Rattle.aa_base.specs.declared.fault.PolicyKind.TheVariants.{TooManyExpansions, RelativePath, DuplicateProfile, ConflictingExec, TooManyStates, TooLarge}
 use Rattle.aa_diagnostics.specs.Words.{word_in, left_out}
 
 -- a part behind a colon, if there is one

@@ -14,17 +14,6 @@ use Rattle.aa_differences.specs.declared.at_labels.Difference.{Difference}
 use Rattle.aa_differences.specs.Same.{SameLabel, SameAnswer, AnsweredAlike}
 use Rattle.aa_differences.specs.Differences.{IsDifference, IsEntryOf, IsListedAt, ListAllAt, AddsAt}
 
--- what holds of the first elements, and of one more
-pub elements_more : {X : Type 0} (xs : List X) (i : ℕ) (x : X) (P Q : X → Type 0) → i < length xs → x ≡ get_or xs i x → ((y : X) → P y → Q y) → Q x → ((k : ℕ) (y : X) → k < i → get_or xs k y ≡ y → P y)
-    → (k : ℕ) (y : X) → k < i + 1 → get_or xs k y ≡ y → Q y
-elements_more xs i x P Q lt is on more before k y l e =
-    ⊎_elim
-    (λ (below : k < i). on y (before k y below e))
-    (λ (above : i ≤ k).
-    let same : i ≡ k = omega (arith, l, above) in
-    subst Q (is ∙ get_or_default xs i x y lt ∙ ap (λ (n : ℕ). get_or xs n y) same ∙ e) more)
-    (cases_lt k i)
-
 module _ (ps qs : List Policy) (l m : Label) where
   -- answers that are the same add nothing
   pub adds_none : (r : Request) (a b : Answer) (ds : List Difference) → a ≡ reply ps l r → b ≡ reply qs m r → SameAnswer ps qs a b → AddsAt ps qs l m r ds ds

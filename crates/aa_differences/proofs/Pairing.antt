@@ -1,5 +1,6 @@
 -- Labels that are called the same are found by their profiles' names, and others are answered alike.
-use Rattle.std.proofs.Common.{◌≡◌, ℕ, ◌<◌, ◌≤◌, ◌⊎◌, inl, inr, max, List, [], ◌∷◌, ◌++◌, length, get_or, Bool, true, false, cond, Option, Some, None, Contains, refl, sym, ap, ◌∙◌, subst, arith, rules, tests, ⊎_elim}
+use Rattle.std.proofs.Common.{◌≡◌, ℕ, ◌<◌, ◌≤◌, ◌⊎◌, inl, inr, max, List, [], ◌∷◌, ◌++◌, length, get_or, Bool, true, false}
+use Rattle.std.proofs.Common.{cond, Option, Some, None, Contains, refl, sym, ap, ◌∙◌, subst, arith, rules, tests, ⊎_elim}
 use Rattle.std.specs.Prelude.{nat_lt}
 use Rattle.std.specs.List.{slice_get, IsDistinct, position_or_len}
 use Rattle.std.specs.Option.{option_and_then}
@@ -60,11 +61,13 @@ called_there o j name e policy is = by_profile (slice_get policy.profiles j) ref
         subst (λ (n : List ℕ). named policy.profiles n ≡ Some j) same (named_is policy.profiles policy.lawful.distinct j q at)
     by_profile None at f = absurd (let h : None ≡ Some name = ap name_of (sym at) ∙ f in cc)
 
-pub called_number : (ps qs : List Policy) (k n j : ℕ) (p : Profile) (policy : Policy) → profile_in ps k n ≡ Some p → slice_get qs k ≡ Some policy → SameLabel ps qs (Confined k n) (Confined k j) → named policy.profiles p.name ≡ Some j
+pub called_number : (ps qs : List Policy) (k n j : ℕ) (p : Profile) (policy : Policy) → profile_in ps k n ≡ Some p → slice_get qs k ≡ Some policy
+    → SameLabel ps qs (Confined k n) (Confined k j) → named policy.profiles p.name ≡ Some j
 called_number ps qs k n j p policy at there same = called_there (slice_get qs k) j p.name (sym same.1 ∙ ap name_of at) policy there
 
 -- the profile that is found by the name of another is called the same
-pub called_same : (ps qs : List Policy) (k n j : ℕ) (p : Profile) (policy : Policy) → profile_in ps k n ≡ Some p → slice_get qs k ≡ Some policy → named policy.profiles p.name ≡ Some j → SameLabel ps qs (Confined k n) (Confined k j)
+pub called_same : (ps qs : List Policy) (k n j : ℕ) (p : Profile) (policy : Policy) → profile_in ps k n ≡ Some p → slice_get qs k ≡ Some policy
+    → named policy.profiles p.name ≡ Some j → SameLabel ps qs (Confined k n) (Confined k j)
 called_same ps qs k n j p policy at there is =
     let found = position-Some (λ (q : Profile). bytes_eq p.name q.name) policy.profiles j p is in
     let q = get_or policy.profiles j p in

@@ -51,7 +51,8 @@ module _ (ps qs : List Profile) (same : AllZip SameHead ps qs) where
   pub attached_alike : (numbers path : List ℕ) → attached ps numbers path ≡ attached qs numbers path
   attached_alike numbers path =
       ap attached_by (map_alike SameHit attachment_of hit_alike (filter (λ h. is_match h.1.items.items path) (attachments_by ps numbers)) (filter (λ h. is_match h.1.items.items path) (attachments_by qs numbers))
-      (filter_alike SameHit (λ h. is_match h.1.items.items path) (λ h. is_match h.1.items.items path) (λ h k e. match_alike h.1.items.items k.1.items.items e.1 path) (attachments_by ps numbers) (attachments_by qs numbers) (attachments_alike numbers)))
+      (filter_alike SameHit (λ h. is_match h.1.items.items path) (λ h. is_match h.1.items.items path)
+      (λ h k e. match_alike h.1.items.items k.1.items.items e.1 path) (attachments_by ps numbers) (attachments_by qs numbers) (attachments_alike numbers)))
 
   pub named_alike : (name : List ℕ) → named ps name ≡ named qs name
   named_alike name = position_alike SameHead (λ p. bytes_eq name p.name) (λ p q e. ap (bytes_eq name) e.name) ps qs same

@@ -1,5 +1,6 @@
 -- The requests of a task, and what its job's tasks are answered.
-use Rattle.std.proofs.Common.{Bool, true, false, cond, suc, zero, ◌≡◌, ◌⊎◌, inl, inr, ℕ, ◌+◌, ◌<◌, ◌≤◌, List, [], ◌∷◌, ◌++◌, length, drop, take, get_or, map, Option, Some, None, refl, ap, sym, ◌∙◌, arith, append_assoc}
+use Rattle.std.proofs.Common.{Bool, true, false, cond, suc, zero, ◌≡◌, ◌⊎◌, inl, inr, ℕ, ◌+◌, ◌<◌, ◌≤◌, List, [], ◌∷◌}
+use Rattle.std.proofs.Common.{◌++◌, length, drop, take, get_or, map, Option, Some, None, refl, ap, sym, ◌∙◌, arith, append_assoc}
 use Rattle.std.specs.Prelude.{option_map, option_and_then, is_none, nat_le, ◌&&◌}
 use Rattle.std.specs.List.{position_from, list_all}
 use Rattle.std.proofs.lemmas.Bool.{and_parts, leb-true}
@@ -128,7 +129,7 @@ mapped_twice f g [] = refl
 mapped_twice f g (x ∷ xs) = ap (λ l. f (g x) ∷ l) (mapped_twice f g xs)
 
 -- where no task's label is unknown, each names a profile
-tf : true ≡ false → ⊥
+pub tf : true ≡ false → ⊥
 tf e = cc
 
 passes_none_at : (p : Task → Bool) (k : ℕ) (t : Task) (ts : List Task) (i : ℕ) (d : Task) (b : Bool) → p t ≡ b → cond b (Some k) (position_from p (k + 1) ts) ≡ None → i < suc (length ts)

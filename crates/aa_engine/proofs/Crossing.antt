@@ -29,7 +29,16 @@ task_text_send r q M s =
         search (as_row_send, sendable, crosses) depth 20,
         (
           search (compiled_sync, as_row_send, sendable, crosses) depth 20,
-          (search (s, as_row_send, sendable, crosses) depth 20, (search (as_row_send, sendable, crosses) depth 20, (search (lent_request_sync, answer_sync, as_row_send, sendable, crosses) depth 30 fits 10000, (search (as_row_send, sendable, crosses) depth 20, tt)))),
+          (
+            search (s, as_row_send, sendable, crosses) depth 20,
+            (
+              search (as_row_send, sendable, crosses) depth 20,
+              (
+                search (lent_request_sync, answer_sync, as_row_send, sendable, crosses) depth 30 fits 10000,
+                (search (as_row_send, sendable, crosses) depth 20, tt),
+              ),
+            ),
+          ),
         ),
       ),
     )

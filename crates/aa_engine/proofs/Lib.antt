@@ -1,4 +1,4 @@
-mod Answering
+pub mod Answering
 mod Checking
 mod Replaying
 mod Writing

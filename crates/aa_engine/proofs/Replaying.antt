@@ -14,6 +14,7 @@ use Rattle.aa_jobs.specs.declared.job.Event.{Event as Listed}
 use Rattle.aa_lane.specs.WorldState.{opening}
 use Rattle.aa_engine.specs.Answers.{task_label}
 use Rattle.aa_engine.specs.Replay.{TaskState, TaskWorld, task_after, tasks_after, line_at, replay_lines, opened, replay_text}
+use Rattle.aa_engine.proofs.Answering.{tf}
 
 -- these tasks are open, and then those from that place on, are all
 pub record Opening (policies : List Policy) (capacity : ℕ) (found : List TaskState) (rest tasks : List Task) : Type 0 where
@@ -73,7 +74,8 @@ pub record Replaying (several : Bool) (policies : List Policy) (capacity : ℕ) 
   pub goes_on : out ++ replay_lines several policies states rest ≡ replay_lines several policies first events
   pub sized : length states ≡ length tasks
 
-lines_step : (several : Bool) (policies : List Policy) (states : List TaskState) (e : Listed) (es : List Listed) → replay_lines several policies states (e ∷ es) ≡ line_at several policies states e ++ replay_lines several policies (tasks_after states e) es
+lines_step : (several : Bool) (policies : List Policy) (states : List TaskState) (e : Listed) (es : List Listed)
+    → replay_lines several policies states (e ∷ es) ≡ line_at several policies states e ++ replay_lines several policies (tasks_after states e) es
 unfolding replay_lines
 lines_step several policies states e es = refl
 
@@ -148,9 +150,6 @@ written_back len old new e len-is new-is =
     take-append-le len new (drop (length new) old) (omega arith) ∙ take_all len new (omega arith) ∙ new-is
 
 -- ---- the task of each event is there
-
-tf : true ≡ false → ⊥
-tf e = cc
 
 and_right : (a b : Bool) → IsTrue (a && b) → b ≡ true
 and_right true true h = refl

@@ -63,7 +63,9 @@ module _ (ps qs : List Policy) (same : AllZip SamePolicy ps qs) where
 
   after_alike : (w : TaskWorld) → w.machine ≡ ps → (e : TaskEvent) → after next_label reply (by qs w) e ≡ by qs (after next_label reply w e)
   after_alike w h (Send q) =
-      cond_by qs (is_spent w) (by qs w) w _ _ refl (cond_by qs (is_full w) (by qs w) w _ _ refl (cond_by qs w.shut (by qs w) w (record (by qs w) { accepted = w.accepted ++ q ∷ [] }) (record w { accepted = w.accepted ++ q ∷ [] }) refl refl))
+      cond_by qs (is_spent w) (by qs w) w _ _ refl
+      (cond_by qs (is_full w) (by qs w) w _ _ refl
+      (cond_by qs w.shut (by qs w) w (record (by qs w) { accepted = w.accepted ++ q ∷ [] }) (record w { accepted = w.accepted ++ q ∷ [] }) refl refl))
   after_alike w h Take =
       cond_by qs (nat_lt (length w.answers) w.taken) (by qs w) w _ _ refl (cond_by qs (nat_lt w.taken (length w.accepted)) (record (by qs w) { taken = w.taken + 1 }) (record w { taken = w.taken + 1 }) (by qs w) w refl refl)
   after_alike w h Finish =

@@ -66,10 +66,16 @@ exec_bits_alike p q h r t =
 
 link_bits_alike : (p q : Profile) → SameProfile p q → (r : RequestedLink) → link_bits p.files r ≡ link_bits q.files r
 link_bits_alike p q h r =
-    ap (λ (v : RuleSets). link_bits_of v (file_verdict p.files r.target r.owned) (option_eq same_exec (way_of (chosen p.files r.link r.owned)) (way_of (chosen p.files r.target r.owned)))) (file_verdict_alike r.link r.owned p.files q.files h.files)
-    ∙ ap (λ (v : RuleSets). link_bits_of (file_verdict q.files r.link r.owned) v (option_eq same_exec (way_of (chosen p.files r.link r.owned)) (way_of (chosen p.files r.target r.owned)))) (file_verdict_alike r.target r.owned p.files q.files h.files)
-    ∙ ap (λ (w : Option Exec). link_bits_of (file_verdict q.files r.link r.owned) (file_verdict q.files r.target r.owned) (option_eq same_exec w (way_of (chosen p.files r.target r.owned)))) (chosen_way_alike r.link r.owned p.files q.files h.files)
-    ∙ ap (λ (w : Option Exec). link_bits_of (file_verdict q.files r.link r.owned) (file_verdict q.files r.target r.owned) (option_eq same_exec (way_of (chosen q.files r.link r.owned)) w)) (chosen_way_alike r.target r.owned p.files q.files h.files)
+    ap (λ (v : RuleSets). link_bits_of v (file_verdict p.files r.target r.owned)
+    (option_eq same_exec (way_of (chosen p.files r.link r.owned)) (way_of (chosen p.files r.target r.owned))))
+    (file_verdict_alike r.link r.owned p.files q.files h.files)
+    ∙ ap (λ (v : RuleSets). link_bits_of (file_verdict q.files r.link r.owned) v
+    (option_eq same_exec (way_of (chosen p.files r.link r.owned)) (way_of (chosen p.files r.target r.owned))))
+    (file_verdict_alike r.target r.owned p.files q.files h.files)
+    ∙ ap (λ (w : Option Exec). link_bits_of (file_verdict q.files r.link r.owned) (file_verdict q.files r.target r.owned)
+    (option_eq same_exec w (way_of (chosen p.files r.target r.owned)))) (chosen_way_alike r.link r.owned p.files q.files h.files)
+    ∙ ap (λ (w : Option Exec). link_bits_of (file_verdict q.files r.link r.owned) (file_verdict q.files r.target r.owned)
+    (option_eq same_exec (way_of (chosen q.files r.link r.owned)) w)) (chosen_way_alike r.target r.owned p.files q.files h.files)
 
 kept_alike : (k n : ℕ) (p q : Profile) → SameProfile p q → (bits others : RequestBits) → bits ≡ others → kept k n p bits ≡ kept k n q others
 kept_alike k n p q h bits others e = ap (λ (b : RequestBits). kept k n p b) e ∙ decided_alike p q h (Confined k n) (Confined k n) false others

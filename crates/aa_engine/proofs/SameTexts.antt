@@ -20,7 +20,8 @@ use Rattle.aa_audit.specs.Lines.{head_text, note_line, operation_name}
 use Rattle.aa_jobs.specs.declared.job.Task.{Task}
 use Rattle.aa_lane.specs.Answers.{answered_from}
 use Rattle.aa_engine.specs.Answers.{Answered, asked, task_label, next_label, answers_by}
-use Rattle.aa_engine.specs.Output.{verdict_word, policy_word, scrub_word, outcome_text, verdict_line, audit_lines, task_lines, lines_from, run_text, keyword_text, passed_over_line, counts_line, rules_of, policy_text, number_line, policies_from, check_text}
+use Rattle.aa_engine.specs.Output.{verdict_word, policy_word, scrub_word, outcome_text, verdict_line, audit_lines, task_lines, lines_from, run_text}
+use Rattle.aa_engine.specs.Output.{keyword_text, passed_over_line, counts_line, rules_of, policy_text, number_line, policies_from, check_text}
 use Rattle.aa_policy.specs.Sameness.{SameProfile, SamePolicy, SameRule}
 use Rattle.aa_engine.proofs.Rows.{IsAlike, got_alike, long_alike}
 use Rattle.aa_engine.proofs.Replies.{label_named_alike, replies_alike}
@@ -108,7 +109,9 @@ module _ (ps qs : List Policy) (same : AllZip SamePolicy ps qs) where
   unfolding lines_from
   lines_alike several [] n = refl
   lines_alike several (task ∷ tasks) n =
-      ap (λ (o : Option Label). option_and_then (λ (label : Label). option_and_then (λ (rest : List ℕ). Some (task_lines several ps n label (answers_by next_label reply ps task label) ++ rest)) (lines_from next_label reply ps several ps (n + 1) tasks)) o)
+      ap (λ (o : Option Label). option_and_then
+      (λ (label : Label). option_and_then (λ (rest : List ℕ). Some (task_lines several ps n label (answers_by next_label reply ps task label) ++ rest))
+      (lines_from next_label reply ps several ps (n + 1) tasks)) o)
       (label_named_alike ps qs same task.policy task.label)
       ∙ by_label several n task (lines_from next_label reply ps several ps (n + 1) tasks) (lines_from next_label reply qs several qs (n + 1) tasks) (lines_alike several tasks (n + 1)) (task_label qs task)
 

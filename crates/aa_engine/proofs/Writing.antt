@@ -185,7 +185,9 @@ module _ {M : Type 0} (next : M → Label → Request → Label) (decide : M →
   mapped text (Some others) = refl
 
   pub lines_step : (several : Bool) (policies : List Policy) (n : ℕ) (task : Task) (rest : List Task) (label : Label) → task_label policies task ≡ Some label
-      → lines_from next decide machine several policies n (task ∷ rest) ≡ option_map (λ (others : List ℕ). task_lines several policies n label (answers_by next decide machine task label) ++ others) (lines_from next decide machine several policies (n + 1) rest)
+      → lines_from next decide machine several policies n (task ∷ rest) ≡ option_map
+      (λ (others : List ℕ). task_lines several policies n label (answers_by next decide machine task label) ++ others)
+      (lines_from next decide machine several policies (n + 1) rest)
   unfolding lines_from
   lines_step several policies n task rest label e = rw e (mapped (task_lines several policies n label (answers_by next decide machine task label)) (lines_from next decide machine several policies (n + 1) rest))
 
@@ -221,7 +223,8 @@ module _ {M : Type 0} (next : M → Label → Request → Label) (decide : M →
       let like = alike zero b (omega arith) in
       let lines : string_bytes p.0 ≡ task_lines several policies n b.opening b.answers.now = rw (p.2, like.0, like.1) at here.lines in
       let row : b.answers.now ≡ answers_by next decide machine task b.opening = h.answers ∙ ap (answers_by next decide machine task) same in
-      let behind = lines_joined several policies (n + 1) rest bs afters p.1 h.behind others (λ i d lt. alike (suc i) d (omega arith)) (omega arith) (λ i d lt. subst (λ k. IsMade k (get_or bs i d) (get_or afters i d)) (omega arith) (made (suc i) d (omega arith))) p.3 in
+      let behind = lines_joined several policies (n + 1) rest bs afters p.1 h.behind others (λ i d lt. alike (suc i) d (omega arith)) (omega arith)
+      (λ i d lt. subst (λ k. IsMade k (get_or bs i d) (get_or afters i d)) (omega arith) (made (suc i) d (omega arith))) p.3 in
       lines_step several policies n task rest b.opening named
       ∙ ap (option_map (λ (x : List ℕ). task_lines several policies n b.opening (answers_by next decide machine task b.opening) ++ x)) behind
       ∙ ap (λ (r : Row). Some (task_lines several policies n b.opening r ++ p.1)) (sym row)

@@ -10,7 +10,7 @@ use Rattle.aa_pattern.specs.Matching.{is_match}
 use Rattle.aa_model.specs.declared.rule.FileRule.{FileRule}
 use Rattle.aa_compile.specs.Patterns.{is_literal}
 use Rattle.aa_compile.specs.FileRules.{some_match, SayDifferently, Hit, IsConflict}
-use Rattle.aa_compile.proofs.ConflictLemmas.{in_head, in_tail}
+use Rattle.aa_compile.proofs.ConflictLemmas.{in_head, in_tail, got_in}
 use Rattle.aa_explain.specs.Clashes.{is_no_literal, ClashAt, Conflict}
 
 record Found (sort : Pattern → Bool) (text : List ℕ) (ps : List Pattern) : Type 0 where
@@ -31,9 +31,6 @@ matched : (sort : Pattern → Bool) (text : List ℕ) (ps : List Pattern) (p : P
 matched sort text ps p c e f =
     list_any_at (λ (q : Pattern). sort q && is_match q.items.items text) ps c.0 p c.1
     (ap (λ (q : Pattern). sort q && is_match q.items.items text) c.2 ∙ and_from (sort p) (is_match p.items.items text) e f)
-
-pub got_in : {X : Type 0} (xs : List X) (n : ℕ) (x : X) → slice_get xs n ≡ Some x → Contains xs x
-got_in xs n x e = (n, slice_get_within xs n x e, get_or_from_slice_get xs n x x e)
 
 module _ (rules : List FileRule) (first second : ℕ) (a b : FileRule) (text : List ℕ) (at : slice_get rules first ≡ Some a) (other : slice_get rules second ≡ Some b) (say : SayDifferently a b) where
   made : (sort : Pattern → Bool) (f : Found sort text a.patterns) (g : Found sort text b.patterns) → is_literal f.pattern ≡ is_literal g.pattern → Conflict rules first second text
@@ -67,7 +64,10 @@ clash_of_hits rules a b text c = (
       (λ (e : is_literal a.pattern ≡ true).
       inl (matched is_literal text a.rule.patterns a.pattern c.patterns_are.0 e c.match.0, matched is_literal text b.rule.patterns b.pattern c.patterns_are.1 (sym c.sort ∙ e) c.match.1))
       (λ (e : is_literal a.pattern ≡ false).
-      inr (matched is_no_literal text a.rule.patterns a.pattern c.patterns_are.0 (not_from_false (is_literal a.pattern) e) c.match.0, matched is_no_literal text b.rule.patterns b.pattern c.patterns_are.1 (not_from_false (is_literal b.pattern) (sym c.sort ∙ e)) c.match.1))
+      inr (
+        matched is_no_literal text a.rule.patterns a.pattern c.patterns_are.0 (not_from_false (is_literal a.pattern) e) c.match.0,
+        matched is_no_literal text b.rule.patterns b.pattern c.patterns_are.1 (not_from_false (is_literal b.pattern) (sym c.sort ∙ e)) c.match.1,
+      ))
       (cases_Bool (is_literal a.pattern)),
 )
 

@@ -1,5 +1,6 @@
 -- Texts that lead to all rows.
-use Rattle.std.proofs.Common.{◌≡◌, ◌≤◌, ◌<◌, ◌+◌, ◌*◌, ℕ, List, [], ◌∷◌, ◌++◌, length, get_or, set, Bool, true, false, cond, not, Fits, w8, refl, sym, ap, ◌∙◌, subst, arith, ⊎_elim, append_assoc, append-nil}
+use Rattle.std.proofs.Common.{◌≡◌, ◌≤◌, ◌<◌, ◌+◌, ◌*◌, ℕ, List, [], ◌∷◌, ◌++◌, length, get_or, set, Bool, true, false, cond}
+use Rattle.std.proofs.Common.{not, Fits, w8, refl, sym, ap, ◌∙◌, subst, arith, ⊎_elim, append_assoc, append-nil}
 use Rattle.std.specs.Prelude.{slice_index}
 use Rattle.std.proofs.lemmas.Bool.{cases_eq, cases_lt}
 use Rattle.std.proofs.lemmas.List.{length-set, length_push, get_or-set_other, get_or_default, get_or_append_left}

@@ -1,5 +1,7 @@
 -- The rules of patterns.
-use Rattle.std.proofs.Common.{◌≡◌, ◌≤◌, ◌<◌, ◌+◌, ℕ, suc, zero, List, [], ◌∷◌, ◌++◌, map, filter, length, Bool, true, false, true≢false, cond, Some, Contains, refl, sym, ap, ◌∙◌, subst, arith, take, get_or, ⊎_elim, length-append, get_or-append-add, append-nil}
+use Rattle.std.proofs.Common.{◌≡◌, ◌≤◌, ◌<◌, ◌+◌, ℕ, suc, zero, List, [], ◌∷◌, ◌++◌, map, filter, length, Bool, true, false}
+use Rattle.std.proofs.Common.{true≢false, cond, Some, Contains, refl, sym, ap, ◌∙◌, subst, arith, take, get_or, ⊎_elim, length-append}
+use Rattle.std.proofs.Common.{get_or-append-add, append-nil}
 use Rattle.std.specs.List.{slice_get, sum_by}
 use Rattle.std.specs.Option.{option_map}
 use Rattle.std.proofs.lemmas.Bool.{cases_lt}
@@ -14,6 +16,7 @@ use Rattle.aa_auto.specs.Tables.{HasPlaces}
 use Rattle.aa_compile.specs.FileRules.{says_how}
 use Rattle.aa_compile.specs.Rows.{patterns_of}
 use Rattle.aa_explain.specs.Clashes.{executing, AreOwners}
+use Rattle.aa_compile.proofs.ConflictLemmas.{get_in}
 
 -- behind a list
 got_left : {X : Type 0} (xs ys : List X) (n : ℕ) (x : X) → slice_get xs n ≡ Some x → slice_get (xs ++ ys) n ≡ Some x
@@ -25,9 +28,6 @@ got_right : {X : Type 0} (xs ys : List X) (n : ℕ) (x : X) → slice_get ys n �
 got_right xs ys n x e =
     slice_get-get_or (xs ++ ys) (length xs + n) x (omega (arith, length-append xs ys, slice_get_within ys n x e))
     ∙ ap Some (get_or-append-add xs ys n x ∙ get_or_from_slice_get ys n x x e)
-
-pub get_in : {X : Type 0} (xs : List X) (x : X) → Contains xs x → (n : ℕ) × (slice_get xs n ≡ Some x)
-get_in xs x c = (c.0, slice_get-get_or xs c.0 x c.1 ∙ ap Some c.2)
 
 -- the patterns of one rule more
 abbrev pub theirs : {X : Type 0} → FileRule → List X → List X
@@ -104,7 +104,8 @@ pub in_rules : (rules : List FileRule) (p : Pattern) → Contains (executing rul
 in_rules [] p c = c
 in_rules (r ∷ rules) p c = rule_in (says_how r) r rules p (in_rules rules p) c
 
-rule_few : (b : Bool) (r : FileRule) (rules : List FileRule) → length (executing rules) ≤ length (patterns_of rules) → length (patterns_of (cond b (r ∷ filter says_how rules) (filter says_how rules))) ≤ length (r.patterns ++ patterns_of rules)
+rule_few : (b : Bool) (r : FileRule) (rules : List FileRule) → length (executing rules) ≤ length (patterns_of rules)
+    → length (patterns_of (cond b (r ∷ filter says_how rules) (filter says_how rules))) ≤ length (r.patterns ++ patterns_of rules)
 rule_few true r rules few = omega (arith, few, length-append r.patterns (executing rules), length-append r.patterns (patterns_of rules))
 rule_few false r rules few = omega (arith, few, length-append r.patterns (patterns_of rules))
 

@@ -17,7 +17,7 @@ use Rattle.aa_compile.proofs.MatchedTexts.{matched_text}
 use Rattle.aa_explain.specs.Clashes.{AreOwners, Conflict, SomeConflict}
 use Rattle.aa_explain.specs.Texts.{ReachAll}
 use Rattle.aa_explain.proofs.Conflicting.{turned}
-use Rattle.aa_explain.proofs.Owning.{get_in}
+use Rattle.aa_compile.proofs.ConflictLemmas.{get_in}
 
 pub none_then : {X : Type 0} (o : Option X) {P Q : Type 0} → IfNone o P → (P → Q) → IfNone o Q
 none_then None h f = f h

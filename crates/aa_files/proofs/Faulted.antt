@@ -33,7 +33,9 @@ look_up_faults files u node byte a (Ok x) h = tt
 look_up_faults files u node byte a (Err e) h = look_up_fault files u node byte a e h
 
 -- what was found at some paths lies there
-pub here_of : (files : Option Files) (paths : List (List ℕ)) (o : Option (Name × Found)) → MatchOption o (NothingAt files paths) (λ f. LiesAt files paths f.0.items (read f.1)) → IsHere files paths (option_map (λ (f : Name × Found). f.0.items) o)
+pub here_of : (files : Option Files) (paths : List (List ℕ)) (o : Option (Name × Found))
+    → MatchOption o (NothingAt files paths) (λ f. LiesAt files paths f.0.items (read f.1))
+    → IsHere files paths (option_map (λ (f : Name × Found). f.0.items) o)
 here_of files paths None h = h
 here_of files paths (Some f) h = (read f.1, h)
 

@@ -12,7 +12,7 @@ use Rattle.aa_files.specs.Walks.{Name, Entry, by_bytes, known_of}
 same : List ℕ → List ℕ → Bool
 same a b = is_eq (slice_cmp nat_cmp a b)
 
-tied : (r : Ordering) → is_eq r ≡ true → r ≡ Equal
+pub tied : (r : Ordering) → is_eq r ≡ true → r ≡ Equal
 tied Less e = cc
 tied Equal e = refl
 tied Greater e = cc
@@ -34,8 +34,11 @@ known_insert (e ∷ es) k v q h = by (slice_cmp nat_cmp k.items e.0.items) refl 
     by Less r h later = refl
     by Equal r h later = cc
     by Greater r h later =
-        let apart : is_eq (slice_cmp nat_cmp q e.0.items) ≡ true → is_eq (slice_cmp nat_cmp q k.items) ≡ true → Some e.1 ≡ Some v = λ a b. absurd (differ r (exact_bytes q e.0.items (tied (slice_cmp nat_cmp q e.0.items) a)) (exact_bytes q k.items (tied (slice_cmp nat_cmp q k.items) b))) in
-        ap (λ (w : Option (Option ℕ)). cond (is_eq (slice_cmp nat_cmp q e.0.items)) (Some e.1) w) (later h) ∙ swapped (is_eq (slice_cmp nat_cmp q e.0.items)) (is_eq (slice_cmp nat_cmp q k.items)) (Some e.1) (Some v) (known_of es q) apart
+        let apart : is_eq (slice_cmp nat_cmp q e.0.items) ≡ true → is_eq (slice_cmp nat_cmp q k.items) ≡ true
+        → Some e.1 ≡ Some v = λ a b. absurd
+        (differ r (exact_bytes q e.0.items (tied (slice_cmp nat_cmp q e.0.items) a)) (exact_bytes q k.items (tied (slice_cmp nat_cmp q k.items) b))) in
+        ap (λ (w : Option (Option ℕ)). cond (is_eq (slice_cmp nat_cmp q e.0.items)) (Some e.1) w) (later h)
+        ∙ swapped (is_eq (slice_cmp nat_cmp q e.0.items)) (is_eq (slice_cmp nat_cmp q k.items)) (Some e.1) (Some v) (known_of es q) apart
       where
         differ : slice_cmp nat_cmp k.items e.0.items ≡ Greater → q ≡ e.0.items → q ≡ k.items → ⊥
         differ g a b = let t : slice_cmp nat_cmp q q ≡ Equal = tied_itself nat_list_cmp_total q in
@@ -46,7 +49,8 @@ pub known_here : (es : List Entry) (k : Name) (v : Option ℕ) → known_of es k
 known_here es k v h =
     known_insert es k v k.items h ∙ ap (λ (r : Ordering). cond (is_eq r) (Some v) (known_of es k.items)) (tied_itself nat_list_cmp_total k.items)
 
-pub known_cases : (es : List Entry) (k : Name) (v : Option ℕ) (q : List ℕ) (w : Option ℕ) → known_of es k.items ≡ None → known_of (insert_entry by_bytes es k v) q ≡ Some w → (known_of es q ≡ Some w) ⊎ ((q ≡ k.items) × (v ≡ w))
+pub known_cases : (es : List Entry) (k : Name) (v : Option ℕ) (q : List ℕ) (w : Option ℕ) → known_of es k.items ≡ None
+    → known_of (insert_entry by_bytes es k v) q ≡ Some w → (known_of es q ≡ Some w) ⊎ ((q ≡ k.items) × (v ≡ w))
 known_cases es k v q w h e = by (slice_cmp nat_cmp q k.items) refl (sym (known_insert es k v q h) ∙ e)
   where
     by : (r : Ordering) → slice_cmp nat_cmp q k.items ≡ r → cond (is_eq r) (Some v) (known_of es q) ≡ Some w → (known_of es q ≡ Some w) ⊎ ((q ≡ k.items) × (v ≡ w))

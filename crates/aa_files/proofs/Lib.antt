@@ -1,5 +1,5 @@
 pub mod Lines
-mod Known
+pub mod Known
 mod Walking
 mod Lists
 mod Taken

@@ -1,5 +1,6 @@
 -- A reading goes on.
-use Rattle.std.proofs.Common.{◌≡◌, ◌⊎◌, inl, inr, ℕ, zero, suc, ◌+◌, ◌==◌, ◌&&◌, ◌||◌, not, Bool, true, false, List, [], ◌∷◌, ◌++◌, reverse, Option, Some, None, is_some, Vec, refl, sym, ap, subst, ◌∙◌, arith, true≢false}
+use Rattle.std.proofs.Common.{◌≡◌, ◌⊎◌, inl, inr, ℕ, zero, suc, ◌+◌, ◌==◌, ◌&&◌, ◌||◌, not, Bool, true, false, List, []}
+use Rattle.std.proofs.Common.{◌∷◌, ◌++◌, reverse, Option, Some, None, is_some, Vec, refl, sym, ap, subst, ◌∙◌, arith, true≢false}
 use Rattle.std.specs.Prelude.{slice_get, slice_set}
 use Rattle.std.specs.List.{list_any}
 use Rattle.std.specs.Option.{option_and_then}
@@ -42,7 +43,8 @@ says_none u met node None e h = h
 says_none u met node (Some None) e h = h
 says_none u met node (Some (Some v)) e h = cc
 
-pub says_some : (u : unit.Unit) (met : List Step) (node : ℕ) (o : Option Slot) (v : Vec Step Global) → option_and_then (λ (slot : Slot). slot) o ≡ Some v → Says u met node o → (is_new u met node ≡ true) × AreSteps u node (reverse v.items)
+pub says_some : (u : unit.Unit) (met : List Step) (node : ℕ) (o : Option Slot) (v : Vec Step Global)
+    → option_and_then (λ (slot : Slot). slot) o ≡ Some v → Says u met node o → (is_new u met node ≡ true) × AreSteps u node (reverse v.items)
 says_some u met node None v e h = cc
 says_some u met node (Some None) v e h = cc
 says_some u met node (Some (Some w)) v e h = let f : w ≡ v = cc in (h.0, subst (λ (x : Vec Step Global). AreSteps u node (reverse x.items)) f h.1)
@@ -65,7 +67,9 @@ says_like u met met' node None e h = e ∙ h
 says_like u met met' node (Some None) e h = e ∙ h
 says_like u met met' node (Some (Some v)) e h = (e ∙ h.0, h.1)
 
-pub unread_emptied : (u : unit.Unit) (met met' : List Step) (slots : List Slot) (n : ℕ) → ((k : ℕ) → (k ≡ n → ⊥) → is_new u met' k ≡ is_new u met k) → is_new u met' n ≡ false → IsUnread u met slots → IsUnread u met' (slice_set slots n None)
+pub unread_emptied : (u : unit.Unit) (met met' : List Step) (slots : List Slot) (n : ℕ)
+    → ((k : ℕ) → (k ≡ n → ⊥) → is_new u met' k ≡ is_new u met k) → is_new u met' n ≡ false → IsUnread u met slots
+    → IsUnread u met' (slice_set slots n None)
 unread_emptied u met met' slots n like old h = record { each = λ k. by k (cases_eq k n) }
   where
     by : (k : ℕ) → (k ≡ n) ⊎ (k ≡ n → ⊥) → Says u met' k (slice_get (slice_set slots n None) k)

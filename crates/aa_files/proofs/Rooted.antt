@@ -1,5 +1,6 @@
 -- The files of a command line, one after the other.
-use Rattle.std.proofs.Common.{◌≡◌, ℕ, zero, suc, ◌<◌, Bool, true, cond, List, [], ◌∷◌, ◌++◌, length, take, get_or, flat_map, Contains, Vec, Option, Some, None, IfSome, inr, refl, sym, ap, ◌∙◌, arith, append_assoc, append-nil}
+use Rattle.std.proofs.Common.{◌≡◌, ℕ, zero, suc, ◌<◌, Bool, true, cond, List, [], ◌∷◌, ◌++◌, length, take, get_or, flat_map, Contains}
+use Rattle.std.proofs.Common.{Vec, Option, Some, None, IfSome, inr, refl, sym, ap, ◌∙◌, arith, append_assoc, append-nil}
 use Rattle.std.specs.List.{slice_get}
 use Rattle.aa_files.specs.Searches.{path_in}
 use Rattle.aa_files.specs.declared.unit.UnitFault.{UnitFault}
@@ -19,7 +20,8 @@ added_if None p b xs zs ys h e = tt
 added_if (Some t) p b xs zs ys h e = h ∙ ap (λ (a : Bool). xs ++ cond a ys []) e
 
 -- a fault that is handed on, of whatever stands where
-pub faults_weaker : (looked beyond looked' beyond' : List ℕ → Type 0) → ((p : List ℕ) → looked p → looked' p) → ((p : List ℕ) → beyond p → beyond' p) → (e : UnitFault) → IsFaultOf looked beyond e → IsFaultOf looked' beyond' e
+pub faults_weaker : (looked beyond looked' beyond' : List ℕ → Type 0) → ((p : List ℕ) → looked p → looked' p)
+    → ((p : List ℕ) → beyond p → beyond' p) → (e : UnitFault) → IsFaultOf looked beyond e → IsFaultOf looked' beyond' e
 faults_weaker looked beyond looked' beyond' f g NoMemory h = tt
 faults_weaker looked beyond looked' beyond' f g (At path why) (Failed l) = Failed (f path.items l)
 faults_weaker looked beyond looked' beyond' f g (At path why) (TooMany is b) = TooMany is (g path.items b)
@@ -77,7 +79,8 @@ module _ (files : Option Files) (taken : Option Taken) (base folder : List ℕ) 
   beyond_in_folder (Some f) (Some t) q e is found =
       let w = at_text vs i v h at in
       let were : now ≡ before ++ flat_map (wanted_path t base folder) (take i (texts vs)) = is ∙ ap (λ (l : List (List ℕ)). before ++ flat_map (wanted_path t base folder) l) (sym (take-map (λ (u : Vec ℕ Global). u.items) i vs)) in
-      let there : slice_get ((before ++ flat_map (wanted_path t base folder) (take i (texts vs))) ++ wanted_path t base folder v.items) 4096 ≡ Some q = ap (λ (l : List (List ℕ)). slice_get (l ++ wanted_path t base folder v.items) 4096) (sym were) ∙ found in
+      let there : slice_get ((before ++ flat_map (wanted_path t base folder) (take i (texts vs))) ++ wanted_path t base folder v.items) 4096 ≡ Some q = ap
+      (λ (l : List (List ℕ)). slice_get (l ++ wanted_path t base folder v.items) 4096) (sym were) ∙ found in
       ap (λ (l : Option (List (List ℕ))). slice_get (before ++ paths_among t base folder l) 4096) (ap (λ (l : Option Lying). listed l) e) ∙ found_among (wanted_path t base folder) before (texts vs) i 4096 v.items q w.0 w.1 there
 
   pub folder_fault : IfSome files (λ f. f folder ≡ Some (Folder (texts vs))) → IfSome taken (λ t. now ≡ before ++ flat_map (wanted_path t base folder) (texts (take i vs)))
@@ -90,16 +93,19 @@ module _ (files : Option Files) (taken : Option Taken) (base folder : List ℕ) 
 
 -- a fault of one of the arguments is one of all
 module _ (files : Option Files) (taken : Option Taken) (base : List ℕ) (now : List (List ℕ)) (vs : List (Vec ℕ Global)) (i : ℕ) (v : Vec ℕ Global) (h : i < length vs) (at : get_or vs i v ≡ v) where
-  beyond_all : (o : Option Files) (t : Option Taken) (q : List ℕ) → IfSome o (λ f. IfSome t (λ t. now ≡ root_paths f t base (texts (take i vs)))) → IsBeyondWith o t (λ f. folder_of f v.items) base v.items now q → IsBeyond o t base (texts vs) q
+  beyond_all : (o : Option Files) (t : Option Taken) (q : List ℕ) → IfSome o (λ f. IfSome t (λ t. now ≡ root_paths f t base (texts (take i vs))))
+      → IsBeyondWith o t (λ f. folder_of f v.items) base v.items now q → IsBeyond o t base (texts vs) q
   beyond_all None t q is found = tt
   beyond_all (Some f) None q is found = tt
   beyond_all (Some f) (Some t) q is found =
       let w = at_text vs i v h at in
       let were : now ≡ root_paths f t base (take i (texts vs)) = is ∙ ap (λ (l : List (List ℕ)). root_paths f t base l) (sym (take-map (λ (u : Vec ℕ Global). u.items) i vs)) in
-      let there : slice_get (root_paths f t base (take i (texts vs)) ++ paths_among t base v.items (folder_of f v.items)) 4096 ≡ Some q = ap (λ (l : List (List ℕ)). slice_get (l ++ paths_among t base v.items (folder_of f v.items)) 4096) (sym were) ∙ found in
+      let there : slice_get (root_paths f t base (take i (texts vs)) ++ paths_among t base v.items (folder_of f v.items)) 4096 ≡ Some q = ap
+      (λ (l : List (List ℕ)). slice_get (l ++ paths_among t base v.items (folder_of f v.items)) 4096) (sym were) ∙ found in
       found_among (λ argument. paths_among t base argument (folder_of f argument)) [] (texts vs) i 4096 v.items q w.0 w.1 there
 
-  pub root_fault : IfSome files (λ f. IfSome taken (λ t. now ≡ root_paths f t base (texts (take i vs)))) → (e : UnitFault) → IsArgumentFault files taken (λ a f. folder_of f a) base v.items now e → IsRootFault files taken base (texts vs) e
+  pub root_fault : IfSome files (λ f. IfSome taken (λ t. now ≡ root_paths f t base (texts (take i vs)))) → (e : UnitFault)
+      → IsArgumentFault files taken (λ a f. folder_of f a) base v.items now e → IsRootFault files taken base (texts vs) e
   root_fault is =
       let w = at_text vs i v h at in
       faults_weaker (IsLookedFor files (λ f. folder_of f v.items) base v.items) (IsBeyondWith files taken (λ f. folder_of f v.items) base v.items now) (IsRootLook files base (texts vs)) (IsBeyond files taken base (texts vs))

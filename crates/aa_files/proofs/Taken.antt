@@ -36,7 +36,8 @@ is_there : (o : Option Lying) (path : List ℕ) (w : List ℕ × Bool) → optio
 is_there None path w e = cc
 is_there (Some l) path w e = refl
 
-pub lies_first : (files : Option Files) (ps : List (List ℕ)) (i : ℕ) (p : List ℕ) (r : Result Found Unread) (w : Found) → r ≡ Ok w → IsRead files p r → i < length ps → p ≡ get_or ps i p → NothingAt files (take i ps) → LiesAt files ps p (read w)
+pub lies_first : (files : Option Files) (ps : List (List ℕ)) (i : ℕ) (p : List ℕ) (r : Result Found Unread) (w : Found) → r ≡ Ok w
+    → IsRead files p r → i < length ps → p ≡ get_or ps i p → NothingAt files (take i ps) → LiesAt files ps p (read w)
 lies_first None ps i p r w e h lt at n = record { searched = (i, lt, sym at); first = tt; is = tt }
 lies_first (Some f) ps i p r w e h lt at n =
     let said : IsRead (Some f) p (Ok w) = subst (λ (v : Result Found Unread). IsRead (Some f) p v) e h in

@@ -1,5 +1,6 @@
 -- The walk goes on.
-use Rattle.std.proofs.Common.{◌≡◌, ◌⊎◌, inl, inr, ℕ, zero, suc, ◌+◌, ◌<◌, ◌≤◌, Bool, List, [], ◌∷◌, ◌++◌, length, take, map, Contains, Option, Some, None, IfSome, refl, sym, ap, subst, ◌∙◌, arith, length-append}
+use Rattle.std.proofs.Common.{◌≡◌, ◌⊎◌, inl, inr, ℕ, zero, suc, ◌+◌, ◌<◌, ◌≤◌, Bool, List, [], ◌∷◌, ◌++◌, length, take}
+use Rattle.std.proofs.Common.{map, Contains, Option, Some, None, IfSome, refl, sym, ap, subst, ◌∙◌, arith, length-append}
 use Rattle.std.specs.List.{slice_get}
 use Rattle.std.specs.BTreeMap.{insert_entry}
 use Rattle.std.proofs.lemmas.Option.{slice_get_within}
@@ -70,7 +71,8 @@ module _ (files : Option Files) (folders : List (List ℕ)) (main : List ℕ) wh
       apart : (n : ℕ) → None ≡ Some n → ⊥
       apart n e = cc
 
-  pub walk_source : (sources : List Source) (es : List Entry) (k : Name) (s : Source) (paths : List (List ℕ)) → known_of es k.items ≡ None → s.name.items ≡ k.items → length sources < 4095 → IsIncluded folders (walked_texts main sources) (s.name.items, paths)
+  pub walk_source : (sources : List Source) (es : List Entry) (k : Name) (s : Source) (paths : List (List ℕ)) → known_of es k.items ≡ None
+      → s.name.items ≡ k.items → length sources < 4095 → IsIncluded folders (walked_texts main sources) (s.name.items, paths)
       → LiesAt files paths s.path.items (s.text.items, s.is_folder) → IsWalk files folders main sources es → IsWalk files folders main (sources ++ s ∷ []) (insert_entry by_bytes es k (Some (length sources)))
   walk_source sources es k s paths none name-is room inc lies w = record {
     few = omega (arith, length-append sources (s ∷ []));
@@ -96,13 +98,17 @@ module _ (files : Option Files) (folders : List (List ℕ)) (main : List ℕ) wh
           let number : length sources ≡ n = cc in
           (s, ap (λ (m : ℕ). slice_get (sources ++ s ∷ []) m) (sym number) ∙ get_last sources s, name-is ∙ sym e)
 
-      before_reached : (n : ℕ) (t : Source) → slice_get sources n ≡ Some t → (ps : List (List ℕ)) × IsIncluded folders (take (n + 1) (walked_texts main (sources ++ s ∷ []))) (t.name.items, ps) × LiesAt files ps t.path.items (t.text.items, t.is_folder)
+      before_reached : (n : ℕ) (t : Source) → slice_get sources n ≡ Some t
+          → (ps : List (List ℕ)) × IsIncluded folders (take (n + 1) (walked_texts main (sources ++ s ∷ [])))
+          (t.name.items, ps) × LiesAt files ps t.path.items (t.text.items, t.is_folder)
       before_reached n t h =
           let within : n + 1 ≤ length sources + 1 = omega (arith, slice_get_within sources n t h) in
           let g = w.reached n t h in
           (g.0, subst (λ (ts : List (List ℕ)). IsIncluded folders ts (t.name.items, g.0)) (sym (texts_kept main sources s (n + 1) within)) g.1, g.2)
 
-      last_reached : (n : ℕ) (t : Source) → n ≡ length sources → s ≡ t → (ps : List (List ℕ)) × IsIncluded folders (take (n + 1) (walked_texts main (sources ++ s ∷ []))) (t.name.items, ps) × LiesAt files ps t.path.items (t.text.items, t.is_folder)
+      last_reached : (n : ℕ) (t : Source) → n ≡ length sources → s ≡ t
+          → (ps : List (List ℕ)) × IsIncluded folders (take (n + 1) (walked_texts main (sources ++ s ∷ [])))
+          (t.name.items, ps) × LiesAt files ps t.path.items (t.text.items, t.is_folder)
       last_reached n t e f =
           let within : n + 1 ≤ length sources + 1 = omega arith in
           let whole : length (walked_texts main sources) ≤ n + 1 = omega (arith, count_texts main sources) in
@@ -111,17 +117,24 @@ module _ (files : Option Files) (folders : List (List ℕ)) (main : List ℕ) wh
           (paths, subst (λ (ts : List (List ℕ)). IsIncluded folders ts (s.name.items, paths)) (sym texts-are) inc, lies)
 
   -- the same, as the code says it
-  pub walk_added : (sources : List Source) (es : List Entry) (a : Asked) (path : List ℕ) (read : List ℕ × Bool) (sources' : List Source) (es' : List Entry) → known_of es a.0 ≡ None → IsIncluded folders (walked_texts main sources) a
+  pub walk_added : (sources : List Source) (es : List Entry) (a : Asked) (path : List ℕ) (read : List ℕ × Bool) (sources' : List Source)
+      (es' : List Entry) → known_of es a.0 ≡ None → IsIncluded folders (walked_texts main sources) a
       → LiesAt files a.1 path read → IsAdded a.0 path read sources es sources' es' → IsWalk files folders main sources es → IsWalk files folders main sources' es'
   walk_added sources es a path read sources' es' none inc lies add w =
       let none' : known_of es add.key.items ≡ None = ap (λ (q : List ℕ). known_of es q) add.key_is ∙ none in
       let inc' : IsIncluded folders (walked_texts main sources) (add.source.name.items, a.1) = subst (λ (q : List ℕ). IsIncluded folders (walked_texts main sources) (q, a.1)) (sym add.name_is) inc in
       let read-is : (add.source.text.items, add.source.is_folder) ≡ read = ap (λ (t : List ℕ). (t, add.source.is_folder)) add.text_is ∙ ap (λ (b : Bool). (read.0, b)) add.folder_is in
-      let lies' : LiesAt files a.1 add.source.path.items (add.source.text.items, add.source.is_folder) = subst (λ (p : List ℕ). LiesAt files a.1 p (add.source.text.items, add.source.is_folder)) (sym add.path_is) (subst (λ (r : List ℕ × Bool). LiesAt files a.1 path r) (sym read-is) lies) in
-      let more : IsWalk files folders main (sources ++ add.source ∷ []) (insert_entry by_bytes es add.key (Some (length sources))) = walk_source sources es add.key add.source a.1 none' (add.name_is ∙ sym add.key_is) add.room inc' lies' w in
+      let lies' : LiesAt files a.1 add.source.path.items (add.source.text.items, add.source.is_folder) = subst
+      (λ (p : List ℕ). LiesAt files a.1 p (add.source.text.items, add.source.is_folder)) (sym add.path_is)
+      (subst (λ (r : List ℕ × Bool). LiesAt files a.1 path r) (sym read-is) lies) in
+      let more : IsWalk files folders main (sources ++ add.source ∷ [])
+      (insert_entry by_bytes es add.key (Some (length sources))) = walk_source sources es add.key add.source a.1 none'
+      (add.name_is ∙ sym add.key_is) add.room inc' lies' w in
       subst (λ (ss : List Source). IsWalk files folders main ss es') (sym add.pushed) (subst (λ (q : List Entry). IsWalk files folders main (sources ++ add.source ∷ []) q) (sym add.entered) more)
 
-  pub walk_more : (a : Asked) (sources : List Source) (es : List Entry) (sources' : List Source) (es' : List Entry) → IsIncluded folders (walked_texts main sources) a → Adds files a sources es sources' es' → IsWalk files folders main sources es → IsWalk files folders main sources' es'
+  pub walk_more : (a : Asked) (sources : List Source) (es : List Entry) (sources' : List Source) (es' : List Entry)
+      → IsIncluded folders (walked_texts main sources) a → Adds files a sources es sources' es' → IsWalk files folders main sources es
+      → IsWalk files folders main sources' es'
   walk_more a sources es sources' es' inc (Old was e at s-is es-is) w = subst (λ (ss : List Source). IsWalk files folders main ss es') (sym s-is) (subst (λ (q : List Entry). IsWalk files folders main sources q) (sym es-is) w)
   walk_more a sources es sources' es' inc (Missing key e none nothing s-is es-is) w =
       let none' : known_of es key.items ≡ None = ap (λ (q : List ℕ). known_of es q) e ∙ none in
@@ -146,7 +159,9 @@ get_front (x ∷ xs) ys y zero e = e
 get_front (x ∷ xs) ys y (suc n) e = get_front xs ys y n e
 
 module _ (files : Option Files) (folders : List (List ℕ)) (main : List ℕ) (a : Asked) (sources : List Source) (es : List Entry) (sources' : List Source) (es' : List Entry) where
-  found_kept : Adds files a sources es sources' es' → (paths : List (List ℕ)) (v : Option ℕ) → ((n : ℕ) → v ≡ Some n → (s : Source) × (slice_get sources n ≡ Some s)) → IsFoundAt files sources paths v → IsFoundAt files sources' paths v
+  found_kept : Adds files a sources es sources' es' → (paths : List (List ℕ)) (v : Option ℕ)
+      → ((n : ℕ) → v ≡ Some n → (s : Source) × (slice_get sources n ≡ Some s)) → IsFoundAt files sources paths v
+      → IsFoundAt files sources' paths v
   found_kept adds paths None there h = h
   found_kept adds paths (Some n) there h =
       let s = there n refl in

@@ -28,7 +28,8 @@ module _ (folders : List (List ℕ)) where
   asks_of text ws h = record { includes = h.includes; of_text = h.of_text; each = asked_alike ws h.includes h.each }
 
   -- what is wanted at a place is wanted by the include there
-  pub wanted_of : (ws : List Wanted) (is : List IncludeData) (n : ℕ) (w : Wanted) → map wanted_data ws ≡ map (wants folders) is → n < length ws → w ≡ get_or ws n w → (i : IncludeData) × (slice_get is n ≡ Some i) × (wanted_data w ≡ wants folders i)
+  pub wanted_of : (ws : List Wanted) (is : List IncludeData) (n : ℕ) (w : Wanted) → map wanted_data ws ≡ map (wants folders) is → n < length ws
+      → w ≡ get_or ws n w → (i : IncludeData) × (slice_get is n ≡ Some i) × (wanted_data w ≡ wants folders i)
   wanted_of [] is n w e lt at = absurd (omega (arith, lt))
   wanted_of (v ∷ ws) [] n w e lt at = cc
   wanted_of (v ∷ ws) (i ∷ is) zero w e lt at = let here : wanted_data v ≡ wants folders i = cc in (i, refl, ap wanted_data at ∙ here)

@@ -1,5 +1,6 @@
 -- What a reading meets is reached by ways.
-use Rattle.std.proofs.Common.{◌≡◌, ◌≢◌, ◌⊎◌, inl, inr, ℕ, ◌==◌, ◌&&◌, ◌||◌, not, Bool, true, false, List, [], ◌∷◌, flat_map, Option, Some, None, is_some, option_map, option_to_list, All, cond, refl, sym, subst, true≢false}
+use Rattle.std.proofs.Common.{◌≡◌, ◌≢◌, ◌⊎◌, inl, inr, ℕ, ◌==◌, ◌&&◌, ◌||◌, not, Bool, true, false, List, [], ◌∷◌}
+use Rattle.std.proofs.Common.{flat_map, Option, Some, None, is_some, option_map, option_to_list, All, cond, refl, sym, subst, true≢false}
 use Rattle.std.specs.List.{list_any}
 use Rattle.std.proofs.lemmas.Bool.Decides.{Decides-eqb}
 use Rattle.std.proofs.lemmas.List.Elements.{All-nil, All-cons, All-head, All-tail, All-append, All-weaker, All-contains_itself}
@@ -51,7 +52,8 @@ one_from u node byte (Some to) = All-cons (λ (t : Step). t.from ≡ node) (step
 
 all_from : (u : unit.Unit) (node : ℕ) (includes : List IncludeData) → All (λ (t : Step). t.from ≡ node) (flat_map (λ i. option_to_list (step_of u node i)) includes)
 all_from u node [] = All-nil (λ (t : Step). t.from ≡ node)
-all_from u node (i ∷ is) = All-append (λ (t : Step). t.from ≡ node) (option_to_list (step_of u node i)) (flat_map (λ j. option_to_list (step_of u node j)) is) (one_from u node i.byte (node_named u (included_name i.text))) (all_from u node is)
+all_from u node (i ∷ is) = All-append (λ (t : Step). t.from ≡ node) (option_to_list (step_of u node i))
+    (flat_map (λ j. option_to_list (step_of u node j)) is) (one_from u node i.byte (node_named u (included_name i.text))) (all_from u node is)
 
 steps_from : (u : unit.Unit) (node : ℕ) (steps : List Step) → AreSteps u node steps → All (λ (t : Step). t.from ≡ node) steps
 steps_from u node steps are = subst (λ (ts : List Step). All (λ (t : Step). t.from ≡ node) ts) (sym are.each) (all_from u node are.includes)
@@ -85,7 +87,9 @@ back_met : (u : unit.Unit) (met : List Step) (node n : ℕ) → leads met n ≡ 
 back_met u [] node n e = All-nil (λ (t : Step). t.to ≢ n)
 back_met u (s ∷ met) node n e = by (s.to == node) (s.to == n) (λ f. (Decides-eqb s.to n).1 f) e (λ m f. back_met u met m n f)
   where
-    by : (here there : Bool) → (s.to ≡ n → there ≡ true) → (there || leads met n) ≡ false → ((m : ℕ) → leads met n ≡ false → All (λ (t : Step). t.to ≢ n) (way_back met m)) → All (λ (t : Step). t.to ≢ n) (cond here (s ∷ way_back met s.from) (way_back met node))
+    by : (here there : Bool) → (s.to ≡ n → there ≡ true) → (there || leads met n) ≡ false
+        → ((m : ℕ) → leads met n ≡ false → All (λ (t : Step). t.to ≢ n) (way_back met m))
+        → All (λ (t : Step). t.to ≢ n) (cond here (s ∷ way_back met s.from) (way_back met node))
     by here true h f later = absurd (true≢false f)
     by true false h f later = All-cons (λ (t : Step). t.to ≢ n) s (way_back met s.from) (λ g. true≢false (sym (h g))) (later s.from f)
     by false false h f later = later node f
@@ -95,7 +99,8 @@ back_way u [] node good (inl e) = e
 back_way u [] node good (inr e) = absurd (true≢false (sym e))
 back_way u (s ∷ met) node good known = by (s.to == node) (λ e. (Decides-eqb s.to node).0 e) known (λ m k. back_way u met m good.3 k)
   where
-    by : (b : Bool) → (b ≡ true → s.to ≡ node) → (node ≡ 0) ⊎ ((b || leads met node) ≡ true) → ((m : ℕ) → Known met m → IsWay u m (way_back met m)) → IsWay u node (cond b (s ∷ way_back met s.from) (way_back met node))
+    by : (b : Bool) → (b ≡ true → s.to ≡ node) → (node ≡ 0) ⊎ ((b || leads met node) ≡ true)
+        → ((m : ℕ) → Known met m → IsWay u m (way_back met m)) → IsWay u node (cond b (s ∷ way_back met s.from) (way_back met node))
     by true h k later =
         let fresh : leads met s.to ≡ false = not_met (is_some (source_of_node u s.to)) (leads met s.to) good.2 in
         (h refl, good.0, later s.from good.1, back_met u met s.from s.to fresh)

@@ -38,7 +38,8 @@ IsHere files paths here = MatchOption here (NothingAt files paths) (λ path. (re
 -- The include at a byte of a node's text has a name whose source lies at none of the include's own paths, or that has none, and
 -- something lies at one of these; and it is said so.
 pub data IsAmbiguous (files : Option Files) (u : unit.Unit) (node byte : ℕ) (a : Asked) (r : FaultReport) : Type 0 where
-  Elsewhere : (number : ℕ) (source : Source) (here : Option (List ℕ)) → known_of u.known.entries a.0 ≡ Some (Some number) → slice_get u.sources.items number ≡ Some source → (Contains a.1 source.path.items → ⊥) → IsHere files a.1 here
+  Elsewhere : (number : ℕ) (source : Source) (here : Option (List ℕ)) → known_of u.known.entries a.0 ≡ Some (Some number)
+      → slice_get u.sources.items number ≡ Some source → (Contains a.1 source.path.items → ⊥) → IsHere files a.1 here
       → SaysAmbiguous u node byte (difference (Some source.path.items) here) r → IsAmbiguous files u node byte a r
   OnlyHere : (path : List ℕ) (read : List ℕ × Bool) → known_of u.known.entries a.0 ≡ Some None → LiesAt files a.1 path read → SaysAmbiguous u node byte (difference None (Some path)) r → IsAmbiguous files u node byte a r
 

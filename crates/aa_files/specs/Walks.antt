@@ -88,7 +88,9 @@ pub record IsWalk (files : Option Files) (folders : List (List ℕ)) (main : Lis
   pub few : length sources ≤ 4095
   pub named : (n : ℕ) (s : Source) → slice_get sources n ≡ Some s → known_of entries s.name.items ≡ Some (Some n)
   pub led : (name : List ℕ) (n : ℕ) → known_of entries name ≡ Some (Some n) → (s : Source) × (slice_get sources n ≡ Some s) × (s.name.items ≡ name)
-  pub reached : (n : ℕ) (s : Source) → slice_get sources n ≡ Some s → (paths : List (List ℕ)) × IsIncluded folders (take (n + 1) (walked_texts main sources)) (s.name.items, paths) × LiesAt files paths s.path.items (s.text.items, s.is_folder)
+  pub reached : (n : ℕ) (s : Source) → slice_get sources n ≡ Some s
+      → (paths : List (List ℕ)) × IsIncluded folders (take (n + 1) (walked_texts main sources)) (s.name.items, paths) × LiesAt files paths s.path.items
+      (s.text.items, s.is_folder)
   pub missing : (name : List ℕ) → known_of entries name ≡ Some None → (paths : List (List ℕ)) × IsIncluded folders (walked_texts main sources) (name, paths) × NothingAt files paths
 
 -- the sources by their names

@@ -1,5 +1,7 @@
 -- Expansions, one byte and one text on.
-use Rattle.std.proofs.Common.{◌≡◌, ◌≢◌, ℕ, ◌+◌, ◌<◌, ◌≤◌, ◌⊎◌, ◌↔◌, Bool, true, false, ◌&&◌, ◌==◌, List, [], ◌∷◌, ◌++◌, drop, get_or, length, Result, Ok, Err, IfOk, IfErr, refl, sym, ◌∙◌, subst, inl, inr, ⊎_elim, arith, append_assoc, lt-ltb, IsTrue, true≢false}
+use Rattle.std.proofs.Common.{◌≡◌, ◌≢◌, ℕ, ◌+◌, ◌<◌, ◌≤◌, ◌⊎◌, ◌↔◌, Bool, true, false, ◌&&◌, ◌==◌, List, []}
+use Rattle.std.proofs.Common.{◌∷◌, ◌++◌, drop, get_or, length, Result, Ok, Err, IfOk, IfErr, refl, sym, ◌∙◌, subst, inl, inr, ⊎_elim, arith}
+use Rattle.std.proofs.Common.{append_assoc, lt-ltb, IsTrue, true≢false}
 use Rattle.std.specs.List.{list_any}
 use Rattle.std.proofs.lemmas.Bool.{cases_lt, and_parts, or_parts}
 use Rattle.std.proofs.lemmas.List.{append-nil, at_drop_more, at_drop_all}
@@ -21,7 +23,8 @@ pub squeeze_left_out : (front all : List ℕ) (after : Bool) (s : List ℕ) (i d
 unfolding squeezed
 squeeze_left_out front all after s i d h e so_far = grind (arith, and_parts, at_drop_more (squeezed after) s i d h)
 
-pub squeeze_kept : (front new all : List ℕ) (after : Bool) (s : List ℕ) (i d : ℕ) → i < length s → (after && (get_or s i d == 47)) ≡ false → new ≡ front ++ get_or s i d ∷ [] → front ++ squeezed after (drop i s) ≡ all →
+pub squeeze_kept : (front new all : List ℕ) (after : Bool) (s : List ℕ) (i d : ℕ) → i < length s → (after && (get_or s i d == 47)) ≡ false
+    → new ≡ front ++ get_or s i d ∷ [] → front ++ squeezed after (drop i s) ≡ all →
     new ++ squeezed (get_or s i d == 47) (drop (i + 1) s) ≡ all
 unfolding squeezed
 squeeze_kept front new all after s i d h e pushed so_far = grind (arith, append_assoc, at_drop_more (squeezed after) s i d h)
@@ -76,7 +79,8 @@ many_expands vars raw depth s k (inr c) = too_many depth k.most k.ts k.is (omega
 pub few_most : (m : ℕ) (many : Bool) → (IsTrue many ↔ (1024 < m)) → many ≡ false → m ≤ 1024
 few_most m many same e = ⊎_elim (λ (lt : 1024 < m). absurd (true≢false (sym (same.1 lt) ∙ e))) (λ ge. ge) (cases_lt 1024 m)
 
-pub texts_expand : (vars : List Variable) (raw : List ℕ) (depth : ℕ) (s : Summary) (r : Result (List (List Token)) PolicyKind) → (k : Settled (outcome_of depth vars raw) s) → s.many ≡ false → s.count ≤ 1024 → expansions k.ts ≡ r → Expands vars raw r
+pub texts_expand : (vars : List Variable) (raw : List ℕ) (depth : ℕ) (s : Summary) (r : Result (List (List Token)) PolicyKind)
+    → (k : Settled (outcome_of depth vars raw) s) → s.many ≡ false → s.count ≤ 1024 → expansions k.ts ≡ r → Expands vars raw r
 texts_expand vars raw depth s r k few short e =
     let most : k.most ≤ 1024 = few_most k.most s.many k.sums.many few in
     subst (Expands vars raw) e (as_texts depth k.most k.ts k.is (omega (arith, k.sums.count, short, most)))

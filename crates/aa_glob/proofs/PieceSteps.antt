@@ -1,5 +1,6 @@
 -- Names and pieces, byte by byte.
-use Rattle.std.proofs.Common.{◌≡◌, ℕ, zero, suc, ◌+◌, ◌<◌, ◌≤◌, Bool, true, false, List, [], ◌∷◌, length, drop, get_or, cond, ◌==◌, not, refl, arith, sym, ap, ◌∙◌, ◌||◌, ◌&&◌, Option, Some, None}
+use Rattle.std.proofs.Common.{◌≡◌, ℕ, zero, suc, ◌+◌, ◌<◌, ◌≤◌, Bool, true, false, List, [], ◌∷◌, length, drop, get_or, cond}
+use Rattle.std.proofs.Common.{◌==◌, not, refl, arith, sym, ap, ◌∙◌, ◌||◌, ◌&&◌, Option, Some, None}
 use Rattle.std.proofs.lemmas.List.{at_drop_more, at_drop_all}
 use Rattle.aa_glob.specs.Signs.{is_letter_or_digit}
 use Rattle.aa_glob.specs.Pieces.{Piece, Plain, Use, Broken, name_len, name_at, behind_name, begins_with, pieces_from}

@@ -1,5 +1,6 @@
 -- A text that is built, one part on.
-use Rattle.std.proofs.Common.{◌≡◌, ℕ, zero, suc, max, ◌-◌, ◌/◌, ◌%◌, ◌<◌, ◌≤◌, Bool, false, List, [], ◌∷◌, ◌++◌, get_or, length, reverse, Contains, IsTrue, Some, Bor, refl, sym, ap, ◌∙◌, subst, inl, inr, arith, append_assoc, length-append}
+use Rattle.std.proofs.Common.{◌≡◌, ℕ, zero, suc, max, ◌-◌, ◌/◌, ◌%◌, ◌<◌, ◌≤◌, Bool, false, List, [], ◌∷◌, ◌++◌, get_or}
+use Rattle.std.proofs.Common.{length, reverse, Contains, IsTrue, Some, Bor, refl, sym, ap, ◌∙◌, subst, inl, inr, arith, append_assoc, length-append}
 use Rattle.std.proofs.lemmas.List.{append-nil}
 use Rattle.aa_base.specs.declared.fault.PolicyKind.{PolicyKind}
 use Rattle.aa_glob.specs.declared.summary.VariableSummary.{VariableSummary}

@@ -1,5 +1,7 @@
 -- Summaries, one part and one value on.
-use Rattle.std.proofs.Common.{◌≡◌, ℕ, zero, suc, ◌*◌, ◌<◌, ◌≤◌, ◌↔◌, ◌⊎◌, min, max, Bool, true, false, ◌||◌, ◌&&◌, List, [], ◌∷◌, ◌++◌, map, flat_map, length, All, IsTrue, Some, sym, ap, ◌∙◌, subst, arith, append_assoc, length-append, true≢false}
+use Rattle.std.proofs.Common.{◌≡◌, ℕ, zero, suc, ◌*◌, ◌<◌, ◌≤◌, ◌↔◌, ◌⊎◌, min, max, Bool, true, false, ◌||◌, ◌&&◌}
+use Rattle.std.proofs.Common.{List, [], ◌∷◌, ◌++◌, map, flat_map, length, All, IsTrue, Some, sym, ap, ◌∙◌, subst, arith, append_assoc}
+use Rattle.std.proofs.Common.{length-append, true≢false}
 use Rattle.std.proofs.Math.Bool.{or_assoc, and_assoc, or-false, and-true}
 use Rattle.std.proofs.lemmas.Bool.{cases_lt, and_parts, or_cases, or_left, or_right}
 use Rattle.std.proofs.lemmas.List.{length-map}
@@ -97,7 +99,8 @@ module _ (depth : ℕ) (vars : List Variable) where
   pub values_start : (whole : Outcome) → GoesOn plus whole whole (record { count = 0; many = false; blank = true })
   values_start whole = grind (arith, same_summary)
 
-  pub values_more : (whole : Outcome) (v : List ℕ) (vs all : List (List ℕ)) (s a : Summary) → all ≡ v ∷ vs → Settled (outcome_of depth vars v) a → GoesOn plus whole (in_turn of all) s → GoesOn plus whole (in_turn of vs) (plus s a)
+  pub values_more : (whole : Outcome) (v : List ℕ) (vs all : List (List ℕ)) (s a : Summary) → all ≡ v ∷ vs → Settled (outcome_of depth vars v) a
+      → GoesOn plus whole (in_turn of all) s → GoesOn plus whole (in_turn of vs) (plus s a)
   unfolding in_turn
   values_more whole v vs all s a e one g = goes_more ◌++◌ plus plus_sums plus_assoc whole (outcome_of depth vars v) (in_turn of vs) s a one (subst (λ x. GoesOn plus whole (in_turn of x) s) e g)
 
@@ -108,7 +111,8 @@ module _ (depth : ℕ) (vars : List Variable) where
       subst (Settled whole) (same_summary _ _ _ _ _ _ (omega (arith, small)) (or-false s.many) (and-true s.blank)) (g _ unit)
 
   -- where the texts of one value more end
-  pub ends_more : (values : List (List ℕ)) (front new : List ℕ) (v : List ℕ) (vs all : List (List ℕ)) (s a : Summary) → s.count ≤ 1025 → all ≡ v ∷ vs → new ≡ front ++ (plus s a).count ∷ [] → Settled (outcome_of depth vars v) a →
+  pub ends_more : (values : List (List ℕ)) (front new : List ℕ) (v : List ℕ) (vs all : List (List ℕ)) (s a : Summary) → s.count ≤ 1025
+      → all ≡ v ∷ vs → new ≡ front ++ (plus s a).count ∷ [] → Settled (outcome_of depth vars v) a →
       ((es : List ℕ) → AreEnds vars s.count all es → AreEnds vars 0 values (front ++ es)) → (es : List ℕ) → AreEnds vars (plus s a).count vs es → AreEnds vars 0 values (new ++ es)
   ends_more values front new v vs all s a small e pushed one earlier = grind (arith, append_assoc, same_texts)
 

@@ -1,12 +1,15 @@
 -- Tokens, one after the other.
 use Rattle.std.proofs.lemmas.Grind.{common_steps}
-use Rattle.std.proofs.Common.{◌≡◌, ℕ, zero, suc, ◌+◌, ◌<◌, ◌≤◌, Bool, List, [], ◌∷◌, ◌++◌, length, drop, get_or, refl, arith, sym, ap, ◌∙◌, append_assoc, flat_map, length-append, Vec, Global, Option, Some, None, Result, Ok, Err}
+use Rattle.std.proofs.Common.{◌≡◌, ℕ, zero, suc, ◌+◌, ◌<◌, ◌≤◌, Bool, List, [], ◌∷◌, ◌++◌, length, drop, get_or, refl, arith}
+use Rattle.std.proofs.Common.{sym, ap, ◌∙◌, append_assoc, flat_map, length-append, Vec, Global, Option, Some, None, Result, Ok, Err}
 use Rattle.std.specs.Result.{IfOk}
 use Rattle.aa_base.specs.declared.fault.PolicyKind.{PolicyKind}
 use Rattle.std.specs.Option.{option_map, option_and_then}
 use Rattle.std.proofs.lemmas.List.{at_drop_more, at_drop_all, drop-drop, append-nil}
 use Rattle.std.proofs.lemmas.List.Concat.{flat_map-append}
-use Rattle.aa_pattern.specs.declared.item.Item.{Item, Choice, Row_of-Item, end_of-Item, more_of-Item, items-the_row-Item, items_shown-the_row-Item-0, Row_of-Item-Choice-0-1, end_of-Item-Choice-0-1, more_of-Item-Choice-0-1, items-the_row-Item-Choice-0-1, items_hidden-the_row-Item-Choice-0-1-1}
+use Rattle.aa_pattern.specs.declared.item.Item.{Item, Choice, Row_of-Item, end_of-Item, more_of-Item, items-the_row-Item, items_shown-the_row-Item-0}
+use Rattle.aa_pattern.specs.declared.item.Item.{Row_of-Item-Choice-0-1, end_of-Item-Choice-0-1, more_of-Item-Choice-0-1, items-the_row-Item-Choice-0-1}
+use Rattle.aa_pattern.specs.declared.item.Item.{items_hidden-the_row-Item-Choice-0-1-1}
 use Rattle.aa_glob.specs.declared.sign.Sign.{Sign}
 use Rattle.aa_glob.specs.declared.sign.Token.{Token}
 use Rattle.aa_glob.specs.declared.sign.Token.TheVariants.{Open, Comma, Close, Single}

@@ -70,7 +70,7 @@ place_pushed q v [] h = ap (λ (b : Bool). cond b (Some 0) None) (nat_list_eq_eq
 place_pushed q v (w ∷ ws) h = grind (arith, bytes_eq-Decides, place_pushed q v ws)
 
 -- whether a name compares equal to a key
-abbrev equals : List ℕ → Vec ℕ Global → Bool
+abbrev pub equals : List ℕ → Vec ℕ Global → Bool
 equals q k = is_eq (slice_cmp nat_cmp q k.items)
 
 equal : (q : List ℕ) (k : Vec ℕ Global) → equals q k ≡ true → q ≡ k.items

@@ -1,5 +1,6 @@
 -- The walk at its start, one step on, and at its end.
-use Rattle.std.proofs.Common.{◌≡◌, ℕ, zero, suc, ◌+◌, ◌-◌, ◌≤◌, ⊎_elim, Bool, false, List, [], ◌∷◌, ◌++◌, length, reverse, Option, Some, None, Bor, Vec, Global, refl, sym, ap, ◌∙◌, subst, inl, inr, arith}
+use Rattle.std.proofs.Common.{◌≡◌, ℕ, zero, suc, ◌+◌, ◌-◌, ◌≤◌, ⊎_elim, Bool, false, List, [], ◌∷◌, ◌++◌, length, reverse}
+use Rattle.std.proofs.Common.{Option, Some, None, Bor, Vec, Global, refl, sym, ap, ◌∙◌, subst, inl, inr, arith}
 use Rattle.std.proofs.Math.Path.{subst₂}
 use Rattle.std.proofs.lemmas.Option.{same_Some}
 use Rattle.std.proofs.lemmas.Slice.Eq.{bytes_eq-Decides}
@@ -58,7 +59,11 @@ module _ {vars : List Variable} {raw : List ℕ} {stack : List Step} {top : Step
   walk_into {new_stack} {new} g behind pushed put fresh next plain defined none all =
       let grows : Grows done new = grows_put done new g.name.now None put (λ s h. absurd (cc (sym fresh ∙ h))) in
       record {
-        way = λ more h. subst (OnWay vars more raw g) (sym (pushed_up _ _ _ pushed)) (part_variable vars more g none all, record { behind = behind; next = next; plain = plain; defined = defined }, w.way more (grows_then done new more grows h));
+        way = λ more h. subst (OnWay vars more raw g) (sym (pushed_up _ _ _ pushed)) (
+          part_variable vars more g none all,
+          record { behind = behind; next = next; plain = plain; defined = defined },
+          w.way more (grows_then done new more grows h),
+        );
         right = λ depth le name s h. right_more done new grows depth vars name s (w.right depth (omega (arith, pushed_long _ _ _ pushed, put.fresh fresh, le)) name s (grind (arith, put_case)));
         open_names = λ name h. subst (IsAmong name g.name.now) (sym (pushed_up _ _ _ pushed)) (⊎_elim (λ x. inl x.0) (λ x. inr (w.open_names name x.1)) (put_case done new g.name.now None put name open_entry h));
         room = omega (arith, pushed_long _ _ _ pushed, put.fresh fresh, w.room);

@@ -65,7 +65,12 @@ module _ (vars : List Variable) where
       alone (outcome n vars) p ≡ Texts m ts → IsKnown done p → IsPart vars done texts f → IsPart vars done texts (record f { rest = behind; kept = keep })
   part_on done texts f behind keep p n m ts e comes known part = record {
     passes = record {
-      stops = λ fault g. part.passes.stops fault (record { from = max n g.from; stops = λ d h. at d (texts_above P (piece_up vars p) n d m ts (omega arith) comes) (stops_bad (next d) fault (g.stops d (omega arith))) ∙ g.stops d (omega arith) });
+      stops = λ fault g. part.passes.stops fault
+          (record {
+            from = max n g.from;
+            stops = λ d h. at d (texts_above P (piece_up vars p) n d m ts (omega arith) comes) (stops_bad (next d) fault (g.stops d (omega arith)))
+                ∙ g.stops d (omega arith);
+          });
       deeper = λ d h. part.passes.deeper d (deep d h (texts_near P (piece_up vars p) n d m ts comes));
     };
     reads = λ k l. part.reads (subst (AreKnown done) (sym e) (known, k)) l;
@@ -134,7 +139,8 @@ module _ (vars : List Variable) where
   among_deeper done raw name d g (f ∷ fs) w (inl e) h = ap (outcome (suc d) vars) (sym e) ∙ called_deeper f g done d w.0 w.1 h
   among_deeper done raw name d g (f ∷ fs) w (inr a) h = among_deeper done raw name d f fs w.2 a (caller_deeper f g done d w.0 w.1 h)
 
-  pub way_circle : (done : Table) (raw name : List ℕ) (top : Step) (stack : List Step) (behind : List Piece) → OnWay vars done raw top stack → IsAmong name top.name.now stack → pieces_left top ≡ Use name ∷ behind → (d : ℕ) → outcome_of d vars raw ≡ Deeper
+  pub way_circle : (done : Table) (raw name : List ℕ) (top : Step) (stack : List Step) (behind : List Piece) → OnWay vars done raw top stack
+      → IsAmong name top.name.now stack → pieces_left top ≡ Use name ∷ behind → (d : ℕ) → outcome_of d vars raw ≡ Deeper
   unfolding outcome
   way_circle done raw name top stack behind w among next d = way_deeper done raw d top stack w (next_deeper top name behind d next (deep d))
     where

@@ -1,6 +1,7 @@
 -- The expansions of a text, and why there are none.
 -- Source: own.
-use Rattle.std.specs.Prelude.{ℕ, zero, suc, ◌<◌, ◌≤◌, ◌==◌, ◌&&◌, ◌||◌, ◌≡◌, Bool, true, false, List, [], ◌∷◌, ◌++◌, map, flat_map, length, max, codes, if◌then◌else◌, nat_lt, Option, Some, None, Result, Ok, Err}
+use Rattle.std.specs.Prelude.{ℕ, zero, suc, ◌<◌, ◌≤◌, ◌==◌, ◌&&◌, ◌||◌, ◌≡◌, Bool, true, false, List, [], ◌∷◌, ◌++◌}
+use Rattle.std.specs.Prelude.{map, flat_map, length, max, codes, if◌then◌else◌, nat_lt, Option, Some, None, Result, Ok, Err}
 use Rattle.std.specs.Str.{bytes_eq}
 use Rattle.aa_base.specs.declared.fault.PolicyKind.{PolicyKind}
 use Rattle.aa_base.specs.declared.fault.PolicyKind.TheVariants.{BadPattern, Unsupported, UndefinedVariable, VariableCircle, TooManyExpansions, RelativePath, TooLarge}

@@ -22,7 +22,8 @@ found_data name [] = refl
 found_data name (i ∷ is) = by (has_name name i) (found_data name is)
   where
     by : (b : Bool) → byte_in name is ≡ option_map (λ (j : IncludeData). j.byte) (find (λ (j : IncludeData). bytes_eq (included_name j.text) name) (includes_data is))
-        → option_map (λ (j : IncludeAt). j.byte) (cond b (Some i) (find (has_name name) is)) ≡ option_map (λ (j : IncludeData). j.byte) (cond b (Some (include_data i)) (find (λ (j : IncludeData). bytes_eq (included_name j.text) name) (includes_data is)))
+        → option_map (λ (j : IncludeAt). j.byte) (cond b (Some i) (find (has_name name) is)) ≡ option_map (λ (j : IncludeData). j.byte)
+        (cond b (Some (include_data i)) (find (λ (j : IncludeData). bytes_eq (included_name j.text) name) (includes_data is)))
     by true e = refl
     by false e = e
 
@@ -31,10 +32,6 @@ first_byte_is text name is at are e = record { includes = includes_data is; are 
 
 pub stands_in : (u : unit.Unit) (file : ℕ) (text name : List ℕ) (o p : Option ℕ) → text ≡ text_in u file → o ≡ p → IsFirstByte text name o → IsFirstByte (text_in u file) name p
 stands_in u file text name o p e f h = subst (λ (t : List ℕ). IsFirstByte t name p) e (subst (λ (x : Option ℕ). IsFirstByte text name x) f h)
-
-pub and_true : (b : Bool) → (b && true) ≡ b
-and_true true = refl
-and_true false = refl
 
 -- where there are no texts there is nothing
 pub no_lines : (lines : List (Vec ℕ Global)) → map (λ (v : Vec ℕ Global). v.items) lines ≡ [] → lines ≡ []

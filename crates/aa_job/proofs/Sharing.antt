@@ -25,7 +25,9 @@ use Rattle.aa_files.specs.declared.unit.UnitFault.{UnitFault}
 use Rattle.aa_files.specs.declared.unit.UnitFault.TheVariants.{NoMemory, At, Ambiguous}
 use Rattle.aa_files.specs.Walks.{Entry, known_of}
 use Rattle.aa_job.specs.declared.shared.Meaning.{Meaning}
-use Rattle.aa_job.specs.Shared.{Meant, source_of, meant_by, meaning_in, first_meaning, is_same, source_in, source_named, meant, Kept, kept_meaning, sources_in, AddsName, NameStays, AddsNames, IsOtherwise, AgreesWith, AgreeBelow, AreShared, NamedIn, IsAmbiguous, told, IsTakenOtherwise}
+use Rattle.aa_job.specs.Shared.{Meant, source_of, meant_by, meaning_in, first_meaning, is_same, source_in, source_named, meant, Kept, kept_meaning, sources_in}
+use Rattle.aa_job.specs.Shared.{AddsName, NameStays, AddsNames, IsOtherwise, AgreesWith, AgreeBelow, AreShared, NamedIn, IsAmbiguous, told, IsTakenOtherwise}
+use Rattle.aa_files.proofs.Known.{tied}
 
 -- ---- one name
 
@@ -34,11 +36,6 @@ by_name a b = slice_cmp nat_cmp a.now b.now
 
 abbrev find : List ℕ → Kept → Option Meaning
 find q es = lookup (λ k. is_eq (slice_cmp nat_cmp q k.now)) es
-
-tied : (r : Ordering) → is_eq r ≡ true → r ≡ Equal
-tied Less e = cc
-tied Equal e = refl
-tied Greater e = cc
 
 swapped : (a b : Bool) (x y z : Option Meaning) → (a ≡ true → b ≡ true → x ≡ y) → cond a x (cond b y z) ≡ cond b y (cond a x z)
 swapped true true x y z h = h refl refl
@@ -56,7 +53,9 @@ find_insert (e ∷ es) k v q h = by (slice_cmp nat_cmp k.now e.0.now) refl h (λ
     by Less r h later = refl
     by Equal r h later = cc
     by Greater r h later =
-        let apart : is_eq (slice_cmp nat_cmp q e.0.now) ≡ true → is_eq (slice_cmp nat_cmp q k.now) ≡ true → Some e.1 ≡ Some v = λ a b. absurd (differ r (exact_bytes q e.0.now (tied (slice_cmp nat_cmp q e.0.now) a)) (exact_bytes q k.now (tied (slice_cmp nat_cmp q k.now) b))) in
+        let apart : is_eq (slice_cmp nat_cmp q e.0.now) ≡ true → is_eq (slice_cmp nat_cmp q k.now) ≡ true
+        → Some e.1 ≡ Some v = λ a b. absurd
+        (differ r (exact_bytes q e.0.now (tied (slice_cmp nat_cmp q e.0.now) a)) (exact_bytes q k.now (tied (slice_cmp nat_cmp q k.now) b))) in
         ap (λ (w : Option Meaning). cond (is_eq (slice_cmp nat_cmp q e.0.now)) (Some e.1) w) (later h) ∙ swapped (is_eq (slice_cmp nat_cmp q e.0.now)) (is_eq (slice_cmp nat_cmp q k.now)) (Some e.1) (Some v) (find q es) apart
       where
         differ : slice_cmp nat_cmp k.now e.0.now ≡ Greater → q ≡ e.0.now → q ≡ k.now → ⊥
@@ -168,7 +167,8 @@ not_both true a b = cc
 not_both false a b = cc
 
 -- a name of the unit that is kept and stands for something else
-pub adding_stops : (u : unit.Unit) (name : List ℕ) (m : Meant) (rest : List Entry) (before now : Kept) (r : FaultReport) → m.by ≡ u → meaning_in u name ≡ Some m → NameStays name m now r → Adding u rest before now → IsOtherwise u before r
+pub adding_stops : (u : unit.Unit) (name : List ℕ) (m : Meant) (rest : List Entry) (before now : Kept) (r : FaultReport) → m.by ≡ u
+    → meaning_in u name ≡ Some m → NameStays name m now r → Adding u rest before now → IsOtherwise u before r
 adding_stops u name m rest before now r own is stays so_far =
     let whole : Some stays.first ≡ option_or (kept_meaning name before) (Some m) =
     sym (ap (λ (o : Option Meant). option_or o (rest_meaning u rest name)) stays.is) ∙ so_far.whole name ∙ ap (λ (o : Option Meant). option_or (kept_meaning name before) o) is in
@@ -301,7 +301,9 @@ each_named q es = (
 abbrev IsFound : Kept → Bor (List ℕ) × Meaning → Type 0
 IsFound all e = kept_meaning e.0.now all ≡ Some (meant e.1)
 
-found_behind : (x : Bor (List ℕ) × Meaning) (all es : Kept) → AllByRecursion (λ (y : Bor (List ℕ)). slice_cmp nat_cmp x.0.now y.now ≡ Less) (keys_of es) → AllByRecursion (IsFound all) es → AllByRecursion (IsFound (x ∷ all)) es
+found_behind : (x : Bor (List ℕ) × Meaning) (all es : Kept)
+    → AllByRecursion (λ (y : Bor (List ℕ)). slice_cmp nat_cmp x.0.now y.now ≡ Less) (keys_of es) → AllByRecursion (IsFound all) es
+    → AllByRecursion (IsFound (x ∷ all)) es
 found_behind x all [] h f = tt
 found_behind x all (e ∷ es) h f = (by (slice_cmp nat_cmp e.0.now x.0.now) refl, found_behind x all es h.1 f.1)
   where

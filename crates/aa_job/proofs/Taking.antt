@@ -24,7 +24,8 @@ told a n = record { tasks = a.tasks; strangers = n; over = a.over }
 asks_one : (a : Asking) (n : ℕ) (r : RecordData) → told (with_asked a r) n ≡ one_asked r (told a n)
 asks_one a n r = by (fits r a.tasks)
   where
-    by : (b : Bool) → told (cond b (record { tasks = with_record r a.tasks; over = a.over }) (record { tasks = a.tasks; over = true })) n ≡ cond b (record { tasks = with_record r a.tasks; strangers = n; over = a.over }) (record { tasks = a.tasks; strangers = n; over = true })
+    by : (b : Bool) → told (cond b (record { tasks = with_record r a.tasks; over = a.over }) (record { tasks = a.tasks; over = true })) n ≡ cond b
+        (record { tasks = with_record r a.tasks; strangers = n; over = a.over }) (record { tasks = a.tasks; strangers = n; over = true })
     by true = refl
     by false = refl
 

@@ -1,6 +1,8 @@
 -- What several units include, taken together.
 -- Source: own.
-use Rattle.std.specs.Prelude.{ℕ, ◌≡◌, ◌⊎◌, ◌↔◌, ◌<◌, ◌≤◌, ◌^◌, ◌++◌, nat_lt, min, List, [], ◌∷◌, length, take, flat_map, Bool, true, false, not, if◌then◌else◌, Option, Some, None, IsSome, option_map, option_to_list, slice_get, find, Contains, codes, ⊤}
+use Rattle.std.specs.Prelude.{ℕ, ◌≡◌, ◌⊎◌, ◌↔◌, ◌<◌, ◌≤◌, ◌^◌, ◌++◌, nat_lt, min, List, [], ◌∷◌, length, take}
+use Rattle.std.specs.Prelude.{flat_map, Bool, true, false, not, if◌then◌else◌, Option, Some, None, IsSome, option_map, option_to_list, slice_get, find}
+use Rattle.std.specs.Prelude.{Contains, codes, ⊤}
 use Rattle.std.specs.Borrow.{Bor}
 use Rattle.std.specs.Option.{option_or, option_and_then}
 use Rattle.std.specs.List.Sorted.{IsStrictlySortedBy}

@@ -61,7 +61,9 @@ task_from fit named decided given =
     only_if fit BadShape >>= λ _. (needed BadShape named >>= text_in) >>= λ label. number_from 0 decided >>= λ policy. given >>= λ items. Ok (record { label = label; policy = policy; items = items })
 
 task_whole : (fit : Bool) (named decided : Option Data) (list : Result (List Data) JobFault)
-    → (only_if fit BadShape >>= λ _. (needed BadShape named >>= text_in) >>= λ label. number_from 0 decided >>= λ policy. list >>= λ requests. each item_shape requests >>= λ items. Ok (record { label = label; policy = policy; items = items }))
+    → (only_if fit BadShape >>= λ _.
+    (needed BadShape named >>= text_in) >>= λ label. number_from 0 decided >>= λ policy. list >>= λ requests. each item_shape requests >>= λ items. Ok
+    (record { label = label; policy = policy; items = items }))
     ≡ task_from fit named decided (list >>= each item_shape)
 task_whole fit named decided list =
     let make : List ℕ → ℕ → List WrittenItem → Result WrittenTask JobFault = λ label policy items. Ok (record { label = label; policy = policy; items = items }) in

@@ -25,7 +25,8 @@ only_true true d u e = refl
 only_true false d u e = absurd cc
 
 -- what a step keeps of each element, it keeps of the list
-each_keeps : {A B S : Type 0} (f : A → Result B JobFault) (after : B → S) (before : A → S) → ((x : A) (y : B) → f x ≡ Ok y → after y ≡ before x) → (xs : List A) (ys : List B) → each f xs ≡ Ok ys → map after ys ≡ map before xs
+each_keeps : {A B S : Type 0} (f : A → Result B JobFault) (after : B → S) (before : A → S)
+    → ((x : A) (y : B) → f x ≡ Ok y → after y ≡ before x) → (xs : List A) (ys : List B) → each f xs ≡ Ok ys → map after ys ≡ map before xs
 unfolding each
 each_keeps f after before keeps [] ys e =
     let p : [] ≡ ys = cc in
@@ -94,7 +95,9 @@ capacity_fits s h =
 both : (a b : Bool) → a ≡ true → b ≡ true → (a && b) ≡ true
 both a b h k = rw (h, k)
 
-pub limits_kept : (w : WrittenJob) (ts : List Task) (es : List Event) → within_limits (written_sizes w) ≡ true → each (task_of (length w.policies)) w.tasks ≡ Ok ts → each (event_of (length w.tasks)) w.events ≡ Ok es → keeps_limits w.policies w.includes ts w.states w.capacity es ≡ true
+pub limits_kept : (w : WrittenJob) (ts : List Task) (es : List Event) → within_limits (written_sizes w) ≡ true
+    → each (task_of (length w.policies)) w.tasks ≡ Ok ts → each (event_of (length w.tasks)) w.events ≡ Ok es
+    → keeps_limits w.policies w.includes ts w.states w.capacity es ≡ true
 limits_kept w ts es within t e =
     let items : map (λ z. length z.requests) ts ≡ map (λ z. length z.items) w.tasks = each_keeps (task_of (length w.policies)) (λ z. length z.requests) (λ z. length z.items) (task_keeps (length w.policies)) w.tasks ts t in
     let events : length es ≡ length w.events = each_length (event_of (length w.tasks)) w.events es e in
@@ -103,7 +106,9 @@ limits_kept w ts es within t e =
     ∙ ap (λ (n : ℕ). let s : Sizes = record { policies = map length w.policies; includes = include_sizes w.includes; tasks = map (λ z. length z.items) w.tasks; states = w.states; capacity = w.capacity; events = n } in s) events in
     let there : tasks_there es (length ts) ≡ true = ap (tasks_there es) (each_length (task_of (length w.policies)) w.tasks ts t) ∙ events_there (length w.tasks) w.events es e in
     let policies : policies_there ts (length w.policies) ≡ true = tasks_policies_there (length w.policies) w.tasks ts t in
-    both (within_limits (job_sizes w.policies w.includes ts w.states w.capacity es) && tasks_there es (length ts)) (policies_there ts (length w.policies)) (both (within_limits (job_sizes w.policies w.includes ts w.states w.capacity es)) (tasks_there es (length ts)) (ap within_limits sizes ∙ within) there) policies
+    both (within_limits (job_sizes w.policies w.includes ts w.states w.capacity es) && tasks_there es (length ts)) (policies_there ts (length w.policies))
+    (both (within_limits (job_sizes w.policies w.includes ts w.states w.capacity es)) (tasks_there es (length ts))
+    (ap within_limits sizes ∙ within) there) policies
 
 if_true_is : {A : Type 0} (b : Bool) (f : b ≡ true → A) (other : A) (h : b ≡ true) → if_true b f other ≡ f h
 if_true_is true f other h =
@@ -118,6 +123,8 @@ sealed_is j = if_true_is (keeps_limits j.policies j.includes j.tasks j.states j.
     (λ kept. Ok (record { policies = j.policies; several = j.several; includes = j.includes; tasks = j.tasks; states = j.states; capacity = j.capacity; events = j.events; limits = kept }))
     (Err TooLarge) j.limits
 
-pub meaning_is : (w : WrittenJob) (j : Job) → each (task_of (length w.policies)) w.tasks ≡ Ok j.tasks → each (event_of (length w.tasks)) w.events ≡ Ok j.events → w.policies ≡ j.policies → w.several ≡ j.several → w.includes ≡ j.includes → w.states ≡ j.states → w.capacity ≡ j.capacity → meaning w ≡ Ok j
+pub meaning_is : (w : WrittenJob) (j : Job) → each (task_of (length w.policies)) w.tasks ≡ Ok j.tasks
+    → each (event_of (length w.tasks)) w.events ≡ Ok j.events → w.policies ≡ j.policies → w.several ≡ j.several → w.includes ≡ j.includes
+    → w.states ≡ j.states → w.capacity ≡ j.capacity → meaning w ≡ Ok j
 unfolding meaning
 meaning_is w j t e p m i s c = rw (t, e, p, m, i, s, c) (sealed_is j)

@@ -1,5 +1,6 @@
 -- The data that a tree stands for: what `serde_json` reads, and what look-ups find in it.
-use Rattle.std.proofs.Common.{◌≡◌, ℕ, ◌&&◌, List, [], ◌∷◌, Bool, true, false, cond, true≢false, Option, Some, None, option_map, option_and_then, map, refl, sym, ap, ◌∙◌, Bor, Global, Ordering, Less, Equal, Greater, nat_cmp, bytes_eq}
+use Rattle.std.proofs.Common.{◌≡◌, ℕ, ◌&&◌, List, [], ◌∷◌, Bool, true, false, cond, true≢false, Option, Some, None, option_map}
+use Rattle.std.proofs.Common.{option_and_then, map, refl, sym, ap, ◌∙◌, Bor, Global, Ordering, Less, Equal, Greater, nat_cmp, bytes_eq}
 use Rattle.std.specs.Option.{option_or, is_some}
 use Rattle.std.specs.Ordering.{match_ordering}
 use Rattle.std.specs.Cmp.Lexicographic.{slice_cmp}

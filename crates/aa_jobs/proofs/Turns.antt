@@ -1,5 +1,6 @@
 -- A value, an array and an object read from tokens, a turn at a time.
-use Rattle.std.proofs.Common.{◌≡◌, ℕ, zero, suc, ◌-◌, ◌<◌, ◌≤◌, List, [], ◌∷◌, ◌++◌, length, Bool, true, false, cond, Option, Some, None, option_map, Result, Ok, Err, refl, sym, ap, subst, ◌∙◌, append_assoc}
+use Rattle.std.proofs.Common.{◌≡◌, ℕ, zero, suc, ◌-◌, ◌<◌, ◌≤◌, List, [], ◌∷◌, ◌++◌, length, Bool, true, false, cond, Option}
+use Rattle.std.proofs.Common.{Some, None, option_map, Result, Ok, Err, refl, sym, ap, subst, ◌∙◌, append_assoc}
 use Rattle.std.proofs.lemmas.List.{append-nil}
 use Rattle.json.specs.Lex.{tokens}
 use Rattle.json.specs.Reads.{token_of}
@@ -148,7 +149,8 @@ mapped_as : {A C : Type 0} (see : Data → Option C) (make : A → Data) (o : Op
 mapped_as see make None d r none e = nothing_read (d, r) e
 mapped_as see make (Some p) d r none e = read_as see (make p.0) d p.1 r (none p.0) e
 
-number_as : {C : Type 0} (see : Data → Option C) (o : Option Num) (d : Data) (ts r : List Token) → ((n : Num) → see (number n) ≡ None) → option_map {U = Data × List Token} (λ b. (b, ts)) (option_map number o) ≡ Some (d, r) → see d ≡ None
+number_as : {C : Type 0} (see : Data → Option C) (o : Option Num) (d : Data) (ts r : List Token) → ((n : Num) → see (number n) ≡ None)
+    → option_map {U = Data × List Token} (λ b. (b, ts)) (option_map number o) ≡ Some (d, r) → see d ≡ None
 number_as see None d ts r none e = nothing_read (d, r) e
 number_as see (Some n) d ts r none e = read_as see (number n) d ts r (none n) e
 
@@ -227,7 +229,8 @@ passed_list view f depth ts rest new t is other passed =
     (ap (λ x. converted of_json (value depth x)) is ∙ d.1) (not_listed f d.0 (no_array depth t rest new d.0 other d.1))
 
 -- a value that begins with another token than a brace is read past, and is no object
-pub passed_object : {X Y : Type 0} (view : X → Y) (f : Data → Result Y JobFault) → ((d : Data) → as_object d ≡ None → f d ≡ Err BadShape) → (depth : ℕ) (ts rest new : List Token) (t : Token) → ts ≡ t ∷ rest → is_brace t ≡ false
+pub passed_object : {X Y : Type 0} (view : X → Y) (f : Data → Result Y JobFault) → ((d : Data) → as_object d ≡ None → f d ≡ Err BadShape)
+    → (depth : ℕ) (ts rest new : List Token) (t : Token) → ts ≡ t ∷ rest → is_brace t ≡ false
     → needed NotJson (left (converted of_json (value depth (t ∷ rest)))) ≡ Ok new → Shaped view (Err BadShape) new (parse_map f (converted of_json (value depth ts)))
 passed_object view f refuses depth ts rest new t is other passed =
     let d = left_some (converted of_json (value depth (t ∷ rest))) new (needed_is NotJson _ _ passed) in
@@ -263,7 +266,8 @@ object_none e f depth ts mid some is h =
     none_on e (converted (λ xs. of_members xs no_members) (members (value (depth - 1)) (length mid) mid)) (parse_map f (converted of_json (value depth ts)))
     (λ none. ap (parse_map f) (object_opens depth ts mid some is ∙ ap (parse_map object) none)) h
 
-pub apart_is : {X Y V : Type 0} (rest_of : V → Members) (key : List ℕ) (view : X → Y) (f : Data → Result Y JobFault) (p : V × Result X JobFault) (rest : List Token) (o : Option (Members × List Token)) → Apart rest_of key view f p rest o
+pub apart_is : {X Y V : Type 0} (rest_of : V → Members) (key : List ℕ) (view : X → Y) (f : Data → Result Y JobFault) (p : V × Result X JobFault)
+    (rest : List Token) (o : Option (Members × List Token)) → Apart rest_of key view f p rest o
     → (ms : Members) × (o ≡ Some (ms, rest)) × AgreeBut key (rest_of p.0) ms × Gives view p.1 (shape_at f key ms)
 apart_is rest_of key view f p rest None h = absurd h
 apart_is rest_of key view f p rest (Some (ms, r)) h = (ms, ap (λ x. Some (ms, x)) h.0, h.1, h.2)
@@ -301,7 +305,9 @@ number_past : (o : Option Num) (ts : List Token) (b : Bool) → is_some o ≡ b 
 number_past None ts b e = ap (λ x. cond x (Ok ts) (Err NotJson)) e
 number_past (Some n) ts b e = ap (λ x. cond x (Ok ts) (Err NotJson)) e
 
-past_with : (depth : ℕ) (t : Token) (ts : List Token) (other : Result (List Token) JobFault) → ((a : Parse json.Items) (o : Parse json.Members) → needed NotJson (left (converted of_json (value_with a o (t ∷ ts)))) ≡ other) → past depth t ts ≡ other
+past_with : (depth : ℕ) (t : Token) (ts : List Token) (other : Result (List Token) JobFault)
+    → ((a : Parse json.Items) (o : Parse json.Members) → needed NotJson (left (converted of_json (value_with a o (t ∷ ts)))) ≡ other)
+    → past depth t ts ≡ other
 unfolding value
 past_with zero t ts other same = same (λ s. None) (λ s. None)
 past_with (suc k) t ts other same = same (λ s. items (value k) (length s) s) (λ s. members (value k) (length s) s)
@@ -346,7 +352,8 @@ read_text text = converted of_json (value 127 (tokens text))
 abbrev meant : Option Data → Result WrittenJob JobFault
 meant o = needed NotJson o >>= job_shape
 
-pub text_shaped : {X : Type 0} (view : X → WrittenJob) (inner : Result X JobFault) (text : List ℕ) (rest : List Token) → Shaped view inner rest (parse_map job_shape (read_text text)) → rest ≡ [] → Gives view inner (written_as text)
+pub text_shaped : {X : Type 0} (view : X → WrittenJob) (inner : Result X JobFault) (text : List ℕ) (rest : List Token)
+    → Shaped view inner rest (parse_map job_shape (read_text text)) → rest ≡ [] → Gives view inner (written_as text)
 text_shaped view inner text rest h over =
     let d = shaped_is view inner job_shape (read_text text) rest h in
     subst (λ g. Gives view inner g) (sym (ap meant (whole_read (value 127 (tokens text)) d.0 (d.1 ∙ ap (λ r. Some (d.0, r)) over)))) d.2

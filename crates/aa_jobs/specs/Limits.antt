@@ -41,7 +41,14 @@ include_sizes is = map (λ i. length i.text) is
 
 -- the sizes of a job
 abbrev pub job_sizes : List (List ℕ) → List Include → List Task → ℕ → ℕ → List Event → Sizes
-job_sizes policies includes tasks states capacity events = record { policies = map length policies; includes = include_sizes includes; tasks = map (λ t. length t.requests) tasks; states = states; capacity = capacity; events = length events }
+job_sizes policies includes tasks states capacity events = record {
+  policies = map length policies;
+  includes = include_sizes includes;
+  tasks = map (λ t. length t.requests) tasks;
+  states = states;
+  capacity = capacity;
+  events = length events;
+}
 
 -- each event's task is there
 abbrev pub tasks_there : List Event → ℕ → Bool

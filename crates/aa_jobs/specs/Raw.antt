@@ -39,4 +39,12 @@ raw_include i = record { name = i.name.now; text = i.text.now }
 
 -- a job, without where it lies in memory
 abbrev pub raw_job : RawJob → WrittenJob
-raw_job j = record { policies = map raw_text j.policies.items; several = j.several; includes = map raw_include j.includes.items; tasks = map raw_task j.tasks.items; states = j.states; capacity = j.capacity; events = map raw_event j.events.items }
+raw_job j = record {
+  policies = map raw_text j.policies.items;
+  several = j.several;
+  includes = map raw_include j.includes.items;
+  tasks = map raw_task j.tasks.items;
+  states = j.states;
+  capacity = j.capacity;
+  events = map raw_event j.events.items;
+}

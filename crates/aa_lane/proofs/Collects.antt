@@ -1,5 +1,7 @@
 -- The step that collects an answer, or finds none.
-use Rattle.std.proofs.Common.{◌≡◌, ℕ, ◌+◌, ◌%◌, ◌<◌, ◌≤◌, ◌==◌, ◌≢◌, inl, inr, eqb-true, false-eqb, cond, nat_lt, lt-ltb, le-ltb, ltb-true, ltb-false, Bool, true, false, List, length, set, refl, sym, ap, ◌∙◌, subst, arith, slice_get, slice_set, slice_index, Some}
+use Rattle.std.proofs.Common.{◌≡◌, ℕ, ◌+◌, ◌%◌, ◌<◌, ◌≤◌, ◌==◌, ◌≢◌, inl, inr, eqb-true, false-eqb, cond, nat_lt, lt-ltb}
+use Rattle.std.proofs.Common.{le-ltb, ltb-true, ltb-false, Bool, true, false, List, length, set, refl, sym, ap, ◌∙◌, subst, arith, slice_get, slice_set}
+use Rattle.std.proofs.Common.{slice_index, Some}
 use Rattle.std.proofs.lemmas.List.{length-set, set-get_or}
 use Rattle.std.proofs.lemmas.Option.{slice_get_within}
 use mathlib.Core.Option.{Option, some, none}
@@ -68,7 +70,8 @@ module _ {M S Q A : Type 0} (next : M → S → Q → S) (reply : M → S → Q 
         let dn = h.done in let gt = fits.got in
         let t = h.lawful.sent in let g = h.lawful.gotten in let b = h.lawful.begun in let room = h.lawful.room in let c = h.capacity in
         let lt : w.collected < length w.answers = omega arith in
-        let home : get_elem? s.homes (v.owner.got % length s.homes) ≡ some (some (Answered q a)) = subst (λ i. get_elem? s.homes (i % length s.homes) ≡ some (some (Answered q a))) (sym gt) (h.answered w.collected q a (omega arith) eq ea) in
+        let home : get_elem? s.homes (v.owner.got % length s.homes) ≡ some (some (Answered q a)) = subst
+        (λ i. get_elem? s.homes (i % length s.homes) ≡ some (some (Answered q a))) (sym gt) (h.answered w.collected q a (omega arith) eq ea) in
         let slot : ℕ = v.owner.got % length s.homes in
         let hs : List (Option (Cell M S Q A)) = set s.homes slot none in
         let homes : length hs ≡ length s.homes = length-set s.homes slot none in
@@ -94,13 +97,24 @@ module _ {M S Q A : Type 0} (next : M → S → Q → S) (reply : M → S → Q 
             answered = λ m r y low e' f'. let in_answers : m < length w.answers = slice_get_within w.answers m y f' in
                 rw homes (set_else s.homes slot (m % length s.homes) none (λ f. let z : v.owner.got ≡ m = one_turn v.owner.got m (length s.homes) (omega arith) (omega arith) (sym f) in omega arith)
                 ∙ h.answered m r y (omega arith) e' f');
-            in_hand = λ m low high. rw homes (set_else s.homes slot (m % length s.homes) none (λ k. let y : v.owner.got ≡ m = one_turn v.owner.got m (length s.homes) (omega arith) (omega arith) (sym k) in omega arith) ∙ h.in_hand m low high);
+            in_hand = λ m low high. rw homes
+                (set_else s.homes slot (m % length s.homes) none
+                (λ k. let y : v.owner.got ≡ m = one_turn v.owner.got m (length s.homes) (omega arith) (omega arith) (sym k) in omega arith)
+                ∙ h.in_hand m low high);
             seat = h.seat;
             filled = keep_filled s.views h.seat id v (collected_view v x log) h.filled at (λ a. elim a as (λ a. role a (collected_view v x log) ≡ role a v) [ ByOwner ↦ refl | ByServer ↦ refl | ByShutter ↦ refl ]);
             seats = keep_seats s.views h.seat s.homes hs w (collecting w) ByOwner id v (collected_view v x log) h.seats at owns
                 (λ a. elim a as (λ a. role a (collected_view v x log) ≡ role a v) [ ByOwner ↦ refl | ByServer ↦ refl | ByShutter ↦ refl ]) refl refl refl
                 (λ a. elim a as (λ a. Fits a s.homes w v → Fits a hs (collecting w) (collected_view v x log)) [
-                  | ByOwner ↦ λ f. record { sent = f.sent; got = omega arith; found = omega arith; closed = f.closed; left = f.left; free = λ r i low high. rw homes (out f i low high); fresh = λ r. let z : true ≡ false = sym ready ∙ r in cc }
+                  | ByOwner ↦ λ f. record {
+                    sent = f.sent;
+                    got = omega arith;
+                    found = omega arith;
+                    closed = f.closed;
+                    left = f.left;
+                    free = λ r i low high. rw homes (out f i low high);
+                    fresh = λ r. let z : true ≡ false = sym ready ∙ r in cc;
+                  }
                   | ByServer ↦ λ f. record { taken = f.taken; done = f.done; seen = f.seen; settled = f.settled }
                   | ByShutter ↦ λ f. record { count = f.count }
                 ])
@@ -136,8 +150,20 @@ module _ {M S Q A : Type 0} (next : M → S → Q → S) (reply : M → S → Q 
             let does = after_collect next reply w true (lt-ltb w.collected (length w.answers) z) in
             let kept = logged next reply k s all _ _ id v (collected_view v x log) ByOwner Collect (Given v.owner.got) (collecting next reply w) at owns
             (λ a. elim a as (λ a. role a (collected_view v x log) ≡ role a v) [ ByOwner ↦ refl | ByServer ↦ refl | ByShutter ↦ refl ])
-            (elim [ ByOwner ↦ refl | ByServer ↦ refl | ByShutter ↦ refl ]) refl (sym does.0) (ap Given gt ∙ sym does.1) r.1 in
-            (collected_view v x log, takes (v.owner.got % length s.homes) (Answered q.0 a.0), r.0, kept, (q.0, a.0, told, rw len refl, makes next reply k s all c id v (collected_view v x log) ByOwner Collect (Given v.owner.got) len at owns (ap Given gt ∙ sym does.1) refl))
+            (elim [ ByOwner ↦ refl | ByServer ↦ refl | ByShutter ↦ refl ]) refl (sym does.0) (ap Given gt ∙ sym does.1) r.1 in (
+              collected_view v x log,
+              takes (v.owner.got % length s.homes) (Answered q.0 a.0),
+              r.0,
+              kept,
+              (
+                q.0,
+                a.0,
+                told,
+                rw len refl,
+                makes next reply k s all c id v (collected_view v x log) ByOwner Collect (Given v.owner.got) len at owns
+                    (ap Given gt ∙ sym does.1) refl,
+              ),
+            )
         | false ↦ λ e.
             let le : x ≤ v.owner.got = ltb-false _ _ e in
             let dn = h.done in let gt = f.got in

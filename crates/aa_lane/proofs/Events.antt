@@ -25,7 +25,8 @@ use Rattle.aa_lane.proofs.Collects.{collecting, after_collect, collect_none, col
 use Rattle.aa_lane.proofs.Shuts.{shutting, shut_one, shut_fits, half}
 
 module _ {M S Q A : Type 0} (next : M → S → Q → S) (reply : M → S → Q → A) where
-  event_of : (s : State (Cell M S Q A) (View M S Q A)) (w w' : WorldState M S Q A) (e : Event M S Q A) (r : Reply M S Q A) → w' ≡ after next reply w e → r ≡ answer_to next reply w e → Shows next reply s w' → IsEvent next reply s w e r
+  event_of : (s : State (Cell M S Q A) (View M S Q A)) (w w' : WorldState M S Q A) (e : Event M S Q A) (r : Reply M S Q A) → w' ≡ after next reply w e
+      → r ≡ answer_to next reply w e → Shows next reply s w' → IsEvent next reply s w e r
   event_of s w w' e r is told shows = record { shows = subst (Shows next reply s) is shows; replied = told }
 
   gate_open : (s : State (Cell M S Q A) (View M S Q A)) (w : WorldState M S Q A) (n : ℕ) → Shows next reply s w → length w.accepted ≡ n → slice_index s.words 0 ≡ 2 * n → w.shut ≡ false
@@ -55,7 +56,8 @@ module _ {M S Q A : Type 0} (next : M → S → Q → S) (reply : M → S → Q 
         let count : length w.accepted ≡ length v.owner.sent = ap length (sym (h.seats ByOwner id v st.at owns).2.sent) in
         let unshut = gate_open s w (length v.owner.sent) h count gate in
         let d = after_send next reply w q (not_spent next reply s w h id v q held st.at owns ready spent gotten room) (not_full next reply s w h id v q held st.at owns ready spent gotten room) false unshut in
-        event_of _ w (sending next reply w q) (Send q) (Accepted (length v.owner.sent)) (sym d.0) (ap Accepted (sym count) ∙ sym d.1) (sent_unshut next reply s w h id v q held st.at owns ready spent gotten room log unshut (2 * length v.owner.sent + 2) refl);
+        event_of _ w (sending next reply w q) (Send q) (Accepted (length v.owner.sent)) (sym d.0) (ap Accepted (sym count) ∙ sym d.1)
+        (sent_unshut next reply s w h id v q held st.at owns ready spent gotten room log unshut (2 * length v.owner.sent + 2) refl);
     closed = λ s w id v log q held st owns stayed ready spent gotten room gate.
         let h = st.shows in
         let count : length w.accepted ≡ length v.owner.sent = ap length (sym (h.seats ByOwner id v st.at owns).2.sent) in

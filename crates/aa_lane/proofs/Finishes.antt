@@ -59,7 +59,18 @@ module _ {M S Q A : Type 0} (next : M → S → Q → S) (reply : M → S → Q 
         let homes : length hs ≡ length s.homes = length-set s.homes slot (some (Answered q a)) in
         let ne : w.taken ≢ length w.answers = λ e. omega arith in
         let owner : (u : View M S Q A) → OwnerFits s.homes w u.owner → OwnerFits hs w' u.owner = λ u f.
-        record { sent = f.sent; got = f.got; found = let z = f.found in omega arith; closed = f.closed; left = f.left; free = λ r i low high. rw homes (set_else s.homes slot (i % length s.homes) (some (Answered q a)) (λ e. let y : v.server.done ≡ i = one_turn v.server.done i (length s.homes) (omega arith) (omega arith) (sym e) in omega arith) ∙ f.free r i low high); fresh = λ r. let z = (f.fresh r).0 in absurd (omega arith) } in
+        record {
+          sent = f.sent;
+          got = f.got;
+          found = let z = f.found in omega arith;
+          closed = f.closed;
+          left = f.left;
+          free = λ r i low high. rw homes
+              (set_else s.homes slot (i % length s.homes) (some (Answered q a))
+              (λ e. let y : v.server.done ≡ i = one_turn v.server.done i (length s.homes) (omega arith) (omega arith) (sym e) in omega arith)
+              ∙ f.free r i low high);
+          fresh = λ r. let z = (f.fresh r).0 in absurd (omega arith);
+        } in
         record {
           lawful = answering_lawful next reply w q h.lawful ne there_is;
           capacity = h.capacity ∙ sym homes;
@@ -101,7 +112,8 @@ module _ {M S Q A : Type 0} (next : M → S → Q → S) (reply : M → S → Q 
   -- the store of the done word
   pub finishes_step : (c id : ℕ) (v : View M S Q A) (q : Q) (a : A) → v.serves ≡ true → length v.server.taken ≡ v.server.done + 1 → slice_get v.server.taken v.server.done ≡ Some q
       → ((m : M) (t : S) → v.terms ≡ Some (m, t) → a ≡ reply m (state_after (next m) (reply m) t (take v.server.done v.server.taken)) q)
-      → Allows (HasLog next reply k) c id (v, (v.server.done % c, Answered q a) ∷ []) 16 (λ _. v.server.done + 1) (λ _. finished next reply (step c 16 (v.server.done + 1) 0 none) (v, (v.server.done % c, Answered q a) ∷ []) (v.server.done + 1))
+      → Allows (HasLog next reply k) c id (v, (v.server.done % c, Answered q a) ∷ []) 16 (λ _. v.server.done + 1)
+      (λ _. finished next reply (step c 16 (v.server.done + 1) 0 none) (v, (v.server.done % c, Answered q a) ∷ []) (v.server.done + 1))
   finishes_step c id v q a serves busy job decided s held len at small =
       let w : WorldState M S Q A = world next reply k s held in
       let h : Shows next reply s w = held.shows in

@@ -46,7 +46,8 @@ module _ {M S Q A : Type 0} (next : M → S → Q → S) (reply : M → S → Q 
       let more : take (o.got + 1) all ≡ take o.got all ++ a ∷ [] = rw add-one (take_snoc all o.got a at) in
       ap (collected_by next reply l) h.4 ∙ more
 
-  pub send_collected : (l : LaneSeen M S) (o o' : OwnerSeen M S Q A) (q : Q) (r : Result ℕ (Unsent M S Q A)) → IfOk r (λ n. MaySend o × (n ≡ length o.sent) × (o' ≡ sent_of o q o'.log)) → IfErr r (λ u. (u.request ≡ q) × Refuses u.fault q o o')
+  pub send_collected : (l : LaneSeen M S) (o o' : OwnerSeen M S Q A) (q : Q) (r : Result ℕ (Unsent M S Q A))
+      → IfOk r (λ n. MaySend o × (n ≡ length o.sent) × (o' ≡ sent_of o q o'.log)) → IfErr r (λ u. (u.request ≡ q) × Refuses u.fault q o o')
       → o.got ≤ length o.sent → collected_by next reply l o' ≡ collected_by next reply l o
   send_collected l o o' q (Ok n) done refused le = ap (collected_by next reply l) done.2 ∙ sent_collected l o q o'.log le
   send_collected l o o' q (Err u) done refused le =

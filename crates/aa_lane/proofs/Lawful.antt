@@ -1,5 +1,6 @@
 -- Each event keeps a world lawful.
-use Rattle.std.proofs.Common.{◌≡◌, ◌≢◌, ℕ, ◌+◌, ◌-◌, ◌<◌, ◌≤◌, ◌==◌, nat_lt, true, List, [], ◌∷◌, ◌++◌, length, take, refl, sym, arith, length-append, slice_get, Option, Some, None, false-eqb, ltb-true, ltb-false}
+use Rattle.std.proofs.Common.{◌≡◌, ◌≢◌, ℕ, ◌+◌, ◌-◌, ◌<◌, ◌≤◌, ◌==◌, nat_lt, true, List, [], ◌∷◌, ◌++◌, length}
+use Rattle.std.proofs.Common.{take, refl, sym, arith, length-append, slice_get, Option, Some, None, false-eqb, ltb-true, ltb-false}
 use Rattle.std.proofs.lemmas.List.{take-append-le}
 use Rattle.aa_lane.specs.WorldState.{WorldState, IsLawful, opening, after, after_all, is_spent, is_full, decided}
 use Rattle.aa_lane.specs.declared.event.Event.{Event}
@@ -11,7 +12,8 @@ module _ {M S Q A : Type 0} (next : M → S → Q → S) (reply : M → S → Q 
   pub opening_lawful : (m : M) (s : S) (c : ℕ) → IsLawful next reply (opening m s c)
   opening_lawful m s c = record { gotten = omega arith; begun = omega arith; one = omega arith; sent = omega arith; spent = omega arith; room = omega arith; answered = refl; reached = refl }
 
-  pub sending_lawful : (w : WorldState M S Q A) (q : Q) → IsLawful next reply w → length w.accepted ≢ 4611686018427387903 → (length w.accepted - w.collected) ≢ w.capacity → IsLawful next reply (record w { accepted = w.accepted ++ q ∷ [] })
+  pub sending_lawful : (w : WorldState M S Q A) (q : Q) → IsLawful next reply w → length w.accepted ≢ 4611686018427387903
+      → (length w.accepted - w.collected) ≢ w.capacity → IsLawful next reply (record w { accepted = w.accepted ++ q ∷ [] })
   sending_lawful w q h spent full =
       let n : length (w.accepted ++ q ∷ []) ≡ length w.accepted + 1 = length-append w.accepted (q ∷ []) in
       let b = h.begun in let s = h.sent in let r = h.room in let p = h.spent in

@@ -87,7 +87,8 @@ module _ {M S Q A : Type 0} (next : M → S → Q → S) (reply : M → S → Q 
       → IsLog next reply m t c (l ++ e ∷ [])
   is_log_snoc m t c l e h may is = record {
     told = told_snoc m t c l e h.told is;
-    able = All-append (λ (x : Entry M S Q A). may_make x.who x.event ≡ true) l (e ∷ []) h.able (All-cons (λ (x : Entry M S Q A). may_make x.who x.event ≡ true) e [] may (All-nil (λ (x : Entry M S Q A). may_make x.who x.event ≡ true)));
+    able = All-append (λ (x : Entry M S Q A). may_make x.who x.event ≡ true) l (e ∷ []) h.able
+        (All-cons (λ (x : Entry M S Q A). may_make x.who x.event ≡ true) e [] may (All-nil (λ (x : Entry M S Q A). may_make x.who x.event ≡ true)));
   }
 
   -- machine, opening state and capacity never change

@@ -1,5 +1,7 @@
 -- The making of a lane: its table, the load that takes the slots, the splits, and the joins at its end.
-use Rattle.std.proofs.Common.{◌≡◌, ◌≢◌, ℕ, zero, suc, ◌+◌, ◌%◌, ◌<◌, ◌≤◌, ◌==◌, eqb-true, false-eqb, ◌⊎◌, inl, inr, cond, is_some, Bool, true, false, List, [], ◌∷◌, ◌++◌, length, set, refl, sym, ap, ◌∙◌, subst, arith, slice_set, slice_index, Some, replicate, map}
+use Rattle.std.proofs.Common.{◌≡◌, ◌≢◌, ℕ, zero, suc, ◌+◌, ◌%◌, ◌<◌, ◌≤◌, ◌==◌, eqb-true, false-eqb, ◌⊎◌, inl, inr}
+use Rattle.std.proofs.Common.{cond, is_some, Bool, true, false, List, [], ◌∷◌, ◌++◌, length, set, refl, sym, ap, ◌∙◌, subst, arith, slice_set}
+use Rattle.std.proofs.Common.{slice_index, Some, replicate, map}
 use Rattle.std.proofs.lemmas.List.{length-set, set-get_or}
 use Rattle.std.proofs.lemmas.Option.{slice_get_within}
 use mathlib.Core.Option.{Option, some, none}
@@ -119,7 +121,15 @@ module _ {M S Q A : Type 0} (next : M → S → Q → S) (reply : M → S → Q 
       let w : WorldState M S Q A = opening k.machine.now k.start k.capacity in
       let hs : List (Option (Cell M S Q A)) = map some (replicate k.capacity Vacant) in
       let fit : (a : Who) → Fits a hs w (first_view k) = λ a. elim a as (λ a. Fits a hs w (first_view k)) [
-        | ByOwner ↦ record { sent = refl; got = refl; found = omega arith; closed = λ z. let y : false ≡ true = z in cc; left = λ z. let y : false ≡ true = z in cc; free = λ z. let y : false ≡ true = z in cc; fresh = λ r. (refl, λ i lt. vacant_homes {X = Cell M S Q A} Vacant k.capacity i (rw n at lt)) }
+        | ByOwner ↦ record {
+          sent = refl;
+          got = refl;
+          found = omega arith;
+          closed = λ z. let y : false ≡ true = z in cc;
+          left = λ z. let y : false ≡ true = z in cc;
+          free = λ z. let y : false ≡ true = z in cc;
+          fresh = λ r. (refl, λ i lt. vacant_homes {X = Cell M S Q A} Vacant k.capacity i (rw n at lt));
+        }
         | ByServer ↦ record { taken = refl; done = refl; seen = omega arith; settled = λ z. let y : false ≡ true = z in cc }
         | ByShutter ↦ record { count = λ c z. cc }
       ] in
@@ -143,7 +153,8 @@ module _ {M S Q A : Type 0} (next : M → S → Q → S) (reply : M → S → Q 
       }
 
   -- the owner takes all slots, and the world stays
-  pub readies_one : (s : State (Cell M S Q A) (View M S Q A)) (w : WorldState M S Q A) (h : Shows next reply s w) (id c : ℕ) (v : View M S Q A) → get_elem? s.views id ≡ some v → v.owns ≡ true → v.owner.ready ≡ false → length s.homes ≡ c
+  pub readies_one : (s : State (Cell M S Q A) (View M S Q A)) (w : WorldState M S Q A) (h : Shows next reply s w) (id c : ℕ) (v : View M S Q A)
+      → get_elem? s.views id ≡ some v → v.owns ≡ true → v.owner.ready ≡ false → length s.homes ≡ c
       → Valid s.homes [] (take_slots c) × Shows next reply (stepped s 0 (slice_index s.words 0) id [] (ready_view v) (take_slots c)) w
   readies_one s w h id c v at owns ready len =
       let v' : View M S Q A = ready_view v in
@@ -167,7 +178,16 @@ module _ {M S Q A : Type 0} (next : M → S → Q → S) (reply : M → S → Q 
           seats = keep_seats s.views h.seat s.homes hs w w ByOwner id v v' h.seats at owns
               (λ a. elim a as (λ a. role a (ready_view v) ≡ role a v) [ ByOwner ↦ refl | ByServer ↦ refl | ByShutter ↦ refl ]) refl refl refl
               (λ a. elim a as (λ a. Fits a s.homes w v → Fits a hs w (ready_view v)) [
-                | ByOwner ↦ λ f. record { sent = f.sent; got = f.got; found = f.found; closed = f.closed; left = f.left; free = λ _ i low high. taken_gone c s.homes [] (i % length hs) (let b = mod-lt i (let r = h.roomy in let y : 0 < length hs = omega arith in y) in omega arith) (omega arith); fresh = λ r. let z : true ≡ false = r in cc }
+                | ByOwner ↦ λ f. record {
+                  sent = f.sent;
+                  got = f.got;
+                  found = f.found;
+                  closed = f.closed;
+                  left = f.left;
+                  free = λ _ i low high. taken_gone c s.homes [] (i % length hs)
+                      (let b = mod-lt i (let r = h.roomy in let y : 0 < length hs = omega arith in y) in omega arith) (omega arith);
+                  fresh = λ r. let z : true ≡ false = r in cc;
+                }
                 | ByServer ↦ λ f. f
                 | ByShutter ↦ λ f. f
               ])
@@ -262,7 +282,14 @@ module _ {M S Q A : Type 0} (next : M → S → Q → S) (reply : M → S → Q 
     is = is;
     keeps = λ a. elim a as (λ a. same a ByServer ≡ false → role a v ≡ true → role a (without_server v) ≡ true) [ ByOwner ↦ λ e o. o | ByServer ↦ λ e o. let z : true ≡ false = e in cc | ByShutter ↦ λ e o. o ];
     has = is;
-    lefts = λ a. elim a as (λ a. role a (without_server v) ≡ true → (role a v ≡ true) × (same a ByServer ≡ false)) [ ByOwner ↦ λ o. (o, refl) | ByServer ↦ λ o. let z : false ≡ true = o in cc | ByShutter ↦ λ o. (o, refl) ];
+    lefts = λ a. elim a as
+        (λ a. role a (without_server v) ≡ true
+        → (role a v ≡ true) × (same a ByServer ≡ false)) [
+          | ByOwner ↦ λ o.
+              (o, refl)
+          | ByServer ↦ λ o. let z : false ≡ true = o in cc
+          | ByShutter ↦ λ o. (o, refl)
+        ];
     rights = λ a. elim a as (λ a. role a (only_server v) ≡ true → same a ByServer ≡ true) [ ByOwner ↦ λ o. let z : false ≡ true = o in cc | ByServer ↦ λ o. refl | ByShutter ↦ λ o. let z : false ≡ true = o in cc ];
     left_terms = refl;
     right_terms = refl;
@@ -275,7 +302,14 @@ module _ {M S Q A : Type 0} (next : M → S → Q → S) (reply : M → S → Q 
     is = is;
     keeps = λ a. elim a as (λ a. same a ByShutter ≡ false → role a v ≡ true → role a (without_shutter v) ≡ true) [ ByOwner ↦ λ e o. o | ByServer ↦ λ e o. o | ByShutter ↦ λ e o. let z : true ≡ false = e in cc ];
     has = is;
-    lefts = λ a. elim a as (λ a. role a (without_shutter v) ≡ true → (role a v ≡ true) × (same a ByShutter ≡ false)) [ ByOwner ↦ λ o. (o, refl) | ByServer ↦ λ o. (o, refl) | ByShutter ↦ λ o. let z : false ≡ true = o in cc ];
+    lefts = λ a. elim a as
+        (λ a. role a (without_shutter v) ≡ true
+        → (role a v ≡ true) × (same a ByShutter ≡ false)) [
+          | ByOwner ↦ λ o. (o, refl)
+          | ByServer ↦ λ o.
+              (o, refl)
+          | ByShutter ↦ λ o. let z : false ≡ true = o in cc
+        ];
     rights = λ a. elim a as (λ a. role a (only_shutter v) ≡ true → same a ByShutter ≡ true) [ ByOwner ↦ λ o. let z : false ≡ true = o in cc | ByServer ↦ λ o. let z : false ≡ true = o in cc | ByShutter ↦ λ o. refl ];
     left_terms = refl;
     right_terms = refl;
@@ -358,8 +392,10 @@ module _ {M S Q A : Type 0} (next : M → S → Q → S) (reply : M → S → Q 
             (λ o. let z : false ≡ true = spent_has_none a o in cc)
             (λ j x nid ne at_j o. let f = h.seats a j x at_j o in (f.0 ∙ sym (ap (λ c. cond c id (h.seat a)) (not_who a j x ne at_j o)), f.1, f.2));
         shut_by = keep_shut_by s.views (set (set s.views id b) other spent_view) w.shut
-            (join_rows (λ _ o. OwnerFrom s.views o) s.views id other b spent_view (p.owner_from s.views id other at there) (λ o. let z : false ≡ true = spent_has_none ByOwner o in cc) (λ j x nid ne at_j o. (j, x, at_j, o, λ e. e, λ e. e)))
-            (join_rows (λ _ o. ShutterFrom s.views o) s.views id other b spent_view (p.shutter_from s.views id other at there) (λ o. let z : false ≡ true = spent_has_none ByShutter o in cc) (λ j x nid ne at_j o. (j, x, at_j, o, λ e. e)))
+            (join_rows (λ _ o. OwnerFrom s.views o) s.views id other b spent_view (p.owner_from s.views id other at there)
+            (λ o. let z : false ≡ true = spent_has_none ByOwner o in cc) (λ j x nid ne at_j o. (j, x, at_j, o, λ e. e, λ e. e)))
+            (join_rows (λ _ o. ShutterFrom s.views o) s.views id other b spent_view (p.shutter_from s.views id other at there)
+            (λ o. let z : false ≡ true = spent_has_none ByShutter o in cc) (λ j x nid ne at_j o. (j, x, at_j, o, λ e. e)))
             h.shut_by;
       }
 
@@ -393,11 +429,15 @@ module _ {M S Q A : Type 0} (next : M → S → Q → S) (reply : M → S → Q 
     shutter_from = λ views id other at there o. (other, u, there, is, λ e. e);
   }
 
-  pub joins_server_one : (s : State (Cell M S Q A) (View M S Q A)) (w : WorldState M S Q A) → Shows next reply s w → (id : ℕ) (v : View M S Q A) (other : ℕ) (u : View M S Q A) → get_elem? s.views id ≡ some v → get_elem? s.views other ≡ some u → other ≢ id
+  pub joins_server_one : (s : State (Cell M S Q A) (View M S Q A)) (w : WorldState M S Q A) → Shows next reply s w
+      → (id : ℕ) (v : View M S Q A) (other : ℕ) (u : View M S Q A) → get_elem? s.views id ≡ some v → get_elem? s.views other ≡ some u
+      → other ≢ id
       → v.owns ≡ true → u.serves ≡ true → (u.owns ≡ false) × (u.shuts ≡ false) → Shows next reply record { words = s.words; homes = s.homes; views = slice_set (slice_set s.views id (with_server v u)) other spent_view } w
   joins_server_one s w h id v other u at there apart owns is alone = join_one s w h ByServer id v other u (with_server v u) (server_whole v u owns is alone) at there apart
 
-  pub joins_shutter_one : (s : State (Cell M S Q A) (View M S Q A)) (w : WorldState M S Q A) → Shows next reply s w → (id : ℕ) (v : View M S Q A) (other : ℕ) (u : View M S Q A) → get_elem? s.views id ≡ some v → get_elem? s.views other ≡ some u → other ≢ id
+  pub joins_shutter_one : (s : State (Cell M S Q A) (View M S Q A)) (w : WorldState M S Q A) → Shows next reply s w
+      → (id : ℕ) (v : View M S Q A) (other : ℕ) (u : View M S Q A) → get_elem? s.views id ≡ some v → get_elem? s.views other ≡ some u
+      → other ≢ id
       → v.owns ≡ true → u.shuts ≡ true → (u.owns ≡ false) × (u.serves ≡ false) → Shows next reply record { words = s.words; homes = s.homes; views = slice_set (slice_set s.views id (with_shutter v u)) other spent_view } w
   joins_shutter_one s w h id v other u at there apart owns is alone = join_one s w h ByShutter id v other u (with_shutter v u) (shutter_whole v u owns is alone) at there apart
 
@@ -408,7 +448,11 @@ module _ {M S Q A : Type 0} (next : M → S → Q → S) (reply : M → S → Q 
     is = record { told = refl; able = All-nil (λ (x : Entry M S Q A). may_make x.who x.event ≡ true) };
     shows = opens_one next reply k roomy;
     seen = λ a j v e o. let f = first_only next reply j v (first_view k) e in
-        subst (λ (u : View M S Q A). GoesOn a (log_of a u) []) f.1 (elim a as (λ a. GoesOn a (log_of a (first_view k)) []) [ ByOwner ↦ goes_itself ByOwner [] | ByServer ↦ goes_itself ByServer [] | ByShutter ↦ goes_itself ByShutter [] ]);
+        subst (λ (u : View M S Q A). GoesOn a (log_of a u) []) f.1
+        (elim a as
+        (λ a. GoesOn a
+        (log_of a
+        (first_view k)) []) [ ByOwner ↦ goes_itself ByOwner [] | ByServer ↦ goes_itself ByServer [] | ByShutter ↦ goes_itself ByShutter [] ]);
   }
 
   -- the load at which the owner takes all slots
@@ -425,7 +469,8 @@ module _ {M S Q A : Type 0} (next : M → S → Q → S) (reply : M → S → Q 
           log = all.log;
           is = all.is;
           shows = new.1;
-          seen = λ a. each_set (λ j u. role a u ≡ true → GoesOn a (log_of a u) all.log) s.views id v' (λ o. subst (λ l. GoesOn a l all.log) (logs a) (all.seen a id v at (sym (roles a) ∙ o))) (λ j u _ there o. all.seen a j u there o);
+          seen = λ a. each_set (λ j u. role a u ≡ true → GoesOn a (log_of a u) all.log) s.views id v'
+              (λ o. subst (λ l. GoesOn a l all.log) (logs a) (all.seen a id v at (sym (roles a) ∙ o))) (λ j u _ there o. all.seen a j u there o);
         },
         ap (λ (l : List (ℕ × Cell M S Q A)). (v', l)) (taken_carried c 0 ∙ ap (plain 0) (omega arith) ∙ plain_vacant c 0 c (omega arith)),
       )
@@ -463,8 +508,10 @@ module _ {M S Q A : Type 0} (next : M → S → Q → S) (reply : M → S → Q 
             (λ j x nid ne at_j o. all.seen a j x at_j o);
       }
 
-  pub joins_server : (id : ℕ) (v : View M S Q A) (other : ℕ) (u : View M S Q A) → v.owns ≡ true → u.serves ≡ true → (u.owns ≡ false) × (u.shuts ≡ false) → Joins (HasLog next reply k) id v other u (with_server v u) spent_view
+  pub joins_server : (id : ℕ) (v : View M S Q A) (other : ℕ) (u : View M S Q A) → v.owns ≡ true → u.serves ≡ true
+      → (u.owns ≡ false) × (u.shuts ≡ false) → Joins (HasLog next reply k) id v other u (with_server v u) spent_view
   joins_server id v other u owns is alone = join_in ByServer id v other u (with_server v u) (server_whole next reply v u owns is alone)
 
-  pub joins_shutter : (id : ℕ) (v : View M S Q A) (other : ℕ) (u : View M S Q A) → v.owns ≡ true → u.shuts ≡ true → (u.owns ≡ false) × (u.serves ≡ false) → Joins (HasLog next reply k) id v other u (with_shutter v u) spent_view
+  pub joins_shutter : (id : ℕ) (v : View M S Q A) (other : ℕ) (u : View M S Q A) → v.owns ≡ true → u.shuts ≡ true
+      → (u.owns ≡ false) × (u.serves ≡ false) → Joins (HasLog next reply k) id v other u (with_shutter v u) spent_view
   joins_shutter id v other u owns is alone = join_in ByShutter id v other u (with_shutter v u) (shutter_whole next reply v u owns is alone)

@@ -21,7 +21,8 @@ module _ {M S Q A : Type 0} where
   first_held : (held : List (ℕ × Cell M S Q A)) (c sent got : ℕ) → held ≡ vacant c sent ((got + c) - sent) → sent < got + c → held ≡ (sent % c, Vacant) ∷ vacant c (suc sent) ((got + c) - suc sent)
   first_held held c sent got is room = is ∙ vacant-first M S Q A c sent ((got + c) - sent) ((got + c) - suc sent) (omega arith)
 
-  pub owner_can_send : (z : TableId) (v : View M S Q A) (held : List (ℕ × Cell M S Q A)) (sent got : ℕ) → OwnerOk z v held sent got → v.owner.left ≡ false → sent ≢ 4611686018427387903 → (sent - got) ≢ z.slots → CanSend z (v, held) sent (sent % z.slots)
+  pub owner_can_send : (z : TableId) (v : View M S Q A) (held : List (ℕ × Cell M S Q A)) (sent got : ℕ) → OwnerOk z v held sent got
+      → v.owner.left ≡ false → sent ≢ 4611686018427387903 → (sent - got) ≢ z.slots → CanSend z (v, held) sent (sent % z.slots)
   owner_can_send z v held sent got ok stays spent full =
       let room = has_room z.slots sent got ok.room ok.gotten full in
       let g = ok.got_is in let l = ok.gotten in let s = ok.spent in

@@ -1,5 +1,6 @@
 -- The step that sends a request.
-use Rattle.std.proofs.Common.{◌≡◌, ◌≢◌, ℕ, ◌+◌, ◌-◌, ◌*◌, ◌%◌, ◌<◌, ◌≤◌, ◌==◌, inl, inr, cond, Bool, true, false, List, [], ◌∷◌, ◌++◌, length, set, refl, sym, ap, ◌∙◌, subst, arith, slice_index, length-append, eq-eqb, ne_eqb}
+use Rattle.std.proofs.Common.{◌≡◌, ◌≢◌, ℕ, ◌+◌, ◌-◌, ◌*◌, ◌%◌, ◌<◌, ◌≤◌, ◌==◌, inl, inr, cond, Bool, true, false}
+use Rattle.std.proofs.Common.{List, [], ◌∷◌, ◌++◌, length, set, refl, sym, ap, ◌∙◌, subst, arith, slice_index, length-append, eq-eqb, ne_eqb}
 use Rattle.std.proofs.lemmas.List.{length-set, get_or-set_same, get_or-set_other, take-append-le}
 use Rattle.std.proofs.lemmas.Option.{slice_get_within}
 use mathlib.Core.Option.{Option, some, none}
@@ -57,7 +58,8 @@ module _ {M S Q A : Type 0} (next : M → S → Q → S) (reply : M → S → Q 
         let is : m ≡ length v.owner.sent = one_turn m (length v.owner.sent) (length s.homes) (omega arith) (omega arith) e in
         omega arith
 
-    pub sent_unshut : (log : List (Entry M S Q A)) → w.shut ≡ false → (x : ℕ) → x ≡ 2 * length v.owner.sent + 2 → Shows next reply (stepped s 0 x id ((length v.owner.sent % length s.homes, Asked q) ∷ tail) (sent_view v q log) gives) (sending w q)
+    pub sent_unshut : (log : List (Entry M S Q A)) → w.shut ≡ false → (x : ℕ) → x ≡ 2 * length v.owner.sent + 2
+        → Shows next reply (stepped s 0 x id ((length v.owner.sent % length s.homes, Asked q) ∷ tail) (sent_view v q log) gives) (sending w q)
     sent_unshut log unshut x is =
         let n : length (w.accepted ++ q ∷ []) ≡ length w.accepted + 1 = length-append w.accepted (q ∷ []) in
         let b = h.lawful.begun in let t = h.lawful.sent in let g = h.lawful.gotten in
@@ -87,7 +89,8 @@ module _ {M S Q A : Type 0} (next : M → S → Q → S) (reply : M → S → Q 
           in_hand = λ m low high. rw homes (set_else s.homes slot (m % length s.homes) (some (Asked q)) (other_slot m (omega arith) (omega arith)) ∙ h.in_hand m low high);
           seat = h.seat;
           filled = keep_filled s.views h.seat id v (sent_view v q log) h.filled at (λ a. elim a as (λ a. role a (sent_view v q log) ≡ role a v) [ ByOwner ↦ refl | ByServer ↦ refl | ByShutter ↦ refl ]);
-          seats = keep_seats s.views h.seat s.homes hs w (sending w q) ByOwner id v (sent_view v q log) h.seats at owns (λ a r. elim a as (λ a. role a (sent_view v q log) ≡ role a v) [ ByOwner ↦ refl | ByServer ↦ refl | ByShutter ↦ refl ] r) refl refl refl
+          seats = keep_seats s.views h.seat s.homes hs w (sending w q) ByOwner id v (sent_view v q log) h.seats at owns
+              (λ a r. elim a as (λ a. role a (sent_view v q log) ≡ role a v) [ ByOwner ↦ refl | ByServer ↦ refl | ByShutter ↦ refl ] r) refl refl refl
               (λ a. elim a as (λ a. Fits a s.homes w v → Fits a hs (sending w q) (sent_view v q log)) [
                 | ByOwner ↦ λ f. record {
                   sent = ap (λ l. l ++ q ∷ []) f.sent;
@@ -96,7 +99,10 @@ module _ {M S Q A : Type 0} (next : M → S → Q → S) (reply : M → S → Q 
                   closed = f.closed;
                   left = f.left;
                   free = λ r i low high.
-                      rw homes (set_else s.homes slot (i % length s.homes) (some (Asked q)) (λ e. let c = count in let g = fits.got in let y : length v.owner.sent ≡ i = one_turn (length v.owner.sent) i (length s.homes) (omega (arith, n)) (omega (arith, n)) (sym e) in omega (arith, n))
+                      rw homes
+                      (set_else s.homes slot (i % length s.homes) (some (Asked q))
+                      (λ e. let c = count in let g = fits.got in let y : length v.owner.sent ≡ i = one_turn (length v.owner.sent) i (length s.homes)
+                      (omega (arith, n)) (omega (arith, n)) (sym e) in omega (arith, n))
                       ∙ f.free r i (omega (arith, n)) high);
                   fresh = λ r. let z : true ≡ false = sym ready ∙ r in cc;
                 }
@@ -122,7 +128,8 @@ module _ {M S Q A : Type 0} (next : M → S → Q → S) (reply : M → S → Q 
         }
 
     -- the owner hadn't left, so its shutter has shut
-    pub sent_shut : (log : List (Entry M S Q A)) → w.shut ≡ true → v.owner.left ≡ false → Shows next reply (stepped s 0 (slice_index s.words 0) id ((length v.owner.sent % length s.homes, Asked q) ∷ tail) (unsent_view v log) keeps) w
+    pub sent_shut : (log : List (Entry M S Q A)) → w.shut ≡ true → v.owner.left ≡ false
+        → Shows next reply (stepped s 0 (slice_index s.words 0) id ((length v.owner.sent % length s.homes, Asked q) ∷ tail) (unsent_view v log) keeps) w
     sent_shut log is stayed =
         stays next reply s w h 0 (slice_index s.words 0) id ((length v.owner.sent % length s.homes, Asked q) ∷ tail) ByOwner v (unsent_view v log) refl at owns
         (λ a. elim a as (λ a. role a (unsent_view v log) ≡ role a v) [ ByOwner ↦ refl | ByServer ↦ refl | ByShutter ↦ refl ]) refl
@@ -160,7 +167,16 @@ module _ {M S Q A : Type 0} (next : M → S → Q → S) (reply : M → S → Q 
             let kept = logged next reply k s held _ _ id v (sent_view v q log) ByOwner (Send q) (Accepted (length v.owner.sent)) (sending next reply w q) at owns
             (λ a. elim a as (λ a. role a (sent_view v q log) ≡ role a v) [ ByOwner ↦ refl | ByServer ↦ refl | ByShutter ↦ refl ])
             (elim [ ByOwner ↦ refl | ByServer ↦ refl | ByShutter ↦ refl ]) refl (sym d.0) told new in
-            rw (eq-eqb g (2 * n) gate) (sent_view v q log, gives, tt, rw (is, ← len) kept, ((refl, makes next reply k s held c id v (sent_view v q log) ByOwner (Send q) (Accepted (length v.owner.sent)) len at owns told refl), λ f. let z : true ≡ false = sym (fit.closed f) ∙ e in cc))
+            rw (eq-eqb g (2 * n) gate) (
+              sent_view v q log,
+              gives,
+              tt,
+              rw (is, ← len) kept,
+              (
+                (refl, makes next reply k s held c id v (sent_view v q log) ByOwner (Send q) (Accepted (length v.owner.sent)) len at owns told refl),
+                λ f. let z : true ≡ false = sym (fit.closed f) ∙ e in cc,
+              ),
+            )
         | true ↦ λ e.
             let gate : g ≡ 2 * n + 1 = h.gate ∙ rw e (omega arith) in
             let ne : g ≢ 2 * n = λ f. omega arith in
@@ -177,10 +193,12 @@ module _ {M S Q A : Type 0} (next : M → S → Q → S) (reply : M → S → Q 
   pub can_send : (z z' : TableId) (id n slot : ℕ) (m : Me (Cell M S Q A) (View M S Q A)) (q : Q) → CanSend z m n slot → z ≡ z'
       → Allows (HasLog next reply k) z'.slots id (m.0, (slot, Asked q) ∷ rest m.1) 0 (λ g. either (g == 2 * n) (2 * n + 2) g) (sent next reply (step z'.slots 0 (2 * n) (2 * n + 2) none) (m.0, (slot, Asked q) ∷ rest m.1))
   can_send z z' id n slot m q can same_table =
-      let P : TableId → Type 0 = λ y. Allows (HasLog next reply k) y.slots id (m.0, (slot, Asked q) ∷ rest m.1) 0 (λ g. either (g == 2 * n) (2 * n + 2) g) (sent next reply (step y.slots 0 (2 * n) (2 * n + 2) none) (m.0, (slot, Asked q) ∷ rest m.1)) in
+      let P : TableId → Type 0 = λ y. Allows (HasLog next reply k) y.slots id (m.0, (slot, Asked q) ∷ rest m.1) 0
+      (λ g. either (g == 2 * n) (2 * n + 2) g) (sent next reply (step y.slots 0 (2 * n) (2 * n + 2) none) (m.0, (slot, Asked q) ∷ rest m.1)) in
       subst P same_table (rw can.slot_is (sends z.slots id n m.0 q (rest m.1) can.owns can.stays can.ready can.count (λ e. let s = can.spent in absurd (omega arith)) can.gotten can.room))
 
   -- a send that failed
-  pub not_sent : (b : Bool) (slots k : ℕ) (q : Q) (xs : List (ℕ × Cell M S Q A)) (m m' : Me (Cell M S Q A) (View M S Q A)) → b ≡ false → is_sent next reply b slots ((k, Asked q) ∷ xs) m m' → m' ≡ (unsent_view m.0 m'.0.owner.log, m.1)
+  pub not_sent : (b : Bool) (slots k : ℕ) (q : Q) (xs : List (ℕ × Cell M S Q A)) (m m' : Me (Cell M S Q A) (View M S Q A)) → b ≡ false
+      → is_sent next reply b slots ((k, Asked q) ∷ xs) m m' → m' ≡ (unsent_view m.0 m'.0.owner.log, m.1)
   not_sent true slots k q xs m m' e h = let z : true ≡ false = e in cc
   not_sent false slots k q xs m m' e h = h.0

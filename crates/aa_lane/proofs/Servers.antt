@@ -49,7 +49,8 @@ module _ {M S Q A : Type 0} (next : M → S → Q → S) (reply : M → S → Q 
         held_is = refl;
       }
 
-  pub server_finished : (z : TableId) (v : View M S Q A) (held : List (ℕ × Cell M S Q A)) (done : ℕ) (state : S) (q : Q) (m : M) (start : S) (log : List (Entry M S Q A)) → v.terms ≡ Some (m, start) → BusyOk next reply z v held done state q
+  pub server_finished : (z : TableId) (v : View M S Q A) (held : List (ℕ × Cell M S Q A)) (done : ℕ) (state : S) (q : Q) (m : M) (start : S)
+      (log : List (Entry M S Q A)) → v.terms ≡ Some (m, start) → BusyOk next reply z v held done state q
       → ServerOk next reply z (finished_view v log) [] (done + 1) (next m state q)
   server_finished z v held done state q m start log terms ok =
       let s = ok.small in

@@ -18,7 +18,8 @@ module _ {M S Q A : Type 0} where
   abbrev world_of : M → S → ℕ → List Q → List A → ℕ → ℕ → S → Bool → WorldState M S Q A
   world_of m t c r a k g x b = record { machine = m; start = t; capacity = c; accepted = r; answers = a; taken = k; collected = g; state = x; shut = b }
 
-  same_world : (m m' : M) (t t' : S) (c c' : ℕ) (r r' : List Q) (a a' : List A) (k k' g g' : ℕ) (x x' : S) (b b' : Bool) → m ≡ m' → t ≡ t' → c ≡ c' → r ≡ r' → a ≡ a' → k ≡ k' → g ≡ g' → x ≡ x' → b ≡ b'
+  same_world : (m m' : M) (t t' : S) (c c' : ℕ) (r r' : List Q) (a a' : List A) (k k' g g' : ℕ) (x x' : S) (b b' : Bool) → m ≡ m' → t ≡ t'
+      → c ≡ c' → r ≡ r' → a ≡ a' → k ≡ k' → g ≡ g' → x ≡ x' → b ≡ b'
       → world_of m t c r a k g x b ≡ world_of m' t' c' r' a' k' g' x' b'
   same_world m m' t t' c c' r r' a a' k k' g g' x x' b b' em et ec er ea ek eg ex eb = rw (em, et, ec, er, ea, ek, eg, ex, eb) refl
 

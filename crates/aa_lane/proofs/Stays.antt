@@ -21,7 +21,8 @@ use Rattle.aa_lane.proofs.Logs.{same_eq, leaves_snoc, is_log_snoc, goes_itself, 
 
 module _ {M S Q A : Type 0} where
   -- no role is lost
-  pub keep_filled : (views : List (View M S Q A)) (seat : Who → ℕ) (id : ℕ) (v v' : View M S Q A) → Filled views seat → get_elem? views id ≡ some v → ((a : Who) → role a v' ≡ role a v) → Filled (slice_set views id v') seat
+  pub keep_filled : (views : List (View M S Q A)) (seat : Who → ℕ) (id : ℕ) (v v' : View M S Q A) → Filled views seat → get_elem? views id ≡ some v
+      → ((a : Who) → role a v' ≡ role a v) → Filled (slice_set views id v') seat
   keep_filled views seat id v v' old at roles a =
       let f = old a in
       elim (split_eq (seat a == id)) [

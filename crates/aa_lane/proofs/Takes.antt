@@ -1,5 +1,7 @@
 -- The step that takes a request, or finds none.
-use Rattle.std.proofs.Common.{◌≡◌, ◌≢◌, ℕ, ◌+◌, ◌*◌, ◌/◌, ◌%◌, ◌<◌, ◌≤◌, ◌==◌, inl, inr, cond, nat_lt, lt-ltb, le-ltb, ltb-true, ltb-false, length-take, Bool, true, false, List, [], ◌∷◌, ◌++◌, length, take, set, refl, sym, ap, ◌∙◌, subst, arith, slice_get, slice_set, slice_index, Some, eq-eqb, eqb-true, ne_eqb}
+use Rattle.std.proofs.Common.{◌≡◌, ◌≢◌, ℕ, ◌+◌, ◌*◌, ◌/◌, ◌%◌, ◌<◌, ◌≤◌, ◌==◌, inl, inr, cond, nat_lt, lt-ltb}
+use Rattle.std.proofs.Common.{le-ltb, ltb-true, ltb-false, length-take, Bool, true, false, List, [], ◌∷◌, ◌++◌, length, take, set, refl, sym, ap}
+use Rattle.std.proofs.Common.{◌∙◌, subst, arith, slice_get, slice_set, slice_index, Some, eq-eqb, eqb-true, ne_eqb}
 use Rattle.std.proofs.lemmas.List.{length-set, set-get_or, take_more}
 use Rattle.std.proofs.lemmas.Option.{slice_get_within, get_or_from_slice_get}
 use mathlib.Core.Option.{Option, some, none}
@@ -74,7 +76,18 @@ module _ {M S Q A : Type 0} (next : M → S → Q → S) (reply : M → S → Q 
         let homes : length hs ≡ length s.homes = length-set s.homes slot none in
         let words : slice_set s.words 0 x ≡ s.words = rw is (set-get_or s.words 0 0) in
         let owner : (u : View M S Q A) → OwnerFits s.homes w u.owner → OwnerFits hs (taking w) u.owner = λ u f.
-        record { sent = f.sent; got = f.got; found = f.found; closed = f.closed; left = f.left; free = λ r i low high. rw homes (set_else s.homes slot (i % length s.homes) none (λ e. let y : w.taken ≡ i = one_turn w.taken i (length s.homes) (omega arith) (omega arith) (ap (λ k. k % length s.homes) (sym at_taken) ∙ sym e) in omega arith) ∙ f.free r i low high); fresh = λ r. let z = (f.fresh r).0 in absurd (omega arith) } in (
+        record {
+          sent = f.sent;
+          got = f.got;
+          found = f.found;
+          closed = f.closed;
+          left = f.left;
+          free = λ r i low high. rw homes
+              (set_else s.homes slot (i % length s.homes) none
+              (λ e. let y : w.taken ≡ i = one_turn w.taken i (length s.homes) (omega arith) (omega arith)
+              (ap (λ k. k % length s.homes) (sym at_taken) ∙ sym e) in omega arith) ∙ f.free r i low high);
+          fresh = λ r. let z = (f.fresh r).0 in absurd (omega arith);
+        } in (
           home,
           record {
             lawful = taking_lawful next reply w h.lawful (omega arith) lt;
@@ -84,7 +97,10 @@ module _ {M S Q A : Type 0} (next : M → S → Q → S) (reply : M → S → Q 
             gate = rw words h.gate;
             done = rw words h.done;
             waiting = λ m r low e'. let in_sent : m < length w.accepted = slice_get_within w.accepted m r e' in
-                rw homes (set_else s.homes slot (m % length s.homes) none (λ f. let z : w.taken ≡ m = one_turn w.taken m (length s.homes) (omega arith) (omega arith) (ap (λ i. i % length s.homes) (sym at_taken) ∙ sym f) in omega arith)
+                rw homes
+                (set_else s.homes slot (m % length s.homes) none
+                (λ f. let z : w.taken ≡ m = one_turn w.taken m (length s.homes) (omega arith) (omega arith)
+                (ap (λ i. i % length s.homes) (sym at_taken) ∙ sym f) in omega arith)
                 ∙ h.waiting m r (omega arith) e');
             answered = λ m r a low e' f'. let in_answers : m < length w.answers = slice_get_within w.answers m a f' in
                 rw homes (set_else s.homes slot (m % length s.homes) none (λ f. let z : m ≡ w.taken = one_turn m w.taken (length s.homes) (omega arith) (omega arith) (f ∙ ap (λ i. i % length s.homes) at_taken) in omega arith)
@@ -127,7 +143,8 @@ module _ {M S Q A : Type 0} (next : M → S → Q → S) (reply : M → S → Q 
       ] h.gate in
       let free' = free next reply s w h id v at serves idle in
       let d = (h.seats ByServer id v at serves).2.done in
-      let P : Bool → Type 0 = λ b. (v' : View M S Q A) × (a : Act (Cell M S Q A)) × Valid s.homes [] a × HasLog next reply k (stepped s 0 g id [] v' a) × (is_taken next reply b c (g / 2) (g % 2 == 1) (v, []) (v', carried_after [] a) × StillSettled v g) in
+      let P : Bool → Type 0 = λ b. (v' : View M S Q A) × (a : Act (Cell M S Q A)) × Valid s.homes [] a × HasLog next reply k
+      (stepped s 0 g id [] v' a) × (is_taken next reply b c (g / 2) (g % 2 == 1) (v, []) (v', carried_after [] a) × StillSettled v g) in
       let still : StillSettled v g = λ e. let t = (h.seats ByServer id v at serves).2.settled e in let a = t.1 in let o : (g % 2 == 1) ≡ true = odd ∙ t.0 in (omega arith, eqb-true _ _ o) in
       let by : (b : Bool) → nat_lt v.server.done (g / 2) ≡ b → P b = elim [
         | true ↦ λ e.
@@ -140,8 +157,21 @@ module _ {M S Q A : Type 0} (next : M → S → Q → S) (reply : M → S → Q 
             let number : v.server.done ≡ w.taken = omega arith in
             let kept = logged next reply k s held _ _ id v (taken_view v (g / 2) q.0 log) ByServer Take (Taken v.server.done) (taking next reply w) at serves
             (λ a. elim a as (λ a. role a (taken_view v (g / 2) q.0 log) ≡ role a v) [ ByOwner ↦ refl | ByServer ↦ refl | ByShutter ↦ refl ])
-            (elim [ ByOwner ↦ refl | ByServer ↦ refl | ByShutter ↦ refl ]) refl (sym does.0) (ap Taken number ∙ sym does.1) r.1 in
-            (taken_view v (g / 2) q.0 log, takes (v.server.done % length s.homes) (Asked q.0), r.0, kept, ((q.0, rw len refl, makes next reply k s held c id v (taken_view v (g / 2) q.0 log) ByServer Take (Taken v.server.done) len at serves (ap Taken number ∙ sym does.1) refl), still))
+            (elim [ ByOwner ↦ refl | ByServer ↦ refl | ByShutter ↦ refl ]) refl (sym does.0) (ap Taken number ∙ sym does.1) r.1 in (
+              taken_view v (g / 2) q.0 log,
+              takes (v.server.done % length s.homes) (Asked q.0),
+              r.0,
+              kept,
+              (
+                (
+                  q.0,
+                  rw len refl,
+                  makes next reply k s held c id v (taken_view v (g / 2) q.0 log) ByServer Take (Taken v.server.done) len at serves
+                      (ap Taken number ∙ sym does.1) refl,
+                ),
+                still,
+              ),
+            )
         | false ↦ λ e.
             let le : g / 2 ≤ v.server.done = ltb-false _ _ e in
             let z : length w.accepted ≤ w.taken = omega arith in
@@ -150,7 +180,19 @@ module _ {M S Q A : Type 0} (next : M → S → Q → S) (reply : M → S → Q 
             let new = take_none next reply s w h id v at serves idle log g (g / 2) (g % 2 == 1) refl count le (λ o. sym odd ∙ o) in
             let kept = logged next reply k s held _ _ id v (idle_view v (g / 2) (g % 2 == 1) log) ByServer Take (cond (g % 2 == 1) Settled Idle) w at serves
             (λ a. elim a as (λ a. role a (idle_view v (g / 2) (g % 2 == 1) log) ≡ role a v) [ ByOwner ↦ refl | ByServer ↦ refl | ByShutter ↦ refl ])
-            (elim [ ByOwner ↦ refl | ByServer ↦ refl | ByShutter ↦ refl ]) refl (sym does.0) (rw odd (sym does.1)) new in
-            (idle_view v (g / 2) (g % 2 == 1) log, keeps, tt, kept, ((refl, makes next reply k s held c id v (idle_view v (g / 2) (g % 2 == 1) log) ByServer Take (cond (g % 2 == 1) Settled Idle) len at serves (rw odd (sym does.1)) refl), still))
+            (elim [ ByOwner ↦ refl | ByServer ↦ refl | ByShutter ↦ refl ]) refl (sym does.0) (rw odd (sym does.1)) new in (
+              idle_view v (g / 2) (g % 2 == 1) log,
+              keeps,
+              tt,
+              kept,
+              (
+                (
+                  refl,
+                  makes next reply k s held c id v (idle_view v (g / 2) (g % 2 == 1) log) ByServer Take (cond (g % 2 == 1) Settled Idle) len at serves
+                      (rw odd (sym does.1)) refl,
+                ),
+                still,
+              ),
+            )
       ] in
       by (nat_lt v.server.done (g / 2)) refl

@@ -60,7 +60,9 @@ module _ {M S Q A : Type 0} (next : M → S → Q → S) (reply : M → S → Q 
   option_same None = refl
   option_same (Some w) = refl
 
-  option_twice : (o : Option World) (e : Event M S Q A) (es : List (Event M S Q A)) → option_map (λ (w : World). after_all next reply w es) (option_map (λ (w : World). after next reply w e) o) ≡ option_map (λ (w : World). after_all next reply w (e ∷ es)) o
+  option_twice : (o : Option World) (e : Event M S Q A) (es : List (Event M S Q A))
+      → option_map (λ (w : World). after_all next reply w es) (option_map (λ (w : World). after next reply w e) o) ≡ option_map
+      (λ (w : World). after_all next reply w (e ∷ es)) o
   option_twice None e es = refl
   option_twice (Some w) e es = refl
 

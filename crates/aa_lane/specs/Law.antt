@@ -1,12 +1,14 @@
 -- Each step at a lane is an event of the world that the table shows, or leaves that world as it is.
-use Rattle.std.specs.Prelude.{◌≡◌, ◌≢◌, ℕ, ◌+◌, ◌*◌, ◌/◌, ◌%◌, ◌<◌, ◌≤◌, ◌==◌, true, false, cond, List, [], ◌∷◌, length, take, slice_index, slice_get, slice_set, ◌++◌, replicate, Some, is_some, bit_or}
+use Rattle.std.specs.Prelude.{◌≡◌, ◌≢◌, ℕ, ◌+◌, ◌*◌, ◌/◌, ◌%◌, ◌<◌, ◌≤◌, ◌==◌, true, false, cond, List, []}
+use Rattle.std.specs.Prelude.{◌∷◌, length, take, slice_index, slice_get, slice_set, ◌++◌, replicate, Some, is_some, bit_or}
 use mathlib.Core.Option.{some}
 use lib.ListN.{get_elem?}
 use Rattle.atomic_table.specs.Table.{State, keeps, takes, gives, stepped, Valid, opening as table_opening}
 use Rattle.aa_lane.specs.WorldState.{WorldState, most_accepted, opening, after, answer_to}
 use Rattle.aa_machine.specs.Run.{state_after}
 use Rattle.aa_lane.specs.Shows.{Shows, HasLog, first_view, spent_view}
-use Rattle.aa_lane.specs.Plays.{ready_view, take_slots, without_server, only_server, with_server, without_shutter, only_shutter, with_shutter, sent_view, unsent_view, taken_view, idle_view, finished_view, collected_view, uncollected_view, shut_view, left_view}
+use Rattle.aa_lane.specs.Plays.{ready_view, take_slots, without_server, only_server, with_server, without_shutter, only_shutter, with_shutter, sent_view}
+use Rattle.aa_lane.specs.Plays.{unsent_view, taken_view, idle_view, finished_view, collected_view, uncollected_view, shut_view, left_view}
 use Rattle.aa_lane.specs.declared.event.SendFault.TheVariants.{Closed}
 use Rattle.aa_lane.specs.declared.event.Event.{Event}
 use Rattle.aa_lane.specs.declared.event.Event.TheVariants.{Send, Take, Finish, Collect, Shut}
@@ -44,27 +46,34 @@ module _ {M S Q A : Type 0} (next : M → S → Q → S) (reply : M → S → Q 
     pub splits_shutter : (s : State (Cell M S Q A) (View M S Q A)) (w : WorldState M S Q A) (id : ℕ) (v : View M S Q A) → Stands s w id v → v.shuts ≡ true
         → Shows next reply record { words = s.words; homes = s.homes; views = slice_set s.views id (without_shutter v) ++ only_shutter v ∷ [] } w
     -- the owner's try to send, with the request in the slot: the gate was what it thinks, or the lane was shut
-    pub sends : (s : State (Cell M S Q A) (View M S Q A)) (w : WorldState M S Q A) (id : ℕ) (v : View M S Q A) (log : List (Entry M S Q A)) (q : Q) (held : List (ℕ × Cell M S Q A)) → Stands s w id v → v.owns ≡ true → v.owner.ready ≡ true
+    pub sends : (s : State (Cell M S Q A) (View M S Q A)) (w : WorldState M S Q A) (id : ℕ) (v : View M S Q A) (log : List (Entry M S Q A)) (q : Q)
+        (held : List (ℕ × Cell M S Q A)) → Stands s w id v → v.owns ≡ true → v.owner.ready ≡ true
         → length v.owner.sent ≢ most_accepted → v.owner.got ≤ length v.owner.sent → length v.owner.sent < v.owner.got + length s.homes → slice_index s.words 0 ≡ 2 * length v.owner.sent
         → IsEvent (stepped s 0 (2 * length v.owner.sent + 2) id ((length v.owner.sent % length s.homes, Asked q) ∷ held) (sent_view v q log) gives) w (Send q) (Accepted (length v.owner.sent))
-    pub closed : (s : State (Cell M S Q A) (View M S Q A)) (w : WorldState M S Q A) (id : ℕ) (v : View M S Q A) (log : List (Entry M S Q A)) (q : Q) (held : List (ℕ × Cell M S Q A)) → Stands s w id v → v.owns ≡ true → v.owner.left ≡ false → v.owner.ready ≡ true
+    pub closed : (s : State (Cell M S Q A) (View M S Q A)) (w : WorldState M S Q A) (id : ℕ) (v : View M S Q A) (log : List (Entry M S Q A)) (q : Q)
+        (held : List (ℕ × Cell M S Q A)) → Stands s w id v → v.owns ≡ true → v.owner.left ≡ false → v.owner.ready ≡ true
         → length v.owner.sent ≢ most_accepted → v.owner.got ≤ length v.owner.sent → length v.owner.sent < v.owner.got + length s.homes → slice_index s.words 0 ≢ 2 * length v.owner.sent
         → IsEvent (stepped s 0 (slice_index s.words 0) id ((length v.owner.sent % length s.homes, Asked q) ∷ held) (unsent_view v log) keeps) w (Send q) (Unsent Closed q)
     -- the server's load of the gate
-    pub takes_one : (s : State (Cell M S Q A) (View M S Q A)) (w : WorldState M S Q A) (id : ℕ) (v : View M S Q A) (log : List (Entry M S Q A)) → Stands s w id v → v.serves ≡ true → length v.server.taken ≡ v.server.done → v.server.done < slice_index s.words 0 / 2
+    pub takes_one : (s : State (Cell M S Q A) (View M S Q A)) (w : WorldState M S Q A) (id : ℕ) (v : View M S Q A) (log : List (Entry M S Q A))
+        → Stands s w id v → v.serves ≡ true → length v.server.taken ≡ v.server.done → v.server.done < slice_index s.words 0 / 2
         → (q : Q) × (get_elem? s.homes (v.server.done % length s.homes) ≡ some (some (Asked q)))
         × IsEvent (stepped s 0 (slice_index s.words 0) id [] (taken_view v (slice_index s.words 0 / 2) q log) (takes (v.server.done % length s.homes) (Asked q))) w Take (Taken v.server.done)
-    pub takes_none : (s : State (Cell M S Q A) (View M S Q A)) (w : WorldState M S Q A) (id : ℕ) (v : View M S Q A) (log : List (Entry M S Q A)) → Stands s w id v → v.serves ≡ true → length v.server.taken ≡ v.server.done → slice_index s.words 0 / 2 ≤ v.server.done
+    pub takes_none : (s : State (Cell M S Q A) (View M S Q A)) (w : WorldState M S Q A) (id : ℕ) (v : View M S Q A) (log : List (Entry M S Q A))
+        → Stands s w id v → v.serves ≡ true → length v.server.taken ≡ v.server.done → slice_index s.words 0 / 2 ≤ v.server.done
         → IsEvent (stepped s 0 (slice_index s.words 0) id [] (idle_view v (slice_index s.words 0 / 2) (slice_index s.words 0 % 2 == 1) log) keeps) w Take (cond (slice_index s.words 0 % 2 == 1) Settled Idle)
     -- the server's store of the done word, with the answer in the slot
-    pub finishes : (s : State (Cell M S Q A) (View M S Q A)) (w : WorldState M S Q A) (id : ℕ) (v : View M S Q A) (log : List (Entry M S Q A)) (q : Q) (a : A) → Stands s w id v → v.serves ≡ true → length v.server.taken ≡ v.server.done + 1 → slice_get v.server.taken v.server.done ≡ Some q
+    pub finishes : (s : State (Cell M S Q A) (View M S Q A)) (w : WorldState M S Q A) (id : ℕ) (v : View M S Q A) (log : List (Entry M S Q A)) (q : Q)
+        (a : A) → Stands s w id v → v.serves ≡ true → length v.server.taken ≡ v.server.done + 1 → slice_get v.server.taken v.server.done ≡ Some q
         → ((m : M) (t : S) → v.terms ≡ Some (m, t) → a ≡ reply m (state_after (next m) (reply m) t (take v.server.done v.server.taken)) q)
         → IsEvent (stepped s 16 (v.server.done + 1) id ((v.server.done % length s.homes, Answered q a) ∷ []) (finished_view v log) gives) w Finish (Finished v.server.done)
     -- the owner's load of the done word
-    pub collects_one : (s : State (Cell M S Q A) (View M S Q A)) (w : WorldState M S Q A) (id : ℕ) (v : View M S Q A) (log : List (Entry M S Q A)) (held : List (ℕ × Cell M S Q A)) → Stands s w id v → v.owns ≡ true → v.owner.ready ≡ true → v.owner.got < slice_index s.words 16
+    pub collects_one : (s : State (Cell M S Q A) (View M S Q A)) (w : WorldState M S Q A) (id : ℕ) (v : View M S Q A) (log : List (Entry M S Q A))
+        (held : List (ℕ × Cell M S Q A)) → Stands s w id v → v.owns ≡ true → v.owner.ready ≡ true → v.owner.got < slice_index s.words 16
         → (q : Q) × (a : A) × (get_elem? s.homes (v.owner.got % length s.homes) ≡ some (some (Answered q a)))
         × IsEvent (stepped s 16 (slice_index s.words 16) id held (collected_view v (slice_index s.words 16) log) (takes (v.owner.got % length s.homes) (Answered q a))) w Collect (Given v.owner.got)
-    pub collects_none : (s : State (Cell M S Q A) (View M S Q A)) (w : WorldState M S Q A) (id : ℕ) (v : View M S Q A) (log : List (Entry M S Q A)) (held : List (ℕ × Cell M S Q A)) → Stands s w id v → v.owns ≡ true → v.owner.ready ≡ true → slice_index s.words 16 ≤ v.owner.got
+    pub collects_none : (s : State (Cell M S Q A) (View M S Q A)) (w : WorldState M S Q A) (id : ℕ) (v : View M S Q A) (log : List (Entry M S Q A))
+        (held : List (ℕ × Cell M S Q A)) → Stands s w id v → v.owns ≡ true → v.owner.ready ≡ true → slice_index s.words 16 ≤ v.owner.got
         → IsEvent (stepped s 16 (slice_index s.words 16) id held (uncollected_view v (slice_index s.words 16) log) keeps) w Collect Nothing
     -- the two ways to shut
     pub shuts : (s : State (Cell M S Q A) (View M S Q A)) (w : WorldState M S Q A) (id : ℕ) (v : View M S Q A) (log : List (Entry M S Q A)) (held : List (ℕ × Cell M S Q A)) → Stands s w id v → v.shuts ≡ true
@@ -72,9 +81,13 @@ module _ {M S Q A : Type 0} (next : M → S → Q → S) (reply : M → S → Q 
     pub exits : (s : State (Cell M S Q A) (View M S Q A)) (w : WorldState M S Q A) (id : ℕ) (v : View M S Q A) (log : List (Entry M S Q A)) (held : List (ℕ × Cell M S Q A)) → Stands s w id v → v.owns ≡ true
         → IsEvent (stepped s 0 (bit_or (slice_index s.words 0) 1) id held (left_view v log) keeps) w Shut (Count (length v.owner.sent))
     -- the two joins
-    pub joins_server : (s : State (Cell M S Q A) (View M S Q A)) (w : WorldState M S Q A) (id : ℕ) (v : View M S Q A) (other : ℕ) (u : View M S Q A) → Stands s w id v → get_elem? s.views other ≡ some u → other ≢ id → v.owns ≡ true → u.serves ≡ true → (u.owns ≡ false) × (u.shuts ≡ false)
+    pub joins_server : (s : State (Cell M S Q A) (View M S Q A)) (w : WorldState M S Q A) (id : ℕ) (v : View M S Q A) (other : ℕ) (u : View M S Q A)
+        → Stands s w id v → get_elem? s.views other ≡ some u → other ≢ id → v.owns ≡ true → u.serves ≡ true
+        → (u.owns ≡ false) × (u.shuts ≡ false)
         → Shows next reply record { words = s.words; homes = s.homes; views = slice_set (slice_set s.views id (with_server v u)) other spent_view } w
-    pub joins_shutter : (s : State (Cell M S Q A) (View M S Q A)) (w : WorldState M S Q A) (id : ℕ) (v : View M S Q A) (other : ℕ) (u : View M S Q A) → Stands s w id v → get_elem? s.views other ≡ some u → other ≢ id → v.owns ≡ true → u.shuts ≡ true → (u.owns ≡ false) × (u.serves ≡ false)
+    pub joins_shutter : (s : State (Cell M S Q A) (View M S Q A)) (w : WorldState M S Q A) (id : ℕ) (v : View M S Q A) (other : ℕ) (u : View M S Q A)
+        → Stands s w id v → get_elem? s.views other ≡ some u → other ≢ id → v.owns ≡ true → u.shuts ≡ true
+        → (u.owns ≡ false) × (u.serves ≡ false)
         → Shows next reply record { words = s.words; homes = s.homes; views = slice_set (slice_set s.views id (with_shutter v u)) other spent_view } w
 
   -- what the seats of a table have noted is so

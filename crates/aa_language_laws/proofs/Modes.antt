@@ -110,9 +110,11 @@ whole_front letters h =
 in_parts : (front : List ℕ) (c : ℕ) (cs back : List ℕ) → AreAccess front → AreExec (c ∷ cs) → AreAccess back → IsCut (front ++ ((c ∷ cs) ++ back)) (front ++ back) (c ∷ cs)
 in_parts front c cs back f p b =
     let other : is_access_letter c ≡ false = exec_no_access c (and_parts (is_exec_letter c) (list_all is_exec_letter cs) p).0 in
-    let t : front_of (front ++ ((c ∷ cs) ++ back)) ≡ front = taken_over is_access_letter front ((c ∷ cs) ++ back) f ∙ ap (λ (x : List ℕ). front ++ x) (taken_cons is_access_letter c (cs ++ back) false other) ∙ append-nil front in
+    let t : front_of (front ++ ((c ∷ cs) ++ back)) ≡ front = taken_over is_access_letter front ((c ∷ cs) ++ back) f
+    ∙ ap (λ (x : List ℕ). front ++ x) (taken_cons is_access_letter c (cs ++ back) false other) ∙ append-nil front in
     let l : behind is_access_letter (front ++ ((c ∷ cs) ++ back)) ≡ (c ∷ cs) ++ back = left_over is_access_letter front ((c ∷ cs) ++ back) f ∙ left_cons is_access_letter c (cs ++ back) false other in
-    let u : take_while is_exec_letter ((c ∷ cs) ++ back) ≡ c ∷ cs = taken_over is_exec_letter (c ∷ cs) back p ∙ ap (λ (x : List ℕ). (c ∷ cs) ++ x) (taken_none is_exec_letter is_access_letter access_no_exec back b) ∙ append-nil (c ∷ cs) in
+    let u : take_while is_exec_letter ((c ∷ cs) ++ back) ≡ c ∷ cs = taken_over is_exec_letter (c ∷ cs) back p
+    ∙ ap (λ (x : List ℕ). (c ∷ cs) ++ x) (taken_none is_exec_letter is_access_letter access_no_exec back b) ∙ append-nil (c ∷ cs) in
     let v : behind is_exec_letter ((c ∷ cs) ++ back) ≡ back = left_over is_exec_letter (c ∷ cs) back p ∙ left_none is_exec_letter is_access_letter access_no_exec back b in
     (ap (λ (x : List ℕ). x ++ back_of (front ++ ((c ∷ cs) ++ back))) t ∙ ap (λ (x : List ℕ). front ++ x) (ap (behind is_exec_letter) l ∙ v), ap (take_while is_exec_letter) l ∙ u)
 

@@ -26,7 +26,8 @@ unfolding Unclosed
 nothing_behind earlier [] between e = absurd cc
 nothing_behind earlier (l ∷ later) between e = absurd cc
 
-opened_by : (b : ℕ) (back : List ℕ) (v : Bool) → ((b == 91 || b == 93) && not (is_quoted back)) ≡ v → (is_in_brackets back ≡ true → OpenBracket back) → cond v (b == 91) (is_in_brackets back) ≡ true → OpenBracket (b ∷ back)
+opened_by : (b : ℕ) (back : List ℕ) (v : Bool) → ((b == 91 || b == 93) && not (is_quoted back)) ≡ v
+    → (is_in_brackets back ≡ true → OpenBracket back) → cond v (b == 91) (is_in_brackets back) ≡ true → OpenBracket (b ∷ back)
 unfolding Unclosed
 opened_by b back true t h e =
     let o = opens_there b (is_quoted back) t e in

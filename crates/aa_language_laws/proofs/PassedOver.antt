@@ -1,5 +1,6 @@
 -- What the lexer knows at a place in a rule that is passed over.
-use Rattle.std.proofs.Common.{◌≡◌, ℕ, zero, suc, ◌+◌, ◌≤◌, ◌==◌, ◌&&◌, ◌||◌, ◌⊎◌, Bool, true, false, not, cond, List, [], ◌∷◌, ◌++◌, take, drop, ◌-◌, refl, sym, ap, ◌∙◌, arith, inl, inr}
+use Rattle.std.proofs.Common.{◌≡◌, ℕ, zero, suc, ◌+◌, ◌≤◌, ◌==◌, ◌&&◌, ◌||◌, ◌⊎◌, Bool, true, false, not, cond, List, []}
+use Rattle.std.proofs.Common.{◌∷◌, ◌++◌, take, drop, ◌-◌, refl, sym, ap, ◌∙◌, arith, inl, inr}
 use Rattle.std.specs.List.{count_by, list_any}
 use Rattle.std.proofs.lemmas.Bool.{and_parts, or_parts, eqb-true}
 use Rattle.std.proofs.lemmas.Bool.Decides.{nat_tests}
@@ -464,11 +465,15 @@ bare back o round curly square = record {
   square = none_open 91 93 refl (λ n. refl) (λ n. refl) (λ n. refl) (left_of back) square;
 }
 
-rule_ends : (back : List ℕ) (b : ℕ) (bs : List ℕ) → Counted (is_outside (behind skip_start skip_next back).mode) (behind skip_start skip_next back).round (behind skip_start skip_next back).curly (behind skip_start skip_next back).square b → RuleEnds back (b ∷ bs)
+rule_ends : (back : List ℕ) (b : ℕ) (bs : List ℕ)
+    → Counted (is_outside (behind skip_start skip_next back).mode) (behind skip_start skip_next back).round (behind skip_start skip_next back).curly
+    (behind skip_start skip_next back).square b → RuleEnds back (b ∷ bs)
 rule_ends back b bs (inl e) = inl e
 rule_ends back b bs (inr (e, o, r, c, s)) = inr (e, bare back (sym (stage_tells back) ∙ o) (sym (round_is back) ∙ r) (sym (curly_is back) ∙ c) (sym (square_is back) ∙ s))
 
-rule_counted : (back : List ℕ) (b : ℕ) (bs : List ℕ) → RuleEnds back (b ∷ bs) → Counted (is_outside (behind skip_start skip_next back).mode) (behind skip_start skip_next back).round (behind skip_start skip_next back).curly (behind skip_start skip_next back).square b
+rule_counted : (back : List ℕ) (b : ℕ) (bs : List ℕ) → RuleEnds back (b ∷ bs)
+    → Counted (is_outside (behind skip_start skip_next back).mode) (behind skip_start skip_next back).round (behind skip_start skip_next back).curly
+    (behind skip_start skip_next back).square b
 rule_counted back b bs (inl e) = inl e
 rule_counted back b bs (inr (e, h)) =
     let k = outside_known back h.plain h.outside in

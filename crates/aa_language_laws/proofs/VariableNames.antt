@@ -1,5 +1,6 @@
 -- The same variables, wherever they are looked for.
-use Rattle.std.proofs.Common.{◌≡◌, ℕ, zero, suc, ◌+◌, ◌≤◌, ◌==◌, ◌&&◌, ◌↔◌, Bool, true, false, not, cond, List, [], ◌∷◌, ◌++◌, length, take, drop, refl, sym, ap, ◌∙◌, arith, Some, None, Option}
+use Rattle.std.proofs.Common.{◌≡◌, ℕ, zero, suc, ◌+◌, ◌≤◌, ◌==◌, ◌&&◌, ◌↔◌, Bool, true, false, not, cond, List, [], ◌∷◌}
+use Rattle.std.proofs.Common.{◌++◌, length, take, drop, refl, sym, ap, ◌∙◌, arith, Some, None, Option}
 use Rattle.std.specs.Prelude.{codes}
 use Rattle.std.specs.List.{list_all, prefix_len, take_while}
 use Rattle.std.specs.Str.{bytes_eq}
@@ -243,13 +244,15 @@ named_assigned (c ∷ cs) rest n a =
     let b = lexer_behind c (cs ++ (125 ∷ rest)) p.0 ∙ u.1 in
     let k : lexer.variable_len (c ∷ (cs ++ (125 ∷ rest))) ≡ length (c ∷ cs) =
     omega (arith, lexer_count c (cs ++ (125 ∷ rest)) p.0, length-prefix_len is_variable_byte (cs ++ (125 ∷ rest)), ap length u.0) in
-    ap (λ (v : Bool). cond (v && lexer.closes_before_sign (drop (lexer.variable_len (c ∷ (cs ++ (125 ∷ rest)))) (c ∷ (cs ++ (125 ∷ rest))))) (Some (lexer.variable_len (c ∷ (cs ++ (125 ∷ rest))) + 2)) None) (same_letter c ∙ p.0)
+    ap (λ (v : Bool). cond (v && lexer.closes_before_sign (drop (lexer.variable_len (c ∷ (cs ++ (125 ∷ rest)))) (c ∷ (cs ++ (125 ∷ rest)))))
+    (Some (lexer.variable_len (c ∷ (cs ++ (125 ∷ rest))) + 2)) None) (same_letter c ∙ p.0)
     ∙ ap (λ (x : List ℕ). cond (lexer.closes_before_sign x) (Some (lexer.variable_len (c ∷ (cs ++ (125 ∷ rest))) + 2)) None) b
     ∙ ap (λ (v : Bool). cond v (Some (lexer.variable_len (c ∷ (cs ++ (125 ∷ rest))) + 2)) None) a
     ∙ ap (λ (n : ℕ). Some (n + 2)) k
 
 -- a sign is behind the bytes that are taken, so as many are taken as are wanted
-all_there : (bytes : List ℕ) (long : ℕ) (name : List ℕ) → 64 ∷ take long bytes ≡ 64 ∷ 123 ∷ (name ++ (125 ∷ [])) → (rest : List ℕ) → drop long bytes ≡ rest → lexer.assigns rest ≡ true → long ≡ length name + 2
+all_there : (bytes : List ℕ) (long : ℕ) (name : List ℕ) → 64 ∷ take long bytes ≡ 64 ∷ 123 ∷ (name ++ (125 ∷ [])) → (rest : List ℕ)
+    → drop long bytes ≡ rest → lexer.assigns rest ≡ true → long ≡ length name + 2
 all_there bytes long name t [] d a = absurd (none_assigns a)
 all_there bytes long name t (b ∷ bs) d a =
     omega (arith, length-take long bytes, length-drop long bytes, ap length t, ap length d, length-append name (125 ∷ []))

@@ -1,5 +1,6 @@
 -- A joined policy is lawful.
-use Rattle.std.proofs.Common.{◌≡◌, ℕ, zero, suc, ◌+◌, ◌-◌, ◌<◌, ◌≤◌, Bool, true, false, ◌||◌, cond, List, [], ◌∷◌, ◌++◌, map, length, get_or, Option, Some, None, option_map, refl, sym, ap, subst, ◌∙◌, arith, ⊎_elim}
+use Rattle.std.proofs.Common.{◌≡◌, ℕ, zero, suc, ◌+◌, ◌-◌, ◌<◌, ◌≤◌, Bool, true, false, ◌||◌, cond, List, [], ◌∷◌, ◌++◌}
+use Rattle.std.proofs.Common.{map, length, get_or, Option, Some, None, option_map, refl, sym, ap, subst, ◌∙◌, arith, ⊎_elim}
 use Rattle.std.specs.Prelude.{nat_lt, IfSome, option_and_then, codes}
 use Rattle.std.specs.List.{All, slice_get, list_any, IsDistinct}
 use Rattle.std.specs.Option.{option_or}
@@ -22,9 +23,10 @@ use Rattle.aa_load.specs.Joined.{rows_of, moved, moved_rule, joined}
 use Rattle.aa_load.specs.Faults.{number_of, repeated, is_too_large, fault_of}
 use Rattle.aa_load.specs.Numbers.{noted, AreNew}
 use Rattle.aa_load.specs.Kept.{kept_rows, IsKept, IsReady}
-use Rattle.aa_load.proofs.Names.{names_moved, number_moved, distinct_none, distinct_joined}
+use Rattle.aa_load.proofs.Names.{names_moved, number_moved, distinct_joined}
 use Rattle.aa_load.proofs.Places.{unknown_at}
 use Rattle.aa_load.proofs.Counts.{few_joined}
+use Rattle.aa_policy.proofs.Distinct.{distinct_none}
 
 -- ---- faults
 

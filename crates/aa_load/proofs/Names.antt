@@ -1,5 +1,6 @@
 -- Numbers of profiles, in a map and in a list.
-use Rattle.std.proofs.Common.{◌≡◌, ℕ, ◌+◌, zero, suc, ◌<◌, Bool, true, false, ◌||◌, cond, List, [], ◌∷◌, ◌++◌, map, length, take, get_or, Option, Some, None, is_some, option_map, Vec, Global, refl, sym, ap, ◌∙◌, arith}
+use Rattle.std.proofs.Common.{◌≡◌, ℕ, ◌+◌, zero, suc, ◌<◌, Bool, true, false, ◌||◌, cond, List, [], ◌∷◌, ◌++◌, map, length, take}
+use Rattle.std.proofs.Common.{get_or, Option, Some, None, is_some, option_map, Vec, Global, refl, sym, ap, ◌∙◌, arith}
 use Rattle.std.specs.Map.{lookup, KeepsOthers}
 use Rattle.std.specs.List.{IsDistinct, AllByRecursion}
 use Rattle.std.specs.Option.{option_or}
@@ -13,18 +14,13 @@ use Rattle.aa_model.specs.Lawful.{names_of}
 use Rattle.aa_load.specs.Joined.{moved}
 use Rattle.aa_load.specs.Faults.{number_of}
 use Rattle.aa_load.specs.Numbers.{Noted, noted, AreNumbers, NotesNumber}
-
-same_bytes : (a b : List ℕ) → bytes_eq a b ≡ true → a ≡ b
-same_bytes a b e = (bytes_eq-Decides a b).0 e
+use Rattle.aa_glob.proofs.Tables.{same_bytes}
+use Rattle.aa_glob.proofs.VarSteps.{equals}
 
 flipped : (a b : List ℕ) (v : Bool) → bytes_eq a b ≡ v → bytes_eq b a ≡ v
 flipped a b v e = nat_list_eq_equiv.symm b a ∙ e
 
 -- ---- the map
-
--- whether a name compares equal to a key
-abbrev equals : List ℕ → Vec ℕ Global → Bool
-equals q k = is_eq (slice_cmp nat_cmp q k.items)
 
 equal : (q : List ℕ) (k : Vec ℕ Global) → equals q k ≡ true → q ≡ k.items
 equal q k e = same_bytes q k.items (texts_ties q k.items ∙ e)
@@ -153,10 +149,6 @@ names_moved n [] = refl
 names_moved n (p ∷ ps) = ap (λ (l : List (List ℕ)). p.name ∷ l) (names_moved n ps)
 
 -- ---- distinct names
-
-pub distinct_none : IsDistinct bytes_eq []
-unfolding IsDistinct
-distinct_none = tt
 
 -- a name that differs from all differs from each
 apart_at : (q : List ℕ) (ps : List Profile) (i : ℕ) (d : Profile) → AllByRecursion (λ y. bytes_eq q y ≡ false) (names_of ps) → i < length ps

@@ -16,6 +16,7 @@ use Rattle.aa_log.specs.Counted.{greatest}
 use Rattle.aa_log.specs.Commas.{more_of, is_some_of}
 use Rattle.aa_log.proofs.Listing.{two_parts, two_later}
 use Rattle.aa_log.specs.Against.{now_of, IsNewlyDenied, AreCounted, is_shown, shown_text, changes_text, json_shown, json_changes}
+use Rattle.aa_policy.proofs.HeadProductions.{or_none}
 
 -- what is read of the elements so far, once there is one more
 pub next_taken : {X Y : Type 0} (f : X → Y) (xs : List X) (i : ℕ) (x : X) → i < length xs → x ≡ get_or xs i x → map f (take (i + 1) xs) ≡ map f (take i xs) ++ f x ∷ []
@@ -30,7 +31,8 @@ pub counted_none : (d : Decided) (counts : Counts) → AreNone counts.rows → A
 counted_none d counts none = λ before after. none before after
 
 -- counts of a request more
-pub counted_more : (d : Decided) (es more : List Entry) (e : Entry) (now : Now) (old new : Counts) → now ≡ now_of d e → HasOneMore e.then now old.rows new.rows → more ≡ es ++ e ∷ [] → AreCounted d es old → AreCounted d more new
+pub counted_more : (d : Decided) (es more : List Entry) (e : Entry) (now : Now) (old new : Counts) → now ≡ now_of d e
+    → HasOneMore e.then now old.rows new.rows → more ≡ es ++ e ∷ [] → AreCounted d es old → AreCounted d more new
 counted_more d es more e now old new now_is one is f = λ before after.
     let so : Entry → Bool = λ x. is_so before after x.then (now_of d x) in
     let had : ℕ = count_in (row_of before) (column_of after) old.rows in
@@ -39,10 +41,6 @@ counted_more d es more e now old new now_is one is f = λ before after.
     ∙ counted_so (so e) (count_by so es)
     ∙ ap (λ (n : ℕ). min n greatest) (sym (sum_by_push (λ (x : Entry). cond (so x) 1 0) es e))
     ∙ ap (λ (l : List Entry). min (count_by so l) greatest) (sym is)
-
-or_none : (b : Bool) → (b || false) ≡ b
-or_none true = refl
-or_none false = refl
 
 or_both : (a b c : Bool) → ((a || b) || c) ≡ (a || (b || c))
 or_both true b c = refl
@@ -76,13 +74,16 @@ any_push p [] e = or_none (p e)
 any_push p (x ∷ xs) e = ap (λ (b : Bool). p x || b) (any_push p xs e) ∙ sym (or_both (p x) (list_any p xs) (p e))
 
 -- whether one is newly denied, with one more
-pub newly_more : (d : Decided) (es more : List Entry) (e : Entry) (now : Now) (old new : Counts) → now ≡ now_of d e → new.has_newly_denied ≡ (old.has_newly_denied || is_newly_denied e.then now) → more ≡ es ++ e ∷ [] → IsNewlyDenied d es old → IsNewlyDenied d more new
+pub newly_more : (d : Decided) (es more : List Entry) (e : Entry) (now : Now) (old new : Counts) → now ≡ now_of d e
+    → new.has_newly_denied ≡ (old.has_newly_denied || is_newly_denied e.then now) → more ≡ es ++ e ∷ [] → IsNewlyDenied d es old
+    → IsNewlyDenied d more new
 newly_more d es more e now old new now_is step is f =
     let p : Entry → Bool = λ x. is_newly_denied x.then (now_of d x) in
     step ∙ ap (λ (b : Bool). b || is_newly_denied e.then now) f ∙ ap (λ (n : Now). list_any p es || is_newly_denied e.then n) now_is ∙ sym (any_push p es e) ∙ ap (list_any p) (sym is)
 
 -- the text of those that are shown, with one more
-pub text_more : (logs : List (List ℕ)) (d : Decided) (all : Bool) (es more : List Entry) (e : Entry) (out mid new : List ℕ) → more ≡ es ++ e ∷ [] → mid ≡ out ++ changes_text logs d all es → new ≡ mid ++ shown_text logs d all e → new ≡ out ++ changes_text logs d all more
+pub text_more : (logs : List (List ℕ)) (d : Decided) (all : Bool) (es more : List Entry) (e : Entry) (out mid new : List ℕ) → more ≡ es ++ e ∷ []
+    → mid ≡ out ++ changes_text logs d all es → new ≡ mid ++ shown_text logs d all e → new ≡ out ++ changes_text logs d all more
 unfolding changes_text
 text_more logs d all es more e out mid new is so_far step =
     step ∙ ap (λ (l : List ℕ). l ++ shown_text logs d all e) so_far ∙ append_assoc out (flat_map (shown_text logs d all) es) (shown_text logs d all e)

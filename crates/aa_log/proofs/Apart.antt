@@ -1,5 +1,7 @@
 -- What is printed of a request, read back.
-use Rattle.std.proofs.Common.{◌≡◌, ℕ, ◌+◌, ◌-◌, ◌/◌, ◌%◌, ◌≤◌, Bool, true, false, not, ◌&&◌, ◌==◌, nat_lt, nat_le, List, [], ◌∷◌, ◌++◌, length, take, cond, codes, flat_map, Option, Some, refl, sym, ap, ◌∙◌, arith, append_assoc, inl, inr, true≢false}
+use Rattle.std.proofs.Common.{◌≡◌, ℕ, ◌+◌, ◌-◌, ◌/◌, ◌%◌, ◌≤◌, Bool, true, false, not, ◌&&◌, ◌==◌, nat_lt, nat_le, List}
+use Rattle.std.proofs.Common.{[], ◌∷◌, ◌++◌, length, take, cond, codes, flat_map, Option, Some, refl, sym, ap, ◌∙◌, arith, append_assoc, inl}
+use Rattle.std.proofs.Common.{inr, true≢false}
 use Rattle.std.specs.List.{list_all}
 use Rattle.std.specs.Str.{bytes_eq}
 use Rattle.std.proofs.lemmas.Bool.{cases_Bool, and_parts, eqb-true, leb-true, false_from_ne_true, not_from_false}
@@ -13,7 +15,7 @@ use Rattle.aa_notation.specs.Written.{word_text}
 use Rattle.aa_notation.specs.Read.{bytes_in, request_in}
 use Rattle.aa_notation.specs.Again.{are_bytes, is_askable}
 use Rattle.aa_notation.proofs.Splits.{split_byte}
-use Rattle.aa_notation.proofs.Paths.{bytes_back}
+use Rattle.aa_notation.proofs.Paths.{bytes_back, digit_from_48}
 use Rattle.aa_notation.proofs.Reading.{words_are_read}
 use Rattle.aa_log.specs.Printed.{key_text}
 use Rattle.aa_log.specs.Found.{Asked, asked_key}
@@ -33,13 +35,6 @@ then_plain : (t : Then) → list_all (λ b. not (32 == b)) (then_name t) ≡ tru
 then_plain was.Denied = refl
 then_plain was.Allowed = refl
 then_plain was.Granted = refl
-
-digit_from_48 : (n : ℕ) → 48 ≤ hex_digit n
-digit_from_48 n = low (nat_lt n 10)
-  where
-    low : (t : Bool) → 48 ≤ cond t (48 + n) (65 + (n - 10))
-    low true = omega arith
-    low false = omega arith
 
 apart_from : (c b : ℕ) → c + 1 ≤ b → (c == b) ≡ false
 apart_from c b le = false_from_ne_true (c == b) (λ e. let same : c ≡ b = eqb-true c b e in omega arith)
@@ -81,7 +76,8 @@ digits_back : (bytes : List ℕ) → list_all is_shown bytes ≡ false → are_b
 unfolding value_of
 digits_back [] none h = absurd (true≢false none)
 digits_back (b ∷ bs) some h =
-    ap (λ (t : Bool). cond t (Some (take (length (hex_digit (b % 16) ∷ flat_map hex_pair bs) - 1) (hex_digit (b % 16) ∷ flat_map hex_pair bs))) (bytes_in (flat_map hex_pair (b ∷ bs)))) (apart_from 34 (hex_digit (b / 16)) (omega (arith, digit_from_48 (b / 16)))) ∙ bytes_back (b ∷ bs) h
+    ap (λ (t : Bool). cond t (Some (take (length (hex_digit (b % 16) ∷ flat_map hex_pair bs) - 1) (hex_digit (b % 16) ∷ flat_map hex_pair bs)))
+    (bytes_in (flat_map hex_pair (b ∷ bs)))) (apart_from 34 (hex_digit (b / 16)) (omega (arith, digit_from_48 (b / 16)))) ∙ bytes_back (b ∷ bs) h
 
 value_back : (bytes : List ℕ) → are_bytes bytes ≡ true → value_of (value bytes) ≡ Some bytes
 unfolding value
@@ -116,7 +112,8 @@ pub keys_tell : KeysTell
 keys_tell a b can_a can_b e =
     let of_a = and_parts (are_bytes a.profile) (is_askable a.request) can_a in
     let of_b = and_parts (are_bytes b.profile) (is_askable b.request) can_b in
-    let first = split_apart (then_name a.became) ((value a.profile ++ 32 ∷ []) ++ word_text a.request) (then_name b.became) ((value b.profile ++ 32 ∷ []) ++ word_text b.request) (then_plain a.became) (then_plain b.became) (sym (key_is a) ∙ e ∙ key_is b) in
+    let first = split_apart (then_name a.became) ((value a.profile ++ 32 ∷ []) ++ word_text a.request) (then_name b.became)
+    ((value b.profile ++ 32 ∷ []) ++ word_text b.request) (then_plain a.became) (then_plain b.became) (sym (key_is a) ∙ e ∙ key_is b) in
     let second = split_apart (value a.profile) (word_text a.request) (value b.profile) (word_text b.request) (value_plain a.profile) (value_plain b.profile) first.1 in (
       some_is a.became b.became (sym (then_back a.became) ∙ ap then_of first.0 ∙ then_back b.became),
       some_is a.profile b.profile (sym (value_back a.profile of_a.0) ∙ ap value_of second.0 ∙ value_back b.profile of_b.0),

@@ -1,5 +1,7 @@
 -- What lines ask can be asked.
-use Rattle.std.proofs.Common.{◌≡◌, ℕ, zero, suc, ◌+◌, ◌-◌, ◌*◌, ◌<◌, Bool, true, false, not, ◌&&◌, ◌||◌, ◌==◌, nat_lt, nat_eq, List, [], ◌∷◌, ◌++◌, length, take, drop, cond, codes, flat_map, Option, Some, None, refl, sym, ap, ◌∙◌, arith, inl, inr, true≢false, lt-ltb}
+use Rattle.std.proofs.Common.{◌≡◌, ℕ, zero, suc, ◌+◌, ◌-◌, ◌*◌, ◌<◌, Bool, true, false, not, ◌&&◌, ◌||◌, ◌==◌, nat_lt}
+use Rattle.std.proofs.Common.{nat_eq, List, [], ◌∷◌, ◌++◌, length, take, drop, cond, codes, flat_map, Option, Some, None, refl, sym, ap, ◌∙◌}
+use Rattle.std.proofs.Common.{arith, inl, inr, true≢false, lt-ltb}
 use Rattle.std.specs.Prelude.{slice_get, find, reverse, option_map, option_to_list, Result, Ok, Err}
 use Rattle.std.specs.List.{list_all, position, starts_with}
 use Rattle.std.specs.Option.{option_and_then, option_or}
@@ -22,9 +24,13 @@ use Rattle.aa_logs.specs.declared.line.Reason.TheVariants.{Namespace, Stacked}
 use Rattle.aa_logs.specs.Words.{WordData, is_separator, run_len, key_len, plain_piece, quoted_piece, field_piece, run_piece, keyed_piece, first_piece, words_behind, words_of}
 use Rattle.aa_logs.specs.Values.{is_hex_digit, digit_of, bytes_of_hex, is_even, is_hex, is_plain, name_in}
 use Rattle.aa_logs.specs.Fields.{field_in, raw_in, text_in}
-use Rattle.aa_logs.specs.Asked.{Cause, Keyword, Because, cap_by, cap_in, exec_by, exec_in, link_by, link_in, change_by, change_in, socket_by, net_by, masked_file, file_by, requested_by, object_by, object_in, by_operation, unless_over, of_operation, asked_in, owned_in, passed_over, asked_mask, is_text_there, mask_owner}
+use Rattle.aa_logs.specs.Asked.{Cause, Keyword, Because, cap_by, cap_in, exec_by, exec_in, link_by, link_in, change_by, change_in, socket_by, net_by}
+use Rattle.aa_logs.specs.Asked.{masked_file, file_by, requested_by, object_by, object_in, by_operation, unless_over, of_operation, asked_in, owned_in}
+use Rattle.aa_logs.specs.Asked.{passed_over, asked_mask, is_text_there, mask_owner}
 use Rattle.aa_logs.specs.Outcomes.{RecordData, Outcome, Another, AsksNothing, AsksFor}
-use Rattle.aa_logs.specs.Records.{is_record, told_by_word, told_by_type, is_one_of, is_old_type, word_tells, tells, told_in, is_broken, named_profile, profile_in, with_request, with_profile, by_told, record_by, record_in, outcome_by, without_return, outcome_of, line_in, is_return, holds_part, is_other_space}
+use Rattle.aa_logs.specs.Records.{is_record, told_by_word, told_by_type, is_one_of, is_old_type, word_tells, tells, told_in, is_broken, named_profile}
+use Rattle.aa_logs.specs.Records.{profile_in, with_request, with_profile, by_told, record_by, record_in, outcome_by, without_return, outcome_of, line_in}
+use Rattle.aa_logs.specs.Records.{is_return, holds_part, is_other_space}
 use Rattle.aa_logs.specs.LogLines.{LogLine}
 use Rattle.aa_log.specs.Found.{Asked, asked_by, is_wanted, wanted, requests_in}
 use Rattle.aa_log.specs.Apart.{can_be_asked, LinesAskSo, RequestsTell}
@@ -224,8 +230,12 @@ operation_ok ws operation h =
     let second = text_ok (codes "name2") ws h in
     ok_if (bytes_eq operation (codes "capable")) (cap_in ws) _ (λ is. cap_ok (option_or (raw_in (codes "capname") ws) (raw_in (codes "name") ws)))
     (ok_if (bytes_eq operation (codes "exec")) (exec_in ws) _ (λ is. exec_ok (owned_in (mask_owner ws) ws) (text_in (codes "name") ws) name)
-    (ok_if (bytes_eq operation (codes "link") || bytes_eq operation (codes "inode_link")) (link_in ws) _ (λ is. link_ok (owned_in (mask_owner ws) ws) (text_in (codes "name") ws) (option_or (text_in (codes "target") ws) (text_in (codes "name2") ws)) name (either_passes are_bytes (text_in (codes "target") ws) (text_in (codes "name2") ws) target second))
-    (ok_if (bytes_eq operation (codes "change_profile")) (change_in ws) (object_in ws) (λ is. change_ok (option_or (text_in (codes "target") ws) (text_in (codes "name") ws)) (either_passes are_bytes (text_in (codes "target") ws) (text_in (codes "name") ws) target name))
+    (ok_if (bytes_eq operation (codes "link") || bytes_eq operation (codes "inode_link")) (link_in ws) _
+    (λ is. link_ok (owned_in (mask_owner ws) ws) (text_in (codes "name") ws) (option_or (text_in (codes "target") ws) (text_in (codes "name2") ws)) name
+    (either_passes are_bytes (text_in (codes "target") ws) (text_in (codes "name2") ws) target second))
+    (ok_if (bytes_eq operation (codes "change_profile")) (change_in ws) (object_in ws)
+    (λ is. change_ok (option_or (text_in (codes "target") ws) (text_in (codes "name") ws))
+    (either_passes are_bytes (text_in (codes "target") ws) (text_in (codes "name") ws) target name))
     (object_ok ws (raw_in (codes "family") ws) (raw_in (codes "sock_type") ws) h))))
 
 over_ok : (ws : List WordData) (operation : List ℕ) (o : Option (List ℕ)) → list_all word_ok ws ≡ true → ok (unless_over ws operation o) ≡ true
@@ -297,7 +307,11 @@ type_so ws kind h = elim (cases_Bool (is_one_of (codes "1501") (codes "UNKNOWN[1
     | inl allowed ↦ rw allowed (denied_so ws was.Allowed h)
     | inr another ↦ rw another (elim (cases_Bool (is_one_of (codes "1503") (codes "UNKNOWN[1503]") (codes "APPARMOR_DENIED") kind)) [
       | inl denied ↦ rw denied (denied_so ws was.Denied h)
-      | inr neither ↦ rw neither (elim (cases_Bool (is_one_of (codes "1504") (codes "UNKNOWN[1504]") (codes "APPARMOR_HINT") kind || is_one_of (codes "1505") (codes "UNKNOWN[1505]") (codes "APPARMOR_STATUS") kind || is_one_of (codes "1506") (codes "UNKNOWN[1506]") (codes "APPARMOR_ERROR") kind)) [ inl status ↦ rw status refl | inr unknown ↦ rw unknown refl ])
+      | inr neither ↦ rw neither
+          (elim (cases_Bool
+          (is_one_of (codes "1504") (codes "UNKNOWN[1504]") (codes "APPARMOR_HINT") kind || is_one_of (codes "1505") (codes "UNKNOWN[1505]")
+          (codes "APPARMOR_STATUS") kind || is_one_of (codes "1506") (codes "UNKNOWN[1506]")
+          (codes "APPARMOR_ERROR") kind)) [ inl status ↦ rw status refl | inr unknown ↦ rw unknown refl ])
     ])
   ])
 ]

@@ -1,5 +1,6 @@
 -- An item more in a list: what it is counted to.
-use Rattle.std.proofs.Common.{◌≡◌, ℕ, zero, suc, ◌+◌, ◌<◌, ◌≤◌, min, nat_lt, List, [], ◌∷◌, ◌++◌, length, map, set, get_or, Bool, true, false, cond, not, ◌||◌, ◌&&◌, Some, None, refl, sym, ap, subst, ◌∙◌, append-nil, arith, inl, inr}
+use Rattle.std.proofs.Common.{◌≡◌, ℕ, zero, suc, ◌+◌, ◌<◌, ◌≤◌, min, nat_lt, List, [], ◌∷◌, ◌++◌, length, map, set, get_or}
+use Rattle.std.proofs.Common.{Bool, true, false, cond, not, ◌||◌, ◌&&◌, Some, None, refl, sym, ap, subst, ◌∙◌, append-nil, arith, inl, inr}
 use Rattle.std.specs.Prelude.{count_by}
 use Rattle.std.specs.List.{filter, list_any, position, position_or_len}
 use Rattle.std.specs.Str.{bytes_eq}
@@ -148,7 +149,10 @@ module _ {A : Type 0} where
       let more : List (Counted A) = map (λ k. item k (bump (bytes_eq (key k) (key a)) (n k))) ks in
       let old : List (Counted A) = map (λ k. item k (n k)) ks in
       let any : Bool = list_any (λ b. bytes_eq (key b) (key a)) ks in
-      (elim (bytes_eq (key k) (key a)) as (λ s. bytes_eq (key k) (key a) ≡ s → cond s (item k (min (n k + 1) greatest) ∷ old) (item k (n k) ∷ with_one key old a) ≡ (item k (bump s (n k)) ∷ more) ++ cond (s || any) [] (item a 1 ∷ [])) [
+      (elim (bytes_eq (key k) (key a)) as
+      (λ s. bytes_eq (key k) (key a) ≡ s
+      → cond s (item k (min (n k + 1) greatest) ∷ old) (item k (n k) ∷ with_one key old a) ≡ (item k (bump s (n k)) ∷ more) ++ cond (s || any) []
+      (item a 1 ∷ [])) [
         | true ↦ λ e.
             let none : any ≡ false = subst (λ (l : List ℕ). list_any (λ b. bytes_eq (key b) l) ks ≡ false) (eq_true (key k) (key a) e) d.0 in
             ap (λ (l : List (Counted A)). item k (min (n k + 1) greatest) ∷ l) (unbumped key n ks a none ∙ sym (append-nil more))
@@ -184,7 +188,10 @@ module _ {A : Type 0} where
       ap (map new) (firsts-more key xs a)
       ∙ (elim any as (λ t. any ≡ t → map new (cond t (firsts key xs) (firsts key xs ++ a ∷ [])) ≡ map new (firsts key xs) ++ cond t [] (item a 1 ∷ [])) [
         | true ↦ λ e. sym (append-nil (map new (firsts key xs)))
-        | false ↦ λ e. map-append new (firsts key xs) (a ∷ []) ∙ ap (λ (n : ℕ). map new (firsts key xs) ++ item a n ∷ []) (times-more key (key a) xs a ∙ ap (λ (b : Bool). bump b (times key (key a) xs)) (eq_self (key a)) ∙ ap (λ (n : ℕ). min (min n greatest + 1) greatest) (count_none key (key a) xs e))
+        | false ↦ λ e. map-append new (firsts key xs) (a ∷ [])
+            ∙ ap (λ (n : ℕ). map new (firsts key xs) ++ item a n ∷ [])
+            (times-more key (key a) xs a ∙ ap (λ (b : Bool). bump b (times key (key a) xs)) (eq_self (key a))
+            ∙ ap (λ (n : ℕ). min (min n greatest + 1) greatest) (count_none key (key a) xs e))
       ]) refl in
       split ∙ ap (λ (l : List (Counted A)). l ++ cond any [] (item a 1 ∷ [])) alike
       ∙ ap (λ (t : Bool). map bumped (firsts key xs) ++ cond t [] (item a 1 ∷ [])) (sym (any-firsts key (key a) xs))
@@ -199,7 +206,8 @@ module _ {A : Type 0} where
   abbrev pub more_of_it : Counted A → Counted A
   more_of_it c = record { item = c.item; count = min (c.count + 1) greatest }
 
-  there : (key : A → List ℕ) (cs : List (Counted A)) (a : A) (n : ℕ) (d : Counted A) → n < length cs → bytes_eq (key ((get_or cs n d).item)) (key a) ≡ true → ((k : ℕ) → k < n → bytes_eq (key ((get_or cs k d).item)) (key a) ≡ false)
+  there : (key : A → List ℕ) (cs : List (Counted A)) (a : A) (n : ℕ) (d : Counted A) → n < length cs
+      → bytes_eq (key ((get_or cs n d).item)) (key a) ≡ true → ((k : ℕ) → k < n → bytes_eq (key ((get_or cs k d).item)) (key a) ≡ false)
       → with_one key cs a ≡ set cs n (more_of_it (get_or cs n d))
   unfolding with_one
   there key [] a n d lt is none = absurd (omega (arith, lt))

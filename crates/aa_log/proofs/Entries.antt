@@ -78,7 +78,9 @@ place_in : (es : List Entry) (key : List ℕ) → HaveWords es → position (λ 
 place_in es key w = sym (position-map (λ (k : List ℕ). bytes_eq k key) (λ (c : Counted Asked). asked_key c.item) (map entry_data es)) ∙ ap (position (λ (k : List ℕ). bytes_eq k key)) (keys_same es w)
 
 -- an entry that is counted once more
-counted_again : (es new : List Entry) (n : ℕ) (e : Entry) (a : Asked) → HaveWords es → position (λ (k : List ℕ). bytes_eq k (asked_key a)) (map entry_key es) ≡ Some n → slice_get es n ≡ Some e → new ≡ set es n (record e { count = min (e.count + 1) greatest })
+counted_again : (es new : List Entry) (n : ℕ) (e : Entry) (a : Asked) → HaveWords es
+    → position (λ (k : List ℕ). bytes_eq k (asked_key a)) (map entry_key es) ≡ Some n → slice_get es n ≡ Some e
+    → new ≡ set es n (record e { count = min (e.count + 1) greatest })
     → map entry_data new ≡ with_one asked_key (map entry_data es) a
 counted_again es new n e a w found there is =
     let d : Counted Asked = entry_data e in
@@ -97,7 +99,9 @@ keys_again : (es new : List Entry) (n : ℕ) (e : Entry) → slice_get es n ≡ 
 keys_again es new n e there is = ap (map entry_key) is ∙ keep_map entry_key es n e (record e { count = min (e.count + 1) greatest }) there refl
 
 -- an entry that is new
-counted_new : (es new : List Entry) (e : Entry) (a : Asked) → HaveWords es → position (λ (k : List ℕ). bytes_eq k (asked_key a)) (map entry_key es) ≡ None → new ≡ es ++ e ∷ [] → entry_data e ≡ record { item = a; count = 1 }
+counted_new : (es new : List Entry) (e : Entry) (a : Asked) → HaveWords es
+    → position (λ (k : List ℕ). bytes_eq k (asked_key a)) (map entry_key es) ≡ None → new ≡ es ++ e ∷ []
+    → entry_data e ≡ record { item = a; count = 1 }
     → map entry_data new ≡ with_one asked_key (map entry_data es) a
 counted_new es new e a w none is data_is =
     ap (map entry_data) is ∙ map-append entry_data es (e ∷ []) ∙ ap (λ (c : Counted Asked). map entry_data es ++ c ∷ []) data_is
@@ -110,7 +114,9 @@ words_new es new e w is word =
     ap (map words) is ∙ map-append words es (e ∷ []) ∙ ap (λ (l : List (List ℕ)). l ++ e.word.items ∷ []) w ∙ ap (λ (x : List ℕ). map texts es ++ x ∷ []) word
     ∙ sym (ap (map texts) is ∙ map-append texts es (e ∷ []))
 
-pub numbered_new : {Y S : Type 0} (numbers after : HashMap (Vec ℕ Y) ℕ S) (es new : List Entry) (e : Entry) (key : List ℕ) → AreNumbered numbers (map entry_key es) → AddsKey numbers key (length es) after → new ≡ es ++ e ∷ [] → entry_key e ≡ key → AreNumbered after (map entry_key new)
+pub numbered_new : {Y S : Type 0} (numbers after : HashMap (Vec ℕ Y) ℕ S) (es new : List Entry) (e : Entry) (key : List ℕ)
+    → AreNumbered numbers (map entry_key es) → AddsKey numbers key (length es) after → new ≡ es ++ e ∷ [] → entry_key e ≡ key
+    → AreNumbered after (map entry_key new)
 numbered_new numbers after es new e key numbered adds is key_is = λ other.
     let p : List ℕ → Bool = λ k. bytes_eq k other in
     let keys : List (List ℕ) = map entry_key es in
@@ -138,10 +144,12 @@ module _ {Y S : Type 0} where
       }
 
   -- a request that is none yet
-  pub found_new : (before : List Asked) (es new : List Entry) (numbers after : HashMap (Vec ℕ Y) ℕ S) (e : Entry) (a : Asked) (key : List ℕ) → key ≡ asked_key a → get_by (λ k. bytes_eq key k.items) numbers ≡ None → AddsKey numbers key (length es) after → length es < 1000000
+  pub found_new : (before : List Asked) (es new : List Entry) (numbers after : HashMap (Vec ℕ Y) ℕ S) (e : Entry) (a : Asked) (key : List ℕ)
+      → key ≡ asked_key a → get_by (λ k. bytes_eq key k.items) numbers ≡ None → AddsKey numbers key (length es) after → length es < 1000000
       → new ≡ es ++ e ∷ [] → entry_data e ≡ record { item = a; count = 1 } → e.word.items ≡ word_text e.request → entry_key e ≡ key → AreFound before es numbers → AreFound (before ++ a ∷ []) new after
   found_new before es new numbers after e a key key_is none adds room is data_is word entry_is f =
-      let nowhere : position (λ (k : List ℕ). bytes_eq k (asked_key a)) (map entry_key es) ≡ None = ap (λ (l : List ℕ). position (λ (k : List ℕ). bytes_eq k l) (map entry_key es)) (sym key_is) ∙ sym (f.numbered key) ∙ none in record {
+      let nowhere : position (λ (k : List ℕ). bytes_eq k (asked_key a)) (map entry_key es) ≡ None = ap
+      (λ (l : List ℕ). position (λ (k : List ℕ). bytes_eq k l) (map entry_key es)) (sym key_is) ∙ sym (f.numbered key) ∙ none in record {
         counts = counted_new es new e a f.words nowhere is data_is ∙ ap (λ (cs : List (Counted Asked)). with_one asked_key cs a) f.counts ∙ sym (counted-more asked_key before a);
         words = words_new es new e f.words is word;
         numbered = numbered_new numbers after es new e key f.numbered adds is entry_is;
@@ -149,7 +157,9 @@ module _ {Y S : Type 0} where
       }
 
   -- a request that would be one too many
-  pub too_many : (before : List Asked) (es : List Entry) (numbers : HashMap (Vec ℕ Y) ℕ S) (a : Asked) (key : List ℕ) → key ≡ asked_key a → get_by (λ k. bytes_eq key k.items) numbers ≡ None → 1000000 ≤ length es → AreFound before es numbers → 1000000 < length (firsts asked_key (before ++ a ∷ []))
+  pub too_many : (before : List Asked) (es : List Entry) (numbers : HashMap (Vec ℕ Y) ℕ S) (a : Asked) (key : List ℕ) → key ≡ asked_key a
+      → get_by (λ k. bytes_eq key k.items) numbers ≡ None → 1000000 ≤ length es → AreFound before es numbers
+      → 1000000 < length (firsts asked_key (before ++ a ∷ []))
   too_many before es numbers a key key_is none full f =
       let nowhere : position (λ (k : List ℕ). bytes_eq k (asked_key a)) (map entry_key es) ≡ None = ap (λ (l : List ℕ). position (λ (k : List ℕ). bytes_eq k l) (map entry_key es)) (sym key_is) ∙ sym (f.numbered key) ∙ none in
       let all : counted asked_key (before ++ a ∷ []) ≡ map entry_data es ++ record { item = a; count = 1 } ∷ [] =

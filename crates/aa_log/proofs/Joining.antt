@@ -139,7 +139,8 @@ module _ {A : Type 0} where
   counted_one : (key : A → List ℕ) (xs : List A) (a : A) → counted key (xs ++ a ∷ []) ≡ with_row key (counted key xs) (one_of a)
   counted_one key xs a = counted-more key xs a ∙ one_is_row key (counted key xs) a
 
-  counted_from : (key : A → List ℕ) (xs front rest : List A) → joined key (counted key xs) (counted key front) ≡ counted key (xs ++ front) → joined key (counted key xs) (counted key (front ++ rest)) ≡ counted key (xs ++ (front ++ rest))
+  counted_from : (key : A → List ℕ) (xs front rest : List A) → joined key (counted key xs) (counted key front) ≡ counted key (xs ++ front)
+      → joined key (counted key xs) (counted key (front ++ rest)) ≡ counted key (xs ++ (front ++ rest))
   counted_from key xs front [] e = ap (λ (l : List A). joined key (counted key xs) (counted key l)) (append-nil front) ∙ e ∙ ap (λ (l : List A). counted key (xs ++ l)) (sym (append-nil front))
   counted_from key xs front (a ∷ rest) e =
       let longer : List A = front ++ a ∷ [] in
@@ -164,7 +165,9 @@ module _ {A : Type 0} where
   total_row key (c ∷ cs) r =
       elim (bytes_eq (key c.item) (key r.item)) as (λ s. total (cond s (raised c r.count ∷ cs) (c ∷ with_row key cs r)) ≡ added (added c.count (total cs)) r.count) [
         | true ↦ (let same : min (min (c.count + r.count) greatest + total cs) greatest ≡ min (min (c.count + total cs) greatest + r.count) greatest = omega arith in same)
-        | false ↦ ap (λ (n : ℕ). min (c.count + n) greatest) (total_row key cs r) ∙ (let same : min (c.count + min (total cs + r.count) greatest) greatest ≡ min (min (c.count + total cs) greatest + r.count) greatest = omega arith in same)
+        | false ↦ ap (λ (n : ℕ). min (c.count + n) greatest) (total_row key cs r)
+            ∙ (let same : min (c.count + min (total cs + r.count) greatest) greatest ≡ min
+            (min (c.count + total cs) greatest + r.count) greatest = omega arith in same)
       ]
 
   total_from : (key : A → List ℕ) (front rest : List A) → total (counted key front) ≡ min (length front) greatest → total (counted key (front ++ rest)) ≡ min (length (front ++ rest)) greatest

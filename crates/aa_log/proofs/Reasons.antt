@@ -33,7 +33,8 @@ reason_again before xs new n e k found there is f =
     ∙ ap (λ (cs : List (Counted Skipped)). with_one skipped_key cs k) f ∙ sym (counted-more skipped_key before k)
 
 -- for a reason that is new
-pub reason_new : (before : List Skipped) (xs new : List SkippedLines) (s : SkippedLines) (k : Skipped) → position (λ s. bytes_eq (reason_key s) (skipped_key k)) xs ≡ None → new ≡ xs ++ s ∷ [] → skipped_data s ≡ record { item = k; count = 1 }
+pub reason_new : (before : List Skipped) (xs new : List SkippedLines) (s : SkippedLines) (k : Skipped)
+    → position (λ s. bytes_eq (reason_key s) (skipped_key k)) xs ≡ None → new ≡ xs ++ s ∷ [] → skipped_data s ≡ record { item = k; count = 1 }
     → map skipped_data xs ≡ counted skipped_key before → map skipped_data new ≡ counted skipped_key (before ++ k ∷ [])
 reason_new before xs new s k none is data_is f =
     ap (map skipped_data) is ∙ map-append skipped_data xs (s ∷ []) ∙ ap (λ (c : Counted Skipped). map skipped_data xs ++ c ∷ []) data_is

@@ -11,8 +11,13 @@ use Rattle.aa_log.specs.Command.{IsReplayText}
 replayed : (o : LogOptions) (s : SaidReport) (d : Decided) (old new : List ℕ) (counts : Counts) (b : Bool) (text : List ℕ) → o.is_json ≡ b
     → MatchBool b (IsJsonAgainst (slices o.logs.now) d o.wants_all s counts text) (IsAgainstText (slices o.logs.now) d o.wants_all s.report counts text) → new ≡ old ++ text
     → (text : List ℕ) × IsReplayText o s d counts text × (old ≡ [] → new ≡ text)
-replayed o s d old new counts b text is told written =
-    (text, subst (λ (b : Bool). MatchBool b (IsJsonAgainst (slices o.logs.now) d o.wants_all s counts text) (IsAgainstText (slices o.logs.now) d o.wants_all s.report counts text)) (sym is) told, λ e. written ∙ ap (λ (l : List ℕ). l ++ text) e)
+replayed o s d old new counts b text is told written = (
+  text,
+  subst
+      (λ (b : Bool). MatchBool b (IsJsonAgainst (slices o.logs.now) d o.wants_all s counts text)
+      (IsAgainstText (slices o.logs.now) d o.wants_all s.report counts text)) (sym is) told,
+  λ e. written ∙ ap (λ (l : List ℕ). l ++ text) e,
+)
 
 pub json_replayed : (o : LogOptions) (s : SaidReport) (d : Decided) (old new : List ℕ) (counts : Counts) → o.is_json ≡ true
     → (text : List ℕ) × IsJsonAgainst (slices o.logs.now) d o.wants_all s counts text × (new ≡ old ++ text) → (text : List ℕ) × IsReplayText o s d counts text × (old ≡ [] → new ≡ text)

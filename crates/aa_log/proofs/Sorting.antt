@@ -44,7 +44,8 @@ pub up_to_more : (n : ℕ) → range_with_len 0 (n + 1) ≡ range_with_len 0 n +
 up_to_more n = range_more 0 n ∙ ap (λ (m : ℕ). range_with_len 0 n ++ m ∷ []) (let same : 0 + n ≡ n = omega arith in same)
 
 -- the items of numbers, once there is one more
-pub items_more : {X : Type 0} (xs found one : List X) (numbers : List ℕ) (i : ℕ) → i < length numbers → found ≡ items_at xs (take i numbers) → one ≡ option_to_list (slice_get xs (get_or numbers i 0)) → found ++ one ≡ items_at xs (take (i + 1) numbers)
+pub items_more : {X : Type 0} (xs found one : List X) (numbers : List ℕ) (i : ℕ) → i < length numbers → found ≡ items_at xs (take i numbers)
+    → one ≡ option_to_list (slice_get xs (get_or numbers i 0)) → found ++ one ≡ items_at xs (take (i + 1) numbers)
 items_more xs found one numbers i lt so_far is =
     ap (λ l. l ++ one) so_far ∙ ap (λ l. items_at xs (take i numbers) ++ l) is
     ∙ flat_map_more (λ (n : ℕ). option_to_list (slice_get xs n)) [] (take i numbers) (get_or numbers i 0)

@@ -18,7 +18,8 @@ use Rattle.aa_logs.specs.LogLines.{LogLine}
 use Rattle.aa_log.specs.declared.logging.LinePlace.{LinePlace}
 use Rattle.aa_log.specs.declared.logging.LogReport.{LogReport}
 use Rattle.aa_log.specs.Counted.{greatest, firsts, counted}
-use Rattle.aa_log.specs.Found.{Asked, Skipped, place_of, asked_at, asked_by, asked_key, skipped_by, skipped_for, skipped_key, skipped_data, is_another, is_wanted, wants_all, wanted, requests_in, skipped_in, others_in, left_in, left_out_of, distinct_in, AreFound, AreEach, IsReport}
+use Rattle.aa_log.specs.Found.{Asked, Skipped, place_of, asked_at, asked_by, asked_key, skipped_by, skipped_for, skipped_key, skipped_data, is_another}
+use Rattle.aa_log.specs.Found.{is_wanted, wants_all, wanted, requests_in, skipped_in, others_in, left_in, left_out_of, distinct_in, AreFound, AreEach, IsReport}
 use Rattle.aa_log.proofs.Counting.{one_more}
 
 -- a choice that names no profile and no time takes each line
@@ -131,8 +132,10 @@ pub taken_other : (before : List LogLine) (l : LogLine) (r : LogReport) (lines o
     → IsReport (before ++ l ∷ []) (record r { lines = lines; other = other })
 taken_other before l r lines other is lines_is other_is f =
     let c : Choice = r.choice in
-    let asked : requests_in c (before ++ l ∷ []) ≡ requests_in c before = requests_as c before l Another (is_wanted c l.bytes) is refl ∙ ap (λ (x : List Asked). requests_in c before ++ x) (cond_nil (is_wanted c l.bytes)) ∙ append-nil (requests_in c before) in
-    let skipped : skipped_in c (before ++ l ∷ []) ≡ skipped_in c before = skipped_as c before l Another (is_wanted c l.bytes) is refl ∙ ap (λ (x : List Skipped). skipped_in c before ++ x) (cond_nil (is_wanted c l.bytes)) ∙ append-nil (skipped_in c before) in
+    let asked : requests_in c (before ++ l ∷ []) ≡ requests_in c before = requests_as c before l Another (is_wanted c l.bytes) is refl
+    ∙ ap (λ (x : List Asked). requests_in c before ++ x) (cond_nil (is_wanted c l.bytes)) ∙ append-nil (requests_in c before) in
+    let skipped : skipped_in c (before ++ l ∷ []) ≡ skipped_in c before = skipped_as c before l Another (is_wanted c l.bytes) is refl
+    ∙ ap (λ (x : List Skipped). skipped_in c before ++ x) (cond_nil (is_wanted c l.bytes)) ∙ append-nil (skipped_in c before) in
     let another : is_another (line_in l.bytes) ≡ true = ap is_another is in record {
       found = subst (λ (x : List Asked). AreFound x r.entries.items r.numbers) (sym asked) f.found;
       skipped = f.skipped ∙ ap (counted skipped_key) (sym skipped);
@@ -161,8 +164,11 @@ left_of before l r lines another unwanted lines_is f =
       left_out = left_one c (left_in c before) (left_in c (before ++ l ∷ [])) r.left_out (left_as c before l false false another unwanted) f.left_out;
     }
 
-pub taken_left : (before : List LogLine) (l : LogLine) (r new : LogReport) (lines : ℕ) (found : Line) (left : Bool) → (found ≡ line.Other → ⊥) → outcome found ≡ line_in l.bytes → lines ≡ min (r.lines + 1) greatest → left ≡ true
-    → left ≡ (is_some r.left_out && not (is_wanted r.choice l.bytes)) → new ≡ cond left (record r { lines = lines; left_out = option_map (λ n. min (n + 1) greatest) r.left_out }) (record r { lines = lines }) → IsReport before r → IsReport (before ++ l ∷ []) new
+pub taken_left : (before : List LogLine) (l : LogLine) (r new : LogReport) (lines : ℕ) (found : Line) (left : Bool) → (found ≡ line.Other → ⊥)
+    → outcome found ≡ line_in l.bytes → lines ≡ min (r.lines + 1) greatest → left ≡ true
+    → left ≡ (is_some r.left_out && not (is_wanted r.choice l.bytes))
+    → new ≡ cond left (record r { lines = lines; left_out = option_map (λ n. min (n + 1) greatest) r.left_out }) (record r { lines = lines })
+    → IsReport before r → IsReport (before ++ l ∷ []) new
 taken_left before l r new lines found left other is lines_is leaves left_is new_is f =
     let out : LogReport = record r { lines = lines; left_out = option_map (λ n. min (n + 1) greatest) r.left_out } in
     let there : new ≡ out = new_is ∙ ap (λ (b : Bool). cond b out (record r { lines = lines })) leaves in
@@ -170,11 +176,16 @@ taken_left before l r new lines found left other is lines_is leaves left_is new_
     (left_of before l r lines (ap is_another (sym is) ∙ not_another found other) (unwanted_in (is_some r.left_out) (is_wanted r.choice l.bytes) (sym left_is ∙ leaves)) lines_is f)
 
 -- what is there when a line isn't left out
-pub kept_in : (r new : LogReport) (lines : ℕ) (left : Bool) → left ≡ false → new ≡ cond left (record r { lines = lines; left_out = option_map (λ n. min (n + 1) greatest) r.left_out }) (record r { lines = lines }) → new ≡ record r { lines = lines }
+pub kept_in : (r new : LogReport) (lines : ℕ) (left : Bool) → left ≡ false
+    → new ≡ cond left (record r { lines = lines; left_out = option_map (λ n. min (n + 1) greatest) r.left_out }) (record r { lines = lines })
+    → new ≡ record r { lines = lines }
 kept_in r new lines left stays is = is ∙ ap (λ (b : Bool). cond b (record r { lines = lines; left_out = option_map (λ n. min (n + 1) greatest) r.left_out }) (record r { lines = lines })) stays
 
 -- what is read alike of a report whatever it has counted is what it was
-pub same_in : {B : Type 0} (f : LogReport → B) (r new : LogReport) (lines : ℕ) (left : Bool) → ((count : Option ℕ) → f (record r { lines = lines; left_out = count }) ≡ f r) → new ≡ cond left (record r { lines = lines; left_out = option_map (λ n. min (n + 1) greatest) r.left_out }) (record r { lines = lines }) → f new ≡ f r
+pub same_in : {B : Type 0} (f : LogReport → B) (r new : LogReport) (lines : ℕ) (left : Bool)
+    → ((count : Option ℕ) → f (record r { lines = lines; left_out = count }) ≡ f r)
+    → new ≡ cond left (record r { lines = lines; left_out = option_map (λ n. min (n + 1) greatest) r.left_out }) (record r { lines = lines })
+    → f new ≡ f r
 same_in f r new lines true alike is = ap f is ∙ alike (option_map (λ n. min (n + 1) greatest) r.left_out)
 same_in f r new lines false alike is = ap f is ∙ alike r.left_out
 
@@ -200,7 +211,8 @@ skipped_of before l r new lines cause is wants lines_is new_is reasons each f =
       left_out = left_same c (left_in c before) (left_in c (before ++ l ∷ [])) r.left_out (left_as c before l false true another wants) f.left_out;
     })
 
-pub taken_skipped : (before : List LogLine) (l : LogLine) (r mid new : LogReport) (lines : ℕ) (cause : Cause) → line_in l.bytes ≡ AsksNothing cause → is_wanted r.choice l.bytes ≡ true → lines ≡ min (r.lines + 1) greatest → mid ≡ record r { lines = lines }
+pub taken_skipped : (before : List LogLine) (l : LogLine) (r mid new : LogReport) (lines : ℕ) (cause : Cause) → line_in l.bytes ≡ AsksNothing cause
+    → is_wanted r.choice l.bytes ≡ true → lines ≡ min (r.lines + 1) greatest → mid ≡ record r { lines = lines }
     → new ≡ record mid { skipped = new.skipped; each_skipped = new.each_skipped; skipped_count = min (mid.skipped_count + 1) greatest }
     → ((b : List Skipped) → map skipped_data mid.skipped.items ≡ counted skipped_key b → map skipped_data new.skipped.items ≡ counted skipped_key (b ++ skipped_for cause (record { log = mid.log; line = l.number }) ∷ []))
     → ((b : List Skipped) → AreEach b (option_map (λ e. e.items) mid.each_skipped) → AreEach (b ++ skipped_for cause (record { log = mid.log; line = l.number }) ∷ []) (option_map (λ e. e.items) new.each_skipped))
@@ -211,7 +223,8 @@ taken_skipped before l r mid new lines cause is wants lines_is mid_is new_is rea
     new_is ∙ ap (λ (m : LogReport). record m { skipped = new.skipped; each_skipped = new.each_skipped; skipped_count = min (m.skipped_count + 1) greatest }) mid_is in
     skipped_of before l r new lines cause is wants lines_is now
     (λ b h. reasons b (ap (λ (x : LogReport). map skipped_data x.skipped.items) mid_is ∙ h) ∙ ap (λ (p : LinePlace). counted skipped_key (b ++ skipped_for cause p ∷ [])) place)
-    (λ b h. subst (λ (p : LinePlace). AreEach (b ++ skipped_for cause p ∷ []) (option_map (λ e. e.items) new.each_skipped)) place (each b (subst (λ (x : LogReport). AreEach b (option_map (λ e. e.items) x.each_skipped)) (sym mid_is) h)))
+    (λ b h. subst (λ (p : LinePlace). AreEach (b ++ skipped_for cause p ∷ []) (option_map (λ e. e.items) new.each_skipped)) place
+    (each b (subst (λ (x : LogReport). AreEach b (option_map (λ e. e.items) x.each_skipped)) (sym mid_is) h)))
     f
 
 -- a line that asks something
@@ -235,7 +248,8 @@ asks_of before l r new lines asked is wants lines_is new_is found f =
       left_out = left_same c (left_in c before) (left_in c (before ++ l ∷ [])) r.left_out (left_as c before l false true another wants) f.left_out;
     })
 
-pub taken_asks : (before : List LogLine) (l : LogLine) (r mid new : LogReport) (lines : ℕ) (asked : RecordData) → line_in l.bytes ≡ AsksFor asked → is_wanted r.choice l.bytes ≡ true → lines ≡ min (r.lines + 1) greatest → mid ≡ record r { lines = lines }
+pub taken_asks : (before : List LogLine) (l : LogLine) (r mid new : LogReport) (lines : ℕ) (asked : RecordData) → line_in l.bytes ≡ AsksFor asked
+    → is_wanted r.choice l.bytes ≡ true → lines ≡ min (r.lines + 1) greatest → mid ≡ record r { lines = lines }
     → new ≡ record mid { entries = new.entries; numbers = new.numbers; requests = min (mid.requests + 1) greatest }
     → ((b : List Asked) → AreFound b mid.entries.items mid.numbers → AreFound (b ++ asked_at asked (record { log = mid.log; line = l.number }) ∷ []) new.entries.items new.numbers)
     → r.log ≡ l.log → IsReport before r → IsReport (before ++ l ∷ []) new

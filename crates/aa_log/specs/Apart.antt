@@ -25,4 +25,5 @@ LinesAskSo = (c : Choice) (ls : List LogLine) → list_all (λ (l : LogLine). ar
 
 -- so of the requests of lines two are counted together only where they are the same
 abbrev pub RequestsTell : Type 0
-RequestsTell = (c : Choice) (ls : List LogLine) → list_all (λ (l : LogLine). are_bytes l.bytes) ls ≡ true → (i j : ℕ) (a b : Asked) → slice_get (requests_in c ls) i ≡ Some a → slice_get (requests_in c ls) j ≡ Some b → asked_key a ≡ asked_key b → IsSame a b
+RequestsTell = (c : Choice) (ls : List LogLine) → list_all (λ (l : LogLine). are_bytes l.bytes) ls ≡ true → (i j : ℕ) (a b : Asked)
+    → slice_get (requests_in c ls) i ≡ Some a → slice_get (requests_in c ls) j ≡ Some b → asked_key a ≡ asked_key b → IsSame a b

@@ -14,7 +14,8 @@ use Rattle.aa_logs.specs.Counts.{count_in, is_so}
 cell_of : (rows : List (List ℕ)) (r k i j v : ℕ) → r < length rows → k < length (get_or rows r []) → get_or (get_or (set rows r (set (get_or rows r []) k v)) i []) j 0 ≡ cond (r == i && k == j) v (get_or (get_or rows i []) j 0)
 cell_of rows r k i j v in_rows in_row = elim (cases_Bool (r == i)) [
   | inl same ↦ (let as_row : i ≡ r = sym (eqb-true r i same) in
-      let here : get_or (set rows r (set (get_or rows r []) k v)) i [] ≡ set (get_or rows r []) k v = ap (λ (n : ℕ). get_or (set rows r (set (get_or rows r []) k v)) n []) as_row ∙ get_or-set_same rows r (set (get_or rows r []) k v) [] in_rows in
+      let here : get_or (set rows r (set (get_or rows r []) k v)) i [] ≡ set (get_or rows r []) k v = ap
+      (λ (n : ℕ). get_or (set rows r (set (get_or rows r []) k v)) n []) as_row ∙ get_or-set_same rows r (set (get_or rows r []) k v) [] in_rows in
       ap (λ (l : List ℕ). get_or l j 0) here
       ∙ (elim (cases_Bool (k == j)) [
         | inl alike ↦ (let at : j ≡ k = sym (eqb-true k j alike) in
@@ -46,13 +47,17 @@ column_small is.Granted = lit< tt
 column_small is.NoProfile = lit< tt
 
 -- a table with one more for what was and is now so
-pub one_in : (was : Then) (is : Now) (before : Then) (after : Now) (rows : List (List ℕ)) (r k : ℕ) (row : List ℕ) → r ≡ row_of was → k ≡ column_of is → r < length rows → k < length (get_or rows r []) → row ≡ set (get_or rows r []) k (min (get_or (get_or rows r []) k 0 + 1) 18446744073709551615)
+pub one_in : (was : Then) (is : Now) (before : Then) (after : Now) (rows : List (List ℕ)) (r k : ℕ) (row : List ℕ) → r ≡ row_of was
+    → k ≡ column_of is → r < length rows → k < length (get_or rows r [])
+    → row ≡ set (get_or rows r []) k (min (get_or (get_or rows r []) k 0 + 1) 18446744073709551615)
     → count_in (row_of before) (column_of after) (set rows r row) ≡ cond (is_so before after was is) (min (count_in (row_of before) (column_of after) rows + 1) 18446744073709551615) (count_in (row_of before) (column_of after) rows)
 one_in was is before after rows r k row r_is k_is in_rows in_row row_is =
     let i : ℕ = row_of before in
     let j : ℕ = column_of after in
     let more : ℕ → ℕ = λ n. min (n + 1) 18446744073709551615 in
     ap (λ (l : List ℕ). count_in i j (set rows r l)) row_is ∙ cell_of rows r k i j (more (get_or (get_or rows r []) k 0)) in_rows in_row
-    ∙ if_so (r == i) (k == j) (more (get_or (get_or rows r []) k 0)) (more (count_in i j rows)) (count_in i j rows) (λ same alike. ap more (ap (λ (n : ℕ). get_or (get_or rows n []) k 0) (eqb-true r i same) ∙ ap (λ (n : ℕ). get_or (get_or rows i []) n 0) (eqb-true k j alike)))
+    ∙ if_so (r == i) (k == j) (more (get_or (get_or rows r []) k 0)) (more (count_in i j rows)) (count_in i j rows)
+    (λ same alike. ap more
+    (ap (λ (n : ℕ). get_or (get_or rows n []) k 0) (eqb-true r i same) ∙ ap (λ (n : ℕ). get_or (get_or rows i []) n 0) (eqb-true k j alike)))
     ∙ ap (λ (n : ℕ). cond (n == i && k == j) (more (count_in i j rows)) (count_in i j rows)) r_is
     ∙ ap (λ (n : ℕ). cond (row_of was == i && n == j) (more (count_in i j rows)) (count_in i j rows)) k_is

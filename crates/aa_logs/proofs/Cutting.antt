@@ -1,5 +1,7 @@
 -- Bytes cut into lines.
-use Rattle.std.proofs.Common.{Option, Some, None, unwrap_or, le_refl, ◌≡◌, ◌≢◌, ℕ, suc, ◌+◌, ◌-◌, ◌<◌, ◌≤◌, ◌==◌, ◌&&◌, List, [], ◌∷◌, ◌++◌, length, map, take, drop, min, Bool, true, false, if◌then◌else◌, not, refl, sym, ap, subst, ◌∙◌, append_assoc, append-nil, arith, inl, inr}
+use Rattle.std.proofs.Common.{Option, Some, None, unwrap_or, le_refl, ◌≡◌, ◌≢◌, ℕ, suc, ◌+◌, ◌-◌, ◌<◌, ◌≤◌, ◌==◌, ◌&&◌}
+use Rattle.std.proofs.Common.{List, [], ◌∷◌, ◌++◌, length, map, take, drop, min, Bool, true, false, if◌then◌else◌, not, refl, sym, ap, subst}
+use Rattle.std.proofs.Common.{◌∙◌, append_assoc, append-nil, arith, inl, inr}
 use Rattle.std.specs.List.{prefix_len, list_all}
 use Rattle.std.proofs.lemmas.Bool.{cases_lt, eqb-true, eqb-false}
 use Rattle.std.proofs.lemmas.List.{take_all, length-take, length-append, length-map, map-append, take-append-le}
@@ -64,7 +66,9 @@ pub ended-append : (front a b : List ℕ) → ended front (a ++ b) ≡ ended fro
 unfolding left_open ended
 ended-append front [] b = refl
 ended-append front (x ∷ a) b =
-    elim (x == 10) as (λ t. (if t then front ∷ ended [] (a ++ b) else ended (front ++ x ∷ []) (a ++ b)) ≡ (if t then front ∷ ended [] a else ended (front ++ x ∷ []) a) ++ ended (if t then left_open [] a else left_open (front ++ x ∷ []) a) b) [
+    elim (x == 10) as
+    (λ t. (if t then front ∷ ended [] (a ++ b) else ended (front ++ x ∷ []) (a ++ b)) ≡
+    (if t then front ∷ ended [] a else ended (front ++ x ∷ []) a) ++ ended (if t then left_open [] a else left_open (front ++ x ∷ []) a) b) [
       | true ↦ ap (λ (l : List (List ℕ)). front ∷ l) (ended-append [] a b)
       | false ↦ ended-append (front ++ x ∷ []) a b
     ]
@@ -121,7 +125,9 @@ cut : (front bs : List ℕ) → with_front front (lines_of bs) ≡ ended front b
 unfolding ended left_open lines_of with_front
 cut front [] = with_front-none front
 cut front (b ∷ bs) =
-    elim (b == 10) as (λ t. with_front front (if t then [] ∷ lines_of bs else in_front b (lines_of bs)) ≡ (if t then front ∷ ended [] bs else ended (front ++ b ∷ []) bs) ++ last_line (if t then left_open [] bs else left_open (front ++ b ∷ []) bs)) [
+    elim (b == 10) as
+    (λ t. with_front front (if t then [] ∷ lines_of bs else in_front b (lines_of bs)) ≡
+    (if t then front ∷ ended [] bs else ended (front ++ b ∷ []) bs) ++ last_line (if t then left_open [] bs else left_open (front ++ b ∷ []) bs)) [
       | true ↦ with_front-end front (lines_of bs) ∙ ap (λ (l : List (List ℕ)). front ∷ l) (cut [] bs)
       | false ↦ with_front-more front b (lines_of bs) ∙ cut (front ++ b ∷ []) bs
     ]
@@ -208,22 +214,31 @@ more_open front done line clean = left_open-append front done line ∙ ap (left_
 
 pub no_more : (front done line : List ℕ) → list_all is_in_line line ≡ true → ended front (done ++ line) ≡ ended front done
 unfolding ended
-no_more front done line clean = ended-append front done line ∙ ap (λ (l : List (List ℕ)). ended front done ++ l) (ap (ended (left_open front done)) (sym (append-nil line)) ∙ clean_ended (left_open front done) line [] clean) ∙ append-nil (ended front done)
+no_more front done line clean = ended-append front done line
+    ∙ ap (λ (l : List (List ℕ)). ended front done ++ l)
+    (ap (ended (left_open front done)) (sym (append-nil line)) ∙ clean_ended (left_open front done) line [] clean) ∙ append-nil (ended front done)
 
 -- one line behind those that are taken
-pub taken_more : (log first number : ℕ) (before : List LogLine) (lines : List (List ℕ)) (line : List ℕ) → number ≡ first + length lines → (before ++ numbered log first (map kept lines)) ++ log_line log number (kept line) ∷ [] ≡ before ++ numbered log first (map kept (lines ++ line ∷ []))
+pub taken_more : (log first number : ℕ) (before : List LogLine) (lines : List (List ℕ)) (line : List ℕ) → number ≡ first + length lines
+    → (before ++ numbered log first (map kept lines)) ++ log_line log number (kept line) ∷ [] ≡ before ++ numbered log first
+    (map kept (lines ++ line ∷ []))
 unfolding numbered
 taken_more log first number before lines line e =
     let at : number ≡ first + length (map kept lines) = e ∙ ap (λ (n : ℕ). first + n) (sym (length-map lines kept)) in
     append_assoc before (numbered log first (map kept lines)) (log_line log number (kept line) ∷ [])
-    ∙ ap (λ (l : List LogLine). before ++ l) (ap (λ (n : ℕ). numbered log first (map kept lines) ++ log_line log n (kept line) ∷ []) at ∙ sym (numbered-append log first (map kept lines) (kept line ∷ [])) ∙ ap (numbered log first) (sym (map-append kept lines (line ∷ []))))
+    ∙ ap (λ (l : List LogLine). before ++ l)
+    (ap (λ (n : ℕ). numbered log first (map kept lines) ++ log_line log n (kept line) ∷ []) at
+    ∙ sym (numbered-append log first (map kept lines) (kept line ∷ [])) ∙ ap (numbered log first) (sym (map-append kept lines (line ∷ []))))
 
 -- the lines of more bytes behind those that are taken
-pub taken_behind : (log first number : ℕ) (before : List LogLine) (lines more : List (List ℕ)) → number ≡ first + length lines → (before ++ numbered log first (map kept lines)) ++ numbered log number (map kept more) ≡ before ++ numbered log first (map kept (lines ++ more))
+pub taken_behind : (log first number : ℕ) (before : List LogLine) (lines more : List (List ℕ)) → number ≡ first + length lines
+    → (before ++ numbered log first (map kept lines)) ++ numbered log number (map kept more) ≡ before ++ numbered log first (map kept (lines ++ more))
 taken_behind log first number before lines more e =
     let at : number ≡ first + length (map kept lines) = e ∙ ap (λ (n : ℕ). first + n) (sym (length-map lines kept)) in
     append_assoc before (numbered log first (map kept lines)) (numbered log number (map kept more))
-    ∙ ap (λ (l : List LogLine). before ++ l) (ap (λ (n : ℕ). numbered log first (map kept lines) ++ numbered log n (map kept more)) at ∙ sym (numbered-append log first (map kept lines) (map kept more)) ∙ ap (numbered log first) (sym (map-append kept lines more)))
+    ∙ ap (λ (l : List LogLine). before ++ l)
+    (ap (λ (n : ℕ). numbered log first (map kept lines) ++ numbered log n (map kept more)) at
+    ∙ sym (numbered-append log first (map kept lines) (map kept more)) ∙ ap (numbered log first) (sym (map-append kept lines more)))
 
 -- the lines among bytes that are read behind others, where of these is known what is kept of the open line
 pub open_behind : (front bytes : List ℕ) → kept (left_open (kept (left_open [] front)) bytes) ≡ kept (left_open [] (front ++ bytes))
@@ -238,14 +253,20 @@ count_behind front bytes =
     ap (λ (n : ℕ). length (ended [] front) + n) (length-ended-kept (left_open [] front) bytes) ∙ sym (length-append (ended [] front) (ended (left_open [] front) bytes)) ∙ ap length (sym (ended-append [] front bytes))
 
 -- lines that are taken, and behind them those of more bytes
-pub taken_with : (log number : ℕ) (before : List LogLine) (front bytes : List ℕ) → number ≡ 1 + length (ended [] front) → (before ++ numbered log 1 (map kept (ended [] front))) ++ numbered log number (map kept (ended (kept (left_open [] front)) bytes)) ≡ before ++ numbered log 1 (map kept (ended [] (front ++ bytes)))
+pub taken_with : (log number : ℕ) (before : List LogLine) (front bytes : List ℕ) → number ≡ 1 + length (ended [] front)
+    → (before ++ numbered log 1 (map kept (ended [] front))) ++ numbered log number
+    (map kept (ended (kept (left_open [] front)) bytes)) ≡ before ++ numbered log 1 (map kept (ended [] (front ++ bytes)))
 taken_with log number before front bytes e =
     let at : number ≡ 1 + length (map kept (ended [] front)) = e ∙ ap (λ (n : ℕ). 1 + n) (sym (length-map (ended [] front) kept)) in
     append_assoc before (numbered log 1 (map kept (ended [] front))) (numbered log number (map kept (ended (kept (left_open [] front)) bytes)))
-    ∙ ap (λ (l : List LogLine). before ++ l) (ap (λ (n : ℕ). numbered log 1 (map kept (ended [] front)) ++ numbered log n (map kept (ended (kept (left_open [] front)) bytes))) at ∙ sym (numbered-append log 1 (map kept (ended [] front)) (map kept (ended (kept (left_open [] front)) bytes))) ∙ ap (numbered log 1) (ended_behind front bytes))
+    ∙ ap (λ (l : List LogLine). before ++ l)
+    (ap (λ (n : ℕ). numbered log 1 (map kept (ended [] front)) ++ numbered log n (map kept (ended (kept (left_open [] front)) bytes))) at
+    ∙ sym (numbered-append log 1 (map kept (ended [] front)) (map kept (ended (kept (left_open [] front)) bytes)))
+    ∙ ap (numbered log 1) (ended_behind front bytes))
 
 -- and behind all of them the last one
-pub taken_all : (log number : ℕ) (before : List LogLine) (bytes : List ℕ) → number ≡ 1 + length (ended [] bytes) → (before ++ numbered log 1 (map kept (ended [] bytes))) ++ numbered log number (last_line (kept (left_open [] bytes))) ≡ before ++ log_lines log bytes
+pub taken_all : (log number : ℕ) (before : List LogLine) (bytes : List ℕ) → number ≡ 1 + length (ended [] bytes)
+    → (before ++ numbered log 1 (map kept (ended [] bytes))) ++ numbered log number (last_line (kept (left_open [] bytes))) ≡ before ++ log_lines log bytes
 taken_all log number before bytes e =
     ap (λ (l : List (List ℕ)). (before ++ numbered log 1 (map kept (ended [] bytes))) ++ numbered log number l) (sym (last_line-kept (left_open [] bytes)))
     ∙ taken_behind log 1 number before (ended [] bytes) (last_line (left_open [] bytes)) e
@@ -272,12 +293,15 @@ begins (x ∷ xs) le = record { byte = x; is = ap (λ (l : List ℕ). x ∷ l) (
 whole : (bytes done rest line behind : List ℕ) → bytes ≡ done ++ rest → rest ≡ line ++ behind → length behind < 1 → bytes ≡ done ++ line
 whole bytes done rest line behind is split none = is ∙ ap (λ (l : List ℕ). done ++ l) (split ∙ ap (λ (l : List ℕ). line ++ l) (none_below behind none) ∙ append-nil line)
 
-pub last_held : (front bytes done rest line behind held new : List ℕ) (n : ℕ) → bytes ≡ done ++ rest → held ≡ kept (left_open front done) → n ≡ prefix_len is_in_line rest → line ≡ take n rest → rest ≡ line ++ behind → length behind < 1 → new ≡ kept (held ++ line) → new ≡ kept (left_open front bytes)
+pub last_held : (front bytes done rest line behind held new : List ℕ) (n : ℕ) → bytes ≡ done ++ rest → held ≡ kept (left_open front done)
+    → n ≡ prefix_len is_in_line rest → line ≡ take n rest → rest ≡ line ++ behind → length behind < 1 → new ≡ kept (held ++ line)
+    → new ≡ kept (left_open front bytes)
 last_held front bytes done rest line behind held new n is e count first split none kept_so =
     kept_so ∙ ap (λ (l : List ℕ). kept (l ++ line)) e ∙ kept-append (left_open front done) line
     ∙ ap kept (sym (more_open front done line (clean_line rest line n count first)) ∙ ap (left_open front) (sym (whole bytes done rest line behind is split none)))
 
-pub last_ended : (front bytes done rest line behind : List ℕ) (n : ℕ) → bytes ≡ done ++ rest → n ≡ prefix_len is_in_line rest → line ≡ take n rest → rest ≡ line ++ behind → length behind < 1 → ended front done ≡ ended front bytes
+pub last_ended : (front bytes done rest line behind : List ℕ) (n : ℕ) → bytes ≡ done ++ rest → n ≡ prefix_len is_in_line rest
+    → line ≡ take n rest → rest ≡ line ++ behind → length behind < 1 → ended front done ≡ ended front bytes
 last_ended front bytes done rest line behind n is count first split none =
     sym (no_more front done line (clean_line rest line n count first)) ∙ ap (ended front) (sym (whole bytes done rest line behind is split none))
 
@@ -289,20 +313,27 @@ step_bytes bytes done rest line behind after x is split begin =
 ends_there : (rest behind after : List ℕ) (x n : ℕ) → n ≡ prefix_len is_in_line rest → behind ≡ drop n rest → behind ≡ x ∷ after → is_in_line x ≡ false
 ends_there rest behind after x n count back begin = stops is_in_line rest x after (ap (λ (m : ℕ). drop m rest) (sym count) ∙ sym back ∙ begin)
 
-pub step_held : (front done rest line behind after new : List ℕ) (x n : ℕ) → n ≡ prefix_len is_in_line rest → line ≡ take n rest → behind ≡ drop n rest → behind ≡ x ∷ after → new ≡ [] → new ≡ kept (left_open front (done ++ (line ++ x ∷ [])))
+pub step_held : (front done rest line behind after new : List ℕ) (x n : ℕ) → n ≡ prefix_len is_in_line rest → line ≡ take n rest
+    → behind ≡ drop n rest → behind ≡ x ∷ after → new ≡ [] → new ≡ kept (left_open front (done ++ (line ++ x ∷ [])))
 step_held front done rest line behind after new x n count first back begin empty =
     empty ∙ sym (kept_whole [] (omega arith)) ∙ ap kept (sym (none_open front done line x (clean_line rest line n count first) (ends_there rest behind after x n count back begin)))
 
-pub step_ended : (front done rest line behind after : List ℕ) (x n : ℕ) → n ≡ prefix_len is_in_line rest → line ≡ take n rest → behind ≡ drop n rest → behind ≡ x ∷ after → ended front (done ++ (line ++ x ∷ [])) ≡ ended front done ++ (left_open front done ++ line) ∷ []
+pub step_ended : (front done rest line behind after : List ℕ) (x n : ℕ) → n ≡ prefix_len is_in_line rest → line ≡ take n rest
+    → behind ≡ drop n rest → behind ≡ x ∷ after
+    → ended front (done ++ (line ++ x ∷ [])) ≡ ended front done ++ (left_open front done ++ line) ∷ []
 step_ended front done rest line behind after x n count first back begin =
     line_more front done line x (clean_line rest line n count first) (ends_there rest behind after x n count back begin)
 
-pub step_number : (front done line : List ℕ) (x first number new : ℕ) → ended front (done ++ (line ++ x ∷ [])) ≡ ended front done ++ (left_open front done ++ line) ∷ [] → number ≡ first + length (ended front done) → new ≡ number + 1 → new ≡ first + length (ended front (done ++ (line ++ x ∷ [])))
+pub step_number : (front done line : List ℕ) (x first number new : ℕ)
+    → ended front (done ++ (line ++ x ∷ [])) ≡ ended front done ++ (left_open front done ++ line) ∷ [] → number ≡ first + length (ended front done)
+    → new ≡ number + 1 → new ≡ first + length (ended front (done ++ (line ++ x ∷ [])))
 step_number front done line x first number new is e more =
     let len : length (ended front (done ++ (line ++ x ∷ []))) ≡ length (ended front done) + 1 = ap length is ∙ length-append (ended front done) ((left_open front done ++ line) ∷ []) in
     omega (arith, len, e, more)
 
-pub step_taken : (log now first number : ℕ) (before : List LogLine) (front done line held : List ℕ) (x : ℕ) → now ≡ log → number ≡ first + length (ended front done) → held ≡ kept (left_open front done) → ended front (done ++ (line ++ x ∷ [])) ≡ ended front done ++ (left_open front done ++ line) ∷ []
+pub step_taken : (log now first number : ℕ) (before : List LogLine) (front done line held : List ℕ) (x : ℕ) → now ≡ log
+    → number ≡ first + length (ended front done) → held ≡ kept (left_open front done)
+    → ended front (done ++ (line ++ x ∷ [])) ≡ ended front done ++ (left_open front done ++ line) ∷ []
     → (before ++ numbered log first (map kept (ended front done))) ++ log_line now number (kept (held ++ line)) ∷ [] ≡ before ++ numbered log first (map kept (ended front (done ++ (line ++ x ∷ []))))
 step_taken log now first number before front done line held x same e is more =
     let so_far : List LogLine = before ++ numbered log first (map kept (ended front done)) in
@@ -315,7 +346,8 @@ step_taken log now first number before front done line held x same e is more =
 pub chunk_held : (front bytes held new : List ℕ) → held ≡ kept (left_open [] front) → new ≡ kept (left_open held bytes) → new ≡ kept (left_open [] (front ++ bytes))
 chunk_held front bytes held new is e = e ∙ ap (λ (l : List ℕ). kept (left_open l bytes)) is ∙ open_behind front bytes
 
-pub chunk_number : (front bytes held : List ℕ) (number new : ℕ) → held ≡ kept (left_open [] front) → number ≡ 1 + length (ended [] front) → new ≡ number + length (ended held bytes) → new ≡ 1 + length (ended [] (front ++ bytes))
+pub chunk_number : (front bytes held : List ℕ) (number new : ℕ) → held ≡ kept (left_open [] front) → number ≡ 1 + length (ended [] front)
+    → new ≡ number + length (ended held bytes) → new ≡ 1 + length (ended [] (front ++ bytes))
 chunk_number front bytes held number new is e more =
     let more' : new ≡ number + length (ended (kept (left_open [] front)) bytes) = more ∙ ap (λ (l : List ℕ). number + length (ended l bytes)) is in
     omega (arith, e, more', count_behind front bytes)
@@ -363,7 +395,7 @@ none_where xs b is holds = none_below xs (let none : length xs ≡ 0 = eqb-true 
 pub some_where : (xs : List ℕ) (b : Bool) → b ≡ (length xs == 0) → b ≡ false → xs ≢ []
 some_where xs b is fails = λ e. eqb-false (length xs) 0 (sym is ∙ fails) (ap length e)
 
-not_true : (b : Bool) → (b ≡ true → ⊥) → b ≡ false
+pub not_true : (b : Bool) → (b ≡ true → ⊥) → b ≡ false
 not_true true fails = absurd (fails refl)
 not_true false fails = refl
 

@@ -1,5 +1,6 @@
 -- Fields by their keys, parts of texts, and numbers digit by digit.
-use Rattle.std.proofs.Common.{◌≡◌, ℕ, ◌+◌, ◌-◌, ◌*◌, ◌^◌, ◌<◌, ◌≤◌, Bool, true, false, ◌&&◌, List, [], ◌∷◌, ◌++◌, length, take, drop, get_or, map, cond, refl, sym, ◌∙◌, ap, arith, Option, Some, None}
+use Rattle.std.proofs.Common.{◌≡◌, ℕ, ◌+◌, ◌-◌, ◌*◌, ◌^◌, ◌<◌, ◌≤◌, Bool, true, false, ◌&&◌, List, [], ◌∷◌}
+use Rattle.std.proofs.Common.{◌++◌, length, take, drop, get_or, map, cond, refl, sym, ◌∙◌, ap, arith, Option, Some, None}
 use Rattle.std.specs.Prelude.{reverse, find, count_by, option_map, nat_eq, nat_lt}
 use Rattle.std.specs.List.{starts_with, list_any, fold}
 use Rattle.std.specs.Str.{bytes_eq}
@@ -67,10 +68,10 @@ unfolding place_of
 place_case part [] h = absurd (omega arith)
 place_case part (b ∷ bs) h = refl
 
-drop_one : (i : ℕ) (t : List ℕ) → i < length t → drop 1 (drop i t) ≡ drop (i + 1) t
+pub drop_one : (i : ℕ) (t : List ℕ) → i < length t → drop 1 (drop i t) ≡ drop (i + 1) t
 drop_one i t h = at_drop_more (drop 1) t i 0 h
 
-drop_some : (i : ℕ) (t : List ℕ) → i < length t → 0 < length (drop i t)
+pub drop_some : (i : ℕ) (t : List ℕ) → i < length t → 0 < length (drop i t)
 drop_some i t h = omega (arith, length-drop {A = ℕ})
 
 place_step : (part t : List ℕ) (i : ℕ) → i < length t → place_of part (drop i t) ≡ cond (starts_with nat_eq (drop i t) part) (Some 0) (option_map (λ n. n + 1) (place_of part (drop (i + 1) t)))
@@ -81,7 +82,7 @@ place_step part t i h =
 abbrev pub moved : ℕ → Option ℕ → Option ℕ
 moved i o = option_map (λ n. n + i) o
 
-moved_on : (i : ℕ) (o : Option ℕ) → moved i (option_map (λ n. n + 1) o) ≡ moved (i + 1) o
+pub moved_on : (i : ℕ) (o : Option ℕ) → moved i (option_map (λ n. n + 1) o) ≡ moved (i + 1) o
 moved_on i None = refl
 moved_on i (Some n) = let e : n + 1 + i ≡ n + (i + 1) = omega arith in ap Some e
 
@@ -92,7 +93,8 @@ place_found part t i total h e so_far =
     ∙ (sym (ap (moved i) (place_step part t i h ∙ ap (λ (b : Bool). cond b (Some 0) (option_map (λ n. n + 1) (place_of part (drop (i + 1) t)))) e))
     ∙ so_far)
 
-pub place_onward : (part t : List ℕ) (i : ℕ) (total : Option ℕ) → i < length t → starts_with nat_eq (drop i t) part ≡ false → moved i (place_of part (drop i t)) ≡ total → moved (i + 1) (place_of part (drop (i + 1) t)) ≡ total
+pub place_onward : (part t : List ℕ) (i : ℕ) (total : Option ℕ) → i < length t → starts_with nat_eq (drop i t) part ≡ false
+    → moved i (place_of part (drop i t)) ≡ total → moved (i + 1) (place_of part (drop (i + 1) t)) ≡ total
 place_onward part t i total h e so_far =
     sym (moved_on i (place_of part (drop (i + 1) t)))
     ∙ (sym (ap (moved i) (place_step part t i h ∙ ap (λ (b : Bool). cond b (Some 0) (option_map (λ n. n + 1) (place_of part (drop (i + 1) t)))) e))

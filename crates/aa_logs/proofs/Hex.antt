@@ -4,7 +4,7 @@ use Rattle.std.proofs.lemmas.List.{take_all, append-nil}
 use Rattle.std.specs.List.{list_all}
 use Rattle.aa_logs.specs.Values.{is_hex_digit, digit_of, bytes_of_hex, is_even, is_hex}
 
-rest_is : (a b : ℕ) (rest : List ℕ) → take (length (a ∷ b ∷ rest) - 2) (drop 2 (a ∷ b ∷ rest)) ≡ rest
+pub rest_is : (a b : ℕ) (rest : List ℕ) → take (length (a ∷ b ∷ rest) - 2) (drop 2 (a ∷ b ∷ rest)) ≡ rest
 rest_is a b rest = take_all (length (a ∷ b ∷ rest) - 2) rest (omega arith)
 
 later_pass : (p q r : Bool) → (p && (q && r)) ≡ true → r ≡ true
@@ -37,7 +37,7 @@ none_left (a ∷ b ∷ rest) h = absurd (omega arith)
 pub all_made : (s old t : List ℕ) → length s < 2 → old ++ bytes_of_hex s ≡ t → old ≡ t
 all_made s old t h made = sym (append-nil old) ∙ (ap (λ (u : List ℕ). old ++ u) (sym (none_left s h)) ∙ made)
 
-right_of : (p q : Bool) → (p && q) ≡ true → q ≡ true
+pub right_of : (p q : Bool) → (p && q) ≡ true → q ≡ true
 right_of true q h = h
 right_of false q h = absurd cc
 

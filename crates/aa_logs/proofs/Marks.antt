@@ -1,5 +1,6 @@
 -- The marks of records are where their signs are.
-use Rattle.std.proofs.Common.{◌≡◌, ℕ, zero, suc, ◌+◌, ◌-◌, ◌<◌, ◌≤◌, Bool, true, false, ◌||◌, ◌&&◌, List, [], ◌∷◌, ◌++◌, length, drop, get_or, cond, refl, sym, ◌∙◌, ap, subst, arith, inl, inr, Option, Some, None}
+use Rattle.std.proofs.Common.{◌≡◌, ℕ, zero, suc, ◌+◌, ◌-◌, ◌<◌, ◌≤◌, Bool, true, false, ◌||◌, ◌&&◌, List, [], ◌∷◌}
+use Rattle.std.proofs.Common.{◌++◌, length, drop, get_or, cond, refl, sym, ◌∙◌, ap, subst, arith, inl, inr, Option, Some, None}
 use Rattle.std.specs.Prelude.{codes, nat_eq, nat_le, is_some, option_map}
 use Rattle.std.specs.List.{starts_with}
 use Rattle.std.proofs.lemmas.Bool.{cases_lt, le-leb}
@@ -9,14 +10,8 @@ use Rattle.std.proofs.lemmas.Slice.Eq.{starts_is}
 use Rattle.memchr.specs.Find.{Nowhere, NoneBefore, Passes, is_byte}
 use Rattle.aa_logs.specs.Fields.{place_of}
 use Rattle.aa_logs.specs.Records.{holds_part, is_mark_at, has_mark_at, is_record}
-
-pub not_true : (b : Bool) → (b ≡ true → ⊥) → b ≡ false
-not_true true fails = absurd (fails refl)
-not_true false fails = refl
-
-right_of : (p q : Bool) → (p && q) ≡ true → q ≡ true
-right_of true q h = h
-right_of false q h = absurd cc
+use Rattle.aa_logs.proofs.Cutting.{not_true}
+use Rattle.aa_logs.proofs.Hex.{right_of}
 
 -- a part that stands nowhere, and one that stands somewhere
 place_none : (part t : List ℕ) → ((k : ℕ) → starts_with nat_eq (drop k t) part ≡ false) → place_of part t ≡ None

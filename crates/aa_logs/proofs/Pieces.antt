@@ -65,7 +65,9 @@ read_more s old new total w n h e f pushed so_far =
     ap (λ (t : List ℕ). new ++ words_of t) (all_behind n s)
     ∙ (ap (λ (t : List WordData). t ++ words_of (drop n s)) pushed
     ∙ (append_assoc old (option_to_list w) (words_of (drop n s))
-    ∙ (ap (λ (t : List WordData). old ++ t) (ap (λ (v : Option WordData). option_to_list v ++ words_of (drop n s)) f ∙ (ap (λ (k : ℕ). option_to_list ((first_piece s).word) ++ words_of (drop k s)) e ∙ sym (words_of-first s h (first_onward s h))))
+    ∙ (ap (λ (t : List WordData). old ++ t)
+    (ap (λ (v : Option WordData). option_to_list v ++ words_of (drop n s)) f
+    ∙ (ap (λ (k : ℕ). option_to_list ((first_piece s).word) ++ words_of (drop k s)) e ∙ sym (words_of-first s h (first_onward s h))))
     ∙ so_far)))
 
 pub read_all : (s : List ℕ) (old total : List WordData) → length s ≡ 0 → old ++ words_of s ≡ total → old ≡ total

@@ -5,7 +5,7 @@ use Rattle.std.specs.List.{position_or_len}
 use Rattle.std.proofs.lemmas.Bool.{lt-ltb, le-ltb}
 use Rattle.std.proofs.lemmas.List.Sums.{position_or_len_is}
 use Rattle.memchr.specs.Find.{IsFirstByte, is_byte}
-use Rattle.aa_logs.proofs.Marks.{not_true}
+use Rattle.aa_logs.proofs.Cutting.{not_true}
 
 abbrev is_quote : ℕ → Bool
 is_quote c = c == 34

@@ -8,7 +8,8 @@ use Rattle.aa_logs.specs.Words.{WordData}
 use Rattle.aa_logs.specs.Asked.{Because, Tells, file_in, requested_by}
 
 -- with a mask it is the use of a file, and without one it is none
-pub requested_some : (r : Result Request Refusal) (ws : List WordData) (letters : List ℕ) (o : Option (List ℕ)) → Some letters ≡ o → Tells (λ (y : Request). y) r (file_in ws letters) → Tells (λ (y : Request). y) r (requested_by ws o)
+pub requested_some : (r : Result Request Refusal) (ws : List WordData) (letters : List ℕ) (o : Option (List ℕ)) → Some letters ≡ o
+    → Tells (λ (y : Request). y) r (file_in ws letters) → Tells (λ (y : Request). y) r (requested_by ws o)
 requested_some r ws letters o e t = subst (λ q. Tells (λ (y : Request). y) r (requested_by ws q)) e t
 
 pub requested_none : (ws : List WordData) (o : Option (List ℕ)) → None ≡ o → requested_by ws o ≡ Err (Because Operation)

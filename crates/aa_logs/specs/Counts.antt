@@ -27,4 +27,7 @@ AreNone rows = (before : Then) (after : Now) → count_in (row_of before) (colum
 
 -- of what was and is now so there is one more, up to the greatest of 64 bits, and of all else as many
 abbrev pub HasOneMore : Then → Now → List (List ℕ) → List (List ℕ) → Type 0
-HasOneMore was is old new = (before : Then) (after : Now) → count_in (row_of before) (column_of after) new ≡ (if is_so before after was is then min (count_in (row_of before) (column_of after) old + 1) (2 ^ 64 - 1) else count_in (row_of before) (column_of after) old)
+HasOneMore was is old new = (before : Then) (after : Now)
+    → count_in (row_of before) (column_of after) new ≡
+    (if is_so before after was is then min (count_in (row_of before) (column_of after) old + 1) (2 ^ 64 - 1) else count_in (row_of before)
+    (column_of after) old)

@@ -1,6 +1,7 @@
 -- What a line of a log is: another's, one that asks nothing, or a record of what was asked and what became of it.
 -- Source: as the kernel and the audit daemon write; as the kernel numbers records; as the audit daemon writes; own.
-use Rattle.std.specs.Prelude.{◌≡◌, ℕ, ◌+◌, ◌-◌, ◌==◌, ◌||◌, ◌&&◌, not, nat_le, nat_lt, nat_eq, List, [], ◌∷◌, length, take, drop, codes, count_by, Bool, true, false, if◌then◌else◌, Option, Some, None, is_some, slice_get, Result, Ok, Err}
+use Rattle.std.specs.Prelude.{◌≡◌, ℕ, ◌+◌, ◌-◌, ◌==◌, ◌||◌, ◌&&◌, not, nat_le, nat_lt, nat_eq, List, [], ◌∷◌, length, take}
+use Rattle.std.specs.Prelude.{drop, codes, count_by, Bool, true, false, if◌then◌else◌, Option, Some, None, is_some, slice_get, Result, Ok, Err}
 use Rattle.std.specs.List.{starts_with, list_any, prefix_len}
 use Rattle.std.specs.Option.{option_and_then, option_or}
 use Rattle.std.specs.Str.{bytes_eq}
@@ -52,7 +53,8 @@ told_by_type kind =
     if is_one_of (codes "1501") (codes "UNKNOWN[1501]") (codes "APPARMOR_AUDIT") kind then Some (told.Then Granted)
     else (if is_one_of (codes "1502") (codes "UNKNOWN[1502]") (codes "APPARMOR_ALLOWED") kind then Some (told.Then Allowed)
     else (if is_one_of (codes "1503") (codes "UNKNOWN[1503]") (codes "APPARMOR_DENIED") kind then Some (told.Then Denied)
-    else (if is_one_of (codes "1504") (codes "UNKNOWN[1504]") (codes "APPARMOR_HINT") kind || is_one_of (codes "1505") (codes "UNKNOWN[1505]") (codes "APPARMOR_STATUS") kind || is_one_of (codes "1506") (codes "UNKNOWN[1506]") (codes "APPARMOR_ERROR") kind then Some told.Status
+    else (if is_one_of (codes "1504") (codes "UNKNOWN[1504]") (codes "APPARMOR_HINT") kind || is_one_of (codes "1505") (codes "UNKNOWN[1505]")
+    (codes "APPARMOR_STATUS") kind || is_one_of (codes "1506") (codes "UNKNOWN[1506]") (codes "APPARMOR_ERROR") kind then Some told.Status
     else None)))
 
 -- a record of before 2007

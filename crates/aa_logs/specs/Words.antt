@@ -1,6 +1,7 @@
 -- The words of a log's line.
 -- Source: as the audit daemon writes; as the kernel writes fields; as the bus daemon's lines stand in msg='..'; own.
-use Rattle.std.specs.Prelude.{ℕ, zero, suc, ◌+◌, ◌-◌, ◌==◌, ◌||◌, ◌&&◌, nat_le, nat_lt, List, [], ◌∷◌, ◌++◌, length, take, drop, map, reverse, find, option_to_list, Bool, not, Option, Some, None, if◌then◌else◌}
+use Rattle.std.specs.Prelude.{ℕ, zero, suc, ◌+◌, ◌-◌, ◌==◌, ◌||◌, ◌&&◌, nat_le, nat_lt, List, [], ◌∷◌, ◌++◌, length, take, drop}
+use Rattle.std.specs.Prelude.{map, reverse, find, option_to_list, Bool, not, Option, Some, None, if◌then◌else◌}
 use Rattle.std.specs.List.{prefix_len, position}
 use Rattle.std.specs.Str.{bytes_eq}
 use Rattle.aa_logs.specs.declared.word.Form.{Form}

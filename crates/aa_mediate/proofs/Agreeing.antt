@@ -85,7 +85,10 @@ module _ (rules : List FileRule) (path : List ℕ) (owned : Bool) where
   abbrev test : (Pattern → Bool) → FileRule → Bool
   test sort r = says_how r && applies_by sort path owned r
 
-  chosen_by : (sort : Pattern → Bool) (literal : Bool) → ((r : FileRule) (p : Pattern) → Contains rules r → test sort r ≡ true → Contains r.patterns p → (sort p && is_match p.items.items path) ≡ true → is_literal p ≡ literal) → (r : FileRule) → Contains (ways_by sort rules path owned) r → Chosen literal r
+  chosen_by : (sort : Pattern → Bool) (literal : Bool)
+      → ((r : FileRule) (p : Pattern) → Contains rules r → test sort r ≡ true → Contains r.patterns p
+      → (sort p && is_match p.items.items path) ≡ true → is_literal p ≡ literal) → (r : FileRule) → Contains (ways_by sort rules path owned) r
+      → Chosen literal r
   chosen_by sort literal is r c =
       let k = kept (λ x. says_how x && applies_by sort path owned x) r rules c in
       let parts = both_true _ _ k.1 in
@@ -133,7 +136,8 @@ module _ (rules : List FileRule) (path : List ℕ) (owned : Bool) where
   by_literal r p c t d e = (both_true _ _ e).0
 
   -- where no rule applies by a literal pattern, those that apply do so by others
-  by_others : is_nil (ways_by is_literal rules path owned) ≡ true → (r : FileRule) (p : Pattern) → Contains rules r → test any_sort r ≡ true → Contains r.patterns p → (any_sort p && is_match p.items.items path) ≡ true → is_literal p ≡ false
+  by_others : is_nil (ways_by is_literal rules path owned) ≡ true → (r : FileRule) (p : Pattern) → Contains rules r → test any_sort r ≡ true
+      → Contains r.patterns p → (any_sort p && is_match p.items.items path) ≡ true → is_literal p ≡ false
   by_others nil r p c t d e = at (is_literal p) refl
     where
       at : (b : Bool) → is_literal p ≡ b → is_literal p ≡ false
@@ -146,7 +150,9 @@ module _ (rules : List FileRule) (path : List ℕ) (owned : Bool) where
           let passes = and_true (says_how r) (applies_by is_literal path owned r) parts.0 (and_true (owned || not r.owner) (some_match is_literal path r.patterns) applies.0 some) in
           absurd (true≢false (sym passes ∙ none_kept (λ x. says_how x && applies_by is_literal path owned x) r rules nil c))
 
-  chosen_are : (b : Bool) → is_nil (ways_by is_literal rules path owned) ≡ b → (Conflicts rules → ⊥) → (r q : FileRule) → Contains (cond b (ways_by any_sort rules path owned) (ways_by is_literal rules path owned)) r → Contains (cond b (ways_by any_sort rules path owned) (ways_by is_literal rules path owned)) q → r.exec ≡ q.exec
+  chosen_are : (b : Bool) → is_nil (ways_by is_literal rules path owned) ≡ b → (Conflicts rules → ⊥) → (r q : FileRule)
+      → Contains (cond b (ways_by any_sort rules path owned) (ways_by is_literal rules path owned)) r
+      → Contains (cond b (ways_by any_sort rules path owned) (ways_by is_literal rules path owned)) q → r.exec ≡ q.exec
   chosen_are true nil free r q c d = agree free false r q (chosen_by any_sort false (by_others nil) r c) (chosen_by any_sort false (by_others nil) q d)
   chosen_are false nil free r q c d = agree free true r q (chosen_by is_literal true by_literal r c) (chosen_by is_literal true by_literal q d)
 

@@ -14,7 +14,9 @@ module _ {R : Type 0} (holds : R → Bool) (saying : R → Saying) where
   step true r rules = refl
   step false r rules = sym (both_joins.left (verdict_by rules))
 
-  pub verdict_more : (rules : List R) (i : ℕ) (r : R) (acc next total : RuleSets) → i < length rules → r ≡ get_or rules i r → next ≡ both acc (cond (holds r) (said (saying r)) nothing) → both acc (verdict_by (drop i rules)) ≡ total → both next (verdict_by (drop (i + 1) rules)) ≡ total
+  pub verdict_more : (rules : List R) (i : ℕ) (r : R) (acc next total : RuleSets) → i < length rules → r ≡ get_or rules i r
+      → next ≡ both acc (cond (holds r) (said (saying r)) nothing) → both acc (verdict_by (drop i rules)) ≡ total
+      → both next (verdict_by (drop (i + 1) rules)) ≡ total
   verdict_more rules i r acc next total lt is e so_far =
       let rest = verdict_by (drop (i + 1) rules) in
       let P : R → Type 0 = λ x. verdict_by (drop i rules) ≡ both (cond (holds x) (said (saying x)) nothing) rest in

@@ -125,7 +125,9 @@ module _ (rules : List FileRule) where
       let y = g t refl in
       ap Some (tells_apart rules x.rule y.rule s t x.in_rules y.in_rules x.says y.says (same_Some (way_by rules s) (way_by rules t) e))
 
-  pub same_ways : (path other : List ℕ) (owned : Bool) (one two : Verdict) (b : Bool) → IsVerdictOf (way_by rules) rules path owned one → IsVerdictOf (way_by rules) rules other owned two → IsTrue b ↔ (one.chosen.way ≡ two.chosen.way) → b ≡ option_eq same_exec (way_of (chosen rules path owned)) (way_of (chosen rules other owned))
+  pub same_ways : (path other : List ℕ) (owned : Bool) (one two : Verdict) (b : Bool) → IsVerdictOf (way_by rules) rules path owned one
+      → IsVerdictOf (way_by rules) rules other owned two → IsTrue b ↔ (one.chosen.way ≡ two.chosen.way)
+      → b ≡ option_eq same_exec (way_of (chosen rules path owned)) (way_of (chosen rules other owned))
   same_ways path other owned one two b x y is =
       let s = way_of (chosen rules path owned) in
       let t = way_of (chosen rules other owned) in

@@ -1,12 +1,12 @@
 -- Loops over a word: the first place of a part, letters one by one, digits two by two.
-use Rattle.std.proofs.Common.{◌≡◌, ℕ, ◌+◌, ◌-◌, ◌<◌, ◌≤◌, Bool, true, false, List, [], ◌∷◌, ◌++◌, length, take, drop, get_or, cond, refl, sym, ◌∙◌, ap, arith, append_assoc, Option, Some, None, nat_eq, option_map, option_and_then, bit_or}
+use Rattle.std.proofs.Common.{◌≡◌, ℕ, ◌+◌, ◌-◌, ◌<◌, ◌≤◌, Bool, true, false, List, [], ◌∷◌, ◌++◌, length, take, drop}
+use Rattle.std.proofs.Common.{get_or, cond, refl, sym, ◌∙◌, ap, arith, append_assoc, Option, Some, None, nat_eq, option_map, option_and_then, bit_or}
 use Rattle.std.specs.List.{starts_with}
 use Rattle.std.proofs.lemmas.List.{length-drop, at_drop_more, at_drop_all, take_all, append-nil}
 use Rattle.aa_notation.specs.Parts.{place_of}
 use Rattle.aa_notation.specs.Read.{letter_in, letters_in, byte_in, bytes_in}
-
-pub all_behind : (n : ℕ) (s : List ℕ) → take (length s - n) (drop n s) ≡ drop n s
-all_behind n s = take_all (length s - n) (drop n s) (omega (arith, length-drop n s))
+use Rattle.aa_logs.proofs.Found.{drop_one, drop_some, moved, moved_on}
+use Rattle.aa_logs.proofs.Hex.{rest_is}
 
 -- a part stands first, or behind the first byte
 place_case : (part t : List ℕ) → 0 < length t → place_of part t ≡ cond (starts_with nat_eq t part) (Some 0) (option_map (λ n. n + 1) (place_of part (drop 1 t)))
@@ -14,23 +14,10 @@ unfolding place_of
 place_case part [] h = absurd (omega arith)
 place_case part (b ∷ bs) h = refl
 
-drop_one : (i : ℕ) (t : List ℕ) → i < length t → drop 1 (drop i t) ≡ drop (i + 1) t
-drop_one i t h = at_drop_more (drop 1) t i 0 h
-
-drop_some : (i : ℕ) (t : List ℕ) → i < length t → 0 < length (drop i t)
-drop_some i t h = omega (arith, length-drop {A = ℕ})
-
 place_step : (part t : List ℕ) (i : ℕ) → i < length t → place_of part (drop i t) ≡ cond (starts_with nat_eq (drop i t) part) (Some 0) (option_map (λ n. n + 1) (place_of part (drop (i + 1) t)))
 place_step part t i h =
     place_case part (drop i t) (drop_some i t h)
     ∙ ap (λ (u : List ℕ). cond (starts_with nat_eq (drop i t) part) (Some 0) (option_map (λ n. n + 1) (place_of part u))) (drop_one i t h)
-
-abbrev pub moved : ℕ → Option ℕ → Option ℕ
-moved i o = option_map (λ n. n + i) o
-
-moved_on : (i : ℕ) (o : Option ℕ) → moved i (option_map (λ n. n + 1) o) ≡ moved (i + 1) o
-moved_on i None = refl
-moved_on i (Some n) = let e : n + 1 + i ≡ n + (i + 1) = omega arith in ap Some e
 
 pub place_found : (part t : List ℕ) (i : ℕ) (total : Option ℕ) → i < length t → starts_with nat_eq (drop i t) part ≡ true → moved i (place_of part (drop i t)) ≡ total → Some i ≡ total
 place_found part t i total h e so_far =
@@ -39,7 +26,8 @@ place_found part t i total h e so_far =
     ∙ (sym (ap (moved i) (place_step part t i h ∙ ap (λ (b : Bool). cond b (Some 0) (option_map (λ n. n + 1) (place_of part (drop (i + 1) t)))) e))
     ∙ so_far)
 
-pub place_onward : (part t : List ℕ) (i : ℕ) (total : Option ℕ) → i < length t → starts_with nat_eq (drop i t) part ≡ false → moved i (place_of part (drop i t)) ≡ total → moved (i + 1) (place_of part (drop (i + 1) t)) ≡ total
+pub place_onward : (part t : List ℕ) (i : ℕ) (total : Option ℕ) → i < length t → starts_with nat_eq (drop i t) part ≡ false
+    → moved i (place_of part (drop i t)) ≡ total → moved (i + 1) (place_of part (drop (i + 1) t)) ≡ total
 place_onward part t i total h e so_far =
     sym (moved_on i (place_of part (drop (i + 1) t)))
     ∙ (sym (ap (moved i) (place_step part t i h ∙ ap (λ (b : Bool). cond b (Some 0) (option_map (λ n. n + 1) (place_of part (drop (i + 1) t)))) e))
@@ -63,16 +51,14 @@ letters_step bits s i h = at_drop_more (letters_in bits) s i 0 h
 pub letters_stop : (bits : ℕ) (s : List ℕ) (i : ℕ) (total : Option ℕ) → i < length s → None ≡ letter_in (get_or s i 0) → letters_in bits (drop i s) ≡ total → None ≡ total
 letters_stop bits s i total h e t = ap (option_and_then (λ b. letters_in (bit_or bits b) (drop (i + 1) s))) e ∙ sym (letters_step bits s i h) ∙ t
 
-pub letters_go : (bits : ℕ) (s : List ℕ) (i : ℕ) (total : Option ℕ) (b after : ℕ) → i < length s → Some b ≡ letter_in (get_or s i 0) → after ≡ bit_or bits b → letters_in bits (drop i s) ≡ total → letters_in after (drop (i + 1) s) ≡ total
+pub letters_go : (bits : ℕ) (s : List ℕ) (i : ℕ) (total : Option ℕ) (b after : ℕ) → i < length s → Some b ≡ letter_in (get_or s i 0)
+    → after ≡ bit_or bits b → letters_in bits (drop i s) ≡ total → letters_in after (drop (i + 1) s) ≡ total
 letters_go bits s i total b after h e a t =
     ap (λ (n : ℕ). letters_in n (drop (i + 1) s)) a ∙ ap (option_and_then (λ b. letters_in (bit_or bits b) (drop (i + 1) s))) e ∙ sym (letters_step bits s i h) ∙ t
 
 pub letters_end : (bits : ℕ) (s : List ℕ) (i : ℕ) (total : Option ℕ) → length s ≤ i → letters_in bits (drop i s) ≡ total → Some bits ≡ total
 unfolding letters_in
 letters_end bits s i total h t = sym (at_drop_all (letters_in bits) s i h) ∙ t
-
-rest_is : (a b : ℕ) (rest : List ℕ) → take (length (a ∷ b ∷ rest) - 2) (drop 2 (a ∷ b ∷ rest)) ≡ rest
-rest_is a b rest = take_all (length (a ∷ b ∷ rest) - 2) rest (omega arith)
 
 -- the bytes so far, before those of the digits that are left
 abbrev pub onto : List ℕ → Option (List ℕ) → Option (List ℕ)

@@ -1,5 +1,7 @@
 -- A path as it is written in a word, read back.
-use Rattle.std.proofs.Common.{◌≡◌, ℕ, ◌+◌, ◌-◌, ◌/◌, ◌%◌, ◌<◌, ◌≤◌, Bool, true, false, not, ◌&&◌, ◌==◌, List, [], ◌∷◌, length, cond, refl, sym, ◌∙◌, ap, arith, codes, flat_map, nat_lt, nat_le, is_some, option_map, option_and_then, Option, Some, None, true≢false}
+use Rattle.std.proofs.Common.{◌≡◌, ℕ, ◌+◌, ◌-◌, ◌/◌, ◌%◌, ◌<◌, ◌≤◌, Bool, true, false, not, ◌&&◌, ◌==◌, List, []}
+use Rattle.std.proofs.Common.{◌∷◌, length, cond, refl, sym, ◌∙◌, ap, arith, codes, flat_map, nat_lt, nat_le, is_some, option_map, option_and_then}
+use Rattle.std.proofs.Common.{Option, Some, None, true≢false}
 use Rattle.std.specs.List.{list_all, list_any}
 use Rattle.std.proofs.lemmas.Bool.{and_parts, and_from, agree_below_at, eqb-true, ltb-true, false_from_ne_true}
 use Rattle.aa_model.specs.Requests.{begins_with, is_path}
@@ -33,7 +35,7 @@ pub hex_back : (bytes : List ℕ) → not (length bytes == 0) ≡ true → are_b
 hex_back [] some h = absurd (true≢false (sym some))
 hex_back (b ∷ bs) some h = bytes_back (b ∷ bs) h
 
-digit_from_48 : (n : ℕ) → 48 ≤ hex_digit n
+pub digit_from_48 : (n : ℕ) → 48 ≤ hex_digit n
 digit_from_48 n = low (nat_lt n 10)
   where
     low : (t : Bool) → 48 ≤ cond t (48 + n) (65 + (n - 10))

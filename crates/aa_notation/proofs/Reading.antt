@@ -1,5 +1,7 @@
 -- The word of each request, read back.
-use Rattle.std.proofs.Common.{◌≡◌, ℕ, ◌<◌, ◌≤◌, Bool, true, false, not, ◌&&◌, ◌||◌, ◌==◌, List, [], ◌∷◌, ◌++◌, length, cond, refl, sym, ◌∙◌, ap, arith, codes, flat_map, nat_lt, nat_le, bit_and, option_map, option_and_then, Option, Some, None, true≢false}
+use Rattle.std.proofs.Common.{◌≡◌, ℕ, ◌<◌, ◌≤◌, Bool, true, false, not, ◌&&◌, ◌||◌, ◌==◌, List, [], ◌∷◌, ◌++◌, length}
+use Rattle.std.proofs.Common.{cond, refl, sym, ◌∙◌, ap, arith, codes, flat_map, nat_lt, nat_le, bit_and, option_map, option_and_then, Option, Some, None}
+use Rattle.std.proofs.Common.{true≢false}
 use Rattle.std.specs.List.{list_all, list_any}
 use Rattle.std.specs.Str.{bytes_eq}
 use Rattle.std.proofs.lemmas.Bool.{and_parts, and_from, agree_below_at, ltb-true, leb-true}
@@ -47,7 +49,7 @@ object_so (b ∷ bs) back h =
 abbrev is_mask_text : List ℕ → ℕ → Bool
 is_mask_text text bits = begins_object text && list_all (λ b. not (58 == b)) text && not (bytes_eq text (codes "x")) && not (bytes_eq text (codes "l")) && is_found (letters_in 0 text) bits
 
-either : (a b : Bool) → (not a || b) ≡ true → a ≡ true → b ≡ true
+pub either : (a b : Bool) → (not a || b) ≡ true → a ≡ true → b ≡ true
 either true b h e = h
 either false b h e = absurd (true≢false (sym e))
 
@@ -104,7 +106,8 @@ link_back owned link target p q =
     ap (λ (o : Option (List ℕ × List ℕ)). option_and_then (λ s. link_by owned (path_in s.0) (path_in s.1)) o) (split_arrow (path_text true link) (path_text false target) (arrowless link))
     ∙ (ap (λ (o : Option (List ℕ)). link_by owned o (path_in (path_text false target))) (path_back true link p)
     ∙ (ap (link_by owned (Some link)) (path_back false target q)
-    ∙ ap (λ (t : Bool). cond t (Some (Link (record { link = link; target = target; owned = owned }))) None) (and_from (is_path link) (is_path target) (and_parts (are_bytes link) (is_path link) p).1 (and_parts (are_bytes target) (is_path target) q).1)))
+    ∙ ap (λ (t : Bool). cond t (Some (Link (record { link = link; target = target; owned = owned }))) None)
+    (and_from (is_path link) (is_path target) (and_parts (are_bytes link) (is_path link) p).1 (and_parts (are_bytes target) (is_path target) q).1)))
 
 link_again : (owned : Bool) (link target : List ℕ) → is_path_of_bytes link ≡ true → is_path_of_bytes target ≡ true
     → request_in false (link_word (record { link = link; target = target; owned = owned })) ≡ Some (Link (record { link = link; target = target; owned = owned }))
@@ -135,7 +138,8 @@ cap_again n h = ap (λ (o : Option ℕ). option_map Cap o) (cap_number n h)
 net_back : (family kind : ℕ) → nat_lt family (length family_names) ≡ true → nat_lt kind (length sock_type_names) ≡ true
     → net_in ((entry family_names family ++ codes "/") ++ entry sock_type_names kind) ≡ Some (Net family kind)
 net_back family kind f k =
-    ap (λ (o : Option (List ℕ × List ℕ)). option_and_then (λ s. net_by (number_in family_names s.0) (number_in sock_type_names s.1)) o) (split_byte 47 (entry family_names family) (entry sock_type_names kind) refl (family_slashless family f))
+    ap (λ (o : Option (List ℕ × List ℕ)). option_and_then (λ s. net_by (number_in family_names s.0) (number_in sock_type_names s.1)) o)
+    (split_byte 47 (entry family_names family) (entry sock_type_names kind) refl (family_slashless family f))
     ∙ (ap (λ (o : Option ℕ). net_by o (number_in sock_type_names (entry sock_type_names kind))) (family_number family f)
     ∙ ap (net_by (Some family)) (kind_number kind k))
 

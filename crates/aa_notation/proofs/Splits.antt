@@ -1,5 +1,6 @@
 -- A part that is put between two texts is found there.
-use Rattle.std.proofs.Common.{◌≡◌, ℕ, suc, ◌+◌, Bool, true, false, not, ◌&&◌, ◌==◌, List, [], ◌∷◌, ◌++◌, length, take, drop, cond, refl, sym, ◌∙◌, ap, arith, append_assoc, codes, nat_eq, option_map, Option, Some, None, true≢false}
+use Rattle.std.proofs.Common.{◌≡◌, ℕ, suc, ◌+◌, Bool, true, false, not, ◌&&◌, ◌==◌, List, [], ◌∷◌, ◌++◌, length, take, drop, cond}
+use Rattle.std.proofs.Common.{refl, sym, ◌∙◌, ap, arith, append_assoc, codes, nat_eq, option_map, Option, Some, None, true≢false}
 use Rattle.std.specs.List.{list_all, starts_with}
 use Rattle.std.specs.Cmp.Lexicographic.{pointwise}
 use Rattle.std.proofs.lemmas.Bool.{and_parts, and_right}
@@ -9,15 +10,15 @@ pub not_true : (t : Bool) → not t ≡ true → t ≡ false
 not_true true h = absurd (true≢false (sym h))
 not_true false h = refl
 
-take_front : (xs ys : List ℕ) → take (length xs) (xs ++ ys) ≡ xs
+pub take_front : (xs ys : List ℕ) → take (length xs) (xs ++ ys) ≡ xs
 take_front [] ys = refl
 take_front (x ∷ xs) ys = ap (λ (t : List ℕ). x ∷ t) (take_front xs ys)
 
-drop_front : (xs ys : List ℕ) → drop (length xs) (xs ++ ys) ≡ ys
+pub drop_front : (xs ys : List ℕ) → drop (length xs) (xs ++ ys) ≡ ys
 drop_front [] ys = refl
 drop_front (x ∷ xs) ys = drop_front xs ys
 
-length_of : (xs ys : List ℕ) → length (xs ++ ys) ≡ length xs + length ys
+pub length_of : (xs ys : List ℕ) → length (xs ++ ys) ≡ length xs + length ys
 length_of [] ys = omega arith
 length_of (x ∷ xs) ys = omega (arith, length_of xs ys)
 

@@ -1,6 +1,7 @@
 -- Which request a word is.
 -- Source: apparmor.d(5), "Access Modes"; own.
-use Rattle.std.specs.Prelude.{◌≡◌, ℕ, ◌+◌, ◌-◌, ◌*◌, ◌==◌, ◌&&◌, nat_le, List, [], ◌∷◌, Bool, true, if◌then◌else◌, codes, Option, Some, None, option_map, option_and_then, bit_or, Result, Ok, Err, MatchResult}
+use Rattle.std.specs.Prelude.{◌≡◌, ℕ, ◌+◌, ◌-◌, ◌*◌, ◌==◌, ◌&&◌, nat_le, List, [], ◌∷◌, Bool, true, if◌then◌else◌}
+use Rattle.std.specs.Prelude.{codes, Option, Some, None, option_map, option_and_then, bit_or, Result, Ok, Err, MatchResult}
 use Rattle.std.specs.Str.{bytes_eq}
 use Rattle.aa_base.specs.Tables.{number_in, capability_names, family_names, sock_type_names}
 use Rattle.aa_model.specs.Requests.{begins_with, is_path, is_mask, is_wanted_name}

@@ -1,6 +1,8 @@
 -- Flags, one item, one byte and one sequence on.
 use Rattle.std.proofs.lemmas.Grind.{common_steps}
-use Rattle.std.proofs.Common.{◌≡◌, ◌≢◌, ℕ, zero, suc, ◌+◌, ◌-◌, min, max, ◌<◌, ◌≤◌, ◌↔◌, ◌⊎◌, ◌||◌, Bool, true, false, List, [], ◌∷◌, ◌++◌, length, length-append, length-set, take, drop, set, get_or, replicate, IsTrue, Vec, Global, refl, sym, ap, ◌∙◌, subst, inl, inr, ⊎_elim, arith, append_assoc, get_or-set_other, get_or-set_same, true≢false}
+use Rattle.std.proofs.Common.{◌≡◌, ◌≢◌, ℕ, zero, suc, ◌+◌, ◌-◌, min, max, ◌<◌, ◌≤◌, ◌↔◌, ◌⊎◌, ◌||◌, Bool, true}
+use Rattle.std.proofs.Common.{false, List, [], ◌∷◌, ◌++◌, length, length-append, length-set, take, drop, set, get_or, replicate, IsTrue, Vec, Global}
+use Rattle.std.proofs.Common.{refl, sym, ap, ◌∙◌, subst, inl, inr, ⊎_elim, arith, append_assoc, get_or-set_other, get_or-set_same, true≢false}
 use Rattle.std.proofs.lemmas.Bool.{cases_lt, or_from}
 use Rattle.std.proofs.lemmas.List.{take-take, take_more, take_all, take_at, append-nil, length-take-le, take-append-drop}
 use Rattle.aa_pattern.specs.declared.item.Item.{Item, Byte, One, Class, Choice, Choice'}

@@ -1,5 +1,6 @@
 -- Items and texts that are cut in two.
-use Rattle.std.proofs.Common.{◌≡◌, ℕ, zero, suc, ◌+◌, ◌<◌, ◌≤◌, ◌↔◌, ◌⊎◌, List, [], ◌∷◌, ◌++◌, length, take, drop, get_or, Vec, Global, refl, sym, ap, ◌∙◌, subst, length-append, inl, inr, ⊎_elim, arith}
+use Rattle.std.proofs.Common.{◌≡◌, ℕ, zero, suc, ◌+◌, ◌<◌, ◌≤◌, ◌↔◌, ◌⊎◌, List, [], ◌∷◌, ◌++◌, length, take, drop}
+use Rattle.std.proofs.Common.{get_or, Vec, Global, refl, sym, ap, ◌∙◌, subst, length-append, inl, inr, ⊎_elim, arith}
 use Rattle.std.proofs.lemmas.List.{take_at, drop_at, append-nil, take_more, take-append-drop}
 use Rattle.aa_pattern.specs.declared.item.Item.{Item}
 use Rattle.aa_pattern.specs.Globs.{Allows, Matches, SomeMatches}

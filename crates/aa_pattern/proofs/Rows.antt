@@ -1,7 +1,9 @@
 -- A choice by the lists of its branches.
 use Rattle.std.proofs.Common.{◌≡◌, ℕ, ◌+◌, ◌≤◌, ◌↔◌, List, Vec, Global, refl, sym, ap, ◌∙◌, subst, inl, inr, ⊎_elim, arith}
 use mathlib.Core.Former.{Count}
-use Rattle.aa_pattern.specs.declared.item.Item.{Item, Choice, Choice', Row_of-Item, end_of-Item, more_of-Item, items-the_row-Item, items_shown-the_row-Item-0, Row_of-Item-Choice-0-1, end_of-Item-Choice-0-1, more_of-Item-Choice-0-1, items-the_row-Item-Choice-0-1, items_hidden-the_row-Item-Choice-0-1-1}
+use Rattle.aa_pattern.specs.declared.item.Item.{Item, Choice, Choice', Row_of-Item, end_of-Item, more_of-Item, items-the_row-Item, items_shown-the_row-Item-0}
+use Rattle.aa_pattern.specs.declared.item.Item.{Row_of-Item-Choice-0-1, end_of-Item-Choice-0-1, more_of-Item-Choice-0-1, items-the_row-Item-Choice-0-1}
+use Rattle.aa_pattern.specs.declared.item.Item.{items_hidden-the_row-Item-Choice-0-1-1}
 use Rattle.aa_pattern.specs.Globs.{Allows, SomeAllows, AllAllow, Matches, SomeMatches}
 use Rattle.aa_pattern.specs.Weights.{weight, weight_of_branches, weight_of_row, weight_of_items, weight_of_lists}
 

@@ -9,6 +9,7 @@ use Rattle.aa_base.specs.Kinds.{at_start, no_memory}
 use Rattle.aa_words.specs.Sources.{has_name}
 use Rattle.aa_words.specs.declared.include.Include.{Include}
 use Rattle.aa_policies.specs.Policies.{Source, sources_of, CanFollow, IsRefusedBehind, IsFaultOfSources}
+use Rattle.aa_policy.proofs.Answered.{true_false}
 
 -- these sources were added, and what is left can be added behind them exactly where all can be
 pub record Gathering (includes : List Include) (rest : List Include) (found : List Source) : Type 0 where
@@ -75,9 +76,6 @@ is_fresh true n m short room h = absurd (h (short, room, refl))
 is_fresh false n m short room h = refl
 
 -- ---- what a refused source says
-
-true_false : true ≡ false → ⊥
-true_false e = cc
 
 refused : (fault : PolicyFault) (include : Include) (found rest : List Source)
     → (fault ≡ no_memory) ⊎ (fault ≡ at_start TooLarge) ⊎ (fault ≡ at_start Syntax)

@@ -4,7 +4,9 @@ use Rattle.std.specs.Prelude.{◌≢◌, Result, Ok, Err, IfOk, IfErr}
 use Rattle.aa_base.specs.declared.fault.Spot.{Spot}
 use Rattle.aa_base.specs.declared.fault.PolicyFault.{PolicyFault}
 use Rattle.aa_base.specs.declared.fault.PolicyKind.{PolicyKind}
-use Rattle.aa_base.specs.declared.fault.PolicyKind.TheVariants.{NoMemory, Syntax, Unsupported, UnknownWord, BadMode, WriteWithAppend, BadPattern, UndefinedVariable, VariableTwice, VariableCircle, TooManyExpansions, RelativePath, DuplicateProfile, TooLarge}
+use Rattle.aa_base.specs.declared.fault.PolicyKind.TheVariants.{NoMemory, Syntax, Unsupported, UnknownWord, BadMode, WriteWithAppend, BadPattern}
+use Rattle.aa_base.specs.declared.fault.PolicyKind.TheVariants.{UndefinedVariable, VariableTwice, VariableCircle, TooManyExpansions, RelativePath}
+use Rattle.aa_base.specs.declared.fault.PolicyKind.TheVariants.{DuplicateProfile, TooLarge}
 use Rattle.aa_base.specs.Kinds.{IsRefusal, no_memory, at_start}
 use Rattle.aa_words.specs.declared.word.Word.{Word}
 use Rattle.aa_words.specs.Splits.{WordData, words_data}
@@ -39,7 +41,7 @@ pub record Answers (words : List Word) (end : Spot) (r : Result Policy PolicyFau
 
 -- ---- kinds
 
-true_false : true ≡ false → ⊥
+pub true_false : true ≡ false → ⊥
 true_false e = cc
 
 -- a refusal of some kinds is of no other

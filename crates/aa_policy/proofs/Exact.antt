@@ -27,6 +27,7 @@ use Rattle.aa_policy.proofs.Expanded.{first_once, never_refused, same_fault}
 use Rattle.aa_policy.proofs.Meaning.{tree_expands}
 use Rattle.aa_policy.proofs.Profiles.{policy_once}
 use Rattle.aa_policy.proofs.Spelled.{moved, not_repeated, profiles_once, same_limits, same_names}
+use Rattle.aa_rules.proofs.Phrases.{false_true}
 
 -- ---- the first name that an earlier profile has is one alone
 
@@ -150,9 +151,6 @@ exact_limits ws vars tree ps f w n m d (PastLimits k a o) =
     (same_fault (at_start TooLarge) f (sym k) (sym a), λ l. o.over (same_limits ps o.profiles (profiles_once ws vars o.vars tree o.tree ps o.profiles w o.written m o.means) l))
 
 -- ---- kinds
-
-false_true : false ≡ true → ⊥
-false_true e = cc
 
 pub word_only : (kind : PolicyKind) → is_word_only kind ≡ true → kind ≢ NoMemory
 word_only kind h = λ e. false_true (sym (ap is_word_only e) ∙ h)

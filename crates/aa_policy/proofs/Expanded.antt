@@ -11,7 +11,8 @@ use Rattle.aa_glob.specs.Variables.{Variable, values_of}
 use Rattle.aa_glob.specs.Pieces.{Piece, Plain, Use, Broken, pieces, begins_with}
 use Rattle.aa_glob.specs.Reading.{tokens, tokens_from, or_bad}
 use Rattle.aa_glob.specs.Signs.{is_unsupported, signs}
-use Rattle.aa_glob.specs.Expansions.{Outcome, Texts, Stops, Deeper, both, alone, joined, in_turn, is_reserved, counted, of_values, outcome, of_path, pattern_text, expansion, and_more, expansions, Expands, in_walk, in_circle, too_many, as_texts}
+use Rattle.aa_glob.specs.Expansions.{Outcome, Texts, Stops, Deeper, both, alone, joined, in_turn, is_reserved, counted, of_values, outcome, of_path}
+use Rattle.aa_glob.specs.Expansions.{pattern_text, expansion, and_more, expansions, Expands, in_walk, in_circle, too_many, as_texts}
 use Rattle.aa_glob.proofs.Depths.{expands_once}
 use Rattle.aa_policy.specs.Expansion.{PathData, Way, AsPath, AsName, IsReadAs, IsExpanding, IsRefused, IsFirstRefused}
 use Rattle.aa_policy.specs.Faults.{is_path_fault}
@@ -129,7 +130,7 @@ refused_before vars [] rest e h = absurd h
 refused_before vars (p ∷ ps) rest e (inl h) = inl h
 refused_before vars (p ∷ ps) rest e (inr h) = inr (h.0, refused_before vars ps rest e h.1)
 
-abbrev expanded : List (List Token) → Result (List (List Token)) PolicyKind
+abbrev pub expanded : List (List Token) → Result (List (List Token)) PolicyKind
 expanded ts = Ok ts
 
 ok_err : (ts : List (List Token)) (fault : PolicyKind) → expanded ts ≡ Err fault → ⊥

@@ -9,26 +9,26 @@ use Rattle.aa_words.specs.declared.word.WordKind.TheVariants.{Open, Equals, Left
 use Rattle.aa_words.specs.Splits.{WordData, word_data}
 use Rattle.aa_rules.specs.Grammar.{Starts, StartsAs, Lacks, LacksAll, Closes, IsPassedOver, Keyword, LacksKeyword, spot_of, is_path_kind, is_name_kind}
 use Rattle.aa_policy.specs.declared.heads.HeadFlags.{HeadFlags}
-use Rattle.aa_policy.specs.Heads.{AttachmentData, TitleData, HeadData, Stands, Fits, LacksFitting, OptionalPath, attached, attachment_of, IsNamed, IsPathNamed, IsTitle, is_flag, is_the_flag, has_flag, said_by, flags_with, NamesFlags, OpensFlags, IsFlagList, IsFlags, OptionalFlags, IsOpening, IsHead, goes_on, BeginsProfile}
+use Rattle.aa_policy.specs.Heads.{AttachmentData, TitleData, HeadData, Stands, Fits, LacksFitting, OptionalPath, attached, attachment_of, IsNamed, IsPathNamed}
+use Rattle.aa_policy.specs.Heads.{IsTitle, is_flag, is_the_flag, has_flag, said_by, flags_with, NamesFlags, OpensFlags, IsFlagList, IsFlags, OptionalFlags}
+use Rattle.aa_policy.specs.Heads.{IsOpening, IsHead, goes_on, BeginsProfile}
 use Rattle.aa_policy.specs.HeadFaults.{ends_in_flag}
 use Rattle.aa_rules.specs.Reading.{rest_of}
 use Rattle.aa_rules.specs.RuleFaults.{is_name}
-use Rattle.aa_rules.proofs.Places.{here, nothing_here}
+use Rattle.aa_rules.proofs.Places.{here, nothing_here, no_cons}
 use Rattle.aa_rules.proofs.Phrases.{starts_same, starts_kind, keyword_once, keyword_or_path, false_true}
 use Rattle.aa_rules.proofs.Repetition.{Reads, Reaches, many_once}
 
 -- ---- the word at a place
 
-pub fits_word : (fits : WordKind → List ℕ → Bool) (words : List Word) (at : ℕ) (w : Word) → at < length words → w ≡ get_or words at w → true ≡ fits w.kind w.text.now → Fits fits (rest_of words at) (word_data w) (rest_of words (at + 1))
+pub fits_word : (fits : WordKind → List ℕ → Bool) (words : List Word) (at : ℕ) (w : Word) → at < length words → w ≡ get_or words at w
+    → true ≡ fits w.kind w.text.now → Fits fits (rest_of words at) (word_data w) (rest_of words (at + 1))
 fits_word fits words at w h e k = record { words = here words at w h e; it_fits = sym k }
 
 pub lacks_word : (fits : WordKind → List ℕ → Bool) (words : List Word) (at : ℕ) (w : Word) → at < length words → w ≡ get_or words at w → false ≡ fits w.kind w.text.now → LacksFitting fits (rest_of words at)
 lacks_word fits words at w h e k = λ v rest s.
     let same : word_data w ≡ v = (starts_same (rest_of words at) (word_data w) v (rest_of words (at + 1)) rest (here words at w h e) s.words).0 in
     false_true (k ∙ ap (λ (x : WordData). fits x.kind x.text) same ∙ s.it_fits)
-
-no_cons : (v : WordData) (vs : List WordData) → [] ≡ v ∷ vs → ⊥
-no_cons v vs e = cc
 
 pub lacks_past : (fits : WordKind → List ℕ → Bool) (words : List Word) (at : ℕ) → length words ≤ at → LacksFitting fits (rest_of words at)
 lacks_past fits words at h = λ v rest s. no_cons v rest (sym (nothing_here words at h) ∙ s.words)
@@ -143,7 +143,7 @@ no_flags ws inside o none flags rest a =
     none flags rest (subst (λ (z : List WordData). IsFlagList z flags rest) (opens_once ws a.inside inside a.opens o) a.listed)
 
 -- what one more word says
-or_none : (b : Bool) → (b || false) ≡ b
+pub or_none : (b : Bool) → (b || false) ≡ b
 or_none true = refl
 or_none false = refl
 

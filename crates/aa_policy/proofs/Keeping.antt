@@ -23,6 +23,7 @@ use Rattle.aa_policy.specs.Keeping.{FitsBeside, HasRoom, HasNoPatterns, IsNamedA
 use Rattle.aa_policy.specs.Spelling.{IsRepeated}
 use Rattle.aa_policy.proofs.Attachments.{same_parent}
 use Rattle.aa_policy.proofs.Meaning.{zip_append, zip_same}
+use Rattle.aa_policy.proofs.Answered.{true_false}
 
 -- ---- lists with one element more
 
@@ -70,10 +71,10 @@ room_left ps p room h few = λ parent.
 
 -- ---- the limits
 
-abbrev HasShortName : Profile → Type 0
+abbrev pub HasShortName : Profile → Type 0
 HasShortName p = length p.name ≤ 1024
 
-abbrev HasFewPatterns : Profile → Type 0
+abbrev pub HasFewPatterns : Profile → Type 0
 HasFewPatterns p = file_patterns p ≤ 65535
 
 within_before : (ps : List Profile) (p : Profile) → IsWithinLimits (ps ++ p ∷ []) → IsWithinLimits ps
@@ -107,9 +108,6 @@ within_more ps p room l f few h = record {
 }
 
 -- ---- one profile more
-
-pub true_false : true ≡ false → ⊥
-true_false e = cc
 
 pub same_named : (p q r : Profile) → IsNamedAs p q → IsNamedAs q r → IsNamedAs p r
 same_named p q r a b = record { at = b.at ∙ a.at; name = b.name ∙ a.name }
@@ -201,7 +199,9 @@ kept_repeated ps qs at z k =
     }
 
 -- what is said of the names that are kept is said of those that are spelled
-pub kept_answer : (ps qs : List Profile) (e : PolicyFault) → AllZip IsNamedAs ps qs → (e ≡ no_memory) ⊎ ((e.kind ≡ DuplicateProfile) × IsRepeated qs e.at) → (e ≡ no_memory) ⊎ ((e.kind ≡ DuplicateProfile) × IsRepeated ps e.at)
+pub kept_answer : (ps qs : List Profile) (e : PolicyFault) → AllZip IsNamedAs ps qs
+    → (e ≡ no_memory) ⊎ ((e.kind ≡ DuplicateProfile) × IsRepeated qs e.at)
+    → (e ≡ no_memory) ⊎ ((e.kind ≡ DuplicateProfile) × IsRepeated ps e.at)
 kept_answer ps qs e z (inl m) = inl m
 kept_answer ps qs e z (inr r) = inr (r.0, kept_repeated ps qs e.at z r.1)
 

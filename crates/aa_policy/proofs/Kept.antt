@@ -16,6 +16,7 @@ use Rattle.aa_rules.specs.Reading.{RuleData, OnFile, OnCap, OnNet, OnChange, Lis
 use Rattle.aa_policy.specs.Spelling.{on_file, files_of}
 use Rattle.aa_policy.proofs.LawfulModes.{IsLawfulFile, file_lawful}
 use Rattle.aa_policy.proofs.Meaning.{all_append}
+use Rattle.aa_rules.proofs.Phrases.{false_true}
 
 -- ---- lists
 
@@ -83,9 +84,6 @@ has_slash : (xs ys : List ℕ) → list_any (λ b. b == 47) (xs ++ 47 ∷ ys) �
 has_slash [] ys = refl
 has_slash (x ∷ xs) ys = or_true (x == 47) (list_any (λ b. b == 47) (xs ++ 47 ∷ ys)) (has_slash xs ys)
 
-false_true : false ≡ true → ⊥
-false_true e = cc
-
 child_confined : (parent name : List ℕ) → IsConfined (child_name parent name)
 child_confined parent name = false_unless _ (λ e.
     let same : child_name parent name ≡ codes "unconfined" = (bytes_eq-Decides (child_name parent name) (codes "unconfined")).0 e in
@@ -145,8 +143,10 @@ family_kept : (ws : List WordData) (f : FamilyData) (rest : List WordData) → I
 family_kept ws f rest i = λ number.
     let parts = all_both (λ p. AllByRecursion RuleLawful (rules_in p)) (λ p. AllByRecursion ChildLawful (children_in p)) i.parts (many_all IsBodyPart Closes PartLawful part_lawful i.after i.parts rest i.body_stands) in
     let rules : AreLawful f.rules = all_flat IsLawfulFile on_file f.rules (subst (AllByRecursion RuleLawful) (sym i.rules_are) (all_flat RuleLawful rules_in i.parts parts.0)) in
-    let children : AllByRecursion ChildLawful f.children = subst (AllByRecursion ChildLawful) (sym i.children_are) (all_flat ChildLawful children_in i.parts parts.1) in
-    (record { confined = title_confined ws f.head.title i.head_stands.after i.head_stands.title; lawful = rules }, all_map IsKept ChildLawful (child_profile number f.head.title.name) (child_kept number f.head.title.name) f.children children)
+    let children : AllByRecursion ChildLawful f.children = subst (AllByRecursion ChildLawful) (sym i.children_are) (all_flat ChildLawful children_in i.parts parts.1) in (
+      record { confined = title_confined ws f.head.title i.head_stands.after i.head_stands.title; lawful = rules },
+      all_map IsKept ChildLawful (child_profile number f.head.title.name) (child_kept number f.head.title.name) f.children children,
+    )
 
 item_kept : (ws : List WordData) (item : Option FamilyData) (rest : List WordData) → IsItem ws item rest → AllByRecursion FamilyKept (if_any item)
 item_kept ws (Some f) rest i = (family_kept ws f rest i, tt)

@@ -15,6 +15,8 @@ use Rattle.aa_rules.specs.FileRules.{IsPair, IsEntry, IsFile, exec_with}
 use Rattle.aa_rules.specs.Reading.{EntryData, ExecData, FileData}
 use Rattle.aa_model.specs.Lawful.{has_exec}
 use Rattle.aa_policy.specs.Spelling as spelling
+use Rattle.aa_policy.proofs.Answered.{true_false}
+use Rattle.aa_rules.proofs.Phrases.{false_true}
 
 abbrev IsLow : Option ℕ → Type 0
 IsLow o = (b : ℕ) → o ≡ Some b → b < 64
@@ -64,12 +66,6 @@ none_lawful deny m e = absurd cc
 lawful_if : (deny : Bool) (t : Bool) (o p : Option Mode) → AllLawful deny o → AllLawful deny p → AllLawful deny (cond t o p)
 lawful_if deny true o p h k = h
 lawful_if deny false o p h k = k
-
-true_false : true ≡ false → ⊥
-true_false e = cc
-
-false_true : false ≡ true → ⊥
-false_true e = cc
 
 said_lawful : (bits : ℕ) (o : Option ExecMode) → AllLawful false (option_map (λ e. mode (bit_or bits 64) (Some e)) o)
 said_lawful bits None = none_lawful false

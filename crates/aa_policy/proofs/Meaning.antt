@@ -17,7 +17,8 @@ use Rattle.aa_policy.specs.Expansion.{PathData, IsExpanding, alone, tokens_of}
 use Rattle.aa_policy.specs.Bodies.{ProfileData, profile_data, tree_data}
 use Rattle.aa_policy.specs.Heads.{AttachmentData}
 use Rattle.aa_rules.specs.Reading.{NameData, RuleData, OnFile, OnCap, OnNet, OnChange, Listed, rule_data}
-use Rattle.aa_policy.specs.Spelling.{AttachesTo, Aims, MeansRule, MeansChange, MeansProfile, MeansProfiles, on_file, files_of, on_change, changes_of, rule_paths, named_paths, change_paths, paths_of_rules, attachment_paths, profile_paths, paths_of}
+use Rattle.aa_policy.specs.Spelling.{AttachesTo, Aims, MeansRule, MeansChange, MeansProfile, MeansProfiles, on_file, files_of, on_change, changes_of}
+use Rattle.aa_policy.specs.Spelling.{rule_paths, named_paths, change_paths, paths_of_rules, attachment_paths, profile_paths, paths_of}
 
 -- ---- lists that are related element by element
 

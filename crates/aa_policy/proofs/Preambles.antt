@@ -13,7 +13,9 @@ use Rattle.aa_rules.specs.Faults.{IsPlaced}
 use Rattle.aa_rules.specs.Grammar.{Starts, Many, Keyword, LacksKeyword, spot_of, place_of}
 use Rattle.aa_base.specs.Kinds.{no_memory}
 use Rattle.aa_glob.specs.Expansions.{is_reserved}
-use Rattle.aa_policy.specs.Preamble.{Names, sign_of, Assigning, LacksAssignment, IsValue, NoValue, AssignmentData, assignment, IsAssignment, CanNameAbi, NamesAbi, LacksAbiName, IsAbi, PreambleData, Assigns, Abi, IsPreambleItem, PreambleEnds, IsPreamble, Here, assigned, given, variables_after, variables_of, Misfits, Misnames, IsMisnamed, misnamed}
+use Rattle.aa_policy.specs.Preamble.{Names, sign_of, Assigning, LacksAssignment, IsValue, NoValue, AssignmentData, assignment, IsAssignment, CanNameAbi}
+use Rattle.aa_policy.specs.Preamble.{NamesAbi, LacksAbiName, IsAbi, PreambleData, Assigns, Abi, IsPreambleItem, PreambleEnds, IsPreamble, Here, assigned, given}
+use Rattle.aa_policy.specs.Preamble.{variables_after, variables_of, Misfits, Misnames, IsMisnamed, misnamed}
 use Rattle.aa_rules.specs.Reading.{rest_of}
 use Rattle.aa_rules.proofs.Places.{here, nothing_here}
 use Rattle.aa_rules.proofs.Phrases.{starts_same, starts_kind, keyword_once}
@@ -133,7 +135,7 @@ no_abi_here words at w h e n = λ v rest s.
     let same = starts_same (rest_of words at) v (word_data w) rest (rest_of words (at + 1)) s.words (here words at w h e) in
     n (subst (λ (z : WordData). CanNameAbi z.kind z.text) same.0 s.can_name)
 
-no_word : (w : WordData) (rest : List WordData) → [] ≡ w ∷ rest → ⊥
+pub no_word : (w : WordData) (rest : List WordData) → [] ≡ w ∷ rest → ⊥
 no_word w rest e = cc
 
 pub no_abi_past : (words : List Word) (at : ℕ) → length words ≤ at → LacksAbiName (rest_of words at)

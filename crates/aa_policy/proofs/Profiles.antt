@@ -17,11 +17,8 @@ use Rattle.aa_rules.proofs.Phrases.{keyword_apart, keyword_or_path}
 use Rattle.aa_rules.proofs.Productions.{rule_once, closes_once, rule_apart, end_once, keyword_or_close}
 use Rattle.aa_rules.proofs.Repetition.{Reads, many_once}
 use Rattle.aa_policy.proofs.HeadProductions.{head_once, head_begins, profile_or_closes}
-use Rattle.aa_policy.proofs.Preambles.{abi_once, preamble_once}
+use Rattle.aa_policy.proofs.Preambles.{abi_once, preamble_once, no_word}
 use Rattle.aa_policy.proofs.RuleWords.{rule_or_keyword, rule_or_profile, no_rule_begins_abi}
-
-no_word : (w : WordData) (rest : List WordData) → [] ≡ w ∷ rest → ⊥
-no_word w rest e = cc
 
 -- what elements give, and what one more gives
 pub more_given : {X A : Type 0} (f : X → List A) (xs : List X) (x : X) (ys zs : List A) → zs ≡ ys ++ f x → ys ≡ flat_map f xs → zs ≡ flat_map f (xs ++ x ∷ [])

@@ -6,7 +6,8 @@ use Rattle.aa_base.specs.declared.fault.PolicyKind.{PolicyKind}
 use Rattle.aa_base.specs.declared.fault.PolicyKind.TheVariants.{NoMemory}
 use Rattle.aa_base.specs.Kinds.{IsRefusal, no_memory}
 use Rattle.aa_policy.specs.Preamble.{IsRefusedWith}
-pub use Rattle.aa_rules.proofs.Refusals.{told_on}
+use Rattle.aa_policy.proofs.Answered.{true_false}
+pub use Rattle.aa_rules.proofs.Refusals.{told_on, refusal}
 
 pub refused_by : {T : Type 0} (r : Result T PolicyFault) (e f : PolicyFault) → r ≡ Err e → e ≡ f → IsRefusal r → f.kind ≢ NoMemory
 refused_by {T} r e f eq same h =
@@ -18,9 +19,6 @@ pub unless_memory : (P : Type 0) (e : PolicyFault) → (e ≡ no_memory) ⊎ P �
 unless_memory P e (inl q) h = absurd (h (ap (λ (x : PolicyFault). x.kind) q))
 unless_memory P e (inr p) h = p
 
-abbrev refusal : {T : Type 0} → PolicyFault → Result T PolicyFault
-refusal e = Err e
-
 -- what the refusal says that it hands on
 pub handed_on : {T : Type 0} (r : Result T PolicyFault) (e f : PolicyFault) (P : PolicyFault → Type 0) → r ≡ Err e → e ≡ f → (f.kind ≢ NoMemory → P f)
     → IfErr r (λ x. x.kind ≢ NoMemory → P x)
@@ -31,7 +29,8 @@ is_memory : (kind : PolicyKind) → (kind ≡ NoMemory) ⊎ (kind ≢ NoMemory)
 is_memory NoMemory = inl refl
 is_memory kind = inr (λ e. cc)
 
-pub memory_or : (fits : PolicyKind → Bool) (kind : PolicyKind) (e : PolicyFault) → e.kind ≡ kind → (kind ≡ NoMemory → e ≡ no_memory) → (kind ≢ NoMemory → fits kind ≡ true) → (e ≡ no_memory) ⊎ (fits e.kind ≡ true)
+pub memory_or : (fits : PolicyKind → Bool) (kind : PolicyKind) (e : PolicyFault) → e.kind ≡ kind → (kind ≡ NoMemory → e ≡ no_memory)
+    → (kind ≢ NoMemory → fits kind ≡ true) → (e ≡ no_memory) ⊎ (fits e.kind ≡ true)
 memory_or fits kind e same memory other = by (is_memory kind)
   where
     by : (kind ≡ NoMemory) ⊎ (kind ≢ NoMemory) → (e ≡ no_memory) ⊎ (fits e.kind ≡ true)
@@ -42,9 +41,6 @@ memory_or fits kind e same memory other = by (is_memory kind)
 pub refused_with : {T : Type 0} (r : Result T PolicyFault) (e f g : PolicyFault) → r ≡ Err e → e ≡ f → (f ≡ no_memory) ⊎ (f ≡ g) → IsRefusedWith g r
 refused_with {T} r e f g eq same h =
     subst (λ (x : Result T PolicyFault). IsRefusedWith g x) (sym eq) (subst (λ (x : PolicyFault). (x ≡ no_memory) ⊎ (x ≡ g)) (sym same) h)
-
-true_false : true ≡ false → ⊥
-true_false e = cc
 
 -- what holds where memory is not wanting, or memory is wanting
 pub unless_wanting : (fits : PolicyKind → Bool) (P : Type 0) (e : PolicyFault) → fits NoMemory ≡ false → (e ≡ no_memory) ⊎ (fits e.kind ≡ true) → (e.kind ≢ NoMemory → P) → P ⊎ (e ≡ no_memory)

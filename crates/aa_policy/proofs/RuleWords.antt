@@ -15,7 +15,7 @@ use Rattle.aa_policy.specs.Heads.{Fits, goes_on, BeginsPathNamed, BeginsProfile}
 use Rattle.aa_rules.specs.Phrases.{Keyword, is_path_kind}
 use Rattle.aa_rules.specs.Reading.{EntryData, FileData, RuleData, OnFile, OnCap, OnNet, OnChange, Listed}
 use Rattle.aa_rules.proofs.Phrases.{starts_same, starts_kind, keyword_apart, other_left_out, keyword_or_path, left_out, false_true}
-use Rattle.aa_rules.proofs.FileWords.{BeginsNoFile, file_or_keyword, abi_begins_none, profile_begins_none}
+use Rattle.aa_rules.proofs.FileWords.{BeginsNoFile, file_or_keyword, abi_begins_none, profile_begins_none, none_some}
 use Rattle.aa_rules.proofs.Productions.{unqualified, keyword_or_passed}
 
 permission_left_out : (text : List ℕ) (ws r : List WordData) (b : Bool) (bare : List WordData) → BeginsNoFile text → Keyword text ws r → IsPermission ws b bare → bare ≡ ws
@@ -35,9 +35,6 @@ pub record BeginsNoRule (text : List ℕ) : Type 0 where
   pub capability : bytes_eq text (codes "capability") ≡ false
   pub network : bytes_eq text (codes "network") ≡ false
   pub change : bytes_eq text (codes "change_profile") ≡ false
-
-none_some : (m : Mode) → None ≡ Some m → ⊥
-none_some m e = cc
 
 says_or_keyword : (text : List ℕ) (ws r : List WordData) (q : Qualifiers) (x : RuleData) (s : List WordData) → BeginsNoRule text → Keyword text ws r → Says q ws x s → ⊥
 says_or_keyword text ws r q (OnFile f) s h k a = file_or_keyword text ws r q f s h.no_file k a

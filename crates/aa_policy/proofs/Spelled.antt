@@ -29,17 +29,16 @@ use Rattle.aa_model.specs.Lawful.{IsLawful, IsLawfulRule, IsWithinLimits, IsWith
 use Rattle.aa_policy.specs.Sameness.{SamePatterns, SameIfAny, SameRule, SameChange, SameProfile, SamePolicy}
 use Rattle.aa_policy.specs.Spelling.{Spells, IsRepeated, AttachesTo, Aims, MeansRule, MeansChange, MeansProfile, MeansProfiles, exec_meant, files_of, changes_of, paths_of, passed_over_from}
 use Rattle.aa_policy.proofs.Attachments.{same_sum, same_attachments}
-use Rattle.aa_policy.proofs.Expanded.{never_refused}
+use Rattle.aa_policy.proofs.Expanded.{never_refused, expanded}
 use Rattle.aa_policy.proofs.Kept.{IsKept, policy_kept}
 use Rattle.aa_policy.proofs.LawfulModes.{IsLawfulFile}
 use Rattle.aa_policy.proofs.Parents.{parents_first}
 use Rattle.aa_policy.proofs.Profiles.{policy_once}
 use Rattle.aa_policy.proofs.Meaning.{zip_join, zip_same, tree_expands}
+use Rattle.aa_rules.proofs.Phrases.{false_true}
+use Rattle.aa_policy.proofs.Keeping.{HasShortName, HasFewPatterns}
 
 -- ---- what is written means one thing
-
-abbrev expanded : List (List Token) → Result (List (List Token)) PolicyKind
-expanded ts = Ok ts
 
 same_ok : (a b : List (List Token)) → expanded a ≡ expanded b → a ≡ b
 same_ok a b e = cc
@@ -124,12 +123,6 @@ same_all P f [] (q ∷ qs) h a = absurd h
 same_all P f (p ∷ ps) [] h a = absurd h
 same_all P f (p ∷ ps) (q ∷ qs) h a = (f p q h.0 a.0, same_all P f ps qs h.1 a.1)
 
-abbrev HasShortName : Profile → Type 0
-HasShortName p = length p.name ≤ 1024
-
-abbrev HasFewPatterns : Profile → Type 0
-HasFewPatterns p = file_patterns p ≤ 65535
-
 same_counts : (ps qs : List Profile) → AllZip SameProfile ps qs → IsWithinCounts ps → IsWithinCounts qs
 same_counts ps qs h c = record {
   few = subst (λ (n : ℕ). n ≤ 4096) (length_all_zip SameProfile ps qs h) c.few;
@@ -201,9 +194,6 @@ no_policy ws h p s = h s.vars s.tree s.written
 all_at : (P : List ℕ → Type 0) (xs : List (List ℕ)) (y : List ℕ) (ys : List (List ℕ)) → AllByRecursion P (xs ++ y ∷ ys) → P y
 all_at P [] y ys a = a.0
 all_at P (x ∷ xs) y ys a = all_at P xs y ys a.1
-
-false_true : false ≡ true → ⊥
-false_true e = cc
 
 or_false : (a b : Bool) → a ≡ false → (a || b) ≡ true → b ≡ true
 or_false true b f e = absurd cc

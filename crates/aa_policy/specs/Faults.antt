@@ -4,7 +4,8 @@ use Rattle.std.specs.Prelude.{◌≡◌, ◌⊎◌, Bool, true, false}
 use Rattle.aa_base.specs.declared.fault.PolicyFault.{PolicyFault}
 use Rattle.aa_base.specs.Kinds.{no_memory}
 use Rattle.aa_base.specs.declared.fault.PolicyKind.{PolicyKind}
-use Rattle.aa_base.specs.declared.fault.PolicyKind.TheVariants.{Syntax, Unsupported, UnknownWord, BadMode, WriteWithAppend, BadPattern, UndefinedVariable, VariableTwice, VariableCircle, TooManyExpansions, RelativePath, DuplicateProfile, TooLarge}
+use Rattle.aa_base.specs.declared.fault.PolicyKind.TheVariants.{Syntax, Unsupported, UnknownWord, BadMode, WriteWithAppend, BadPattern, UndefinedVariable}
+use Rattle.aa_base.specs.declared.fault.PolicyKind.TheVariants.{VariableTwice, VariableCircle, TooManyExpansions, RelativePath, DuplicateProfile, TooLarge}
 
 -- the kinds of a path that doesn't expand
 abbrev pub is_path_fault : PolicyKind → Bool

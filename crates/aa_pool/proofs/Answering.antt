@@ -48,7 +48,8 @@ module _ {M S Q A : Type 0} (next : M → S → Q → S) (reply : M → S → Q 
       }
 
   -- as many answers as were sent are all
-  pub has_left : (l : LaneSeen M S) (o o' : OwnerSeen M S Q A) (answered : List (Answered M S Q A)) (left : List Q) → IsFed next reply l o answered → length answered ≡ length o.sent → (MayGoOn o → left ≡ []) → o' ≡ left_of o o'.log → HasLeft next reply l o' answered left
+  pub has_left : (l : LaneSeen M S) (o o' : OwnerSeen M S Q A) (answered : List (Answered M S Q A)) (left : List Q) → IsFed next reply l o answered
+      → length answered ≡ length o.sent → (MayGoOn o → left ≡ []) → o' ≡ left_of o o'.log → HasLeft next reply l o' answered left
   has_left l o o' answered left h e all is =
       let given : List (Answered M S Q A) = answered_from next reply l.machine 0 l.start o.sent in
       let n : o.got ≡ length given = omega (arith, answered-length l.machine 0 l.start o.sent, h.count) in

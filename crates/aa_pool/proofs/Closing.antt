@@ -18,7 +18,8 @@ use Rattle.aa_pool.specs.declared.close.Outcome.{Outcome}
 use Rattle.aa_pool.specs.declared.tasks.Task.{Task}
 
 module _ {M S Q A : Type 0} where
-  pub rooms_more : (ts : List (Task M S Q A)) (rs : List (Vec (Answered M S Q A))) (t : Task M S Q A) (r : Vec (Answered M S Q A)) → AreRooms ts rs → r.items ≡ [] → deque_len t.requests ≤ vec_capacity r → AreRooms (ts ++ t ∷ []) (rs ++ r ∷ [])
+  pub rooms_more : (ts : List (Task M S Q A)) (rs : List (Vec (Answered M S Q A))) (t : Task M S Q A) (r : Vec (Answered M S Q A)) → AreRooms ts rs
+      → r.items ≡ [] → deque_len t.requests ≤ vec_capacity r → AreRooms (ts ++ t ∷ []) (rs ++ r ∷ [])
   rooms_more [] [] t r h e w = (e, w, tt)
   rooms_more [] (x ∷ rs) t r h e w = absurd h
   rooms_more (x ∷ ts) [] t r h e w = absurd h
@@ -44,7 +45,8 @@ module _ {M S Q A : Type 0} (next : M → S → Q → S) (reply : M → S → Q 
       let n : length requests ≡ length e.owner.sent = length-map answers (λ (a : Answered M S Q A). a.request) ∙ sym (h.all (told, ne)) in
       h.sent ∙ take_all (length e.owner.sent) requests (omega (arith, n)) ∙ sym (take_all most_accepted requests (omega (arith, n, few))))
 
-  opened : (m : M) (c : ℕ) (ls : List (LaneSeen M S)) (os : List (Outcome M S Q A)) → All (λ l. (l.machine ≡ m) × (l.table.slots ≡ c)) ls → WereClosed next reply ls os → AreOutcomes next reply m c (map (λ (l : LaneSeen M S). l.start) ls) os
+  opened : (m : M) (c : ℕ) (ls : List (LaneSeen M S)) (os : List (Outcome M S Q A)) → All (λ l. (l.machine ≡ m) × (l.table.slots ≡ c)) ls
+      → WereClosed next reply ls os → AreOutcomes next reply m c (map (λ (l : LaneSeen M S). l.start) ls) os
   opened m c [] [] terms h = tt
   opened m c [] (o ∷ os) terms h = absurd h
   opened m c (l ∷ ls) [] terms h = absurd h
@@ -53,5 +55,6 @@ module _ {M S Q A : Type 0} (next : M → S → Q → S) (reply : M → S → Q 
       (record { lane = l; machine = t.0; start = refl; capacity = t.1; closed = h.0 }, opened m c ls os (λ k d below. terms (suc k) d (omega (arith, below))) h.1)
 
   -- lanes of a machine, a capacity and opening states that were closed
-  pub outcomes : (m : M) (c : ℕ) (ls : List (LaneSeen M S)) (ss : List S) (os : List (Outcome M S Q A)) → map (λ (l : LaneSeen M S). l.start) ls ≡ ss → All (λ l. (l.machine ≡ m) × (l.table.slots ≡ c)) ls → WereClosed next reply ls os → AreOutcomes next reply m c ss os
+  pub outcomes : (m : M) (c : ℕ) (ls : List (LaneSeen M S)) (ss : List S) (os : List (Outcome M S Q A)) → map (λ (l : LaneSeen M S). l.start) ls ≡ ss
+      → All (λ l. (l.machine ≡ m) × (l.table.slots ≡ c)) ls → WereClosed next reply ls os → AreOutcomes next reply m c ss os
   outcomes m c ls ss os e terms h = rw e at (opened m c ls os terms h)

@@ -26,7 +26,8 @@ module _ {M S Q : Type 0} where
 
 module _ {M S Q : Type 0} where
   -- each lane is of the machine
-  pub of_machine : (m : M) (ls : List (LaneSeen M S)) (fs : List (FeedSeen M S Q)) → map (λ (f : FeedSeen M S Q). f.lane) fs ≡ ls → All (λ (l : LaneSeen M S). l.machine ≡ m) ls → All (λ (f : FeedSeen M S Q). f.lane.machine ≡ m) fs
+  pub of_machine : (m : M) (ls : List (LaneSeen M S)) (fs : List (FeedSeen M S Q)) → map (λ (f : FeedSeen M S Q). f.lane) fs ≡ ls
+      → All (λ (l : LaneSeen M S). l.machine ≡ m) ls → All (λ (f : FeedSeen M S Q). f.lane.machine ≡ m) fs
   of_machine m ls fs e all k d below =
       let n : k < length ls = omega (arith, ap length e, length-map fs (λ (f : FeedSeen M S Q). f.lane), below) in
       let at : get_or (map (λ (f : FeedSeen M S Q). f.lane) fs) k d.lane ≡ (get_or fs k d).lane = get_or-map (λ (f : FeedSeen M S Q). f.lane) fs k d d.lane below in

@@ -8,17 +8,6 @@ use Rattle.aa_model.specs.declared.request.Request.{Request}
 use Rattle.aa_representatives.specs.Representatives.{Adds}
 use Rattle.aa_representatives.proofs.Adding.{none_in}
 
--- what holds of the first elements, and of one more
-pub elements_more : {X : Type 0} (xs : List X) (i : ℕ) (x : X) (P Q : X → Type 0) → i < length xs → x ≡ get_or xs i x → ((y : X) → P y → Q y) → Q x → ((k : ℕ) (y : X) → k < i → get_or xs k y ≡ y → P y)
-    → (k : ℕ) (y : X) → k < i + 1 → get_or xs k y ≡ y → Q y
-elements_more xs i x P Q lt is on more before k y l e =
-    ⊎_elim
-    (λ (below : k < i). on y (before k y below e))
-    (λ (above : i ≤ k).
-    let same : i ≡ k = omega (arith, l, above) in
-    subst Q (is ∙ get_or_default xs i x y lt ∙ ap (λ (n : ℕ). get_or xs n y) same ∙ e) more)
-    (cases_lt k i)
-
 module _ (Kind : Request → Type 0) where
   -- all are of the kind, where those that were there are
   pub adds_all : (was now : List Request) → Adds Kind was now → ((r : Request) → Contains was r → Kind r) → (r : Request) → Contains now r → Kind r

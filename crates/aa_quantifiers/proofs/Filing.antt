@@ -15,9 +15,7 @@ use Rattle.aa_mediate.specs.Bits.{plain_bits, file_bits}
 use Rattle.aa_mediate.specs.Reply.{kept, reply_at, reply_by, reply}
 use Rattle.aa_representatives.specs.Alike.{MatchAlike, FilesAlike, filing_at, filing}
 use Rattle.aa_representatives.proofs.Matched.{verdict_alike}
-
-abbrev file_at : List ℕ → Perms → Bool → RequestedFile
-file_at s mask owned = record { path = s; mask = mask; owned = owned }
+use Rattle.aa_representatives.proofs.Replied.{file_at}
 
 module _ (policies : List Policy) (s u : List ℕ) where
   in_profile : (k n : ℕ) (p : Profile) → MatchAlike (patterns_of p.files) s u → (mask : Perms) (owned : Bool) → kept k n p (file_bits p.files (file_at s mask owned)) ≡ kept k n p (file_bits p.files (file_at u mask owned))

@@ -87,7 +87,12 @@ module _ (policies : List Policy) (label : Label) (regions : List Region) (rs : 
 pub one_stands : (policies : List Policy) (label : Label) (r : Request) (rs : List Request) → rs ≡ r ∷ [] → StandForWord policies label (One r) rs
 one_stands policies label r rs e = record {
   each = λ q c. only r q (subst (λ (l : List Request). Contains l q) e c);
-  all = λ q is. (r, subst (λ (l : List Request). Contains l r) (sym e) (0, omega arith, refl), subst (λ (x : Request). reply policies label x ≡ reply policies label r) is refl, subst (λ (x : Request). path_length r ≤ path_length x) is (omega arith));
+  all = λ q is. (
+    r,
+    subst (λ (l : List Request). Contains l r) (sym e) (0, omega arith, refl),
+    subst (λ (x : Request). reply policies label x ≡ reply policies label r) is refl,
+    subst (λ (x : Request). path_length r ≤ path_length x) is (omega arith),
+  );
 }
   where
     only : (x y : Request) → Contains (x ∷ []) y → x ≡ y

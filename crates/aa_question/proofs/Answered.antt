@@ -41,7 +41,8 @@ ask_of q base folders o (Ok out) b f asks found =
     record { options = o; asked = asks; printed = subst (λ (s : Setting). IsAskOutput s o q.words (printed out)) (setting_is q base folders b f) found }
 ask_of q base folders o (Err why) b f asks found = tt
 
-pub answered_of : (IsOf : Asked → Printed → Type 0) (bytes : List ℕ) (q : Asked) (r : Result Output NoMemory) → question_of bytes ≡ Ok q → IfOk r (λ out. IsOf q (printed out)) → IfOk r (λ out. IsAnswer IsOf bytes (printed out))
+pub answered_of : (IsOf : Asked → Printed → Type 0) (bytes : List ℕ) (q : Asked) (r : Result Output NoMemory) → question_of bytes ≡ Ok q
+    → IfOk r (λ out. IsOf q (printed out)) → IfOk r (λ out. IsAnswer IsOf bytes (printed out))
 answered_of IsOf bytes q (Ok out) is found = IsAnswer.Answered q is found
 answered_of IsOf bytes q (Err why) is found = tt
 

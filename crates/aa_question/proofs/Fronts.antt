@@ -1,5 +1,7 @@
 -- Paths in byte order, and those among them that begin with a front.
-use Rattle.std.proofs.Common.{◌≡◌, ℕ, ◌+◌, ◌<◌, List, [], ◌∷◌, ◌++◌, Bool, true, false, true≢false, cond, not, ◌&&◌, ◌||◌, map, length, take, drop, get_or, Vec, Global, Ordering, Less, Equal, Greater, nat_cmp, nat_eq, is_lt, is_le, Option, Some, None, refl, sym, ap, ◌∙◌, append-nil, arith, take-append-drop}
+use Rattle.std.proofs.Common.{◌≡◌, ℕ, ◌+◌, ◌<◌, List, [], ◌∷◌, ◌++◌, Bool, true, false, true≢false, cond, not, ◌&&◌, ◌||◌}
+use Rattle.std.proofs.Common.{map, length, take, drop, get_or, Vec, Global, Ordering, Less, Equal, Greater, nat_cmp, nat_eq, is_lt, is_le, Option, Some, None}
+use Rattle.std.proofs.Common.{refl, sym, ap, ◌∙◌, append-nil, arith, take-append-drop}
 use Rattle.std.specs.List.{AllByRecursion, list_any, starts_with}
 use Rattle.std.specs.List.Sorted.{IsStrictlySortedBy}
 use Rattle.std.specs.Map.{keys_of}

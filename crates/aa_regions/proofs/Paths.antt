@@ -14,14 +14,14 @@ use Rattle.aa_regions.specs.Regions.{AreRegions, ArePathRegions, IsAsked}
 abbrev head : List ℕ
 head = 47 ∷ []
 
-no_zero : (s : List ℕ) → list_any (λ b. b == 0) s ≡ false → IsText s → All (IsFrom 1) s
+pub no_zero : (s : List ℕ) → list_any (λ b. b == 0) s ≡ false → IsText s → All (IsFrom 1) s
 no_zero [] e text = All-nil (IsFrom 1)
 no_zero (b ∷ s) e text =
     let p = or_parts (b == 0) (list_any (λ x. x == 0) s) e in
     let ne = eqb-false b 0 p.0 in
     All-cons (IsFrom 1) b s (omega (arith, ne), All-head (λ x. x < 256) b s text) (no_zero s p.1 (All-tail (λ x. x < 256) b s text))
 
-zero_none : (s : List ℕ) → All (IsFrom 1) s → list_any (λ b. b == 0) s ≡ false
+pub zero_none : (s : List ℕ) → All (IsFrom 1) s → list_any (λ b. b == 0) s ≡ false
 zero_none [] all = refl
 zero_none (b ∷ s) all =
     let h = All-head (IsFrom 1) b s all in

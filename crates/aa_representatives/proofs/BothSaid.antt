@@ -126,7 +126,8 @@ said_missing policies label k n policy path v e there past =
     (subst (λ (o : Option Policy). IsSaidBy (Confined k n) o path v) (sym there)
     (subst (λ (o : Option Profile). IsSaidIn o path v) (sym (slice_get_past policy.profiles n past)) tt))
 
-pub said_there : (policies : List Policy) (label : Label) (k n : ℕ) (policy : Policy) (p : Profile) (path : List ℕ) (x : Said) → label ≡ Confined k n → slice_get policies k ≡ Some policy → slice_get policy.profiles n ≡ Some p
+pub said_there : (policies : List Policy) (label : Label) (k n : ℕ) (policy : Policy) (p : Profile) (path : List ℕ) (x : Said) → label ≡ Confined k n
+    → slice_get policies k ≡ Some policy → slice_get policy.profiles n ≡ Some p
     → IsSaid p.files path x → IsSaidAt policies label path (Some x)
 said_there policies label k n policy p path x e there is said =
     subst (λ (l : Label). IsSaidAt policies l path (Some x)) (sym e)

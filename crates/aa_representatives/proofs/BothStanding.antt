@@ -42,7 +42,8 @@ pub reload_askable : (r : Request) → IsReload r → IsAskable r
 reload_askable r k = inr (inr (inr (inr (inr (inr k)))))
 
 -- requests of a kind that can be asked are added
-pub askable_more : (Kind : Request → Type 0) → ((r : Request) → Kind r → IsAskable r) → (was now : List Request) → Adds Kind was now → ((r : Request) → Contains was r → IsAskable r) → (r : Request) → Contains now r → IsAskable r
+pub askable_more : (Kind : Request → Type 0) → ((r : Request) → Kind r → IsAskable r) → (was now : List Request) → Adds Kind was now
+    → ((r : Request) → Contains was r → IsAskable r) → (r : Request) → Contains now r → IsAskable r
 askable_more Kind can was now adds before r c =
     ⊎_elim (before r) (λ (d : Contains adds.more r). can r (adds.each r d)) (Contains-append_cases was adds.more r (subst (λ (l : List Request). Contains l r) adds.are c))
 

@@ -26,19 +26,7 @@ use Rattle.aa_representatives.proofs.Standing.{same_list}
 use Rattle.aa_representatives.proofs.Literal.{tells_alike}
 use Rattle.aa_representatives.proofs.Naming.{names_alike}
 use Rattle.aa_representatives.proofs.Replied.{changes_reply_alike}
-
-no_zero : (s : List ℕ) → list_any (λ b. b == 0) s ≡ false → IsText s → All (IsFrom 1) s
-no_zero [] e text = All-nil (IsFrom 1)
-no_zero (b ∷ s) e text =
-    let p = or_parts (b == 0) (list_any (λ x. x == 0) s) e in
-    let ne = eqb-false b 0 p.0 in
-    All-cons (IsFrom 1) b s (omega (arith, ne), All-head (λ x. x < 256) b s text) (no_zero s p.1 (All-tail (λ x. x < 256) b s text))
-
-zero_none : (s : List ℕ) → All (IsFrom 1) s → list_any (λ b. b == 0) s ≡ false
-zero_none [] all = refl
-zero_none (b ∷ s) all =
-    let h = All-head (IsFrom 1) b s all in
-    or_from (b == 0) (list_any (λ x. x == 0) s) (ne_eqb b 0 (λ e. omega (arith, e, h.0))) (zero_none s (All-tail (IsFrom 1) b s all))
+use Rattle.aa_regions.proofs.Paths.{no_zero, zero_none}
 
 -- a name that can be asked for is a text of the kind
 pub asked_wanted : (s : List ℕ) → IsText s → is_wanted_name s ≡ true → IsWanted [] 1 1024 s

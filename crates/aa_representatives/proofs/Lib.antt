@@ -7,7 +7,7 @@ mod Reloading
 mod Literal
 mod Naming
 mod Changing
-mod Linking
+pub mod Linking
 mod Entering
 mod BothSaid
 mod BothStanding

@@ -1,5 +1,6 @@
 -- Requests for links at paths of which the rules say the same stand for each other.
-use Rattle.std.proofs.Common.{◌≡◌, ℕ, ◌+◌, ◌<◌, ◌≤◌, List, [], ◌∷◌, ◌++◌, map, length, get_or, zero, suc, Bool, true, false, Option, Some, None, Result, Ok, Err, IfOk, Contains, refl, sym, ap, ◌∙◌, subst, arith, ⊎_elim}
+use Rattle.std.proofs.Common.{◌≡◌, ℕ, ◌+◌, ◌<◌, ◌≤◌, List, [], ◌∷◌, ◌++◌, map, length, get_or, zero, suc, Bool, true, false}
+use Rattle.std.proofs.Common.{Option, Some, None, Result, Ok, Err, IfOk, Contains, refl, sym, ap, ◌∙◌, subst, arith, ⊎_elim}
 use Rattle.std.specs.List.{slice_get}
 use Rattle.std.specs.Prelude.{option_map}
 use Rattle.std.specs.Option.{option_eq}
@@ -76,7 +77,8 @@ numbers_same rules (Some s) (Some t) f g e =
     ap Some (tells_apart rules x.rule y.rule s t x.in_rules y.in_rules x.says y.says (same_Some (way_by rules s) (way_by rules t) e))
 
 -- two paths with one verdict
-pub one_way : (rules : List FileRule) (s u : List ℕ) (owned : Bool) (x : Verdict) → IsVerdictOf (way_by rules) rules s owned x → IsVerdictOf (way_by rules) rules u owned x → way_of (chosen rules s owned) ≡ way_of (chosen rules u owned)
+pub one_way : (rules : List FileRule) (s u : List ℕ) (owned : Bool) (x : Verdict) → IsVerdictOf (way_by rules) rules s owned x
+    → IsVerdictOf (way_by rules) rules u owned x → way_of (chosen rules s owned) ≡ way_of (chosen rules u owned)
 one_way rules s u owned x a b =
     numbers_same rules (way_of (chosen rules s owned)) (way_of (chosen rules u owned)) (λ e. chosen_says rules s owned e) (λ e. chosen_says rules u owned e) (sym a.way ∙ b.way)
 
@@ -172,7 +174,8 @@ some_profile [] n lt = absurd (omega (arith, lt))
 some_profile (p ∷ profiles) zero lt = (p, refl)
 some_profile (p ∷ profiles) (suc n) lt = some_profile profiles n (omega (arith, lt))
 
-pub label_paths : (policies : List Policy) (label : Label) (k n : ℕ) (policy : Policy) (p : Profile) (regions : List Region) (paths : List (List ℕ)) → label ≡ Confined k n → slice_get policies k ≡ Some policy → slice_get policy.profiles n ≡ Some p
+pub label_paths : (policies : List Policy) (label : Label) (k n : ℕ) (policy : Policy) (p : Profile) (regions : List Region) (paths : List (List ℕ))
+    → label ≡ Confined k n → slice_get policies k ≡ Some policy → slice_get policy.profiles n ≡ Some p
     → ArePathRegions (deciding policies label) regions → ArePathsOf p.files regions paths → AreLinkPaths policies label paths
 label_paths policies label k n policy p regions paths e there is are of =
     subst (λ (l : Label). AreLinkPaths policies l paths) (sym e)
@@ -189,15 +192,12 @@ pub absent_says : (policies : List Policy) (label : Label) (k n : ℕ) → label
 absent_says policies label k n e none s u =
     subst (λ (l : Label). SayAlikeAt policies l s u) (sym e) (subst (λ (o : Option Policy). SayAlikeBy (Confined k n) o s u) (sym none) tt)
 
-pub missing_says : (policies : List Policy) (label : Label) (k n : ℕ) (policy : Policy) → label ≡ Confined k n → slice_get policies k ≡ Some policy → length policy.profiles ≤ n → (s u : List ℕ) → SayAlikeAt policies label s u
+pub missing_says : (policies : List Policy) (label : Label) (k n : ℕ) (policy : Policy) → label ≡ Confined k n → slice_get policies k ≡ Some policy
+    → length policy.profiles ≤ n → (s u : List ℕ) → SayAlikeAt policies label s u
 missing_says policies label k n policy e there past s u =
     subst (λ (l : Label). SayAlikeAt policies l s u) (sym e)
     (subst (λ (o : Option Policy). SayAlikeBy (Confined k n) o s u) (sym there)
     (subst (λ (o : Option Profile). SayAlikeIn o s u) (sym (slice_get_past policy.profiles n past)) tt))
-
-pub ok_then : {X E : Type 0} (r : Result X E) {P Q : X → Type 0} → IfOk r P → ((x : X) → P x → Q x) → IfOk r Q
-ok_then (Ok x) p f = f x p
-ok_then (Err e) p f = p
 
 module _ (policies : List Policy) (label : Label) (paths : List (List ℕ)) (are : AreLinkPaths policies label paths) (rs : List Request)
     (has : (s u : List ℕ) → Contains paths s → Contains paths u → HasLinks s u rs) where

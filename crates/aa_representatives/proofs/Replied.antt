@@ -36,7 +36,7 @@ use Rattle.aa_mediate.specs.Reply.{label_by, label_after, scrubs, found_or, goes
 use Rattle.aa_representatives.specs.Alike.{MatchAlike, NameAlike, deciding_at, deciding_by, deciding, changing_at, changing_by, changing, FilesAlike, ExecsAlike, LinksAlike, ChangesAlike}
 use Rattle.aa_representatives.proofs.Matched.{verdict_alike, chosen_alike, attached_alike, change_alike}
 
-abbrev file_at : List ℕ → Perms → Bool → RequestedFile
+abbrev pub file_at : List ℕ → Perms → Bool → RequestedFile
 file_at s mask owned = record { path = s; mask = mask; owned = owned }
 
 abbrev exec_at : List ℕ → Bool → RequestedExec

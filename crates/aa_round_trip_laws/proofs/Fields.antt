@@ -1,5 +1,7 @@
 -- One key of an audit line, read as a field.
-use Rattle.std.proofs.Common.{◌≡◌, ℕ, suc, ◌+◌, ◌<◌, Bool, true, false, not, ◌&&◌, ◌||◌, ◌==◌, List, [], ◌∷◌, ◌++◌, length, take, drop, cond, refl, sym, ◌∙◌, ap, arith, append_assoc, codes, Some, None, true≢false, nat_lt, position, option_to_list}
+use Rattle.std.proofs.Common.{◌≡◌, ℕ, suc, ◌+◌, ◌<◌, Bool, true, false, not, ◌&&◌, ◌||◌, ◌==◌, List, [], ◌∷◌, ◌++◌}
+use Rattle.std.proofs.Common.{length, take, drop, cond, refl, sym, ◌∙◌, ap, arith, append_assoc, codes, Some, None, true≢false, nat_lt, position}
+use Rattle.std.proofs.Common.{option_to_list}
 use Rattle.std.specs.List.{list_all, prefix_len, position_or_len}
 use Rattle.std.proofs.lemmas.Bool.{and_parts, and_from, or_from, false_from_ne_true, eqb-true, lt-ltb}
 use Rattle.std.proofs.lemmas.List.{append-nil}
@@ -8,22 +10,11 @@ use Rattle.aa_audit.specs.Keys.{key}
 use Rattle.aa_logs.specs.declared.word.Form.TheVariants.{Quoted, Plain}
 use Rattle.aa_logs.specs.Words.{WordData, PieceData, is_separator, begins_key, goes_on_key, key_len, run_len, keyed_piece, plain_piece, quoted_piece, field_piece, run_piece, first_piece, words_behind, words_of}
 use Rattle.aa_logs.proofs.Pieces.{words_of-first, first_onward}
+use Rattle.aa_notation.proofs.Splits.{take_front, drop_front, length_of}
 
 -- two numbers that a test tells apart are two
 pub apart : (p : ℕ → Bool) (b c : ℕ) → p b ≡ true → p c ≡ false → (b == c) ≡ false
 apart p b c h k = false_from_ne_true (b == c) (λ e. true≢false (sym h ∙ (ap p (eqb-true b c e) ∙ k)))
-
-take_front : (xs ys : List ℕ) → take (length xs) (xs ++ ys) ≡ xs
-take_front [] ys = refl
-take_front (x ∷ xs) ys = ap (λ (t : List ℕ). x ∷ t) (take_front xs ys)
-
-drop_front : (xs ys : List ℕ) → drop (length xs) (xs ++ ys) ≡ ys
-drop_front [] ys = refl
-drop_front (x ∷ xs) ys = drop_front xs ys
-
-length_of : (xs ys : List ℕ) → length (xs ++ ys) ≡ length xs + length ys
-length_of [] ys = omega arith
-length_of (x ∷ xs) ys = omega (arith, length_of xs ys)
 
 module _ (p : ℕ → Bool) where
   up_to : (xs : List ℕ) (c : ℕ) (rest : List ℕ) → list_all p xs ≡ true → p c ≡ false → prefix_len p (xs ++ c ∷ rest) ≡ length xs

@@ -1,5 +1,6 @@
 -- The text of a whole job, read back.
-use Rattle.std.proofs.Common.{◌≡◌, ℕ, Ordering, Less, Equal, Greater, suc, ◌<◌, ◌≤◌, ◌^◌, Bool, true, false, not, ◌&&◌, ◌==◌, List, [], ◌∷◌, ◌++◌, length, map, refl, sym, ◌∙◌, ap, ap₂, arith, codes, decimal, nat_le, Ok, append_assoc}
+use Rattle.std.proofs.Common.{◌≡◌, ℕ, Ordering, Less, Equal, Greater, suc, ◌<◌, ◌≤◌, ◌^◌, Bool, true, false, not, ◌&&◌, ◌==◌}
+use Rattle.std.proofs.Common.{List, [], ◌∷◌, ◌++◌, length, map, refl, sym, ◌∙◌, ap, ap₂, arith, codes, decimal, nat_le, Ok, append_assoc}
 use Rattle.std.specs.List.{filter, list_all}
 use Rattle.std.specs.Str.{is_utf8}
 use Rattle.std.specs.Ordering.{nat_cmp, match_ordering}
@@ -181,7 +182,8 @@ end_written ps includes tasks states i c u =
     ∙ (ap begun (includes_written includes i (tasks_begin ++ (asked ++ last)) false)
     ∙ ap begun (sym (with_last given tasks_begin asked states_begin (decimal states) (codes "}") (codes "\n")))))
 
-job_written : (ps : List JobPolicy) (includes : List Include) (tasks : List LogTask) (states : ℕ) → AreTexts ps → AreNamedTexts includes → TasksCanBeMade (length ps) tasks → list_all (λ (t : LogTask). is_utf8 t.label.items) tasks ≡ true
+job_written : (ps : List JobPolicy) (includes : List Include) (tasks : List LogTask) (states : ℕ) → AreTexts ps → AreNamedTexts includes
+    → TasksCanBeMade (length ps) tasks → list_all (λ (t : LogTask). is_utf8 t.label.items) tasks ≡ true
     → job_text ps includes tasks states ≡ compact_text (job_data ps includes tasks states) ++ codes "\n"
 unfolding given_text
 job_written ps includes tasks states p i c u =
@@ -206,7 +208,8 @@ policies_shallow [] ms m = omega (arith, m)
 policies_shallow (p ∷ []) ms m = omega (arith, m)
 policies_shallow (p ∷ q ∷ ps) ms m = omega (arith, m, texts_shallow ps)
 
-job_json : (ps : List JobPolicy) (includes : List Include) (tasks : List LogTask) (states : ℕ) → AreTexts ps → AreNamedTexts includes → TasksCanBeMade (length ps) tasks → list_all (λ (t : LogTask). is_utf8 t.label.items) tasks ≡ true
+job_json : (ps : List JobPolicy) (includes : List Include) (tasks : List LogTask) (states : ℕ) → AreTexts ps → AreNamedTexts includes
+    → TasksCanBeMade (length ps) tasks → list_all (λ (t : LogTask). is_utf8 t.label.items) tasks ≡ true
     → 1 ≤ length ps → length ps ≤ 16 → states < 2 ^ 64 → json_of (job_text ps includes tasks states) ≡ Ok (settled (job_data ps includes tasks states))
 job_json ps includes tasks states p i c u some few small =
     let rest = rest_of_job ps includes tasks states in

@@ -15,7 +15,8 @@ use Rattle.aa_logs.specs.declared.line.Then.{Then}
 use Rattle.aa_logs.specs.Words.{WordData, words_of}
 use Rattle.aa_logs.specs.Fields.{raw_in, text_in}
 use Rattle.aa_logs.specs.Outcomes.{RecordData, Another}
-use Rattle.aa_logs.specs.Asked.{Cause, Because, Keyword, cap_by, exec_by, link_by, change_by, socket_by, net_by, masked_file, file_by, requested_by, object_by, by_operation, unless_over, of_operation, asked_in, asked_mask, owned_in, passed_over, is_text_there, mask_owner}
+use Rattle.aa_logs.specs.Asked.{Cause, Because, Keyword, cap_by, exec_by, link_by, change_by, socket_by, net_by, masked_file, file_by, requested_by, object_by}
+use Rattle.aa_logs.specs.Asked.{by_operation, unless_over, of_operation, asked_in, asked_mask, owned_in, passed_over, is_text_there, mask_owner}
 use Rattle.aa_logs.specs.Records.{line_in, outcome_by, record_in, record_by, by_told, with_profile, with_request, told_in, is_record, is_broken, without_return}
 use Rattle.aa_logs.specs.Tasks.{TaskData, tasks_data, gone_on, takes, with_record, fits}
 use Rattle.aa_logs.specs.declared.task.LogTask.{LogTask}
@@ -100,7 +101,9 @@ object_made n ws (Some family) (Some kind) = net_made n family kind
 operation_made : (n : ℕ) (ws : List WordData) (operation : List ℕ) → Made n (by_operation ws operation)
 unfolding by_operation
 operation_made n ws operation =
-    either n (bytes_eq operation (codes "capable")) _ _ (cap_made n (option_and_then (number_among capability_names) (option_or (raw_in (codes "capname") ws) (raw_in (codes "name") ws))) (among capability_names (option_or (raw_in (codes "capname") ws) (raw_in (codes "name") ws))))
+    either n (bytes_eq operation (codes "capable")) _ _
+    (cap_made n (option_and_then (number_among capability_names) (option_or (raw_in (codes "capname") ws) (raw_in (codes "name") ws)))
+    (among capability_names (option_or (raw_in (codes "capname") ws) (raw_in (codes "name") ws))))
     (either n (bytes_eq operation (codes "exec")) _ _ (exec_made n (owned_in (mask_owner ws) ws) (text_in (codes "name") ws))
     (either n (bytes_eq operation (codes "link") || bytes_eq operation (codes "inode_link")) _ _ (link_made n (owned_in (mask_owner ws) ws) (text_in (codes "name") ws) (option_or (text_in (codes "target") ws) (text_in (codes "name2") ws)))
     (either n (bytes_eq operation (codes "change_profile")) _ _ (change_made n (option_or (text_in (codes "target") ws) (text_in (codes "name") ws)))

@@ -1,5 +1,6 @@
 -- A name between quotes or in hexadecimal digits, read back.
-use Rattle.std.proofs.Common.{◌≡◌, ℕ, ◌+◌, ◌-◌, ◌*◌, ◌/◌, ◌%◌, ◌≤◌, Bool, true, false, not, ◌&&◌, ◌||◌, ◌==◌, List, [], ◌∷◌, cond, refl, ◌∙◌, ap, arith, flat_map, nat_eq, nat_lt, nat_le, true≢false}
+use Rattle.std.proofs.Common.{◌≡◌, ℕ, ◌+◌, ◌-◌, ◌*◌, ◌/◌, ◌%◌, ◌≤◌, Bool, true, false, not, ◌&&◌, ◌||◌, ◌==◌}
+use Rattle.std.proofs.Common.{List, [], ◌∷◌, cond, refl, ◌∙◌, ap, arith, flat_map, nat_eq, nat_lt, nat_le, true≢false}
 use Rattle.std.specs.List.{list_all}
 use Rattle.std.proofs.lemmas.Bool.{and_parts, and_from, or_from, agree_below_at, eqb-true, ltb-true, le-leb}
 use Rattle.aa_base.specs.Values.{is_shown, hex_digit, hex_pair, quoted, value}
@@ -9,6 +10,7 @@ use Rattle.aa_logs.specs.Words.{WordData}
 use Rattle.aa_logs.specs.Values.{is_hex_digit, digit_of, bytes_of_hex, is_even, name_in}
 use Rattle.aa_round_trip_laws.specs.OwnLines.{are_bytes}
 use Rattle.aa_round_trip_laws.proofs.Fields.{apart, all_by, is_bare, is_unquoted, is_key, Reads, reads_quoted, reads_bare}
+use Rattle.aa_notation.proofs.Paths.{digit_from_48}
 
 -- a name as a field: between quotes where all its bytes show, else in digits
 abbrev pub named : List ℕ → List ℕ → WordData
@@ -21,13 +23,6 @@ from_48 b h =
     and_from (not (b == 32 || b == 9 || b == 29) && not (b == 34)) (not (b == 39))
     (and_from (not (b == 32 || b == 9 || b == 29)) (not (b == 34)) (ap not (or_from (b == 32 || b == 9) (b == 29) (or_from (b == 32) (b == 9) (away 32 refl) (away 9 refl)) (away 29 refl))) (ap not (away 34 refl)))
     (ap not (away 39 refl))
-
-pub digit_from_48 : (n : ℕ) → 48 ≤ hex_digit n
-digit_from_48 n = low (nat_lt n 10)
-  where
-    low : (t : Bool) → 48 ≤ cond t (48 + n) (65 + (n - 10))
-    low true = omega arith
-    low false = omega arith
 
 digit_bare : (n : ℕ) → is_bare (hex_digit n) ≡ true
 digit_bare n = from_48 (hex_digit n) (digit_from_48 n)

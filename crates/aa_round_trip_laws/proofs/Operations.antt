@@ -1,5 +1,7 @@
 -- The words of an audit line of each operation, and the record that they are.
-use Rattle.std.proofs.Common.{◌≡◌, ℕ, ◌<◌, ◌≤◌, Bool, true, false, not, ◌&&◌, ◌||◌, ◌==◌, List, [], ◌∷◌, ◌++◌, length, cond, refl, sym, ◌∙◌, ap, arith, codes, decimal, nat_eq, nat_lt, nat_le, bit_and, Option, Some, None, Result, Ok, Err, true≢false}
+use Rattle.std.proofs.Common.{◌≡◌, ℕ, ◌<◌, ◌≤◌, Bool, true, false, not, ◌&&◌, ◌||◌, ◌==◌, List, [], ◌∷◌, ◌++◌, length}
+use Rattle.std.proofs.Common.{cond, refl, sym, ◌∙◌, ap, arith, codes, decimal, nat_eq, nat_lt, nat_le, bit_and, Option, Some, None, Result, Ok, Err}
+use Rattle.std.proofs.Common.{true≢false}
 use Rattle.std.specs.Fmt.{digits}
 use Rattle.std.specs.List.{list_all, starts_with}
 use Rattle.std.specs.Str.{bytes_eq}
@@ -25,10 +27,9 @@ use Rattle.aa_round_trip_laws.proofs.Fields.{word_field, bare_field}
 use Rattle.aa_round_trip_laws.proofs.Names.{named, name_named}
 use Rattle.aa_round_trip_laws.proofs.Parts.{head_words, denied_words, is_bare_text, is_quotable}
 use Rattle.aa_round_trip_laws.proofs.Sound.{is_sound, sound_on, own_record, record_from}
-
-not_true : (t : Bool) → not t ≡ true → t ≡ false
-not_true true h = absurd (true≢false (sym h))
-not_true false h = refl
+use Rattle.aa_notation.proofs.Paths.{is_found, found_back}
+use Rattle.aa_notation.proofs.Reading.{either}
+use Rattle.aa_notation.proofs.Splits.{not_true}
 
 -- the profile is the one that is named
 own_profile : (profile : List ℕ) → is_own_name profile ≡ true → named_profile (Some (name_in (named (codes "profile") profile))) None ≡ Ok profile
@@ -49,10 +50,6 @@ asked_back : (o : Option (ℕ × Option Bool)) (bits : ℕ) → is_asked o bits 
 asked_back None bits h = absurd (true≢false (sym h))
 asked_back (Some (m, None)) bits h = ap (λ (n : ℕ). Some (n, None)) (eqb-true m bits h)
 asked_back (Some (m, Some b)) bits h = absurd (true≢false (sym h))
-
-either : (a b : Bool) → (not a || b) ≡ true → a ≡ true → b ≡ true
-either true b h e = h
-either false b h e = absurd (true≢false (sym e))
 
 mask_read : (bits : ℕ) → is_mask bits ≡ true → is_asked (asked_mask (letters bits)) bits ≡ true
 unfolding letters letters_bits place_of
@@ -129,15 +126,21 @@ unfolding field_in told_in told_by_word profile_in asked_in by_operation keyword
 link_record note.Denied profile link target blocked h p q =
     let ws = link_words note.Denied profile link target blocked in
     let tail = mask_words note.Denied 8 blocked in
-    record_from ws (became note.Denied) profile (link_of link target) (sound_names profile (codes "name") link (named (codes "target") target ∷ tail) refl (sound_on (codes "target") target tail refl refl)) refl (own_profile profile h) (link_read false link target p q) refl
+    record_from ws (became note.Denied) profile (link_of link target)
+    (sound_names profile (codes "name") link (named (codes "target") target ∷ tail) refl (sound_on (codes "target") target tail refl refl)) refl
+    (own_profile profile h) (link_read false link target p q) refl
 link_record note.Allowed profile link target blocked h p q =
     let ws = link_words note.Allowed profile link target blocked in
     let tail = mask_words note.Allowed 8 blocked in
-    record_from ws (became note.Allowed) profile (link_of link target) (sound_names profile (codes "name") link (named (codes "target") target ∷ tail) refl (sound_on (codes "target") target tail refl refl)) refl (own_profile profile h) (link_read false link target p q) refl
+    record_from ws (became note.Allowed) profile (link_of link target)
+    (sound_names profile (codes "name") link (named (codes "target") target ∷ tail) refl (sound_on (codes "target") target tail refl refl)) refl
+    (own_profile profile h) (link_read false link target p q) refl
 link_record note.Audit profile link target blocked h p q =
     let ws = link_words note.Audit profile link target blocked in
     let tail = mask_words note.Audit 8 blocked in
-    record_from ws (became note.Audit) profile (link_of link target) (sound_names profile (codes "name") link (named (codes "target") target ∷ tail) refl (sound_on (codes "target") target tail refl refl)) refl (own_profile profile h) (link_read false link target p q) refl
+    record_from ws (became note.Audit) profile (link_of link target)
+    (sound_names profile (codes "name") link (named (codes "target") target ∷ tail) refl (sound_on (codes "target") target tail refl refl)) refl
+    (own_profile profile h) (link_read false link target p q) refl
 
 -- an execution by its name
 exec_read : (owned : Bool) (path : List ℕ) → is_path_of_bytes path ≡ true → exec_by owned (Some (name_in (named (codes "name") path))) ≡ Ok (Exec (record { path = path; owned = owned }))
@@ -170,25 +173,29 @@ pub exec_record : (word : NoteWord) (granted : Bool) (profile path target : List
     → record_by (exec_words word granted profile path target) ≡ Ok (Some (own_record (became word) profile (exec_of path)))
 unfolding field_in told_in told_by_word profile_in asked_in by_operation keyword_of place_of letters
 exec_record note.Denied true profile path target h p =
-    record_from (exec_words note.Denied true profile path target) (became note.Denied) profile (exec_of path) (sound_names profile (codes "name") path (mask_words note.Denied 64 64 ++ target_words true target) refl (exec_sound note.Denied true target)) refl (own_profile profile h) (exec_read false path p) refl
+    record_from (exec_words note.Denied true profile path target) (became note.Denied) profile (exec_of path)
+    (sound_names profile (codes "name") path (mask_words note.Denied 64 64 ++ target_words true target) refl (exec_sound note.Denied true target)) refl
+    (own_profile profile h) (exec_read false path p) refl
 exec_record note.Denied false profile path target h p =
-    record_from (exec_words note.Denied false profile path target) (became note.Denied) profile (exec_of path) (sound_names profile (codes "name") path (mask_words note.Denied 64 64 ++ target_words false target) refl (exec_sound note.Denied false target)) refl (own_profile profile h) (exec_read false path p) refl
+    record_from (exec_words note.Denied false profile path target) (became note.Denied) profile (exec_of path)
+    (sound_names profile (codes "name") path (mask_words note.Denied 64 64 ++ target_words false target) refl (exec_sound note.Denied false target)) refl
+    (own_profile profile h) (exec_read false path p) refl
 exec_record note.Allowed true profile path target h p =
-    record_from (exec_words note.Allowed true profile path target) (became note.Allowed) profile (exec_of path) (sound_names profile (codes "name") path (mask_words note.Allowed 64 64 ++ target_words true target) refl (exec_sound note.Allowed true target)) refl (own_profile profile h) (exec_read false path p) refl
+    record_from (exec_words note.Allowed true profile path target) (became note.Allowed) profile (exec_of path)
+    (sound_names profile (codes "name") path (mask_words note.Allowed 64 64 ++ target_words true target) refl (exec_sound note.Allowed true target)) refl
+    (own_profile profile h) (exec_read false path p) refl
 exec_record note.Allowed false profile path target h p =
-    record_from (exec_words note.Allowed false profile path target) (became note.Allowed) profile (exec_of path) (sound_names profile (codes "name") path (mask_words note.Allowed 64 64 ++ target_words false target) refl (exec_sound note.Allowed false target)) refl (own_profile profile h) (exec_read false path p) refl
+    record_from (exec_words note.Allowed false profile path target) (became note.Allowed) profile (exec_of path)
+    (sound_names profile (codes "name") path (mask_words note.Allowed 64 64 ++ target_words false target) refl (exec_sound note.Allowed false target)) refl
+    (own_profile profile h) (exec_read false path p) refl
 exec_record note.Audit true profile path target h p =
-    record_from (exec_words note.Audit true profile path target) (became note.Audit) profile (exec_of path) (sound_names profile (codes "name") path (mask_words note.Audit 64 64 ++ target_words true target) refl (exec_sound note.Audit true target)) refl (own_profile profile h) (exec_read false path p) refl
+    record_from (exec_words note.Audit true profile path target) (became note.Audit) profile (exec_of path)
+    (sound_names profile (codes "name") path (mask_words note.Audit 64 64 ++ target_words true target) refl (exec_sound note.Audit true target)) refl
+    (own_profile profile h) (exec_read false path p) refl
 exec_record note.Audit false profile path target h p =
-    record_from (exec_words note.Audit false profile path target) (became note.Audit) profile (exec_of path) (sound_names profile (codes "name") path (mask_words note.Audit 64 64 ++ target_words false target) refl (exec_sound note.Audit false target)) refl (own_profile profile h) (exec_read false path p) refl
-
-abbrev is_found : Option ℕ → ℕ → Bool
-is_found None n = false
-is_found (Some m) n = m == n
-
-found_back : (o : Option ℕ) (n : ℕ) → is_found o n ≡ true → o ≡ Some n
-found_back None n h = absurd (true≢false (sym h))
-found_back (Some m) n h = ap (λ (k : ℕ). Some k) (eqb-true m n h)
+    record_from (exec_words note.Audit false profile path target) (became note.Audit) profile (exec_of path)
+    (sound_names profile (codes "name") path (mask_words note.Audit 64 64 ++ target_words false target) refl (exec_sound note.Audit false target)) refl
+    (own_profile profile h) (exec_read false path p) refl
 
 -- an entry of a table of names is at its own number, and stands in a line
 cap_number : (n : ℕ) → nat_lt n (length capability_names) ≡ true → number_among capability_names (entry capability_names n) ≡ Some n
@@ -226,7 +233,10 @@ pub cap_record : (word : NoteWord) (profile : List ℕ) (n : ℕ) → is_own_nam
 unfolding field_in told_in profile_in asked_in by_operation keyword_of
 cap_record word profile n h l =
     let ws = cap_words word profile n in
-    record_from ws (became word) profile (Cap n) (sound_on (codes "profile") profile (bare_field (codes "capability") (decimal n) ∷ word_field (codes "capname") (entry capability_names n) ∷ []) refl refl) (told_as word ws) (own_profile profile h) (ap cap_by (cap_number n l)) refl
+    record_from ws (became word) profile (Cap n)
+    (sound_on (codes "profile") profile
+    (bare_field (codes "capability") (decimal n) ∷ word_field (codes "capname") (entry capability_names n) ∷ []) refl refl) (told_as word ws)
+    (own_profile profile h) (ap cap_by (cap_number n l)) refl
 
 abbrev pub net_words : NoteWord → List ℕ → ℕ → ℕ → List WordData
 net_words word profile family kind = head_words word (codes "net") profile ++ (word_field (codes "family") (entry family_names family) ∷ word_field (codes "sock_type") (entry sock_type_names kind) ∷ [])
@@ -244,7 +254,10 @@ pub net_record : (word : NoteWord) (profile : List ℕ) (family kind : ℕ) → 
 unfolding field_in told_in profile_in asked_in by_operation keyword_of
 net_record word profile family kind h f k other =
     let ws = net_words word profile family kind in
-    record_from ws (became word) profile (Net family kind) (sound_on (codes "profile") profile (word_field (codes "family") (entry family_names family) ∷ word_field (codes "sock_type") (entry sock_type_names kind) ∷ []) refl refl) (told_as word ws) (own_profile profile h) (net_read family kind f k other) refl
+    record_from ws (became word) profile (Net family kind)
+    (sound_on (codes "profile") profile
+    (word_field (codes "family") (entry family_names family) ∷ word_field (codes "sock_type") (entry sock_type_names kind) ∷ []) refl refl)
+    (told_as word ws) (own_profile profile h) (net_read family kind f k other) refl
 
 abbrev pub change_words : NoteWord → List ℕ → List ℕ → List WordData
 change_words word profile name = head_words word (codes "change_profile") profile ++ (named (codes "target") name ∷ [])

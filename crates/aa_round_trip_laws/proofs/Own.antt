@@ -1,5 +1,6 @@
 -- An audit line is its words, and so the record of what was asked.
-use Rattle.std.proofs.Common.{◌≡◌, ℕ, ◌≤◌, Bool, true, false, not, ◌&&◌, List, [], ◌∷◌, ◌++◌, length, cond, refl, sym, ◌∙◌, ap, subst, codes, decimal, nat_lt, Option, Some, Ok, true≢false, unwrap_or, option_and_then}
+use Rattle.std.proofs.Common.{◌≡◌, ℕ, ◌≤◌, Bool, true, false, not, ◌&&◌, List, [], ◌∷◌, ◌++◌, length, cond, refl, sym, ◌∙◌}
+use Rattle.std.proofs.Common.{ap, subst, codes, decimal, nat_lt, Option, Some, Ok, true≢false, unwrap_or, option_and_then}
 use Rattle.std.specs.List.{list_all}
 use Rattle.std.specs.Str.{bytes_eq}
 use Rattle.std.proofs.lemmas.Bool.{and_parts}
@@ -27,6 +28,7 @@ use Rattle.aa_round_trip_laws.proofs.Names.{named}
 use Rattle.aa_round_trip_laws.proofs.Parts.{Part, is_quotable, is_bare_text, part_joined, stands_joined, part_nothing, part_named, part_quoted, part_bare, part_mask, head_words, head_part, denied_words, denied_part, denied_stands}
 use Rattle.aa_round_trip_laws.proofs.Sound.{own_record, line_from}
 use Rattle.aa_round_trip_laws.proofs.Operations.{mask_words, target_words, file_record, link_record, exec_record, cap_record, cap_quotable, net_record, family_quotable, kind_quotable, change_record}
+use Rattle.aa_notation.proofs.Splits.{not_true}
 
 -- each line is the access control's
 marked : (word : NoteWord) (operation profile keys : List ℕ) → is_record (head_text word operation profile ++ keys) ≡ true
@@ -59,11 +61,13 @@ file_part : (word : NoteWord) (path : List ℕ) (bits blocked : ℕ)
     → Part (key (codes "name") (value path) ++ key (codes "requested_mask") (mask bits) ++ denied_key word blocked) (named (codes "name") path ∷ mask_words word bits blocked)
 file_part word path bits blocked =
     part_joined (key (codes "name") (value path) ++ key (codes "requested_mask") (mask bits)) (denied_key word blocked) (named (codes "name") path ∷ word_field (codes "requested_mask") (letters bits) ∷ []) (denied_words word blocked)
-    (two_parts (key (codes "name") (value path)) (key (codes "requested_mask") (mask bits)) (named (codes "name") path) (word_field (codes "requested_mask") (letters bits)) (name_part path) (asked_part bits) (key_stands (codes "requested_mask") (mask bits)))
+    (two_parts (key (codes "name") (value path)) (key (codes "requested_mask") (mask bits)) (named (codes "name") path)
+    (word_field (codes "requested_mask") (letters bits)) (name_part path) (asked_part bits) (key_stands (codes "requested_mask") (mask bits)))
     (denied_part word blocked) (denied_stands word blocked)
 
 link_part : (word : NoteWord) (link target : List ℕ) (blocked : ℕ)
-    → Part (key (codes "name") (value link) ++ key (codes "target") (value target) ++ key (codes "requested_mask") (mask 8) ++ denied_key word blocked) (named (codes "name") link ∷ named (codes "target") target ∷ mask_words word 8 blocked)
+    → Part (key (codes "name") (value link) ++ key (codes "target") (value target) ++ key (codes "requested_mask") (mask 8) ++ denied_key word blocked)
+    (named (codes "name") link ∷ named (codes "target") target ∷ mask_words word 8 blocked)
 link_part word link target blocked =
     let names = key (codes "name") (value link) ++ key (codes "target") (value target) in
     part_joined (names ++ key (codes "requested_mask") (mask 8)) (denied_key word blocked) (named (codes "name") link ∷ named (codes "target") target ∷ word_field (codes "requested_mask") (letters 8) ∷ []) (denied_words word blocked)
@@ -81,9 +85,11 @@ granted_stands true target = key_stands (codes "target") (value target)
 granted_stands false target = λ more e. e
 
 exec_part : (word : NoteWord) (granted : Bool) (path target : List ℕ)
-    → Part (key (codes "name") (value path) ++ key (codes "requested_mask") (mask 64) ++ denied_key word 64 ++ cond granted (key (codes "target") (value target)) []) (named (codes "name") path ∷ (mask_words word 64 64 ++ target_words granted target))
+    → Part (key (codes "name") (value path) ++ key (codes "requested_mask") (mask 64) ++ denied_key word 64 ++ cond granted
+    (key (codes "target") (value target)) []) (named (codes "name") path ∷ (mask_words word 64 64 ++ target_words granted target))
 exec_part word granted path target =
-    part_joined (key (codes "name") (value path) ++ key (codes "requested_mask") (mask 64) ++ denied_key word 64) (cond granted (key (codes "target") (value target)) []) (named (codes "name") path ∷ mask_words word 64 64) (target_words granted target)
+    part_joined (key (codes "name") (value path) ++ key (codes "requested_mask") (mask 64) ++ denied_key word 64)
+    (cond granted (key (codes "target") (value target)) []) (named (codes "name") path ∷ mask_words word 64 64) (target_words granted target)
     (file_part word path 64 64) (granted_part granted target) (granted_stands granted target)
 
 -- what begins with a name stands behind a space, whatever follows it
@@ -109,7 +115,9 @@ link_line word profile link target blocked h p q short =
     let front = names ++ key (codes "requested_mask") (mask 8) in
     own_from word (codes "link") profile (front ++ denied_key word blocked) (named (codes "name") link ∷ named (codes "target") target ∷ mask_words word 8 blocked) (Link (record { link = link; target = target; owned = false })) refl
     (link_part word link target blocked)
-    (stands_joined front (denied_key word blocked) (stands_joined names (key (codes "requested_mask") (mask 8)) (name_stands link (key (codes "target") (value target))) (key_stands (codes "requested_mask") (mask 8))) (denied_stands word blocked))
+    (stands_joined front (denied_key word blocked)
+    (stands_joined names (key (codes "requested_mask") (mask 8)) (name_stands link (key (codes "target") (value target)))
+    (key_stands (codes "requested_mask") (mask 8))) (denied_stands word blocked))
     (link_record word profile link target blocked h p q) short
 
 exec_line : (word : NoteWord) (granted : Bool) (profile path target : List ℕ) → is_own_name profile ≡ true → is_path_of_bytes path ≡ true
@@ -118,9 +126,12 @@ exec_line : (word : NoteWord) (granted : Bool) (profile path target : List ℕ) 
     ≡ AsksFor (own_record (became word) profile (Exec (record { path = path; owned = false })))
 exec_line word granted profile path target h p short =
     let front = key (codes "name") (value path) ++ key (codes "requested_mask") (mask 64) in
-    own_from word (codes "exec") profile (front ++ denied_key word 64 ++ cond granted (key (codes "target") (value target)) []) (named (codes "name") path ∷ (mask_words word 64 64 ++ target_words granted target)) (Exec (record { path = path; owned = false })) refl
+    own_from word (codes "exec") profile (front ++ denied_key word 64 ++ cond granted (key (codes "target") (value target)) [])
+    (named (codes "name") path ∷ (mask_words word 64 64 ++ target_words granted target)) (Exec (record { path = path; owned = false })) refl
     (exec_part word granted path target)
-    (stands_joined (front ++ denied_key word 64) (cond granted (key (codes "target") (value target)) []) (stands_joined front (denied_key word 64) (name_stands path (key (codes "requested_mask") (mask 64))) (denied_stands word 64)) (granted_stands granted target))
+    (stands_joined (front ++ denied_key word 64) (cond granted (key (codes "target") (value target)) [])
+    (stands_joined front (denied_key word 64) (name_stands path (key (codes "requested_mask") (mask 64))) (denied_stands word 64))
+    (granted_stands granted target))
     (exec_record word granted profile path target h p) short
 
 cap_line : (word : NoteWord) (profile : List ℕ) (n : ℕ) → is_own_name profile ≡ true → nat_lt n (length capability_names) ≡ true
@@ -131,27 +142,35 @@ cap_line word profile n h l short =
     let number = key (codes "capability") (decimal n) in
     let name = key (codes "capname") (quoted (entry capability_names n)) in
     own_from word (codes "capable") profile (number ++ name) (bare_field (codes "capability") (decimal n) ∷ word_field (codes "capname") (entry capability_names n) ∷ []) (Cap n) refl
-    (two_parts number name (bare_field (codes "capability") (decimal n)) (word_field (codes "capname") (entry capability_names n)) (part_bare (codes "capability") (decimal n) refl refl both.0) (part_quoted (codes "capname") (entry capability_names n) refl refl both.1) (key_stands (codes "capname") (quoted (entry capability_names n))))
+    (two_parts number name (bare_field (codes "capability") (decimal n)) (word_field (codes "capname") (entry capability_names n))
+    (part_bare (codes "capability") (decimal n) refl refl both.0) (part_quoted (codes "capname") (entry capability_names n) refl refl both.1)
+    (key_stands (codes "capname") (quoted (entry capability_names n))))
     (stands_joined number name (key_stands (codes "capability") (decimal n)) (key_stands (codes "capname") (quoted (entry capability_names n)))) (cap_record word profile n h l) short
 
 net_line : (word : NoteWord) (profile : List ℕ) (family kind : ℕ) → is_own_name profile ≡ true → nat_lt family (length family_names) ≡ true → nat_lt kind (length sock_type_names) ≡ true
     → bytes_eq (entry family_names family) (codes "unix") ≡ false
     → length (head_text word (codes "net") profile ++ (key (codes "family") (quoted (entry family_names family)) ++ key (codes "sock_type") (quoted (entry sock_type_names kind)))) ≤ 65536
-    → line_in (head_text word (codes "net") profile ++ (key (codes "family") (quoted (entry family_names family)) ++ key (codes "sock_type") (quoted (entry sock_type_names kind)))) ≡ AsksFor (own_record (became word) profile (Net family kind))
+    → line_in
+    (head_text word (codes "net") profile ++
+    (key (codes "family") (quoted (entry family_names family)) ++ key (codes "sock_type") (quoted (entry sock_type_names kind)))) ≡ AsksFor
+    (own_record (became word) profile (Net family kind))
 net_line word profile family kind h f k other short =
     let first = entry family_names family in
     let second = entry sock_type_names kind in
     let one = key (codes "family") (quoted first) in
     let two = key (codes "sock_type") (quoted second) in
     own_from word (codes "net") profile (one ++ two) (word_field (codes "family") first ∷ word_field (codes "sock_type") second ∷ []) (Net family kind) refl
-    (two_parts one two (word_field (codes "family") first) (word_field (codes "sock_type") second) (part_quoted (codes "family") first refl refl (family_quotable family f)) (part_quoted (codes "sock_type") second refl refl (kind_quotable kind k)) (key_stands (codes "sock_type") (quoted second)))
+    (two_parts one two (word_field (codes "family") first) (word_field (codes "sock_type") second)
+    (part_quoted (codes "family") first refl refl (family_quotable family f)) (part_quoted (codes "sock_type") second refl refl (kind_quotable kind k))
+    (key_stands (codes "sock_type") (quoted second)))
     (stands_joined one two (key_stands (codes "family") (quoted first)) (key_stands (codes "sock_type") (quoted second))) (net_record word profile family kind h f k other) short
 
 change_line : (word : NoteWord) (profile name : List ℕ) → is_own_name profile ≡ true → are_bytes name ≡ true → is_wanted_name name ≡ true
     → length (head_text word (codes "change_profile") profile ++ key (codes "target") (value name)) ≤ 65536
     → line_in (head_text word (codes "change_profile") profile ++ key (codes "target") (value name)) ≡ AsksFor (own_record (became word) profile (Change name))
 change_line word profile name h b w short =
-    own_from word (codes "change_profile") profile (key (codes "target") (value name)) (named (codes "target") name ∷ []) (Change name) refl (target_part name) (key_stands (codes "target") (value name)) (change_record word profile name h b w) short
+    own_from word (codes "change_profile") profile (key (codes "target") (value name)) (named (codes "target") name ∷ []) (Change name) refl
+    (target_part name) (key_stands (codes "target") (value name)) (change_record word profile name h b w) short
 
 -- where an option is a value, what it holds is that value
 some_is : {A : Type 0} (x y : A) (P : A → Type 0) → Some x ≡ Some y → P x → P y
@@ -159,14 +178,12 @@ some_is {A} x y P e p = subst P (ap (λ (o : Option A). unwrap_or o x) e) p
 
 -- the law, at each operation
 own_keys : (policies : List Policy) (request : Request) (answer : Answer) (n : Note) (profile : List ℕ) (operation text : List ℕ) → Some (head_text n.word operation profile ++ keys policies request answer n) ≡ Some text
-    → length text ≤ 65536 → (length (head_text n.word operation profile ++ keys policies request answer n) ≤ 65536 → line_in (head_text n.word operation profile ++ keys policies request answer n) ≡ AsksFor (own_record (became n.word) profile (unowned request)))
+    → length text ≤ 65536 →
+    (length (head_text n.word operation profile ++ keys policies request answer n) ≤ 65536
+    → line_in (head_text n.word operation profile ++ keys policies request answer n) ≡ AsksFor (own_record (became n.word) profile (unowned request)))
     → line_in text ≡ AsksFor (own_record (became n.word) profile (unowned request))
 own_keys policies request answer n profile operation text e short so =
     some_is (head_text n.word operation profile ++ keys policies request answer n) text (λ t. length t ≤ 65536 → line_in t ≡ AsksFor (own_record (became n.word) profile (unowned request))) e so short
-
-not_true : (t : Bool) → not t ≡ true → t ≡ false
-not_true true h = absurd (true≢false (sym h))
-not_true false h = refl
 
 own_note : (policies : List Policy) (before : Label) (request : Request) (answer : Answer) (n : Note) (text : List ℕ) → note_line policies before request answer n ≡ Some text → length text ≤ 65536
     → is_own_name (label_name policies before) ≡ true → is_told request ≡ true → line_in text ≡ AsksFor (own_record (became n.word) (label_name policies before) (unowned request))
@@ -184,7 +201,8 @@ own_note policies before (Cap c) answer n text e short h told =
 own_note policies before (Net family kind) answer n text e short h told =
     let parts = and_parts (nat_lt family (length family_names) && nat_lt kind (length sock_type_names)) (not (bytes_eq (entry family_names family) (codes "unix"))) told in
     let both = and_parts (nat_lt family (length family_names)) (nat_lt kind (length sock_type_names)) parts.0 in
-    own_keys policies (Net family kind) answer n (label_name policies before) (codes "net") text e short (net_line n.word (label_name policies before) family kind h both.0 both.1 (not_true (bytes_eq (entry family_names family) (codes "unix")) parts.1))
+    own_keys policies (Net family kind) answer n (label_name policies before) (codes "net") text e short
+    (net_line n.word (label_name policies before) family kind h both.0 both.1 (not_true (bytes_eq (entry family_names family) (codes "unix")) parts.1))
 own_note policies before (Change name) answer n text e short h told =
     let parts = and_parts (are_bytes name) (is_wanted_name name) told in
     own_keys policies (Change name) answer n (label_name policies before) (codes "change_profile") text e short (change_line n.word (label_name policies before) name h parts.0 parts.1)

@@ -9,7 +9,8 @@ use Rattle.aa_audit.specs.Keys.{key, denied_key}
 use Rattle.aa_audit.specs.Lines.{word_text, head_text}
 use Rattle.aa_logs.specs.Words.{WordData}
 use Rattle.aa_round_trip_laws.proofs.Fields.{apart, all_append, all_by, ends, is_key, is_bare, is_unquoted, Reads, Stands, joined, nothing, key_stands, reads_first, reads_quoted, reads_bare, word_field, bare_field}
-use Rattle.aa_round_trip_laws.proofs.Names.{named, reads_named, digit_from_48}
+use Rattle.aa_round_trip_laws.proofs.Names.{named, reads_named}
+use Rattle.aa_notation.proofs.Paths.{digit_from_48}
 
 -- a byte that is no return
 abbrev pub stays : ℕ → Bool
@@ -105,7 +106,8 @@ head_part word operation profile h =
     let second = key (codes "operation") (quoted operation) in
     let third = key (codes "profile") (value profile) in
     part_joined (first ++ second) third (word_field (codes "apparmor") (word_text word) ∷ word_field (codes "operation") operation ∷ []) (named (codes "profile") profile ∷ [])
-    (part_joined first second (word_field (codes "apparmor") (word_text word) ∷ []) (word_field (codes "operation") operation ∷ []) (first_part word) (part_quoted (codes "operation") operation refl refl h) (key_stands (codes "operation") (quoted operation)))
+    (part_joined first second (word_field (codes "apparmor") (word_text word) ∷ []) (word_field (codes "operation") operation ∷ []) (first_part word)
+    (part_quoted (codes "operation") operation refl refl h) (key_stands (codes "operation") (quoted operation)))
     (part_named (codes "profile") profile refl refl) (key_stands (codes "profile") (value profile))
 
 letter_quotable : (c : ℕ) (t : Bool) → is_quotable c ≡ true → list_all is_quotable (cond t (c ∷ []) []) ≡ true

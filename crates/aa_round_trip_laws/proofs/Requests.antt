@@ -1,5 +1,6 @@
 -- The text of each request, read back.
-use Rattle.std.proofs.Common.{◌≡◌, ℕ, ◌<◌, ◌≤◌, Bool, true, false, not, ◌&&◌, ◌||◌, ◌==◌, List, ◌++◌, length, cond, refl, sym, ◌∙◌, ap, ap₂, arith, codes, nat_le, bit_and, unwrap_or, IsUtf8, Option, Some, None, option_map, Ok, true≢false}
+use Rattle.std.proofs.Common.{◌≡◌, ℕ, ◌<◌, ◌≤◌, Bool, true, false, not, ◌&&◌, ◌||◌, ◌==◌, List, ◌++◌, length, cond, refl, sym}
+use Rattle.std.proofs.Common.{◌∙◌, ap, ap₂, arith, codes, nat_le, bit_and, unwrap_or, IsUtf8, Option, Some, None, option_map, Ok, true≢false}
 use Rattle.std.specs.List.{list_all}
 use Rattle.std.specs.Str.{is_utf8, bytes_eq}
 use Rattle.std.proofs.lemmas.Bool.{agree_below_at, and_parts, eqb-true, leb-true, lt-ltb}

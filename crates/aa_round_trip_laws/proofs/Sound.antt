@@ -1,5 +1,7 @@
 -- Words of an audit line are not broken, and a line without a return is what it is.
-use Rattle.std.proofs.Common.{◌≡◌, ℕ, zero, suc, ◌+◌, ◌-◌, ◌<◌, ◌≤◌, Bool, true, false, not, ◌&&◌, ◌||◌, ◌==◌, List, [], ◌∷◌, length, take, cond, refl, sym, ◌∙◌, ap, arith, codes, count_by, nat_lt, nat_eq, flat_map, drop, Option, Some, None, Ok, Err, slice_get, true≢false, option_and_then}
+use Rattle.std.proofs.Common.{◌≡◌, ℕ, zero, suc, ◌+◌, ◌-◌, ◌<◌, ◌≤◌, Bool, true, false, not, ◌&&◌, ◌||◌, ◌==◌, List, []}
+use Rattle.std.proofs.Common.{◌∷◌, length, take, cond, refl, sym, ◌∙◌, ap, arith, codes, count_by, nat_lt, nat_eq, flat_map, drop, Option, Some}
+use Rattle.std.proofs.Common.{None, Ok, Err, slice_get, true≢false, option_and_then}
 use Rattle.std.specs.List.{list_all, list_any, fold, starts_with}
 use Rattle.std.specs.Str.{bytes_eq}
 use Rattle.std.proofs.lemmas.Bool.{and_parts, and_from, or_from, false_from_ne_true, ltb-true}
@@ -15,13 +17,10 @@ use Rattle.aa_logs.specs.Outcomes.{RecordData, Another, AsksFor}
 use Rattle.aa_logs.specs.Records.{begins_stamp, is_false_stamp, is_open, is_time, is_broken, told_in, profile_in, by_told, with_profile, with_request, record_by, record_in, is_record, is_return, outcome_by, outcome_of, line_in}
 use Rattle.aa_round_trip_laws.proofs.Names.{named}
 use Rattle.aa_round_trip_laws.proofs.Parts.{stays}
+use Rattle.aa_notation.proofs.Splits.{not_true}
 
 abbrev pub is_sound : WordData → Bool
 is_sound w = not (is_open w) && not (begins_stamp w)
-
-not_true : (t : Bool) → not t ≡ true → t ≡ false
-not_true true h = absurd (true≢false (sym h))
-not_true false h = refl
 
 none_open : (ws : List WordData) → list_all is_sound ws ≡ true → list_any is_open ws ≡ false
 none_open [] h = refl

@@ -1,5 +1,6 @@
 -- The text of each task, read back.
-use Rattle.std.proofs.Common.{◌≡◌, ℕ, ◌<◌, ◌≤◌, Bool, true, false, ◌||◌, ◌==◌, List, [], ◌∷◌, ◌++◌, length, map, cond, refl, sym, ◌∙◌, ap, arith, codes, unwrap_or, Option, Some, None, Ok, append_assoc}
+use Rattle.std.proofs.Common.{◌≡◌, ℕ, ◌<◌, ◌≤◌, Bool, true, false, ◌||◌, ◌==◌, List, [], ◌∷◌, ◌++◌, length, map, cond, refl}
+use Rattle.std.proofs.Common.{sym, ◌∙◌, ap, arith, codes, unwrap_or, Option, Some, None, Ok, append_assoc}
 use Rattle.std.specs.List.{filter, list_all}
 use Rattle.std.specs.Str.{is_utf8}
 use Rattle.std.proofs.lemmas.Bool.{and_parts, lt-ltb, eqb-true}
@@ -24,6 +25,7 @@ use Rattle.aa_text.specs.Again.{IsPlain, ArePlain, HasPlain, settled, settled_it
 use Rattle.aa_round_trip_laws.specs.Jobs.{AllCanBeMade, TasksCanBeMade, task_in}
 use Rattle.aa_round_trip_laws.proofs.Regrouped.{of_nine}
 use Rattle.aa_round_trip_laws.proofs.Requests.{utf8, request_data, written_item, request_written, request_plain, request_shallow, request_shaped, request_means}
+use Rattle.aa_diagnostics.proofs.SetTwice.{or_false}
 
 -- ---- what a task asks
 
@@ -43,11 +45,9 @@ or_true : (b : Bool) → (b || true) ≡ true
 or_true true = refl
 or_true false = refl
 
-or_false : (b : Bool) → (b || false) ≡ b
-or_false true = refl
-or_false false = refl
-
-request_joined : (later b : Bool) (r : Request) (rs : List Request) (rest : List ℕ) → has_text r ≡ b → (b ≡ true → request_text r ≡ compact_text (request_data r)) → ((after : Bool) → requests_text after rs ++ 93 ∷ rest ≡ items_text after (request_items rs) ++ rest)
+request_joined : (later b : Bool) (r : Request) (rs : List Request) (rest : List ℕ) → has_text r ≡ b
+    → (b ≡ true → request_text r ≡ compact_text (request_data r))
+    → ((after : Bool) → requests_text after rs ++ 93 ∷ rest ≡ items_text after (request_items rs) ++ rest)
     → (cond b (comma_if later ++ request_text r) [] ++ requests_text (later || b) rs) ++ 93 ∷ rest ≡ items_text later (cond b (item (request_data r) (request_items rs)) (request_items rs)) ++ rest
 request_joined later true r rs rest is one others =
     ap (λ b. ((comma_if later ++ request_text r) ++ requests_text b rs) ++ 93 ∷ rest) (or_true later)
@@ -143,7 +143,9 @@ task_written ps n t c u =
     ∙ (ap begun (requests_written n rs c (number ++ codes "}") false)
     ∙ ap (λ l. begun (items_text false (request_items rs) ++ l)) (decider_written (length ps == 1) (policy_of label ps))))
 
-pub tasks_written : (ps : List JobPolicy) (n : ℕ) (ts : List LogTask) → TasksCanBeMade n ts → list_all (λ (t : LogTask). is_utf8 t.label.items) ts ≡ true → (rest : List ℕ) (later : Bool) → tasks_text ps later ts ++ 93 ∷ rest ≡ items_text later (task_items ps ts) ++ rest
+pub tasks_written : (ps : List JobPolicy) (n : ℕ) (ts : List LogTask) → TasksCanBeMade n ts
+    → list_all (λ (t : LogTask). is_utf8 t.label.items) ts ≡ true → (rest : List ℕ) (later : Bool)
+    → tasks_text ps later ts ++ 93 ∷ rest ≡ items_text later (task_items ps ts) ++ rest
 unfolding tasks_text
 tasks_written ps n [] c u rest later = refl
 tasks_written ps n (t ∷ ts) c u rest later =

@@ -54,4 +54,6 @@ pub record IsJobOf (ps : List JobPolicy) (given : List Include) (asked : List Lo
 
 -- what is written of a job's parts, where it is no larger than a job may be, is read as the job of these parts
 abbrev pub JobsAreRead : Type 0
-JobsAreRead = (ps : List JobPolicy) (includes : List Include) (tasks : List LogTask) (states : ℕ) (j : Job) → is_job_text ps includes tasks ≡ true → TasksCanBeMade (length ps) tasks → length (job_text ps includes tasks states) ≤ 16777216 → IsJobOf ps includes tasks states j → job_of (job_text ps includes tasks states) ≡ Ok j
+JobsAreRead = (ps : List JobPolicy) (includes : List Include) (tasks : List LogTask) (states : ℕ) (j : Job) → is_job_text ps includes tasks ≡ true
+    → TasksCanBeMade (length ps) tasks → length (job_text ps includes tasks states) ≤ 16777216 → IsJobOf ps includes tasks states j
+    → job_of (job_text ps includes tasks states) ≡ Ok j

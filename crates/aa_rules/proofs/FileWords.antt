@@ -12,7 +12,7 @@ use Rattle.aa_rules.specs.Phrases.{Keyword}
 use Rattle.aa_rules.specs.Reading.{EntryData, FileData}
 use Rattle.aa_rules.proofs.Phrases.{starts_same, keyword_apart, other_left_out, keyword_or_path}
 
-none_some : (m : Mode) → None ≡ Some m → ⊥
+pub none_some : (m : Mode) → None ≡ Some m → ⊥
 none_some m e = cc
 
 -- a word with which no file rule begins, nor its qualifiers: it is none of their words, and no mode

@@ -11,7 +11,8 @@ letters_step bits s i h = at_drop_more (letters_bits bits) s i 0 h
 pub letters_stop : (bits : ℕ) (s : List ℕ) (i : ℕ) (total : Option ℕ) → i < length s → None ≡ letter_bits (get_or s i 0) → letters_bits bits (drop i s) ≡ total → None ≡ total
 letters_stop bits s i total h e t = ap (option_and_then (λ b. letters_bits (bit_or bits b) (drop (i + 1) s))) e ∙ sym (letters_step bits s i h) ∙ t
 
-pub letters_go : (bits : ℕ) (s : List ℕ) (i : ℕ) (total : Option ℕ) (b after : ℕ) → i < length s → Some b ≡ letter_bits (get_or s i 0) → after ≡ bit_or bits b → letters_bits bits (drop i s) ≡ total → letters_bits after (drop (i + 1) s) ≡ total
+pub letters_go : (bits : ℕ) (s : List ℕ) (i : ℕ) (total : Option ℕ) (b after : ℕ) → i < length s → Some b ≡ letter_bits (get_or s i 0)
+    → after ≡ bit_or bits b → letters_bits bits (drop i s) ≡ total → letters_bits after (drop (i + 1) s) ≡ total
 letters_go bits s i total b after h e a t =
     ap (λ (n : ℕ). letters_bits n (drop (i + 1) s)) a ∙ ap (option_and_then (λ b. letters_bits (bit_or bits b) (drop (i + 1) s))) e ∙ sym (letters_step bits s i h) ∙ t
 

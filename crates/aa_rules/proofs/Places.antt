@@ -26,7 +26,7 @@ lacks_other kind words at w h e k = λ v rest s.
     let same : word_data w ≡ v = head_is (word_data w) v (rest_of words (at + 1)) rest (sym (here words at w h e) ∙ s.words) in
     k (ap (λ (x : WordData). x.kind) same ∙ s.kind_is)
 
-no_cons : (v : WordData) (vs : List WordData) → [] ≡ v ∷ vs → ⊥
+pub no_cons : (v : WordData) (vs : List WordData) → [] ≡ v ∷ vs → ⊥
 no_cons v vs e = cc
 
 pub lacks_past : (kind : WordKind) (words : List Word) (at : ℕ) → length words ≤ at → Lacks kind (rest_of words at)

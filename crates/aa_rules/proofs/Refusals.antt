@@ -3,7 +3,7 @@ use Rattle.std.proofs.Common.{◌≡◌, ap, sym, subst, ◌∙◌}
 use Rattle.std.specs.Prelude.{Result, Ok, Err, IfErr}
 use Rattle.aa_base.specs.declared.fault.PolicyFault.{PolicyFault}
 
-abbrev refusal : {T : Type 0} → PolicyFault → Result T PolicyFault
+abbrev pub refusal : {T : Type 0} → PolicyFault → Result T PolicyFault
 refusal e = Err e
 
 -- what the refusal says that it hands on

@@ -3,22 +3,7 @@ use Rattle.std.proofs.Common.{◌≡◌, ◌⊎◌, ℕ, zero, suc, ◌<◌, Lis
 use Rattle.std.specs.Prelude.{◌||◌}
 use Rattle.std.specs.List.{filter, flat_map, list_any}
 use Rattle.std.proofs.lemmas.List.Elements.{Contains-append_left, Contains-append_right, Contains-append_cases}
-
-pub in_head : {X : Type 0} (x : X) (xs : List X) → Contains (x ∷ xs) x
-in_head x xs = (0, omega arith, refl)
-
-pub in_tail : {X : Type 0} (x y : X) (xs : List X) → Contains xs y → Contains (x ∷ xs) y
-in_tail x y xs c = (suc c.0, omega (arith, c.1), c.2)
-
-pub in_cases : {X : Type 0} (x y : X) (xs : List X) → Contains (x ∷ xs) y → (x ≡ y) ⊎ Contains xs y
-in_cases x y xs c = at c.0 c.1 c.2
-  where
-    at : (k : ℕ) → k < length (x ∷ xs) → get_or (x ∷ xs) k y ≡ y → (x ≡ y) ⊎ Contains xs y
-    at zero lt e = inl e
-    at (suc k) lt e = inr (k, omega (arith, lt), e)
-
-pub not_in : {X : Type 0} (y : X) → Contains [] y → ⊥
-not_in y c = omega (arith, c.1)
+use Rattle.aa_compile.proofs.ConflictLemmas.{in_head, in_tail, in_cases, not_in}
 
 module _ {X : Type 0} (f : X → Bool) where
   pub in_filter : (xs : List X) (x : X) → Contains (filter f xs) x → Contains xs x × (f x ≡ true)

@@ -11,10 +11,8 @@ use Rattle.aa_model.specs.declared.policy.Profile.{Profile}
 use Rattle.aa_model.specs.Lawful.{has_parent}
 use Rattle.aa_compile.specs.declared.attach.Attachment.{Attachment}
 use Rattle.aa_compile.specs.Attached.{at_number, attachment_by, attachment_of, attachments_at, attachments_by, numbers_below}
-use Rattle.aa_skipping.proofs.Elements.{in_head, in_tail, in_cases, not_in, in_filter, filter_in, in_map, map_in, in_flat_map, flat_map_in}
-
-pub got_in : {X : Type 0} (xs : List X) (n : ℕ) (x : X) → slice_get xs n ≡ Some x → Contains xs x
-got_in xs n x e = (n, slice_get_within xs n x e, get_or_from_slice_get xs n x x e)
+use Rattle.aa_skipping.proofs.Elements.{in_filter, filter_in, in_map, map_in, in_flat_map, flat_map_in}
+use Rattle.aa_compile.proofs.ConflictLemmas.{in_head, in_tail, in_cases, not_in}
 
 pub in_got : {X : Type 0} (xs : List X) (x : X) → Contains xs x → (n : ℕ) × (slice_get xs n ≡ Some x)
 in_got xs x c = (c.0, slice_get-get_or xs c.0 x c.1 ∙ ap Some c.2)

@@ -13,7 +13,7 @@ use Rattle.aa_model.specs.declared.policy.Profile.{Profile}
 use Rattle.aa_model.specs.Lawful.{names_of}
 use Rattle.aa_compile.specs.Transitions.{named}
 use Rattle.aa_compile.proofs.WayLemmas.{found}
-use Rattle.aa_skipping.proofs.Hits.{got_in}
+use Rattle.aa_compile.proofs.ConflictLemmas.{got_in}
 
 pub there : {X : Type 0} (xs : List X) (n : ℕ) → n < length xs → (x : X) × (slice_get xs n ≡ Some x)
 there xs n lt =

@@ -6,7 +6,8 @@ use Rattle.std.specs.Option.{option_map}
 use Rattle.std.proofs.lemmas.Bool.{eq-eqb, eqb-true, ltb-true, lt-ltb, ltb-false, le-ltb}
 use Rattle.aa_compile.specs.declared.attach.Attachment.{Attachment}
 use Rattle.aa_compile.specs.Attached.{longest, is_strong, strongest, common, attached_by}
-use Rattle.aa_skipping.proofs.Elements.{in_head, in_tail, in_cases, not_in, in_filter, filter_in, in_any, none_in, in_map, map_in}
+use Rattle.aa_skipping.proofs.Elements.{in_filter, filter_in, in_any, none_in, in_map, map_in}
+use Rattle.aa_compile.proofs.ConflictLemmas.{in_head, in_tail, in_cases, not_in}
 
 -- the attachment of the profile at its new number
 abbrev pub moved_to : (ℕ → ℕ) → Attachment → Attachment

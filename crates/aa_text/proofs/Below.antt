@@ -4,10 +4,10 @@ use Rattle.std.specs.Str.{IsUtf8, is_utf8}
 use Rattle.std.proofs.lemmas.Str.{IsUtf8-from_is_utf8, is_utf8-from_IsUtf8}
 use Rattle.aa_text.specs.Excerpts.{below, blank, all_below}
 
-first : (b : Bool) (text others : List ℕ) → b ≡ true → cond b text others ≡ text
+pub first : (b : Bool) (text others : List ℕ) → b ≡ true → cond b text others ≡ text
 first b text others e = rw e refl
 
-second : (b : Bool) (text others : List ℕ) → (b ≡ true → ⊥) → cond b text others ≡ others
+pub second : (b : Bool) (text others : List ℕ) → (b ≡ true → ⊥) → cond b text others ≡ others
 second true text others h = absurd (h refl)
 second false text others h = refl
 

@@ -1,5 +1,6 @@
 -- What stands behind the last line end.
-use Rattle.std.proofs.Common.{Option, Some, None, unwrap_or, le_refl, length-append, ap, not, ◌≡◌, ℕ, suc, ◌+◌, ◌-◌, ◌<◌, ◌≤◌, Bool, true, false, ◌||◌, List, [], ◌∷◌, ◌++◌, length, take, drop, get_or, cond, refl, sym, ◌∙◌, arith}
+use Rattle.std.proofs.Common.{Option, Some, None, unwrap_or, le_refl, length-append, ap, not, ◌≡◌, ℕ, suc, ◌+◌, ◌-◌, ◌<◌, ◌≤◌, Bool}
+use Rattle.std.proofs.Common.{true, false, ◌||◌, List, [], ◌∷◌, ◌++◌, length, take, drop, get_or, cond, refl, sym, ◌∙◌, arith}
 use Rattle.std.proofs.lemmas.List.{length-drop, take_all, drop-append-le, take-append-drop}
 use Rattle.std.proofs.Math.Seq.{take-append-add}
 use Rattle.std.specs.List.{list_any, prefix_len}
@@ -85,7 +86,9 @@ across front rest start n h =
 joined : (front rest text : List ℕ) (n : ℕ) → text ≡ front ++ rest → take ((length front + n) - (length front - length (last_line front))) (drop (length front - length (last_line front)) text) ≡ last_line front ++ take n rest
 joined front rest text n is = rw is (across front rest (length front - length (last_line front)) n (omega arith) ∙ rw (last_suffix front) refl)
 
-pub line_across : (text : List ℕ) (byte n : ℕ) → take ((length (take byte text) + n) - (length (take byte text) - length (last_line (take byte text)))) (drop (length (take byte text) - length (last_line (take byte text))) text) ≡ last_line (take byte text) ++ take n (drop byte text)
+pub line_across : (text : List ℕ) (byte n : ℕ)
+    → take ((length (take byte text) + n) - (length (take byte text) - length (last_line (take byte text))))
+    (drop (length (take byte text) - length (last_line (take byte text))) text) ≡ last_line (take byte text) ++ take n (drop byte text)
 line_across text byte n = joined (take byte text) (drop byte text) text n (sym (take-append-drop byte text))
 
 -- a text's front with the first line behind it is no longer than the text

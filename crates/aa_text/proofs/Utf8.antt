@@ -3,13 +3,7 @@ use Rattle.std.proofs.Common.{◌≡◌, ℕ, List, Bool, true, false, cond, ref
 use Rattle.std.specs.Str.{IsUtf8, is_utf8}
 use Rattle.std.proofs.lemmas.Str.{IsUtf8-from_is_utf8, is_utf8-from_IsUtf8}
 use Rattle.aa_text.specs.Jsons.{json_text, in_digits, json_bytes}
-
-first : (b : Bool) (text others : List ℕ) → b ≡ true → cond b text others ≡ text
-first b text others e = rw e refl
-
-second : (b : Bool) (text others : List ℕ) → (b ≡ true → ⊥) → cond b text others ≡ others
-second true text others h = absurd (h refl)
-second false text others h = refl
+use Rattle.aa_text.proofs.Below.{first, second}
 
 pub json_of_text : (bytes : List ℕ) → IsUtf8 bytes → json_bytes bytes ≡ json_text bytes
 unfolding json_bytes
@@ -22,7 +16,7 @@ json_of_others bytes h = second (is_utf8 bytes) (json_text bytes) (in_digits byt
 pub is_text : (bytes : List ℕ) → IsUtf8 bytes → is_utf8 bytes ≡ true
 is_text bytes u = is_utf8-from_IsUtf8 bytes u
 
-is_false : (b : Bool) → (b ≡ true → ⊥) → b ≡ false
+pub is_false : (b : Bool) → (b ≡ true → ⊥) → b ≡ false
 is_false true h = absurd (h refl)
 is_false false h = refl
 

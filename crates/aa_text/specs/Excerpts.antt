@@ -1,6 +1,7 @@
 -- The line of a place with a caret below it.
 -- Source: own.
-use Rattle.std.specs.Prelude.{ℕ, zero, suc, ◌+◌, ◌-◌, ◌==◌, nat_lt, List, [], ◌∷◌, ◌++◌, length, take, drop, flat_map, min, replicate, codes, decimal, slice_index, Bool, false, not, if◌then◌else◌, unwrap_or, chars}
+use Rattle.std.specs.Prelude.{ℕ, zero, suc, ◌+◌, ◌-◌, ◌==◌, nat_lt, List, [], ◌∷◌, ◌++◌, length, take, drop, flat_map, min, replicate}
+use Rattle.std.specs.Prelude.{codes, decimal, slice_index, Bool, false, not, if◌then◌else◌, unwrap_or, chars}
 use Rattle.std.specs.List.{take_while}
 use Rattle.std.specs.Str.{is_utf8}
 use Rattle.unicode_width.specs.Width.{char_width}

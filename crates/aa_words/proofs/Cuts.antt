@@ -15,7 +15,8 @@ spelled_more [] p rest = rw append-nil refl
 spelled_more (q ∷ qs) p rest = append_assoc q.text (spelled (qs ++ p ∷ [])) rest ∙ ap (λ (t : List ℕ). q.text ++ t) (spelled_more qs p rest) ∙ sym (append_assoc q.text (spelled qs) (p.text ++ rest))
 
 pub length_more : (ps : List Part) (p : Part) → length (spelled (ps ++ p ∷ [])) ≡ length (spelled ps) + length p.text
-length_more ps p = let e : spelled (ps ++ p ∷ []) ++ [] ≡ spelled ps ++ (p.text ++ []) = spelled_more ps p [] in omega (arith, ap length e, length-append (spelled (ps ++ p ∷ [])) [], length-append (spelled ps) (p.text ++ []), length-append p.text [])
+length_more ps p = let e : spelled (ps ++ p ∷ []) ++ [] ≡ spelled ps ++ (p.text ++ []) = spelled_more ps p [] in omega
+    (arith, ap length e, length-append (spelled (ps ++ p ∷ [])) [], length-append (spelled ps) (p.text ++ []), length-append p.text [])
 
 pub lead_more : (from place : Place) (ps : List Part) (p : Part) (rest : List ℕ) → LeadTo from ps (p.text ++ rest) place → IsPart place p rest → LeadTo from (ps ++ p ∷ []) rest (place_after place p.kind p.text)
 lead_more from place [] p rest e part = (subst (λ (q : Place). IsPart q p rest) (sym e) part, ap (λ (q : Place). place_after q p.kind p.text) e)
@@ -27,7 +28,8 @@ lead_parts from place [] leads = tt
 lead_parts from place (p ∷ ps) leads = (subst (λ (t : List ℕ). IsPart from p t) (append-nil (spelled ps)) leads.0, lead_parts (place_after from p.kind p.text) place ps leads.1)
 
 module _ (deeper : Reading → List ℕ → Count → List WordData → Count → Type 0) (s : Setting) where
-  gives_more : (at : ℕ) (ps : List Part) (p : Part) (n k m : Count) (ws first : List WordData) → Gives deeper s at ps n ws k → PartGives deeper s (at + length (spelled ps)) p k first m → Gives deeper s at (ps ++ p ∷ []) n (ws ++ first) m
+  gives_more : (at : ℕ) (ps : List Part) (p : Part) (n k m : Count) (ws first : List WordData) → Gives deeper s at ps n ws k
+      → PartGives deeper s (at + length (spelled ps)) p k first m → Gives deeper s at (ps ++ p ∷ []) n (ws ++ first) m
   gives_more at [] p n k m ws first g part =
       let here : at + length (spelled []) ≡ at = omega arith in
       let placed : PartGives deeper s at p k first m = subst (λ (i : ℕ). PartGives deeper s i p k first m) here part in
@@ -41,7 +43,8 @@ module _ (deeper : Reading → List ℕ → Count → List WordData → Count �
   pub read_start : (text : List ℕ) (n : Count) → ReadTo deeper s text n start 0 text [] n
   read_start text n = record { parts = []; whole = refl; leads = refl; place_is = refl; gives = (refl, refl) }
 
-  read_more : (text : List ℕ) (n : Count) (place : Place) (at : ℕ) (p : Part) (rest after : List ℕ) (found first : List WordData) (k m : Count) → rest ≡ p.text ++ after → IsPart place p after → PartGives deeper s at p k first m
+  read_more : (text : List ℕ) (n : Count) (place : Place) (at : ℕ) (p : Part) (rest after : List ℕ) (found first : List WordData) (k m : Count)
+      → rest ≡ p.text ++ after → IsPart place p after → PartGives deeper s at p k first m
       → ReadTo deeper s text n place at rest found k → ReadTo deeper s text n (place_after place p.kind p.text) (at + length p.text) after (found ++ first) m
   read_more text n place at p rest after found first k m e part gives read =
       let placed : PartGives deeper s (0 + length (spelled read.parts)) p k first m = subst (λ (i : ℕ). PartGives deeper s i p k first m) (omega (arith, read.place_is)) gives in

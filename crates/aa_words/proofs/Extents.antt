@@ -3,7 +3,9 @@ use Rattle.std.proofs.Common.{◌≡◌, ℕ, suc, ◌+◌, ◌<◌, ◌≤◌, 
 use Rattle.std.proofs.lemmas.List.{at_drop_more, at_drop_all, length-drop, take_all}
 use Rattle.aa_words.specs.declared.runs.PathPlace.{PathPlace}
 use Rattle.aa_words.specs.declared.skips.SkipPlace.{SkipPlace}
-use Rattle.aa_words.specs.Runs.{begins_with, ends_value, value_len, ends_quote, quote_next, quote_len, quoted_len, ends_skip, skip_next, skip_start, skip_len, skipped_len, ends_name, ends_comment, ends_path, path_next, name_len, comment_len, path_len, ends_variable, variable_len, begins_with_letter, closes_before_sign, assigned_len}
+use Rattle.aa_words.specs.Runs.{begins_with, ends_value, value_len, ends_quote, quote_next, quote_len, quoted_len, ends_skip, skip_next, skip_start, skip_len}
+use Rattle.aa_words.specs.Runs.{skipped_len, ends_name, ends_comment, ends_path, path_next, name_len, comment_len, path_len, ends_variable, variable_len}
+use Rattle.aa_words.specs.Runs.{begins_with_letter, closes_before_sign, assigned_len}
 
 -- A run that goes on while a test fails, of n bytes in all: where it stops, goes on, and meets the end of the text.
 pub stops_at : (n i here there : ℕ) (b : Bool) → here ≡ cond b 0 (suc there) → b ≡ true → n ≡ i + here → i ≡ n
@@ -37,7 +39,9 @@ pub comment_nil : comment_len [] ≡ 0
 unfolding comment_len
 comment_nil = refl
 
-pub path_step : (p : PathPlace) (s : List ℕ) (i : ℕ) → i < length s → path_len p (drop i s) ≡ cond (ends_path p (get_or s i 0) (take (length s - (i + 1)) (drop (i + 1) s))) 0 (suc (path_len (path_next p (get_or s i 0)) (drop (i + 1) s)))
+pub path_step : (p : PathPlace) (s : List ℕ) (i : ℕ) → i < length s
+    → path_len p (drop i s) ≡ cond (ends_path p (get_or s i 0) (take (length s - (i + 1)) (drop (i + 1) s))) 0
+    (suc (path_len (path_next p (get_or s i 0)) (drop (i + 1) s)))
 unfolding path_len
 path_step p s i h = rw to_end (at_drop_more (path_len p) s i 0 h)
 

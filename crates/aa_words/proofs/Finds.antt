@@ -1,5 +1,6 @@
 -- The includes of a text, piece by piece.
-use Rattle.std.proofs.Common.{◌≡◌, ◌⊎◌, inl, inr, ℕ, ◌+◌, ◌<◌, ◌≤◌, List, [], ◌∷◌, ◌++◌, length, take, drop, Option, Some, None, refl, sym, ap, subst, ◌∙◌, arith, append_assoc, length-append, cond}
+use Rattle.std.proofs.Common.{◌≡◌, ◌⊎◌, inl, inr, ℕ, ◌+◌, ◌<◌, ◌≤◌, List, [], ◌∷◌, ◌++◌, length, take, drop, Option, Some}
+use Rattle.std.proofs.Common.{None, refl, sym, ap, subst, ◌∙◌, arith, append_assoc, length-append, cond}
 use Rattle.std.proofs.lemmas.List.{append-nil, take-append-drop, length-take-le}
 use Rattle.aa_words.specs.declared.piece.Piece.{Piece}
 use Rattle.aa_words.specs.declared.piece.Place.{Place}
@@ -13,7 +14,9 @@ includes_more : (at : ℕ) (ps : List Part) (p : Part) → includes_from at (ps 
 includes_more at [] p = let here : at + length (spelled []) ≡ at = omega arith in rw here (append-nil (include_from at p))
 includes_more at (q ∷ qs) p =
     let behind : at + length (spelled (q ∷ qs)) ≡ at + length q.text + length (spelled qs) = omega (arith, length-append q.text (spelled qs)) in
-    rw behind (ap (λ (w : List IncludeData). include_from at q ++ w) (includes_more (at + length q.text) qs p) ∙ sym (append_assoc (include_from at q) (includes_from (at + length q.text) qs) (include_from (at + length q.text + length (spelled qs)) p)))
+    rw behind
+    (ap (λ (w : List IncludeData). include_from at q ++ w) (includes_more (at + length q.text) qs p)
+    ∙ sym (append_assoc (include_from at q) (includes_from (at + length q.text) qs) (include_from (at + length q.text + length (spelled qs)) p)))
 
 pub found_start : (text : List ℕ) → HasIncludesTo text start 0 text []
 found_start text = record { parts = []; whole = refl; leads = refl; place_is = refl; includes = refl }
@@ -32,7 +35,8 @@ found_more text place at p rest after found e part cut =
 
 -- the same, as the code names the parts
 pub found_step : (source : List ℕ) (place : Place) (at : ℕ) (rest : List ℕ) (kind : Piece) (len : ℕ) (text after : List ℕ) (found found' : List IncludeData) (place' : Place)
-    → piece_at place rest ≡ Some kind → len ≡ extent kind rest → 0 < length rest → text ≡ take len rest → after ≡ drop len rest → found' ≡ found ++ include_from at (record { kind = kind; text = text }) → place' ≡ place_after place kind text
+    → piece_at place rest ≡ Some kind → len ≡ extent kind rest → 0 < length rest → text ≡ take len rest → after ≡ drop len rest
+    → found' ≡ found ++ include_from at (record { kind = kind; text = text }) → place' ≡ place_after place kind text
     → HasIncludesTo source place at rest found → HasIncludesTo source place' (at + len) after found'
 found_step source place at rest kind len text after found found' place' e len-is h text-is after-is found-is place-is cut =
     let p : Part = record { kind = kind; text = text } in

@@ -1,5 +1,6 @@
 -- What is skipped in the form of an include.
-use Rattle.std.proofs.Common.{◌≡◌, ℕ, suc, ◌+◌, ◌-◌, ap, ◌<◌, ◌≤◌, ◌==◌, Bool, true, false, List, [], ◌∷◌, length, take, drop, get_or, Result, Ok, Err, Option, Some, None, option_and_then, cond, if◌then◌else◌, codes, refl, sym, ◌∙◌, arith}
+use Rattle.std.proofs.Common.{◌≡◌, ℕ, suc, ◌+◌, ◌-◌, ap, ◌<◌, ◌≤◌, ◌==◌, Bool, true, false, List, [], ◌∷◌, length, take}
+use Rattle.std.proofs.Common.{drop, get_or, Result, Ok, Err, Option, Some, None, option_and_then, cond, if◌then◌else◌, codes, refl, sym, ◌∙◌, arith}
 use Rattle.std.proofs.lemmas.List.{length-drop}
 use Rattle.std.specs.Str.{bytes_eq}
 use Rattle.aa_words.specs.Runs.{is_white, name_len}
@@ -30,7 +31,8 @@ unfolding behind_name
 name_stops sign text [] b h e is so_far = absurd (omega arith)
 name_stops sign text (x ∷ xs) b h e is so_far = sym (so_far ∙ rw (sym e ∙ is) refl)
 
-pub name_goes : (sign : ℕ) (text s : List ℕ) (b : Bool) → 0 < length s → b ≡ ends_include_name sign (get_or s 0 0) → b ≡ false → behind_name sign text ≡ behind_name sign s → behind_name sign text ≡ behind_name sign (take (length s - 1) (drop 1 s))
+pub name_goes : (sign : ℕ) (text s : List ℕ) (b : Bool) → 0 < length s → b ≡ ends_include_name sign (get_or s 0 0) → b ≡ false
+    → behind_name sign text ≡ behind_name sign s → behind_name sign text ≡ behind_name sign (take (length s - 1) (drop 1 s))
 unfolding behind_name
 name_goes sign text [] b h e is so_far = absurd (omega arith)
 name_goes sign text (x ∷ xs) b h e is so_far = rw (to_end (x ∷ xs) 1) (so_far ∙ rw (sym e ∙ is) refl)

@@ -1,5 +1,6 @@
 -- Names of sources.
-use Rattle.std.proofs.Common.{◌≡◌, ℕ, ◌+◌, map, Option, None, List, [], ◌∷◌, ◌++◌, Bool, true, false, Some, is_some, cond, ◌||◌, IsTrue, Result, Ok, Err, IsErrAnd, ◌<◌, length, arith, refl, sym, ap, subst, ◌∙◌}
+use Rattle.std.proofs.Common.{◌≡◌, ℕ, ◌+◌, map, Option, None, List, [], ◌∷◌, ◌++◌, Bool, true, false, Some, is_some, cond, ◌||◌}
+use Rattle.std.proofs.Common.{IsTrue, Result, Ok, Err, IsErrAnd, ◌<◌, length, arith, refl, sym, ap, subst, ◌∙◌}
 use Rattle.std.proofs.lemmas.List.{length-map}
 use Rattle.std.specs.Map.{lookup}
 use Rattle.std.specs.List.{position, position_from}
@@ -71,7 +72,8 @@ found_from i name (e ∷ es) =
     ≡ numbered (cond v (Some i) (position_from (λ k. bytes_eq name k.items) (i + 1) (map (λ x. x.0) es))) (cond v (Some e.1) (lookup (λ k. bytes_eq name k.items) es))) [ true ↦ refl | false ↦ found_from (i + 1) name es ]
 
 -- the source of a name stands at the place of its key
-pub source_numbered : (name : List ℕ) (es : List (Vec ℕ × Vec ℕ)) (self : List (List ℕ × List ℕ)) (i : Option ℕ) (text : Option (Vec ℕ)) → i ≡ position (λ k. bytes_eq name k.items) (map (λ e. e.0) es) → text ≡ lookup (λ k. bytes_eq name k.items) es → entries es ≡ self
+pub source_numbered : (name : List ℕ) (es : List (Vec ℕ × Vec ℕ)) (self : List (List ℕ × List ℕ)) (i : Option ℕ) (text : Option (Vec ℕ))
+    → i ≡ position (λ k. bytes_eq name k.items) (map (λ e. e.0) es) → text ≡ lookup (λ k. bytes_eq name k.items) es → entries es ≡ self
     → source_from 1 name self ≡ numbered i text
 source_numbered name es self i text at found view =
     let from : i ≡ position_from (λ k. bytes_eq name k.items) 0 (map (λ e. e.0) es) = at ∙ position_from-zero (λ k. bytes_eq name k.items) (map (λ e. e.0) es) in

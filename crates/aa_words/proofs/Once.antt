@@ -1,5 +1,6 @@
 -- A text has one list of words, and none where its reading stops.
-use Rattle.std.proofs.Common.{◌≡◌, ◌≢◌, IfErr, ℕ, zero, suc, ◌+◌, ◌<◌, ◌⊎◌, inl, inr, Bool, true, false, List, [], ◌∷◌, ◌++◌, length, take, Option, Some, None, Result, Ok, Err, refl, sym, ap, subst, ◌∙◌, arith, append_assoc}
+use Rattle.std.proofs.Common.{◌≡◌, ◌≢◌, IfErr, ℕ, zero, suc, ◌+◌, ◌<◌, ◌⊎◌, inl, inr, Bool, true, false, List, [], ◌∷◌}
+use Rattle.std.proofs.Common.{◌++◌, length, take, Option, Some, None, Result, Ok, Err, refl, sym, ap, subst, ◌∙◌, arith, append_assoc}
 use Rattle.std.proofs.lemmas.List.{length-append}
 use Rattle.aa_base.specs.declared.fault.PolicyFault.{PolicyFault}
 use Rattle.aa_base.specs.declared.fault.PolicyKind.TheVariants.{NoMemory}
@@ -90,13 +91,16 @@ module _ (deeper : Reading → List ℕ → Count → List WordData → Count �
       let place : at + length p.text + length (spelled ps) ≡ at + length (spelled (p ∷ ps)) = omega (arith, length-append p.text (spelled ps)) in
       record { front = g.0 ++ h.front; back = h.back; count = h.count; before = (g.0, g.1, h.front, g.3, h.before, refl); behind = subst (λ (i : ℕ). Gives deeper s i others h.count h.back m) place h.behind }
 
-  module _ (fails : Reading → List ℕ → Count → PolicyFault → Type 0) (none : (r : Reading) (text : List ℕ) (n : Count) (ws : List WordData) (m : Count) (fault : PolicyFault) → fails r text n fault → deeper r text n ws m → ⊥) where
+  module _ (fails : Reading → List ℕ → Count → PolicyFault → Type 0)
+      (none : (r : Reading) (text : List ℕ) (n : Count) (ws : List WordData) (m : Count) (fault : PolicyFault) → fails r text n fault
+      → deeper r text n ws m → ⊥) where
     include_none : (n : Count) (o : Result (Option Opening) PolicyFault) (ws : List WordData) (m : Count) (fault : PolicyFault) → IncludeFails fails o fault → IncludeGives deeper n o ws m → ⊥
     include_none n (Ok None) ws m fault f g = f
     include_none n (Ok (Some o)) ws m fault f g = none o.reading o.text o.count ws m fault f g
     include_none n (Err own) ws m fault f g = g
 
-    stop_none : (place : Place) (at : ℕ) (rest : List ℕ) (n m : Count) (ws : List WordData) (fault : PolicyFault) (others : List Part) → AreParts place others → rest ≡ spelled others → 0 < length rest → Gives deeper s at others n ws m
+    stop_none : (place : Place) (at : ℕ) (rest : List ℕ) (n m : Count) (ws : List WordData) (fault : PolicyFault) (others : List Part)
+        → AreParts place others → rest ≡ spelled others → 0 < length rest → Gives deeper s at others n ws m
         → ((piece_at place rest ≡ None) × (fault ≡ fault_at s.reading place at rest)) ⊎ ((piece_at place rest ≡ Some Include) × IncludeFails fails (include_opens s at (take (extent Include rest) rest) n) fault) → ⊥
     stop_none place at rest n m ws fault [] parts e more g stop = omega (arith, ap length e)
     stop_none place at rest n m ws fault (p ∷ ps) parts e more g (inl stop) = none_some p.kind (sym stop.0 ∙ (first_part place p (spelled ps) rest parts.0 e).stands)
@@ -126,7 +130,8 @@ reads_once zero sources r text n ws vs m k a b = absurd a
 reads_once (suc d) sources r text n ws vs m k a b = reads_by_once (Reads d sources) (reads_once d sources) (record { sources = sources; depth = d; reading = r }) text n ws vs m k a b
 
 -- a reading that stops gives no words
-pub fails_none : (d : ℕ) (sources : List (List ℕ × List ℕ)) (r : Reading) (text : List ℕ) (n : Count) (ws : List WordData) (m : Count) (fault : PolicyFault) → Fails d sources r text n fault → Reads d sources r text n ws m → ⊥
+pub fails_none : (d : ℕ) (sources : List (List ℕ × List ℕ)) (r : Reading) (text : List ℕ) (n : Count) (ws : List WordData) (m : Count)
+    (fault : PolicyFault) → Fails d sources r text n fault → Reads d sources r text n ws m → ⊥
 unfolding Reads Fails
 fails_none zero sources r text n ws m fault f g = f
 fails_none (suc d) sources r text n ws m fault f g =
@@ -134,11 +139,13 @@ fails_none (suc d) sources r text n ws m fault f g =
 
 -- where a reading stops, and what it gives, as the code comes to it
 
-pub fails_here : (d : ℕ) (sources : List (List ℕ × List ℕ)) (r : Reading) (text : List ℕ) (n : Count) (fault : PolicyFault) → StopsBy (Reads d sources) (Fails d sources) (record { sources = sources; depth = d; reading = r }) text n fault → Fails (suc d) sources r text n fault
+pub fails_here : (d : ℕ) (sources : List (List ℕ × List ℕ)) (r : Reading) (text : List ℕ) (n : Count) (fault : PolicyFault)
+    → StopsBy (Reads d sources) (Fails d sources) (record { sources = sources; depth = d; reading = r }) text n fault → Fails (suc d) sources r text n fault
 unfolding Fails
 fails_here d sources r text n fault stop = stop
 
-pub reads_here : (d : ℕ) (sources : List (List ℕ × List ℕ)) (r : Reading) (text : List ℕ) (n m : Count) (ws : List WordData) → ReadsBy (Reads d sources) (record { sources = sources; depth = d; reading = r }) text n ws m → Reads (suc d) sources r text n ws m
+pub reads_here : (d : ℕ) (sources : List (List ℕ × List ℕ)) (r : Reading) (text : List ℕ) (n m : Count) (ws : List WordData)
+    → ReadsBy (Reads d sources) (record { sources = sources; depth = d; reading = r }) text n ws m → Reads (suc d) sources r text n ws m
 unfolding Reads
 reads_here d sources r text n m ws reads = reads
 
@@ -146,7 +153,8 @@ include_kind : (k : Piece) → is_include k ≡ true → k ≡ Include
 include_kind Include e = refl
 include_kind _ e = absurd cc
 
-pub include_stops : (d : ℕ) (sources : List (List ℕ × List ℕ)) (r : Reading) (text : List ℕ) (n : Count) (place : Place) (at : ℕ) (rest : List ℕ) (found : List WordData) (k : Count) (kind : Piece) (len : ℕ) (front : List ℕ) (fault : PolicyFault)
+pub include_stops : (d : ℕ) (sources : List (List ℕ × List ℕ)) (r : Reading) (text : List ℕ) (n : Count) (place : Place) (at : ℕ) (rest : List ℕ)
+    (found : List WordData) (k : Count) (kind : Piece) (len : ℕ) (front : List ℕ) (fault : PolicyFault)
     → piece_at place rest ≡ Some kind → len ≡ extent kind rest → front ≡ take len rest → 0 < length rest → ReadTo (Reads d sources) (record { sources = sources; depth = d; reading = r }) text n place at rest found k
     → (fault ≡ no_memory) ⊎ ((is_include kind ≡ true) × IncludeFails (Fails d sources) (include_opens (record { sources = sources; depth = d; reading = r }) at front k) fault)
     → (fault ≡ no_memory) ⊎ Fails (suc d) sources r text n fault
@@ -172,7 +180,8 @@ pub handed_on : {T : Type 0} (r : Result T PolicyFault) (e f : PolicyFault) (P :
 handed_on {T} r e f P eq same h = subst (λ (x : Result T PolicyFault). IfErr x P) (sym eq) (subst P (sym same) h)
 
 -- refused for another cause than memory, a reading gives no words
-pub refused_none : {T : Type 0} (r : Result T PolicyFault) (e f : PolicyFault) (d : ℕ) (sources : List (List ℕ × List ℕ)) (q : Reading) (text : List ℕ) (n : Count) (ws : List WordData) (m : Count) → r ≡ Err e → e ≡ f → IsRefusal r
+pub refused_none : {T : Type 0} (r : Result T PolicyFault) (e f : PolicyFault) (d : ℕ) (sources : List (List ℕ × List ℕ)) (q : Reading)
+    (text : List ℕ) (n : Count) (ws : List WordData) (m : Count) → r ≡ Err e → e ≡ f → IsRefusal r
     → (f ≡ no_memory) ⊎ Fails d sources q text n f → Reads d sources q text n ws m → ⊥
 refused_none {T} r e f d sources q text n ws m eq same h (inl memory) reads =
     let P : Result T PolicyFault → Type 0 = λ x. IsRefusal x in

@@ -1,5 +1,7 @@
 -- The words of a text stand in it and in its includes, one behind the other.
-use Rattle.std.proofs.Common.{slice_index_or, ◌≡◌, ◌≢◌, ◌⊎◌, inl, inr, Bool, true, false, cond, Option, Some, None, Result, Ok, Err, drop, ℕ, zero, suc, ◌+◌, ◌-◌, ◌<◌, ◌≤◌, ◌==◌, List, [], ◌∷◌, ◌++◌, length, take, if◌then◌else◌, refl, sym, ap, subst, ◌∙◌, arith, append_assoc}
+use Rattle.std.proofs.Common.{slice_index_or, ◌≡◌, ◌≢◌, ◌⊎◌, inl, inr, Bool, true, false, cond, Option, Some, None, Result, Ok, Err, drop}
+use Rattle.std.proofs.Common.{ℕ, zero, suc, ◌+◌, ◌-◌, ◌<◌, ◌≤◌, ◌==◌, List, [], ◌∷◌, ◌++◌, length, take, if◌then◌else◌}
+use Rattle.std.proofs.Common.{refl, sym, ap, subst, ◌∙◌, arith, append_assoc}
 use Rattle.std.specs.List.{All}
 use Rattle.std.specs.Str.{bytes_eq}
 use Rattle.std.proofs.lemmas.List.{take_at, drop_at, length-append, length-take-le, take-append-drop}
@@ -14,7 +16,9 @@ use Rattle.aa_words.specs.declared.piece.Place.{Place}
 use Rattle.aa_words.specs.declared.reading.Reading.{Reading}
 use Rattle.aa_words.specs.declared.reading.Count.{Count}
 use Rattle.aa_words.specs.Includes.{included_name, is_optional}
-use Rattle.aa_words.specs.Splits.{WordData, Part, spelled, AreParts, reading_word, kind_of, is_in_quotes, unquoted, token_word, words_in, word_of, place_after, start, source_from, Opening, Setting, opened, opens, fits, include_opens, is_include, IncludeGives, PieceGives, Gives, Reads, main_reading, main_count}
+use Rattle.aa_words.specs.Splits.{WordData, Part, spelled, AreParts, reading_word, kind_of, is_in_quotes, unquoted, token_word, words_in, word_of, place_after}
+use Rattle.aa_words.specs.Splits.{start, source_from, Opening, Setting, opened, opens, fits, include_opens, is_include, IncludeGives, PieceGives, Gives, Reads}
+use Rattle.aa_words.specs.Splits.{main_reading, main_count}
 use Rattle.aa_words.specs.WordLists.{text_of_file, StandsIn, IsBehind, Rise}
 use Rattle.aa_words.proofs.Pieces.{some, part_long}
 
@@ -42,7 +46,8 @@ pub record IsOpened (n : Count) (found : Option (ℕ × List ℕ)) (o : Opening)
   pub found_is : found ≡ Some source
   pub opened_is : o ≡ opened n source
 
-opened_of : (deep fit : Bool) (n : Count) (source : ℕ × List ℕ) (o : Opening) (too_deep too_large : PolicyFault) → (if deep then Err too_deep else (if fit then Ok (Some (opened n source)) else Err too_large)) ≡ Ok (Some o) → IsOpened n (Some source) o
+opened_of : (deep fit : Bool) (n : Count) (source : ℕ × List ℕ) (o : Opening) (too_deep too_large : PolicyFault)
+    → (if deep then Err too_deep else (if fit then Ok (Some (opened n source)) else Err too_large)) ≡ Ok (Some o) → IsOpened n (Some source) o
 opened_of true fit n source o too_deep too_large e = absurd cc
 opened_of false false n source o too_deep too_large e = absurd cc
 opened_of false true n source o too_deep too_large e = record { source = source; found_is = refl; opened_is = cc }
@@ -57,7 +62,8 @@ rise_append [] vs first second between = second
 rise_append (w ∷ ws) vs first second between = (All-append (IsBehind w) ws vs first.0 (between zero w (omega arith)), rise_append ws vs first.1 second (λ k d h. between (suc k) d (omega arith)))
 
 module _ (sources : List (List ℕ × List ℕ)) (main : List ℕ) where
-  word_stands : (r : Reading) (front text more : List ℕ) (kind : WordKind) → text_of_file sources main r.file ≡ some (front ++ (text ++ more)) → (kind ≢ Quoted → kind ≢ Value → 0 < length text) → StandsIn sources main (reading_word r kind (length front) text)
+  word_stands : (r : Reading) (front text more : List ℕ) (kind : WordKind) → text_of_file sources main r.file ≡ some (front ++ (text ++ more))
+      → (kind ≢ Quoted → kind ≢ Value → 0 < length text) → StandsIn sources main (reading_word r kind (length front) text)
   word_stands r front text more kind source h = record {
     text = front ++ (text ++ more);
     file = source;
@@ -68,17 +74,21 @@ module _ (sources : List (List ℕ × List ℕ)) (main : List ℕ) where
   }
 
   -- what stands between quotes stands one byte behind
-  inner_stands : (r : Reading) (front text more : List ℕ) (kind : WordKind) → text_of_file sources main r.file ≡ some (front ++ (text ++ more)) → 0 < length text → (kind ≢ Quoted → kind ≢ Value → ⊥) → StandsIn sources main (reading_word r kind (length front + 1) (unquoted text))
+  inner_stands : (r : Reading) (front text more : List ℕ) (kind : WordKind) → text_of_file sources main r.file ≡ some (front ++ (text ++ more))
+      → 0 < length text → (kind ≢ Quoted → kind ≢ Value → ⊥) → StandsIn sources main (reading_word r kind (length front + 1) (unquoted text))
   inner_stands r front [] more kind source long h = absurd (omega arith)
   inner_stands r front (b ∷ bs) more kind source long h =
       let inner : List ℕ = take (length bs - 1) bs in
       let behind : List ℕ = drop (length bs - 1) bs ++ more in
       let whole : (front ++ b ∷ []) ++ (inner ++ behind) ≡ front ++ (b ∷ bs ++ more) =
       append_assoc front (b ∷ []) (inner ++ behind) ∙ ap (λ (t : List ℕ). front ++ b ∷ t) (sym (append_assoc inner (drop (length bs - 1) bs) more) ∙ ap (λ (t : List ℕ). t ++ more) (take-append-drop (length bs - 1) bs)) in
-      let stands : StandsIn sources main (reading_word r kind (length (front ++ b ∷ [])) inner) = word_stands r (front ++ b ∷ []) inner behind kind (source ∙ ap some (sym whole)) (λ no_quoted no_value. absurd (h no_quoted no_value)) in
+      let stands : StandsIn sources main (reading_word r kind (length (front ++ b ∷ [])) inner) = word_stands r (front ++ b ∷ []) inner behind kind
+      (source ∙ ap some (sym whole)) (λ no_quoted no_value. absurd (h no_quoted no_value)) in
       subst (λ (n : ℕ). StandsIn sources main (reading_word r kind n inner)) (length-append front (b ∷ [])) stands
 
-  token_stands : (r : Reading) (front text more : List ℕ) (in_quotes : Bool) (kind : WordKind) → text_of_file sources main r.file ≡ some (front ++ (text ++ more)) → 0 < length text → (in_quotes ≡ true → kind ≢ Quoted → kind ≢ Value → ⊥) → StandsIn sources main (token_word r in_quotes (length front) text kind)
+  token_stands : (r : Reading) (front text more : List ℕ) (in_quotes : Bool) (kind : WordKind)
+      → text_of_file sources main r.file ≡ some (front ++ (text ++ more)) → 0 < length text
+      → (in_quotes ≡ true → kind ≢ Quoted → kind ≢ Value → ⊥) → StandsIn sources main (token_word r in_quotes (length front) text kind)
   token_stands r front text more true kind source long h = inner_stands r front text more kind source long (h refl)
   token_stands r front text more false kind source long h = word_stands r front text more kind source (λ no_quoted no_value. long)
 
@@ -108,7 +118,9 @@ module _ (sources : List (List ℕ × List ℕ)) (main : List ℕ) where
   token_within r at text true kind n long = inl (refl, omega arith, omega (arith, unquoted_short text long))
   token_within r at text false kind n long = inl (refl, omega arith, omega arith)
 
-  words_ordered : (r : Reading) (front text more : List ℕ) (in_quotes : Bool) (kind : Option WordKind) (n : Count) → text_of_file sources main r.file ≡ some (front ++ (text ++ more)) → 0 < length text → ((k : WordKind) → kind ≡ some k → in_quotes ≡ true → k ≢ Quoted → k ≢ Value → ⊥)
+  words_ordered : (r : Reading) (front text more : List ℕ) (in_quotes : Bool) (kind : Option WordKind) (n : Count)
+      → text_of_file sources main r.file ≡ some (front ++ (text ++ more)) → 0 < length text
+      → ((k : WordKind) → kind ≡ some k → in_quotes ≡ true → k ≢ Quoted → k ≢ Value → ⊥)
       → AreOrdered (IsWithin r (length front) (length front + length text) n n) n n (words_in r in_quotes (length front) text kind)
   words_ordered r front text more in_quotes None n source long h = no_word_ordered (IsWithin r (length front) (length front + length text) n n) n
   words_ordered r front text more in_quotes (Some kind) n source long h =
@@ -160,7 +172,8 @@ module _ (sources : List (List ℕ × List ℕ)) (main : List ℕ) where
   from_within r q at end n c m w number count more (inr later) = inr (omega (arith, later.0), later.1)
 
   module _ (deeper : Reading → List ℕ → Count → List WordData → Count → Type 0) (ordered : AreOrderedBy deeper) (s : Setting) (same : s.sources ≡ sources) where
-    include_ordered : (at end : ℕ) (n m : Count) (o : Result (Option Opening) PolicyFault) (ws : List WordData) → ((x : Opening) → o ≡ Ok (Some x) → IsThere n x) → IncludeGives deeper n o ws m → AreOrdered (IsWithin s.reading at end n m) n m ws
+    include_ordered : (at end : ℕ) (n m : Count) (o : Result (Option Opening) PolicyFault) (ws : List WordData)
+        → ((x : Opening) → o ≡ Ok (Some x) → IsThere n x) → IncludeGives deeper n o ws m → AreOrdered (IsWithin s.reading at end n m) n m ws
     include_ordered at end n m (Ok None) ws there g =
         let none : AreOrdered (IsWithin s.reading at end n n) n n [] = no_word_ordered (IsWithin s.reading at end n n) n in
         let counted : AreOrdered (IsWithin s.reading at end n m) n m [] = subst (λ (c : Count). AreOrdered (IsWithin s.reading at end n c) n c []) (sym g.1) none in
@@ -180,11 +193,14 @@ module _ (sources : List (List ℕ × List ℕ)) (main : List ℕ) where
         → PieceGives deeper s (length front) kind text n b ws m → AreOrdered (IsWithin s.reading (length front) (length front + length text) n m) n m ws
     piece_ordered front text more kind n m true ws source long g =
         include_ordered (length front) (length front + length text) n m (include_opens s (length front) text n) ws
-        (λ x e. opened_there n (included_name text) x (subst (λ (all : List (List ℕ × List ℕ)). IsOpened n (source_from 1 (included_name text) all) x) same (opens_source s.depth _ (is_optional text) n (source_from 1 (included_name text) s.sources) x e))) g
+        (λ x e. opened_there n (included_name text) x
+        (subst (λ (all : List (List ℕ × List ℕ)). IsOpened n (source_from 1 (included_name text) all) x) same
+        (opens_source s.depth _ (is_optional text) n (source_from 1 (included_name text) s.sources) x e))) g
     piece_ordered front text more kind n m false ws source long g =
         let end : ℕ = length front + length text in
         let own : AreOrdered (IsWithin s.reading (length front) end n n) n n (word_of s.reading (length front) kind text) = words_ordered s.reading front text more (is_in_quotes kind) (kind_of kind) n source long (quotable kind) in
-        let counted : AreOrdered (IsWithin s.reading (length front) end n m) n m (word_of s.reading (length front) kind text) = subst (λ (c : Count). AreOrdered (IsWithin s.reading (length front) end n c) n c (word_of s.reading (length front) kind text)) (sym g.1) own in
+        let counted : AreOrdered (IsWithin s.reading (length front) end n m) n m (word_of s.reading (length front) kind text) = subst
+        (λ (c : Count). AreOrdered (IsWithin s.reading (length front) end n c) n c (word_of s.reading (length front) kind text)) (sym g.1) own in
         subst (AreOrdered (IsWithin s.reading (length front) end n m) n m) (sym g.0) counted
 
     behind : (at end : ℕ) (n k m : Count) (v w : WordData) → s.reading.number < n.readings → IsWithin s.reading at end n k v → IsFrom s.reading end k m w → n.readings ≤ k.readings → IsBehind v w
@@ -218,7 +234,9 @@ module _ (sources : List (List ℕ × List ℕ)) (main : List ℕ) where
         let others : AreOrdered (IsFrom s.reading end g.1 m) g.1 m g.2 = subst (λ (i : ℕ). AreOrdered (IsFrom s.reading i g.1 m) g.1 m g.2) (length-append front p.text) rest in
         let all : AreOrdered (IsFrom s.reading at n m) n m (g.0 ++ g.2) = record {
           stand = All-append (StandsIn sources main) g.0 g.2 first.stand others.stand;
-          placed = All-append (IsFrom s.reading at n m) g.0 g.2 (λ k d h. within_from at end n g.1 m (slice_index_or g.0 k d) others.more (first.placed k d h)) (λ k d h. later_from at end n g.1 m (slice_index_or g.2 k d) (omega arith) first.more (others.placed k d h));
+          placed = All-append (IsFrom s.reading at n m) g.0 g.2
+              (λ k d h. within_from at end n g.1 m (slice_index_or g.0 k d) others.more (first.placed k d h))
+              (λ k d h. later_from at end n g.1 m (slice_index_or g.2 k d) (omega arith) first.more (others.placed k d h));
           rise = rise_append g.0 g.2 first.rise others.rise (λ k d h i e l. behind at end n g.1 m (slice_index_or g.0 k d) (slice_index_or g.2 i e) number (first.placed k d h) (others.placed i e l) first.more);
           more = omega (arith, first.more, others.more);
         } in

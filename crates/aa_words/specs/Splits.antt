@@ -1,6 +1,8 @@
 -- The words of a text: it is cut into pieces, each what stands first there and as long as its kind allows.
 -- Source: apparmor.d(5), "Format", "Rule Qualifiers", "#include mechanism"; own.
-use Rattle.std.specs.Prelude.{ℕ, zero, suc, nat_lt, nat_le, Result, Ok, Err, ◌+◌, ◌-◌, ◌≤◌, ◌≡◌, List, [], ◌∷◌, ◌++◌, length, map, take, drop, flat_map, Bool, true, false, not, ◌==◌, ◌&&◌, if◌then◌else◌, Option, Some, None, codes, unwrap_or, is_some}
+use Rattle.std.specs.Prelude.{ℕ, zero, suc, nat_lt, nat_le, Result, Ok, Err, ◌+◌, ◌-◌, ◌≤◌, ◌≡◌, List, [], ◌∷◌, ◌++◌, length}
+use Rattle.std.specs.Prelude.{map, take, drop, flat_map, Bool, true, false, not, ◌==◌, ◌&&◌, if◌then◌else◌, Option, Some, None, codes, unwrap_or}
+use Rattle.std.specs.Prelude.{is_some}
 use Rattle.std.specs.List.{list_any}
 use Rattle.std.specs.Str.{bytes_eq}
 use Rattle.aa_words.specs.declared.word.WordKind.{WordKind}
@@ -71,7 +73,8 @@ qualifiers = codes "audit" ∷ codes "allow" ∷ codes "deny" ∷ []
 
 -- the words with which, where a rule begins or behind qualifiers, a rule of a kind begins that is passed over
 abbrev pub passed_over : List (List ℕ)
-passed_over = codes "signal" ∷ codes "ptrace" ∷ codes "dbus" ∷ codes "unix" ∷ codes "mount" ∷ codes "remount" ∷ codes "umount" ∷ codes "pivot_root" ∷ codes "set" ∷ codes "userns" ∷ codes "mqueue" ∷ codes "io_uring" ∷ []
+passed_over = codes "signal" ∷ codes "ptrace" ∷ codes "dbus" ∷ codes "unix" ∷ codes "mount" ∷ codes "remount" ∷ codes "umount" ∷ codes "pivot_root" ∷
+    codes "set" ∷ codes "userns" ∷ codes "mqueue" ∷ codes "io_uring" ∷ []
 
 -- a quoted text: one that is closed, and not straight behind a run
 abbrev pub quote_at : Bool → Piece → List ℕ → Option Piece

@@ -1,6 +1,7 @@
 -- Where and why a text can't be cut further: at the first place where no piece stands, or at an include that is refused.
 -- Source: own.
-use Rattle.std.specs.Prelude.{ℕ, zero, suc, false, drop, ◌==◌, ◌+◌, ◌-◌, ◌<◌, ◌≤◌, ◌≡◌, ◌⊎◌, List, [], ◌∷◌, ◌++◌, length, take, if◌then◌else◌, Option, Some, None, Result, Ok, Err, codes, Bool, ◌&&◌}
+use Rattle.std.specs.Prelude.{ℕ, zero, suc, false, drop, ◌==◌, ◌+◌, ◌-◌, ◌<◌, ◌≤◌, ◌≡◌, ◌⊎◌, List, [], ◌∷◌, ◌++◌}
+use Rattle.std.specs.Prelude.{length, take, if◌then◌else◌, Option, Some, None, Result, Ok, Err, codes, Bool, ◌&&◌}
 use Rattle.std.specs.Str.{bytes_eq}
 use Rattle.aa_base.specs.declared.fault.PolicyKind.TheVariants.{Syntax, TooLarge}
 use Rattle.aa_base.specs.declared.fault.PolicyFault.{PolicyFault}
@@ -59,7 +60,8 @@ IncludeFails fails (Ok (Some o)) fault = fails o.reading o.text o.count fault
 IncludeFails fails (Err own) fault = fault ≡ own
 
 -- the text is read up to a place where no piece stands, or an include that fails
-pub record StopsBy (deeper : Reading → List ℕ → Count → List WordData → Count → Type 0) (fails : Reading → List ℕ → Count → PolicyFault → Type 0) (s : Setting) (text : List ℕ) (n : Count) (fault : PolicyFault) : Type 0 where
+pub record StopsBy (deeper : Reading → List ℕ → Count → List WordData → Count → Type 0)
+    (fails : Reading → List ℕ → Count → PolicyFault → Type 0) (s : Setting) (text : List ℕ) (n : Count) (fault : PolicyFault) : Type 0 where
   pub place : Place
   pub at : ℕ
   pub rest : List ℕ

@@ -8,13 +8,15 @@ use Rattle.aa_arguments.proofs.command.command_named.Goals as goal
 pub returns-then-is_named-clause-asked : goal.returns-then-is_named-clause-asked
 returns-then-is_named-clause-asked c =
     let m = c.in_ok-matches.ensures in
-    let got = met (app_of c.in_ok-command_line.field-0) (map string_bytes c.args.words.now) c.in_ok-matches.matches (codes "check") c.in_ok-command_line.ensures.app (λ simple. (m.matches simple).1) (c.is_named.ensures.0 c.if-is_named.true) in
+    let got = met (app_of c.in_ok-command_line.field-0) (map string_bytes c.args.words.now) c.in_ok-matches.matches
+    (codes "check") c.in_ok-command_line.ensures.app (λ simple. (m.matches simple).1) (c.is_named.ensures.0 c.if-is_named.true) in
     ((codes "check", got.0), got.2, refl)
 
 pub returns-then-is_named-2-clause-asked : goal.returns-then-is_named-2-clause-asked
 returns-then-is_named-2-clause-asked c =
     let m = c.in_ok-matches.ensures in
-    let got = met (app_of c.in_ok-command_line.field-0) (map string_bytes c.args.words.now) c.in_ok-matches.matches (codes "replay") c.in_ok-command_line.ensures.app (λ simple. (m.matches simple).1) (c.is_named-2.ensures.0 c.if-is_named-2.true) in
+    let got = met (app_of c.in_ok-command_line.field-0) (map string_bytes c.args.words.now) c.in_ok-matches.matches
+    (codes "replay") c.in_ok-command_line.ensures.app (λ simple. (m.matches simple).1) (c.is_named-2.ensures.0 c.if-is_named-2.true) in
     ((codes "replay", got.0), got.2, refl)
 
 pub returns-clause-asked : goal.returns-clause-asked

@@ -18,7 +18,8 @@ add-requires-clause-set c =
 pub returns-then-len-limit-clause-too_many : goal.returns-then-len-limit-clause-too_many
 returns-then-len-limit-clause-too_many c =
     let grown = grown_sets c.args.net.now c.next.new.scratch.set.items c.args.found.now.sets c.add.new.self.sets c.args.found.now.lists c.add.new.self.lists c.in_ok-next-2.ensures.grows in
-    let reached = still_reached c.args.net.now c.args.found.now.sets c.add.new.self.sets c.args.row c.args.byte c.next.new.scratch.set.items c.in-Some.old.now c.ranges.byte.fits (sym c.in-Some.ensures) c.in_ok-next.ensures grown c.requires.reached c.in_ok-next-2.ensures.apart in
+    let reached = still_reached c.args.net.now c.args.found.now.sets c.add.new.self.sets c.args.row c.args.byte c.next.new.scratch.set.items c.in-Some.old.now c.ranges.byte.fits
+    (sym c.in-Some.ensures) c.in_ok-next.ensures grown c.requires.reached c.in_ok-next-2.ensures.apart in
     let longer = one_longer c.args.net.now c.args.found.now.sets c.add.new.self.sets c.args.row c.args.byte c.next.new.scratch.set.items c.in-Some.old.now c.ranges.byte.fits (sym c.in-Some.ensures) c.in_ok-next.ensures grown in
     let many : length c.add.new.self.sets ≡ c.args.limit + 1 = omega (arith, longer, c.if-len-limit.true, c.len.ensures, c.requires.few) in
     λ _. subst (HasPlaces (patterns_of c.args.net.now)) many (many_places c.args.net.now c.requires.net c.add.new.self.sets reached)

@@ -1,9 +1,9 @@
 use Rattle.std.proofs.Common.{arith, ap, ◌∙◌, ◌-◌}
 use Rattle.aa_pattern.specs.Weights.{weight, weight_of_items, weight_of_lists}
 use Rattle.aa_pattern.proofs.Rows.{weight-Choice}
-use Rattle.aa_auto.proofs.HeadLemmas.{weight_at, weight_of_at}
 use Rattle.aa_auto.proofs.NodesLemmas.{branches_none, branches_more, branches_all, items_none, items_more, items_all, choice_made, simple_made}
 use Rattle.aa_auto.proofs.nodes.+nodes.Goals as goal
+use Rattle.aa_pattern.proofs.FlagSteps.{weight_at, weight_of_at}
 
 pub add_branches-loop-branch-init : goal.add_branches-loop-branch-init
 add_branches-loop-branch-init t c = record {

@@ -18,7 +18,9 @@ report_of-requires-clause-few g c =
     omega arith
 
 pub report_of-requires-clause-each : goal.report_of-requires-clause-each
-report_of-requires-clause-each g c = few_all (setting_of (g.T.Tree.files c.args.tree.now) (g.T.Tree.taken c.args.tree.now) (g.T.Tree.input c.args.tree.now) c.args.settings.now) [] (texts c.as_slice.result.now) c.in_ok-files-in-Ok.files.items c.in_ok-files-in-Ok.ensures
+report_of-requires-clause-each g c = few_all
+    (setting_of (g.T.Tree.files c.args.tree.now) (g.T.Tree.taken c.args.tree.now) (g.T.Tree.input c.args.tree.now) c.args.settings.now) []
+    (texts c.as_slice.result.now) c.in_ok-files-in-Ok.files.items c.in_ok-files-in-Ok.ensures
 
 pub returns-in_ok-warnings-in-Ok : goal.returns-in_ok-warnings-in-Ok
 returns-in_ok-warnings-in-Ok g c =

@@ -10,4 +10,6 @@ returns-in_ok-check_unit-in-Ok-clause-found g c = Read c.in-Ok.unit (record { ma
 pub returns-in_ok-fault-in-Err-clause-found : goal.returns-in_ok-fault-in-Err-clause-found
 returns-in_ok-fault-in-Err-clause-found g c =
     let said = c.in_ok-fault-in-Err.ensures in
-    Unread c.in-Err.fault c.in_ok-fault-in-Err.fault (c.in-Err.ensures.fault (said_of_more c.in-Err.fault c.in_ok-fault-in-Err.fault c.in_ok-fault-in-Err.is_unread said)) (subst (λ b. IsSaid c.in-Err.fault c.in_ok-fault-in-Err.fault b) (sym c.refused.ensures.unread) said) c.refused.ensures.only
+    Unread c.in-Err.fault c.in_ok-fault-in-Err.fault
+    (c.in-Err.ensures.fault (said_of_more c.in-Err.fault c.in_ok-fault-in-Err.fault c.in_ok-fault-in-Err.is_unread said))
+    (subst (λ b. IsSaid c.in-Err.fault c.in_ok-fault-in-Err.fault b) (sym c.refused.ensures.unread) said) c.refused.ensures.only

@@ -12,5 +12,8 @@ loop-number-preserved c =
     let u = c.index-units-number.result in
     let sources = c.index-gathered-number.result in
     zipped_next IsTextsOf c.args.units.now c.loop-number.number u c.loop-number.texts.items c.push.new.self.items _ c.loop-number-test.true c.index-units-number.is c.in_ok-push.ensures.items
-    (record { main = c.as_slice-main.ensures.value; sources = zipped_at AreSourcesOf c.args.units.now c.args.gathered.now c.loop-number.number u sources c.requires c.loop-number-test.true c.index-units-number.is c.index-gathered-number.is })
+    (record {
+      main = c.as_slice-main.ensures.value;
+      sources = zipped_at AreSourcesOf c.args.units.now c.args.gathered.now c.loop-number.number u sources c.requires c.loop-number-test.true c.index-units-number.is c.index-gathered-number.is;
+    })
     c.loop-number.invariant

@@ -10,7 +10,8 @@ pub returns-in-Some : goal.returns-in-Some
 returns-in-Some c =
     let folders = slices c.args.settings.now.folders.now in
     let states = c.args.settings.now.states in
-    IfOk-weaker c.policy_refused.result (λ (o : Output). SaysPolicyFault folders states c.in-Some.unit.now c.args.fault (printed o)) (λ (o : Output). SaysAlone folders states c.args.units.now c.args.number c.args.fault (printed o)) (λ o says. record {
+    IfOk-weaker c.policy_refused.result (λ (o : Output). SaysPolicyFault folders states c.in-Some.unit.now c.args.fault (printed o))
+    (λ (o : Output). SaysAlone folders states c.args.units.now c.args.number c.args.fault (printed o)) (λ o says. record {
       one = c.in-Some.unit.now;
       is = sym c.in-Some.ensures;
       says = says;

@@ -9,4 +9,6 @@ use Rattle.aa_command.proofs.refusals.path_refused.Goals as goal
 pub returns-clause-says : goal.returns-clause-says
 returns-clause-says c =
     let report = c.in_ok-unreadable.field-0 in
-    IfOk-weaker c.fault_refused.result (λ (o : Output). printed o ≡ faults_alone (fault_text report) 3) (λ (o : Output). SaysUnread c.args.path.now c.args.why (printed o)) (λ o e. record { report = report; is_so = c.in_ok-unreadable.ensures; says = e }) c.fault_refused.ensures
+    IfOk-weaker c.fault_refused.result (λ (o : Output). printed o ≡ faults_alone (fault_text report) 3)
+    (λ (o : Output). SaysUnread c.args.path.now c.args.why (printed o))
+    (λ o e. record { report = report; is_so = c.in_ok-unreadable.ensures; says = e }) c.fault_refused.ensures

@@ -10,4 +10,6 @@ use Rattle.aa_command.proofs.refusals.policy_refused.Goals as goal
 pub returns-clause-says : goal.returns-clause-says
 returns-clause-says c =
     let report = c.in_ok-report.report in
-    IfOk-weaker c.fault_refused.result (λ (o : Output). printed o ≡ faults_alone (fault_text report) 1) (λ (o : Output). SaysPolicyFault (slices c.args.settings.now.folders.now) c.args.settings.now.states c.args.unit.now c.args.fault (printed o)) (λ o e. record { report = report; is_so = c.in_ok-report.ensures; says = e }) c.fault_refused.ensures
+    IfOk-weaker c.fault_refused.result (λ (o : Output). printed o ≡ faults_alone (fault_text report) 1)
+    (λ (o : Output). SaysPolicyFault (slices c.args.settings.now.folders.now) c.args.settings.now.states c.args.unit.now c.args.fault (printed o))
+    (λ o e. record { report = report; is_so = c.in_ok-report.ensures; says = e }) c.fault_refused.ensures

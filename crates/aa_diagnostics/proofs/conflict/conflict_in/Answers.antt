@@ -29,7 +29,8 @@ returns-in_err-policy-clause-refused c = λ h policy w.
 abbrev Either : unit.Unit → List Profile → List ProfilePlaces → Spot → ℕ → List (List ℕ) → Type 0
 Either u profiles found at limit lines = (NoneHas profiles at (limit + 1) × (lines ≡ [])) ⊎ ShowsOne u profiles (map places_data found) at lines
 
-either : (u : unit.Unit) (ps profiles : List Profile) (fs found : List ProfilePlaces) (at : Spot) (n limit : ℕ) (lines : List (List ℕ)) → ps ≡ profiles → fs ≡ found → n ≡ limit → Either u ps fs at n lines → Either u profiles found at limit lines
+either : (u : unit.Unit) (ps profiles : List Profile) (fs found : List ProfilePlaces) (at : Spot) (n limit : ℕ) (lines : List (List ℕ)) → ps ≡ profiles
+    → fs ≡ found → n ≡ limit → Either u ps fs at n lines → Either u profiles found at limit lines
 either u ps profiles fs found at n limit lines p f l h =
     subst (λ (m : ℕ). Either u profiles found at m lines) l (subst (λ (xs : List ProfilePlaces). Either u profiles xs at n lines) f (subst (λ (xs : List Profile). Either u xs fs at n lines) p h))
 
@@ -39,7 +40,8 @@ returns-clause-shown c =
     let ws = words_data c.args.list.now.list.items in
     let policy = c.in_ok-policy.policy in
     shown_or_none u (limit_of c.args.states) c.args.at ws policy (map places_data c.in_ok-found.found.items) _ c.requires c.in_ok-policy.ensures.spelled c.in_ok-found.ensures.placed
-    (either u c.as_slice-profiles.result.now policy.profiles c.as_slice.result.now c.in_ok-found.found.items c.args.at _ (limit_of c.args.states) _ c.as_slice-profiles.ensures c.as_slice.ensures.value (search rules) c.in_ok-clash_lines.ensures)
+    (either u c.as_slice-profiles.result.now policy.profiles c.as_slice.result.now c.in_ok-found.found.items c.args.at _
+    (limit_of c.args.states) _ c.as_slice-profiles.ensures c.as_slice.ensures.value (search rules) c.in_ok-clash_lines.ensures)
 
 pub returns-clause-own : goal.returns-clause-own
 returns-clause-own c = λ given too refused.
@@ -47,4 +49,5 @@ returns-clause-own c = λ given too refused.
     let ws = words_data c.args.list.now.list.items in
     let policy = c.in_ok-policy.policy in
     own_shown u (limit_of c.args.states) c.args.at ws policy given (map places_data c.in_ok-found.found.items) _ c.requires c.in_ok-policy.ensures.spelled c.in_ok-found.ensures.placed too refused
-    (either u c.as_slice-profiles.result.now policy.profiles c.as_slice.result.now c.in_ok-found.found.items c.args.at _ (limit_of c.args.states) _ c.as_slice-profiles.ensures c.as_slice.ensures.value (search rules) c.in_ok-clash_lines.ensures)
+    (either u c.as_slice-profiles.result.now policy.profiles c.as_slice.result.now c.in_ok-found.found.items c.args.at _
+    (limit_of c.args.states) _ c.as_slice-profiles.ensures c.as_slice.ensures.value (search rules) c.in_ok-clash_lines.ensures)

@@ -29,4 +29,7 @@ returns-in-Err-TooManyStates-clause-compared c =
     let qs = c.args.new.policies.now in
     let limit = c.limit_of-limit.result in
     IfOk-weaker c.say_states.result (λ (out : Output). printed out ≡ faults_alone (states_text ps l limit) 1) (λ (out : Output). IsCompared c.args.options.now c.args.states c.args.old c.args.new (printed out))
-    (λ out is. ManyStates l m (subst (λ (n : ℕ). HavePlaces ps l qs m (n + 1)) c.limit_of-limit.ensures.is (c.differences_of.ensures.many_states l m (c.in-Err-TooManyStates.is ∙ ap Err c.in-Err-TooManyStates.field-0-is))) (is ∙ ap (λ (n : ℕ). faults_alone (states_text ps l n) 1) c.limit_of-limit.ensures.is)) c.say_states.ensures
+    (λ out is. ManyStates l m
+    (subst (λ (n : ℕ). HavePlaces ps l qs m (n + 1)) c.limit_of-limit.ensures.is
+    (c.differences_of.ensures.many_states l m (c.in-Err-TooManyStates.is ∙ ap Err c.in-Err-TooManyStates.field-0-is)))
+    (is ∙ ap (λ (n : ℕ). faults_alone (states_text ps l n) 1) c.limit_of-limit.ensures.is)) c.say_states.ensures

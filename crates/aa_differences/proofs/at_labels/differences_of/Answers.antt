@@ -1,8 +1,9 @@
 use Rattle.std.proofs.Common.{sym, arith}
 use Rattle.aa_model.specs.declared.request.Request.{Request}
 use Rattle.aa_differences.specs.Differences.{IsListedAt}
-use Rattle.aa_differences.proofs.Adding.{listed_keep, elements_more}
+use Rattle.aa_differences.proofs.Adding.{listed_keep}
 use Rattle.aa_differences.proofs.at_labels.differences_of.Goals as goal
+use Rattle.aa_representatives.proofs.Linking.{elements_more}
 
 pub loop-request-preserved : goal.loop-request-preserved
 loop-request-preserved c =

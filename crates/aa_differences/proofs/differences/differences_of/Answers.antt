@@ -4,9 +4,9 @@ use Rattle.aa_model.specs.declared.label.Label.TheVariants.{Unconfined}
 use Rattle.aa_differences.specs.declared.at_labels.Difference.{Difference}
 use Rattle.aa_differences.specs.declared.labels.Labels.{Labels}
 use Rattle.aa_differences.specs.Differences.{ListAllAt}
-use Rattle.aa_differences.proofs.Adding.{elements_more}
 use Rattle.aa_differences.proofs.Listing.{all_keep, no_entry}
 use Rattle.aa_differences.proofs.differences.differences_of.Goals as goal
+use Rattle.aa_representatives.proofs.Linking.{elements_more}
 
 pub loop-at-init : goal.loop-at-init
 loop-at-init c = record {

@@ -19,7 +19,8 @@ returns-in_default-find-clause-has c = λ p j at same.
     let found = c.in-Some-get.ensures.lookup in
     let there : slice_get qs k ≡ Some c.in-Some-get.compiled.now = slice_get_read qs (length qs) k c.in-Some-get.compiled.now refl found.3.0 found.1 in
     let here : profile_in ps k c.args.number ≡ Some c.in-Some.profile.now = sym c.profile_of.ensures ∙ ap (option_map (λ (x : Bor Profile). x.now)) c.in-Some.is in
-    let none : None ≡ Some j = sym c.in_default-find.is ∙ c.find.ensures ∙ ap (named c.in-Some-get.compiled.now.profiles) c.as_slice.ensures ∙ called_number ps qs k c.args.number j c.in-Some.profile.now c.in-Some-get.compiled.now here there same in
+    let none : None ≡ Some j = sym c.in_default-find.is ∙ c.find.ensures ∙ ap (named c.in-Some-get.compiled.now.profiles) c.as_slice.ensures
+    ∙ called_number ps qs k c.args.number j c.in-Some.profile.now c.in-Some-get.compiled.now here there same in
     absurd (let h = none in cc)
 
 pub returns-clause-adds : goal.returns-clause-adds
@@ -45,6 +46,8 @@ returns-clause-has c = λ p j at same.
     let there : slice_get qs k ≡ Some c.in-Some-get.compiled.now = slice_get_read qs (length qs) k c.in-Some-get.compiled.now refl found.3.0 found.1 in
     let here : profile_in ps k c.args.number ≡ Some c.in-Some.profile.now = sym c.profile_of.ensures ∙ ap (option_map (λ (x : Bor Profile). x.now)) c.in-Some.is in
     let is : c.in-Some-find.other ≡ j =
-    same_Some c.in-Some-find.other j (sym c.in-Some-find.is ∙ c.find.ensures ∙ ap (named c.in-Some-get.compiled.now.profiles) c.as_slice.ensures ∙ called_number ps qs k c.args.number j c.in-Some.profile.now c.in-Some-get.compiled.now here there same) in
+    same_Some c.in-Some-find.other j
+    (sym c.in-Some-find.is ∙ c.find.ensures ∙ ap (named c.in-Some-get.compiled.now.profiles) c.as_slice.ensures
+    ∙ called_number ps qs k c.args.number j c.in-Some.profile.now c.in-Some-get.compiled.now here there same) in
     let x : Labels = record { from = Confined k c.args.number; to = Confined k c.in-Some-find.other } in
     subst (λ (i : ℕ). Contains c.push.new.self.items (record { from = Confined k c.args.number; to = Confined k i })) is (pair_there c.args.labels.now.items c.push.new.self.items x c.in_ok-push.ensures.items)

@@ -8,7 +8,8 @@ pub loop-number-preserved : goal.loop-number-preserved
 loop-number-preserved c =
     let d : Saying = record { holds = false; deny = false; perms = record { 0 = 0 } } in
     let x : Saying = get_or c.args.sayings.now c.loop-number.number d in
-    first_go c.loop-number.left.0 c.left_of-left.result.0 c.loop-number.number c.args.sayings.now x c.loop-number.found.items c.push_any.new.found.items _ c.decider_if.result c.part_of-allowed.result.0 c.loop-number-test.true (get_or_default c.args.sayings.now c.loop-number.number d x c.loop-number-test.true) c.part_of-allowed.ensures c.decider_if.ensures c.in_ok-push_any.ensures c.left_of-left.ensures c.loop-number.invariant
+    first_go c.loop-number.left.0 c.left_of-left.result.0 c.loop-number.number c.args.sayings.now x c.loop-number.found.items c.push_any.new.found.items _ c.decider_if.result c.part_of-allowed.result.0 c.loop-number-test.true
+    (get_or_default c.args.sayings.now c.loop-number.number d x c.loop-number-test.true) c.part_of-allowed.ensures c.decider_if.ensures c.in_ok-push_any.ensures c.left_of-left.ensures c.loop-number.invariant
 
 pub returns : goal.returns
 returns c = first_end c.loop-number.left.0 c.loop-number.number c.args.sayings.now c.loop-number.found.items _ c.loop-number-test.false c.loop-number.invariant

@@ -27,4 +27,10 @@ returns-clause-each c =
     let t = c.args.automaton.now in
     let found = c.loop-number.found in
     subst (ReachAll t) (sym c.into_texts-2.ensures)
-    (reach_all t found.seen.items found.texts.items c.loop-number.invariant.lead c.loop-number.number (omega (arith, c.loop-number.invariant.lead.many, c.loop-number-test.false, c.rows-number-end.ensures)) c.loop-number.invariant.followed c.loop-number.invariant.start)
+    (reach_all t found.seen.items found.texts.items c.loop-number.invariant.lead c.loop-number.number
+    (omega (
+      arith,
+      c.loop-number.invariant.lead.many,
+      c.loop-number-test.false,
+      c.rows-number-end.ensures,
+    )) c.loop-number.invariant.followed c.loop-number.invariant.start)

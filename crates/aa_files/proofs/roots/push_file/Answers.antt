@@ -20,5 +20,12 @@ returns-in_err-push_wanted-clause-fault g c few =
     let wanted : IfSome taken (λ t. is_wanted t c.args.base.now c.args.name.now ≡ true) = told_true taken (λ t. is_wanted t c.args.base.now c.args.name.now) c.in_ok-is_read.is_read c.in_ok-is_read.ensures.told c.if-is_read.true in
     handed_on c.from_residual-in_err-push_wanted.result _ _ (IsFaultOf (Contains paths) beyond) p.1 p.2
     (faults_weaker _ _ (Contains paths) beyond (λ q h. h)
-    (λ q h. let count : length before ≡ 4096 = omega (arith, h.1, few, length-map c.args.roots.now.paths.items (λ (v : Vec ℕ Global). v.items)) in first_beyond taken c.args.base.now c.args.folder.now c.args.name.now q before count (h.0 ∙ c.in_ok-path.ensures) wanted)
+    (λ q h. let count : length before ≡ 4096 = omega (
+      arith,
+      h.1,
+      few,
+      length-map c.args.roots.now.paths.items
+          (λ (v : Vec ℕ Global). v.items),
+    ) in first_beyond taken c.args.base.now c.args.folder.now c.args.name.now q before count
+    (h.0 ∙ c.in_ok-path.ensures) wanted)
     _ c.in_err-push_wanted.ensures.fault)

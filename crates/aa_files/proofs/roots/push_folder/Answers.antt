@@ -23,10 +23,14 @@ returns-in_err-push_file-clause-fault g c few =
     let names = c.deref-name-items.result.now in
     let name = c.name-item.result in
     let p = err_from_is_err_and c.from_residual-in_err-push_file.result c.from_residual-in_err-push_file.ensures.1 in
-    let lies : IfSome files (λ f. f folder ≡ Some (Folder (texts names))) = subst (λ (vs : List (Vec ℕ Global)). IfSome files (λ f. f folder ≡ Some (Folder (texts vs)))) (sym c.deref-name-items.ensures.value) c.in-Ok.ensures.listed in
+    let lies : IfSome files (λ f. f folder ≡ Some (Folder (texts names))) = subst
+    (λ (vs : List (Vec ℕ Global)). IfSome files (λ f. f folder ≡ Some (Folder (texts vs))))
+    (sym c.deref-name-items.ensures.value) c.in-Ok.ensures.listed in
     handed_on c.from_residual-in_err-push_file.result _ _ (IsFaultOf (IsLookedFor files (λ f. listed (f folder)) base folder) (IsBeyondWith files taken (λ f. listed (f folder)) base folder before)) p.1 p.2
     (folder_fault files taken base folder before now names c.loop-name.name-index name c.loop-name-test.true (sym c.name-item.is) lies c.loop-name.invariant.paths _
-    (subst (λ (n : List ℕ). IsFaultOf (Contains (looked_paths base n)) (λ q. IfSome taken (λ t. slice_get (now ++ wanted_path t base folder n) 4096 ≡ Some q)) c.in_err-push_file.field-0.0) c.as_slice.ensures.value (c.in_err-push_file.ensures.fault (c.loop-name.invariant.few few))))
+    (subst (λ (n : List ℕ). IsFaultOf (Contains (looked_paths base n))
+    (λ q. IfSome taken (λ t. slice_get (now ++ wanted_path t base folder n) 4096 ≡ Some q)) c.in_err-push_file.field-0.0) c.as_slice.ensures.value
+    (c.in_err-push_file.ensures.fault (c.loop-name.invariant.few few))))
 
 pub loop-name-preserved : goal.loop-name-preserved
 loop-name-preserved g c = grind (arith, common_steps)

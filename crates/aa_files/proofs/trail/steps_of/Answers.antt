@@ -8,7 +8,8 @@ use Rattle.aa_files.proofs.trail.steps_of.Goals as goal
 
 pub returns : goal.returns
 returns c =
-    let all : take c.loop-include.include-index c.deref-include-items.result.now ≡ c.in_ok-includes.includes.items = take_all c.loop-include.include-index c.deref-include-items.result.now c.loop-include-test.false ∙ c.deref-include-items.ensures.value in
+    let all : take c.loop-include.include-index c.deref-include-items.result.now ≡ c.in_ok-includes.includes.items = take_all c.loop-include.include-index c.deref-include-items.result.now c.loop-include-test.false
+    ∙ c.deref-include-items.ensures.value in
     record {
       includes = includes_data c.in_ok-includes.includes.items;
       of_text = subst (λ (t : List ℕ). HasIncludes t (includes_data c.in_ok-includes.includes.items)) c.text_of_node.ensures.text c.in_ok-includes.ensures;

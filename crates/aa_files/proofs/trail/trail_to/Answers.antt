@@ -6,7 +6,8 @@ use Rattle.aa_files.specs.Trails.{way_back, IsWay}
 use Rattle.aa_files.proofs.Ways.{back_is_way}
 use Rattle.aa_files.proofs.trail.trail_to.Goals as goal
 
-way_too : {E : Type 0} (u : unit.Unit) (node : ℕ) (r : Result (Vec Step Global) E) (steps : List Step) → (steps ≡ []) ⊎ IsWay u node steps → IfOk r (λ w. w.items ≡ steps) → IfOk r (λ w. (w.items ≡ []) ⊎ IsWay u node w.items)
+way_too : {E : Type 0} (u : unit.Unit) (node : ℕ) (r : Result (Vec Step Global) E) (steps : List Step) → (steps ≡ []) ⊎ IsWay u node steps
+    → IfOk r (λ w. w.items ≡ steps) → IfOk r (λ w. (w.items ≡ []) ⊎ IsWay u node w.items)
 way_too u node (Ok w) steps h e = subst (λ (ss : List Step). (ss ≡ []) ⊎ IsWay u node ss) (sym e) h
 way_too u node (Err x) steps h e = e
 

@@ -30,7 +30,9 @@ returns-in-Ok-clause-found g c =
     let files = g.T.Tree.files c.args.tree.now in
     let paths = c.args.paths.items in
     let so-far = YieldsList-so_far (YieldsList-from_vec {s = c.into_iter-path-iterator.result} paths (search rules) (search rules)) c.loop-path.yielded c.loop-path.path-iterator c.loop-path.yielded_by in
-    let turn = YieldsList-turn (YieldsList-from_vec {s = c.into_iter-path-iterator.result} paths (search rules) (search rules)) c.loop-path.yielded c.loop-path.path-iterator c.loop-path.yielded_by c.next.result c.next.new.self c.in-Some.path c.in-Some.is c.next.ensures.steps in
+    let turn = YieldsList-turn
+    (YieldsList-from_vec {s = c.into_iter-path-iterator.result} paths (search rules)
+    (search rules)) c.loop-path.yielded c.loop-path.path-iterator c.loop-path.yielded_by c.next.result c.next.new.self c.in-Some.path c.in-Some.is c.next.ensures.steps in
     let number = length c.loop-path.yielded in
     let before : texts c.loop-path.yielded ≡ take number (texts paths) =
     ap (λ (vs : List (Vec ℕ Global)). texts vs) (sym (map-id c.loop-path.yielded) ∙ so-far) ∙ sym (take-map (λ (v : Vec ℕ Global). v.items) number paths) in
@@ -42,14 +44,18 @@ returns-in-Ok-clause-found g c =
 
 pub returns-clause-found : goal.returns-clause-found
 returns-clause-found g c =
-    let end = YieldsList-end (YieldsList-from_vec {s = c.into_iter-path-iterator.result} c.args.paths.items (search rules) (search rules)) c.loop-path.yielded c.loop-path.path-iterator c.loop-path.yielded_by c.next.result c.next.new.self c.in-None.is c.next.ensures.steps in
+    let end = YieldsList-end
+    (YieldsList-from_vec {s = c.into_iter-path-iterator.result} c.args.paths.items (search rules)
+    (search rules)) c.loop-path.yielded c.loop-path.path-iterator c.loop-path.yielded_by c.next.result c.next.new.self c.in-None.is c.next.ensures.steps in
     let all : c.loop-path.yielded ≡ c.args.paths.items = sym (map-id c.loop-path.yielded) ∙ end.0 in
     subst (λ (vs : List (Vec ℕ Global)). NothingAt (g.T.Tree.files c.args.tree.now) (texts vs)) all c.loop-path.invariant
 
 pub returns-in_default : goal.returns-in_default
 returns-in_default g c =
     let paths = c.args.paths.items in
-    let turn = YieldsList-turn (YieldsList-from_vec {s = c.into_iter-path-iterator.result} paths (search rules) (search rules)) c.loop-path.yielded c.loop-path.path-iterator c.loop-path.yielded_by c.next.result c.next.new.self c.in-Some.path c.in-Some.is c.next.ensures.steps in
+    let turn = YieldsList-turn
+    (YieldsList-from_vec {s = c.into_iter-path-iterator.result} paths (search rules)
+    (search rules)) c.loop-path.yielded c.loop-path.path-iterator c.loop-path.yielded_by c.next.result c.next.new.self c.in-Some.path c.in-Some.is c.next.ensures.steps in
     let number = length c.loop-path.yielded in
     let within : number < length (texts paths) = omega (arith, length-map paths (λ (v : Vec ℕ Global). v.items), turn.0) in
     let at : c.in-Some.path.items ≡ get_or (texts paths) number c.in-Some.path.items =

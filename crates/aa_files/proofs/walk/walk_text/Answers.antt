@@ -27,9 +27,13 @@ loop-one-preserved g c =
     let main = c.args.unit.now.text.items in
     let inv = c.loop-one.invariant in
     let looks = c.in_ok-look_up.ensures.adds in
-    let turn = YieldsList-turn (YieldsList-from_vec {s = c.into_iter-one-iterator.result} c.in_ok-wanted.wanted.items (search rules) (search rules)) c.loop-one.yielded c.loop-one.one-iterator c.loop-one.yielded_by c.next.result c.next.new.self c.in-Some.one c.in-Some.is c.next.ensures.steps in
+    let turn = YieldsList-turn
+    (YieldsList-from_vec {s = c.into_iter-one-iterator.result} c.in_ok-wanted.wanted.items (search rules)
+    (search rules)) c.loop-one.yielded c.loop-one.one-iterator c.loop-one.yielded_by c.next.result c.next.new.self c.in-Some.one c.in-Some.is c.next.ensures.steps in
     let text-is : c.walked_text.result.now ≡ get_or (walked_texts main u.sources.items) c.args.number main = c.walked_text.ensures ∙ sym inv.same in
-    let inc = asked_there (slices c.args.folders.now) main c.walked_text.result.now c.args.number u.sources.items c.in_ok-wanted.wanted.items (length c.loop-one.yielded) c.in-Some.one inv.within text-is (asks_of (slices c.args.folders.now) c.walked_text.result.now c.in_ok-wanted.wanted.items c.in_ok-wanted.ensures) turn.0 turn.1 in
+    let inc = asked_there (slices c.args.folders.now) main c.walked_text.result.now c.args.number u.sources.items c.in_ok-wanted.wanted.items
+    (length c.loop-one.yielded) c.in-Some.one inv.within text-is
+    (asks_of (slices c.args.folders.now) c.walked_text.result.now c.in_ok-wanted.wanted.items c.in_ok-wanted.ensures) turn.0 turn.1 in
     let within : c.args.number ≤ length v.sources.items = omega (arith, no_fewer files (asked c.in-Some.one) u v looks, inv.within) in
     record {
       walked = walked_more files (slices c.args.folders.now) c.args.unit.now.path.items main c.args.number (asked c.in-Some.one) u v inv.within inc looks inv.walked;
@@ -46,13 +50,21 @@ returns-clause-walked g c =
     let u = c.loop-one.unit in
     let main = c.args.unit.now.text.items in
     let inv = c.loop-one.invariant in
-    let end = YieldsList-end (YieldsList-from_vec {s = c.into_iter-one-iterator.result} c.in_ok-wanted.wanted.items (search rules) (search rules)) c.loop-one.yielded c.loop-one.one-iterator c.loop-one.yielded_by c.next.result c.next.new.self c.in-None.is c.next.ensures.steps in
+    let end = YieldsList-end
+    (YieldsList-from_vec {s = c.into_iter-one-iterator.result} c.in_ok-wanted.wanted.items (search rules)
+    (search rules)) c.loop-one.yielded c.loop-one.one-iterator c.loop-one.yielded_by c.next.result c.next.new.self c.in-None.is c.next.ensures.steps in
     let all : c.loop-one.yielded ≡ c.in_ok-wanted.wanted.items = sym (map-id c.loop-one.yielded) ∙ end.0 in
     let files = g.T.Tree.files c.args.tree.now in
     let each : All (λ w. IsLookedUp files u.sources.items u.known.entries (asked w)) c.in_ok-wanted.wanted.items = subst (λ (ws : List Wanted). All (λ w. IsLookedUp files u.sources.items u.known.entries (asked w)) ws) all inv.each in
-    let closed : IsClosed files (slices c.args.folders.now) u.sources.items u.known.entries c.walked_text.result.now = record { asked = map asked c.in_ok-wanted.wanted.items; asks = asks_of (slices c.args.folders.now) c.walked_text.result.now c.in_ok-wanted.wanted.items c.in_ok-wanted.ensures; each = All-map (IsLookedUp files u.sources.items u.known.entries) asked c.in_ok-wanted.wanted.items each } in
+    let closed : IsClosed files
+    (slices c.args.folders.now) u.sources.items u.known.entries c.walked_text.result.now = record {
+      asked = map asked c.in_ok-wanted.wanted.items;
+      asks = asks_of (slices c.args.folders.now) c.walked_text.result.now c.in_ok-wanted.wanted.items c.in_ok-wanted.ensures;
+      each = All-map (IsLookedUp files u.sources.items u.known.entries) asked c.in_ok-wanted.wanted.items each;
+    } in
     let text-is : c.walked_text.result.now ≡ get_or (walked_texts main u.sources.items) c.args.number main = c.walked_text.ensures ∙ sym inv.same in
-    walked_closed (g.T.Tree.files c.args.tree.now) (slices c.args.folders.now) c.args.unit.now.path.items main c.args.number u inv.within (subst (λ (t : List ℕ). IsClosed files (slices c.args.folders.now) u.sources.items u.known.entries t) text-is closed) inv.walked
+    walked_closed (g.T.Tree.files c.args.tree.now) (slices c.args.folders.now) c.args.unit.now.path.items main c.args.number u inv.within
+    (subst (λ (t : List ℕ). IsClosed files (slices c.args.folders.now) u.sources.items u.known.entries t) text-is closed) inv.walked
 
 pub returns-then-number-len-clause-walked : goal.returns-then-number-len-clause-walked
 returns-then-number-len-clause-walked g c =
@@ -66,7 +78,9 @@ returns-in_err-look_up-clause-fault g c =
     let u = c.loop-one.unit in
     let main = c.args.unit.now.text.items in
     let inv = c.loop-one.invariant in
-    let turn = YieldsList-turn (YieldsList-from_vec {s = c.into_iter-one-iterator.result} c.in_ok-wanted.wanted.items (search rules) (search rules)) c.loop-one.yielded c.loop-one.one-iterator c.loop-one.yielded_by c.next.result c.next.new.self c.in-Some.one c.in-Some.is c.next.ensures.steps in
+    let turn = YieldsList-turn
+    (YieldsList-from_vec {s = c.into_iter-one-iterator.result} c.in_ok-wanted.wanted.items (search rules)
+    (search rules)) c.loop-one.yielded c.loop-one.one-iterator c.loop-one.yielded_by c.next.result c.next.new.self c.in-Some.one c.in-Some.is c.next.ensures.steps in
     let text-is : c.walked_text.result.now ≡ get_or (walked_texts main u.sources.items) c.args.number main = c.walked_text.ensures ∙ sym inv.same in
     let text : c.walked_text.result.now ≡ text_of_node u c.args.number = text-is ∙ ap (λ (m : List ℕ). get_or (walked_texts m u.sources.items) c.args.number m) (sym inv.walked.text_is) ∙ sym (node_text u c.args.number) in
     let wanted = c.in_ok-wanted.wanted.items in

@@ -34,7 +34,9 @@ returns-clause-ok c = λ text t b.
     let o = build_opens b c.args.behind c.args.keep right c.requires.next (items_of c.in-Ok.values.now) c.in-Ok.ensures.ok.0 c.in-Ok.ensures.ok.1 in
     build_into b c.args.behind c.args.keep right c.requires.next o c.value_at-value.result c.in_ok-push.ensures.items
     (subst (λ (k : Bool). AreKnown c.args.done.now.entries (pieces_from k 0 c.value_at-value.result.text.now)) (sym c.value_at-value.ensures.fresh)
-    (known_at c.args.done.now.entries (items_of c.in-Ok.values.now) c.value_at-value.result.text.now c.value_at-value.ensures.among.0 c.value_at-value.ensures.among.1 c.value_at-value.ensures.among.2 (right.closed (items_of c.in-Ok.values.now) c.in-Ok.ensures.ok.1)))
+    (known_at c.args.done.now.entries
+    (items_of c.in-Ok.values.now) c.value_at-value.result.text.now c.value_at-value.ensures.among.0 c.value_at-value.ensures.among.1 c.value_at-value.ensures.among.2
+    (right.closed (items_of c.in-Ok.values.now) c.in-Ok.ensures.ok.1)))
     (c.value_at-value.ensures.stands o.below c.args.vars.now _
     (subst (AreEnds c.args.vars.now 0 (items_of c.in-Ok.values.now)) (sym c.as_slice.ensures.value) (right.ends (items_of c.in-Ok.values.now) c.in-Ok.ensures.ok.1)) o.has)
 

@@ -17,7 +17,9 @@ unreachable-requires c =
 pub overflow_sub-result : goal.overflow_sub-result
 overflow_sub-result c =
     let r = c.requires in
-    let v = value_picked r.0 r.1 (items_of c.args.values.now) c.args.ends.now c.args.number c.ends_up_to-place.result r.2 r.3 r.4 c.ends_up_to-place.ensures.below c.ends_up_to-place.ensures.above in omega (arith, v.first, c.end_before-first.ensures)
+    let v = value_picked r.0 r.1
+    (items_of c.args.values.now) c.args.ends.now c.args.number c.ends_up_to-place.result r.2 r.3 r.4 c.ends_up_to-place.ensures.below c.ends_up_to-place.ensures.above in omega
+    (arith, v.first, c.end_before-first.ensures)
 
 pub bounds-ends-place : goal.bounds-ends-place
 bounds-ends-place c =

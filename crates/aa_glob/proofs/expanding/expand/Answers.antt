@@ -35,5 +35,6 @@ pub returns : goal.returns
 returns c =
     let k = c.text_summary-summary.ensures (length c.in-Ok.done.entries) c.args.vars.now c.in-Ok.ensures.ok.right in
     let read = c.read_all.ensures k.most k.ts k.is (few_most k.most c.text_summary-summary.result.many k.sums.many c.if-summary.false) (omega (arith, k.sums.count, c.if-summary-gt-MAX_TEXTS.false)) in
-    let g = gives _ (Expands c.args.vars.now c.args.raw.now) c.read_all.result (expansions k.ts) read (λ x e. texts_expand c.args.vars.now c.args.raw.now _ c.text_summary-summary.result x k c.if-summary.false c.if-summary-gt-MAX_TEXTS.false e) in
+    let g = gives _ (Expands c.args.vars.now c.args.raw.now) c.read_all.result (expansions k.ts) read
+    (λ x e. texts_expand c.args.vars.now c.args.raw.now _ c.text_summary-summary.result x k c.if-summary.false c.if-summary-gt-MAX_TEXTS.false e) in
     record { expanded = g.0; refused = g.1 }

@@ -25,4 +25,9 @@ returns-in_ok-push-in-None-clause-less c =
     let put : IsPut c.args.done.now.entries c.insert.new.self.entries c.args.name.now None =
     put_in c.args.done.now.entries c.insert.new.self.entries c.args.name None c.in_ok-insert-in-None.field-0 c.in_ok-insert-in-None.ensures.old c.in_ok-insert-in-None.ensures.len c.in_ok-insert-in-None.ensures.updates.0 in
     let above : unread_all c.push.new.self.items ≡ unread_all c.args.stack.now.items + suc (unread c.args.top) = ap unread_all c.in_ok-push-in-None.ensures.items ∙ unread_push c.args.stack.now.items c.args.top in
-    omega (arith, above, unseen_new c.args.done.now.entries c.insert.new.self.entries c.args.name.now None put c.args.vars.now (items_of c.in-Ok.values.now) (told c.args.name.now c.args.done.now.entries _ c.in-None.ensures.value) c.in-Ok.ensures.ok.1)
+    omega (
+      arith,
+      above,
+      unseen_new c.args.done.now.entries c.insert.new.self.entries c.args.name.now None put c.args.vars.now (items_of c.in-Ok.values.now)
+          (told c.args.name.now c.args.done.now.entries _ c.in-None.ensures.value) c.in-Ok.ensures.ok.1,
+    )

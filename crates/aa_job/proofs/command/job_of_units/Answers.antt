@@ -16,10 +16,14 @@ returns-in-Ok g c =
     let o = c.args.options.now in
     let us = c.args.units.now in
     IfOk-weaker c.job_of_sources.result (λ (out : Output). IsSourcesOutput folders states lying o us (map (λ s. s.now) c.as_slice.result.now) (printed out)) (λ (out : Output). IsUnitsOutput folders states lying o us (printed out))
-    (λ out p. Shared (map (λ s. s.now) c.in-Ok.sources.items) c.in-Ok.ensures.shared (subst (λ (l : List (Bor Source)). IsSourcesOutput folders states lying o us (map (λ s. s.now) l) (printed out)) c.as_slice.ensures.value p)) c.job_of_sources.ensures
+    (λ out p. Shared (map (λ s. s.now) c.in-Ok.sources.items) c.in-Ok.ensures.shared
+    (subst (λ (l : List (Bor Source)). IsSourcesOutput folders states lying o us (map (λ s. s.now) l)
+    (printed out)) c.as_slice.ensures.value p)) c.job_of_sources.ensures
 
 pub returns-in-Err : goal.returns-in-Err
 returns-in-Err g c =
     let e = c.in-Err.fault in
-    IfOk-weaker c.unit_refused.result (λ (out : Output). SaysUnitFault e (printed out)) (λ (out : Output). IsUnitsOutput (slices c.args.settings.now.folders.now) c.args.settings.now.states (g.R.Logs.lying c.args.reader.now) c.args.options.now c.args.units.now (printed out))
+    IfOk-weaker c.unit_refused.result (λ (out : Output). SaysUnitFault e (printed out))
+    (λ (out : Output). IsUnitsOutput (slices c.args.settings.now.folders.now) c.args.settings.now.states
+    (g.R.Logs.lying c.args.reader.now) c.args.options.now c.args.units.now (printed out))
     (λ out says. Otherwise e c.in-Err.ensures.refused says) c.unit_refused.ensures

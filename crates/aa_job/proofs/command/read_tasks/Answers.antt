@@ -22,4 +22,5 @@ pub returns-in-Err-clause-unread : goal.returns-in-Err-clause-unread
 returns-in-Err-clause-unread g c =
     let first = c.args.tasks.now in
     let none : Bor (List ℕ) = record { ref_ptr = (0, 0); now = [] } in
-    unread_behind (g.R.Logs.lying c.args.reader.now) first.policies.now first.choice c.args.logs.now c.loop-path.path-index none (get_or c.args.logs.now c.loop-path.path-index none) c.loop-path.tasks c.loop-path-test.true refl c.loop-path.invariant
+    unread_behind (g.R.Logs.lying c.args.reader.now) first.policies.now first.choice c.args.logs.now c.loop-path.path-index none
+    (get_or c.args.logs.now c.loop-path.path-index none) c.loop-path.tasks c.loop-path-test.true refl c.loop-path.invariant

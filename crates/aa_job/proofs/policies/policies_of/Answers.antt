@@ -20,5 +20,7 @@ loop-number-preserved c =
     (record {
       text = c.as_slice-text.ensures.value;
       names = subst (λ l. HasNames limit u (texts l)) (sym c.as_slice-names.ensures.value)
-          (zipped_at (λ (u : unit.Unit) (names : Vec (Vec ℕ Global) Global). HasNames limit u (texts names.items)) c.args.units.now c.args.names.now c.loop-number.number u names c.requires c.loop-number-test.true c.index-units-number.is c.index-names-number.is);
+          (zipped_at
+          (λ (u : unit.Unit) (names : Vec (Vec ℕ Global) Global). HasNames limit u
+          (texts names.items)) c.args.units.now c.args.names.now c.loop-number.number u names c.requires c.loop-number-test.true c.index-units-number.is c.index-names-number.is);
     }) c.loop-number.invariant

@@ -20,7 +20,8 @@ returns-in_err-add_name-clause-refused c =
     let u = c.args.unit.now in
     let q = err_from_is_err_and c.from_residual.result c.from_residual.ensures.1 in
     let known : known_of u.known.entries c.in-Some.name.now.items ≡ Some c.in-Some.index.now =
-    All-turn deref_pair (λ (e : Entry). known_of u.known.entries e.0.items ≡ Some e.1) _ _ _ _ _ _ _ c.iter-name-items.ensures.found (c.into_iter-name-iterator.ensures.into_iter_gives ∙ c.iter-name-items.ensures.rest) c.loop-name.yielded_by c.in-Some.is c.next.ensures.steps in
+    All-turn deref_pair (λ (e : Entry). known_of u.known.entries e.0.items ≡ Some e.1) _ _ _ _ _ _ _ c.iter-name-items.ensures.found
+    (c.into_iter-name-iterator.ensures.into_iter_gives ∙ c.iter-name-items.ensures.rest) c.loop-name.yielded_by c.in-Some.is c.next.ensures.steps in
     handed_on c.from_residual.result q.0 c.in_err-add_name.field-0.0
     (NameStays c.as_slice-in-loop-name.result.now (record { by = u; source = found_source c.source_at-source.result }) c.loop-name.meanings.entries)
     (IsOtherwise u c.args.meanings.now.entries) q.1 q.2

@@ -3,8 +3,9 @@ use Rattle.std.specs.Prelude.{not}
 use Rattle.aa_files.specs.Numbers.{text_in}
 use Rattle.aa_files.specs.Nodes.{is_folder_in}
 use Rattle.aa_files.specs.Links.{place_if, excerpt_if}
-use Rattle.aa_job.proofs.Placing.{and_true, no_lines}
+use Rattle.aa_job.proofs.Placing.{no_lines}
 use Rattle.aa_job.proofs.shared.ambiguous.Goals as goal
+use Rattle.aa_diagnostics.proofs.SetTwice.{and_true}
 
 pub returns : goal.returns
 returns c = record {

@@ -17,6 +17,7 @@ loop-file-preserved c = below_more _ _ c.loop-file.invariant (stands_in c.args.u
 
 pub returns-in_default : goal.returns-in_default
 returns-in_default c =
-    let here : IsFirstByte (text_in c.args.unit.now c.loop-file.file) c.args.name.now None = stands_in c.args.unit.now c.loop-file.file c.text_at.result.1.now c.args.name.now c.in_ok-byte.field-0 None c.text_at.ensures.text c.in_default.is c.in_ok-byte.ensures in
+    let here : IsFirstByte
+    (text_in c.args.unit.now c.loop-file.file) c.args.name.now None = stands_in c.args.unit.now c.loop-file.file c.text_at.result.1.now c.args.name.now c.in_ok-byte.field-0 None c.text_at.ensures.text c.in_default.is c.in_ok-byte.ensures in
     let below : (k : ℕ) → k < c.loop-file.file + 1 → IsFirstByte (text_in c.args.unit.now k) c.args.name.now None = below_more _ _ c.loop-file.invariant here in
     inr (record { at_start = refl; nowhere = λ k le. below k (omega arith) })

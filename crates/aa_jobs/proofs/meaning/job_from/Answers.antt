@@ -22,7 +22,8 @@ invariant_of-result c =
     let e : each (event_of (length w.tasks)) w.events ≡ Ok c.in_ok-events.events.items = rw (n, c.as_slice.ensures.value) at c.in_ok-events.ensures in
     let p : c.from_vec.result ≡ w.policies = c.from_vec.ensures ∙ c.in_ok-policies.ensures ∙ ap (map raw_text) c.as_slice-texts.ensures.value in
     let i : c.from_vec-2.result ≡ w.includes = c.from_vec-2.ensures ∙ c.in_ok-includes.ensures ∙ ap (map raw_include) c.as_slice-2.ensures.value in
-    let k : keeps_limits c.from_vec.result c.from_vec-2.result c.from_vec-3.result w.states w.capacity c.from_vec-4.result ≡ true = rw (p, i, c.from_vec-3.ensures, c.from_vec-4.ensures) (limits_kept w c.in_ok-tasks.tasks.items c.in_ok-events.events.items c.requires t e) in
+    let k : keeps_limits c.from_vec.result c.from_vec-2.result c.from_vec-3.result w.states w.capacity c.from_vec-4.result ≡ true = rw
+    (p, i, c.from_vec-3.ensures, c.from_vec-4.ensures) (limits_kept w c.in_ok-tasks.tasks.items c.in_ok-events.events.items c.requires t e) in
     record { limits = k }
 
 pub returns : goal.returns

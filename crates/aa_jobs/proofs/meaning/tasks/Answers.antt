@@ -14,11 +14,17 @@ loop-raw-init c =
 pub returns-in_err-task : goal.returns-in_err-task
 returns-in_err-task c =
     let p = err_from_is_err_and c.from_residual-in_err-task.result c.from_residual-in_err-task.ensures.1 in
-    rw (p.1, p.2) (step_ends c.in_err-task.field-0.0 (task_of c.args.policies) raw_task c.loop-raw.tasks.items c.loop-raw.raw-iterator.rest.items c.next.new.self.rest.items c.in-Some.raw (each (task_of c.args.policies) (map raw_task c.args.list.items)) ((c.in-Some.ensures {u = tt}).steps.0) c.in_err-task.ensures c.loop-raw.invariant)
+    rw (p.1, p.2)
+    (step_ends c.in_err-task.field-0.0
+    (task_of c.args.policies) raw_task c.loop-raw.tasks.items c.loop-raw.raw-iterator.rest.items c.next.new.self.rest.items c.in-Some.raw
+    (each (task_of c.args.policies) (map raw_task c.args.list.items)) ((c.in-Some.ensures {u = tt}).steps.0) c.in_err-task.ensures c.loop-raw.invariant)
 
 pub loop-raw-preserved : goal.loop-raw-preserved
 loop-raw-preserved c =
-    rw c.in_ok-push.ensures.items (step_on (task_of c.args.policies) raw_task c.loop-raw.tasks.items c.loop-raw.raw-iterator.rest.items c.next.new.self.rest.items c.in-Some.raw c.in_ok-task.field-0 (each (task_of c.args.policies) (map raw_task c.args.list.items)) ((c.in-Some.ensures {u = tt}).steps.0) c.in_ok-task.ensures c.loop-raw.invariant)
+    rw c.in_ok-push.ensures.items
+    (step_on
+    (task_of c.args.policies) raw_task c.loop-raw.tasks.items c.loop-raw.raw-iterator.rest.items c.next.new.self.rest.items c.in-Some.raw c.in_ok-task.field-0
+    (each (task_of c.args.policies) (map raw_task c.args.list.items)) ((c.in-Some.ensures {u = tt}).steps.0) c.in_ok-task.ensures c.loop-raw.invariant)
 
 pub returns : goal.returns
 returns c =

@@ -20,14 +20,21 @@ returns-in_err-include c =
     let p = err_from_is_err_and c.from_residual.result c.from_residual.ensures.1 in
     let more = rest_more deref_pair c.loop-name.name-iterator c.next.new.self c.next.result (c.in-Some.name, c.in-Some.value) c.in-Some.is c.next.ensures.steps in
     let given = c.in_err-include.ensures in
-    rw (p.1, p.2) (step_ends c.in_err-include.field-0.0 include_shape entry_data (map raw_include c.loop-name.includes.items) c.loop-name.name-iterator c.next.new.self (deref_pair (c.in-Some.name, c.in-Some.value)) (each include_shape (map entry_data c.args.found.now.entries)) more given c.loop-name.invariant)
+    rw (p.1, p.2)
+    (step_ends c.in_err-include.field-0.0 include_shape entry_data (map raw_include c.loop-name.includes.items) c.loop-name.name-iterator c.next.new.self
+    (deref_pair (c.in-Some.name, c.in-Some.value)) (each include_shape (map entry_data c.args.found.now.entries)) more given c.loop-name.invariant)
 
 pub loop-name-preserved : goal.loop-name-preserved
 loop-name-preserved c =
     let more = rest_more deref_pair c.loop-name.name-iterator c.next.new.self c.next.result (c.in-Some.name, c.in-Some.value) c.in-Some.is c.next.ensures.steps in
     let given = c.in_ok-include.ensures in
-    let e : map raw_include c.push.new.self.items ≡ map raw_include c.loop-name.includes.items ++ raw_include c.in_ok-include.field-0 ∷ [] = rw c.in_ok-push.ensures.items (map_push raw_include c.loop-name.includes.items c.in_ok-include.field-0) in
-    rw e (step_on include_shape entry_data (map raw_include c.loop-name.includes.items) c.loop-name.name-iterator c.next.new.self (deref_pair (c.in-Some.name, c.in-Some.value)) (raw_include c.in_ok-include.field-0) (each include_shape (map entry_data c.args.found.now.entries)) more given c.loop-name.invariant)
+    let e : map raw_include c.push.new.self.items ≡ map raw_include c.loop-name.includes.items ++ raw_include c.in_ok-include.field-0 ∷ [] = rw c.in_ok-push.ensures.items
+    (map_push raw_include c.loop-name.includes.items c.in_ok-include.field-0) in
+    rw e (step_on include_shape entry_data (map raw_include c.loop-name.includes.items) c.loop-name.name-iterator c.next.new.self
+    (deref_pair (c.in-Some.name, c.in-Some.value)) (raw_include c.in_ok-include.field-0)
+    (each include_shape (map entry_data c.args.found.now.entries)) more given c.loop-name.invariant)
 
 pub returns : goal.returns
-returns c = step_done include_shape entry_data (map raw_include c.loop-name.includes.items) c.loop-name.name-iterator (each include_shape (map entry_data c.args.found.now.entries)) (rest_all deref_pair c.loop-name.name-iterator c.next.new.self c.next.result c.in-None.is c.next.ensures.steps) c.loop-name.invariant
+returns c = step_done include_shape entry_data (map raw_include c.loop-name.includes.items) c.loop-name.name-iterator
+    (each include_shape (map entry_data c.args.found.now.entries))
+    (rest_all deref_pair c.loop-name.name-iterator c.next.new.self c.next.result c.in-None.is c.next.ensures.steps) c.loop-name.invariant

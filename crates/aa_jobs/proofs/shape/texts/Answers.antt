@@ -14,12 +14,19 @@ loop-value-init c = rw c.in_ok-texts.ensures.items (nothing_before (each text_in
 pub returns-in_err-text : goal.returns-in_err-text
 returns-in_err-text c =
     let p = err_from_is_err_and c.from_residual-in_err-text.result c.from_residual-in_err-text.ensures.1 in
-    rw (p.1, p.2) (step_ends c.in_err-text.field-0.0 text_in tree_data (map raw_text c.loop-value.texts.items) (drop c.loop-value.value-index c.args.list.now) (drop (c.loop-value.value-index + 1) c.args.list.now) c.value-item.result (each text_in (map tree_data c.args.list.now)) (next_is c.args.list.now c.loop-value.value-index c.value-item.result c.loop-value-test.true c.value-item.is) c.in_err-text.ensures c.loop-value.invariant)
+    rw (p.1, p.2)
+    (step_ends c.in_err-text.field-0.0 text_in tree_data (map raw_text c.loop-value.texts.items) (drop c.loop-value.value-index c.args.list.now)
+    (drop (c.loop-value.value-index + 1) c.args.list.now) c.value-item.result (each text_in (map tree_data c.args.list.now))
+    (next_is c.args.list.now c.loop-value.value-index c.value-item.result c.loop-value-test.true c.value-item.is) c.in_err-text.ensures c.loop-value.invariant)
 
 pub loop-value-preserved : goal.loop-value-preserved
 loop-value-preserved c =
     let e : map raw_text c.push.new.self.items ≡ map raw_text c.loop-value.texts.items ++ raw_text c.in_ok-text.field-0 ∷ [] = rw c.in_ok-push.ensures.items (map_push raw_text c.loop-value.texts.items c.in_ok-text.field-0) in
-    rw e (step_on text_in tree_data (map raw_text c.loop-value.texts.items) (drop c.loop-value.value-index c.args.list.now) (drop (c.loop-value.value-index + 1) c.args.list.now) c.value-item.result (raw_text c.in_ok-text.field-0) (each text_in (map tree_data c.args.list.now)) (next_is c.args.list.now c.loop-value.value-index c.value-item.result c.loop-value-test.true c.value-item.is) c.in_ok-text.ensures c.loop-value.invariant)
+    rw e (step_on text_in tree_data (map raw_text c.loop-value.texts.items) (drop c.loop-value.value-index c.args.list.now)
+    (drop (c.loop-value.value-index + 1) c.args.list.now) c.value-item.result (raw_text c.in_ok-text.field-0)
+    (each text_in (map tree_data c.args.list.now))
+    (next_is c.args.list.now c.loop-value.value-index c.value-item.result c.loop-value-test.true c.value-item.is) c.in_ok-text.ensures c.loop-value.invariant)
 
 pub returns : goal.returns
-returns c = step_done text_in tree_data (map raw_text c.loop-value.texts.items) (drop c.loop-value.value-index c.args.list.now) (each text_in (map tree_data c.args.list.now)) (drop_all c.loop-value.value-index c.args.list.now c.loop-value-test.false) c.loop-value.invariant
+returns c = step_done text_in tree_data (map raw_text c.loop-value.texts.items) (drop c.loop-value.value-index c.args.list.now)
+    (each text_in (map tree_data c.args.list.now)) (drop_all c.loop-value.value-index c.args.list.now c.loop-value-test.false) c.loop-value.invariant

@@ -29,11 +29,15 @@ returns-else-is_number_in_range c =
 
 pub returns-in-BeginArray : goal.returns-in-BeginArray
 returns-in-BeginArray c =
-    subst (λ (g : Result (List Token) JobFault). Gives (λ _. c.pass_items.new.reader) c.pass_items.result g) (sym (ap (λ t. past c.args.depth (token_of t) c.args.reader.now) c.in-BeginArray.is ∙ past_array c.args.depth c.args.reader.now c.requires)) c.pass_items.ensures
+    subst (λ (g : Result (List Token) JobFault). Gives (λ _. c.pass_items.new.reader) c.pass_items.result g)
+    (sym (ap (λ t. past c.args.depth (token_of t) c.args.reader.now) c.in-BeginArray.is
+    ∙ past_array c.args.depth c.args.reader.now c.requires)) c.pass_items.ensures
 
 pub returns-in-BeginObject : goal.returns-in-BeginObject
 returns-in-BeginObject c =
-    subst (λ (g : Result (List Token) JobFault). Gives (λ _. c.pass_members.new.reader) c.pass_members.result g) (sym (ap (λ t. past c.args.depth (token_of t) c.args.reader.now) c.in-BeginObject.is ∙ past_object c.args.depth c.args.reader.now c.requires)) c.pass_members.ensures
+    subst (λ (g : Result (List Token) JobFault). Gives (λ _. c.pass_members.new.reader) c.pass_members.result g)
+    (sym (ap (λ t. past c.args.depth (token_of t) c.args.reader.now) c.in-BeginObject.is
+    ∙ past_object c.args.depth c.args.reader.now c.requires)) c.pass_members.ensures
 
 pub returns-in-EndArray : goal.returns-in-EndArray
 returns-in-EndArray c = ap (λ t. past c.args.depth (token_of t) c.args.reader.now) c.in-EndArray.is ∙ past_end_array c.args.depth c.args.reader.now

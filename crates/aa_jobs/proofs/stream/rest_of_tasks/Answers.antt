@@ -22,7 +22,8 @@ returns-in_err-task c =
     let p = err_from_is_err_and c.from_residual.result c.from_residual.ensures.1 in
     let more : (after_end_array l.reader ≡ None) × (c.take_end_array.new.self ≡ l.reader) = grind arith in
     rw (p.1, p.2) (none_on c.in_err-task.field-0.0 _ _
-    (λ none. l.invariant.4 ∙ going_ends task_shape c.args.depth l.invariant.0 l.invariant.2 l.reader more.0 (rw (← more.1) (unmapped task_shape (converted of_json (value c.args.depth c.take_end_array.new.self)) none))) c.in_err-task.ensures)
+    (λ none. l.invariant.4 ∙ going_ends task_shape c.args.depth l.invariant.0 l.invariant.2 l.reader more.0
+    (rw (← more.1) (unmapped task_shape (converted of_json (value c.args.depth c.take_end_array.new.self)) none))) c.in_err-task.ensures)
 
 pub turns-preserved : goal.turns-preserved
 turns-preserved c =

@@ -22,7 +22,9 @@ use Rattle.aa_jobs.proofs.stream.task.Goals as goal
 pub returns-in_err-token : goal.returns-in_err-token
 returns-in_err-token c =
     let p = err_from_is_err_and c.from_residual.result c.from_residual.ensures.1 in
-    rw (p.1, p.2) (subst (λ e. Refuses e (needed NotJson (parse_map task_shape (converted of_json (value c.args.depth c.args.reader.now))))) (sym c.in_err-token.ensures.0) (ap (needed NotJson) (nothing_begins task_shape c.args.depth c.args.reader.now c.in_err-token.ensures.1)))
+    rw (p.1, p.2)
+    (subst (λ e. Refuses e (needed NotJson (parse_map task_shape (converted of_json (value c.args.depth c.args.reader.now)))))
+    (sym c.in_err-token.ensures.0) (ap (needed NotJson) (nothing_begins task_shape c.args.depth c.args.reader.now c.in_err-token.ensures.1)))
 
 pub returns-in_err-members : goal.returns-in_err-members
 returns-in_err-members c =
@@ -50,4 +52,5 @@ returns-in_err-pass c =
 
 pub returns-in_ok-pass : goal.returns-in_ok-pass
 returns-in_ok-pass c =
-    passed_object raw_task task_shape no_task c.args.depth c.args.reader.now c.next_token.new.reader c.pass.new.reader (token_of c.in_ok-token.token) c.in_ok-token.ensures (brace_not c.in_ok-token.token c.in_default.not-BeginObject) c.in_ok-pass.ensures
+    passed_object raw_task task_shape no_task c.args.depth c.args.reader.now c.next_token.new.reader c.pass.new.reader
+    (token_of c.in_ok-token.token) c.in_ok-token.ensures (brace_not c.in_ok-token.token c.in_default.not-BeginObject) c.in_ok-pass.ensures

@@ -16,7 +16,9 @@ use Rattle.aa_jobs.proofs.stream.tasks.Goals as goal
 pub returns-in_err-token : goal.returns-in_err-token
 returns-in_err-token c =
     let p = err_from_is_err_and c.from_residual.result c.from_residual.ensures.1 in
-    rw (p.1, p.2) (subst (λ e. Refuses e (needed NotJson (parse_map tasks_shape (converted of_json (value c.args.depth c.args.reader.now))))) (sym c.in_err-token.ensures.0) (ap (needed NotJson) (nothing_begins tasks_shape c.args.depth c.args.reader.now c.in_err-token.ensures.1)))
+    rw (p.1, p.2)
+    (subst (λ e. Refuses e (needed NotJson (parse_map tasks_shape (converted of_json (value c.args.depth c.args.reader.now)))))
+    (sym c.in_err-token.ensures.0) (ap (needed NotJson) (nothing_begins tasks_shape c.args.depth c.args.reader.now c.in_err-token.ensures.1)))
 
 pub returns-in-BeginArray : goal.returns-in-BeginArray
 returns-in-BeginArray c =
@@ -31,4 +33,5 @@ returns-in_err-pass c =
 
 pub returns-in_ok-pass : goal.returns-in_ok-pass
 returns-in_ok-pass c =
-    passed_list (λ (v : Vec RawTask Global). map raw_task v.items) task_shape c.args.depth c.args.reader.now c.next_token.new.reader c.pass.new.reader (token_of c.in_ok-token.token) c.in_ok-token.ensures (bracket_not c.in_ok-token.token c.in_default.not-BeginArray) c.in_ok-pass.ensures
+    passed_list (λ (v : Vec RawTask Global). map raw_task v.items) task_shape c.args.depth c.args.reader.now c.next_token.new.reader c.pass.new.reader
+    (token_of c.in_ok-token.token) c.in_ok-token.ensures (bracket_not c.in_ok-token.token c.in_default.not-BeginArray) c.in_ok-pass.ensures

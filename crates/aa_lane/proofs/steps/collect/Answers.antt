@@ -14,5 +14,9 @@ pub exchange-requires : goal.exchange-requires
 exchange-requires g c =
     let f = c.load-found.ensures in
     let d = c.requires.ready.got in
-    let slot : c.args.slot ≡ c.args.seat.now.me.0.owner.got % c.args.shared.now.table_id.slots = c.requires.ready.slot_is ∙ ap (λ (y : TableId). c.args.got % y.slots) c.requires.table ∙ ap (λ i. i % c.args.shared.now.table_id.slots) (sym d) in
-    (f.0 ∙ c.requires.table, collected_one g.M.Machine.next g.M.Machine.reply c.args.shared.now.key _ _ _ c.args.slot c.args.seat.now.me c.load-found.new.seat.me (lt-ltb c.args.seat.now.me.0.owner.got c.load-found.result (omega arith)) slot f.2)
+    let slot : c.args.slot ≡ c.args.seat.now.me.0.owner.got % c.args.shared.now.table_id.slots = c.requires.ready.slot_is
+    ∙ ap (λ (y : TableId). c.args.got % y.slots) c.requires.table ∙ ap (λ i. i % c.args.shared.now.table_id.slots) (sym d) in (
+      f.0 ∙ c.requires.table,
+      collected_one g.M.Machine.next g.M.Machine.reply c.args.shared.now.key _ _ _ c.args.slot c.args.seat.now.me c.load-found.new.seat.me
+          (lt-ltb c.args.seat.now.me.0.owner.got c.load-found.result (omega arith)) slot f.2,
+    )

@@ -32,5 +32,6 @@ loop-entry-preserved c =
       newly = newly_more c.args.decided es more e c.in_ok-now.now c.loop-entry.counts c.add.new.self now c.add.ensures.newly is c.loop-entry.invariant.newly;
       counted = counted_more c.args.decided es more e c.in_ok-now.now c.loop-entry.counts c.add.new.self now c.add.ensures.one is c.loop-entry.invariant.counted;
       later = later_more logs c.args.decided c.args.wants_all es more e c.in_ok-now.now c.loop-entry.is_later c.if-is_later.is_later is now c.loop-entry.invariant.later last;
-      text = shown_more logs c.args.decided c.args.wants_all es more e c.loop-entry.is_later c.args.out.now.items c.loop-entry.out.items c.push_json_shown.new.out.items is c.loop-entry.invariant.later c.loop-entry.invariant.text c.in_ok-now.ensures.text;
+      text = shown_more logs c.args.decided c.args.wants_all es more e c.loop-entry.is_later c.args.out.now.items c.loop-entry.out.items
+          c.push_json_shown.new.out.items is c.loop-entry.invariant.later c.loop-entry.invariant.text c.in_ok-now.ensures.text;
     }

@@ -27,4 +27,6 @@ returns g c =
     let first = c.new-said.result in
     let unread = c.in-Err.unread in
     IfOk-weaker c.log_refused.result (λ (out : Output). SaysUnreadLog unread.path.now unread.why (printed out)) (λ (out : Output). IsLogOutput s lying o (printed out)) (λ out says.
-    UnreadLog unread.path.now unread.why (unread_for lying first.report.choice o.choice (is_some first.report.each_skipped) o.wants_skipped (slices o.logs.now) unread.path.now c.new-said.ensures.choice c.new-said.ensures.each c.in-Err.ensures.unread) says) c.log_refused.ensures
+    UnreadLog unread.path.now unread.why
+    (unread_for lying first.report.choice o.choice (is_some first.report.each_skipped) o.wants_skipped
+    (slices o.logs.now) unread.path.now c.new-said.ensures.choice c.new-said.ensures.each c.in-Err.ensures.unread) says) c.log_refused.ensures

@@ -13,7 +13,9 @@ returns-then-options c =
     let s = c.args.said.now in
     let d = c.args.decided in
     let new = c.push_json_against.new.out.items in
-    IfOk-weaker c.push_json_against.result (λ (counts : Counts). (text : List ℕ) × IsJsonAgainst (slices o.logs.now) d o.wants_all s counts text × (new ≡ c.args.out.now.items ++ text)) (λ (counts : Counts). (text : List ℕ) × IsReplayText o s d counts text × (c.args.out.now.items ≡ [] → new ≡ text))
+    IfOk-weaker c.push_json_against.result
+    (λ (counts : Counts). (text : List ℕ) × IsJsonAgainst (slices o.logs.now) d o.wants_all s counts text × (new ≡ c.args.out.now.items ++ text))
+    (λ (counts : Counts). (text : List ℕ) × IsReplayText o s d counts text × (c.args.out.now.items ≡ [] → new ≡ text))
     (λ counts told. json_replayed o s d c.args.out.now.items new counts c.if-options.true told) c.push_json_against.ensures
 
 pub returns : goal.returns
@@ -22,5 +24,8 @@ returns c =
     let s = c.args.said.now in
     let d = c.args.decided in
     let new = c.push_against.new.out.items in
-    IfOk-weaker c.push_against.result (λ (counts : Counts). (text : List ℕ) × IsAgainstText (slices o.logs.now) d o.wants_all s.report counts text × (new ≡ c.args.out.now.items ++ text)) (λ (counts : Counts). (text : List ℕ) × IsReplayText o s d counts text × (c.args.out.now.items ≡ [] → new ≡ text))
+    IfOk-weaker c.push_against.result
+    (λ (counts : Counts). (text : List ℕ) × IsAgainstText (slices o.logs.now) d o.wants_all s.report counts text ×
+    (new ≡ c.args.out.now.items ++ text))
+    (λ (counts : Counts). (text : List ℕ) × IsReplayText o s d counts text × (c.args.out.now.items ≡ [] → new ≡ text))
     (λ counts t. text_replayed o s d c.args.out.now.items new counts c.if-options.false t) c.push_against.ensures

@@ -28,4 +28,5 @@ returns-in-Err-clause-unread g c =
     unread_behind lying first.report.choice (is_some first.report.each_skipped) paths i none (get_or paths i none) c.loop-path.said c.loop-path-test.true refl c.loop-path.invariant.found
 
 pub returns-clause-found : goal.returns-clause-found
-returns-clause-found g c = found_all (g.R.Logs.lying c.args.reader.now) c.args.said.now.report.choice (is_some c.args.said.now.report.each_skipped) c.args.logs.now c.loop-path.path-index c.loop-path.said c.loop-path-test.false c.loop-path.invariant.found
+returns-clause-found g c = found_all (g.R.Logs.lying c.args.reader.now) c.args.said.now.report.choice
+    (is_some c.args.said.now.report.each_skipped) c.args.logs.now c.loop-path.path-index c.loop-path.said c.loop-path-test.false c.loop-path.invariant.found

@@ -27,6 +27,8 @@ returns c =
     let none : get_by (λ k. bytes_eq c.args.key.items k.items) c.args.numbers.now ≡ None =
     ap (λ (b : List ℕ). get_by (λ k. bytes_eq b k.items) c.args.numbers.now) (sym c.as_slice.ensures.value) ∙ sym c.number_of.ensures ∙ c.in_default.is in record {
       found = on_ok_three c.add_entry.result _ _ _ _ (λ is adds room before f.
-          found_new before c.args.entries.now.items c.add_entry.new.entries.items c.args.numbers.now c.add_entry.new.numbers e a c.args.key.items key none (adds none) room is counted c.requires.word (sym c.requires.key) f) c.add_entry.ensures.entries c.add_entry.ensures.numbers c.add_entry.ensures.most;
+          found_new before c.args.entries.now.items c.add_entry.new.entries.items c.args.numbers.now c.add_entry.new.numbers e a c.args.key.items key none
+          (adds none) room is counted c.requires.word
+          (sym c.requires.key) f) c.add_entry.ensures.entries c.add_entry.ensures.numbers c.add_entry.ensures.most;
       room = if_refused c.add_entry.result _ _ (λ full before f. too_many before c.args.entries.now.items c.args.numbers.now a c.args.key.items key none full f) c.add_entry.ensures.room;
     }

@@ -14,6 +14,13 @@ count_entry-requires-clause-once c = ap (λ (d : Counted Asked). d.count) c.in_o
 pub returns : goal.returns
 returns c =
     let is : (entry_data c.in_ok-entry.entry).item ≡ asked_at (record_data c.args.asked) c.args.place = ap (λ (d : Counted Asked). d.item) c.in_ok-entry.ensures.asked in record {
-      found = subst (λ (a : Asked). OnOk c.count_entry.result ((before : List Asked) → AreFound before c.args.entries.now.items c.args.numbers.now → AreFound (before ++ a ∷ []) c.count_entry.new.entries.items c.count_entry.new.numbers)) is c.count_entry.ensures.found;
-      room = subst (λ (a : Asked). IfErr c.count_entry.result (λ why. IsRefused why ((before : List Asked) → AreFound before c.args.entries.now.items c.args.numbers.now → 1000000 < length (firsts asked_key (before ++ a ∷ []))))) is c.count_entry.ensures.room;
+      found = subst
+          (λ (a : Asked). OnOk c.count_entry.result
+          ((before : List Asked) → AreFound before c.args.entries.now.items c.args.numbers.now
+          → AreFound (before ++ a ∷ []) c.count_entry.new.entries.items c.count_entry.new.numbers)) is c.count_entry.ensures.found;
+      room = subst
+          (λ (a : Asked). IfErr c.count_entry.result
+          (λ why. IsRefused why
+          ((before : List Asked) → AreFound before c.args.entries.now.items c.args.numbers.now
+          → 1000000 < length (firsts asked_key (before ++ a ∷ []))))) is c.count_entry.ensures.room;
     }

@@ -9,4 +9,6 @@ use Rattle.aa_log.proofs.refused.many_refused.Goals as goal
 pub returns : goal.returns
 returns c =
     let report = c.in_ok-report.report in
-    IfOk-weaker c.fault_refused.result (λ (o : Output). printed o ≡ faults_alone (fault_text report) 3) (λ (o : Output). SaysTooMany c.args.path.now (printed o)) (λ o e. record { report = report; is_so = c.in_ok-report.ensures; says = e }) c.fault_refused.ensures
+    IfOk-weaker c.fault_refused.result (λ (o : Output). printed o ≡ faults_alone (fault_text report) 3)
+    (λ (o : Output). SaysTooMany c.args.path.now (printed o))
+    (λ o e. record { report = report; is_so = c.in_ok-report.ensures; says = e }) c.fault_refused.ensures

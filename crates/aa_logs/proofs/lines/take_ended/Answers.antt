@@ -6,20 +6,31 @@ use Rattle.aa_logs.proofs.lines.take_ended.Goals as goal
 
 pub lines-init : goal.lines-init
 lines-init g c =
-    let front = c.args.held.now.bytes.items in
-    ([], refl, c.requires, sym (kept_whole front c.requires) ∙ ap kept (sym (none_held front)), omega (arith, none_ended front), refl, λ before h. subst (g.L.Lines.has_taken c.args.lines.now) (sym (none_taken (g.L.Lines.log c.args.lines.now) c.args.held.now.number before front)) h, λ first h. h)
+    let front = c.args.held.now.bytes.items in (
+      [],
+      refl,
+      c.requires,
+      sym (kept_whole front c.requires)
+          ∙ ap kept (sym (none_held front)),
+      omega (arith, none_ended front),
+      refl,
+      λ before h. subst (g.L.Lines.has_taken c.args.lines.now) (sym (none_taken (g.L.Lines.log c.args.lines.now) c.args.held.now.number before front)) h,
+      λ first h. h,
+    )
 
 pub returns-in_default-clause-bytes : goal.returns-in_default-clause-bytes
 returns-in_default-clause-bytes g c =
     let i = c.lines.invariant in
     let s = c.split_at in
-    last_held c.args.held.now.bytes.items c.args.bytes.now i.0 c.lines.rest.now s.result.0.now s.result.1.now c.lines.held.bytes.items c.keep.new.line.items c.line_len.result i.1 i.3 c.line_len.ensures.count s.ensures.front s.ensures.by_index.0 c.in_default.len_below c.in_ok-keep.ensures.ok
+    last_held c.args.held.now.bytes.items c.args.bytes.now i.0 c.lines.rest.now s.result.0.now s.result.1.now c.lines.held.bytes.items c.keep.new.line.items
+    c.line_len.result i.1 i.3 c.line_len.ensures.count s.ensures.front s.ensures.by_index.0 c.in_default.len_below c.in_ok-keep.ensures.ok
 
 pub returns-in_default-clause-number : goal.returns-in_default-clause-number
 returns-in_default-clause-number g c =
     let i = c.lines.invariant in
     let s = c.split_at in
-    i.4 ∙ ap (λ (l : List (List ℕ)). c.args.held.now.number + length l) (last_ended c.args.held.now.bytes.items c.args.bytes.now i.0 c.lines.rest.now s.result.0.now s.result.1.now c.line_len.result i.1 c.line_len.ensures.count s.ensures.front s.ensures.by_index.0 c.in_default.len_below)
+    i.4 ∙ ap (λ (l : List (List ℕ)). c.args.held.now.number + length l)
+    (last_ended c.args.held.now.bytes.items c.args.bytes.now i.0 c.lines.rest.now s.result.0.now s.result.1.now c.line_len.result i.1 c.line_len.ensures.count s.ensures.front s.ensures.by_index.0 c.in_default.len_below)
 
 pub returns-in_default-clause-taken : goal.returns-in_default-clause-taken
 returns-in_default-clause-taken g c = λ before h.

@@ -12,7 +12,8 @@ loop-rest-smaller c =
 pub loop-rest-preserved : goal.loop-rest-preserved
 loop-rest-preserved c =
     let long : 0 < length c.loop-rest.rest.now = search (rules, tests) in
-    read_more c.loop-rest.rest.now (words_data c.loop-rest.words.items) (words_data c.push_any.new.words.items) _ (option_map word_data c.first_piece-piece.result.word) c.first_piece-piece.result.bytes long c.first_piece-piece.ensures.bytes c.first_piece-piece.ensures.word c.in_ok-push_any.ensures c.loop-rest.invariant
+    read_more c.loop-rest.rest.now (words_data c.loop-rest.words.items) (words_data c.push_any.new.words.items) _
+    (option_map word_data c.first_piece-piece.result.word) c.first_piece-piece.result.bytes long c.first_piece-piece.ensures.bytes c.first_piece-piece.ensures.word c.in_ok-push_any.ensures c.loop-rest.invariant
 
 pub returns : goal.returns
 returns c =

@@ -5,7 +5,8 @@ use Rattle.aa_logs.proofs.value.bytes_of_hex.Goals as goal
 pub loop-rest-preserved : goal.loop-rest-preserved
 loop-rest-preserved c = record {
   digits = digits_left c.loop-rest.rest.now (omega arith) c.loop-rest.invariant.digits;
-  made = byte_made c.loop-rest.rest.now c.loop-rest.bytes.items c.push.new.self.items _ c.digit.result c.digit-in-len2-up.result (omega arith) c.digit.ensures.value c.digit-in-len2-up.ensures.value c.in_ok-push.ensures.items c.loop-rest.invariant.made;
+  made = byte_made c.loop-rest.rest.now c.loop-rest.bytes.items c.push.new.self.items _ c.digit.result c.digit-in-len2-up.result
+      (omega arith) c.digit.ensures.value c.digit-in-len2-up.ensures.value c.in_ok-push.ensures.items c.loop-rest.invariant.made;
 }
 
 pub returns : goal.returns

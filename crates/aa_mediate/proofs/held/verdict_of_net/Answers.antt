@@ -11,7 +11,9 @@ pub loop-rule-preserved : goal.loop-rule-preserved
 loop-rule-preserved c =
     let d : NetRule = record { audit = false; deny = false; families = 0; kinds = 0 } in
     let r : NetRule = get_or c.args.rules.now c.loop-rule.rule-index d in
-    verdict_more (net_holds c.args.family c.args.kind) (λ (r : NetRule). saying r.audit r.deny) c.args.rules.now c.loop-rule.rule-index r c.loop-rule.sets _ _ c.loop-rule-test.true (get_or_default c.args.rules.now c.loop-rule.rule-index d r c.loop-rule-test.true)
+    verdict_more (net_holds c.args.family c.args.kind)
+    (λ (r : NetRule). saying r.audit r.deny) c.args.rules.now c.loop-rule.rule-index r c.loop-rule.sets _ _ c.loop-rule-test.true
+    (get_or_default c.args.rules.now c.loop-rule.rule-index d r c.loop-rule-test.true)
     (c.with-sets.ensures ∙ ap (both c.loop-rule.sets) (c.said_if.ensures ∙ ap (λ (b : Bool). cond b (said (saying r.audit r.deny)) nothing) c.holds_net-holds.ensures)) c.loop-rule.invariant
 
 pub returns : goal.returns

@@ -12,8 +12,11 @@ returns c = λ p at.
     let r = c.args.request.now in
     let one = c.verdict-link.result in
     let two = c.verdict-target.result in
-    let link : IsVerdictOf (way_by p.files) p.files r.link r.owned one = subst (λ o. IsVerdictOf (way_by p.files) p.files r.link o one) c.owned.ensures (subst (λ (s : List ℕ). IsVerdictOf (way_by p.files) p.files s c.owned.result one) c.link.ensures.path (c.verdict-link.ensures p at)) in
-    let target : IsVerdictOf (way_by p.files) p.files r.target r.owned two = subst (λ o. IsVerdictOf (way_by p.files) p.files r.target o two) c.owned-2.ensures (subst (λ (s : List ℕ). IsVerdictOf (way_by p.files) p.files s c.owned-2.result two) c.target.ensures.path (c.verdict-target.ensures p at)) in
+    let link : IsVerdictOf (way_by p.files) p.files r.link r.owned one = subst (λ o. IsVerdictOf (way_by p.files) p.files r.link o one) c.owned.ensures
+    (subst (λ (s : List ℕ). IsVerdictOf (way_by p.files) p.files s c.owned.result one) c.link.ensures.path (c.verdict-link.ensures p at)) in
+    let target : IsVerdictOf (way_by p.files) p.files r.target r.owned two = subst
+    (λ o. IsVerdictOf (way_by p.files) p.files r.target o two) c.owned-2.ensures
+    (subst (λ (s : List ℕ). IsVerdictOf (way_by p.files) p.files s c.owned-2.result two) c.target.ensures.path (c.verdict-target.ensures p at)) in
     c.of_sets.ensures
     ∙ ap (λ (s : RuleSets). link_bits_of s two.sets c.same_way-same.result) link.sets
     ∙ ap (λ (s : RuleSets). link_bits_of (file_verdict p.files r.link r.owned) s c.same_way-same.result) target.sets

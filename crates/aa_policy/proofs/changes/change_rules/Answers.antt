@@ -10,7 +10,10 @@ pub returns-in_err-push_change_rule-clause-refused : goal.returns-in_err-push_ch
 returns-in_err-push_change_rule-clause-refused c =
     let r = c.from_residual in
     let q = err_from_is_err_and r.result r.ensures.1 in
-    handed_on r.result _ _ _ q.1 q.2 (λ h vars. c.loop-rule.invariant.left vars _ (refused_at vars change_paths rule_data c.args.rules.now c.loop-rule.rule-index _ _ c.loop-rule-test.true (c.in_err-push_change_rule.ensures.refused h vars)))
+    handed_on r.result _ _ _ q.1 q.2
+    (λ h vars. c.loop-rule.invariant.left vars _
+    (refused_at vars change_paths rule_data c.args.rules.now c.loop-rule.rule-index _ _ c.loop-rule-test.true
+    (c.in_err-push_change_rule.ensures.refused h vars)))
 
 pub loop-rule-preserved : goal.loop-rule-preserved
 loop-rule-preserved c =

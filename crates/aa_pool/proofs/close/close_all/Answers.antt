@@ -50,14 +50,18 @@ loop-lane-preserved g c =
     let done = c.loop-lane.outcomes.items in
     let left = c.next_of-finished.new.values.rest.items in
     let n = ap length s in
-    let owners : c.next_of-finished.result.leaver.lane ∷ map (λ f. f.leaver.lane) c.next_of-finished.new.values.rest.items ≡ known c.in-Some.lane ∷ map known c.next.new.self.rest.items = rw (c.next_of-finished.ensures, s) at i.owners in
+    let owners : c.next_of-finished.result.leaver.lane ∷ map
+    (λ f. f.leaver.lane) c.next_of-finished.new.values.rest.items ≡ known c.in-Some.lane ∷ map known c.next.new.self.rest.items = rw
+    (c.next_of-finished.ensures, s) at i.owners in
     let servers : c.next_of-server.result.lane ∷ map (λ s. s.lane) c.next_of-server.new.values.rest.items ≡ known c.in-Some.lane ∷ map known c.next.new.self.rest.items = rw (c.next_of-server.ensures, s) at i.servers in
     let shutters : c.next_of-shutter.result ∷ c.next_of-shutter.new.values.rest.items ≡ new_shutter c.in-Some.lane ∷ map new_shutter c.next.new.self.rest.items = rw (c.next_of-shutter.ensures, s) at i.shutters in
     record {
       owners = (both owners).1;
       servers = (both servers).1;
       shutters = (both shutters).1;
-      answers = rw (p.items, map-append (λ o. o.answers.items) done (c.close.result ∷ []), append_assoc) (ap (λ x. map (λ o. o.answers.items) done ++ x ∷ map (λ f. f.answers.items) left) c.close.ensures.answers ∙ ap (λ l. map (λ o. o.answers.items) done ++ map (λ f. f.answers.items) l) (sym c.next_of-finished.ensures) ∙ i.answers);
+      answers = rw (p.items, map-append (λ o. o.answers.items) done (c.close.result ∷ []), append_assoc)
+          (ap (λ x. map (λ o. o.answers.items) done ++ x ∷ map (λ f. f.answers.items) left) c.close.ensures.answers
+          ∙ ap (λ l. map (λ o. o.answers.items) done ++ map (λ f. f.answers.items) l) (sym c.next_of-finished.ensures) ∙ i.answers);
       closed = λ os h. rw (p.items, append_assoc) (i.closed (c.close.result ∷ os) (rw s (c.close.ensures.closed, h)));
       room = omega (arith, n, p.len, p.capacity, i.room);
     }

@@ -7,7 +7,8 @@ loop-at-preserved g c =
     let i = c.loop-at.invariant in
     let b = c.in-Ok.ensures {u = tt} in
     let len : length c.loop-at.engine.lanes.items ≡ c.loop-at.at = omega (arith, c.loop-at.engine.lanes.ok, i.lens.0) in
-    let more = opened_more c.args.machine.now c.args.starts.now c.args.capacity c.loop-at.at c.loop-at.engine.lanes.items c.loop-at.engine.owners.items c.loop-at.engine.servers.items c.loop-at.engine.shutters.items c.in-Ok.opened.0 c.index-starts-at.result
+    let more = opened_more c.args.machine.now c.args.starts.now c.args.capacity c.loop-at.at c.loop-at.engine.lanes.items c.loop-at.engine.owners.items
+    c.loop-at.engine.servers.items c.loop-at.engine.shutters.items c.in-Ok.opened.0 c.index-starts-at.result
     i.opened c.loop-at-test.true len c.index-starts-at.is b.lane.0 b.lane.1 b.lane.2 b.lane.3 in
     record {
       opened = rw (
@@ -24,4 +25,5 @@ loop-at-preserved g c =
     }
 
 pub returns-clause-ends : goal.returns-clause-ends
-returns-clause-ends g c = ends_of c.args.machine.now (take c.loop-at.at c.args.starts.now) c.args.capacity c.loop-at.engine.lanes.items c.loop-at.engine.owners.items c.loop-at.engine.servers.items c.loop-at.engine.shutters.items c.loop-at.invariant.opened
+returns-clause-ends g c = ends_of c.args.machine.now
+    (take c.loop-at.at c.args.starts.now) c.args.capacity c.loop-at.engine.lanes.items c.loop-at.engine.owners.items c.loop-at.engine.servers.items c.loop-at.engine.shutters.items c.loop-at.invariant.opened

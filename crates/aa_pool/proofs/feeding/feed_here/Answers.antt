@@ -30,7 +30,9 @@ loop-server-preserved g c =
     let l = ap length s.0 in
     record {
       rest = rw add-one n.left;
-      all = rw (p.items, map-append (λ s. s.lane) c.loop-server.served.items (c.alone_at.result ∷ []), append_assoc) (ap (λ x. map (λ s. s.lane) c.loop-server.served.items ++ x ∷ map (λ s. s.lane) c.next.new.self.rest.items) c.alone_at.ensures.server ∙ ap (λ l. map (λ s. s.lane) c.loop-server.served.items ++ map (λ s. s.lane) l) (sym s.0) ∙ i.all);
+      all = rw (p.items, map-append (λ s. s.lane) c.loop-server.served.items (c.alone_at.result ∷ []), append_assoc)
+          (ap (λ x. map (λ s. s.lane) c.loop-server.served.items ++ x ∷ map (λ s. s.lane) c.next.new.self.rest.items) c.alone_at.ensures.server
+          ∙ ap (λ l. map (λ s. s.lane) c.loop-server.served.items ++ map (λ s. s.lane) l) (sym s.0) ∙ i.all);
       room = omega (arith, l, p.len, p.capacity, i.room);
       at = omega arith;
       same = record {
@@ -45,7 +47,9 @@ pub returns : goal.returns
 returns g c =
     let i = c.loop-server.invariant in
     let len : length c.loop-server.feeds ≡ length c.args.lanes.now = i.same.len ∙ c.requires.len in
-    let none : length (map known (drop c.loop-server.at c.args.lanes.now)) ≡ 0 = sym (ap length i.rest) ∙ length-map c.loop-server.server-iterator.rest.items (λ s. s.lane) ∙ omega (arith, c.loop-server.server-iterator.rest.ok, (c.in-None.ensures {u = tt}).steps.0) in
+    let none : length (map known (drop c.loop-server.at c.args.lanes.now)) ≡ 0 = sym (ap length i.rest)
+    ∙ length-map c.loop-server.server-iterator.rest.items (λ s. s.lane)
+    ∙ omega (arith, c.loop-server.server-iterator.rest.ok, (c.in-None.ensures {u = tt}).steps.0) in
     let m : length (map known (drop c.loop-server.at c.args.lanes.now)) ≡ length (drop c.loop-server.at c.args.lanes.now) = length-map (drop c.loop-server.at c.args.lanes.now) known in
     let d : length (drop c.loop-server.at c.args.lanes.now) ≡ length c.args.lanes.now - c.loop-server.at = length-drop c.loop-server.at c.args.lanes.now in
     let at : length c.args.lanes.now ≤ c.loop-server.at = omega arith in

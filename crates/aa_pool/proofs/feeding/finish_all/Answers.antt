@@ -16,8 +16,12 @@ loop-feed-preserved g c =
     let of = answers_of g.M.Machine.next g.M.Machine.reply in
     let n = ap length s.0 in
     record {
-      answers = rw (p.items, map-append (λ f. f.answers.items) done (c.finish.result ∷ []), append_assoc) (ap (λ x. map (λ f. f.answers.items) done ++ x ∷ map of left) c.finish.ensures.answers ∙ ap (λ l. map (λ f. f.answers.items) done ++ map of l) (sym s.0) ∙ i.answers);
-      of = rw (p.items, map-append (λ f. f.leaver.lane) done (c.finish.result ∷ []), append_assoc) (ap (λ x. map (λ f. f.leaver.lane) done ++ x ∷ map (λ f. known f.lane) left) c.finish.ensures.of ∙ ap (λ l. map (λ f. f.leaver.lane) done ++ map (λ f. known f.lane) l) (sym s.0) ∙ i.of);
+      answers = rw (p.items, map-append (λ f. f.answers.items) done (c.finish.result ∷ []), append_assoc)
+          (ap (λ x. map (λ f. f.answers.items) done ++ x ∷ map of left) c.finish.ensures.answers
+          ∙ ap (λ l. map (λ f. f.answers.items) done ++ map of l) (sym s.0) ∙ i.answers);
+      of = rw (p.items, map-append (λ f. f.leaver.lane) done (c.finish.result ∷ []), append_assoc)
+          (ap (λ x. map (λ f. f.leaver.lane) done ++ x ∷ map (λ f. known f.lane) left) c.finish.ensures.of
+          ∙ ap (λ l. map (λ f. f.leaver.lane) done ++ map (λ f. known f.lane) l) (sym s.0) ∙ i.of);
       machine = All-rest (λ f. f.lane.machine ≡ c.args.machine.now) c.in-Some.feed left c.loop-feed.feed-iterator.rest.items s.0 i.machine;
       finished = All-rest (λ f. f.finished ≡ true) c.in-Some.feed left c.loop-feed.feed-iterator.rest.items s.0 i.finished;
       room = omega (arith, n, p.len, p.capacity, i.room);

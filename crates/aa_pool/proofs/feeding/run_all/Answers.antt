@@ -6,7 +6,8 @@ use Rattle.aa_pool.proofs.Rows.{same_map, same_machine, of_machine, lanes_known}
 use Rattle.aa_pool.proofs.feeding.run_all.Goals as goal
 
 pub finish_all-requires-clause-machine : goal.finish_all-requires-clause-machine
-finish_all-requires-clause-machine g c = same_machine c.args.machine.now c.args.feeds.items c.feed_by-feeds.result.0.items c.feed_by-feeds.ensures.fed.same (of_machine c.args.machine.now c.args.lanes.now c.args.feeds.items c.requires.lanes c.requires.machine)
+finish_all-requires-clause-machine g c = same_machine c.args.machine.now c.args.feeds.items c.feed_by-feeds.result.0.items c.feed_by-feeds.ensures.fed.same
+    (of_machine c.args.machine.now c.args.lanes.now c.args.feeds.items c.requires.lanes c.requires.machine)
 
 pub returns-clause-answers : goal.returns-clause-answers
 returns-clause-answers g c = c.finish_all.ensures.answers ∙ same_map (λ l all. answered_from g.M.Machine.next g.M.Machine.reply l.machine 0 l.start all) c.args.feeds.items c.feed_by-feeds.result.0.items c.feed_by-feeds.ensures.fed.same

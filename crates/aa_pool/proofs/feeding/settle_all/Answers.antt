@@ -28,7 +28,9 @@ loop-server-preserved g c =
     record {
       rest = rw add-one n.left;
       at = omega arith;
-      all = rw (p.items, map-append (λ s. s.lane) c.loop-server.settled.items (c.settle.result ∷ []), append_assoc) (ap (λ x. map (λ s. s.lane) c.loop-server.settled.items ++ x ∷ map (λ s. s.lane) c.next.new.self.rest.items) c.settle.ensures ∙ ap (λ l. map (λ s. s.lane) c.loop-server.settled.items ++ map (λ s. s.lane) l) (sym s.0) ∙ i.all);
+      all = rw (p.items, map-append (λ s. s.lane) c.loop-server.settled.items (c.settle.result ∷ []), append_assoc)
+          (ap (λ x. map (λ s. s.lane) c.loop-server.settled.items ++ x ∷ map (λ s. s.lane) c.next.new.self.rest.items) c.settle.ensures
+          ∙ ap (λ l. map (λ s. s.lane) c.loop-server.settled.items ++ map (λ s. s.lane) l) (sym s.0) ∙ i.all);
       room = omega (arith, l, p.len, p.capacity, i.room);
     }
 

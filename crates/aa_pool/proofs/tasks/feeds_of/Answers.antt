@@ -30,7 +30,9 @@ loop-task-preserved g c =
       rooms = rooms.2;
       at = omega arith;
       lanes = rw (p.items, map-append (λ f. f.lane) feeds (f ∷ [])) ((λ k. i.lanes k ++ h k ∷ []) ∙ sym (take_more lanes c.loop-task.at c.index-lanes-at.result w));
-      requests = rw (p.items, map-append (λ f. f.all) feeds (f ∷ []), append_assoc) (ap (λ y. map (λ f. f.all) feeds ++ y ∷ map (λ t. t.requests.items) left) is.1 ∙ ap (λ l. map (λ f. f.all) feeds ++ map (λ t. t.requests.items) l) (sym s.0) ∙ i.requests);
+      requests = rw (p.items, map-append (λ f. f.all) feeds (f ∷ []), append_assoc)
+          (ap (λ y. map (λ f. f.all) feeds ++ y ∷ map (λ t. t.requests.items) left) is.1
+          ∙ ap (λ l. map (λ f. f.all) feeds ++ map (λ t. t.requests.items) l) (sym s.0) ∙ i.requests);
       room = (omega (arith, p.len, i.room.0), omega (arith, p.capacity, i.room.1));
     }
 

@@ -6,8 +6,8 @@ use Rattle.aa_representatives.proofs.Adding.{adds_both, adds_keep}
 use Rattle.aa_quantifiers.specs.declared.word.Word.TheVariants.{Files}
 use Rattle.aa_quantifiers.specs.Words.{IsOf}
 use Rattle.aa_quantifiers.specs.Candidates.{HasFilesBy}
-use Rattle.aa_quantifiers.proofs.Adding.{elements_more}
 use Rattle.aa_quantifiers.proofs.requests.add_files_to.Goals as goal
+use Rattle.aa_representatives.proofs.Linking.{elements_more}
 
 pub loop-mask-preserved : goal.loop-mask-preserved
 loop-mask-preserved c =

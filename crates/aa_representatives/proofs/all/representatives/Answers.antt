@@ -1,8 +1,8 @@
 use Rattle.std.proofs.Common.{[]}
 use Rattle.aa_model.specs.declared.label.Label.TheVariants.{Unconfined}
 use Rattle.aa_representatives.proofs.BothStanding.{one_of_both}
-use Rattle.aa_representatives.proofs.Linking.{ok_then}
 use Rattle.aa_representatives.proofs.all.representatives.Goals as goal
+use Rattle.aa_regions.proofs.Paths.{ok_then}
 
 pub returns-clause-representatives : goal.returns-clause-representatives
 returns-clause-representatives c =

@@ -39,7 +39,9 @@ returns-clause-changes c =
       names = names;
       others = others;
       are = c.in_ok-add_patterns-2.ensures
-          ∙ ap (λ (l : List Pattern). l ++ c.as_slice-2.result.now) (c.in_ok-add_patterns.ensures ∙ ap (λ (l : List Pattern). l ++ c.as_slice.result.now) c.in_ok-patterns.ensures ∙ ap (λ (l : List Pattern). rules ++ l) c.as_slice.ensures.value)
+          ∙ ap (λ (l : List Pattern). l ++ c.as_slice-2.result.now)
+          (c.in_ok-add_patterns.ensures ∙ ap (λ (l : List Pattern). l ++ c.as_slice.result.now) c.in_ok-patterns.ensures
+          ∙ ap (λ (l : List Pattern). rules ++ l) c.as_slice.ensures.value)
           ∙ ap (λ (l : List Pattern). (rules ++ names) ++ l) c.as_slice-2.ensures.value;
       literal = c.in_ok-names.ensures;
       literal_others = c.in_ok-others.ensures;

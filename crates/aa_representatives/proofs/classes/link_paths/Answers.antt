@@ -2,8 +2,9 @@ use Rattle.std.proofs.Common.{◌≡◌, ◌<◌, ◌≤◌, length, None, Some,
 use Rattle.std.specs.List.{slice_get}
 use Rattle.std.proofs.lemmas.Option.{slice_get_past, slice_get_read}
 use Rattle.aa_model.specs.declared.policy.Policy.{Policy}
-use Rattle.aa_representatives.proofs.Linking.{ok_then, no_paths, free_says, absent_says, missing_says, some_profile, label_paths}
+use Rattle.aa_representatives.proofs.Linking.{no_paths, free_says, absent_says, missing_says, some_profile, label_paths}
 use Rattle.aa_representatives.proofs.classes.link_paths.Goals as goal
+use Rattle.aa_regions.proofs.Paths.{ok_then}
 
 pub returns-in_default : goal.returns-in_default
 returns-in_default c =

@@ -2,8 +2,8 @@ use Rattle.std.proofs.Common.{map, sym, ap, ◌∙◌, subst}
 use Rattle.aa_representatives.specs.declared.said.SaidClass.{SaidClass}
 use Rattle.aa_representatives.specs.Both.{AreLinkPathsOfBoth}
 use Rattle.aa_representatives.proofs.BothSaid.{paths_said}
-use Rattle.aa_representatives.proofs.Linking.{ok_then}
 use Rattle.aa_representatives.proofs.said.paths_to_link.Goals as goal
+use Rattle.aa_regions.proofs.Paths.{ok_then}
 
 pub returns : goal.returns
 returns c =

@@ -50,7 +50,8 @@ read_source-loop-rest-preserved t c =
       read = (
         read.0 ++ given.0,
         given.1 ∙ ap (λ (w : List WordData). w ++ given.0) read.1 ∙ append_assoc _ read.0 given.0,
-        read_step _ _ _ _ _ _ c.loop-rest.rest.now c.in-Some.piece c.in-Some.len c.split_at.result.0.now _ read.0 given.0 _ _ _ _ c.in-Some.ensures.some.0 c.in-Some.ensures.some.1 long c.split_at.ensures.front c.split_at.ensures.back refl c.place_behind-place.ensures.after given.2 read.2,
+        read_step _ _ _ _ _ _ c.loop-rest.rest.now c.in-Some.piece c.in-Some.len c.split_at.result.0.now _ read.0 given.0 _ _ _ _ c.in-Some.ensures.some.0
+            c.in-Some.ensures.some.1 long c.split_at.ensures.front c.split_at.ensures.back refl c.place_behind-place.ensures.after given.2 read.2,
       );
       shallow = omega (arith, c.in-Some.ensures.within.0);
       left = omega arith;

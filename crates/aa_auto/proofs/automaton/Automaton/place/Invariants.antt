@@ -4,7 +4,14 @@ use Rattle.aa_auto.proofs.automaton.Automaton.place.Given as goal
 
 abbrev pub invariant-loop-byte : goal.invariant-loop-byte
 invariant-loop-byte l = record {
-  rest : row_after (record { classes = l.self-inside.classes.items; width = l.self-inside.width; cells = l.self-inside.cells.items; listed = l.self-inside.listed.items; lists = map (λ v. v.items) l.self-inside.lists.items }) l.row (drop l.byte-index l.text)
+  rest : row_after
+      (record {
+        classes = l.self-inside.classes.items;
+        width = l.self-inside.width;
+        cells = l.self-inside.cells.items;
+        listed = l.self-inside.listed.items;
+        lists = map (λ v. v.items) l.self-inside.lists.items;
+      }) l.row (drop l.byte-index l.text)
       ≡ row_after (record { classes = l.self-inside.classes.items; width = l.self-inside.width; cells = l.self-inside.cells.items; listed = l.self-inside.listed.items; lists = map (λ v. v.items) l.self-inside.lists.items }) 0 l.text;
   within : l.row < length l.self-inside.listed.items;
 }

@@ -14,6 +14,10 @@ pub returns : goal.returns
 returns c =
     on_ok c.numbers_at.result
     (λ all. net_lists c.args.self.now c.requires.net c.args.scratch.now.set.items c.numbers_at.new.numbers.items
-    (subst (λ fs. (ends : List ℕ) → IsStrictlyIncreasing ends → IsStrictlyIncreasing c.args.scratch.now.set.items → AreFinals ends (length ends) (length fs) fs → ListsFinals ends c.args.scratch.now.set.items c.numbers_at.new.numbers.items) c.as_slice.ensures.value
-    (subst (λ s. (ends : List ℕ) → IsStrictlyIncreasing ends → IsStrictlyIncreasing s → AreFinals ends (length ends) (length c.as_slice.result.now) c.as_slice.result.now → ListsFinals ends s c.numbers_at.new.numbers.items) c.as_slice-2.ensures.value all)))
+    (subst (λ fs. (ends : List ℕ) → IsStrictlyIncreasing ends → IsStrictlyIncreasing c.args.scratch.now.set.items
+    → AreFinals ends (length ends) (length fs) fs
+    → ListsFinals ends c.args.scratch.now.set.items c.numbers_at.new.numbers.items) c.as_slice.ensures.value
+    (subst (λ s. (ends : List ℕ) → IsStrictlyIncreasing ends → IsStrictlyIncreasing s
+    → AreFinals ends (length ends) (length c.as_slice.result.now) c.as_slice.result.now
+    → ListsFinals ends s c.numbers_at.new.numbers.items) c.as_slice-2.ensures.value all)))
     c.numbers_at.ensures

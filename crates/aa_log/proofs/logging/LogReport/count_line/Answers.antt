@@ -24,7 +24,8 @@ returns-then-branch c =
       log = same_in (λ (x : LogReport). x.log) c.args.self.now c.leaves_out.new.self c.saturating_add-self.result c.in_ok-leaves_out.field-0 (λ count. refl) left.counted;
       choice = same_in (λ (x : LogReport). x.choice) c.args.self.now c.leaves_out.new.self c.saturating_add-self.result c.in_ok-leaves_out.field-0 (λ count. refl) left.counted;
       kept = same_in (λ (x : LogReport). is_some x.each_skipped) c.args.self.now c.leaves_out.new.self c.saturating_add-self.result c.in_ok-leaves_out.field-0 (λ count. refl) left.counted;
-      taken = λ before f. taken_left before l c.args.self.now c.leaves_out.new.self c.saturating_add-self.result c.in_ok-found.found c.in_ok-leaves_out.field-0 c.in_default.not-Other c.in_ok-found.ensures c.saturating_add-self.ensures c.if-branch.true left.left left.counted f;
+      taken = λ before f. taken_left before l c.args.self.now c.leaves_out.new.self c.saturating_add-self.result c.in_ok-found.found c.in_ok-leaves_out.field-0
+          c.in_default.not-Other c.in_ok-found.ensures c.saturating_add-self.ensures c.if-branch.true left.left left.counted f;
       room = tt;
     }
 

@@ -15,4 +15,7 @@ invariant_of-result g c =
     let machine : c.args.machine.now ≡ c.self.inside.lane.now.machine = c.requires.machine ∙ sym (ap (λ f. f.lane.machine) c.self.view_is) in
     let start : c.self.inside.start ≡ c.self.inside.lane.now.start = c.self.inside.opened in
     let has = is_left next reply lane c.self.inside.owner c.self.inside.leaver done left c.self.inside.sent _ c.self.inside.is_open c.in-Some.leaver c.self.invariant finished c.in-Some.is in
-    record { all = has_collected next reply lane c.in-Some.leaver done c.decide_rest-answers.result.items left has (c.decide_rest-answers.ensures ∙ (λ i. answered_from next reply (machine i) 0 (start i) (map (λ a. a.request) done ++ left))) }
+    record {
+      all = has_collected next reply lane c.in-Some.leaver done c.decide_rest-answers.result.items left has
+          (c.decide_rest-answers.ensures ∙ (λ i. answered_from next reply (machine i) 0 (start i) (map (λ a. a.request) done ++ left)));
+    }
