@@ -9,7 +9,7 @@ use Rattle.aa_base.specs.Kinds.{at_start, no_memory}
 use Rattle.aa_words.specs.Sources.{has_name}
 use Rattle.aa_words.specs.declared.include.Include.{Include}
 use Rattle.aa_policies.specs.Policies.{Source, sources_of, CanFollow, IsRefusedBehind, IsFaultOfSources}
-use Rattle.aa_policy.proofs.Answered.{true_false}
+use Rattle.aa_policy.proofs.Refusals.{true_false}
 
 -- these sources were added, and what is left can be added behind them exactly where all can be
 pub record Gathering (includes : List Include) (rest : List Include) (found : List Source) : Type 0 where

@@ -12,7 +12,7 @@ use Rattle.aa_words.specs.declared.word.Word.{Word}
 use Rattle.aa_words.specs.Splits.{WordData, words_data}
 use Rattle.aa_glob.specs.Variables.{Variable}
 use Rattle.aa_policy.specs.Preamble.{IsMisnamed, IsTwice, IsUndefined, IsRefusedWith, IsPreambleRefusal, is_preamble_fault, misnamed}
-use Rattle.aa_policy.proofs.Refusals.{unless_memory}
+use Rattle.aa_policy.proofs.Refusals.{unless_memory, true_false}
 use Rattle.aa_rules.specs.Faults.{IsPlaced}
 use Rattle.aa_model.specs.declared.policy.Policy.{Policy}
 use Rattle.aa_model.specs.declared.policy.Profile.{Profile}
@@ -40,9 +40,6 @@ pub record Answers (words : List Word) (end : Spot) (r : Result Policy PolicyFau
   pub exact : (fault : PolicyFault) → IsFault (words_data words) fault → IsRefusedWith fault r
 
 -- ---- kinds
-
-pub true_false : true ≡ false → ⊥
-true_false e = cc
 
 -- a refusal of some kinds is of no other
 other_kind : (fits : PolicyKind → Bool) (e : PolicyFault) (kind : PolicyKind) → (e ≡ no_memory) ⊎ (fits e.kind ≡ true) → kind ≢ NoMemory → fits kind ≡ false → e.kind ≡ kind → ⊥

@@ -23,7 +23,7 @@ use Rattle.aa_policy.specs.Keeping.{FitsBeside, HasRoom, HasNoPatterns, IsNamedA
 use Rattle.aa_policy.specs.Spelling.{IsRepeated}
 use Rattle.aa_policy.proofs.Attachments.{same_parent}
 use Rattle.aa_policy.proofs.Meaning.{zip_append, zip_same}
-use Rattle.aa_policy.proofs.Answered.{true_false}
+use Rattle.aa_policy.proofs.Refusals.{true_false}
 
 -- ---- lists with one element more
 

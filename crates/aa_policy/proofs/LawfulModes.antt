@@ -15,7 +15,7 @@ use Rattle.aa_rules.specs.FileRules.{IsPair, IsEntry, IsFile, exec_with}
 use Rattle.aa_rules.specs.Reading.{EntryData, ExecData, FileData}
 use Rattle.aa_model.specs.Lawful.{has_exec}
 use Rattle.aa_policy.specs.Spelling as spelling
-use Rattle.aa_policy.proofs.Answered.{true_false}
+use Rattle.aa_policy.proofs.Refusals.{true_false}
 use Rattle.aa_rules.proofs.Phrases.{false_true}
 
 abbrev IsLow : Option ℕ → Type 0

@@ -6,8 +6,10 @@ use Rattle.aa_base.specs.declared.fault.PolicyKind.{PolicyKind}
 use Rattle.aa_base.specs.declared.fault.PolicyKind.TheVariants.{NoMemory}
 use Rattle.aa_base.specs.Kinds.{IsRefusal, no_memory}
 use Rattle.aa_policy.specs.Preamble.{IsRefusedWith}
-use Rattle.aa_policy.proofs.Answered.{true_false}
 pub use Rattle.aa_rules.proofs.Refusals.{told_on, refusal}
+
+pub true_false : true ≡ false → ⊥
+true_false e = cc
 
 pub refused_by : {T : Type 0} (r : Result T PolicyFault) (e f : PolicyFault) → r ≡ Err e → e ≡ f → IsRefusal r → f.kind ≢ NoMemory
 refused_by {T} r e f eq same h =

@@ -4,7 +4,7 @@ use Rattle.aa_model.specs.declared.policy.Profile.{Profile}
 use Rattle.aa_policy.proofs.Keeping.{name_kept, profile_kept, past_before, past_alone, past_beside, same_fit, same_named}
 use Rattle.aa_policy.proofs.limits.push_profile.Goals.{then-kept-via-then-kept, then-kept-via-else-kept+then-over, then-kept-via-else-kept+else-over+then-not-fits_beside}
 use Rattle.aa_policy.proofs.limits.push_profile.Goals as goal
-use Rattle.aa_policy.proofs.Answered.{true_false}
+use Rattle.aa_policy.proofs.Refusals.{true_false}
 
 pub returns-then-kept : goal.returns-then-kept
 returns-then-kept c = λ spelled p k r.
