@@ -14,7 +14,14 @@ use Rattle.aa_explain.specs.declared.deciders.Saying.{Saying}
 use Rattle.aa_explain.specs.Deciders.{part_of, naming_from, unnamed, reasons_by}
 use Rattle.aa_ask.specs.Telling.{grant}
 use Rattle.aa_ask.proofs.Bits.{minus_le, minus_nothing, minus_part, minus_both, or_below, and_either, missing, denied, none_of_both}
-use Rattle.aa_diagnostics.proofs.SetTwice.{and_true, and_false}
+
+and_true : (b : Bool) → (b && true) ≡ b
+and_true true = refl
+and_true false = refl
+
+and_false : (b : Bool) → (b && false) ≡ false
+and_false true = refl
+and_false false = refl
 
 -- what one rule names with that verdict, and what all of them do
 abbrev part : Bool → Saying → ℕ

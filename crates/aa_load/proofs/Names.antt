@@ -14,8 +14,12 @@ use Rattle.aa_model.specs.Lawful.{names_of}
 use Rattle.aa_load.specs.Joined.{moved}
 use Rattle.aa_load.specs.Faults.{number_of}
 use Rattle.aa_load.specs.Numbers.{Noted, noted, AreNumbers, NotesNumber}
-use Rattle.aa_glob.proofs.Tables.{same_bytes}
-use Rattle.aa_glob.proofs.VarSteps.{equals}
+
+same_bytes : (a b : List ℕ) → bytes_eq a b ≡ true → a ≡ b
+same_bytes a b e = (bytes_eq-Decides a b).0 e
+
+abbrev equals : List ℕ → Vec ℕ Global → Bool
+equals q k = is_eq (slice_cmp nat_cmp q k.items)
 
 flipped : (a b : List ℕ) (v : Bool) → bytes_eq a b ≡ v → bytes_eq b a ≡ v
 flipped a b v e = nat_list_eq_equiv.symm b a ∙ e

@@ -16,7 +16,10 @@ use Rattle.aa_log.specs.Counted.{greatest}
 use Rattle.aa_log.specs.Commas.{more_of, is_some_of}
 use Rattle.aa_log.proofs.Listing.{two_parts, two_later}
 use Rattle.aa_log.specs.Against.{now_of, IsNewlyDenied, AreCounted, is_shown, shown_text, changes_text, json_shown, json_changes}
-use Rattle.aa_policy.proofs.HeadProductions.{or_none}
+
+or_none : (b : Bool) → (b || false) ≡ b
+or_none true = refl
+or_none false = refl
 
 -- what is read of the elements so far, once there is one more
 pub next_taken : {X Y : Type 0} (f : X → Y) (xs : List X) (i : ℕ) (x : X) → i < length xs → x ≡ get_or xs i x → map f (take (i + 1) xs) ≡ map f (take i xs) ++ f x ∷ []

@@ -25,7 +25,10 @@ use Rattle.aa_text.specs.Again.{IsPlain, ArePlain, HasPlain, settled, settled_it
 use Rattle.aa_round_trip_laws.specs.Jobs.{AllCanBeMade, TasksCanBeMade, task_in}
 use Rattle.aa_round_trip_laws.proofs.Regrouped.{of_nine}
 use Rattle.aa_round_trip_laws.proofs.Requests.{utf8, request_data, written_item, request_written, request_plain, request_shallow, request_shaped, request_means}
-use Rattle.aa_diagnostics.proofs.SetTwice.{or_false}
+
+or_false : (b : Bool) → (b || false) ≡ b
+or_false true = refl
+or_false false = refl
 
 -- ---- what a task asks
 
