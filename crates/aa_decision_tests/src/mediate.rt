@@ -7,6 +7,7 @@ mod label_tests;
 mod note_tests;
 mod plain_tests;
 mod quantity_tests;
+mod reachability_tests;
 mod representative_tests;
 mod skipping_tests;
 mod skips;

@@ -1,0 +1,143 @@
+-- Requests that leave the label, and those that move it.
+use Rattle.std.proofs.Common.{◌≡◌, ◌⊎◌, ℕ, Bool, true, false, cond, List, ◌++◌, Option, Some, None, Contains, inl, inr, refl, sym}
+use Rattle.std.proofs.Common.{ap, subst, ⊎_elim}
+use Rattle.std.specs.Prelude.{◌==◌}
+use Rattle.std.specs.List.{slice_get}
+use Rattle.std.proofs.lemmas.List.Elements.{Contains-append_left, Contains-append_right, Contains-append_cases}
+use Rattle.aa_model.specs.declared.policy.Policy.{Policy}
+use Rattle.aa_model.specs.declared.policy.Profile.{Profile}
+use Rattle.aa_model.specs.declared.label.Label.{Label}
+use Rattle.aa_model.specs.declared.label.Label.TheVariants.{Unconfined, Confined}
+use Rattle.aa_model.specs.declared.request.Request.{Request}
+use Rattle.aa_model.specs.declared.request.Request.TheVariants.{File, Link, Exec, Cap, Net, Change, Reload}
+use Rattle.aa_model.specs.declared.answer.Answer.{Answer}
+use Rattle.aa_compile.specs.Labels.{policy_number}
+use Rattle.aa_mediate.specs.declared.bits.RequestBits.{RequestBits}
+use Rattle.aa_mediate.specs.Decided.{blocked}
+use Rattle.aa_mediate.specs.Reply.{kept, reply_at, reply_by, reply}
+use Rattle.aa_representatives.specs.Askable.{IsFile, IsExec, IsLink, IsCap, IsNet, IsChange, IsReload, IsAskable}
+use Rattle.aa_representatives.specs.Representatives.{AreRepresentatives}
+use Rattle.aa_reachability.specs.Moves.{label_next, LeadAll}
+
+label_of_either : (b : Bool) (x y : Answer) (l : Label) → x.label ≡ l → y.label ≡ l → (cond b x y).label ≡ l
+label_of_either true x y l e f = e
+label_of_either false x y l e f = f
+
+kept_label : (k n : ℕ) (p : Profile) (bits : RequestBits) → (kept k n p bits).label ≡ Confined k n
+kept_label k n p bits = label_of_either (blocked p bits == 0) _ _ (Confined k n) refl refl
+
+-- it moves no task
+abbrev Stays : Request → Type 0
+Stays (File r) = Unit {0}
+Stays (Link r) = Unit {0}
+Stays (Cap c) = Unit {0}
+Stays (Net f s) = Unit {0}
+Stays _ = ⊥
+
+stays_in : (ps : List Policy) (k : ℕ) (profiles : List Profile) (n : ℕ) (o : Option Profile) (r : Request) → Stays r
+    → (reply_at ps k profiles n o r).label ≡ Confined k n
+stays_in ps k profiles n None r is = refl
+stays_in ps k profiles n (Some p) (File r) is = kept_label k n p _
+stays_in ps k profiles n (Some p) (Link r) is = kept_label k n p _
+stays_in ps k profiles n (Some p) (Cap c) is = kept_label k n p _
+stays_in ps k profiles n (Some p) (Net f s) is = kept_label k n p _
+stays_in ps k profiles n (Some p) (Exec r) is = absurd is
+stays_in ps k profiles n (Some p) (Change name) is = absurd is
+stays_in ps k profiles n (Some p) (Reload m) is = absurd is
+
+stays_by : (ps : List Policy) (l : Label) (o : Option Policy) (r : Request) → Stays r → (reply_by ps l o r).label ≡ l
+stays_by ps (Confined k n) (Some policy) r is = stays_in ps k policy.profiles n (slice_get policy.profiles n) r is
+stays_by ps (Confined k n) None r is = refl
+stays_by ps (Unconfined k) None r is = refl
+stays_by ps (Unconfined k) (Some policy) (File r) is = refl
+stays_by ps (Unconfined k) (Some policy) (Link r) is = refl
+stays_by ps (Unconfined k) (Some policy) (Cap c) is = refl
+stays_by ps (Unconfined k) (Some policy) (Net f s) is = refl
+stays_by ps (Unconfined k) (Some policy) (Exec r) is = absurd is
+stays_by ps (Unconfined k) (Some policy) (Change name) is = absurd is
+stays_by ps (Unconfined k) (Some policy) (Reload m) is = absurd is
+
+stays : (ps : List Policy) (l : Label) (r : Request) → Stays r → label_next ps l r ≡ l
+unfolding reply
+stays ps l r is = stays_by ps l (slice_get ps (policy_number l)) r is
+
+file_stays : (r : Request) → IsFile r → Stays r
+file_stays (File r) is = tt
+file_stays (Link r) is = absurd is
+file_stays (Exec r) is = absurd is
+file_stays (Cap c) is = absurd is
+file_stays (Net f s) is = absurd is
+file_stays (Change name) is = absurd is
+file_stays (Reload m) is = absurd is
+
+link_stays : (r : Request) → IsLink r → Stays r
+link_stays (Link r) is = tt
+link_stays (File r) is = absurd is
+link_stays (Exec r) is = absurd is
+link_stays (Cap c) is = absurd is
+link_stays (Net f s) is = absurd is
+link_stays (Change name) is = absurd is
+link_stays (Reload m) is = absurd is
+
+cap_stays : (r : Request) → IsCap r → Stays r
+cap_stays (Cap c) is = tt
+cap_stays (File r) is = absurd is
+cap_stays (Link r) is = absurd is
+cap_stays (Exec r) is = absurd is
+cap_stays (Net f s) is = absurd is
+cap_stays (Change name) is = absurd is
+cap_stays (Reload m) is = absurd is
+
+net_stays : (r : Request) → IsNet r → Stays r
+net_stays (Net f s) is = tt
+net_stays (File r) is = absurd is
+net_stays (Link r) is = absurd is
+net_stays (Exec r) is = absurd is
+net_stays (Cap c) is = absurd is
+net_stays (Change name) is = absurd is
+net_stays (Reload m) is = absurd is
+
+-- those that stand for executions, changes and reloads, put together, lead to all labels
+module _ (ps : List Policy) (l : Label) (execs changes reloads rs : List Request) (are : rs ≡ (execs ++ changes) ++ reloads)
+    (of_execs : AreRepresentatives ps l IsExec execs) (of_changes : AreRepresentatives ps l IsChange changes)
+    (of_reloads : AreRepresentatives ps l IsReload reloads) where
+  abbrev Leads : Request → Type 0
+  Leads r = (label_next ps l r ≡ l) ⊎ ((q : Request) × Contains rs q × (label_next ps l r ≡ label_next ps l q))
+
+  among : (q : Request) → Contains ((execs ++ changes) ++ reloads) q → Contains rs q
+  among q c = subst (λ xs. Contains xs q) (sym are) c
+
+  leads_by : (Kind : Request → Type 0) (some : List Request) → AreRepresentatives ps l Kind some → ((q : Request) → Contains some q → Contains rs q)
+      → (r : Request) → Kind r → Leads r
+  leads_by Kind some stand within r is = let s = stand.all r is in inr (s.0, within s.0 s.1, ap (λ (a : Answer). a.label) s.2)
+
+  stayed : (r : Request) → Stays r → Leads r
+  stayed r is = inl (stays ps l r is)
+
+  each_of : (r : Request) → Contains ((execs ++ changes) ++ reloads) r → IsAskable r
+  each_of r c =
+      ⊎_elim
+      (λ (front : Contains (execs ++ changes) r).
+      ⊎_elim
+      (λ (x : Contains execs r). inr (inr (inl (of_execs.each r x))))
+      (λ (x : Contains changes r). inr (inr (inr (inr (inr (inl (of_changes.each r x)))))))
+      (Contains-append_cases execs changes r front))
+      (λ (x : Contains reloads r). inr (inr (inr (inr (inr (inr (of_reloads.each r x)))))))
+      (Contains-append_cases (execs ++ changes) reloads r c)
+
+  leads : (r : Request) → IsAskable r → Leads r
+  leads r (inl is) = stayed r (file_stays r is)
+  leads r (inr (inl is)) = stayed r (link_stays r is)
+  leads r (inr (inr (inl is))) =
+      leads_by IsExec execs of_execs
+      (λ q c. among q (Contains-append_left (execs ++ changes) reloads q (Contains-append_left execs changes q c))) r is
+  leads r (inr (inr (inr (inl is)))) = stayed r (cap_stays r is)
+  leads r (inr (inr (inr (inr (inl is))))) = stayed r (net_stays r is)
+  leads r (inr (inr (inr (inr (inr (inl is)))))) =
+      leads_by IsChange changes of_changes
+      (λ q c. among q (Contains-append_left (execs ++ changes) reloads q (Contains-append_right execs changes q c))) r is
+  leads r (inr (inr (inr (inr (inr (inr is)))))) =
+      leads_by IsReload reloads of_reloads (λ q c. among q (Contains-append_right (execs ++ changes) reloads q c)) r is
+
+  pub lead_all : LeadAll ps l rs
+  lead_all = record { each = λ r c. each_of r (subst (λ xs. Contains xs r) are c); all = leads }

@@ -1,0 +1,4 @@
+mod Keeping
+mod Stepping
+mod Reaching
+mod Backing

@@ -1,0 +1,174 @@
+-- Where all arrivals are followed, each list of requests leads to the label of one.
+use Rattle.std.proofs.Common.{◌≡◌, ℕ, ◌+◌, ◌<◌, ◌≤◌, List, [], ◌∷◌, ◌++◌, true}
+use Rattle.std.proofs.Common.{length, All, Contains, sym, ap, ◌∙◌, subst, arith}
+use Rattle.std.proofs.Common.{get_or, Some, ⊎_elim, append_assoc, append-nil}
+use Rattle.std.specs.Prelude.{nat_eq}
+use Rattle.std.specs.List.{slice_get, list_any}
+use Rattle.std.proofs.lemmas.Bool.{cases_lt}
+use Rattle.std.proofs.lemmas.List.{length-append, length-map, get_or-map}
+use Rattle.std.proofs.lemmas.List.Elements.{All-head, All-tail}
+use Rattle.std.proofs.lemmas.Map.Steps.{length-le_from_distinct_below}
+use Rattle.std.proofs.lemmas.Map.Keys.{apart_from_distinct}
+use Rattle.std.proofs.lemmas.Option.{slice_get_within, slice_get-get_or, get_or_from_slice_get}
+use Rattle.std.proofs.lemmas.Bool.{eqb-true, eq-eqb}
+use Rattle.indexmap.proofs.CallerLemmas.{Contains-list_any}
+use Rattle.aa_model.specs.declared.policy.Policy.{Policy}
+use Rattle.aa_model.specs.declared.label.Label.{Label}
+use Rattle.aa_model.specs.declared.request.Request.{Request}
+use Rattle.aa_representatives.specs.Askable.{IsAskable}
+use Rattle.aa_reachability.specs.declared.trail.Arrival.{Arrival}
+use Rattle.aa_reachability.specs.Codes.{code, most_labels}
+use Rattle.aa_reachability.specs.Moves.{label_next, LeadAll}
+use Rattle.aa_reachability.specs.Reach.{IsWay, IsShortest, AreArrivals, led_to, way_at}
+use Rattle.aa_reachability.specs.Trail.{no_arrival, arrival_at, IsTrail, IsLevel, IsWithin, AreFollowedBy, AreFollowed, Extends, ReachAll}
+use Rattle.aa_reachability.proofs.Stepping.{arrival_old, below_most}
+
+pub extends_none : (arrivals : List Arrival) → Extends arrivals arrivals
+extends_none arrivals = record { more = []; are = sym (append-nil arrivals) }
+
+pub extends_on : (a b c : List Arrival) → Extends a b → Extends b c → Extends a c
+extends_on a b c f g = record { more = f.more ++ g.more; are = g.are ∙ ap (λ l. l ++ g.more) f.are ∙ append_assoc a f.more g.more }
+
+pub extends_length : (a b : List Arrival) → Extends a b → length a ≤ length b
+extends_length a b f = omega (arith, ap length f.are, length-append a f.more)
+
+-- an old arrival is where it was
+pub extends_at : (a b : List Arrival) → Extends a b → (i : ℕ) → i < length a → arrival_at b i ≡ arrival_at a i
+extends_at a b f i lt = ap (λ l. arrival_at l i) f.are ∙ arrival_old a f.more i lt
+
+pub within_on : (a b : List Arrival) → Extends a b → (l : Label) (n : ℕ) → IsWithin a l n → IsWithin b l n
+within_on a b f l n w = (
+  w.0,
+  omega (arith, w.1, extends_length a b f),
+  ap (λ (x : Arrival). x.label) (extends_at a b f w.0 w.1) ∙ w.2,
+  subst (λ (x : Arrival). x.length ≤ n) (sym (extends_at a b f w.0 w.1)) w.3,
+)
+
+pub followed_on : (ps : List Policy) (a b : List Arrival) → Extends a b → (k : ℕ) → k < length a → (Among : Request → Type 0)
+    → AreFollowedBy ps a k Among
+    → AreFollowedBy ps b k Among
+followed_on ps a b f k lt Among is r among =
+    subst (λ (x : Arrival). IsWithin b (label_next ps x.label r) (x.length + 1)) (sym (extends_at a b f k lt))
+    (within_on a b f (label_next ps (arrival_at a k).label r) ((arrival_at a k).length + 1) (is r among))
+
+-- one arrival more is followed
+pub followed_more : (ps : List Policy) (a b : List Arrival) (n : ℕ) → Extends a b → n < length a → AreFollowed ps a n
+    → AreFollowedBy ps b n IsAskable → AreFollowed ps b (n + 1)
+followed_more ps a b n f lt were here k below inside =
+    ⊎_elim
+    (λ (l : k < n). followed_on ps a b f k (omega (arith, l, lt)) IsAskable (were k l (omega (arith, l, lt))))
+    (λ (g : n ≤ k). let e : n ≡ k = omega (arith, below, g) in subst (λ x. AreFollowedBy ps b x IsAskable) e here)
+    (cases_lt k n)
+
+-- the next arrival is level where one is
+pub level_next : (arrivals : List Arrival) (n : ℕ)
+    → ((i j : ℕ) → i ≤ j → j < length arrivals → (arrival_at arrivals i).length ≤ (arrival_at arrivals j).length)
+    → IsLevel arrivals n → IsLevel arrivals (n + 1)
+level_next arrivals n rising level lt j lj =
+    let a : n < length arrivals = omega (arith, lt) in
+    let b : n ≤ n + 1 = omega arith in
+    omega (arith, level a j lj, rising n (n + 1) b lt)
+
+-- where requests lead to all labels and each of them is followed, all are
+pub followed_all : (ps : List Policy) (arrivals : List Arrival) (k : ℕ) (rs : List Request) → k < length arrivals
+    → LeadAll ps (arrival_at arrivals k).label rs
+    → AreFollowedBy ps arrivals k (Contains rs) → AreFollowedBy ps arrivals k IsAskable
+followed_all ps arrivals k rs lt lead each r asked =
+    let l = (arrival_at arrivals k).label in
+    let many = (arrival_at arrivals k).length + 1 in
+    ⊎_elim
+    (λ (stays : label_next ps l r ≡ l). (k, lt, sym stays, omega arith))
+    (λ (found : (q : Request) × Contains rs q × (label_next ps l r ≡ label_next ps l q)).
+    subst (λ (m : Label). IsWithin arrivals m many) (sym found.2) (each found.0 found.1))
+    (lead.all r asked)
+
+module _ (ps : List Policy) (from : Label) (known : List ℕ) (arrivals : List Arrival) (trail : IsTrail ps from known arrivals) (n : ℕ)
+    (all : length arrivals ≤ n) (followed : AreFollowed ps arrivals n) where
+  on : (rs : List Request) (l : Label) (m : ℕ) → All IsAskable rs → IsWithin arrivals l m → IsWithin arrivals (led_to ps l rs) (m + length rs)
+  on [] l m asked w = (w.0, w.1, w.2, omega (arith, w.3))
+  on (r ∷ rs) l m asked w =
+      let next = followed w.0 (omega (arith, w.1, all)) w.1 r (All-head IsAskable r rs asked) in
+      let there : (arrival_at arrivals next.0).label ≡ label_next ps l r = next.2 ∙ ap (λ (x : Label). label_next ps x r) w.2 in
+      let rest = on rs (label_next ps l r) (m + 1) (All-tail IsAskable r rs asked) (next.0, next.1, there, omega (arith, next.3, w.3)) in
+      (rest.0, rest.1, rest.2, omega (arith, rest.3))
+
+  pub reach_all : ReachAll ps from arrivals
+  reach_all rs asked =
+      let first : (arrival_at arrivals 0).length ≤ 0 = (trail.each 0 trail.some).short in
+      let w = on rs from 0 asked (0, trail.some, trail.start, first) in
+      (w.0, w.1, w.2, omega (arith, w.3))
+
+-- different labels have different numbers, and so there are no more arrivals than numbers
+pub few_arrivals : (ps : List Policy) (from : Label) (known : List ℕ) (arrivals : List Arrival) → IsTrail ps from known arrivals
+    → length arrivals ≤ most_labels
+few_arrivals ps from known arrivals trail =
+    let f : Arrival → ℕ = λ a. code a.label in
+    let long : length known ≡ length arrivals = ap length trail.codes ∙ length-map arrivals f in
+    let below : (q : ℕ) → list_any (nat_eq q) known ≡ true → q < most_labels = λ q e.
+    let c = Contains-list_any nat_eq eqb-true known q e in
+    let lt : c.0 < length arrivals = omega (arith, c.1, long) in
+    let is : f (arrival_at arrivals c.0) ≡ q = sym (get_or-map f arrivals c.0 no_arrival q lt) ∙ sym (ap (λ xs. get_or xs c.0 q) trail.codes) ∙ c.2 in
+    subst (λ x. x < most_labels) is (below_most (arrival_at arrivals c.0).label (trail.each c.0 lt).fits) in
+    omega (arith, long, length-le_from_distinct_below known most_labels trail.distinct below)
+
+module _ (ps : List Policy) (from : Label) (known : List ℕ) (arrivals : List Arrival) (trail : IsTrail ps from known arrivals)
+    (reach : ReachAll ps from arrivals) where
+  abbrev codes : Arrival → ℕ
+  codes a = code a.label
+
+  code_at : (i d : ℕ) → i < length arrivals → get_or known i d ≡ code (arrival_at arrivals i).label
+  code_at i d lt = ap (λ xs. get_or xs i d) trail.codes ∙ get_or-map codes arrivals i no_arrival d lt
+
+  long : length known ≡ length arrivals
+  long = ap length trail.codes ∙ length-map arrivals codes
+
+  -- of two arrivals the later one is at another label
+  apart : (i j : ℕ) → i < j → j < length arrivals → (arrival_at arrivals i).label ≡ (arrival_at arrivals j).label → ⊥
+  apart i j lt lj e =
+      let li : i < length arrivals = omega (arith, lt, lj) in
+      let is : get_or known i 0 ≡ get_or known j 0 = code_at i 0 li ∙ ap code e ∙ sym (code_at j 0 lj) in
+      let differ = apart_from_distinct nat_eq known i j 0 trail.distinct lt (omega (arith, lj, long)) in
+      absurd (cc (eq-eqb (get_or known i 0) (get_or known j 0) is, differ))
+
+  same : (i j : ℕ) → i < length arrivals → j < length arrivals → (arrival_at arrivals i).label ≡ (arrival_at arrivals j).label → i ≡ j
+  same i j li lj e =
+      ⊎_elim
+      (λ (a : i < j). absurd (apart i j a lj e))
+      (λ (a : j ≤ i).
+      ⊎_elim
+      (λ (b : j < i). absurd (apart j i b li (sym e)))
+      (λ (b : i ≤ j). let is : i ≡ j = omega (arith, a, b) in is)
+      (cases_lt j i))
+      (cases_lt i j)
+
+  here : (i : ℕ) (a : Arrival) → slice_get arrivals i ≡ Some a → (i < length arrivals) × (arrival_at arrivals i ≡ a)
+  here i a e = (slice_get_within arrivals i a e, get_or_from_slice_get arrivals i a no_arrival e)
+
+  pub are_arrivals : AreArrivals ps from arrivals
+  are_arrivals = record {
+    ways = trail.ways;
+    are = record {
+      many = trail.many;
+      each = λ i a e. let h = here i a e in subst (λ (x : Arrival). IsWay i x.step trail.ways (way_at trail.ways i)) h.1 (trail.each i h.0).is_way;
+    };
+    each = λ i a e.
+        let h = here i a e in
+        let led = trail.each i h.0 in
+        subst (λ (x : Arrival). IsShortest ps from x (way_at trail.ways i)) h.1
+        (record {
+          asked = led.asked;
+          leads = led.leads;
+          long = led.long;
+          shortest = λ rs asked is.
+              let w = reach rs asked in
+              let j : w.0 ≡ i = same w.0 i w.1 h.0 (w.2 ∙ is) in
+              subst (λ x. (arrival_at arrivals x).length ≤ length rs) j w.3;
+        });
+    all = λ rs asked.
+        let w = reach rs asked in
+        (w.0, arrival_at arrivals w.0, slice_get-get_or arrivals w.0 no_arrival w.1, w.2);
+    once = λ i j a b e f is.
+        let h = here i a e in
+        let k = here j b f in
+        same i j h.0 k.0 (ap (λ (x : Arrival). x.label) h.1 ∙ is ∙ sym (ap (λ (x : Arrival). x.label) k.1));
+  }

@@ -1,0 +1,14 @@
+//! The labels that a task can get to, each by a shortest list of requests.
+#![tactic(auto)]
+
+mod codes;
+mod fault;
+mod moves;
+mod search;
+mod trail;
+mod ways;
+
+pub use fault::ReachFault;
+pub use search::arrivals_from;
+pub use trail::{Arrival, Step};
+pub use ways::way_to;
