@@ -26,6 +26,9 @@ const ASK: &str =
 const DIFF: &str =
     "Says which requests two policies answer differently, and names the rules, as in: aapolicy diff old/apparmor.d new/apparmor.d";
 
+const WHO: &str =
+    "Says which profiles' rules allow what is asked, all of it or some, as in: aapolicy who /etc/apparmor.d 'w:/home/**' cap:sys_admin";
+
 const JOB: &str =
     "Prints the job that aamediate run decides alike, as in: aapolicy job /etc/apparmor.d/usr.sbin.cupsd --log /var/log/kern.log";
 
@@ -240,6 +243,45 @@ const ASK_ARGUMENTS: &[Argument] = &[
     },
 ];
 
+/// What `who` takes.
+const WHO_ARGUMENTS: &[Argument] = &[
+    Argument {
+        name: "PROFILE",
+        letter: None,
+        form: Form::NeededWord,
+        barred: None,
+        help: "A file with profiles, or a folder of such files, which are one policy together; - is standard input",
+    },
+    Argument {
+        name: "WORD",
+        letter: None,
+        form: Form::Words,
+        barred: None,
+        help: "[owned:|other:]LETTERS:PATTERN, with letters of rwakm, w to write or to append, or x to execute; cap:NAME, net:FAMILY/TYPE, change:NAME",
+    },
+    Argument {
+        name: "also",
+        letter: None,
+        form: Form::Values("PROFILE"),
+        barred: None,
+        help: "Another file or folder, whose profiles belong to the same policy",
+    },
+    Argument {
+        name: "json",
+        letter: None,
+        form: Form::Flag,
+        barred: None,
+        help: "Answer in JSON",
+    },
+    Argument {
+        name: "quiet",
+        letter: Some('q'),
+        form: Form::Flag,
+        barred: Some("json"),
+        help: "Print nothing: the exit status answers",
+    },
+];
+
 /// What chooses lines of logs.
 const CHOICE_ARGUMENTS: &[Argument] = &[
     Argument {
@@ -426,6 +468,12 @@ const COMMANDS: &[Named] = &[
         name: "ask",
         about: ASK,
         arguments: ASK_ARGUMENTS,
+        more: &[],
+    },
+    Named {
+        name: "who",
+        about: WHO,
+        arguments: WHO_ARGUMENTS,
         more: &[],
     },
     Named {

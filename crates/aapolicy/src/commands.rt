@@ -11,6 +11,7 @@ use aa_job::{JobOptions, job_files};
 use aa_log::{LogOptions, log_files};
 use aa_logs::{Choice, Form as Written, LogWord, name_of};
 use aa_text::NoMemory;
+use aa_who::{WhoOptions, who_files};
 use clap::ArgMatches;
 use std::alloc::{AllocError, Global};
 
@@ -58,7 +59,7 @@ fn run_check(
     check_files(alloc, rt, settings, &options)
 }
 
-/// The files with profiles of `ask`.
+/// The files with profiles of `ask` and of `who`.
 fn asked_files(alloc: Global, matches: &ArgMatches<'_>) -> Result<Vec<Vec<u8>>, AllocError> {
     let mut files = copies_of(alloc, matches, "PROFILE")?;
     files.append(&mut copies_of(alloc, matches, "also")?)?;
@@ -114,6 +115,23 @@ fn run_diff(
         wanted,
     };
     diff_files(alloc, rt, &before, settings, &options)
+}
+
+fn run_who(
+    rt: &HostRuntime,
+    matches: &ArgMatches<'_>,
+    settings: &Settings<'_>,
+) -> Result<Output, NoMemory> {
+    let alloc = rt.alloc();
+    let files = asked_files(alloc, matches)?;
+    let words = copies_of(alloc, matches, "WORD")?;
+    let options = WhoOptions {
+        files: files.as_slice(),
+        words: words.as_slice(),
+        is_json: matches.get_flag("json"),
+        is_quiet: matches.get_flag("quiet"),
+    };
+    who_files(alloc, rt, settings, &options)
 }
 
 fn run_log(
@@ -207,6 +225,7 @@ fn run_wanted(
         "check" => run_check(rt, matches, settings),
         "ask" => run_ask(rt, matches, settings),
         "diff" => run_diff(rt, matches, settings),
+        "who" => run_who(rt, matches, settings),
         _ => run_with_logs(rt, name, matches, settings),
     }
 }
@@ -217,6 +236,7 @@ fn file_arguments(name: &str) -> &'static [&'static str] {
         "check" => &["PROFILE"],
         "ask" => &["PROFILE", "also", "from"],
         "diff" => &["OLD", "NEW"],
+        "who" => &["PROFILE", "also"],
         "log" => &["FILE", "against"],
         _ => &["PROFILE", "log"],
     }

@@ -1,0 +1,4 @@
+pub mod Colons
+pub mod Objects
+pub mod Turns
+pub mod Printing

@@ -1,0 +1,34 @@
+-- Answers as they are printed in JSON.
+-- Source: own.
+use Rattle.std.specs.Prelude.{ℕ, List, ◌++◌, map, codes, decimal, Bool, true, false, Option, Some, None, option_map}
+use Rattle.aa_text.specs.Jsons.{json_bytes, key_text, bool_text, member_text, member_if, list_text}
+use Rattle.aa_ask.specs.Json.{json_verdict}
+use Rattle.aa_who.specs.Grants.{Granted}
+use Rattle.aa_who.specs.Answers.{Answered}
+
+-- there is none that isn't granted
+abbrev pub is_none : Option (List ℕ) → Bool
+is_none None = true
+is_none (Some other) = false
+
+-- a profile, and whether all is granted to it
+unfoldable pub json_front : Granted → List ℕ
+json_front g = codes "{" ++ (key_text (codes "profile") ++ json_bytes g.name) ++ member_text (codes "every") (bool_text (is_none g.refused))
+
+-- whether it is in complain mode, and a verdict that grants
+unfoldable pub json_shown : Granted → List ℕ
+json_shown g = member_text (codes "complains") (bool_text g.complains) ++ member_text (codes "as") (json_verdict g.verdict)
+
+-- so, and a request that isn't granted
+unfoldable pub json_grant : Granted → List ℕ
+json_grant g = json_front g ++ json_shown g ++ member_if (codes "not") (option_map json_bytes g.refused) ++ codes "}"
+
+-- a word, the profiles that are granted it, of how many, and whether a task without a profile is
+unfoldable pub json_answer : Answered → List ℕ
+json_answer a =
+    codes "{" ++ key_text (codes "word") ++ json_bytes a.word ++ member_text (codes "granted") (list_text (map json_grant a.grants))
+    ++ member_text (codes "profiles") (decimal a.profiles) ++ member_text (codes "unconfined") (bool_text a.is_free) ++ codes "}"
+
+-- one JSON list and a line end
+abbrev pub json_answers : List Answered → List ℕ
+json_answers answers = list_text (map json_answer answers) ++ codes "\n"

@@ -1,0 +1,7 @@
+pub mod Words
+pub mod Counts
+pub mod Grants
+pub mod Answers
+pub mod Shown
+pub mod Json
+pub mod Command

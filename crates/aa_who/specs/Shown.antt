@@ -1,0 +1,55 @@
+-- Answers as they are printed.
+-- Source: own.
+use Rattle.std.specs.Prelude.{ℕ, ◌==◌, ◌&&◌, List, [], ◌++◌, length, flat_map, codes, decimal, Bool, if◌then◌else◌, Option, Some, None}
+use Rattle.aa_base.specs.Values.{value}
+use Rattle.aa_text.specs.Visible.{all_visible}
+use Rattle.aa_ask.specs.Told.{Told}
+use Rattle.aa_ask.specs.Shown.{reasons_text}
+use Rattle.aa_who.specs.Grants.{Granted}
+use Rattle.aa_who.specs.Answers.{Answered}
+
+-- whether all is granted, and to whom
+abbrev pub quantity_mark : Option (List ℕ) → List ℕ
+quantity_mark None = codes "every "
+quantity_mark (Some other) = codes "some "
+
+-- where not all is, what is, and what isn't
+abbrev pub examples_mark : Told → Option (List ℕ) → List ℕ
+examples_mark t None = []
+examples_mark t (Some other) = codes " as " ++ t.word ++ codes ", not " ++ other
+
+-- a profile in complain mode
+abbrev pub complains_mark : Bool → List ℕ
+complains_mark complains = if complains then codes " complains" else []
+
+-- every NAME WORD, or some NAME WORD
+unfoldable pub who_text : List ℕ → Granted → List ℕ
+who_text word g = quantity_mark g.refused ++ value g.name ++ codes " " ++ all_visible word
+
+-- and as WORD, not WORD; and the rules
+unfoldable pub grant_text : List ℕ → Granted → List ℕ
+grant_text word g = who_text word g ++ examples_mark g.verdict g.refused ++ complains_mark g.complains ++ codes "\n" ++ reasons_text g.verdict
+
+-- of each profile it is told that its rules allow nothing of a word
+abbrev pub is_nobodys : Answered → Bool
+is_nobodys a = length a.grants == 0 && length a.untold == 0
+
+-- what is said then
+abbrev pub nobody_text : Answered → List ℕ
+nobody_text a = if is_nobodys a then codes "nobody " ++ all_visible a.word ++ codes "\n" else []
+
+-- what is said of tasks that aren't confined
+abbrev pub free_mark : Bool → List ℕ
+free_mark is_free = if is_free then codes "; not confined: every task without a profile\n" else codes "\n"
+
+-- N of M profiles; not confined: every task without a profile
+unfoldable pub count_line : Answered → List ℕ
+count_line a = decimal (length a.grants) ++ codes " of " ++ decimal a.profiles ++ codes " profiles" ++ free_mark a.is_free
+
+-- the lines on what can't be told
+abbrev pub untold_text : Answered → List ℕ
+untold_text a = a.untold ++ a.free_untold
+
+-- the lines of an answer
+unfoldable pub answer_text : Answered → List ℕ
+answer_text a = flat_map (grant_text a.word) a.grants ++ nobody_text a ++ count_line a

@@ -1,0 +1,187 @@
+//! The profiles that are granted what a word asks.
+
+ghost use Rattle.std.specs.Prelude.{◌≡◌, ◌++◌, map, option_map, IfOk, IfErr, OnOk};
+ghost use Rattle.aa_model.specs.declared.label.Label.{Label};
+ghost use Rattle.aa_notation.specs.Written.{word_text};
+ghost use Rattle.aa_ask.specs.Told.{verdict_on, told};
+ghost use Rattle.aa_load.specs.UnitPolicy.{limit_of};
+ghost use Rattle.aa_who.specs.Counts.{SaysNoPath};
+ghost use Rattle.aa_who.specs.Grants.{granted, grants_by, all_granted, with_count, count_of, AddsGrants, AreGrants};
+
+use crate::counting::{Counted, count_at};
+use crate::fault::WhoFault;
+use aa_ask::{Verdict, decide};
+use aa_command::Decided;
+use aa_compile::{Compiled, profile_of};
+use aa_model::{Label, Profile, Request};
+use aa_notation::push_word;
+use aa_quantifiers::{Quantity, Word};
+use std::alloc::{AllocError, Global};
+
+/// A profile whose rules allow some of the requests of a word.
+#[derive(Drop)]
+pub(crate) struct Grant {
+    /// Its full name.
+    pub(crate) name: Vec<u8>,
+    /// Whether it is in complain mode.
+    pub(crate) complains: bool,
+    /// The verdict on a request that they allow.
+    pub(crate) verdict: Verdict,
+    /// A request that they don't allow, as a word; none where they allow all.
+    pub(crate) refused: Option<Vec<u8>>,
+}
+
+/// The profiles whose rules allow some of the requests of a word.
+#[derive(Drop)]
+pub(crate) struct Grants {
+    pub(crate) list: Vec<Grant>,
+    /// The lines on those of which it can't be told.
+    pub(crate) untold: Vec<u8>,
+}
+
+/// A request as a word.
+fn word_of(alloc: Global, request: &Request) -> Result<Vec<u8>, AllocError>
+    ensures { IfOk result (λ word. word.items ≡ word_text request.now) }
+{
+    let mut word = Vec::new(alloc);
+    push_word(&mut word, request)?;
+    Ok(word)
+}
+
+/// The word of a request, if there is one.
+fn word_if(alloc: Global, request: Option<&Request>) -> Result<Option<Vec<u8>>, AllocError>
+    ensures { IfOk result (λ word. option_map (λ w. w.items) word ≡ option_map (λ r. word_text r.now) request.entry) }
+{
+    match request {
+        Some(request) => Ok(Some(word_of(alloc, request)?)),
+        None => Ok(None),
+    }
+}
+
+/// The verdict on a request of a task in a profile.
+fn verdict_of(
+    alloc: Global,
+    decided: Decided<'_>,
+    number: u16,
+    request: &Request,
+) -> Result<Verdict, AllocError>
+    ensures { IfOk result (λ v. told v ≡ verdict_on decided.entry (Label.Confined 0 number) request.now) }
+{
+    let mut label = Label::Confined(0, number);
+    decide(alloc, decided, &mut label, request)
+}
+
+/// What is told of a profile that is granted a request, and not another, where there is one that it isn't.
+fn grant_of(
+    alloc: Global,
+    decided: Decided<'_>,
+    number: u16,
+    profile: &Profile,
+    one: &Request,
+    other: Option<&Request>,
+) -> Result<Grant, AllocError>
+    ensures { IfOk result (λ g. granted g ≡ record { name = profile.now.name; complains = profile.now.complain; verdict = verdict_on decided.entry (Label.Confined 0 number) one.now; refused = option_map (λ r. word_text r.now) other.entry }) }
+{
+    Ok(Grant {
+        name: Vec::from_slice(alloc, profile.name.as_slice())?,
+        complains: profile.complain,
+        verdict: verdict_of(alloc, decided, number, one)?,
+        refused: word_if(alloc, other)?,
+    })
+}
+
+/// Adds what is told of a profile that is granted so many of the requests.
+fn push_grant(
+    list: &mut Vec<Grant>,
+    alloc: Global,
+    decided: Decided<'_>,
+    number: u16,
+    profile: &Profile,
+    quantity: &Quantity,
+) -> Result<(), AllocError>
+    ensures { OnOk result (map granted list.new.items ≡ map granted list.old.items ++ grants_by decided.entry number profile.now quantity.now) }
+{
+    match quantity {
+        Quantity::Every(one) => {
+            list.push(grant_of(alloc, decided, number, profile, one, None)?)?;
+            Ok(())
+        }
+        Quantity::Partly(one, other) => {
+            list.push(grant_of(alloc, decided, number, profile, one, Some(other))?)?;
+            Ok(())
+        }
+        Quantity::Never(_) => Ok(()),
+    }
+}
+
+/// Adds what is told of a profile, or the line on why it can't be told.
+fn push_count(
+    grants: &mut Grants,
+    alloc: Global,
+    decided: Decided<'_>,
+    number: u16,
+    profile: &Profile,
+    counted: &Counted,
+) -> Result<(), AllocError>
+    ensures { OnOk result (all_granted grants.new ≡ with_count decided.entry number profile.now (all_granted grants.old) counted.now) }
+{
+    match counted {
+        Counted::Told(quantity) => {
+            push_grant(&mut grants.list, alloc, decided, number, profile, quantity)
+        }
+        Counted::Untold(line) => grants.untold.extend_from_slice(line.as_slice()),
+    }
+}
+
+/// Adds what is told of the profile of that number.
+fn push_grant_at(
+    grants: &mut Grants,
+    alloc: Global,
+    decided: Decided<'_>,
+    states: u32,
+    number: u16,
+    word: &Word,
+    text: &[u8],
+) -> Result<(), WhoFault>
+    ensures granted { OnOk result (AddsGrants decided.entry (limit_of states) word.now text.now number (all_granted grants.old) (all_granted grants.new)) }
+    ensures refused { IfErr result (λ e. SaysNoPath word.now text.now e) }
+{
+    let Some(profile) = profile_of(decided.policies, 0, number) else {
+        return Ok(());
+    };
+    let label = Label::Confined(0, number);
+    let counted = count_at(alloc, decided.policies, states, label, word, text)?;
+    push_count(grants, alloc, decided, number, profile, &counted)?;
+    Ok(())
+}
+
+/// How many profiles there are.
+pub(crate) fn count_of(policies: &[Compiled]) -> u16
+    ensures { result ≡ count_of policies.now }
+{
+    match policies.get(0) {
+        Some(compiled) => compiled.policy().profiles.as_slice().len() as u16,
+        None => 0,
+    }
+}
+
+/// What is told of each profile, in order: by how many of the requests of a word its rules allow.
+pub(crate) fn grants_of(
+    alloc: Global,
+    decided: Decided<'_>,
+    states: u32,
+    word: &Word,
+    text: &[u8],
+) -> Result<Grants, WhoFault>
+    ensures granted { IfOk result (λ gs. AreGrants decided.entry (limit_of states) word.now text.now (count_of decided.entry.policies.now) (all_granted gs)) }
+    ensures refused { IfErr result (λ e. SaysNoPath word.now text.now e) }
+{
+    let mut grants = Grants {
+        list: Vec::new(alloc),
+        untold: Vec::new(alloc),
+    };
+    for number in 0..count_of(decided.policies) {
+        push_grant_at(&mut grants, alloc, decided, states, number, word, text)?;
+    }
+    Ok(grants)
+}

@@ -1,0 +1,13 @@
+//! What `who` answers: the profiles whose rules allow what words ask, each with the rules.
+#![tactic(auto)]
+
+mod answering;
+mod command;
+mod counting;
+mod fault;
+mod granting;
+mod json;
+mod reading;
+mod shown;
+
+pub use command::{WhoOptions, who_files};

@@ -1,0 +1,179 @@
+//! Answers as they are printed.
+
+ghost use Rattle.std.specs.Prelude.{◌≡◌, ◌++◌, codes, map, flat_map, option_map, decimal, OnOk};
+ghost use Rattle.aa_base.specs.Values.{value};
+ghost use Rattle.aa_text.specs.Visible.{all_visible};
+ghost use Rattle.aa_ask.specs.Told.{told};
+ghost use Rattle.aa_who.specs.Grants.{granted};
+ghost use Rattle.aa_who.specs.Answers.{answered};
+ghost use Rattle.aa_who.specs.Shown.{quantity_mark, examples_mark, complains_mark, who_text, grant_text, is_nobodys, nobody_text, free_mark, count_line, answer_text, untold_text};
+
+use crate::answering::WordAnswer;
+use crate::counting::Counted;
+use crate::granting::Grant;
+use aa_ask::{Verdict, push_reasons};
+use aa_text::{push_name, push_number, push_text, push_visible};
+use std::alloc::{AllocError, Global};
+
+fn push_quantity(out: &mut Vec<u8>, refused: &Option<Vec<u8>>) -> Result<(), AllocError>
+    ensures { OnOk result (out.new.items ≡ out.old.items ++ quantity_mark (option_map (λ word. word.items) refused.now)) }
+{
+    push_text(out, if refused.is_some() { "some " } else { "every " })
+}
+
+/// Appends who is granted all or some of a word.
+#[tactic(auto, unfolding(crate::specs::Shown::who_text))]
+fn push_who(out: &mut Vec<u8>, alloc: Global, word: &[u8], grant: &Grant) -> Result<(), AllocError>
+    ensures { OnOk result (out.new.items ≡ out.old.items ++ who_text word.now (granted grant.now)) }
+{
+    push_quantity(out, &grant.refused)?;
+    push_name(out, alloc, grant.name.as_slice())?;
+    push_text(out, " ")?;
+    push_visible(out, word)
+}
+
+/// Appends a request that is granted and one that isn't, where not all are.
+fn push_examples(
+    out: &mut Vec<u8>,
+    verdict: &Verdict,
+    refused: &Option<Vec<u8>>,
+) -> Result<(), AllocError>
+    ensures { OnOk result (out.new.items ≡ out.old.items ++ examples_mark (told verdict.now) (option_map (λ word. word.items) refused.now)) }
+{
+    let Some(other) = refused else {
+        return Ok(());
+    };
+    push_text(out, " as ")?;
+    out.extend_from_slice(verdict.word.as_slice())?;
+    push_text(out, ", not ")?;
+    out.extend_from_slice(other.as_slice())
+}
+
+fn push_complains(out: &mut Vec<u8>, complains: bool) -> Result<(), AllocError>
+    ensures { OnOk result (out.new.items ≡ out.old.items ++ complains_mark complains) }
+{
+    push_text(out, if complains { " complains" } else { "" })
+}
+
+/// Appends a profile that is granted all or some of a word, and the rules.
+#[tactic(auto, unfolding(crate::specs::Shown::grant_text))]
+fn push_grant(
+    out: &mut Vec<u8>,
+    alloc: Global,
+    word: &[u8],
+    grant: &Grant,
+) -> Result<(), AllocError>
+    ensures { OnOk result (out.new.items ≡ out.old.items ++ grant_text word.now (granted grant.now)) }
+{
+    push_who(out, alloc, word, grant)?;
+    push_examples(out, &grant.verdict, &grant.refused)?;
+    push_complains(out, grant.complains)?;
+    push_text(out, "\n")?;
+    push_reasons(out, &grant.verdict)
+}
+
+fn push_grants(
+    out: &mut Vec<u8>,
+    alloc: Global,
+    word: &[u8],
+    grants: &[Grant],
+) -> Result<(), AllocError>
+    ensures { OnOk result (out.new.items ≡ out.old.items ++ flat_map (grant_text word.now) (map granted grants.now)) }
+{
+    for grant in grants {
+        push_grant(out, alloc, word, grant)?;
+    }
+    Ok(())
+}
+
+/// Whether it is told of each profile that its rules allow nothing of a word.
+pub(crate) fn is_nobodys(answer: &WordAnswer) -> bool
+    ensures { result ≡ is_nobodys (answered answer.now) }
+{
+    answer.grants.list.is_empty() && answer.grants.untold.is_empty()
+}
+
+fn push_nobody(out: &mut Vec<u8>, answer: &WordAnswer) -> Result<(), AllocError>
+    ensures { OnOk result (out.new.items ≡ out.old.items ++ nobody_text (answered answer.now)) }
+{
+    if !is_nobodys(answer) {
+        return Ok(());
+    }
+    push_text(out, "nobody ")?;
+    push_visible(out, answer.word.as_slice())?;
+    push_text(out, "\n")
+}
+
+fn push_free(out: &mut Vec<u8>, is_free: bool) -> Result<(), AllocError>
+    ensures { OnOk result (out.new.items ≡ out.old.items ++ free_mark is_free) }
+{
+    push_text(
+        out,
+        if is_free {
+            "; not confined: every task without a profile\n"
+        } else {
+            "\n"
+        },
+    )
+}
+
+/// Appends how many profiles are granted some of it.
+#[tactic(auto, unfolding(crate::specs::Shown::count_line))]
+fn push_count(out: &mut Vec<u8>, answer: &WordAnswer) -> Result<(), AllocError>
+    ensures { OnOk result (out.new.items ≡ out.old.items ++ count_line (answered answer.now)) }
+{
+    push_number(out, answer.grants.list.len())?;
+    push_text(out, " of ")?;
+    push_number(out, answer.profiles)?;
+    push_text(out, " profiles")?;
+    push_free(out, answer.free.is_every())
+}
+
+#[tactic(auto, unfolding(crate::specs::Shown::answer_text))]
+fn push_answer(out: &mut Vec<u8>, alloc: Global, answer: &WordAnswer) -> Result<(), AllocError>
+    ensures { OnOk result (out.new.items ≡ out.old.items ++ answer_text (answered answer.now)) }
+{
+    push_grants(
+        out,
+        alloc,
+        answer.word.as_slice(),
+        answer.grants.list.as_slice(),
+    )?;
+    push_nobody(out, answer)?;
+    push_count(out, answer)
+}
+
+/// Appends the lines on what can't be told.
+fn push_untold_of(out: &mut Vec<u8>, answer: &WordAnswer) -> Result<(), AllocError>
+    ensures { OnOk result (out.new.items ≡ out.old.items ++ untold_text (answered answer.now)) }
+{
+    out.extend_from_slice(answer.grants.untold.as_slice())?;
+    match &answer.free {
+        Counted::Told(_) => Ok(()),
+        Counted::Untold(line) => out.extend_from_slice(line.as_slice()),
+    }
+}
+
+/// Appends of all answers the lines on what can't be told.
+pub(crate) fn push_untold(out: &mut Vec<u8>, answers: &[WordAnswer]) -> Result<(), AllocError>
+    ensures { OnOk result (out.new.items ≡ out.old.items ++ flat_map untold_text (map answered answers.now)) }
+{
+    for answer in answers {
+        push_untold_of(out, answer)?;
+    }
+    Ok(())
+}
+
+/// Appends the answers, each with the rules.
+pub(crate) fn push_answers(
+    out: &mut Vec<u8>,
+    alloc: Global,
+    answers: &[WordAnswer],
+) -> Result<(), AllocError>
+    ensures { OnOk result (out.new.items ≡ out.old.items ++ flat_map answer_text (map answered answers.now)) }
+{
+    for answer in answers {
+        push_answer(out, alloc, answer)?;
+    }
+    Ok(())
+}
