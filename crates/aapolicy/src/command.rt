@@ -35,6 +35,9 @@ const JOB: &str =
 const LOG: &str =
     "Says what a log's lines ask, and how a policy answers them now, as in: aapolicy log /var/log/kern.log --against /etc/apparmor.d/usr.sbin.cupsd";
 
+const MERGE: &str =
+    "Makes one report of what log --json printed of parts of logs, as in: aapolicy merge out/000001.json out/000002.json";
+
 /// The exit statuses, and where more stands.
 const STATUSES: &str = "Exit status, where several hold the first:
   2  the command line is refused
@@ -73,8 +76,8 @@ struct Argument {
     help: &'static str,
 }
 
-/// What each command takes, behind its own arguments.
-const COMMON_ARGUMENTS: &[Argument] = &[
+/// What each command takes that reads policies, behind its own arguments.
+const POLICY_ARGUMENTS: &[Argument] = &[
     Argument {
         name: "base",
         letter: Some('b'),
@@ -364,6 +367,31 @@ const LOG_ARGUMENTS: &[Argument] = &[
     },
 ];
 
+/// What `merge` takes.
+const MERGE_ARGUMENTS: &[Argument] = &[
+    Argument {
+        name: "PART",
+        letter: None,
+        form: Form::Words,
+        barred: None,
+        help: "A file with what log --json printed, in the order of the logs; - is standard input",
+    },
+    Argument {
+        name: "parts",
+        letter: None,
+        form: Form::Value("FILE"),
+        barred: None,
+        help: "A file with the paths of more parts, one a line; - is standard input",
+    },
+    Argument {
+        name: "json",
+        letter: None,
+        form: Form::Flag,
+        barred: None,
+        help: "Answer in JSON, which is a part again",
+    },
+];
+
 fn action_of(form: Form) -> ArgAction {
     match form {
         Form::Words | Form::NeededWords | Form::Values(_) => ArgAction::Append,
@@ -441,8 +469,9 @@ struct Named {
     name: &'static str,
     about: &'static str,
     arguments: &'static [Argument],
-    /// What it takes besides, before what each command takes.
+    /// What it takes besides, before what each command takes that reads policies.
     more: &'static [Argument],
+    reads_policies: bool,
 }
 
 const COMMANDS: &[Named] = &[
@@ -451,24 +480,28 @@ const COMMANDS: &[Named] = &[
         about: CHECK,
         arguments: CHECK_ARGUMENTS,
         more: &[],
+        reads_policies: true,
     },
     Named {
         name: "diff",
         about: DIFF,
         arguments: DIFF_ARGUMENTS,
         more: &[],
+        reads_policies: true,
     },
     Named {
         name: "job",
         about: JOB,
         arguments: JOB_ARGUMENTS,
         more: CHOICE_ARGUMENTS,
+        reads_policies: true,
     },
     Named {
         name: "ask",
         about: ASK,
         arguments: ASK_ARGUMENTS,
         more: &[],
+        reads_policies: true,
     },
     Named {
         name: "who",
@@ -481,6 +514,14 @@ const COMMANDS: &[Named] = &[
         about: LOG,
         arguments: LOG_ARGUMENTS,
         more: CHOICE_ARGUMENTS,
+        reads_policies: true,
+    },
+    Named {
+        name: "merge",
+        about: MERGE,
+        arguments: MERGE_ARGUMENTS,
+        more: &[],
+        reads_policies: false,
     },
 ];
 
@@ -488,7 +529,11 @@ fn command_of<'a>(alloc: Global, row: &Named) -> Result<Command<'a>, AllocError>
     let command = Command::new(alloc, row.name).about(row.about);
     let command = with_arguments(alloc, command, row.arguments)?;
     let command = with_arguments(alloc, command, row.more)?;
-    with_arguments(alloc, command, COMMON_ARGUMENTS)
+    if row.reads_policies {
+        with_arguments(alloc, command, POLICY_ARGUMENTS)
+    } else {
+        Ok(command)
+    }
 }
 
 /// The program, with no command yet.

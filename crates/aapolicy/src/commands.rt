@@ -10,6 +10,7 @@ use aa_diff::{DiffOptions, Wanted, diff_files};
 use aa_job::{JobOptions, job_files};
 use aa_log::{LogOptions, log_files};
 use aa_logs::{Choice, Form as Written, LogWord, name_of};
+use aa_merge::{MergeOptions, merge_files};
 use aa_text::NoMemory;
 use aa_who::{WhoOptions, who_files};
 use clap::ArgMatches;
@@ -238,6 +239,7 @@ fn file_arguments(name: &str) -> &'static [&'static str] {
         "diff" => &["OLD", "NEW"],
         "who" => &["PROFILE", "also"],
         "log" => &["FILE", "against"],
+        "merge" => &["PART", "parts"],
         _ => &["PROFILE", "log"],
     }
 }
@@ -256,18 +258,24 @@ fn count_inputs(alloc: Global, name: &str, matches: &ArgMatches<'_>) -> Result<u
     Ok(count)
 }
 
-/// Does what the command line asks.
-pub(crate) fn run_named(rt: &HostRuntime, matches: &ArgMatches<'_>) -> Result<Output, NoMemory> {
+/// Says that more than one file is standard input.
+fn input_refused(alloc: Global) -> Result<Output, NoMemory> {
+    refused(alloc, "error: standard input can be read once\n", 2)
+}
+
+/// Does what a command asks that reads policies, or says why not.
+fn run_with_policies(
+    rt: &HostRuntime,
+    name: &str,
+    matches: &ArgMatches<'_>,
+) -> Result<Output, NoMemory> {
     let alloc = rt.alloc();
-    let Some((name, matches)) = matches.subcommand() else {
-        return refused(alloc, "error: no command is given\n", 2);
-    };
     let folders = folders_of(alloc, matches)?;
     let Some(states) = states_of(matches) else {
         return refused(alloc, "error: --states takes a number, 1 to 1000000\n", 2);
     };
     if count_inputs(alloc, name, matches)? > 1 {
-        return refused(alloc, "error: standard input can be read once\n", 2);
+        return input_refused(alloc);
     }
     let settings = Settings {
         base: base_of(matches),
@@ -275,4 +283,27 @@ pub(crate) fn run_named(rt: &HostRuntime, matches: &ArgMatches<'_>) -> Result<Ou
         states,
     };
     run_wanted(rt, name, matches, &settings)
+}
+
+fn run_merge(rt: &HostRuntime, matches: &ArgMatches<'_>) -> Result<Output, NoMemory> {
+    let alloc = rt.alloc();
+    if count_inputs(alloc, "merge", matches)? > 1 {
+        return input_refused(alloc);
+    }
+    let parts = copies_of(alloc, matches, "PART")?;
+    let options = MergeOptions {
+        parts: parts.as_slice(),
+        list: value_of(matches, "parts"),
+        is_json: matches.get_flag("json"),
+    };
+    merge_files(alloc, rt, rt, &options)
+}
+
+/// Does what the command line asks.
+pub(crate) fn run_named(rt: &HostRuntime, matches: &ArgMatches<'_>) -> Result<Output, NoMemory> {
+    match matches.subcommand() {
+        Some(("merge", matches)) => run_merge(rt, matches),
+        Some((name, matches)) => run_with_policies(rt, name, matches),
+        None => refused(rt.alloc(), "error: no command is given\n", 2),
+    }
 }

@@ -1,0 +1,12 @@
+mod Documents
+mod Further
+mod Holding
+mod Lists
+mod Merged
+mod Nothing
+mod Numbers
+mod Placed
+mod Results
+mod Rowing
+mod Turns
+mod Unadded

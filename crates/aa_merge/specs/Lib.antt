@@ -1,0 +1,9 @@
+pub mod Parts
+pub mod Faults
+pub mod Steps
+pub mod Reasons
+pub mod Reading
+pub mod Held
+pub mod Wholes
+pub mod Command
+pub mod Unmerged
