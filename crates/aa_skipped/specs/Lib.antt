@@ -1,0 +1,7 @@
+pub mod Bodies
+pub mod Flags
+pub mod Heads
+pub mod Sorting
+pub mod Telling
+pub mod Policies
+pub mod Together

@@ -1,0 +1,16 @@
+//! Files that are refused and skipped: what their heads tell of their profiles, and the one policy of the others.
+#![tactic(auto)]
+
+mod bodies;
+mod flags;
+mod heads;
+mod laws;
+mod skipped;
+mod sorting;
+mod telling;
+
+pub use heads::unread_of;
+pub use laws::each_file_decides;
+pub use skipped::{Skipped, Sorted};
+pub use sorting::sort_paths;
+pub use telling::behind_skipped;
