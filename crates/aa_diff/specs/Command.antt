@@ -12,10 +12,11 @@ use Rattle.aa_load.specs.UnitPolicy.{limit_of}
 use Rattle.aa_command.specs.declared.decided.Decided.{Decided}
 use Rattle.aa_command.specs.Setting.{Setting}
 use Rattle.aa_command.specs.Printed.{Printed, answers_alone, faults_alone}
-use Rattle.aa_diff.specs.declared.command.DiffOptions.{DiffOptions}
+use Rattle.aa_diff.specs.declared.options.DiffOptions.{DiffOptions}
 use Rattle.aa_diff.specs.declared.finding.Finding.{Finding}
 use Rattle.aa_diff.specs.Changes.{label_word}
 use Rattle.aa_diff.specs.Report.{shown_of, lines_of, report_text}
+use Rattle.aa_diff.specs.Jsons.{json_report}
 use Rattle.aa_diff.specs.Sides.{IsOfSide}
 
 -- the patterns at a label need too many states
@@ -26,16 +27,20 @@ states_text ps l limit = codes "error: at " ++ label_word ps l ++ codes " the pa
 abbrev pub patterns_text : List Policy → Label → List ℕ
 patterns_text ps l = codes "error: at " ++ label_word ps l ++ codes " OLD and NEW have more than 65535 patterns together\n"
 
--- findings as they are printed, with 4 where there are some
-abbrev pub reported : List Policy → List Finding → Printed
-reported ps fs = answers_alone (report_text ps fs) (if length fs == 0 then 0 else 4)
+-- findings as they are wanted: as JSON, or as text
+abbrev pub findings_text : DiffOptions → Decided → Decided → List Finding → List ℕ
+findings_text o d e fs = if o.is_json then json_report o d e fs else report_text d.policies.now fs
+
+-- the same, with 4 where there are some
+abbrev pub reported : DiffOptions → Decided → Decided → List Finding → Printed
+reported o d e fs = answers_alone (findings_text o d e fs) (if length fs == 0 then 0 else 4)
 
 -- the lines of differences that are shown
 abbrev pub compared : DiffOptions → Decided → Decided → List Difference → Printed
-compared o d e xs = reported d.policies.now (shown_of d.policies.now o.wanted (lines_of d e xs))
+compared o d e xs = reported o d e (shown_of d.policies.now o.wanted (lines_of d e xs))
 
 -- What is printed of two policies: each difference listed is one, each request that is answered differently is listed by one of its
--- kind with its answers, none is listed exactly where the policies answer alike, and the text is that of this list.
+-- kind with its answers, none is listed exactly where the policies answer alike, and the text, or the JSON, is that of this list.
 pub data IsCompared (o : DiffOptions) (states : ℕ) (d e : Decided) (out : Printed) : Type 0 where
   Listed : (xs : List Difference) → ((x : Difference) → Contains xs x → IsDifference d.policies.now e.policies.now x) → ListAll d.policies.now e.policies.now xs
       → ((xs ≡ []) ↔ SamePolicies d.policies.now e.policies.now) → out ≡ compared o d e xs → IsCompared o states d e out

@@ -89,6 +89,7 @@ told_rules d e minor x = if minor then [] else accounting d e x
 abbrev pub finding_with : Decided → Decided → Sign → Difference → Finding
 finding_with d e sign x = record {
   from = x.from;
+  to = x.to;
   sign = sign;
   request = x.request;
   letters = letters_of x.request;

@@ -6,5 +6,6 @@ pub mod Gathered
 pub mod Joined
 pub mod Printed
 pub mod Report
+pub mod Jsons
 pub mod Sides
 pub mod Command

@@ -13,7 +13,7 @@ use Rattle.aa_differences.specs.declared.at_labels.Difference.{Difference}
 use Rattle.aa_diff.specs.declared.signs.Sign.{Sign}
 use Rattle.aa_diff.specs.declared.signs.Sign.TheVariants.{Gain, Loss, Other}
 use Rattle.aa_diff.specs.declared.finding.Finding.{Finding}
-use Rattle.aa_diff.specs.declared.report.Wanted.{Wanted}
+use Rattle.aa_diff.specs.declared.options.Wanted.{Wanted}
 use Rattle.aa_diff.specs.Signs.{is_confined, sign_number}
 use Rattle.aa_diff.specs.Findings.{is_profile, is_counted}
 use Rattle.aa_diff.specs.Gathered.{gathered}

@@ -11,10 +11,13 @@ ghost use Rattle.aa_command.specs.Setting.{setting_of};
 ghost use Rattle.aa_command.specs.Printed.{printed, faults_alone};
 ghost use Rattle.aa_load.specs.UnitPolicy.{limit_of};
 ghost use Rattle.aa_diff.specs.Sides.{IsMarked, IsOfSide};
-ghost use Rattle.aa_diff.specs.Command.{states_text, patterns_text, compared, IsCompared, IsNewSide, IsDiffOutput};
+ghost use Rattle.aa_diff.specs.Command.{states_text, patterns_text, findings_text, compared, IsCompared, IsNewSide, IsDiffOutput};
 
 use crate::change::push_label_name;
-use crate::report::{Wanted, push_report, wanted_lines};
+use crate::finding::Finding;
+use crate::json::push_json_report;
+use crate::options::DiffOptions;
+use crate::report::{push_report, wanted_lines};
 use crate::sides::{mark, of_side};
 use aa_command::{Decided, Output, Settings, Use, with_policy};
 use aa_compile::Compiled;
@@ -23,16 +26,6 @@ use aa_files::Tree;
 use aa_model::Label;
 use aa_text::{NoMemory, push_number, push_text};
 use std::alloc::{AllocError, Global};
-
-/// What is compared, and what is shown of it.
-#[derive(Clone, Copy)]
-pub struct DiffOptions<'a> {
-    /// The files of the old policy.
-    pub old: &'a [Vec<u8>],
-    /// The files of the new policy.
-    pub new: &'a [Vec<u8>],
-    pub wanted: Wanted<'a>,
-}
 
 /// How many states an automaton may have.
 fn limit_of(states: u32) -> usize
@@ -104,6 +97,23 @@ fn status_of(count: usize) -> u8
     if count == 0 { 0 } else { 4 }
 }
 
+/// Appends findings as they are wanted: as JSON, or as text.
+fn push_findings(
+    out: &mut Vec<u8>,
+    alloc: Global,
+    options: &DiffOptions<'_>,
+    old: Decided<'_>,
+    new: Decided<'_>,
+    findings: &[Finding],
+) -> Result<(), AllocError>
+    ensures { OnOk result (out.new.items ≡ out.old.items ++ findings_text options.now old.entry new.entry findings.now) }
+{
+    if options.is_json {
+        return push_json_report(out, alloc, options, old, new, findings);
+    }
+    push_report(out, alloc, old.policies, findings)
+}
+
 /// Prints differences.
 fn print_differences(
     alloc: Global,
@@ -116,12 +126,8 @@ fn print_differences(
 {
     let mut output = Output::new(alloc);
     let findings = wanted_lines(alloc, old, new, options.wanted, differences)?;
-    push_report(
-        &mut output.answers,
-        alloc,
-        old.policies,
-        findings.as_slice(),
-    )?;
+    let out = &mut output.answers;
+    push_findings(out, alloc, options, old, new, findings.as_slice())?;
     output.status = status_of(findings.len());
     Ok(output)
 }
@@ -193,6 +199,7 @@ impl Use for Comparing<'_> {
 /// Compares the policy of old files with that of the new ones.
 #[derive(Drop)]
 struct Reading<'a, T: Tree> {
+    /// What lies on the new side.
     tree: &'a T,
     settings: &'a Settings<'a>,
     options: &'a DiffOptions<'a>,
@@ -226,22 +233,23 @@ impl<T: Tree> Use for Reading<'_, T> {
     }
 }
 
-/// Compares the one policy that the old files are with that of the new ones. A side that is refused is told as `ask` tells it, with
-/// which side it is.
+/// Compares the one policy that the old files of one tree are with that of the new ones of another. A side that is refused is told as
+/// `ask` tells it, with which side it is.
 pub fn diff_files<T: Tree>(
     alloc: Global,
-    tree: &T,
+    before: &T,
+    after: &T,
     old: &Settings<'_>,
     new: &Settings<'_>,
     options: &DiffOptions<'_>,
 ) -> Result<Output, NoMemory>
-    ensures { IfOk result (λ out. IsDiffOutput (setting_of (T.files tree.now) (T.taken tree.now) (T.input tree.now) old.now) (setting_of (T.files tree.now) (T.taken tree.now) (T.input tree.now) new.now) options.now (printed out)) }
+    ensures { IfOk result (λ out. IsDiffOutput (setting_of (T.files before.now) (T.taken before.now) (T.input before.now) old.now) (setting_of (T.files after.now) (T.taken after.now) (T.input after.now) new.now) options.now (printed out)) }
 {
     let reading = Reading {
-        tree,
+        tree: after,
         settings: new,
         options,
     };
-    let output = with_policy(alloc, tree, old, options.old, &reading)?;
+    let output = with_policy(alloc, before, old, options.old, &reading)?;
     of_side(alloc, "OLD", output)
 }

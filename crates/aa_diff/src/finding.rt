@@ -28,6 +28,8 @@ pub enum Who {
 #[derive(Drop)]
 pub struct Finding {
     pub from: Label,
+    /// The label of the new policy at which the first of them is answered.
+    pub to: Label,
     pub sign: Sign,
     /// The first of them.
     pub request: Request,
@@ -141,7 +143,7 @@ fn is_link(request: &Request) -> bool
 }
 
 /// Whether a difference is about what is reported of a link alone.
-fn is_minor(sign: Sign, request: &Request) -> bool
+pub(crate) fn is_minor(sign: Sign, request: &Request) -> bool
     ensures { result ≡ is_minor sign request.now }
 {
     sign_number(sign) == 2 && is_link(request)
@@ -193,6 +195,7 @@ pub(crate) fn finding_of(
     let change = told_change(alloc, old.policies, new.policies, is_minor, difference)?;
     Ok(Finding {
         from: difference.from,
+        to: difference.to,
         sign,
         request: difference.request.try_clone()?,
         letters: letters_of(&difference.request),
@@ -216,6 +219,7 @@ pub(crate) fn copy_of(finding: &Finding) -> Result<Finding, AllocError>
 {
     Ok(Finding {
         from: finding.from,
+        to: finding.to,
         sign: finding.sign,
         request: finding.request.try_clone()?,
         letters: finding.letters,

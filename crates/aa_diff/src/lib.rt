@@ -6,13 +6,16 @@ mod command;
 mod finding;
 mod gathering;
 mod joining;
+mod json;
+mod options;
 mod printing;
 mod report;
 mod rules;
 mod sides;
 mod signs;
 
-pub use command::{DiffOptions, diff_files};
+pub use command::diff_files;
 pub use finding::{Finding, Who};
-pub use report::{Wanted, push_report};
+pub use options::{DiffOptions, Wanted};
+pub use report::push_report;
 pub use signs::{Sign, sign_of};

@@ -42,7 +42,7 @@ fn asked_by(alloc: Global, finding: &Finding, owned: bool) -> Result<Request, Re
 }
 
 /// The first request of a finding, by all its permissions.
-fn asked_of(alloc: Global, finding: &Finding) -> Result<Request, AllocError>
+pub(crate) fn asked_of(alloc: Global, finding: &Finding) -> Result<Request, AllocError>
     ensures { IfOk result (λ request. request ≡ asked_of finding.now) }
 {
     match asked_by(alloc, finding, is_owner(finding.who)) {
@@ -68,7 +68,8 @@ fn push_others(out: &mut Vec<u8>, who: Who) -> Result<(), AllocError>
     }
 }
 
-fn sign_text(sign: Sign) -> &'static str
+/// The sign at the head of a line.
+pub(crate) fn sign_text(sign: Sign) -> &'static str
     ensures { result.now ≡ sign_text sign }
 {
     match sign {

@@ -11,6 +11,7 @@ ghost use Rattle.aa_diff.specs.Report.{called, is_named, is_wanted, wanted_of, s
 use crate::finding::{Finding, copy_of, is_counted, is_profile};
 use crate::gathering::gather;
 use crate::joining::join_all;
+use crate::options::Wanted;
 use crate::printing::{is_behind, name_asked, push_confined, push_free, push_profiles};
 use crate::signs::{Sign, is_confined, sign_number};
 use aa_command::Decided;
@@ -19,15 +20,6 @@ use aa_differences::Difference;
 use aa_model::Label;
 use aa_text::{push_number, push_text};
 use std::alloc::{AllocError, Global};
-
-/// Which findings are shown.
-#[derive(Clone, Copy)]
-pub struct Wanted<'a> {
-    /// Whether gains alone are.
-    pub gains: bool,
-    /// The profiles whose findings are, by their full names; of all where there are none.
-    pub profiles: &'a [Vec<u8>],
-}
 
 /// The name of the profile that a finding is about, or `unconfined`.
 fn called<'f>(policies: &'f [Compiled], finding: &'f Finding) -> &'f [u8]
@@ -128,7 +120,7 @@ fn headed_next(count: u64, before: Option<Label>, label: Label) -> u64
 }
 
 /// How many profiles have a heading.
-fn headed(findings: &[Finding]) -> u64
+pub(crate) fn headed(findings: &[Finding]) -> u64
     ensures { result ≡ headed 0 None findings.now }
 {
     let mut count: u64 = 0;
@@ -144,14 +136,15 @@ fn headed(findings: &[Finding]) -> u64
     count
 }
 
-fn is_profile_with(sign: Sign, finding: &Finding) -> bool
+/// Whether a profile is gone, or new.
+pub(crate) fn is_profile_with(sign: Sign, finding: &Finding) -> bool
     ensures { result ≡ is_profile_with sign finding.now }
 {
     is_profile(finding) && sign_number(finding.sign) == sign_number(sign)
 }
 
 /// How many profiles are gone, or new.
-fn count_profiles(sign: Sign, findings: &[Finding]) -> usize
+pub(crate) fn count_profiles(sign: Sign, findings: &[Finding]) -> usize
     ensures { result ≡ count_by (is_profile_with sign) findings.now }
 {
     findings
@@ -161,7 +154,7 @@ fn count_profiles(sign: Sign, findings: &[Finding]) -> usize
 }
 
 /// How many lines have a sign.
-fn count_lines(sign: Sign, findings: &[Finding]) -> usize
+pub(crate) fn count_lines(sign: Sign, findings: &[Finding]) -> usize
     ensures { result ≡ count_by (is_counted sign) findings.now }
 {
     findings
@@ -181,7 +174,7 @@ fn profiles_of(policies: &[Compiled]) -> usize
 }
 
 /// How many profiles are in one policy or the other.
-fn profiles_counted(policies: &[Compiled], findings: &[Finding]) -> usize
+pub(crate) fn profiles_counted(policies: &[Compiled], findings: &[Finding]) -> usize
     ensures { result ≡ profiles_counted policies.now findings.now }
 {
     profiles_of(policies).saturating_add(count_profiles(Sign::Gain, findings))

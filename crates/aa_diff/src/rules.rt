@@ -16,7 +16,7 @@ use aa_text::{push_text, push_visible, push_where};
 use std::alloc::{AllocError, Global};
 
 /// The rules that decide a request of a task with that label.
-fn rules_at(
+pub(crate) fn rules_at(
     alloc: Global,
     decided: Decided<'_>,
     label: Label,
@@ -36,7 +36,7 @@ fn any_reads(lines: &[DeciderLine], text: &[u8]) -> bool
 }
 
 /// Whether one of the rules reads so.
-fn stands_among(lines: &[DeciderLine], text: &[u8]) -> bool
+pub(crate) fn stands_among(lines: &[DeciderLine], text: &[u8]) -> bool
     ensures { result ≡ stands_among (map named lines.now) text.now }
 {
     any_reads(lines, text)

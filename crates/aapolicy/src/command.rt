@@ -170,6 +170,13 @@ const DIFF_ARGUMENTS: &[Argument] = &[
         barred: None,
         help: "Print lines of the profile with this full name alone, or of unconfined tasks; of each of these, where there are several",
     },
+    Argument {
+        name: "json",
+        letter: None,
+        form: Form::Flag,
+        barred: None,
+        help: "Answer in JSON",
+    },
 ];
 
 /// What `ask` takes.

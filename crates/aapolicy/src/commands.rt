@@ -114,8 +114,9 @@ fn run_diff(
         old: old.as_slice(),
         new: new.as_slice(),
         wanted,
+        is_json: matches.get_flag("json"),
     };
-    diff_files(alloc, rt, &before, settings, &options)
+    diff_files(alloc, rt, rt, &before, settings, &options)
 }
 
 fn run_who(

@@ -1,0 +1,128 @@
+-- The report of the differences of two policies, as one JSON object.
+-- Source: own.
+use Rattle.std.specs.Prelude.{ℕ, List, [], ◌++◌, map, codes, decimal, count_by, Bool, true, false, not, Option, Some, None, if◌then◌else◌, Vec}
+use Rattle.std.specs.List.{filter}
+use Rattle.std.specs.declared.alloc.Global.{Global}
+use Rattle.aa_model.specs.declared.policy.Policy.{Policy}
+use Rattle.aa_model.specs.declared.label.Label.{Label}
+use Rattle.aa_model.specs.declared.request.Request.{Request}
+use Rattle.aa_compile.specs.Labels.{label_name}
+use Rattle.aa_text.specs.Jsons.{json_bytes, json_place, key_text, bool_text, member_text, list_text}
+use Rattle.aa_notation.specs.Written.{word_text}
+use Rattle.aa_command.specs.declared.decided.Decided.{Decided}
+use Rattle.aa_ask.specs.Named.{Named, named_for}
+use Rattle.aa_diff.specs.declared.options.DiffOptions.{DiffOptions}
+use Rattle.aa_diff.specs.declared.signs.Sign.{Sign}
+use Rattle.aa_diff.specs.declared.signs.Sign.TheVariants.{Gain, Loss, Other}
+use Rattle.aa_diff.specs.declared.finding.Who.{Who}
+use Rattle.aa_diff.specs.declared.finding.Who.TheVariants.{Others}
+use Rattle.aa_diff.specs.declared.finding.Finding.{Finding}
+use Rattle.aa_diff.specs.Signs.{is_confined}
+use Rattle.aa_diff.specs.Rules.{stands_among}
+use Rattle.aa_diff.specs.Findings.{is_minor, is_profile, is_counted}
+use Rattle.aa_diff.specs.Printed.{asked_of, sign_text, name_asked}
+use Rattle.aa_diff.specs.Report.{headed, is_profile_with, profiles_counted}
+
+-- a rule: where it stands, and how it reads
+unfoldable pub json_rule : Named → List ℕ
+json_rule n = codes "{" ++ json_place n.path (Some n.place) ++ member_text (codes "rule") (json_bytes n.text) ++ codes "}"
+
+-- no rule of the other side reads so
+abbrev pub stands_alone : List Named → Named → Bool
+stands_alone others n = not (stands_among others n.text)
+
+-- the rules of one side, without those that the other side has
+abbrev pub json_rules : List Named → List Named → List ℕ
+json_rules others ns = list_text (map json_rule (filter (stands_alone others) ns))
+
+-- the rules of both sides, as members
+abbrev pub json_sides : List Named → List Named → List ℕ
+json_sides ns ms = member_text (codes "old_rules") (json_rules ms ns) ++ member_text (codes "new_rules") (json_rules ns ms)
+
+-- the rules that decide a request, where rules are told
+abbrev pub rules_told : Bool → Decided → Label → Request → List Named
+rules_told minor d l r = if minor then [] else named_for d l r
+
+-- the rules that account for a line, as members
+abbrev pub json_accounting : Decided → Decided → Finding → List ℕ
+json_accounting d e f = json_sides (rules_told (is_minor f.sign f.request) d f.from f.request) (rules_told (is_minor f.sign f.request) e f.to f.request)
+
+-- the profile of a line, or null where the task isn't confined
+abbrev pub json_profile : List Policy → Label → List ℕ
+json_profile ps l = if is_confined l then json_bytes (label_name ps l) else codes "null"
+
+-- the sign of a line, as a member
+abbrev pub json_sign : Sign → List ℕ
+json_sign sign = member_text (codes "sign") (codes "\"" ++ sign_text sign ++ codes "\"")
+
+-- the profile of a line, its sign, and its first request by all its permissions
+unfoldable pub json_start : List Policy → Finding → List ℕ
+json_start ps f =
+    codes "{" ++ key_text (codes "profile") ++ json_profile ps f.from ++ json_sign f.sign ++ member_text (codes "request") (json_bytes (word_text (asked_of f)))
+
+-- it holds of others' objects alone
+abbrev pub is_of_others : Who → Bool
+is_of_others Others = true
+is_of_others _ = false
+
+-- whose objects these are, how it was answered and is, and how many there are besides
+unfoldable pub json_told : Finding → List ℕ
+json_told f =
+    member_text (codes "of_others") (bool_text (is_of_others f.who)) ++ member_text (codes "change") (json_bytes f.change)
+    ++ member_text (codes "more") (decimal f.more)
+
+-- a line with its rules
+abbrev pub json_line : Decided → Decided → Finding → List ℕ
+json_line d e f = json_start d.policies.now f ++ json_told f ++ json_accounting d e f ++ codes "}"
+
+-- a finding has a line
+abbrev pub is_line : Finding → Bool
+is_line f = not (is_profile f)
+
+-- the lines
+abbrev pub json_lines : Decided → Decided → List Finding → List ℕ
+json_lines d e fs = list_text (map (json_line d e) (filter is_line fs))
+
+-- the name of a profile that is gone or new
+abbrev pub json_name : Finding → List ℕ
+json_name f = json_bytes (name_asked f.request)
+
+-- the profiles that are gone, or those that are new
+abbrev pub json_names : Sign → List Finding → List ℕ
+json_names sign fs = list_text (map json_name (filter (is_profile_with sign) fs))
+
+-- how many profiles are compared, differ, are gone and are new
+unfoldable pub json_profile_counts : List Policy → List Finding → List ℕ
+json_profile_counts ps fs =
+    key_text (codes "compared") ++ decimal (profiles_counted ps fs) ++ member_text (codes "differ") (decimal (headed 0 None fs))
+    ++ member_text (codes "gone") (decimal (count_by (is_profile_with Loss) fs)) ++ member_text (codes "new") (decimal (count_by (is_profile_with Gain) fs))
+
+-- how many lines have each sign
+unfoldable pub json_line_counts : List Finding → List ℕ
+json_line_counts fs =
+    member_text (codes "gain") (decimal (count_by (is_counted Gain) fs)) ++ member_text (codes "lose") (decimal (count_by (is_counted Loss) fs))
+    ++ member_text (codes "other") (decimal (count_by (is_counted Other) fs))
+
+-- how many there are
+abbrev pub json_counts : List Policy → List Finding → List ℕ
+json_counts ps fs = codes "{" ++ json_profile_counts ps fs ++ json_line_counts fs ++ codes "}"
+
+-- the paths of a side
+abbrev pub json_paths : List (Vec ℕ Global) → List ℕ
+json_paths paths = list_text (map (λ path. json_bytes path.items) paths)
+
+-- what is compared, and whether gains alone are listed
+unfoldable pub json_head : DiffOptions → List ℕ
+json_head o =
+    codes "{" ++ key_text (codes "old") ++ json_paths o.old.now ++ member_text (codes "new") (json_paths o.new.now)
+    ++ member_text (codes "gains_alone") (bool_text o.wanted.gains)
+
+-- the lines, the profiles that are gone and that are new, and how many there are
+abbrev pub json_found : Decided → Decided → List Finding → List ℕ
+json_found d e fs =
+    member_text (codes "lines") (json_lines d e fs) ++ member_text (codes "gone_profiles") (json_names Loss fs)
+    ++ member_text (codes "new_profiles") (json_names Gain fs) ++ member_text (codes "counts") (json_counts d.policies.now fs)
+
+-- the one object, and a line end
+abbrev pub json_report : DiffOptions → Decided → Decided → List Finding → List ℕ
+json_report o d e fs = json_head o ++ json_found d e fs ++ codes "}\n"

@@ -1,0 +1,438 @@
+//! The report of the differences of two policies, as JSON.
+
+ghost use Rattle.std.specs.Prelude.{◌≡◌, ◌++◌, codes, decimal, map, OnOk, IfOk};
+ghost use Rattle.aa_text.specs.Jsons.{key_text, bool_text, member_text, list_text};
+ghost use Rattle.aa_notation.specs.Written.{word_text};
+ghost use Rattle.aa_ask.specs.Named.{named};
+ghost use Rattle.aa_diff.specs.declared.signs.Sign.TheVariants.{Gain, Loss};
+ghost use Rattle.aa_diff.specs.Printed.{asked_of};
+ghost use Rattle.aa_diff.specs.Jsons.{json_rules, json_sides, rules_told, json_accounting, json_profile, json_sign, json_start, is_of_others, json_told, json_line, json_lines, json_names, json_profile_counts, json_line_counts, json_counts, json_paths, json_head, json_found, json_report};
+
+use crate::finding::{Finding, Who, is_minor, is_profile};
+use crate::options::DiffOptions;
+use crate::printing::{asked_of, name_asked, sign_text};
+use crate::report::{count_lines, count_profiles, headed, is_profile_with, profiles_counted};
+use crate::rules::{rules_at, stands_among};
+use crate::signs::{Sign, is_confined};
+use aa_ask::DeciderLine;
+use aa_command::Decided;
+use aa_compile::{Compiled, name_of_label};
+use aa_model::{Label, Request};
+use aa_notation::push_word;
+use aa_text::{
+    ListItem, push_json_bytes, push_json_place, push_key, push_list, push_list_in, push_member,
+    push_number, push_text,
+};
+use std::alloc::{AllocError, Global};
+
+/// The rules of the other side.
+#[derive(Clone, Copy)]
+struct Beside<'a> {
+    rules: &'a [DeciderLine],
+}
+
+/// A rule stands in the list of its side, unless one of the other side reads so.
+impl<'a> ListItem<Beside<'a>> for DeciderLine {
+    ghost use Rattle.std.specs.Prelude.{map};
+    ghost use Rattle.aa_ask.specs.Named.{named};
+    ghost use Rattle.aa_diff.specs.Jsons.{stands_alone, json_rule};
+
+    ghost stands = { λ beside line. stands_alone (map named beside.rules.now) (named line) };
+
+    ghost item = { λ beside line. json_rule (named line) };
+
+    fn stands(&self, beside: &Beside<'a>) -> bool {
+        !stands_among(beside.rules, self.text.as_slice())
+    }
+
+    #[tactic(auto, unfolding(crate::specs::Jsons::json_rule))]
+    fn push_item(
+        &self,
+        out: &mut Vec<u8>,
+        alloc: Global,
+        _beside: &Beside<'a>,
+    ) -> Result<(), AllocError> {
+        push_text(out, "{")?;
+        push_json_place(out, alloc, self.path.as_slice(), Some(self.place))?;
+        push_member(out, alloc, "rule", &self.text)?;
+        push_text(out, "}")
+    }
+}
+
+/// Appends the rules of one side, without those that the other side has.
+fn push_json_rules(
+    out: &mut Vec<u8>,
+    alloc: Global,
+    others: &[DeciderLine],
+    lines: &[DeciderLine],
+) -> Result<(), AllocError>
+    ensures { OnOk result (out.new.items ≡ out.old.items ++ json_rules (map named others.now) (map named lines.now)) }
+{
+    let beside = Beside { rules: others };
+    push_list_in(out, alloc, &beside, lines)?;
+    Ok(())
+}
+
+/// Appends a member whose value are the rules of one side.
+#[tactic(auto, unfolding(aa_text::specs::Jsons::member_text))]
+fn push_rules_member(
+    out: &mut Vec<u8>,
+    alloc: Global,
+    key: &str,
+    others: &[DeciderLine],
+    lines: &[DeciderLine],
+) -> Result<(), AllocError>
+    ensures { OnOk result (out.new.items ≡ out.old.items ++ member_text key.now (json_rules (map named others.now) (map named lines.now))) }
+{
+    push_text(out, ",")?;
+    push_key(out, key)?;
+    push_json_rules(out, alloc, others, lines)
+}
+
+fn push_json_sides(
+    out: &mut Vec<u8>,
+    alloc: Global,
+    before: &[DeciderLine],
+    after: &[DeciderLine],
+) -> Result<(), AllocError>
+    ensures { OnOk result (out.new.items ≡ out.old.items ++ json_sides (map named before.now) (map named after.now)) }
+{
+    push_rules_member(out, alloc, "old_rules", after, before)?;
+    push_rules_member(out, alloc, "new_rules", before, after)
+}
+
+/// The rules that decide a request, where rules are told.
+fn rules_told(
+    alloc: Global,
+    is_minor: bool,
+    decided: Decided<'_>,
+    label: Label,
+    request: &Request,
+) -> Result<Vec<DeciderLine>, AllocError>
+    ensures { IfOk result (λ lines. map named lines.items ≡ rules_told is_minor decided.entry label request.now) }
+{
+    if is_minor {
+        return Ok(Vec::new(alloc));
+    }
+    rules_at(alloc, decided, label, request)
+}
+
+/// Appends the rules that account for a line.
+fn push_json_accounting(
+    out: &mut Vec<u8>,
+    alloc: Global,
+    old: Decided<'_>,
+    new: Decided<'_>,
+    finding: &Finding,
+) -> Result<(), AllocError>
+    ensures { OnOk result (out.new.items ≡ out.old.items ++ json_accounting old.entry new.entry finding.now) }
+{
+    let is_minor = is_minor(finding.sign, &finding.request);
+    let before = rules_told(alloc, is_minor, old, finding.from, &finding.request)?;
+    let after = rules_told(alloc, is_minor, new, finding.to, &finding.request)?;
+    push_json_sides(out, alloc, before.as_slice(), after.as_slice())
+}
+
+fn push_json_profile(
+    out: &mut Vec<u8>,
+    alloc: Global,
+    policies: &[Compiled],
+    label: Label,
+) -> Result<(), AllocError>
+    ensures { OnOk result (out.new.items ≡ out.old.items ++ json_profile policies.now label) }
+{
+    if is_confined(label) {
+        return push_json_bytes(out, alloc, name_of_label(policies, label));
+    }
+    push_text(out, "null")
+}
+
+#[tactic(auto, unfolding(aa_text::specs::Jsons::member_text))]
+fn push_json_sign(out: &mut Vec<u8>, sign: Sign) -> Result<(), AllocError>
+    ensures { OnOk result (out.new.items ≡ out.old.items ++ json_sign sign) }
+{
+    push_text(out, ",")?;
+    push_key(out, "sign")?;
+    push_text(out, "\"")?;
+    push_text(out, sign_text(sign))?;
+    push_text(out, "\"")
+}
+
+/// The first request of a finding as one word.
+fn asked_word(alloc: Global, finding: &Finding) -> Result<Vec<u8>, AllocError>
+    ensures { IfOk result (λ word. word.items ≡ word_text (asked_of finding.now)) }
+{
+    let request = asked_of(alloc, finding)?;
+    let mut word = Vec::new(alloc);
+    push_word(&mut word, &request)?;
+    Ok(word)
+}
+
+/// Opens the object of a line, and appends its profile, its sign and its request.
+#[tactic(auto, unfolding(crate::specs::Jsons::json_start))]
+fn push_json_start(
+    out: &mut Vec<u8>,
+    alloc: Global,
+    policies: &[Compiled],
+    finding: &Finding,
+) -> Result<(), AllocError>
+    ensures { OnOk result (out.new.items ≡ out.old.items ++ json_start policies.now finding.now) }
+{
+    let word = asked_word(alloc, finding)?;
+    push_text(out, "{")?;
+    push_key(out, "profile")?;
+    push_json_profile(out, alloc, policies, finding.from)?;
+    push_json_sign(out, finding.sign)?;
+    push_member(out, alloc, "request", &word)
+}
+
+fn is_of_others(who: Who) -> bool
+    ensures { result ≡ is_of_others who }
+{
+    match who {
+        Who::Others => true,
+        _ => false,
+    }
+}
+
+/// Appends whose objects these are, how it was answered and is, and how many there are besides.
+#[tactic(auto, unfolding(crate::specs::Jsons::json_told))]
+fn push_json_told(out: &mut Vec<u8>, alloc: Global, finding: &Finding) -> Result<(), AllocError>
+    ensures { OnOk result (out.new.items ≡ out.old.items ++ json_told finding.now) }
+{
+    push_member(out, alloc, "of_others", &is_of_others(finding.who))?;
+    push_member(out, alloc, "change", &finding.change.as_slice())?;
+    push_member(out, alloc, "more", &finding.more)
+}
+
+/// Appends a line with its rules.
+fn push_json_line(
+    out: &mut Vec<u8>,
+    alloc: Global,
+    old: Decided<'_>,
+    new: Decided<'_>,
+    finding: &Finding,
+) -> Result<(), AllocError>
+    ensures { OnOk result (out.new.items ≡ out.old.items ++ json_line old.entry new.entry finding.now) }
+{
+    push_json_start(out, alloc, old.policies, finding)?;
+    push_json_told(out, alloc, finding)?;
+    push_json_accounting(out, alloc, old, new, finding)?;
+    push_text(out, "}")
+}
+
+/// The policies of both sides.
+#[derive(Clone, Copy)]
+struct Policies<'a> {
+    old: Decided<'a>,
+    new: Decided<'a>,
+}
+
+/// It stands among the lines, unless it is a profile that is gone or new.
+impl<'a> ListItem<Policies<'a>> for Finding {
+    ghost use Rattle.aa_diff.specs.Jsons.{is_line, json_line};
+
+    ghost stands = { λ policies finding. is_line finding };
+
+    ghost item = { λ policies finding. json_line policies.old policies.new finding };
+
+    fn stands(&self, _policies: &Policies<'a>) -> bool {
+        !is_profile(self)
+    }
+
+    fn push_item(
+        &self,
+        out: &mut Vec<u8>,
+        alloc: Global,
+        policies: &Policies<'a>,
+    ) -> Result<(), AllocError> {
+        push_json_line(out, alloc, policies.old, policies.new, self)
+    }
+}
+
+/// It stands among the profiles that are gone, or that are new, as the sign says, with its name.
+impl ListItem<Sign> for Finding {
+    ghost use Rattle.aa_diff.specs.Report.{is_profile_with};
+    ghost use Rattle.aa_diff.specs.Jsons.{json_name};
+
+    ghost stands = { λ sign finding. is_profile_with sign finding };
+
+    ghost item = { λ sign finding. json_name finding };
+
+    fn stands(&self, sign: &Sign) -> bool {
+        is_profile_with(*sign, self)
+    }
+
+    fn push_item(&self, out: &mut Vec<u8>, alloc: Global, _sign: &Sign) -> Result<(), AllocError> {
+        push_json_bytes(out, alloc, name_asked(&self.request))
+    }
+}
+
+fn push_json_lines(
+    out: &mut Vec<u8>,
+    alloc: Global,
+    old: Decided<'_>,
+    new: Decided<'_>,
+    findings: &[Finding],
+) -> Result<(), AllocError>
+    ensures { OnOk result (out.new.items ≡ out.old.items ++ json_lines old.entry new.entry findings.now) }
+{
+    let policies = Policies { old, new };
+    push_list_in(out, alloc, &policies, findings)?;
+    Ok(())
+}
+
+fn push_json_names(
+    out: &mut Vec<u8>,
+    alloc: Global,
+    sign: Sign,
+    findings: &[Finding],
+) -> Result<(), AllocError>
+    ensures { OnOk result (out.new.items ≡ out.old.items ++ json_names sign findings.now) }
+{
+    push_list_in(out, alloc, &sign, findings)?;
+    Ok(())
+}
+
+#[tactic(auto, unfolding(aa_text::specs::Jsons::member_text))]
+fn push_lines_member(
+    out: &mut Vec<u8>,
+    alloc: Global,
+    old: Decided<'_>,
+    new: Decided<'_>,
+    findings: &[Finding],
+) -> Result<(), AllocError>
+    ensures { OnOk result (out.new.items ≡ out.old.items ++ member_text (codes "lines") (json_lines old.entry new.entry findings.now)) }
+{
+    push_text(out, ",")?;
+    push_key(out, "lines")?;
+    push_json_lines(out, alloc, old, new, findings)
+}
+
+#[tactic(auto, unfolding(aa_text::specs::Jsons::member_text))]
+fn push_names_member(
+    out: &mut Vec<u8>,
+    alloc: Global,
+    key: &str,
+    sign: Sign,
+    findings: &[Finding],
+) -> Result<(), AllocError>
+    ensures { OnOk result (out.new.items ≡ out.old.items ++ member_text key.now (json_names sign findings.now)) }
+{
+    push_text(out, ",")?;
+    push_key(out, key)?;
+    push_json_names(out, alloc, sign, findings)
+}
+
+#[tactic(auto, unfolding(crate::specs::Jsons::json_profile_counts))]
+fn push_profile_counts(
+    out: &mut Vec<u8>,
+    alloc: Global,
+    policies: &[Compiled],
+    findings: &[Finding],
+) -> Result<(), AllocError>
+    ensures { OnOk result (out.new.items ≡ out.old.items ++ json_profile_counts policies.now findings.now) }
+{
+    push_key(out, "compared")?;
+    push_number(out, profiles_counted(policies, findings))?;
+    push_member(out, alloc, "differ", &headed(findings))?;
+    push_member(out, alloc, "gone", &count_profiles(Sign::Loss, findings))?;
+    push_member(out, alloc, "new", &count_profiles(Sign::Gain, findings))
+}
+
+#[tactic(auto, unfolding(crate::specs::Jsons::json_line_counts))]
+fn push_line_counts(
+    out: &mut Vec<u8>,
+    alloc: Global,
+    findings: &[Finding],
+) -> Result<(), AllocError>
+    ensures { OnOk result (out.new.items ≡ out.old.items ++ json_line_counts findings.now) }
+{
+    push_member(out, alloc, "gain", &count_lines(Sign::Gain, findings))?;
+    push_member(out, alloc, "lose", &count_lines(Sign::Loss, findings))?;
+    push_member(out, alloc, "other", &count_lines(Sign::Other, findings))
+}
+
+/// Appends how many there are, as a member.
+#[tactic(auto, unfolding(aa_text::specs::Jsons::member_text))]
+fn push_counts_member(
+    out: &mut Vec<u8>,
+    alloc: Global,
+    policies: &[Compiled],
+    findings: &[Finding],
+) -> Result<(), AllocError>
+    ensures { OnOk result (out.new.items ≡ out.old.items ++ member_text (codes "counts") (json_counts policies.now findings.now)) }
+{
+    push_text(out, ",")?;
+    push_key(out, "counts")?;
+    push_text(out, "{")?;
+    push_profile_counts(out, alloc, policies, findings)?;
+    push_line_counts(out, alloc, findings)?;
+    push_text(out, "}")
+}
+
+fn push_json_paths(out: &mut Vec<u8>, alloc: Global, paths: &[Vec<u8>]) -> Result<(), AllocError>
+    ensures { OnOk result (out.new.items ≡ out.old.items ++ json_paths paths.now) }
+{
+    push_list(out, alloc, paths)?;
+    Ok(())
+}
+
+/// Appends the paths of the new side, as a member.
+#[tactic(auto, unfolding(aa_text::specs::Jsons::member_text))]
+fn push_new_paths(out: &mut Vec<u8>, alloc: Global, paths: &[Vec<u8>]) -> Result<(), AllocError>
+    ensures { OnOk result (out.new.items ≡ out.old.items ++ member_text (codes "new") (json_paths paths.now)) }
+{
+    push_text(out, ",")?;
+    push_key(out, "new")?;
+    push_json_paths(out, alloc, paths)
+}
+
+/// Opens the object, and appends what is compared and whether gains alone are listed.
+#[tactic(auto, unfolding(crate::specs::Jsons::json_head))]
+fn push_json_head(
+    out: &mut Vec<u8>,
+    alloc: Global,
+    options: &DiffOptions<'_>,
+) -> Result<(), AllocError>
+    ensures { OnOk result (out.new.items ≡ out.old.items ++ json_head options.now) }
+{
+    push_text(out, "{")?;
+    push_key(out, "old")?;
+    push_json_paths(out, alloc, options.old)?;
+    push_new_paths(out, alloc, options.new)?;
+    push_member(out, alloc, "gains_alone", &options.wanted.gains)
+}
+
+/// Appends the lines, the profiles that are gone and that are new, and how many there are.
+fn push_json_found(
+    out: &mut Vec<u8>,
+    alloc: Global,
+    old: Decided<'_>,
+    new: Decided<'_>,
+    findings: &[Finding],
+) -> Result<(), AllocError>
+    ensures { OnOk result (out.new.items ≡ out.old.items ++ json_found old.entry new.entry findings.now) }
+{
+    push_lines_member(out, alloc, old, new, findings)?;
+    push_names_member(out, alloc, "gone_profiles", Sign::Loss, findings)?;
+    push_names_member(out, alloc, "new_profiles", Sign::Gain, findings)?;
+    push_counts_member(out, alloc, old.policies, findings)
+}
+
+/// Appends findings as one JSON object and a line end: what is compared, the lines, the profiles that are gone and that are new, and
+/// how many there are.
+pub(crate) fn push_json_report(
+    out: &mut Vec<u8>,
+    alloc: Global,
+    options: &DiffOptions<'_>,
+    old: Decided<'_>,
+    new: Decided<'_>,
+    findings: &[Finding],
+) -> Result<(), AllocError>
+    ensures { OnOk result (out.new.items ≡ out.old.items ++ json_report options.now old.entry new.entry findings.now) }
+{
+    push_json_head(out, alloc, options)?;
+    push_json_found(out, alloc, old, new, findings)?;
+    push_text(out, "}\n")
+}
