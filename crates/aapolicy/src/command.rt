@@ -99,6 +99,13 @@ const POLICY_ARGUMENTS: &[Argument] = &[
         barred: None,
         help: "How many states an automaton may have, 1 to 1000000 [default: 65535]",
     },
+    Argument {
+        name: "stdin-name",
+        letter: None,
+        form: Form::Value("PATH"),
+        barred: None,
+        help: "What standard input is called, where - is read as a text: that path stands for it",
+    },
 ];
 
 /// What `check` takes.

@@ -3,6 +3,8 @@
 use crate::command::{
     base_of, copies_of, folders_before, folders_of, old_base_of, second_of, states_of, values_of,
 };
+use crate::handed::Handed;
+use crate::opened::{file_of, files_of, given_to, is_input};
 use aa_ask::{AskOptions, Manner, ask_files};
 use aa_check::{CheckOptions, Form, check_files};
 use aa_command::{Output, Settings, refused};
@@ -40,11 +42,12 @@ fn form_of(matches: &ArgMatches<'_>) -> Option<Form> {
 
 fn run_check(
     rt: &HostRuntime,
+    tree: &Handed<'_, HostRuntime>,
     matches: &ArgMatches<'_>,
     settings: &Settings<'_>,
 ) -> Result<Output, NoMemory> {
     let alloc = rt.alloc();
-    let mut files = copies_of(alloc, matches, "PROFILE")?;
+    let mut files = files_of(alloc, matches, "PROFILE")?;
     if files.is_empty() {
         files.push(Vec::from_slice(alloc, settings.base)?)?;
     }
@@ -57,18 +60,19 @@ fn run_check(
         form,
         is_quiet: matches.get_flag("quiet"),
     };
-    check_files(alloc, rt, settings, &options)
+    check_files(alloc, tree, settings, &options)
 }
 
 /// The files with profiles of `ask` and of `who`.
 fn asked_files(alloc: Global, matches: &ArgMatches<'_>) -> Result<Vec<Vec<u8>>, AllocError> {
-    let mut files = copies_of(alloc, matches, "PROFILE")?;
-    files.append(&mut copies_of(alloc, matches, "also")?)?;
+    let mut files = files_of(alloc, matches, "PROFILE")?;
+    files.append(&mut files_of(alloc, matches, "also")?)?;
     Ok(files)
 }
 
 fn run_ask(
     rt: &HostRuntime,
+    tree: &Handed<'_, HostRuntime>,
     matches: &ArgMatches<'_>,
     settings: &Settings<'_>,
 ) -> Result<Output, NoMemory> {
@@ -76,7 +80,7 @@ fn run_ask(
     let files = asked_files(alloc, matches)?;
     let options = AskOptions {
         files: files.as_slice(),
-        from: value_of(matches, "from"),
+        from: file_of(matches, "from"),
         manner: Manner {
             profile: value_of(matches, "profile"),
             program: value_of(matches, "program"),
@@ -87,17 +91,18 @@ fn run_ask(
         is_quiet: matches.get_flag("quiet"),
     };
     let words = copies_of(alloc, matches, "WORD")?;
-    ask_files(alloc, rt, settings, &options, words)
+    ask_files(alloc, tree, settings, &options, words)
 }
 
 fn run_diff(
     rt: &HostRuntime,
+    tree: &Handed<'_, HostRuntime>,
     matches: &ArgMatches<'_>,
     settings: &Settings<'_>,
 ) -> Result<Output, NoMemory> {
     let alloc = rt.alloc();
-    let old = copies_of(alloc, matches, "OLD")?;
-    let new = copies_of(alloc, matches, "NEW")?;
+    let old = files_of(alloc, matches, "OLD")?;
+    let new = files_of(alloc, matches, "NEW")?;
     let profiles = profiles_of(alloc, matches)?;
     let base = old_base_of(matches);
     let folders = folders_before(alloc, matches, base)?;
@@ -116,11 +121,12 @@ fn run_diff(
         wanted,
         is_json: matches.get_flag("json"),
     };
-    diff_files(alloc, rt, rt, &before, settings, &options)
+    diff_files(alloc, tree, tree, &before, settings, &options)
 }
 
 fn run_who(
     rt: &HostRuntime,
+    tree: &Handed<'_, HostRuntime>,
     matches: &ArgMatches<'_>,
     settings: &Settings<'_>,
 ) -> Result<Output, NoMemory> {
@@ -133,18 +139,19 @@ fn run_who(
         is_json: matches.get_flag("json"),
         is_quiet: matches.get_flag("quiet"),
     };
-    who_files(alloc, rt, settings, &options)
+    who_files(alloc, tree, settings, &options)
 }
 
 fn run_log(
     rt: &HostRuntime,
+    tree: &Handed<'_, HostRuntime>,
     matches: &ArgMatches<'_>,
     settings: &Settings<'_>,
     choice: Choice<'_>,
 ) -> Result<Output, NoMemory> {
     let alloc = rt.alloc();
     let logs = values_of(alloc, matches, "FILE")?;
-    let against = copies_of(alloc, matches, "against")?;
+    let against = files_of(alloc, matches, "against")?;
     let options = LogOptions {
         logs: logs.as_slice(),
         choice,
@@ -153,24 +160,25 @@ fn run_log(
         wants_all: matches.get_flag("all"),
         is_json: matches.get_flag("json"),
     };
-    log_files(alloc, rt, rt, settings, &options)
+    log_files(alloc, tree, rt, settings, &options)
 }
 
 fn run_job(
     rt: &HostRuntime,
+    tree: &Handed<'_, HostRuntime>,
     matches: &ArgMatches<'_>,
     settings: &Settings<'_>,
     choice: Choice<'_>,
 ) -> Result<Output, NoMemory> {
     let alloc = rt.alloc();
-    let files = copies_of(alloc, matches, "PROFILE")?;
+    let files = files_of(alloc, matches, "PROFILE")?;
     let logs = values_of(alloc, matches, "log")?;
     let options = JobOptions {
         files: files.as_slice(),
         logs: logs.as_slice(),
         choice,
     };
-    job_files(alloc, rt, rt, settings, &options)
+    job_files(alloc, tree, rt, settings, &options)
 }
 
 /// Which lines of logs the command line wants, of profiles of these names; none where a second is no number.
@@ -200,6 +208,7 @@ fn profiles_of(alloc: Global, matches: &ArgMatches<'_>) -> Result<Vec<Vec<u8>>, 
 /// Does what a command that reads logs asks, or says why not.
 fn run_with_logs(
     rt: &HostRuntime,
+    tree: &Handed<'_, HostRuntime>,
     name: &str,
     matches: &ArgMatches<'_>,
     settings: &Settings<'_>,
@@ -211,24 +220,25 @@ fn run_with_logs(
         return refused(alloc, line, 2);
     };
     match name {
-        "job" => run_job(rt, matches, settings, choice),
-        _ => run_log(rt, matches, settings, choice),
+        "job" => run_job(rt, tree, matches, settings, choice),
+        _ => run_log(rt, tree, matches, settings, choice),
     }
 }
 
 /// Does what the command line asks, or says why not.
 fn run_wanted(
     rt: &HostRuntime,
+    tree: &Handed<'_, HostRuntime>,
     name: &str,
     matches: &ArgMatches<'_>,
     settings: &Settings<'_>,
 ) -> Result<Output, NoMemory> {
     match name {
-        "check" => run_check(rt, matches, settings),
-        "ask" => run_ask(rt, matches, settings),
-        "diff" => run_diff(rt, matches, settings),
-        "who" => run_who(rt, matches, settings),
-        _ => run_with_logs(rt, name, matches, settings),
+        "check" => run_check(rt, tree, matches, settings),
+        "ask" => run_ask(rt, tree, matches, settings),
+        "diff" => run_diff(rt, tree, matches, settings),
+        "who" => run_who(rt, tree, matches, settings),
+        _ => run_with_logs(rt, tree, name, matches, settings),
     }
 }
 
@@ -250,10 +260,7 @@ fn count_inputs(alloc: Global, name: &str, matches: &ArgMatches<'_>) -> Result<u
     let mut count: usize = 0;
     for id in file_arguments(name) {
         let values = values_of(alloc, matches, id)?;
-        let inputs = values
-            .iter()
-            .filter(|value| **value == "-".as_bytes())
-            .count();
+        let inputs = values.iter().filter(|value| is_input(value)).count();
         count = count.saturating_add(inputs);
     }
     Ok(count)
@@ -283,7 +290,10 @@ fn run_with_policies(
         folders: folders.as_slice(),
         states,
     };
-    run_wanted(rt, name, matches, &settings)
+    let given = given_to(rt, name, matches)?;
+    let given = given.as_slice();
+    let tree = Handed { tree: rt, given };
+    run_wanted(rt, &tree, name, matches, &settings)
 }
 
 fn run_merge(rt: &HostRuntime, matches: &ArgMatches<'_>) -> Result<Output, NoMemory> {

@@ -3,6 +3,8 @@
 
 mod command;
 mod commands;
+mod handed;
+mod opened;
 
 use aa_command::{Output, Unwritten, exit_status, write_output};
 use clap::error::{Error, ErrorKind};
