@@ -5,6 +5,7 @@ mod digits;
 mod job;
 mod laws;
 mod read;
+mod refused;
 mod request;
 mod split;
 mod write;
@@ -14,4 +15,5 @@ pub use job::{
 };
 pub use laws::words_are_read;
 pub use read::{WordFault, read_word};
+pub use refused::word_refusal;
 pub use write::push_word;

@@ -65,7 +65,7 @@ fn letter(b: u8) -> Option<Perms>
 }
 
 /// What letters ask for beside these permissions; none where one of them is no letter of a mask.
-fn letters_of(before: Perms, letters: &[u8]) -> Option<Perms>
+pub(crate) fn letters_of(before: Perms, letters: &[u8]) -> Option<Perms>
     ensures { option_map (λ p. p.0) result ≡ letters_in before.0 letters.now }
 {
     let mut perms = before;
@@ -161,7 +161,7 @@ fn read_exec(alloc: Global, text: &[u8], owned: bool) -> Result<Request, WordFau
     made(Request::exec(alloc, path.as_slice(), owned))
 }
 
-fn is_text(text: &[u8], wanted: &str) -> bool
+pub(crate) fn is_text(text: &[u8], wanted: &str) -> bool
     ensures { result ≡ bytes_eq text.now wanted.now }
 {
     text == wanted.as_bytes()
