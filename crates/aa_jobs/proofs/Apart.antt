@@ -1,9 +1,7 @@
 -- An object whose value at one key is read by itself: its other members, and the shapes of a task and of a job.
-use Rattle.std.proofs.Common.{◌≡◌, ℕ, List, [], ◌∷◌, ◌++◌, Bool, true, false, ◌&&◌, cond, Option, Some, Result, Ok, refl, sym, ap, ◌∙◌, Bor, Global, bytes_eq}
+use Rattle.std.proofs.Common.{◌≡◌, ℕ, List, Bool, true, false, ◌&&◌, cond, Option, Some, Result, Ok, refl, sym, ap, ◌∙◌, bytes_eq}
 use Rattle.std.specs.Prelude.{codes, is_some}
 use Rattle.std.proofs.lemmas.Slice.Eq.{bytes_eq-Decides}
-use Rattle.json.specs.Value.{members_view}
-use Rattle.json.specs.declared.value.Value.{Value}
 use Rattle.serde_json.specs.Data.{Data, Members, no_members, object, put}
 use Rattle.serde_json.specs.Find.{get_member}
 use Rattle.aa_jobs.specs.declared.job_fault.JobFault.{JobFault}
@@ -13,21 +11,10 @@ use Rattle.aa_jobs.specs.Parts.{job_with, run_with, task_with, texts_shape}
 use Rattle.aa_jobs.specs.Shape.{events_from, has_only, includes_from, is_key, item_shape, job_shape, list_in, number_from, policies_from, task_shape, text_in}
 use Rattle.aa_jobs.specs.Steps.{◌>>=◌, each, needed, only_if}
 use Rattle.aa_jobs.specs.Stream.{AgreeBut, items_shape, shape_at, tasks_shape}
-use Rattle.aa_jobs.specs.Trees.{members_data, object_data, tree_data}
 use Rattle.aa_jobs.specs.Written.{WrittenItem, WrittenTask, WrittenJob}
 use Rattle.aa_jobs.proofs.Keys.{known_put}
 use Rattle.aa_jobs.proofs.Parts.{bind_assoc, job_parts, run, texts}
 use Rattle.aa_jobs.proofs.Trees.{found_first}
-
-abbrev Pair : Type 0
-Pair = Bor (List ℕ) × Value Global
-
-data_push : (ms : List Pair) (m : Pair) (found : Members) → members_data (members_view (ms ++ m ∷ [])) found ≡ put m.0.now (tree_data m.1) (members_data (members_view ms) found)
-data_push [] m found = refl
-data_push (n ∷ ms) m found = data_push ms m (put n.0.now (tree_data n.1) found)
-
-pub object_data_push : (ms : List Pair) (m : Pair) → object_data (ms ++ m ∷ []) ≡ put m.0.now (tree_data m.1) (object_data ms)
-object_data_push ms m = data_push ms m no_members
 
 pub agree_first : (key : List ℕ) → AgreeBut key no_members no_members
 agree_first key = (λ k e. refl, λ part. refl)

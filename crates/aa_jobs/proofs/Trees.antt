@@ -1,22 +1,25 @@
 -- The data that a tree stands for: what `serde_json` reads, and what look-ups find in it.
-use Rattle.std.proofs.Common.{◌≡◌, ℕ, ◌&&◌, List, [], ◌∷◌, Bool, true, false, cond, true≢false, Option, Some, None, option_map}
+use Rattle.std.proofs.Common.{◌≡◌, ℕ, ◌-◌, ◌<◌, ◌≤◌, ◌&&◌, List, [], ◌∷◌, ◌++◌, length, take, get_or, arith, Bool, true, false, cond, true≢false, Option, Some, None, option_map}
 use Rattle.std.proofs.Common.{option_and_then, map, refl, sym, ap, ◌∙◌, Bor, Global, Ordering, Less, Equal, Greater, nat_cmp, bytes_eq}
-use Rattle.std.specs.Option.{option_or, is_some}
+use Rattle.std.specs.Option.{is_some}
+use Rattle.std.proofs.lemmas.List.{take_more}
 use Rattle.std.specs.Ordering.{match_ordering}
 use Rattle.std.specs.Cmp.Lexicographic.{slice_cmp}
 use Rattle.std.specs.BTreeMap.{insert_entry}
 use Rattle.std.proofs.lemmas.Slice.Eq.{bytes_eq-Decides}
 use Rattle.json.specs.Json as json
-use Rattle.json.specs.Find as find
 use Rattle.json.specs.Token.{Token}
-use Rattle.json.specs.Value.{value_view, items_view}
+use Rattle.json.specs.Value.{items_view, members_view}
 use Rattle.json.specs.declared.value.Value.{Value}
 use Rattle.serde_json.specs.Data.{Num, Data, number, array, object, item, Members, no_members, member, put}
-use Rattle.serde_json.specs.Find.{get, get_member}
+use Rattle.serde_json.specs.Find.{get_member}
 use Rattle.serde_json.specs.Read.{converted, number_of, of_json, of_items, of_members}
 use Rattle.serde_json.proofs.Views.{get_member-put, get_member-put_other}
 use Rattle.aa_jobs.specs.Shape.{data_list, entry_list}
-use Rattle.aa_jobs.specs.Trees.{number_data, data_of, items_data, members_data, in_range, items_in_range, members_in_range, tree_data, entry_data}
+use Rattle.aa_jobs.specs.Trees.{number_data, data_of, items_data, members_data, in_range, items_in_range, members_in_range, tree_data, object_data, entry_data}
+
+abbrev pub Pair : Type 0
+Pair = Bor (List ℕ) × Value Global
 
 -- ---- what is read
 
@@ -71,38 +74,20 @@ pub found_first : (b : Bool) (q k : List ℕ) (d : Data) (ms : Members) → byte
 found_first true q k d ms e = let same : k ≡ q = (bytes_eq-Decides k q).0 e in ap (λ x. get_member x (put k d ms)) (sym same) ∙ get_member-put k d ms
 found_first false q k d ms e = get_member-put_other q k d ms (λ h. true≢false (sym ((bytes_eq-Decides k q).1 (sym h)) ∙ e))
 
-later : (b : Bool) (j : json.Json) (o : Option json.Json) (rest : Option Data)
-    → option_or (option_map data_of o) (cond b (Some (data_of j)) rest) ≡ option_or (option_map data_of (find.later_or o (cond b (Some j) None))) rest
-later true j None rest = refl
-later false j None rest = refl
-later b j (Some x) rest = refl
+data_push : (ms : List Pair) (m : Pair) (found : Members) → members_data (members_view (ms ++ m ∷ [])) found ≡ put m.0.now (tree_data m.1) (members_data (members_view ms) found)
+data_push [] m found = refl
+data_push (n ∷ ms) m found = data_push ms m (put n.0.now (tree_data n.1) found)
 
-get_member_is : (q : List ℕ) (ms : json.Members) (found : Members) → get_member q (members_data ms found) ≡ option_or (option_map data_of (find.get_member q ms)) (get_member q found)
-get_member_is q json.no_members found = refl
-get_member_is q (json.member k j ms) found =
-    get_member_is q ms (put k (data_of j) found)
-    ∙ ap (option_or (option_map data_of (find.get_member q ms))) (found_first (bytes_eq k q) q k (data_of j) found refl)
-    ∙ later (bytes_eq k q) j (find.get_member q ms) (get_member q found)
+pub object_data_push : (ms : List Pair) (m : Pair) → object_data (ms ++ m ∷ []) ≡ put m.0.now (tree_data m.1) (object_data ms)
+object_data_push ms m = data_push ms m no_members
 
-or_none : (o : Option Data) → option_or o None ≡ o
-or_none None = refl
-or_none (Some d) = refl
-
-none_in_number : (q : List ℕ) (o : Option Num) → get q (number_data o) ≡ None
-none_in_number q None = refl
-none_in_number q (Some n) = refl
-
-pub get_is : (q : List ℕ) (j : json.Json) → get q (data_of j) ≡ option_map data_of (find.get q j)
-get_is q json.null = refl
-get_is q (json.boolean b) = refl
-get_is q (json.number s) = none_in_number q (number_of s)
-get_is q (json.string s) = refl
-get_is q (json.array js) = refl
-get_is q (json.object ms) = get_member_is q ms no_members ∙ or_none (option_map data_of (find.get_member q ms))
-
-pub data_of_ref : (r : Option (Bor (Value Global))) → option_map (λ v. tree_data v.now) r ≡ option_map data_of (option_map (λ v. value_view v.now) r)
-data_of_ref None = refl
-data_of_ref (Some v) = refl
+-- what is found among the members up to one, by whether that is of the key
+pub found_at : (b : Bool) (q : List ℕ) (ms : List Pair) (n : ℕ) (m : Pair) → 0 < n → n ≤ length ms → m ≡ get_or ms (n - 1) m → bytes_eq m.0.now q ≡ b
+    → get_member q (object_data (take n ms)) ≡ cond b (Some (tree_data m.1)) (get_member q (object_data (take (n - 1) ms)))
+found_at b q ms n m some enough at e =
+    let one : take n ms ≡ take (n - 1) ms ++ m ∷ [] =
+    ap (λ k. take k ms) (omega (arith, some)) ∙ take_more ms (n - 1) m (omega (arith, some, enough)) ∙ ap (λ (x : Pair). take (n - 1) ms ++ x ∷ []) (sym at) in
+    ap (λ xs. get_member q (object_data xs)) one ∙ ap (get_member q) (object_data_push (take (n - 1) ms) m) ∙ found_first b q m.0.now (tree_data m.1) (object_data (take (n - 1) ms)) e
 
 pub item_list_is : (vs : List (Value Global)) → map tree_data vs ≡ data_list (items_data (items_view vs))
 item_list_is [] = refl

@@ -1,6 +1,6 @@
 -- A value, an array and an object read from tokens, a turn at a time.
 use Rattle.std.proofs.Common.{◌≡◌, ℕ, zero, suc, ◌-◌, ◌<◌, ◌≤◌, List, [], ◌∷◌, ◌++◌, length, Bool, true, false, cond, Option}
-use Rattle.std.proofs.Common.{Some, None, option_map, Result, Ok, Err, refl, sym, ap, subst, ◌∙◌, append_assoc}
+use Rattle.std.proofs.Common.{Some, None, option_map, Result, Ok, Err, Bor, refl, sym, ap, subst, ◌∙◌, append_assoc}
 use Rattle.std.proofs.lemmas.List.{append-nil}
 use Rattle.json.specs.Lex.{tokens}
 use Rattle.json.specs.Reads.{token_of}
@@ -11,17 +11,17 @@ use Rattle.json.specs.Json as json
 use Rattle.json.specs.Json.{Parse, parse_map, after_end_array, read_key, items, members, value, value_with}
 use Rattle.json.proofs.Grammar.{left, left-parse_map, left_none, left_some, skip_value-shorter, value-begin_array, value-begin_object, value_is}
 use Rattle.serde_json.specs.Data.{Num, Data, number, array, object, Items, item, Members, no_members}
-use Rattle.serde_json.specs.Find.{as_array, as_object}
+use Rattle.serde_json.specs.Find.{as_array, as_object, as_str}
 use Rattle.serde_json.specs.Read.{converted, number_of, of_json, of_items, of_members, read}
 use Rattle.std.specs.Option.{is_some}
 use Rattle.std.specs.Prelude.{⊤}
 use Rattle.aa_jobs.specs.declared.job_fault.JobFault.{JobFault}
 use Rattle.aa_jobs.specs.declared.shape.Part.TheVariants.{Whole, OfTask}
 use Rattle.aa_jobs.specs.declared.job_fault.JobFault.TheVariants.{NoMemory, NotJson, BadShape, BadRequest, TooLarge}
-use Rattle.aa_jobs.specs.Shape.{data_list, fits, fits_members, job_shape, list_in, task_shape}
+use Rattle.aa_jobs.specs.Shape.{data_list, fits, fits_members, item_shape, job_shape, list_in, request_shape, task_shape}
 use Rattle.aa_jobs.specs.Steps.{◌>>=◌, each, needed, only_if, Gives, Refuses}
 use Rattle.aa_jobs.specs.Stream.{AgreeBut, Apart, Shaped, followed, shape_at, written_as}
-use Rattle.aa_jobs.specs.Written.{WrittenJob}
+use Rattle.aa_jobs.specs.Written.{WrittenItem, WrittenJob}
 use Rattle.aa_jobs.proofs.Conversion.{array_converted, converted_is, item_read, item_refused, items_over, object_converted, whole_and_more, whole_read, whole_refused}
 use Rattle.aa_jobs.proofs.Rows.{passes_on}
 
@@ -178,6 +178,18 @@ is_brace (Token.boolean b) = false
 is_brace Token.null = false
 is_brace Token.bad = false
 
+abbrev pub is_text : Token → Bool
+is_text Token.begin_object = false
+is_text Token.end_object = false
+is_text Token.begin_array = false
+is_text Token.end_array = false
+is_text (Token.key s) = false
+is_text (Token.string s) = true
+is_text (Token.number s) = false
+is_text (Token.boolean b) = false
+is_text Token.null = false
+is_text Token.bad = false
+
 array_among : (a : Parse json.Items) (o : Parse json.Members) (t : Token) (ts r : List Token) (d : Data) → is_bracket t ≡ false → converted of_json (value_with a o (t ∷ ts)) ≡ Some (d, r) → as_array d ≡ None
 array_among a o Token.begin_object ts r d is e = mapped_as as_array object (converted (λ ms. of_members ms no_members) (o ts)) d r (λ ms. refl) (sym (object_converted (o ts)) ∙ e)
 array_among a o Token.end_object ts r d is e = nothing_read (d, r) e
@@ -202,6 +214,18 @@ object_among a o (Token.boolean b) ts r d is e = read_as as_object (Data.boolean
 object_among a o Token.null ts r d is e = read_as as_object Data.null d ts r refl e
 object_among a o Token.bad ts r d is e = nothing_read (d, r) e
 
+text_among : (a : Parse json.Items) (o : Parse json.Members) (t : Token) (ts r : List Token) (d : Data) → is_text t ≡ false → converted of_json (value_with a o (t ∷ ts)) ≡ Some (d, r) → as_str d ≡ None
+text_among a o Token.begin_object ts r d is e = mapped_as as_str object (converted (λ ms. of_members ms no_members) (o ts)) d r (λ ms. refl) (sym (object_converted (o ts)) ∙ e)
+text_among a o Token.end_object ts r d is e = nothing_read (d, r) e
+text_among a o Token.begin_array ts r d is e = mapped_as as_str array (converted of_items (a ts)) d r (λ ds. refl) (sym (array_converted (a ts)) ∙ e)
+text_among a o Token.end_array ts r d is e = nothing_read (d, r) e
+text_among a o (Token.key s) ts r d is e = nothing_read (d, r) e
+text_among a o (Token.string s) ts r d is e = absurd cc
+text_among a o (Token.number s) ts r d is e = number_as as_str (number_of s) d ts r (λ n. refl) e
+text_among a o (Token.boolean b) ts r d is e = read_as as_str (Data.boolean b) d ts r refl e
+text_among a o Token.null ts r d is e = read_as as_str Data.null d ts r refl e
+text_among a o Token.bad ts r d is e = nothing_read (d, r) e
+
 -- a value that begins with another token than a bracket is no array
 pub no_array : (depth : ℕ) (t : Token) (ts r : List Token) (d : Data) → is_bracket t ≡ false → converted of_json (value depth (t ∷ ts)) ≡ Some (d, r) → as_array d ≡ None
 unfolding value
@@ -213,6 +237,18 @@ pub no_object : (depth : ℕ) (t : Token) (ts r : List Token) (d : Data) → is_
 unfolding value
 no_object zero t ts r d is e = object_among (λ s. None) (λ s. None) t ts r d is e
 no_object (suc k) t ts r d is e = object_among (λ s. items (value k) (length s) s) (λ s. members (value k) (length s) s) t ts r d is e
+
+-- a value that begins with another token than a text is none
+pub no_text : (depth : ℕ) (t : Token) (ts r : List Token) (d : Data) → is_text t ≡ false → converted of_json (value depth (t ∷ ts)) ≡ Some (d, r) → as_str d ≡ None
+unfolding value
+no_text zero t ts r d is e = text_among (λ s. None) (λ s. None) t ts r d is e
+no_text (suc k) t ts r d is e = text_among (λ s. items (value k) (length s) s) (λ s. members (value k) (length s) s) t ts r d is e
+
+-- a text is read at once
+pub text_read : (depth : ℕ) (s : List ℕ) (ts : List Token) → converted of_json (value depth (Token.string s ∷ ts)) ≡ Some (Data.string s, ts)
+unfolding value
+text_read zero s ts = refl
+text_read (suc k) s ts = refl
 
 pub nothing_begins : {A : Type 0} (f : Data → A) (depth : ℕ) (ts : List Token) → ts ≡ [] → parse_map f (converted of_json (value depth ts)) ≡ None
 nothing_begins f depth ts empty = ap (λ x. parse_map f (converted of_json x)) (ap (value depth) empty ∙ value_is depth [])
@@ -247,6 +283,24 @@ pub no_job : (d : Data) → as_object d ≡ None → job_shape d ≡ Err BadShap
 unfolding job_shape
 no_job d none = refused_first (fits Whole d) _ (ap (fits_members Whole) none)
 
+-- what is neither an object nor a text is no item
+no_item : (d : Data) → as_object d ≡ None → as_str d ≡ None → item_shape d ≡ Err BadShape
+unfolding request_shape
+no_item Data.null apart none = refl
+no_item (Data.boolean b) apart none = refl
+no_item (number n) apart none = refl
+no_item (Data.string s) apart none = absurd cc
+no_item (array ds) apart none = refl
+no_item (object ms) apart none = absurd cc
+
+-- a value that begins with another token than a brace or a text is read past, and is no item
+pub passed_item : {X : Type 0} (view : X → WrittenItem) (depth : ℕ) (ts rest new : List Token) (t : Token) → ts ≡ t ∷ rest → is_brace t ≡ false → is_text t ≡ false
+    → needed NotJson (left (converted of_json (value depth (t ∷ rest)))) ≡ Ok new → Shaped view (Err BadShape) new (parse_map item_shape (converted of_json (value depth ts)))
+passed_item view depth ts rest new t is apart other passed =
+    let d = left_some (converted of_json (value depth (t ∷ rest))) new (needed_is NotJson _ _ passed) in
+    shaped_by view (Err BadShape) item_shape (converted of_json (value depth ts)) d.0 new
+    (ap (λ x. converted of_json (value depth x)) is ∙ d.1) (no_item d.0 (no_object depth t rest new d.0 apart d.1) (no_text depth t rest new d.0 other d.1))
+
 -- where it can't be read past, it is no value
 pub passed_none : {A : Type 0} (e : JobFault) (f : Data → A) (depth : ℕ) (ts rest : List Token) (t : Token) → ts ≡ t ∷ rest
     → Refuses e (needed NotJson (left (converted of_json (value depth (t ∷ rest))))) → Refuses e (needed NotJson (parse_map f (converted of_json (value depth ts))))
@@ -259,6 +313,15 @@ pub object_shaped : {X Y : Type 0} (view : X → Y) (inner : Result X JobFault) 
     → converted (λ xs. of_members xs no_members) (members (value (depth - 1)) (length mid) mid) ≡ Some (ms, rest) → Gives view inner (f (object ms)) → Shaped view inner rest (parse_map f (converted of_json (value depth ts)))
 object_shaped view inner f depth ts mid rest ms some is e g =
     shaped_by view inner f (converted of_json (value depth ts)) (object ms) rest (object_opens depth ts mid some is ∙ ap (parse_map object) e) g
+
+in_object : {A : Type 0} (f : Data → A) (o : Option (Members × List Token)) → parse_map f (parse_map object o) ≡ parse_map (λ ms. f (object ms)) o
+in_object f None = refl
+in_object f (Some p) = refl
+
+-- what is made of a value that begins with a brace is made of its members
+pub object_read : {A : Type 0} (f : Data → A) (depth : ℕ) (ts rest : List Token) → 0 < depth → ts ≡ Token.begin_object ∷ rest
+    → parse_map f (converted of_json (value depth ts)) ≡ parse_map (λ ms. f (object ms)) (converted (λ ms. of_members ms no_members) (members (value (depth - 1)) (length rest) rest))
+object_read f depth ts rest some is = ap (parse_map f) (object_opens depth ts rest some is) ∙ in_object f (converted (λ ms. of_members ms no_members) (members (value (depth - 1)) (length rest) rest))
 
 pub object_none : {A : Type 0} (e : JobFault) (f : Data → A) (depth : ℕ) (ts mid : List Token) → 0 < depth → ts ≡ Token.begin_object ∷ mid
     → Refuses e (needed NotJson (converted (λ xs. of_members xs no_members) (members (value (depth - 1)) (length mid) mid))) → Refuses e (needed NotJson (parse_map f (converted of_json (value depth ts))))
@@ -297,6 +360,18 @@ brace_not (code.Number s) h = refl
 brace_not (code.Bool b) h = refl
 brace_not code.Null h = refl
 brace_not code.Bad h = refl
+
+pub text_not : (t : CodeToken) → ((s : Bor (List ℕ)) → t ≡ code.String s → ⊥) → is_text (token_of t) ≡ false
+text_not code.BeginObject h = refl
+text_not code.EndObject h = refl
+text_not code.BeginArray h = refl
+text_not code.EndArray h = refl
+text_not (code.Key s) h = refl
+text_not (code.String s) h = absurd (h s refl)
+text_not (code.Number s) h = refl
+text_not (code.Bool b) h = refl
+text_not code.Null h = refl
+text_not code.Bad h = refl
 
 abbrev pub past : ℕ → Token → List Token → Result (List Token) JobFault
 past depth t ts = needed NotJson (left (converted of_json (value depth (t ∷ ts))))

@@ -3,10 +3,11 @@
 ghost use Rattle.std.specs.Prelude.{◌≡◌, List, Result, codes, map, Some, None};
 ghost use Rattle.std.specs.List.{list_all, list_any};
 ghost use Rattle.std.specs.Str.{bytes_eq};
+ghost use Rattle.serde_json.specs.Data.{object};
 ghost use Rattle.serde_json.specs.Find.{get};
 ghost use Rattle.aa_jobs.specs.declared.job_fault.JobFault.TheVariants.{BadShape};
 ghost use Rattle.aa_jobs.specs.Steps.{Gives, only_if, each};
-ghost use Rattle.aa_jobs.specs.Shape.{keys_of, is_key, has_only, fits, text_in, number_in, list_in, text_at, number_at, list_at, flag_from, number_from, has, file_shape, link_shape, exec_shape, cap_shape, net_shape, change_shape, reload_shape, request_shape, item_shape, task_shape, pair_shape, event_shape, include_shape, events_from, includes_in, includes_from, policies_from, job_shape};
+ghost use Rattle.aa_jobs.specs.Shape.{keys_of, is_key, has_only, text_in, number_in, list_in, text_at, number_at, flag_from, number_from, has, file_shape, link_shape, exec_shape, cap_shape, net_shape, change_shape, reload_shape, request_shape, word_shape, pair_shape, event_shape, include_shape, events_from, includes_in, includes_from, policies_from, job_shape};
 ghost use Rattle.aa_jobs.specs.Parts.{job_with, raw_run, raw_texts, run_with, task_with, texts_shape};
 ghost use Rattle.aa_jobs.specs.Written.{WrittenItem, WrittenTask};
 ghost use Rattle.aa_jobs.specs.Raw.{raw_text, raw_item, raw_task, raw_event, raw_include, raw_job};
@@ -87,20 +88,11 @@ fn members_fit(part: Part, members: &[Member]) -> bool
     only_known(part, members)
 }
 
-fn is_fit(part: Part, value: &Tree) -> bool
-    ensures { result ≡ fits part (tree_data value.now) }
+/// The keys of an object are all known.
+fn expect(part: Part, members: &[Member]) -> Result<(), JobFault>
+    ensures { Gives (λ u. u) result (only_if (has_only part (object_data members.now)) BadShape) }
 {
-    match tree::members(value) {
-        Some(members) => members_fit(part, members),
-        None => false,
-    }
-}
-
-/// The value is an object whose keys are all known.
-fn expect(part: Part, value: &Tree) -> Result<(), JobFault>
-    ensures { Gives (λ u. u) result (only_if (fits part (tree_data value.now)) BadShape) }
-{
-    if is_fit(part, value) {
+    if members_fit(part, members) {
         Ok(())
     } else {
         Err(JobFault::BadShape)
@@ -125,65 +117,56 @@ fn list<'v, 't>(value: &'v Tree<'t>) -> Result<&'v [Tree<'t>], JobFault>
     tree::items(value).ok_or(JobFault::BadShape)
 }
 
-fn text_of<'t>(value: &Tree<'t>, key: &str) -> Result<&'t str, JobFault>
-    ensures { Gives (λ s. s.now) result (text_at key.now (tree_data value.now)) }
+fn text_of<'t>(members: &[Member<'t>], key: &str) -> Result<&'t str, JobFault>
+    ensures { Gives (λ s. s.now) result (text_at key.now (object (object_data members.now))) }
 {
-    match tree::member(value, key) {
+    match tree::member(members, key) {
         Some(member) => text(member),
         None => Err(JobFault::BadShape),
     }
 }
 
-fn list_of<'v, 't>(value: &'v Tree<'t>, key: &str) -> Result<&'v [Tree<'t>], JobFault>
-    ensures { Gives (λ s. map tree_data s.now) result (list_at key.now (tree_data value.now)) }
+fn flag_of(members: &[Member], key: &str) -> Result<bool, JobFault>
+    ensures { Gives (λ b. b) result (flag_from (get key.now (object (object_data members.now)))) }
 {
-    match tree::member(value, key) {
-        Some(member) => list(member),
-        None => Err(JobFault::BadShape),
-    }
-}
-
-fn flag_of(value: &Tree, key: &str) -> Result<bool, JobFault>
-    ensures { Gives (λ b. b) result (flag_from (get key.now (tree_data value.now))) }
-{
-    match tree::member(value, key) {
+    match tree::member(members, key) {
         None => Ok(false),
         Some(member) => tree::flag(member).ok_or(JobFault::BadShape),
     }
 }
 
-fn number_of(value: &Tree, key: &str, default: u64) -> Result<u64, JobFault>
-    ensures { Gives (λ n. n) result (number_from default (get key.now (tree_data value.now))) }
+fn number_of(members: &[Member], key: &str, default: u64) -> Result<u64, JobFault>
+    ensures { Gives (λ n. n) result (number_from default (get key.now (object (object_data members.now)))) }
 {
-    match tree::member(value, key) {
+    match tree::member(members, key) {
         None => Ok(default),
         Some(member) => number(member),
     }
 }
 
-fn number_at(value: &Tree, key: &str) -> Result<u64, JobFault>
-    ensures { Gives (λ n. n) result (number_at key.now (tree_data value.now)) }
+fn number_at(members: &[Member], key: &str) -> Result<u64, JobFault>
+    ensures { Gives (λ n. n) result (number_at key.now (object (object_data members.now))) }
 {
-    match tree::member(value, key) {
+    match tree::member(members, key) {
         Some(member) => number(member),
         None => Err(JobFault::BadShape),
     }
 }
 
-fn has_key(value: &Tree, key: &str) -> bool
-    ensures { result ≡ has key.now (tree_data value.now) }
+fn has_key(members: &[Member], key: &str) -> bool
+    ensures { result ≡ has key.now (object (object_data members.now)) }
 {
-    tree::member(value, key).is_some()
+    tree::member(members, key).is_some()
 }
 
 #[tactic(auto, unfolding(crate::specs::Shape::file_shape))]
-fn file_item<'t>(value: &Tree<'t>) -> Result<RawItem<'t>, JobFault>
-    ensures { Gives raw_item result (file_shape (tree_data value.now)) }
+fn file_item<'t>(members: &[Member<'t>]) -> Result<RawItem<'t>, JobFault>
+    ensures { Gives raw_item result (file_shape (object (object_data members.now))) }
 {
-    expect(Part::OfFile, value)?;
-    let path = text_of(value, "file")?;
-    let letters = text_of(value, "mask")?;
-    let owned = flag_of(value, "owned")?;
+    expect(Part::OfFile, members)?;
+    let path = text_of(members, "file")?;
+    let letters = text_of(members, "mask")?;
+    let owned = flag_of(members, "owned")?;
     Ok(RawItem::File {
         path,
         letters,
@@ -192,13 +175,13 @@ fn file_item<'t>(value: &Tree<'t>) -> Result<RawItem<'t>, JobFault>
 }
 
 #[tactic(auto, unfolding(crate::specs::Shape::link_shape))]
-fn link_item<'t>(value: &Tree<'t>) -> Result<RawItem<'t>, JobFault>
-    ensures { Gives raw_item result (link_shape (tree_data value.now)) }
+fn link_item<'t>(members: &[Member<'t>]) -> Result<RawItem<'t>, JobFault>
+    ensures { Gives raw_item result (link_shape (object (object_data members.now))) }
 {
-    expect(Part::OfLink, value)?;
-    let path = text_of(value, "link")?;
-    let target = text_of(value, "to")?;
-    let owned = flag_of(value, "owned")?;
+    expect(Part::OfLink, members)?;
+    let path = text_of(members, "link")?;
+    let target = text_of(members, "to")?;
+    let owned = flag_of(members, "owned")?;
     Ok(RawItem::Link {
         path,
         target,
@@ -207,103 +190,98 @@ fn link_item<'t>(value: &Tree<'t>) -> Result<RawItem<'t>, JobFault>
 }
 
 #[tactic(auto, unfolding(crate::specs::Shape::exec_shape))]
-fn exec_item<'t>(value: &Tree<'t>) -> Result<RawItem<'t>, JobFault>
-    ensures { Gives raw_item result (exec_shape (tree_data value.now)) }
+fn exec_item<'t>(members: &[Member<'t>]) -> Result<RawItem<'t>, JobFault>
+    ensures { Gives raw_item result (exec_shape (object (object_data members.now))) }
 {
-    expect(Part::OfExec, value)?;
-    let path = text_of(value, "exec")?;
-    let owned = flag_of(value, "owned")?;
+    expect(Part::OfExec, members)?;
+    let path = text_of(members, "exec")?;
+    let owned = flag_of(members, "owned")?;
     Ok(RawItem::Exec { path, owned })
 }
 
 #[tactic(auto, unfolding(crate::specs::Shape::cap_shape))]
-fn cap_item<'t>(value: &Tree<'t>) -> Result<RawItem<'t>, JobFault>
-    ensures { Gives raw_item result (cap_shape (tree_data value.now)) }
+fn cap_item<'t>(members: &[Member<'t>]) -> Result<RawItem<'t>, JobFault>
+    ensures { Gives raw_item result (cap_shape (object (object_data members.now))) }
 {
-    expect(Part::OfCap, value)?;
-    let name = text_of(value, "cap")?;
+    expect(Part::OfCap, members)?;
+    let name = text_of(members, "cap")?;
     Ok(RawItem::Cap { name })
 }
 
 #[tactic(auto, unfolding(crate::specs::Shape::net_shape))]
-fn net_item<'t>(value: &Tree<'t>) -> Result<RawItem<'t>, JobFault>
-    ensures { Gives raw_item result (net_shape (tree_data value.now)) }
+fn net_item<'t>(members: &[Member<'t>]) -> Result<RawItem<'t>, JobFault>
+    ensures { Gives raw_item result (net_shape (object (object_data members.now))) }
 {
-    expect(Part::OfNet, value)?;
-    let family = text_of(value, "net")?;
-    let kind = text_of(value, "type")?;
+    expect(Part::OfNet, members)?;
+    let family = text_of(members, "net")?;
+    let kind = text_of(members, "type")?;
     Ok(RawItem::Net { family, kind })
 }
 
 #[tactic(auto, unfolding(crate::specs::Shape::change_shape))]
-fn change_item<'t>(value: &Tree<'t>) -> Result<RawItem<'t>, JobFault>
-    ensures { Gives raw_item result (change_shape (tree_data value.now)) }
+fn change_item<'t>(members: &[Member<'t>]) -> Result<RawItem<'t>, JobFault>
+    ensures { Gives raw_item result (change_shape (object (object_data members.now))) }
 {
-    expect(Part::OfChange, value)?;
-    let name = text_of(value, "change")?;
+    expect(Part::OfChange, members)?;
+    let name = text_of(members, "change")?;
     Ok(RawItem::Change { name })
 }
 
 #[tactic(auto, unfolding(crate::specs::Shape::reload_shape))]
-fn reload_item<'t>(value: &Tree<'t>) -> Result<RawItem<'t>, JobFault>
-    ensures { Gives raw_item result (reload_shape (tree_data value.now)) }
+fn reload_item<'t>(members: &[Member<'t>]) -> Result<RawItem<'t>, JobFault>
+    ensures { Gives raw_item result (reload_shape (object (object_data members.now))) }
 {
-    expect(Part::OfReload, value)?;
-    let policy = number_at(value, "reload")?;
+    expect(Part::OfReload, members)?;
+    let policy = number_at(members, "reload")?;
     Ok(RawItem::Reload { policy })
 }
 
-/// What an object asks for, by the key that tells its kind.
+/// The item that an object of these members is, by the key that tells its kind.
 #[tactic(auto, unfolding(crate::specs::Shape::request_shape))]
-fn request_item<'t>(value: &Tree<'t>) -> Result<RawItem<'t>, JobFault>
-    ensures { Gives raw_item result (request_shape (tree_data value.now)) }
+pub fn request_item<'t>(members: &[Member<'t>]) -> Result<RawItem<'t>, JobFault>
+    ensures { Gives raw_item result (request_shape (object (object_data members.now))) }
 {
-    if has_key(value, "file") {
-        file_item(value)
-    } else if has_key(value, "link") {
-        link_item(value)
-    } else if has_key(value, "exec") {
-        exec_item(value)
-    } else if has_key(value, "cap") {
-        cap_item(value)
-    } else if has_key(value, "net") {
-        net_item(value)
-    } else if has_key(value, "change") {
-        change_item(value)
-    } else if has_key(value, "reload") {
-        reload_item(value)
+    if has_key(members, "file") {
+        file_item(members)
+    } else if has_key(members, "link") {
+        link_item(members)
+    } else if has_key(members, "exec") {
+        exec_item(members)
+    } else if has_key(members, "cap") {
+        cap_item(members)
+    } else if has_key(members, "net") {
+        net_item(members)
+    } else if has_key(members, "change") {
+        change_item(members)
+    } else if has_key(members, "reload") {
+        reload_item(members)
     } else {
         Err(JobFault::BadShape)
     }
 }
 
-/// An item of a task.
-pub fn item<'t>(value: &Tree<'t>) -> Result<RawItem<'t>, JobFault>
-    ensures { Gives raw_item result (item_shape (tree_data value.now)) }
+/// The item that is a text.
+pub fn word_item<'t>(word: &str) -> Result<RawItem<'t>, JobFault>
+    ensures { Gives raw_item result (word_shape word.now) }
 {
-    match tree::text(value) {
-        None => request_item(value),
-        Some(word) => {
-            if word == "exit" {
-                Ok(RawItem::Exit)
-            } else {
-                Err(JobFault::BadShape)
-            }
-        }
+    if word == "exit" {
+        Ok(RawItem::Exit)
+    } else {
+        Err(JobFault::BadShape)
     }
 }
 
 /// A task whose items are read by themselves.
 #[tactic(auto, unfolding(crate::specs::Parts::task_with))]
 pub fn task<'t>(
-    value: &Tree<'t>,
+    members: &[Member<'t>],
     items: Result<Vec<RawItem<'t>>, JobFault>,
 ) -> Result<RawTask<'t>, JobFault>
-    ensures { (given : Result (List WrittenItem) JobFault) → Gives (λ v. map raw_item v.items) items.entry given → Gives raw_task result (task_with given (tree_data value.now)) }
+    ensures { (given : Result (List WrittenItem) JobFault) → Gives (λ v. map raw_item v.items) items.entry given → Gives raw_task result (task_with given (object (object_data members.now))) }
 {
-    expect(Part::OfTask, value)?;
-    let label = text_of(value, "label")?;
-    let policy = number_of(value, "policy", DEFAULT_POLICY)?;
+    expect(Part::OfTask, members)?;
+    let label = text_of(members, "label")?;
+    let policy = number_of(members, "policy", DEFAULT_POLICY)?;
     let items = items?;
     Ok(RawTask {
         label,
@@ -341,10 +319,10 @@ fn events<'t>(alloc: Global, list: &[Tree<'t>]) -> Result<Vec<RawEvent<'t>>, Job
     Ok(events)
 }
 
-fn events_of<'t>(alloc: Global, value: &Tree<'t>) -> Result<Vec<RawEvent<'t>>, JobFault>
-    ensures { Gives (λ v. map raw_event v.items) result (events_from (get (codes "events") (tree_data value.now))) }
+fn events_of<'t>(alloc: Global, members: &[Member<'t>]) -> Result<Vec<RawEvent<'t>>, JobFault>
+    ensures { Gives (λ v. map raw_event v.items) result (events_from (get (codes "events") (object (object_data members.now)))) }
 {
-    match tree::member(value, "events") {
+    match tree::member(members, "events") {
         None => Ok(Vec::new(alloc)),
         Some(member) => events(alloc, list(member)?),
     }
@@ -381,10 +359,10 @@ fn includes_in<'t>(alloc: Global, value: &Tree<'t>) -> Result<Vec<RawInclude<'t>
     }
 }
 
-fn includes_of<'t>(alloc: Global, value: &Tree<'t>) -> Result<Vec<RawInclude<'t>>, JobFault>
-    ensures { Gives (λ v. map raw_include v.items) result (includes_from (get (codes "includes") (tree_data value.now))) }
+fn includes_of<'t>(alloc: Global, members: &[Member<'t>]) -> Result<Vec<RawInclude<'t>>, JobFault>
+    ensures { Gives (λ v. map raw_include v.items) result (includes_from (get (codes "includes") (object (object_data members.now)))) }
 {
-    match tree::member(value, "includes") {
+    match tree::member(members, "includes") {
         None => Ok(Vec::new(alloc)),
         Some(member) => includes_in(alloc, member),
     }
@@ -409,12 +387,12 @@ fn one_text<'t>(alloc: Global, value: &Tree<'t>) -> Result<Vec<&'t str>, JobFaul
 }
 
 /// The policies: the one text of `policy`, or the texts of `policies`, and not both.
-fn policies_of<'t>(alloc: Global, value: &Tree<'t>) -> Result<Vec<&'t str>, JobFault>
-    ensures { Gives (λ v. map raw_text v.items) result (policies_from (get (codes "policy") (tree_data value.now)) (get (codes "policies") (tree_data value.now))) }
+fn policies_of<'t>(alloc: Global, members: &[Member<'t>]) -> Result<Vec<&'t str>, JobFault>
+    ensures { Gives (λ v. map raw_text v.items) result (policies_from (get (codes "policy") (object (object_data members.now))) (get (codes "policies") (object (object_data members.now)))) }
 {
     match (
-        tree::member(value, "policy"),
-        tree::member(value, "policies"),
+        tree::member(members, "policy"),
+        tree::member(members, "policies"),
     ) {
         (Some(one), None) => one_text(alloc, one),
         (None, Some(several)) => texts(alloc, list(several)?),
@@ -424,11 +402,11 @@ fn policies_of<'t>(alloc: Global, value: &Tree<'t>) -> Result<Vec<&'t str>, JobF
 
 /// The policies and the included texts.
 #[tactic(auto, unfolding(crate::specs::Parts::texts_shape))]
-fn texts_of<'t>(alloc: Global, value: &Tree<'t>) -> Result<RawTexts<'t>, JobFault>
-    ensures { Gives raw_texts result (texts_shape (tree_data value.now)) }
+fn texts_of<'t>(alloc: Global, members: &[Member<'t>]) -> Result<RawTexts<'t>, JobFault>
+    ensures { Gives raw_texts result (texts_shape (object (object_data members.now))) }
 {
-    let policies = policies_of(alloc, value)?;
-    let includes = includes_of(alloc, value)?;
+    let policies = policies_of(alloc, members)?;
+    let includes = includes_of(alloc, members)?;
     Ok(RawTexts { policies, includes })
 }
 
@@ -436,15 +414,15 @@ fn texts_of<'t>(alloc: Global, value: &Tree<'t>) -> Result<RawTexts<'t>, JobFaul
 #[tactic(auto, unfolding(crate::specs::Parts::run_with))]
 fn run_of<'t>(
     alloc: Global,
-    value: &Tree<'t>,
+    members: &[Member<'t>],
     tasks: Result<Vec<RawTask<'t>>, JobFault>,
 ) -> Result<RawRun<'t>, JobFault>
-    ensures { (given : Result (List WrittenTask) JobFault) → Gives (λ v. map raw_task v.items) tasks.entry given → Gives raw_run result (run_with given (tree_data value.now)) }
+    ensures { (given : Result (List WrittenTask) JobFault) → Gives (λ v. map raw_task v.items) tasks.entry given → Gives raw_run result (run_with given (object (object_data members.now))) }
 {
     let tasks = tasks?;
-    let states = number_of(value, "states", DEFAULT_STATES)?;
-    let capacity = number_of(value, "capacity", DEFAULT_CAPACITY)?;
-    let events = events_of(alloc, value)?;
+    let states = number_of(members, "states", DEFAULT_STATES)?;
+    let capacity = number_of(members, "capacity", DEFAULT_CAPACITY)?;
+    let events = events_of(alloc, members)?;
     Ok(RawRun {
         tasks,
         states,
@@ -457,15 +435,15 @@ fn run_of<'t>(
 #[tactic(auto, unfolding(crate::specs::Parts::job_with))]
 pub fn job<'t>(
     alloc: Global,
-    value: &Tree<'t>,
+    members: &[Member<'t>],
     tasks: Result<Vec<RawTask<'t>>, JobFault>,
 ) -> Result<RawJob<'t>, JobFault>
-    ensures { (given : Result (List WrittenTask) JobFault) → Gives (λ v. map raw_task v.items) tasks.entry given → Gives raw_job result (job_with given (tree_data value.now)) }
+    ensures { (given : Result (List WrittenTask) JobFault) → Gives (λ v. map raw_task v.items) tasks.entry given → Gives raw_job result (job_with given (object (object_data members.now))) }
 {
-    expect(Part::Whole, value)?;
-    let several = has_key(value, "policies");
-    let RawTexts { policies, includes } = texts_of(alloc, value)?;
-    let run = run_of(alloc, value, tasks)?;
+    expect(Part::Whole, members)?;
+    let several = has_key(members, "policies");
+    let RawTexts { policies, includes } = texts_of(alloc, members)?;
+    let run = run_of(alloc, members, tasks)?;
     let RawRun {
         tasks,
         states,

@@ -3,7 +3,7 @@
 ghost use Rattle.std.specs.Prelude.{◌≡◌, ◌<◌, [], ◌∷◌, List, Result, MatchResult, codes, length, map, option_map};
 ghost use Rattle.json.specs.Json.{items, members, parse_map, read_key, value};
 ghost use Rattle.json.specs.Reads.{token_of};
-ghost use Rattle.serde_json.specs.Data.{no_members};
+ghost use Rattle.serde_json.specs.Data.{no_members, object};
 ghost use Rattle.serde_json.specs.Read.{converted, of_json, of_items, of_members};
 ghost use Rattle.aa_jobs.specs.declared.job_fault.JobFault.{JobFault};
 ghost use Rattle.aa_jobs.specs.declared.job_fault.JobFault.TheVariants.{NotJson};
@@ -95,15 +95,54 @@ fn pass(alloc: Global, reader: &mut Reader, token: Token, depth: usize) -> Resul
     }
 }
 
+/// Reads the rest of an object: its members take the place of what the list held.
+fn rest_of_object<'t>(
+    alloc: Global,
+    reader: &mut Reader<'t>,
+    depth: usize,
+    found: &mut Vec<Member<'t>>,
+) -> Result<(), JobFault>
+    ensures { Gives (λ _. (object_data found.new.items, reader.new)) result (needed NotJson (converted (λ ms. of_members ms no_members) (members (value depth) (length reader.old) reader.old))) }
+{
+    found.clear();
+    'turns: while let Some(key) = next_key(reader)? {
+        let value = tree::next(alloc, reader, depth)?;
+        found.push((key, value))?;
+    }
+    Ok(())
+}
+
+/// The rest of an item that is an object. The list is room for its members, which items have one after another.
+fn rest_of_item<'t>(
+    alloc: Global,
+    reader: &mut Reader<'t>,
+    depth: usize,
+    room: &mut Vec<Member<'t>>,
+) -> Result<Shaped<RawItem<'t>>, JobFault>
+    ensures { Reads raw_item result reader.new (parse_map (λ ms. item_shape (object ms)) (converted (λ ms. of_members ms no_members) (members (value depth) (length reader.old) reader.old))) }
+{
+    rest_of_object(alloc, reader, depth, room)?;
+    Ok(shape::request_item(room.as_slice()))
+}
+
 fn item<'t>(
     alloc: Global,
     reader: &mut Reader<'t>,
     depth: usize,
+    room: &mut Vec<Member<'t>>,
 ) -> Result<Shaped<RawItem<'t>>, JobFault>
+    requires { 0 < depth }
     ensures { Reads raw_item result reader.new (parse_map item_shape (converted of_json (value depth reader.old))) }
 {
-    let tree = tree::next(alloc, reader, depth)?;
-    Ok(shape::item(&tree))
+    let token = next_token(reader)?;
+    match token {
+        Token::BeginObject => rest_of_item(alloc, reader, depth - 1, room),
+        Token::String(word) => Ok(shape::word_item(word)),
+        _ => {
+            pass(alloc, reader, token, depth)?;
+            Ok(Err(JobFault::BadShape))
+        }
+    }
 }
 
 fn with_item<'t>(
@@ -123,11 +162,13 @@ fn rest_of_items<'t>(
     reader: &mut Reader<'t>,
     depth: usize,
 ) -> Result<Shaped<Vec<RawItem<'t>>>, JobFault>
+    requires { 0 < depth }
     ensures { Reads (λ v. map raw_item v.items) result reader.new (parse_map (λ ds. each item_shape (data_list ds)) (converted of_items (items (value depth) (length reader.old) reader.old))) }
 {
     let mut items = Ok(Vec::new(alloc));
+    let mut room = Vec::new(alloc);
     'turns: while !reader.take_end_array() {
-        let item = item(alloc, reader, depth)?;
+        let item = item(alloc, reader, depth, &mut room)?;
         items = with_item(items, item);
     }
     Ok(items)
@@ -139,7 +180,7 @@ fn items<'t>(
     reader: &mut Reader<'t>,
     depth: usize,
 ) -> Result<Shaped<Vec<RawItem<'t>>>, JobFault>
-    requires { 0 < depth }
+    requires { 1 < depth }
     ensures { Reads (λ v. map raw_item v.items) result reader.new (parse_map items_shape (converted of_json (value depth reader.old))) }
 {
     let token = next_token(reader)?;
@@ -157,7 +198,7 @@ fn rest_of_task<'t>(
     reader: &mut Reader<'t>,
     depth: usize,
 ) -> Result<(Vec<Member<'t>>, Shaped<Vec<RawItem<'t>>>), JobFault>
-    requires { 0 < depth }
+    requires { 1 < depth }
     ensures { ReadsApart (λ ms. object_data ms.items) (codes "requests") (λ v. map raw_item v.items) items_shape result reader.new (converted (λ ms. of_members ms no_members) (members (value depth) (length reader.old) reader.old)) }
 {
     let mut members = Vec::new(alloc);
@@ -179,13 +220,13 @@ fn task<'t>(
     reader: &mut Reader<'t>,
     depth: usize,
 ) -> Result<Shaped<RawTask<'t>>, JobFault>
-    requires { 1 < depth }
+    requires { 2 < depth }
     ensures { Reads raw_task result reader.new (parse_map task_shape (converted of_json (value depth reader.old))) }
 {
     let token = next_token(reader)?;
     if let Token::BeginObject = token {
         let (members, requests) = rest_of_task(alloc, reader, depth - 1)?;
-        Ok(shape::task(&Value::Object(members), requests))
+        Ok(shape::task(members.as_slice(), requests))
     } else {
         pass(alloc, reader, token, depth)?;
         Ok(Err(JobFault::BadShape))
@@ -209,7 +250,7 @@ fn rest_of_tasks<'t>(
     reader: &mut Reader<'t>,
     depth: usize,
 ) -> Result<Shaped<Vec<RawTask<'t>>>, JobFault>
-    requires { 1 < depth }
+    requires { 2 < depth }
     ensures { Reads (λ v. map raw_task v.items) result reader.new (parse_map (λ ds. each task_shape (data_list ds)) (converted of_items (items (value depth) (length reader.old) reader.old))) }
 {
     let mut tasks = Ok(Vec::new(alloc));
@@ -226,7 +267,7 @@ fn tasks<'t>(
     reader: &mut Reader<'t>,
     depth: usize,
 ) -> Result<Shaped<Vec<RawTask<'t>>>, JobFault>
-    requires { 2 < depth }
+    requires { 3 < depth }
     ensures { Reads (λ v. map raw_task v.items) result reader.new (parse_map tasks_shape (converted of_json (value depth reader.old))) }
 {
     let token = next_token(reader)?;
@@ -244,7 +285,7 @@ fn rest_of_job<'t>(
     reader: &mut Reader<'t>,
     depth: usize,
 ) -> Result<(Vec<Member<'t>>, Shaped<Vec<RawTask<'t>>>), JobFault>
-    requires { 2 < depth }
+    requires { 3 < depth }
     ensures { ReadsApart (λ ms. object_data ms.items) (codes "tasks") (λ v. map raw_task v.items) tasks_shape result reader.new (converted (λ ms. of_members ms no_members) (members (value depth) (length reader.old) reader.old)) }
 {
     let mut members = Vec::new(alloc);
@@ -267,13 +308,13 @@ pub fn job<'t>(
     reader: &mut Reader<'t>,
     depth: usize,
 ) -> Result<Shaped<RawJob<'t>>, JobFault>
-    requires { 3 < depth }
+    requires { 4 < depth }
     ensures { Reads raw_job result reader.new (parse_map job_shape (converted of_json (value depth reader.old))) }
 {
     let token = next_token(reader)?;
     if let Token::BeginObject = token {
         let (members, tasks) = rest_of_job(alloc, reader, depth - 1)?;
-        Ok(shape::job(alloc, &Value::Object(members), tasks))
+        Ok(shape::job(alloc, members.as_slice(), tasks))
     } else {
         pass(alloc, reader, token, depth)?;
         Ok(Err(JobFault::BadShape))

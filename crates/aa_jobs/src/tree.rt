@@ -2,7 +2,7 @@
 
 ghost use Rattle.std.specs.Prelude.{◌≡◌, ◌<◌, ◌==◌, true, false, length, slice_index, map, is_some, option_map, option_and_then, IfOk};
 ghost use Rattle.json.specs.Value.{value_view, items_view, members_view};
-ghost use Rattle.serde_json.specs.Find.{get, as_str, as_bool, as_number, as_u64, as_array, as_object};
+ghost use Rattle.serde_json.specs.Find.{get_member, as_str, as_bool, as_number, as_u64, as_array, as_object};
 ghost use Rattle.serde_json.specs.Read.{converted, number_of, number_from, float_of, of_json};
 ghost use Rattle.json.specs.Json.{value};
 ghost use Rattle.aa_jobs.specs.declared.job_fault.JobFault.TheVariants.{NotJson};
@@ -130,11 +130,19 @@ pub fn next<'t>(alloc: Global, reader: &mut Reader<'t>, depth: usize) -> Result<
     }
 }
 
-/// The value of that key, where the tree is an object that has it.
-pub fn member<'v, 't>(tree: &'v Tree<'t>, key: &str) -> Option<&'v Tree<'t>>
-    ensures { option_map (λ v. tree_data v.now) result ≡ get key.now (tree_data tree.now) }
+/// The last value of that key among the members of an object.
+pub fn member<'v, 't>(members: &'v [Member<'t>], key: &str) -> Option<&'v Tree<'t>>
+    ensures { option_map (λ v. tree_data v.now) result ≡ get_member key.now (object_data members.entry.now) }
 {
-    tree.get(key)
+    let mut left = members.len();
+    'back: while left > 0 {
+        left -= 1;
+        let member = &members[left];
+        if member.0 == key {
+            return Some(&member.1);
+        }
+    }
+    None
 }
 
 pub fn text<'t>(tree: &Tree<'t>) -> Option<&'t str>

@@ -1,4 +1,4 @@
-use Rattle.std.proofs.Common.{◌≡◌, ◌∷◌, Global, Vec, map, sym, ap, subst, ◌∙◌}
+use Rattle.std.proofs.Common.{◌≡◌, ◌∷◌, Global, Vec, map, sym, ap, subst, ◌∙◌, arith}
 use Rattle.std.proofs.lemmas.Result.{err_from_is_err_and}
 use Rattle.json.specs.Json.{parse_map, value}
 use Rattle.json.specs.Reads.{token_of}
@@ -24,7 +24,7 @@ pub returns-in-BeginArray : goal.returns-in-BeginArray
 returns-in-BeginArray c =
     let mid = c.next_token.new.reader in
     let is : c.args.reader.now ≡ Token.begin_array ∷ mid = c.in_ok-token.ensures ∙ ap (λ t. token_of t ∷ mid) c.in-BeginArray.is in
-    subst (λ o. Reads (λ v. map raw_item v.items) c.rest_of_items.result c.rest_of_items.new.reader o) (sym (array_opens item_shape c.args.depth c.args.reader.now mid c.requires is)) c.rest_of_items.ensures
+    subst (λ o. Reads (λ v. map raw_item v.items) c.rest_of_items.result c.rest_of_items.new.reader o) (sym (array_opens item_shape c.args.depth c.args.reader.now mid (omega (arith, c.requires)) is)) c.rest_of_items.ensures
 
 pub returns-in_err-pass : goal.returns-in_err-pass
 returns-in_err-pass c =

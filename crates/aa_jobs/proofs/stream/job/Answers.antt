@@ -4,7 +4,7 @@ use Rattle.std.proofs.lemmas.Result.{err_from_is_err_and}
 use Rattle.json.specs.Json.{parse_map, value}
 use Rattle.json.specs.Reads.{token_of}
 use Rattle.json.specs.Token.{Token}
-use Rattle.json.proofs.Trees.{view-Object}
+use Rattle.serde_json.specs.Data.{object}
 use Rattle.serde_json.specs.Read.{converted, of_json}
 use Rattle.aa_jobs.specs.declared.job_fault.JobFault.{JobFault}
 use Rattle.aa_jobs.specs.declared.job_fault.JobFault.TheVariants.{NotJson}
@@ -13,7 +13,7 @@ use Rattle.aa_jobs.specs.Raw.{raw_task, raw_job}
 use Rattle.aa_jobs.specs.Shape.{job_shape}
 use Rattle.aa_jobs.specs.Steps.{Gives, Refuses, needed}
 use Rattle.aa_jobs.specs.Stream.{tasks_shape, shape_at}
-use Rattle.aa_jobs.specs.Trees.{data_of, object_data}
+use Rattle.aa_jobs.specs.Trees.{object_data}
 use Rattle.aa_jobs.specs.Written.{WrittenJob}
 use Rattle.aa_jobs.proofs.Apart.{job_is}
 use Rattle.aa_jobs.proofs.Turns.{apart_is, brace_not, no_job, nothing_begins, object_none, object_shaped, passed_none, passed_object}
@@ -41,7 +41,7 @@ returns-in_ok-members c =
     let a = apart_is (λ ms. object_data ms.items) (codes "tasks") (λ v. map raw_task v.items) tasks_shape (members, c.in_ok-members.tasks) c.rest_of_job.new.reader _ c.in_ok-members.ensures in
     let given = shape_at tasks_shape (codes "tasks") a.0 in
     let made = c.job.ensures given a.3 in
-    let same = ap (λ j. job_with given (data_of j)) (view-Object members) ∙ sym (job_is (object_data members.items) a.0 a.2) in
+    let same = ap (λ xs. job_with given (object (object_data xs))) c.as_slice.ensures.value ∙ sym (job_is (object_data members.items) a.0 a.2) in
     object_shaped raw_job c.job.result job_shape c.args.depth c.args.reader.now mid c.rest_of_job.new.reader a.0 (omega (arith, c.requires)) is a.1
     (subst (λ (g : Result WrittenJob JobFault). Gives raw_job c.job.result g) same made)
 

@@ -12,8 +12,9 @@ use Rattle.aa_jobs.specs.Raw.{raw_task}
 use Rattle.aa_jobs.specs.Steps.{Gives}
 use Rattle.aa_jobs.specs.Stream.{AgreeBut, Apart, tasks_shape}
 use Rattle.aa_jobs.specs.Trees.{object_data, tree_data}
-use Rattle.aa_jobs.proofs.Apart.{agree_first, agree_on, object_data_push, shape_kept, shape_last}
+use Rattle.aa_jobs.proofs.Apart.{agree_first, agree_on, shape_kept, shape_last}
 use Rattle.aa_jobs.proofs.Conversion.{key_refused, member_read, member_refused, members_over}
+use Rattle.aa_jobs.proofs.Trees.{object_data_push}
 use Rattle.aa_jobs.proofs.Turns.{converted-shorter, needed_is, none_on, shaped_is, unmapped}
 use Rattle.aa_jobs.proofs.stream.rest_of_job.Goals as goal
 

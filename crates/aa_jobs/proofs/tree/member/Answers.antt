@@ -1,8 +1,21 @@
-use Rattle.std.proofs.Common.{ap, sym, ◌∙◌, option_map}
-use Rattle.json.specs.Value.{value_view}
-use Rattle.aa_jobs.specs.Trees.{data_of}
-use Rattle.aa_jobs.proofs.Trees.{get_is, data_of_ref}
+use Rattle.std.proofs.Common.{◌≡◌, ◌-◌, true, false, get_or, bytes_eq, sym, ◌∙◌, arith, rules}
+use Rattle.aa_jobs.proofs.Trees.{found_at}
 use Rattle.aa_jobs.proofs.tree.member.Goals as goal
 
-pub returns : goal.returns
-returns c = data_of_ref c.get.result ∙ ap (option_map data_of) c.get.ensures ∙ sym (get_is c.args.key.now (value_view c.args.tree.now))
+pub returns-then-eq : goal.returns-then-eq
+returns-then-eq c =
+    let l = c.back in
+    let ms = c.args.members.now in
+    let m = c.index-members-left.result in
+    let at : m ≡ get_or ms (l.left - 1) m = search rules in
+    let same : bytes_eq m.0.now c.args.key.now ≡ true = search rules in
+    sym (found_at true c.args.key.now ms l.left m (omega (arith, c.back-test.true)) l.invariant.0 at same) ∙ l.invariant.1
+
+pub back-preserved : goal.back-preserved
+back-preserved c =
+    let l = c.back in
+    let ms = c.args.members.now in
+    let m = c.index-members-left.result in
+    let at : m ≡ get_or ms (l.left - 1) m = search rules in
+    let other : bytes_eq m.0.now c.args.key.now ≡ false = search rules in
+    (omega (arith, l.invariant.0), sym (found_at false c.args.key.now ms l.left m (omega (arith, c.back-test.true)) l.invariant.0 at other) ∙ l.invariant.1)
