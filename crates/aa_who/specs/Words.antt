@@ -1,6 +1,7 @@
 -- Which requests a word asks.
 -- Source: apparmor.d(5), "Access Modes"; own.
-use Rattle.std.specs.Prelude.{◌≡◌, ◌⊎◌, ℕ, ◌+◌, ◌==◌, ◌||◌, List, [], ◌∷◌, ◌++◌, take, drop, position, Bool, true, false, codes, Option, Some, None, is_some, option_map, option_and_then, bit_and, bit_or, if◌then◌else◌, Ok}
+use Rattle.std.specs.Prelude.{◌≡◌, ◌⊎◌, ℕ, ◌+◌, ◌==◌, ◌||◌, List, [], ◌∷◌, ◌++◌, take, drop, position, Bool, true, false}
+use Rattle.std.specs.Prelude.{codes, Option, Some, None, is_some, option_map, option_and_then, bit_and, bit_or, if◌then◌else◌, Ok}
 use Rattle.aa_pattern.specs.declared.pattern.Pattern.{Pattern}
 use Rattle.aa_base.specs.declared.perms.Perms.{Perms}
 use Rattle.aa_text.specs.Visible.{all_visible}
