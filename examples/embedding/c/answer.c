@@ -31,7 +31,7 @@ int main(int count, char **words) {
     size_t size = fread(input, 1, MOST + 1, stdin);
     if (ferror(stdin)) return fputs("read failed\n", stderr), AAMEDIATE_FAILED;
     /* (a guess, mostly enough: where it is too little, all is done again) */
-    struct aamediate_sizes room, sizes = {.text = 4096 + 8 * size, .fault = 4096};
+    struct aamediate_sizes room, sizes = {.text = 4096 + 16 * size, .fault = 4096};
     uint32_t status;
     do {
         room = sizes;
