@@ -33,9 +33,9 @@ extern "C" {
 enum aamediate_status {
     AAMEDIATE_ANSWERED = 0,
     AAMEDIATE_REFUSED = 1,     /* the job or a policy is at fault */
-    AAMEDIATE_NO_QUESTION = 2, /* of aapolicy_check and aapolicy_ask: the question isn't understood */
+    AAMEDIATE_NO_QUESTION = 2, /* of the calls of aapolicy: the question isn't understood */
     AAMEDIATE_FAILED = 3,      /* memory ran out, or a text of a question has over 1,048,576 bytes */
-    AAMEDIATE_DENIED = 4,      /* of aapolicy_ask: answered, and a request is denied */
+    AAMEDIATE_DENIED = 4,      /* answered, and of aapolicy_ask a request is denied, of aapolicy_diff the policies differ */
     AAMEDIATE_TOO_SMALL = 5    /* the text has too few bytes: nothing was written */
 };
 
@@ -70,6 +70,10 @@ uint32_t aapolicy_check(const uint8_t *question, size_t question_size, uint8_t *
 /* What `aapolicy ask --json` prints to a question's words: a verdict on each, and the rules that decide. */
 uint32_t aapolicy_ask(const uint8_t *question, size_t question_size, uint8_t *text, size_t text_size, uint8_t *fault, size_t fault_size,
                       struct aamediate_sizes *sizes);
+
+/* What `aapolicy diff --json` prints of a question's two sides: the requests that they answer differently, and the rules that account for it. */
+uint32_t aapolicy_diff(const uint8_t *question, size_t question_size, uint8_t *text, size_t text_size, uint8_t *fault, size_t fault_size,
+                       struct aamediate_sizes *sizes);
 
 #ifdef __cplusplus
 }

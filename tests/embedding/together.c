@@ -18,7 +18,7 @@ typedef uint32_t call(const uint8_t *, size_t, uint8_t *, size_t, uint8_t *, siz
 
 static const struct { const char *name; call *does; } calls[] = {
     {"check", aamediate_check}, {"run", aamediate_run}, {"replay", aamediate_replay},
-    {"policy-check", aapolicy_check}, {"policy-ask", aapolicy_ask},
+    {"policy-check", aapolicy_check}, {"policy-ask", aapolicy_ask}, {"policy-diff", aapolicy_diff},
 };
 
 struct bytes { uint8_t *at; size_t size; };

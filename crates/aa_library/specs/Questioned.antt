@@ -1,8 +1,8 @@
 -- What a call that asks a question leaves in the buffers of its caller, and its status.
 -- Source: own.
-use Rattle.std.specs.Prelude.{ℕ, ◌≡◌, ◌<◌, ◌≤◌, List, length, codes}
+use Rattle.std.specs.Prelude.{ℕ, ◌≡◌, ◌<◌, ◌≤◌, List, length, codes, Result}
 use Rattle.aa_command.specs.Printed.{Printed}
-use Rattle.aa_question.specs.Questions.{Asked}
+use Rattle.aa_question.specs.declared.question.QuestionFault.{QuestionFault}
 use Rattle.aa_question.specs.Answers.{IsAnswer}
 use Rattle.aa_library.specs.declared.handing.Sizes.{Sizes}
 use Rattle.aa_library.specs.Answered.{put, front_of}
@@ -30,7 +30,8 @@ pub record HandsNothing (before after fault_before fault_after : List ℕ) (size
   pub status : told ≡ 3
 
 -- the question that bytes are is answered by what a command prints, or the bytes are refused, or memory ran out
-pub data IsQuestioned (IsOf : Asked → Printed → Type 0) (bytes before after fault_before fault_after : List ℕ) (sizes : Sizes) (told : ℕ) : Type 0 where
-  Answered : (out : Printed) → IsAnswer IsOf bytes out → Hands out before after fault_before fault_after sizes told
-      → IsQuestioned IsOf bytes before after fault_before fault_after sizes told
-  NoMemory : HandsNothing before after fault_before fault_after sizes told → IsQuestioned IsOf bytes before after fault_before fault_after sizes told
+pub data IsQuestioned {Q : Type 0} (reads : List ℕ → Result Q QuestionFault) (IsOf : Q → Printed → Type 0)
+    (bytes before after fault_before fault_after : List ℕ) (sizes : Sizes) (told : ℕ) : Type 0 where
+  Answered : (out : Printed) → IsAnswer reads IsOf bytes out → Hands out before after fault_before fault_after sizes told
+      → IsQuestioned reads IsOf bytes before after fault_before fault_after sizes told
+  NoMemory : HandsNothing before after fault_before fault_after sizes told → IsQuestioned reads IsOf bytes before after fault_before fault_after sizes told

@@ -9,12 +9,13 @@ mod handing;
 mod questioning;
 
 ghost use Rattle.aa_engine.specs.Engines.{IsCheckOutput, IsRunOutput, IsReplayOutput, IsDecided};
-ghost use Rattle.aa_question.specs.Answers.{IsCheckOf, IsAskOf};
+ghost use Rattle.aa_question.specs.Questions.{question_of, diff_question_of};
+ghost use Rattle.aa_question.specs.Answers.{IsCheckOf, IsAskOf, IsDiffOf};
 ghost use Rattle.aa_library.specs.Answered.{IsAnswered};
 ghost use Rattle.aa_library.specs.Questioned.{IsQuestioned};
 
 use aa_engine::{check_bytes, replay_bytes, run_bytes};
-use aa_question::{ask_question, check_question};
+use aa_question::{ask_question, check_question, diff_question};
 use answering::answer;
 pub use handing::Sizes;
 use questioning::hand;
@@ -77,7 +78,7 @@ pub extern "C" fn aapolicy_check(
     fault: &mut [u8],
     sizes: &mut Sizes,
 ) -> u32
-    ensures { IsQuestioned IsCheckOf question.now text.old text.new fault.old fault.new sizes.new result }
+    ensures { IsQuestioned question_of IsCheckOf question.now text.old text.new fault.old fault.new sizes.new result }
 {
     let made = check_question(alloc, question);
     hand(made, text, fault, sizes)
@@ -92,8 +93,23 @@ pub extern "C" fn aapolicy_ask(
     fault: &mut [u8],
     sizes: &mut Sizes,
 ) -> u32
-    ensures { IsQuestioned IsAskOf question.now text.old text.new fault.old fault.new sizes.new result }
+    ensures { IsQuestioned question_of IsAskOf question.now text.old text.new fault.old fault.new sizes.new result }
 {
     let made = ask_question(alloc, question);
+    hand(made, text, fault, sizes)
+}
+
+/// What `aapolicy diff --json` prints of the two sides of the question that bytes are.
+#[unsafe(no_mangle)]
+pub extern "C" fn aapolicy_diff(
+    alloc: Global,
+    question: &[u8],
+    text: &mut [u8],
+    fault: &mut [u8],
+    sizes: &mut Sizes,
+) -> u32
+    ensures { IsQuestioned diff_question_of IsDiffOf question.now text.old text.new fault.old fault.new sizes.new result }
+{
+    let made = diff_question(alloc, question);
     hand(made, text, fault, sizes)
 }

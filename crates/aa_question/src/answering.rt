@@ -5,14 +5,17 @@ ghost use Rattle.aa_files.specs.Searches.{named_before};
 ghost use Rattle.aa_files.specs.Texts.{texts, slices};
 ghost use Rattle.aa_command.specs.Printed.{printed, faults_alone};
 ghost use Rattle.aa_question.specs.declared.question.QuestionFault.{QuestionFault};
-ghost use Rattle.aa_question.specs.Questions.{asked, files_data, places_data, manner_data};
-ghost use Rattle.aa_question.specs.Answers.{unknown_line, no_question, IsManner, IsCheckOf, IsAskOf, IsAnswer};
+ghost use Rattle.aa_question.specs.Questions.{member_name, question_of, diff_question_of, asked, diff_asked, files_data, places_data, manner_data};
+ghost use Rattle.aa_question.specs.Answers.{unknown_line, bad_line, no_question, IsManner, IsCheckOf, IsAskOf, IsDiffOf, IsAnswer};
 
-use crate::question::{AskedFiles, AskedManner, AskedPlaces, Question, QuestionFault};
-use crate::reading::read_question;
+use crate::question::{
+    AskedFiles, AskedManner, AskedPlaces, DiffQuestion, Member, Question, QuestionFault,
+};
+use crate::reading::{read_diff_question, read_question};
 use aa_ask::{AskOptions, Manner, ask_files};
 use aa_check::{CheckOptions, Form, check_files};
 use aa_command::{Output, Settings};
+use aa_diff::{DiffOptions, Wanted, diff_files};
 use aa_files::searched_folders;
 use aa_text::{NoMemory, push_text, push_visible};
 use std::alloc::{AllocError, Global};
@@ -113,6 +116,41 @@ fn ask_words(alloc: Global, question: Question) -> Result<Output, NoMemory>
     ask_asked(alloc, &files, &places, &manner, words)
 }
 
+fn diff_asked(alloc: Global, question: &DiffQuestion) -> Result<Output, NoMemory>
+    ensures { IfOk result (λ out. IsDiffOf (diff_asked question.now) (printed out)) }
+{
+    let before = folders_of(alloc, &question.old.places)?;
+    let after = folders_of(alloc, &question.new.places)?;
+    let old = Settings {
+        base: question.old.places.base.as_slice(),
+        folders: before.as_slice(),
+        states: question.old.places.states,
+    };
+    let new = Settings {
+        base: question.new.places.base.as_slice(),
+        folders: after.as_slice(),
+        states: question.new.places.states,
+    };
+    let wanted = Wanted {
+        gains: question.gains,
+        profiles: question.profiles.as_slice(),
+    };
+    let options = DiffOptions {
+        old: question.old.files.paths.as_slice(),
+        new: question.new.files.paths.as_slice(),
+        wanted,
+        is_json: true,
+    };
+    diff_files(
+        alloc,
+        &question.old.files.texts,
+        &question.new.files.texts,
+        &old,
+        &new,
+        &options,
+    )
+}
+
 /// Appends which member is unknown.
 #[tactic(auto, unfolding(crate::specs::Answers::unknown_line))]
 fn push_unknown(line: &mut Vec<u8>, name: &[u8]) -> Result<(), AllocError>
@@ -123,9 +161,30 @@ fn push_unknown(line: &mut Vec<u8>, name: &[u8]) -> Result<(), AllocError>
     push_text(line, "\n")
 }
 
+/// Appends which member isn't understood.
+#[tactic(auto, unfolding(crate::specs::Answers::bad_line))]
+fn push_bad(line: &mut Vec<u8>, name: &[u8]) -> Result<(), AllocError>
+    ensures { OnOk result (line.new.items ≡ line.old.items ++ bad_line name.now) }
+{
+    push_text(line, "error: the question's member isn't understood: ")?;
+    line.extend_from_slice(name)?;
+    push_text(line, "\n")
+}
+
+/// The name of a member of the object that another is.
+fn path_within(alloc: Global, side: Member, name: &[u8]) -> Result<Vec<u8>, AllocError>
+    ensures { IfOk result (λ path. path.items ≡ member_name side ++ codes "." ++ name.now) }
+{
+    let mut path = Vec::new(alloc);
+    push_text(&mut path, side.name())?;
+    push_text(&mut path, ".")?;
+    path.extend_from_slice(name)?;
+    Ok(path)
+}
+
 /// Appends why bytes are no question.
 #[tactic(auto, unfolding(crate::specs::Answers::no_question))]
-fn push_fault(line: &mut Vec<u8>, fault: &QuestionFault) -> Result<(), AllocError>
+fn push_fault(line: &mut Vec<u8>, alloc: Global, fault: &QuestionFault) -> Result<(), AllocError>
     ensures { OnOk result (line.new.items ≡ line.old.items ++ no_question fault.now) }
 {
     match fault {
@@ -133,10 +192,14 @@ fn push_fault(line: &mut Vec<u8>, fault: &QuestionFault) -> Result<(), AllocErro
         QuestionFault::NotJson => push_text(line, "error: the question is no JSON\n"),
         QuestionFault::NotObject => push_text(line, "error: the question is no object\n"),
         QuestionFault::Unknown(name) => push_unknown(line, name.as_slice()),
-        QuestionFault::Bad(member) => {
-            push_text(line, "error: the question's member isn't understood: ")?;
-            push_text(line, member.name())?;
-            push_text(line, "\n")
+        QuestionFault::Bad(member) => push_bad(line, member.name().as_bytes()),
+        QuestionFault::UnknownIn(side, name) => {
+            let path = path_within(alloc, *side, name.as_slice())?;
+            push_unknown(line, path.as_slice())
+        }
+        QuestionFault::BadIn(side, member) => {
+            let path = path_within(alloc, *side, member.name().as_bytes())?;
+            push_bad(line, path.as_slice())
         }
     }
 }
@@ -150,14 +213,14 @@ fn refuse(alloc: Global, fault: QuestionFault) -> Result<Output, NoMemory>
         return Err(NoMemory);
     }
     let mut output = Output::new(alloc);
-    push_fault(&mut output.faults, &fault)?;
+    push_fault(&mut output.faults, alloc, &fault)?;
     output.status = NO_QUESTION;
     Ok(output)
 }
 
 /// What `check --json` prints of the files of the question that bytes are, or why they are none.
 pub fn check_question(alloc: Global, bytes: &[u8]) -> Result<Output, NoMemory>
-    ensures { IfOk result (λ out. IsAnswer IsCheckOf bytes.now (printed out)) }
+    ensures { IfOk result (λ out. IsAnswer question_of IsCheckOf bytes.now (printed out)) }
 {
     match read_question(alloc, bytes) {
         Ok(question) => check_asked(alloc, &question),
@@ -167,10 +230,20 @@ pub fn check_question(alloc: Global, bytes: &[u8]) -> Result<Output, NoMemory>
 
 /// What `ask --json` prints to the words of the question that bytes are, or why they are none.
 pub fn ask_question(alloc: Global, bytes: &[u8]) -> Result<Output, NoMemory>
-    ensures { IfOk result (λ out. IsAnswer IsAskOf bytes.now (printed out)) }
+    ensures { IfOk result (λ out. IsAnswer question_of IsAskOf bytes.now (printed out)) }
 {
     match read_question(alloc, bytes) {
         Ok(question) => ask_words(alloc, question),
+        Err(fault) => refuse(alloc, fault),
+    }
+}
+
+/// What `diff --json` prints of the two sides of the question that bytes are, or why they are none.
+pub fn diff_question(alloc: Global, bytes: &[u8]) -> Result<Output, NoMemory>
+    ensures { IfOk result (λ out. IsAnswer diff_question_of IsDiffOf bytes.now (printed out)) }
+{
+    match read_diff_question(alloc, bytes) {
+        Ok(question) => diff_asked(alloc, &question),
         Err(fault) => refuse(alloc, fault),
     }
 }

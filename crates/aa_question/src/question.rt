@@ -20,6 +20,10 @@ pub enum Member {
     Owned,
     Sequence,
     Words,
+    Old,
+    New,
+    Gains,
+    Profiles,
 }
 
 impl Member {
@@ -37,6 +41,10 @@ impl Member {
             Member::Owned => "owned",
             Member::Sequence => "sequence",
             Member::Words => "words",
+            Member::Old => "old",
+            Member::New => "new",
+            Member::Gains => "gains",
+            Member::Profiles => "profiles",
         }
     }
 }
@@ -52,6 +60,10 @@ pub enum QuestionFault {
     Unknown(Text),
     /// The member is missing, or its value is of another kind or out of its range.
     Bad(Member),
+    /// There is no such member of the object that the former member is.
+    UnknownIn(Member, Text),
+    /// The latter member of the object that the former is is missing, or its value is of another kind or out of its range.
+    BadIn(Member, Member),
 }
 
 impl From<AllocError> for QuestionFault {
@@ -112,4 +124,22 @@ pub struct Question {
     pub manner: AskedManner,
     /// What is asked.
     pub words: Vec<Vec<u8>>,
+}
+
+/// One side of a comparison.
+#[derive(Drop)]
+pub struct AskedSide {
+    pub files: AskedFiles,
+    pub places: AskedPlaces,
+}
+
+/// A question how two policies differ.
+#[derive(Drop)]
+pub struct DiffQuestion {
+    pub old: AskedSide,
+    pub new: AskedSide,
+    /// Whether gains alone are wanted.
+    pub gains: bool,
+    /// The profiles whose lines are wanted; of all where there are none.
+    pub profiles: Vec<Vec<u8>>,
 }

@@ -1,15 +1,19 @@
 //! Reads a question: one JSON object, of which what is not understood is refused.
 
 ghost use Rattle.std.specs.Prelude.{◌≡◌, ◌≢◌, ◌++◌, [], codes, map, option_map, IfOk, IfErr, Ok, Err};
-ghost use Rattle.aa_files.specs.Texts.{texts};
+ghost use Rattle.aa_files.specs.Texts.{texts, slices};
 ghost use Rattle.serde_json.specs.View.{view, members_view};
 ghost use Rattle.aa_question.specs.Memory.{row_of, put_all};
-ghost use Rattle.aa_question.specs.Questions.{Gives, needed, none_unknown, members_known, member_names, files_in, asked_files, asked_places, asked_manner, asked_words, asked_in, question_of, json_of, files_data, places_data, manner_data, asked};
+ghost use Rattle.aa_question.specs.Questions.{Gives, needed, none_unknown, members_known, files_in, asked_files, asked_places, asked_manner, asked_words, asked_in, question_of, asked_side, fault_in, within, side_of, asked_gains, asked_profiles, diff_in, diff_question_of, json_of, files_data, places_data, manner_data, asked, side_data, diff_asked};
+ghost use Rattle.serde_json.specs.Find.{get};
+ghost use Rattle.aa_question.specs.declared.question.Member.TheVariants.{Old, New};
 ghost use Rattle.aa_question.specs.Values.{unknown_in};
 ghost use Rattle.aa_question.specs.declared.question.QuestionFault.{QuestionFault};
 
 use crate::memory::Texts;
-use crate::question::{AskedFiles, AskedManner, AskedPlaces, Member, Question, QuestionFault};
+use crate::question::{
+    AskedFiles, AskedManner, AskedPlaces, AskedSide, DiffQuestion, Member, Question, QuestionFault,
+};
 use crate::values::{
     Row, bytes_if, bytes_list, bytes_or, flag_of, rows_list, states_of, unknown_in,
 };
@@ -23,28 +27,38 @@ const BASE: &str = "/etc/apparmor.d";
 /// How many states an automaton may have, unless another number is given.
 const STATES: u32 = 65535;
 
-/// The names of the members.
+/// The names of the members of a question to files.
 const NAMES: [&str; 10] = [
     "files", "includes", "base", "folders", "states", "profile", "program", "owned", "sequence",
     "words",
 ];
 
-/// No member of an object is unknown.
-fn expect_known(alloc: Global, members: &Map<String, Value>) -> Result<(), QuestionFault>
-    ensures { Gives (λ u. u) result (none_unknown (unknown_in member_names (members_view members.now.entries))) }
+/// Of a question how two policies differ.
+const DIFF_NAMES: [&str; 4] = ["old", "new", "gains", "profiles"];
+
+/// Of each of its sides.
+const SIDE_NAMES: [&str; 5] = ["files", "includes", "base", "folders", "states"];
+
+/// Each member of an object has one of these names.
+fn expect_known(
+    alloc: Global,
+    members: &Map<String, Value>,
+    names: &[&str],
+) -> Result<(), QuestionFault>
+    ensures { Gives (λ u. u) result (none_unknown (unknown_in (slices names.now) (members_view members.now.entries))) }
 {
-    match unknown_in(members, &NAMES) {
+    match unknown_in(members, names) {
         None => Ok(()),
         Some(name) => { Err(QuestionFault::Unknown(Text::copy_of(alloc, name.as_bytes())?)) }
     }
 }
 
-/// The value is an object whose members are all known.
-fn expect_members(alloc: Global, value: &Value) -> Result<(), QuestionFault>
-    ensures { Gives (λ u. u) result (members_known (view value.now)) }
+/// The value is an object whose members all have one of these names.
+fn expect_members(alloc: Global, value: &Value, names: &[&str]) -> Result<(), QuestionFault>
+    ensures { Gives (λ u. u) result (members_known (slices names.now) (view value.now)) }
 {
     match value.as_object() {
-        Some(members) => expect_known(alloc, members),
+        Some(members) => expect_known(alloc, members, names),
         None => Err(QuestionFault::NotObject),
     }
 }
@@ -149,7 +163,7 @@ fn asked_words(alloc: Global, value: &Value) -> Result<Vec<Vec<u8>>, QuestionFau
 fn asked_in(alloc: Global, value: &Value) -> Result<Question, QuestionFault>
     ensures { Gives asked result (asked_in (view value.now)) }
 {
-    expect_members(alloc, value)?;
+    expect_members(alloc, value, &NAMES)?;
     Ok(Question {
         files: asked_files(alloc, value)?,
         places: asked_places(alloc, value)?,
@@ -186,4 +200,108 @@ pub fn read_question(alloc: Global, bytes: &[u8]) -> Result<Question, QuestionFa
     ensures refused { IfErr result (λ e. e ≢ QuestionFault.NoMemory → question_of bytes.now ≡ Err e) }
 {
     read(alloc, bytes)
+}
+
+/// One side of a comparison.
+#[tactic(auto, unfolding(crate::specs::Questions::asked_side))]
+fn asked_side(alloc: Global, value: &Value) -> Result<AskedSide, QuestionFault>
+    ensures { Gives side_data result (asked_side (view value.now)) }
+{
+    expect_members(alloc, value, &SIDE_NAMES)?;
+    Ok(AskedSide {
+        files: asked_files(alloc, value)?,
+        places: asked_places(alloc, value)?,
+    })
+}
+
+/// A fault of the object that a member is.
+fn fault_in(side: Member, fault: QuestionFault) -> QuestionFault
+    ensures { result ≡ fault_in side fault }
+{
+    match fault {
+        QuestionFault::NotObject => QuestionFault::Bad(side),
+        QuestionFault::Unknown(name) => QuestionFault::UnknownIn(side, name),
+        QuestionFault::Bad(member) => QuestionFault::BadIn(side, member),
+        other => other,
+    }
+}
+
+fn side_within(alloc: Global, side: Member, value: &Value) -> Result<AskedSide, QuestionFault>
+    ensures { Gives side_data result (within side (asked_side (view value.now))) }
+{
+    match asked_side(alloc, value) {
+        Ok(found) => Ok(found),
+        Err(fault) => Err(fault_in(side, fault)),
+    }
+}
+
+/// The side that a member is, which must be there.
+fn side_of(alloc: Global, side: Member, value: Option<&Value>) -> Result<AskedSide, QuestionFault>
+    ensures { Gives side_data result (side_of side (option_map (λ v. view v.now) value.entry)) }
+{
+    match value {
+        Some(value) => side_within(alloc, side, value),
+        None => Err(QuestionFault::Bad(side)),
+    }
+}
+
+fn old_side(alloc: Global, value: &Value) -> Result<AskedSide, QuestionFault>
+    ensures { Gives side_data result (side_of Old (get (codes "old") (view value.now))) }
+{
+    side_of(alloc, Member::Old, value.get("old"))
+}
+
+fn new_side(alloc: Global, value: &Value) -> Result<AskedSide, QuestionFault>
+    ensures { Gives side_data result (side_of New (get (codes "new") (view value.now))) }
+{
+    side_of(alloc, Member::New, value.get("new"))
+}
+
+fn asked_gains(value: &Value) -> Result<bool, QuestionFault>
+    ensures { Gives (λ b. b) result (asked_gains (view value.now)) }
+{
+    match flag_of(value, "gains") {
+        Some(gains) => Ok(gains),
+        None => Err(QuestionFault::Bad(Member::Gains)),
+    }
+}
+
+fn asked_profiles(alloc: Global, value: &Value) -> Result<Vec<Vec<u8>>, QuestionFault>
+    ensures { Gives (λ v. texts v.items) result (asked_profiles (view value.now)) }
+{
+    match bytes_list(alloc, value, "profiles")? {
+        Some(profiles) => Ok(profiles),
+        None => Err(QuestionFault::Bad(Member::Profiles)),
+    }
+}
+
+#[tactic(auto, unfolding(crate::specs::Questions::diff_in))]
+fn diff_in(alloc: Global, value: &Value) -> Result<DiffQuestion, QuestionFault>
+    ensures { Gives diff_asked result (diff_in (view value.now)) }
+{
+    expect_members(alloc, value, &DIFF_NAMES)?;
+    Ok(DiffQuestion {
+        old: old_side(alloc, value)?,
+        new: new_side(alloc, value)?,
+        gains: asked_gains(value)?,
+        profiles: asked_profiles(alloc, value)?,
+    })
+}
+
+fn read_diff(alloc: Global, bytes: &[u8]) -> Result<DiffQuestion, QuestionFault>
+    ensures { Gives diff_asked result (diff_question_of bytes.now) }
+{
+    let value = json_of(alloc, bytes)?;
+    diff_in(alloc, &value)
+}
+
+/// The question how two policies differ that bytes are.
+///
+/// Refused in the order of `read_question`, a fault of `old` before one of `new`: where one of them is missing or no object as `Bad`, its
+/// members as `UnknownIn` and `BadIn`.
+pub fn read_diff_question(alloc: Global, bytes: &[u8]) -> Result<DiffQuestion, QuestionFault>
+    ensures read { IfOk result (λ q. diff_question_of bytes.now ≡ Ok (diff_asked q)) }
+    ensures refused { IfErr result (λ e. e ≢ QuestionFault.NoMemory → diff_question_of bytes.now ≡ Err e) }
+{
+    read_diff(alloc, bytes)
 }

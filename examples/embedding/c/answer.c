@@ -1,4 +1,4 @@
-/* Answers the job or the question on standard input: answer check|run|replay|policy-check|policy-ask < input.json. Build it by:
+/* Answers the job or the question on standard input: answer check|run|replay|policy-check|policy-ask|policy-diff < input.json. Build it by:
    cc answer.c -laamediate -o answer */
 #include <aamediate.h>
 #include <stdio.h>
@@ -13,7 +13,7 @@ typedef uint32_t call(const uint8_t *, size_t, uint8_t *, size_t, uint8_t *, siz
 /* What is said of a job is a line without its end. */
 static const struct { const char *name; call *does; const char *end; } calls[] = {
     {"check", aamediate_check, "\n"}, {"run", aamediate_run, "\n"}, {"replay", aamediate_replay, "\n"},
-    {"policy-check", aapolicy_check, ""}, {"policy-ask", aapolicy_ask, ""},
+    {"policy-check", aapolicy_check, ""}, {"policy-ask", aapolicy_ask, ""}, {"policy-diff", aapolicy_diff, ""},
 };
 
 static uint8_t *room_for(size_t size) {
@@ -25,7 +25,7 @@ static uint8_t *room_for(size_t size) {
 int main(int count, char **words) {
     size_t n = 0, many = sizeof calls / sizeof *calls;
     while (n < many && (count != 2 || strcmp(words[1], calls[n].name))) n++;
-    if (n == many) return fputs("usage: answer check|run|replay|policy-check|policy-ask\n", stderr), 2;
+    if (n == many) return fputs("usage: answer check|run|replay|policy-check|policy-ask|policy-diff\n", stderr), 2;
 
     uint8_t *input = room_for(MOST), *text = NULL, *fault = NULL;
     size_t size = fread(input, 1, MOST + 1, stdin);

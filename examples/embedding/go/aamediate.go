@@ -30,7 +30,7 @@ func (fault *Fault) IsRefused() bool {
 	return fault.Status == C.AAMEDIATE_REFUSED || fault.Status == C.AAMEDIATE_NO_QUESTION
 }
 
-// An Answer is what aapolicy prints, how it ends (4 where a request is denied, 1 where a file is refused), and what it warns of.
+// An Answer is what aapolicy prints, how it ends (4 where a request is denied or policies differ, 1 where a file is refused), and what it warns of.
 type Answer struct {
 	Text   []byte
 	Status int
@@ -91,3 +91,6 @@ func PolicyCheck(question []byte) (Answer, error) {
 
 // PolicyAsk gives what `aapolicy ask --json` prints to the words of a question.
 func PolicyAsk(question []byte) (Answer, error) { return answer((*C.call)(C.aapolicy_ask), question) }
+
+// PolicyDiff gives what `aapolicy diff --json` prints of the two sides of a question.
+func PolicyDiff(question []byte) (Answer, error) { return answer((*C.call)(C.aapolicy_diff), question) }

@@ -35,6 +35,13 @@ func TestAQuestionIsAnswered(t *testing.T) {
 	}
 }
 
+func TestTwoPoliciesAreCompared(t *testing.T) {
+	found, err := PolicyDiff([]byte(`{"old":{"files":[{"name":"a","text":"profile web { /srv/a r, }"}]},"new":{"files":[{"name":"b","text":"profile web { /srv/a rw, }"}]}}`))
+	if err != nil || found.Status != 4 || !strings.Contains(string(found.Text), `"sign":"+","request":"wa:/srv/a"`) {
+		t.Fatalf("%v, %v", found, err)
+	}
+}
+
 func TestWhatIsNoQuestionIsRefused(t *testing.T) {
 	_, err := PolicyCheck([]byte(`{"file":[]}`))
 	var fault *Fault

@@ -34,6 +34,13 @@ class Calls(unittest.TestCase):
         self.assertEqual(aamediate.policy_check(bytes_of()).status, 0)
         self.assertEqual(aamediate.policy_check(bytes_of(files=[{"name": "web", "text": "profile web {"}])).status, 1)
 
+    def test_two_policies_are_compared(self):
+        sides = {it: {"files": [{"name": it, "text": "profile web { /srv/a %s, }" % letters}]} for it, letters in (("old", "r"), ("new", "rw"))}
+        found = aamediate.policy_diff(json.dumps(sides).encode())
+        self.assertEqual(found.status, 4)
+        self.assertEqual([(it["sign"], it["request"]) for it in json.loads(found.text)["lines"]][:1], [("+", "wa:/srv/a")])
+        self.assertEqual(aamediate.policy_diff(json.dumps({**sides, "old": sides["new"]}).encode()).status, 0)
+
     def test_what_is_no_question_is_refused(self):
         for given, said in ((b"{", "no JSON"), (b"[]", "no object"), (bytes_of(file=[]), "unknown member: file"), (bytes_of(words=1), ": words")):
             with self.assertRaises(aamediate.Refused) as why:

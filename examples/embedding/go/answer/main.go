@@ -1,4 +1,4 @@
-// Answers the job or the question on standard input: answer check|run|replay|policy-check|policy-ask < input.json
+// Answers the job or the question on standard input: answer check|run|replay|policy-check|policy-ask|policy-diff < input.json
 package main
 
 import (
@@ -21,14 +21,14 @@ func ofJob(call func([]byte) ([]byte, error)) func([]byte) (aamediate.Answer, er
 func main() {
 	calls := map[string]func([]byte) (aamediate.Answer, error){
 		"check": ofJob(aamediate.Check), "run": ofJob(aamediate.Run), "replay": ofJob(aamediate.Replay),
-		"policy-check": aamediate.PolicyCheck, "policy-ask": aamediate.PolicyAsk,
+		"policy-check": aamediate.PolicyCheck, "policy-ask": aamediate.PolicyAsk, "policy-diff": aamediate.PolicyDiff,
 	}
 	var call func([]byte) (aamediate.Answer, error)
 	if len(os.Args) == 2 {
 		call = calls[os.Args[1]]
 	}
 	if call == nil {
-		fmt.Fprintln(os.Stderr, "usage: answer check|run|replay|policy-check|policy-ask")
+		fmt.Fprintln(os.Stderr, "usage: answer check|run|replay|policy-check|policy-ask|policy-diff")
 		os.Exit(2)
 	}
 	given, err := io.ReadAll(os.Stdin)

@@ -36,7 +36,7 @@ impl std::error::Error for Fault {}
 pub struct Answer {
     /// What it prints on standard output.
     pub text: Vec<u8>,
-    /// How it ends: 0, 4 where a request is denied, 1 or 3 where a file is refused.
+    /// How it ends: 0, 4 where a request is denied or policies differ, 1 or 3 where a file is refused.
     pub status: u32,
     /// What it warns of.
     pub said: String,
@@ -74,7 +74,8 @@ calls!(
     aamediate_run,
     aamediate_replay,
     aapolicy_check,
-    aapolicy_ask
+    aapolicy_ask,
+    aapolicy_diff
 );
 
 const REFUSED: u32 = 1;
@@ -148,4 +149,9 @@ pub fn policy_check(question: &[u8]) -> Result<Answer, Fault> {
 /// What `aapolicy ask --json` prints to the words of a question.
 pub fn policy_ask(question: &[u8]) -> Result<Answer, Fault> {
     answer(aapolicy_ask, question)
+}
+
+/// What `aapolicy diff --json` prints of the two sides of a question.
+pub fn policy_diff(question: &[u8]) -> Result<Answer, Fault> {
+    answer(aapolicy_diff, question)
 }

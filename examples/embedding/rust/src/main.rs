@@ -1,4 +1,4 @@
-//! Answers the job or the question on standard input: aamediate check|run|replay|policy-check|policy-ask < input.json
+//! Answers the job or the question on standard input: aamediate check|run|replay|policy-check|policy-ask|policy-diff < input.json
 use aamediate::{Answer, Cause, Fault};
 use std::io::{self, Read, Write};
 use std::process::ExitCode;
@@ -11,6 +11,7 @@ fn answer(word: &str, given: &[u8]) -> Option<Result<Answer, Fault>> {
         "replay" => aamediate::replay,
         "policy-check" => return Some(aamediate::policy_check(given)),
         "policy-ask" => return Some(aamediate::policy_ask(given)),
+        "policy-diff" => return Some(aamediate::policy_diff(given)),
         _ => return None,
     };
     let said = String::new();
@@ -38,7 +39,7 @@ fn main() -> ExitCode {
     }
     match answer(&word, &given) {
         None => {
-            eprintln!("usage: aamediate check|run|replay|policy-check|policy-ask");
+            eprintln!("usage: aamediate check|run|replay|policy-check|policy-ask|policy-diff");
             ExitCode::from(2)
         }
         Some(Ok(found)) => {

@@ -1,5 +1,5 @@
 //! Calls of the library, also side by side.
-use aamediate::{check, policy_ask, policy_check, replay, run, Cause};
+use aamediate::{check, policy_ask, policy_check, policy_diff, replay, run, Cause};
 use std::thread;
 
 const JOB: &str = r#"{"policy":"profile web { /srv/** r, }","tasks":[{"label":"web","requests":[
@@ -38,6 +38,18 @@ fn a_question_is_answered() {
     assert!(text.contains(r#""request":"r:/srv/a","profile":"web","granted":true"#));
     assert!(text.contains(r#""request":"r:/etc/a","profile":"web","granted":false"#));
     assert_eq!(policy_check(question).unwrap().status, 0);
+}
+
+#[test]
+fn two_policies_are_compared() {
+    let question = br#"{"old":{"files":[{"name":"a","text":"profile web { /srv/a r, }"}]},"new":{"files":[{"name":"b","text":"profile web { /srv/a rw, }"}]}}"#;
+    let found = policy_diff(question).unwrap();
+    let text = String::from_utf8(found.text).unwrap();
+    assert_eq!(found.status, 4);
+    assert!(text.starts_with(r#"{"old":["a"],"new":["b"],"gains_alone":false,"lines":[{"profile":"web","sign":"+","request":"wa:/srv/a""#), "{text}");
+    let fault = policy_diff(br#"{"old":{"files":[]}}"#).unwrap_err();
+    assert_eq!(fault.cause, Cause::NoQuestion);
+    assert!(fault.line.contains("understood: old.files"), "{}", fault.line);
 }
 
 #[test]

@@ -25,7 +25,7 @@ class Refused(Fault):
 
 
 class Answer(NamedTuple):
-    """What aapolicy prints, with its exit status: 4 where a request is denied, 1 where a file is refused; and what it warns of."""
+    """What aapolicy prints, with its exit status: 4 where a request is denied or policies differ, 1 where a file is refused; and what it warns of."""
 
     text: bytes
     status: int
@@ -64,9 +64,8 @@ def _answer(call, given):
     return Answer(text.raw[: sizes.text], status, said)
 
 
-_check, _run, _replay, _policy_check, _policy_ask = (
-    _declared(it) for it in ("aamediate_check", "aamediate_run", "aamediate_replay", "aapolicy_check", "aapolicy_ask")
-)
+_check, _run, _replay = (_declared(f"aamediate_{it}") for it in ("check", "run", "replay"))
+_policy_check, _policy_ask, _policy_diff = (_declared(f"aapolicy_{it}") for it in ("check", "ask", "diff"))
 
 
 def check(job):
@@ -92,3 +91,8 @@ def policy_check(question):
 def policy_ask(question):
     """What `aapolicy ask --json` prints to the words of a question."""
     return _answer(_policy_ask, question)
+
+
+def policy_diff(question):
+    """What `aapolicy diff --json` prints of the two sides of a question."""
+    return _answer(_policy_diff, question)

@@ -1,11 +1,11 @@
-"""Answers the job or the question on standard input: python3 -m aamediate check|run|replay|policy-check|policy-ask < input.json"""
+"""Answers the job or the question on standard input: python3 -m aamediate check|run|replay|policy-check|policy-ask|policy-diff < input.json"""
 
 import sys
 
 import aamediate
 
 CALLS = {"check": aamediate.check, "run": aamediate.run, "replay": aamediate.replay}
-ASKING = {"policy-check": aamediate.policy_check, "policy-ask": aamediate.policy_ask}
+ASKING = {"policy-check": aamediate.policy_check, "policy-ask": aamediate.policy_ask, "policy-diff": aamediate.policy_diff}
 
 
 def answer(word, given):
@@ -17,7 +17,7 @@ def answer(word, given):
 
 def main():
     if len(sys.argv) != 2 or sys.argv[1] not in (*CALLS, *ASKING):
-        sys.exit(print("usage: aamediate check|run|replay|policy-check|policy-ask", file=sys.stderr) or 2)
+        sys.exit(print("usage: aamediate check|run|replay|policy-check|policy-ask|policy-diff", file=sys.stderr) or 2)
     try:
         found = answer(sys.argv[1], sys.stdin.buffer.read())
         sys.stderr.write(found.said)
