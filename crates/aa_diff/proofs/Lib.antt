@@ -1,3 +1,4 @@
 mod Steps
 mod Sided
 mod Lists
+mod Telling

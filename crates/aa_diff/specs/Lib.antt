@@ -7,5 +7,6 @@ pub mod Joined
 pub mod Printed
 pub mod Report
 pub mod Jsons
+pub mod Telling
 pub mod Sides
 pub mod Command

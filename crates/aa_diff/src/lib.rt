@@ -7,6 +7,7 @@ mod finding;
 mod gathering;
 mod joining;
 mod json;
+mod laws;
 mod options;
 mod printing;
 mod report;
@@ -16,6 +17,7 @@ mod signs;
 
 pub use command::diff_files;
 pub use finding::{Finding, Who};
+pub use laws::lines_tell_entries;
 pub use options::{DiffOptions, Wanted};
 pub use report::push_report;
 pub use signs::{Sign, sign_of};

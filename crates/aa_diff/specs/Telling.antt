@@ -1,0 +1,73 @@
+-- What lines tell of the entries of a list of differences.
+-- Source: own.
+use Rattle.std.specs.Prelude.{ℕ, ◌≡◌, ◌≤◌, ◌↔◌, List, [], Contains, true}
+use Rattle.std.specs.Int.{bit_at}
+use Rattle.aa_files.specs.Texts.{texts}
+use Rattle.aa_model.specs.declared.policy.Policy.{Policy}
+use Rattle.aa_compile.specs.Said.{perms_of}
+use Rattle.aa_command.specs.declared.decided.Decided.{Decided}
+use Rattle.aa_differences.specs.declared.at_labels.Difference.{Difference}
+use Rattle.aa_diff.specs.declared.options.Wanted.{Wanted}
+use Rattle.aa_diff.specs.declared.signs.Sign.TheVariants.{Gain}
+use Rattle.aa_diff.specs.declared.finding.Who.{Who}
+use Rattle.aa_diff.specs.declared.finding.Who.TheVariants.{Anybody}
+use Rattle.aa_diff.specs.declared.finding.Finding.{Finding}
+use Rattle.aa_diff.specs.Signs.{sign_of}
+use Rattle.aa_diff.specs.Findings.{kind_number, finding_of}
+use Rattle.aa_diff.specs.Gathered.{covers}
+use Rattle.aa_diff.specs.Report.{shown_of, lines_of}
+
+-- each permission that is asked for is one of these
+abbrev pub AreAmong : ℕ → ℕ → Type 0
+AreAmong asked held = (k : ℕ) → bit_at asked k ≤ bit_at held k
+
+-- a line holds of everybody's objects, or of the same
+pub data HoldsOf (held who : Who) : Type 0 where
+  OfAll : held ≡ Anybody → HoldsOf held who
+  OfSame : held ≡ who → HoldsOf held who
+
+-- a line tells of a finding: at its label, with its sign, of its kind, with its change and its rules, its permissions and its objects
+pub record TellsOf (f g : Finding) : Type 0 where
+  pub label : f.from ≡ g.from
+  pub sign : f.sign ≡ g.sign
+  pub kind : kind_number f.request ≡ kind_number g.request
+  pub change : f.change ≡ g.change
+  pub rules : f.rules ≡ g.rules
+  pub letters : AreAmong g.letters.0 f.letters.0
+  pub who : HoldsOf f.who g.who
+
+-- one of the lines tells of an entry
+abbrev pub IsToldBy : Decided → Decided → List Finding → Difference → Type 0
+IsToldBy d e fs x = (f : Finding) × Contains fs f × TellsOf f (finding_of d e x)
+
+-- one of the lines tells of an entry, or of one by a single permission that tells of it
+pub data IsTold (d e : Decided) (xs : List Difference) (fs : List Finding) (x : Difference) : Type 0 where
+  Itself : IsToldBy d e fs x → IsTold d e xs fs x
+  ByPart : (y : Difference) → Contains xs y → covers d.policies.now e.policies.now y x ≡ true → IsToldBy d e fs y → IsTold d e xs fs x
+
+-- a finding but for the permissions, the objects and the count that lines gather
+abbrev pub bare : Finding → Finding
+bare f = record f { letters = perms_of 0; who = Anybody; more = 0 }
+
+-- a line is that of an entry
+abbrev pub IsOfEntry : Decided → Decided → List Difference → Finding → Type 0
+IsOfEntry d e xs f = (x : Difference) × Contains xs x × (bare f ≡ bare (finding_of d e x))
+
+-- the lines tell of all entries and of nothing else
+pub record AreLinesOf (d e : Decided) (xs : List Difference) (fs : List Finding) : Type 0 where
+  pub told : (x : Difference) → Contains xs x → IsTold d e xs fs x
+  pub entries : (f : Finding) → Contains fs f → IsOfEntry d e xs f
+
+-- one of the entries is a gain
+abbrev pub OneGains : List Policy → List Policy → List Difference → Type 0
+OneGains ps qs xs = (x : Difference) × Contains xs x × (sign_of ps qs x ≡ Gain)
+
+-- one of the lines is
+abbrev pub OneIsGain : List Finding → Type 0
+OneIsGain fs = (f : Finding) × Contains fs f × (f.sign ≡ Gain)
+
+-- the lines of a list tell of all of it and of nothing else; of all profiles, gains are shown exactly where an entry is one
+pub record LinesTellEntries : Type 0 where
+  pub lines : (d e : Decided) (xs : List Difference) → AreLinesOf d e xs (lines_of d e xs)
+  pub gains : (d e : Decided) (xs : List Difference) (w : Wanted) → texts w.profiles.now ≡ []
+      → OneIsGain (shown_of d.policies.now w (lines_of d e xs)) ↔ OneGains d.policies.now e.policies.now xs
