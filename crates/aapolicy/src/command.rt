@@ -522,6 +522,7 @@ const COMMANDS: &[Named] = &[
         about: WHO,
         arguments: WHO_ARGUMENTS,
         more: &[],
+        reads_policies: true,
     },
     Named {
         name: "log",
