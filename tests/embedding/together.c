@@ -251,7 +251,7 @@ static void any_answer(call *does, const uint8_t *at, size_t size) {
     struct bytes given = copied(at, size);
     struct answer got = whole(does, given);
     int is_said = got.status == AAMEDIATE_ANSWERED || got.sizes.text || got.sizes.fault;
-    int is_of_job = got.status == AAMEDIATE_ANSWERED || got.status == AAMEDIATE_REFUSED, is_asked = does == aapolicy_check || does == aapolicy_ask;
+    int is_of_job = got.status == AAMEDIATE_ANSWERED || got.status == AAMEDIATE_REFUSED, is_asked = does == aapolicy_check || does == aapolicy_ask || does == aapolicy_diff;
     expect(is_said && got.status <= AAMEDIATE_DENIED && (is_of_job || is_asked), "bytes that are no job have another status");
     let_go(got);
     __real_free(given.at);
