@@ -80,7 +80,7 @@ def long_labels(tasks):
 def cases():
     yield Case("3,000 branches that may be empty", "aamediate", ["check"], job(branches(3000)), 0.4, 400_000, out=ok(1))
     yield Case("10 paths of 800 classes that all differ", "aamediate", ["check"], job(differing(10, 800), 1_000_000), 5, GIGABYTE, out=ok(10))
-    yield Case("a value of 15,900 bytes before each of 1,024", "aamediate", ["check"], job(long_values("/@{LONG}@{SHORT} r,\n")), 2, 2 * GIGABYTE, out=ok(1))
+    yield Case("a value of 15,900 bytes before each of 1,024", "aamediate", ["check"], job(long_values("/@{LONG}@{SHORT} r,\n")), 2, 634_000, out=ok(1))
     yield Case("such a value behind each, in little memory", "aamediate", ["check"], job(long_values("/@{SHORT}@{LONG} r,\n")), 1, 200_000, **NO_MEMORY)
     files = {"policy": own_rules(16000), "requests": own_requests(16000)}
     yield Case("16,000 rules of which each is named", "aapolicy", ["ask", "policy", "--from", "requests"], "", 1, 200_000, out=own_answers(16000), files=files)

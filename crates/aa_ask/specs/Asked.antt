@@ -13,6 +13,7 @@ use Rattle.aa_model.specs.declared.request.Request.TheVariants as asks
 use Rattle.aa_compile.specs.Labels.{label_named}
 use Rattle.aa_mediate.specs.Reply.{reply}
 use Rattle.aa_notation.specs.Read.{request_in}
+use Rattle.aa_notation.specs.Refused.{refusal}
 use Rattle.aa_ask.specs.declared.asking.AskFault.{AskFault}
 use Rattle.aa_ask.specs.declared.asking.AskFault.TheVariants.{NoMemory, Refused}
 use Rattle.aa_ask.specs.declared.asking.Manner.{Manner}
@@ -40,9 +41,9 @@ no_profile name = said_of (codes "error: no profile is called ") name
 abbrev pub no_program : List ℕ → List ℕ
 no_program path = said_of (codes "error: no program has this path: ") path
 
--- what is said of a word that is no request
-abbrev pub no_request : List ℕ → List ℕ
-no_request word = said_of (codes "error: this is no request: ") word
+-- what is said of a word that is no request: why, and what may have been meant
+unfoldable pub no_request : List ℕ → List ℕ
+no_request word = codes "error: this is no request: " ++ (all_visible word ++ (codes ": " ++ (all_visible (refusal word) ++ codes "\n")))
 
 -- a profile's name in a list
 abbrev pub listed_profile : Profile → List ℕ

@@ -17,7 +17,7 @@ use Rattle.aa_command.specs.declared.decided.Decided.{Decided}
 use Rattle.aa_command.specs.Setting.{Setting}
 use Rattle.aa_ask.specs.declared.command.AskOptions.{AskOptions}
 use Rattle.aa_command.specs.Printed.{Printed, faults_alone}
-use Rattle.aa_command.specs.Refusals.{SaysUnread}
+use Rattle.aa_ask.specs.Refused.{many_words, SaysTooLarge, SaysUnreadWords}
 use Rattle.aa_command.specs.Policies.{IsPrintedFor}
 
 -- verdicts as they are wanted: as JSON, as text, or not at all
@@ -31,7 +31,7 @@ is_one_denied ts = list_any (λ (t : Told). not t.granted) ts
 -- the verdicts behind what is warned of, with 4 where one is denied; or the line that refuses
 abbrev pub ask_printed : AskOptions → List ℕ → Outcome (List Told) → Printed
 ask_printed o warning (Err line) = faults_alone line 1
-ask_printed o warning (Ok ts) = record { answers = verdicts_text o ts; faults = warning; status = if is_one_denied ts then 4 else 0 }
+ask_printed o warning (Ok ts) = record { answers = verdicts_text o ts; faults = warning; refusal = []; status = if is_one_denied ts then 4 else 0 }
 
 -- what is printed of these words, where the files are this policy
 abbrev pub words_answered : AskOptions → Decided → List (List ℕ) → Printed
@@ -56,10 +56,15 @@ pub data IsWordsFault (files : Option Files) (input : Option (List ℕ)) (path :
 abbrev pub IsAsked : Setting → AskOptions → List (List ℕ) → Printed → Type 0
 IsAsked s o words out = IsPrintedFor s (texts o.files.now) (λ d printed. printed ≡ asked_of o d words) out
 
--- what is printed where the words of a file are asked too
+-- what is printed where words of a text are asked behind others: of too many that, with the path of the text
+pub data IsAskedBehind (s : Setting) (o : AskOptions) (path : List ℕ) (first : List (List ℕ)) (text : List ℕ) (out : Printed) : Type 0 where
+  Beyond : 65536 < length first + length (word_lines text) → SaysTooLarge path many_words out → IsAskedBehind s o path first text out
+  Within : length first + length (word_lines text) ≤ 65536 → IsAsked s o (first ++ word_lines text) out → IsAskedBehind s o path first text out
+
+-- what is printed where the words of a file are asked too, or why it can't be read
 pub data IsAskedFrom (s : Setting) (o : AskOptions) (path : List ℕ) (first : List (List ℕ)) (out : Printed) : Type 0 where
-  NoWords : (why : Unread) → IsWordsFault s.files s.input path (length first) why → SaysUnread path why out → IsAskedFrom s o path first out
-  Added : (words : List (List ℕ)) → AddsWords s.files s.input path first words → length words ≤ 65536 → IsAsked s o words out → IsAskedFrom s o path first out
+  Unreadable : (why : Unread) → IsMain s.files s.input path (Err why) → SaysUnreadWords path why out → IsAskedFrom s o path first out
+  Readable : (text : List ℕ) → IsMainText s.files s.input path text → IsAskedBehind s o path first text out → IsAskedFrom s o path first out
 
 -- the words asked are those of a file, or those given
 abbrev pub IsAskedWith : Setting → AskOptions → Option (List ℕ) → List (List ℕ) → Printed → Type 0

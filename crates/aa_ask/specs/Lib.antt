@@ -6,5 +6,6 @@ pub mod Shown
 pub mod Json
 pub mod Asked
 pub mod Words
+pub mod Refused
 pub mod Unattached
 pub mod Command

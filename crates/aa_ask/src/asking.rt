@@ -6,7 +6,7 @@ ghost use Rattle.std.specs.List.{list_any};
 ghost use Rattle.aa_mediate.specs.Reply.{reply};
 ghost use Rattle.aa_notation.specs.Read.{request_in};
 ghost use Rattle.aa_ask.specs.Told.{told, verdict_on};
-ghost use Rattle.aa_ask.specs.Asked.{said_of, listed_profile, listed_profiles, which_profile, changed_to, name_in_digits, label_called, label_by_name, label_by_program, only_label, opening, request_of, requests_of, in_sequence, verdicts_on, answers, Gives};
+ghost use Rattle.aa_ask.specs.Asked.{said_of, listed_profile, listed_profiles, which_profile, changed_to, name_in_digits, label_called, label_by_name, label_by_program, only_label, opening, no_request, request_of, requests_of, in_sequence, verdicts_on, answers, Gives};
 ghost use Rattle.aa_ask.specs.Words.{texts};
 
 use crate::verdict::{Verdict, decide};
@@ -15,7 +15,7 @@ use aa_compile::{Compiled, label_of};
 use aa_machine::Machine;
 use aa_mediate::Mediator;
 use aa_model::{Label, Profile, Request};
-use aa_notation::{WordFault, read_word};
+use aa_notation::{WordFault, read_word, word_refusal};
 use aa_text::{NoMemory, push_name, push_text, push_visible};
 use std::alloc::{AllocError, Global};
 
@@ -152,7 +152,7 @@ fn changed_to(alloc: Global, request: &Request) -> Result<Option<Vec<u8>>, Alloc
 
 /// The name that stands in hexadecimal digits, as names are printed that hold other bytes.
 #[tactic(auto, unfolding(crate::specs::Asked::name_in_digits))]
-fn name_in_digits(alloc: Global, digits: &[u8]) -> Result<Option<Vec<u8>>, AllocError>
+pub fn name_in_digits(alloc: Global, digits: &[u8]) -> Result<Option<Vec<u8>>, AllocError>
     ensures { IfOk result (λ name. option_map (λ n. n.items) name ≡ name_in_digits digits.now) }
 {
     let word = change_word(alloc, digits)?;
@@ -209,7 +209,7 @@ fn label_after(policies: &[Compiled], request: &Request) -> Label
 }
 
 /// The word that asks to execute a program.
-fn exec_word(alloc: Global, path: &[u8]) -> Result<Vec<u8>, AllocError>
+pub fn exec_word(alloc: Global, path: &[u8]) -> Result<Vec<u8>, AllocError>
     ensures { IfOk result (λ word. word.items ≡ codes "x:" ++ path.now) }
 {
     let mut word = Vec::from_slice(alloc, "x:".as_bytes())?;
@@ -259,7 +259,12 @@ fn only_label(alloc: Global, decided: Decided<'_>) -> Result<Label, AskFault>
     Err(AskFault::Refused(which_profile(alloc, decided.policies)?))
 }
 
-fn opening_label(alloc: Global, decided: Decided<'_>, manner: Manner<'_>) -> Result<Label, AskFault>
+/// The label under which is asked. Refused where it isn't told which profile asks, or where there is no such profile or program.
+pub fn opening_label(
+    alloc: Global,
+    decided: Decided<'_>,
+    manner: Manner<'_>,
+) -> Result<Label, AskFault>
     ensures { Gives (λ label. label) result (opening decided.entry manner.entry) }
 {
     if let Some(name) = manner.profile {
@@ -271,6 +276,19 @@ fn opening_label(alloc: Global, decided: Decided<'_>, manner: Manner<'_>) -> Res
     only_label(alloc, decided)
 }
 
+/// What is said of a word that is no request.
+#[tactic(auto, unfolding(crate::specs::Asked::no_request))]
+fn no_request(alloc: Global, word: &[u8]) -> Result<Vec<u8>, AllocError>
+    ensures { IfOk result (λ line. line.items ≡ no_request word.now) }
+{
+    let mut line = Vec::from_slice(alloc, "error: this is no request: ".as_bytes())?;
+    push_visible(&mut line, word)?;
+    push_text(&mut line, ": ")?;
+    push_visible(&mut line, word_refusal(alloc, word)?.as_slice())?;
+    push_text(&mut line, "\n")?;
+    Ok(line)
+}
+
 /// The request that a word is.
 fn request_of(alloc: Global, word: &[u8], owned: bool) -> Result<Request, AskFault>
     ensures { Gives (λ request. request) result (request_of owned word.now) }
@@ -278,14 +296,12 @@ fn request_of(alloc: Global, word: &[u8], owned: bool) -> Result<Request, AskFau
     match read_word(alloc, word, owned) {
         Ok(request) => Ok(request),
         Err(WordFault::NoMemory) => Err(AskFault::NoMemory),
-        Err(WordFault::NoRequest) => {
-            Err(AskFault::Refused(said_of(alloc, "error: this is no request: ", word)?))
-        }
+        Err(WordFault::NoRequest) => Err(AskFault::Refused(no_request(alloc, word)?)),
     }
 }
 
 /// The requests that words are. Refused at the first that is none.
-fn requests_of(alloc: Global, words: &[Vec<u8>], owned: bool) -> Result<Vec<Request>, AskFault>
+pub fn requests_of(alloc: Global, words: &[Vec<u8>], owned: bool) -> Result<Vec<Request>, AskFault>
     ensures { Gives (λ requests. requests.items) result (requests_of owned (texts words.now)) }
 {
     let mut requests = Vec::new(alloc);

@@ -6,16 +6,17 @@ ghost use Rattle.aa_ask.specs.Told.{told};
 ghost use Rattle.aa_ask.specs.Asked.{answers};
 ghost use Rattle.aa_command.specs.Setting.{setting_of};
 ghost use Rattle.aa_command.specs.Printed.{printed, faults_alone};
-ghost use Rattle.aa_ask.specs.Command.{verdicts_text, is_one_denied, ask_printed, words_answered, asked_of, AddsWords, IsWordsFault, IsAsked, IsAskedFrom, IsAskOutput};
+ghost use Rattle.aa_ask.specs.Command.{verdicts_text, is_one_denied, ask_printed, words_answered, asked_of, AddsWords, IsWordsFault, IsAsked, IsAskedBehind, IsAskedFrom, IsAskOutput};
 
 use crate::asking::{AskFault, Manner, ask, is_one_denied};
 use crate::json::push_json_verdicts;
+use crate::refused::{many_refused, words_refused};
 use crate::shown::push_verdicts;
 use crate::unattached::opening_warning;
 use crate::verdict::Verdict;
 use crate::words::{MAX_WORDS, push_words};
 use aa_base::Unread;
-use aa_command::{Decided, Output, Settings, Use, path_refused, refused, with_policy};
+use aa_command::{Decided, Output, Settings, Use, refused, with_policy};
 use aa_files::{Tree, main_text};
 use aa_text::NoMemory;
 use std::alloc::{AllocError, Global};
@@ -117,8 +118,8 @@ impl Use for Answering<'_> {
     }
 }
 
-/// Adds the lines of a file as words.
-fn push_words_from<T: Tree>(
+/// Adds the lines of a file as words. Refused where it can't be read, or where there are more words then than a call may have.
+pub fn push_words_from<T: Tree>(
     alloc: Global,
     tree: &T,
     path: &[u8],
@@ -145,21 +146,40 @@ fn ask_words<T: Tree>(
     with_policy(alloc, tree, settings, options.files, &answering)
 }
 
-/// Adds the words of a file to those of the command line, and asks them all.
-fn ask_from<T: Tree>(
+/// Adds the words of the text of a file to those of the command line, and asks them all.
+fn ask_added<T: Tree>(
     alloc: Global,
     tree: &T,
     settings: &Settings<'_>,
     options: &AskOptions<'_>,
     mut words: Vec<Vec<u8>>,
     from: &[u8],
+    text: &[u8],
+) -> Result<Output, NoMemory>
+    requires { vec_len words ≤ MAX_WORDS }
+    ensures { IfOk result (λ out. IsAskedBehind (setting_of (T.files tree.now) (T.taken tree.now) (T.input tree.now) settings.now) options.now from.now (texts words.items) text.now (printed out)) }
+{
+    match push_words(alloc, text, &mut words) {
+        Ok(()) => ask_words(alloc, tree, settings, options, words.as_slice()),
+        Err(why) => many_refused(alloc, from, why),
+    }
+}
+
+/// Adds the words of a file to those of the command line, and asks them all.
+fn ask_from<T: Tree>(
+    alloc: Global,
+    tree: &T,
+    settings: &Settings<'_>,
+    options: &AskOptions<'_>,
+    words: Vec<Vec<u8>>,
+    from: &[u8],
 ) -> Result<Output, NoMemory>
     requires { vec_len words ≤ MAX_WORDS }
     ensures { IfOk result (λ out. IsAskedFrom (setting_of (T.files tree.now) (T.taken tree.now) (T.input tree.now) settings.now) options.now from.now (texts words.items) (printed out)) }
 {
-    match push_words_from(alloc, tree, from, &mut words) {
-        Ok(()) => ask_words(alloc, tree, settings, options, words.as_slice()),
-        Err(why) => path_refused(alloc, from, why),
+    match main_text(alloc, tree, from) {
+        Ok(text) => ask_added(alloc, tree, settings, options, words, from, text.as_slice()),
+        Err(why) => words_refused(alloc, from, why),
     }
 }
 

@@ -6,16 +6,21 @@ mod command;
 mod explained;
 mod json;
 mod reason_laws;
+mod refused;
 mod shown;
 mod unattached;
 mod verdict;
 mod words;
 
-pub use asking::{AskFault, Manner, ask, is_one_denied};
-pub use command::{AskOptions, ask_files};
+pub use asking::{
+    AskFault, Manner, ask, exec_word, is_one_denied, name_in_digits, opening_label, requests_of,
+};
+pub use command::{AskOptions, ask_files, push_words_from};
 pub use explained::{DeciderLine, Lack};
 pub use json::push_json_verdicts;
 pub use reason_laws::reasons_tell_answers;
-pub use shown::{push_reasons, push_verdicts};
+pub use refused::{many_refused, words_refused};
+pub use shown::{push_reasons, push_verdict, push_verdicts};
+pub use unattached::opening_warning;
 pub use verdict::{Verdict, decide};
 pub use words::{MAX_WORDS, push_words};

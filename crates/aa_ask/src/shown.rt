@@ -224,7 +224,8 @@ fn push_head(
     push_marks(out, verdict.scrub, verdict.complain)
 }
 
-fn push_verdict(
+/// Appends the answer with its reasons. It tells who asked where the task isn't confined, and where names of askers are wanted.
+pub fn push_verdict(
     out: &mut Vec<u8>,
     alloc: Global,
     names_askers: bool,

@@ -247,7 +247,7 @@ pub(crate) fn program_warning(
 }
 
 /// What is warned of before anything is answered: of a program that asks, that no profile is attached to it.
-pub(crate) fn opening_warning(
+pub fn opening_warning(
     alloc: Global,
     policies: &[Compiled],
     manner: Manner<'_>,

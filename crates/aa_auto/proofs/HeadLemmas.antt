@@ -1,10 +1,9 @@
 -- Heads and weights, one more item at a time.
-use Rattle.std.proofs.Common.{slice_get, ◌≡◌, ℕ, ◌≤◌, ◌<◌, ◌⊎◌, Some, List, [], ◌∷◌, ◌++◌, length, get_or, suc, zero, Vec, Global, refl, sym, ap, ◌∙◌, inl, inr, ⊎_elim, arith, append_assoc}
+use Rattle.std.proofs.Common.{slice_get, ◌≡◌, ℕ, ◌⊎◌, Some, List, [], ◌∷◌, ◌++◌, length, suc, zero, Vec, Global, refl, sym, ap, ◌∙◌, inl, inr, ⊎_elim, append_assoc}
 use Rattle.std.proofs.lemmas.List.{append-nil}
 use Rattle.aa_pattern.specs.declared.item.Item.{Item, Byte, One, Run, RunOne, Deep, DeepOne, Class, Choice, Choice', roll-Item, roll-out-Item}
 use Rattle.aa_pattern.specs.declared.item.Item.TheVariants.{outs-Choice', rolls-Choice}
 use Rattle.aa_pattern.specs.declared.pattern.Pattern.{Pattern}
-use Rattle.aa_pattern.specs.Weights.{weight, weight_of_items, weight_of_lists}
 use Rattle.aa_pattern.specs.Steps.{IsSimple}
 use Rattle.aa_pattern.specs.Heads.{heads_within, heads_after, heads_of_choice, heads_of_patterns}
 

@@ -6,17 +6,14 @@ use Rattle.std.proofs.lemmas.List.{take_more, length-map, get_or_append_left, le
 use Rattle.std.proofs.lemmas.List.Elements.{Contains-push, Contains-push_cases, Contains-append_left}
 use Rattle.std.proofs.lemmas.Bool.{cases_lt}
 use Rattle.aa_pattern.specs.declared.item.Item.{Item}
-use Rattle.aa_pattern.specs.declared.pattern.Pattern.{Pattern}
 use Rattle.aa_auto.specs.declared.nodes.Node.{Node}
 use Rattle.aa_auto.specs.declared.nodes.Node.TheVariants.{Start, After, Same, Join}
 use Rattle.aa_pattern.specs.Steps.{IsSkippable}
-use Rattle.aa_pattern.specs.Heads.{heads_of_patterns}
-use Rattle.aa_auto.specs.Nodes.{IsRight, HasSources, HaveSources, AreNodes}
+use Rattle.aa_auto.specs.Nodes.{HasSources, HaveSources}
 use Rattle.aa_auto.specs.Merged.{Tells}
 use Rattle.aa_auto.specs.Closed.{IsUpward}
 use Rattle.aa_auto.specs.Spots.{Jumps, AreJumps, AreJumpsSoFar, AddsToRows, AddsJumps, AreEmpty}
 use Rattle.aa_auto.proofs.SortedLemmas.{contains_at, at_of}
-use Rattle.aa_auto.proofs.SpotsLemmas.{fits_itself, right_of}
 
 abbrev pub lists : List (Vec ℕ Global) → List (List ℕ)
 lists vs = map (λ (v : Vec ℕ Global). v.items) vs
@@ -180,16 +177,6 @@ pub tells_sources : (hs : List (List Item)) (nodes : List Node) → ((n : ℕ) �
 tells_sources hs nodes tells n lt = at (get_or nodes n Start) (tells n lt)
   where
     at : (node : Node) → Tells hs n node → HasSources node n
-    at Start r = tt
-    at (After i) r = r.1
-    at (Same p) r = r.0
-    at (Join es) r = r.0
-
--- nodes of patterns name positions before their own
-pub have_sources : (nodes : List Node) (ends : List ℕ) (ps : List Pattern) → AreNodes nodes ends ps → HaveSources nodes
-have_sources nodes ends ps are n lt = at (get_or nodes n Start) (right_of (heads_of_patterns ps) nodes n (are.right (heads_of_patterns ps) (fits_itself (heads_of_patterns ps))) lt)
-  where
-    at : (node : Node) → IsRight (heads_of_patterns ps) n node → HasSources node n
     at Start r = tt
     at (After i) r = r.1
     at (Same p) r = r.0

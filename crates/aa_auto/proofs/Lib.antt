@@ -1,12 +1,11 @@
 pub mod Choices
 pub mod HeadLemmas
 pub mod SameLemmas
-pub mod NodesLemmas
 pub mod SortedLemmas
 pub mod ClosedLemmas
 pub mod SpotsLemmas
 pub mod MergeLemmas
-pub mod MergedSteps
+pub mod PositionLemmas
 pub mod DivisionLemmas
 pub mod LawLemmas
 pub mod MoveLemmas

@@ -1,5 +1,5 @@
 -- The positions that a byte leads to, one start after the other.
-use Rattle.std.proofs.Common.{Contains, ◌≡◌, ℕ, ◌+◌, ◌≤◌, ◌<◌, ◌↔◌, ◌⊎◌, Bool, Some, None, Result, Ok, Err, OnOk, List, []}
+use Rattle.std.proofs.Common.{Contains, ◌≡◌, ℕ, ◌+◌, ◌≤◌, ◌<◌, ◌↔◌, ◌⊎◌, Bool, Some, None, Result, Ok, Err, IfOk, OnOk, List, []}
 use Rattle.std.proofs.Common.{◌∷◌, ◌++◌, length, get_or, take, suc, zero, IsTrue, refl, sym, ap, ◌∙◌, subst, inl, inr, ⊎_elim, arith}
 use Rattle.std.proofs.lemmas.List.{take_more}
 use Rattle.std.proofs.lemmas.List.Elements.{Contains-push, Contains-push_cases, Contains-append_left}
@@ -12,6 +12,10 @@ use Rattle.aa_auto.specs.Spots.{Seeds, AreSeeds, AddsMoves, MovesFrom, BeginsAt,
 pub on_ok : {T E : Type 0} (r : Result T E) {P Q : Type 0} → (P → Q) → OnOk r P → OnOk r Q
 on_ok (Ok x) f p = f p
 on_ok (Err e) f p = tt
+
+pub if_ok : {T E : Type 0} (r : Result T E) (P Q : T → Type 0) → ((x : T) → P x → Q x) → IfOk r P → IfOk r Q
+if_ok (Ok x) P Q f p = f x p
+if_ok (Err e) P Q f p = tt
 
 pub insert_wanted : (old new : List ℕ) (v : ℕ) (w : Bool) → IsTrue w → Inserts old new v → InsertsIf old new v w
 insert_wanted old new v w is ins = record {

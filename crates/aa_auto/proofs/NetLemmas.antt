@@ -66,7 +66,7 @@ module _ (net : Net) (is : IsNetOf net) where
             (spots.exact (get_or is.ends n 0)).1 (omega (arith, e.0, is.many, length_kept net), (e.1 t).1 r.2),
           )
 
-  pub net_classes : (of bytes : List ℕ) → AreClasses net.plain.items of bytes → AreClassesOf (patterns_of net) of bytes
+  pub net_classes : (of bytes : List ℕ) → AreClasses net.nodes.items of bytes → AreClassesOf (patterns_of net) of bytes
   net_classes of bytes all = record {
     division = all.division;
     same = λ a b la lb.

@@ -1,10 +1,10 @@
 -- Rising numbers, with one more.
 use Rattle.std.proofs.Common.{Bool, true, false, IsTrue, true≢false, ◌↔◌, Contains, ◌≡◌, ◌≢◌, ℕ, ◌+◌, ◌-◌, ◌≤◌, ◌<◌}
 use Rattle.std.proofs.Common.{◌⊎◌, List, [], ◌∷◌, ◌++◌, All, length, get_or, suc, zero, refl, sym, ap, ◌∙◌, subst, inl, inr, ⊎_elim}
-use Rattle.std.proofs.Common.{arith}
+use Rattle.std.proofs.Common.{arith, ap₂}
 use Rattle.std.specs.List.{insert}
 use Rattle.std.specs.List.Sorted.{IsStrictlyIncreasing}
-use Rattle.std.proofs.lemmas.List.{get_or_default, get_or_append_left, get_or_push, length_push}
+use Rattle.std.proofs.lemmas.List.{get_or_default, get_or_append_left, get_or_push, length_push, take_all, drop_all}
 use Rattle.std.proofs.lemmas.List.Edits.{length-insert, get_or-insert_below, get_or-insert_at, get_or-insert_above}
 use Rattle.std.proofs.lemmas.Bool.{cases_lt}
 use Rattle.aa_auto.specs.Sorted.{Inserts}
@@ -121,6 +121,10 @@ module _ (xs : List ℕ) (at v : ℕ) (up : IsStrictlyIncreasing xs) (le : at �
     kept = λ k lt b. let a : k < at = ⊎_elim (λ (l : k < at). l) (λ (g : at ≤ k). absurd (omega (arith, above k g lt))) (cases_lt k at) in
         (omega (arith, long), before k a);
   }
+
+-- behind all others
+pub insert_end : (xs : List ℕ) (at v : ℕ) → length xs ≤ at → insert xs at v ≡ xs ++ v ∷ []
+insert_end xs at v ge = ap₂ (λ p q. p ++ v ∷ q) (take_all at xs ge) (drop_all at xs ge)
 
 pub insert_made : {xs ys zs : List ℕ} (at v : ℕ) → ys ≡ xs → IsStrictlyIncreasing xs → at ≤ length ys → ((k : ℕ) → k < at → get_or ys k 0 < v) →
     ((k : ℕ) → at ≤ k → k < length ys → v ≤ get_or ys k 0) → (at < length xs → get_or xs at 0 ≢ v) → zs ≡ insert xs at v → Inserts xs zs v

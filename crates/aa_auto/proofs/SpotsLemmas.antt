@@ -1,40 +1,15 @@
 -- The closed set of the positions that a byte leads to is that of the longer text.
 use Rattle.std.proofs.Common.{Contains, ◌≡◌, ℕ, ◌+◌, ◌-◌, ◌<◌, ◌↔◌, ◌⊎◌, Option, Some, None, List, [], ◌∷◌, ◌++◌}
-use Rattle.std.proofs.Common.{length, get_or, suc, zero, refl, sym, ap, ◌∙◌, subst, inl, inr, ⊎_elim, arith, length-append, append_assoc}
+use Rattle.std.proofs.Common.{length, get_or, suc, zero, refl, sym, ap, ◌∙◌, subst, inl, inr, ⊎_elim, arith}
 use Rattle.aa_pattern.specs.declared.item.Item.{Item}
 use Rattle.aa_pattern.specs.Globs.{Matches}
 use Rattle.aa_auto.specs.declared.nodes.Node.{Node}
 use Rattle.aa_auto.specs.declared.nodes.Node.TheVariants.{Start, After, Same, Join}
 use Rattle.aa_pattern.specs.Steps.{Begins, Continues, IsSkippable}
-use Rattle.aa_auto.specs.Nodes.{Fits, IsRight, AllRight}
 use Rattle.aa_auto.specs.Merged.{Tells}
 use Rattle.aa_auto.specs.Closed.{IsClosure}
 use Rattle.aa_auto.specs.Spots.{Stands, IsSpotsOf, Jumps, AreJumps, Seeds, AreSeeds, Leads, Stood, BeginsNode, ContinuesNode, LeadAlike}
 use Rattle.aa_pattern.proofs.Texts.{Matches-skip, Matches-grow}
-
--- each list fits in itself
-fits_behind : (front xs : List (List Item)) → Fits (front ++ xs) (length front) xs
-fits_behind front [] = tt
-fits_behind front (x ∷ xs) =
-    let e : length (front ++ x ∷ []) ≡ length front + 1 = omega (arith, length-append front (x ∷ [])) in
-    (at_end front, subst (λ n. Fits (front ++ x ∷ xs) n xs) e (subst (λ z. Fits z (length (front ++ x ∷ [])) xs) (append_assoc front (x ∷ []) xs) (fits_behind (front ++ x ∷ []) xs)))
-  where
-    at_end : (front : List (List Item)) → get_or (front ++ x ∷ xs) (length front) [] ≡ x
-    at_end [] = refl
-    at_end (y ∷ front) = at_end front
-
-pub fits_itself : (hs : List (List Item)) → Fits hs 0 hs
-fits_itself hs = fits_behind [] hs
-
-right_at : (hs : List (List Item)) (k : ℕ) (nodes : List Node) (n : ℕ) → AllRight hs k nodes → n < length nodes → IsRight hs (k + n) (get_or nodes n Start)
-right_at hs k [] n all lt = absurd (omega arith)
-right_at hs k (x ∷ nodes) zero all lt = let e : k + 0 ≡ k = omega arith in subst (λ m. IsRight hs m x) (sym e) all.0
-right_at hs k (x ∷ nodes) (suc n) all lt =
-    let e : (k + 1) + n ≡ k + suc n = omega arith in
-    subst (λ m. IsRight hs m (get_or nodes n Start)) e (right_at hs (k + 1) nodes n all.1 (omega arith))
-
-pub right_of : (hs : List (List Item)) (nodes : List Node) (n : ℕ) → AllRight hs 0 nodes → n < length nodes → IsRight hs n (get_or nodes n Start)
-right_of hs nodes n all lt = let e : 0 + n ≡ n = omega arith in subst (λ m. IsRight hs m (get_or nodes n Start)) e (right_at hs 0 nodes n all lt)
 
 module _ (hs : List (List Item)) where
   -- a position before n leads there without a byte

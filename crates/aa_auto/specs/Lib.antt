@@ -12,6 +12,7 @@ pub mod Merged
 pub mod Nets
 pub mod Nodes
 pub mod Noted
+pub mod Positions
 pub mod Sorted
 pub mod Spots
 pub mod Tables

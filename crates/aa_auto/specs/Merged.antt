@@ -1,13 +1,13 @@
 -- Positions of which those with the same head are one.
-use Rattle.std.specs.Prelude.{◌≡◌, ◌↔◌, ◌⊎◌, ℕ, ◌-◌, ◌<◌, ◌≤◌, List, [], ◌∷◌, ◌++◌, All, length, map, slice_index_or}
-use Rattle.std.specs.List.Sorted.{IsStrictlyIncreasing}
+use Rattle.std.specs.Prelude.{◌≡◌, ◌↔◌, ◌⊎◌, ℕ, ◌+◌, ◌-◌, ◌<◌, List, [], ◌∷◌, ◌++◌, All, length, map, slice_index_or}
 use Rattle.aa_pattern.specs.declared.item.Item.{Item}
 use Rattle.aa_pattern.specs.Globs.{Matches}
 use Rattle.aa_pattern.specs.Steps.{IsSimple, Begins, Continues, IsSkippable}
 use Rattle.aa_auto.specs.declared.nodes.Node.{Node}
 use Rattle.aa_auto.specs.declared.nodes.Node.TheVariants.{Start, After, Same, Join}
 use Rattle.aa_auto.specs.declared.merging.Merged.{Merged}
-use Rattle.aa_auto.specs.Nodes.{head_at, SomeOf, AllRight}
+use Rattle.aa_auto.specs.Classes.{IsSameFor}
+use Rattle.aa_auto.specs.Nodes.{head_at, SomeOf, AreSameNodes}
 
 -- both match the same texts
 abbrev pub SameTexts : List Item → List Item → Type 0
@@ -58,64 +58,91 @@ Tells ks n (After item) = IsSimple item.now × (0 < n) × SameTexts (head_at ks 
 Tells ks n (Same p) = (p < n) × SameTexts (head_at ks n) (head_at ks p)
 Tells ks n (Join ends) = All (λ e. e < n) ends.items × ((t : List ℕ) → Matches (head_at ks n) t ↔ SomeOf ks ends.items t)
 
--- each node tells its texts, and each position so far has one with a head of the same texts
-pub record IsMerging (before nodes : List Node) (firsts of : List ℕ) : Type 0 where
+-- each node tells its texts, where hs are the heads of the patterns' positions
+pub record IsMerging (hs : List (List Item)) (nodes : List Node) (firsts : List ℕ) : Type 0 where
   pub count : length firsts ≡ length nodes
-  pub few : length of ≤ length before
-  pub within : All (λ m. m < length nodes) of
-  pub inside : All (λ f. f < length before) firsts
-  pub tells : (hs : List (List Item)) → AllRight hs 0 before → (m : ℕ) → m < length nodes → Tells (kept hs firsts) m (slice_index_or nodes m Start)
-  pub same : (hs : List (List Item)) → AllRight hs 0 before → (n : ℕ) → n < length of → SameTexts (head_at hs n) (head_at (kept hs firsts) (slice_index_or of n 0))
+  pub inside : All (λ f. f < length hs) firsts
+  pub tells : (m : ℕ) → m < length nodes → Tells (kept hs firsts) m (slice_index_or nodes m Start)
 
--- positions with the same head are one
-abbrev pub IsMerged : Merged → Type 0
-IsMerged m = IsMerging m.before.now m.nodes.items m.firsts.items m.of.items
+-- each head has the texts of one that is kept
+abbrev pub AreMet : List (List Item) → List (List Item) → Type 0
+AreMet hs ks = (n : ℕ) → n < length hs → (m : ℕ) × (m < length ks) × SameTexts (head_at hs n) (head_at ks m)
 
--- the position k has the texts of m
-pub record Names (before nodes : List Node) (firsts : List ℕ) (k m : ℕ) : Type 0 where
-  pub within : m < length nodes
-  pub same : (hs : List (List Item)) → AllRight hs 0 before → SameTexts (head_at hs k) (head_at (kept hs firsts) m)
+-- a position for each of these heads, where those with the same one are one
+pub record IsMerged (hs : List (List Item)) (m : Merged) : Type 0 where
+  pub merging : IsMerging hs m.nodes.items m.firsts.items
+  pub met : AreMet hs (kept hs m.firsts.items)
+  pub many : m.many ≡ length hs
+
+-- each position has its head's number
+abbrev pub IsWhole : Merged → Type 0
+IsWhole m = length m.firsts.items ≡ length m.nodes.items
+
+-- the position has the texts of h
+abbrev pub Names : List (List Item) → Merged → ℕ → List Item → Type 0
+Names hs m n h = (n < length m.nodes.items) × SameTexts h (head_at (kept hs m.firsts.items) n)
+
+-- a text is told exactly where the head of one of the positions matches it
+pub record AreEnds (hs : List (List Item)) (m : Merged) (ends : List ℕ) (Told : List ℕ → Type 0) : Type 0 where
+  pub within : All (λ e. e < length m.nodes.items) ends
+  pub told : (t : List ℕ) → Told t ↔ SomeOf (kept hs m.firsts.items) ends t
+
+-- one more position of the patterns was counted
+pub record Counts (old new : Merged) : Type 0 where
+  pub nodes : new.nodes ≡ old.nodes
+  pub firsts : new.firsts ≡ old.firsts
+  pub many : new.many ≡ old.many + 1
 
 -- a node was added
 pub record Pushes (old new : Merged) (node : Node) (first : ℕ) : Type 0 where
   pub nodes : new.nodes.items ≡ old.nodes.items ++ node ∷ []
   pub firsts : new.firsts.items ≡ old.firsts.items ++ first ∷ []
-  pub of : new.of ≡ old.of
-  pub before : new.before.now ≡ old.before.now
+  pub many : new.many ≡ old.many
 
--- nodes may have been added
-pub record Finds (old new : Merged) (k m : ℕ) : Type 0 where
-  pub merged : IsMerged new
-  pub of : new.of ≡ old.of
-  pub before : new.before.now ≡ old.before.now
-  pub names : Names new.before.now new.nodes.items new.firsts.items k m
-
--- and the last position has the texts of the source
-pub record Goes (old new : Merged) (source : ℕ) : Type 0 where
-  pub merged : IsMerged new
-  pub of : new.of ≡ old.of
-  pub before : new.before.now ≡ old.before.now
-  pub some : 0 < length new.nodes.items
-  pub same : (hs : List (List Item)) → AllRight hs 0 new.before.now → SameTexts (head_at (kept hs new.firsts.items) (length new.nodes.items - 1)) (head_at (kept hs new.firsts.items) source)
-
--- each number is that of the position
-pub record AreMapped (of ends out : List ℕ) : Type 0 where
-  pub many : length out ≡ length ends
-  pub exact : (k : ℕ) → k < length ends → slice_index_or out k 0 ≡ slice_index_or of (slice_index_or ends k 0) 0
+-- the last position is the source, or it is named there as the same
+abbrev pub Goes : Merged → Merged → ℕ → Type 0
+Goes old new source =
+    ((new ≡ old) × (source + 1 ≡ length old.nodes.items))
+    ⊎ Pushes old new (Same source) (slice_index_or old.firsts.items source 0)
 
 -- numbers were added
 abbrev pub Longer : List ℕ → List ℕ → Type 0
 Longer old new = (more : List ℕ) × (new ≡ old ++ more)
 
--- the ends of the first k patterns, which rise
-pub record AreEnds (before nodes : List Node) (firsts ends out : List ℕ) (k : ℕ) : Type 0 where
-  pub many : length out ≡ k
-  pub rising : IsStrictlyIncreasing out
-  pub within : All (λ e. e < length nodes) out
-  pub same : (hs : List (List Item)) → AllRight hs 0 before → (n : ℕ) → n < k → SameTexts (head_at hs (slice_index_or ends n 0)) (head_at (kept hs firsts) (slice_index_or out n 0))
+-- Where h is as `If` says, its `heads` were added, and then it is as `Then` says. Bytes are told apart as before, and where they aren't `Same`.
+pub record Grows (old new : Merged) (If : List (List Item) → List Item → Type 0) (heads : List Item → List (List Item))
+    (Then : List (List Item) → List Item → Type 0) (Same : ℕ → ℕ → Type 0) : Type 0 where
+  pub whole : IsWhole new
+  pub longer : Longer old.firsts.items new.firsts.items
+  pub merged : (hs : List (List Item)) (h : List Item) → IsMerged hs old → If hs h → IsMerged (hs ++ heads h) new × Then (hs ++ heads h) h
+  pub same : (a b : ℕ) → AreSameNodes new.nodes.items a b ↔ (AreSameNodes old.nodes.items a b × Same a b)
 
--- all positions are merged
-pub record AreMerged (before nodes : List Node) (firsts of ends out : List ℕ) : Type 0 where
-  pub merging : IsMerging before nodes firsts of
-  pub whole : length of ≡ length before
-  pub ended : AreEnds before nodes firsts ends out (length ends)
+-- all pairs of bytes
+abbrev pub IsAnyPair : ℕ → ℕ → Type 0
+IsAnyPair a b = Unit {0}
+
+-- the position of the empty head
+abbrev pub AddsStart : Merged → Merged → ℕ → Type 0
+AddsStart old new n = (n < length new.nodes.items) × Grows old new (λ hs h. h ≡ []) (λ h. h ∷ []) (λ hs h. Names hs new n h) IsAnyPair
+
+-- the position behind the source and an item
+abbrev pub AddsSimple : Merged → Merged → ℕ → Item → ℕ → Type 0
+AddsSimple old new source item n =
+    (n < length new.nodes.items)
+    × Grows old new (λ hs h. Names hs old source h) (λ h. (h ++ item ∷ []) ∷ []) (λ hs h. Names hs new n (h ++ item ∷ [])) (IsSameFor item)
+
+-- the source once more
+abbrev pub AddsSame : Merged → Merged → ℕ → Type 0
+AddsSame old new source = Grows old new (λ hs h. Names hs old source h) (λ h. h ∷ []) (λ hs h. Names hs new source h) IsAnyPair
+
+-- the position whose head matches where that of one of these does
+abbrev pub AddsJoin : Merged → Merged → List ℕ → ℕ → Type 0
+AddsJoin old new ends n =
+    (n < length new.nodes.items)
+    × Grows old new (λ hs h. AreEnds hs old ends (Matches h)) (λ h. h ∷ []) (λ hs h. Names hs new n h) IsAnyPair
+
+-- a new position with the texts of the source
+abbrev pub AddsEnd : Merged → Merged → ℕ → ℕ → Type 0
+AddsEnd old new source n =
+    (n ≡ length old.nodes.items) × (n < length new.nodes.items)
+    × Grows old new (λ hs h. Names hs old source h) (λ h. []) (λ hs h. Names hs new n h) IsAnyPair

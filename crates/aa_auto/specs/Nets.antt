@@ -27,7 +27,7 @@ kept_of net = kept (heads_of net) net.firsts.items
 -- each head of the patterns matches the texts of some position's; a node and a row of jumps for each, and where the patterns end
 pub record IsNetOf (net : Net) : Type 0 where
   pub ends : List ℕ
-  pub alike : (a b : ℕ) → AreSameNodes net.plain.items a b ↔ IsSame (patterns_of net) a b
+  pub alike : (a b : ℕ) → AreSameNodes net.nodes.items a b ↔ IsSame (patterns_of net) a b
   pub many : length net.firsts.items ≡ length net.nodes.items
   pub inside : All (λ f. f < length (heads_of net)) net.firsts.items
   pub met : (n : ℕ) → n < length (heads_of net) → (m : ℕ) × (m < length net.nodes.items) × SameTexts (head_at (heads_of net) n) (head_at (kept_of net) m)

@@ -13,6 +13,7 @@ mod moves;
 mod net;
 mod nodes;
 mod noted;
+mod positions;
 mod sets;
 mod sorted;
 

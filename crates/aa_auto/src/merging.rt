@@ -1,39 +1,26 @@
 //! Positions with the same head are one.
 
-ghost use Rattle.std.specs.Prelude.{◌↔◌, ◌<◌, ℕ, List, All, IsTrue, IfOk, length};
-ghost use Rattle.aa_auto.specs.Nodes.{HaveSources};
-ghost use Rattle.aa_auto.specs.Merged.{AgreeOn, IsAlike, IsAt, IsBehind, IsJoin, HasStart, AreMerged};
+ghost use Rattle.std.specs.Prelude.{◌↔◌, ◌<◌, ℕ, IsTrue};
+ghost use Rattle.aa_auto.specs.Merged.{AgreeOn, IsAlike, IsAt, IsBehind, IsJoin, HasStart};
 
 use crate::nodes::Node;
 use aa_pattern::{Item, begins, continues, is_skippable};
 use indexmap::IndexMap;
 use std::alloc::{AllocError, Global};
 
-/// Positions, of which those with the same head are one. Where the next position goes on from another than the last one, that one is
-/// named before it as the same.
+/// Positions of patterns, of which those with the same head are one. Where the next position goes on from another than the last one,
+/// that one is named before it as the same.
+// Items are added one by one, so that memory is taken for what is kept alone.
 #[derive(Drop)]
-struct Merged<'b, 'a> {
-    /// What stands before each position of the patterns.
-    before: &'b [Node<'a>],
-    /// What stands before each position.
-    nodes: Vec<Node<'a>>,
-    /// Of each position, one of the patterns with its head.
-    firsts: Vec<usize>,
-    /// Of each position of the patterns so far, one with its head.
-    of: Vec<usize>,
-    /// Where a head may be found.
-    memo: IndexMap<u64, usize>,
-}
-
-/// Positions, of which those with the same head are one.
-#[derive(Drop)]
-pub(crate) struct Kept<'a> {
+pub(crate) struct Merged<'a> {
     /// What stands before each position.
     pub(crate) nodes: Vec<Node<'a>>,
-    /// Of each position, one of the patterns with its head.
-    pub(crate) firsts: Vec<usize>,
-    /// Where the patterns end.
-    pub(crate) ends: Vec<usize>,
+    /// Of each position, the number of one of the patterns' positions with its head.
+    pub(crate) firsts: Vec<u32>,
+    /// How many positions the patterns so far have.
+    many: u32,
+    /// Where a head may be found that doesn't stand right behind its source's position.
+    memo: IndexMap<u64, usize>,
 }
 
 /// Whether both items allow the byte at the beginning, or neither does, and so behind it.
@@ -164,49 +151,52 @@ fn key_of_ends(ends: &[usize]) -> u64 {
     key
 }
 
-impl<'b, 'a> Merged<'b, 'a> {
-    ghost use Rattle.std.specs.Prelude.{◌≡◌, ◌<◌, All, IfOk, IfSome, OnOk, length, slice_index_or};
-    ghost use Rattle.aa_auto.specs.declared.nodes.Node.TheVariants.{Start, After, Join};
-    ghost use Rattle.aa_auto.specs.Nodes.{HasSources, HaveSources};
-    ghost use Rattle.aa_auto.specs.Merged.{IsMerged, IsBehind, IsJoin, Pushes, Finds, Goes, AreEnds, AreMapped, HasEnds, Longer};
+/// Notes where the item behind the source may be found, unless it stands right behind it.
+fn remember(
+    memo: &mut IndexMap<u64, usize>,
+    source: usize,
+    item: &Item,
+    new: usize,
+) -> Result<(), AllocError> {
+    if new > 0 && source < new - 1 {
+        memo.insert(key_of(source, code_of(item)), new)?;
+    }
+    Ok(())
+}
 
-    /// Where each position of the patterns has one with its head.
-    fn of_all(alloc: Global, before: &'b [Node<'a>]) -> Result<Self, AllocError>
-        requires { HaveSources before.now }
-        ensures merged { IfOk result IsMerged }
-        ensures whole { IfOk result (λ all. length all.of.items ≡ length before.now) }
-        ensures before { IfOk result (λ all. all.before.now ≡ before.now) }
+impl<'a> Merged<'a> {
+    ghost use Rattle.std.specs.Prelude.{◌≡◌, ◌<◌, IfOk, IfSome, OnOk, length, []};
+    ghost use Rattle.aa_pattern.specs.Steps.{IsSimple};
+    ghost use Rattle.aa_auto.specs.Merged.{IsWhole, IsMerged, IsBehind, IsJoin, Counts, Pushes, Goes, AddsStart, AddsSimple, AddsSame, AddsJoin, AddsEnd};
+
+    /// No positions.
+    pub(crate) fn new(alloc: Global) -> Self
+        ensures whole { IsWhole result }
+        ensures merged { IsMerged [] result }
+        ensures none { result.nodes.items ≡ [] }
     {
-        let mut all = Merged {
-            before,
+        Merged {
             nodes: Vec::new(alloc),
             firsts: Vec::new(alloc),
-            of: Vec::new(alloc),
+            many: 0,
             memo: IndexMap::new(alloc),
-        };
-        all.number_all(alloc)?;
-        Ok(all)
+        }
     }
 
-    /// Finds a position for each of the patterns.
-    fn number_all(&mut self, alloc: Global) -> Result<(), AllocError>
-        requires sources { HaveSources self.old.before.now }
-        requires merged { IsMerged self.old }
-        requires none { length self.old.of.items ≡ 0 }
-        ensures merged { OnOk result (IsMerged self.new) }
-        ensures whole { OnOk result (length self.new.of.items ≡ length self.old.before.now) }
-        ensures before { OnOk result (self.new.before.now ≡ self.old.before.now) }
+    /// Counts a position of the patterns.
+    // So many positions take more than 64 GiB, so no run can tell that they are refused as want of memory.
+    fn count(&mut self) -> Result<(), AllocError>
+        ensures { OnOk result (Counts self.old self.new) }
     {
-        let before = self.before;
-        for node in before {
-            let number = self.number(alloc, node)?;
-            self.of.push(number)?;
+        if self.many == u32::MAX {
+            return Err(AllocError);
         }
+        self.many += 1;
         Ok(())
     }
 
     /// Adds a position.
-    fn push(&mut self, node: Node<'a>, first: usize) -> Result<(), AllocError>
+    fn push(&mut self, node: Node<'a>, first: u32) -> Result<(), AllocError>
         ensures { OnOk result (Pushes self.old self.new node.entry first) }
     {
         self.nodes.push(node)?;
@@ -215,10 +205,16 @@ impl<'b, 'a> Merged<'b, 'a> {
     }
 
     /// A position where the item stands behind the source, if it is found.
-    fn find_behind(&self, key: u64, source: usize, item: &Item) -> Option<usize>
+    // Most stand right behind theirs, where they are looked for first and aren't noted.
+    fn find_behind(&self, source: usize, item: &Item) -> Option<usize>
+        requires { source < length self.now.nodes.items }
         ensures { IfSome result (λ n. IsBehind self.now.nodes.items n source item.now) }
     {
-        let old = *self.memo.get(&key)?;
+        let next = source + 1;
+        if is_behind(self.nodes.as_slice(), next, source, item) {
+            return Some(next);
+        }
+        let old = *self.memo.get(&key_of(source, code_of(item)))?;
         if is_behind(self.nodes.as_slice(), old, source, item) {
             return Some(old);
         }
@@ -238,7 +234,7 @@ impl<'b, 'a> Merged<'b, 'a> {
 
     /// The last position is then the source, or the same.
     fn go_to(&mut self, source: usize) -> Result<(), AllocError>
-        requires merged { IsMerged self.old }
+        requires whole { IsWhole self.old }
         requires source { source < length self.old.nodes.items }
         ensures { OnOk result (Goes self.old self.new source) }
     {
@@ -249,139 +245,83 @@ impl<'b, 'a> Merged<'b, 'a> {
         self.push(Node::Same(source), first)
     }
 
-    /// The position of the next head, which is empty.
-    fn start(&mut self) -> Result<usize, AllocError>
-        requires merged { IsMerged self.old }
-        requires within { length self.old.of.items < length self.old.before.now }
-        requires node { slice_index_or self.old.before.now (length self.old.of.items) Start ≡ Start }
-        ensures { IfOk result (λ m. Finds self.old self.new (length self.old.of.items) m) }
+    /// The position of the empty head, where a pattern begins.
+    pub(crate) fn start(&mut self) -> Result<usize, AllocError>
+        requires whole { IsWhole self.old }
+        ensures { IfOk result (λ n. AddsStart self.old self.new n) }
     {
+        let first = self.many;
+        self.count()?;
         if has_start(self.nodes.as_slice()) {
             return Ok(0);
         }
         let new = self.nodes.len();
-        let position = self.of.len();
-        self.push(Node::Start, position)?;
+        self.push(Node::Start, first)?;
         Ok(new)
     }
 
-    /// The position of the next head, which ends in the item.
-    fn after(&mut self, item: &'a Item) -> Result<usize, AllocError>
-        requires merged { IsMerged self.old }
-        requires some { 0 < length self.old.of.items }
-        requires within { length self.old.of.items < length self.old.before.now }
-        requires node { slice_index_or self.old.before.now (length self.old.of.items) Start ≡ After item }
-        ensures { IfOk result (λ m. Finds self.old self.new (length self.old.of.items) m) }
+    /// The position behind the source and an item, which is no choice.
+    pub(crate) fn after(&mut self, source: usize, item: &'a Item) -> Result<usize, AllocError>
+        requires whole { IsWhole self.old }
+        requires source { source < length self.old.nodes.items }
+        requires simple { IsSimple item.now }
+        ensures { IfOk result (λ n. AddsSimple self.old self.new source item.now n) }
     {
-        let position = self.of.len();
-        let source = self.of[position - 1];
-        let key = key_of(source, code_of(item));
-        if let Some(old) = self.find_behind(key, source, item) {
+        let first = self.many;
+        self.count()?;
+        if let Some(old) = self.find_behind(source, item) {
             return Ok(old);
         }
         self.go_to(source)?;
         let new = self.nodes.len();
-        self.push(Node::After(item), position)?;
-        self.memo.insert(key, new)?;
+        self.push(Node::After(item), first)?;
+        remember(&mut self.memo, source, item, new)?;
         Ok(new)
     }
 
-    /// The positions with the heads of those of the patterns.
-    fn mapped(&self, alloc: Global, ends: &[usize]) -> Result<Vec<usize>, AllocError>
-        requires { All (λ e. e < length self.now.of.items) ends.now }
-        ensures { IfOk result (λ out. AreMapped self.now.of.items ends.now out.items) }
+    /// Passes over the position where a branch begins, which has the head of the source.
+    pub(crate) fn same(&mut self, source: usize) -> Result<(), AllocError>
+        requires whole { IsWhole self.old }
+        ensures { OnOk result (AddsSame self.old self.new source) }
     {
-        let mut out = Vec::new(alloc);
-        for end in ends {
-            out.push(self.of[*end])?;
-        }
-        Ok(out)
+        self.count()
     }
 
-    /// The position of the next head, which ends in a choice whose branches end at these positions of the patterns.
-    fn join(&mut self, alloc: Global, ends: &[usize]) -> Result<usize, AllocError>
-        requires merged { IsMerged self.old }
-        requires ends { All (λ e. e < length self.old.of.items) ends.now }
-        requires within { length self.old.of.items < length self.old.before.now }
-        requires node { HasEnds (slice_index_or self.old.before.now (length self.old.of.items) Start) ends.now }
-        ensures { IfOk result (λ m. Finds self.old self.new (length self.old.of.items) m) }
+    /// The position behind a choice whose branches end at these.
+    pub(crate) fn join(&mut self, ends: Vec<usize>) -> Result<usize, AllocError>
+        requires whole { IsWhole self.old }
+        ensures { IfOk result (λ n. AddsJoin self.old self.new ends.items n) }
     {
-        let own = self.mapped(alloc, ends)?;
-        let key = key_of_ends(own.as_slice());
-        if let Some(old) = self.find_join(key, own.as_slice()) {
+        let first = self.many;
+        self.count()?;
+        let key = key_of_ends(ends.as_slice());
+        if let Some(old) = self.find_join(key, ends.as_slice()) {
             return Ok(old);
         }
         let new = self.nodes.len();
-        let position = self.of.len();
-        self.push(Node::Join(own), position)?;
+        self.push(Node::Join(ends), first)?;
         self.memo.insert(key, new)?;
         Ok(new)
     }
 
-    /// The position of the next head.
-    fn number(&mut self, alloc: Global, node: &'b Node<'a>) -> Result<usize, AllocError>
-        requires merged { IsMerged self.old }
-        requires sources { HasSources node.now (length self.old.of.items) }
-        requires within { length self.old.of.items < length self.old.before.now }
-        requires node { slice_index_or self.old.before.now (length self.old.of.items) Start ≡ node.now }
-        ensures { IfOk result (λ m. Finds self.old self.new (length self.old.of.items) m) }
+    /// The positions, and the numbers of their heads.
+    pub(crate) fn into_parts(self) -> (Vec<Node<'a>>, Vec<u32>)
+        ensures nodes { result.0 ≡ self.entry.nodes }
+        ensures firsts { result.1 ≡ self.entry.firsts }
     {
-        match node {
-            Node::Start => self.start(),
-            Node::After(item) => self.after(item),
-            Node::Same(from) => Ok(self.of[*from]),
-            Node::Join(ends) => self.join(alloc, ends.as_slice()),
-        }
+        let Merged { nodes, firsts, .. } = self;
+        (nodes, firsts)
     }
 
     /// Adds a position for the end of a pattern, which no other pattern has.
-    fn end(&mut self, end: usize) -> Result<usize, AllocError>
-        requires merged { IsMerged self.old }
-        requires end { end < length self.old.of.items }
-        ensures finds { IfOk result (λ m. Finds self.old self.new end m) }
-        ensures last { IfOk result (λ m. m ≡ length self.old.nodes.items) }
-        ensures more { IfOk result (λ m. Longer self.old.firsts.items self.new.firsts.items) }
+    pub(crate) fn end(&mut self, source: usize) -> Result<usize, AllocError>
+        requires whole { IsWhole self.old }
+        requires source { source < length self.old.nodes.items }
+        ensures { IfOk result (λ n. AddsEnd self.old self.new source n) }
     {
-        let source = self.of[end];
         let first = self.firsts[source];
         let new = self.nodes.len();
         self.push(Node::Same(source), first)?;
         Ok(new)
     }
-
-    /// Adds positions for the ends of the patterns.
-    fn ends(&mut self, alloc: Global, ends: &[usize]) -> Result<Vec<usize>, AllocError>
-        requires merged { IsMerged self.old }
-        requires within { All (λ e. e < length self.old.of.items) ends.now }
-        ensures merged { OnOk result (IsMerged self.new) }
-        ensures of { OnOk result (self.new.of ≡ self.old.of) }
-        ensures before { OnOk result (self.new.before.now ≡ self.old.before.now) }
-        ensures ends { IfOk result (λ out. AreEnds self.new.before.now self.new.nodes.items self.new.firsts.items ends.now out.items (length ends.now)) }
-    {
-        let mut out = Vec::new(alloc);
-        for end in ends {
-            out.push(self.end(*end)?)?;
-        }
-        Ok(out)
-    }
-}
-
-/// The positions of the patterns, of which those with the same head are one, and where the patterns end.
-pub(crate) fn merge_nodes<'a>(
-    alloc: Global,
-    before: &[Node<'a>],
-    ends: &[usize],
-) -> Result<Kept<'a>, AllocError>
-    requires sources { HaveSources before.now }
-    requires ends { All (λ e. e < length before.now) ends.now }
-    ensures { IfOk result (λ r. (of : List ℕ) × AreMerged before.now r.nodes.items r.firsts.items of ends.now r.ends.items) }
-{
-    let mut all = Merged::of_all(alloc, before)?;
-    let out = all.ends(alloc, ends)?;
-    let Merged { nodes, firsts, .. } = all;
-    Ok(Kept {
-        nodes,
-        firsts,
-        ends: out,
-    })
 }

@@ -12,10 +12,10 @@ use crate::classes::{Classes, classes_of};
 use crate::closing::closed;
 use crate::finals::{finals_of, numbers_at};
 use crate::jumps::jumps_of;
-use crate::merging::{Kept, merge_nodes};
 use crate::moves::{beginnings, moved};
-use crate::nodes::{Node, nodes_of};
+use crate::nodes::Node;
 use crate::noted::{Noted, noted_of};
+use crate::positions::positions_of;
 use aa_pattern::Pattern;
 use std::alloc::{AllocError, Global};
 
@@ -24,12 +24,10 @@ use std::alloc::{AllocError, Global};
 pub(crate) struct Net<'a> {
     /// The patterns that it is of.
     pub(crate) patterns: &'a [&'a Pattern],
-    /// What stands before each position of the patterns.
-    pub(crate) plain: Vec<Node<'a>>,
-    /// What stands before each position, where those with the same head are one.
+    /// What stands before each position, where those of the patterns with the same head are one.
     pub(crate) nodes: Vec<Node<'a>>,
-    /// Of each position, one of the patterns with its head.
-    pub(crate) firsts: Vec<usize>,
+    /// Of each position, the number of one of the patterns' positions with its head.
+    pub(crate) firsts: Vec<u32>,
     /// The positions that each one leads to without a byte.
     pub(crate) jumps: Vec<Vec<u32>>,
     /// The number of the pattern that ends at each position.
@@ -70,17 +68,11 @@ pub(crate) fn net_of<'a>(alloc: Global, patterns: &'a [&'a Pattern]) -> Result<N
     ensures net { IfOk result IsNetOf }
     ensures patterns { IfOk result (λ net. patterns_of net ≡ pointed patterns.now) }
 {
-    let (plain, plain_ends) = nodes_of(alloc, patterns)?;
-    let kept = merge_nodes(alloc, plain.as_slice(), plain_ends.as_slice())?;
-    let Kept {
-        nodes,
-        firsts,
-        ends,
-    } = kept;
+    let (all, ends) = positions_of(alloc, patterns)?;
+    let (nodes, firsts) = all.into_parts();
     let (jumps, finals) = links_of(alloc, nodes.as_slice(), ends.as_slice())?;
     Ok(Net {
         patterns,
-        plain,
         nodes,
         firsts,
         jumps,
@@ -123,7 +115,7 @@ impl Net<'_> {
         requires { IsNetOf self.now }
         ensures { IfOk result (λ c. AreClassesOf (patterns_of self.now) c.of.items c.bytes.items) }
     {
-        classes_of(alloc, self.plain.as_slice())
+        classes_of(alloc, self.nodes.as_slice())
     }
 
     /// Makes `scratch.set` the positions where the empty text stands.

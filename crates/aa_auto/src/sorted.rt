@@ -53,6 +53,11 @@ pub(crate) fn insert(set: &mut Vec<u32>, value: u32) -> Result<(), AllocError>
     ensures { OnOk result (Inserts set.old.items set.new.items value) }
 {
     let count = count_below(set.as_slice(), value);
+    let many = set.len();
+    if count == many {
+        set.push(value)?;
+        return Ok(());
+    }
     if is_at(set.as_slice(), count, value) {
         return Ok(());
     }

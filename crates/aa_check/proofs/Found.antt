@@ -8,13 +8,14 @@ use Rattle.aa_files.specs.Texts.{texts}
 use Rattle.aa_text.specs.declared.fault.FaultReport.{FaultReport}
 use Rattle.aa_files.specs.declared.unit.UnitFault.{UnitFault}
 use Rattle.aa_files.specs.declared.unit.UnitFault.TheVariants.{NoMemory}
+use Rattle.aa_faults.specs.Further.{AreFurther}
 use Rattle.aa_check.specs.declared.report.ProfileReport.{ProfileReport}
 use Rattle.aa_check.specs.declared.report.FileReport.{FileReport}
 use Rattle.aa_check.specs.Counts.{CountsPolicy}
 use Rattle.aa_check.specs.Names.{first_with, twice_text, warning_of, warnings_of, IsWarned}
 use Rattle.aa_command.specs.Setting.{Setting}
 use Rattle.aa_diagnostics.specs.Reports.{IsSaid}
-use Rattle.aa_check.specs.Checked.{HasOnly, IsFoundOf, Accepted, Refused, IsFound, Read, Unread, IsNext, AreFound}
+use Rattle.aa_check.specs.Checked.{most_further, HasFault, HasOnly, IsFoundOf, Accepted, Refused, IsFound, Read, Unread, IsNext, AreFound}
 
 -- what is said of a unit is not want of memory
 pub said_of_more : (e : UnitFault) (fault : FaultReport) (unread : Bool) → IsSaid e fault unread → e ≢ NoMemory
@@ -25,19 +26,23 @@ no_texts : (lines : List (Vec ℕ Global)) → texts lines ≡ [] → lines ≡ 
 no_texts [] none = refl
 no_texts (line ∷ lines) none = cc
 
-only_warned : (files : List FileReport) (f g : FileReport) (w : IsWarned files f g) {fault : _} → HasOnly fault f → HasOnly fault g
-only_warned files f g w only = record {
-  fault_is = w.fault ∙ only.fault_is;
-  profiles = ap (λ v. v.items) w.profiles ∙ only.profiles;
-  passed_over = ap (λ v. v.items) w.passed_over ∙ only.passed_over;
-  warnings = no_texts g.warnings.items (w.warnings ∙ ap (flat_map (warning_of files f)) only.profiles);
+has_warned : (files : List FileReport) (f g : FileReport) (w : IsWarned files f g) {fault : _} → HasFault fault f → HasFault fault g
+has_warned files f g w has = record {
+  fault_is = w.fault ∙ has.fault_is;
+  profiles = ap (λ v. v.items) w.profiles ∙ has.profiles;
+  passed_over = ap (λ v. v.items) w.passed_over ∙ has.passed_over;
+  warnings = no_texts g.warnings.items (w.warnings ∙ ap (flat_map (warning_of files f)) has.profiles);
 }
 
+only_warned : (files : List FileReport) (f g : FileReport) (w : IsWarned files f g) {fault : _} → HasOnly fault f → HasOnly fault g
+only_warned files f g w only = record { has = has_warned files f g w only.has; alone = ap (λ v. v.items) w.further ∙ only.alone }
+
 of_warned : (files : List FileReport) (f g : FileReport) (w : IsWarned files f g) {folders : List (List ℕ)} {states : ℕ} {u : _} → IsFoundOf folders states u f → IsFoundOf folders states u g
-of_warned files f g w {folders} {states} {u} (Accepted policy is none counts) =
-    Accepted policy is (w.fault ∙ none)
+of_warned files f g w {folders} {states} {u} (Accepted policy is none alone counts) =
+    Accepted policy is (w.fault ∙ none) (ap (λ v. v.items) w.further ∙ alone)
     (subst (λ v. CountsPolicy u policy v.items g.passed_over.items) (sym w.profiles) (subst (λ v. CountsPolicy u policy f.profiles.items v.items) (sym w.passed_over) counts))
-of_warned files f g w (Refused e fault why told only) = Refused e fault why told (only_warned files f g w only)
+of_warned files f g w {folders} {states} {u} (Refused e fault why told has further) =
+    Refused e fault why told (has_warned files f g w has) (subst (λ v. AreFurther folders states most_further u e v.items) (sym w.further) further)
 
 -- the warnings change nothing else of what is found
 pub found_warned : (s : Setting) (path : List ℕ) (files : List FileReport) (f g : FileReport) → IsWarned files f g → IsFound s path f → IsFound s path g
@@ -61,13 +66,13 @@ found_many s before (p ∷ ps) [] found = absurd found
 found_many s before (p ∷ ps) (g ∷ gs) found = let rest = found_many s (before ++ g ∷ []) ps gs found.1 in omega arith
 
 few_of : {folders : List (List ℕ)} {states : ℕ} {u : _} (f : FileReport) → IsFoundOf folders states u f → length f.profiles.items ≤ 4096
-few_of f (Accepted policy is none counts) = let few = policy.lawful.limits.counts.few in let many = counts.many in omega arith
-few_of f (Refused e fault why told only) = subst (λ (l : List _). length l ≤ 4096) (sym only.profiles) (omega arith)
+few_of f (Accepted policy is none alone counts) = let few = policy.lawful.limits.counts.few in let many = counts.many in omega arith
+few_of f (Refused e fault why told has further) = subst (λ (l : List _). length l ≤ 4096) (sym has.profiles) (omega arith)
 
 -- a file has as many profiles as a policy may have
 pub few_found : (s : Setting) (path : List ℕ) (f : FileReport) → IsFound s path f → length f.profiles.items ≤ 4096
 few_found s path f (Read u loaded of read) = few_of f of
-few_found s path f (Unread e fault why said only) = subst (λ (l : List _). length l ≤ 4096) (sym only.profiles) (omega arith)
+few_found s path f (Unread e fault why said only) = subst (λ (l : List _). length l ≤ 4096) (sym only.has.profiles) (omega arith)
 
 -- each of the files has at most so many
 pub few_all : (s : Setting) (before : List FileReport) (paths : List (List ℕ)) (files : List FileReport) → AreFound s before paths files → All (λ (f : FileReport). length f.profiles.items ≤ 4096) files

@@ -12,23 +12,34 @@ use Rattle.aa_load.specs.UnitPolicy.{limit_of, IsPolicyOfUnit, IsFaultOfUnit}
 use Rattle.aa_files.specs.UnitFaults.{IsLoadFault}
 use Rattle.aa_files.specs.RootFaults.{IsRootFault}
 use Rattle.aa_diagnostics.specs.Reports.{IsDescribed, IsSaid}
+use Rattle.aa_faults.specs.Further.{AreFurther}
 use Rattle.aa_check.specs.declared.report.FileReport.{FileReport}
 use Rattle.aa_check.specs.declared.report.CheckReport.{CheckReport}
 use Rattle.aa_command.specs.Setting.{Setting, IsLoaded, AreRoots}
 use Rattle.aa_check.specs.Counts.{CountsPolicy}
 use Rattle.aa_check.specs.Names.{warnings_of}
 
--- nothing is found but a fault
-pub record HasOnly (fault : FaultReport) (f : FileReport) : Type 0 where
+-- how many faults are told of a file behind its first, at most
+abbrev pub most_further : ℕ
+most_further = 19
+
+-- a fault is the first that is found, and no profile is
+pub record HasFault (fault : FaultReport) (f : FileReport) : Type 0 where
   pub fault_is : f.fault ≡ Some fault
   pub profiles : f.profiles.items ≡ []
   pub passed_over : f.passed_over.items ≡ []
   pub warnings : f.warnings.items ≡ []
 
--- what is found of a unit: its policy is counted, or its fault is told
+-- nothing is found but a fault
+pub record HasOnly (fault : FaultReport) (f : FileReport) : Type 0 where
+  pub has : HasFault fault f
+  pub alone : f.further.items ≡ []
+
+-- what is found of a unit: its policy is counted, or its fault is told, and those behind it
 pub data IsFoundOf (folders : List (List ℕ)) (states : ℕ) (u : unit.Unit) (f : FileReport) : Type 0 where
-  Accepted : (policy : Policy) → IsPolicyOfUnit (limit_of states) u policy → f.fault ≡ None → CountsPolicy u policy f.profiles.items f.passed_over.items → IsFoundOf folders states u f
-  Refused : (e : PolicyFault) (fault : FaultReport) → IsFaultOfUnit (limit_of states) u e → IsDescribed u folders states e fault → HasOnly fault f → IsFoundOf folders states u f
+  Accepted : (policy : Policy) → IsPolicyOfUnit (limit_of states) u policy → f.fault ≡ None → f.further.items ≡ [] → CountsPolicy u policy f.profiles.items f.passed_over.items → IsFoundOf folders states u f
+  Refused : (e : PolicyFault) (fault : FaultReport) → IsFaultOfUnit (limit_of states) u e → IsDescribed u folders states e fault → HasFault fault f
+      → AreFurther folders states most_further u e f.further.items → IsFoundOf folders states u f
 
 -- what is found of the file at a path: what is found of its unit, or why that can't be read
 pub data IsFound (s : Setting) (path : List ℕ) (f : FileReport) : Type 0 where

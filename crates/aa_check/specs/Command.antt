@@ -31,6 +31,7 @@ abbrev pub check_printed : CheckOptions → CheckReport → Printed
 check_printed o r = record {
   answers = answers_in o.form o.is_quiet r;
   faults = faults_in o.form o.is_quiet r;
+  refusal = [];
   status = if r.is_unread then 3 else (if r.refused == 0 then 0 else 1);
 }
 

@@ -29,9 +29,9 @@ gcc_warning warning = warning_head ++ all_visible warning.items ++ codes "\n"
 abbrev pub gcc_warnings : Bool → List (Vec ℕ Global) → List ℕ
 gcc_warnings quiet warnings = if quiet then [] else flat_map gcc_warning warnings
 
--- the fault of a file, and what is warned of it
+-- the faults of a file, and what is warned of it
 abbrev pub gcc_file : Bool → FileReport → List ℕ
-gcc_file quiet f = gcc_fault_if f.fault ++ gcc_warnings quiet f.warnings.items
+gcc_file quiet f = gcc_fault_if f.fault ++ flat_map gcc_fault f.further.items ++ gcc_warnings quiet f.warnings.items
 
 -- what is warned of besides, and then each file
 abbrev pub gcc_report : Bool → CheckReport → List ℕ

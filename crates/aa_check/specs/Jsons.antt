@@ -1,8 +1,9 @@
 -- What `check` finds, as a JSON object.
 -- Source: own.
-use Rattle.std.specs.Prelude.{ℕ, List, ◌++◌, map, codes, decimal, is_none, option_map, Vec}
+use Rattle.std.specs.Prelude.{ℕ, List, [], ◌++◌, ◌==◌, length, if◌then◌else◌, map, codes, decimal, is_none, option_map, Vec}
 use Rattle.std.specs.declared.alloc.Global.{Global}
 use Rattle.aa_text.specs.Jsons.{json_bytes, key_text, bool_text, member_text, member_if, list_text}
+use Rattle.aa_text.specs.declared.fault.FaultReport.{FaultReport}
 use Rattle.aa_text.specs.Faults.{json_fault}
 use Rattle.aa_check.specs.declared.report.ProfileReport.{ProfileReport}
 use Rattle.aa_check.specs.declared.report.FileReport.{FileReport}
@@ -24,10 +25,14 @@ json_path f = codes "{" ++ key_text (codes "path") ++ json_bytes f.path.items ++
 abbrev pub json_warnings : List (Vec ℕ Global) → List ℕ
 json_warnings warnings = member_text (codes "warnings") (list_text (map (λ warning. json_bytes warning.items) warnings))
 
+-- the faults behind the first, as a member, where there are any
+unfoldable pub json_further : List FaultReport → List ℕ
+json_further faults = if length faults == 0 then [] else member_text (codes "further") (list_text (map json_fault faults))
+
 -- a file
 unfoldable pub json_file : FileReport → List ℕ
 json_file f =
-    json_path f ++ member_if (codes "fault") (option_map json_fault f.fault)
+    json_path f ++ member_if (codes "fault") (option_map json_fault f.fault) ++ json_further f.further.items
     ++ member_text (codes "profiles") (list_text (map json_profile f.profiles.items)) ++ json_warnings f.warnings.items ++ codes "}"
 
 -- the one object

@@ -52,6 +52,7 @@ AddsNames before profiles number after =
 pub record IsWarned (files : List FileReport) (before after : FileReport) : Type 0 where
   pub path : after.path ≡ before.path
   pub fault : after.fault ≡ before.fault
+  pub further : after.further ≡ before.further
   pub is_unread : after.is_unread ≡ before.is_unread
   pub profiles : after.profiles ≡ before.profiles
   pub passed_over : after.passed_over ≡ before.passed_over

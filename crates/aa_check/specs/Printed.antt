@@ -64,9 +64,9 @@ unfoldable pub fault_if : Option FaultReport → List ℕ
 fault_if None = []
 fault_if (Some fault) = fault_text fault
 
--- the fault of a file, and what is warned of it
+-- the faults of a file, and what is warned of it
 abbrev pub file_faults : Bool → FileReport → List ℕ
-file_faults quiet f = fault_if f.fault ++ warning_lines quiet f.warnings.items
+file_faults quiet f = fault_if f.fault ++ flat_map fault_text f.further.items ++ warning_lines quiet f.warnings.items
 
 -- what stands on standard error
 abbrev pub faults_text : Bool → CheckReport → List ℕ

@@ -1,8 +1,6 @@
 -- What `check` finds, as a SARIF log.
 -- Source: SARIF 2.1.0, sections 3.4, 3.13, 3.14, 3.20, 3.27, 3.29, 3.30; RFC 3986, section 2; RFC 8089, section 2; own.
-use Rattle.std.specs.Prelude.{ℕ, ◌/◌, ◌%◌, ◌+◌, ◌==◌, ◌&&◌, ◌||◌, nat_lt, nat_le, not, List, [], ◌∷◌, ◌++◌, map, flat_map, codes, decimal, Bool, if◌then◌else◌, is_some, Option, Some, None, Vec}
-use Rattle.std.specs.List.{filter}
-use Rattle.std.specs.Option.{option_map_or}
+use Rattle.std.specs.Prelude.{ℕ, ◌/◌, ◌%◌, ◌+◌, ◌==◌, ◌&&◌, ◌||◌, nat_lt, nat_le, not, List, [], ◌∷◌, ◌++◌, map, flat_map, codes, decimal, Bool, if◌then◌else◌, Option, Some, None, option_to_list, Vec}
 use Rattle.std.specs.Str.{is_utf8}
 use Rattle.std.specs.declared.alloc.Global.{Global}
 use Rattle.aa_text.specs.Jsons.{json_text, json_bytes, key_text, bool_text, member_text, list_text}
@@ -92,13 +90,9 @@ fault_members f = member_text (codes "message") (message_text f.message.items) +
 unfoldable pub result_text : FaultReport → List ℕ
 result_text f = rule_members f.kind.now ++ fault_members f ++ links_member f.chain.items ++ codes "}"
 
--- a file has a result where it has a fault
-abbrev pub has_result : FileReport → Bool
-has_result f = is_some f.fault
-
--- the result of a file that has one
-abbrev pub result_of : FileReport → List ℕ
-result_of f = option_map_or result_text f.fault []
+-- the results of a file: its first fault, if it has one, and those behind it
+abbrev pub results_of : FileReport → List (List ℕ)
+results_of f = map result_text (option_to_list f.fault) ++ map result_text f.further.items
 
 -- a warning
 unfoldable pub notification_text : List ℕ → List ℕ
@@ -114,7 +108,7 @@ all_notifications r = notifications r.warnings.items ++ flat_map (λ (f : FileRe
 
 -- what is found
 unfoldable pub results_member : List FileReport → List ℕ
-results_member files = member_text (codes "results") (list_text (map result_of (filter has_result files)))
+results_member files = member_text (codes "results") (list_text (flat_map results_of files))
 
 -- what is warned of, as the first member of an object
 unfoldable pub notifications_member : List (List ℕ) → List ℕ

@@ -2,6 +2,7 @@
 
 ghost use Rattle.std.specs.Prelude.{◌≡◌, ◌++◌, flat_map, codes, is_some, OnOk, if◌then◌else◌};
 ghost use Rattle.aa_text.specs.Visible.{all_visible};
+ghost use Rattle.aa_text.specs.Faults.{fault_text};
 ghost use Rattle.aa_check.specs.Printed.{count_text, rules_text, sizes_text, profile_line, passed_text, passed_line, file_line, file_text, last_line, report_text, warning_line, warning_lines, fault_if, file_faults, faults_text};
 
 use crate::report::{CheckReport, FileReport, Passed, ProfileReport};
@@ -177,10 +178,20 @@ fn push_fault_if(out: &mut Vec<u8>, fault: &Option<FaultReport>) -> Result<(), A
     }
 }
 
+fn push_further(out: &mut Vec<u8>, faults: &[FaultReport]) -> Result<(), AllocError>
+    ensures { OnOk result (out.new.items ≡ out.old.items ++ flat_map fault_text faults.now) }
+{
+    for fault in faults {
+        push_fault(out, fault)?;
+    }
+    Ok(())
+}
+
 fn push_file_faults(out: &mut Vec<u8>, file: &FileReport, is_quiet: bool) -> Result<(), AllocError>
     ensures { OnOk result (out.new.items ≡ out.old.items ++ file_faults is_quiet file.now) }
 {
     push_fault_if(out, &file.fault)?;
+    push_further(out, file.further.as_slice())?;
     push_warnings(out, file.warnings.as_slice(), is_quiet)
 }
 

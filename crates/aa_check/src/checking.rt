@@ -10,7 +10,8 @@ ghost use Rattle.aa_check.specs.Counts.{CountsPolicy};
 ghost use Rattle.aa_check.specs.Names.{IsFirst};
 ghost use Rattle.aa_command.specs.Setting.{setting_of};
 ghost use Rattle.aa_diagnostics.specs.Reports.{IsSaid};
-ghost use Rattle.aa_check.specs.Checked.{HasOnly, none_there, IsFoundOf, IsFound, AreFound, CountsFiles, HasOneRefused, IsChecked};
+ghost use Rattle.aa_faults.specs.Further.{AreFurther};
+ghost use Rattle.aa_check.specs.Checked.{most_further, HasFault, HasOnly, none_there, IsFoundOf, IsFound, AreFound, CountsFiles, HasOneRefused, IsChecked};
 
 use crate::counting::{PolicyCounts, count_policy};
 use crate::naming::{FirstFiles, warned};
@@ -19,21 +20,33 @@ use aa_base::{PolicyFault, PolicyKind};
 use aa_command::Settings;
 use aa_compile::Compiled;
 use aa_diagnostics::{describe, fault_of_unit, unreadable};
+use aa_faults::further_faults;
 use aa_files::{Tree, Unit, UnitFault, load, roots_of};
 use aa_load::compile_unit;
 use aa_text::{FaultReport, NoMemory};
 use std::alloc::{AllocError, Global};
 use std::collections::HashMap;
 
+/// How many faults are told of a file behind its first, at most.
+const MOST_FURTHER: usize = 19;
+
 /// A file that is refused.
-fn refused(alloc: Global, path: Vec<u8>, fault: FaultReport, is_unread: bool) -> FileReport
+fn refused(
+    alloc: Global,
+    path: Vec<u8>,
+    fault: FaultReport,
+    further: Vec<FaultReport>,
+    is_unread: bool,
+) -> FileReport
     ensures path { result.path ≡ path }
-    ensures only { HasOnly fault result }
+    ensures has { HasFault fault result }
+    ensures further { result.further ≡ further }
     ensures unread { result.is_unread ≡ is_unread }
 {
     FileReport {
         path,
         fault: Some(fault),
+        further,
         is_unread,
         profiles: Vec::new(alloc),
         passed_over: Vec::new(alloc),
@@ -45,6 +58,7 @@ fn refused(alloc: Global, path: Vec<u8>, fault: FaultReport, is_unread: bool) ->
 fn accepted(alloc: Global, path: Vec<u8>, counts: PolicyCounts) -> FileReport
     ensures path { result.path ≡ path }
     ensures fault { result.fault ≡ None }
+    ensures further { result.further.items ≡ [] }
     ensures unread { result.is_unread ≡ false }
     ensures profiles { result.profiles ≡ counts.profiles }
     ensures passed_over { result.passed_over ≡ counts.passed_over }
@@ -56,6 +70,7 @@ fn accepted(alloc: Global, path: Vec<u8>, counts: PolicyCounts) -> FileReport
     FileReport {
         path,
         fault: None,
+        further: Vec::new(alloc),
         is_unread: false,
         profiles,
         passed_over,
@@ -77,44 +92,47 @@ fn count_unit(
     path: Vec<u8>,
 ) -> Result<FileReport, NoMemory>
     ensures path { IfOk result (λ f. f.path ≡ path) }
-    ensures counted { IfOk result (λ f. (f.fault ≡ None) × CountsPolicy unit.now compiled.now f.profiles.items f.passed_over.items) }
+    ensures counted { IfOk result (λ f. (f.fault ≡ None) × (f.further.items ≡ []) × CountsPolicy unit.now compiled.now f.profiles.items f.passed_over.items) }
     ensures unread { IfOk result (λ f. f.is_unread ≡ false) }
 {
     let counts = count_policy(alloc, unit, compiled)?;
     Ok(accepted(alloc, path, counts))
 }
 
-/// What is found of a unit that is refused with that fault; none for want of memory.
+/// What is found of a unit that is refused with that fault, and of those behind it; none for want of memory.
 fn refuse_unit(
     alloc: Global,
     settings: &Settings<'_>,
-    unit: &Unit,
+    unit: Unit,
     fault: PolicyFault,
     path: Vec<u8>,
 ) -> Result<FileReport, NoMemory>
     ensures path { IfOk result (λ f. f.path ≡ path) }
-    ensures told { IfOk result (λ f. (fault.kind ≢ WantOfMemory) × ((said : FaultReport) × IsDescribed unit.now (slices settings.now.folders.now) settings.now.states fault said × HasOnly said f)) }
+    ensures told { IfOk result (λ f. (fault.kind ≢ WantOfMemory) × ((said : FaultReport) × IsDescribed unit (slices settings.now.folders.now) settings.now.states fault said × HasFault said f)
+        × AreFurther (slices settings.now.folders.now) settings.now.states most_further unit fault f.further.items) }
     ensures unread { IfOk result (λ f. f.is_unread ≡ false) }
 {
     if is_want_of_memory(fault) {
         return Err(NoMemory);
     }
-    let said = describe(alloc, settings.folders, settings.states, unit, fault)?;
-    Ok(refused(alloc, path, said, false))
+    let (folders, states) = (settings.folders, settings.states);
+    let said = describe(alloc, folders, states, &unit, fault)?;
+    let further = further_faults(alloc, folders, states, unit, fault, MOST_FURTHER)?;
+    Ok(refused(alloc, path, said, further, false))
 }
 
 fn check_unit(
     alloc: Global,
     settings: &Settings<'_>,
-    unit: &Unit,
+    unit: Unit,
     path: Vec<u8>,
 ) -> Result<FileReport, NoMemory>
     ensures path { IfOk result (λ f. f.path ≡ path) }
-    ensures found { IfOk result (λ f. IsFoundOf (slices settings.now.folders.now) settings.now.states unit.now f) }
+    ensures found { IfOk result (λ f. IsFoundOf (slices settings.now.folders.now) settings.now.states unit f) }
     ensures unread { IfOk result (λ f. f.is_unread ≡ false) }
 {
-    match compile_unit(alloc, unit, settings.states) {
-        Ok(compiled) => count_unit(alloc, unit, &compiled, path),
+    match compile_unit(alloc, &unit, settings.states) {
+        Ok(compiled) => count_unit(alloc, &unit, &compiled, path),
         Err(fault) => refuse_unit(alloc, settings, unit, fault, path),
     }
 }
@@ -130,10 +148,10 @@ fn check_file<T: Tree>(
 {
     let own = Vec::from_slice(alloc, path)?;
     match load(alloc, tree, settings.folders, path) {
-        Ok(unit) => Ok(check_unit(alloc, settings, &unit, own)?),
+        Ok(unit) => Ok(check_unit(alloc, settings, unit, own)?),
         Err(fault) => {
             let (fault, is_unread) = fault_of_unit(alloc, fault)?;
-            Ok(refused(alloc, own, fault, is_unread))
+            Ok(refused(alloc, own, fault, Vec::new(alloc), is_unread))
         }
     }
 }
@@ -231,7 +249,7 @@ fn untold(alloc: Global, fault: UnitFault) -> Result<CheckReport, NoMemory>
     let (fault, is_unread) = fault_of_unit(alloc, fault)?;
     let path = Vec::from_slice(alloc, fault.path.as_slice())?;
     let mut files = Vec::new(alloc);
-    files.push(refused(alloc, path, fault, is_unread))?;
+    files.push(refused(alloc, path, fault, Vec::new(alloc), is_unread))?;
     Ok(report_of(files, Vec::new(alloc)))
 }
 

@@ -37,6 +37,15 @@ fn push_fault_if(out: &mut Vec<u8>, fault: &Option<FaultReport>) -> Result<(), A
     }
 }
 
+fn push_further(out: &mut Vec<u8>, faults: &[FaultReport]) -> Result<(), AllocError>
+    ensures { OnOk result (out.new.items ≡ out.old.items ++ flat_map gcc_fault faults.now) }
+{
+    for fault in faults {
+        push_fault(out, fault)?;
+    }
+    Ok(())
+}
+
 #[tactic(auto, unfolding(crate::specs::Gcc::warning_head))]
 fn push_warning_head(out: &mut Vec<u8>) -> Result<(), AllocError>
     ensures { OnOk result (out.new.items ≡ out.old.items ++ warning_head) }
@@ -74,6 +83,7 @@ fn push_file(out: &mut Vec<u8>, is_quiet: bool, file: &FileReport) -> Result<(),
     ensures { OnOk result (out.new.items ≡ out.old.items ++ gcc_file is_quiet file.now) }
 {
     push_fault_if(out, &file.fault)?;
+    push_further(out, file.further.as_slice())?;
     push_warnings(out, is_quiet, file.warnings.as_slice())
 }
 

@@ -1,12 +1,12 @@
 //! How the findings of `check` are printed as JSON.
 
 ghost use Rattle.std.specs.Prelude.{◌≡◌, ◌++◌, OnOk};
-ghost use Rattle.aa_check.specs.Jsons.{json_path, json_report};
+ghost use Rattle.aa_check.specs.Jsons.{json_path, json_further, json_report};
 
 use crate::report::{CheckReport, FileReport, ProfileReport};
 use aa_text::{
-    ToJson, push_json_bytes, push_key, push_list, push_list_member, push_member, push_member_if,
-    push_text,
+    FaultReport, ToJson, push_json_bytes, push_key, push_list, push_list_member, push_member,
+    push_member_if, push_text,
 };
 use std::alloc::{AllocError, Global};
 
@@ -42,6 +42,17 @@ fn push_json_path(out: &mut Vec<u8>, alloc: Global, file: &FileReport) -> Result
     push_member(out, alloc, "ok", &file.fault.is_none())
 }
 
+/// Appends the faults behind the first as a member, where there are any.
+#[tactic(auto, unfolding(crate::specs::Jsons::json_further))]
+fn push_further(out: &mut Vec<u8>, alloc: Global, faults: &[FaultReport]) -> Result<(), AllocError>
+    ensures { OnOk result (out.new.items ≡ out.old.items ++ json_further faults.now) }
+{
+    if faults.len() == 0 {
+        return Ok(());
+    }
+    push_list_member(out, alloc, "further", faults)
+}
+
 impl ToJson for FileReport {
     ghost use Rattle.aa_check.specs.Jsons.{json_file};
 
@@ -51,6 +62,7 @@ impl ToJson for FileReport {
     fn push_json(&self, out: &mut Vec<u8>, alloc: Global) -> Result<(), AllocError> {
         push_json_path(out, alloc, self)?;
         push_member_if(out, alloc, "fault", &self.fault)?;
+        push_further(out, alloc, self.further.as_slice())?;
         push_list_member(out, alloc, "profiles", self.profiles.as_slice())?;
         push_list_member(out, alloc, "warnings", self.warnings.as_slice())?;
         push_text(out, "}")

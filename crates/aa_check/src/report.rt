@@ -30,7 +30,10 @@ pub struct Passed {
 #[derive(Drop)]
 pub struct FileReport {
     pub path: Vec<u8>,
+    /// Its first fault, if it is refused.
     pub fault: Option<FaultReport>,
+    /// The faults behind that one, each of the text in which the rules and assignments at fault before it are white space.
+    pub further: Vec<FaultReport>,
     /// Whether it can't be read.
     pub is_unread: bool,
     pub profiles: Vec<ProfileReport>,

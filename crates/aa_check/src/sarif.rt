@@ -1,14 +1,14 @@
 //! How the findings of `check` are written as a SARIF log.
 
-ghost use Rattle.std.specs.Prelude.{◌≡◌, ◌++◌, ◌<◌, not, map, flat_map, codes, OnOk, IfOk};
+ghost use Rattle.std.specs.Prelude.{◌≡◌, ◌++◌, ◌<◌, not, map, flat_map, option_to_list, codes, OnOk, IfOk};
 ghost use Rattle.aa_text.specs.Jsons.{json_bytes, member_text};
-ghost use Rattle.aa_check.specs.Sarif.{is_alphanumeric, is_plain, capital_digit, uri_byte, scheme_of, uri_text, ascii_of, as_text, message_text, start_line, region_text, region_member, place_member, location_text, link_text, links_member, rule_members, fault_members, result_text, has_result, result_of, notification_text, notifications, all_notifications, results_member, notifications_member, invocations_text, sarif_head, sarif_report};
-ghost use Rattle.aa_check.specs.Notified.{notified, related};
+ghost use Rattle.aa_check.specs.Sarif.{is_alphanumeric, is_plain, capital_digit, uri_byte, scheme_of, uri_text, ascii_of, as_text, message_text, start_line, region_text, region_member, place_member, location_text, link_text, links_member, rule_members, fault_members, result_text, results_of, notification_text, notifications, all_notifications, results_member, notifications_member, invocations_text, sarif_head, sarif_report};
+ghost use Rattle.aa_check.specs.Notified.{notified, related, found};
 
 use crate::report::{CheckReport, FileReport};
 use aa_text::{
-    FaultReport, Link, ListItem, PlaceAt, ToJson, is_text, push_json_bytes, push_json_text,
-    push_key, push_list, push_list_in, push_list_member, push_member, push_number, push_text,
+    FaultReport, Link, PlaceAt, ToJson, is_text, push_json_bytes, push_json_text, push_key,
+    push_list, push_list_member, push_member, push_number, push_text,
 };
 use std::alloc::{AllocError, Global};
 
@@ -292,31 +292,66 @@ fn push_result(out: &mut Vec<u8>, alloc: Global, fault: &FaultReport) -> Result<
     push_text(out, "}")
 }
 
-/// A file stands among the results where it has a fault.
-impl ListItem<()> for FileReport {
-    ghost stands = { λ _ file. has_result file };
+/// A fault as it stands among the results.
+#[derive(Clone, Copy)]
+struct Found<'a> {
+    fault: &'a FaultReport,
+}
 
-    ghost item = { λ _ file. result_of file };
+impl ToJson for Found<'_> {
+    ghost json = { λ f. result_text f.fault.now };
 
-    fn stands(&self, _context: &()) -> bool {
-        self.fault.is_some()
-    }
-
-    fn push_item(&self, out: &mut Vec<u8>, alloc: Global, _context: &()) -> Result<(), AllocError> {
-        match &self.fault {
-            Some(fault) => push_result(out, alloc, fault),
-            None => Ok(()),
-        }
+    fn push_json(&self, out: &mut Vec<u8>, alloc: Global) -> Result<(), AllocError> {
+        push_result(out, alloc, self.fault)
     }
 }
 
-#[tactic(auto, unfolding(crate::specs::Sarif::results_member, aa_text::specs::Jsons::member_text))]
+fn add_first<'r>(
+    list: &mut Vec<Found<'r>>,
+    fault: &'r Option<FaultReport>,
+) -> Result<(), AllocError>
+    ensures { OnOk result (found list.new.items ≡ found list.old.items ++ map result_text (option_to_list fault.now)) }
+{
+    if let Some(fault) = fault {
+        list.push(Found { fault })?;
+    }
+    Ok(())
+}
+
+fn add_further<'r>(list: &mut Vec<Found<'r>>, faults: &'r [FaultReport]) -> Result<(), AllocError>
+    ensures { OnOk result (found list.new.items ≡ found list.old.items ++ map result_text faults.now) }
+{
+    for fault in faults {
+        list.push(Found { fault })?;
+    }
+    Ok(())
+}
+
+fn add_faults<'r>(list: &mut Vec<Found<'r>>, file: &'r FileReport) -> Result<(), AllocError>
+    ensures { OnOk result (found list.new.items ≡ found list.old.items ++ results_of file.now) }
+{
+    add_first(list, &file.fault)?;
+    add_further(list, file.further.as_slice())
+}
+
+/// The faults of all files.
+fn all_faults<'r>(alloc: Global, files: &'r [FileReport]) -> Result<Vec<Found<'r>>, AllocError>
+    ensures { IfOk result (λ list. found list.items ≡ flat_map results_of files.now) }
+{
+    let mut list = Vec::new(alloc);
+    for file in files {
+        add_faults(&mut list, file)?;
+    }
+    Ok(list)
+}
+
+/// Appends the faults of all files as a member.
+#[tactic(auto, unfolding(crate::specs::Sarif::results_member))]
 fn push_results(out: &mut Vec<u8>, alloc: Global, files: &[FileReport]) -> Result<(), AllocError>
     ensures { OnOk result (out.new.items ≡ out.old.items ++ results_member files.now) }
 {
-    push_text(out, ",")?;
-    push_key(out, "results")?;
-    push_list_in(out, alloc, &(), files)
+    let list = all_faults(alloc, files)?;
+    push_list_member(out, alloc, "results", list.as_slice())
 }
 
 /// A warning.

@@ -68,7 +68,7 @@ warning_line warning = codes "warning: " ++ all_visible warning ++ codes "\n"
 
 -- what is printed, behind warnings
 abbrev pub behind_warnings : List (List ℕ) → Printed → Printed
-behind_warnings warnings own = record { answers = own.answers; faults = flat_map warning_line warnings ++ own.faults; status = own.status }
+behind_warnings warnings own = record { answers = own.answers; faults = flat_map warning_line warnings ++ own.faults; refusal = own.refusal; status = own.status }
 
 -- what is printed by the files that arguments stand for, behind what is warned of others, or why these can't be told
 pub data IsPrintedFor (s : Setting) (arguments : List (List ℕ)) (gives : Decided → Printed → Type 0) (out : Printed) : Type 0 where

@@ -6,7 +6,6 @@ use Rattle.aa_base.specs.declared.fault.PolicyKind.{PolicyKind}
 use Rattle.aa_base.specs.declared.fault.PolicyKind.TheVariants as kind
 use Rattle.aa_base.specs.Kinds.{kind_name}
 use Rattle.aa_text.specs.declared.fault.FaultReport.{FaultReport}
-use Rattle.aa_text.specs.Faults.{fault_text}
 use Rattle.aa_base.specs.declared.unread.Unread.{Unread}
 use Rattle.aa_files.specs.declared.unit.Unit as unit
 use Rattle.aa_files.specs.declared.unit.UnitFault.{UnitFault}
@@ -17,13 +16,13 @@ use Rattle.aa_diagnostics.specs.Reports.{IsReport, IsDescribed, IsOfWhole, unrea
 use Rattle.aa_load.specs.declared.fault.RepeatedName.{RepeatedName}
 use Rattle.aa_load.specs.declared.fault.LoadingFault.{LoadingFault}
 use Rattle.aa_load.specs.declared.fault.LoadingFault.TheVariants as fault
-use Rattle.aa_command.specs.Printed.{Printed, faults_alone}
+use Rattle.aa_command.specs.Printed.{Printed, fault_alone}
 
 -- one fault is printed, which is so, with that status
 pub record SaysFault (IsSo : FaultReport → Type 0) (status : ℕ) (out : Printed) : Type 0 where
   pub report : FaultReport
   pub is_so : IsSo report
-  pub says : out ≡ faults_alone (fault_text report) status
+  pub says : out ≡ fault_alone report status
 
 -- what lies at a path can't be read: 3
 abbrev pub SaysUnread : List ℕ → Unread → Printed → Type 0
@@ -33,7 +32,7 @@ SaysUnread path why out = SaysFault (IsOfWhole (unread_kind why) path (unread_me
 abbrev pub SaysUnitFault : UnitFault → Printed → Type 0
 SaysUnitFault NoMemory out = ⊥
 SaysUnitFault (At path why) out = SaysUnread path.items why out
-SaysUnitFault (Ambiguous report) out = out ≡ faults_alone (fault_text report) 1
+SaysUnitFault (Ambiguous report) out = out ≡ fault_alone report 1
 
 -- a unit is no policy that compiles: 1
 abbrev pub SaysPolicyFault : List (List ℕ) → ℕ → unit.Unit → PolicyFault → Printed → Type 0

@@ -2,6 +2,7 @@
 #![tactic(auto)]
 
 mod decided;
+mod json;
 mod logs;
 mod output;
 mod placed;
@@ -12,10 +13,12 @@ mod warnings;
 mod writing;
 
 pub use decided::Decided;
+pub use json::in_json;
 pub use logs::{Logs, UnreadLog};
 pub use output::Output;
 pub use placed::{PlacedUnit, place_units};
-pub use policy::{Use, load_units, with_policy};
+pub use policy::{Use, load_units, with_policy, with_units};
 pub use refusals::{fault_refused, path_refused, policy_refused, refused, unit_refused};
 pub use settings::Settings;
+pub use warnings::behind_warnings;
 pub use writing::{Unwritten, exit_status, write_output};

@@ -11,6 +11,8 @@ pub struct Output {
     pub answers: Vec<u8>,
     /// For standard error.
     pub faults: Vec<u8>,
+    /// The fault for which nothing is answered, as an object of JSON; empty where there is none.
+    pub refusal: Vec<u8>,
     pub status: u8,
 }
 
@@ -19,11 +21,13 @@ impl Output {
     pub fn new(alloc: Global) -> Output
         ensures answers { result.answers.items ≡ [] }
         ensures faults { result.faults.items ≡ [] }
+        ensures refusal { result.refusal.items ≡ [] }
         ensures status { result.status ≡ 0 }
     {
         Output {
             answers: Vec::new(alloc),
             faults: Vec::new(alloc),
+            refusal: Vec::new(alloc),
             status: 0,
         }
     }

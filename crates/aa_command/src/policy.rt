@@ -185,8 +185,8 @@ fn with_texts<U: Use>(
     }
 }
 
-/// Compiles units as one policy, and does something with it.
-fn with_units<U: Use>(
+/// Compiles units as one policy, and does something with it, or says why they are none.
+pub fn with_units<U: Use>(
     alloc: Global,
     settings: &Settings<'_>,
     units: &[Unit],

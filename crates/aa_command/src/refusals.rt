@@ -2,8 +2,7 @@
 
 ghost use Rattle.std.specs.Prelude.{◌≡◌, ◌≢◌, IfOk, if◌then◌else◌};
 ghost use Rattle.aa_files.specs.Texts.{slices};
-ghost use Rattle.aa_text.specs.Faults.{fault_text};
-ghost use Rattle.aa_command.specs.Printed.{printed, faults_alone};
+ghost use Rattle.aa_command.specs.Printed.{printed, faults_alone, fault_alone};
 ghost use Rattle.aa_command.specs.Refusals.{SaysUnitFault, SaysPolicyFault, SaysUnread};
 
 use crate::output::Output;
@@ -11,7 +10,7 @@ use crate::settings::Settings;
 use aa_base::{PolicyFault, PolicyKind, Unread};
 use aa_diagnostics::{describe, fault_of_unit, unreadable};
 use aa_files::{Unit, UnitFault};
-use aa_text::{FaultReport, NoMemory, push_fault, push_text};
+use aa_text::{FaultReport, NoMemory, ToJson, push_fault, push_text};
 use std::alloc::Global;
 
 /// Says why, with a status of its own.
@@ -26,10 +25,11 @@ pub fn refused(alloc: Global, line: &str, status: u8) -> Result<Output, NoMemory
 
 /// Says a fault, with a status of its own.
 pub fn fault_refused(alloc: Global, fault: &FaultReport, status: u8) -> Result<Output, NoMemory>
-    ensures { IfOk result (λ out. printed out ≡ faults_alone (fault_text fault.now) status) }
+    ensures { IfOk result (λ out. printed out ≡ fault_alone fault.now status) }
 {
     let mut output = Output::new(alloc);
     push_fault(&mut output.faults, fault)?;
+    fault.push_json(&mut output.refusal, alloc)?;
     output.status = status;
     Ok(output)
 }

@@ -27,7 +27,7 @@ fn push_warnings(out: &mut Vec<u8>, warnings: &[Vec<u8>]) -> Result<(), AllocErr
 }
 
 /// What is printed, behind warnings.
-pub(crate) fn behind_warnings(
+pub fn behind_warnings(
     alloc: Global,
     warnings: &[Vec<u8>],
     own: Output,
@@ -40,6 +40,7 @@ pub(crate) fn behind_warnings(
     Ok(Output {
         answers: own.answers,
         faults,
+        refusal: own.refusal,
         status: own.status,
     })
 }

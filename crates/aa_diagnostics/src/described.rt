@@ -27,8 +27,8 @@ fn is_of_whole(unit: &Unit, fault: PolicyFault) -> bool
     is_too_large(fault.kind) && node_of(unit, fault.at.file) == 0 && fault.at.byte == 0
 }
 
-/// Whether a fault has a place in its file.
-fn has_place(unit: &Unit, fault: PolicyFault) -> bool
+/// Whether a fault has a place in its file. One that speaks of the whole text, or lies in the text that a folder stands for, has none.
+pub fn has_place(unit: &Unit, fault: PolicyFault) -> bool
     ensures { result ≡ has_place unit.now fault }
 {
     !is_folder_at(unit, fault.at.file) && !is_of_whole(unit, fault)

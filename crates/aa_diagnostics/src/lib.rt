@@ -11,7 +11,7 @@ mod sentence;
 mod unit_faults;
 mod variables;
 
-pub use described::{describe, describe_repeated, describe_together, unreadable};
+pub use described::{describe, describe_repeated, describe_together, has_place, unreadable};
 pub use profiles::earlier_profile;
 pub use unit_faults::fault_of_unit;
 pub use variables::earlier_variable;

@@ -57,15 +57,16 @@ refused_low s arguments out (Rooted paths warnings own roots (Read units loaded 
     status_low out (behind_warnings warnings own) is (loading_low s.folders s.states units f own says)
 refused_low s arguments out (Rooted paths warnings own roots (Read units loaded (Decides d decided given)) is) = absurd given
 
-same_parts : (p q : Printed) → p.answers ≡ q.answers → p.faults ≡ q.faults → p.status ≡ q.status → p ≡ q
-same_parts p q a f n =
-    ap (λ (x : List ℕ). record { answers = x; faults = p.faults; status = p.status }) a
-    ∙ ap (λ (x : List ℕ). record { answers = q.answers; faults = x; status = p.status }) f
-    ∙ ap (λ (x : ℕ). record { answers = q.answers; faults = q.faults; status = x }) n
+same_parts : (p q : Printed) → p.answers ≡ q.answers → p.faults ≡ q.faults → p.refusal ≡ q.refusal → p.status ≡ q.status → p ≡ q
+same_parts p q a f r n =
+    ap (λ (x : List ℕ). record { answers = x; faults = p.faults; refusal = p.refusal; status = p.status }) a
+    ∙ ap (λ (x : List ℕ). record { answers = q.answers; faults = x; refusal = p.refusal; status = p.status }) f
+    ∙ ap (λ (x : List ℕ). record { answers = q.answers; faults = q.faults; refusal = x; status = p.status }) r
+    ∙ ap (λ (x : ℕ). record { answers = q.answers; faults = q.faults; refusal = q.refusal; status = x }) n
 
 marked_once : (p q : Printed) → marked p ≡ marked q → p ≡ q
 marked_once p q e =
-    same_parts p q (ap (λ (x : Printed). x.answers) e) (ap (λ (x : Printed). x.faults) e) (omega (arith, ap (λ (x : Printed). x.status) e))
+    same_parts p q (ap (λ (x : Printed). x.answers) e) (ap (λ (x : Printed). x.faults) e) (ap (λ (x : Printed). x.refusal) e) (omega (arith, ap (λ (x : Printed). x.status) e))
 
 module _ (side : List ℕ) (s : Setting) (arguments : List (List ℕ)) (gives : Decided → Printed → Type 0) where
   -- what is marked was given, behind warnings too

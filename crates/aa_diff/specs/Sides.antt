@@ -27,7 +27,7 @@ refused_text side faults = codes "error: " ++ side ++ codes " can't be compared:
 
 -- what is printed of a refused side
 abbrev pub behind : List ℕ → Printed → Printed
-behind side said = record { answers = said.answers; faults = refused_text side said.faults; status = said.status }
+behind side said = record { answers = said.answers; faults = refused_text side said.faults; refusal = said.refusal; status = said.status }
 
 -- what their policy gives, behind what is warned of other files
 pub record IsGiven (s : Setting) (arguments : List (List ℕ)) (gives : Decided → Printed → Type 0) (d : Decided) (out : Printed) : Type 0 where
@@ -43,7 +43,7 @@ pub data IsOfSide (side : List ℕ) (s : Setting) (arguments : List (List ℕ)) 
 
 -- the status of what a policy gave, between two calls
 abbrev pub marked : Printed → Printed
-marked p = record { answers = p.answers; faults = p.faults; status = p.status + 128 }
+marked p = record { answers = p.answers; faults = p.faults; refusal = p.refusal; status = p.status + 128 }
 
 -- what a policy gave, marked
 pub record IsMarked (gives : Decided → Printed → Type 0) (d : Decided) (out : Printed) : Type 0 where

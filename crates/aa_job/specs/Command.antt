@@ -42,7 +42,7 @@ remarks policies left strangers =
 
 -- the job, with what it doesn't have
 abbrev pub job_printed : List JobPolicy → JobTasks → List ℕ → Printed
-job_printed ps t text = record { answers = text; faults = remarks (length ps) (left_out t.tasks.items) t.strangers; status = 0 }
+job_printed ps t text = record { answers = text; faults = remarks (length ps) (left_out t.tasks.items) t.strangers; refusal = []; status = 0 }
 
 -- what is printed of tasks: the job of them, or that a job can't have so many, or that a text is no UTF-8
 pub data IsTasksOutput (ps : List JobPolicy) (sources : List Source) (states : ℕ) (t : JobTasks) (out : Printed) : Type 0 where

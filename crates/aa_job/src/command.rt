@@ -77,7 +77,7 @@ fn written(
     left_out: u64,
     strangers: u64,
 ) -> Result<Output, NoMemory>
-    ensures { IfOk result (λ out. printed out ≡ record { answers = text.items; faults = remarks policies left_out strangers; status = 0 }) }
+    ensures { IfOk result (λ out. printed out ≡ record { answers = text.items; faults = remarks policies left_out strangers; refusal = []; status = 0 }) }
 {
     let mut output = Output::new(alloc);
     push_remarks(&mut output.faults, policies, left_out, strangers)?;

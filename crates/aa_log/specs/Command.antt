@@ -28,7 +28,7 @@ IsReplayText o s d counts text = MatchBool o.is_json (IsJsonAgainst (slices o.lo
 
 -- answers, behind what is warned of, with that status or 1 where a line isn't understood
 abbrev pub said_printed : LogOptions → SaidReport → List ℕ → ℕ → Printed
-said_printed o s text status = record { answers = text; faults = unclear_text (slices o.logs.now) s; status = status_or s.first_unclear status }
+said_printed o s text status = record { answers = text; faults = unclear_text (slices o.logs.now) s; refusal = []; status = status_or s.first_unclear status }
 
 -- that is printed, with 4 where something is denied now that wasn't
 pub record IsReplayed (o : LogOptions) (s : SaidReport) (d : Decided) (out : Printed) : Type 0 where

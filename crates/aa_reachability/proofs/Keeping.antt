@@ -17,7 +17,8 @@ use Rattle.aa_mediate.specs.Decided.{blocked}
 use Rattle.aa_mediate.specs.Reply.{kept, reply_at, reply_by, reply}
 use Rattle.aa_representatives.specs.Askable.{IsFile, IsExec, IsLink, IsCap, IsNet, IsChange, IsReload, IsAskable}
 use Rattle.aa_representatives.specs.Representatives.{AreRepresentatives}
-use Rattle.aa_reachability.specs.Moves.{label_next, LeadAll}
+use Rattle.aa_reachability.specs.declared.going.Going.{Going}
+use Rattle.aa_reachability.specs.Moves.{is_by_complain, label_kept, label_next, label_in, LeadAll, LeadAllBy}
 
 label_of_either : (b : Bool) (x y : Answer) (l : Label) → x.label ≡ l → y.label ≡ l → (cond b x y).label ≡ l
 label_of_either true x y l e f = e
@@ -102,14 +103,14 @@ module _ (ps : List Policy) (l : Label) (execs changes reloads rs : List Request
     (of_execs : AreRepresentatives ps l IsExec execs) (of_changes : AreRepresentatives ps l IsChange changes)
     (of_reloads : AreRepresentatives ps l IsReload reloads) where
   abbrev Leads : Request → Type 0
-  Leads r = (label_next ps l r ≡ l) ⊎ ((q : Request) × Contains rs q × (label_next ps l r ≡ label_next ps l q))
+  Leads r = (label_next ps l r ≡ l) ⊎ ((q : Request) × Contains rs q × (reply ps l r ≡ reply ps l q))
 
   among : (q : Request) → Contains ((execs ++ changes) ++ reloads) q → Contains rs q
   among q c = subst (λ xs. Contains xs q) (sym are) c
 
   leads_by : (Kind : Request → Type 0) (some : List Request) → AreRepresentatives ps l Kind some → ((q : Request) → Contains some q → Contains rs q)
       → (r : Request) → Kind r → Leads r
-  leads_by Kind some stand within r is = let s = stand.all r is in inr (s.0, within s.0 s.1, ap (λ (a : Answer). a.label) s.2)
+  leads_by Kind some stand within r is = let s = stand.all r is in inr (s.0, within s.0 s.1, s.2)
 
   stayed : (r : Request) → Stays r → Leads r
   stayed r is = inl (stays ps l r is)
@@ -141,3 +142,27 @@ module _ (ps : List Policy) (l : Label) (execs changes reloads rs : List Request
 
   pub lead_all : LeadAll ps l rs
   lead_all = record { each = λ r c. each_of r (subst (λ xs. Contains xs r) are c); all = leads }
+
+kept_or : (b c : Bool) (l m : Label) → m ≡ l → cond b (cond c l m) m ≡ l
+kept_or true true l m e = refl
+kept_or true false l m e = e
+kept_or false c l m e = e
+
+stays_so : (g : Going) (l : Label) (r : Request) → label_next g.policies.now l r ≡ l → label_in g l r ≡ l
+unfolding label_in
+stays_so g l r e = kept_or g.as_enforced (is_by_complain (reply g.policies.now l r)) l (label_next g.policies.now l r) e
+
+moves_so : (g : Going) (l : Label) (r q : Request) → reply g.policies.now l r ≡ reply g.policies.now l q → label_in g l r ≡ label_in g l q
+unfolding label_in
+moves_so g l r q e = ap (λ (a : Answer). cond g.as_enforced (label_kept l a) a.label) e
+
+-- whether complain mode counts or doesn't
+pub lead_by : (g : Going) (l : Label) (rs : List Request) → LeadAll g.policies.now l rs → LeadAllBy g l rs
+lead_by g l rs lead = record {
+  each = lead.each;
+  all = λ r asked.
+      ⊎_elim
+      (λ (stays : label_next g.policies.now l r ≡ l). inl (stays_so g l r stays))
+      (λ (found : (q : Request) × Contains rs q × (reply g.policies.now l r ≡ reply g.policies.now l q)). inr (found.0, found.1, moves_so g l r found.0 found.2))
+      (lead.all r asked);
+}

@@ -1,6 +1,6 @@
 -- Where all arrivals are followed, each list of requests leads to the label of one.
 use Rattle.std.proofs.Common.{◌≡◌, ℕ, ◌+◌, ◌<◌, ◌≤◌, List, [], ◌∷◌, ◌++◌, true}
-use Rattle.std.proofs.Common.{length, All, Contains, sym, ap, ◌∙◌, subst, arith}
+use Rattle.std.proofs.Common.{length, All, Contains, refl, sym, ap, ◌∙◌, subst, arith}
 use Rattle.std.proofs.Common.{get_or, Some, ⊎_elim, append_assoc, append-nil}
 use Rattle.std.specs.Prelude.{nat_eq}
 use Rattle.std.specs.List.{slice_get, list_any}
@@ -12,14 +12,15 @@ use Rattle.std.proofs.lemmas.Map.Keys.{apart_from_distinct}
 use Rattle.std.proofs.lemmas.Option.{slice_get_within, slice_get-get_or, get_or_from_slice_get}
 use Rattle.std.proofs.lemmas.Bool.{eqb-true, eq-eqb}
 use Rattle.indexmap.proofs.CallerLemmas.{Contains-list_any}
+use Rattle.aa_reachability.specs.declared.going.Going.{Going}
 use Rattle.aa_model.specs.declared.policy.Policy.{Policy}
 use Rattle.aa_model.specs.declared.label.Label.{Label}
 use Rattle.aa_model.specs.declared.request.Request.{Request}
 use Rattle.aa_representatives.specs.Askable.{IsAskable}
 use Rattle.aa_reachability.specs.declared.trail.Arrival.{Arrival}
 use Rattle.aa_reachability.specs.Codes.{code, most_labels}
-use Rattle.aa_reachability.specs.Moves.{label_next, LeadAll}
-use Rattle.aa_reachability.specs.Reach.{IsWay, IsShortest, AreArrivals, led_to, way_at}
+use Rattle.aa_reachability.specs.Moves.{label_next, label_in, LeadAllBy}
+use Rattle.aa_reachability.specs.Reach.{IsWay, AreWays, IsShortestBy, AreArrivalsBy, IsNear, AreNear, led_by, led_to, IsShortest, AreArrivals, way_at}
 use Rattle.aa_reachability.specs.Trail.{no_arrival, arrival_at, IsTrail, IsLevel, IsWithin, AreFollowedBy, AreFollowed, Extends, ReachAll}
 use Rattle.aa_reachability.proofs.Stepping.{arrival_old, below_most}
 
@@ -44,20 +45,20 @@ within_on a b f l n w = (
   subst (λ (x : Arrival). x.length ≤ n) (sym (extends_at a b f w.0 w.1)) w.3,
 )
 
-pub followed_on : (ps : List Policy) (a b : List Arrival) → Extends a b → (k : ℕ) → k < length a → (Among : Request → Type 0)
-    → AreFollowedBy ps a k Among
-    → AreFollowedBy ps b k Among
-followed_on ps a b f k lt Among is r among =
-    subst (λ (x : Arrival). IsWithin b (label_next ps x.label r) (x.length + 1)) (sym (extends_at a b f k lt))
-    (within_on a b f (label_next ps (arrival_at a k).label r) ((arrival_at a k).length + 1) (is r among))
+pub followed_on : (g : Going) (a b : List Arrival) → Extends a b → (k : ℕ) → k < length a → (Among : Request → Type 0)
+    → AreFollowedBy g a k Among
+    → AreFollowedBy g b k Among
+followed_on g a b f k lt Among is r among =
+    subst (λ (x : Arrival). IsWithin b (label_in g x.label r) (x.length + 1)) (sym (extends_at a b f k lt))
+    (within_on a b f (label_in g (arrival_at a k).label r) ((arrival_at a k).length + 1) (is r among))
 
 -- one arrival more is followed
-pub followed_more : (ps : List Policy) (a b : List Arrival) (n : ℕ) → Extends a b → n < length a → AreFollowed ps a n
-    → AreFollowedBy ps b n IsAskable → AreFollowed ps b (n + 1)
-followed_more ps a b n f lt were here k below inside =
+pub followed_more : (g : Going) (a b : List Arrival) (n : ℕ) → Extends a b → n < length a → AreFollowed g a n
+    → AreFollowedBy g b n IsAskable → AreFollowed g b (n + 1)
+followed_more g a b n f lt were here k below inside =
     ⊎_elim
-    (λ (l : k < n). followed_on ps a b f k (omega (arith, l, lt)) IsAskable (were k l (omega (arith, l, lt))))
-    (λ (g : n ≤ k). let e : n ≡ k = omega (arith, below, g) in subst (λ x. AreFollowedBy ps b x IsAskable) e here)
+    (λ (l : k < n). followed_on g a b f k (omega (arith, l, lt)) IsAskable (were k l (omega (arith, l, lt))))
+    (λ (late : n ≤ k). let e : n ≡ k = omega (arith, below, late) in subst (λ x. AreFollowedBy g b x IsAskable) e here)
     (cases_lt k n)
 
 -- the next arrival is level where one is
@@ -70,38 +71,38 @@ level_next arrivals n rising level lt j lj =
     omega (arith, level a j lj, rising n (n + 1) b lt)
 
 -- where requests lead to all labels and each of them is followed, all are
-pub followed_all : (ps : List Policy) (arrivals : List Arrival) (k : ℕ) (rs : List Request) → k < length arrivals
-    → LeadAll ps (arrival_at arrivals k).label rs
-    → AreFollowedBy ps arrivals k (Contains rs) → AreFollowedBy ps arrivals k IsAskable
-followed_all ps arrivals k rs lt lead each r asked =
+pub followed_all : (g : Going) (arrivals : List Arrival) (k : ℕ) (rs : List Request) → k < length arrivals
+    → LeadAllBy g (arrival_at arrivals k).label rs
+    → AreFollowedBy g arrivals k (Contains rs) → AreFollowedBy g arrivals k IsAskable
+followed_all g arrivals k rs lt lead each r asked =
     let l = (arrival_at arrivals k).label in
     let many = (arrival_at arrivals k).length + 1 in
     ⊎_elim
-    (λ (stays : label_next ps l r ≡ l). (k, lt, sym stays, omega arith))
-    (λ (found : (q : Request) × Contains rs q × (label_next ps l r ≡ label_next ps l q)).
+    (λ (stays : label_in g l r ≡ l). (k, lt, sym stays, omega arith))
+    (λ (found : (q : Request) × Contains rs q × (label_in g l r ≡ label_in g l q)).
     subst (λ (m : Label). IsWithin arrivals m many) (sym found.2) (each found.0 found.1))
     (lead.all r asked)
 
-module _ (ps : List Policy) (from : Label) (known : List ℕ) (arrivals : List Arrival) (trail : IsTrail ps from known arrivals) (n : ℕ)
-    (all : length arrivals ≤ n) (followed : AreFollowed ps arrivals n) where
-  on : (rs : List Request) (l : Label) (m : ℕ) → All IsAskable rs → IsWithin arrivals l m → IsWithin arrivals (led_to ps l rs) (m + length rs)
+module _ (g : Going) (from : Label) (known : List ℕ) (arrivals : List Arrival) (trail : IsTrail g from known arrivals) (n : ℕ)
+    (all : length arrivals ≤ n) (followed : AreFollowed g arrivals n) where
+  on : (rs : List Request) (l : Label) (m : ℕ) → All IsAskable rs → IsWithin arrivals l m → IsWithin arrivals (led_by (label_in g) l rs) (m + length rs)
   on [] l m asked w = (w.0, w.1, w.2, omega (arith, w.3))
   on (r ∷ rs) l m asked w =
       let next = followed w.0 (omega (arith, w.1, all)) w.1 r (All-head IsAskable r rs asked) in
-      let there : (arrival_at arrivals next.0).label ≡ label_next ps l r = next.2 ∙ ap (λ (x : Label). label_next ps x r) w.2 in
-      let rest = on rs (label_next ps l r) (m + 1) (All-tail IsAskable r rs asked) (next.0, next.1, there, omega (arith, next.3, w.3)) in
+      let there : (arrival_at arrivals next.0).label ≡ label_in g l r = next.2 ∙ ap (λ (x : Label). label_in g x r) w.2 in
+      let rest = on rs (label_in g l r) (m + 1) (All-tail IsAskable r rs asked) (next.0, next.1, there, omega (arith, next.3, w.3)) in
       (rest.0, rest.1, rest.2, omega (arith, rest.3))
 
-  pub reach_all : ReachAll ps from arrivals
+  pub reach_all : ReachAll g from arrivals
   reach_all rs asked =
       let first : (arrival_at arrivals 0).length ≤ 0 = (trail.each 0 trail.some).short in
       let w = on rs from 0 asked (0, trail.some, trail.start, first) in
       (w.0, w.1, w.2, omega (arith, w.3))
 
 -- different labels have different numbers, and so there are no more arrivals than numbers
-pub few_arrivals : (ps : List Policy) (from : Label) (known : List ℕ) (arrivals : List Arrival) → IsTrail ps from known arrivals
+pub few_arrivals : (g : Going) (from : Label) (known : List ℕ) (arrivals : List Arrival) → IsTrail g from known arrivals
     → length arrivals ≤ most_labels
-few_arrivals ps from known arrivals trail =
+few_arrivals g from known arrivals trail =
     let f : Arrival → ℕ = λ a. code a.label in
     let long : length known ≡ length arrivals = ap length trail.codes ∙ length-map arrivals f in
     let below : (q : ℕ) → list_any (nat_eq q) known ≡ true → q < most_labels = λ q e.
@@ -111,8 +112,7 @@ few_arrivals ps from known arrivals trail =
     subst (λ x. x < most_labels) is (below_most (arrival_at arrivals c.0).label (trail.each c.0 lt).fits) in
     omega (arith, long, length-le_from_distinct_below known most_labels trail.distinct below)
 
-module _ (ps : List Policy) (from : Label) (known : List ℕ) (arrivals : List Arrival) (trail : IsTrail ps from known arrivals)
-    (reach : ReachAll ps from arrivals) where
+module _ (g : Going) (from : Label) (known : List ℕ) (arrivals : List Arrival) (trail : IsTrail g from known arrivals) where
   abbrev codes : Arrival → ℕ
   codes a = code a.label
 
@@ -144,31 +144,78 @@ module _ (ps : List Policy) (from : Label) (known : List ℕ) (arrivals : List A
   here : (i : ℕ) (a : Arrival) → slice_get arrivals i ≡ Some a → (i < length arrivals) × (arrival_at arrivals i ≡ a)
   here i a e = (slice_get_within arrivals i a e, get_or_from_slice_get arrivals i a no_arrival e)
 
-  pub are_arrivals : AreArrivals ps from arrivals
-  are_arrivals = record {
-    ways = trail.ways;
-    are = record {
-      many = trail.many;
-      each = λ i a e. let h = here i a e in subst (λ (x : Arrival). IsWay i x.step trail.ways (way_at trail.ways i)) h.1 (trail.each i h.0).is_way;
-    };
+module _ (g : Going) (from : Label) (known : List ℕ) (arrivals : List Arrival) (trail : IsTrail g from known arrivals) where
+  once : (i j : ℕ) (a b : Arrival) → slice_get arrivals i ≡ Some a → slice_get arrivals j ≡ Some b → a.label ≡ b.label → i ≡ j
+  once i j a b e f is =
+      let h = here g from known arrivals trail i a e in
+      let k = here g from known arrivals trail j b f in
+      same g from known arrivals trail i j h.0 k.0 (ap (λ (x : Arrival). x.label) h.1 ∙ is ∙ sym (ap (λ (x : Arrival). x.label) k.1))
+
+  are_ways : AreWays arrivals trail.ways
+  are_ways = record {
+    many = trail.many;
     each = λ i a e.
-        let h = here i a e in
+        let h = here g from known arrivals trail i a e in
+        subst (λ (x : Arrival). IsWay i x.step trail.ways (way_at trail.ways i)) h.1 (trail.each i h.0).is_way;
+  }
+
+  pub are_arrivals : ReachAll g from arrivals → AreArrivalsBy (label_in g) from arrivals
+  are_arrivals reach = record {
+    ways = trail.ways;
+    are = are_ways;
+    each = λ i a e.
+        let h = here g from known arrivals trail i a e in
         let led = trail.each i h.0 in
-        subst (λ (x : Arrival). IsShortest ps from x (way_at trail.ways i)) h.1
+        subst (λ (x : Arrival). IsShortestBy (label_in g) from x (way_at trail.ways i)) h.1
         (record {
           asked = led.asked;
           leads = led.leads;
           long = led.long;
           shortest = λ rs asked is.
               let w = reach rs asked in
-              let j : w.0 ≡ i = same w.0 i w.1 h.0 (w.2 ∙ is) in
+              let j : w.0 ≡ i = same g from known arrivals trail w.0 i w.1 h.0 (w.2 ∙ is) in
               subst (λ x. (arrival_at arrivals x).length ≤ length rs) j w.3;
         });
     all = λ rs asked.
         let w = reach rs asked in
         (w.0, arrival_at arrivals w.0, slice_get-get_or arrivals w.0 no_arrival w.1, w.2);
-    once = λ i j a b e f is.
-        let h = here i a e in
-        let k = here j b f in
-        same i j h.0 k.0 (ap (λ (x : Arrival). x.label) h.1 ∙ is ∙ sym (ap (λ (x : Arrival). x.label) k.1));
+    once = once;
   }
+
+  -- where the first arrival is followed, those beside it are near
+  pub are_near : IsLevel arrivals 0 → AreFollowedBy g arrivals 0 IsAskable → AreNear (label_in g) from arrivals
+  are_near level followed = record {
+    ways = trail.ways;
+    are = are_ways;
+    each = λ i a e.
+        let h = here g from known arrivals trail i a e in
+        let led = trail.each i h.0 in
+        let first : (arrival_at arrivals 0).length ≤ 0 = (trail.each 0 trail.some).short in
+        subst (λ (x : Arrival). IsNear (label_in g) from x (way_at trail.ways i)) h.1
+        (record { asked = led.asked; leads = led.leads; short = omega (arith, led.long, level trail.some i h.0, first) });
+    all = λ r asked.
+        let w = followed r asked in
+        (w.0, arrival_at arrivals w.0, slice_get-get_or arrivals w.0 no_arrival w.1, w.2 ∙ ap (λ (l : Label). label_in g l r) trail.start);
+    once = once;
+  }
+
+led_same : (ps : List Policy) (l : Label) (rs : List Request) → led_by (label_next ps) l rs ≡ led_to ps l rs
+led_same ps l [] = refl
+led_same ps l (r ∷ rs) = led_same ps (label_next ps l r) rs
+
+-- where complain mode counts, these are those of the policies as they are
+pub plain_arrivals : (ps : List Policy) (from : Label) (arrivals : List Arrival) → AreArrivalsBy (label_next ps) from arrivals → AreArrivals ps from arrivals
+plain_arrivals ps from arrivals by = record {
+  ways = by.ways;
+  are = by.are;
+  each = λ i a e.
+      let is = by.each i a e in
+      record {
+        asked = is.asked;
+        leads = sym (led_same ps from (way_at by.ways i)) ∙ is.leads;
+        long = is.long;
+        shortest = λ rs asked leads. is.shortest rs asked (led_same ps from rs ∙ leads);
+      };
+  all = λ rs asked. let w = by.all rs asked in (w.0, w.1, w.2, w.3 ∙ led_same ps from rs);
+  once = by.once;
+}

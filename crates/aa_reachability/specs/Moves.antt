@@ -1,24 +1,60 @@
 -- Requests that move a task to another label.
 -- Source: own.
-use Rattle.std.specs.Prelude.{◌≡◌, ◌⊎◌, ◌<◌, ℕ, List, Contains, length}
+use Rattle.std.specs.Prelude.{◌≡◌, ◌⊎◌, ◌<◌, ℕ, List, Bool, true, false, Contains, length, if◌then◌else◌}
+use Rattle.std.specs.Option.{option_map_or}
 use Rattle.aa_pattern.specs.Limits.{most_patterns}
 use Rattle.aa_auto.specs.Tables.{HasPlaces}
 use Rattle.aa_model.specs.declared.policy.Policy.{Policy}
 use Rattle.aa_model.specs.declared.label.Label.{Label}
 use Rattle.aa_model.specs.declared.request.Request.{Request}
+use Rattle.aa_model.specs.declared.answer.Answer.{Answer}
+use Rattle.aa_model.specs.declared.answer.Note.{Note}
+use Rattle.aa_model.specs.declared.answer.NoteWord.{NoteWord}
+use Rattle.aa_model.specs.declared.answer.NoteWord.TheVariants.{Allowed}
 use Rattle.aa_mediate.specs.Reply.{reply}
 use Rattle.aa_representatives.specs.Alike.{deciding}
 use Rattle.aa_representatives.specs.Names.{many_name_patterns, HaveNamePlaces}
 use Rattle.aa_representatives.specs.Askable.{IsAskable}
+use Rattle.aa_reachability.specs.declared.going.Going.{Going}
 
 -- the label of a task after a request
 abbrev pub label_next : List Policy → Label → Request → Label
 label_next ps l r = (reply ps l r).label
 
--- requests that can be asked; to each label to which some request leads, one of them leads, but for the label itself
+-- complain mode granted it
+abbrev pub says_allowed : NoteWord → Bool
+says_allowed Allowed = true
+says_allowed _ = false
+
+-- granted by complain mode alone: the rules refuse it, and the note says that it was allowed
+abbrev pub is_by_complain : Answer → Bool
+is_by_complain a = option_map_or (λ (n : Note). says_allowed n.word) a.note false
+
+-- the label of a task with that label after an answer, where it doesn't move by what complain mode alone grants
+abbrev pub label_kept : Label → Answer → Label
+label_kept l a = if is_by_complain a then l else a.label
+
+-- the label of a task after a request that complain mode alone doesn't grant
+abbrev pub label_enforced : List Policy → Label → Request → Label
+label_enforced ps l r = label_kept l (reply ps l r)
+
+-- the label after a request, where complain mode doesn't count or does
+abbrev pub label_going : Bool → List Policy → Label → Request → Label
+label_going enforced ps l r = if enforced then label_enforced ps l r else label_next ps l r
+
+-- so of a task that goes on from label to label
+unfoldable pub label_in : Going → Label → Request → Label
+label_in g l r = label_going g.as_enforced g.policies.now l r
+
+-- requests that can be asked; each request that moves a task is answered as one of them
 pub record LeadAll (ps : List Policy) (l : Label) (rs : List Request) : Type 0 where
   pub each : (r : Request) → Contains rs r → IsAskable r
-  pub all : (r : Request) → IsAskable r → (label_next ps l r ≡ l) ⊎ ((q : Request) × Contains rs q × (label_next ps l r ≡ label_next ps l q))
+  pub all : (r : Request) → IsAskable r → (label_next ps l r ≡ l) ⊎ ((q : Request) × Contains rs q × (reply ps l r ≡ reply ps l q))
+
+-- requests that can be asked; to each label to which some request leads, one of them leads, but for the label itself
+pub record LeadAllBy (g : Going) (l : Label) (rs : List Request) : Type 0 where
+  pub each : (r : Request) → Contains rs r → IsAskable r
+  pub all : (r : Request) → IsAskable r → (label_in g l r ≡ l) ⊎ ((q : Request) × Contains rs q × (label_in g l r ≡ label_in g l q))
 
 -- the patterns on paths or those on names that decide at the label are more than can be matched together
 abbrev pub HaveManyPatternsAt : List Policy → Label → Type 0

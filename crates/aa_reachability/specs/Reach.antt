@@ -48,3 +48,37 @@ pub record AreArrivals (ps : List Policy) (from : Label) (arrivals : List Arriva
 -- there are such lists of requests
 abbrev pub HaveWays : List Arrival → Type 0
 HaveWays arrivals = (ways : List (List Request)) × AreWays arrivals ways
+
+-- the label after requests, one after another, where each leads on so
+abbrev pub led_by : (Label → Request → Label) → Label → List Request → Label
+led_by go l [] = l
+led_by go l (r ∷ rs) = led_by go (go l r) rs
+
+-- the requests can be asked and lead so to the label; no shorter list of such requests does
+pub record IsShortestBy (go : Label → Request → Label) (from : Label) (a : Arrival) (way : List Request) : Type 0 where
+  pub asked : All IsAskable way
+  pub leads : led_by go from way ≡ a.label
+  pub long : length way ≡ a.length
+  pub shortest : (rs : List Request) → All IsAskable rs → led_by go from rs ≡ a.label → a.length ≤ length rs
+
+-- an arrival for each label to which a list of requests that can be asked leads so, each with a shortest such list, and none twice
+pub record AreArrivalsBy (go : Label → Request → Label) (from : Label) (arrivals : List Arrival) : Type 0 where
+  pub ways : List (List Request)
+  pub are : AreWays arrivals ways
+  pub each : (i : ℕ) (a : Arrival) → slice_get arrivals i ≡ Some a → IsShortestBy go from a (way_at ways i)
+  pub all : (rs : List Request) → All IsAskable rs → (i : ℕ) × (a : Arrival) × (slice_get arrivals i ≡ Some a) × (a.label ≡ led_by go from rs)
+  pub once : (i j : ℕ) (a b : Arrival) → slice_get arrivals i ≡ Some a → slice_get arrivals j ≡ Some b → a.label ≡ b.label → i ≡ j
+
+-- at most one request that can be asked leads so to the label
+pub record IsNear (go : Label → Request → Label) (from : Label) (a : Arrival) (way : List Request) : Type 0 where
+  pub asked : All IsAskable way
+  pub leads : led_by go from way ≡ a.label
+  pub short : length way ≤ 1
+
+-- an arrival for each label to which one request that can be asked leads so, each with such a request, and none twice
+pub record AreNear (go : Label → Request → Label) (from : Label) (arrivals : List Arrival) : Type 0 where
+  pub ways : List (List Request)
+  pub are : AreWays arrivals ways
+  pub each : (i : ℕ) (a : Arrival) → slice_get arrivals i ≡ Some a → IsNear go from a (way_at ways i)
+  pub all : (r : Request) → IsAskable r → (i : ℕ) × (a : Arrival) × (slice_get arrivals i ≡ Some a) × (a.label ≡ go from r)
+  pub once : (i j : ℕ) (a b : Arrival) → slice_get arrivals i ≡ Some a → slice_get arrivals j ≡ Some b → a.label ≡ b.label → i ≡ j

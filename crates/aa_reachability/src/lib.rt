@@ -3,12 +3,13 @@
 
 mod codes;
 mod fault;
+mod going;
 mod moves;
 mod search;
 mod trail;
 mod ways;
 
 pub use fault::ReachFault;
-pub use search::arrivals_from;
+pub use search::{arrivals_from, enforced_arrivals_from, near_arrivals};
 pub use trail::{Arrival, Step};
 pub use ways::way_to;

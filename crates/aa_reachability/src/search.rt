@@ -5,12 +5,13 @@ ghost use Rattle.aa_pattern.specs.Limits.{most_states};
 ghost use Rattle.aa_model.specs.declared.label.Label.{Label};
 ghost use Rattle.aa_model.specs.declared.request.Request.{Request};
 ghost use Rattle.aa_representatives.specs.Askable.{IsAskable};
-ghost use Rattle.aa_reachability.specs.Moves.{LeadAll, HaveManyPatternsAt, HavePlacesAt};
-ghost use Rattle.aa_reachability.specs.Reach.{AreArrivals};
+ghost use Rattle.aa_reachability.specs.Moves.{label_enforced, label_going, label_in, LeadAllBy, HaveManyPatternsAt, HavePlacesAt};
+ghost use Rattle.aa_reachability.specs.Reach.{AreArrivals, AreArrivalsBy, AreNear};
 ghost use Rattle.aa_reachability.specs.Trail.{IsTrail, IsLevel, Extends, AreFollowedBy, ReachAll};
 
 use crate::codes::MAX_LABELS;
 use crate::fault::ReachFault;
+use crate::going::Going;
 use crate::moves::moves_at;
 use crate::trail::{Arrival, Trail};
 use aa_compile::Compiled;
@@ -21,17 +22,17 @@ use std::alloc::{AllocError, Global};
 /// Requests that lead from a label to each that one request leads to, or why there are none.
 fn moves_of(
     alloc: Global,
-    policies: &[Compiled],
+    going: Going<'_>,
     label: Label,
     limit: usize,
 ) -> Result<Vec<Request>, ReachFault>
     requires some { 0 < limit }
     requires limit { limit ≤ most_states }
-    ensures lead { IfOk result (λ rs. LeadAll policies.now label rs.items) }
-    ensures many_patterns { (l : Label) → result ≡ Err (ReachFault.TooManyPatterns l) → HaveManyPatternsAt policies.now l }
-    ensures many_states { (l : Label) → result ≡ Err (ReachFault.TooManyStates l) → HavePlacesAt policies.now l (limit + 1) }
+    ensures lead { IfOk result (λ rs. LeadAllBy going.entry label rs.items) }
+    ensures many_patterns { (l : Label) → result ≡ Err (ReachFault.TooManyPatterns l) → HaveManyPatternsAt going.entry.policies.now l }
+    ensures many_states { (l : Label) → result ≡ Err (ReachFault.TooManyStates l) → HavePlacesAt going.entry.policies.now l (limit + 1) }
 {
-    match moves_at(alloc, policies, label, limit) {
+    match moves_at(alloc, going.policies, label, limit) {
         Ok(found) => Ok(found),
         Err(RepresentativesFault::NoMemory) => Err(ReachFault::NoMemory),
         Err(RepresentativesFault::TooManyPatterns) => Err(ReachFault::TooManyPatterns(label)),
@@ -42,22 +43,22 @@ fn moves_of(
 /// Goes on from an arrival by each of these requests.
 fn follow_each(
     trail: &mut Trail,
-    policies: &[Compiled],
+    going: Going<'_>,
     from: Label,
     number: usize,
     requests: &[Request],
 ) -> Result<(), AllocError>
-    requires trail { IsTrail policies.now from trail.old.known.keys trail.old.arrivals.items }
+    requires trail { IsTrail going from trail.old.known.keys trail.old.arrivals.items }
     requires within { number < length trail.old.arrivals.items }
     requires level { IsLevel trail.old.arrivals.items number }
     requires asked { (r : Request) → Contains requests.now r → IsAskable r }
-    ensures trail { OnOk result (IsTrail policies.now from trail.new.known.keys trail.new.arrivals.items) }
+    ensures trail { OnOk result (IsTrail going.entry from trail.new.known.keys trail.new.arrivals.items) }
     ensures level { OnOk result (IsLevel trail.new.arrivals.items number) }
     ensures extends { OnOk result (Extends trail.old.arrivals.items trail.new.arrivals.items) }
-    ensures followed { OnOk result (AreFollowedBy policies.now trail.new.arrivals.items number (λ r. Contains requests.now r)) }
+    ensures followed { OnOk result (AreFollowedBy going.entry trail.new.arrivals.items number (λ r. Contains requests.now r)) }
 {
     for request in requests {
-        trail.follow(policies, from, number, request)?;
+        trail.follow(going, from, number, request)?;
     }
     Ok(())
 }
@@ -66,51 +67,81 @@ fn follow_each(
 fn follow_all(
     alloc: Global,
     trail: &mut Trail,
-    policies: &[Compiled],
+    going: Going<'_>,
     from: Label,
     number: usize,
     limit: usize,
 ) -> Result<(), ReachFault>
     requires some { 0 < limit }
     requires limit { limit ≤ most_states }
-    requires trail { IsTrail policies.now from trail.old.known.keys trail.old.arrivals.items }
+    requires trail { IsTrail going from trail.old.known.keys trail.old.arrivals.items }
     requires within { number < length trail.old.arrivals.items }
     requires level { IsLevel trail.old.arrivals.items number }
-    ensures trail { OnOk result (IsTrail policies.now from trail.new.known.keys trail.new.arrivals.items) }
+    ensures trail { OnOk result (IsTrail going.entry from trail.new.known.keys trail.new.arrivals.items) }
     ensures level { OnOk result (IsLevel trail.new.arrivals.items number) }
     ensures extends { OnOk result (Extends trail.old.arrivals.items trail.new.arrivals.items) }
-    ensures followed { OnOk result (AreFollowedBy policies.now trail.new.arrivals.items number IsAskable) }
-    ensures many_patterns { (l : Label) → result ≡ Err (ReachFault.TooManyPatterns l) → HaveManyPatternsAt policies.now l }
-    ensures many_states { (l : Label) → result ≡ Err (ReachFault.TooManyStates l) → HavePlacesAt policies.now l (limit + 1) }
+    ensures followed { OnOk result (AreFollowedBy going.entry trail.new.arrivals.items number IsAskable) }
+    ensures many_patterns { (l : Label) → result ≡ Err (ReachFault.TooManyPatterns l) → HaveManyPatternsAt going.entry.policies.now l }
+    ensures many_states { (l : Label) → result ≡ Err (ReachFault.TooManyStates l) → HavePlacesAt going.entry.policies.now l (limit + 1) }
 {
     let label = trail.arrivals[number].label;
-    let requests = moves_of(alloc, policies, label, limit)?;
-    follow_each(trail, policies, from, number, requests.as_slice())?;
+    let requests = moves_of(alloc, going, label, limit)?;
+    follow_each(trail, going, from, number, requests.as_slice())?;
     Ok(())
 }
 
 /// The arrivals at all labels to which requests lead.
-fn trail_of(
-    alloc: Global,
-    policies: &[Compiled],
-    from: Label,
-    limit: usize,
-) -> Result<Trail, ReachFault>
+fn trail_of(alloc: Global, going: Going<'_>, from: Label, limit: usize) -> Result<Trail, ReachFault>
     requires some { 0 < limit }
     requires limit { limit ≤ most_states }
-    ensures trail { IfOk result (λ t. IsTrail policies.now from t.known.keys t.arrivals.items) }
-    ensures all { IfOk result (λ t. ReachAll policies.now from t.arrivals.items) }
-    ensures many_patterns { (l : Label) → result ≡ Err (ReachFault.TooManyPatterns l) → HaveManyPatternsAt policies.now l }
-    ensures many_states { (l : Label) → result ≡ Err (ReachFault.TooManyStates l) → HavePlacesAt policies.now l (limit + 1) }
+    ensures trail { IfOk result (λ t. IsTrail going.entry from t.known.keys t.arrivals.items) }
+    ensures all { IfOk result (λ t. ReachAll going.entry from t.arrivals.items) }
+    ensures many_patterns { (l : Label) → result ≡ Err (ReachFault.TooManyPatterns l) → HaveManyPatternsAt going.entry.policies.now l }
+    ensures many_states { (l : Label) → result ≡ Err (ReachFault.TooManyStates l) → HavePlacesAt going.entry.policies.now l (limit + 1) }
 {
-    let mut trail = Trail::started(alloc, policies, from)?;
+    let mut trail = Trail::started(alloc, going, from)?;
     for number in 0..MAX_LABELS {
         if number == trail.arrivals.len() {
             return Ok(trail);
         }
-        follow_all(alloc, &mut trail, policies, from, number, limit)?;
+        follow_all(alloc, &mut trail, going, from, number, limit)?;
     }
     Ok(trail)
+}
+
+/// The arrivals at all labels to which requests lead, shorter lists of requests first.
+fn arrivals_by(
+    alloc: Global,
+    going: Going<'_>,
+    from: Label,
+    limit: usize,
+) -> Result<Vec<Arrival>, ReachFault>
+    requires some { 0 < limit }
+    requires limit { limit ≤ most_states }
+    ensures arrivals { IfOk result (λ found. AreArrivalsBy (label_in going.entry) from found.items) }
+    ensures many_patterns { (l : Label) → result ≡ Err (ReachFault.TooManyPatterns l) → HaveManyPatternsAt going.entry.policies.now l }
+    ensures many_states { (l : Label) → result ≡ Err (ReachFault.TooManyStates l) → HavePlacesAt going.entry.policies.now l (limit + 1) }
+{
+    let trail = trail_of(alloc, going, from, limit)?;
+    Ok(trail.into_arrivals())
+}
+
+/// The arrivals at all labels to which one request leads, and where a task begins.
+fn near_by(
+    alloc: Global,
+    going: Going<'_>,
+    from: Label,
+    limit: usize,
+) -> Result<Vec<Arrival>, ReachFault>
+    requires some { 0 < limit }
+    requires limit { limit ≤ most_states }
+    ensures near { IfOk result (λ found. AreNear (label_in going.entry) from found.items) }
+    ensures many_patterns { (l : Label) → result ≡ Err (ReachFault.TooManyPatterns l) → HaveManyPatternsAt going.entry.policies.now l }
+    ensures many_states { (l : Label) → result ≡ Err (ReachFault.TooManyStates l) → HavePlacesAt going.entry.policies.now l (limit + 1) }
+{
+    let mut trail = Trail::started(alloc, going, from)?;
+    follow_all(alloc, &mut trail, going, from, 0, limit)?;
+    Ok(trail.into_arrivals())
 }
 
 /// The labels that a task can get to from this one by requests that can be asked, itself first, each once, with a shortest list of
@@ -128,6 +159,51 @@ pub fn arrivals_from(
     ensures many_patterns { (l : Label) → result ≡ Err (ReachFault.TooManyPatterns l) → HaveManyPatternsAt policies.now l }
     ensures many_states { (l : Label) → result ≡ Err (ReachFault.TooManyStates l) → HavePlacesAt policies.now l (limit + 1) }
 {
-    let trail = trail_of(alloc, policies, from, limit)?;
-    Ok(trail.into_arrivals())
+    let going = Going {
+        policies,
+        as_enforced: false,
+    };
+    arrivals_by(alloc, going, from, limit)
+}
+
+/// The same, where what complain mode alone grants moves no task.
+pub fn enforced_arrivals_from(
+    alloc: Global,
+    policies: &[Compiled],
+    from: Label,
+    limit: usize,
+) -> Result<Vec<Arrival>, ReachFault>
+    requires some { 0 < limit }
+    requires limit { limit ≤ most_states }
+    ensures arrivals { IfOk result (λ found. AreArrivalsBy (label_enforced policies.now) from found.items) }
+    ensures many_patterns { (l : Label) → result ≡ Err (ReachFault.TooManyPatterns l) → HaveManyPatternsAt policies.now l }
+    ensures many_states { (l : Label) → result ≡ Err (ReachFault.TooManyStates l) → HavePlacesAt policies.now l (limit + 1) }
+{
+    let going = Going {
+        policies,
+        as_enforced: true,
+    };
+    arrivals_by(alloc, going, from, limit)
+}
+
+/// The labels to which one request that can be asked leads from this one, each once, with such a request, and this one itself, first.
+/// Where it is so wanted, what complain mode alone grants moves no task. The errors are as for all labels.
+pub fn near_arrivals(
+    alloc: Global,
+    policies: &[Compiled],
+    as_enforced: bool,
+    from: Label,
+    limit: usize,
+) -> Result<Vec<Arrival>, ReachFault>
+    requires some { 0 < limit }
+    requires limit { limit ≤ most_states }
+    ensures near { IfOk result (λ found. AreNear (label_going as_enforced policies.now) from found.items) }
+    ensures many_patterns { (l : Label) → result ≡ Err (ReachFault.TooManyPatterns l) → HaveManyPatternsAt policies.now l }
+    ensures many_states { (l : Label) → result ≡ Err (ReachFault.TooManyStates l) → HavePlacesAt policies.now l (limit + 1) }
+{
+    let going = Going {
+        policies,
+        as_enforced,
+    };
+    near_by(alloc, going, from, limit)
 }

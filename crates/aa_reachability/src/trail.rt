@@ -2,13 +2,11 @@
 
 ghost use Rattle.std.specs.Prelude.{◌≡◌, ◌+◌, ◌<◌, IfOk, OnOk, length};
 ghost use Rattle.aa_representatives.specs.Askable.{IsAskable};
-ghost use Rattle.aa_reachability.specs.Moves.{label_next};
+ghost use Rattle.aa_reachability.specs.Moves.{label_in};
 ghost use Rattle.aa_reachability.specs.Trail.{arrival_at, IsTrail, IsLevel, IsWithin, Extends};
 
 use crate::codes::code_of;
-use aa_compile::Compiled;
-use aa_machine::Machine;
-use aa_mediate::Mediator;
+use crate::going::{Going, label_after};
 use aa_model::{Label, Request};
 use indexmap::IndexSet;
 use std::alloc::{AllocError, Global};
@@ -35,23 +33,10 @@ pub(crate) struct Trail {
     pub(crate) arrivals: Vec<Arrival>,
 }
 
-/// The label of a task after a request.
-fn label_after(policies: &[Compiled], label: Label, request: &Request) -> Label
-    ensures { result ≡ label_next policies.now label request.now }
-{
-    let mut label = label;
-    let answer = Mediator::new(policies).step(&mut label, request);
-    answer.label
-}
-
 impl Trail {
     /// The first arrival: at the label where the task begins.
-    pub(crate) fn started(
-        alloc: Global,
-        policies: &[Compiled],
-        from: Label,
-    ) -> Result<Trail, AllocError>
-        ensures trail { IfOk result (λ t. IsTrail policies.now from t.known.keys t.arrivals.items) }
+    pub(crate) fn started(alloc: Global, going: Going<'_>, from: Label) -> Result<Trail, AllocError>
+        ensures trail { IfOk result (λ t. IsTrail going.entry from t.known.keys t.arrivals.items) }
         ensures level { IfOk result (λ t. IsLevel t.arrivals.items 0) }
     {
         let mut known = IndexSet::new(alloc);
@@ -68,22 +53,22 @@ impl Trail {
     /// Goes on from an arrival by one request, where its label isn't known yet.
     pub(crate) fn follow(
         &mut self,
-        policies: &[Compiled],
+        going: Going<'_>,
         from: Label,
         number: usize,
         request: &Request,
     ) -> Result<(), AllocError>
-        requires trail { IsTrail policies.now from self.old.known.keys self.old.arrivals.items }
+        requires trail { IsTrail going from self.old.known.keys self.old.arrivals.items }
         requires within { number < length self.old.arrivals.items }
         requires level { IsLevel self.old.arrivals.items number }
         requires asked { IsAskable request.now }
-        ensures trail { OnOk result (IsTrail policies.now from self.new.known.keys self.new.arrivals.items) }
+        ensures trail { OnOk result (IsTrail going.entry from self.new.known.keys self.new.arrivals.items) }
         ensures level { OnOk result (IsLevel self.new.arrivals.items number) }
         ensures extends { OnOk result (Extends self.old.arrivals.items self.new.arrivals.items) }
-        ensures reached { OnOk result (IsWithin self.new.arrivals.items (label_next policies.now (arrival_at self.old.arrivals.items number).label request.now) ((arrival_at self.old.arrivals.items number).length + 1)) }
+        ensures reached { OnOk result (IsWithin self.new.arrivals.items (label_in going.entry (arrival_at self.old.arrivals.items number).label request.now) ((arrival_at self.old.arrivals.items number).length + 1)) }
     {
         let before = &self.arrivals[number];
-        let label = label_after(policies, before.label, request);
+        let label = label_after(going, before.label, request);
         let length = before.length + 1;
         let (_, is_new) = self.known.insert_full(code_of(label))?;
         if !is_new {

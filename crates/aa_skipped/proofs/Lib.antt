@@ -1,3 +1,5 @@
 pub mod Sorts
 pub mod Outlines
 pub mod Each
+pub mod Parting
+pub mod Skipping

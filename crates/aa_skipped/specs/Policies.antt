@@ -11,13 +11,17 @@ use Rattle.aa_command.specs.Refusals.{SaysUnitFault}
 use Rattle.aa_command.specs.Policies.{IsPrintedBy, behind_warnings}
 use Rattle.aa_skipped.specs.declared.skipped.Skipped.{Skipped}
 use Rattle.aa_skipped.specs.Sorting.{AreSorted}
+use Rattle.aa_skipped.specs.Repeated.{AreParted}
 use Rattle.aa_skipped.specs.Telling.{behind_skipped}
 
--- what is printed by the files at some paths: by the units of those that are read, behind what is told of those that are skipped
+-- what is printed by the files at some paths: by the units of those that are read and share no name with another, behind what is told of those that are skipped
 pub record IsPrintedSkipping (s : Setting) (paths : List (List ℕ)) (gives : List Skipped → Decided → Printed → Type 0) (out : Printed) : Type 0 where
+  pub good : List unit.Unit
+  pub refused : List Skipped
+  pub sorted : AreSorted s paths good refused
   pub units : List unit.Unit
   pub skipped : List Skipped
-  pub sorted : AreSorted s paths units skipped
+  pub parted : AreParted good refused units skipped
   pub own : Printed
   pub by : IsPrintedBy s.folders s.states units (gives skipped) own
   pub behind : out ≡ behind_skipped skipped own

@@ -35,4 +35,4 @@ skipped_text k = fault_text k.fault ++ skipped_line k
 
 -- what is printed, behind what is told of the files that are skipped
 abbrev pub behind_skipped : List Skipped → Printed → Printed
-behind_skipped skipped own = record { answers = own.answers; faults = flat_map skipped_text skipped ++ own.faults; status = own.status }
+behind_skipped skipped own = record { answers = own.answers; faults = flat_map skipped_text skipped ++ own.faults; refusal = own.refusal; status = own.status }

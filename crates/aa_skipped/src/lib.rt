@@ -5,12 +5,14 @@ mod bodies;
 mod flags;
 mod heads;
 mod laws;
+mod repeated;
 mod skipped;
 mod sorting;
 mod telling;
 
 pub use heads::unread_of;
 pub use laws::each_file_decides;
+pub use repeated::part_repeated;
 pub use skipped::{Skipped, Sorted};
 pub use sorting::sort_paths;
 pub use telling::behind_skipped;

@@ -99,7 +99,7 @@ fn find<T: Tree>(
     }
 }
 
-fn put(sorted: &mut Sorted, found: Found) -> Result<(), AllocError>
+pub(crate) fn put(sorted: &mut Sorted, found: Found) -> Result<(), AllocError>
     ensures units { OnOk result (sorted.new.units.items ≡ sorted.old.units.items ++ units_in found) }
     ensures skipped { OnOk result (sorted.new.skipped.items ≡ sorted.old.skipped.items ++ skipped_in found) }
 {

@@ -100,6 +100,7 @@ pub fn behind_skipped(alloc: Global, skipped: &[Skipped], own: Output) -> Result
     Ok(Output {
         answers: own.answers,
         faults,
+        refusal: own.refusal,
         status: own.status,
     })
 }

@@ -29,6 +29,7 @@ who_printed o answers =
     record {
       answers = answers_text o answers;
       faults = flat_map untold_text answers;
+      refusal = [];
       status = status_of (flat_map untold_text answers) (list_any is_nobodys answers);
     }
 

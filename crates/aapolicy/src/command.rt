@@ -44,9 +44,14 @@ const STATUSES: &str = "Exit status, where several hold the first:
   3  a file or folder can't be read, the output can't be written, or memory ran out
   1  a policy is refused, or what is asked for isn't there
   4  all was read, and the answer is no
+  5  files that are skipped could change the answer
   0  else
 
 docs/AAPOLICY.md has what each command reads and prints, docs/FAULTS.md what is refused.";
+
+/// The help of `--skip-refused`.
+const SKIP_REFUSED: &str =
+    "Skip files that are refused; what their profiles could change is undecided, with the exit status 5";
 
 /// How an argument is written.
 #[derive(Clone, Copy)]
@@ -258,6 +263,13 @@ const ASK_ARGUMENTS: &[Argument] = &[
         barred: None,
         help: "Print nothing: the exit status answers",
     },
+    Argument {
+        name: "skip-refused",
+        letter: None,
+        form: Form::Flag,
+        barred: None,
+        help: SKIP_REFUSED,
+    },
 ];
 
 /// What `who` takes.
@@ -339,6 +351,13 @@ const JOB_ARGUMENTS: &[Argument] = &[
         form: Form::Values("FILE"),
         barred: None,
         help: "A log whose lines become the job's tasks",
+    },
+    Argument {
+        name: "json",
+        letter: None,
+        form: Form::Flag,
+        barred: None,
+        help: "Tell in JSON too why there is no job",
     },
 ];
 

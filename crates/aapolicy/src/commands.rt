@@ -5,18 +5,24 @@ use crate::command::{
 };
 use crate::handed::Handed;
 use crate::opened::{file_of, files_of, given_to, is_input};
+use crate::progress::Progress;
+use crate::watched::Watched;
 use aa_ask::{AskOptions, Manner, ask_files};
 use aa_check::{CheckOptions, Form, check_files};
-use aa_command::{Output, Settings, refused};
+use aa_command::{Output, Settings, in_json, refused};
 use aa_diff::{DiffOptions, Wanted, diff_files};
 use aa_job::{JobOptions, job_files};
 use aa_log::{LogOptions, log_files};
 use aa_logs::{Choice, Form as Written, LogWord, name_of};
 use aa_merge::{MergeOptions, merge_files};
 use aa_text::NoMemory;
+use aa_undecided::ask_skipping;
 use aa_who::{WhoOptions, who_files};
 use clap::ArgMatches;
 use std::alloc::{AllocError, Global};
+
+/// The files and logs of the host, and who is told of their reading.
+type Host<'a> = Watched<'a, HostRuntime, Progress<'a>>;
 
 /// The value of an option as bytes, if it is there.
 fn value_of<'a>(matches: &ArgMatches<'a>, id: &str) -> Option<&'a [u8]> {
@@ -42,7 +48,7 @@ fn form_of(matches: &ArgMatches<'_>) -> Option<Form> {
 
 fn run_check(
     rt: &HostRuntime,
-    tree: &Handed<'_, HostRuntime>,
+    tree: &Handed<'_, Host<'_>>,
     matches: &ArgMatches<'_>,
     settings: &Settings<'_>,
 ) -> Result<Output, NoMemory> {
@@ -72,7 +78,7 @@ fn asked_files(alloc: Global, matches: &ArgMatches<'_>) -> Result<Vec<Vec<u8>>, 
 
 fn run_ask(
     rt: &HostRuntime,
-    tree: &Handed<'_, HostRuntime>,
+    tree: &Handed<'_, Host<'_>>,
     matches: &ArgMatches<'_>,
     settings: &Settings<'_>,
 ) -> Result<Output, NoMemory> {
@@ -91,12 +97,15 @@ fn run_ask(
         is_quiet: matches.get_flag("quiet"),
     };
     let words = copies_of(alloc, matches, "WORD")?;
+    if matches.get_flag("skip-refused") {
+        return ask_skipping(alloc, tree, settings, &options, words);
+    }
     ask_files(alloc, tree, settings, &options, words)
 }
 
 fn run_diff(
     rt: &HostRuntime,
-    tree: &Handed<'_, HostRuntime>,
+    tree: &Handed<'_, Host<'_>>,
     matches: &ArgMatches<'_>,
     settings: &Settings<'_>,
 ) -> Result<Output, NoMemory> {
@@ -126,7 +135,7 @@ fn run_diff(
 
 fn run_who(
     rt: &HostRuntime,
-    tree: &Handed<'_, HostRuntime>,
+    tree: &Handed<'_, Host<'_>>,
     matches: &ArgMatches<'_>,
     settings: &Settings<'_>,
 ) -> Result<Output, NoMemory> {
@@ -144,7 +153,7 @@ fn run_who(
 
 fn run_log(
     rt: &HostRuntime,
-    tree: &Handed<'_, HostRuntime>,
+    tree: &Handed<'_, Host<'_>>,
     matches: &ArgMatches<'_>,
     settings: &Settings<'_>,
     choice: Choice<'_>,
@@ -160,12 +169,12 @@ fn run_log(
         wants_all: matches.get_flag("all"),
         is_json: matches.get_flag("json"),
     };
-    log_files(alloc, tree, rt, settings, &options)
+    log_files(alloc, tree, tree.tree, settings, &options)
 }
 
 fn run_job(
     rt: &HostRuntime,
-    tree: &Handed<'_, HostRuntime>,
+    tree: &Handed<'_, Host<'_>>,
     matches: &ArgMatches<'_>,
     settings: &Settings<'_>,
     choice: Choice<'_>,
@@ -178,7 +187,7 @@ fn run_job(
         logs: logs.as_slice(),
         choice,
     };
-    job_files(alloc, tree, rt, settings, &options)
+    job_files(alloc, tree, tree.tree, settings, &options)
 }
 
 /// Which lines of logs the command line wants, of profiles of these names; none where a second is no number.
@@ -208,7 +217,7 @@ fn profiles_of(alloc: Global, matches: &ArgMatches<'_>) -> Result<Vec<Vec<u8>>, 
 /// Does what a command that reads logs asks, or says why not.
 fn run_with_logs(
     rt: &HostRuntime,
-    tree: &Handed<'_, HostRuntime>,
+    tree: &Handed<'_, Host<'_>>,
     name: &str,
     matches: &ArgMatches<'_>,
     settings: &Settings<'_>,
@@ -228,7 +237,7 @@ fn run_with_logs(
 /// Does what the command line asks, or says why not.
 fn run_wanted(
     rt: &HostRuntime,
-    tree: &Handed<'_, HostRuntime>,
+    tree: &Handed<'_, Host<'_>>,
     name: &str,
     matches: &ArgMatches<'_>,
     settings: &Settings<'_>,
@@ -292,8 +301,15 @@ fn run_with_policies(
     };
     let given = given_to(rt, name, matches)?;
     let given = given.as_slice();
-    let tree = Handed { tree: rt, given };
-    run_wanted(rt, &tree, name, matches, &settings)
+    let progress = Progress::new(rt);
+    let host = Watched {
+        inner: rt,
+        watch: &progress,
+    };
+    let tree = Handed { tree: &host, given };
+    let output = run_wanted(rt, &tree, name, matches, &settings);
+    progress.end();
+    output
 }
 
 fn run_merge(rt: &HostRuntime, matches: &ArgMatches<'_>) -> Result<Output, NoMemory> {
@@ -310,11 +326,21 @@ fn run_merge(rt: &HostRuntime, matches: &ArgMatches<'_>) -> Result<Output, NoMem
     merge_files(alloc, rt, rt, &options)
 }
 
+fn run_command(rt: &HostRuntime, name: &str, matches: &ArgMatches<'_>) -> Result<Output, NoMemory> {
+    match name {
+        "merge" => run_merge(rt, matches),
+        _ => run_with_policies(rt, name, matches),
+    }
+}
+
 /// Does what the command line asks.
 pub(crate) fn run_named(rt: &HostRuntime, matches: &ArgMatches<'_>) -> Result<Output, NoMemory> {
-    match matches.subcommand() {
-        Some(("merge", matches)) => run_merge(rt, matches),
-        Some((name, matches)) => run_with_policies(rt, name, matches),
-        None => refused(rt.alloc(), "error: no command is given\n", 2),
+    let Some((name, matches)) = matches.subcommand() else {
+        return refused(rt.alloc(), "error: no command is given\n", 2);
+    };
+    let output = run_command(rt, name, matches)?;
+    if matches.get_flag("json") {
+        return Ok(in_json(rt.alloc(), output)?);
     }
+    Ok(output)
 }

@@ -5,11 +5,16 @@ mod command;
 mod commands;
 mod handed;
 mod opened;
+mod progress;
+mod shown;
+mod watched;
 
 use aa_command::{Output, Unwritten, exit_status, write_output};
 use clap::error::{Error, ErrorKind};
 use command::matches_of;
 use commands::run_named;
+use shown::shown_words;
+use std::alloc::Global;
 use std::process::ExitCode;
 use std::{env, io};
 
@@ -27,6 +32,17 @@ fn say_no_memory(rt: &HostRuntime) -> u8 {
 fn say_unwritten(rt: &HostRuntime) -> u8 {
     let _ = eprintln!(rt; "the output can't be written");
     FAILED
+}
+
+/// Why a command line is refused, told of words as a terminal may be handed them.
+fn shown_error(alloc: Global, words: &[String], error: Error) -> Error {
+    let Ok(shown) = shown_words(alloc, words) else {
+        return error;
+    };
+    match matches_of(alloc, shown.as_slice()) {
+        Err(shown) => shown,
+        Ok(_) => error,
+    }
 }
 
 /// Says what the command line is refused for, or the help or the version that it asks for, and gives the exit status.
@@ -65,7 +81,10 @@ fn answer_command(rt: &HostRuntime) -> u8 {
         },
     };
     let matches = match matches_of(alloc, words.as_slice()) {
-        Err(error) => return refuse_command(rt, &error),
+        Err(error) => {
+            let error = shown_error(alloc, words.as_slice(), error);
+            return refuse_command(rt, &error);
+        }
         Ok(matches) => matches,
     };
     match run_named(rt, &matches) {

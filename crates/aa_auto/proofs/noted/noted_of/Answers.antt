@@ -5,7 +5,8 @@ use Rattle.aa_auto.proofs.noted.noted_of.Goals as goal
 
 pub loop-start-preserved : goal.loop-start-preserved
 loop-start-preserved c =
-    noted_more c.args.nodes.now c.args.set.now c.loop-start.start-index _ c.loop-start.named.items c.note.new.named.items c.loop-start.asked.items c.note.new.asked.items
+    noted_more c.args.nodes.now c.args.set.now c.loop-start.start-index _ c.loop-start.named.items c.note.new.named.items c.loop-start.asked.items
+    c.note.new.asked.items
     c.loop-start-test.true refl c.loop-start.invariant c.in_ok-note.ensures
 
 pub returns : goal.returns

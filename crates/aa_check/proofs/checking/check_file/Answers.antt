@@ -1,4 +1,4 @@
-use Rattle.std.proofs.Common.{sym, subst}
+use Rattle.std.proofs.Common.{ap, ◌∙◌, sym, subst}
 use Rattle.aa_diagnostics.specs.Reports.{IsSaid}
 use Rattle.aa_check.specs.Checked.{Read, Unread}
 use Rattle.aa_check.proofs.Found.{said_of_more}
@@ -12,4 +12,4 @@ returns-in_ok-fault-in-Err-clause-found g c =
     let said = c.in_ok-fault-in-Err.ensures in
     Unread c.in-Err.fault c.in_ok-fault-in-Err.fault
     (c.in-Err.ensures.fault (said_of_more c.in-Err.fault c.in_ok-fault-in-Err.fault c.in_ok-fault-in-Err.is_unread said))
-    (subst (λ b. IsSaid c.in-Err.fault c.in_ok-fault-in-Err.fault b) (sym c.refused.ensures.unread) said) c.refused.ensures.only
+    (subst (λ b. IsSaid c.in-Err.fault c.in_ok-fault-in-Err.fault b) (sym c.refused.ensures.unread) said) (record { has = c.refused.ensures.has; alone = ap (λ v. v.items) c.refused.ensures.further ∙ c.new.ensures.items })

@@ -2,14 +2,14 @@ use Rattle.std.proofs.Common.{◌≡◌, List, Contains, sym, ◌∙◌, subst, 
 use Rattle.std.proofs.lemmas.List.{get_or_read}
 use Rattle.aa_model.specs.declared.request.Request.{Request}
 use Rattle.aa_reachability.specs.declared.trail.Arrival.{Arrival}
-use Rattle.aa_reachability.specs.Moves.{LeadAll}
+use Rattle.aa_reachability.specs.Moves.{LeadAllBy}
 use Rattle.aa_reachability.specs.Trail.{no_arrival, arrival_at, AreFollowedBy}
 use Rattle.aa_reachability.proofs.Reaching.{extends_at, extends_length, followed_all}
 use Rattle.aa_reachability.proofs.search.follow_all.Goals as goal
 
 pub returns-clause-followed : goal.returns-clause-followed
 returns-clause-followed c =
-    let ps = c.args.policies.now in
+    let g = c.args.going in
     let was = c.args.trail.now.arrivals.items in
     let now = c.follow_each.new.trail.arrivals.items in
     let n = c.args.number in
@@ -17,7 +17,7 @@ returns-clause-followed c =
     let made = c.in_ok-follow_each.ensures in
     let read : c.index.result.now ≡ arrival_at was n = get_or_read was n c.index.result.now c.requires.within c.index.ensures no_arrival in
     let same : c.index.result.now ≡ arrival_at now n = read ∙ sym (extends_at was now made.extends n c.requires.within) in
-    let lead : LeadAll ps (arrival_at now n).label requests = subst (λ (x : Arrival). LeadAll ps x.label requests) same c.in_ok-requests.ensures.lead in
-    let each : AreFollowedBy ps now n (Contains requests) = λ r among. made.followed r
+    let lead : LeadAllBy g (arrival_at now n).label requests = subst (λ (x : Arrival). LeadAllBy g x.label requests) same c.in_ok-requests.ensures.lead in
+    let each : AreFollowedBy g now n (Contains requests) = λ r among. made.followed r
     (subst (λ (xs : List Request). Contains xs r) (sym c.as_slice.ensures.value) among) in
-    followed_all ps now n requests (omega (arith, c.requires.within, extends_length was now made.extends)) lead each
+    followed_all g now n requests (omega (arith, c.requires.within, extends_length was now made.extends)) lead each

@@ -1,15 +1,15 @@
 use Rattle.std.proofs.Common.{◌≡◌, ℕ, ◌+◌, ◌<◌, get_or}
 use Rattle.aa_model.specs.declared.request.Request.{Request}
-use Rattle.aa_reachability.specs.Moves.{label_next}
+use Rattle.aa_reachability.specs.Moves.{label_in}
 use Rattle.aa_reachability.specs.Trail.{arrival_at, IsTrail, IsLevel, IsWithin, Extends}
 use Rattle.aa_reachability.proofs.search.follow_each.Given as goal
 
 abbrev pub invariant-loop-request : goal.invariant-loop-request
 invariant-loop-request l = record {
-  trail : IsTrail l.policies l.from l.trail.known.keys l.trail.arrivals.items;
+  trail : IsTrail l.going l.from l.trail.known.keys l.trail.arrivals.items;
   level : IsLevel l.trail.arrivals.items l.number;
   extends : Extends l.fn.trail.arrivals.items l.trail.arrivals.items;
   behind : (k : ℕ) (r : Request) → k < l.request-index → get_or l.requests k r ≡ r
-      → IsWithin l.trail.arrivals.items (label_next l.policies (arrival_at l.fn.trail.arrivals.items l.number).label r)
+      → IsWithin l.trail.arrivals.items (label_in l.going (arrival_at l.fn.trail.arrivals.items l.number).label r)
       ((arrival_at l.fn.trail.arrivals.items l.number).length + 1);
 }

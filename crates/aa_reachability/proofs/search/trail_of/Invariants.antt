@@ -4,8 +4,8 @@ use Rattle.aa_reachability.proofs.search.trail_of.Given as goal
 
 abbrev pub invariant-loop-number : goal.invariant-loop-number
 invariant-loop-number l = record {
-  trail : IsTrail l.policies l.from l.trail.known.keys l.trail.arrivals.items;
+  trail : IsTrail l.going l.from l.trail.known.keys l.trail.arrivals.items;
   level : IsLevel l.trail.arrivals.items l.number;
-  followed : AreFollowed l.policies l.trail.arrivals.items l.number;
+  followed : AreFollowed l.going l.trail.arrivals.items l.number;
   within : l.number ≤ length l.trail.arrivals.items;
 }

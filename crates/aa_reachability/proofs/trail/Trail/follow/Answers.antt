@@ -8,7 +8,7 @@ use Rattle.aa_model.specs.declared.request.Request.{Request}
 use Rattle.aa_representatives.specs.Askable.{IsAskable}
 use Rattle.aa_reachability.specs.declared.trail.Step.{Step}
 use Rattle.aa_reachability.specs.declared.trail.Arrival.{Arrival}
-use Rattle.aa_reachability.specs.Moves.{label_next}
+use Rattle.aa_reachability.specs.Moves.{label_in}
 use Rattle.aa_reachability.specs.Trail.{no_arrival, arrival_at, IsTrail, IsLevel, IsWithin}
 use Rattle.aa_reachability.proofs.Stepping.{trail_more, level_more, reached_more, reached_known, is_known, added_keys}
 use Rattle.aa_reachability.proofs.trail.Trail.follow.Goals as goal
@@ -18,12 +18,12 @@ returns-then-not-is_new-clause-reached c =
     let arrivals = c.args.self.now.arrivals.items in
     let read : c.index-before.result.now ≡ arrival_at arrivals c.args.number =
     get_or_read arrivals c.args.number c.index-before.result.now c.requires.within c.index-before.ensures no_arrival in
-    let label : c.label_after-label.result ≡ label_next c.args.policies.now (arrival_at arrivals c.args.number).label c.args.request.now =
-    c.label_after-label.ensures ∙ ap (λ (a : Arrival). label_next c.args.policies.now a.label c.args.request.now) read in
+    let label : c.label_after-label.result ≡ label_in c.args.going (arrival_at arrivals c.args.number).label c.args.request.now =
+    c.label_after-label.ensures ∙ ap (λ (a : Arrival). label_in c.args.going a.label c.args.request.now) read in
     let known : list_any (nat_eq c.code_of.result) c.args.self.now.known.keys ≡ true =
     is_known (list_any (nat_eq c.code_of.result) c.args.self.now.known.keys) c.in_ok-is_new.is_new c.in_ok-is_new.ensures.added c.if-not-is_new.true in
     subst (λ (l : Label). IsWithin arrivals l ((arrival_at arrivals c.args.number).length + 1)) label
-    (reached_known c.args.policies.now c.args.from c.args.self.now.known.keys arrivals c.requires.trail c.args.number c.label_after-label.result c.requires.within
+    (reached_known c.args.going c.args.from c.args.self.now.known.keys arrivals c.requires.trail c.args.number c.label_after-label.result c.requires.within
     c.requires.level c.code_of.ensures.fits (ap (λ n. list_any (nat_eq n) c.args.self.now.known.keys) (sym c.code_of.ensures.code) ∙ known))
 
 pub returns-clause-trail : goal.returns-clause-trail
@@ -33,16 +33,16 @@ returns-clause-trail c =
     get_or_read arrivals c.args.number c.index-before.result.now c.requires.within c.index-before.ensures no_arrival in
     let same : c.in_ok-request.request ≡ c.args.request.now = c.in_ok-request.ensures.same in
     let asked : IsAskable c.in_ok-request.request = subst IsAskable (sym same) c.requires.asked in
-    let label : c.label_after-label.result ≡ label_next c.args.policies.now (arrival_at arrivals c.args.number).label c.in_ok-request.request =
-    c.label_after-label.ensures ∙ ap (λ (a : Arrival). label_next c.args.policies.now a.label c.args.request.now) read
-    ∙ ap (λ (r : Request). label_next c.args.policies.now (arrival_at arrivals c.args.number).label r) (sym same) in
+    let label : c.label_after-label.result ≡ label_in c.args.going (arrival_at arrivals c.args.number).label c.in_ok-request.request =
+    c.label_after-label.ensures ∙ ap (λ (a : Arrival). label_in c.args.going a.label c.args.request.now) read
+    ∙ ap (λ (r : Request). label_in c.args.going (arrival_at arrivals c.args.number).label r) (sym same) in
     let long : c.index-before.result.now.length + 1 ≡ (arrival_at arrivals c.args.number).length + 1 = ap (λ (a : Arrival). a.length + 1) read in
     let keys = added_keys c.args.self.now.known.keys c.insert_full.new.self.keys c.code_of.result c.in_ok-is_new.is_new c.in_ok-is_new.ensures.added c.if-not-is_new.false
     c.in_ok-is_new.ensures.keys in
-    let made = trail_more c.args.policies.now c.args.from c.args.self.now.known.keys arrivals c.requires.trail c.args.number c.in_ok-request.request c.label_after-label.result
+    let made = trail_more c.args.going c.args.from c.args.self.now.known.keys arrivals c.requires.trail c.args.number c.in_ok-request.request c.label_after-label.result
     c.requires.within c.requires.level asked label c.code_of.ensures.fits (c.index-before.result.now.length + 1) long c.insert_full.new.self.keys
     (keys ∙ ap (λ n. c.args.self.now.known.keys ++ n ∷ []) c.code_of.ensures.code) c.in_ok-is_new.ensures.unique in
-    subst (IsTrail c.args.policies.now c.args.from c.insert_full.new.self.keys) (sym c.in_ok-push.ensures.items)
+    subst (IsTrail c.args.going c.args.from c.insert_full.new.self.keys) (sym c.in_ok-push.ensures.items)
     made
 
 pub returns-clause-level : goal.returns-clause-level
@@ -52,12 +52,12 @@ returns-clause-level c =
     get_or_read arrivals c.args.number c.index-before.result.now c.requires.within c.index-before.ensures no_arrival in
     let same : c.in_ok-request.request ≡ c.args.request.now = c.in_ok-request.ensures.same in
     let asked : IsAskable c.in_ok-request.request = subst IsAskable (sym same) c.requires.asked in
-    let label : c.label_after-label.result ≡ label_next c.args.policies.now (arrival_at arrivals c.args.number).label c.in_ok-request.request =
-    c.label_after-label.ensures ∙ ap (λ (a : Arrival). label_next c.args.policies.now a.label c.args.request.now) read
-    ∙ ap (λ (r : Request). label_next c.args.policies.now (arrival_at arrivals c.args.number).label r) (sym same) in
+    let label : c.label_after-label.result ≡ label_in c.args.going (arrival_at arrivals c.args.number).label c.in_ok-request.request =
+    c.label_after-label.ensures ∙ ap (λ (a : Arrival). label_in c.args.going a.label c.args.request.now) read
+    ∙ ap (λ (r : Request). label_in c.args.going (arrival_at arrivals c.args.number).label r) (sym same) in
     let long : c.index-before.result.now.length + 1 ≡ (arrival_at arrivals c.args.number).length + 1 = ap (λ (a : Arrival). a.length + 1) read in
     subst (λ l. IsLevel l c.args.number) (sym c.in_ok-push.ensures.items)
-    (level_more c.args.policies.now c.args.from c.args.self.now.known.keys arrivals c.requires.trail c.args.number c.in_ok-request.request c.label_after-label.result
+    (level_more c.args.going c.args.from c.args.self.now.known.keys arrivals c.requires.trail c.args.number c.in_ok-request.request c.label_after-label.result
     c.requires.within c.requires.level asked label c.code_of.ensures.fits (c.index-before.result.now.length + 1) long)
 
 pub returns-clause-reached : goal.returns-clause-reached
@@ -67,15 +67,15 @@ returns-clause-reached c =
     get_or_read arrivals c.args.number c.index-before.result.now c.requires.within c.index-before.ensures no_arrival in
     let same : c.in_ok-request.request ≡ c.args.request.now = c.in_ok-request.ensures.same in
     let asked : IsAskable c.in_ok-request.request = subst IsAskable (sym same) c.requires.asked in
-    let label : c.label_after-label.result ≡ label_next c.args.policies.now (arrival_at arrivals c.args.number).label c.in_ok-request.request =
-    c.label_after-label.ensures ∙ ap (λ (a : Arrival). label_next c.args.policies.now a.label c.args.request.now) read
-    ∙ ap (λ (r : Request). label_next c.args.policies.now (arrival_at arrivals c.args.number).label r) (sym same) in
+    let label : c.label_after-label.result ≡ label_in c.args.going (arrival_at arrivals c.args.number).label c.in_ok-request.request =
+    c.label_after-label.ensures ∙ ap (λ (a : Arrival). label_in c.args.going a.label c.args.request.now) read
+    ∙ ap (λ (r : Request). label_in c.args.going (arrival_at arrivals c.args.number).label r) (sym same) in
     let long : c.index-before.result.now.length + 1 ≡ (arrival_at arrivals c.args.number).length + 1 = ap (λ (a : Arrival). a.length + 1) read in
     let step : Step = record { from = c.args.number; request = c.in_ok-request.request } in
     let new : Arrival = record { label = c.label_after-label.result; length = c.index-before.result.now.length + 1; step = Some step } in
     let many = (arrival_at arrivals c.args.number).length + 1 in
-    subst (λ l. IsWithin l (label_next c.args.policies.now (arrival_at arrivals c.args.number).label c.args.request.now) many) (sym c.in_ok-push.ensures.items)
-    (subst (λ (r : Request). IsWithin (arrivals ++ new ∷ []) (label_next c.args.policies.now (arrival_at arrivals c.args.number).label r) many) same
+    subst (λ l. IsWithin l (label_in c.args.going (arrival_at arrivals c.args.number).label c.args.request.now) many) (sym c.in_ok-push.ensures.items)
+    (subst (λ (r : Request). IsWithin (arrivals ++ new ∷ []) (label_in c.args.going (arrival_at arrivals c.args.number).label r) many) same
     (subst (λ (m : Label). IsWithin (arrivals ++ new ∷ []) m many) label
-    (reached_more c.args.policies.now c.args.from c.args.self.now.known.keys arrivals c.requires.trail c.args.number c.in_ok-request.request c.label_after-label.result
+    (reached_more c.args.going c.args.from c.args.self.now.known.keys arrivals c.requires.trail c.args.number c.in_ok-request.request c.label_after-label.result
     c.requires.within c.requires.level asked label c.code_of.ensures.fits (c.index-before.result.now.length + 1) long)))

@@ -15,5 +15,5 @@ returns-clause-trail c =
     let one : known ≡ code c.args.from ∷ [] =
     c.in_ok-insert.ensures.keys ∙ ap (λ ks. insert_key nat_eq ks c.code_of.result) c.new-known.ensures.empty
     ∙ ap (λ n. n ∷ []) c.code_of.ensures.code in
-    subst (IsTrail c.args.policies.now c.args.from known) (sym items)
-    (first_trail c.args.policies.now c.args.from known first c.code_of.ensures.fits refl one c.in_ok-insert.ensures.unique)
+    subst (IsTrail c.args.going c.args.from known) (sym items)
+    (first_trail c.args.going c.args.from known first c.code_of.ensures.fits refl one c.in_ok-insert.ensures.unique)

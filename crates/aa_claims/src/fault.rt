@@ -1,0 +1,64 @@
+//! Why claims aren't answered.
+
+use std::alloc::{AllocError, AllocFailed};
+
+/// What is wrong with a claim, at one of its words.
+#[derive(Clone, Copy, Debug, PartialEq, Eq)]
+pub enum Wrong {
+    /// A quote is open where the line ends.
+    Open,
+    /// It begins otherwise than by `never` or `always`.
+    NoClaim,
+    /// It doesn't say what is claimed.
+    Nothing,
+    /// What it says is no request, or its path no pattern.
+    NoRequest,
+    /// A word stands where a clause begins, and begins none.
+    NoClause,
+    /// The same clause stands there before.
+    Twice,
+    /// Such a claim has no such clause.
+    NotHere,
+    /// A clause names nothing.
+    NoName,
+    /// It is a form of claims that isn't answered.
+    Unanswered,
+    /// No profile has such a name.
+    NoProfile,
+    /// No path that can be asked for is matched.
+    NoPath,
+    /// It is about no profile.
+    Nobody,
+    /// There are more than 65,536 claims with it.
+    TooMany,
+}
+
+/// Why claims aren't answered.
+#[derive(Clone, Copy, Debug, PartialEq, Eq)]
+pub enum ClaimFault {
+    NoMemory,
+    /// At that byte of the text something is wrong.
+    At(usize, Wrong),
+}
+
+impl From<AllocError> for ClaimFault {
+    ghost use Rattle.std.specs.Prelude.{◌≡◌};
+    ghost use Rattle.aa_claims.specs.declared.fault.ClaimFault.TheVariants as fault;
+
+    ghost from_gives = { λ _ e. e ≡ fault.NoMemory };
+
+    fn from(_e: AllocError) -> ClaimFault {
+        ClaimFault::NoMemory
+    }
+}
+
+impl<T: Drop> From<AllocFailed<T>> for ClaimFault {
+    ghost use Rattle.std.specs.Prelude.{◌≡◌};
+    ghost use Rattle.aa_claims.specs.declared.fault.ClaimFault.TheVariants as fault;
+
+    ghost from_gives = { λ _ e. e ≡ fault.NoMemory };
+
+    fn from(_e: AllocFailed<T>) -> ClaimFault {
+        ClaimFault::NoMemory
+    }
+}

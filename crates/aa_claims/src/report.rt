@@ -1,0 +1,57 @@
+//! What is said of a claim.
+
+ghost use Rattle.std.specs.Prelude.{◌≡◌, IfOk};
+ghost use Rattle.aa_claims.specs.Faults.{sentence};
+ghost use Rattle.aa_claims.specs.Reports.{IsClaimReport};
+
+use crate::fault::Wrong;
+use aa_text::{FaultReport, excerpt, place_at};
+use std::alloc::{AllocError, Global};
+
+/// What is said of a claim.
+fn sentence_of(wrong: Wrong) -> &'static str
+    ensures { result.now ≡ sentence wrong }
+{
+    match wrong {
+        Wrong::Open => "the quote isn't closed on this line",
+        Wrong::NoClaim => "a claim begins with never or always",
+        Wrong::Nothing => {
+            "what is claimed isn't said: a word of requests is wanted, as w:/etc/shadow or cap:sys_admin, or always enforced"
+        }
+        Wrong::NoRequest => {
+            "this is no request, or its path no pattern: LETTERS:PATTERN is wanted, x:PATTERN, cap:NAME, net:FAMILY/TYPE or change:NAME"
+        }
+        Wrong::NoClause => "in or except is wanted here",
+        Wrong::Twice => "this clause stands in the claim before",
+        Wrong::NotHere => "such a claim has no such clause",
+        Wrong::NoName => "a name is wanted behind this word",
+        Wrong::Unanswered => "claims of this form aren't answered by this version",
+        Wrong::NoProfile => "no profile has such a name",
+        Wrong::NoPath => {
+            "no path that can be asked for matches the pattern: nothing can break the claim"
+        }
+        Wrong::Nobody => "the claim is about no profile: nothing can break it",
+        Wrong::TooMany => "a file has at most 65,536 claims",
+    }
+}
+
+/// What is said of the claims at a path, where something is wrong at a byte of their text.
+pub fn claim_report(
+    alloc: Global,
+    path: &[u8],
+    text: &[u8],
+    byte: usize,
+    wrong: Wrong,
+) -> Result<FaultReport, AllocError>
+    ensures { IfOk result (λ r. IsClaimReport path.now text.now byte wrong r) }
+{
+    Ok(FaultReport {
+        kind: "BadClaim",
+        path: Vec::from_slice(alloc, path)?,
+        place: Some(place_at(text, byte)),
+        message: Vec::from_slice(alloc, sentence_of(wrong).as_bytes())?,
+        excerpt: excerpt(alloc, text, byte)?,
+        chain: Vec::new(alloc),
+        further: Vec::new(alloc),
+    })
+}

@@ -1,0 +1,5 @@
+pub mod Files
+pub mod Texts
+pub mod Views
+pub mod ReadWords
+mod Sound

@@ -1,0 +1,6 @@
+pub use Rattle.aa_skipping.specs.Laws
+pub mod Answers
+pub mod Holding
+pub mod Shown
+pub mod Jsons
+pub mod Command
