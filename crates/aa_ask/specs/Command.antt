@@ -4,7 +4,6 @@ use Rattle.std.specs.Prelude.{ℕ, ◌≡◌, ◌==◌, ◌+◌, ◌<◌, ◌≤
 use Rattle.std.specs.List.{list_any}
 use Rattle.aa_files.specs.Texts.{texts}
 use Rattle.aa_base.specs.declared.unread.Unread.{Unread}
-use Rattle.aa_base.specs.declared.unread.Unread.TheVariants as unread
 use Rattle.aa_files.specs.Files.{Files}
 use Rattle.aa_files.specs.FilesData.{IsMain, IsMainText}
 use Rattle.aa_ask.specs.Told.{Told}
@@ -41,35 +40,24 @@ words_answered o d words = ask_printed o (opening_warning d.policies.now o.manne
 abbrev pub asked_of : AskOptions → Decided → List (List ℕ) → Printed
 asked_of o d words = if length words == 0 then faults_alone (codes "error: ask takes at least one word\n") 2 else words_answered o d words
 
--- some words, and behind them those of the file at a path
-pub record AddsWords (files : Option Files) (input : Option (List ℕ)) (path : List ℕ) (first words : List (List ℕ)) : Type 0 where
-  pub text : List ℕ
-  pub main : IsMainText files input path text
-  pub added : words ≡ first ++ word_lines text
-
--- why they can't stand behind so many: the file can't be read, or they are too many
-pub data IsWordsFault (files : Option Files) (input : Option (List ℕ)) (path : List ℕ) (count : ℕ) (why : Unread) : Type 0 where
-  OfFile : IsMain files input path (Err why) → IsWordsFault files input path count why
-  TooMany : (text : List ℕ) → IsMainText files input path text → why ≡ unread.TooLarge → 65536 < count + length (word_lines text) → IsWordsFault files input path count why
-
 -- what is printed where these words are asked: the verdicts on them by the one policy that the files are, or why they are none
 abbrev pub IsAsked : Setting → AskOptions → List (List ℕ) → Printed → Type 0
 IsAsked s o words out = IsPrintedFor s (texts o.files.now) (λ d printed. printed ≡ asked_of o d words) out
 
 -- what is printed where words of a text are asked behind others: of too many that, with the path of the text
-pub data IsAskedBehind (s : Setting) (o : AskOptions) (path : List ℕ) (first : List (List ℕ)) (text : List ℕ) (out : Printed) : Type 0 where
-  Beyond : 65536 < length first + length (word_lines text) → SaysTooLarge path many_words out → IsAskedBehind s o path first text out
-  Within : length first + length (word_lines text) ≤ 65536 → IsAsked s o (first ++ word_lines text) out → IsAskedBehind s o path first text out
+pub data IsAskedBehind (asks : List (List ℕ) → Printed → Type 0) (path : List ℕ) (first : List (List ℕ)) (text : List ℕ) (out : Printed) : Type 0 where
+  Beyond : 65536 < length first + length (word_lines text) → SaysTooLarge path many_words out → IsAskedBehind asks path first text out
+  Within : length first + length (word_lines text) ≤ 65536 → asks (first ++ word_lines text) out → IsAskedBehind asks path first text out
 
 -- what is printed where the words of a file are asked too, or why it can't be read
-pub data IsAskedFrom (s : Setting) (o : AskOptions) (path : List ℕ) (first : List (List ℕ)) (out : Printed) : Type 0 where
-  Unreadable : (why : Unread) → IsMain s.files s.input path (Err why) → SaysUnreadWords path why out → IsAskedFrom s o path first out
-  Readable : (text : List ℕ) → IsMainText s.files s.input path text → IsAskedBehind s o path first text out → IsAskedFrom s o path first out
+pub data IsAskedFrom (s : Setting) (asks : List (List ℕ) → Printed → Type 0) (path : List ℕ) (first : List (List ℕ)) (out : Printed) : Type 0 where
+  Unreadable : (why : Unread) → IsMain s.files s.input path (Err why) → SaysUnreadWords path why out → IsAskedFrom s asks path first out
+  Readable : (text : List ℕ) → IsMainText s.files s.input path text → IsAskedBehind asks path first text out → IsAskedFrom s asks path first out
 
 -- the words asked are those of a file, or those given
 abbrev pub IsAskedWith : Setting → AskOptions → Option (List ℕ) → List (List ℕ) → Printed → Type 0
 IsAskedWith s o None words out = IsAsked s o words out
-IsAskedWith s o (Some path) words out = IsAskedFrom s o path words out
+IsAskedWith s o (Some path) words out = IsAskedFrom s (IsAsked s o) path words out
 
 -- What `ask` prints, with these words on the command line. More than 65,536 of them are refused before anything is read.
 pub data IsAskOutput (s : Setting) (o : AskOptions) (words : List (List ℕ)) (out : Printed) : Type 0 where

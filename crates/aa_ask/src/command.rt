@@ -1,12 +1,12 @@
 //! What `ask` prints.
 
-ghost use Rattle.std.specs.Prelude.{◌≡◌, ◌≢◌, ◌≤◌, ◌++◌, map, vec_len, OnOk, IfOk, IfErr, if◌then◌else◌};
+ghost use Rattle.std.specs.Prelude.{◌≡◌, ◌≤◌, ◌++◌, map, vec_len, OnOk, IfOk, if◌then◌else◌};
 ghost use Rattle.aa_files.specs.Texts.{texts};
 ghost use Rattle.aa_ask.specs.Told.{told};
 ghost use Rattle.aa_ask.specs.Asked.{answers};
 ghost use Rattle.aa_command.specs.Setting.{setting_of};
 ghost use Rattle.aa_command.specs.Printed.{printed, faults_alone};
-ghost use Rattle.aa_ask.specs.Command.{verdicts_text, is_one_denied, ask_printed, words_answered, asked_of, AddsWords, IsWordsFault, IsAsked, IsAskedBehind, IsAskedFrom, IsAskOutput};
+ghost use Rattle.aa_ask.specs.Command.{verdicts_text, is_one_denied, ask_printed, words_answered, asked_of, IsAsked, IsAskedBehind, IsAskedFrom, IsAskOutput};
 
 use crate::asking::{AskFault, Manner, ask, is_one_denied};
 use crate::json::push_json_verdicts;
@@ -15,7 +15,6 @@ use crate::shown::push_verdicts;
 use crate::unattached::opening_warning;
 use crate::verdict::Verdict;
 use crate::words::{MAX_WORDS, push_words};
-use aa_base::Unread;
 use aa_command::{Decided, Output, Settings, Use, refused, with_policy};
 use aa_files::{Tree, main_text};
 use aa_text::NoMemory;
@@ -118,21 +117,6 @@ impl Use for Answering<'_> {
     }
 }
 
-/// Adds the lines of a file as words. Refused where it can't be read, or where there are more words then than a call may have.
-pub fn push_words_from<T: Tree>(
-    alloc: Global,
-    tree: &T,
-    path: &[u8],
-    words: &mut Vec<Vec<u8>>,
-) -> Result<(), Unread>
-    ensures added { OnOk result (AddsWords (T.files tree.now) (T.input tree.now) path.now (texts words.old.items) (texts words.new.items)) }
-    ensures few { OnOk result (vec_len words.old ≤ MAX_WORDS → vec_len words.new ≤ MAX_WORDS) }
-    ensures refused { IfErr result (λ why. why ≢ Unread.NoMemory → IsWordsFault (T.files tree.now) (T.input tree.now) path.now (vec_len words.old) why) }
-{
-    let text = main_text(alloc, tree, path)?;
-    push_words(alloc, text.as_slice(), words)
-}
-
 fn ask_words<T: Tree>(
     alloc: Global,
     tree: &T,
@@ -157,7 +141,7 @@ fn ask_added<T: Tree>(
     text: &[u8],
 ) -> Result<Output, NoMemory>
     requires { vec_len words ≤ MAX_WORDS }
-    ensures { IfOk result (λ out. IsAskedBehind (setting_of (T.files tree.now) (T.taken tree.now) (T.input tree.now) settings.now) options.now from.now (texts words.items) text.now (printed out)) }
+    ensures { IfOk result (λ out. IsAskedBehind (IsAsked (setting_of (T.files tree.now) (T.taken tree.now) (T.input tree.now) settings.now) options.now) from.now (texts words.items) text.now (printed out)) }
 {
     match push_words(alloc, text, &mut words) {
         Ok(()) => ask_words(alloc, tree, settings, options, words.as_slice()),
@@ -175,7 +159,7 @@ fn ask_from<T: Tree>(
     from: &[u8],
 ) -> Result<Output, NoMemory>
     requires { vec_len words ≤ MAX_WORDS }
-    ensures { IfOk result (λ out. IsAskedFrom (setting_of (T.files tree.now) (T.taken tree.now) (T.input tree.now) settings.now) options.now from.now (texts words.items) (printed out)) }
+    ensures { IfOk result (λ out. IsAskedFrom (setting_of (T.files tree.now) (T.taken tree.now) (T.input tree.now) settings.now) (IsAsked (setting_of (T.files tree.now) (T.taken tree.now) (T.input tree.now) settings.now) options.now) from.now (texts words.items) (printed out)) }
 {
     match main_text(alloc, tree, from) {
         Ok(text) => ask_added(alloc, tree, settings, options, words, from, text.as_slice()),

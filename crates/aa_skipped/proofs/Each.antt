@@ -64,7 +64,7 @@ module _ (profiles : List Profile) (us : List Unread) where
   open_each : (path : List ℕ) → is_open profiles (together us) path ≡ list_any (λ u. is_open profiles u path) us
   open_each path = head_each (has_rival profiles path) us
 
-  doubtful_each : (name : List ℕ) → is_doubtful profiles (together us) name ≡ list_any (λ u. is_doubtful profiles u name) us
+  pub doubtful_each : (name : List ℕ) → is_doubtful profiles (together us) name ≡ list_any (λ u. is_doubtful profiles u name) us
   doubtful_each name =
       let b : Bool = not (is_some (named profiles name)) in
       ap (λ (c : Bool). b && c) (head_each (λ (h : Head). is_of h.name name) us) ∙ and_each b (λ u. may_be_unread u name) us

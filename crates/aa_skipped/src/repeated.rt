@@ -1,10 +1,9 @@
 //! Files of which more than one may have a profile of one name.
 
-ghost use Rattle.std.specs.Prelude.{◌≡◌, ◌++◌, count_by, option_map, IfOk};
+ghost use Rattle.std.specs.Prelude.{◌≡◌, ◌++◌, count_by, IfOk};
 ghost use Rattle.std.specs.List.{AllZip, list_any};
 ghost use Rattle.aa_base.specs.Kinds.{kind_name};
 ghost use Rattle.aa_diagnostics.specs.Reports.{IsOfWhole};
-ghost use Rattle.aa_skipping.specs.Names.{behind, is_end, is_of};
 ghost use Rattle.aa_skipped.specs.declared.skipped.Skipped.{Skipped};
 ghost use Rattle.aa_skipped.specs.Heads.{AreHeadsOf};
 ghost use Rattle.aa_skipped.specs.Repeated.{may_meet, may_share, is_repeated, repeated_words, IsSetAside, IsParted, ArePartedBy, AreParted};
@@ -14,31 +13,9 @@ use crate::skipped::{Found, Skipped, Sorted};
 use crate::sorting::put;
 use aa_base::PolicyKind;
 use aa_files::Unit;
-use aa_skipping::{Head, Unread};
+use aa_skipping::{Head, Unread, is_of};
 use aa_text::{FaultReport, NoMemory};
 use std::alloc::{AllocError, Global};
-
-fn behind<'s>(text: &'s [u8], front: &[u8]) -> Option<&'s [u8]>
-    ensures { option_map (λ t. t.now) result ≡ behind front.now text.entry.now }
-{
-    text.strip_prefix(front)
-}
-
-fn is_end(rest: &[u8]) -> bool
-    ensures { result ≡ is_end rest.now }
-{
-    rest.is_empty() || rest.starts_with(b"//")
-}
-
-/// Whether a full name is that of the profile, or of a child of it.
-fn is_of(profile: &[u8], name: &[u8]) -> bool
-    ensures { result ≡ is_of profile.now name.now }
-{
-    match behind(name, profile) {
-        Some(rest) => is_end(rest),
-        None => false,
-    }
-}
 
 /// Whether profiles with these heads, or children of theirs, may have one name.
 fn may_meet(head: &Head, other: &Head) -> bool

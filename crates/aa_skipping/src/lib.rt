@@ -8,7 +8,7 @@ mod undecided;
 mod unread;
 
 pub use laws::skipping_is_sound;
-pub use names::name_is_doubtful;
+pub use names::{is_of, name_is_doubtful};
 pub use searches::search_is_open;
 pub use undecided::is_undecided;
 pub use unread::{Head, Unread};

@@ -22,7 +22,7 @@ fn is_end(rest: &[u8]) -> bool
 }
 
 /// Whether a full name is that of the profile, or of a child of it.
-fn is_of(profile: &[u8], name: &[u8]) -> bool
+pub fn is_of(profile: &[u8], name: &[u8]) -> bool
     ensures { result ≡ is_of profile.now name.now }
 {
     match behind(name, profile) {

@@ -1,5 +1,4 @@
 pub mod Files
 pub mod Texts
 pub mod Views
-pub mod ReadWords
-mod Sound
+pub mod Sound

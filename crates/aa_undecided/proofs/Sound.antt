@@ -23,19 +23,17 @@ use Rattle.aa_skipped.specs.Together.{together, one_decides, has_label, EachDeci
 use Rattle.aa_ask.specs.Verdicts.{is_by_complain}
 use Rattle.aa_ask.specs.Told.{Told, told_by, verdict_on}
 use Rattle.aa_ask.specs.Asked.{Outcome, or_refused, no_program, label_by_program}
-use Rattle.aa_undecided.specs.Answers.{PlacedFile, placed, AnswerData, Settled, Undecided, could_decide, files_deciding, answer_by, answer_on, label_by, label_after, in_turn, files_attaching}
+use Rattle.aa_undecided.specs.Answers.{PlacedFile, placed, AnswerData, Settled, Undecided, files_deciding, answer_by, answer_on, label_by, label_after, in_turn, files_attaching}
 use Rattle.aa_undecided.specs.Holding.{unreads, IsWhole, Tells, Agrees, AnswersHold, SequencesHold, moved_outcome, ProgramsHold, NamesHold}
 
 first_none : (b rest : Bool) (k : Skipped) (kept : List Skipped) → map placed (if b then k ∷ kept else kept) ≡ [] → (map placed kept ≡ [] → rest ≡ false) → (b || rest) ≡ false
 first_none true rest k kept e more = cc
 first_none false rest k kept e more = more e
 
--- where no file could decide, none does
-none_decides : (profiles : List Profile) (label : Label) (request : Request) (skipped : List Skipped) → map placed (filter (could_decide profiles label request) skipped) ≡ []
-    → one_decides profiles label request (unreads skipped) ≡ false
-none_decides profiles label request [] none = refl
-none_decides profiles label request (k ∷ ks) none =
-    first_none (could_decide profiles label request k) (one_decides profiles label request (unreads ks)) k (filter (could_decide profiles label request) ks) none (none_decides profiles label request ks)
+-- where none of the files is found, none is such
+pub none_such : (p : Unread → Bool) (skipped : List Skipped) → map placed (filter (λ (k : Skipped). p k.unread) skipped) ≡ [] → list_any p (unreads skipped) ≡ false
+none_such p [] none = refl
+none_such p (k ∷ ks) none = first_none (p k.unread) (list_any p (unreads ks)) k (filter (λ (x : Skipped). p x.unread) ks) none (none_such p ks)
 
 held : (o : Option Profile) (f : Profile → Bool) (rest : Bool) → (option_map_or f o true || rest) ≡ false → is_some o ≡ true
 held None f rest e = absurd (true≢false e)
@@ -58,7 +56,7 @@ module _ (each : EachDecides) (d : Decided) (skipped : List Skipped) (read whole
   unfolding files_deciding
   same label request none =
       let here : files_deciding (read ∷ []) skipped label request ≡ [] = subst (λ (ps : List Policy). files_deciding ps skipped label request ≡ []) w.one none in
-      let no : one_decides read.profiles label request (unreads skipped) ≡ false = none_decides read.profiles label request skipped here in
+      let no : one_decides read.profiles label request (unreads skipped) ≡ false = none_such (λ (u : Unread). undecided read.profiles u label request) skipped here in
       let has : has_label read.profiles label ≡ true = has_some read.profiles label request w.file w.files (subst (λ (ks : List Skipped). one_decides read.profiles label request (unreads ks) ≡ false) w.some no) in
       each (unreads skipped) read whole place w.joined label request has no ∙ ap (λ (ps : List Policy). moved_answer place (reply ps label request)) (sym w.one)
 

@@ -2,18 +2,16 @@
 -- Source: own.
 use Rattle.std.specs.Prelude.{ℕ, ◌≡◌, ◌==◌, ◌<◌, ◌≤◌, List, [], ◌∷◌, length, codes, Bool, false, true, not, if◌then◌else◌, Option, Some, None, is_some, option_map, Ok, Err}
 use Rattle.std.specs.List.{list_any}
-use Rattle.aa_base.specs.declared.unread.Unread.{Unread}
 use Rattle.aa_files.specs.Texts.{texts}
 use Rattle.aa_command.specs.declared.decided.Decided.{Decided}
 use Rattle.aa_command.specs.Setting.{Setting}
 use Rattle.aa_command.specs.Printed.{Printed, faults_alone}
-use Rattle.aa_command.specs.Refusals.{SaysUnread}
 use Rattle.aa_skipped.specs.declared.skipped.Skipped.{Skipped}
 use Rattle.aa_skipped.specs.Policies.{IsPrintedOf}
 use Rattle.aa_ask.specs.declared.command.AskOptions.{AskOptions}
 use Rattle.aa_ask.specs.Asked.{Outcome}
 use Rattle.aa_ask.specs.Unattached.{opening_warning}
-use Rattle.aa_ask.specs.Command.{AddsWords, IsWordsFault}
+use Rattle.aa_ask.specs.Command.{IsAskedFrom}
 use Rattle.aa_undecided.specs.Answers.{PlacedFile, AnswerData, Settled, Undecided, files_opening, answers}
 use Rattle.aa_undecided.specs.Shown.{answers_text}
 use Rattle.aa_undecided.specs.Jsons.{json_answers}
@@ -59,15 +57,10 @@ part_asked o words skipped d = if length words == 0 then faults_alone (codes "er
 abbrev pub IsPartAsked : Setting → AskOptions → List (List ℕ) → Printed → Type 0
 IsPartAsked s o words out = IsPrintedOf s (texts o.files.now) (λ skipped d printed. printed ≡ part_asked o words skipped d) out
 
--- what is printed where the words of a file are asked too
-pub data IsPartAskedFrom (s : Setting) (o : AskOptions) (path : List ℕ) (first : List (List ℕ)) (out : Printed) : Type 0 where
-  NoWords : (why : Unread) → IsWordsFault s.files s.input path (length first) why → SaysUnread path why out → IsPartAskedFrom s o path first out
-  Added : (words : List (List ℕ)) → AddsWords s.files s.input path first words → length words ≤ 65536 → IsPartAsked s o words out → IsPartAskedFrom s o path first out
-
 -- the words asked are those of a file, or those given
 abbrev pub IsPartAskedWith : Setting → AskOptions → Option (List ℕ) → List (List ℕ) → Printed → Type 0
 IsPartAskedWith s o None words out = IsPartAsked s o words out
-IsPartAskedWith s o (Some path) words out = IsPartAskedFrom s o path words out
+IsPartAskedWith s o (Some path) words out = IsAskedFrom s (IsPartAsked s o) path words out
 
 -- What `ask` prints where files that are refused are skipped, with these words on the command line. More than 65,536 of them are refused
 -- before anything is read.

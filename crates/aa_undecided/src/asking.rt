@@ -182,7 +182,7 @@ fn ask_by(
 /// undecided, where profiles of the skipped ones could change it. Refused where it isn't told which profile asks, where there is no
 /// such profile or program, and at the first word that is no request.
 #[tactic(auto, unfolding(crate::specs::Answers::answers))]
-pub fn ask_part(
+pub(crate) fn ask_part(
     alloc: Global,
     decided: Decided<'_>,
     skipped: &[Skipped],

@@ -5,22 +5,24 @@ ghost use Rattle.std.specs.List.{list_any};
 ghost use Rattle.aa_files.specs.Texts.{texts};
 ghost use Rattle.aa_command.specs.Setting.{setting_of};
 ghost use Rattle.aa_command.specs.Printed.{printed, faults_alone};
+ghost use Rattle.aa_ask.specs.Command.{IsAskedBehind, IsAskedFrom};
 ghost use Rattle.aa_ask.specs.Unattached.{opening_warning};
 ghost use Rattle.aa_skipped.specs.Policies.{IsPrintedSkipping};
 ghost use Rattle.aa_undecided.specs.Answers.{placed_all, answered, files_opening};
-ghost use Rattle.aa_undecided.specs.Command.{answers_shown, is_denied, is_open, status_by, warning_unless, part_printed, words_answered, part_asked, IsPartAsked, IsPartAskedFrom, IsPartOutput};
+ghost use Rattle.aa_undecided.specs.Command.{answers_shown, is_denied, is_open, status_by, warning_unless, part_printed, words_answered, part_asked, IsPartAsked, IsPartOutput};
 
 use crate::answered::{Answered, SkippedAt};
 use crate::asking::ask_part;
 use crate::jsons::push_json_answers;
 use crate::opening::files_opening;
 use crate::shown::push_answers;
-use aa_ask::{AskFault, AskOptions, MAX_WORDS, opening_warning, push_words_from};
-use aa_command::{
-    Decided, Output, Settings, Use, behind_warnings, path_refused, refused, unit_refused,
-    with_units,
+use aa_ask::{
+    AskFault, AskOptions, MAX_WORDS, many_refused, opening_warning, push_words, words_refused,
 };
-use aa_files::{Tree, roots_of};
+use aa_command::{
+    Decided, Output, Settings, Use, behind_warnings, refused, unit_refused, with_units,
+};
+use aa_files::{Tree, main_text, roots_of};
 use aa_skipped::{Skipped, Sorted, behind_skipped, part_repeated, sort_paths};
 use aa_text::NoMemory;
 use std::alloc::{AllocError, Global};
@@ -235,21 +237,40 @@ fn ask_words<T: Tree>(
     }
 }
 
-/// Adds the words of a file to those of the command line, and asks them all.
-fn ask_from<T: Tree>(
+/// Adds the words of the text of a file to those of the command line, and asks them all.
+fn ask_added<T: Tree>(
     alloc: Global,
     tree: &T,
     settings: &Settings<'_>,
     options: &AskOptions<'_>,
     mut words: Vec<Vec<u8>>,
     from: &[u8],
+    text: &[u8],
 ) -> Result<Output, NoMemory>
     requires { vec_len words ≤ MAX_WORDS }
-    ensures { IfOk result (λ out. IsPartAskedFrom (setting_of (T.files tree.now) (T.taken tree.now) (T.input tree.now) settings.now) options.now from.now (texts words.items) (printed out)) }
+    ensures { IfOk result (λ out. IsAskedBehind (IsPartAsked (setting_of (T.files tree.now) (T.taken tree.now) (T.input tree.now) settings.now) options.now) from.now (texts words.items) text.now (printed out)) }
 {
-    match push_words_from(alloc, tree, from, &mut words) {
+    match push_words(alloc, text, &mut words) {
         Ok(()) => ask_words(alloc, tree, settings, options, words.as_slice()),
-        Err(why) => path_refused(alloc, from, why),
+        Err(why) => many_refused(alloc, from, why),
+    }
+}
+
+/// Adds the words of a file to those of the command line, and asks them all.
+fn ask_from<T: Tree>(
+    alloc: Global,
+    tree: &T,
+    settings: &Settings<'_>,
+    options: &AskOptions<'_>,
+    words: Vec<Vec<u8>>,
+    from: &[u8],
+) -> Result<Output, NoMemory>
+    requires { vec_len words ≤ MAX_WORDS }
+    ensures { IfOk result (λ out. IsAskedFrom (setting_of (T.files tree.now) (T.taken tree.now) (T.input tree.now) settings.now) (IsPartAsked (setting_of (T.files tree.now) (T.taken tree.now) (T.input tree.now) settings.now) options.now) from.now (texts words.items) (printed out)) }
+{
+    match main_text(alloc, tree, from) {
+        Ok(text) => ask_added(alloc, tree, settings, options, words, from, text.as_slice()),
+        Err(why) => words_refused(alloc, from, why),
     }
 }
 

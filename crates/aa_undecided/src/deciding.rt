@@ -17,7 +17,7 @@ use aa_skipping::is_undecided;
 use std::alloc::{AllocError, Global};
 
 /// Where a skipped file's fault lies.
-pub fn placed(alloc: Global, file: &Skipped) -> Result<SkippedAt, AllocError>
+fn placed(alloc: Global, file: &Skipped) -> Result<SkippedAt, AllocError>
     ensures { IfOk result (λ f. placed_data f ≡ placed file.now) }
 {
     Ok(SkippedAt {
@@ -160,7 +160,7 @@ fn answer_on(
 
 /// What is answered to the next request of a task, of whose label it may not be known what it is. Behind a request that is undecided it
 /// isn't.
-pub fn answer_next(
+pub(crate) fn answer_next(
     alloc: Global,
     decided: Decided<'_>,
     skipped: &[Skipped],

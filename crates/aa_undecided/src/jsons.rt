@@ -45,7 +45,12 @@ impl ToJson for SkippedAt {
     }
 }
 
-fn push_files(out: &mut Vec<u8>, alloc: Global, files: &[SkippedAt]) -> Result<(), AllocError>
+/// Appends a comma and the member of the skipped files that could decide.
+pub fn push_files_member(
+    out: &mut Vec<u8>,
+    alloc: Global,
+    files: &[SkippedAt],
+) -> Result<(), AllocError>
     ensures { OnOk result (out.new.items ≡ out.old.items ++ member_text (codes "skipped") (list_text (map json_placed (placed_all files.now)))) }
 {
     push_list_member(out, alloc, "skipped", files)?;
@@ -58,7 +63,7 @@ fn push_doubt(out: &mut Vec<u8>, alloc: Global, doubt: &Doubt) -> Result<(), All
 {
     push_request(out, alloc, doubt.word.as_slice())?;
     push_not_known(out)?;
-    push_files(out, alloc, doubt.files.as_slice())?;
+    push_files_member(out, alloc, doubt.files.as_slice())?;
     push_text(out, "}")
 }
 

@@ -11,8 +11,8 @@ mod opening;
 mod shown;
 
 pub use answered::{Answered, Doubt, SkippedAt};
-pub use asking::ask_part;
 pub use command::ask_skipping;
-pub use deciding::{answer_next, files_deciding, placed, push_if};
+pub use deciding::{files_deciding, push_if};
+pub use jsons::push_files_member;
 pub use laws::answers_are_sound;
 pub use shown::push_reason;

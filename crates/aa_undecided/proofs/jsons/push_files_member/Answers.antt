@@ -4,7 +4,7 @@ use Rattle.aa_text.specs.Jsons.{member_text, list_text}
 use Rattle.aa_text.proofs.Commas.{map_map}
 use Rattle.aa_undecided.specs.Answers.{placed_data}
 use Rattle.aa_undecided.specs.Jsons.{json_placed}
-use Rattle.aa_undecided.proofs.jsons.push_files.Goals as goal
+use Rattle.aa_undecided.proofs.jsons.push_files_member.Goals as goal
 
 pub returns : goal.returns
 returns c = c.in_ok-push_list_member.ensures ∙ ap (λ (l : List (List ℕ)). c.args.out.now.items ++ member_text (codes "skipped") (list_text l)) (sym (map_map json_placed placed_data c.args.files.now))
