@@ -1,8 +1,8 @@
 -- What is found of files, one behind another.
-use Rattle.std.proofs.Common.{◌≡◌, ◌≢◌, ℕ, Bool, ◌+◌, ◌<◌, ◌≤◌, List, [], ◌∷◌, ◌++◌, length, flat_map, take, get_or, All, Vec, refl, sym, ap, subst, ◌∙◌, arith, append_assoc}
-use Rattle.std.specs.Prelude.{option_map, option_to_list}
+use Rattle.std.proofs.Common.{◌≡◌, ◌≢◌, ℕ, Bool, ◌+◌, ◌<◌, ◌≤◌, List, [], ◌∷◌, ◌++◌, length, flat_map, take, get_or, All, Vec, true, false, Option, Some, None, refl, sym, ap, subst, ◌∙◌, arith, append_assoc}
+use Rattle.std.specs.Prelude.{option_map, option_to_list, unwrap_or, if◌then◌else◌}
 use Rattle.std.specs.declared.alloc.Global.{Global}
-use Rattle.std.proofs.lemmas.List.{append-nil, take_more, map-append}
+use Rattle.std.proofs.lemmas.List.{append-nil, take_more, map-append, length-map}
 use Rattle.std.proofs.lemmas.List.Elements.{All-cons}
 use Rattle.aa_files.specs.Texts.{texts}
 use Rattle.aa_text.specs.declared.fault.FaultReport.{FaultReport}
@@ -15,7 +15,10 @@ use Rattle.aa_check.specs.Counts.{CountsPolicy}
 use Rattle.aa_check.specs.Names.{first_with, twice_text, warning_of, warnings_of, IsWarned}
 use Rattle.aa_command.specs.Setting.{Setting}
 use Rattle.aa_diagnostics.specs.Reports.{IsSaid}
-use Rattle.aa_check.specs.Checked.{most_further, HasFault, HasOnly, IsFoundOf, Accepted, Refused, IsFound, Read, Unread, IsNext, AreFound}
+use Rattle.aa_files.specs.declared.unit.Unit as unit
+use Rattle.aa_skipping.specs.declared.unread.Unread as skipping
+use Rattle.aa_skipped.specs.Heads.{head_of, AreHeadsOf, Known, Unknown}
+use Rattle.aa_check.specs.Checked.{most_further, TellsHeld, HasFault, HasOnly, IsFoundOf, Accepted, Refused, IsFound, Read, Unread, IsNext, AreFound}
 
 -- what is said of a unit is not want of memory
 pub said_of_more : (e : UnitFault) (fault : FaultReport) (unread : Bool) → IsSaid e fault unread → e ≢ NoMemory
@@ -38,16 +41,18 @@ only_warned : (files : List FileReport) (f g : FileReport) (w : IsWarned files f
 only_warned files f g w only = record { has = has_warned files f g w only.has; alone = ap (λ v. v.items) w.further ∙ only.alone }
 
 of_warned : (files : List FileReport) (f g : FileReport) (w : IsWarned files f g) {folders : List (List ℕ)} {states : ℕ} {u : _} → IsFoundOf folders states u f → IsFoundOf folders states u g
-of_warned files f g w {folders} {states} {u} (Accepted policy is none alone counts) =
-    Accepted policy is (w.fault ∙ none) (ap (λ v. v.items) w.further ∙ alone)
-    (subst (λ v. CountsPolicy u policy v.items g.passed_over.items) (sym w.profiles) (subst (λ v. CountsPolicy u policy f.profiles.items v.items) (sym w.passed_over) counts))
-of_warned files f g w {folders} {states} {u} (Refused e fault why told has further) =
+of_warned files f g w {folders} {states} {u} (Accepted policy is none alone nothing counts) =
+    Accepted policy is (w.fault ∙ none) (ap (λ v. v.items) w.further ∙ alone) (w.held ∙ nothing)
+    (subst (λ v. CountsPolicy u policy v.items g.passed_over.items) (sym w.profiles)
+    (subst (λ v. CountsPolicy u policy f.profiles.items v.items) (sym w.passed_over) counts))
+of_warned files f g w {folders} {states} {u} (Refused e fault why told has further held) =
     Refused e fault why told (has_warned files f g w has) (subst (λ v. AreFurther folders states most_further u e v.items) (sym w.further) further)
+    (subst (λ h. TellsHeld u h) (sym w.held) held)
 
 -- the warnings change nothing else of what is found
 pub found_warned : (s : Setting) (path : List ℕ) (files : List FileReport) (f g : FileReport) → IsWarned files f g → IsFound s path f → IsFound s path g
 found_warned s path files f g w (Read u loaded of read) = Read u loaded (of_warned files f g w of) (w.is_unread ∙ read)
-found_warned s path files f g w (Unread e fault why said only) = Unread e fault why (subst (λ b. IsSaid e fault b) (sym w.is_unread) said) (only_warned files f g w only)
+found_warned s path files f g w (Unread e fault why said only nothing) = Unread e fault why (subst (λ b. IsSaid e fault b) (sym w.is_unread) said) (only_warned files f g w only) (w.held ∙ nothing)
 
 -- one file more
 pub found_more : (s : Setting) (before : List FileReport) (paths : List (List ℕ)) (files : List FileReport) (path : List ℕ) (f : FileReport)
@@ -66,13 +71,13 @@ found_many s before (p ∷ ps) [] found = absurd found
 found_many s before (p ∷ ps) (g ∷ gs) found = let rest = found_many s (before ++ g ∷ []) ps gs found.1 in omega arith
 
 few_of : {folders : List (List ℕ)} {states : ℕ} {u : _} (f : FileReport) → IsFoundOf folders states u f → length f.profiles.items ≤ 4096
-few_of f (Accepted policy is none alone counts) = let few = policy.lawful.limits.counts.few in let many = counts.many in omega arith
-few_of f (Refused e fault why told has further) = subst (λ (l : List _). length l ≤ 4096) (sym has.profiles) (omega arith)
+few_of f (Accepted policy is none alone nothing counts) = let few = policy.lawful.limits.counts.few in let many = counts.many in omega arith
+few_of f (Refused e fault why told has further held) = subst (λ (l : List _). length l ≤ 4096) (sym has.profiles) (omega arith)
 
 -- a file has as many profiles as a policy may have
 pub few_found : (s : Setting) (path : List ℕ) (f : FileReport) → IsFound s path f → length f.profiles.items ≤ 4096
 few_found s path f (Read u loaded of read) = few_of f of
-few_found s path f (Unread e fault why said only) = subst (λ (l : List _). length l ≤ 4096) (sym only.has.profiles) (omega arith)
+few_found s path f (Unread e fault why said only nothing) = subst (λ (l : List _). length l ≤ 4096) (sym only.has.profiles) (omega arith)
 
 -- each of the files has at most so many
 pub few_all : (s : Setting) (before : List FileReport) (paths : List (List ℕ)) (files : List FileReport) → AreFound s before paths files → All (λ (f : FileReport). length f.profiles.items ≤ 4096) files
@@ -81,6 +86,34 @@ few_all s before [] (g ∷ gs) found = absurd found
 few_all s before (p ∷ ps) [] found = absurd found
 few_all s before (p ∷ ps) (g ∷ gs) found =
     All-cons (λ (f : FileReport). length f.profiles.items ≤ 4096) g gs (few_found s p g found.0.found) (few_all s (before ++ g ∷ []) ps gs found.1)
+
+few_heads : (u : unit.Unit) (r : skipping.Unread) → AreHeadsOf u r → length r.heads ≤ 4096
+few_heads u r (Known ws policy has spells is) =
+    let few = policy.lawful.limits.counts.few in
+    let long : length r.heads ≡ length policy.profiles = ap (λ (x : skipping.Unread). length x.heads) is ∙ length-map policy.profiles head_of in
+    omega arith
+few_heads u r (Unknown none is) = subst (λ (x : skipping.Unread). length x.heads ≤ 4096) (sym is) (omega arith)
+
+held_few : (others : Bool) (n : ℕ) → n ≤ 4096 → unwrap_or (if others then None else Some n) 0 ≤ 4096
+held_few true n few = omega arith
+held_few false n few = few
+
+held_of : {folders : List (List ℕ)} {states : ℕ} (u : unit.Unit) (f : FileReport) → IsFoundOf folders states u f → unwrap_or f.held 0 ≤ 4096
+held_of u f (Accepted policy is none alone nothing counts) = subst (λ (h : Option ℕ). unwrap_or h 0 ≤ 4096) (sym nothing) (omega arith)
+held_of u f (Refused e fault why told has further held) =
+    subst (λ (h : Option ℕ). unwrap_or h 0 ≤ 4096) (sym held.told) (held_few held.unread.others (length held.unread.heads) (few_heads u held.unread held.heads))
+
+held_found : (s : Setting) (path : List ℕ) (f : FileReport) → IsFound s path f → unwrap_or f.held 0 ≤ 4096
+held_found s path f (Read u loaded of read) = held_of u f of
+held_found s path f (Unread e fault why said only nothing) = subst (λ (h : Option ℕ). unwrap_or h 0 ≤ 4096) (sym nothing) (omega arith)
+
+-- of each of the files at most so many profiles are told
+pub held_all : (s : Setting) (before : List FileReport) (paths : List (List ℕ)) (files : List FileReport) → AreFound s before paths files → All (λ (f : FileReport). unwrap_or f.held 0 ≤ 4096) files
+held_all s before [] [] found = λ k d lt. absurd (omega arith)
+held_all s before [] (g ∷ gs) found = absurd found
+held_all s before (p ∷ ps) [] found = absurd found
+held_all s before (p ∷ ps) (g ∷ gs) found =
+    All-cons (λ (f : FileReport). unwrap_or f.held 0 ≤ 4096) g gs (held_found s p g found.0.found) (held_all s (before ++ g ∷ []) ps gs found.1)
 
 -- warnings are a matter of the path and the profiles
 abbrev warnings_by : List FileReport → List ℕ → List ProfileReport → List (List ℕ)

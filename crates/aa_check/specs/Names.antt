@@ -54,6 +54,7 @@ pub record IsWarned (files : List FileReport) (before after : FileReport) : Type
   pub fault : after.fault ≡ before.fault
   pub further : after.further ≡ before.further
   pub is_unread : after.is_unread ≡ before.is_unread
+  pub held : after.held ≡ before.held
   pub profiles : after.profiles ≡ before.profiles
   pub passed_over : after.passed_over ≡ before.passed_over
   pub warnings : texts after.warnings.items ≡ warnings_of files before

@@ -47,9 +47,21 @@ file_text f = file_line f ++ flat_map profile_line f.profiles.items ++ passed_li
 unfoldable pub last_line : CheckReport → List ℕ
 last_line r = decimal (length r.files.items) ++ codes " files" ++ count_text r.refused (codes " refused") ++ count_text r.profiles (codes " profiles\n")
 
+-- of so many files it can't be told
+abbrev pub untold_text : ℕ → List ℕ
+untold_text count = if count == 0 then [] else codes ", and any in " ++ decimal count ++ codes " of them"
+
+-- how many profiles files that are refused seem to hold
+unfoldable pub held_text : ℕ → ℕ → List ℕ
+held_text held untold = codes "refused files seem to hold " ++ decimal held ++ codes " profiles" ++ untold_text untold ++ codes "\n"
+
+-- the line of it, where there are such files
+abbrev pub held_line : CheckReport → List ℕ
+held_line r = if r.refused == 0 then [] else held_text r.held r.untold
+
 -- what stands on standard output
 abbrev pub report_text : CheckReport → List ℕ
-report_text r = flat_map file_text r.files.items ++ last_line r
+report_text r = flat_map file_text r.files.items ++ last_line r ++ held_line r
 
 -- the line of a warning, as it is shown
 abbrev pub warning_line : Vec ℕ Global → List ℕ

@@ -3,7 +3,7 @@
 ghost use Rattle.std.specs.Prelude.{◌≡◌, ◌++◌, flat_map, codes, is_some, OnOk, if◌then◌else◌};
 ghost use Rattle.aa_text.specs.Visible.{all_visible};
 ghost use Rattle.aa_text.specs.Faults.{fault_text};
-ghost use Rattle.aa_check.specs.Printed.{count_text, rules_text, sizes_text, profile_line, passed_text, passed_line, file_line, file_text, last_line, report_text, warning_line, warning_lines, fault_if, file_faults, faults_text};
+ghost use Rattle.aa_check.specs.Printed.{count_text, rules_text, sizes_text, profile_line, passed_text, passed_line, file_line, file_text, last_line, untold_text, held_text, held_line, report_text, warning_line, warning_lines, fault_if, file_faults, faults_text};
 
 use crate::report::{CheckReport, FileReport, Passed, ProfileReport};
 use aa_text::{FaultReport, push_fault, push_name, push_number, push_text, push_visible};
@@ -133,12 +133,45 @@ fn push_last_line(out: &mut Vec<u8>, report: &CheckReport) -> Result<(), AllocEr
     push_count(out, report.profiles, " profiles\n")
 }
 
+fn push_untold(out: &mut Vec<u8>, count: usize) -> Result<(), AllocError>
+    ensures { OnOk result (out.new.items ≡ out.old.items ++ untold_text count) }
+{
+    if count == 0 {
+        return Ok(());
+    }
+    push_text(out, ", and any in ")?;
+    push_number(out, count)?;
+    push_text(out, " of them")
+}
+
+#[tactic(auto, unfolding(crate::specs::Printed::held_text))]
+fn push_held(out: &mut Vec<u8>, held: usize, untold: usize) -> Result<(), AllocError>
+    ensures { OnOk result (out.new.items ≡ out.old.items ++ held_text held untold) }
+{
+    push_text(out, "refused files seem to hold ")?;
+    push_number(out, held)?;
+    push_text(out, " profiles")?;
+    push_untold(out, untold)?;
+    push_text(out, "\n")
+}
+
+/// Appends how many profiles files that are refused seem to hold, where there are such.
+fn push_held_line(out: &mut Vec<u8>, report: &CheckReport) -> Result<(), AllocError>
+    ensures { OnOk result (out.new.items ≡ out.old.items ++ held_line report.now) }
+{
+    if report.refused == 0 {
+        return Ok(());
+    }
+    push_held(out, report.held, report.untold)
+}
+
 /// Appends what is found of each file, and the counts of all.
 pub fn push_report(out: &mut Vec<u8>, alloc: Global, report: &CheckReport) -> Result<(), AllocError>
     ensures { OnOk result (out.new.items ≡ out.old.items ++ report_text report.now) }
 {
     push_files(out, alloc, report.files.as_slice())?;
-    push_last_line(out, report)
+    push_last_line(out, report)?;
+    push_held_line(out, report)
 }
 
 fn push_warning(out: &mut Vec<u8>, warning: &[u8]) -> Result<(), AllocError>

@@ -1,6 +1,6 @@
 //! What `check` finds.
 
-ghost use Rattle.std.specs.Prelude.{◌≡◌, ◌≢◌, ◌↔◌, ◌≤◌, ◌++◌, ◌∷◌, ℕ, List, [], None, false, length, count_by, sum_by, is_some, option_map, option_to_list, codes, All, IsTrue, IfOk, OnOk};
+ghost use Rattle.std.specs.Prelude.{◌≡◌, ◌≢◌, ◌↔◌, ◌≤◌, ◌++◌, ◌∷◌, ℕ, List, [], None, false, length, count_by, sum_by, is_some, unwrap_or, option_map, option_to_list, codes, All, IsTrue, IfOk, OnOk};
 ghost use Rattle.std.specs.List.{list_any};
 ghost use Rattle.aa_base.specs.declared.fault.PolicyKind.TheVariants.{NoMemory as WantOfMemory};
 ghost use Rattle.aa_files.specs.Texts.{texts, slices};
@@ -11,7 +11,7 @@ ghost use Rattle.aa_check.specs.Names.{IsFirst};
 ghost use Rattle.aa_command.specs.Setting.{setting_of};
 ghost use Rattle.aa_diagnostics.specs.Reports.{IsSaid};
 ghost use Rattle.aa_faults.specs.Further.{AreFurther};
-ghost use Rattle.aa_check.specs.Checked.{most_further, HasFault, HasOnly, none_there, IsFoundOf, IsFound, AreFound, CountsFiles, HasOneRefused, IsChecked};
+ghost use Rattle.aa_check.specs.Checked.{most_further, held_by, TellsHeld, is_untold, HasFault, HasOnly, none_there, IsFoundOf, IsFound, AreFound, CountsFiles, HasOneRefused, IsChecked};
 
 use crate::counting::{PolicyCounts, count_policy};
 use crate::naming::{FirstFiles, warned};
@@ -23,6 +23,8 @@ use aa_diagnostics::{describe, fault_of_unit, unreadable};
 use aa_faults::further_faults;
 use aa_files::{Tree, Unit, UnitFault, load, roots_of};
 use aa_load::compile_unit;
+use aa_skipped::unread_of;
+use aa_skipping::Unread;
 use aa_text::{FaultReport, NoMemory};
 use std::alloc::{AllocError, Global};
 use std::collections::HashMap;
@@ -37,17 +39,20 @@ fn refused(
     fault: FaultReport,
     further: Vec<FaultReport>,
     is_unread: bool,
+    held: Option<usize>,
 ) -> FileReport
     ensures path { result.path ≡ path }
     ensures has { HasFault fault result }
     ensures further { result.further ≡ further }
     ensures unread { result.is_unread ≡ is_unread }
+    ensures held { result.held ≡ held }
 {
     FileReport {
         path,
         fault: Some(fault),
         further,
         is_unread,
+        held,
         profiles: Vec::new(alloc),
         passed_over: Vec::new(alloc),
         warnings: Vec::new(alloc),
@@ -60,6 +65,7 @@ fn accepted(alloc: Global, path: Vec<u8>, counts: PolicyCounts) -> FileReport
     ensures fault { result.fault ≡ None }
     ensures further { result.further.items ≡ [] }
     ensures unread { result.is_unread ≡ false }
+    ensures held { result.held ≡ None }
     ensures profiles { result.profiles ≡ counts.profiles }
     ensures passed_over { result.passed_over ≡ counts.passed_over }
 {
@@ -72,6 +78,7 @@ fn accepted(alloc: Global, path: Vec<u8>, counts: PolicyCounts) -> FileReport
         fault: None,
         further: Vec::new(alloc),
         is_unread: false,
+        held: None,
         profiles,
         passed_over,
         warnings: Vec::new(alloc),
@@ -92,11 +99,29 @@ fn count_unit(
     path: Vec<u8>,
 ) -> Result<FileReport, NoMemory>
     ensures path { IfOk result (λ f. f.path ≡ path) }
-    ensures counted { IfOk result (λ f. (f.fault ≡ None) × (f.further.items ≡ []) × CountsPolicy unit.now compiled.now f.profiles.items f.passed_over.items) }
+    ensures counted { IfOk result (λ f. (f.fault ≡ None) × (f.further.items ≡ []) × (f.held ≡ None) × CountsPolicy unit.now compiled.now f.profiles.items f.passed_over.items) }
     ensures unread { IfOk result (λ f. f.is_unread ≡ false) }
 {
     let counts = count_policy(alloc, unit, compiled)?;
     Ok(accepted(alloc, path, counts))
+}
+
+/// How many profiles heads tell.
+fn held_by(unread: &Unread) -> Option<usize>
+    ensures { result ≡ held_by unread.now }
+{
+    if unread.others {
+        return None;
+    }
+    Some(unread.heads.as_slice().len())
+}
+
+/// How many profiles a unit seems to hold.
+fn held_of(alloc: Global, unit: &Unit) -> Result<Option<usize>, NoMemory>
+    ensures { IfOk result (λ held. TellsHeld unit.now held) }
+{
+    let unread = unread_of(alloc, unit)?;
+    Ok(held_by(&unread))
 }
 
 /// What is found of a unit that is refused with that fault, and of those behind it; none for want of memory.
@@ -109,7 +134,7 @@ fn refuse_unit(
 ) -> Result<FileReport, NoMemory>
     ensures path { IfOk result (λ f. f.path ≡ path) }
     ensures told { IfOk result (λ f. (fault.kind ≢ WantOfMemory) × ((said : FaultReport) × IsDescribed unit (slices settings.now.folders.now) settings.now.states fault said × HasFault said f)
-        × AreFurther (slices settings.now.folders.now) settings.now.states most_further unit fault f.further.items) }
+        × AreFurther (slices settings.now.folders.now) settings.now.states most_further unit fault f.further.items × TellsHeld unit f.held) }
     ensures unread { IfOk result (λ f. f.is_unread ≡ false) }
 {
     if is_want_of_memory(fault) {
@@ -117,8 +142,9 @@ fn refuse_unit(
     }
     let (folders, states) = (settings.folders, settings.states);
     let said = describe(alloc, folders, states, &unit, fault)?;
+    let held = held_of(alloc, &unit)?;
     let further = further_faults(alloc, folders, states, unit, fault, MOST_FURTHER)?;
-    Ok(refused(alloc, path, said, further, false))
+    Ok(refused(alloc, path, said, further, false, held))
 }
 
 fn check_unit(
@@ -151,7 +177,7 @@ fn check_file<T: Tree>(
         Ok(unit) => Ok(check_unit(alloc, settings, unit, own)?),
         Err(fault) => {
             let (fault, is_unread) = fault_of_unit(alloc, fault)?;
-            Ok(refused(alloc, own, fault, Vec::new(alloc), is_unread))
+            Ok(refused(alloc, own, fault, Vec::new(alloc), is_unread, None))
         }
     }
 }
@@ -214,6 +240,29 @@ fn profiles_of(files: &[FileReport]) -> usize
     count
 }
 
+/// How many profiles those that are refused seem to hold.
+fn all_held(files: &[FileReport]) -> usize
+    requires few { length files.now ≤ 4096 }
+    requires each { All (λ f. unwrap_or f.held 0 ≤ 4096) files.now }
+    ensures { result ≡ sum_by (λ f. unwrap_or f.held 0) files.now }
+{
+    let mut count: usize = 0;
+    for file in files {
+        count += file.held.unwrap_or(0);
+    }
+    count
+}
+
+/// Of how many files that are refused it isn't told.
+fn untold_of(files: &[FileReport]) -> usize
+    ensures { result ≡ count_by is_untold files.now }
+{
+    files
+        .iter()
+        .filter(|file| file.fault.is_some() && file.held.is_none())
+        .count()
+}
+
 /// Whether one of them can't be read.
 fn is_one_unread(files: &[FileReport]) -> bool
     ensures { result ≡ list_any (λ f. f.is_unread) files.now }
@@ -225,18 +274,23 @@ fn is_one_unread(files: &[FileReport]) -> bool
 fn report_of(files: Vec<FileReport>, warnings: Vec<Vec<u8>>) -> CheckReport
     requires few { length files.items ≤ 4096 }
     requires each { All (λ f. length f.profiles.items ≤ 4096) files.items }
+    requires held { All (λ f. unwrap_or f.held 0 ≤ 4096) files.items }
     ensures files { result.files ≡ files }
     ensures warnings { result.warnings ≡ warnings }
     ensures counts { CountsFiles result }
 {
     let refused = refused_of(files.as_slice());
     let profiles = profiles_of(files.as_slice());
+    let held = all_held(files.as_slice());
+    let untold = untold_of(files.as_slice());
     let is_unread = is_one_unread(files.as_slice());
     CheckReport {
         files,
         warnings,
         refused,
         profiles,
+        held,
+        untold,
         is_unread,
     }
 }
@@ -249,7 +303,7 @@ fn untold(alloc: Global, fault: UnitFault) -> Result<CheckReport, NoMemory>
     let (fault, is_unread) = fault_of_unit(alloc, fault)?;
     let path = Vec::from_slice(alloc, fault.path.as_slice())?;
     let mut files = Vec::new(alloc);
-    files.push(refused(alloc, path, fault, Vec::new(alloc), is_unread))?;
+    files.push(refused(alloc, path, fault, Vec::new(alloc), is_unread, None))?;
     Ok(report_of(files, Vec::new(alloc)))
 }
 

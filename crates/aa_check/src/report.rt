@@ -36,6 +36,8 @@ pub struct FileReport {
     pub further: Vec<FaultReport>,
     /// Whether it can't be read.
     pub is_unread: bool,
+    /// How many profiles it seems to hold, where it is refused and its heads can be read.
+    pub held: Option<usize>,
     pub profiles: Vec<ProfileReport>,
     pub passed_over: Vec<Passed>,
     pub warnings: Vec<Vec<u8>>,
@@ -48,6 +50,10 @@ pub struct CheckReport {
     pub warnings: Vec<Vec<u8>>,
     pub refused: usize,
     pub profiles: usize,
+    /// How many profiles the files that are refused seem to hold.
+    pub held: usize,
+    /// Of how many of them that can't be told.
+    pub untold: usize,
     /// Whether something couldn't be read.
     pub is_unread: bool,
 }

@@ -3,3 +3,4 @@ pub mod Outlines
 pub mod Each
 pub mod Parting
 pub mod Skipping
+pub mod Texts

@@ -1,4 +1,3 @@
 pub mod Files
-pub mod Texts
 pub mod Views
 pub mod Sound

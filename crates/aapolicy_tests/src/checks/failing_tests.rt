@@ -68,10 +68,10 @@ fn joined(rt: &impl Abort, alloc: Global, parts: &[&str]) -> Vec<u8> {
 }
 
 const FIRST_REFUSED: &str =
-    "refused /p/a\nok /p/d\n  profile \"d\" 0 file 1 capability 0 network 0 patterns 1 states 0 passed over\n2 files 1 refused 1 profiles\n";
+    "refused /p/a\nok /p/d\n  profile \"d\" 0 file 1 capability 0 network 0 patterns 1 states 0 passed over\n2 files 1 refused 1 profiles\nrefused files seem to hold 0 profiles, and any in 1 of them\n";
 
 const SECOND_REFUSED: &str =
-    "ok /p/a\n  profile \"a\" 1 file 0 capability 0 network 1 patterns 4 states 0 passed over\nrefused /p/d\n2 files 1 refused 1 profiles\n";
+    "ok /p/a\n  profile \"a\" 1 file 0 capability 0 network 1 patterns 4 states 0 passed over\nrefused /p/d\n2 files 1 refused 1 profiles\nrefused files seem to hold 0 profiles, and any in 1 of them\n";
 
 /// What is printed on standard output.
 fn report_with(rt: &impl Abort, alloc: Global, path: &str, place: Place) -> Vec<u8> {
@@ -80,7 +80,7 @@ fn report_with(rt: &impl Abort, alloc: Global, path: &str, place: Place) -> Vec<
             joined(
                 rt,
                 alloc,
-                &["refused ", path, "\n1 files 1 refused 0 profiles\n"],
+                &["refused ", path, "\n1 files 1 refused 0 profiles\nrefused files seem to hold 0 profiles, and any in 1 of them\n"],
             )
         }
         First => joined(rt, alloc, &[FIRST_REFUSED]),

@@ -5,7 +5,7 @@ use Rattle.aa_files.specs.Texts.{texts}
 use Rattle.aa_command.specs.Setting.{setting_of}
 use Rattle.aa_check.specs.declared.report.FileReport.{FileReport}
 use Rattle.aa_check.specs.Checked.{AreFound, none_there}
-use Rattle.aa_check.proofs.Found.{found_many, few_all}
+use Rattle.aa_check.proofs.Found.{found_many, few_all, held_all}
 use Rattle.aa_check.proofs.checking.check.Goals as goal
 
 pub report_of-requires-clause-few : goal.report_of-requires-clause-few
@@ -19,6 +19,11 @@ report_of-requires-clause-few g c =
 
 pub report_of-requires-clause-each : goal.report_of-requires-clause-each
 report_of-requires-clause-each g c = few_all
+    (setting_of (g.T.Tree.files c.args.tree.now) (g.T.Tree.taken c.args.tree.now) (g.T.Tree.input c.args.tree.now) c.args.settings.now) []
+    (texts c.as_slice.result.now) c.in_ok-files-in-Ok.files.items c.in_ok-files-in-Ok.ensures
+
+pub report_of-requires-clause-held : goal.report_of-requires-clause-held
+report_of-requires-clause-held g c = held_all
     (setting_of (g.T.Tree.files c.args.tree.now) (g.T.Tree.taken c.args.tree.now) (g.T.Tree.input c.args.tree.now) c.args.settings.now) []
     (texts c.as_slice.result.now) c.in_ok-files-in-Ok.files.items c.in_ok-files-in-Ok.ensures
 

@@ -12,4 +12,5 @@ returns-in_ok-fault-in-Err-clause-found g c =
     let said = c.in_ok-fault-in-Err.ensures in
     Unread c.in-Err.fault c.in_ok-fault-in-Err.fault
     (c.in-Err.ensures.fault (said_of_more c.in-Err.fault c.in_ok-fault-in-Err.fault c.in_ok-fault-in-Err.is_unread said))
-    (subst (λ b. IsSaid c.in-Err.fault c.in_ok-fault-in-Err.fault b) (sym c.refused.ensures.unread) said) (record { has = c.refused.ensures.has; alone = ap (λ v. v.items) c.refused.ensures.further ∙ c.new.ensures.items })
+    (subst (λ b. IsSaid c.in-Err.fault c.in_ok-fault-in-Err.fault b) (sym c.refused.ensures.unread) said)
+    (record { has = c.refused.ensures.has; alone = ap (λ v. v.items) c.refused.ensures.further ∙ c.new.ensures.items }) c.refused.ensures.held

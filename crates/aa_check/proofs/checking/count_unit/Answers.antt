@@ -10,6 +10,7 @@ returns-clause-counted c =
     let f = c.accepted.result in (
       c.accepted.ensures.fault,
       c.accepted.ensures.further,
+      c.accepted.ensures.held,
       subst (λ v. CountsPolicy u policy v.items f.passed_over.items) (sym c.accepted.ensures.profiles)
           (subst (λ v. CountsPolicy u policy counts.profiles.items v.items) (sym c.accepted.ensures.passed_over) c.in_ok-counts.ensures),
     )

@@ -2,7 +2,7 @@ use Rattle.std.proofs.Common.{ℕ, List, ◌++◌, codes, ap, ◌∙◌}
 use Rattle.std.proofs.lemmas.Result.{on_ok_weaker}
 use Rattle.aa_text.specs.Visible.{all_visible}
 use Rattle.aa_undecided.specs.Shown.{more_text, refused_at, files_text}
-use Rattle.aa_undecided.proofs.Texts.{five}
+use Rattle.aa_skipped.proofs.Texts.{five}
 use Rattle.aa_undecided.proofs.shown.push_files.Goals as goal
 
 pub returns : goal.returns

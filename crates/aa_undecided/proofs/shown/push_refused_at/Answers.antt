@@ -2,7 +2,7 @@ use Rattle.std.proofs.Common.{codes}
 use Rattle.std.proofs.lemmas.Result.{on_ok_weaker}
 use Rattle.aa_text.specs.Faults.{where_if}
 use Rattle.aa_undecided.specs.Shown.{refused_at}
-use Rattle.aa_undecided.proofs.Texts.{two}
+use Rattle.aa_skipped.proofs.Texts.{two}
 use Rattle.aa_undecided.proofs.shown.push_refused_at.Goals as goal
 
 pub returns : goal.returns
