@@ -10,6 +10,6 @@ mod Whole
 pub mod Apart
 pub mod Askable
 pub mod Answered
-mod Lines
+pub mod Lines
 pub mod Saying
 pub mod Replays

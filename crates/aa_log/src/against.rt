@@ -103,7 +103,7 @@ fn push_shown(
 
 /// Appends the requests that are shown, and counts the answers of all.
 #[tactic(auto, unfolding(crate::specs::Against::changes_text))]
-fn push_all_shown(
+pub fn push_all_shown(
     out: &mut Vec<u8>,
     alloc: Global,
     logs: &[&[u8]],
@@ -147,8 +147,9 @@ fn push_row(out: &mut Vec<u8>, counts: &Counts, then: Then) -> Result<(), AllocE
     push_count(out, counts, then, Now::NoProfile)
 }
 
+/// Appends how many requests have which answers.
 #[tactic(auto, unfolding(crate::specs::Against::rows_text))]
-fn push_counts(out: &mut Vec<u8>, counts: &Counts) -> Result<(), AllocError>
+pub fn push_counts(out: &mut Vec<u8>, counts: &Counts) -> Result<(), AllocError>
     ensures { OnOk result (out.new.items ≡ out.old.items ++ rows_text counts.now) }
 {
     push_row(out, counts, Then::Denied)?;
@@ -338,7 +339,7 @@ fn push_json_counts(out: &mut Vec<u8>, alloc: Global, counts: &Counts) -> Result
 
 /// Appends the members of the requests that are shown, as they stand here, and of how many each answer has.
 #[tactic(auto, unfolding(crate::specs::Against::json_answers))]
-fn push_json_answers(
+pub fn push_json_answers(
     out: &mut Vec<u8>,
     alloc: Global,
     logs: &[&[u8]],

@@ -52,7 +52,7 @@ fn read_report<R: Logs>(
 }
 
 /// Reads logs one after another.
-fn read_reports<'a, R: Logs>(
+pub fn read_reports<'a, R: Logs>(
     alloc: Global,
     reader: &R,
     logs: &'a [&'a [u8]],
@@ -87,7 +87,7 @@ fn push_said(
 }
 
 /// The status, or 1 where a line isn't understood.
-fn status_or(said: &SaidReport<'_>, status: u8) -> u8
+pub fn status_or(said: &SaidReport<'_>, status: u8) -> u8
     ensures { result ≡ status_or said.now.first_unclear status }
 {
     match said.first_unclear {

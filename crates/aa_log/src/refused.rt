@@ -44,7 +44,7 @@ fn many_refused(alloc: Global, path: &[u8]) -> Result<Output, NoMemory>
 }
 
 /// Says why the log at a path can't be read, or that it asks one request too many.
-pub(crate) fn log_refused(alloc: Global, path: &[u8], why: Unread) -> Result<Output, NoMemory>
+pub fn log_refused(alloc: Global, path: &[u8], why: Unread) -> Result<Output, NoMemory>
     ensures { IfOk result (λ out. SaysUnreadLog path.now why (printed out)) }
 {
     match why {

@@ -32,7 +32,7 @@ fn push_unclear_line(
 }
 
 /// Appends how many lines aren't understood, and where the first is, where there are some.
-pub(crate) fn push_unclear(
+pub fn push_unclear(
     out: &mut Vec<u8>,
     logs: &[&[u8]],
     said: &SaidReport<'_>,

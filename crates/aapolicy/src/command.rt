@@ -398,6 +398,13 @@ const LOG_ARGUMENTS: &[Argument] = &[
         barred: None,
         help: "Answer in JSON",
     },
+    Argument {
+        name: "skip-refused",
+        letter: None,
+        form: Form::Flag,
+        barred: None,
+        help: SKIP_REFUSED,
+    },
 ];
 
 /// What `merge` takes.

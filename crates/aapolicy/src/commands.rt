@@ -7,6 +7,7 @@ use crate::handed::Handed;
 use crate::opened::{file_of, files_of, given_to, is_input};
 use crate::progress::Progress;
 use crate::watched::Watched;
+use aa_against::log_skipping;
 use aa_ask::{AskOptions, Manner, ask_files};
 use aa_check::{CheckOptions, Form, check_files};
 use aa_command::{Output, Settings, in_json, refused};
@@ -169,7 +170,13 @@ fn run_log(
         wants_all: matches.get_flag("all"),
         is_json: matches.get_flag("json"),
     };
-    log_files(alloc, tree, tree.tree, settings, &options)
+    if !matches.get_flag("skip-refused") {
+        return log_files(alloc, tree, tree.tree, settings, &options);
+    }
+    if options.against.is_empty() {
+        return refused(alloc, "error: --skip-refused takes --against\n", 2);
+    }
+    log_skipping(alloc, tree, tree.tree, settings, &options)
 }
 
 fn run_job(
