@@ -57,6 +57,8 @@ def blocks(text):
     """The blocks of a page, each with its kind and its lines."""
     found, is_open = [], False
     for it in text.splitlines():
+        if it.startswith("<!-- "):
+            continue
         kind = kind_of(it)
         goes_on = is_open and (kind == found[-1][0] or found[-1][0] == "list" and it.startswith("  "))
         if it and not goes_on:
