@@ -1,7 +1,7 @@
 -- Which requests a word asks.
 -- Source: apparmor.d(5), "Access Modes"; own.
 use Rattle.std.specs.Prelude.{◌≡◌, ◌⊎◌, ℕ, ◌+◌, ◌==◌, ◌||◌, List, [], ◌∷◌, ◌++◌, take, drop, position, Bool, true, false}
-use Rattle.std.specs.Prelude.{codes, Option, Some, None, is_some, option_map, option_and_then, bit_and, bit_or, if◌then◌else◌, Ok}
+use Rattle.std.specs.Prelude.{codes, Option, Some, None, is_some, unwrap_or, option_map, option_and_then, bit_and, bit_or, if◌then◌else◌, Ok}
 use Rattle.aa_pattern.specs.declared.pattern.Pattern.{Pattern}
 use Rattle.aa_base.specs.declared.perms.Perms.{Perms}
 use Rattle.aa_text.specs.Visible.{all_visible}
@@ -11,6 +11,7 @@ use Rattle.aa_model.specs.declared.request.Request.{Request}
 use Rattle.aa_model.specs.declared.request.Request.TheVariants as asks
 use Rattle.aa_notation.specs.Parts.{behind}
 use Rattle.aa_notation.specs.Read.{request_in}
+use Rattle.aa_notation.specs.Refused.{refusal}
 use Rattle.aa_quantifiers.specs.declared.word.Whose.{Whose}
 use Rattle.aa_quantifiers.specs.declared.word.Whose.TheVariants.{Both, Owner, Others}
 use Rattle.aa_quantifiers.specs.declared.word.Word.{Word}
@@ -22,9 +23,24 @@ use Rattle.aa_who.specs.declared.fault.WhoFault.TheVariants.{NoMemory, Refused}
 abbrev pub said_of : List ℕ → List ℕ → List ℕ
 said_of sentence word = sentence ++ all_visible word ++ codes "\n"
 
+-- what is said of a word that asks for a link
+unfoldable pub about_links : List ℕ
+about_links = codes "who asks for no links"
+
+-- why a text is no request here, though it may be one of ask
+abbrev pub why_unless_link : List ℕ → Option Request → List ℕ
+why_unless_link text (Some (asks.Link l)) = about_links
+why_unless_link text _ = refusal text
+
+-- why a word is no request, and the request that may have been meant; other: says whose the objects are here alone
+abbrev pub why_unread : List ℕ → List ℕ
+why_unread word =
+    let text = unwrap_or (behind (codes "other:") word) word in
+    why_unless_link text (request_in false text)
+
 -- what is said of a word that asks nothing
 abbrev pub no_word : List ℕ → List ℕ
-no_word word = said_of (codes "error: this is no request: ") word
+no_word word = codes "error: this is no request: " ++ all_visible word ++ codes ": " ++ all_visible (why_unread word) ++ codes "\n"
 
 -- what is said of a word whose path is no pattern
 abbrev pub no_pattern : List ℕ → List ℕ

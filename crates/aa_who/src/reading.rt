@@ -4,13 +4,13 @@ ghost use Rattle.std.specs.Prelude.{◌≡◌, ◌==◌, ◌++◌, codes, false,
 ghost use Rattle.aa_model.specs.declared.request.Request.{Request};
 ghost use Rattle.aa_notation.specs.Parts.{behind};
 ghost use Rattle.aa_notation.specs.Read.{request_in};
-ghost use Rattle.aa_who.specs.Words.{said_of, no_word, no_pattern, is_alone, IsSaid, at_colon, whose_in, masks_of, object_in, IsPatternIf, IsFilesOf, IsExecsOf, IsOfObject, IsAlone, IsRead, SaysUnread};
+ghost use Rattle.aa_who.specs.Words.{about_links, why_unless_link, why_unread, said_of, no_word, no_pattern, is_alone, IsSaid, at_colon, whose_in, masks_of, object_in, IsPatternIf, IsFilesOf, IsExecsOf, IsOfObject, IsAlone, IsRead, SaysUnread};
 
 use crate::fault::WhoFault;
 use aa_base::{Perms, PolicyKind, Seq};
 use aa_glob::{Pattern, read_pattern};
 use aa_model::Request;
-use aa_notation::{WordFault, read_word};
+use aa_notation::{WordFault, read_word, word_refusal};
 use aa_quantifiers::{ExecsWord, FilesWord, Whose, Word};
 use aa_text::{push_text, push_visible};
 use bitflags::Flags;
@@ -131,11 +131,40 @@ fn pattern_of(alloc: Global, text: &[u8]) -> Result<Option<Pattern>, AllocError>
     }
 }
 
+#[tactic(auto, unfolding(crate::specs::Words::about_links))]
+fn about_links() -> &'static str
+    ensures { result.now ≡ about_links }
+{
+    "who asks for no links"
+}
+
+/// Why a text is no request here, though it may be one of `ask`.
+fn why_unless_link(alloc: Global, text: &[u8]) -> Result<Vec<u8>, AllocError>
+    ensures { IfOk result (λ said. said.items ≡ why_unless_link text.now (request_in false text.now)) }
+{
+    match request_of(alloc, text)? {
+        Some(Request::Link(_)) => Vec::from_slice(alloc, about_links().as_bytes()),
+        _ => word_refusal(alloc, text),
+    }
+}
+
+/// Why a word is no request, and the request that may have been meant.
+fn why_unread(alloc: Global, word: &[u8]) -> Result<Vec<u8>, AllocError>
+    ensures { IfOk result (λ said. said.items ≡ why_unread word.now) }
+{
+    why_unless_link(alloc, behind(word, "other:").unwrap_or(word))
+}
+
 /// What is said of a word that asks nothing.
 fn no_word(alloc: Global, word: &[u8]) -> Result<WhoFault, AllocError>
     ensures { IfOk result (λ e. IsSaid (no_word word.now) e) }
 {
-    Ok(WhoFault::Refused(said_of(alloc, "error: this is no request: ", word)?))
+    let mut line = Vec::from_slice(alloc, "error: this is no request: ".as_bytes())?;
+    push_visible(&mut line, word)?;
+    push_text(&mut line, ": ")?;
+    push_visible(&mut line, why_unread(alloc, word)?.as_slice())?;
+    push_text(&mut line, "\n")?;
+    Ok(WhoFault::Refused(line))
 }
 
 /// What is said of a word whose path is no pattern.
