@@ -86,9 +86,9 @@ def job_of(policy, includes=None):
     return json.dumps(job)
 
 
-def cost_of(command, given, refused=False):
-    """What a command takes of the clock and of the processor with that standard input; it may say that a policy is refused, where that is
-    wanted."""
+def cost_of(command, given, refused=False, found=False):
+    """What a command takes of the clock and of the processor with that standard input; it may say that a policy is refused, or that something
+    is found, where that is wanted."""
     begun = time.perf_counter()
     child = subprocess.Popen(command, stdin=given, stdout=subprocess.DEVNULL, stderr=subprocess.DEVNULL)
     try:
@@ -98,14 +98,14 @@ def cost_of(command, given, refused=False):
         raise
     clock = time.perf_counter() - begun
     child.returncode = status
-    if status and not (refused and os.waitstatus_to_exitcode(status) == 1):
+    if os.waitstatus_to_exitcode(status) not in {0, *([1] if refused else []), *([4] if found else [])}:
         sys.exit(f"{command} ended with {status}")
     return clock, used.ru_utime + used.ru_stime
 
 
-def seconds_of(command, given, refused=False):
+def seconds_of(command, given, refused=False, found=False):
     """What a command takes of the processor, as `cost_of` has it."""
-    return cost_of(command, given, refused)[1]
+    return cost_of(command, given, refused, found)[1]
 
 
 def peak_of(command):
