@@ -17,7 +17,7 @@ use std::alloc::{AllocError, Global};
 
 /// How many of the requests of a word a task is granted.
 #[derive(Drop)]
-pub(crate) enum Counted {
+pub enum Counted {
     Told(Quantity),
     /// It can't be told: the line on why.
     Untold(Vec<u8>),
@@ -117,7 +117,7 @@ fn no_path(alloc: Global, text: &[u8]) -> Result<WhoFault, AllocError>
 }
 
 /// How many of the requests of a word a task with that label is granted. Refused where the word asks nothing.
-pub(crate) fn count_at(
+pub fn count_at(
     alloc: Global,
     policies: &[Compiled],
     states: u32,

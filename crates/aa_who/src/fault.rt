@@ -5,7 +5,7 @@ use std::alloc::{AllocError, AllocFailed};
 
 /// Why words aren't answered.
 #[derive(Drop)]
-pub(crate) enum WhoFault {
+pub enum WhoFault {
     NoMemory,
     /// What is said of it.
     Refused(Vec<u8>),

@@ -156,7 +156,7 @@ fn push_grant_at(
 }
 
 /// How many profiles there are.
-pub(crate) fn count_of(policies: &[Compiled]) -> u16
+pub fn count_of(policies: &[Compiled]) -> u16
     ensures { result ≡ count_of policies.now }
 {
     match policies.get(0) {

@@ -11,3 +11,7 @@ mod reading;
 mod shown;
 
 pub use command::{WhoOptions, who_files};
+pub use counting::{Counted, count_at};
+pub use fault::WhoFault;
+pub use granting::count_of;
+pub use reading::read_asked;

@@ -249,7 +249,7 @@ fn read_alone(alloc: Global, word: &[u8]) -> Result<Word, WhoFault>
 /// `[owned:|other:]LETTERS:PATTERN` asks to use files at each path that the pattern matches, of the task's user, of others, or without
 /// a front of both; `w` among the letters is to write or to append. `[owned:|other:]x:PATTERN` asks to execute them; `cap:`, `net:`
 /// and `change:` ask as they do of `ask`. A pattern is the language's, without variables.
-pub(crate) fn read_asked(alloc: Global, word: &[u8]) -> Result<Word, WhoFault>
+pub fn read_asked(alloc: Global, word: &[u8]) -> Result<Word, WhoFault>
     ensures read { IfOk result (λ w. IsRead word.now w) }
     ensures refused { IfErr result (λ e. SaysUnread word.now (IsRead word.now) e) }
 {
