@@ -1,6 +1,6 @@
 -- Where all arrivals are followed, each list of requests leads to the label of one.
 use Rattle.std.proofs.Common.{◌≡◌, ℕ, ◌+◌, ◌<◌, ◌≤◌, List, [], ◌∷◌, ◌++◌, true}
-use Rattle.std.proofs.Common.{length, All, Contains, refl, sym, ap, ◌∙◌, subst, arith}
+use Rattle.std.proofs.Common.{length, All, Contains, sym, ap, ◌∙◌, subst, arith}
 use Rattle.std.proofs.Common.{get_or, Some, ⊎_elim, append_assoc, append-nil}
 use Rattle.std.specs.Prelude.{nat_eq}
 use Rattle.std.specs.List.{slice_get, list_any}
@@ -13,14 +13,13 @@ use Rattle.std.proofs.lemmas.Option.{slice_get_within, slice_get-get_or, get_or_
 use Rattle.std.proofs.lemmas.Bool.{eqb-true, eq-eqb}
 use Rattle.indexmap.proofs.CallerLemmas.{Contains-list_any}
 use Rattle.aa_reachability.specs.declared.going.Going.{Going}
-use Rattle.aa_model.specs.declared.policy.Policy.{Policy}
 use Rattle.aa_model.specs.declared.label.Label.{Label}
 use Rattle.aa_model.specs.declared.request.Request.{Request}
 use Rattle.aa_representatives.specs.Askable.{IsAskable}
 use Rattle.aa_reachability.specs.declared.trail.Arrival.{Arrival}
 use Rattle.aa_reachability.specs.Codes.{code, most_labels}
-use Rattle.aa_reachability.specs.Moves.{label_next, label_in, LeadAllBy}
-use Rattle.aa_reachability.specs.Reach.{IsWay, AreWays, IsShortestBy, AreArrivalsBy, IsNear, AreNear, led_by, led_to, IsShortest, AreArrivals, way_at}
+use Rattle.aa_reachability.specs.Moves.{label_in, LeadAllBy}
+use Rattle.aa_reachability.specs.Reach.{IsWay, AreWays, IsShortest, AreArrivals, IsNear, AreNear, led_by, way_at}
 use Rattle.aa_reachability.specs.Trail.{no_arrival, arrival_at, IsTrail, IsLevel, IsWithin, AreFollowedBy, AreFollowed, Extends, ReachAll}
 use Rattle.aa_reachability.proofs.Stepping.{arrival_old, below_most}
 
@@ -159,14 +158,14 @@ module _ (g : Going) (from : Label) (known : List ℕ) (arrivals : List Arrival)
         subst (λ (x : Arrival). IsWay i x.step trail.ways (way_at trail.ways i)) h.1 (trail.each i h.0).is_way;
   }
 
-  pub are_arrivals : ReachAll g from arrivals → AreArrivalsBy (label_in g) from arrivals
+  pub are_arrivals : ReachAll g from arrivals → AreArrivals (label_in g) from arrivals
   are_arrivals reach = record {
     ways = trail.ways;
     are = are_ways;
     each = λ i a e.
         let h = here g from known arrivals trail i a e in
         let led = trail.each i h.0 in
-        subst (λ (x : Arrival). IsShortestBy (label_in g) from x (way_at trail.ways i)) h.1
+        subst (λ (x : Arrival). IsShortest (label_in g) from x (way_at trail.ways i)) h.1
         (record {
           asked = led.asked;
           leads = led.leads;
@@ -198,24 +197,3 @@ module _ (g : Going) (from : Label) (known : List ℕ) (arrivals : List Arrival)
         (w.0, arrival_at arrivals w.0, slice_get-get_or arrivals w.0 no_arrival w.1, w.2 ∙ ap (λ (l : Label). label_in g l r) trail.start);
     once = once;
   }
-
-led_same : (ps : List Policy) (l : Label) (rs : List Request) → led_by (label_next ps) l rs ≡ led_to ps l rs
-led_same ps l [] = refl
-led_same ps l (r ∷ rs) = led_same ps (label_next ps l r) rs
-
--- where complain mode counts, these are those of the policies as they are
-pub plain_arrivals : (ps : List Policy) (from : Label) (arrivals : List Arrival) → AreArrivalsBy (label_next ps) from arrivals → AreArrivals ps from arrivals
-plain_arrivals ps from arrivals by = record {
-  ways = by.ways;
-  are = by.are;
-  each = λ i a e.
-      let is = by.each i a e in
-      record {
-        asked = is.asked;
-        leads = sym (led_same ps from (way_at by.ways i)) ∙ is.leads;
-        long = is.long;
-        shortest = λ rs asked leads. is.shortest rs asked (led_same ps from rs ∙ leads);
-      };
-  all = λ rs asked. let w = by.all rs asked in (w.0, w.1, w.2, w.3 ∙ led_same ps from rs);
-  once = by.once;
-}

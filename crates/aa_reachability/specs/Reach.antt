@@ -2,19 +2,16 @@
 -- Source: breadth-first search; own.
 use Rattle.std.specs.Prelude.{◌≡◌, ◌<◌, ◌≤◌, ◌++◌, ◌∷◌, [], ℕ, List, Option, Some, None, All, length, slice_index_or}
 use Rattle.std.specs.List.{slice_get}
-use Rattle.aa_model.specs.declared.policy.Policy.{Policy}
 use Rattle.aa_model.specs.declared.label.Label.{Label}
 use Rattle.aa_model.specs.declared.request.Request.{Request}
-use Rattle.aa_machine.specs.Run.{state_after}
-use Rattle.aa_mediate.specs.Reply.{reply}
 use Rattle.aa_representatives.specs.Askable.{IsAskable}
 use Rattle.aa_reachability.specs.declared.trail.Step.{Step}
 use Rattle.aa_reachability.specs.declared.trail.Arrival.{Arrival}
-use Rattle.aa_reachability.specs.Moves.{label_next}
 
--- the label of a task after requests, one after another
-abbrev pub led_to : List Policy → Label → List Request → Label
-led_to ps l rs = state_after (label_next ps) (reply ps) l rs
+-- the label after requests, one after another, where each leads on so
+abbrev pub led_by : (Label → Request → Label) → Label → List Request → Label
+led_by go l [] = l
+led_by go l (r ∷ rs) = led_by go (go l r) rs
 
 -- the list of requests with that number
 abbrev pub way_at : List (List Request) → ℕ → List Request
@@ -30,42 +27,22 @@ pub record AreWays (arrivals : List Arrival) (ways : List (List Request)) : Type
   pub many : length ways ≡ length arrivals
   pub each : (i : ℕ) (a : Arrival) → slice_get arrivals i ≡ Some a → IsWay i a.step ways (way_at ways i)
 
--- the requests can be asked and lead to the label; no shorter list of such requests does
-pub record IsShortest (ps : List Policy) (from : Label) (a : Arrival) (way : List Request) : Type 0 where
-  pub asked : All IsAskable way
-  pub leads : led_to ps from way ≡ a.label
-  pub long : length way ≡ a.length
-  pub shortest : (rs : List Request) → All IsAskable rs → led_to ps from rs ≡ a.label → a.length ≤ length rs
-
--- an arrival for each label to which a list of requests that can be asked leads, each with a shortest such list, and none twice
-pub record AreArrivals (ps : List Policy) (from : Label) (arrivals : List Arrival) : Type 0 where
-  pub ways : List (List Request)
-  pub are : AreWays arrivals ways
-  pub each : (i : ℕ) (a : Arrival) → slice_get arrivals i ≡ Some a → IsShortest ps from a (way_at ways i)
-  pub all : (rs : List Request) → All IsAskable rs → (i : ℕ) × (a : Arrival) × (slice_get arrivals i ≡ Some a) × (a.label ≡ led_to ps from rs)
-  pub once : (i j : ℕ) (a b : Arrival) → slice_get arrivals i ≡ Some a → slice_get arrivals j ≡ Some b → a.label ≡ b.label → i ≡ j
-
 -- there are such lists of requests
 abbrev pub HaveWays : List Arrival → Type 0
 HaveWays arrivals = (ways : List (List Request)) × AreWays arrivals ways
 
--- the label after requests, one after another, where each leads on so
-abbrev pub led_by : (Label → Request → Label) → Label → List Request → Label
-led_by go l [] = l
-led_by go l (r ∷ rs) = led_by go (go l r) rs
-
 -- the requests can be asked and lead so to the label; no shorter list of such requests does
-pub record IsShortestBy (go : Label → Request → Label) (from : Label) (a : Arrival) (way : List Request) : Type 0 where
+pub record IsShortest (go : Label → Request → Label) (from : Label) (a : Arrival) (way : List Request) : Type 0 where
   pub asked : All IsAskable way
   pub leads : led_by go from way ≡ a.label
   pub long : length way ≡ a.length
   pub shortest : (rs : List Request) → All IsAskable rs → led_by go from rs ≡ a.label → a.length ≤ length rs
 
 -- an arrival for each label to which a list of requests that can be asked leads so, each with a shortest such list, and none twice
-pub record AreArrivalsBy (go : Label → Request → Label) (from : Label) (arrivals : List Arrival) : Type 0 where
+pub record AreArrivals (go : Label → Request → Label) (from : Label) (arrivals : List Arrival) : Type 0 where
   pub ways : List (List Request)
   pub are : AreWays arrivals ways
-  pub each : (i : ℕ) (a : Arrival) → slice_get arrivals i ≡ Some a → IsShortestBy go from a (way_at ways i)
+  pub each : (i : ℕ) (a : Arrival) → slice_get arrivals i ≡ Some a → IsShortest go from a (way_at ways i)
   pub all : (rs : List Request) → All IsAskable rs → (i : ℕ) × (a : Arrival) × (slice_get arrivals i ≡ Some a) × (a.label ≡ led_by go from rs)
   pub once : (i j : ℕ) (a b : Arrival) → slice_get arrivals i ≡ Some a → slice_get arrivals j ≡ Some b → a.label ≡ b.label → i ≡ j
 

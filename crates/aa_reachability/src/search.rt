@@ -5,8 +5,8 @@ ghost use Rattle.aa_pattern.specs.Limits.{most_states};
 ghost use Rattle.aa_model.specs.declared.label.Label.{Label};
 ghost use Rattle.aa_model.specs.declared.request.Request.{Request};
 ghost use Rattle.aa_representatives.specs.Askable.{IsAskable};
-ghost use Rattle.aa_reachability.specs.Moves.{label_enforced, label_going, label_in, LeadAllBy, HaveManyPatternsAt, HavePlacesAt};
-ghost use Rattle.aa_reachability.specs.Reach.{AreArrivals, AreArrivalsBy, AreNear};
+ghost use Rattle.aa_reachability.specs.Moves.{label_next, label_enforced, label_going, label_in, LeadAllBy, HaveManyPatternsAt, HavePlacesAt};
+ghost use Rattle.aa_reachability.specs.Reach.{AreArrivals, AreNear};
 ghost use Rattle.aa_reachability.specs.Trail.{IsTrail, IsLevel, Extends, AreFollowedBy, ReachAll};
 
 use crate::codes::MAX_LABELS;
@@ -118,7 +118,7 @@ fn arrivals_by(
 ) -> Result<Vec<Arrival>, ReachFault>
     requires some { 0 < limit }
     requires limit { limit ≤ most_states }
-    ensures arrivals { IfOk result (λ found. AreArrivalsBy (label_in going.entry) from found.items) }
+    ensures arrivals { IfOk result (λ found. AreArrivals (label_in going.entry) from found.items) }
     ensures many_patterns { (l : Label) → result ≡ Err (ReachFault.TooManyPatterns l) → HaveManyPatternsAt going.entry.policies.now l }
     ensures many_states { (l : Label) → result ≡ Err (ReachFault.TooManyStates l) → HavePlacesAt going.entry.policies.now l (limit + 1) }
 {
@@ -155,7 +155,7 @@ pub fn arrivals_from(
 ) -> Result<Vec<Arrival>, ReachFault>
     requires some { 0 < limit }
     requires limit { limit ≤ most_states }
-    ensures arrivals { IfOk result (λ found. AreArrivals policies.now from found.items) }
+    ensures arrivals { IfOk result (λ found. AreArrivals (label_next policies.now) from found.items) }
     ensures many_patterns { (l : Label) → result ≡ Err (ReachFault.TooManyPatterns l) → HaveManyPatternsAt policies.now l }
     ensures many_states { (l : Label) → result ≡ Err (ReachFault.TooManyStates l) → HavePlacesAt policies.now l (limit + 1) }
 {
@@ -175,7 +175,7 @@ pub fn enforced_arrivals_from(
 ) -> Result<Vec<Arrival>, ReachFault>
     requires some { 0 < limit }
     requires limit { limit ≤ most_states }
-    ensures arrivals { IfOk result (λ found. AreArrivalsBy (label_enforced policies.now) from found.items) }
+    ensures arrivals { IfOk result (λ found. AreArrivals (label_enforced policies.now) from found.items) }
     ensures many_patterns { (l : Label) → result ≡ Err (ReachFault.TooManyPatterns l) → HaveManyPatternsAt policies.now l }
     ensures many_states { (l : Label) → result ≡ Err (ReachFault.TooManyStates l) → HavePlacesAt policies.now l (limit + 1) }
 {
