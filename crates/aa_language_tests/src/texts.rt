@@ -1,79 +1,58 @@
 //! The calls that several modules make of what is tested, each in a function without clauses: a proof that uses one pays for
 //! no contract. Those that give plain values end the test where the call fails.
 
-use crate::comparing::equal;
+use crate::comparing::equal_in;
 use aa_base::{PolicyFault, PolicyKind};
 use aa_glob::{Vars, expand, read_pattern};
 use aa_pattern::Pattern;
 use aa_words::{Sources, WordList, words};
-use std::alloc::Global;
 use std::process::Abort;
 
 /// As many bytes of a kind.
-pub(crate) fn filled(rt: &impl Abort, alloc: Global, byte: u8, len: usize) -> Vec<u8> {
-    vec![in alloc; byte; len].expect(rt, "memory")
+pub(crate) fn filled(rt: &(impl Abort + AllocGlobal), byte: u8, len: usize) -> Vec<u8> {
+    vec![in rt.alloc(); byte; len].expect(rt, "memory")
 }
 
 /// Puts a text behind another.
-pub(crate) fn extend(rt: &impl Abort, whole: &mut Vec<u8>, text: &[u8]) {
+pub(crate) fn extend(rt: &(impl Abort + AllocGlobal), whole: &mut Vec<u8>, text: &[u8]) {
     whole.extend_from_slice(text).expect(rt, "memory");
 }
 
-/// The texts, one behind the other.
-pub(crate) fn joined(rt: &impl Abort, alloc: Global, texts: &[&[u8]]) -> Vec<u8> {
-    let mut whole = Vec::new(alloc);
-    for text in texts {
-        extend(rt, &mut whole, text);
-    }
-    whole
-}
-
-/// As many times the same text.
-pub(crate) fn repeated(rt: &impl Abort, alloc: Global, text: &[u8], times: u32) -> Vec<u8> {
-    let mut whole = Vec::new(alloc);
+/// As many times the first text, and the second behind them.
+pub(crate) fn row(
+    rt: &(impl Abort + AllocGlobal),
+    each: &[u8],
+    times: u32,
+    behind: &[u8],
+) -> Vec<u8> {
+    let mut whole = Vec::new(rt.alloc());
     for _ in 0..times {
-        extend(rt, &mut whole, text);
+        extend(rt, &mut whole, each);
     }
+    extend(rt, &mut whole, behind);
     whole
-}
-
-/// The line of a fault.
-pub(crate) fn line_of(rt: &impl Abort, alloc: Global, fault: PolicyFault) -> String {
-    format!(in alloc; "{fault}").expect(rt, "memory")
 }
 
 /// The words of a text and of what it includes.
 pub(crate) fn words_of<'s>(
-    alloc: Global,
+    rt: &(impl Abort + AllocGlobal),
     sources: &'s Sources,
     text: &'s [u8],
 ) -> Result<WordList<'s>, PolicyFault> {
-    words(alloc, sources, text)
+    words(rt.alloc(), sources, text)
 }
 
-/// The same, of a text that is not refused.
-pub(crate) fn words_read<'s>(
-    rt: &impl Abort,
-    alloc: Global,
-    sources: &'s Sources,
-    text: &'s [u8],
-) -> WordList<'s> {
-    words_of(alloc, sources, text).expect(rt, "words")
-}
-
-/// The pattern that a text is.
-pub(crate) fn pattern_of(alloc: Global, text: &[u8]) -> Result<Pattern, PolicyKind> {
-    read_pattern(alloc, text)
+/// The pattern that a text is, or why it is none.
+pub(crate) fn pattern_of(
+    rt: &(impl Abort + AllocGlobal),
+    text: &[u8],
+) -> Result<Pattern, PolicyKind> {
+    read_pattern(rt.alloc(), text)
 }
 
 /// The same, of a text that is one.
-pub(crate) fn pattern_read(rt: &impl Abort, alloc: Global, text: &[u8]) -> Pattern {
-    pattern_of(alloc, text).expect(rt, "a pattern")
-}
-
-/// Why a text is no pattern, if it is none.
-pub(crate) fn pattern_fault(alloc: Global, text: &[u8]) -> Option<PolicyKind> {
-    pattern_of(alloc, text).err()
+pub(crate) fn pattern_read(rt: &(impl Abort + AllocGlobal), text: &[u8]) -> Pattern {
+    pattern_of(rt, text).expect(rt, "a pattern")
 }
 
 /// Whether a pattern matches a path.
@@ -83,46 +62,29 @@ pub(crate) fn is_matched(pattern: &Pattern, path: &[u8]) -> bool {
 
 /// The patterns that a word expands to.
 pub(crate) fn expansions(
-    alloc: Global,
+    rt: &(impl Abort + AllocGlobal),
     vars: &Vars,
     raw: &[u8],
 ) -> Result<Vec<Pattern>, PolicyKind> {
-    expand(alloc, vars, raw)
-}
-
-/// The same, of a word that has some.
-pub(crate) fn expanded(rt: &impl Abort, alloc: Global, vars: &Vars, raw: &[u8]) -> Vec<Pattern> {
-    expansions(alloc, vars, raw).expect(rt, "expansions")
+    expand(rt.alloc(), vars, raw)
 }
 
 /// Sets a variable.
-pub(crate) fn set(vars: &mut Vars, name: &[u8], values: &[&[u8]]) -> Result<(), PolicyKind> {
-    vars.set(name, values)
-}
-
-/// The variable is set to these values, or refused for that.
-pub(crate) fn is_set(
-    rt: &impl Abort,
-    vars: &mut Vars,
-    name: &[u8],
-    values: &[&[u8]],
-    wanted: Option<PolicyKind>,
-) {
-    equal(rt, set(vars, name, values).err(), wanted);
+pub(crate) fn set(vars: &mut Vars, name: &str, values: &[&[u8]]) -> Result<(), PolicyKind> {
+    vars.set(name.as_bytes(), values)
 }
 
 /// Adds to a variable.
-pub(crate) fn add(vars: &mut Vars, name: &[u8], values: &[&[u8]]) -> Result<(), PolicyKind> {
-    vars.add(name, values)
+pub(crate) fn add(vars: &mut Vars, name: &str, values: &[&[u8]]) -> Result<(), PolicyKind> {
+    vars.add(name.as_bytes(), values)
 }
 
-/// These values are added to the variable, or refused for that.
-pub(crate) fn is_added(
-    rt: &impl Abort,
+/// The variable is set to these values.
+pub(crate) fn is_set(
+    rt: &(impl Abort + AllocGlobal),
     vars: &mut Vars,
-    name: &[u8],
+    name: &str,
     values: &[&[u8]],
-    wanted: Option<PolicyKind>,
 ) {
-    equal(rt, add(vars, name, values).err(), wanted);
+    equal_in(rt, set(vars, name, values), Ok(()), name);
 }
