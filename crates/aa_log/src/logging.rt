@@ -30,6 +30,12 @@ use std::collections::HashMap;
 /// The most distinct requests of the logs of a call.
 const MAX_DISTINCT: usize = 1_000_000;
 
+/// For how many bytes of a word there is room at first.
+const WORD_ROOM: usize = 40;
+
+/// For how many bytes of a request as it is printed there is room at first.
+const KEY_ROOM: usize = 64;
+
 /// Where a line stands.
 #[derive(Clone, Copy, Debug)]
 pub struct LinePlace {
@@ -84,7 +90,7 @@ pub struct LogReport<'a> {
 fn word_of(alloc: Global, request: &Request) -> Result<Vec<u8>, AllocError>
     ensures { IfOk result (λ word. word.items ≡ word_text request.now) }
 {
-    let mut word = Vec::new(alloc);
+    let mut word = Vec::with_capacity(alloc, WORD_ROOM)?;
     push_word(&mut word, request)?;
     Ok(word)
 }
@@ -94,7 +100,7 @@ fn word_of(alloc: Global, request: &Request) -> Result<Vec<u8>, AllocError>
 fn key_of(alloc: Global, then: Then, profile: &[u8], word: &[u8]) -> Result<Vec<u8>, AllocError>
     ensures { IfOk result (λ key. key.items ≡ key_text then profile.now word.now) }
 {
-    let mut key = Vec::new(alloc);
+    let mut key = Vec::with_capacity(alloc, KEY_ROOM)?;
     push_text(&mut key, then_name(then))?;
     push_asked(&mut key, alloc, profile, word)?;
     Ok(key)
