@@ -29,6 +29,9 @@ const DIFF: &str =
 const WHO: &str =
     "Says which profiles' rules allow what is asked, all of it or some, as in: aapolicy who /etc/apparmor.d 'w:/home/**' cap:sys_admin";
 
+const ASSERT: &str =
+    "Says which claims on what is allowed are broken, by whom, and names the rules, as in: aapolicy assert claims /etc/apparmor.d";
+
 const JOB: &str =
     "Prints the job that aamediate run decides alike, as in: aapolicy job /etc/apparmor.d/usr.sbin.cupsd --log /var/log/kern.log";
 
@@ -311,6 +314,31 @@ const WHO_ARGUMENTS: &[Argument] = &[
     },
 ];
 
+/// What `assert` takes.
+const ASSERT_ARGUMENTS: &[Argument] = &[
+    Argument {
+        name: "CLAIMS",
+        letter: None,
+        form: Form::NeededWord,
+        barred: None,
+        help: "A file of claims, one a line: never WORD or always WORD, with in NAME.. or except NAME.. behind it, or always enforced; - is standard input",
+    },
+    Argument {
+        name: "PROFILE",
+        letter: None,
+        form: Form::NeededWords,
+        barred: None,
+        help: "A file with profiles, or a folder of such files, which are one policy together; - is standard input",
+    },
+    Argument {
+        name: "first",
+        letter: None,
+        form: Form::Flag,
+        barred: None,
+        help: "Print of each claim the first alone by whom it is broken",
+    },
+];
+
 /// What chooses lines of logs.
 const CHOICE_ARGUMENTS: &[Argument] = &[
     Argument {
@@ -547,6 +575,13 @@ const COMMANDS: &[Named] = &[
         name: "who",
         about: WHO,
         arguments: WHO_ARGUMENTS,
+        more: &[],
+        reads_policies: true,
+    },
+    Named {
+        name: "assert",
+        about: ASSERT,
+        arguments: ASSERT_ARGUMENTS,
         more: &[],
         reads_policies: true,
     },

@@ -9,6 +9,7 @@ use crate::progress::Progress;
 use crate::watched::Watched;
 use aa_against::log_skipping;
 use aa_ask::{AskOptions, Manner, ask_files};
+use aa_assert::{AssertOptions, assert_files};
 use aa_check::{CheckOptions, Form, check_files};
 use aa_command::{Output, Settings, in_json, refused};
 use aa_diff::{DiffOptions, Wanted, diff_files};
@@ -152,6 +153,22 @@ fn run_who(
     who_files(alloc, tree, settings, &options)
 }
 
+fn run_assert(
+    rt: &HostRuntime,
+    tree: &Handed<'_, Host<'_>>,
+    matches: &ArgMatches<'_>,
+    settings: &Settings<'_>,
+) -> Result<Output, NoMemory> {
+    let alloc = rt.alloc();
+    let files = files_of(alloc, matches, "PROFILE")?;
+    let options = AssertOptions {
+        claims: file_of(matches, "CLAIMS").unwrap_or("-".as_bytes()),
+        files: files.as_slice(),
+        is_first: matches.get_flag("first"),
+    };
+    assert_files(alloc, tree, settings, &options)
+}
+
 fn run_log(
     rt: &HostRuntime,
     tree: &Handed<'_, Host<'_>>,
@@ -254,6 +271,7 @@ fn run_wanted(
         "ask" => run_ask(rt, tree, matches, settings),
         "diff" => run_diff(rt, tree, matches, settings),
         "who" => run_who(rt, tree, matches, settings),
+        "assert" => run_assert(rt, tree, matches, settings),
         _ => run_with_logs(rt, tree, name, matches, settings),
     }
 }
@@ -265,6 +283,7 @@ fn file_arguments(name: &str) -> &'static [&'static str] {
         "ask" => &["PROFILE", "also", "from"],
         "diff" => &["OLD", "NEW"],
         "who" => &["PROFILE", "also"],
+        "assert" => &["CLAIMS", "PROFILE"],
         "log" => &["FILE", "against"],
         "merge" => &["PART", "parts"],
         _ => &["PROFILE", "log"],

@@ -39,6 +39,7 @@ fn text_arguments(name: &str) -> &'static [&'static str] {
         "ask" => &["PROFILE", "also", "from"],
         "diff" => &["OLD", "NEW"],
         "who" => &["PROFILE", "also"],
+        "assert" => &["CLAIMS", "PROFILE"],
         "log" => &["against"],
         _ => &["PROFILE"],
     }

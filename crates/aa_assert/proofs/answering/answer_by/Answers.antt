@@ -1,0 +1,45 @@
+use Rattle.std.proofs.lemmas.Result.{IfOk-weaker, IfErr-weaker}
+use Rattle.aa_load.specs.UnitPolicy.{limit_of}
+use Rattle.aa_who.specs.Grants.{count_of}
+use Rattle.aa_claims.specs.declared.fault.ClaimFault.{ClaimFault}
+use Rattle.aa_claims.specs.Faults.{SaysAt}
+use Rattle.aa_claims.proofs.Claims.{handed_on}
+use Rattle.aa_assert.specs.declared.finding.Findings.{Findings}
+use Rattle.aa_assert.specs.Refused.{AsksNoPath, IsUnanswered}
+use Rattle.aa_assert.specs.Findings.{all_found, AreFound}
+use Rattle.aa_assert.specs.Answers.{IsAnswerBy}
+use Rattle.aa_assert.proofs.Unanswered.{not_read, not_asked}
+use Rattle.aa_assert.proofs.answering.answer_by.Goals as goal
+
+pub returns-in_err-asked-clause-refused : goal.returns-in_err-asked-clause-refused
+returns-in_err-asked-clause-refused c =
+    handed_on c.from_residual.result _ _ c.from_residual.ensures.1
+    (λ y p. rw p (not_read c.args.decided.policies.now c.args.words.now c.args.head.now c.args.word.now c.in_err-asked.field-0.0
+    c.in_err-asked.ensures.refused))
+
+pub returns-clause-answered : goal.returns-clause-answered
+returns-clause-answered c =
+    let d = c.args.decided in
+    let limit = limit_of c.args.states in
+    let ws = c.args.words.now in
+    IfOk-weaker c.findings_of.result
+    (λ (fs : Findings). AreFound c.args.is_first d limit ws c.in_ok-asked.asked c.args.word.now.text.items (count_of d.policies.now) (all_found fs))
+    (λ (fs : Findings). IsAnswerBy c.args.is_first d limit ws c.args.head.now c.args.word.now (all_found fs))
+    (λ fs are. record {
+      says = c.in_ok-asked.asked;
+      is_asked = c.in_ok-asked.ensures.asked;
+      within = c.in_ok-check_scope.ensures.within;
+      excepted = c.in_ok-check_scope.ensures.excepted;
+      some = c.in_ok-check_scope.ensures.some;
+      are = are;
+    }) c.findings_of.ensures.found
+
+pub returns-clause-refused : goal.returns-clause-refused
+returns-clause-refused c =
+    let ps = c.args.decided.policies.now in
+    let ws = c.args.words.now in
+    let head = c.args.head.now in
+    let asked = c.args.word.now in
+    IfErr-weaker c.findings_of.result (λ (e : ClaimFault). SaysAt (AsksNoPath asked c.in_ok-asked.asked) e)
+    (λ (e : ClaimFault). SaysAt (IsUnanswered ps ws head asked) e)
+    (λ e h. not_asked ps ws head asked e c.in_ok-asked.asked c.in_ok-asked.ensures.asked h) c.findings_of.ensures.refused

@@ -1,0 +1,8 @@
+use Rattle.std.proofs.Common.{sym, ◌∙◌}
+use Rattle.aa_assert.proofs.Turning.{asked_by}
+use Rattle.aa_assert.proofs.asked.asked_by.Goals as goal
+
+pub returns-clause-asked : goal.returns-clause-asked
+returns-clause-asked c =
+    asked_by c.args.head.now c.args.asked.now c.in_ok-word.word c.in_ok-asked_of.field-0 (sym c.is_enforced.ensures ∙ c.if-is_enforced.false)
+    c.in_ok-word.ensures.read c.in_ok-asked_of.ensures

@@ -1,0 +1,101 @@
+-- The profiles against which a claim is broken.
+-- Source: own.
+use Rattle.std.specs.Prelude.{◌≡◌, ℕ, zero, suc, ◌==◌, ◌&&◌, ◌||◌, not, List, [], ◌∷◌, ◌++◌, length, map, Bool, true, false, Option, Some, None, if◌then◌else◌}
+use Rattle.aa_model.specs.declared.policy.Profile.{Profile}
+use Rattle.aa_model.specs.declared.label.Label.{Label}
+use Rattle.aa_model.specs.declared.label.Label.TheVariants.{Unconfined, Confined}
+use Rattle.aa_compile.specs.Labels.{profile_in}
+use Rattle.aa_command.specs.declared.decided.Decided.{Decided}
+use Rattle.aa_ask.specs.Told.{Told, told, verdict_on}
+use Rattle.aa_quantifiers.specs.declared.word.Word.{Word}
+use Rattle.aa_claims.specs.declared.words.ClaimWord.{ClaimWord}
+use Rattle.aa_assert.specs.declared.asked.Asked.{Asked}
+use Rattle.aa_assert.specs.declared.asked.Asked.TheVariants.{Never, Always, Enforced}
+use Rattle.aa_assert.specs.declared.judging.Judgement.{Judgement}
+use Rattle.aa_assert.specs.declared.judging.Judgement.TheVariants as is
+use Rattle.aa_assert.specs.declared.finding.Finding.{Finding}
+use Rattle.aa_assert.specs.declared.finding.Finding.TheVariants as finding
+use Rattle.aa_assert.specs.declared.finding.Findings.{Findings}
+use Rattle.aa_assert.specs.Scope.{is_about, is_about_free}
+use Rattle.aa_assert.specs.Judging.{IsJudged}
+
+-- a claim is broken by a request, with the verdict on it, or by the profile of that name, which complains
+pub data Found : Type 0 where
+  ByRequest : Told → Found
+  Complaining : List ℕ → Found
+
+-- so, without where it lies in memory
+abbrev pub found : Finding → Found
+found (finding.ByRequest v) = ByRequest (told v)
+found (finding.Complaining name) = Complaining name.items
+
+-- by whom a claim is broken, and the lines on those of whom that can't be told
+pub record AllFound : Type 0 where
+  pub list : List Found
+  pub untold : List ℕ
+
+-- all of them
+abbrev pub all_found : Findings → AllFound
+all_found fs = record { list = map found fs.list.items; untold = fs.untold.items }
+
+-- nobody yet
+abbrev pub nobody : AllFound
+nobody = record { list = []; untold = [] }
+
+-- what is judged at a label is added
+abbrev pub with_judged : Decided → Label → AllFound → Judgement → AllFound
+with_judged d l fs (is.Broken r) = record { list = fs.list ++ ByRequest (verdict_on d l r) ∷ []; untold = fs.untold }
+with_judged d l fs is.Holds = fs
+with_judged d l fs (is.Untold line) = record { list = fs.list; untold = fs.untold ++ line.items }
+
+-- whether the claim that no request of the word is answered so is broken at a label, is added
+abbrev pub AddsJudged : Decided → ℕ → Label → Bool → Word → List ℕ → AllFound → AllFound → Type 0
+AddsJudged d limit l against w text was now = (j : Judgement) × IsJudged d.policies.now limit l against w text j × (now ≡ with_judged d l was j)
+
+-- a profile that complains is added
+abbrev pub with_complaining : Profile → AllFound → AllFound
+with_complaining p fs = if p.complain then record { list = fs.list ++ Complaining p.name ∷ []; untold = fs.untold } else fs
+
+-- whether a claim is broken by profile n, which is p, is added
+abbrev pub AddsProfile : Decided → ℕ → Asked → List ℕ → ℕ → Profile → AllFound → AllFound → Type 0
+AddsProfile d limit (Never w) text n p was now = AddsJudged d limit (Confined 0 n) true w text was now
+AddsProfile d limit (Always w) text n p was now = AddsJudged d limit (Confined 0 n) false w text was now
+AddsProfile d limit Enforced text n p was now = now ≡ with_complaining p was
+
+-- whether it is broken by a task without a profile
+abbrev pub AddsFree : Decided → ℕ → Asked → List ℕ → AllFound → AllFound → Type 0
+AddsFree d limit (Never w) text was now = AddsJudged d limit (Unconfined 0) true w text was now
+AddsFree d limit (Always w) text was now = AddsJudged d limit (Unconfined 0) false w text was now
+AddsFree d limit Enforced text was now = now ≡ was
+
+-- where the first is wanted alone, nobody is looked at behind one by whom the claim is broken
+abbrev pub is_done : Bool → AllFound → Bool
+is_done first fs = first && not (length fs.list == 0)
+
+-- a profile at which nobody looks: the claim isn't about it, or it is done
+abbrev pub is_passed : Bool → List ClaimWord → Profile → AllFound → Bool
+is_passed first ws p fs = is_done first fs || not (is_about ws p.name)
+
+-- whether it is broken by a profile is added, where that is looked at
+abbrev pub AddsIf : Bool → Decided → ℕ → Asked → List ℕ → ℕ → Profile → AllFound → AllFound → Type 0
+AddsIf true d limit a text n p was now = now ≡ was
+AddsIf false d limit a text n p was now = AddsProfile d limit a text n p was now
+
+-- so of profile n, if it is there
+abbrev pub AddsOf : Bool → Decided → ℕ → List ClaimWord → Asked → List ℕ → ℕ → Option Profile → AllFound → AllFound → Type 0
+AddsOf first d limit ws a text n None was now = now ≡ was
+AddsOf first d limit ws a text n (Some p) was now = AddsIf (is_passed first ws p was) d limit a text n p was now
+
+-- the same of the number alone
+abbrev pub AddsAt : Bool → Decided → ℕ → List ClaimWord → Asked → List ℕ → ℕ → AllFound → AllFound → Type 0
+AddsAt first d limit ws a text n was now = AddsOf first d limit ws a text n (profile_in d.policies.now 0 n) was now
+
+-- whether it is broken by a task without a profile, where it is about such
+abbrev pub IsFreeIf : Bool → Decided → ℕ → Asked → List ℕ → AllFound → Type 0
+IsFreeIf true d limit a text fs = AddsFree d limit a text nobody fs
+IsFreeIf false d limit a text fs = fs ≡ nobody
+
+-- by whom of the tasks without a profile and of the first n profiles, in this order, a claim of these words is broken, which says this
+abbrev pub AreFound : Bool → Decided → ℕ → List ClaimWord → Asked → List ℕ → ℕ → AllFound → Type 0
+AreFound first d limit ws a text zero fs = IsFreeIf (is_about_free ws) d limit a text fs
+AreFound first d limit ws a text (suc n) fs = (before : AllFound) × AreFound first d limit ws a text n before × AddsAt first d limit ws a text n before fs

@@ -1,0 +1,9 @@
+pub mod Names
+pub mod Scope
+pub mod Asked
+pub mod Judging
+pub mod Refused
+pub mod Findings
+pub mod Answers
+pub mod Shown
+pub mod Command

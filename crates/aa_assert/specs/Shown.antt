@@ -1,0 +1,47 @@
+-- Answers as they are printed.
+-- Source: own.
+use Rattle.std.specs.Prelude.{ℕ, ◌==◌, not, List, ◌++◌, length, flat_map, codes, decimal, Bool, Option, Some, None}
+use Rattle.std.specs.List.{count_by}
+use Rattle.aa_base.specs.Values.{value}
+use Rattle.aa_text.specs.Visible.{all_visible}
+use Rattle.aa_ask.specs.Shown.{reasons_text}
+use Rattle.aa_assert.specs.Findings.{Found, ByRequest, Complaining}
+use Rattle.aa_assert.specs.Answers.{Answered}
+
+-- how a task's profile is called, or that it has none
+abbrev pub asker_text : Option (List ℕ) → List ℕ
+asker_text None = codes "unconfined"
+asker_text (Some name) = value name
+
+-- PATH:LINE: broken:
+unfoldable pub broken_text : List ℕ → ℕ → List ℕ
+broken_text path number = all_visible path ++ codes ":" ++ decimal number ++ codes ": broken: "
+
+-- by whom: NAME WORD, and the rules; or NAME complains
+unfoldable pub by_text : Found → List ℕ
+by_text (ByRequest t) = asker_text t.asker ++ codes " " ++ t.word ++ codes "\n" ++ reasons_text t
+by_text (Complaining name) = value name ++ codes " complains\n"
+
+-- so of a claim
+abbrev pub finding_text : List ℕ → ℕ → Found → List ℕ
+finding_text path number f = broken_text path number ++ by_text f
+
+-- all by whom a claim is broken
+abbrev pub answer_text : List ℕ → Answered → List ℕ
+answer_text path a = flat_map (finding_text path a.number) a.found.list
+
+-- somebody breaks the claim
+abbrev pub is_broken : Answered → Bool
+is_broken a = not (length a.found.list == 0)
+
+-- how many claims there are, and how many are broken
+unfoldable pub count_line : List Answered → List ℕ
+count_line answers = decimal (length answers) ++ codes " claims " ++ decimal (count_by is_broken answers) ++ codes " broken\n"
+
+-- the lines on what can't be told
+abbrev pub untold_text : Answered → List ℕ
+untold_text a = a.found.untold
+
+-- the answers, and the counts
+unfoldable pub answers_text : List ℕ → List Answered → List ℕ
+answers_text path answers = flat_map (answer_text path) answers ++ count_line answers

@@ -1,0 +1,127 @@
+//! By whom claims are broken.
+
+ghost use Rattle.std.specs.Prelude.{◌≡◌, map, codes, true, IfOk, IfErr, OnOk};
+ghost use Rattle.aa_load.specs.UnitPolicy.{limit_of};
+ghost use Rattle.aa_claims.specs.Faults.{SaysAt};
+ghost use Rattle.aa_claims.specs.Forms.{names_behind};
+ghost use Rattle.aa_assert.specs.Scope.{is_about_some, AreSomebody};
+ghost use Rattle.aa_assert.specs.Findings.{all_found};
+ghost use Rattle.aa_assert.specs.Refused.{IsUnanswered};
+ghost use Rattle.aa_assert.specs.Answers.{answered, IsAnswerBy, IsAnswerOf, IsAnswerTo, AreAnswers, IsUnansweredOf, IsFirstUnanswered};
+
+use crate::asked::asked_by;
+use crate::finding::{Claim, Findings, findings_of};
+use crate::scope::{check_names, is_about_some};
+use aa_claims::{ClaimFault, ClaimLine, ClaimWord, Wrong};
+use aa_command::Decided;
+use aa_compile::Compiled;
+use std::alloc::Global;
+
+/// By whom the claim on a line is broken.
+#[derive(Drop)]
+pub(crate) struct Answer {
+    /// The line's number, from 1.
+    pub(crate) number: usize,
+    pub(crate) findings: Findings,
+}
+
+/// Looks whether each name of a claim names somebody, and whether the claim is about somebody.
+fn check_scope(
+    alloc: Global,
+    policies: &[Compiled],
+    words: &[ClaimWord],
+    head: &ClaimWord,
+    asked: &ClaimWord,
+) -> Result<(), ClaimFault>
+    ensures within { OnOk result (AreSomebody policies.now (names_behind (codes "in") words.now)) }
+    ensures excepted { OnOk result (AreSomebody policies.now (names_behind (codes "except") words.now)) }
+    ensures some { OnOk result (is_about_some policies.now words.now ≡ true) }
+    ensures refused { IfErr result (λ e. SaysAt (IsUnanswered policies.now words.now head.now asked.now) e) }
+{
+    check_names(alloc, policies, words, "in")?;
+    check_names(alloc, policies, words, "except")?;
+    if !is_about_some(alloc, policies, words)? {
+        return Err(ClaimFault::At(head.at, Wrong::Nobody));
+    }
+    Ok(())
+}
+
+/// By whom a claim of these words is broken.
+fn answer_by(
+    alloc: Global,
+    decided: Decided<'_>,
+    states: u32,
+    is_first: bool,
+    words: &[ClaimWord],
+    head: &ClaimWord,
+    word: &ClaimWord,
+) -> Result<Findings, ClaimFault>
+    ensures answered { IfOk result (λ fs. IsAnswerBy is_first decided.entry (limit_of states) words.now head.now word.now (all_found fs)) }
+    ensures refused { IfErr result (λ e. SaysAt (IsUnanswered decided.entry.policies.now words.now head.now word.now) e) }
+{
+    let asked = asked_by(alloc, head, word)?;
+    check_scope(alloc, decided.policies, words, head, word)?;
+    let claim = Claim {
+        words,
+        word,
+        asked: &asked,
+        is_first,
+        states,
+    };
+    findings_of(alloc, decided, claim)
+}
+
+/// By whom a claim of these words is broken, which has two at least.
+// A claim that is read has two words at least. A condition would repeat what reading keeps, so fewer are answered with want of memory,
+// which the contracts leave free.
+fn answer_of(
+    alloc: Global,
+    decided: Decided<'_>,
+    states: u32,
+    is_first: bool,
+    words: &[ClaimWord],
+) -> Result<Findings, ClaimFault>
+    ensures answered { IfOk result (λ fs. IsAnswerOf is_first decided.entry (limit_of states) words.now (all_found fs)) }
+    ensures refused { IfErr result (λ e. SaysAt (IsUnansweredOf decided.entry words.now) e) }
+{
+    match words {
+        [head, word, ..] => answer_by(alloc, decided, states, is_first, words, head, word),
+        _ => Err(ClaimFault::NoMemory),
+    }
+}
+
+/// By whom the claim on a line is broken.
+fn answer_to(
+    alloc: Global,
+    decided: Decided<'_>,
+    states: u32,
+    is_first: bool,
+    line: &ClaimLine,
+) -> Result<Answer, ClaimFault>
+    ensures answered { IfOk result (λ a. IsAnswerTo is_first decided.entry (limit_of states) line.now (answered a)) }
+    ensures refused { IfErr result (λ e. SaysAt (IsUnansweredOf decided.entry line.now.words.items) e) }
+{
+    let findings = answer_of(alloc, decided, states, is_first, line.words.as_slice())?;
+    Ok(Answer {
+        number: line.number,
+        findings,
+    })
+}
+
+/// By whom each claim is broken, or why one of them isn't answered.
+pub(crate) fn answers_to(
+    alloc: Global,
+    decided: Decided<'_>,
+    states: u32,
+    is_first: bool,
+    claims: &[ClaimLine],
+) -> Result<Vec<Answer>, ClaimFault>
+    ensures answered { IfOk result (λ list. AreAnswers is_first decided.entry (limit_of states) claims.now (map answered list.items)) }
+    ensures refused { IfErr result (λ e. SaysAt (IsFirstUnanswered decided.entry claims.now) e) }
+{
+    let mut answers = Vec::new(alloc);
+    for line in claims {
+        answers.push(answer_to(alloc, decided, states, is_first, line)?)?;
+    }
+    Ok(answers)
+}

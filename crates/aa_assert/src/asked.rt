@@ -1,0 +1,130 @@
+//! What a claim says of requests.
+
+ghost use Rattle.std.specs.Prelude.{◌≡◌, ◌++◌, ◌==◌, bit_and, not, IfOk, IfErr, OnOk};
+ghost use Rattle.std.specs.List.{list_any};
+ghost use Rattle.aa_base.specs.declared.perms.Perms.{Perms};
+ghost use Rattle.aa_who.specs.Words.{IsRead};
+ghost use Rattle.aa_claims.specs.Faults.{SaysAt};
+ghost use Rattle.aa_assert.specs.Asked.{letter_if, letters_of, is_enforced, IsByLetters, IsAskedOf, IsAskedBy};
+ghost use Rattle.aa_assert.specs.Refused.{IsNoRequest};
+
+use aa_base::{Perms, Seq};
+use aa_claims::{ClaimFault, ClaimWord, Wrong, is_word};
+use aa_quantifiers::{FilesWord, Word};
+use aa_who::{WhoFault, read_asked};
+use bitflags::Flags;
+use std::alloc::{AllocError, Global};
+
+/// What a claim says.
+#[derive(Drop)]
+pub(crate) enum Asked {
+    /// None of the requests is granted.
+    Never(Word),
+    /// Each of the requests is granted.
+    Always(Word),
+    /// No profile complains.
+    Enforced,
+}
+
+/// Whether a letter stands in one of the masks.
+fn has_letter(masks: &[Perms], letter: Perms) -> bool
+    ensures { result ≡ list_any (λ (m : Perms). not (bit_and m.0 letter.0 == 0)) masks.now }
+{
+    masks.iter().any(|mask| mask.intersects(letter))
+}
+
+/// Adds a letter, where it stands in one of the masks.
+fn push_letter(letters: &mut Vec<Perms>, masks: &[Perms], letter: Perms) -> Result<(), AllocError>
+    ensures { OnOk result (letters.new.items ≡ letters.old.items ++ letter_if masks.now letter.0) }
+{
+    if has_letter(masks, letter) {
+        letters.push(letter)?;
+    }
+    Ok(())
+}
+
+/// The letters of masks, each alone.
+#[tactic(auto, unfolding(crate::specs::Asked::letters_of))]
+fn letters_of(alloc: Global, masks: &[Perms]) -> Result<Vec<Perms>, AllocError>
+    ensures { IfOk result (λ letters. letters.items ≡ letters_of masks.now) }
+{
+    let mut letters = Vec::new(alloc);
+    push_letter(&mut letters, masks, Perms::READ)?;
+    push_letter(&mut letters, masks, Perms::WRITE)?;
+    push_letter(&mut letters, masks, Perms::APPEND)?;
+    push_letter(&mut letters, masks, Perms::LOCK)?;
+    push_letter(&mut letters, masks, Perms::MMAP)?;
+    Ok(letters)
+}
+
+fn files_by_letters(alloc: Global, word: FilesWord) -> Result<FilesWord, AllocError>
+    ensures { IfOk result (λ v. IsByLetters (Word.Files word) (Word.Files v)) }
+{
+    let FilesWord {
+        pattern,
+        masks,
+        whose,
+    } = word;
+    let letters = letters_of(alloc, masks.as_slice())?;
+    Ok(FilesWord {
+        pattern,
+        masks: Seq::from_vec(letters),
+        whose,
+    })
+}
+
+/// The same requests, but that each file is asked for by one letter.
+fn by_letters(alloc: Global, word: Word) -> Result<Word, AllocError>
+    ensures { IfOk result (λ v. IsByLetters word v) }
+{
+    match word {
+        Word::Files(word) => Ok(Word::Files(files_by_letters(alloc, word)?)),
+        Word::Execs(word) => Ok(Word::Execs(word)),
+        Word::One(request) => Ok(Word::One(request)),
+    }
+}
+
+/// The requests of a claim's word.
+fn read_requests(alloc: Global, asked: &ClaimWord) -> Result<Word, ClaimFault>
+    ensures read { IfOk result (λ w. IsRead asked.now.text.items w) }
+    ensures refused { IfErr result (λ e. SaysAt (IsNoRequest asked.now) e) }
+{
+    match read_asked(alloc, asked.text.as_slice()) {
+        Ok(word) => Ok(word),
+        Err(WhoFault::NoMemory) => Err(ClaimFault::NoMemory),
+        Err(WhoFault::Refused(_)) => Err(ClaimFault::At(asked.at, Wrong::NoRequest)),
+    }
+}
+
+/// Whether a claim says that no profile complains.
+fn is_enforced(head: &ClaimWord, asked: &ClaimWord) -> bool
+    ensures { result ≡ is_enforced head.now asked.now }
+{
+    is_word(head, "always") && is_word(asked, "enforced")
+}
+
+/// What a claim of this head says of these requests.
+fn asked_of(alloc: Global, head: &ClaimWord, word: Word) -> Result<Asked, AllocError>
+    ensures { IfOk result (λ a. IsAskedOf head.now word a) }
+{
+    if is_word(head, "never") {
+        return Ok(Asked::Never(by_letters(alloc, word)?));
+    }
+    Ok(Asked::Always(word))
+}
+
+/// What a claim of these two words says. Refused where the second is no word of requests.
+pub(crate) fn asked_by(
+    alloc: Global,
+    head: &ClaimWord,
+    asked: &ClaimWord,
+) -> Result<Asked, ClaimFault>
+    ensures asked { IfOk result (λ a. IsAskedBy head.now asked.now a) }
+    ensures refused { IfErr result (λ e. SaysAt (IsNoRequest asked.now) e) }
+{
+    if is_enforced(head, asked) {
+        return Ok(Asked::Enforced);
+    }
+    let word = read_requests(alloc, asked)?;
+    Ok(asked_of(alloc, head, word)?)
+}

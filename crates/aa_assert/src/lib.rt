@@ -1,0 +1,13 @@
+//! What `assert` answers: which claims are broken, by which profiles, each with a request that shows it and the rules.
+#![tactic(auto)]
+
+mod answering;
+mod asked;
+mod command;
+mod finding;
+mod judging;
+mod names;
+mod scope;
+mod shown;
+
+pub use command::{AssertOptions, assert_files};

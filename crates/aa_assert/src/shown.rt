@@ -1,0 +1,170 @@
+//! Answers as they are printed.
+
+ghost use Rattle.std.specs.Prelude.{◌≡◌, ◌++◌, map, flat_map, option_map, count_by, OnOk};
+ghost use Rattle.aa_ask.specs.Told.{told};
+ghost use Rattle.aa_assert.specs.Findings.{found, ByRequest, Complaining};
+ghost use Rattle.aa_assert.specs.Answers.{answered};
+ghost use Rattle.aa_assert.specs.Shown.{asker_text, broken_text, by_text, finding_text, answer_text, is_broken, count_line, untold_text, answers_text};
+
+use crate::answering::Answer;
+use crate::finding::Finding;
+use aa_ask::{Verdict, push_reasons};
+use aa_text::{push_name, push_number, push_text, push_visible};
+use std::alloc::{AllocError, Global};
+
+fn push_asker(out: &mut Vec<u8>, alloc: Global, asker: &Option<Vec<u8>>) -> Result<(), AllocError>
+    ensures { OnOk result (out.new.items ≡ out.old.items ++ asker_text (option_map (λ name. name.items) asker.now)) }
+{
+    match asker {
+        Some(name) => push_name(out, alloc, name.as_slice()),
+        None => push_text(out, "unconfined"),
+    }
+}
+
+#[tactic(auto, unfolding(crate::specs::Shown::broken_text))]
+fn push_broken(out: &mut Vec<u8>, path: &[u8], number: usize) -> Result<(), AllocError>
+    ensures { OnOk result (out.new.items ≡ out.old.items ++ broken_text path.now number) }
+{
+    push_visible(out, path)?;
+    push_text(out, ":")?;
+    push_number(out, number)?;
+    push_text(out, ": broken: ")
+}
+
+/// Appends who is answered a request so, and the rules.
+#[tactic(auto, unfolding(crate::specs::Shown::by_text))]
+fn push_verdict(out: &mut Vec<u8>, alloc: Global, verdict: &Verdict) -> Result<(), AllocError>
+    ensures { OnOk result (out.new.items ≡ out.old.items ++ by_text (ByRequest (told verdict.now))) }
+{
+    push_asker(out, alloc, &verdict.asker)?;
+    push_text(out, " ")?;
+    out.extend_from_slice(verdict.word.as_slice())?;
+    push_text(out, "\n")?;
+    push_reasons(out, verdict)
+}
+
+/// Appends that a profile complains.
+#[tactic(auto, unfolding(crate::specs::Shown::by_text))]
+fn push_complaining(out: &mut Vec<u8>, alloc: Global, name: &[u8]) -> Result<(), AllocError>
+    ensures { OnOk result (out.new.items ≡ out.old.items ++ by_text (Complaining name.now)) }
+{
+    push_name(out, alloc, name)?;
+    push_text(out, " complains\n")
+}
+
+fn push_by(out: &mut Vec<u8>, alloc: Global, finding: &Finding) -> Result<(), AllocError>
+    ensures { OnOk result (out.new.items ≡ out.old.items ++ by_text (found finding.now)) }
+{
+    match finding {
+        Finding::ByRequest(verdict) => push_verdict(out, alloc, verdict),
+        Finding::Complaining(name) => push_complaining(out, alloc, name.as_slice()),
+    }
+}
+
+fn push_finding(
+    out: &mut Vec<u8>,
+    alloc: Global,
+    path: &[u8],
+    number: usize,
+    finding: &Finding,
+) -> Result<(), AllocError>
+    ensures { OnOk result (out.new.items ≡ out.old.items ++ finding_text path.now number (found finding.now)) }
+{
+    push_broken(out, path, number)?;
+    push_by(out, alloc, finding)
+}
+
+fn push_findings(
+    out: &mut Vec<u8>,
+    alloc: Global,
+    path: &[u8],
+    number: usize,
+    findings: &[Finding],
+) -> Result<(), AllocError>
+    ensures { OnOk result (out.new.items ≡ out.old.items ++ flat_map (finding_text path.now number) (map found findings.now)) }
+{
+    for finding in findings {
+        push_finding(out, alloc, path, number, finding)?;
+    }
+    Ok(())
+}
+
+fn push_answer(
+    out: &mut Vec<u8>,
+    alloc: Global,
+    path: &[u8],
+    answer: &Answer,
+) -> Result<(), AllocError>
+    ensures { OnOk result (out.new.items ≡ out.old.items ++ answer_text path.now (answered answer.now)) }
+{
+    let findings = answer.findings.list.as_slice();
+    push_findings(out, alloc, path, answer.number, findings)
+}
+
+fn push_all(
+    out: &mut Vec<u8>,
+    alloc: Global,
+    path: &[u8],
+    answers: &[Answer],
+) -> Result<(), AllocError>
+    ensures { OnOk result (out.new.items ≡ out.old.items ++ flat_map (answer_text path.now) (map answered answers.now)) }
+{
+    for answer in answers {
+        push_answer(out, alloc, path, answer)?;
+    }
+    Ok(())
+}
+
+/// Whether somebody breaks a claim.
+fn is_broken(answer: &Answer) -> bool
+    ensures { result ≡ is_broken (answered answer.now) }
+{
+    !answer.findings.list.is_empty()
+}
+
+fn count_if_broken(answers: &[Answer]) -> usize
+    ensures { result ≡ count_by (λ a. is_broken (answered a)) answers.now }
+{
+    answers.iter().filter(|answer| is_broken(answer)).count()
+}
+
+/// How many claims are broken.
+pub(crate) fn count_broken(answers: &[Answer]) -> usize
+    ensures { result ≡ count_by is_broken (map answered answers.now) }
+{
+    count_if_broken(answers)
+}
+
+#[tactic(auto, unfolding(crate::specs::Shown::count_line))]
+fn push_count(out: &mut Vec<u8>, answers: &[Answer]) -> Result<(), AllocError>
+    ensures { OnOk result (out.new.items ≡ out.old.items ++ count_line (map answered answers.now)) }
+{
+    push_number(out, answers.len())?;
+    push_text(out, " claims ")?;
+    push_number(out, count_broken(answers))?;
+    push_text(out, " broken\n")
+}
+
+/// Appends of all answers the lines on what can't be told.
+pub(crate) fn push_untold(out: &mut Vec<u8>, answers: &[Answer]) -> Result<(), AllocError>
+    ensures { OnOk result (out.new.items ≡ out.old.items ++ flat_map untold_text (map answered answers.now)) }
+{
+    for answer in answers {
+        out.extend_from_slice(answer.findings.untold.as_slice())?;
+    }
+    Ok(())
+}
+
+/// Appends by whom the claims of the file at a path are broken, each with the rules, and how many are.
+#[tactic(auto, unfolding(crate::specs::Shown::answers_text))]
+pub(crate) fn push_answers(
+    out: &mut Vec<u8>,
+    alloc: Global,
+    path: &[u8],
+    answers: &[Answer],
+) -> Result<(), AllocError>
+    ensures { OnOk result (out.new.items ≡ out.old.items ++ answers_text path.now (map answered answers.now)) }
+{
+    push_all(out, alloc, path, answers)?;
+    push_count(out, answers)
+}
