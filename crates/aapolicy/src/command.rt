@@ -32,6 +32,9 @@ const WHO: &str =
 const ASSERT: &str =
     "Says which claims on what is allowed are broken, by whom, and names the rules, as in: aapolicy assert claims /etc/apparmor.d";
 
+const REACH: &str =
+    "Says which labels a task can get to, each by a shortest list of requests, as in: aapolicy reach /etc/apparmor.d --from web --to unconfined";
+
 const JOB: &str =
     "Prints the job that aamediate run decides alike, as in: aapolicy job /etc/apparmor.d/usr.sbin.cupsd --log /var/log/kern.log";
 
@@ -339,6 +342,52 @@ const ASSERT_ARGUMENTS: &[Argument] = &[
     },
 ];
 
+/// What `reach` takes.
+const REACH_ARGUMENTS: &[Argument] = &[
+    Argument {
+        name: "PROFILE",
+        letter: None,
+        form: Form::NeededWords,
+        barred: None,
+        help: "A file with profiles, or a folder of such files, which are one policy together; - is standard input",
+    },
+    Argument {
+        name: "from",
+        letter: None,
+        form: Form::Values("LABEL"),
+        barred: None,
+        help: "Where the task begins: a profile's full name, in which * stands for any bytes, or unconfined; each of these, where there are several",
+    },
+    Argument {
+        name: "to",
+        letter: None,
+        form: Form::Value("LABEL"),
+        barred: None,
+        help: "Say whether it gets there alone: the exit status is 4 if it does",
+    },
+    Argument {
+        name: "as-enforced",
+        letter: None,
+        form: Form::Flag,
+        barred: None,
+        help: "Leave out what complain mode alone grants",
+    },
+    Argument {
+        name: "dot",
+        letter: None,
+        form: Form::Flag,
+        barred: Some("json"),
+        help: "Print the graph of all labels for Graphviz, each edge with a request",
+    },
+    Argument {
+        name: "json",
+        letter: None,
+        form: Form::Flag,
+        barred: None,
+        help: "Answer in JSON",
+    },
+];
+
 /// What chooses lines of logs.
 const CHOICE_ARGUMENTS: &[Argument] = &[
     Argument {
@@ -582,6 +631,13 @@ const COMMANDS: &[Named] = &[
         name: "assert",
         about: ASSERT,
         arguments: ASSERT_ARGUMENTS,
+        more: &[],
+        reads_policies: true,
+    },
+    Named {
+        name: "reach",
+        about: REACH,
+        arguments: REACH_ARGUMENTS,
         more: &[],
         reads_policies: true,
     },

@@ -17,6 +17,7 @@ use aa_job::{JobOptions, job_files};
 use aa_log::{LogOptions, log_files};
 use aa_logs::{Choice, Form as Written, LogWord, name_of};
 use aa_merge::{MergeOptions, merge_files};
+use aa_reach::{ReachOptions, reach_files};
 use aa_text::NoMemory;
 use aa_undecided::ask_skipping;
 use aa_who::{WhoOptions, who_files};
@@ -169,6 +170,26 @@ fn run_assert(
     assert_files(alloc, tree, settings, &options)
 }
 
+fn run_reach(
+    rt: &HostRuntime,
+    tree: &Handed<'_, Host<'_>>,
+    matches: &ArgMatches<'_>,
+    settings: &Settings<'_>,
+) -> Result<Output, NoMemory> {
+    let alloc = rt.alloc();
+    let files = files_of(alloc, matches, "PROFILE")?;
+    let from = copies_of(alloc, matches, "from")?;
+    let options = ReachOptions {
+        files: files.as_slice(),
+        from: from.as_slice(),
+        to: value_of(matches, "to"),
+        as_enforced: matches.get_flag("as-enforced"),
+        is_json: matches.get_flag("json"),
+        is_dot: matches.get_flag("dot"),
+    };
+    reach_files(alloc, tree, settings, &options)
+}
+
 fn run_log(
     rt: &HostRuntime,
     tree: &Handed<'_, Host<'_>>,
@@ -272,6 +293,7 @@ fn run_wanted(
         "diff" => run_diff(rt, tree, matches, settings),
         "who" => run_who(rt, tree, matches, settings),
         "assert" => run_assert(rt, tree, matches, settings),
+        "reach" => run_reach(rt, tree, matches, settings),
         _ => run_with_logs(rt, tree, name, matches, settings),
     }
 }
@@ -284,6 +306,7 @@ fn file_arguments(name: &str) -> &'static [&'static str] {
         "diff" => &["OLD", "NEW"],
         "who" => &["PROFILE", "also"],
         "assert" => &["CLAIMS", "PROFILE"],
+        "reach" => &["PROFILE"],
         "log" => &["FILE", "against"],
         "merge" => &["PART", "parts"],
         _ => &["PROFILE", "log"],

@@ -1,0 +1,6 @@
+pub mod Names
+pub mod Zipped
+pub mod Telling
+pub mod Leading
+pub mod Asking
+pub mod Drawing

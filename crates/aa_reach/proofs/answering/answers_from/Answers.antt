@@ -1,0 +1,12 @@
+use Rattle.std.proofs.Common.{option_map, refl}
+use Rattle.aa_reach.specs.Answers.{IsAnswer}
+use Rattle.aa_reach.proofs.Zipped.{zipped_next}
+use Rattle.aa_reach.proofs.answering.answers_from.Goals as goal
+
+pub loop-label-preserved : goal.loop-label-preserved
+loop-label-preserved c =
+    let view = c.args.view in
+    let targets = option_map (λ ts. ts.now) c.args.targets in
+    zipped_next (IsAnswer view.as_enforced view.policies.now c.args.limit targets) c.args.labels.now c.loop-label.label-index _ _
+    c.loop-label.answers.items c.push.new.self.items c.in_ok-answer_from.field-0
+    c.loop-label-test.true refl c.in_ok-push.ensures.items c.in_ok-answer_from.ensures c.loop-label.invariant

@@ -1,0 +1,55 @@
+-- The graph of all labels, in the language of Graphviz.
+-- Source: Graphviz, "DOT Language"; own.
+use Rattle.std.specs.Prelude.{ℕ, ◌==◌, ◌||◌, List, [], ◌∷◌, ◌++◌, map, flat_map, codes, decimal, Bool, if◌then◌else◌}
+use Rattle.aa_ask.specs.Shown.{complain_mark}
+use Rattle.aa_reach.specs.declared.answering.Told.{Told}
+use Rattle.aa_reach.specs.declared.answering.Told.TheVariants.{Routes, Untold}
+use Rattle.aa_reach.specs.declared.graph.Vertex.{Vertex}
+use Rattle.aa_reach.specs.Names.{Name, name_in, called}
+use Rattle.aa_reach.specs.Routes.{Turned, Routed, routed}
+use Rattle.aa_reach.specs.Shown.{untold_of}
+
+-- a byte between quotes: behind a backslash where it would end them or begin an escape
+abbrev pub dot_byte : ℕ → List ℕ
+dot_byte b = if b == 34 || b == 92 then 92 ∷ b ∷ [] else b ∷ []
+
+-- a text between quotes
+unfoldable pub dot_string : List ℕ → List ℕ
+dot_string text = codes "\"" ++ flat_map dot_byte text ++ codes "\""
+
+-- a profile in complain mode is dashed
+abbrev pub style_mark : Bool → List ℕ
+style_mark complains = if complains then codes " [style=dashed]" else []
+
+-- a node
+unfoldable pub node_line : Vertex → List ℕ
+node_line v = codes "  " ++ dot_string (called (name_in v.named)) ++ style_mark v.complains ++ codes ";\n"
+
+-- a request, and a mark where complain mode alone grants it
+abbrev pub edge_word : Turned → List ℕ
+edge_word t = t.word ++ complain_mark t.complains
+
+-- an edge, with a request that leads on by it
+unfoldable pub edge_line : Name → Routed → List ℕ
+edge_line from r = codes "  " ++ dot_string (called from) ++ codes " -> " ++ dot_string (called r.to) ++ codes " [label=" ++ dot_string (flat_map edge_word r.turns) ++ codes "];\n"
+
+-- the edges from a label; none where they can't be told
+abbrev pub told_edges : Name → Told → List ℕ
+told_edges from (Routes routes) = flat_map (edge_line from) (map routed routes.items)
+told_edges from (Untold line) = []
+
+-- those of a node
+abbrev pub node_edges : Vertex → List ℕ
+node_edges v = told_edges (name_in v.named) v.told
+
+-- how many rules decide nothing, in a comment, where there are some
+abbrev pub passed_comment : ℕ → List ℕ
+passed_comment n = if n == 0 then [] else codes "// " ++ decimal n ++ codes " rules passed over\n"
+
+-- the graph
+unfoldable pub dot_text : ℕ → List Vertex → List ℕ
+dot_text passed vertices = codes "digraph labels {\n" ++ flat_map node_line vertices ++ flat_map node_edges vertices ++ codes "}\n" ++ passed_comment passed
+
+-- the line on what can't be told of a label
+abbrev pub untold_edges : Vertex → List ℕ
+untold_edges v = untold_of v.told

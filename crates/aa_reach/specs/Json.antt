@@ -1,0 +1,36 @@
+-- Answers as they are printed in JSON.
+-- Source: own.
+use Rattle.std.specs.Prelude.{ℕ, List, ◌++◌, map, codes, decimal, if◌then◌else◌}
+use Rattle.aa_text.specs.Jsons.{json_bytes, key_text, bool_text, member_text, list_text}
+use Rattle.aa_reach.specs.declared.answering.Told.{Told}
+use Rattle.aa_reach.specs.declared.answering.Told.TheVariants.{Routes, Untold}
+use Rattle.aa_reach.specs.declared.answering.Answer.{Answer}
+use Rattle.aa_reach.specs.Names.{Name, name_in}
+use Rattle.aa_reach.specs.Routes.{Turned, Routed, routed}
+
+-- the full name of a profile, or null where the task isn't confined
+abbrev pub json_name : Name → List ℕ
+json_name n = if n.confined then json_bytes n.text else codes "null"
+
+-- a request, and whether it is granted by complain mode alone
+unfoldable pub json_turn : Turned → List ℕ
+json_turn t = codes "{" ++ key_text (codes "request") ++ json_bytes t.word ++ member_text (codes "complain") (bool_text t.complains) ++ codes "}"
+
+-- a label, and the requests that lead there
+unfoldable pub json_route : Routed → List ℕ
+json_route r = codes "{" ++ key_text (codes "profile") ++ json_name r.to ++ member_text (codes "requests") (list_text (map json_turn r.turns)) ++ codes "}"
+
+-- the routes, or null where they can't be told
+abbrev pub json_told : Told → List ℕ
+json_told (Routes routes) = list_text (map json_route (map routed routes.items))
+json_told (Untold line) = codes "null"
+
+-- a label where a task begins, and those that it can get to
+unfoldable pub json_answer : Answer → List ℕ
+json_answer a = codes "{" ++ key_text (codes "from") ++ json_name (name_in a.from) ++ member_text (codes "reached") (json_told a.told) ++ codes "}"
+
+-- the answers, how many labels there are, and how many rules decide nothing
+unfoldable pub json_answers : ℕ → ℕ → List Answer → List ℕ
+json_answers labels passed answers =
+    codes "{" ++ key_text (codes "answers") ++ list_text (map json_answer answers) ++ member_text (codes "labels") (decimal labels)
+    ++ member_text (codes "passed_over") (decimal passed) ++ codes "}\n"

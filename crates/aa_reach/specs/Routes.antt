@@ -1,0 +1,100 @@
+-- The labels that a task can get to, each with a shortest list of requests, as they are told.
+-- Source: own.
+use Rattle.std.specs.Prelude.{◌≡◌, ℕ, zero, suc, List, [], ◌∷◌, ◌++◌, map, length, Bool, false, not, ◌&&◌, if◌then◌else◌, Option, Some, None}
+use Rattle.std.specs.List.{list_any, slice_get}
+use Rattle.aa_model.specs.declared.policy.Policy.{Policy}
+use Rattle.aa_model.specs.declared.label.Label.{Label}
+use Rattle.aa_model.specs.declared.request.Request.{Request}
+use Rattle.aa_model.specs.declared.request.Request.TheVariants.{Exec}
+use Rattle.aa_model.specs.declared.answer.Answer.{Answer}
+use Rattle.aa_mediate.specs.Reply.{reply}
+use Rattle.aa_notation.specs.Written.{word_text}
+use Rattle.aa_ask.specs.Told.{is_same}
+use Rattle.aa_reachability.specs.declared.trail.Arrival.{Arrival}
+use Rattle.aa_reachability.specs.Moves.{is_by_complain, label_going}
+use Rattle.aa_reachability.specs.Reach.{AreArrivals, AreNear, way_at}
+use Rattle.aa_reach.specs.declared.routes.Turn.{Turn}
+use Rattle.aa_reach.specs.declared.routes.Route.{Route}
+use Rattle.aa_reach.specs.Names.{Name, name_in, name_of}
+
+-- a request as one word, and whether it is granted by complain mode alone
+pub record Turned : Type 0 where
+  pub word : List ℕ
+  pub complains : Bool
+
+-- one, without where it lies in memory
+abbrev pub turned : Turn → Turned
+turned t = record { word = t.word.items; complains = t.complains }
+
+-- to execute a file of others, where it is one of the task's user's; all else as it is
+abbrev pub as_others : Request → Request
+as_others (Exec r) = Exec (record { path = r.path; owned = false })
+as_others r = r
+
+-- two answers are granted by complain mode alone, or neither
+abbrev pub is_granted_alike : Answer → Answer → Bool
+is_granted_alike a b = if is_by_complain a then is_by_complain b else not (is_by_complain b)
+
+-- and leave a task with one label
+abbrev pub is_alike : Answer → Answer → Bool
+is_alike a b = is_same a.label b.label && is_granted_alike a b
+
+-- the request as others own the file, where that is answered alike
+abbrev pub plain : List Policy → Label → Request → Request
+plain ps l r = if is_alike (reply ps l (as_others r)) (reply ps l r) then as_others r else r
+
+-- a request as it is told
+abbrev pub turn_by : List Policy → Label → Request → Turned
+turn_by ps l r = record { word = word_text r; complains = is_by_complain (reply ps l r) }
+
+-- the requests of one task, one after another, from that label on
+unfoldable pub turns_by : Bool → List Policy → Label → List Request → List Turned
+turns_by enforced ps l [] = []
+turns_by enforced ps l (r ∷ rs) = turn_by ps l (plain ps l r) ∷ turns_by enforced ps (label_going enforced ps l r) rs
+
+-- a label, and requests that lead there
+pub record Routed : Type 0 where
+  pub to : Name
+  pub turns : List Turned
+
+-- one, without where it lies in memory
+abbrev pub routed : Route → Routed
+routed r = record { to = name_in r.to; turns = map turned r.turns.items }
+
+-- the label is wanted: it is one of those that are asked for, or where none are, another than that where the task begins
+abbrev pub is_wanted : Label → Option (List Label) → Label → Bool
+is_wanted from None l = not (is_same from l)
+is_wanted from (Some targets) l = list_any (is_same l) targets
+
+-- the route to an arrival that is wanted
+abbrev pub route_to : Bool → List Policy → Label → Option (List Label) → Arrival → List Request → List Routed
+route_to enforced ps from targets a way =
+    if is_wanted from targets a.label then record { to = name_of ps a.label; turns = turns_by enforced ps from way } ∷ [] else []
+
+-- so to that one, if it is there
+abbrev pub route_if : Bool → List Policy → Label → Option (List Label) → Option Arrival → List Request → List Routed
+route_if enforced ps from targets None way = []
+route_if enforced ps from targets (Some a) way = route_to enforced ps from targets a way
+
+-- those to the first n arrivals
+abbrev pub first_routes : Bool → List Policy → Label → Option (List Label) → List Arrival → List (List Request) → ℕ → List Routed
+first_routes enforced ps from targets arrivals ways zero = []
+first_routes enforced ps from targets arrivals ways (suc n) =
+    first_routes enforced ps from targets arrivals ways n ++ route_if enforced ps from targets (slice_get arrivals n) (way_at ways n)
+
+-- those to all of them
+abbrev pub all_routes : Bool → List Policy → Label → Option (List Label) → List Arrival → List (List Request) → List Routed
+all_routes enforced ps from targets arrivals ways = first_routes enforced ps from targets arrivals ways (length arrivals)
+
+-- the routes to all labels that are wanted and to which requests lead from that label: one each, with as few requests as lead there; by
+-- the policies as they are, or where what complain mode alone grants moves no task
+pub record AreRoutes (enforced : Bool) (ps : List Policy) (from : Label) (targets : Option (List Label)) (routes : List Routed) : Type 0 where
+  pub arrivals : List Arrival
+  pub are : AreArrivals (label_going enforced ps) from arrivals
+  pub told : routes ≡ all_routes enforced ps from targets arrivals are.ways
+
+-- the routes of one request to all other labels to which one leads
+pub record AreEdges (enforced : Bool) (ps : List Policy) (from : Label) (routes : List Routed) : Type 0 where
+  pub arrivals : List Arrival
+  pub are : AreNear (label_going enforced ps) from arrivals
+  pub told : routes ≡ all_routes enforced ps from None arrivals are.ways
