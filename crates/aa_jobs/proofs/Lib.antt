@@ -3,6 +3,7 @@ pub mod Conversion
 pub mod Json
 pub mod Kept
 pub mod Keys
+pub mod Looks
 pub mod Numbers
 pub mod Parts
 pub mod Rows

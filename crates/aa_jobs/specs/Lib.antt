@@ -1,3 +1,4 @@
+pub mod Items
 pub mod Jobs
 pub mod Limits
 pub mod Meaning

@@ -3,6 +3,7 @@
 
 mod job;
 mod job_fault;
+mod keyed;
 mod limits;
 mod meaning;
 mod raw;

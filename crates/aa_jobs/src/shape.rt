@@ -7,7 +7,7 @@ ghost use Rattle.serde_json.specs.Data.{object};
 ghost use Rattle.serde_json.specs.Find.{get};
 ghost use Rattle.aa_jobs.specs.declared.job_fault.JobFault.TheVariants.{BadShape};
 ghost use Rattle.aa_jobs.specs.Steps.{Gives, only_if, each};
-ghost use Rattle.aa_jobs.specs.Shape.{keys_of, is_key, has_only, text_in, number_in, list_in, text_at, number_at, flag_from, number_from, has, file_shape, link_shape, exec_shape, cap_shape, net_shape, change_shape, reload_shape, request_shape, word_shape, pair_shape, event_shape, include_shape, events_from, includes_in, includes_from, policies_from, job_shape};
+ghost use Rattle.aa_jobs.specs.Shape.{keys_of, is_key, has_only, text_in, number_in, list_in, text_at, number_from, has, pair_shape, event_shape, include_shape, events_from, includes_in, includes_from, policies_from};
 ghost use Rattle.aa_jobs.specs.Parts.{job_with, raw_run, raw_texts, run_with, task_with, texts_shape};
 ghost use Rattle.aa_jobs.specs.Written.{WrittenItem, WrittenTask};
 ghost use Rattle.aa_jobs.specs.Raw.{raw_text, raw_item, raw_task, raw_event, raw_include, raw_job};
@@ -35,7 +35,7 @@ const WHOLE_KEYS: [&str; 7] = [
 
 /// The objects of a job.
 #[derive(Clone, Copy)]
-enum Part {
+pub enum Part {
     Whole,
     OfTask,
     OfFile,
@@ -126,15 +126,6 @@ fn text_of<'t>(members: &[Member<'t>], key: &str) -> Result<&'t str, JobFault>
     }
 }
 
-fn flag_of(members: &[Member], key: &str) -> Result<bool, JobFault>
-    ensures { Gives (λ b. b) result (flag_from (get key.now (object (object_data members.now)))) }
-{
-    match tree::member(members, key) {
-        None => Ok(false),
-        Some(member) => tree::flag(member).ok_or(JobFault::BadShape),
-    }
-}
-
 fn number_of(members: &[Member], key: &str, default: u64) -> Result<u64, JobFault>
     ensures { Gives (λ n. n) result (number_from default (get key.now (object (object_data members.now)))) }
 {
@@ -144,131 +135,10 @@ fn number_of(members: &[Member], key: &str, default: u64) -> Result<u64, JobFaul
     }
 }
 
-fn number_at(members: &[Member], key: &str) -> Result<u64, JobFault>
-    ensures { Gives (λ n. n) result (number_at key.now (object (object_data members.now))) }
-{
-    match tree::member(members, key) {
-        Some(member) => number(member),
-        None => Err(JobFault::BadShape),
-    }
-}
-
 fn has_key(members: &[Member], key: &str) -> bool
     ensures { result ≡ has key.now (object (object_data members.now)) }
 {
     tree::member(members, key).is_some()
-}
-
-#[tactic(auto, unfolding(crate::specs::Shape::file_shape))]
-fn file_item<'t>(members: &[Member<'t>]) -> Result<RawItem<'t>, JobFault>
-    ensures { Gives raw_item result (file_shape (object (object_data members.now))) }
-{
-    expect(Part::OfFile, members)?;
-    let path = text_of(members, "file")?;
-    let letters = text_of(members, "mask")?;
-    let owned = flag_of(members, "owned")?;
-    Ok(RawItem::File {
-        path,
-        letters,
-        owned,
-    })
-}
-
-#[tactic(auto, unfolding(crate::specs::Shape::link_shape))]
-fn link_item<'t>(members: &[Member<'t>]) -> Result<RawItem<'t>, JobFault>
-    ensures { Gives raw_item result (link_shape (object (object_data members.now))) }
-{
-    expect(Part::OfLink, members)?;
-    let path = text_of(members, "link")?;
-    let target = text_of(members, "to")?;
-    let owned = flag_of(members, "owned")?;
-    Ok(RawItem::Link {
-        path,
-        target,
-        owned,
-    })
-}
-
-#[tactic(auto, unfolding(crate::specs::Shape::exec_shape))]
-fn exec_item<'t>(members: &[Member<'t>]) -> Result<RawItem<'t>, JobFault>
-    ensures { Gives raw_item result (exec_shape (object (object_data members.now))) }
-{
-    expect(Part::OfExec, members)?;
-    let path = text_of(members, "exec")?;
-    let owned = flag_of(members, "owned")?;
-    Ok(RawItem::Exec { path, owned })
-}
-
-#[tactic(auto, unfolding(crate::specs::Shape::cap_shape))]
-fn cap_item<'t>(members: &[Member<'t>]) -> Result<RawItem<'t>, JobFault>
-    ensures { Gives raw_item result (cap_shape (object (object_data members.now))) }
-{
-    expect(Part::OfCap, members)?;
-    let name = text_of(members, "cap")?;
-    Ok(RawItem::Cap { name })
-}
-
-#[tactic(auto, unfolding(crate::specs::Shape::net_shape))]
-fn net_item<'t>(members: &[Member<'t>]) -> Result<RawItem<'t>, JobFault>
-    ensures { Gives raw_item result (net_shape (object (object_data members.now))) }
-{
-    expect(Part::OfNet, members)?;
-    let family = text_of(members, "net")?;
-    let kind = text_of(members, "type")?;
-    Ok(RawItem::Net { family, kind })
-}
-
-#[tactic(auto, unfolding(crate::specs::Shape::change_shape))]
-fn change_item<'t>(members: &[Member<'t>]) -> Result<RawItem<'t>, JobFault>
-    ensures { Gives raw_item result (change_shape (object (object_data members.now))) }
-{
-    expect(Part::OfChange, members)?;
-    let name = text_of(members, "change")?;
-    Ok(RawItem::Change { name })
-}
-
-#[tactic(auto, unfolding(crate::specs::Shape::reload_shape))]
-fn reload_item<'t>(members: &[Member<'t>]) -> Result<RawItem<'t>, JobFault>
-    ensures { Gives raw_item result (reload_shape (object (object_data members.now))) }
-{
-    expect(Part::OfReload, members)?;
-    let policy = number_at(members, "reload")?;
-    Ok(RawItem::Reload { policy })
-}
-
-/// The item that an object of these members is, by the key that tells its kind.
-#[tactic(auto, unfolding(crate::specs::Shape::request_shape))]
-pub fn request_item<'t>(members: &[Member<'t>]) -> Result<RawItem<'t>, JobFault>
-    ensures { Gives raw_item result (request_shape (object (object_data members.now))) }
-{
-    if has_key(members, "file") {
-        file_item(members)
-    } else if has_key(members, "link") {
-        link_item(members)
-    } else if has_key(members, "exec") {
-        exec_item(members)
-    } else if has_key(members, "cap") {
-        cap_item(members)
-    } else if has_key(members, "net") {
-        net_item(members)
-    } else if has_key(members, "change") {
-        change_item(members)
-    } else if has_key(members, "reload") {
-        reload_item(members)
-    } else {
-        Err(JobFault::BadShape)
-    }
-}
-
-/// The item that is a text.
-pub fn word_item<'t>(word: &str) -> Result<RawItem<'t>, JobFault>
-    ensures { Gives raw_item result (word_shape word.now) }
-{
-    if word == "exit" {
-        Ok(RawItem::Exit)
-    } else {
-        Err(JobFault::BadShape)
-    }
 }
 
 /// A task whose items are read by themselves.

@@ -1,4 +1,4 @@
-//! A job's value in one pass over its tokens. Each item of a task is read as a tree of its own, and let go once it is looked at.
+//! A job's value in one pass over its tokens. No tree is made of an item: of each of its values is kept what an item looks at.
 
 ghost use Rattle.std.specs.Prelude.{◌≡◌, ◌<◌, [], ◌∷◌, List, Result, MatchResult, codes, length, map, option_map};
 ghost use Rattle.json.specs.Json.{items, members, parse_map, read_key, value};
@@ -7,6 +7,7 @@ ghost use Rattle.serde_json.specs.Data.{no_members, object};
 ghost use Rattle.serde_json.specs.Read.{converted, of_json, of_items, of_members};
 ghost use Rattle.aa_jobs.specs.declared.job_fault.JobFault.{JobFault};
 ghost use Rattle.aa_jobs.specs.declared.job_fault.JobFault.TheVariants.{NotJson};
+ghost use Rattle.aa_jobs.specs.Items.{look, value_data};
 ghost use Rattle.aa_jobs.specs.Raw.{raw_item, raw_job, raw_task};
 ghost use Rattle.aa_jobs.specs.Shape.{data_list, item_shape, job_shape, task_shape};
 ghost use Rattle.aa_jobs.specs.Steps.{Gives, each, needed};
@@ -15,6 +16,7 @@ ghost use Rattle.aa_jobs.specs.Trees.{object_data};
 ghost use Rattle.aa_jobs.specs.Written.{WrittenItem, WrittenTask};
 
 use crate::job_fault::JobFault;
+use crate::keyed::{self, ItemMember, ItemValue};
 use crate::raw::{RawItem, RawJob, RawTask};
 use crate::shape;
 use crate::tree::{self, Member, Tree};
@@ -95,21 +97,31 @@ fn pass(alloc: Global, reader: &mut Reader, token: Token, depth: usize) -> Resul
     }
 }
 
-/// Reads the rest of an object: its members take the place of what the list held.
-fn rest_of_object<'t>(
+/// The next value, as an item looks at it.
+fn item_value<'t>(
     alloc: Global,
     reader: &mut Reader<'t>,
     depth: usize,
-    found: &mut Vec<Member<'t>>,
-) -> Result<(), JobFault>
-    ensures { Gives (λ _. (object_data found.new.items, reader.new)) result (needed NotJson (converted (λ ms. of_members ms no_members) (members (value depth) (length reader.old) reader.old))) }
+) -> Result<ItemValue<'t>, JobFault>
+    requires { 0 < depth }
+    ensures { Gives (λ v. (look (value_data v), reader.new)) result (needed NotJson (parse_map look (converted of_json (value depth reader.old)))) }
 {
-    found.clear();
-    'turns: while let Some(key) = next_key(reader)? {
-        let value = tree::next(alloc, reader, depth)?;
-        found.push((key, value))?;
+    let token = next_token(reader)?;
+    match token {
+        Token::String(text) => Ok(ItemValue::Text(text)),
+        Token::Bool(flag) => Ok(ItemValue::Flag(flag)),
+        Token::Number(number) => {
+            if tree::is_number_in_range(number.as_bytes()) {
+                Ok(ItemValue::Number(number))
+            } else {
+                Err(JobFault::NotJson)
+            }
+        }
+        _ => {
+            pass(alloc, reader, token, depth)?;
+            Ok(ItemValue::Other)
+        }
     }
-    Ok(())
 }
 
 /// The rest of an item that is an object. The list is room for its members, which items have one after another.
@@ -117,27 +129,37 @@ fn rest_of_item<'t>(
     alloc: Global,
     reader: &mut Reader<'t>,
     depth: usize,
-    room: &mut Vec<Member<'t>>,
+    room: &mut Vec<ItemMember<'t>>,
 ) -> Result<Shaped<RawItem<'t>>, JobFault>
+    requires { 0 < depth }
     ensures { Reads raw_item result reader.new (parse_map (λ ms. item_shape (object ms)) (converted (λ ms. of_members ms no_members) (members (value depth) (length reader.old) reader.old))) }
 {
-    rest_of_object(alloc, reader, depth, room)?;
-    Ok(shape::request_item(room.as_slice()))
+    room.clear();
+    let mut known = true;
+    'turns: while let Some(name) = next_key(reader)? {
+        let value = item_value(alloc, reader, depth)?;
+        known = keyed::keep(room, known, name, value)?;
+    }
+    if known {
+        Ok(keyed::request_item(room.as_slice()))
+    } else {
+        Ok(Err(JobFault::BadShape))
+    }
 }
 
 fn item<'t>(
     alloc: Global,
     reader: &mut Reader<'t>,
     depth: usize,
-    room: &mut Vec<Member<'t>>,
+    room: &mut Vec<ItemMember<'t>>,
 ) -> Result<Shaped<RawItem<'t>>, JobFault>
-    requires { 0 < depth }
+    requires { 1 < depth }
     ensures { Reads raw_item result reader.new (parse_map item_shape (converted of_json (value depth reader.old))) }
 {
     let token = next_token(reader)?;
     match token {
         Token::BeginObject => rest_of_item(alloc, reader, depth - 1, room),
-        Token::String(word) => Ok(shape::word_item(word)),
+        Token::String(word) => Ok(keyed::word_item(word)),
         _ => {
             pass(alloc, reader, token, depth)?;
             Ok(Err(JobFault::BadShape))
@@ -162,7 +184,7 @@ fn rest_of_items<'t>(
     reader: &mut Reader<'t>,
     depth: usize,
 ) -> Result<Shaped<Vec<RawItem<'t>>>, JobFault>
-    requires { 0 < depth }
+    requires { 1 < depth }
     ensures { Reads (λ v. map raw_item v.items) result reader.new (parse_map (λ ds. each item_shape (data_list ds)) (converted of_items (items (value depth) (length reader.old) reader.old))) }
 {
     let mut items = Ok(Vec::new(alloc));
@@ -180,7 +202,7 @@ fn items<'t>(
     reader: &mut Reader<'t>,
     depth: usize,
 ) -> Result<Shaped<Vec<RawItem<'t>>>, JobFault>
-    requires { 1 < depth }
+    requires { 2 < depth }
     ensures { Reads (λ v. map raw_item v.items) result reader.new (parse_map items_shape (converted of_json (value depth reader.old))) }
 {
     let token = next_token(reader)?;
@@ -198,7 +220,7 @@ fn rest_of_task<'t>(
     reader: &mut Reader<'t>,
     depth: usize,
 ) -> Result<(Vec<Member<'t>>, Shaped<Vec<RawItem<'t>>>), JobFault>
-    requires { 1 < depth }
+    requires { 2 < depth }
     ensures { ReadsApart (λ ms. object_data ms.items) (codes "requests") (λ v. map raw_item v.items) items_shape result reader.new (converted (λ ms. of_members ms no_members) (members (value depth) (length reader.old) reader.old)) }
 {
     let mut members = Vec::new(alloc);
@@ -220,7 +242,7 @@ fn task<'t>(
     reader: &mut Reader<'t>,
     depth: usize,
 ) -> Result<Shaped<RawTask<'t>>, JobFault>
-    requires { 2 < depth }
+    requires { 3 < depth }
     ensures { Reads raw_task result reader.new (parse_map task_shape (converted of_json (value depth reader.old))) }
 {
     let token = next_token(reader)?;
@@ -250,7 +272,7 @@ fn rest_of_tasks<'t>(
     reader: &mut Reader<'t>,
     depth: usize,
 ) -> Result<Shaped<Vec<RawTask<'t>>>, JobFault>
-    requires { 2 < depth }
+    requires { 3 < depth }
     ensures { Reads (λ v. map raw_task v.items) result reader.new (parse_map (λ ds. each task_shape (data_list ds)) (converted of_items (items (value depth) (length reader.old) reader.old))) }
 {
     let mut tasks = Ok(Vec::new(alloc));
@@ -267,7 +289,7 @@ fn tasks<'t>(
     reader: &mut Reader<'t>,
     depth: usize,
 ) -> Result<Shaped<Vec<RawTask<'t>>>, JobFault>
-    requires { 3 < depth }
+    requires { 4 < depth }
     ensures { Reads (λ v. map raw_task v.items) result reader.new (parse_map tasks_shape (converted of_json (value depth reader.old))) }
 {
     let token = next_token(reader)?;
@@ -285,7 +307,7 @@ fn rest_of_job<'t>(
     reader: &mut Reader<'t>,
     depth: usize,
 ) -> Result<(Vec<Member<'t>>, Shaped<Vec<RawTask<'t>>>), JobFault>
-    requires { 3 < depth }
+    requires { 4 < depth }
     ensures { ReadsApart (λ ms. object_data ms.items) (codes "tasks") (λ v. map raw_task v.items) tasks_shape result reader.new (converted (λ ms. of_members ms no_members) (members (value depth) (length reader.old) reader.old)) }
 {
     let mut members = Vec::new(alloc);
@@ -308,7 +330,7 @@ pub fn job<'t>(
     reader: &mut Reader<'t>,
     depth: usize,
 ) -> Result<Shaped<RawJob<'t>>, JobFault>
-    requires { 4 < depth }
+    requires { 5 < depth }
     ensures { Reads raw_job result reader.new (parse_map job_shape (converted of_json (value depth reader.old))) }
 {
     let token = next_token(reader)?;

@@ -2,7 +2,7 @@
 
 ghost use Rattle.std.specs.Prelude.{◌≡◌, ◌<◌, ◌==◌, true, false, length, slice_index, map, is_some, option_map, option_and_then, IfOk};
 ghost use Rattle.json.specs.Value.{value_view, items_view, members_view};
-ghost use Rattle.serde_json.specs.Find.{get_member, as_str, as_bool, as_number, as_u64, as_array, as_object};
+ghost use Rattle.serde_json.specs.Find.{get_member, as_str, as_number, as_u64, as_array, as_object};
 ghost use Rattle.serde_json.specs.Read.{converted, number_of, number_from, float_of, of_json};
 ghost use Rattle.json.specs.Json.{value};
 ghost use Rattle.aa_jobs.specs.declared.job_fault.JobFault.TheVariants.{NotJson};
@@ -68,7 +68,7 @@ fn unsigned_in(numeral: &Numeral) -> Option<u64>
 }
 
 /// The number of 64 bits without a sign that the text writes.
-fn unsigned_of(digits: &[u8]) -> Option<u64>
+pub fn unsigned_of(digits: &[u8]) -> Option<u64>
     ensures { result ≡ option_and_then as_u64 (number_of digits.now) }
 {
     if has_minus(digits) {
@@ -149,12 +149,6 @@ pub fn text<'t>(tree: &Tree<'t>) -> Option<&'t str>
     ensures { option_map (λ s. s.now) result ≡ as_str (tree_data tree.now) }
 {
     tree.as_str()
-}
-
-pub fn flag(tree: &Tree) -> Option<bool>
-    ensures { result ≡ as_bool (tree_data tree.now) }
-{
-    tree.as_bool()
 }
 
 /// The number, where it is one of 64 bits without a sign.

@@ -1,4 +1,4 @@
-use Rattle.std.proofs.Common.{◌≡◌, ◌∷◌, sym, ap, subst, ◌∙◌}
+use Rattle.std.proofs.Common.{◌≡◌, ◌∷◌, sym, ap, subst, ◌∙◌, arith}
 use Rattle.std.proofs.lemmas.Result.{err_from_is_err_and}
 use Rattle.json.specs.Json.{parse_map, value}
 use Rattle.json.specs.Reads.{token_of}
@@ -24,7 +24,7 @@ pub returns-in-BeginObject : goal.returns-in-BeginObject
 returns-in-BeginObject c =
     let mid = c.next_token.new.reader in
     let is : c.args.reader.now ≡ Token.begin_object ∷ mid = c.in_ok-token.ensures ∙ ap (λ t. token_of t ∷ mid) c.in-BeginObject.is in
-    subst (λ o. Reads raw_item c.rest_of_item.result c.rest_of_item.new.reader o) (sym (object_read item_shape c.args.depth c.args.reader.now mid c.requires is)) c.rest_of_item.ensures
+    subst (λ o. Reads raw_item c.rest_of_item.result c.rest_of_item.new.reader o) (sym (object_read item_shape c.args.depth c.args.reader.now mid (omega (arith, c.requires)) is)) c.rest_of_item.ensures
 
 pub returns-in-String : goal.returns-in-String
 returns-in-String c =
