@@ -17,16 +17,21 @@ use Rattle.aa_claims.specs.Reports.{IsClaimReport}
 use Rattle.aa_assert.specs.declared.command.AssertOptions.{AssertOptions}
 use Rattle.aa_assert.specs.Answers.{Answered, AreAnswers, IsFirstUnanswered}
 use Rattle.aa_assert.specs.Shown.{answers_text, untold_text, is_broken}
+use Rattle.aa_assert.specs.Json.{json_answers}
 
 -- 1 where something can't be told, and else 4 where a claim is broken
 abbrev pub status_of : List ℕ → ℕ → ℕ
 status_of untold broken = if length untold == 0 then (if broken == 0 then 0 else 4) else 1
 
+-- answers as they are wanted: as JSON, or as text
+abbrev pub wanted_text : AssertOptions → List Answered → List ℕ
+wanted_text o answers = if o.is_json then json_answers answers else answers_text o.claims.now answers
+
 -- the answers, and what can't be told
-abbrev pub assert_printed : List ℕ → List Answered → Printed
-assert_printed path answers =
+abbrev pub assert_printed : AssertOptions → List Answered → Printed
+assert_printed o answers =
     record {
-      answers = answers_text path answers;
+      answers = wanted_text o answers;
       faults = flat_map untold_text answers;
       refusal = [];
       status = status_of (flat_map untold_text answers) (count_by is_broken answers);
@@ -42,7 +47,7 @@ pub record SaysWrong (path text : List ℕ) (IsSo : ℕ → Wrong → Type 0) (o
 -- what is printed of claims, where the files are this policy: by whom they are broken, or why one of them isn't answered
 pub data IsAssertOf (states : ℕ) (o : AssertOptions) (text : List ℕ) (claims : List ClaimLine) (d : Decided) (out : Printed) : Type 0 where
   Unanswered : SaysWrong o.claims.now text (IsFirstUnanswered d claims) out → IsAssertOf states o text claims d out
-  Answers : (answers : List Answered) → AreAnswers o.is_first d (limit_of states) claims answers → out ≡ assert_printed o.claims.now answers → IsAssertOf states o text claims d out
+  Answers : (answers : List Answered) → AreAnswers o.is_first d (limit_of states) claims answers → out ≡ assert_printed o answers → IsAssertOf states o text claims d out
 
 -- What `assert` prints: by whom the claims of a file are broken, or why it is none of claims or can't be read.
 pub data IsAssertOutput (s : Setting) (o : AssertOptions) (out : Printed) : Type 0 where

@@ -6,4 +6,5 @@ pub mod Refused
 pub mod Findings
 pub mod Answers
 pub mod Shown
+pub mod Json
 pub mod Command

@@ -1,6 +1,6 @@
 //! What `assert` prints.
 
-ghost use Rattle.std.specs.Prelude.{◌≡◌, map, IfOk};
+ghost use Rattle.std.specs.Prelude.{◌≡◌, ◌++◌, map, OnOk, IfOk};
 ghost use Rattle.aa_files.specs.Texts.{texts};
 ghost use Rattle.aa_files.specs.FilesData.{IsMainText};
 ghost use Rattle.aa_command.specs.Policies.{IsPrintedFor};
@@ -9,9 +9,10 @@ ghost use Rattle.aa_command.specs.Refusals.{SaysFault};
 ghost use Rattle.aa_command.specs.Setting.{setting_of};
 ghost use Rattle.aa_command.specs.Printed.{printed};
 ghost use Rattle.aa_assert.specs.Answers.{answered};
-ghost use Rattle.aa_assert.specs.Command.{status_of, assert_printed, IsAssertOf, IsAssertOutput};
+ghost use Rattle.aa_assert.specs.Command.{wanted_text, status_of, assert_printed, IsAssertOf, IsAssertOutput};
 
 use crate::answering::{Answer, answers_to};
+use crate::json::push_json_answers;
 use crate::shown::{count_broken, push_answers, push_untold};
 use aa_claims::{ClaimFault, ClaimLine, Wrong, claim_report, read_claims};
 use aa_command::{Decided, Output, Settings, Use, fault_refused, path_refused, with_policy};
@@ -28,6 +29,7 @@ pub struct AssertOptions<'a> {
     pub files: &'a [Vec<u8>],
     /// Whether of each claim the first is printed alone by whom it is broken.
     pub is_first: bool,
+    pub is_json: bool,
 }
 
 /// 1 where something can't be told, and else 4 where a claim is broken.
@@ -40,11 +42,31 @@ fn status_of(untold: &[u8], broken: usize) -> u8
     if broken == 0 { 0 } else { 4 }
 }
 
-fn output_of(alloc: Global, path: &[u8], answers: &[Answer]) -> Result<Output, AllocError>
-    ensures { IfOk result (λ out. printed out ≡ assert_printed path.now (map answered answers.now)) }
+/// Appends answers as they are wanted.
+fn push_wanted(
+    out: &mut Vec<u8>,
+    alloc: Global,
+    options: &AssertOptions<'_>,
+    answers: &[Answer],
+) -> Result<(), AllocError>
+    ensures { OnOk result (out.new.items ≡ out.old.items ++ wanted_text options.now (map answered answers.now)) }
+{
+    if options.is_json {
+        push_json_answers(out, alloc, answers)
+    } else {
+        push_answers(out, alloc, options.claims, answers)
+    }
+}
+
+fn output_of(
+    alloc: Global,
+    options: &AssertOptions<'_>,
+    answers: &[Answer],
+) -> Result<Output, AllocError>
+    ensures { IfOk result (λ out. printed out ≡ assert_printed options.now (map answered answers.now)) }
 {
     let mut output = Output::new(alloc);
-    push_answers(&mut output.answers, alloc, path, answers)?;
+    push_wanted(&mut output.answers, alloc, options, answers)?;
     push_untold(&mut output.faults, answers)?;
     output.status = status_of(output.faults.as_slice(), count_broken(answers));
     Ok(output)
@@ -80,7 +102,7 @@ impl Use for Asserting<'_> {
     fn use_policy(&self, alloc: Global, decided: Decided<'_>) -> Result<Output, NoMemory> {
         let options = self.options;
         match answers_to(alloc, decided, self.states, options.is_first, self.claims) {
-            Ok(answers) => Ok(output_of(alloc, options.claims, answers.as_slice())?),
+            Ok(answers) => Ok(output_of(alloc, options, answers.as_slice())?),
             Err(ClaimFault::NoMemory) => Err(NoMemory),
             Err(ClaimFault::At(at, wrong)) => {
                 wrong_said(alloc, options.claims, self.text, at, wrong)

@@ -5,6 +5,7 @@ mod answering;
 mod asked;
 mod command;
 mod finding;
+mod json;
 mod judging;
 mod names;
 mod scope;

@@ -340,6 +340,13 @@ const ASSERT_ARGUMENTS: &[Argument] = &[
         barred: None,
         help: "Print of each claim the first alone by whom it is broken",
     },
+    Argument {
+        name: "json",
+        letter: None,
+        form: Form::Flag,
+        barred: None,
+        help: "Answer in JSON",
+    },
 ];
 
 /// What `reach` takes.

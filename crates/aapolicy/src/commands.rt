@@ -166,6 +166,7 @@ fn run_assert(
         claims: file_of(matches, "CLAIMS").unwrap_or("-".as_bytes()),
         files: files.as_slice(),
         is_first: matches.get_flag("first"),
+        is_json: matches.get_flag("json"),
     };
     assert_files(alloc, tree, settings, &options)
 }

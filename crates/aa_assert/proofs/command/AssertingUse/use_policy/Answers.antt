@@ -14,7 +14,7 @@ pub returns-in_ok-output_of-in-Ok : goal.returns-in_ok-output_of-in-Ok
 returns-in_ok-output_of-in-Ok c =
     Answers (map answered c.in-Ok.answers.items) c.in-Ok.ensures.answered
     (c.in_ok-output_of-in-Ok.ensures
-    ∙ ap (λ (l : List Answer). assert_printed c.args.self.now.options.now.claims.now (map answered l)) c.as_slice.ensures.value)
+    ∙ ap (λ (l : List Answer). assert_printed c.args.self.now.options.now (map answered l)) c.as_slice.ensures.value)
 
 pub returns-in-Err-At : goal.returns-in-Err-At
 returns-in-Err-At c =
