@@ -1,0 +1,4 @@
+mod Elements
+mod Standing
+mod Telling
+mod Loops

@@ -1,0 +1,12 @@
+pub use Rattle.aa_compile.specs.FileRules
+pub mod Faults
+pub mod Rules
+pub mod Sameness
+pub mod Rows
+pub mod Files
+pub mod Sorts
+pub mod Shortest
+pub mod Gathered
+pub mod Attached
+pub mod Found
+pub mod Laws

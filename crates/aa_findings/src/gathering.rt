@@ -1,0 +1,226 @@
+//! What is found of a profile, in the order of its rules.
+
+ghost use Rattle.std.specs.Prelude.{◌≡◌, ◌<◌, ◌++◌, ◌∷◌, [], Some, None, IfOk, OnOk, length, if◌then◌else◌};
+ghost use Rattle.aa_findings.specs.Files.{is_written_exec};
+ghost use Rattle.aa_findings.specs.Gathered.{found_if, found_along, found_again, written_paths, of_file, of_cap, of_net, of_change, files_before, caps_before, nets_before, changes_before, of_rules};
+
+use crate::exec::{is_any_profile, is_unconfined_exec};
+use crate::files::{is_idle, is_on_all, is_written_exec, repeated};
+use crate::finding::{Finding, Kind, Subject};
+use crate::rows::Row;
+use crate::shortest::shortest;
+use crate::sorts::{is_idle_cap, is_idle_net, repeated_cap, repeated_net};
+use aa_base::Text;
+use aa_model::{CapRule, ChangeRule, FileRule, NetRule, Profile};
+use std::alloc::{AllocError, Global};
+
+/// Adds a finding, where there is one.
+fn push_if(
+    found: &mut Vec<Finding>,
+    is_found: bool,
+    kind: Kind,
+    subject: Subject,
+) -> Result<(), AllocError>
+    ensures { OnOk result (found.new.items ≡ found.old.items ++ found_if is_found kind subject) }
+{
+    if is_found {
+        found.push(Finding {
+            kind,
+            subject,
+            other: None,
+            path: None,
+        })?;
+    }
+    Ok(())
+}
+
+/// Adds that a rule says what an earlier one says, where there is one.
+fn push_again(
+    found: &mut Vec<Finding>,
+    other: Option<usize>,
+    subject: Subject,
+) -> Result<(), AllocError>
+    ensures { OnOk result (found.new.items ≡ found.old.items ++ found_again other subject) }
+{
+    if other.is_some() {
+        found.push(Finding {
+            kind: Kind::Duplicate,
+            subject,
+            other,
+            path: None,
+        })?;
+    }
+    Ok(())
+}
+
+/// The path of a row where the rule lets write what may be executed.
+fn push_written(paths: &mut Vec<Text>, rule: &FileRule, row: &Row) -> Result<(), AllocError>
+    ensures { OnOk result (paths.new.items ≡ paths.old.items ++ (if is_written_exec rule.now row.now then row.now.path ∷ [] else [])) }
+{
+    if is_written_exec(rule, row) {
+        paths.push(row.path.try_clone()?)?;
+    }
+    Ok(())
+}
+
+/// The paths at which the rule lets write what may be executed.
+fn written_paths(alloc: Global, rows: &[Row], rule: &FileRule) -> Result<Vec<Text>, AllocError>
+    ensures { IfOk result (λ paths. paths.items ≡ written_paths rows.now rule.now) }
+{
+    let mut paths = Vec::new(alloc);
+    for row in rows {
+        push_written(&mut paths, rule, row)?;
+    }
+    Ok(paths)
+}
+
+/// Adds that the rule lets write what may be executed, with the shortest of these paths, where there are any.
+fn push_along(
+    found: &mut Vec<Finding>,
+    alloc: Global,
+    paths: &[Text],
+    subject: Subject,
+) -> Result<(), AllocError>
+    ensures { OnOk result (found.new.items ≡ found.old.items ++ found_along paths.now subject) }
+{
+    if let Some(path) = shortest(paths) {
+        found.push(Finding {
+            kind: Kind::WrittenExec,
+            subject,
+            other: None,
+            path: Some(Text::copy_of(alloc, path)?),
+        })?;
+    }
+    Ok(())
+}
+
+/// Adds what is found of a rule on files.
+#[tactic(auto, unfolding(crate::specs::Gathered::of_file))]
+fn push_file(
+    found: &mut Vec<Finding>,
+    alloc: Global,
+    rows: &[Row],
+    rules: &[FileRule],
+    rule: &FileRule,
+    number: usize,
+) -> Result<(), AllocError>
+    requires { number < length rules.now }
+    ensures { OnOk result (found.new.items ≡ found.old.items ++ of_file rows.now rules.now number rule.now) }
+{
+    let subject = Subject::File(number);
+    let paths = written_paths(alloc, rows, rule)?;
+    let earlier = repeated(rows, &rules[..number], rule);
+    push_if(
+        found,
+        is_unconfined_exec(rule),
+        Kind::UnconfinedExec,
+        subject,
+    )?;
+    push_along(found, alloc, paths.as_slice(), subject)?;
+    push_if(found, is_on_all(rows, rule), Kind::AllFiles, subject)?;
+    push_again(found, earlier, subject)?;
+    push_if(found, is_idle(rows, rule), Kind::IdleDeny, subject)
+}
+
+/// Adds what is found of the rules on files.
+fn push_files(
+    found: &mut Vec<Finding>,
+    alloc: Global,
+    rows: &[Row],
+    rules: &[FileRule],
+) -> Result<(), AllocError>
+    ensures { OnOk result (found.new.items ≡ found.old.items ++ files_before rows.now rules.now (length rules.now)) }
+{
+    for number in 0..rules.len() {
+        push_file(found, alloc, rows, rules, &rules[number], number)?;
+    }
+    Ok(())
+}
+
+/// Adds what is found of a rule on capabilities.
+#[tactic(auto, unfolding(crate::specs::Gathered::of_cap))]
+fn push_cap(
+    found: &mut Vec<Finding>,
+    rules: &[CapRule],
+    rule: &CapRule,
+    number: usize,
+) -> Result<(), AllocError>
+    requires { number < length rules.now }
+    ensures { OnOk result (found.new.items ≡ found.old.items ++ of_cap rules.now number rule.now) }
+{
+    let subject = Subject::Cap(number);
+    let earlier = repeated_cap(&rules[..number], rule);
+    push_again(found, earlier, subject)?;
+    push_if(found, is_idle_cap(rules, rule), Kind::IdleDeny, subject)
+}
+
+fn push_caps(found: &mut Vec<Finding>, rules: &[CapRule]) -> Result<(), AllocError>
+    ensures { OnOk result (found.new.items ≡ found.old.items ++ caps_before rules.now (length rules.now)) }
+{
+    for number in 0..rules.len() {
+        push_cap(found, rules, &rules[number], number)?;
+    }
+    Ok(())
+}
+
+/// Adds what is found of a rule on sockets.
+#[tactic(auto, unfolding(crate::specs::Gathered::of_net))]
+fn push_net(
+    found: &mut Vec<Finding>,
+    rules: &[NetRule],
+    rule: &NetRule,
+    number: usize,
+) -> Result<(), AllocError>
+    requires { number < length rules.now }
+    ensures { OnOk result (found.new.items ≡ found.old.items ++ of_net rules.now number rule.now) }
+{
+    let subject = Subject::Net(number);
+    let earlier = repeated_net(&rules[..number], rule);
+    push_again(found, earlier, subject)?;
+    push_if(found, is_idle_net(rules, rule), Kind::IdleDeny, subject)
+}
+
+fn push_nets(found: &mut Vec<Finding>, rules: &[NetRule]) -> Result<(), AllocError>
+    ensures { OnOk result (found.new.items ≡ found.old.items ++ nets_before rules.now (length rules.now)) }
+{
+    for number in 0..rules.len() {
+        push_net(found, rules, &rules[number], number)?;
+    }
+    Ok(())
+}
+
+fn push_change(found: &mut Vec<Finding>, rule: &ChangeRule, number: usize) -> Result<(), AllocError>
+    ensures { OnOk result (found.new.items ≡ found.old.items ++ of_change number rule.now) }
+{
+    push_if(
+        found,
+        is_any_profile(rule),
+        Kind::AnyProfile,
+        Subject::Change(number),
+    )
+}
+
+fn push_changes(found: &mut Vec<Finding>, rules: &[ChangeRule]) -> Result<(), AllocError>
+    ensures { OnOk result (found.new.items ≡ found.old.items ++ changes_before rules.now (length rules.now)) }
+{
+    for number in 0..rules.len() {
+        push_change(found, &rules[number], number)?;
+    }
+    Ok(())
+}
+
+/// Adds what is found of the rules of a profile, by rows that stand for all files.
+#[tactic(auto, unfolding(crate::specs::Gathered::of_rules))]
+pub(crate) fn push_rules(
+    found: &mut Vec<Finding>,
+    alloc: Global,
+    rows: &[Row],
+    profile: &Profile,
+) -> Result<(), AllocError>
+    ensures { OnOk result (found.new.items ≡ found.old.items ++ of_rules rows.now profile.now) }
+{
+    push_files(found, alloc, rows, profile.files.as_slice())?;
+    push_caps(found, profile.caps.as_slice())?;
+    push_nets(found, profile.nets.as_slice())?;
+    push_changes(found, profile.changes.as_slice())
+}

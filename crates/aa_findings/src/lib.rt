@@ -1,0 +1,22 @@
+//! What a policy allows and is seldom meant: each finding a predicate over the rules of a profile and the files that they speak of.
+#![tactic(auto)]
+
+mod attached;
+mod exec;
+mod fault;
+mod files;
+mod finding;
+mod found;
+mod gathering;
+mod laws;
+mod patterns;
+mod rows;
+mod sameness;
+mod shortest;
+mod sorts;
+
+pub use fault::FindingsFault;
+pub use finding::{Finding, Kind, Subject};
+pub use found::findings_of;
+pub use laws::rows_tell_of_files;
+pub use rows::Row;
