@@ -80,7 +80,11 @@ fn report_with(rt: &impl Abort, alloc: Global, path: &str, place: Place) -> Vec<
             joined(
                 rt,
                 alloc,
-                &["refused ", path, "\n1 files 1 refused 0 profiles\nrefused files seem to hold 0 profiles, and any in 1 of them\n"],
+                &[
+                    "refused ",
+                    path,
+                    "\n1 files 1 refused 0 profiles\nrefused files seem to hold 0 profiles, and any in 1 of them\n",
+                ],
             )
         }
         First => joined(rt, alloc, &[FIRST_REFUSED]),

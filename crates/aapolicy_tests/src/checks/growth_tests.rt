@@ -30,7 +30,8 @@ const FILES: &[File] = &[
     ("/n", "include <c>\n"),
 ];
 
-const REFUSED: &str = "refused /m\nrefused /nothing\nrefused /n\n3 files 3 refused 0 profiles\nrefused files seem to hold 0 profiles, and any in 3 of them\n";
+const REFUSED: &str =
+    "refused /m\nrefused /nothing\nrefused /n\n3 files 3 refused 0 profiles\nrefused files seem to hold 0 profiles, and any in 3 of them\n";
 
 const SAID: &str =
     "/m:2:1: AmbiguousInclude: /b/a and a both have this name\n    2 | include \"a\"\n      | ^\n/nothing: Unreadable: it can't be read (not found)\n/n:1:1: MissingInclude: nothing of that name is there\n    1 | include <c>\n      | ^\n      tried /i/c\n      tried /b/c\n";

@@ -4,7 +4,8 @@ use crate::checks::reporting::prints;
 use crate::planting::tree_beside;
 use aa_base::Unread;
 
-const TWO_REFUSED: &str = "refused /m\nrefused /n\n2 files 2 refused 0 profiles\nrefused files seem to hold 0 profiles, and any in 2 of them\n";
+const TWO_REFUSED: &str =
+    "refused /m\nrefused /n\n2 files 2 refused 0 profiles\nrefused files seem to hold 0 profiles, and any in 2 of them\n";
 
 const SAID_OF_TWO: &str =
     "/i/a: Unreadable: it can't be read (not a file)\n/n:1:1: MissingInclude: nothing of that name is there\n    1 | include <c>\n      | ^\n      tried /i/c\n      tried /b/c\n";
