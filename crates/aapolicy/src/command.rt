@@ -35,6 +35,9 @@ const ASSERT: &str =
 const REACH: &str =
     "Says which labels a task can get to, each by a shortest list of requests, as in: aapolicy reach /etc/apparmor.d --from web --to unconfined";
 
+const LINT: &str =
+    "Says what a policy allows and is seldom meant, as in: aapolicy lint /etc/apparmor.d/usr.sbin.cupsd";
+
 const JOB: &str =
     "Prints the job that aamediate run decides alike, as in: aapolicy job /etc/apparmor.d/usr.sbin.cupsd --log /var/log/kern.log";
 
@@ -275,6 +278,24 @@ const ASK_ARGUMENTS: &[Argument] = &[
         form: Form::Flag,
         barred: None,
         help: SKIP_REFUSED,
+    },
+];
+
+/// What `lint` takes.
+const LINT_ARGUMENTS: &[Argument] = &[
+    Argument {
+        name: "PROFILE",
+        letter: None,
+        form: Form::NeededWords,
+        barred: None,
+        help: "A file with profiles, or a folder of such files, which are one policy together; - is standard input",
+    },
+    Argument {
+        name: "except",
+        letter: None,
+        form: Form::Values("NAME"),
+        barred: None,
+        help: "Leave out what is found by this name: unconfined-exec, write-exec, all-files, any-profile, duplicate, idle-deny or tie; of each of these, where there are several",
     },
 ];
 
@@ -645,6 +666,13 @@ const COMMANDS: &[Named] = &[
         name: "reach",
         about: REACH,
         arguments: REACH_ARGUMENTS,
+        more: &[],
+        reads_policies: true,
+    },
+    Named {
+        name: "lint",
+        about: LINT,
+        arguments: LINT_ARGUMENTS,
         more: &[],
         reads_policies: true,
     },

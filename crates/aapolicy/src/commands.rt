@@ -14,6 +14,7 @@ use aa_check::{CheckOptions, Form, check_files};
 use aa_command::{Output, Settings, in_json, refused};
 use aa_diff::{DiffOptions, Wanted, diff_files};
 use aa_job::{JobOptions, job_files};
+use aa_lint::{LintOptions, lint_files};
 use aa_log::{LogOptions, log_files};
 use aa_logs::{Choice, Form as Written, LogWord, name_of};
 use aa_merge::{MergeOptions, merge_files};
@@ -191,6 +192,22 @@ fn run_reach(
     reach_files(alloc, tree, settings, &options)
 }
 
+fn run_lint(
+    rt: &HostRuntime,
+    tree: &Handed<'_, Host<'_>>,
+    matches: &ArgMatches<'_>,
+    settings: &Settings<'_>,
+) -> Result<Output, NoMemory> {
+    let alloc = rt.alloc();
+    let files = files_of(alloc, matches, "PROFILE")?;
+    let except = copies_of(alloc, matches, "except")?;
+    let options = LintOptions {
+        files: files.as_slice(),
+        except: except.as_slice(),
+    };
+    lint_files(alloc, tree, settings, &options)
+}
+
 fn run_log(
     rt: &HostRuntime,
     tree: &Handed<'_, Host<'_>>,
@@ -295,6 +312,7 @@ fn run_wanted(
         "who" => run_who(rt, tree, matches, settings),
         "assert" => run_assert(rt, tree, matches, settings),
         "reach" => run_reach(rt, tree, matches, settings),
+        "lint" => run_lint(rt, tree, matches, settings),
         _ => run_with_logs(rt, tree, name, matches, settings),
     }
 }
@@ -308,6 +326,7 @@ fn file_arguments(name: &str) -> &'static [&'static str] {
         "who" => &["PROFILE", "also"],
         "assert" => &["CLAIMS", "PROFILE"],
         "reach" => &["PROFILE"],
+        "lint" => &["PROFILE"],
         "log" => &["FILE", "against"],
         "merge" => &["PART", "parts"],
         _ => &["PROFILE", "log"],

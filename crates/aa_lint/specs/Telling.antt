@@ -1,0 +1,126 @@
+-- Findings with their places and their rules.
+-- Source: own.
+use Rattle.std.specs.Prelude.{ℕ, List, [], ◌++◌, flat_map, codes, Option, Some, option_map, option_to_list, option_and_then, unwrap_or, if◌then◌else◌}
+use Rattle.std.specs.List.{slice_get}
+use Rattle.std.specs.Option.{option_map_or}
+use Rattle.aa_base.specs.declared.fault.Spot.{Spot}
+use Rattle.aa_base.specs.Values.{value}
+use Rattle.aa_model.specs.declared.policy.Profile.{Profile}
+use Rattle.aa_text.specs.Places.{place_in}
+use Rattle.aa_text.specs.Texts.{where_text}
+use Rattle.aa_text.specs.declared.position.PlaceAt.{PlaceAt}
+use Rattle.aa_explain.specs.declared.places.ProfilePlaces.{ProfilePlaces}
+use Rattle.aa_files.specs.declared.unit.Unit as unit
+use Rattle.aa_files.specs.Numbers.{path_in, text_in}
+use Rattle.aa_rule_text.specs.RuleTexts.{rule_text}
+use Rattle.aa_findings.specs.declared.finding.Finding.{Finding}
+use Rattle.aa_findings.specs.declared.finding.Kind.{Kind}
+use Rattle.aa_findings.specs.declared.finding.Kind.TheVariants.{UnconfinedExec, WrittenExec, AllFiles, AnyProfile, Duplicate, IdleDeny, Tie}
+use Rattle.aa_findings.specs.declared.finding.Subject.{Subject}
+use Rattle.aa_findings.specs.declared.finding.Subject.TheVariants.{Attachments, File, Cap, Net, Change}
+use Rattle.aa_command.specs.declared.decided.Decided.{Decided}
+use Rattle.aa_lint.specs.declared.told.Told.{Told}
+use Rattle.aa_lint.specs.Names.{is_wanted}
+
+-- a finding as it is told: where, of which profile, what goes with why it is one, and how the rule reads
+pub record Telling : Type 0 where
+  pub kind : Kind
+  pub path : List ℕ
+  pub place : PlaceAt
+  pub profile : List ℕ
+  pub detail : List ℕ
+  pub rule : List ℕ
+
+-- the same of what the code keeps
+abbrev pub telling : Told → Telling
+telling t = record { kind = t.kind; path = t.path.items; place = t.place; profile = t.profile.items; detail = t.detail.items; rule = t.rule.items }
+
+-- where the subject of a finding stands: a profile's name, or a rule
+abbrev pub spot_of : ProfilePlaces → Subject → Option Spot
+spot_of places Attachments = Some places.at
+spot_of places (File n) = slice_get places.files.items n
+spot_of places (Cap n) = slice_get places.caps.items n
+spot_of places (Net n) = slice_get places.nets.items n
+spot_of places (Change n) = slice_get places.changes.items n
+
+-- the rule of another number in the same list
+abbrev pub with_number : Subject → ℕ → Subject
+with_number Attachments n = Attachments
+with_number (File _) n = File n
+with_number (Cap _) n = Cap n
+with_number (Net _) n = Net n
+with_number (Change _) n = Change n
+
+-- a byte of a text with its line and column
+abbrev pub stands_at : List ℕ → ℕ → PlaceAt
+stands_at text byte = record { line = (place_in text byte).line; column = (place_in text byte).column; byte = byte }
+
+-- a place of a unit, as it is shown
+abbrev pub spot_text : unit.Unit → Spot → List ℕ
+spot_text u at = where_text (path_in u at.file) (stands_at (text_in u at.file) at.byte)
+
+-- where the rule stands that is said again
+abbrev pub earlier_text : unit.Unit → ProfilePlaces → Subject → ℕ → List ℕ
+earlier_text u places subject n = option_map_or (spot_text u) (spot_of places (with_number subject n)) []
+
+-- the name of a profile
+abbrev pub other_text : List Profile → ℕ → List ℕ
+other_text profiles n = option_map_or (λ (p : Profile). value p.name) (slice_get profiles n) []
+
+-- a path, if there is one
+abbrev pub path_text : Option (List ℕ) → List ℕ
+path_text path = option_map_or value path []
+
+-- the profile that ties, and a path at which it does
+abbrev pub tie_text : List Profile → Finding → List ℕ
+tie_text profiles f = other_text profiles (unwrap_or f.other 0) ++ codes ", as to " ++ path_text f.path
+
+-- what goes with why it is a finding
+abbrev pub detail_by : Kind → List Profile → unit.Unit → ProfilePlaces → Finding → List ℕ
+detail_by UnconfinedExec profiles u places f = []
+detail_by WrittenExec profiles u places f = path_text f.path
+detail_by AllFiles profiles u places f = []
+detail_by AnyProfile profiles u places f = []
+detail_by Duplicate profiles u places f = earlier_text u places f.subject (unwrap_or f.other 0)
+detail_by IdleDeny profiles u places f = []
+detail_by Tie profiles u places f = tie_text profiles f
+
+-- the text of a rule; none of attachments
+abbrev pub rule_of : List ℕ → ℕ → Subject → List ℕ
+rule_of text byte Attachments = []
+rule_of text byte (File n) = rule_text text byte
+rule_of text byte (Cap n) = rule_text text byte
+rule_of text byte (Net n) = rule_text text byte
+rule_of text byte (Change n) = rule_text text byte
+
+-- a finding of the profile, at the place of its subject
+abbrev pub told_at : List Profile → Profile → unit.Unit → ProfilePlaces → Finding → Spot → Telling
+told_at profiles p u places f at = record {
+  kind = f.kind;
+  path = path_in u at.file;
+  place = stands_at (text_in u at.file) at.byte;
+  profile = p.name;
+  detail = detail_by f.kind profiles u places f;
+  rule = rule_of (text_in u at.file) at.byte f.subject;
+}
+
+-- where it stands somewhere
+abbrev pub told_of : List Profile → Profile → unit.Unit → ProfilePlaces → Finding → List Telling
+told_of profiles p u places f = option_to_list (option_map (told_at profiles p u places f) (spot_of places f.subject))
+
+-- the unit of a profile, where each profile has the number of its unit
+abbrev pub unit_in : List unit.Unit → List ℕ → ℕ → Option unit.Unit
+unit_in units owners n = option_and_then (slice_get units) (slice_get owners n)
+
+-- where it isn't left out
+abbrev pub told_wanted : List (List ℕ) → List Profile → Profile → unit.Unit → ProfilePlaces → Finding → List Telling
+told_wanted except profiles p u places f = if is_wanted except f then told_of profiles p u places f else []
+
+-- nothing is told where a profile's file or its places aren't there
+abbrev pub told_if : List (List ℕ) → List Profile → Profile → Option unit.Unit → Option ProfilePlaces → List Finding → List Telling
+told_if except profiles p (Some u) (Some places) found = flat_map (told_wanted except profiles p u places) found
+told_if except profiles p _ _ found = []
+
+-- the findings of profile n, which is p, as they are told, but for those of the names that are left out
+abbrev pub all_told : Decided → List (List ℕ) → List Profile → ℕ → Profile → List Finding → List Telling
+all_told d except profiles n p found = told_if except profiles p (unit_in d.units.now d.owners.now n) (slice_get d.places.now n) found

@@ -1,0 +1,10 @@
+//! What `lint` finds: what the policy of files allows and is seldom meant, each with its place, its rule and why.
+#![tactic(auto)]
+
+mod command;
+mod finding_names;
+mod shown;
+mod telling;
+mod told;
+
+pub use command::{LintOptions, lint_files};
