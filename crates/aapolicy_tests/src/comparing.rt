@@ -3,27 +3,17 @@
 use std::fmt::Debug;
 use std::process::Abort;
 
-/// Both are the same.
-pub(crate) fn equal<T: PartialEq + Debug + Copy>(rt: &impl Abort, found: T, expected: T) {
-    assert_eq!(rt; found, expected);
-}
-
 /// Both are the same, of this text.
 pub(crate) fn equal_in<T: PartialEq + Debug + Copy>(
     rt: &impl Abort,
     found: T,
-    expected: T,
+    wanted: T,
     text: &str,
 ) {
-    assert_eq!(rt; found, expected, "in {text}");
+    assert_eq!(rt; found, wanted, "in {text}");
 }
 
-/// It is so.
-pub(crate) fn holds(rt: &impl Abort, it: bool) {
-    assert!(rt; it);
-}
-
-/// It is so of this text.
-pub(crate) fn holds_in(rt: &impl Abort, it: bool, text: &str) {
-    assert!(rt; it, "in {text}");
+/// Both are the same.
+pub(crate) fn equal<T: PartialEq + Debug + Copy>(rt: &impl Abort, found: T, wanted: T) {
+    assert_eq!(rt; found, wanted);
 }

@@ -2,20 +2,18 @@
 #![tactic(auto)]
 
 #[cfg(test)]
-mod asks;
-#[cfg(test)]
-mod checks;
+mod check_tests;
 #[cfg(test)]
 mod comparing;
 mod failing;
 #[cfg(test)]
-mod logs;
+mod log_tests;
 mod names;
 #[cfg(test)]
 mod planting;
 mod tree;
 #[cfg(test)]
-mod units;
+mod unit_tests;
 
 pub use failing::FailingTree;
 pub use names::Names;

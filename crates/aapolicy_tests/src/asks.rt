@@ -1,3 +1,0 @@
-//! What the contracts of questions leave to tests: request words, read and written.
-
-mod word_tests;
