@@ -2,5 +2,6 @@
 
 mod answers;
 mod gates;
+mod rests;
 mod sums;
 mod turns;

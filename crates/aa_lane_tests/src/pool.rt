@@ -2,6 +2,7 @@
 
 mod closing;
 mod gates;
+mod late;
 mod opening;
 mod schedules;
 mod serving;

@@ -3,7 +3,7 @@ use Rattle.std.proofs.Common.{◌≡◌, suc, ◌<◌, List, [], ◌∷◌, map,
 use Rattle.std.proofs.lemmas.List.{length-map, get_or-map}
 use Rattle.aa_lane.specs.Ends.{LaneSeen, known}
 use Rattle.aa_lane.specs.Answers.{answered_from}
-use Rattle.aa_pool.specs.Fed.{FeedSeen, AreSame, answers_of}
+use Rattle.aa_pool.specs.Fed.{FeedSeen, AreSame, AreAllFed, answers_of}
 use Rattle.aa_pool.specs.Answers.{answers_to}
 use Rattle.aa_pool.specs.declared.tasks.Task.{Task}
 
@@ -50,3 +50,21 @@ module _ {M S Q A : Type 0} (next : M → S → Q → S) (reply : M → S → Q 
       let s : t.start ≡ f.lane.start = ap (λ l. get_or l 0 t.start) ss in
       let e : f.lane.machine ≡ m = ms 0 f (omega arith) in
       λ i. answered_from next reply (e i) 0 (sym s i) (r i) ∷ all_answers fs ts (ap (drop 1) rs) (ap (drop 1) ss) (λ k d b. ms (suc k) d (omega (arith, b))) i
+
+module _ {M S Q : Type 0} where
+  pub same_on : (fs gs hs : List (FeedSeen M S Q)) → AreSame fs gs → AreSame gs hs → AreSame fs hs
+  same_on fs gs hs a b = record {
+    len = b.len ∙ a.len;
+    lanes = λ k d below. b.lanes k d (omega (arith, a.len)) ∙ a.lanes k d below;
+    all = λ k d below. b.all k d (omega (arith, a.len)) ∙ a.all k d below;
+  }
+
+  pub fed_on : (fs gs hs : List (FeedSeen M S Q)) → AreSame fs gs → AreAllFed gs hs → AreAllFed fs hs
+  fed_on fs gs hs a b = record { same = same_on fs gs hs a b.same; finished = b.finished }
+
+  pub same_as : (fs gs : List (FeedSeen M S Q)) → fs ≡ gs → AreSame fs gs
+  same_as fs gs e = record {
+    len = ap length (sym e);
+    lanes = λ k d below. ap (λ l. (get_or l k d).lane) (sym e);
+    all = λ k d below. ap (λ l. (get_or l k d).all) (sym e);
+  }

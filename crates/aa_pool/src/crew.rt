@@ -7,6 +7,7 @@ ghost use Rattle.aa_pool.specs.Crew.{IsWorking};
 use crate::bell::{Bell, Shift};
 use crate::hand::{Hold, Puts, Queue, Takes};
 use crate::serving::{Serving, Turn};
+use crate::watch::Watch;
 use std::sync::Wait;
 use std::thread;
 use std::thread::Threads;
@@ -19,13 +20,13 @@ pub struct Worker<T: Serving + Drop> {
 }
 
 // Serves what was taken last for one turn, and puts it back, unless it has settled. Where the queue refuses it, another turn follows.
-// Says whether there was nothing to do.
+// Says how many requests were answered.
 pub fn serve_on<T: Serving, R: Wait>(
     rt: &R,
     queue: &Queue<T>,
     pass: &mut Hold<T>,
     taken: T,
-    idle: &mut bool,
+    did: &mut u64,
 ) -> Option<T>
     requires queue { IsPassOf queue.now pass.old }
     requires part { 0 < (view pass.old).parts }
@@ -35,7 +36,7 @@ pub fn serve_on<T: Serving, R: Wait>(
 {
     let mut taken = taken;
     'turns: for _ in rt.forever() {
-        match taken.serve(idle) {
+        match taken.serve(did) {
             Turn::Settled(done) => return Some(done),
             Turn::GoesOn(next) => match queue.push_as::<Puts, R>(rt, pass, next) {
                 Ok(()) => return None,
@@ -47,10 +48,11 @@ pub fn serve_on<T: Serving, R: Wait>(
 }
 
 // Takes, serves and puts back, until there is nothing to take. What settles is kept.
-fn take_turns<T: Serving + Drop, R: Wait>(
+fn take_turns<T: Serving + Drop, W: Watch, R: Wait>(
     rt: &R,
     queue: &Queue<T>,
     bell: &Bell,
+    watch: &W,
     shift: &mut Shift,
     worker: &mut Worker<T>,
 )
@@ -64,35 +66,38 @@ fn take_turns<T: Serving + Drop, R: Wait>(
         let Some(taken) = queue.pop_as::<Takes, R>(rt, &mut worker.pass) else {
             break;
         };
-        let mut idle = false;
-        if let Some(done) = serve_on(rt, queue, &mut worker.pass, taken, &mut idle) {
+        let mut did = 0;
+        if let Some(done) = serve_on(rt, queue, &mut worker.pass, taken, &mut did) {
             worker.kept.push_reserved(done);
             bell.settles();
         }
-        bell.turned(rt, shift, idle);
+        let fed = bell.tends(watch, shift);
+        bell.turned(rt, shift, did, fed);
     }
 }
 
 // The same, and who sleeps at its end is woken.
-pub fn work<T: Serving + Drop, R: Wait>(
+pub fn work<T: Serving + Drop, W: Watch, R: Wait>(
     rt: &R,
     queue: &Queue<T>,
     bell: &Bell,
+    watch: &W,
     worker: &mut Worker<T>,
 )
     requires { IsWorking T.place T.is_settled queue.now worker.old.pass worker.old.kept.items }
     ensures { IsWorking T.place T.is_settled queue.now worker.new.pass worker.new.kept.items }
 {
-    let mut shift = Shift::new();
-    take_turns(rt, queue, bell, &mut shift, worker);
+    let mut shift = bell.comes(rt);
+    take_turns(rt, queue, bell, watch, &mut shift, worker);
     bell.leaves(shift);
 }
 
 // All workers serve, each on a thread where one can be started, until each finds nothing to take.
-pub fn all_work<T: Serving + Drop + Send, R: Threads + Wait + Sync>(
+pub fn all_work<T: Serving + Drop + Send, W: Watch + Sync, R: Threads + Wait + Sync>(
     rt: &R,
     queue: &Queue<T>,
     bell: &Bell,
+    watch: &W,
     crew: &mut [Worker<T>],
 )
     requires { All (λ w. IsWorking T.place T.is_settled queue.now w.pass w.kept.items) crew.old }
@@ -104,6 +109,6 @@ pub fn all_work<T: Serving + Drop + Send, R: Threads + Wait + Sync>(
         rt,
         crew,
         threads,
-        &|_, worker| work(rt, queue, bell, worker),
+        &|_, worker| work(rt, queue, bell, watch, worker),
     );
 }

@@ -4,74 +4,33 @@ ghost use Rattle.std.specs.List.Sorted.{IsPermutation};
 ghost use Rattle.aa_lane.specs.Ends.{known};
 ghost use Rattle.aa_pool.specs.Fed.{AreSame, AreAllFed, answers_of};
 
-use crate::bell::{Bell, Shift};
+use crate::bell::Bell;
 use crate::beside::{Work, side_by_side};
 use crate::feed::{Feed, Finished, Turned};
-use crate::serve::serve_with;
+use crate::serve::serve_watched;
+use crate::sharing::{Course, feed_all, feed_rest, share, unshare};
+use crate::watch::Watch;
 use aa_lane::{Lane, Served, Server};
 use aa_machine::Machine;
 use std::alloc::Global;
+use std::marker::Brand;
 use std::sync::Wait;
 use std::thread::Threads;
 
-// A burst at each lane. Whether all have finished, and whether there was nothing to do at any.
-fn round<'l, 'm, M: Machine>(feeds: &mut [Feed<'l, 'm, M>]) -> (bool, bool)
-    ensures same { AreSame feeds.old feeds.new }
-    ensures finished { result.0 ≡ true → All (λ f. f.finished ≡ true) feeds.new }
-{
-    let mut finished = true;
-    let mut idle = true;
-    for i in 0..feeds.len() {
-        let turned = feeds[i].burst();
-        let done = turned == Turned::Left;
-        let nothing = turned == Turned::Waits;
-        finished = finished && done;
-        idle = idle && (done || nothing);
-    }
-    (finished, idle)
-}
-
-// All lanes are fed by turns, until each owner has left. Where there is nothing to do at any, those who serve them come first.
-fn feed_all<'l, 'm, M: Machine, R: Wait>(rt: &R, bell: &Bell, feeds: &mut [Feed<'l, 'm, M>])
-    ensures { AreAllFed feeds.old feeds.new }
-{
-    'feeding: for _ in rt.forever() {
-        let (finished, idle) = round(feeds);
-        if finished {
-            bell.wake_all();
-            return;
-        }
-        bell.fed(rt, idle);
-    }
-    unreachable!()
-}
-
-// The lanes that are fed.
+// The thread that feeds.
 #[derive(Drop)]
-struct Feeding<'l, 'm, M: Machine> {
-    machine: &'m M,
-    bell: &'l Bell,
-    feeds: Vec<Feed<'l, 'm, M>>,
+struct Feeding<'q, W> {
+    bell: &'q Bell,
+    feeds: &'q W,
 }
 
-impl<'l, 'm, M: Machine + Sync> Work for Feeding<'l, 'm, M>
-where
-    M::State: Send,
-    M::Request: Send,
-    M::Answer: Send,
-{
-    type Done = Vec<Feed<'l, 'm, M>>;
+impl<'q, W: Watch + Sync> Work for Feeding<'q, W> {
+    type Done = ();
 
-    ghost does = { λ f done. AreAllFed f.feeds.items done.items };
+    ghost does = { λ f done. Unit {0} };
 
-    fn run<R: Threads + Wait + Sync>(self, rt: &R) -> Vec<Feed<'l, 'm, M>> {
-        let Feeding {
-            bell,
-            mut feeds,
-            ..
-        } = self;
-        feed_all(rt, bell, feeds.as_mut_slice());
-        feeds
+    fn run<R: Threads + Wait + Sync>(self, rt: &R) {
+        feed_all(rt, self.bell, self.feeds);
     }
 }
 
@@ -95,18 +54,21 @@ fn settle<'m, M: Machine, R: Wait>(
     ensures { result.lane ≡ server.lane }
 {
     let mut server = server;
-    let mut shift = Shift::new();
+    let mut shift = bell.comes_to_one();
     'serving: for _ in rt.forever() {
         match server.serve(lane) {
             Served::Did(next) => {
-                bell.served(&mut shift);
+                bell.served(rt, &mut shift, 1);
                 server = next;
             }
             Served::Idle(next) => {
                 bell.looked(rt, &mut shift);
                 server = next;
             }
-            Served::Settled(next) => return next,
+            Served::Settled(next) => {
+                bell.leaves(shift);
+                return next;
+            }
         }
     }
     unreachable!()
@@ -136,10 +98,11 @@ fn settle_all<'m, M: Machine, R: Wait>(
 
 // All lanes with their servers, and how many workers are to serve them.
 #[derive(Drop)]
-struct Rota<'r, 'l, 'm, M: Machine, R> {
+struct Rota<'r, 'q, 'l, 'm, M: Machine, W, R> {
     rt: &'r R,
     alloc: Global,
-    bell: &'l Bell,
+    bell: &'q Bell,
+    feeds: &'q W,
     lanes: &'l [Lane<'m, M>],
     service: Service<M>,
     workers: u32,
@@ -148,8 +111,8 @@ struct Rota<'r, 'l, 'm, M: Machine, R> {
 }
 
 // Serves all lanes by that many workers; where the pool has no memory, on this thread.
-fn serve<'r, 'l, 'm, M: Machine + Sync, R: Threads + Wait + Sync>(
-    rota: Rota<'r, 'l, 'm, M, R>,
+fn serve<'r, 'q, 'l, 'm, M: Machine + Sync, W: Watch + Sync, R: Threads + Wait + Sync>(
+    rota: Rota<'r, 'q, 'l, 'm, M, W, R>,
 ) -> Vec<Server<M>>
 where
     M::State: Send,
@@ -161,62 +124,62 @@ where
         rt,
         alloc,
         bell,
+        feeds,
         lanes,
         service,
         workers,
     } = rota;
     let Service { servers, room } = service;
-    match serve_with(rt, alloc, lanes, servers, workers, bell) {
+    match serve_watched(rt, alloc, lanes, servers, workers, bell, feeds) {
         Ok(served) => served,
         Err(refused) => settle_all(rt, bell, lanes, refused.servers, room),
     }
 }
 
-// Feeds all lanes on a thread of its own, while they are served here. Feeds and servers come back where no thread can be
+// Feeds all lanes on a thread of its own, while they are served here. The servers come back where one is to do both, or no thread can be
 // started.
-fn feed_and_serve<'r, 'l, 'm, M: Machine + Sync, R: Threads + Wait + Sync>(
+fn by_both<'r, 'q, 'l, 'm, M: Machine + Sync, W: Watch + Sync, R: Threads + Wait + Sync>(
     rt: &'r R,
     alloc: Global,
-    machine: &'m M,
-    bell: &'l Bell,
+    bell: &'q Bell,
+    feeds: &'q W,
     lanes: &'l [Lane<'m, M>],
-    feeds: Vec<Feed<'l, 'm, M>>,
     service: Service<M>,
     workers: u32,
-) -> Result<(Vec<Feed<'l, 'm, M>>, Vec<Server<M>>), (Vec<Feed<'l, 'm, M>>, Service<M>)>
+) -> Result<Vec<Server<M>>, Service<M>>
 where
     M::State: Send,
     M::Request: Send,
     M::Answer: Send,
     requires servers { map (λ s. s.lane) service.servers.items ≡ map known lanes.now }
     requires workers { (0 < workers) × (workers ≤ 16) }
-    ensures fed { IfOk result (λ r. AreAllFed feeds.entry.items r.0.items) }
-    ensures served { IfOk result (λ r. IsPermutation (map known lanes.entry.now) (map (λ s. s.lane) r.1.items)) }
-    ensures back { IfErr result (λ r. (r.0.items ≡ feeds.entry.items) × (r.1 ≡ service)) }
+    ensures served { IfOk result (λ r. IsPermutation (map known lanes.entry.now) (map (λ s. s.lane) r.items)) }
+    ensures back { IfErr result (λ r. map (λ s. s.lane) r.servers.items ≡ map known lanes.entry.now) }
 {
+    // (a lane has one server, so several workers would take turns at one lane, and wait for each other)
+    if workers == 1 || lanes.len() < 2 {
+        return Err(service);
+    }
     let rota = Rota {
         rt,
         alloc,
         bell,
+        feeds,
         lanes,
         service,
         workers,
     };
-    let done = side_by_side::<Feeding<'l, 'm, M>, Rota<'r, 'l, 'm, M, R>, Vec<Server<M>>, _, R>(
+    let done = side_by_side::<Feeding<'q, W>, Rota<'r, 'q, 'l, 'm, M, W, R>, Vec<Server<M>>, _, R>(
         rt,
-        Feeding {
-            machine,
-            bell,
-            feeds,
-        },
+        Feeding { bell, feeds },
         rota,
         |rota| -> Vec<Server<M>>
             ensures { IsPermutation (map known rota.entry.lanes.now) (map (λ s. s.lane) result.items) }
         { serve(rota) },
     );
     match done {
-        Ok(done) => Ok(done),
-        Err((feeding, rota)) => Err((feeding.feeds, rota.service)),
+        Ok((_, served)) => Ok(served),
+        Err((_, rota)) => Err(rota.service),
     }
 }
 
@@ -314,34 +277,22 @@ fn feed_by_one<'l, 'm, M: Machine, R: Wait>(
     (feeds, served)
 }
 
-// All lanes are fed and served, by that many workers. All memory but the pool's own was taken before.
-fn feed_by<'l, 'm, M: Machine + Sync, R: Threads + Wait + Sync>(
+// All lanes are fed to the end: they were, while they were served, or one does both now.
+fn fed_after<'l, 'm, M: Machine, R: Wait>(
     rt: &R,
-    alloc: Global,
-    machine: &'m M,
-    bell: &'l Bell,
-    lanes: &'l [Lane<'m, M>],
+    lanes: &[Lane<'m, M>],
     feeds: Vec<Feed<'l, 'm, M>>,
-    service: Service<M>,
-    workers: u32,
+    done: Result<Vec<Server<M>>, Service<M>>,
 ) -> (Vec<Feed<'l, 'm, M>>, Vec<Server<M>>)
-where
-    M::State: Send,
-    M::Request: Send,
-    M::Answer: Send,
     requires len { vec_len feeds ≡ length lanes.now }
-    requires servers { map (λ s. s.lane) service.servers.items ≡ map known lanes.now }
-    requires workers { (0 < workers) × (workers ≤ 16) }
+    requires served { IfOk done (λ v. IsPermutation (map known lanes.now) (map (λ s. s.lane) v.items)) }
+    requires back { IfErr done (λ r. map (λ s. s.lane) r.servers.items ≡ map known lanes.now) }
     ensures fed { AreAllFed feeds.entry.items result.0.items }
     ensures served { IsPermutation (map known lanes.entry.now) (map (λ s. s.lane) result.1.items) }
 {
-    // (a lane has one server, so several workers would take turns at one lane, and wait for each other)
-    if workers == 1 || lanes.len() < 2 {
-        return feed_by_one(rt, lanes, feeds, service);
-    }
-    match feed_and_serve(rt, alloc, machine, bell, lanes, feeds, service, workers) {
-        Ok(done) => done,
-        Err((feeds, service)) => feed_by_one(rt, lanes, feeds, service),
+    match done {
+        Ok(served) => (feed_rest(rt, feeds), served),
+        Err(service) => feed_by_one(rt, lanes, feeds, service),
     }
 }
 
@@ -365,13 +316,52 @@ fn finish_all<'l, 'm, M: Machine>(
     finished
 }
 
+// The same, where the lanes are those of a course.
+fn run_on<
+    'l,
+    'm,
+    M: Machine + Sync,
+    C: Course<M, M::State, M::Request> + Send + Sync,
+    R: Threads + Wait + Sync,
+>(
+    rt: &R,
+    alloc: Global,
+    machine: &'m M,
+    bell: &Bell,
+    lanes: &'l [Lane<'m, M>],
+    feeds: Vec<Feed<'l, 'm, M>>,
+    service: Service<M>,
+    room: Vec<Finished<M>>,
+    workers: u32,
+) -> (Vec<Finished<M>>, Vec<Server<M>>)
+where
+    M::State: Send,
+    M::Request: Send,
+    M::Answer: Send,
+    requires course { C.lanes ≡ feeds.items }
+    requires machine { All (λ l. l.machine ≡ machine.now) lanes.now }
+    requires lanes { map (λ f. f.lane) feeds.items ≡ lanes.now }
+    requires servers { map (λ s. s.lane) service.servers.items ≡ map known lanes.now }
+    requires workers { (0 < workers) × (workers ≤ 16) }
+    requires empty { room.items ≡ [] }
+    requires room { length lanes.now ≤ vec_capacity room }
+    ensures answers { map (λ f. f.answers.items) result.0.items ≡ map (answers_of M.next M.reply) feeds.entry.items }
+    ensures of { map (λ f. f.leaver.lane) result.0.items ≡ map known lanes.entry.now }
+    ensures served { IsPermutation (map known lanes.entry.now) (map (λ s. s.lane) result.1.items) }
+{
+    let shared = share::<M, C>(machine, feeds);
+    let done = by_both(rt, alloc, bell, &shared, lanes, service, workers);
+    let (feeds, served) = fed_after(rt, lanes, unshare(shared), done);
+    (finish_all(machine, feeds, room), served)
+}
+
 /// All lanes are fed and served, by that many workers: their owners, which have left, with all answers, and their servers in
 /// any order.
 pub fn run_all<'l, 'm, M: Machine + Sync, R: Threads + Wait + Sync>(
     rt: &R,
     alloc: Global,
     machine: &'m M,
-    bell: &'l Bell,
+    bell: &Bell,
     lanes: &'l [Lane<'m, M>],
     feeds: Vec<Feed<'l, 'm, M>>,
     service: Service<M>,
@@ -392,6 +382,7 @@ where
     ensures of { map (λ f. f.leaver.lane) result.0.items ≡ map known lanes.entry.now }
     ensures served { IsPermutation (map known lanes.entry.now) (map (λ s. s.lane) result.1.items) }
 {
-    let (feeds, served) = feed_by(rt, alloc, machine, bell, lanes, feeds, service, workers);
-    (finish_all(machine, feeds, room), served)
+    run_on::<M, Brand, R>(
+        rt, alloc, machine, bell, lanes, feeds, service, room, workers,
+    )
 }

@@ -24,14 +24,14 @@ impl<'l, 'm, M: Machine> Serving for LaneServer<'l, 'm, M> {
 
     ghost is_settled = { λ s. s.server.settled };
 
-    fn serve(self, idle: &mut bool) -> Turn<LaneServer<'l, 'm, M>> {
+    fn serve(self, did: &mut u64) -> Turn<LaneServer<'l, 'm, M>> {
         let LaneServer { lane, server } = self;
         let mut server = server;
-        *idle = true;
+        *did = 0;
         'requests: for _ in 0..MOST_A_TURN {
             match server.serve(lane) {
                 Served::Did(next) => {
-                    *idle = false;
+                    *did = did.wrapping_add(1);
                     server = next;
                 }
                 Served::Idle(server) => return Turn::GoesOn(LaneServer { lane, server }),

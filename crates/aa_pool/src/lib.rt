@@ -14,7 +14,9 @@ mod next;
 mod pool;
 mod serve;
 mod serving;
+mod sharing;
 mod tasks;
+mod watch;
 
 pub use aa_lane::{Answered, Totals};
 pub use aa_machine::Machine;

@@ -5,10 +5,11 @@ ghost use Rattle.crossbeam_queue.specs.Passes.{view, IsPassOf, IsSamePass, ruled
 ghost use Rattle.aa_pool.specs.Once.{hand};
 ghost use Rattle.aa_pool.specs.Crew.{IsWorking, IsLeading};
 
-use crate::bell::{Bell, Shift};
+use crate::bell::Bell;
 use crate::crew::{Worker, all_work};
 use crate::hand::{HandsIn, Hold, Part, Queue, Room, TakesRest};
 use crate::serving::{Serving, Turn};
+use crate::watch::Watch;
 use std::alloc::{AllocError, Global};
 use std::marker::Model;
 use std::sync::Wait;
@@ -20,14 +21,17 @@ fn settle<T: Serving, R: Wait>(rt: &R, bell: &Bell, taken: T) -> T
     ensures settled { T.is_settled result ≡ true }
 {
     let mut taken = taken;
-    let mut shift = Shift::new();
+    let mut shift = bell.comes_to_one();
     'turns: for _ in rt.forever() {
-        let mut idle = false;
-        match taken.serve(&mut idle) {
-            Turn::Settled(done) => return done,
+        let mut did = 0;
+        match taken.serve(&mut did) {
+            Turn::Settled(done) => {
+                bell.leaves(shift);
+                return done;
+            }
             Turn::GoesOn(next) => taken = next,
         }
-        bell.looked_at(rt, &mut shift, idle);
+        bell.looked_at(rt, &mut shift, did);
     }
     unreachable!()
 }
@@ -175,7 +179,12 @@ impl<T: Serving + Drop> Pool<T> {
 
 impl<T: Serving + Drop + Send> Pool<T> {
     /// All that was handed in, once it has settled.
-    pub fn serve<R: Threads + Wait + Sync>(self, rt: &R, bell: &Bell) -> Vec<T>
+    pub fn serve<W: Watch + Sync, R: Threads + Wait + Sync>(
+        self,
+        rt: &R,
+        bell: &Bell,
+        watch: &W,
+    ) -> Vec<T>
         requires { length self.handed ≤ self.room }
         ensures all { IsPermutation self.handed (map T.place result.items) }
         ensures settled { All (λ t. T.is_settled t ≡ true) result.items }
@@ -186,7 +195,7 @@ impl<T: Serving + Drop + Send> Pool<T> {
             mut crew,
             mut kept,
         } = self;
-        all_work(rt, &queue, bell, crew.as_mut_slice());
+        all_work(rt, &queue, bell, watch, crew.as_mut_slice());
         take_all_in(&queue, &mut pass, &mut kept, crew);
         serve_rest(rt, &queue, bell, &mut pass, &mut kept);
         kept

@@ -6,6 +6,7 @@ ghost use Rattle.aa_lane.specs.Ends.{known};
 use crate::bell::Bell;
 use crate::lane_server::LaneServer;
 use crate::pool::Pool;
+use crate::watch::{Unwatched, Watch};
 use aa_lane::{Lane, Server};
 use aa_machine::Machine;
 use std::alloc::Global;
@@ -63,14 +64,16 @@ fn apart<'l, 'm, M: Machine>(
 }
 
 /// Serves each lane until it is settled, by that many workers, of which the calling thread is one. A thread that can't be
-/// started is no refusal: the others go on. They wait for what feeds the lanes by that bell.
-pub fn serve_with<'m, M: Machine + Sync, R: Threads + Wait + Sync>(
+/// started is no refusal: the others go on. They wait for what feeds the lanes by that bell,
+/// and feed them by that watch while requests are short.
+pub fn serve_watched<'m, M: Machine + Sync, W: Watch + Sync, R: Threads + Wait + Sync>(
     rt: &R,
     alloc: Global,
     lanes: &[Lane<'m, M>],
     servers: Vec<Server<M>>,
     workers: u32,
     bell: &Bell,
+    watch: &W,
 ) -> Result<Vec<Server<M>>, PoolRefusal<M>>
 where
     M::State: Send,
@@ -95,7 +98,30 @@ where
     };
     bell.begins(lanes.len());
     hand_all_in(rt, &mut pool, lanes, servers);
-    Ok(apart(pool.serve(rt, bell), served))
+    Ok(apart(pool.serve(rt, bell, watch), served))
+}
+
+/// Serves each lane until it is settled, by that many workers, of which the calling thread is one. A thread that can't be
+/// started is no refusal: the others go on. They wait for what feeds the lanes by that bell.
+pub fn serve_with<'m, M: Machine + Sync, R: Threads + Wait + Sync>(
+    rt: &R,
+    alloc: Global,
+    lanes: &[Lane<'m, M>],
+    servers: Vec<Server<M>>,
+    workers: u32,
+    bell: &Bell,
+) -> Result<Vec<Server<M>>, PoolRefusal<M>>
+where
+    M::State: Send,
+    M::Request: Send,
+    M::Answer: Send,
+    requires servers { map (λ s. s.lane) servers.items ≡ map known lanes.now }
+    requires workers { (0 < workers) × (workers ≤ 16) }
+    ensures all { IfOk result (λ v. IsPermutation (map known lanes.now) (map (λ s. s.lane) v.items)) }
+    ensures settled { IfOk result (λ v. All (λ s. s.settled ≡ true) v.items) }
+    ensures refused { IfErr result (λ r. r.servers ≡ servers) }
+{
+    serve_watched(rt, alloc, lanes, servers, workers, bell, &Unwatched)
 }
 
 /// Serves each lane until it is settled, by that many workers, of which the calling thread is one. A thread that can't be

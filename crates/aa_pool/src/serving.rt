@@ -20,7 +20,7 @@ pub trait Serving {
 
     ghost is_settled: { Self → Bool };
 
-    /// Serves for one turn, and says whether there was nothing to do in it.
-    fn serve(self, idle: &mut bool) -> Turn<Self>
+    /// Serves for one turn, and says how many requests were answered in it.
+    fn serve(self, did: &mut u64) -> Turn<Self>
         ensures { Turns place is_settled self result };
 }

@@ -1,5 +1,5 @@
-//! Two tasks of many requests, each of which waits for that of its number in the other task, so that two workers are at them to
-//! the end.
+//! Two tasks whose requests wait for those of the other: each of many for that of its number, so that two workers are at them to the
+//! end; or one alone for the last of many, which are sent while it waits.
 ghost use Rattle.std.specs.Prelude.{◌<◌, ◌≤◌};
 
 use crate::comparing::{equal, holds};
@@ -13,14 +13,15 @@ use std::sync::atomic::{AtomicU64, Ordering};
 use std::thread;
 use std::thread::Threads;
 
-/// How many requests each task has.
-const REQUESTS: u64 = 200;
+/// How many requests a task has.
+const REQUESTS: u64 = 1000;
 
-/// A request of one of the two tasks, and its number there.
+/// A request of one of the two tasks, its number there, and the number of that in the other task which it waits for.
 #[derive(Clone, Copy)]
 struct Numbered {
     is_first: bool,
     number: u64,
+    awaited: u64,
 }
 
 /// How many requests of each task have begun. One that the other task keeps waiting for long gives up, as do all after it,
@@ -54,7 +55,11 @@ impl Machine for Pairs {
     ghost reply = { λ _ s q. q.number };
 
     fn step(&self, _state: &mut (), request: &Numbered) -> u64 {
-        let number = request.number;
+        let Numbered {
+            number,
+            awaited,
+            ..
+        } = *request;
         let (mine, other) = if request.is_first {
             (&self.first, &self.second)
         } else {
@@ -62,7 +67,7 @@ impl Machine for Pairs {
         };
         mine.fetch_add(1, Ordering::SeqCst);
         for _ in 0..10_000_000u32 {
-            if other.load(Ordering::SeqCst) > number || self.given_up.load(Ordering::SeqCst) == 1 {
+            if other.load(Ordering::SeqCst) > awaited || self.given_up.load(Ordering::SeqCst) == 1 {
                 return number;
             }
             thread::yield_now();
@@ -72,14 +77,22 @@ impl Machine for Pairs {
     }
 }
 
-/// One of the two tasks.
-fn a_task(rt: &impl Abort, alloc: Global, is_first: bool) -> Task<Pairs> {
+/// One of the two tasks, of so many requests. Each waits for that of its number, or all for the same.
+fn a_task(
+    rt: &impl Abort,
+    alloc: Global,
+    is_first: bool,
+    count: u64,
+    awaited: Option<u64>,
+) -> Task<Pairs> {
     let mut requests = VecDeque::new(alloc);
-    for number in 0..REQUESTS {
-        holds(
-            rt,
-            requests.push_back(Numbered { is_first, number }).is_ok(),
-        );
+    for number in 0..count {
+        let request = Numbered {
+            is_first,
+            number,
+            awaited: awaited.unwrap_or(number),
+        };
+        holds(rt, requests.push_back(request).is_ok());
     }
     Task {
         start: (),
@@ -87,18 +100,38 @@ fn a_task(rt: &impl Abort, alloc: Global, is_first: bool) -> Task<Pairs> {
     }
 }
 
-/// Both.
-fn two_tasks(rt: &impl Abort, alloc: Global) -> Vec<Task<Pairs>> {
+/// Two tasks.
+fn both(
+    rt: &impl Abort,
+    alloc: Global,
+    first: Task<Pairs>,
+    second: Task<Pairs>,
+) -> Vec<Task<Pairs>> {
     let mut tasks = Vec::with_capacity(alloc, 2).expect(rt, "memory");
-    tasks.push_reserved(a_task(rt, alloc, true));
-    tasks.push_reserved(a_task(rt, alloc, false));
+    tasks.push_reserved(first);
+    tasks.push_reserved(second);
     tasks
+}
+
+/// Two of many requests, each of which waits for that of its number.
+fn in_step(rt: &impl Abort, alloc: Global) -> Vec<Task<Pairs>> {
+    let first = a_task(rt, alloc, true, REQUESTS, None);
+    let second = a_task(rt, alloc, false, REQUESTS, None);
+    both(rt, alloc, first, second)
+}
+
+/// One of a single request, which waits for the last of many.
+fn far_apart(rt: &impl Abort, alloc: Global) -> Vec<Task<Pairs>> {
+    let first = a_task(rt, alloc, true, 1, Some(REQUESTS - 1));
+    let second = a_task(rt, alloc, false, REQUESTS, Some(0));
+    both(rt, alloc, first, second)
 }
 
 /// How many answers there are in all, with that many workers and lanes of that capacity, and whether a request gave up.
 fn answered_by<R: Abort + Threads + Wait + Sync>(
     rt: &R,
     alloc: Global,
+    tasks: Vec<Task<Pairs>>,
     capacity: u32,
     workers: u32,
 ) -> (usize, u64)
@@ -106,7 +139,7 @@ fn answered_by<R: Abort + Threads + Wait + Sync>(
 {
     let pairs = Pairs::new();
     let mut count: usize = 0;
-    if let Ok(outcomes) = answer_all(rt, alloc, &pairs, two_tasks(rt, alloc), capacity, workers) {
+    if let Ok(outcomes) = answer_all(rt, alloc, &pairs, tasks, capacity, workers) {
         for outcome in outcomes.as_slice() {
             count = count.wrapping_add(outcome.answers.len());
         }
@@ -118,10 +151,25 @@ fn answered_by<R: Abort + Threads + Wait + Sync>(
 fn workers_go_on_as_long_as_there_are_requests(rt: HostRuntime) {
     for capacity in [1, 3, 1024] {
         for workers in [2, 16] {
+            let tasks = in_step(&rt, rt.alloc());
             equal(
                 &rt,
-                answered_by(&rt, rt.alloc(), capacity, workers),
-                (400, 0),
+                answered_by(&rt, rt.alloc(), tasks, capacity, workers),
+                (2000, 0),
+            );
+        }
+    }
+}
+
+#[test]
+fn lanes_are_fed_while_a_request_waits(rt: HostRuntime) {
+    for capacity in [1, 3, 1024] {
+        for workers in [2, 16] {
+            let tasks = far_apart(&rt, rt.alloc());
+            equal(
+                &rt,
+                answered_by(&rt, rt.alloc(), tasks, capacity, workers),
+                (1001, 0),
             );
         }
     }

@@ -1,6 +1,6 @@
 use Rattle.std.proofs.Common.{◌≡◌, ◌<◌, ℕ, true, slice_index_or}
 use Rattle.aa_pool.specs.Fed.{AreSame}
-use Rattle.aa_pool.proofs.feeding.round.Given as goal
+use Rattle.aa_pool.proofs.sharing.round.Given as goal
 
 abbrev pub invariant-loop-i : goal.invariant-loop-i
 invariant-loop-i g l = record {
