@@ -1,32 +1,21 @@
 //! What tests compare, each in a function without a clause: so a proof pays once for the message of a failure.
 
-use std::fmt::{Debug, Display};
+use std::fmt::Debug;
 use std::process::Abort;
-
-/// Both are the same.
-pub(crate) fn equal<T: PartialEq + Debug + Copy>(rt: &impl Abort, found: T, expected: T) {
-    assert_eq!(rt; found, expected);
-}
 
 /// Both are the same, of this text.
 pub(crate) fn equal_in<T: PartialEq + Debug + Copy>(
     rt: &impl Abort,
     found: T,
-    expected: T,
+    wanted: T,
     text: &str,
 ) {
-    assert_eq!(rt; found, expected, "in {text}");
+    assert_eq!(rt; found, wanted, "in {text}");
 }
 
-/// Both are the same, of what these two name.
-pub(crate) fn equal_at<T: PartialEq + Debug + Copy>(
-    rt: &impl Abort,
-    found: T,
-    expected: T,
-    first: &impl Display,
-    second: &impl Display,
-) {
-    assert_eq!(rt; found, expected, "at {first} {second}");
+/// Both are the same.
+pub(crate) fn equal<T: PartialEq + Debug + Copy>(rt: &impl Abort, found: T, wanted: T) {
+    assert_eq!(rt; found, wanted);
 }
 
 /// It is so.

@@ -2,16 +2,32 @@
 #![tactic(auto)]
 
 #[cfg(test)]
-mod asks;
-#[cfg(test)]
-mod auto;
+mod automaton_tests;
 #[cfg(test)]
 mod comparing;
 #[cfg(test)]
-mod compile;
+mod difference_tests;
 #[cfg(test)]
-mod mediate;
+mod join_tests;
+#[cfg(test)]
+mod label_tests;
+#[cfg(test)]
+mod line_tests;
+#[cfg(test)]
+mod list_tests;
 mod plain;
+#[cfg(test)]
+mod policy_tests;
+#[cfg(test)]
+mod quantity_tests;
+#[cfg(test)]
+mod reachability_tests;
+#[cfg(test)]
+mod region_tests;
+#[cfg(test)]
+mod representative_tests;
+#[cfg(test)]
+mod skipping_tests;
 #[cfg(test)]
 mod texts;
 
