@@ -1,0 +1,9 @@
+mod Numbered
+mod Masked
+mod Tabled
+mod Bits
+mod Replies
+mod Asking
+mod Gone
+mod Marking
+mod Positions

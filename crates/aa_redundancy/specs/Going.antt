@@ -1,0 +1,34 @@
+-- Rules that can go, each by itself, and together.
+-- Source: own.
+use Rattle.std.specs.Prelude.{◌≡◌, ◌≢◌, ℕ, ◌<◌, ◌≤◌, List, Bool, true, false, length}
+use Rattle.aa_redundancy.specs.declared.going.Going.{Going}
+use Rattle.aa_redundancy.specs.Without.{only, marked, with_later}
+
+-- the marked numbers are those of which something holds, and others are those of which it doesn't
+abbrev pub MarksThose : List Bool → ℕ → (ℕ → Type 0) → Type 0
+MarksThose flags count P = (i : ℕ) → i < count → (marked flags i ≡ true → P i) × (marked flags i ≡ false → P i → ⊥)
+
+-- nothing is marked
+abbrev pub NoneMarked : List Bool → Type 0
+NoneMarked flags = (n : ℕ) → marked flags n ≡ false
+
+-- all that are marked stand behind a number
+abbrev pub AreLater : List Bool → ℕ → Type 0
+AreLater flags i = (n : ℕ) → n ≤ i → marked flags n ≡ false
+
+-- number i alone is marked anew, or isn't: exactly where nothing changes when it goes with those behind it
+pub record Settles (Same : (ℕ → Bool) → Type 0) (i : ℕ) (was now : List Bool) : Type 0 where
+  pub many : length now ≡ length was
+  pub others : (n : ℕ) → n ≢ i → marked now n ≡ marked was n
+  pub goes : marked now i ≡ true → Same (with_later now i)
+  pub stays : marked now i ≡ false → Same (with_later now i) → ⊥
+  pub all : Same (marked now)
+
+-- a rule is marked alone exactly where nothing changes when it goes by itself; together, exactly where nothing changes when it goes with
+-- those behind it that are marked so; and nothing changes when all of these go
+pub record AreGoing (Same : (ℕ → Bool) → Type 0) (count : ℕ) (g : Going) : Type 0 where
+  pub many_alone : length g.alone.items ≡ count
+  pub many_together : length g.together.items ≡ count
+  pub alone : MarksThose g.alone.items count (λ i. Same (only i))
+  pub together : MarksThose g.together.items count (λ i. Same (with_later g.together.items i))
+  pub all : Same (marked g.together.items)

@@ -1,0 +1,12 @@
+pub use Rattle.aa_regions.specs.Regions
+pub use Rattle.aa_regions.specs.Wanted
+pub use Rattle.aa_mediate.specs.Reply
+pub use Rattle.aa_machine.specs.Run
+pub use Rattle.aa_representatives.specs.Askable
+pub mod Without
+pub mod Rights
+pub mod Sameness
+pub mod Faults
+pub mod Marks
+pub mod Tables
+pub mod Going
