@@ -257,10 +257,17 @@ impl<'l, 'm, M: Machine> Feed<'l, 'm, M> {
         ensures finished { result ≡ Turned.Left → self.new.finished ≡ true }
     {
         let mut did = false;
+        let before = self.sent;
         'turns: for _ in 0..MOST_TURNS {
             match self.turn() {
                 Turned::Did => did = true,
-                Turned::Filled => return Turned::Filled,
+                Turned::Filled => {
+                    // (what was sent before may have been answered)
+                    if self.sent.saturating_sub(before) >= self.capacity {
+                        return Turned::Filled;
+                    }
+                    did = true;
+                }
                 Turned::Waits => return if did { Turned::Did } else { Turned::Waits },
                 Turned::Left => return Turned::Left,
             }

@@ -8,29 +8,33 @@ use crate::bell::Bell;
 use crate::beside::{Work, side_by_side};
 use crate::feed::{Feed, Finished, Turned};
 use crate::serve::serve_watched;
-use crate::sharing::{Course, feed_all, feed_rest, share, unshare};
-use crate::watch::Watch;
+use crate::sharing::{Course, Feeds, Shared, feed_all, share, unshare, unshare_fed};
+use crate::watch::{Feeder, Watch};
 use aa_lane::{Lane, Served, Server};
 use aa_machine::Machine;
 use std::alloc::Global;
 use std::marker::Brand;
 use std::sync::Wait;
+use std::sync::ledger::{Blank, Ledger, Share};
 use std::thread::Threads;
 
-// The thread that feeds.
+// The thread that feeds. Where all owners have left, it has counted that.
 #[derive(Drop)]
-struct Feeding<'q, W> {
+struct Feeding<'q, L: Ledger, W> {
     bell: &'q Bell,
     feeds: &'q W,
+    mine: Share<L>,
+    ghost part: { 0 < mine.parts },
 }
 
-impl<'q, W: Watch + Sync> Work for Feeding<'q, W> {
-    type Done = ();
+impl<'q, L: Ledger, W: Feeder<L> + Sync> Work for Feeding<'q, L, W> {
+    type Done = Share<L>;
 
-    ghost does = { λ f done. Unit {0} };
+    ghost does = { λ f done. 0 < done.amount };
 
-    fn run<R: Threads + Wait + Sync>(self, rt: &R) {
-        feed_all(rt, self.bell, self.feeds);
+    fn run<R: Threads + Wait + Sync>(self, rt: &R) -> Share<L> {
+        let Feeding { bell, feeds, mine } = self;
+        feed_all(rt, bell, feeds, mine)
     }
 }
 
@@ -138,22 +142,34 @@ where
 
 // Feeds all lanes on a thread of its own, while they are served here. The servers come back where one is to do both, or no thread can be
 // started.
-fn by_both<'r, 'q, 'l, 'm, M: Machine + Sync, W: Watch + Sync, R: Threads + Wait + Sync>(
+fn by_both<
+    'r,
+    'q,
+    'l,
+    'm,
+    M: Machine + Sync,
+    L: Ledger + Send + Sync,
+    W: Watch + Feeder<L> + Sync,
+    R: Threads + Wait + Sync,
+>(
     rt: &'r R,
     alloc: Global,
     bell: &'q Bell,
     feeds: &'q W,
+    mine: Share<L>,
     lanes: &'l [Lane<'m, M>],
     service: Service<M>,
     workers: u32,
-) -> Result<Vec<Server<M>>, Service<M>>
+) -> Result<(Share<L>, Vec<Server<M>>), Service<M>>
 where
     M::State: Send,
     M::Request: Send,
     M::Answer: Send,
+    requires part { 0 < mine.parts }
     requires servers { map (λ s. s.lane) service.servers.items ≡ map known lanes.now }
     requires workers { (0 < workers) × (workers ≤ 16) }
-    ensures served { IfOk result (λ r. IsPermutation (map known lanes.entry.now) (map (λ s. s.lane) r.items)) }
+    ensures fed { IfOk result (λ r. 0 < r.0.amount) }
+    ensures served { IfOk result (λ r. IsPermutation (map known lanes.entry.now) (map (λ s. s.lane) r.1.items)) }
     ensures back { IfErr result (λ r. map (λ s. s.lane) r.servers.items ≡ map known lanes.entry.now) }
 {
     // (a lane has one server, so several workers would take turns at one lane, and wait for each other)
@@ -169,16 +185,23 @@ where
         service,
         workers,
     };
-    let done = side_by_side::<Feeding<'q, W>, Rota<'r, 'q, 'l, 'm, M, W, R>, Vec<Server<M>>, _, R>(
+    let feeding = Feeding { bell, feeds, mine };
+    let done = side_by_side::<
+        Feeding<'q, L, W>,
+        Rota<'r, 'q, 'l, 'm, M, W, R>,
+        Vec<Server<M>>,
+        _,
+        R,
+    >(
         rt,
-        Feeding { bell, feeds },
+        feeding,
         rota,
         |rota| -> Vec<Server<M>>
             ensures { IsPermutation (map known rota.entry.lanes.now) (map (λ s. s.lane) result.items) }
         { serve(rota) },
     );
     match done {
-        Ok((_, served)) => Ok(served),
+        Ok(both) => Ok(both),
         Err((_, rota)) => Err(rota.service),
     }
 }
@@ -277,22 +300,23 @@ fn feed_by_one<'l, 'm, M: Machine, R: Wait>(
     (feeds, served)
 }
 
-// All lanes are fed to the end: they were, while they were served, or one does both now.
-fn fed_after<'l, 'm, M: Machine, R: Wait>(
+// The lanes that were shared, fed to the end: they were, while they were served, or one does both now.
+fn fed_after<'l, 'm, M: Machine, C: Course<M, M::State, M::Request>, L: Ledger, R: Wait>(
     rt: &R,
     lanes: &[Lane<'m, M>],
-    feeds: Vec<Feed<'l, 'm, M>>,
-    done: Result<Vec<Server<M>>, Service<M>>,
+    shared: Shared<L, Feeds<'l, 'm, M, C>>,
+    done: Result<(Share<L>, Vec<Server<M>>), Service<M>>,
 ) -> (Vec<Feed<'l, 'm, M>>, Vec<Server<M>>)
-    requires len { vec_len feeds ≡ length lanes.now }
-    requires served { IfOk done (λ v. IsPermutation (map known lanes.now) (map (λ s. s.lane) v.items)) }
+    requires len { length C.lanes ≡ length lanes.now }
+    requires fed { IfOk done (λ r. 0 < r.0.amount) }
+    requires served { IfOk done (λ r. IsPermutation (map known lanes.now) (map (λ s. s.lane) r.1.items)) }
     requires back { IfErr done (λ r. map (λ s. s.lane) r.servers.items ≡ map known lanes.now) }
-    ensures fed { AreAllFed feeds.entry.items result.0.items }
+    ensures fed { AreAllFed C.lanes result.0.items }
     ensures served { IsPermutation (map known lanes.entry.now) (map (λ s. s.lane) result.1.items) }
 {
     match done {
-        Ok(served) => (feed_rest(rt, feeds), served),
-        Err(service) => feed_by_one(rt, lanes, feeds, service),
+        Ok((mine, served)) => (unshare_fed(shared, mine), served),
+        Err(service) => feed_by_one(rt, lanes, unshare(shared), service),
     }
 }
 
@@ -322,12 +346,14 @@ fn run_on<
     'm,
     M: Machine + Sync,
     C: Course<M, M::State, M::Request> + Send + Sync,
+    L: Ledger + Send + Sync,
     R: Threads + Wait + Sync,
 >(
     rt: &R,
     alloc: Global,
     machine: &'m M,
     bell: &Bell,
+    blank: Blank,
     lanes: &'l [Lane<'m, M>],
     feeds: Vec<Feed<'l, 'm, M>>,
     service: Service<M>,
@@ -339,6 +365,7 @@ where
     M::Request: Send,
     M::Answer: Send,
     requires course { C.lanes ≡ feeds.items }
+    requires ledger { (blank.name ≡ L.name) × (blank.parts ≡ L.parts) × (blank.parts ≡ 1) }
     requires machine { All (λ l. l.machine ≡ machine.now) lanes.now }
     requires lanes { map (λ f. f.lane) feeds.items ≡ lanes.now }
     requires servers { map (λ s. s.lane) service.servers.items ≡ map known lanes.now }
@@ -349,9 +376,9 @@ where
     ensures of { map (λ f. f.leaver.lane) result.0.items ≡ map known lanes.entry.now }
     ensures served { IsPermutation (map known lanes.entry.now) (map (λ s. s.lane) result.1.items) }
 {
-    let shared = share::<M, C>(machine, feeds);
-    let done = by_both(rt, alloc, bell, &shared, lanes, service, workers);
-    let (feeds, served) = fed_after(rt, lanes, unshare(shared), done);
+    let (shared, mine) = share::<M, C, L>(machine, feeds, blank);
+    let done = by_both(rt, alloc, bell, &shared, mine, lanes, service, workers);
+    let (feeds, served) = fed_after(rt, lanes, shared, done);
     (finish_all(machine, feeds, room), served)
 }
 
@@ -382,7 +409,16 @@ where
     ensures of { map (λ f. f.leaver.lane) result.0.items ≡ map known lanes.entry.now }
     ensures served { IsPermutation (map known lanes.entry.now) (map (λ s. s.lane) result.1.items) }
 {
-    run_on::<M, Brand, R>(
-        rt, alloc, machine, bell, lanes, feeds, service, room, workers,
+    run_on::<M, Brand, Brand, R>(
+        rt,
+        alloc,
+        machine,
+        bell,
+        Blank::new(1),
+        lanes,
+        feeds,
+        service,
+        room,
+        workers,
     )
 }

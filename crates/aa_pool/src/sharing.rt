@@ -1,12 +1,13 @@
 //! Lanes that are fed by one thread at a time, whichever it is.
-ghost use Rattle.std.specs.Prelude.{◌≡◌, [], true, All, List};
+ghost use Rattle.std.specs.Prelude.{◌≡◌, ◌<◌, Bool, [], true, All, List};
 ghost use Rattle.aa_pool.specs.Fed.{AreSame, AreAllFed, FeedSeen};
 
 use crate::bell::Bell;
 use crate::feed::{Feed, Turned};
-use crate::watch::{Tended, Watch};
+use crate::watch::{Feeder, Tended, Watch};
 use aa_machine::Machine;
 use std::marker::{Brand, PhantomData};
+use std::sync::ledger::{Blank, Book, Ledger, Share};
 use std::sync::{Mutex, Wait};
 
 /// Which lanes are fed, and with what. Each run picks it.
@@ -18,24 +19,37 @@ impl<M, S, Q> Course<M, S, Q> for Brand {
     ghost lanes = { [] };
 }
 
-/// The lanes of a run.
+/// The lanes of a run, and whether each owner has left.
 #[derive(Drop)]
 pub struct Feeds<'l, 'm, M: Machine, C: Course<M, M::State, M::Request>> {
+    // (so that it is known to outlive the lanes)
     machine: &'m M,
     feeds: Vec<Feed<'l, 'm, M>>,
+    finished: bool,
     course: PhantomData<C>,
     ghost same: { AreSame C.lanes feeds.items },
+    ghost fed: { finished ≡ true → AreAllFed C.lanes feeds.items },
 }
 
-/// What is fed in rounds.
+/// What is fed in rounds, until it is over.
 pub trait Rounds {
+    ghost is_over: { Self → Bool };
+
     /// Feeds each lane once.
-    fn round(&mut self) -> Tended;
+    fn round(&mut self) -> Tended
+        ensures over { result ≡ Tended.Finished → is_over self.new ≡ true }
+        ensures stays { is_over self.old ≡ true → is_over self.new ≡ true };
 }
 
 impl<'l, 'm, M: Machine, C: Course<M, M::State, M::Request>> Rounds for Feeds<'l, 'm, M, C> {
+    ghost is_over = { λ f. f.finished };
+
     fn round(&mut self) -> Tended {
+        if self.finished {
+            return Tended::Finished;
+        }
         let (finished, idle) = round(self.feeds.as_mut_slice());
+        self.finished = finished;
         if finished {
             Tended::Finished
         } else if idle {
@@ -63,83 +77,131 @@ fn round<'l, 'm, M: Machine>(feeds: &mut [Feed<'l, 'm, M>]) -> (bool, bool)
     (finished, idle)
 }
 
-/// What the thread that feeds and the workers share. A round is one thread's alone.
+// What is fed, and how many times who feeds has found that it is over.
 #[derive(Drop)]
-pub struct Shared<F: Drop> {
-    feeds: Mutex<F>,
+struct Counted<L: Ledger, F: Rounds> {
+    feeds: F,
+    endings: Book<L>,
+    ghost over: { 0 < endings.total → F.is_over feeds ≡ true },
 }
 
-impl<F: Rounds + Drop> Watch for Shared<F> {
+impl<L: Ledger, F: Rounds> Counted<L, F> {
+    // Feeds each lane once.
+    fn round(&mut self) -> Tended {
+        self.feeds.round()
+    }
+
+    // The same, and where it is over that counts.
+    fn round_counted(&mut self, mine: &mut Share<L>) -> Tended
+        requires part { 0 < mine.old.parts }
+        ensures part { mine.new.parts ≡ mine.old.parts }
+        ensures finished { result ≡ Tended.Finished → 0 < mine.new.amount }
+    {
+        let tended = self.feeds.round();
+        if tended == Tended::Finished {
+            self.endings.add(mine, 1);
+        }
+        tended
+    }
+}
+
+/// What the thread that feeds and the workers share. A round is one thread's alone.
+#[derive(Drop)]
+pub struct Shared<L: Ledger, F: Rounds + Drop> {
+    counted: Mutex<Counted<L, F>>,
+}
+
+impl<L: Ledger, F: Rounds + Drop> Watch for Shared<L, F> {
     fn tend(&self) -> Tended {
-        match self.feeds.try_lock() {
-            Some(mut feeds) => feeds.round(),
+        match self.counted.try_lock() {
+            Some(mut counted) => counted.round(),
             None => Tended::Nothing,
         }
     }
 }
 
-/// These lanes, to be shared.
-pub fn share<'l, 'm, M: Machine, C: Course<M, M::State, M::Request>>(
-    machine: &'m M,
-    feeds: Vec<Feed<'l, 'm, M>>,
-) -> Shared<Feeds<'l, 'm, M, C>>
-    requires { C.lanes ≡ feeds.items }
-{
-    let feeds = Feeds {
-        machine,
-        feeds,
-        course: PhantomData,
-    };
-    Shared {
-        feeds: Mutex::new(feeds),
+impl<L: Ledger, F: Rounds + Drop> Feeder<L> for Shared<L, F> {
+    fn feed(&self, mine: &mut Share<L>) -> Tended {
+        match self.counted.try_lock() {
+            Some(mut counted) => counted.round_counted(mine),
+            None => Tended::Nothing,
+        }
     }
 }
 
+/// These lanes, to be shared, and what who feeds them counts by.
+pub fn share<'l, 'm, M: Machine, C: Course<M, M::State, M::Request>, L: Ledger>(
+    machine: &'m M,
+    feeds: Vec<Feed<'l, 'm, M>>,
+    blank: Blank,
+) -> (Shared<L, Feeds<'l, 'm, M, C>>, Share<L>)
+    requires course { C.lanes ≡ feeds.items }
+    requires name { blank.name ≡ L.name }
+    requires parts { blank.parts ≡ L.parts }
+    requires part { 0 < blank.parts }
+    ensures { 0 < result.1.parts }
+{
+    let (endings, mine) = blank.open::<L>();
+    let feeds = Feeds {
+        machine,
+        feeds,
+        finished: false,
+        course: PhantomData,
+    };
+    let counted = Counted { feeds, endings };
+    let shared = Shared {
+        counted: Mutex::new(counted),
+    };
+    (shared, mine)
+}
+
 /// The lanes that were shared, as they were left.
-pub fn unshare<'l, 'm, M: Machine, C: Course<M, M::State, M::Request>>(
-    shared: Shared<Feeds<'l, 'm, M, C>>,
+pub fn unshare<'l, 'm, M: Machine, C: Course<M, M::State, M::Request>, L: Ledger>(
+    shared: Shared<L, Feeds<'l, 'm, M, C>>,
 ) -> Vec<Feed<'l, 'm, M>>
     ensures { AreSame C.lanes result.items }
 {
-    let Shared { feeds } = shared;
-    let Feeds { feeds, .. } = feeds.into_inner();
+    let Shared { counted } = shared;
+    let Counted { feeds, .. } = counted.into_inner();
+    let Feeds { feeds, .. } = feeds;
+    feeds
+}
+
+/// The lanes that were shared, once who fed them has found that each owner has left.
+pub fn unshare_fed<'l, 'm, M: Machine, C: Course<M, M::State, M::Request>, L: Ledger>(
+    shared: Shared<L, Feeds<'l, 'm, M, C>>,
+    mine: Share<L>,
+) -> Vec<Feed<'l, 'm, M>>
+    requires { 0 < mine.amount }
+    ensures { AreAllFed C.lanes result.items }
+{
+    let Shared { counted } = shared;
+    let Counted { feeds, mut endings } = counted.into_inner();
+    let mut mine = mine;
+    endings.audit(&mut mine);
+    let Feeds { feeds, .. } = feeds;
     feeds
 }
 
 /// All lanes are fed by turns, until each owner has left. Where there is nothing to do at any, or a worker feeds them, those who serve them
 /// come first.
-pub fn feed_all<W: Watch, R: Wait>(rt: &R, bell: &Bell, feeds: &W) {
+pub fn feed_all<L: Ledger, W: Feeder<L>, R: Wait>(
+    rt: &R,
+    bell: &Bell,
+    feeds: &W,
+    mine: Share<L>,
+) -> Share<L>
+    requires { 0 < mine.parts }
+    ensures { 0 < result.amount }
+{
+    let mut mine = mine;
     'feeding: for _ in rt.forever() {
-        let tended = feeds.tend();
+        let tended = feeds.feed(&mut mine);
         if tended == Tended::Finished {
             bell.wake_all();
-            return;
+            return mine;
         }
         bell.fed(rt, tended == Tended::Nothing);
     }
-}
-
-// The same, on this thread alone.
-fn feed_on<'l, 'm, M: Machine, R: Wait>(rt: &R, feeds: &mut [Feed<'l, 'm, M>])
-    ensures { AreAllFed feeds.old feeds.new }
-{
-    'feeding: for _ in rt.forever() {
-        let (finished, _) = round(feeds);
-        if finished {
-            return;
-        }
-    }
     unreachable!()
-}
-
-/// The lanes, once each owner has left. They were fed before, so that all have.
-pub fn feed_rest<'l, 'm, M: Machine, R: Wait>(
-    rt: &R,
-    feeds: Vec<Feed<'l, 'm, M>>,
-) -> Vec<Feed<'l, 'm, M>>
-    ensures { AreAllFed feeds.entry.items result.items }
-{
-    let mut feeds = feeds;
-    feed_on(rt, feeds.as_mut_slice());
-    feeds
 }

@@ -1,4 +1,7 @@
-//! What a worker does for the thread that feeds.
+//! What a worker does for the thread that feeds, and that thread itself.
+ghost use Rattle.std.specs.Prelude.{◌≡◌, ◌<◌};
+
+use std::sync::ledger::{Ledger, Share};
 
 /// What feeding all lanes once came to.
 #[derive(Clone, Copy, PartialEq, Eq)]
@@ -15,6 +18,15 @@ pub enum Tended {
 pub trait Watch {
     /// Feeds each lane once, unless another thread is just at it.
     fn tend(&self) -> Tended;
+}
+
+/// Feeds lanes, for the thread that does nothing else.
+pub trait Feeder<L: Ledger> {
+    /// Feeds each lane once, unless another thread is just at it. That all owners have left counts.
+    fn feed(&self, mine: &mut Share<L>) -> Tended
+        requires part { 0 < mine.old.parts }
+        ensures part { mine.new.parts ≡ mine.old.parts }
+        ensures finished { result ≡ Tended.Finished → 0 < mine.new.amount };
 }
 
 /// Where nobody who serves is to feed.
