@@ -45,9 +45,9 @@ is_on_all rows r = not r.deny && not (list_any (lacks r) rows)
 abbrev pub overrules : FileRule → Row → Bool
 overrules r row = shares r.perms.0 row.sets.allow.0 && applies_at r row
 
--- the rule denies, and nowhere what another allows
-abbrev pub is_idle : List Row → FileRule → Bool
-is_idle rows r = r.deny && not (list_any (overrules r) rows)
+-- the rule denies without audit, in a profile that doesn't complain, and nowhere what another allows
+abbrev pub is_idle : Bool → List Row → FileRule → Bool
+is_idle complain rows r = not complain && (r.deny && (not r.audit && not (list_any (overrules r) rows)))
 
 -- one of the rules alone applies to the file
 abbrev pub differ_at : FileRule → FileRule → Row → Bool

@@ -46,33 +46,33 @@ abbrev pub found_along : List (List ℕ) → Subject → List Finding
 found_along paths subject = found_by (nearest paths (length paths)) subject
 
 -- of rule n on files
-unfoldable pub of_file : List Row → List FileRule → ℕ → FileRule → List Finding
-of_file rows rules n r =
+unfoldable pub of_file : Bool → List Row → List FileRule → ℕ → FileRule → List Finding
+of_file complain rows rules n r =
     found_if (is_unconfined_exec r) UnconfinedExec (of.File n) ++ found_along (written_paths rows r) (of.File n)
-    ++ found_if (is_on_all rows r) AllFiles (of.File n) ++ found_again (position (repeats rows r) (take n rules)) (of.File n) ++ found_if (is_idle rows r) IdleDeny (of.File n)
+    ++ found_if (is_on_all rows r) AllFiles (of.File n) ++ found_again (position (repeats rows r) (take n rules)) (of.File n) ++ found_if (is_idle complain rows r) IdleDeny (of.File n)
 
 -- of the first n rules on files
-abbrev pub files_before : List Row → List FileRule → ℕ → List Finding
-files_before rows rules zero = []
-files_before rows rules (suc n) = files_before rows rules n ++ option_map_or (of_file rows rules n) (slice_get rules n) []
+abbrev pub files_before : Bool → List Row → List FileRule → ℕ → List Finding
+files_before complain rows rules zero = []
+files_before complain rows rules (suc n) = files_before complain rows rules n ++ option_map_or (of_file complain rows rules n) (slice_get rules n) []
 
 -- of rule n on capabilities
-unfoldable pub of_cap : List CapRule → ℕ → CapRule → List Finding
-of_cap rules n r = found_again (position (same_caps r) (take n rules)) (of.Cap n) ++ found_if (is_idle_cap rules r) IdleDeny (of.Cap n)
+unfoldable pub of_cap : Bool → List CapRule → ℕ → CapRule → List Finding
+of_cap complain rules n r = found_again (position (same_caps r) (take n rules)) (of.Cap n) ++ found_if (is_idle_cap complain rules r) IdleDeny (of.Cap n)
 
 -- of the first n of them
-abbrev pub caps_before : List CapRule → ℕ → List Finding
-caps_before rules zero = []
-caps_before rules (suc n) = caps_before rules n ++ option_map_or (of_cap rules n) (slice_get rules n) []
+abbrev pub caps_before : Bool → List CapRule → ℕ → List Finding
+caps_before complain rules zero = []
+caps_before complain rules (suc n) = caps_before complain rules n ++ option_map_or (of_cap complain rules n) (slice_get rules n) []
 
 -- of rule n on sockets
-unfoldable pub of_net : List NetRule → ℕ → NetRule → List Finding
-of_net rules n r = found_again (position (same_nets r) (take n rules)) (of.Net n) ++ found_if (is_idle_net rules r) IdleDeny (of.Net n)
+unfoldable pub of_net : Bool → List NetRule → ℕ → NetRule → List Finding
+of_net complain rules n r = found_again (position (same_nets r) (take n rules)) (of.Net n) ++ found_if (is_idle_net complain rules r) IdleDeny (of.Net n)
 
 -- of the first n of them
-abbrev pub nets_before : List NetRule → ℕ → List Finding
-nets_before rules zero = []
-nets_before rules (suc n) = nets_before rules n ++ option_map_or (of_net rules n) (slice_get rules n) []
+abbrev pub nets_before : Bool → List NetRule → ℕ → List Finding
+nets_before complain rules zero = []
+nets_before complain rules (suc n) = nets_before complain rules n ++ option_map_or (of_net complain rules n) (slice_get rules n) []
 
 -- of rule n on changes of the profile
 abbrev pub of_change : ℕ → ChangeRule → List Finding
@@ -86,4 +86,4 @@ changes_before rules (suc n) = changes_before rules n ++ option_map_or (of_chang
 -- of all rules of a profile, by rows that stand for all files
 unfoldable pub of_rules : List Row → Profile → List Finding
 of_rules rows p =
-    files_before rows p.files (length p.files) ++ caps_before p.caps (length p.caps) ++ nets_before p.nets (length p.nets) ++ changes_before p.changes (length p.changes)
+    files_before p.complain rows p.files (length p.files) ++ caps_before p.complain p.caps (length p.caps) ++ nets_before p.complain p.nets (length p.nets) ++ changes_before p.changes (length p.changes)

@@ -83,11 +83,11 @@ fn overrules_one(rows: &[Row], rule: &FileRule) -> bool
     rows.iter().any(|row| overrules(rule, row))
 }
 
-/// Whether the rule denies, and nothing that another allows.
-pub(crate) fn is_idle(rows: &[Row], rule: &FileRule) -> bool
-    ensures { result ≡ is_idle rows.now rule.now }
+/// Whether the rule denies without audit, in a profile that doesn't complain, and nothing that another allows.
+pub(crate) fn is_idle(complain: bool, rows: &[Row], rule: &FileRule) -> bool
+    ensures { result ≡ is_idle complain rows.now rule.now }
 {
-    rule.deny && !overrules_one(rows, rule)
+    !complain && rule.deny && !rule.audit && !overrules_one(rows, rule)
 }
 
 fn differ_at(one: &FileRule, other: &FileRule, row: &Row) -> bool

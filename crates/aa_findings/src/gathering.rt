@@ -99,13 +99,14 @@ fn push_along(
 fn push_file(
     found: &mut Vec<Finding>,
     alloc: Global,
+    complain: bool,
     rows: &[Row],
     rules: &[FileRule],
     rule: &FileRule,
     number: usize,
 ) -> Result<(), AllocError>
     requires { number < length rules.now }
-    ensures { OnOk result (found.new.items ≡ found.old.items ++ of_file rows.now rules.now number rule.now) }
+    ensures { OnOk result (found.new.items ≡ found.old.items ++ of_file complain rows.now rules.now number rule.now) }
 {
     let subject = Subject::File(number);
     let paths = written_paths(alloc, rows, rule)?;
@@ -119,20 +120,22 @@ fn push_file(
     push_along(found, alloc, paths.as_slice(), subject)?;
     push_if(found, is_on_all(rows, rule), Kind::AllFiles, subject)?;
     push_again(found, earlier, subject)?;
-    push_if(found, is_idle(rows, rule), Kind::IdleDeny, subject)
+    let idle = is_idle(complain, rows, rule);
+    push_if(found, idle, Kind::IdleDeny, subject)
 }
 
 /// Adds what is found of the rules on files.
 fn push_files(
     found: &mut Vec<Finding>,
     alloc: Global,
+    complain: bool,
     rows: &[Row],
     rules: &[FileRule],
 ) -> Result<(), AllocError>
-    ensures { OnOk result (found.new.items ≡ found.old.items ++ files_before rows.now rules.now (length rules.now)) }
+    ensures { OnOk result (found.new.items ≡ found.old.items ++ files_before complain rows.now rules.now (length rules.now)) }
 {
     for number in 0..rules.len() {
-        push_file(found, alloc, rows, rules, &rules[number], number)?;
+        push_file(found, alloc, complain, rows, rules, &rules[number], number)?;
     }
     Ok(())
 }
@@ -141,24 +144,26 @@ fn push_files(
 #[tactic(auto, unfolding(crate::specs::Gathered::of_cap))]
 fn push_cap(
     found: &mut Vec<Finding>,
+    complain: bool,
     rules: &[CapRule],
     rule: &CapRule,
     number: usize,
 ) -> Result<(), AllocError>
     requires { number < length rules.now }
-    ensures { OnOk result (found.new.items ≡ found.old.items ++ of_cap rules.now number rule.now) }
+    ensures { OnOk result (found.new.items ≡ found.old.items ++ of_cap complain rules.now number rule.now) }
 {
     let subject = Subject::Cap(number);
     let earlier = repeated_cap(&rules[..number], rule);
     push_again(found, earlier, subject)?;
-    push_if(found, is_idle_cap(rules, rule), Kind::IdleDeny, subject)
+    let idle = is_idle_cap(complain, rules, rule);
+    push_if(found, idle, Kind::IdleDeny, subject)
 }
 
-fn push_caps(found: &mut Vec<Finding>, rules: &[CapRule]) -> Result<(), AllocError>
-    ensures { OnOk result (found.new.items ≡ found.old.items ++ caps_before rules.now (length rules.now)) }
+fn push_caps(found: &mut Vec<Finding>, complain: bool, rules: &[CapRule]) -> Result<(), AllocError>
+    ensures { OnOk result (found.new.items ≡ found.old.items ++ caps_before complain rules.now (length rules.now)) }
 {
     for number in 0..rules.len() {
-        push_cap(found, rules, &rules[number], number)?;
+        push_cap(found, complain, rules, &rules[number], number)?;
     }
     Ok(())
 }
@@ -167,24 +172,26 @@ fn push_caps(found: &mut Vec<Finding>, rules: &[CapRule]) -> Result<(), AllocErr
 #[tactic(auto, unfolding(crate::specs::Gathered::of_net))]
 fn push_net(
     found: &mut Vec<Finding>,
+    complain: bool,
     rules: &[NetRule],
     rule: &NetRule,
     number: usize,
 ) -> Result<(), AllocError>
     requires { number < length rules.now }
-    ensures { OnOk result (found.new.items ≡ found.old.items ++ of_net rules.now number rule.now) }
+    ensures { OnOk result (found.new.items ≡ found.old.items ++ of_net complain rules.now number rule.now) }
 {
     let subject = Subject::Net(number);
     let earlier = repeated_net(&rules[..number], rule);
     push_again(found, earlier, subject)?;
-    push_if(found, is_idle_net(rules, rule), Kind::IdleDeny, subject)
+    let idle = is_idle_net(complain, rules, rule);
+    push_if(found, idle, Kind::IdleDeny, subject)
 }
 
-fn push_nets(found: &mut Vec<Finding>, rules: &[NetRule]) -> Result<(), AllocError>
-    ensures { OnOk result (found.new.items ≡ found.old.items ++ nets_before rules.now (length rules.now)) }
+fn push_nets(found: &mut Vec<Finding>, complain: bool, rules: &[NetRule]) -> Result<(), AllocError>
+    ensures { OnOk result (found.new.items ≡ found.old.items ++ nets_before complain rules.now (length rules.now)) }
 {
     for number in 0..rules.len() {
-        push_net(found, rules, &rules[number], number)?;
+        push_net(found, complain, rules, &rules[number], number)?;
     }
     Ok(())
 }
@@ -219,8 +226,9 @@ pub(crate) fn push_rules(
 ) -> Result<(), AllocError>
     ensures { OnOk result (found.new.items ≡ found.old.items ++ of_rules rows.now profile.now) }
 {
-    push_files(found, alloc, rows, profile.files.as_slice())?;
-    push_caps(found, profile.caps.as_slice())?;
-    push_nets(found, profile.nets.as_slice())?;
+    let complain = profile.complain;
+    push_files(found, alloc, complain, rows, profile.files.as_slice())?;
+    push_caps(found, complain, profile.caps.as_slice())?;
+    push_nets(found, complain, profile.nets.as_slice())?;
     push_changes(found, profile.changes.as_slice())
 }

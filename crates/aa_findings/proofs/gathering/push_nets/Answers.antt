@@ -8,5 +8,5 @@ pub loop-number-preserved : goal.loop-number-preserved
 loop-number-preserved c =
     let rules = c.args.rules.now in
     let lt = c.loop-number-test.true in
-    one_more (of_net rules) (nets_before rules) rules c.loop-number.number _ c.args.found.now.items c.loop-number.found.items c.push_net.new.found.items
+    one_more (of_net c.args.complain rules) (nets_before c.args.complain rules) rules c.loop-number.number _ c.args.found.now.items c.loop-number.found.items c.push_net.new.found.items
     lt (get_or_default rules c.loop-number.number _ _ lt) refl c.loop-number.invariant c.in_ok-push_net.ensures
