@@ -1,5 +1,5 @@
 -- Claims that are answered one after another.
-use Rattle.std.proofs.Common.{◌≡◌, ℕ, ◌+◌, ◌<◌, List, [], ◌∷◌, ◌++◌, length, map, take, get_or, Bool, ap, sym, ◌∙◌}
+use Rattle.std.proofs.Common.{◌≡◌, ℕ, suc, ◌+◌, ◌<◌, List, [], ◌∷◌, ◌++◌, length, map, take, drop, get_or, Bool, ap, sym, ◌∙◌}
 use Rattle.std.proofs.lemmas.List.{take_more, map-append}
 use Rattle.std.proofs.lemmas.Slice.Zip.{all_zipped_more}
 use Rattle.aa_command.specs.declared.decided.Decided.{Decided}
@@ -8,6 +8,7 @@ use Rattle.aa_claims.specs.declared.fault.ClaimFault.{ClaimFault}
 use Rattle.aa_claims.specs.declared.fault.ClaimFault.TheVariants.{NoMemory, At}
 use Rattle.aa_claims.specs.Faults.{SaysAt}
 use Rattle.aa_assert.specs.declared.answering.Answer.{Answer}
+use Rattle.aa_assert.proofs.Unanswered.{parted}
 use Rattle.aa_assert.specs.Answers.{answered, IsAnswerTo, AreAnswers, IsUnansweredOf, IsFirstUnanswered}
 
 one_answer : (before now : List Answer) (a : Answer) → now ≡ before ++ a ∷ [] → map answered now ≡ map answered before ++ answered a ∷ []
@@ -23,8 +24,17 @@ answers_next first d limit claims i l before now a lt item more is are =
     rw (one_claim claims i l lt item, one_answer before now a more)
     (all_zipped_more (IsAnswerTo first d limit) (take i claims) (map answered before) l (answered a) are is)
 
--- a claim that isn't answered is one of the claims
-pub unanswered : (d : Decided) (claims : List ClaimLine) (i : ℕ) (l : ClaimLine) (e : ClaimFault) → i < length claims → l ≡ get_or claims i l
-    → SaysAt (IsUnansweredOf d l.words.items) e → SaysAt (IsFirstUnanswered d claims) e
-unanswered d claims i l NoMemory lt item h = tt
-unanswered d claims i l (At at fault) lt item h = record { claim = l; among = (i, lt, sym item); why = h }
+-- a claim that isn't answered behind claims that are is the first that isn't
+pub unanswered : (first : Bool) (d : Decided) (limit : ℕ) (claims : List ClaimLine) (i : ℕ) (l : ClaimLine) (answers : List Answer) (e : ClaimFault)
+    → i < length claims → l ≡ get_or claims i l → AreAnswers first d limit (take i claims) (map answered answers) → SaysAt (IsUnansweredOf d l.words.items) e
+    → SaysAt (IsFirstUnanswered first d limit claims) e
+unanswered first d limit claims i l answers NoMemory lt item before h = tt
+unanswered first d limit claims i l answers (At at fault) lt item before h = record {
+  earlier = take i claims;
+  claim = l;
+  later = drop (suc i) claims;
+  among = parted claims i l lt item;
+  answers = map answered answers;
+  before = before;
+  why = h;
+}

@@ -1,17 +1,16 @@
 -- By whom claims are broken.
 -- Source: own.
-use Rattle.std.specs.Prelude.{◌≡◌, ℕ, List, ◌∷◌, codes, Bool, true, Contains}
+use Rattle.std.specs.Prelude.{◌≡◌, ℕ, List, ◌∷◌, ◌++◌, Bool}
 use Rattle.std.specs.List.{AllZip}
 use Rattle.aa_command.specs.declared.decided.Decided.{Decided}
 use Rattle.aa_who.specs.Grants.{count_of}
 use Rattle.aa_claims.specs.declared.words.ClaimWord.{ClaimWord}
 use Rattle.aa_claims.specs.declared.lines.ClaimLine.{ClaimLine}
 use Rattle.aa_claims.specs.declared.fault.Wrong.{Wrong}
-use Rattle.aa_claims.specs.Forms.{names_behind}
 use Rattle.aa_assert.specs.declared.asked.Asked.{Asked}
 use Rattle.aa_assert.specs.declared.answering.Answer.{Answer}
 use Rattle.aa_assert.specs.Asked.{IsAskedBy}
-use Rattle.aa_assert.specs.Scope.{is_about_some, AreSomebody}
+use Rattle.aa_assert.specs.Scope.{IsInScope}
 use Rattle.aa_assert.specs.Findings.{AllFound, all_found, AreFound}
 use Rattle.aa_assert.specs.Refused.{IsUnanswered}
 
@@ -28,9 +27,7 @@ answered a = record { number = a.number; found = all_found a.findings }
 pub record IsAnswerBy (first : Bool) (d : Decided) (limit : ℕ) (ws : List ClaimWord) (head asked : ClaimWord) (found : AllFound) : Type 0 where
   pub says : Asked
   pub is_asked : IsAskedBy head asked says
-  pub within : AreSomebody d.policies.now (names_behind (codes "in") ws)
-  pub excepted : AreSomebody d.policies.now (names_behind (codes "except") ws)
-  pub some : is_about_some d.policies.now ws ≡ true
+  pub scope : IsInScope d.policies.now ws
   pub are : AreFound first d limit ws says asked.text.items (count_of d.policies.now) found
 
 -- the same of a claim by its words
@@ -52,8 +49,12 @@ abbrev pub IsUnansweredOf : Decided → List ClaimWord → ℕ → Wrong → Typ
 IsUnansweredOf d (head ∷ asked ∷ rest) at fault = IsUnanswered d.policies.now (head ∷ asked ∷ rest) head asked at fault
 IsUnansweredOf d _ at fault = ⊥
 
--- why one of the claims isn't
-pub record IsFirstUnanswered (d : Decided) (claims : List ClaimLine) (at : ℕ) (fault : Wrong) : Type 0 where
+-- the first of the claims that isn't answered, and why: those before it are
+pub record IsFirstUnanswered (first : Bool) (d : Decided) (limit : ℕ) (claims : List ClaimLine) (at : ℕ) (fault : Wrong) : Type 0 where
+  pub earlier : List ClaimLine
   pub claim : ClaimLine
-  pub among : Contains claims claim
+  pub later : List ClaimLine
+  pub among : claims ≡ earlier ++ claim ∷ later
+  pub answers : List Answered
+  pub before : AreAnswers first d limit earlier answers
   pub why : IsUnansweredOf d claim.words.items at fault

@@ -1,6 +1,6 @@
 -- What `assert` prints.
 -- Source: own.
-use Rattle.std.specs.Prelude.{◌≡◌, ℕ, ◌==◌, List, [], length, flat_map, count_by, if◌then◌else◌, Err}
+use Rattle.std.specs.Prelude.{◌≡◌, ℕ, ◌==◌, List, [], ◌++◌, length, flat_map, count_by, if◌then◌else◌, Err}
 use Rattle.aa_base.specs.declared.unread.Unread.{Unread}
 use Rattle.aa_files.specs.Texts.{texts}
 use Rattle.aa_files.specs.FilesData.{IsMain, IsMainText}
@@ -10,6 +10,8 @@ use Rattle.aa_command.specs.Setting.{Setting}
 use Rattle.aa_command.specs.Printed.{Printed}
 use Rattle.aa_command.specs.Refusals.{SaysFault, SaysUnread}
 use Rattle.aa_command.specs.Policies.{IsPrintedFor}
+use Rattle.aa_who.specs.Shown.{passed_text}
+use Rattle.aa_who.specs.Command.{passed_in}
 use Rattle.aa_claims.specs.declared.lines.ClaimLine.{ClaimLine}
 use Rattle.aa_claims.specs.declared.fault.Wrong.{Wrong}
 use Rattle.aa_claims.specs.Lines.{AreClaims, IsFirstFault}
@@ -23,15 +25,15 @@ use Rattle.aa_assert.specs.Json.{json_answers}
 abbrev pub status_of : List ℕ → ℕ → ℕ
 status_of untold broken = if length untold == 0 then (if broken == 0 then 0 else 4) else 1
 
--- answers as they are wanted: as JSON, or as text
-abbrev pub wanted_text : AssertOptions → List Answered → List ℕ
-wanted_text o answers = if o.is_json then json_answers answers else answers_text o.claims.now answers
+-- answers as they are wanted, by a policy of which so many rules decide nothing: as JSON, or as text
+abbrev pub wanted_text : AssertOptions → ℕ → List Answered → List ℕ
+wanted_text o passed answers = if o.is_json then json_answers passed answers else answers_text o.claims.now answers ++ passed_text passed
 
 -- the answers, and what can't be told
-abbrev pub assert_printed : AssertOptions → List Answered → Printed
-assert_printed o answers =
+abbrev pub assert_printed : AssertOptions → ℕ → List Answered → Printed
+assert_printed o passed answers =
     record {
-      answers = wanted_text o answers;
+      answers = wanted_text o passed answers;
       faults = flat_map untold_text answers;
       refusal = [];
       status = status_of (flat_map untold_text answers) (count_by is_broken answers);
@@ -46,8 +48,8 @@ pub record SaysWrong (path text : List ℕ) (IsSo : ℕ → Wrong → Type 0) (o
 
 -- what is printed of claims, where the files are this policy: by whom they are broken, or why one of them isn't answered
 pub data IsAssertOf (states : ℕ) (o : AssertOptions) (text : List ℕ) (claims : List ClaimLine) (d : Decided) (out : Printed) : Type 0 where
-  Unanswered : SaysWrong o.claims.now text (IsFirstUnanswered d claims) out → IsAssertOf states o text claims d out
-  Answers : (answers : List Answered) → AreAnswers o.is_first d (limit_of states) claims answers → out ≡ assert_printed o answers → IsAssertOf states o text claims d out
+  Unanswered : SaysWrong o.claims.now text (IsFirstUnanswered o.is_first d (limit_of states) claims) out → IsAssertOf states o text claims d out
+  Answers : (answers : List Answered) → AreAnswers o.is_first d (limit_of states) claims answers → out ≡ assert_printed o (passed_in d.policies.now) answers → IsAssertOf states o text claims d out
 
 -- What `assert` prints: by whom the claims of a file are broken, or why it is none of claims or can't be read.
 pub data IsAssertOutput (s : Setting) (o : AssertOptions) (out : Printed) : Type 0 where

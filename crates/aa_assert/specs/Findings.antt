@@ -6,7 +6,8 @@ use Rattle.aa_model.specs.declared.label.Label.{Label}
 use Rattle.aa_model.specs.declared.label.Label.TheVariants.{Unconfined, Confined}
 use Rattle.aa_compile.specs.Labels.{profile_in}
 use Rattle.aa_command.specs.declared.decided.Decided.{Decided}
-use Rattle.aa_ask.specs.Told.{Told, told, verdict_on}
+use Rattle.aa_ask.specs.Told.{Told, told}
+use Rattle.aa_who.specs.Untold.{Untold, untold, untold_at}
 use Rattle.aa_quantifiers.specs.declared.word.Word.{Word}
 use Rattle.aa_claims.specs.declared.words.ClaimWord.{ClaimWord}
 use Rattle.aa_assert.specs.declared.asked.Asked.{Asked}
@@ -16,27 +17,29 @@ use Rattle.aa_assert.specs.declared.judging.Judgement.TheVariants as is
 use Rattle.aa_assert.specs.declared.finding.Finding.{Finding}
 use Rattle.aa_assert.specs.declared.finding.Finding.TheVariants as finding
 use Rattle.aa_assert.specs.declared.finding.Findings.{Findings}
+use Rattle.aa_assert.specs.Enforced.{complains_at, enforced_on}
 use Rattle.aa_assert.specs.Scope.{is_about, is_about_free}
 use Rattle.aa_assert.specs.Judging.{IsJudged}
 
--- a claim is broken by a request, with the verdict on it, or by the profile of that name, which complains
+-- a claim is broken by a request, with the verdict on it where rules are enforced, by a profile that complains or one that doesn't; or by
+-- the profile of that name, which complains
 pub data Found : Type 0 where
-  ByRequest : Told → Found
+  ByRequest : Bool → Told → Found
   Complaining : List ℕ → Found
 
 -- so, without where it lies in memory
 abbrev pub found : Finding → Found
-found (finding.ByRequest v) = ByRequest (told v)
+found (finding.ByRequest complains v) = ByRequest complains (told v)
 found (finding.Complaining name) = Complaining name.items
 
--- by whom a claim is broken, and the lines on those of whom that can't be told
+-- by whom a claim is broken, and those of whom that can't be told
 pub record AllFound : Type 0 where
   pub list : List Found
-  pub untold : List ℕ
+  pub untold : List Untold
 
 -- all of them
 abbrev pub all_found : Findings → AllFound
-all_found fs = record { list = map found fs.list.items; untold = fs.untold.items }
+all_found fs = record { list = map found fs.list.items; untold = map untold fs.untold.items }
 
 -- nobody yet
 abbrev pub nobody : AllFound
@@ -44,9 +47,9 @@ nobody = record { list = []; untold = [] }
 
 -- what is judged at a label is added
 abbrev pub with_judged : Decided → Label → AllFound → Judgement → AllFound
-with_judged d l fs (is.Broken r) = record { list = fs.list ++ ByRequest (verdict_on d l r) ∷ []; untold = fs.untold }
-with_judged d l fs is.Holds = fs
-with_judged d l fs (is.Untold line) = record { list = fs.list; untold = fs.untold ++ line.items }
+with_judged d l fs (is.Broken r) = record { list = fs.list ++ ByRequest (complains_at d.policies.now l) (enforced_on d l r) ∷ []; untold = fs.untold }
+with_judged d l fs (is.Holds r) = fs
+with_judged d l fs (is.Untold line) = record { list = fs.list; untold = fs.untold ++ untold_at d.policies.now l line.items ∷ [] }
 
 -- whether the claim that no request of the word is answered so is broken at a label, is added
 abbrev pub AddsJudged : Decided → ℕ → Label → Bool → Word → List ℕ → AllFound → AllFound → Type 0

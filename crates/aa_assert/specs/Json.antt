@@ -1,25 +1,30 @@
 -- Answers as they are printed in JSON.
 -- Source: own.
-use Rattle.std.specs.Prelude.{ℕ, List, ◌++◌, map, codes, decimal, true}
-use Rattle.aa_text.specs.Jsons.{json_bytes, key_text, bool_text, member_text, list_text}
+use Rattle.std.specs.Prelude.{ℕ, List, ◌++◌, map, codes, decimal, Bool, true, Option, Some}
+use Rattle.aa_text.specs.Jsons.{key_text, bool_text, member_text, list_text}
 use Rattle.aa_ask.specs.Json.{json_verdict}
+use Rattle.aa_who.specs.Untold.{json_asker, json_untold}
 use Rattle.aa_assert.specs.Findings.{Found, ByRequest, Complaining}
 use Rattle.aa_assert.specs.Answers.{Answered}
 
--- a profile that complains
-unfoldable pub json_complaining : List ℕ → List ℕ
-json_complaining name = codes "{" ++ key_text (codes "profile") ++ json_bytes name ++ member_text (codes "complains") (bool_text true) ++ codes "}"
+-- whose it is, and whether the profile complains
+unfoldable pub json_whose : Option (List ℕ) → Bool → List ℕ
+json_whose name complains = codes "{" ++ (key_text (codes "profile") ++ json_asker name) ++ member_text (codes "complains") (bool_text complains)
 
--- by whom a claim is broken: the verdict on a request, as of ask, or such a profile
-abbrev pub json_found : Found → List ℕ
-json_found (ByRequest t) = json_verdict t
-json_found (Complaining name) = json_complaining name
+-- by whom a claim is broken: such a profile, with the verdict on a request, as of ask, or without one
+unfoldable pub json_found : Found → List ℕ
+json_found (ByRequest complains t) = json_whose t.asker complains ++ member_text (codes "as") (json_verdict t) ++ codes "}"
+json_found (Complaining name) = json_whose (Some name) true ++ codes "}"
 
 -- a claim by the number of its line, and by whom it is broken
-unfoldable pub json_answer : Answered → List ℕ
-json_answer a =
-    codes "{" ++ key_text (codes "line") ++ decimal a.number ++ member_text (codes "broken") (list_text (map json_found a.found.list)) ++ codes "}"
+unfoldable pub json_broken : Answered → List ℕ
+json_broken a = codes "{" ++ key_text (codes "line") ++ decimal a.number ++ member_text (codes "broken") (list_text (map json_found a.found.list))
 
--- one JSON list and a line end
-abbrev pub json_answers : List Answered → List ℕ
-json_answers answers = list_text (map json_answer answers) ++ codes "\n"
+-- so, and of whom that can't be told
+unfoldable pub json_answer : Answered → List ℕ
+json_answer a = json_broken a ++ member_text (codes "untold") (list_text (map json_untold a.found.untold)) ++ codes "}"
+
+-- one JSON object with the claims, and how many rules decide nothing
+unfoldable pub json_answers : ℕ → List Answered → List ℕ
+json_answers passed answers =
+    codes "{" ++ key_text (codes "claims") ++ list_text (map json_answer answers) ++ member_text (codes "passed_over") (decimal passed) ++ codes "}\n"

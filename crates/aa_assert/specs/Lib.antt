@@ -2,6 +2,7 @@ pub mod Names
 pub mod Scope
 pub mod Asked
 pub mod Judging
+pub mod Enforced
 pub mod Refused
 pub mod Findings
 pub mod Answers

@@ -5,19 +5,20 @@ use Rattle.aa_model.specs.declared.policy.Policy.{Policy}
 use Rattle.aa_model.specs.declared.request.Request.{Request}
 use Rattle.aa_quantifiers.specs.declared.word.Word.{Word}
 use Rattle.aa_quantifiers.specs.Words.{IsOf}
-use Rattle.aa_who.specs.Words.{IsRead}
+use Rattle.aa_who.specs.Words.{SaysMisread}
+use Rattle.aa_who.specs.declared.fault.Misread.TheVariants as misread
 use Rattle.aa_who.specs.declared.fault.WhoFault.{WhoFault}
 use Rattle.aa_who.specs.declared.fault.WhoFault.TheVariants as who
 use Rattle.aa_claims.specs.declared.words.ClaimWord.{ClaimWord}
 use Rattle.aa_claims.specs.declared.fault.Wrong.{Wrong}
-use Rattle.aa_claims.specs.declared.fault.Wrong.TheVariants.{NoRequest, NoProfile, NoPath, Nobody}
+use Rattle.aa_claims.specs.declared.fault.Wrong.TheVariants.{NoRequest, NoPattern, NoProfile, NoPath, Nobody}
 use Rattle.aa_claims.specs.declared.fault.ClaimFault.{ClaimFault}
 use Rattle.aa_claims.specs.declared.fault.ClaimFault.TheVariants as claims
 use Rattle.aa_claims.specs.Forms.{names_behind}
 use Rattle.aa_assert.specs.declared.asked.Asked.{Asked}
 use Rattle.aa_assert.specs.declared.asked.Asked.TheVariants.{Never, Always, Enforced}
-use Rattle.aa_assert.specs.Asked.{IsAskedBy}
-use Rattle.aa_assert.specs.Scope.{is_about_some, NamesNobody}
+use Rattle.aa_assert.specs.Asked.{is_enforced, IsAskedBy}
+use Rattle.aa_assert.specs.Scope.{is_about_some, AreSomebody, NamesNobody, IsInScope}
 
 -- by why its word isn't answered
 abbrev pub fault_of : ℕ → WhoFault → ClaimFault
@@ -34,23 +35,38 @@ AsksNoPath asked (Never w) = IsNoPath asked w
 AsksNoPath asked (Always w) = IsNoPath asked w
 AsksNoPath asked Enforced = λ at fault. ⊥
 
--- at that word: it is no word of requests
-abbrev pub IsNoRequest : ClaimWord → ℕ → Wrong → Type 0
-IsNoRequest asked at fault = (at ≡ asked.at) × (fault ≡ NoRequest) × ((w : Word) → IsRead asked.text.items w → ⊥)
+-- a text is read as no requests, and this says why
+abbrev pub IsWhyUnread : List ℕ → Wrong → Type 0
+IsWhyUnread text (NoRequest why) = SaysMisread text (misread.NoRequest why)
+IsWhyUnread text NoPattern = SaysMisread text misread.NoPattern
+IsWhyUnread text _ = ⊥
 
--- at one of these names, if they stand there: it names nobody
+-- at that word: it is no word of requests, and this is why
+abbrev pub IsUnread : ClaimWord → ℕ → Wrong → Type 0
+IsUnread asked at fault = (at ≡ asked.at) × IsWhyUnread asked.text.items fault
+
+-- so, and the claim isn't that no profile complains
+abbrev pub IsNoRequest : ClaimWord → ClaimWord → ℕ → Wrong → Type 0
+IsNoRequest head asked at fault = (is_enforced head asked ≡ false) × IsUnread asked at fault
+
+-- at the first of these names that names nobody, if they stand there
 abbrev pub IsUnnamed : List Policy → Option (List ClaimWord) → ℕ → Wrong → Type 0
 IsUnnamed policies names at fault = (fault ≡ NoProfile) × NamesNobody policies names at
 
--- so at a name of a clause
+-- so of the names of a clause
 abbrev pub IsNoProfile : List Policy → List ℕ → List ClaimWord → ℕ → Wrong → Type 0
 IsNoProfile policies keyword ws = IsUnnamed policies (names_behind keyword ws)
 
--- why a claim of these words isn't answered: its second word is no word of requests, a name names nobody, it is about nobody, or nothing
--- can be asked
+-- why a claim is about nobody who is there: a name of `in` names nobody, or else one of `except`, or else it is about nobody
+pub data IsOutOfScope (policies : List Policy) (ws : List ClaimWord) (head : ClaimWord) (at : ℕ) (fault : Wrong) : Type 0 where
+  NotNamed : IsNoProfile policies (codes "in") ws at fault → IsOutOfScope policies ws head at fault
+  NotExcepted : AreSomebody policies (names_behind (codes "in") ws) → IsNoProfile policies (codes "except") ws at fault → IsOutOfScope policies ws head at fault
+  OfNobody : AreSomebody policies (names_behind (codes "in") ws) → AreSomebody policies (names_behind (codes "except") ws) → at ≡ head.at → fault ≡ Nobody
+      → is_about_some policies ws ≡ false → IsOutOfScope policies ws head at fault
+
+-- why a claim of these words isn't answered: its second word is no word of requests, or else it is about nobody who is there, or else
+-- nothing can be asked
 pub data IsUnanswered (policies : List Policy) (ws : List ClaimWord) (head asked : ClaimWord) (at : ℕ) (fault : Wrong) : Type 0 where
-  NotRead : IsNoRequest asked at fault → IsUnanswered policies ws head asked at fault
-  NotNamed : IsNoProfile policies (codes "in") ws at fault → IsUnanswered policies ws head asked at fault
-  NotExcepted : IsNoProfile policies (codes "except") ws at fault → IsUnanswered policies ws head asked at fault
-  OfNobody : at ≡ head.at → fault ≡ Nobody → is_about_some policies ws ≡ false → IsUnanswered policies ws head asked at fault
-  NotAsked : (a : Asked) → IsAskedBy head asked a → AsksNoPath asked a at fault → IsUnanswered policies ws head asked at fault
+  NotRead : IsNoRequest head asked at fault → IsUnanswered policies ws head asked at fault
+  OfOthers : (a : Asked) → IsAskedBy head asked a → IsOutOfScope policies ws head at fault → IsUnanswered policies ws head asked at fault
+  NotAsked : (a : Asked) → IsAskedBy head asked a → IsInScope policies ws → AsksNoPath asked a at fault → IsUnanswered policies ws head asked at fault

@@ -5,6 +5,8 @@ use Rattle.std.specs.List.{count_by}
 use Rattle.aa_base.specs.Values.{value}
 use Rattle.aa_text.specs.Visible.{all_visible}
 use Rattle.aa_ask.specs.Shown.{reasons_text}
+use Rattle.aa_who.specs.Untold.{untold_lines}
+use Rattle.aa_who.specs.Shown.{complains_mark}
 use Rattle.aa_assert.specs.Findings.{Found, ByRequest, Complaining}
 use Rattle.aa_assert.specs.Answers.{Answered}
 
@@ -17,9 +19,9 @@ asker_text (Some name) = value name
 unfoldable pub broken_text : List ℕ → ℕ → List ℕ
 broken_text path number = all_visible path ++ codes ":" ++ decimal number ++ codes ": broken: "
 
--- by whom: NAME WORD, and the rules; or NAME complains
+-- by whom: NAME WORD, a mark where the profile complains, and the rules; or NAME complains
 unfoldable pub by_text : Found → List ℕ
-by_text (ByRequest t) = asker_text t.asker ++ codes " " ++ t.word ++ codes "\n" ++ reasons_text t
+by_text (ByRequest complains t) = asker_text t.asker ++ codes " " ++ t.word ++ complains_mark complains ++ codes "\n" ++ reasons_text t
 by_text (Complaining name) = value name ++ codes " complains\n"
 
 -- so of a claim
@@ -40,7 +42,7 @@ count_line answers = decimal (length answers) ++ codes " claims " ++ decimal (co
 
 -- the lines on what can't be told
 abbrev pub untold_text : Answered → List ℕ
-untold_text a = a.found.untold
+untold_text a = untold_lines a.found.untold
 
 -- the answers, and the counts
 unfoldable pub answers_text : List ℕ → List Answered → List ℕ

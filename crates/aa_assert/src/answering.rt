@@ -1,12 +1,11 @@
 //! By whom claims are broken.
 
-ghost use Rattle.std.specs.Prelude.{◌≡◌, map, codes, true, IfOk, IfErr, OnOk};
+ghost use Rattle.std.specs.Prelude.{map, IfOk, IfErr, OnOk};
 ghost use Rattle.aa_load.specs.UnitPolicy.{limit_of};
 ghost use Rattle.aa_claims.specs.Faults.{SaysAt};
-ghost use Rattle.aa_claims.specs.Forms.{names_behind};
-ghost use Rattle.aa_assert.specs.Scope.{is_about_some, AreSomebody};
+ghost use Rattle.aa_assert.specs.Scope.{IsInScope};
 ghost use Rattle.aa_assert.specs.Findings.{all_found};
-ghost use Rattle.aa_assert.specs.Refused.{IsUnanswered};
+ghost use Rattle.aa_assert.specs.Refused.{IsOutOfScope, IsUnanswered};
 ghost use Rattle.aa_assert.specs.Answers.{answered, IsAnswerBy, IsAnswerOf, IsAnswerTo, AreAnswers, IsUnansweredOf, IsFirstUnanswered};
 
 use crate::asked::asked_by;
@@ -31,12 +30,9 @@ fn check_scope(
     policies: &[Compiled],
     words: &[ClaimWord],
     head: &ClaimWord,
-    asked: &ClaimWord,
 ) -> Result<(), ClaimFault>
-    ensures within { OnOk result (AreSomebody policies.now (names_behind (codes "in") words.now)) }
-    ensures excepted { OnOk result (AreSomebody policies.now (names_behind (codes "except") words.now)) }
-    ensures some { OnOk result (is_about_some policies.now words.now ≡ true) }
-    ensures refused { IfErr result (λ e. SaysAt (IsUnanswered policies.now words.now head.now asked.now) e) }
+    ensures in_scope { OnOk result (IsInScope policies.now words.now) }
+    ensures refused { IfErr result (λ e. SaysAt (IsOutOfScope policies.now words.now head.now) e) }
 {
     check_names(alloc, policies, words, "in")?;
     check_names(alloc, policies, words, "except")?;
@@ -60,7 +56,7 @@ fn answer_by(
     ensures refused { IfErr result (λ e. SaysAt (IsUnanswered decided.entry.policies.now words.now head.now word.now) e) }
 {
     let asked = asked_by(alloc, head, word)?;
-    check_scope(alloc, decided.policies, words, head, word)?;
+    check_scope(alloc, decided.policies, words, head)?;
     let claim = Claim {
         words,
         word,
@@ -117,7 +113,7 @@ pub(crate) fn answers_to(
     claims: &[ClaimLine],
 ) -> Result<Vec<Answer>, ClaimFault>
     ensures answered { IfOk result (λ list. AreAnswers is_first decided.entry (limit_of states) claims.now (map answered list.items)) }
-    ensures refused { IfErr result (λ e. SaysAt (IsFirstUnanswered decided.entry claims.now) e) }
+    ensures refused { IfErr result (λ e. SaysAt (IsFirstUnanswered is_first decided.entry (limit_of states) claims.now) e) }
 {
     let mut answers = Vec::new(alloc);
     for line in claims {

@@ -6,12 +6,12 @@ ghost use Rattle.aa_base.specs.declared.perms.Perms.{Perms};
 ghost use Rattle.aa_who.specs.Words.{IsRead};
 ghost use Rattle.aa_claims.specs.Faults.{SaysAt};
 ghost use Rattle.aa_assert.specs.Asked.{letter_if, letters_of, is_enforced, IsByLetters, IsAskedOf, IsAskedBy};
-ghost use Rattle.aa_assert.specs.Refused.{IsNoRequest};
+ghost use Rattle.aa_assert.specs.Refused.{IsUnread, IsNoRequest};
 
 use aa_base::{Perms, Seq};
 use aa_claims::{ClaimFault, ClaimWord, Wrong, is_word};
 use aa_quantifiers::{FilesWord, Word};
-use aa_who::{WhoFault, read_asked};
+use aa_who::{Misread, read_asked};
 use bitflags::Flags;
 use std::alloc::{AllocError, Global};
 
@@ -87,12 +87,13 @@ fn by_letters(alloc: Global, word: Word) -> Result<Word, AllocError>
 /// The requests of a claim's word.
 fn read_requests(alloc: Global, asked: &ClaimWord) -> Result<Word, ClaimFault>
     ensures read { IfOk result (λ w. IsRead asked.now.text.items w) }
-    ensures refused { IfErr result (λ e. SaysAt (IsNoRequest asked.now) e) }
+    ensures refused { IfErr result (λ e. SaysAt (IsUnread asked.now) e) }
 {
     match read_asked(alloc, asked.text.as_slice()) {
         Ok(word) => Ok(word),
-        Err(WhoFault::NoMemory) => Err(ClaimFault::NoMemory),
-        Err(WhoFault::Refused(_)) => Err(ClaimFault::At(asked.at, Wrong::NoRequest)),
+        Err(Misread::NoMemory) => Err(ClaimFault::NoMemory),
+        Err(Misread::NoRequest(why)) => Err(ClaimFault::At(asked.at, Wrong::NoRequest(why))),
+        Err(Misread::NoPattern) => Err(ClaimFault::At(asked.at, Wrong::NoPattern)),
     }
 }
 
@@ -113,14 +114,14 @@ fn asked_of(alloc: Global, head: &ClaimWord, word: Word) -> Result<Asked, AllocE
     Ok(Asked::Always(word))
 }
 
-/// What a claim of these two words says. Refused where the second is no word of requests.
+/// What a claim of these two words says. Refused where the second is no word of requests, with why.
 pub(crate) fn asked_by(
     alloc: Global,
     head: &ClaimWord,
     asked: &ClaimWord,
 ) -> Result<Asked, ClaimFault>
     ensures asked { IfOk result (λ a. IsAskedBy head.now asked.now a) }
-    ensures refused { IfErr result (λ e. SaysAt (IsNoRequest asked.now) e) }
+    ensures refused { IfErr result (λ e. SaysAt (IsNoRequest head.now asked.now) e) }
 {
     if is_enforced(head, asked) {
         return Ok(Asked::Enforced);

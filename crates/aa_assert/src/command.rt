@@ -18,6 +18,7 @@ use aa_claims::{ClaimFault, ClaimLine, Wrong, claim_report, read_claims};
 use aa_command::{Decided, Output, Settings, Use, fault_refused, path_refused, with_policy};
 use aa_files::{Tree, main_text};
 use aa_text::NoMemory;
+use aa_who::{passed_in, push_passed};
 use std::alloc::{AllocError, Global};
 
 /// Which claims are answered by which files, and how.
@@ -42,31 +43,33 @@ fn status_of(untold: &[u8], broken: usize) -> u8
     if broken == 0 { 0 } else { 4 }
 }
 
-/// Appends answers as they are wanted.
+/// Appends answers as they are wanted, by a policy of which so many rules decide nothing.
 fn push_wanted(
     out: &mut Vec<u8>,
     alloc: Global,
     options: &AssertOptions<'_>,
+    passed: usize,
     answers: &[Answer],
 ) -> Result<(), AllocError>
-    ensures { OnOk result (out.new.items ≡ out.old.items ++ wanted_text options.now (map answered answers.now)) }
+    ensures { OnOk result (out.new.items ≡ out.old.items ++ wanted_text options.now passed (map answered answers.now)) }
 {
     if options.is_json {
-        push_json_answers(out, alloc, answers)
-    } else {
-        push_answers(out, alloc, options.claims, answers)
+        return push_json_answers(out, alloc, passed, answers);
     }
+    push_answers(out, alloc, options.claims, answers)?;
+    push_passed(out, passed)
 }
 
 fn output_of(
     alloc: Global,
     options: &AssertOptions<'_>,
+    passed: usize,
     answers: &[Answer],
 ) -> Result<Output, AllocError>
-    ensures { IfOk result (λ out. printed out ≡ assert_printed options.now (map answered answers.now)) }
+    ensures { IfOk result (λ out. printed out ≡ assert_printed options.now passed (map answered answers.now)) }
 {
     let mut output = Output::new(alloc);
-    push_wanted(&mut output.answers, alloc, options, answers)?;
+    push_wanted(&mut output.answers, alloc, options, passed, answers)?;
     push_untold(&mut output.faults, answers)?;
     output.status = status_of(output.faults.as_slice(), count_broken(answers));
     Ok(output)
@@ -78,9 +81,9 @@ fn wrong_said(
     path: &[u8],
     text: &[u8],
     at: usize,
-    wrong: Wrong,
+    wrong: &Wrong,
 ) -> Result<Output, NoMemory>
-    ensures { IfOk result (λ out. SaysFault (IsClaimReport path.now text.now at wrong) 1 (printed out)) }
+    ensures { IfOk result (λ out. SaysFault (IsClaimReport path.now text.now at wrong.now) 1 (printed out)) }
 {
     let report = claim_report(alloc, path, text, at, wrong)?;
     fault_refused(alloc, &report, 1)
@@ -102,10 +105,13 @@ impl Use for Asserting<'_> {
     fn use_policy(&self, alloc: Global, decided: Decided<'_>) -> Result<Output, NoMemory> {
         let options = self.options;
         match answers_to(alloc, decided, self.states, options.is_first, self.claims) {
-            Ok(answers) => Ok(output_of(alloc, options, answers.as_slice())?),
+            Ok(answers) => {
+                let passed = passed_in(decided.policies);
+                Ok(output_of(alloc, options, passed, answers.as_slice())?)
+            }
             Err(ClaimFault::NoMemory) => Err(NoMemory),
             Err(ClaimFault::At(at, wrong)) => {
-                wrong_said(alloc, options.claims, self.text, at, wrong)
+                wrong_said(alloc, options.claims, self.text, at, &wrong)
             }
         }
     }
@@ -145,7 +151,7 @@ fn assert_text<T: Tree>(
     match read_claims(alloc, text) {
         Ok(claims) => assert_claims(alloc, tree, settings, options, text, claims.as_slice()),
         Err(ClaimFault::NoMemory) => Err(NoMemory),
-        Err(ClaimFault::At(at, wrong)) => wrong_said(alloc, options.claims, text, at, wrong),
+        Err(ClaimFault::At(at, wrong)) => wrong_said(alloc, options.claims, text, at, &wrong),
     }
 }
 

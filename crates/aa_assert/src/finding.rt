@@ -2,7 +2,6 @@
 
 ghost use Rattle.std.specs.Prelude.{◌≡◌, IfOk, IfErr, OnOk};
 ghost use Rattle.aa_load.specs.UnitPolicy.{limit_of};
-ghost use Rattle.aa_ask.specs.Told.{verdict_on, told};
 ghost use Rattle.aa_who.specs.Grants.{count_of};
 ghost use Rattle.aa_claims.specs.Faults.{SaysAt};
 ghost use Rattle.aa_assert.specs.Scope.{is_about_free};
@@ -10,22 +9,23 @@ ghost use Rattle.aa_assert.specs.Findings.{all_found, with_judged, with_complain
 ghost use Rattle.aa_assert.specs.Refused.{fault_of, IsNoPath, AsksNoPath};
 
 use crate::asked::Asked;
+use crate::enforced::{complains_at, verdict_of};
 use crate::judging::{Judgement, judge};
 use crate::scope::{is_about, is_about_free};
-use aa_ask::{Verdict, decide};
+use aa_ask::Verdict;
 use aa_claims::{ClaimFault, ClaimWord, Wrong};
 use aa_command::Decided;
 use aa_compile::profile_of;
-use aa_model::{Label, Profile, Request};
+use aa_model::{Label, Profile};
 use aa_quantifiers::Word;
-use aa_who::{WhoFault, count_of};
+use aa_who::{Untold, WhoFault, count_of, push_untold};
 use std::alloc::{AllocError, Global};
 
 /// By what a claim is broken.
 #[derive(Drop)]
 pub(crate) enum Finding {
-    /// A request, with the verdict on it.
-    ByRequest(Verdict),
+    /// Whether the profile complains, and the verdict on a request where its rules are enforced.
+    ByRequest(bool, Verdict),
     /// The profile of this name, which complains.
     Complaining(Vec<u8>),
 }
@@ -34,8 +34,8 @@ pub(crate) enum Finding {
 #[derive(Drop)]
 pub(crate) struct Findings {
     pub(crate) list: Vec<Finding>,
-    /// The lines on those of whom that can't be told.
-    pub(crate) untold: Vec<u8>,
+    /// Those of whom that can't be told.
+    pub(crate) untold: Vec<Untold>,
 }
 
 /// The claim that is answered.
@@ -51,19 +51,6 @@ pub(crate) struct Claim<'a> {
     pub(crate) states: u32,
 }
 
-/// The verdict on a request of a task with that label.
-fn verdict_of(
-    alloc: Global,
-    decided: Decided<'_>,
-    label: Label,
-    request: &Request,
-) -> Result<Verdict, AllocError>
-    ensures { IfOk result (λ v. told v ≡ verdict_on decided.entry label request.now) }
-{
-    let mut after = label;
-    decide(alloc, decided, &mut after, request)
-}
-
 /// Adds what is judged at a label.
 fn push_judged(
     findings: &mut Findings,
@@ -77,11 +64,15 @@ fn push_judged(
     match judgement {
         Judgement::Broken(request) => {
             let verdict = verdict_of(alloc, decided, label, request)?;
-            findings.list.push(Finding::ByRequest(verdict))?;
+            let complains = complains_at(decided.policies, label);
+            findings.list.push(Finding::ByRequest(complains, verdict))?;
             Ok(())
         }
-        Judgement::Holds => Ok(()),
-        Judgement::Untold(line) => findings.untold.extend_from_slice(line.as_slice()),
+        Judgement::Holds(_) => Ok(()),
+        Judgement::Untold(line) => {
+            let line = line.as_slice();
+            push_untold(&mut findings.untold, alloc, decided.policies, label, line)
+        }
     }
 }
 

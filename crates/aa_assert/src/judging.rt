@@ -16,7 +16,8 @@ use std::alloc::Global;
 pub(crate) enum Judgement {
     /// By this request.
     Broken(Request),
-    Holds,
+    /// This one and all others are answered otherwise.
+    Holds(Request),
     /// It can't be told: the line on why.
     Untold(Vec<u8>),
 }
@@ -28,7 +29,7 @@ fn refusing(quantity: Quantity) -> Judgement
     match quantity {
         Quantity::Every(one) => Judgement::Broken(one),
         Quantity::Partly(one, _) => Judgement::Broken(one),
-        Quantity::Never(_) => Judgement::Holds,
+        Quantity::Never(other) => Judgement::Holds(other),
     }
 }
 
@@ -37,7 +38,7 @@ fn granting(quantity: Quantity) -> Judgement
     ensures { result ≡ judged_by false quantity }
 {
     match quantity {
-        Quantity::Every(_) => Judgement::Holds,
+        Quantity::Every(one) => Judgement::Holds(one),
         Quantity::Partly(_, other) => Judgement::Broken(other),
         Quantity::Never(other) => Judgement::Broken(other),
     }

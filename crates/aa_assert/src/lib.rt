@@ -4,6 +4,7 @@
 mod answering;
 mod asked;
 mod command;
+mod enforced;
 mod finding;
 mod json;
 mod judging;

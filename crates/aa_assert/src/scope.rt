@@ -7,7 +7,7 @@ ghost use Rattle.aa_claims.specs.declared.words.ClaimWord.{ClaimWord};
 ghost use Rattle.aa_claims.specs.Faults.{SaysAt};
 ghost use Rattle.aa_claims.specs.Forms.{is_word, names_behind};
 ghost use Rattle.aa_assert.specs.Names.{names};
-ghost use Rattle.aa_assert.specs.Scope.{is_among, is_about, is_about_free, profiles_of, is_somebody, is_about_some, AreSomebody};
+ghost use Rattle.aa_assert.specs.Scope.{is_among, is_about, names_free, is_about_free, profiles_of, is_somebody, is_about_some, AreSomebody};
 ghost use Rattle.aa_assert.specs.Refused.{IsUnnamed, IsNoProfile};
 
 use crate::names::{is_named, is_one_named};
@@ -47,14 +47,21 @@ fn is_unconfined_named(words: &[ClaimWord]) -> bool
     words.iter().any(|word| is_word(word, "unconfined"))
 }
 
+/// Whether a clause names tasks without a profile.
+fn names_free(words: &[ClaimWord], keyword: &str) -> bool
+    ensures { result ≡ names_free keyword.now words.now }
+{
+    match names_behind(words, keyword) {
+        Some(names) => is_unconfined_named(names),
+        None => false,
+    }
+}
+
 /// Whether a claim of these words is about tasks without a profile.
 pub(crate) fn is_about_free(words: &[ClaimWord]) -> bool
     ensures { result ≡ is_about_free words.now }
 {
-    match names_behind(words, "in") {
-        Some(names) => is_unconfined_named(names),
-        None => false,
-    }
+    names_free(words, "in") && !names_free(words, "except")
 }
 
 /// The profiles of the policy.

@@ -10,6 +10,7 @@ use crate::answering::Answer;
 use crate::finding::Finding;
 use aa_ask::{Verdict, push_reasons};
 use aa_text::{push_name, push_number, push_text, push_visible};
+use aa_who::{push_complains, push_untold_lines};
 use std::alloc::{AllocError, Global};
 
 fn push_asker(out: &mut Vec<u8>, alloc: Global, asker: &Option<Vec<u8>>) -> Result<(), AllocError>
@@ -33,12 +34,18 @@ fn push_broken(out: &mut Vec<u8>, path: &[u8], number: usize) -> Result<(), Allo
 
 /// Appends who is answered a request so, and the rules.
 #[tactic(auto, unfolding(crate::specs::Shown::by_text))]
-fn push_verdict(out: &mut Vec<u8>, alloc: Global, verdict: &Verdict) -> Result<(), AllocError>
-    ensures { OnOk result (out.new.items ≡ out.old.items ++ by_text (ByRequest (told verdict.now))) }
+fn push_verdict(
+    out: &mut Vec<u8>,
+    alloc: Global,
+    complains: bool,
+    verdict: &Verdict,
+) -> Result<(), AllocError>
+    ensures { OnOk result (out.new.items ≡ out.old.items ++ by_text (ByRequest complains (told verdict.now))) }
 {
     push_asker(out, alloc, &verdict.asker)?;
     push_text(out, " ")?;
     out.extend_from_slice(verdict.word.as_slice())?;
+    push_complains(out, complains)?;
     push_text(out, "\n")?;
     push_reasons(out, verdict)
 }
@@ -56,7 +63,7 @@ fn push_by(out: &mut Vec<u8>, alloc: Global, finding: &Finding) -> Result<(), Al
     ensures { OnOk result (out.new.items ≡ out.old.items ++ by_text (found finding.now)) }
 {
     match finding {
-        Finding::ByRequest(verdict) => push_verdict(out, alloc, verdict),
+        Finding::ByRequest(complains, verdict) => push_verdict(out, alloc, *complains, verdict),
         Finding::Complaining(name) => push_complaining(out, alloc, name.as_slice()),
     }
 }
@@ -150,7 +157,7 @@ pub(crate) fn push_untold(out: &mut Vec<u8>, answers: &[Answer]) -> Result<(), A
     ensures { OnOk result (out.new.items ≡ out.old.items ++ flat_map untold_text (map answered answers.now)) }
 {
     for answer in answers {
-        out.extend_from_slice(answer.findings.untold.as_slice())?;
+        push_untold_lines(out, answer.findings.untold.as_slice())?;
     }
     Ok(())
 }

@@ -1,5 +1,5 @@
 -- Claims of lines that stand one behind another.
-use Rattle.std.proofs.Common.{◌≡◌, ◌+◌, ◌<◌, ◌≤◌, ◌⊎◌, inl, inr, ℕ, List, [], ◌∷◌, ◌++◌, length, map, take, refl, sym, subst, ap, ◌∙◌, arith, Vec, Result, Ok, Err}
+use Rattle.std.proofs.Common.{◌≡◌, ◌+◌, ◌<◌, ◌≤◌, ℕ, List, [], ◌∷◌, ◌++◌, length, map, take, get_or, refl, sym, subst, ap, ◌∙◌, arith, Vec, Result, Ok, Err}
 use Rattle.std.specs.Prelude.{flat_map, IfErr}
 use Rattle.std.specs.Result.{IsErrAnd}
 use Rattle.std.specs.declared.alloc.Global.{Global}
@@ -7,10 +7,11 @@ use Rattle.std.proofs.lemmas.List.{length-append, append-nil}
 use Rattle.std.proofs.lemmas.Grind.{flat_map-append}
 use Rattle.aa_claims.specs.declared.words.ClaimWord.{ClaimWord}
 use Rattle.aa_claims.specs.declared.lines.ClaimLine.{ClaimLine}
+use Rattle.aa_claims.specs.declared.fault.Wrong.TheVariants.{TooMany}
 use Rattle.aa_claims.specs.declared.fault.ClaimFault.{ClaimFault}
 use Rattle.aa_claims.specs.declared.fault.ClaimFault.TheVariants.{NoMemory, At}
 use Rattle.aa_claims.specs.Faults.{SaysAt}
-use Rattle.aa_claims.specs.Lines.{AreRightWords, IsLine, AreLines, end_of_line, claim_by, claim_of, AreClaimsUpTo, IsWrong, IsLineFault, Adds}
+use Rattle.aa_claims.specs.Lines.{AreRightWords, IsLine, AreLines, end_of_line, claim_by, claim_of, AreClaimsUpTo, IsWrong, IsLineFault, NoClaim, OneMore, Adds}
 
 no_claim : (l : ClaimLine) (ws : List ClaimWord) → length ws ≡ 0 → claim_by l ws ≡ []
 no_claim l [] e = refl
@@ -41,7 +42,13 @@ adds_one text number start old new ws right h e = record {
 -- what is wrong with a line is why it is none
 pub line_fault : (text : List ℕ) (start earlier : ℕ) (e : ClaimFault) → SaysAt (IsWrong text start) e → SaysAt (IsLineFault text start earlier) e
 line_fault text start earlier NoMemory h = tt
-line_fault text start earlier (At at fault) h = inl h
+line_fault text start earlier (At at fault) h = NoClaim h
+
+-- a claim too many is told at its first word
+pub one_more : (text : List ℕ) (start earlier : ℕ) (ws : List ClaimWord) (first : ClaimWord) → AreRightWords text start ws → 0 < length ws
+    → first ≡ get_or ws 0 first → 65536 ≤ earlier → IsLineFault text start earlier first.at TooMany
+one_more text start earlier [] first right some is many = absurd (omega (arith, some))
+one_more text start earlier (w ∷ ws) first right some is many = OneMore w ws right (ap (λ (x : ClaimWord). x.at) is) refl many
 
 pub handed_on : {T : Type 0} (r : Result T ClaimFault) (P Q : ClaimFault → Type 0) → IsErrAnd r P → ((y : ClaimFault) → P y → Q y) → IfErr r Q
 handed_on (Ok t) P Q a h = tt

@@ -1,6 +1,7 @@
 -- Why claims aren't answered.
 -- Source: own.
-use Rattle.std.specs.Prelude.{◌≡◌, ℕ, List, codes}
+use Rattle.std.specs.Prelude.{◌≡◌, ℕ, List, [], ◌++◌, codes}
+use Rattle.aa_text.specs.Visible.{all_visible}
 use Rattle.aa_claims.specs.declared.fault.Wrong.{Wrong}
 use Rattle.aa_claims.specs.declared.fault.Wrong.TheVariants as wrong
 use Rattle.aa_claims.specs.declared.fault.ClaimFault.{ClaimFault}
@@ -16,18 +17,28 @@ SaysAt IsSo (At place fault) = IsSo place fault
 abbrev pub SaysOpen : List ℕ → ℕ → ClaimFault → Type 0
 SaysOpen text from e = SaysAt (λ at fault. (fault ≡ wrong.Open) × IsOpenAt text from at) e
 
+-- with what begins that which is said of a claim
+abbrev pub opening : Wrong → List ℕ
+opening wrong.Open = codes "the quote isn't closed on this line"
+opening wrong.NoClaim = codes "a claim begins with never or always"
+opening wrong.Nothing = codes "what is claimed isn't said: a word of requests is wanted, as w:/etc/shadow or cap:sys_admin, or always enforced"
+opening (wrong.NoRequest why) = codes "this is no request: "
+opening wrong.NoPattern = codes "the path is no pattern"
+opening wrong.NoClause = codes "in or except is wanted here"
+opening wrong.Twice = codes "this clause stands in the claim before"
+opening wrong.NotHere = codes "such a claim has no such clause"
+opening wrong.NoName = codes "a name is wanted behind this word"
+opening wrong.Unanswered = codes "claims of this form aren't answered by this version"
+opening wrong.NoProfile = codes "no profile has such a name"
+opening wrong.NoPath = codes "no path that can be asked for matches the pattern: nothing can break the claim"
+opening wrong.Nobody = codes "the claim is about no profile: nothing can break it"
+opening wrong.TooMany = codes "a file has at most 65,536 claims"
+
+-- why it is no request, where that is wrong with it
+abbrev pub reason : Wrong → List ℕ
+reason (wrong.NoRequest why) = all_visible why.items
+reason _ = []
+
 -- what is said of a claim
 abbrev pub sentence : Wrong → List ℕ
-sentence wrong.Open = codes "the quote isn't closed on this line"
-sentence wrong.NoClaim = codes "a claim begins with never or always"
-sentence wrong.Nothing = codes "what is claimed isn't said: a word of requests is wanted, as w:/etc/shadow or cap:sys_admin, or always enforced"
-sentence wrong.NoRequest = codes "this is no request, or its path no pattern: LETTERS:PATTERN is wanted, x:PATTERN, cap:NAME, net:FAMILY/TYPE or change:NAME"
-sentence wrong.NoClause = codes "in or except is wanted here"
-sentence wrong.Twice = codes "this clause stands in the claim before"
-sentence wrong.NotHere = codes "such a claim has no such clause"
-sentence wrong.NoName = codes "a name is wanted behind this word"
-sentence wrong.Unanswered = codes "claims of this form aren't answered by this version"
-sentence wrong.NoProfile = codes "no profile has such a name"
-sentence wrong.NoPath = codes "no path that can be asked for matches the pattern: nothing can break the claim"
-sentence wrong.Nobody = codes "the claim is about no profile: nothing can break it"
-sentence wrong.TooMany = codes "a file has at most 65,536 claims"
+sentence fault = opening fault ++ reason fault

@@ -1,6 +1,6 @@
 -- The claims of a text.
 -- Source: own.
-use Rattle.std.specs.Prelude.{◌≡◌, ◌⊎◌, ℕ, ◌+◌, ◌<◌, ◌≤◌, List, [], ◌∷◌, ◌++◌, length, map, flat_map, take, drop, Vec}
+use Rattle.std.specs.Prelude.{◌≡◌, ℕ, ◌+◌, ◌<◌, ◌≤◌, List, [], ◌∷◌, ◌++◌, length, map, flat_map, take, drop, Vec}
 use Rattle.std.specs.declared.alloc.Global.{Global}
 use Rattle.aa_text.specs.Places.{is_line_end}
 use Rattle.aa_claims.specs.declared.words.ClaimWord.{ClaimWord}
@@ -60,9 +60,11 @@ pub data IsWrong (text : List ℕ) (start at : ℕ) (fault : Wrong) : Type 0 whe
   Opens : fault ≡ Open → IsOpenAt text start at → IsWrong text start at fault
   Forms : (words : List ClaimWord) → AreWords text start (map word_data words) → IsFirstWrong words at fault → IsWrong text start at fault
 
--- why a line is no claim, or one too many behind so many
-abbrev pub IsLineFault : List ℕ → ℕ → ℕ → ℕ → Wrong → Type 0
-IsLineFault text start earlier at fault = IsWrong text start at fault ⊎ ((fault ≡ TooMany) × (65536 ≤ earlier))
+-- why a line isn't answered behind so many claims: it is none, or it is one too many, which is told at its first word
+pub data IsLineFault (text : List ℕ) (start earlier at : ℕ) (fault : Wrong) : Type 0 where
+  NoClaim : IsWrong text start at fault → IsLineFault text start earlier at fault
+  OneMore : (first : ClaimWord) (more : List ClaimWord) → AreRightWords text start (first ∷ more) → at ≡ first.at → fault ≡ TooMany → 65536 ≤ earlier
+      → IsLineFault text start earlier at fault
 
 -- why a text is no claims: it holds, behind others, a line that is none
 pub record IsFirstFault (text : List ℕ) (at : ℕ) (fault : Wrong) : Type 0 where

@@ -3,7 +3,7 @@
 use std::alloc::{AllocError, AllocFailed};
 
 /// What is wrong with a claim, at one of its words.
-#[derive(Clone, Copy, Debug, PartialEq, Eq)]
+#[derive(Drop)]
 pub enum Wrong {
     /// A quote is open where the line ends.
     Open,
@@ -11,8 +11,10 @@ pub enum Wrong {
     NoClaim,
     /// It doesn't say what is claimed.
     Nothing,
-    /// What it says is no request, or its path no pattern.
-    NoRequest,
+    /// What it says is no request: why.
+    NoRequest(Vec<u8>),
+    /// The path of what it says is no pattern.
+    NoPattern,
     /// A word stands where a clause begins, and begins none.
     NoClause,
     /// The same clause stands there before.
@@ -34,7 +36,7 @@ pub enum Wrong {
 }
 
 /// Why claims aren't answered.
-#[derive(Clone, Copy, Debug, PartialEq, Eq)]
+#[derive(Drop)]
 pub enum ClaimFault {
     NoMemory,
     /// At that byte of the text something is wrong.

@@ -1,16 +1,16 @@
 //! What is said of a claim.
 
-ghost use Rattle.std.specs.Prelude.{◌≡◌, IfOk};
-ghost use Rattle.aa_claims.specs.Faults.{sentence};
+ghost use Rattle.std.specs.Prelude.{◌≡◌, ◌++◌, IfOk, OnOk};
+ghost use Rattle.aa_claims.specs.Faults.{opening, reason, sentence};
 ghost use Rattle.aa_claims.specs.Reports.{IsClaimReport};
 
 use crate::fault::Wrong;
-use aa_text::{FaultReport, excerpt, place_at};
+use aa_text::{FaultReport, excerpt, place_at, push_visible};
 use std::alloc::{AllocError, Global};
 
-/// What is said of a claim.
-fn sentence_of(wrong: Wrong) -> &'static str
-    ensures { result.now ≡ sentence wrong }
+/// With what begins that which is said of a claim.
+fn opening_of(wrong: &Wrong) -> &'static str
+    ensures { result.now ≡ opening wrong.now }
 {
     match wrong {
         Wrong::Open => "the quote isn't closed on this line",
@@ -18,9 +18,8 @@ fn sentence_of(wrong: Wrong) -> &'static str
         Wrong::Nothing => {
             "what is claimed isn't said: a word of requests is wanted, as w:/etc/shadow or cap:sys_admin, or always enforced"
         }
-        Wrong::NoRequest => {
-            "this is no request, or its path no pattern: LETTERS:PATTERN is wanted, x:PATTERN, cap:NAME, net:FAMILY/TYPE or change:NAME"
-        }
+        Wrong::NoRequest(_) => "this is no request: ",
+        Wrong::NoPattern => "the path is no pattern",
         Wrong::NoClause => "in or except is wanted here",
         Wrong::Twice => "this clause stands in the claim before",
         Wrong::NotHere => "such a claim has no such clause",
@@ -35,21 +34,40 @@ fn sentence_of(wrong: Wrong) -> &'static str
     }
 }
 
+/// Appends why it is no request, where that is wrong with it.
+fn push_reason(out: &mut Vec<u8>, wrong: &Wrong) -> Result<(), AllocError>
+    ensures { OnOk result (out.new.items ≡ out.old.items ++ reason wrong.now) }
+{
+    match wrong {
+        Wrong::NoRequest(why) => push_visible(out, why.as_slice()),
+        _ => Ok(()),
+    }
+}
+
+/// What is said of a claim.
+fn sentence_of(alloc: Global, wrong: &Wrong) -> Result<Vec<u8>, AllocError>
+    ensures { IfOk result (λ said. said.items ≡ sentence wrong.now) }
+{
+    let mut said = Vec::from_slice(alloc, opening_of(wrong).as_bytes())?;
+    push_reason(&mut said, wrong)?;
+    Ok(said)
+}
+
 /// What is said of the claims at a path, where something is wrong at a byte of their text.
 pub fn claim_report(
     alloc: Global,
     path: &[u8],
     text: &[u8],
     byte: usize,
-    wrong: Wrong,
+    wrong: &Wrong,
 ) -> Result<FaultReport, AllocError>
-    ensures { IfOk result (λ r. IsClaimReport path.now text.now byte wrong r) }
+    ensures { IfOk result (λ r. IsClaimReport path.now text.now byte wrong.now r) }
 {
     Ok(FaultReport {
         kind: "BadClaim",
         path: Vec::from_slice(alloc, path)?,
         place: Some(place_at(text, byte)),
-        message: Vec::from_slice(alloc, sentence_of(wrong).as_bytes())?,
+        message: sentence_of(alloc, wrong)?,
         excerpt: excerpt(alloc, text, byte)?,
         chain: Vec::new(alloc),
         further: Vec::new(alloc),

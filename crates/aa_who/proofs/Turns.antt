@@ -1,15 +1,19 @@
 -- Words that are answered one after another.
-use Rattle.std.proofs.Common.{◌≡◌, ℕ, ◌+◌, ◌<◌, ◌≤◌, List, [], ◌∷◌, ◌++◌, length, map, take, get_or, Vec, ap, sym, subst, ◌∙◌, arith}
-use Rattle.std.specs.Prelude.{Contains}
+use Rattle.std.proofs.Common.{◌≡◌, ℕ, zero, suc, ◌+◌, ◌<◌, ◌≤◌, List, [], ◌∷◌, ◌++◌, length, map, take, drop, get_or, Vec, Result, Ok, Err, ap, sym, subst, ◌∙◌, arith}
+use Rattle.std.specs.Prelude.{IfErr}
+use Rattle.std.specs.Result.{IsErrAnd}
 use Rattle.std.specs.declared.alloc.Global.{Global}
-use Rattle.std.proofs.lemmas.List.{take_more, take_all, map-append, get_or-map, length-map}
+use Rattle.std.proofs.lemmas.List.{take_more, take_all, map-append}
 use Rattle.std.proofs.lemmas.Slice.Zip.{all_zipped_more}
 use Rattle.aa_files.specs.Texts.{texts}
 use Rattle.aa_command.specs.declared.decided.Decided.{Decided}
 use Rattle.aa_who.specs.declared.answering.WordAnswer.{WordAnswer}
 use Rattle.aa_who.specs.declared.fault.WhoFault.{WhoFault}
 use Rattle.aa_who.specs.declared.fault.WhoFault.TheVariants.{NoMemory, Refused}
-use Rattle.aa_who.specs.Answers.{answered, IsAnswerTo, AreAnswers, SaysNoAnswer, SaysFirst}
+use Rattle.aa_quantifiers.specs.declared.word.Word.{Word}
+use Rattle.aa_who.specs.Words.{IsRead}
+use Rattle.aa_who.specs.Counts.{SaysNoPath}
+use Rattle.aa_who.specs.Answers.{Unasked, answered, IsAnswerTo, AreAnswers, IsNoAnswer, SaysNoAnswer, SaysFirst}
 
 -- the word of that number stands behind those before it
 one_more : (words : List (Vec ℕ Global)) (i : ℕ) (word : Vec ℕ Global) → i < length words → word ≡ get_or words i word
@@ -32,14 +36,34 @@ pub answers_all : (d : Decided) (limit : ℕ) (words : List (Vec ℕ Global)) (i
     → AreAnswers d limit (texts (take i words)) (map answered answers) → AreAnswers d limit (texts words) (map answered answers)
 answers_all d limit words i answers le are = subst (λ (ws : List (Vec ℕ Global)). AreAnswers d limit (texts ws) (map answered answers)) (take_all i words le) are
 
-word_among : (words : List (Vec ℕ Global)) (i : ℕ) (word : Vec ℕ Global) → i < length words → word ≡ get_or words i word → Contains (texts words) word.items
-word_among words i word lt item =
-    let long : length (texts words) ≡ length words = length-map words (λ (v : Vec ℕ Global). v.items) in
-    (i, omega (arith, long, lt), get_or-map (λ (v : Vec ℕ Global). v.items) words i word word.items lt ∙ ap (λ (v : Vec ℕ Global). v.items) (sym item))
+-- the words are those before one, the one, and those behind it
+parted : (words : List (Vec ℕ Global)) (i : ℕ) (word : Vec ℕ Global) → i < length words → word ≡ get_or words i word
+    → texts words ≡ texts (take i words) ++ word.items ∷ texts (drop (suc i) words)
+parted [] i word lt item = absurd (omega (arith, lt))
+parted (w ∷ ws) zero word lt item = ap (λ (v : Vec ℕ Global). v.items ∷ texts ws) (sym item)
+parted (w ∷ ws) (suc i) word lt item = ap (λ (l : List (List ℕ)). w.items ∷ l) (parted ws i word (omega (arith, lt)) item)
 
--- what is said of a word is said of one of the words
-pub said_first : (words : List (Vec ℕ Global)) (i : ℕ) (word : Vec ℕ Global) (text : List ℕ) (e : WhoFault) → i < length words → word ≡ get_or words i word → text ≡ word.items
-    → SaysNoAnswer text e → SaysFirst (texts words) e
-said_first words i word text NoMemory lt item is_text why = tt
-said_first words i word text (Refused line) lt item is_text why =
-    (text, subst (λ (t : List ℕ). Contains (texts words) t) (sym is_text) (word_among words i word lt item), why)
+-- what is said of a word is said of the first that isn't answered
+pub said_first : (d : Decided) (limit : ℕ) (words : List (Vec ℕ Global)) (i : ℕ) (word : Vec ℕ Global) (text : List ℕ) (answers : List WordAnswer) (e : WhoFault)
+    → i < length words → word ≡ get_or words i word → text ≡ word.items → AreAnswers d limit (texts (take i words)) (map answered answers) → SaysNoAnswer text e
+    → SaysFirst d limit (texts words) e
+said_first d limit words i word text answers NoMemory lt item is_text before why = tt
+said_first d limit words i word text answers (Refused line) lt item is_text before why = record {
+  earlier = texts (take i words);
+  text = word.items;
+  later = texts (drop (suc i) words);
+  among = parted words i word lt item;
+  answers = map answered answers;
+  before = before;
+  why = subst (λ (t : List ℕ). IsNoAnswer t line.items) is_text why;
+}
+
+pub handed_on : {T : Type 0} (r : Result T WhoFault) (P Q : WhoFault → Type 0) → IsErrAnd r P → ((y : WhoFault) → P y → Q y) → IfErr r Q
+handed_on (Ok t) P Q a h = tt
+handed_on (Err e) P Q a h = h e a
+
+-- a word that is read, and asks nothing, isn't answered
+pub asks_nothing : {T : Type 0} (r : Result T WhoFault) (text : List ℕ) (w : Word) → IsRead text w → IfErr r (SaysNoPath w text) → IfErr r (SaysNoAnswer text)
+asks_nothing (Ok t) text w read h = tt
+asks_nothing (Err NoMemory) text w read h = tt
+asks_nothing (Err (Refused line)) text w read h = Unasked w read h.0 h.1

@@ -1,32 +1,36 @@
 -- Who is granted what words ask.
 -- Source: own.
-use Rattle.std.specs.Prelude.{◌≡◌, ◌⊎◌, ℕ, List, Bool, Contains}
+use Rattle.std.specs.Prelude.{◌≡◌, ℕ, List, ◌∷◌, ◌++◌, Bool, Option}
 use Rattle.std.specs.List.{AllZip}
 use Rattle.aa_model.specs.declared.label.Label.TheVariants.{Unconfined}
+use Rattle.aa_model.specs.declared.request.Request.{Request}
 use Rattle.aa_command.specs.declared.decided.Decided.{Decided}
 use Rattle.aa_quantifiers.specs.declared.word.Word.{Word}
+use Rattle.aa_quantifiers.specs.Words.{IsOf}
+use Rattle.aa_who.specs.declared.fault.Misread.{Misread}
 use Rattle.aa_who.specs.declared.fault.WhoFault.{WhoFault}
 use Rattle.aa_who.specs.declared.fault.WhoFault.TheVariants.{NoMemory, Refused}
 use Rattle.aa_who.specs.declared.counting.Counted.{Counted}
 use Rattle.aa_who.specs.declared.answering.WordAnswer.{WordAnswer}
-use Rattle.aa_who.specs.Words.{IsRead, SaysUnread}
-use Rattle.aa_who.specs.Counts.{IsCounted, SaysNoPath, is_every, untold_of}
+use Rattle.aa_who.specs.Words.{IsRead, SaysMisread, IsMisreadLine, no_path}
+use Rattle.aa_who.specs.Untold.{Untold}
+use Rattle.aa_who.specs.Counts.{IsCounted, all_told, untold_of}
 use Rattle.aa_who.specs.Grants.{Granted, AllGranted, all_granted, count_of, AreGrants}
 
--- who is granted what a word asks: which profiles, of how many, and whether a task without a profile is granted all of it; and the lines
--- on profiles and on such a task of which it can't be told
+-- who is granted what a word asks: which profiles, of how many, and whether a task without a profile is granted all of it; and the profiles
+-- of which it can't be told, with the line on such a task where it can't be told of it
 pub record Answered : Type 0 where
   pub word : List ℕ
   pub grants : List Granted
-  pub untold : List ℕ
+  pub untold : List Untold
   pub profiles : ℕ
-  pub is_free : Bool
+  pub is_free : Option Bool
   pub free_untold : List ℕ
 
 -- the answer by what is told of the profiles and of a task without one
 abbrev pub answered_by : List ℕ → ℕ → AllGranted → Counted → Answered
 answered_by text profiles granted free =
-    record { word = text; grants = granted.list; untold = granted.untold; profiles = profiles; is_free = is_every free; free_untold = untold_of free }
+    record { word = text; grants = granted.list; untold = granted.untold; profiles = profiles; is_free = all_told free; free_untold = untold_of free }
 
 -- an answer, without where it lies in memory
 abbrev pub answered : WordAnswer → Answered
@@ -50,11 +54,27 @@ pub record IsAnswerTo (d : Decided) (limit : ℕ) (text : List ℕ) (a : Answere
 abbrev pub AreAnswers : Decided → ℕ → List (List ℕ) → List Answered → Type 0
 AreAnswers d limit texts answers = AllZip (IsAnswerTo d limit) texts answers
 
--- a refusal says why a word isn't answered: it is read as no requests, or as requests that nothing can ask
-abbrev pub SaysNoAnswer : List ℕ → WhoFault → Type 0
-SaysNoAnswer text e = SaysUnread text (IsRead text) e ⊎ ((w : Word) × IsRead text w × SaysNoPath w text e)
+-- why a word isn't answered: it is read as no requests, or as requests that nothing can ask
+pub data IsNoAnswer (text line : List ℕ) : Type 0 where
+  Unread : (e : Misread) → SaysMisread text e → IsMisreadLine text e line → IsNoAnswer text line
+  Unasked : (w : Word) → IsRead text w → ((r : Request) → IsOf w r → ⊥) → line ≡ no_path text → IsNoAnswer text line
 
--- a refusal says why one of the words isn't answered
-abbrev pub SaysFirst : List (List ℕ) → WhoFault → Type 0
-SaysFirst texts NoMemory = Unit {0}
-SaysFirst texts (Refused line) = (text : List ℕ) × Contains texts text × SaysNoAnswer text (Refused line)
+-- a refusal says why a word isn't answered, unless memory ran out
+abbrev pub SaysNoAnswer : List ℕ → WhoFault → Type 0
+SaysNoAnswer text NoMemory = Unit {0}
+SaysNoAnswer text (Refused line) = IsNoAnswer text line.items
+
+-- the first of the words that isn't answered, and why: those before it are
+pub record IsFirstUnanswered (d : Decided) (limit : ℕ) (texts : List (List ℕ)) (line : List ℕ) : Type 0 where
+  pub earlier : List (List ℕ)
+  pub text : List ℕ
+  pub later : List (List ℕ)
+  pub among : texts ≡ earlier ++ text ∷ later
+  pub answers : List Answered
+  pub before : AreAnswers d limit earlier answers
+  pub why : IsNoAnswer text line
+
+-- a refusal says why the first of the words isn't answered that isn't, unless memory ran out
+abbrev pub SaysFirst : Decided → ℕ → List (List ℕ) → WhoFault → Type 0
+SaysFirst d limit texts NoMemory = Unit {0}
+SaysFirst d limit texts (Refused line) = IsFirstUnanswered d limit texts line.items

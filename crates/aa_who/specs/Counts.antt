@@ -1,6 +1,6 @@
 -- How many of the requests of a word a task is granted.
 -- Source: own.
-use Rattle.std.specs.Prelude.{◌≡◌, ◌<◌, ◌+◌, ℕ, List, [], ◌++◌, length, codes, decimal, Bool, true, false}
+use Rattle.std.specs.Prelude.{◌≡◌, ◌<◌, ◌+◌, ℕ, List, [], ◌++◌, length, codes, decimal, Bool, true, false, Option, Some, None, unwrap_or}
 use Rattle.aa_base.specs.Values.{value}
 use Rattle.aa_text.specs.Visible.{all_visible}
 use Rattle.aa_pattern.specs.Limits.{most_patterns}
@@ -11,6 +11,7 @@ use Rattle.aa_model.specs.declared.label.Label.TheVariants.{Unconfined, Confined
 use Rattle.aa_model.specs.declared.request.Request.{Request}
 use Rattle.aa_compile.specs.Labels.{label_name}
 use Rattle.aa_quantifiers.specs.declared.word.Word.{Word}
+use Rattle.aa_quantifiers.specs.declared.quantity.Quantity.{Quantity}
 use Rattle.aa_quantifiers.specs.declared.quantity.Quantity.TheVariants.{Every, Partly, Never}
 use Rattle.aa_quantifiers.specs.Words.{IsOf, patterns_at}
 use Rattle.aa_quantifiers.specs.Quantities.{IsQuantity}
@@ -48,11 +49,19 @@ IsCounted policies limit l w text (Told q) = IsQuantity policies l w q
 IsCounted policies limit l w text (Untold line) = CantTell policies limit l w text line.items
 
 -- all are granted
+abbrev pub is_all : Quantity → Bool
+is_all (Every one) = true
+is_all (Partly one other) = false
+is_all (Never other) = false
+
+-- whether all are, where it can be told
+abbrev pub all_told : Counted → Option Bool
+all_told (Told q) = Some (is_all q)
+all_told (Untold line) = None
+
+-- it is told that all are
 abbrev pub is_every : Counted → Bool
-is_every (Told (Every one)) = true
-is_every (Told (Partly one other)) = false
-is_every (Told (Never other)) = false
-is_every (Untold line) = false
+is_every c = unwrap_or (all_told c) false
 
 -- the line on why it can't be told, if it can't
 abbrev pub untold_of : Counted → List ℕ

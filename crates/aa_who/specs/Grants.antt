@@ -17,6 +17,7 @@ use Rattle.aa_who.specs.declared.granting.Grant.{Grant}
 use Rattle.aa_who.specs.declared.granting.Grants.{Grants}
 use Rattle.aa_who.specs.declared.counting.Counted.{Counted}
 use Rattle.aa_who.specs.declared.counting.Counted.TheVariants as of
+use Rattle.aa_who.specs.Untold.{Untold, untold, untold_at}
 use Rattle.aa_who.specs.Counts.{IsCounted}
 
 -- a profile that is granted some of a word's requests: the verdict on one that is, and the word of one that isn't, if there is one
@@ -26,10 +27,10 @@ pub record Granted : Type 0 where
   pub verdict : Told
   pub refused : Option (List ℕ)
 
--- those that are granted some, and the lines on those of which it can't be told
+-- those that are granted some, and those of which it can't be told
 pub record AllGranted : Type 0 where
   pub list : List Granted
-  pub untold : List ℕ
+  pub untold : List Untold
 
 -- a grant, without where it lies in memory
 abbrev pub granted : Grant → Granted
@@ -37,7 +38,7 @@ granted g = record { name = g.name.items; complains = g.complains; verdict = tol
 
 -- all of them
 abbrev pub all_granted : Grants → AllGranted
-all_granted gs = record { list = map granted gs.list.items; untold = gs.untold.items }
+all_granted gs = record { list = map granted gs.list.items; untold = map untold gs.untold.items }
 
 -- profile n, which is p, is granted so many of the requests
 abbrev pub grants_by : Decided → ℕ → Profile → Quantity → List Granted
@@ -48,7 +49,7 @@ grants_by d n p (Never other) = []
 -- and what is told of it is added
 abbrev pub with_count : Decided → ℕ → Profile → AllGranted → Counted → AllGranted
 with_count d n p gs (of.Told q) = record { list = gs.list ++ grants_by d n p q; untold = gs.untold }
-with_count d n p gs (of.Untold line) = record { list = gs.list; untold = gs.untold ++ line.items }
+with_count d n p gs (of.Untold line) = record { list = gs.list; untold = gs.untold ++ untold_at d.policies.now (Confined 0 n) line.items ∷ [] }
 
 -- how many profiles there are
 abbrev pub count_of : List Policy → ℕ

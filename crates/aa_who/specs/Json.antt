@@ -3,6 +3,7 @@
 use Rattle.std.specs.Prelude.{ℕ, List, ◌++◌, map, codes, decimal, Bool, true, false, Option, Some, None, option_map}
 use Rattle.aa_text.specs.Jsons.{json_bytes, key_text, bool_text, member_text, member_if, list_text}
 use Rattle.aa_ask.specs.Json.{json_verdict}
+use Rattle.aa_who.specs.Untold.{json_untold}
 use Rattle.aa_who.specs.Grants.{Granted}
 use Rattle.aa_who.specs.Answers.{Answered}
 
@@ -23,12 +24,22 @@ json_shown g = member_text (codes "complains") (bool_text g.complains) ++ member
 unfoldable pub json_grant : Granted → List ℕ
 json_grant g = json_front g ++ json_shown g ++ member_if (codes "not") (option_map json_bytes g.refused) ++ codes "}"
 
--- a word, the profiles that are granted it, of how many, and whether a task without a profile is
+-- whether all is granted, or null where it can't be told
+abbrev pub json_all : Option Bool → List ℕ
+json_all (Some all) = bool_text all
+json_all None = codes "null"
+
+-- a word, and the profiles that are granted it
+unfoldable pub json_granted : Answered → List ℕ
+json_granted a = codes "{" ++ (key_text (codes "word") ++ json_bytes a.word) ++ member_text (codes "granted") (list_text (map json_grant a.grants))
+
+-- so, with the profiles of which it can't be told, how many there are, and whether a task without a profile is granted it
 unfoldable pub json_answer : Answered → List ℕ
 json_answer a =
-    codes "{" ++ key_text (codes "word") ++ json_bytes a.word ++ member_text (codes "granted") (list_text (map json_grant a.grants))
-    ++ member_text (codes "profiles") (decimal a.profiles) ++ member_text (codes "unconfined") (bool_text a.is_free) ++ codes "}"
+    json_granted a ++ member_text (codes "untold") (list_text (map json_untold a.untold)) ++ member_text (codes "profiles") (decimal a.profiles)
+    ++ member_text (codes "unconfined") (json_all a.is_free) ++ codes "}"
 
--- one JSON list and a line end
-abbrev pub json_answers : List Answered → List ℕ
-json_answers answers = list_text (map json_answer answers) ++ codes "\n"
+-- one JSON object with the answers, and how many rules decide nothing
+unfoldable pub json_answers : ℕ → List Answered → List ℕ
+json_answers passed answers =
+    codes "{" ++ key_text (codes "answers") ++ list_text (map json_answer answers) ++ member_text (codes "passed_over") (decimal passed) ++ codes "}\n"

@@ -1,5 +1,6 @@
 pub mod Words
 pub mod Counts
+pub mod Untold
 pub mod Grants
 pub mod Answers
 pub mod Shown

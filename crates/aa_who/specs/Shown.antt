@@ -1,10 +1,11 @@
 -- Answers as they are printed.
 -- Source: own.
-use Rattle.std.specs.Prelude.{ℕ, ◌==◌, ◌&&◌, List, [], ◌++◌, length, flat_map, codes, decimal, Bool, if◌then◌else◌, Option, Some, None}
+use Rattle.std.specs.Prelude.{ℕ, ◌==◌, ◌&&◌, List, [], ◌++◌, length, flat_map, codes, decimal, Bool, false, if◌then◌else◌, Option, Some, None, unwrap_or}
 use Rattle.aa_base.specs.Values.{value}
 use Rattle.aa_text.specs.Visible.{all_visible}
 use Rattle.aa_ask.specs.Told.{Told}
 use Rattle.aa_ask.specs.Shown.{reasons_text}
+use Rattle.aa_who.specs.Untold.{untold_lines}
 use Rattle.aa_who.specs.Grants.{Granted}
 use Rattle.aa_who.specs.Answers.{Answered}
 
@@ -44,12 +45,16 @@ free_mark is_free = if is_free then codes "; not confined: every task without a 
 
 -- N of M profiles; not confined: every task without a profile
 unfoldable pub count_line : Answered → List ℕ
-count_line a = decimal (length a.grants) ++ codes " of " ++ decimal a.profiles ++ codes " profiles" ++ free_mark a.is_free
+count_line a = decimal (length a.grants) ++ codes " of " ++ decimal a.profiles ++ codes " profiles" ++ free_mark (unwrap_or a.is_free false)
 
 -- the lines on what can't be told
 abbrev pub untold_text : Answered → List ℕ
-untold_text a = a.untold ++ a.free_untold
+untold_text a = untold_lines a.untold ++ a.free_untold
 
 -- the lines of an answer
 unfoldable pub answer_text : Answered → List ℕ
 answer_text a = flat_map (grant_text a.word) a.grants ++ nobody_text a ++ count_line a
+
+-- how many rules decide nothing, where there are some
+abbrev pub passed_text : ℕ → List ℕ
+passed_text n = if n == 0 then [] else decimal n ++ codes " rules passed over\n"

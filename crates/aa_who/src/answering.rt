@@ -1,19 +1,22 @@
 //! The answers to words.
 
-ghost use Rattle.std.specs.Prelude.{◌≡◌, map, IfOk, IfErr};
+ghost use Rattle.std.specs.Prelude.{◌≡◌, ◌++◌, codes, map, IfOk, IfErr};
+ghost use Rattle.aa_text.specs.Visible.{all_visible};
 ghost use Rattle.aa_files.specs.Texts.{texts};
 ghost use Rattle.aa_load.specs.UnitPolicy.{limit_of};
+ghost use Rattle.aa_who.specs.Words.{SaysMisread, IsMisreadLine};
 ghost use Rattle.aa_who.specs.Counts.{SaysNoPath};
 ghost use Rattle.aa_who.specs.Answers.{answered, IsAnswerTo, IsAnswerBy, AreAnswers, SaysNoAnswer, SaysFirst};
 
 use crate::counting::{Counted, count_at};
-use crate::fault::WhoFault;
+use crate::fault::{Misread, WhoFault};
 use crate::granting::{Grants, count_of, grants_of};
-use crate::reading::read_asked;
+use crate::reading::{read_asked, said_of};
 use aa_command::Decided;
 use aa_model::Label;
 use aa_quantifiers::Word;
-use std::alloc::Global;
+use aa_text::{push_text, push_visible};
+use std::alloc::{AllocError, Global};
 
 /// Who is granted what a word asks.
 #[derive(Drop)]
@@ -54,6 +57,40 @@ fn answer_by(
     })
 }
 
+/// The line on a word that is no request.
+fn no_request_line(alloc: Global, word: &[u8], why: &[u8]) -> Result<Vec<u8>, AllocError>
+    ensures { IfOk result (λ line. line.items ≡ codes "error: this is no request: " ++ all_visible word.now ++ codes ": " ++ all_visible why.now ++ codes "\n") }
+{
+    let mut line = Vec::from_slice(alloc, "error: this is no request: ".as_bytes())?;
+    push_visible(&mut line, word)?;
+    push_text(&mut line, ": ")?;
+    push_visible(&mut line, why)?;
+    push_text(&mut line, "\n")?;
+    Ok(line)
+}
+
+/// The line on a word that is read as no requests.
+fn misread_line(alloc: Global, word: &[u8], misread: &Misread) -> Result<Vec<u8>, AllocError>
+    ensures { IfOk result (λ line. IsMisreadLine word.now misread.now line.items) }
+{
+    match misread {
+        Misread::NoMemory => Err(AllocError),
+        Misread::NoRequest(why) => no_request_line(alloc, word, why.as_slice()),
+        Misread::NoPattern => said_of(alloc, "error: the path is no pattern: ", word),
+    }
+}
+
+/// The refusal of a word that is read as no requests.
+fn unread(alloc: Global, word: &[u8], misread: &Misread) -> WhoFault
+    requires { SaysMisread word.now misread.now }
+    ensures { SaysNoAnswer word.now result }
+{
+    match misread_line(alloc, word, misread) {
+        Ok(line) => WhoFault::Refused(line),
+        Err(_) => WhoFault::NoMemory,
+    }
+}
+
 /// Who is granted what a word asks.
 fn answer_to(
     alloc: Global,
@@ -64,8 +101,10 @@ fn answer_to(
     ensures answered { IfOk result (λ a. IsAnswerTo decided.entry (limit_of states) text.now (answered a)) }
     ensures refused { IfErr result (λ e. SaysNoAnswer text.now e) }
 {
-    let word = read_asked(alloc, text)?;
-    answer_by(alloc, decided, states, &word, text)
+    match read_asked(alloc, text) {
+        Ok(word) => answer_by(alloc, decided, states, &word, text),
+        Err(misread) => Err(unread(alloc, text, &misread)),
+    }
 }
 
 /// The answer to each word, or what is said of the first that asks nothing.
@@ -76,7 +115,7 @@ pub(crate) fn answers_to(
     words: &[Vec<u8>],
 ) -> Result<Vec<WordAnswer>, WhoFault>
     ensures answered { IfOk result (λ list. AreAnswers decided.entry (limit_of states) (texts words.now) (map answered list.items)) }
-    ensures refused { IfErr result (λ e. SaysFirst (texts words.now) e) }
+    ensures refused { IfErr result (λ e. SaysFirst decided.entry (limit_of states) (texts words.now) e) }
 {
     let mut answers = Vec::new(alloc);
     for word in words {

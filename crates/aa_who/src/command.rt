@@ -7,13 +7,14 @@ ghost use Rattle.aa_command.specs.Setting.{setting_of};
 ghost use Rattle.aa_command.specs.Printed.{printed, faults_alone};
 ghost use Rattle.aa_who.specs.Answers.{answered};
 ghost use Rattle.aa_who.specs.Shown.{is_nobodys};
-ghost use Rattle.aa_who.specs.Command.{answers_text, status_of, who_printed, IsWhoOf, IsWhoOutput};
+ghost use Rattle.aa_who.specs.Command.{passed_in, answers_text, status_of, who_printed, IsWhoOf, IsWhoOutput};
 
 use crate::answering::{WordAnswer, answers_to};
 use crate::fault::WhoFault;
 use crate::json::push_json_answers;
-use crate::shown::{is_nobodys, push_answers, push_untold};
+use crate::shown::{is_nobodys, push_answers, push_passed, push_untold};
 use aa_command::{Decided, Output, Settings, Use, refused, with_policy};
+use aa_compile::Compiled;
 use aa_files::Tree;
 use aa_text::NoMemory;
 use std::alloc::{AllocError, Global};
@@ -32,22 +33,34 @@ pub struct WhoOptions<'a> {
     pub is_quiet: bool,
 }
 
-/// Appends answers as they are wanted.
+/// How many rules of the policy decide nothing.
+pub fn passed_in(policies: &[Compiled]) -> usize
+    ensures { result ≡ passed_in policies.now }
+{
+    match policies.get(0) {
+        Some(compiled) => compiled.policy().passed_over.as_slice().len(),
+        None => 0,
+    }
+}
+
+/// Appends answers as they are wanted, of a policy of which so many rules decide nothing.
 fn push_wanted(
     out: &mut Vec<u8>,
     alloc: Global,
     options: &WhoOptions<'_>,
+    passed: usize,
     answers: &[WordAnswer],
 ) -> Result<(), AllocError>
-    ensures { OnOk result (out.new.items ≡ out.old.items ++ answers_text options.now (map answered answers.now)) }
+    ensures { OnOk result (out.new.items ≡ out.old.items ++ answers_text options.now passed (map answered answers.now)) }
 {
     if options.is_json {
-        return push_json_answers(out, alloc, answers);
+        return push_json_answers(out, alloc, passed, answers);
     }
     if options.is_quiet {
         return Ok(());
     }
-    push_answers(out, alloc, answers)
+    push_answers(out, alloc, answers)?;
+    push_passed(out, passed)
 }
 
 fn is_one_nobodys(answers: &[WordAnswer]) -> bool
@@ -76,12 +89,13 @@ fn status_of(untold: &[u8], has_nobodys: bool) -> u8
 fn output_of(
     alloc: Global,
     options: &WhoOptions<'_>,
+    passed: usize,
     answers: &[WordAnswer],
 ) -> Result<Output, AllocError>
-    ensures { IfOk result (λ out. printed out ≡ who_printed options.now (map answered answers.now)) }
+    ensures { IfOk result (λ out. printed out ≡ who_printed options.now passed (map answered answers.now)) }
 {
     let mut output = Output::new(alloc);
-    push_wanted(&mut output.answers, alloc, options, answers)?;
+    push_wanted(&mut output.answers, alloc, options, passed, answers)?;
     push_untold(&mut output.faults, answers)?;
     output.status = status_of(output.faults.as_slice(), has_nobodys(answers));
     Ok(output)
@@ -112,7 +126,10 @@ impl Use for Asking<'_> {
             return refused(alloc, "error: who takes at least one word\n", 2);
         }
         match answers_to(alloc, decided, self.states, self.options.words) {
-            Ok(answers) => Ok(output_of(alloc, self.options, answers.as_slice())?),
+            Ok(answers) => {
+                let passed = passed_in(decided.policies);
+                Ok(output_of(alloc, self.options, passed, answers.as_slice())?)
+            }
             Err(WhoFault::NoMemory) => Err(NoMemory),
             Err(WhoFault::Refused(line)) => Ok(unanswered(alloc, line)),
         }

@@ -5,14 +5,14 @@ ghost use Rattle.aa_pattern.specs.Limits.{most_states};
 ghost use Rattle.aa_text.specs.Visible.{all_visible};
 ghost use Rattle.aa_load.specs.UnitPolicy.{limit_of};
 ghost use Rattle.aa_who.specs.Words.{no_path, IsSaid};
-ghost use Rattle.aa_who.specs.Counts.{asker, together, patterns_line, states_line, is_every, IsCounted, SaysNoPath};
+ghost use Rattle.aa_who.specs.Counts.{asker, together, patterns_line, states_line, is_all, is_every, IsCounted, SaysNoPath};
 
 use crate::fault::WhoFault;
 use crate::reading::said_of;
 use aa_compile::{Compiled, name_of_label};
 use aa_model::Label;
 use aa_quantifiers::{Quantity, QuantityFault, Word, quantity_of};
-use aa_text::{push_name, push_number, push_text, push_visible};
+use aa_text::{ToJson, push_bool, push_name, push_number, push_text, push_visible};
 use std::alloc::{AllocError, Global};
 
 /// How many of the requests of a word a task is granted.
@@ -24,12 +24,37 @@ pub enum Counted {
 }
 
 impl Counted {
-    /// Whether all are granted.
+    /// Whether it is told that all are granted.
     pub(crate) fn is_every(&self) -> bool
         ensures { result ≡ is_every self.now }
     {
-        matches!(self, Counted::Told(Quantity::Every(_)))
+        match self {
+            Counted::Told(quantity) => is_all(quantity),
+            Counted::Untold(_) => false,
+        }
     }
+}
+
+/// Whether all are granted, or `null` where it can't be told.
+impl ToJson for Counted {
+    ghost use Rattle.aa_who.specs.Counts.{all_told};
+    ghost use Rattle.aa_who.specs.Json.{json_all};
+
+    ghost json = { λ counted. json_all (all_told counted) };
+
+    fn push_json(&self, out: &mut Vec<u8>, _alloc: Global) -> Result<(), AllocError> {
+        match self {
+            Counted::Told(quantity) => push_bool(out, is_all(quantity)),
+            Counted::Untold(_) => push_text(out, "null"),
+        }
+    }
+}
+
+/// Whether it is all.
+fn is_all(quantity: &Quantity) -> bool
+    ensures { result ≡ is_all quantity.now }
+{
+    matches!(quantity, Quantity::Every(_))
 }
 
 /// How many states an automaton may have.

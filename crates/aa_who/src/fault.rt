@@ -3,6 +3,27 @@
 use aa_text::NoMemory;
 use std::alloc::{AllocError, AllocFailed};
 
+/// Why a word is read as no requests.
+#[derive(Drop)]
+pub enum Misread {
+    NoMemory,
+    /// It is no request: why, and the words that may have been meant.
+    NoRequest(Vec<u8>),
+    /// Its path is no pattern.
+    NoPattern,
+}
+
+impl From<AllocError> for Misread {
+    ghost use Rattle.std.specs.Prelude.{◌≡◌};
+    ghost use Rattle.aa_who.specs.declared.fault.Misread.TheVariants as misread;
+
+    ghost from_gives = { λ _ e. e ≡ misread.NoMemory };
+
+    fn from(_e: AllocError) -> Misread {
+        Misread::NoMemory
+    }
+}
+
 /// Why words aren't answered.
 #[derive(Drop)]
 pub enum WhoFault {

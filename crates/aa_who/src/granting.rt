@@ -10,6 +10,7 @@ ghost use Rattle.aa_who.specs.Grants.{granted, grants_by, all_granted, with_coun
 
 use crate::counting::{Counted, count_at};
 use crate::fault::WhoFault;
+use crate::telling::{Untold, push_untold};
 use aa_ask::{Verdict, decide};
 use aa_command::Decided;
 use aa_compile::{Compiled, profile_of};
@@ -35,8 +36,8 @@ pub(crate) struct Grant {
 #[derive(Drop)]
 pub(crate) struct Grants {
     pub(crate) list: Vec<Grant>,
-    /// The lines on those of which it can't be told.
-    pub(crate) untold: Vec<u8>,
+    /// Those of which it can't be told.
+    pub(crate) untold: Vec<Untold>,
 }
 
 /// A request as a word.
@@ -129,7 +130,11 @@ fn push_count(
         Counted::Told(quantity) => {
             push_grant(&mut grants.list, alloc, decided, number, profile, quantity)
         }
-        Counted::Untold(line) => grants.untold.extend_from_slice(line.as_slice()),
+        Counted::Untold(line) => {
+            let label = Label::Confined(0, number);
+            let line = line.as_slice();
+            push_untold(&mut grants.untold, alloc, decided.policies, label, line)
+        }
     }
 }
 

@@ -4,10 +4,11 @@ ghost use Rattle.std.specs.Prelude.{◌≡◌, ◌++◌, codes, map, option_map,
 ghost use Rattle.aa_text.specs.Jsons.{json_bytes, key_text, bool_text, member_text, member_if, list_text};
 ghost use Rattle.aa_who.specs.Grants.{granted};
 ghost use Rattle.aa_who.specs.Answers.{answered};
-ghost use Rattle.aa_who.specs.Json.{is_none, json_front, json_shown, json_grant, json_answer, json_answers};
+ghost use Rattle.aa_who.specs.Json.{is_none, json_front, json_shown, json_grant, json_granted, json_answer, json_answers};
 
 use crate::answering::WordAnswer;
 use crate::granting::Grant;
+use crate::telling::push_untold_member;
 use aa_text::{
     ToJson, push_json_bytes, push_key, push_list, push_list_member, push_member, push_text,
 };
@@ -75,6 +76,15 @@ fn push_grants(out: &mut Vec<u8>, alloc: Global, grants: &[Grant]) -> Result<(),
     Ok(())
 }
 
+/// Appends a word, and the profiles that are granted it.
+#[tactic(auto, unfolding(crate::specs::Json::json_granted))]
+fn push_granted(out: &mut Vec<u8>, alloc: Global, answer: &WordAnswer) -> Result<(), AllocError>
+    ensures { OnOk result (out.new.items ≡ out.old.items ++ json_granted (answered answer.now)) }
+{
+    push_first(out, alloc, "word", answer.word.as_slice())?;
+    push_grants(out, alloc, answer.grants.list.as_slice())
+}
+
 impl ToJson for WordAnswer {
     ghost use Rattle.aa_who.specs.Answers.{answered};
     ghost use Rattle.aa_who.specs.Json.{json_answer};
@@ -83,10 +93,10 @@ impl ToJson for WordAnswer {
 
     #[tactic(auto, unfolding(crate::specs::Json::json_answer))]
     fn push_json(&self, out: &mut Vec<u8>, alloc: Global) -> Result<(), AllocError> {
-        push_first(out, alloc, "word", self.word.as_slice())?;
-        push_grants(out, alloc, self.grants.list.as_slice())?;
+        push_granted(out, alloc, self)?;
+        push_untold_member(out, alloc, self.grants.untold.as_slice())?;
         push_member(out, alloc, "profiles", &self.profiles)?;
-        push_member(out, alloc, "unconfined", &self.free.is_every())?;
+        push_member(out, alloc, "unconfined", &self.free)?;
         push_text(out, "}")
     }
 }
@@ -98,14 +108,19 @@ fn push_all(out: &mut Vec<u8>, alloc: Global, answers: &[WordAnswer]) -> Result<
     Ok(())
 }
 
-/// Appends the answers as one JSON list and a line end.
+/// Appends the answers as one JSON object, with how many rules decide nothing, and a line end.
+#[tactic(auto, unfolding(crate::specs::Json::json_answers))]
 pub(crate) fn push_json_answers(
     out: &mut Vec<u8>,
     alloc: Global,
+    passed: usize,
     answers: &[WordAnswer],
 ) -> Result<(), AllocError>
-    ensures { OnOk result (out.new.items ≡ out.old.items ++ json_answers (map answered answers.now)) }
+    ensures { OnOk result (out.new.items ≡ out.old.items ++ json_answers passed (map answered answers.now)) }
 {
+    push_text(out, "{")?;
+    push_key(out, "answers")?;
     push_all(out, alloc, answers)?;
-    push_text(out, "\n")
+    push_member(out, alloc, "passed_over", &passed)?;
+    push_text(out, "}\n")
 }

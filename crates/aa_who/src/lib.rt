@@ -9,9 +9,12 @@ mod granting;
 mod json;
 mod reading;
 mod shown;
+mod telling;
 
-pub use command::{WhoOptions, who_files};
+pub use command::{WhoOptions, passed_in, who_files};
 pub use counting::{Counted, count_at};
-pub use fault::WhoFault;
+pub use fault::{Misread, WhoFault};
 pub use granting::count_of;
 pub use reading::read_asked;
+pub use shown::{push_complains, push_passed};
+pub use telling::{Untold, push_untold, push_untold_lines, push_untold_member};

@@ -1,12 +1,15 @@
 //! The requests that a word asks.
 
-ghost use Rattle.std.specs.Prelude.{◌≡◌, ◌==◌, ◌++◌, codes, false, is_some, option_map, position, IfOk, IfErr};
+ghost use Rattle.std.specs.Prelude.{◌≡◌, ◌==◌, ◌++◌, codes, false, Some, None, is_some, option_map, position, IfOk, IfErr, OnOk};
+ghost use Rattle.std.specs.List.{list_all, list_any};
+ghost use Rattle.aa_model.specs.Requests.{begins_with};
 ghost use Rattle.aa_model.specs.declared.request.Request.{Request};
 ghost use Rattle.aa_notation.specs.Parts.{behind};
 ghost use Rattle.aa_notation.specs.Read.{request_in};
-ghost use Rattle.aa_who.specs.Words.{about_links, why_unless_link, why_unread, said_of, no_word, no_pattern, is_alone, IsSaid, at_colon, whose_in, masks_of, object_in, IsPatternIf, IsFilesOf, IsExecsOf, IsOfObject, IsAlone, IsRead, SaysUnread};
+ghost use Rattle.aa_notation.specs.Refused.{has_x, without_x, word_of};
+ghost use Rattle.aa_who.specs.Words.{said_of, is_alone, at_colon, whose_in, masks_of, about_words, about_letters, about_links, about_fronts, is_letter, ask_link, front_of, meant, why_letters, why_parts, begins_otherwise, why_files, why_unread, object_in, IsPatternIf, IsFilesOf, IsExecsOf, IsOfObject, IsAlone, IsRead, IsNoRequest, SaysNoPattern, SaysNoObject, SaysUnread, SaysMisread};
 
-use crate::fault::WhoFault;
+use crate::fault::Misread;
 use aa_base::{Perms, PolicyKind, Seq};
 use aa_glob::{Pattern, read_pattern};
 use aa_model::Request;
@@ -131,59 +134,238 @@ fn pattern_of(alloc: Global, text: &[u8]) -> Result<Option<Pattern>, AllocError>
     }
 }
 
+#[tactic(auto, unfolding(crate::specs::Words::about_words))]
+fn about_words() -> &'static str
+    ensures { result.now ≡ about_words }
+{
+    "a word is letters, a colon and a pattern, or begins with cap:, net: or change:"
+}
+
+#[tactic(auto, unfolding(crate::specs::Words::about_letters))]
+fn about_letters() -> &'static str
+    ensures { result.now ≡ about_letters }
+{
+    "letters of rwakm stand before the colon, or x alone"
+}
+
 #[tactic(auto, unfolding(crate::specs::Words::about_links))]
 fn about_links() -> &'static str
     ensures { result.now ≡ about_links }
 {
-    "who asks for no links"
+    "no links are asked for here"
 }
 
-/// Why a text is no request here, though it may be one of `ask`.
-fn why_unless_link(alloc: Global, text: &[u8]) -> Result<Vec<u8>, AllocError>
-    ensures { IfOk result (λ said. said.items ≡ why_unless_link text.now (request_in false text.now)) }
+#[tactic(auto, unfolding(crate::specs::Words::about_fronts))]
+fn about_fronts() -> &'static str
+    ensures { result.now ≡ about_fronts }
 {
-    match request_of(alloc, text)? {
-        Some(Request::Link(_)) => Vec::from_slice(alloc, about_links().as_bytes()),
-        _ => word_refusal(alloc, text),
+    "owned: and other: stand before words of files alone"
+}
+
+/// Whether it is a letter that stands in a word of `ask`.
+fn is_letter(b: u8) -> bool
+    ensures { result ≡ is_letter b }
+{
+    "rwakmxl".as_bytes().iter().any(|letter| *letter == b)
+}
+
+fn has_link(letters: &[u8]) -> bool
+    ensures { result ≡ list_any (λ b. b == 108) letters.now }
+{
+    letters.iter().any(|b| *b == b'l')
+}
+
+fn are_letters(letters: &[u8]) -> bool
+    ensures { result ≡ list_all is_letter letters.now }
+{
+    letters.iter().all(|b| is_letter(*b))
+}
+
+fn has_x(letters: &[u8]) -> bool
+    ensures { result ≡ has_x letters.now }
+{
+    letters.len() > 1 && holds_x(letters)
+}
+
+fn holds_x(letters: &[u8]) -> bool
+    ensures { result ≡ list_any (λ b. b == 120) letters.now }
+{
+    letters.iter().any(|b| *b == b'x')
+}
+
+fn without_x(alloc: Global, letters: &[u8]) -> Result<Vec<u8>, AllocError>
+    ensures { IfOk result (λ others. others.items ≡ without_x letters.now) }
+{
+    letters
+        .iter()
+        .copied()
+        .filter(|b| *b != b'x')
+        .collect(alloc)
+}
+
+/// The front of a word that says whose the files are.
+fn front_of(whose: Whose) -> &'static str
+    ensures { result.now ≡ front_of whose }
+{
+    match whose {
+        Whose::Owner => "owned:",
+        Whose::Others => "other:",
+        Whose::Both => "",
     }
 }
 
-/// Why a word is no request, and the request that may have been meant.
+/// Appends a word of files: its front, letters, a colon and a path.
+fn push_word(out: &mut Vec<u8>, front: &str, letters: &[u8], path: &[u8]) -> Result<(), AllocError>
+    ensures { OnOk result (out.new.items ≡ out.old.items ++ word_of front.now letters.now path.now) }
+{
+    push_text(out, front)?;
+    out.extend_from_slice(letters)?;
+    push_text(out, ":")?;
+    out.extend_from_slice(path)
+}
+
+/// Appends the two words that may have been meant.
+fn push_two(out: &mut Vec<u8>, front: &str, others: &[u8], path: &[u8]) -> Result<(), AllocError>
+    ensures { OnOk result (out.new.items ≡ out.old.items ++ (codes "; write " ++ (word_of front.now others.now path.now ++ (codes " and " ++ word_of front.now (codes "x") path.now)))) }
+{
+    push_text(out, "; write ")?;
+    push_word(out, front, others, path)?;
+    push_text(out, " and ")?;
+    push_word(out, front, "x".as_bytes(), path)
+}
+
+/// Whether letters ask something of a file.
+fn is_asked(alloc: Global, letters: &[u8]) -> Result<bool, AllocError>
+    ensures { IfOk result (λ is. is ≡ is_some (request_in false (letters.now ++ codes ":/"))) }
+{
+    match asked_by(alloc, letters)? {
+        Some(_) => Ok(true),
+        None => Ok(false),
+    }
+}
+
+/// Appends the two words that may have been meant where an x stands among other letters.
+fn push_meant(
+    out: &mut Vec<u8>,
+    alloc: Global,
+    front: &str,
+    letters: &[u8],
+    path: &[u8],
+) -> Result<(), AllocError>
+    ensures { OnOk result (out.new.items ≡ out.old.items ++ meant front.now letters.now path.now) }
+{
+    if !has_x(letters) {
+        return Ok(());
+    }
+    let others = without_x(alloc, letters)?;
+    if !is_asked(alloc, others.as_slice())? {
+        return Ok(());
+    }
+    push_two(out, front, others.as_slice(), path)
+}
+
+/// Whether letters of words of `ask` ask for a link.
+fn ask_link(letters: &[u8]) -> bool
+    ensures { result ≡ ask_link letters.now }
+{
+    has_link(letters) && are_letters(letters)
+}
+
+/// Appends why letters before a colon ask nothing.
+fn push_why_letters(
+    out: &mut Vec<u8>,
+    alloc: Global,
+    front: &str,
+    letters: &[u8],
+    path: &[u8],
+) -> Result<(), AllocError>
+    ensures { OnOk result (out.new.items ≡ out.old.items ++ why_letters front.now letters.now path.now) }
+{
+    if ask_link(letters) {
+        return push_text(out, about_links());
+    }
+    push_text(out, about_letters())?;
+    push_meant(out, alloc, front, letters, path)
+}
+
+fn begins_with_slash(text: &[u8]) -> bool
+    ensures { result ≡ begins_with 47 text.now }
+{
+    match text {
+        [first, ..] => *first == b'/',
+        [] => false,
+    }
+}
+
+/// Appends why a text without a colon is no word of files.
+fn push_why_words(out: &mut Vec<u8>, front: &str, text: &[u8]) -> Result<(), AllocError>
+    ensures { OnOk result (out.new.items ≡ out.old.items ++ why_parts front.now text.now None) }
+{
+    push_text(out, about_words())?;
+    if !begins_with_slash(text) {
+        return Ok(());
+    }
+    push_text(out, "; write ")?;
+    push_word(out, front, "r".as_bytes(), text)
+}
+
+/// Appends why a text is no word of files.
+fn push_why_parts(
+    out: &mut Vec<u8>,
+    alloc: Global,
+    front: &str,
+    text: &[u8],
+) -> Result<(), AllocError>
+    ensures { OnOk result (out.new.items ≡ out.old.items ++ why_parts front.now text.now (at_colon text.now)) }
+{
+    match split_at_colon(text) {
+        Some((letters, path)) => push_why_letters(out, alloc, front, letters, path),
+        None => push_why_words(out, front, text),
+    }
+}
+
+/// Whether no word of files begins so.
+fn begins_otherwise(text: &[u8]) -> bool
+    ensures { result ≡ begins_otherwise text.now }
+{
+    is_alone(text) || is_behind(text, "owned:") || is_behind(text, "other:")
+}
+
+/// Why a text of these owners is no word of files.
+fn why_files(alloc: Global, whose: Whose, text: &[u8]) -> Result<Vec<u8>, AllocError>
+    ensures { IfOk result (λ said. said.items ≡ why_files whose text.now) }
+{
+    let mut said = Vec::new(alloc);
+    if begins_otherwise(text) {
+        push_text(&mut said, about_fronts())?;
+    } else {
+        push_why_parts(&mut said, alloc, front_of(whose), text)?;
+    }
+    Ok(said)
+}
+
+/// Why a word is no request, and the words that may have been meant.
 fn why_unread(alloc: Global, word: &[u8]) -> Result<Vec<u8>, AllocError>
     ensures { IfOk result (λ said. said.items ≡ why_unread word.now) }
 {
-    why_unless_link(alloc, behind(word, "other:").unwrap_or(word))
+    if is_alone(word) {
+        return word_refusal(alloc, word);
+    }
+    let (whose, text) = whose_of(word);
+    why_files(alloc, whose, text)
 }
 
-/// What is said of a word that asks nothing.
-fn no_word(alloc: Global, word: &[u8]) -> Result<WhoFault, AllocError>
-    ensures { IfOk result (λ e. IsSaid (no_word word.now) e) }
+/// The refusal of a word that asks nothing.
+fn no_word(alloc: Global, word: &[u8]) -> Result<Misread, AllocError>
+    ensures { IfOk result (λ e. IsNoRequest word.now e) }
 {
-    let mut line = Vec::from_slice(alloc, "error: this is no request: ".as_bytes())?;
-    push_visible(&mut line, word)?;
-    push_text(&mut line, ": ")?;
-    push_visible(&mut line, why_unread(alloc, word)?.as_slice())?;
-    push_text(&mut line, "\n")?;
-    Ok(WhoFault::Refused(line))
-}
-
-/// What is said of a word whose path is no pattern.
-fn no_pattern(alloc: Global, word: &[u8]) -> Result<WhoFault, AllocError>
-    ensures { IfOk result (λ e. IsSaid (no_pattern word.now) e) }
-{
-    Ok(WhoFault::Refused(said_of(alloc, "error: the path is no pattern: ", word)?))
+    Ok(Misread::NoRequest(why_unread(alloc, word)?))
 }
 
 /// To use files at the paths of the pattern that a text spells.
-fn read_files(
-    alloc: Global,
-    word: &[u8],
-    whose: Whose,
-    mask: Perms,
-    path: &[u8],
-) -> Result<Word, WhoFault>
+fn read_files(alloc: Global, whose: Whose, mask: Perms, path: &[u8]) -> Result<Word, Misread>
     ensures read { IfOk result (λ w. IsFilesOf whose mask path.now w) }
-    ensures refused { IfErr result (λ e. SaysUnread word.now (IsFilesOf whose mask path.now) e) }
+    ensures refused { IfErr result (λ e. SaysNoPattern (IsFilesOf whose mask path.now) e) }
 {
     match pattern_of(alloc, path)? {
         Some(pattern) => Ok(Word::Files(FilesWord {
@@ -191,18 +373,36 @@ fn read_files(
             masks: masks_of(alloc, mask)?,
             whose,
         })),
-        None => Err(no_pattern(alloc, word)?),
+        None => Err(Misread::NoPattern),
     }
 }
 
 /// To execute files at the paths of the pattern that a text spells.
-fn read_execs(alloc: Global, word: &[u8], whose: Whose, path: &[u8]) -> Result<Word, WhoFault>
+fn read_execs(alloc: Global, whose: Whose, path: &[u8]) -> Result<Word, Misread>
     ensures read { IfOk result (λ w. IsExecsOf whose path.now w) }
-    ensures refused { IfErr result (λ e. SaysUnread word.now (IsExecsOf whose path.now) e) }
+    ensures refused { IfErr result (λ e. SaysNoPattern (IsExecsOf whose path.now) e) }
 {
     match pattern_of(alloc, path)? {
         Some(pattern) => Ok(Word::Execs(ExecsWord { pattern, whose })),
-        None => Err(no_pattern(alloc, word)?),
+        None => Err(Misread::NoPattern),
+    }
+}
+
+/// What such a request asks of files at the paths of the pattern that a text spells.
+fn read_request(
+    alloc: Global,
+    word: &[u8],
+    whose: Whose,
+    request: &Request,
+    path: &[u8],
+) -> Result<Word, Misread>
+    ensures read { IfOk result (λ w. IsOfObject whose (Some (request.now, path.now)) w) }
+    ensures refused { IfErr result (λ e. SaysNoObject word.now whose (Some (request.now, path.now)) e) }
+{
+    match request {
+        Request::File(file) => read_files(alloc, whose, file.mask(), path),
+        Request::Exec(_) => read_execs(alloc, whose, path),
+        _ => Err(no_word(alloc, word)?),
     }
 }
 
@@ -213,20 +413,19 @@ fn read_by(
     whose: Whose,
     letters: &[u8],
     path: &[u8],
-) -> Result<Word, WhoFault>
+) -> Result<Word, Misread>
     ensures read { IfOk result (λ w. IsOfObject whose (option_map (λ r. (r, path.now)) (request_in false (letters.now ++ codes ":/"))) w) }
-    ensures refused { IfErr result (λ e. SaysUnread word.now (IsOfObject whose (option_map (λ r. (r, path.now)) (request_in false (letters.now ++ codes ":/")))) e) }
+    ensures refused { IfErr result (λ e. SaysNoObject word.now whose (option_map (λ r. (r, path.now)) (request_in false (letters.now ++ codes ":/"))) e) }
 {
     match asked_by(alloc, letters)? {
-        Some(Request::File(file)) => read_files(alloc, word, whose, file.mask(), path),
-        Some(Request::Exec(_)) => read_execs(alloc, word, whose, path),
-        _ => Err(no_word(alloc, word)?),
+        Some(request) => read_request(alloc, word, whose, &request, path),
+        None => Err(no_word(alloc, word)?),
     }
 }
 
-fn read_object(alloc: Global, word: &[u8], whose: Whose, text: &[u8]) -> Result<Word, WhoFault>
+fn read_object(alloc: Global, word: &[u8], whose: Whose, text: &[u8]) -> Result<Word, Misread>
     ensures read { IfOk result (λ w. IsOfObject whose (object_in text.now) w) }
-    ensures refused { IfErr result (λ e. SaysUnread word.now (IsOfObject whose (object_in text.now)) e) }
+    ensures refused { IfErr result (λ e. SaysNoObject word.now whose (object_in text.now) e) }
 {
     match split_at_colon(text) {
         Some((letters, path)) => read_by(alloc, word, whose, letters, path),
@@ -234,9 +433,9 @@ fn read_object(alloc: Global, word: &[u8], whose: Whose, text: &[u8]) -> Result<
     }
 }
 
-fn read_alone(alloc: Global, word: &[u8]) -> Result<Word, WhoFault>
+fn read_alone(alloc: Global, word: &[u8]) -> Result<Word, Misread>
     ensures read { IfOk result (λ w. IsAlone (request_in false word.now) w) }
-    ensures refused { IfErr result (λ e. SaysUnread word.now (IsAlone (request_in false word.now)) e) }
+    ensures refused { IfErr result (λ e. SaysUnread word.now false (IsAlone (request_in false word.now)) e) }
 {
     match request_of(alloc, word)? {
         Some(request) => Ok(Word::One(request)),
@@ -248,10 +447,11 @@ fn read_alone(alloc: Global, word: &[u8]) -> Result<Word, WhoFault>
 ///
 /// `[owned:|other:]LETTERS:PATTERN` asks to use files at each path that the pattern matches, of the task's user, of others, or without
 /// a front of both; `w` among the letters is to write or to append. `[owned:|other:]x:PATTERN` asks to execute them; `cap:`, `net:`
-/// and `change:` ask as they do of `ask`. A pattern is the language's, without variables.
-pub fn read_asked(alloc: Global, word: &[u8]) -> Result<Word, WhoFault>
+/// and `change:` ask as they do of `ask`. A pattern is the language's, without variables. Refused is, in this order, what is no request,
+/// and a path that is no pattern.
+pub fn read_asked(alloc: Global, word: &[u8]) -> Result<Word, Misread>
     ensures read { IfOk result (λ w. IsRead word.now w) }
-    ensures refused { IfErr result (λ e. SaysUnread word.now (IsRead word.now) e) }
+    ensures refused { IfErr result (λ e. SaysMisread word.now e) }
 {
     if is_alone(word) {
         return read_alone(alloc, word);

@@ -6,11 +6,12 @@ ghost use Rattle.aa_text.specs.Visible.{all_visible};
 ghost use Rattle.aa_ask.specs.Told.{told};
 ghost use Rattle.aa_who.specs.Grants.{granted};
 ghost use Rattle.aa_who.specs.Answers.{answered};
-ghost use Rattle.aa_who.specs.Shown.{quantity_mark, examples_mark, complains_mark, who_text, grant_text, is_nobodys, nobody_text, free_mark, count_line, answer_text, untold_text};
+ghost use Rattle.aa_who.specs.Shown.{quantity_mark, examples_mark, complains_mark, who_text, grant_text, is_nobodys, nobody_text, free_mark, count_line, answer_text, untold_text, passed_text};
 
 use crate::answering::WordAnswer;
 use crate::counting::Counted;
 use crate::granting::Grant;
+use crate::telling::push_untold_lines;
 use aa_ask::{Verdict, push_reasons};
 use aa_text::{push_name, push_number, push_text, push_visible};
 use std::alloc::{AllocError, Global};
@@ -49,7 +50,8 @@ fn push_examples(
     out.extend_from_slice(other.as_slice())
 }
 
-fn push_complains(out: &mut Vec<u8>, complains: bool) -> Result<(), AllocError>
+/// Appends a mark, where a profile is in complain mode.
+pub fn push_complains(out: &mut Vec<u8>, complains: bool) -> Result<(), AllocError>
     ensures { OnOk result (out.new.items ≡ out.old.items ++ complains_mark complains) }
 {
     push_text(out, if complains { " complains" } else { "" })
@@ -147,7 +149,7 @@ fn push_answer(out: &mut Vec<u8>, alloc: Global, answer: &WordAnswer) -> Result<
 fn push_untold_of(out: &mut Vec<u8>, answer: &WordAnswer) -> Result<(), AllocError>
     ensures { OnOk result (out.new.items ≡ out.old.items ++ untold_text (answered answer.now)) }
 {
-    out.extend_from_slice(answer.grants.untold.as_slice())?;
+    push_untold_lines(out, answer.grants.untold.as_slice())?;
     match &answer.free {
         Counted::Told(_) => Ok(()),
         Counted::Untold(line) => out.extend_from_slice(line.as_slice()),
@@ -176,4 +178,15 @@ pub(crate) fn push_answers(
         push_answer(out, alloc, answer)?;
     }
     Ok(())
+}
+
+/// Appends how many rules decide nothing, where there are some.
+pub fn push_passed(out: &mut Vec<u8>, count: usize) -> Result<(), AllocError>
+    ensures { OnOk result (out.new.items ≡ out.old.items ++ passed_text count) }
+{
+    if count == 0 {
+        return Ok(());
+    }
+    push_number(out, count)?;
+    push_text(out, " rules passed over\n")
 }

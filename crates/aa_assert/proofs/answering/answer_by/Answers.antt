@@ -8,7 +8,7 @@ use Rattle.aa_assert.specs.declared.finding.Findings.{Findings}
 use Rattle.aa_assert.specs.Refused.{AsksNoPath, IsUnanswered}
 use Rattle.aa_assert.specs.Findings.{all_found, AreFound}
 use Rattle.aa_assert.specs.Answers.{IsAnswerBy}
-use Rattle.aa_assert.proofs.Unanswered.{not_read, not_asked}
+use Rattle.aa_assert.proofs.Unanswered.{not_read, of_others, not_asked}
 use Rattle.aa_assert.proofs.answering.answer_by.Goals as goal
 
 pub returns-in_err-asked-clause-refused : goal.returns-in_err-asked-clause-refused
@@ -16,6 +16,13 @@ returns-in_err-asked-clause-refused c =
     handed_on c.from_residual.result _ _ c.from_residual.ensures.1
     (λ y p. rw p (not_read c.args.decided.policies.now c.args.words.now c.args.head.now c.args.word.now c.in_err-asked.field-0.0
     c.in_err-asked.ensures.refused))
+
+pub returns-in_err-check_scope-clause-refused : goal.returns-in_err-check_scope-clause-refused
+returns-in_err-check_scope-clause-refused c =
+    let r = c.from_residual-in_err-check_scope in
+    handed_on r.result _ _ r.ensures.1
+    (λ y p. rw p (of_others c.args.decided.policies.now c.args.words.now c.args.head.now c.args.word.now c.in_err-check_scope.field-0.0
+    c.in_ok-asked.asked c.in_ok-asked.ensures.asked c.in_err-check_scope.ensures.refused))
 
 pub returns-clause-answered : goal.returns-clause-answered
 returns-clause-answered c =
@@ -28,9 +35,7 @@ returns-clause-answered c =
     (λ fs are. record {
       says = c.in_ok-asked.asked;
       is_asked = c.in_ok-asked.ensures.asked;
-      within = c.in_ok-check_scope.ensures.within;
-      excepted = c.in_ok-check_scope.ensures.excepted;
-      some = c.in_ok-check_scope.ensures.some;
+      scope = c.in_ok-check_scope.ensures.in_scope;
       are = are;
     }) c.findings_of.ensures.found
 
@@ -42,4 +47,4 @@ returns-clause-refused c =
     let asked = c.args.word.now in
     IfErr-weaker c.findings_of.result (λ (e : ClaimFault). SaysAt (AsksNoPath asked c.in_ok-asked.asked) e)
     (λ (e : ClaimFault). SaysAt (IsUnanswered ps ws head asked) e)
-    (λ e h. not_asked ps ws head asked e c.in_ok-asked.asked c.in_ok-asked.ensures.asked h) c.findings_of.ensures.refused
+    (λ e h. not_asked ps ws head asked e c.in_ok-asked.asked c.in_ok-asked.ensures.asked c.in_ok-check_scope.ensures.in_scope h) c.findings_of.ensures.refused

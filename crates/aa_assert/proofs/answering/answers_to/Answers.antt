@@ -12,5 +12,5 @@ loop-line-preserved c =
 pub returns-in_err-answer_to-clause-refused : goal.returns-in_err-answer_to-clause-refused
 returns-in_err-answer_to-clause-refused c =
     handed_on c.from_residual.result _ _ c.from_residual.ensures.1
-    (λ y p. rw p (unanswered c.args.decided c.args.claims.now c.loop-line.line-index c.line-item.result c.in_err-answer_to.field-0.0
-    c.loop-line-test.true c.line-item.is c.in_err-answer_to.ensures.refused))
+    (λ y p. rw p (unanswered c.args.is_first c.args.decided (limit_of c.args.states) c.args.claims.now c.loop-line.line-index c.line-item.result
+    c.loop-line.answers.items c.in_err-answer_to.field-0.0 c.loop-line-test.true c.line-item.is c.loop-line.invariant c.in_err-answer_to.ensures.refused))

@@ -9,5 +9,5 @@ use Rattle.aa_assert.proofs.command.wrong_said.Goals as goal
 pub returns : goal.returns
 returns c =
     IfOk-weaker c.fault_refused.result (λ (out : Output). printed out ≡ fault_alone c.in_ok-report.report 1)
-    (λ (out : Output). SaysFault (IsClaimReport c.args.path.now c.args.text.now c.args.at c.args.wrong) 1 (printed out))
+    (λ (out : Output). SaysFault (IsClaimReport c.args.path.now c.args.text.now c.args.at c.args.wrong.now) 1 (printed out))
     (λ out says. record { report = c.in_ok-report.report; is_so = c.in_ok-report.ensures; says = says }) c.fault_refused.ensures

@@ -1,5 +1,5 @@
 use Rattle.std.proofs.Common.{length, arith}
-use Rattle.aa_claims.proofs.Claims.{adds_none, adds_one, line_fault, handed_on}
+use Rattle.aa_claims.proofs.Claims.{adds_none, adds_one, line_fault, one_more, handed_on}
 use Rattle.aa_claims.proofs.lines.push_claim.Goals as goal
 
 pub returns-in_err-words-clause-refused : goal.returns-in_err-words-clause-refused
@@ -11,6 +11,11 @@ pub returns-then-is_empty-clause-adds : goal.returns-then-is_empty-clause-adds
 returns-then-is_empty-clause-adds c =
     adds_none c.args.text.now c.args.number c.args.start c.args.claims.now.items c.in_ok-words.words c.in_ok-words.ensures.words
     (grind (arith, c.is_empty.ensures, c.if-is_empty.true))
+
+pub returns-then-len-ge-MAX_CLAIMS-clause-refused : goal.returns-then-len-ge-MAX_CLAIMS-clause-refused
+returns-then-len-ge-MAX_CLAIMS-clause-refused c =
+    one_more c.args.text.now c.args.start (length c.args.claims.now.items) c.in_ok-words.words.items c.index.result.now c.in_ok-words.ensures.words
+    (grind (arith, c.is_empty.ensures, c.if-is_empty.false)) c.index.ensures (omega (arith, c.if-len-ge-MAX_CLAIMS.true, c.len.ensures))
 
 pub returns-clause-adds : goal.returns-clause-adds
 returns-clause-adds c =

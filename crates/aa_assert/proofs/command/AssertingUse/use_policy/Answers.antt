@@ -1,8 +1,10 @@
-use Rattle.std.proofs.Common.{List, map, Err, ap, ◌∙◌}
+use Rattle.std.proofs.Common.{ℕ, List, map, Err, ap, ◌∙◌}
 use Rattle.std.proofs.lemmas.Result.{IfOk-weaker}
+use Rattle.aa_load.specs.UnitPolicy.{limit_of}
 use Rattle.aa_command.specs.declared.output.Output.{Output}
 use Rattle.aa_command.specs.Printed.{printed}
 use Rattle.aa_command.specs.Refusals.{SaysFault}
+use Rattle.aa_who.specs.Command.{passed_in}
 use Rattle.aa_claims.specs.Reports.{IsClaimReport}
 use Rattle.aa_assert.specs.declared.answering.Answer.{Answer}
 use Rattle.aa_assert.specs.Answers.{answered, IsFirstUnanswered}
@@ -14,7 +16,8 @@ pub returns-in_ok-output_of-in-Ok : goal.returns-in_ok-output_of-in-Ok
 returns-in_ok-output_of-in-Ok c =
     Answers (map answered c.in-Ok.answers.items) c.in-Ok.ensures.answered
     (c.in_ok-output_of-in-Ok.ensures
-    ∙ ap (λ (l : List Answer). assert_printed c.args.self.now.options.now (map answered l)) c.as_slice.ensures.value)
+    ∙ ap (λ (n : ℕ). assert_printed c.args.self.now.options.now n (map answered c.as_slice.result.now)) c.passed_in-passed.ensures
+    ∙ ap (λ (l : List Answer). assert_printed c.args.self.now.options.now (passed_in c.args.decided.policies.now) (map answered l)) c.as_slice.ensures.value)
 
 pub returns-in-Err-At : goal.returns-in-Err-At
 returns-in-Err-At c =
@@ -25,7 +28,7 @@ returns-in-Err-At c =
     (λ out says. Unanswered (record {
       at = c.in-Err-At.at;
       fault = c.in-Err-At.wrong;
-      is_so = said_at c.answers_to.result (IsFirstUnanswered c.args.decided a.claims.now) c.in-Err-At.at c.in-Err-At.wrong
+      is_so = said_at c.answers_to.result (IsFirstUnanswered a.options.now.is_first c.args.decided (limit_of a.states) a.claims.now) c.in-Err-At.at c.in-Err-At.wrong
           (c.in-Err-At.is ∙ ap Err c.in-Err-At.field-0-is) c.answers_to.ensures.refused;
       says = says;
     }))

@@ -1,15 +1,17 @@
-use Rattle.std.proofs.Common.{List, map, Err, ap, ◌∙◌}
+use Rattle.std.proofs.Common.{ℕ, List, map, Err, ap, ◌∙◌}
 use Rattle.aa_command.specs.Printed.{printed}
 use Rattle.aa_who.specs.declared.answering.WordAnswer.{WordAnswer}
 use Rattle.aa_who.specs.Answers.{answered}
-use Rattle.aa_who.specs.Command.{who_printed, Answers}
+use Rattle.aa_who.specs.Command.{passed_in, who_printed, Answers}
 use Rattle.aa_who.proofs.Printing.{unanswered_by}
 use Rattle.aa_who.proofs.command.AskingUse.use_policy.Goals as goal
 
 pub returns-in_ok-output_of-in-Ok : goal.returns-in_ok-output_of-in-Ok
 returns-in_ok-output_of-in-Ok c =
     Answers (map answered c.in-Ok.answers.items) c.in-Ok.ensures.answered
-    (c.in_ok-output_of-in-Ok.ensures ∙ ap (λ (l : List WordAnswer). who_printed c.args.self.now.options.now (map answered l)) c.as_slice.ensures.value)
+    (c.in_ok-output_of-in-Ok.ensures
+    ∙ ap (λ (n : ℕ). who_printed c.args.self.now.options.now n (map answered c.as_slice.result.now)) c.passed_in-passed.ensures
+    ∙ ap (λ (l : List WordAnswer). who_printed c.args.self.now.options.now (passed_in c.args.decided.policies.now) (map answered l)) c.as_slice.ensures.value)
 
 pub returns-in-Err-Refused : goal.returns-in-Err-Refused
 returns-in-Err-Refused c =
