@@ -262,7 +262,7 @@ fn lacks_of(alloc: Global, why: &Why) -> Result<Vec<Lack>, AllocError>
 }
 
 /// The unit of a profile, where each profile has the number of its unit.
-fn unit_of<'p, 'u>(
+pub fn unit_of<'p, 'u>(
     units: &'p [PlacedUnit<'u>],
     owners: &[usize],
     profile: usize,

@@ -16,7 +16,7 @@ pub use asking::{
     AskFault, Manner, ask, exec_word, is_one_denied, name_in_digits, opening_label, requests_of,
 };
 pub use command::{AskOptions, ask_files};
-pub use explained::{DeciderLine, Lack};
+pub use explained::{DeciderLine, Lack, unit_of};
 pub use json::push_json_verdicts;
 pub use reason_laws::reasons_tell_answers;
 pub use refused::{many_refused, words_refused};

@@ -2,3 +2,4 @@ mod Steps
 mod Sided
 mod Lists
 mod Telling
+mod Merging

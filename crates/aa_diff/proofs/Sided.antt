@@ -1,5 +1,5 @@
 -- A side is refused, or its policy gives what is printed.
-use Rattle.std.proofs.Common.{Result, Ok, Err, IfOk, ◌≡◌, ℕ, ◌+◌, ◌<◌, ◌≤◌, ◌⊎◌, inl, inr, List, refl, ap, sym, ◌∙◌, subst, arith, ⊎_elim}
+use Rattle.std.proofs.Common.{Result, Ok, Err, IfOk, ◌≡◌, ℕ, ◌<◌, ◌≤◌, ◌⊎◌, inl, inr, List, refl, ap, sym, ◌∙◌, subst, arith, ⊎_elim}
 use Rattle.std.proofs.lemmas.Bool.{cases_lt}
 use Rattle.aa_files.specs.declared.unit.Unit as unit
 use Rattle.aa_files.specs.declared.unit.UnitFault.{UnitFault}
@@ -12,7 +12,7 @@ use Rattle.aa_text.specs.declared.memory.NoMemory.{NoMemory as NoMemoryLeft}
 use Rattle.aa_command.specs.declared.output.Output.{Output}
 use Rattle.aa_command.specs.Printed.{Printed, printed}
 use Rattle.aa_command.specs.Refusals.{SaysUnitFault, SaysLoadingFault}
-use Rattle.aa_command.specs.Policies.{IsPrintedBy, Refused, Decides, IsPrintedAt, Unread, Read, IsPrintedFor, NoRoots, Rooted, behind_warnings}
+use Rattle.aa_command.specs.Policies.{Refused, Decides, Unread, Read, IsPrintedFor, NoRoots, Rooted, behind_warnings}
 use Rattle.aa_diff.specs.Sides.{IsRefused, behind, marked, IsMarked, IsGiven, IsOfSide, Refused as SideRefused, Compared}
 
 -- what is printed of the files of arguments: that they are refused, or what their policy gives

@@ -1,9 +1,8 @@
 -- The lines of a list tell of all entries, and of nothing else.
-use Rattle.std.proofs.Common.{◌≡◌, ℕ, zero, suc, ◌+◌, ◌<◌, ◌≤◌, List, [], ◌∷◌, ◌++◌, length, get_or, drop, min, Bool}
-use Rattle.std.proofs.Common.{true, false, cond, not, Option, Some, None, ◌⊎◌, inl, inr, ⊎_elim}
+use Rattle.std.proofs.Common.{◌≡◌, ℕ, zero, suc, ◌<◌, List, [], ◌∷◌, ◌++◌, length, get_or, drop, min, Bool}
+use Rattle.std.proofs.Common.{true, false, not, Option, Some, None, ◌⊎◌, inl, inr, ⊎_elim}
 use Rattle.std.proofs.Common.{refl, sym, ap, ◌∙◌, subst, arith, append_assoc}
-use Rattle.std.specs.Prelude.{⊤, ◌==◌, ◌&&◌, ◌||◌, ◌-◌, ◌↔◌, Contains, position, bit_and, bit_or, flat_map, if◌then◌else◌}
-use Rattle.std.specs.Int.{bit_at}
+use Rattle.std.specs.Prelude.{⊤, ◌==◌, ◌&&◌, ◌||◌, ◌-◌, ◌↔◌, Contains, position, bit_and, if◌then◌else◌}
 use Rattle.std.specs.Bool.{beq}
 use Rattle.std.specs.List.{list_any}
 use Rattle.std.specs.Str.{bytes_eq}
@@ -30,7 +29,7 @@ use Rattle.aa_diff.specs.Changes.{is_same}
 use Rattle.aa_diff.specs.Findings.{who_number, kind_number, is_of_class, is_alike, is_profile, finding_of}
 use Rattle.aa_diff.specs.Gathered.{is_single, is_mixed, is_part, is_as_well, covers, recent, hides, counted_up, changed_at, added_at, added, gathered}
 use Rattle.aa_diff.specs.Gathered.{gathered_next}
-use Rattle.aa_diff.specs.Joined.{is_one_object, joins, joined_who, both_of, joined_at, joined, joined_all}
+use Rattle.aa_diff.specs.Joined.{is_one_object, joins, both_of, joined_at, joined, joined_all}
 use Rattle.aa_diff.specs.Report.{called, is_named, is_wanted, wanted_of, shown_of, lines_of}
 use Rattle.aa_diff.specs.Telling.{AreAmong, HoldsOf, OfAll, OfSame, TellsOf, IsToldBy, IsTold, Itself, ByPart, bare, IsOfEntry, AreLinesOf, OneGains}
 use Rattle.aa_diff.specs.Telling.{OneIsGain, LinesTellEntries}

@@ -1,6 +1,6 @@
 -- How a request was answered and is answered, in words.
 -- Source: own.
-use Rattle.std.specs.Prelude.{ℕ, List, [], ◌++◌, ◌==◌, ◌&&◌, ◌||◌, not, Bool, true, false, codes, Option, Some, None, if◌then◌else◌}
+use Rattle.std.specs.Prelude.{ℕ, List, [], ◌++◌, ◌==◌, ◌&&◌, ◌||◌, not, Bool, false, codes, Option, Some, None, if◌then◌else◌}
 use Rattle.std.specs.Str.{bytes_eq}
 use Rattle.aa_base.specs.Values.{value, mask}
 use Rattle.aa_model.specs.declared.policy.Policy.{Policy}

@@ -1,6 +1,6 @@
 -- Findings that differ in a permission or in whose object it is alone, joined.
 -- Source: own.
-use Rattle.std.specs.Prelude.{ℕ, List, [], ◌∷◌, ◌++◌, ◌==◌, ◌&&◌, not, Bool, true, false, bit_or, if◌then◌else◌, Option, Some, None, position}
+use Rattle.std.specs.Prelude.{ℕ, List, [], ◌∷◌, ◌++◌, ◌==◌, ◌&&◌, not, Bool, false, bit_or, if◌then◌else◌, Option, Some, None, position}
 use Rattle.std.specs.Bool.{beq}
 use Rattle.std.specs.Str.{bytes_eq}
 use Rattle.aa_model.specs.declared.request.Request.{Request}

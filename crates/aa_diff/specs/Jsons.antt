@@ -1,10 +1,11 @@
 -- The report of the differences of two policies, as one JSON object.
 -- Source: own.
-use Rattle.std.specs.Prelude.{ℕ, List, [], ◌++◌, map, codes, decimal, count_by, Bool, true, false, not, Option, Some, None, if◌then◌else◌, Vec}
+use Rattle.std.specs.Prelude.{ℕ, List, [], ◌++◌, map, length, codes, decimal, count_by, Bool, true, false, not, Some, None, if◌then◌else◌, Vec}
 use Rattle.std.specs.List.{filter}
 use Rattle.std.specs.declared.alloc.Global.{Global}
 use Rattle.aa_model.specs.declared.policy.Policy.{Policy}
 use Rattle.aa_model.specs.declared.label.Label.{Label}
+use Rattle.aa_model.specs.declared.label.Label.TheVariants.{Confined}
 use Rattle.aa_model.specs.declared.request.Request.{Request}
 use Rattle.aa_compile.specs.Labels.{label_name}
 use Rattle.aa_text.specs.Jsons.{json_bytes, json_place, key_text, bool_text, member_text, list_text}
@@ -20,7 +21,9 @@ use Rattle.aa_diff.specs.declared.finding.Finding.{Finding}
 use Rattle.aa_diff.specs.Signs.{is_confined}
 use Rattle.aa_diff.specs.Rules.{stands_among}
 use Rattle.aa_diff.specs.Findings.{is_minor, is_profile, is_counted}
-use Rattle.aa_diff.specs.Printed.{asked_of, sign_text, name_asked}
+use Rattle.aa_passed_over.specs.Apart.{ApartRule}
+use Rattle.aa_diff.specs.Lines.{Told, lines_with}
+use Rattle.aa_diff.specs.Printed.{asked_of, sign_text, side_text, name_asked}
 use Rattle.aa_diff.specs.Report.{headed, is_profile_with, profiles_counted}
 
 -- a rule: where it stands, and how it reads
@@ -92,20 +95,40 @@ abbrev pub json_names : Sign → List Finding → List ℕ
 json_names sign fs = list_text (map json_name (filter (is_profile_with sign) fs))
 
 -- how many profiles are compared, differ, are gone and are new
-unfoldable pub json_profile_counts : List Policy → List Finding → List ℕ
-json_profile_counts ps fs =
-    key_text (codes "compared") ++ decimal (profiles_counted ps fs) ++ member_text (codes "differ") (decimal (headed 0 None fs))
+unfoldable pub json_profile_counts : List Policy → List Told → List Finding → List ℕ
+json_profile_counts ps ls fs =
+    key_text (codes "compared") ++ decimal (profiles_counted ps fs) ++ member_text (codes "differ") (decimal (headed 0 None ls))
     ++ member_text (codes "gone") (decimal (count_by (is_profile_with Loss) fs)) ++ member_text (codes "new") (decimal (count_by (is_profile_with Gain) fs))
 
--- how many lines have each sign
-unfoldable pub json_line_counts : List Finding → List ℕ
-json_line_counts fs =
+-- how many lines have each sign, and how many rules are passed over
+unfoldable pub json_line_counts : List Finding → ℕ → List ℕ
+json_line_counts fs rules =
     member_text (codes "gain") (decimal (count_by (is_counted Gain) fs)) ++ member_text (codes "lose") (decimal (count_by (is_counted Loss) fs))
-    ++ member_text (codes "other") (decimal (count_by (is_counted Other) fs))
+    ++ member_text (codes "other") (decimal (count_by (is_counted Other) fs)) ++ member_text (codes "passed_over") (decimal rules)
 
 -- how many there are
-abbrev pub json_counts : List Policy → List Finding → List ℕ
-json_counts ps fs = codes "{" ++ json_profile_counts ps fs ++ json_line_counts fs ++ codes "}"
+abbrev pub json_counts : List Policy → List Told → List Finding → ℕ → List ℕ
+json_counts ps ls fs rules = codes "{" ++ json_profile_counts ps ls fs ++ json_line_counts fs rules ++ codes "}"
+
+-- the profile of a rule that is passed over, and which policy alone has it
+unfoldable pub json_rule_side : List Policy → ApartRule → List ℕ
+json_rule_side ps r = key_text (codes "profile") ++ json_bytes (label_name ps (Confined 0 r.profile)) ++ member_text (codes "only_in") (json_bytes (side_text r.side))
+
+-- where it stands, and how it reads
+unfoldable pub json_rule_text : ApartRule → List ℕ
+json_rule_text r = json_place r.rule.path (Some r.rule.place) ++ member_text (codes "rule") (json_bytes r.rule.text)
+
+-- a rule that is passed over
+abbrev pub json_passed_over : List Policy → ApartRule → List ℕ
+json_passed_over ps r = codes "{" ++ json_rule_side ps r ++ codes "," ++ json_rule_text r ++ codes "}"
+
+-- the rules that are passed over
+abbrev pub json_all_passed_over : List Policy → List ApartRule → List ℕ
+json_all_passed_over ps rs = list_text (map (json_passed_over ps) rs)
+
+-- the profiles that are gone and those that are new, as members
+unfoldable pub json_profiles : List Finding → List ℕ
+json_profiles fs = member_text (codes "gone_profiles") (json_names Loss fs) ++ member_text (codes "new_profiles") (json_names Gain fs)
 
 -- the paths of a side
 abbrev pub json_paths : List (Vec ℕ Global) → List ℕ
@@ -117,12 +140,12 @@ json_head o =
     codes "{" ++ key_text (codes "old") ++ json_paths o.old.now ++ member_text (codes "new") (json_paths o.new.now)
     ++ member_text (codes "gains_alone") (bool_text o.wanted.gains)
 
--- the lines, the profiles that are gone and that are new, and how many there are
-abbrev pub json_found : Decided → Decided → List Finding → List ℕ
-json_found d e fs =
-    member_text (codes "lines") (json_lines d e fs) ++ member_text (codes "gone_profiles") (json_names Loss fs)
-    ++ member_text (codes "new_profiles") (json_names Gain fs) ++ member_text (codes "counts") (json_counts d.policies.now fs)
+-- the lines, the rules that are passed over, the profiles that are gone and that are new, and how many there are
+abbrev pub json_found : Decided → Decided → List Finding → List ApartRule → List ℕ
+json_found d e fs rs =
+    member_text (codes "lines") (json_lines d e fs) ++ member_text (codes "passed_over") (json_all_passed_over d.policies.now rs) ++ json_profiles fs
+    ++ member_text (codes "counts") (json_counts d.policies.now (lines_with fs rs) fs (length rs))
 
 -- the one object, and a line end
-abbrev pub json_report : DiffOptions → Decided → Decided → List Finding → List ℕ
-json_report o d e fs = json_head o ++ json_found d e fs ++ codes "}\n"
+abbrev pub json_report : DiffOptions → Decided → Decided → List Finding → List ApartRule → List ℕ
+json_report o d e fs rs = json_head o ++ json_found d e fs rs ++ codes "}\n"

@@ -4,6 +4,7 @@ pub mod Rules
 pub mod Findings
 pub mod Gathered
 pub mod Joined
+pub mod Lines
 pub mod Printed
 pub mod Report
 pub mod Jsons

@@ -9,7 +9,12 @@ use Rattle.aa_model.specs.declared.request.Request.{Request}
 use Rattle.aa_model.specs.declared.request.Request.TheVariants.{File, Link, Exec, Change}
 use Rattle.aa_base.specs.declared.perms.Perms.{Perms}
 use Rattle.aa_compile.specs.Labels.{label_name}
+use Rattle.aa_text.specs.Visible.{all_visible}
+use Rattle.aa_rule_text.specs.RuleTexts.{shortened}
 use Rattle.aa_notation.specs.Written.{word_text}
+use Rattle.aa_passed_over.specs.declared.apart.Side.{Side}
+use Rattle.aa_passed_over.specs.declared.apart.Side.TheVariants.{Old, New}
+use Rattle.aa_passed_over.specs.Apart.{ApartRule}
 use Rattle.aa_diff.specs.declared.signs.Sign.{Sign}
 use Rattle.aa_diff.specs.declared.signs.Sign.TheVariants.{Gain, Loss, Other}
 use Rattle.aa_diff.specs.declared.finding.Who.{Who}
@@ -18,6 +23,7 @@ use Rattle.aa_diff.specs.declared.finding.Finding.{Finding}
 use Rattle.aa_diff.specs.Signs.{is_confined}
 use Rattle.aa_diff.specs.Changes.{is_same}
 use Rattle.aa_diff.specs.Findings.{is_profile}
+use Rattle.aa_diff.specs.Lines.{Told, Found, PassedOver, label_of, is_of_profile}
 
 -- the task's user's objects
 abbrev pub is_owner : Who → Bool
@@ -102,8 +108,22 @@ is_behind (Some m) l = is_same m l
 abbrev pub heading : List Policy → Option Label → Label → List ℕ
 heading ps before l = if is_behind before l then [] else codes "profile " ++ value (label_name ps l) ++ codes "\n"
 
--- the lines of confined tasks, each profile's behind its heading
-abbrev pub confined_text : List Policy → Option Label → List Finding → List ℕ
+-- the policy that alone has a rule
+abbrev pub side_text : Side → List ℕ
+side_text Old = codes "OLD"
+side_text New = codes "NEW"
+
+-- a rule that is passed over, and which policy alone has it
+unfoldable pub passed_over_text : ApartRule → List ℕ
+passed_over_text r = codes "  ? " ++ all_visible (shortened r.rule.text) ++ codes " only in " ++ side_text r.side ++ codes "\n"
+
+-- a line about a profile
+abbrev pub told_text : Told → List ℕ
+told_text (Found f) = line_text f
+told_text (PassedOver r) = passed_over_text r
+
+-- the lines about profiles, each profile's behind its heading
+abbrev pub confined_text : List Policy → Option Label → List Told → List ℕ
 confined_text ps before [] = []
-confined_text ps before (f ∷ fs) =
-    if is_confined f.from then heading ps before f.from ++ line_text f ++ confined_text ps (Some f.from) fs else confined_text ps before fs
+confined_text ps before (l ∷ ls) =
+    if is_of_profile l then heading ps before (label_of l) ++ told_text l ++ confined_text ps (Some (label_of l)) ls else confined_text ps before ls

@@ -5,19 +5,22 @@ use Rattle.std.specs.List.{list_any}
 use Rattle.std.specs.Str.{bytes_eq}
 use Rattle.aa_model.specs.declared.policy.Policy.{Policy}
 use Rattle.aa_model.specs.declared.label.Label.{Label}
+use Rattle.aa_model.specs.declared.label.Label.TheVariants.{Confined}
 use Rattle.aa_compile.specs.Labels.{label_name}
 use Rattle.aa_files.specs.Texts.{texts}
 use Rattle.aa_command.specs.declared.decided.Decided.{Decided}
 use Rattle.aa_ask.specs.Unattached.{first_profiles}
+use Rattle.aa_passed_over.specs.Apart.{ApartRule}
 use Rattle.aa_differences.specs.declared.at_labels.Difference.{Difference}
 use Rattle.aa_diff.specs.declared.signs.Sign.{Sign}
 use Rattle.aa_diff.specs.declared.signs.Sign.TheVariants.{Gain, Loss, Other}
 use Rattle.aa_diff.specs.declared.finding.Finding.{Finding}
 use Rattle.aa_diff.specs.declared.options.Wanted.{Wanted}
-use Rattle.aa_diff.specs.Signs.{is_confined, sign_number}
+use Rattle.aa_diff.specs.Signs.{sign_number}
 use Rattle.aa_diff.specs.Findings.{is_profile, is_counted}
 use Rattle.aa_diff.specs.Gathered.{gathered}
 use Rattle.aa_diff.specs.Joined.{joined_all}
+use Rattle.aa_diff.specs.Lines.{Told, label_of, is_of_profile, lines_with}
 use Rattle.aa_diff.specs.Printed.{name_asked, profile_if, free_text, is_behind, confined_text}
 
 -- the name of the profile that a finding is about, or unconfined
@@ -40,6 +43,18 @@ wanted_of ps w f = if is_wanted ps w f then f ∷ [] else []
 abbrev pub shown_of : List Policy → Wanted → List Finding → List Finding
 shown_of ps w fs = flat_map (wanted_of ps w) fs
 
+-- a rule that is passed over is shown: of any profile, or of one of these
+abbrev pub is_rule_wanted : List Policy → Wanted → ApartRule → Bool
+is_rule_wanted ps w r = is_named (texts w.profiles.now) (label_name ps (Confined 0 r.profile))
+
+-- the rule, if it is shown
+abbrev pub rule_wanted_of : List Policy → Wanted → ApartRule → List ApartRule
+rule_wanted_of ps w r = if is_rule_wanted ps w r then r ∷ [] else []
+
+-- those that are shown; under gains alone they are shown too, since nobody knows what they open
+abbrev pub rules_shown : List Policy → Wanted → List ApartRule → List ApartRule
+rules_shown ps w rs = flat_map (rule_wanted_of ps w) rs
+
 -- the findings that differences are, joined as far as they can be
 unfoldable pub lines_of : Decided → Decided → List Difference → List Finding
 lines_of d e xs = joined_all [] (joined_all [] (gathered d e [] xs []))
@@ -53,9 +68,9 @@ abbrev pub headed_next : ℕ → Option Label → Label → ℕ
 headed_next n before l = if is_behind before l then n else one_more n
 
 -- how many profiles have a heading, and n before
-abbrev pub headed : ℕ → Option Label → List Finding → ℕ
+abbrev pub headed : ℕ → Option Label → List Told → ℕ
 headed n before [] = n
-headed n before (f ∷ fs) = if is_confined f.from then headed (headed_next n before f.from) (Some f.from) fs else headed n before fs
+headed n before (l ∷ ls) = if is_of_profile l then headed (headed_next n before (label_of l)) (Some (label_of l)) ls else headed n before ls
 
 -- a profile that is gone, or one that is new
 abbrev pub is_profile_with : Sign → Finding → Bool
@@ -70,17 +85,26 @@ unfoldable pub count_text : ℕ → List ℕ → List ℕ
 count_text n what = decimal n ++ what
 
 -- how many profiles differ, are gone and are new
-abbrev pub profile_counts : List Policy → List Finding → List ℕ
-profile_counts ps fs =
-    count_text (profiles_counted ps fs) (codes " profiles compared: ") ++ count_text (headed 0 None fs) (codes " differ, ")
+abbrev pub profile_counts : List Policy → List Told → List Finding → List ℕ
+profile_counts ps ls fs =
+    count_text (profiles_counted ps fs) (codes " profiles compared: ") ++ count_text (headed 0 None ls) (codes " differ, ")
     ++ count_text (count_by (is_profile_with Loss) fs) (codes " gone, ") ++ count_text (count_by (is_profile_with Gain) fs) (codes " new; ")
+
+-- how many rules that are passed over one policy alone has, if there are any
+abbrev pub rules_count : ℕ → List ℕ
+rules_count n = if n == 0 then codes "\n" else codes ", " ++ count_text n (codes " passed over\n")
 
 -- how many lines have each sign
 abbrev pub line_counts : List Finding → List ℕ
 line_counts fs =
     codes "lines: " ++ count_text (count_by (is_counted Gain) fs) (codes " gain, ") ++ count_text (count_by (is_counted Loss) fs) (codes " lose, ")
-    ++ count_text (count_by (is_counted Other) fs) (codes " other\n")
+    ++ count_text (count_by (is_counted Other) fs) (codes " other")
 
--- the findings of each profile, profiles that are gone or new, the findings of unconfined tasks, and how many there are
-abbrev pub report_text : List Policy → List Finding → List ℕ
-report_text ps fs = confined_text ps None fs ++ flat_map profile_if fs ++ free_text fs ++ profile_counts ps fs ++ line_counts fs
+-- the lines of each profile, profiles that are gone or new, the findings of unconfined tasks, and how many there are
+abbrev pub report_of : List Policy → List Told → List Finding → ℕ → List ℕ
+report_of ps ls fs rules =
+    confined_text ps None ls ++ flat_map profile_if fs ++ free_text fs ++ profile_counts ps ls fs ++ line_counts fs ++ rules_count rules
+
+-- the report of what is shown
+abbrev pub report_text : List Policy → List Finding → List ApartRule → List ℕ
+report_text ps fs rs = report_of ps (lines_with fs rs) fs (length rs)

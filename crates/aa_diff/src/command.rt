@@ -1,6 +1,6 @@
 //! What `diff` prints.
 
-ghost use Rattle.std.specs.Prelude.{◌≡◌, ◌++◌, ◌+◌, ◌<◌, ◌≤◌, ◌==◌, ◌↔◌, [], Err, Contains, IfOk, OnOk, if◌then◌else◌};
+ghost use Rattle.std.specs.Prelude.{◌≡◌, ◌++◌, ◌+◌, ◌<◌, ◌≤◌, ◌==◌, ◌&&◌, ◌↔◌, [], Err, map, Contains, IfOk, OnOk, if◌then◌else◌};
 ghost use Rattle.aa_pattern.specs.Limits.{most_states};
 ghost use Rattle.aa_representatives.specs.Both.{HaveManyPatterns, HavePlaces};
 ghost use Rattle.aa_differences.specs.declared.at_labels.Difference.{Difference};
@@ -10,20 +10,23 @@ ghost use Rattle.aa_model.specs.declared.label.Label.{Label};
 ghost use Rattle.aa_command.specs.Setting.{setting_of};
 ghost use Rattle.aa_command.specs.Printed.{printed, faults_alone};
 ghost use Rattle.aa_load.specs.UnitPolicy.{limit_of};
+ghost use Rattle.aa_passed_over.specs.Apart.{apart, all_apart};
+ghost use Rattle.aa_diff.specs.Report.{rules_shown};
 ghost use Rattle.aa_diff.specs.Sides.{IsMarked, IsOfSide};
-ghost use Rattle.aa_diff.specs.Command.{states_text, patterns_text, findings_text, compared, IsCompared, IsNewSide, IsDiffOutput};
+ghost use Rattle.aa_diff.specs.Command.{states_text, patterns_text, findings_text, reported, compared, IsCompared, IsNewSide, IsDiffOutput};
 
 use crate::change::push_label_name;
 use crate::finding::Finding;
 use crate::json::push_json_report;
-use crate::options::DiffOptions;
-use crate::report::{push_report, wanted_lines};
+use crate::options::{DiffOptions, Wanted};
+use crate::report::{push_report, rules_shown, wanted_lines};
 use crate::sides::{mark, of_side};
 use aa_command::{Decided, Output, Settings, Use, with_policy};
 use aa_compile::Compiled;
 use aa_differences::{Difference, DifferencesFault, policy_differences};
 use aa_files::Tree;
 use aa_model::Label;
+use aa_passed_over::{Apart, rules_apart};
 use aa_text::{NoMemory, push_number, push_text};
 use std::alloc::{AllocError, Global};
 
@@ -90,14 +93,14 @@ fn say_patterns(alloc: Global, policies: &[Compiled], label: Label) -> Result<Ou
     Ok(output)
 }
 
-/// The status of that many findings.
-fn status_of(count: usize) -> u8
-    ensures { result ≡ (if count == 0 then 0 else 4) }
+/// The status of that many findings and rules.
+fn status_of(findings: usize, rules: usize) -> u8
+    ensures { result ≡ (if findings == 0 && rules == 0 then 0 else 4) }
 {
-    if count == 0 { 0 } else { 4 }
+    if findings == 0 && rules == 0 { 0 } else { 4 }
 }
 
-/// Appends findings as they are wanted: as JSON, or as text.
+/// Appends findings and rules that are passed over, as they are wanted: as JSON, or as text.
 fn push_findings(
     out: &mut Vec<u8>,
     alloc: Global,
@@ -105,13 +108,52 @@ fn push_findings(
     old: Decided<'_>,
     new: Decided<'_>,
     findings: &[Finding],
+    rules: &[Apart],
 ) -> Result<(), AllocError>
-    ensures { OnOk result (out.new.items ≡ out.old.items ++ findings_text options.now old.entry new.entry findings.now) }
+    ensures { OnOk result (out.new.items ≡ out.old.items ++ findings_text options.now old.entry new.entry findings.now (map apart rules.now)) }
 {
     if options.is_json {
-        return push_json_report(out, alloc, options, old, new, findings);
+        return push_json_report(out, alloc, options, old, new, findings, rules);
     }
-    push_report(out, alloc, old.policies, findings)
+    push_report(out, alloc, old.policies, findings, rules)
+}
+
+/// The rules that are passed over, that one policy alone has, and that are shown.
+fn wanted_rules(
+    alloc: Global,
+    old: Decided<'_>,
+    new: Decided<'_>,
+    wanted: Wanted<'_>,
+) -> Result<Vec<Apart>, AllocError>
+    ensures { IfOk result (λ rules. map apart rules.items ≡ rules_shown old.entry.policies.now wanted.entry (all_apart old.entry new.entry)) }
+{
+    let rules = rules_apart(alloc, old, new)?;
+    rules_shown(alloc, old.policies, wanted, rules.as_slice())
+}
+
+/// Prints findings and rules that are passed over.
+fn print_found(
+    alloc: Global,
+    options: &DiffOptions<'_>,
+    old: Decided<'_>,
+    new: Decided<'_>,
+    findings: &[Finding],
+    rules: &[Apart],
+) -> Result<Output, NoMemory>
+    ensures { IfOk result (λ out. printed out ≡ reported options.now old.entry new.entry findings.now (map apart rules.now)) }
+{
+    let mut output = Output::new(alloc);
+    push_findings(
+        &mut output.answers,
+        alloc,
+        options,
+        old,
+        new,
+        findings,
+        rules,
+    )?;
+    output.status = status_of(findings.len(), rules.len());
+    Ok(output)
 }
 
 /// Prints differences.
@@ -124,12 +166,16 @@ fn print_differences(
 ) -> Result<Output, NoMemory>
     ensures { IfOk result (λ out. printed out ≡ compared options.now old.entry new.entry differences.now) }
 {
-    let mut output = Output::new(alloc);
     let findings = wanted_lines(alloc, old, new, options.wanted, differences)?;
-    let out = &mut output.answers;
-    push_findings(out, alloc, options, old, new, findings.as_slice())?;
-    output.status = status_of(findings.len());
-    Ok(output)
+    let rules = wanted_rules(alloc, old, new, options.wanted)?;
+    print_found(
+        alloc,
+        options,
+        old,
+        new,
+        findings.as_slice(),
+        rules.as_slice(),
+    )
 }
 
 /// The differences of two policies. More lists of policies than a job may have never come here: they are answered with want of

@@ -1,16 +1,19 @@
 //! The report of the differences of two policies, as JSON.
 
-ghost use Rattle.std.specs.Prelude.{◌≡◌, ◌++◌, codes, decimal, map, OnOk, IfOk};
+ghost use Rattle.std.specs.Prelude.{◌≡◌, ◌++◌, codes, decimal, map, length, OnOk, IfOk};
 ghost use Rattle.aa_text.specs.Jsons.{key_text, bool_text, member_text, list_text};
 ghost use Rattle.aa_notation.specs.Written.{word_text};
 ghost use Rattle.aa_ask.specs.Named.{named};
 ghost use Rattle.aa_diff.specs.declared.signs.Sign.TheVariants.{Gain, Loss};
+ghost use Rattle.aa_passed_over.specs.Apart.{apart};
+ghost use Rattle.aa_diff.specs.Lines.{told, lines_with};
 ghost use Rattle.aa_diff.specs.Printed.{asked_of};
-ghost use Rattle.aa_diff.specs.Jsons.{json_rules, json_sides, rules_told, json_accounting, json_profile, json_sign, json_start, is_of_others, json_told, json_line, json_lines, json_names, json_profile_counts, json_line_counts, json_counts, json_paths, json_head, json_found, json_report};
+ghost use Rattle.aa_diff.specs.Jsons.{json_rules, json_sides, rules_told, json_accounting, json_profile, json_sign, json_start, is_of_others, json_told, json_line, json_lines, json_names, json_profile_counts, json_line_counts, json_counts, json_paths, json_head, json_rule_side, json_rule_text, json_all_passed_over, json_profiles, json_found, json_report};
 
 use crate::finding::{Finding, Who, is_minor, is_profile};
+use crate::lines::{Line, lines_with};
 use crate::options::DiffOptions;
-use crate::printing::{asked_of, name_asked, sign_text};
+use crate::printing::{asked_of, name_asked, side_text, sign_text};
 use crate::report::{count_lines, count_profiles, headed, is_profile_with, profiles_counted};
 use crate::rules::{rules_at, stands_among};
 use crate::signs::{Sign, is_confined};
@@ -19,6 +22,7 @@ use aa_command::Decided;
 use aa_compile::{Compiled, name_of_label};
 use aa_model::{Label, Request};
 use aa_notation::push_word;
+use aa_passed_over::Apart;
 use aa_text::{
     ListItem, push_json_bytes, push_json_place, push_key, push_list, push_list_in, push_member,
     push_number, push_text,
@@ -329,13 +333,14 @@ fn push_profile_counts(
     out: &mut Vec<u8>,
     alloc: Global,
     policies: &[Compiled],
+    lines: &[Line<'_>],
     findings: &[Finding],
 ) -> Result<(), AllocError>
-    ensures { OnOk result (out.new.items ≡ out.old.items ++ json_profile_counts policies.now findings.now) }
+    ensures { OnOk result (out.new.items ≡ out.old.items ++ json_profile_counts policies.now (map told lines.now) findings.now) }
 {
     push_key(out, "compared")?;
     push_number(out, profiles_counted(policies, findings))?;
-    push_member(out, alloc, "differ", &headed(findings))?;
+    push_member(out, alloc, "differ", &headed(lines))?;
     push_member(out, alloc, "gone", &count_profiles(Sign::Loss, findings))?;
     push_member(out, alloc, "new", &count_profiles(Sign::Gain, findings))
 }
@@ -345,12 +350,30 @@ fn push_line_counts(
     out: &mut Vec<u8>,
     alloc: Global,
     findings: &[Finding],
+    rules: usize,
 ) -> Result<(), AllocError>
-    ensures { OnOk result (out.new.items ≡ out.old.items ++ json_line_counts findings.now) }
+    ensures { OnOk result (out.new.items ≡ out.old.items ++ json_line_counts findings.now rules) }
 {
     push_member(out, alloc, "gain", &count_lines(Sign::Gain, findings))?;
     push_member(out, alloc, "lose", &count_lines(Sign::Loss, findings))?;
-    push_member(out, alloc, "other", &count_lines(Sign::Other, findings))
+    push_member(out, alloc, "other", &count_lines(Sign::Other, findings))?;
+    push_member(out, alloc, "passed_over", &rules)
+}
+
+fn push_counts(
+    out: &mut Vec<u8>,
+    alloc: Global,
+    policies: &[Compiled],
+    lines: &[Line<'_>],
+    findings: &[Finding],
+    rules: usize,
+) -> Result<(), AllocError>
+    ensures { OnOk result (out.new.items ≡ out.old.items ++ json_counts policies.now (map told lines.now) findings.now rules) }
+{
+    push_text(out, "{")?;
+    push_profile_counts(out, alloc, policies, lines, findings)?;
+    push_line_counts(out, alloc, findings, rules)?;
+    push_text(out, "}")
 }
 
 /// Appends how many there are, as a member.
@@ -360,15 +383,120 @@ fn push_counts_member(
     alloc: Global,
     policies: &[Compiled],
     findings: &[Finding],
+    rules: &[Apart],
 ) -> Result<(), AllocError>
-    ensures { OnOk result (out.new.items ≡ out.old.items ++ member_text (codes "counts") (json_counts policies.now findings.now)) }
+    ensures { OnOk result (out.new.items ≡ out.old.items ++ member_text (codes "counts") (json_counts policies.now (lines_with findings.now (map apart rules.now)) findings.now (length (map apart rules.now)))) }
 {
+    let lines = lines_with(alloc, findings, rules)?;
     push_text(out, ",")?;
     push_key(out, "counts")?;
-    push_text(out, "{")?;
-    push_profile_counts(out, alloc, policies, findings)?;
-    push_line_counts(out, alloc, findings)?;
-    push_text(out, "}")
+    push_counts(
+        out,
+        alloc,
+        policies,
+        lines.as_slice(),
+        findings,
+        rules.len(),
+    )
+}
+
+/// The policies by which profiles are called.
+#[derive(Clone, Copy)]
+struct Naming<'a> {
+    policies: &'a [Compiled],
+}
+
+/// Appends the profile of a rule that is passed over, and which policy alone has it.
+#[tactic(auto, unfolding(crate::specs::Jsons::json_rule_side))]
+fn push_rule_side(
+    out: &mut Vec<u8>,
+    alloc: Global,
+    policies: &[Compiled],
+    rule: &Apart,
+) -> Result<(), AllocError>
+    ensures { OnOk result (out.new.items ≡ out.old.items ++ json_rule_side policies.now (apart rule.now)) }
+{
+    let label = Label::Confined(0, rule.profile);
+    push_key(out, "profile")?;
+    push_json_bytes(out, alloc, name_of_label(policies, label))?;
+    push_member(out, alloc, "only_in", &side_text(rule.side).as_bytes())
+}
+
+/// Appends where a rule that is passed over stands, and how it reads.
+#[tactic(auto, unfolding(crate::specs::Jsons::json_rule_text))]
+fn push_rule_text(out: &mut Vec<u8>, alloc: Global, rule: &Apart) -> Result<(), AllocError>
+    ensures { OnOk result (out.new.items ≡ out.old.items ++ json_rule_text (apart rule.now)) }
+{
+    push_json_place(out, alloc, rule.rule.path.as_slice(), Some(rule.rule.place))?;
+    push_member(out, alloc, "rule", &rule.rule.text)
+}
+
+/// A rule that is passed over and that one policy alone has.
+impl<'a> ListItem<Naming<'a>> for Apart {
+    ghost use Rattle.std.specs.Prelude.{true};
+    ghost use Rattle.aa_passed_over.specs.Apart.{apart};
+    ghost use Rattle.aa_diff.specs.Jsons.{json_passed_over};
+
+    ghost stands = { λ naming rule. true };
+
+    ghost item = { λ naming rule. json_passed_over naming.policies.now (apart rule) };
+
+    fn stands(&self, _naming: &Naming<'a>) -> bool {
+        true
+    }
+
+    fn push_item(
+        &self,
+        out: &mut Vec<u8>,
+        alloc: Global,
+        naming: &Naming<'a>,
+    ) -> Result<(), AllocError> {
+        push_text(out, "{")?;
+        push_rule_side(out, alloc, naming.policies, self)?;
+        push_text(out, ",")?;
+        push_rule_text(out, alloc, self)?;
+        push_text(out, "}")
+    }
+}
+
+fn push_json_passed_over(
+    out: &mut Vec<u8>,
+    alloc: Global,
+    policies: &[Compiled],
+    rules: &[Apart],
+) -> Result<(), AllocError>
+    ensures { OnOk result (out.new.items ≡ out.old.items ++ json_all_passed_over policies.now (map apart rules.now)) }
+{
+    let naming = Naming { policies };
+    push_list_in(out, alloc, &naming, rules)?;
+    Ok(())
+}
+
+#[tactic(auto, unfolding(aa_text::specs::Jsons::member_text))]
+fn push_rules_apart(
+    out: &mut Vec<u8>,
+    alloc: Global,
+    policies: &[Compiled],
+    rules: &[Apart],
+) -> Result<(), AllocError>
+    ensures { OnOk result (out.new.items ≡ out.old.items ++ member_text (codes "passed_over") (json_all_passed_over policies.now (map apart rules.now))) }
+{
+    push_text(out, ",")?;
+    push_key(out, "passed_over")?;
+    push_json_passed_over(out, alloc, policies, rules)
+}
+
+/// Appends the profiles that are gone and those that are new, as members.
+#[tactic(auto, unfolding(crate::specs::Jsons::json_profiles))]
+fn push_json_profiles(
+    out: &mut Vec<u8>,
+    alloc: Global,
+    findings: &[Finding],
+) -> Result<(), AllocError>
+    ensures { OnOk result (out.new.items ≡ out.old.items ++ json_profiles findings.now) }
+{
+    push_names_member(out, alloc, "gone_profiles", Sign::Loss, findings)?;
+    push_names_member(out, alloc, "new_profiles", Sign::Gain, findings)
 }
 
 fn push_json_paths(out: &mut Vec<u8>, alloc: Global, paths: &[Vec<u8>]) -> Result<(), AllocError>
@@ -404,24 +532,25 @@ fn push_json_head(
     push_member(out, alloc, "gains_alone", &options.wanted.gains)
 }
 
-/// Appends the lines, the profiles that are gone and that are new, and how many there are.
+/// Appends the lines, the rules that are passed over, the profiles that are gone and that are new, and how many there are.
 fn push_json_found(
     out: &mut Vec<u8>,
     alloc: Global,
     old: Decided<'_>,
     new: Decided<'_>,
     findings: &[Finding],
+    rules: &[Apart],
 ) -> Result<(), AllocError>
-    ensures { OnOk result (out.new.items ≡ out.old.items ++ json_found old.entry new.entry findings.now) }
+    ensures { OnOk result (out.new.items ≡ out.old.items ++ json_found old.entry new.entry findings.now (map apart rules.now)) }
 {
     push_lines_member(out, alloc, old, new, findings)?;
-    push_names_member(out, alloc, "gone_profiles", Sign::Loss, findings)?;
-    push_names_member(out, alloc, "new_profiles", Sign::Gain, findings)?;
-    push_counts_member(out, alloc, old.policies, findings)
+    push_rules_apart(out, alloc, old.policies, rules)?;
+    push_json_profiles(out, alloc, findings)?;
+    push_counts_member(out, alloc, old.policies, findings, rules)
 }
 
-/// Appends findings as one JSON object and a line end: what is compared, the lines, the profiles that are gone and that are new, and
-/// how many there are.
+/// Appends findings and rules that are passed over as one JSON object and a line end: what is compared, the lines, these rules, the profiles
+/// that are gone and that are new, and how many there are.
 pub(crate) fn push_json_report(
     out: &mut Vec<u8>,
     alloc: Global,
@@ -429,10 +558,11 @@ pub(crate) fn push_json_report(
     old: Decided<'_>,
     new: Decided<'_>,
     findings: &[Finding],
+    rules: &[Apart],
 ) -> Result<(), AllocError>
-    ensures { OnOk result (out.new.items ≡ out.old.items ++ json_report options.now old.entry new.entry findings.now) }
+    ensures { OnOk result (out.new.items ≡ out.old.items ++ json_report options.now old.entry new.entry findings.now (map apart rules.now)) }
 {
     push_json_head(out, alloc, options)?;
-    push_json_found(out, alloc, old, new, findings)?;
+    push_json_found(out, alloc, old, new, findings, rules)?;
     push_text(out, "}\n")
 }

@@ -8,6 +8,7 @@ mod gathering;
 mod joining;
 mod json;
 mod laws;
+mod lines;
 mod options;
 mod printing;
 mod report;

@@ -1,19 +1,24 @@
 //! Findings as they are printed.
 
-ghost use Rattle.std.specs.Prelude.{◌≡◌, ◌++◌, codes, Option, Some, None, flat_map, option_map, OnOk, IfOk, if◌then◌else◌};
+ghost use Rattle.std.specs.Prelude.{◌≡◌, ◌++◌, codes, Option, Some, None, flat_map, map, option_map, OnOk, IfOk, if◌then◌else◌};
 ghost use Rattle.std.specs.List.{list_any};
 ghost use Rattle.aa_base.specs.Values.{value};
 ghost use Rattle.aa_notation.specs.Written.{word_text};
 ghost use Rattle.aa_diff.specs.declared.finding.Finding.{Finding};
-ghost use Rattle.aa_diff.specs.Printed.{is_owner, asked_by, asked_of, others_text, sign_text, more_text, line_start, line_end, line_text, gone_text, name_asked, profile_text, profile_if, free_if, is_free, is_behind, heading, confined_text, free_text};
+ghost use Rattle.aa_diff.specs.Printed.{is_owner, asked_by, asked_of, others_text, sign_text, more_text, line_start, line_end, line_text, gone_text, name_asked, profile_text, profile_if, free_if, is_free, is_behind, heading, side_text, passed_over_text, told_text, confined_text, free_text};
+ghost use Rattle.aa_passed_over.specs.Apart.{apart};
+ghost use Rattle.aa_diff.specs.Lines.{told};
 
 use crate::change::is_same;
 use crate::finding::{Finding, Who, is_profile, who_number};
+use crate::lines::{Line, label_of};
 use crate::signs::{Sign, is_confined};
 use aa_compile::{Compiled, name_of_label};
 use aa_model::{Label, Request, RequestFault};
 use aa_notation::push_word;
-use aa_text::{push_name, push_number, push_text};
+use aa_passed_over::{Apart, Side};
+use aa_rule_text::shortened;
+use aa_text::{push_name, push_number, push_text, push_visible};
 use std::alloc::{AllocError, Global};
 
 fn is_owner(who: Who) -> bool
@@ -251,22 +256,54 @@ fn push_heading(
     push_text(out, "\n")
 }
 
-/// Appends the lines of confined tasks, each profile's behind its heading.
+/// The policy that alone has a rule.
+pub(crate) fn side_text(side: Side) -> &'static str
+    ensures { result.now ≡ side_text side }
+{
+    match side {
+        Side::Old => "OLD",
+        Side::New => "NEW",
+    }
+}
+
+/// Appends the line of a rule that is passed over.
+#[tactic(auto, unfolding(crate::specs::Printed::passed_over_text))]
+fn push_passed_over(out: &mut Vec<u8>, rule: &Apart) -> Result<(), AllocError>
+    ensures { OnOk result (out.new.items ≡ out.old.items ++ passed_over_text (apart rule.now)) }
+{
+    push_text(out, "  ? ")?;
+    push_visible(out, shortened(rule.rule.text.as_slice()))?;
+    push_text(out, " only in ")?;
+    push_text(out, side_text(rule.side))?;
+    push_text(out, "\n")
+}
+
+fn push_told(out: &mut Vec<u8>, alloc: Global, line: Line<'_>) -> Result<(), AllocError>
+    ensures { OnOk result (out.new.items ≡ out.old.items ++ told_text (told line.entry)) }
+{
+    match line {
+        Line::Found(finding) => push_line(out, alloc, finding),
+        Line::PassedOver(rule) => push_passed_over(out, rule),
+    }
+}
+
+/// Appends the lines about profiles, each profile's behind its heading.
 pub(crate) fn push_confined(
     out: &mut Vec<u8>,
     alloc: Global,
     policies: &[Compiled],
-    findings: &[Finding],
+    lines: &[Line<'_>],
 ) -> Result<(), AllocError>
-    ensures { OnOk result (out.new.items ≡ out.old.items ++ confined_text policies.now None findings.now) }
+    ensures { OnOk result (out.new.items ≡ out.old.items ++ confined_text policies.now None (map told lines.now)) }
 {
     let mut before: Option<Label> = None;
-    let mut rest = findings;
-    while let [finding, after @ ..] = rest {
-        if is_confined(finding.from) {
-            push_heading(out, alloc, policies, before, finding.from)?;
-            push_line(out, alloc, finding)?;
-            before = Some(finding.from);
+    let mut rest = lines;
+    while let [line, after @ ..] = rest {
+        let label = label_of(*line);
+        if is_confined(label) {
+            push_heading(out, alloc, policies, before, label)?;
+            push_told(out, alloc, *line)?;
+            before = Some(label);
         }
         rest = after;
     }

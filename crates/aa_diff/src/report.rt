@@ -1,16 +1,19 @@
 //! The report of the differences of two policies.
 
-ghost use Rattle.std.specs.Prelude.{◌≡◌, ◌++◌, ◌==◌, [], None, codes, count_by, flat_map, length, OnOk, IfOk};
+ghost use Rattle.std.specs.Prelude.{◌≡◌, ◌++◌, ◌==◌, [], None, codes, count_by, flat_map, map, length, OnOk, IfOk};
 ghost use Rattle.std.specs.List.{list_any};
 ghost use Rattle.std.specs.Str.{bytes_eq};
 ghost use Rattle.aa_files.specs.Texts.{texts};
 ghost use Rattle.aa_ask.specs.Unattached.{first_profiles};
 ghost use Rattle.aa_diff.specs.Findings.{is_counted};
-ghost use Rattle.aa_diff.specs.Report.{called, is_named, is_wanted, wanted_of, shown_of, lines_of, headed_next, headed, is_profile_with, profiles_counted, count_text, profile_counts, line_counts, report_text};
+ghost use Rattle.aa_passed_over.specs.Apart.{apart};
+ghost use Rattle.aa_diff.specs.Lines.{told};
+ghost use Rattle.aa_diff.specs.Report.{called, is_named, is_wanted, wanted_of, shown_of, lines_of, headed_next, headed, is_profile_with, profiles_counted, count_text, profile_counts, line_counts, is_rule_wanted, rule_wanted_of, rules_shown, rules_count, report_of, report_text};
 
 use crate::finding::{Finding, copy_of, is_counted, is_profile};
 use crate::gathering::gather;
 use crate::joining::join_all;
+use crate::lines::{Line, label_of, lines_with};
 use crate::options::Wanted;
 use crate::printing::{is_behind, name_asked, push_confined, push_free, push_profiles};
 use crate::signs::{Sign, is_confined, sign_number};
@@ -18,6 +21,7 @@ use aa_command::Decided;
 use aa_compile::{Compiled, name_of_label};
 use aa_differences::Difference;
 use aa_model::Label;
+use aa_passed_over::{Apart, copy_of as copy_apart};
 use aa_text::{push_number, push_text};
 use std::alloc::{AllocError, Global};
 
@@ -80,6 +84,45 @@ fn shown_of(
     Ok(shown)
 }
 
+/// Whether a rule that is passed over is shown.
+fn is_rule_wanted(policies: &[Compiled], wanted: Wanted<'_>, rule: &Apart) -> bool
+    ensures { result ≡ is_rule_wanted policies.now wanted.entry (apart rule.now) }
+{
+    let label = Label::Confined(0, rule.profile);
+    is_named(wanted.profiles, name_of_label(policies, label))
+}
+
+fn add_rule_wanted(
+    alloc: Global,
+    policies: &[Compiled],
+    wanted: Wanted<'_>,
+    rule: &Apart,
+    shown: &mut Vec<Apart>,
+) -> Result<(), AllocError>
+    ensures { OnOk result (map apart shown.new.items ≡ map apart shown.old.items ++ rule_wanted_of policies.now wanted.entry (apart rule.now)) }
+{
+    if is_rule_wanted(policies, wanted, rule) {
+        shown.push(copy_apart(alloc, rule)?)?;
+    }
+    Ok(())
+}
+
+/// Those of the rules that are shown.
+pub(crate) fn rules_shown(
+    alloc: Global,
+    policies: &[Compiled],
+    wanted: Wanted<'_>,
+    rules: &[Apart],
+) -> Result<Vec<Apart>, AllocError>
+    ensures { IfOk result (λ rs. map apart rs.items ≡ rules_shown policies.now wanted.entry (map apart rules.now)) }
+{
+    let mut shown = Vec::new(alloc);
+    for rule in rules {
+        add_rule_wanted(alloc, policies, wanted, rule, &mut shown)?;
+    }
+    Ok(shown)
+}
+
 /// The findings that differences are, joined as far as they can be.
 #[tactic(auto, unfolding(crate::specs::Report::lines_of))]
 pub(crate) fn lines_of(
@@ -120,16 +163,17 @@ fn headed_next(count: u64, before: Option<Label>, label: Label) -> u64
 }
 
 /// How many profiles have a heading.
-pub(crate) fn headed(findings: &[Finding]) -> u64
-    ensures { result ≡ headed 0 None findings.now }
+pub(crate) fn headed(lines: &[Line<'_>]) -> u64
+    ensures { result ≡ headed 0 None (map told lines.now) }
 {
     let mut count: u64 = 0;
     let mut before: Option<Label> = None;
-    let mut rest = findings;
-    while let [finding, after @ ..] = rest {
-        if is_confined(finding.from) {
-            count = headed_next(count, before, finding.from);
-            before = Some(finding.from);
+    let mut rest = lines;
+    while let [line, after @ ..] = rest {
+        let label = label_of(*line);
+        if is_confined(label) {
+            count = headed_next(count, before, label);
+            before = Some(label);
         }
         rest = after;
     }
@@ -204,10 +248,10 @@ fn push_compared(
 
 /// Appends how many profiles differ.
 #[tactic(auto, unfolding(crate::specs::Report::count_text))]
-fn push_headed(out: &mut Vec<u8>, findings: &[Finding]) -> Result<(), AllocError>
-    ensures { OnOk result (out.new.items ≡ out.old.items ++ count_text (headed 0 None findings.now) (codes " differ, ")) }
+fn push_headed(out: &mut Vec<u8>, lines: &[Line<'_>]) -> Result<(), AllocError>
+    ensures { OnOk result (out.new.items ≡ out.old.items ++ count_text (headed 0 None (map told lines.now)) (codes " differ, ")) }
 {
-    push_number(out, headed(findings))?;
+    push_number(out, headed(lines))?;
     push_text(out, " differ, ")
 }
 
@@ -215,12 +259,13 @@ fn push_headed(out: &mut Vec<u8>, findings: &[Finding]) -> Result<(), AllocError
 fn push_profile_counts(
     out: &mut Vec<u8>,
     policies: &[Compiled],
+    lines: &[Line<'_>],
     findings: &[Finding],
 ) -> Result<(), AllocError>
-    ensures { OnOk result (out.new.items ≡ out.old.items ++ profile_counts policies.now findings.now) }
+    ensures { OnOk result (out.new.items ≡ out.old.items ++ profile_counts policies.now (map told lines.now) findings.now) }
 {
     push_compared(out, policies, findings)?;
-    push_headed(out, findings)?;
+    push_headed(out, lines)?;
     push_count(out, count_profiles(Sign::Loss, findings), " gone, ")?;
     push_count(out, count_profiles(Sign::Gain, findings), " new; ")
 }
@@ -232,21 +277,56 @@ fn push_line_counts(out: &mut Vec<u8>, findings: &[Finding]) -> Result<(), Alloc
     push_text(out, "lines: ")?;
     push_count(out, count_lines(Sign::Gain, findings), " gain, ")?;
     push_count(out, count_lines(Sign::Loss, findings), " lose, ")?;
-    push_count(out, count_lines(Sign::Other, findings), " other\n")
+    push_count(out, count_lines(Sign::Other, findings), " other")
 }
 
-/// Appends findings: those of each profile, profiles that are gone or new, those of unconfined tasks, and how many there are.
+/// Appends how many rules that are passed over one policy alone has, if there are any.
+fn push_rules_count(out: &mut Vec<u8>, count: usize) -> Result<(), AllocError>
+    ensures { OnOk result (out.new.items ≡ out.old.items ++ rules_count count) }
+{
+    if count == 0 {
+        return push_text(out, "\n");
+    }
+    push_text(out, ", ")?;
+    push_count(out, count, " passed over\n")
+}
+
+/// Appends the lines of each profile, profiles that are gone or new, the findings of unconfined tasks, and how many there are.
+fn push_report_of(
+    out: &mut Vec<u8>,
+    alloc: Global,
+    policies: &[Compiled],
+    lines: &[Line<'_>],
+    findings: &[Finding],
+    rules: usize,
+) -> Result<(), AllocError>
+    ensures { OnOk result (out.new.items ≡ out.old.items ++ report_of policies.now (map told lines.now) findings.now rules) }
+{
+    push_confined(out, alloc, policies, lines)?;
+    push_profiles(out, alloc, findings)?;
+    push_free(out, alloc, findings)?;
+    push_profile_counts(out, policies, lines, findings)?;
+    push_line_counts(out, findings)?;
+    push_rules_count(out, rules)
+}
+
+/// Appends the report of findings, and of rules that are passed over and that one policy alone has.
 pub fn push_report(
     out: &mut Vec<u8>,
     alloc: Global,
     policies: &[Compiled],
     findings: &[Finding],
+    rules: &[Apart],
 ) -> Result<(), AllocError>
-    ensures { OnOk result (out.new.items ≡ out.old.items ++ report_text policies.now findings.now) }
+    ensures { OnOk result (out.new.items ≡ out.old.items ++ report_text policies.now findings.now (map apart rules.now)) }
 {
-    push_confined(out, alloc, policies, findings)?;
-    push_profiles(out, alloc, findings)?;
-    push_free(out, alloc, findings)?;
-    push_profile_counts(out, policies, findings)?;
-    push_line_counts(out, findings)
+    let lines = lines_with(alloc, findings, rules)?;
+    push_report_of(
+        out,
+        alloc,
+        policies,
+        lines.as_slice(),
+        findings,
+        rules.len(),
+    )
 }

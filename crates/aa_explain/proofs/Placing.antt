@@ -1,17 +1,20 @@
 -- Elements that are read one after another, and the places that they add.
-use Rattle.std.proofs.Common.{◌≡◌, ℕ, ◌<◌, length, get_or, List, [], ◌∷◌, ◌++◌, map, flat_map, Option, Some, refl, sym, ap, subst, ◌∙◌, append_assoc}
+use Rattle.std.proofs.Common.{◌≡◌, ℕ, ◌<◌, ◌≤◌, ◌+◌, ◌-◌, arith, drop, length, get_or, List, [], ◌∷◌, ◌++◌, map, flat_map, Option, Some, refl, sym, ap, subst, ◌∙◌, append_assoc}
 use Rattle.std.specs.Prelude.{IsSome}
+use Rattle.std.specs.List.{slice_range}
+use Rattle.std.proofs.lemmas.List.Folds.{drop_split}
 use Rattle.std.proofs.lemmas.Grind.{flat_map-append}
 use Rattle.std.proofs.lemmas.List.{append-nil, map-append, get_or_default}
 use Rattle.std.proofs.lemmas.List.Concat.{flat_map-cons}
 use Rattle.aa_base.specs.declared.fault.Spot.{Spot}
 use Rattle.aa_words.specs.declared.word.Word.{Word}
-use Rattle.aa_words.specs.Splits.{WordData, word_data}
+use Rattle.aa_words.specs.Splits.{WordData, word_data, words_data}
 use Rattle.aa_rules.specs.Grammar.{Production, Ending, Many, spot_of}
 use Rattle.aa_rules.specs.Reading.{rest_of}
 use Rattle.aa_rules.proofs.Places.{here}
 use Rattle.aa_policy.specs.Bodies.{if_any}
-use Rattle.aa_explain.specs.Places.{PlacedRule, PlacedFamily, PlacesData, family_row, with_rules, first_spot, if_file, if_cap, if_net, if_change}
+use Rattle.aa_explain.specs.declared.places.Extent.{Extent}
+use Rattle.aa_explain.specs.Places.{PlacedRule, PlacedFamily, PlacesData, family_row, with_rules, first_spot, if_file, if_cap, if_net, if_change, if_passed_over, EndsAt}
 
 -- ---- elements
 
@@ -36,27 +39,44 @@ goes_end Is Ends ws found rest after h goes = rw (← append-nil found) (goes.on
 pub stands_first : (words : List Word) (at : ℕ) (d : Word) → at < length words → first_spot (rest_of words at) ≡ Some (spot_of (word_data (get_or words at d)))
 stands_first words at d h = ap first_spot (here words at (get_or words at d) h (get_or_default words at d (get_or words at d) h))
 
-joined_lists : {X : Type 0} (f : X → List Spot) (old : List Spot) (xs ys : List X) → (old ++ flat_map f xs) ++ flat_map f ys ≡ old ++ flat_map f (xs ++ ys)
-joined_lists f old xs ys = append_assoc old (flat_map f xs) (flat_map f ys) ∙ ap (λ (l : List Spot). old ++ l) (sym (flat_map-append f xs ys))
+-- and the last of the words up to a place is the word before that
+pub ends_at : (words : List Word) (at next : ℕ) (d : Word) → at < next → next ≤ length words → EndsAt (rest_of words at) (get_or words (next - 1) d).span.end (rest_of words next)
+ends_at words at next d h k =
+    let front : List Word = slice_range words at (next - 1) in
+    let w : Word = get_or words (next - 1) d in
+    let within : next - 1 < length words = omega (arith, h, k) in
+    let last : next - 1 + 1 ≡ next = omega (arith, h) in record {
+      front = words_data front;
+      last = word_data w;
+      words = ap words_data (drop_split words at (next - 1) (omega (arith, h))) ∙ map-append word_data front (drop (next - 1) words)
+          ∙ ap (λ (l : List WordData). words_data front ++ l) (here words (next - 1) w within (get_or_default words (next - 1) d w within) ∙ ap (λ (n : ℕ). word_data w ∷ rest_of words n) last);
+      ends = refl;
+    }
 
-abbrev placed : Spot → List Spot → List Spot → List Spot → List Spot → PlacesData
-placed at files caps nets changes = record { at = at; files = files; caps = caps; nets = nets; changes = changes }
+joined_lists : {X A : Type 0} (f : X → List A) (old : List A) (xs ys : List X) → (old ++ flat_map f xs) ++ flat_map f ys ≡ old ++ flat_map f (xs ++ ys)
+joined_lists {X} {A} f old xs ys = append_assoc old (flat_map f xs) (flat_map f ys) ∙ ap (λ (l : List A). old ++ l) (sym (flat_map-append f xs ys))
 
-same_places : (at : Spot) (a b c d w x y z : List Spot) → a ≡ w → b ≡ x → c ≡ y → d ≡ z → placed at a b c d ≡ placed at w x y z
-same_places at a b c d w x y z e f g h =
-    ap (λ (l : List Spot). placed at l b c d) e ∙ ap (λ (l : List Spot). placed at w l c d) f ∙ ap (λ (l : List Spot). placed at w x l d) g ∙ ap (λ (l : List Spot). placed at w x y l) h
+abbrev placed : Spot → List Spot → List Spot → List Spot → List Spot → List Extent → PlacesData
+placed at files caps nets changes passed_over = record { at = at; files = files; caps = caps; nets = nets; changes = changes; passed_over = passed_over }
+
+same_places : (at : Spot) (a b c d w x y z : List Spot) (m n : List Extent) → a ≡ w → b ≡ x → c ≡ y → d ≡ z → m ≡ n → placed at a b c d m ≡ placed at w x y z n
+same_places at a b c d w x y z m n e f g h i =
+    ap (λ (l : List Spot). placed at l b c d m) e ∙ ap (λ (l : List Spot). placed at w l c d m) f ∙ ap (λ (l : List Spot). placed at w x l d m) g ∙ ap (λ (l : List Spot). placed at w x y l m) h
+    ∙ ap (placed at w x y z) i
 
 -- no rule adds nothing
 pub with_none : (p : PlacesData) → p ≡ with_rules p []
 unfolding with_rules
-with_none p = sym (same_places p.at _ _ _ _ p.files p.caps p.nets p.changes (append-nil p.files) (append-nil p.caps) (append-nil p.nets) (append-nil p.changes))
+with_none p = sym (same_places p.at _ _ _ _ p.files p.caps p.nets p.changes _ p.passed_over
+    (append-nil p.files) (append-nil p.caps) (append-nil p.nets) (append-nil p.changes) (append-nil p.passed_over))
 
 -- rules behind rules
 pub with_both : (p : PlacesData) (rs ss : List PlacedRule) → with_rules (with_rules p rs) ss ≡ with_rules p (rs ++ ss)
 unfolding with_rules
-with_both p rs ss = same_places p.at _ _ _ _ _ _ _ _
+with_both p rs ss = same_places p.at _ _ _ _ _ _ _ _ _ _
     (joined_lists (λ (r : PlacedRule). if_file r.at r.rule) p.files rs ss) (joined_lists (λ (r : PlacedRule). if_cap r.at r.rule) p.caps rs ss)
     (joined_lists (λ (r : PlacedRule). if_net r.at r.rule) p.nets rs ss) (joined_lists (λ (r : PlacedRule). if_change r.at r.rule) p.changes rs ss)
+    (joined_lists (λ (r : PlacedRule). if_passed_over r.at r.end r.rule) p.passed_over rs ss)
 
 one_more : {X A : Type 0} (f : X → List A) (xs : List X) (x : X) → flat_map f xs ++ f x ≡ flat_map f (xs ++ x ∷ [])
 one_more f xs x = ap (λ l. flat_map f xs ++ l) (sym (flat_map-cons f x [] ∙ append-nil (f x))) ∙ sym (flat_map-append f xs (x ∷ []))

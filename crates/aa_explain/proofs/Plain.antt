@@ -13,7 +13,7 @@ plain (Some r) = Some r.rule
 
 pub statement_plain : (ws : List WordData) (s : Option PlacedRule) (rest : List WordData) → IsPlacedStatement ws s rest → IsStatement ws (plain s) rest
 statement_plain ws None rest h = h
-statement_plain ws (Some r) rest h = h.1
+statement_plain ws (Some r) rest (first, ends, stands) = stands
 
 many_plain : {X Y : Type 0} (Is : Production X) (Js : Production Y) (Ends : Ending) → ((ws : List WordData) (x : X) (rest : List WordData) → Is ws x rest → (y : Y) × Js ws y rest)
     → (ws : List WordData) (xs : List X) (rest : List WordData) → Many Is Ends ws xs rest → (ys : List Y) × Many Js Ends ws ys rest

@@ -1,6 +1,6 @@
 -- Where the profiles that words spell stand, and where their rules do: the grammar once more, with the place at which each rule begins.
 -- Source: apparmor.d(5), "Profiles"; own.
-use Rattle.std.specs.Prelude.{◌≡◌, List, [], ◌∷◌, ◌++◌, map, flat_map, Option, Some, None, IsSome, true, false}
+use Rattle.std.specs.Prelude.{ℕ, ◌≡◌, List, [], ◌∷◌, ◌++◌, map, flat_map, Option, Some, None, IsSome, true, false}
 use Rattle.aa_base.specs.declared.fault.Spot.{Spot}
 use Rattle.aa_words.specs.Splits.{WordData}
 use Rattle.aa_rules.specs.Grammar.{Production, Many, IsRule, Closes, IsEnd, spot_of}
@@ -8,13 +8,15 @@ use Rattle.aa_rules.specs.Reading.{RuleData, OnFile, OnCap, OnNet, OnChange, Lis
 use Rattle.aa_policy.specs.Heads.{HeadData, IsHead}
 use Rattle.aa_policy.specs.Preamble.{PreambleData, IsAbi, IsPreamble, variables_of}
 use Rattle.aa_policy.specs.Bodies.{if_any}
+use Rattle.aa_explain.specs.declared.places.Extent.{Extent}
 use Rattle.aa_explain.specs.declared.places.ProfilePlaces.{ProfilePlaces}
 
 -- ---- what is written, with places
 
--- a rule as written, and where its first word stands
+-- a rule as written, where its first word stands, and the byte behind its last
 pub record PlacedRule : Type 0 where
   pub at : Spot
+  pub end : ℕ
   pub rule : RuleData
 
 -- a profile as written: its head, and its own rules in order
@@ -32,9 +34,16 @@ abbrev pub first_spot : List WordData → Option Spot
 first_spot [] = None
 first_spot (w ∷ ws) = Some (spot_of w)
 
--- statement = rule | abi: its rule where it begins, if it has one
+-- the last word before the rest ends at that byte
+pub record EndsAt (ws : List WordData) (end : ℕ) (rest : List WordData) : Type 0 where
+  pub front : List WordData
+  pub last : WordData
+  pub words : ws ≡ front ++ last ∷ rest
+  pub ends : end ≡ last.span.end
+
+-- statement = rule | abi: its rule from where it begins to where it ends, if it has one
 abbrev pub IsPlacedStatement : Production (Option PlacedRule)
-IsPlacedStatement ws (Some r) rest = (first_spot ws ≡ Some r.at) × IsRule ws r.rule rest
+IsPlacedStatement ws (Some r) rest = (first_spot ws ≡ Some r.at) × EndsAt ws r.end rest × IsRule ws r.rule rest
 IsPlacedStatement ws None rest = IsAbi ws rest
 
 -- child = head statement* "}"
@@ -102,6 +111,7 @@ pub record PlacesData : Type 0 where
   pub caps : List Spot
   pub nets : List Spot
   pub changes : List Spot
+  pub passed_over : List Extent
 
 -- the place of a rule, if it is on files
 abbrev pub if_file : Spot → RuleData → List Spot
@@ -135,6 +145,14 @@ if_change at (OnNet rule) = []
 if_change at (OnChange c) = at ∷ []
 if_change at (Listed keyword) = []
 
+-- from where to where a rule goes, if it is passed over
+abbrev pub if_passed_over : Spot → ℕ → RuleData → List Extent
+if_passed_over at end (OnFile f) = []
+if_passed_over at end (OnCap rule) = []
+if_passed_over at end (OnNet rule) = []
+if_passed_over at end (OnChange c) = []
+if_passed_over at end (Listed keyword) = record { at = at; end = end } ∷ []
+
 -- the places of rules behind those that are there
 unfoldable pub with_rules : PlacesData → List PlacedRule → PlacesData
 with_rules p rules = record {
@@ -143,11 +161,12 @@ with_rules p rules = record {
   caps = p.caps ++ flat_map (λ (r : PlacedRule). if_cap r.at r.rule) rules;
   nets = p.nets ++ flat_map (λ (r : PlacedRule). if_net r.at r.rule) rules;
   changes = p.changes ++ flat_map (λ (r : PlacedRule). if_change r.at r.rule) rules;
+  passed_over = p.passed_over ++ flat_map (λ (r : PlacedRule). if_passed_over r.at r.end r.rule) rules;
 }
 
 -- the places of a profile without rules
 abbrev pub no_places : Spot → PlacesData
-no_places at = record { at = at; files = []; caps = []; nets = []; changes = [] }
+no_places at = record { at = at; files = []; caps = []; nets = []; changes = []; passed_over = [] }
 
 -- where a profile's name and its rules stand
 abbrev pub places_of : PlacedProfile → PlacesData
@@ -155,7 +174,7 @@ places_of p = with_rules (no_places p.head.title.at) p.rules
 
 -- the same of what the code keeps
 abbrev pub places_data : ProfilePlaces → PlacesData
-places_data p = record { at = p.at; files = p.files.items; caps = p.caps.items; nets = p.nets.items; changes = p.changes.items }
+places_data p = record { at = p.at; files = p.files.items; caps = p.caps.items; nets = p.nets.items; changes = p.changes.items; passed_over = p.passed_over.items }
 
 -- the places of the profiles that the words spell, in their order
 abbrev pub ArePlaces : List WordData → List PlacesData → Type 0

@@ -9,5 +9,5 @@ mod texts;
 mod ways;
 
 pub use deciders::{Decider, Deciders, Listed, deciders_of, target_deciders};
-pub use places::{ProfilePlaces, rule_places};
+pub use places::{Extent, ProfilePlaces, rule_places};
 pub use search::{Clash, clash_of};

@@ -1,13 +1,13 @@
 //! Where the profiles of a policy and their rules stand.
 
-ghost use Rattle.std.specs.Prelude.{◌≡◌, ◌<◌, ◌≤◌, ◌++◌, ◌∷◌, [], List, Option, length, map, flat_map, OnOk, IfOk};
+ghost use Rattle.std.specs.Prelude.{◌≡◌, ◌<◌, ◌≤◌, ◌++◌, ◌∷◌, [], List, Option, Some, length, map, flat_map, OnOk, IfOk};
 ghost use Rattle.aa_base.specs.Kinds.{IsRefusal};
 ghost use Rattle.aa_glob.specs.Variables.{Variable};
 ghost use Rattle.aa_words.specs.Splits.{WordData, words_data};
 ghost use Rattle.aa_rules.specs.Grammar.{Many, Closes};
 ghost use Rattle.aa_rules.specs.Reading.{RuleData, rest_of, rule_data};
 ghost use Rattle.aa_policy.specs.Bodies.{ChildData, FamilyData, PartData, ProfileData, IsStatement, IsChild, IsBodyPart, IsProfile, IsItem, IsPolicy, if_any};
-ghost use Rattle.aa_explain.specs.Places.{PlacedRule, PlacedProfile, PlacedPart, PlacedFamily, IsPlacedStatement, IsPlacedChild, IsPlacedPart, IsPlacedFamily, IsPlacedItem, rules_in, children_in, family_row, with_rules, no_places, places_of, places_data, ArePlaces};
+ghost use Rattle.aa_explain.specs.Places.{PlacedRule, EndsAt, first_spot, PlacedProfile, PlacedPart, PlacedFamily, IsPlacedStatement, IsPlacedChild, IsPlacedPart, IsPlacedFamily, IsPlacedItem, rules_in, children_in, family_row, with_rules, no_places, places_of, places_data, ArePlaces};
 
 use aa_base::{PolicyFault, Spot};
 use aa_policy::{abi_of, begins_profile, head_of, preamble_of};
@@ -15,7 +15,14 @@ use aa_rules::{RuleTree, closes, keyword_stands, rule_of, spot_of};
 use aa_words::{Word, WordList};
 use std::alloc::{AllocError, Global};
 
-/// Where a profile and its rules stand: a rule at its first word.
+/// Where a rule begins, and the byte behind its last word in the same reading of a file.
+#[derive(Clone, Copy, Debug)]
+pub struct Extent {
+    pub at: Spot,
+    pub end: u32,
+}
+
+/// Where a profile and its rules stand: a rule at its first word, and one that is passed over up to the comma that ends it.
 #[derive(Drop)]
 pub struct ProfilePlaces<'s> {
     /// Its own name, as its raw bytes.
@@ -28,6 +35,7 @@ pub struct ProfilePlaces<'s> {
     pub caps: Vec<Spot>,
     pub nets: Vec<Spot>,
     pub changes: Vec<Spot>,
+    pub passed_over: Vec<Extent>,
 }
 
 fn no_rules<'s>(alloc: Global, name: &'s [u8], parent: Option<usize>, at: Spot) -> ProfilePlaces<'s>
@@ -41,6 +49,7 @@ fn no_rules<'s>(alloc: Global, name: &'s [u8], parent: Option<usize>, at: Spot) 
         caps: Vec::new(alloc),
         nets: Vec::new(alloc),
         changes: Vec::new(alloc),
+        passed_over: Vec::new(alloc),
     }
 }
 
@@ -49,18 +58,33 @@ fn no_rules<'s>(alloc: Global, name: &'s [u8], parent: Option<usize>, at: Spot) 
 fn push_place(
     places: &mut ProfilePlaces<'_>,
     rule: &RuleTree<'_>,
-    at: Spot,
+    extent: Extent,
 ) -> Result<(), AllocError>
-    ensures { OnOk result (places_data places.new ≡ with_rules (places_data places.old) (record { at = at; rule = rule_data rule.now } ∷ [])) }
+    ensures { OnOk result (places_data places.new ≡ with_rules (places_data places.old) (record { at = extent.at; end = extent.end; rule = rule_data rule.now } ∷ [])) }
 {
     match rule {
-        RuleTree::File(_) => places.files.push(at)?,
-        RuleTree::Cap(_) => places.caps.push(at)?,
-        RuleTree::Net(_) => places.nets.push(at)?,
-        RuleTree::Change(_) => places.changes.push(at)?,
-        RuleTree::PassedOver(_) => {}
+        RuleTree::File(_) => places.files.push(extent.at)?,
+        RuleTree::Cap(_) => places.caps.push(extent.at)?,
+        RuleTree::Net(_) => places.nets.push(extent.at)?,
+        RuleTree::Change(_) => places.changes.push(extent.at)?,
+        RuleTree::PassedOver(_) => places.passed_over.push(extent)?,
     }
     Ok(())
+}
+
+/// From where to where the words between two places go.
+fn extent_of(words: &[Word<'_>], at: usize, next: usize) -> Extent
+    requires some { at < next }
+    requires within { next ≤ length words.now }
+    ensures begins { first_spot (rest_of words.now at) ≡ Some result.at }
+    ensures ends { EndsAt (rest_of words.now at) result.end (rest_of words.now next) }
+{
+    let first = &words[at];
+    let last = &words[next - 1];
+    Extent {
+        at: spot_of(first),
+        end: last.span.end,
+    }
 }
 
 /// Adds the place of the statement at a place to those of a profile, and gives the place behind it.
@@ -79,7 +103,7 @@ fn push_statement<'s>(
         return Ok(next);
     }
     let (rule, next) = rule_of(words, at, end)?;
-    push_place(places, &rule, spot_of(&words[at]))?;
+    push_place(places, &rule, extent_of(words, at, next))?;
     Ok(next)
 }
 

@@ -18,7 +18,7 @@ use Rattle.aa_load.specs.Numbers.{Noted, noted, AreNumbers, NotesNumber}
 same_bytes : (a b : List ℕ) → bytes_eq a b ≡ true → a ≡ b
 same_bytes a b e = (bytes_eq-Decides a b).0 e
 
-abbrev equals : List ℕ → Vec ℕ Global → Bool
+abbrev pub equals : List ℕ → Vec ℕ Global → Bool
 equals q k = is_eq (slice_cmp nat_cmp q k.items)
 
 flipped : (a b : List ℕ) (v : Bool) → bytes_eq a b ≡ v → bytes_eq b a ≡ v
@@ -39,19 +39,19 @@ apart name q f k e = at (equals q k) refl
         let one : bytes_eq name q ≡ equals name k = texts_ties name q ∙ ap (λ (t : List ℕ). is_eq (slice_cmp nat_cmp name t)) (equal q k same) in
         sym (one ∙ e) ∙ f
 
--- what is noted once a name's number is written or taken away
-pub written : (old new : Noted) (name : List ℕ) (w : Option ℕ) → lookup (equals name) new ≡ w
+-- what is noted once what is noted for a name is written or taken away
+pub written : {X : Type 0} (old new : List (Vec ℕ Global × X)) (name : List ℕ) (w : Option X) → lookup (equals name) new ≡ w
     → KeepsOthers (eq_by_cmp (λ (x y : Vec ℕ Global). slice_cmp nat_cmp x.items y.items)) (equals name) old new
-    → (other : List ℕ) → noted other new ≡ cond (bytes_eq name other) w (noted other old)
+    → (other : List ℕ) → lookup (equals other) new ≡ cond (bytes_eq name other) w (lookup (equals other) old)
 unfolding KeepsOthers
-written old new name w here others = λ q. by q (bytes_eq name q) refl
+written {X} old new name w here others = λ q. by q (bytes_eq name q) refl
   where
     -- by the order of names
     is_test : (q : List ℕ) (x y : Vec ℕ Global) → equals q x ≡ true → equals q y ≡ eq_by_cmp (λ (a b : Vec ℕ Global). slice_cmp nat_cmp a.items b.items) x y
     is_test q x y e = ap (λ (t : List ℕ). is_eq (slice_cmp nat_cmp t y.items)) (equal q x e)
 
-    by : (q : List ℕ) (b : Bool) → bytes_eq name q ≡ b → noted q new ≡ cond b w (noted q old)
-    by q true e = ap (λ (t : List ℕ). noted t new) (sym (same_bytes name q e)) ∙ here
+    by : (q : List ℕ) (b : Bool) → bytes_eq name q ≡ b → lookup (equals q) new ≡ cond b w (lookup (equals q) old)
+    by q true e = ap (λ (t : List ℕ). lookup (equals t) new) (sym (same_bytes name q e)) ∙ here
     by q false e = others (equals q) (is_test q) (apart name q e)
 
 -- ---- the list

@@ -1,6 +1,6 @@
 -- The text of a rule as it is shown.
 -- Source: own.
-use Rattle.std.specs.Prelude.{ℕ, zero, suc, ◌-◌, ◌==◌, ◌&&◌, ◌||◌, nat_le, List, [], ◌∷◌, ◌++◌, length, take, drop, Bool, true, false, if◌then◌else◌, Option, Some, None, unwrap_or, slice_index}
+use Rattle.std.specs.Prelude.{ℕ, zero, suc, ◌-◌, ◌==◌, ◌&&◌, ◌||◌, nat_le, List, [], ◌∷◌, ◌++◌, length, take, drop, Bool, true, false, if◌then◌else◌, unwrap_or, slice_index}
 use Rattle.aa_words.specs.Runs.{is_white, is_sign, begins_with, name_len, comment_len, path_len, path_start, quoted_len}
 use Rattle.aa_text.specs.Excerpts.{character_end}
 use Rattle.aa_rule_text.specs.declared.ruled.RulePlace.{RulePlace}
@@ -55,6 +55,15 @@ shown_at p b = if p.left == 0 then shown_between p.blank b else (if p.blank then
 unfoldable pub rule_from : RulePlace → List ℕ → List ℕ
 rule_from p [] = []
 rule_from p (b ∷ bs) = shown_at p b ++ (if ends_rule p b then [] else rule_from (place_next p b bs) bs)
+
+-- the words of a text, with one space for white space and comments between them
+unfoldable pub words_from : RulePlace → List ℕ → List ℕ
+words_from p [] = []
+words_from p (b ∷ bs) = shown_at p b ++ words_from (place_next p b bs) bs
+
+-- the words between two places of a text
+abbrev pub words_text : List ℕ → ℕ → ℕ → List ℕ
+words_text text start end = words_from rule_start (take (end - start) (drop start text))
 
 -- A rule's first word begins at the quote before its place, where one stands there.
 abbrev pub rule_begin : List ℕ → ℕ → ℕ

@@ -4,4 +4,5 @@
 mod ruled;
 mod short;
 
-pub use ruled::rule_text;
+pub use ruled::{rule_text, words_text};
+pub use short::shortened;

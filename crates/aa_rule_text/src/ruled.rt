@@ -2,9 +2,9 @@
 
 ghost use Rattle.std.specs.Prelude.{◌≡◌, ◌++◌, ◌∷◌, [], ◌==◌, ◌||◌, ◌&&◌, OnOk, IfOk};
 ghost use Rattle.aa_words.specs.Runs.{is_sign, begins_with};
-ghost use Rattle.aa_rule_text.specs.RuleTexts.{word_rest, rule_start, place_within, place_between, place_next, ends_rule, space_if, shown_between, shown_at, rule_from, rule_begin, rule_text};
+ghost use Rattle.aa_rule_text.specs.RuleTexts.{word_rest, rule_start, place_within, place_between, place_next, ends_rule, space_if, shown_between, shown_at, rule_from, words_from, words_text, rule_begin, rule_text};
 
-use crate::short::{from_place, shortened};
+use crate::short::{before, from_place, shortened};
 use aa_words::{comment_length, is_white_space, name_length, path_length, quoted_length};
 use std::alloc::{AllocError, Global};
 
@@ -169,6 +169,39 @@ fn push_rule(out: &mut Vec<u8>, text: &[u8]) -> Result<(), AllocError>
         rest = after;
     }
     Ok(())
+}
+
+/// Appends the words of a text.
+#[tactic(auto, unfolding(crate::specs::RuleTexts::words_from))]
+fn push_words(out: &mut Vec<u8>, text: &[u8]) -> Result<(), AllocError>
+    ensures { OnOk result (out.new.items ≡ out.old.items ++ words_from rule_start text.now) }
+{
+    let mut place = RulePlace {
+        left: 0,
+        blank: false,
+    };
+    let mut rest = text;
+    while let [b, after @ ..] = rest {
+        push_at(out, place, *b)?;
+        place = place_next(place, *b, after);
+        rest = after;
+    }
+    Ok(())
+}
+
+/// The words between two places of a text, in bytes from 0, with one space where white space and comments stand between them.
+pub fn words_text(
+    alloc: Global,
+    text: &[u8],
+    start: usize,
+    end: usize,
+) -> Result<Vec<u8>, AllocError>
+    ensures { IfOk result (λ words. words.items ≡ words_text text.now start end) }
+{
+    let mut words = Vec::new(alloc);
+    let part = before(from_place(text, start), end.saturating_sub(start));
+    push_words(&mut words, part)?;
+    Ok(words)
 }
 
 /// Where the first word of a rule begins.

@@ -19,7 +19,8 @@ pub(crate) fn from_place(text: &[u8], byte: usize) -> &[u8]
     }
 }
 
-fn before(text: &[u8], byte: usize) -> &[u8]
+/// The bytes before a place.
+pub(crate) fn before(text: &[u8], byte: usize) -> &[u8]
     ensures { result.now ≡ take byte text.now }
 {
     if byte < text.len() {
@@ -54,7 +55,7 @@ fn last_whole(text: &[u8], at: usize) -> usize
 }
 
 /// A text, or what of its first 120 bytes is whole characters.
-pub(crate) fn shortened(text: &[u8]) -> &[u8]
+pub fn shortened(text: &[u8]) -> &[u8]
     ensures { result.now ≡ shortened text.now }
 {
     if text.len() <= SHOWN {

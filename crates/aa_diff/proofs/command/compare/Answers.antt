@@ -1,7 +1,6 @@
 use Rattle.std.proofs.Common.{Err, ◌≡◌, ℕ, ◌+◌, ap, ◌∙◌, subst}
 use Rattle.std.proofs.lemmas.Result.{IfOk-weaker}
 use Rattle.aa_representatives.specs.Both.{HavePlaces}
-use Rattle.aa_load.specs.UnitPolicy.{limit_of}
 use Rattle.aa_command.specs.declared.output.Output.{Output}
 use Rattle.aa_command.specs.Printed.{printed, faults_alone}
 use Rattle.aa_diff.specs.Command.{states_text, patterns_text, compared, IsCompared, Listed, ManyPatterns, ManyStates}

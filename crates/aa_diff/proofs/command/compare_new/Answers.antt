@@ -1,4 +1,3 @@
-use Rattle.std.proofs.Common.{ℕ}
 use Rattle.std.specs.Prelude.{codes}
 use Rattle.aa_files.specs.Texts.{texts}
 use Rattle.aa_command.specs.Setting.{setting_of}

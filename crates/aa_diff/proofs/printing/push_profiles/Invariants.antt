@@ -1,5 +1,5 @@
-use Rattle.std.proofs.Common.{◌≡◌, ◌++◌, [], take}
-use Rattle.std.specs.Prelude.{flat_map, map}
+use Rattle.std.proofs.Common.{◌≡◌, ◌++◌, take}
+use Rattle.std.specs.Prelude.{flat_map}
 use Rattle.aa_diff.specs.Printed.{profile_if}
 use Rattle.aa_diff.proofs.printing.push_profiles.Given as goal
 

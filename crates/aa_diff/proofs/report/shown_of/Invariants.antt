@@ -1,5 +1,4 @@
-use Rattle.std.proofs.Common.{◌≡◌, ◌++◌, [], take}
-use Rattle.std.specs.Prelude.{flat_map, map}
+use Rattle.std.proofs.Common.{◌≡◌, take}
 use Rattle.aa_diff.specs.Report.{shown_of}
 use Rattle.aa_diff.proofs.report.shown_of.Given as goal
 

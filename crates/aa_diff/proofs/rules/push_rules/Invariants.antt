@@ -1,5 +1,5 @@
-use Rattle.std.proofs.Common.{◌≡◌, ◌++◌, [], take}
-use Rattle.std.specs.Prelude.{flat_map, map}
+use Rattle.std.proofs.Common.{◌≡◌, ◌++◌, take}
+use Rattle.std.specs.Prelude.{map}
 use Rattle.aa_ask.specs.Named.{named}
 use Rattle.aa_diff.specs.Rules.{rules_text}
 use Rattle.aa_diff.proofs.rules.push_rules.Given as goal

@@ -1,4 +1,4 @@
-use Rattle.std.proofs.Common.{◌≡◌, List, map, ap}
+use Rattle.std.proofs.Common.{◌≡◌, map, ap}
 use Rattle.aa_model.specs.declared.label.Label.{Label}
 use Rattle.aa_model.specs.declared.request.Request.{Request}
 use Rattle.aa_command.specs.declared.decided.Decided.{Decided}
