@@ -16,7 +16,7 @@ TYPED = {"\\": "\\e", "-": "\\-", "'": "\\(aq", "`": "\\(ga", "^": "\\(ha", "~":
 # The tables at a page's beginning whose rows stand in sections of their own, by their first head.
 COMMANDS, STATUSES = "command", "status"
 # A line of help on an exit status.
-STATUS = re.compile(r"  (\d)  (.*)")
+STATUS = re.compile(r"  (\d+)  (.*)")
 
 
 def typed(text):

@@ -13,8 +13,10 @@ ghost use Rattle.aa_against.specs.Command.{IsPartSaid, open_status, part_status,
 use crate::jsons::push_json_part;
 use crate::parting::{Open, part};
 use crate::printing::push_part;
-use aa_command::{Decided, Logs, Output, Settings, Use, behind_warnings, unit_refused, with_units};
-use aa_files::{Tree, roots_of};
+use aa_command::{
+    Decided, Logs, Output, Settings, Use, behind_warnings, rooted, unit_refused, with_units,
+};
+use aa_files::Tree;
 use aa_log::{LogOptions, SaidReport, log_refused, push_unclear, read_reports, status_or};
 use aa_logs::Counts;
 use aa_skipped::{Skipped, Sorted, behind_skipped, part_repeated, sort_paths};
@@ -165,7 +167,7 @@ fn replay<T: Tree>(
 ) -> Result<Output, NoMemory>
     ensures { IfOk result (λ out. IsPartAgainst (setting_of (T.files tree.now) (T.taken tree.now) (T.input tree.now) settings.now) options.now said.now (printed out)) }
 {
-    match roots_of(alloc, tree, settings.base, options.against) {
+    match rooted(alloc, tree, settings.base, options.against) {
         Ok(roots) => {
             let own = replay_paths(alloc, tree, settings, options, said, roots.paths.as_slice())?;
             Ok(behind_warnings(alloc, roots.warnings.as_slice(), own)?)

@@ -10,7 +10,7 @@ use Rattle.aa_compile.specs.Said as said
 use Rattle.aa_compile.specs.FileRules.{is_nil}
 use Rattle.aa_explain.specs.declared.deciders.Decider.{Decider}
 use Rattle.aa_explain.specs.declared.deciders.Listed.{Listed}
-use Rattle.aa_explain.specs.declared.deciders.Saying.{Saying}
+use Rattle.aa_explain.specs.declared.told.Saying.{Saying}
 use Rattle.aa_explain.specs.Deciders.{part_of, naming_from, unnamed, reasons_by}
 use Rattle.aa_ask.specs.Telling.{grant}
 use Rattle.aa_ask.proofs.Bits.{minus_le, minus_nothing, minus_part, minus_both, or_below, and_either, missing, denied, none_of_both}

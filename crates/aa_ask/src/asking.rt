@@ -163,7 +163,7 @@ pub fn name_in_digits(alloc: Global, digits: &[u8]) -> Result<Option<Vec<u8>>, A
     }
 }
 
-fn label_in_digits(
+pub(crate) fn label_in_digits(
     alloc: Global,
     policies: &[Compiled],
     digits: &[u8],

@@ -3,16 +3,15 @@
 ghost use Rattle.std.specs.Prelude.{ℕ, List, ◌≡◌, ◌++◌, map, flat_map, option_map, option_to_list, slice_get, OnOk, IfOk};
 ghost use Rattle.aa_base.specs.Values.{quoted};
 ghost use Rattle.aa_explain.specs.Deciders.{reasons};
-ghost use Rattle.aa_explain.specs.Sayings.{reasons_of, target_reasons};
-ghost use Rattle.aa_ask.specs.Verdicts.{profile_at, number_in, spots_of};
+ghost use Rattle.aa_ask.specs.Verdicts.{number_in, spots_of};
 ghost use Rattle.aa_ask.specs.Named.{named, lacked, letters_for, named_at, named_by, names_in, names_of, names_at, lacks_in, lacks_of, unit_in, why_here, why_target, named_for, lacked_for};
 
 use aa_base::{Perms, Spot, push_mask};
 use aa_command::{Decided, PlacedUnit};
-use aa_compile::{Compiled, profile_of};
+use aa_compile::Compiled;
 use aa_explain::{Decider, Deciders, Listed, ProfilePlaces, deciders_of, target_deciders};
 use aa_files::text_at;
-use aa_model::{Label, Profile, Request};
+use aa_model::{Label, Request};
 use aa_rule_text::rule_text;
 use aa_text::PlaceAt;
 use bitflags::Flags;
@@ -275,16 +274,6 @@ pub fn unit_of<'p, 'u>(
     }
 }
 
-/// The profile of a label.
-fn profile_at(policies: &[Compiled], label: Label) -> Option<&Profile>
-    ensures { option_map (λ p. p.now) result ≡ profile_at policies.now label }
-{
-    match label {
-        Label::Unconfined(_) => None,
-        Label::Confined(policy, number) => profile_of(policies, policy, number),
-    }
-}
-
 /// The number of a label's profile.
 fn number_of(label: Label) -> usize
     ensures { result ≡ number_in label }
@@ -292,6 +281,42 @@ fn number_of(label: Label) -> usize
     match label {
         Label::Unconfined(_) => 0,
         Label::Confined(_, number) => number as usize,
+    }
+}
+
+/// Why a request of a task with that label is answered so at its object, if the label has a profile.
+fn why_here(
+    alloc: Global,
+    policies: &[Compiled],
+    label: Label,
+    request: &Request,
+) -> Result<Option<Deciders>, AllocError>
+    ensures { IfOk result (λ here. option_map reasons here ≡ why_here policies.now label request.now) }
+{
+    let Label::Confined(policy, number) = label else {
+        return Ok(None);
+    };
+    match policies.get(policy as usize) {
+        Some(compiled) => deciders_of(alloc, compiled, number, request),
+        None => Ok(None),
+    }
+}
+
+/// The same at a link's target.
+fn why_target(
+    alloc: Global,
+    policies: &[Compiled],
+    label: Label,
+    request: &Request,
+) -> Result<Option<Deciders>, AllocError>
+    ensures { IfOk result (λ target. option_map reasons target ≡ why_target policies.now label request.now) }
+{
+    let Label::Confined(policy, number) = label else {
+        return Ok(None);
+    };
+    match policies.get(policy as usize) {
+        Some(compiled) => target_deciders(alloc, compiled, number, request),
+        None => Ok(None),
     }
 }
 
@@ -305,20 +330,10 @@ fn reasons_for(
     ensures here { IfOk result (λ why. option_map reasons why.here ≡ why_here policies.now label request.now) }
     ensures target { IfOk result (λ why. option_map reasons why.target ≡ why_target policies.now label request.now) }
 {
-    match profile_at(policies, label) {
-        Some(profile) => {
-            Ok(Why {
-                here: deciders_of(alloc, profile, request)?,
-                target: target_deciders(alloc, profile, request)?,
-            })
-        }
-        None => {
-            Ok(Why {
-                here: None,
-                target: None,
-            })
-        }
-    }
+    Ok(Why {
+        here: why_here(alloc, policies, label, request)?,
+        target: why_target(alloc, policies, label, request)?,
+    })
 }
 
 /// The rules that decided, where it is known where those of the profile stand.

@@ -93,7 +93,8 @@ fn is_by_complain(answer: &Answer) -> bool
     }
 }
 
-fn is_same(before: Label, after: Label) -> bool
+/// Whether two labels are one.
+pub fn is_same(before: Label, after: Label) -> bool
     ensures { result ≡ is_same before after }
 {
     match (before, after) {

@@ -5,3 +5,6 @@ pub mod Unanswered
 pub mod Turns
 pub mod Turning
 pub mod Adding
+mod Beginning
+mod Clear
+mod Sound

@@ -1,6 +1,6 @@
 -- A claim is answered by its first two words.
 use Rattle.std.proofs.Common.{◌≡◌, ℕ, ◌≤◌, List, [], ◌∷◌, length, get_or, Bool, false, sym, subst, arith}
-use Rattle.aa_command.specs.declared.decided.Decided.{Decided}
+use Rattle.aa_assert.specs.declared.part.Part.{Part}
 use Rattle.aa_quantifiers.specs.declared.word.Word.{Word}
 use Rattle.aa_claims.specs.declared.words.ClaimWord.{ClaimWord}
 use Rattle.aa_assert.specs.declared.asked.Asked.{Asked}
@@ -10,7 +10,7 @@ use Rattle.aa_assert.specs.Asked.{is_enforced, IsAskedOf, IsAskedBy}
 use Rattle.aa_assert.specs.Findings.{AllFound}
 use Rattle.aa_assert.specs.Answers.{IsAnswerBy, IsAnswerOf}
 
-pub by_two : (first : Bool) (d : Decided) (limit : ℕ) (ws : List ClaimWord) (head asked : ClaimWord) (found : AllFound) → 2 ≤ length ws
+pub by_two : (first : Bool) (d : Part) (limit : ℕ) (ws : List ClaimWord) (head asked : ClaimWord) (found : AllFound) → 2 ≤ length ws
     → head ≡ get_or ws 0 head → asked ≡ get_or ws 1 asked → IsAnswerBy first d limit ws head asked found → IsAnswerOf first d limit ws found
 by_two first d limit [] head asked found long is_head is_asked h = absurd (omega (arith, long))
 by_two first d limit (v ∷ []) head asked found long is_head is_asked h = absurd (omega (arith, long))

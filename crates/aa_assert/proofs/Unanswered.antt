@@ -1,8 +1,7 @@
 -- Why claims aren't answered, handed on.
 use Rattle.std.proofs.Common.{◌≡◌, ℕ, zero, suc, ◌<◌, ◌≤◌, List, [], ◌∷◌, ◌++◌, length, take, drop, get_or, codes, false, Vec, ap, sym, subst, arith}
 use Rattle.std.specs.declared.alloc.Global.{Global}
-use Rattle.aa_model.specs.declared.policy.Policy.{Policy}
-use Rattle.aa_command.specs.declared.decided.Decided.{Decided}
+use Rattle.aa_assert.specs.declared.part.Part.{Part}
 use Rattle.aa_who.specs.declared.fault.Misread.{Misread}
 use Rattle.aa_who.specs.declared.fault.Misread.TheVariants as misread
 use Rattle.aa_who.specs.Words.{SaysMisread}
@@ -38,29 +37,29 @@ no_request_at text items e why is same h =
 pub unread_of : (head asked : ClaimWord) (e : ClaimFault) → is_enforced head asked ≡ false → SaysAt (IsUnread asked) e → SaysAt (IsNoRequest head asked) e
 unread_of head asked e others = says_more (IsUnread asked) (IsNoRequest head asked) e (λ at fault h. (others, h))
 
-module _ (policies : List Policy) (ws : List ClaimWord) (head : ClaimWord) (e : ClaimFault) where
-  pub not_named : SaysAt (IsNoProfile policies (codes "in") ws) e → SaysAt (IsOutOfScope policies ws head) e
-  not_named = says_more (IsNoProfile policies (codes "in") ws) (IsOutOfScope policies ws head) e (λ at fault h. NotNamed h)
+module _ (d : Part) (ws : List ClaimWord) (head : ClaimWord) (e : ClaimFault) where
+  pub not_named : SaysAt (IsNoProfile d (codes "in") ws) e → SaysAt (IsOutOfScope d ws head) e
+  not_named = says_more (IsNoProfile d (codes "in") ws) (IsOutOfScope d ws head) e (λ at fault h. NotNamed h)
 
-  pub not_excepted : AreSomebody policies (names_behind (codes "in") ws) → SaysAt (IsNoProfile policies (codes "except") ws) e
-      → SaysAt (IsOutOfScope policies ws head) e
-  not_excepted within = says_more (IsNoProfile policies (codes "except") ws) (IsOutOfScope policies ws head) e (λ at fault h. NotExcepted within h)
+  pub not_excepted : AreSomebody d (names_behind (codes "in") ws) → SaysAt (IsNoProfile d (codes "except") ws) e
+      → SaysAt (IsOutOfScope d ws head) e
+  not_excepted within = says_more (IsNoProfile d (codes "except") ws) (IsOutOfScope d ws head) e (λ at fault h. NotExcepted within h)
 
-module _ (policies : List Policy) (ws : List ClaimWord) (head asked : ClaimWord) (e : ClaimFault) where
-  pub not_read : SaysAt (IsNoRequest head asked) e → SaysAt (IsUnanswered policies ws head asked) e
-  not_read = says_more (IsNoRequest head asked) (IsUnanswered policies ws head asked) e (λ at fault h. NotRead h)
+module _ (d : Part) (ws : List ClaimWord) (head asked : ClaimWord) (e : ClaimFault) where
+  pub not_read : SaysAt (IsNoRequest head asked) e → SaysAt (IsUnanswered d ws head asked) e
+  not_read = says_more (IsNoRequest head asked) (IsUnanswered d ws head asked) e (λ at fault h. NotRead h)
 
-  pub of_others : (a : Asked) → IsAskedBy head asked a → SaysAt (IsOutOfScope policies ws head) e → SaysAt (IsUnanswered policies ws head asked) e
-  of_others a is = says_more (IsOutOfScope policies ws head) (IsUnanswered policies ws head asked) e (λ at fault h. OfOthers a is h)
+  pub of_others : (a : Asked) → IsAskedBy head asked a → SaysAt (IsOutOfScope d ws head) e → SaysAt (IsUnanswered d ws head asked) e
+  of_others a is = says_more (IsOutOfScope d ws head) (IsUnanswered d ws head asked) e (λ at fault h. OfOthers a is h)
 
-  pub not_asked : (a : Asked) → IsAskedBy head asked a → IsInScope policies ws → SaysAt (AsksNoPath asked a) e → SaysAt (IsUnanswered policies ws head asked) e
-  not_asked a is scope = says_more (AsksNoPath asked a) (IsUnanswered policies ws head asked) e (λ at fault h. NotAsked a is scope h)
+  pub not_asked : (a : Asked) → IsAskedBy head asked a → IsInScope d ws → SaysAt (AsksNoPath asked a) e → SaysAt (IsUnanswered d ws head asked) e
+  not_asked a is scope = says_more (AsksNoPath asked a) (IsUnanswered d ws head asked) e (λ at fault h. NotAsked a is scope h)
 
 -- a claim of two words at least isn't answered for what is said of its first two
-pub of_two : (d : Decided) (ws : List ClaimWord) (head asked : ClaimWord) (at : ℕ) (fault : Wrong) → 2 ≤ length ws → head ≡ get_or ws 0 head
-    → asked ≡ get_or ws 1 asked → IsUnanswered d.policies.now ws head asked at fault → IsUnansweredOf d ws at fault
+pub of_two : (d : Part) (ws : List ClaimWord) (head asked : ClaimWord) (at : ℕ) (fault : Wrong) → 2 ≤ length ws → head ≡ get_or ws 0 head
+    → asked ≡ get_or ws 1 asked → IsUnanswered d ws head asked at fault → IsUnansweredOf d ws at fault
 of_two d [] head asked at fault long is_head is_asked h = absurd (omega (arith, long))
 of_two d (v ∷ []) head asked at fault long is_head is_asked h = absurd (omega (arith, long))
 of_two d (v ∷ w ∷ ws) head asked at fault long is_head is_asked h =
-    subst (λ (x : ClaimWord). IsUnanswered d.policies.now (v ∷ w ∷ ws) x w at fault) is_head
-    (subst (λ (x : ClaimWord). IsUnanswered d.policies.now (v ∷ w ∷ ws) head x at fault) is_asked h)
+    subst (λ (x : ClaimWord). IsUnanswered d (v ∷ w ∷ ws) x w at fault) is_head
+    (subst (λ (x : ClaimWord). IsUnanswered d (v ∷ w ∷ ws) head x at fault) is_asked h)

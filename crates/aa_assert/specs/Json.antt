@@ -4,8 +4,11 @@ use Rattle.std.specs.Prelude.{ℕ, List, ◌++◌, map, codes, decimal, Bool, tr
 use Rattle.aa_text.specs.Jsons.{key_text, bool_text, member_text, list_text}
 use Rattle.aa_ask.specs.Json.{json_verdict}
 use Rattle.aa_who.specs.Untold.{json_asker, json_untold}
+use Rattle.aa_undecided.specs.Answers.{PlacedFile}
+use Rattle.aa_undecided.specs.Jsons.{json_placed}
 use Rattle.aa_assert.specs.Findings.{Found, ByRequest, Complaining}
 use Rattle.aa_assert.specs.Answers.{Answered}
+use Rattle.aa_assert.specs.Shown.{files_open}
 
 -- whose it is, and whether the profile complains
 unfoldable pub json_whose : Option (List ℕ) → Bool → List ℕ
@@ -20,11 +23,14 @@ json_found (Complaining name) = json_whose (Some name) true ++ codes "}"
 unfoldable pub json_broken : Answered → List ℕ
 json_broken a = codes "{" ++ key_text (codes "line") ++ decimal a.number ++ member_text (codes "broken") (list_text (map json_found a.found.list))
 
--- so, and of whom that can't be told
+-- so, of whom that can't be told, and the skipped files that could break it where nobody does
 unfoldable pub json_answer : Answered → List ℕ
-json_answer a = json_broken a ++ member_text (codes "untold") (list_text (map json_untold a.found.untold)) ++ codes "}"
+json_answer a =
+    json_broken a ++ member_text (codes "untold") (list_text (map json_untold a.found.untold)) ++ member_text (codes "skipped") (list_text (map json_placed (files_open a)))
+    ++ codes "}"
 
--- one JSON object with the claims, and how many rules decide nothing
-unfoldable pub json_answers : ℕ → List Answered → List ℕ
-json_answers passed answers =
-    codes "{" ++ key_text (codes "claims") ++ list_text (map json_answer answers) ++ member_text (codes "passed_over") (decimal passed) ++ codes "}\n"
+-- one JSON object with the claims, how many rules decide nothing, and the files that are skipped
+unfoldable pub json_answers : ℕ → List PlacedFile → List Answered → List ℕ
+json_answers passed skipped answers =
+    codes "{" ++ key_text (codes "claims") ++ list_text (map json_answer answers) ++ member_text (codes "passed_over") (decimal passed)
+    ++ member_text (codes "skipped") (list_text (map json_placed skipped)) ++ codes "}\n"

@@ -9,3 +9,4 @@ pub mod Answers
 pub mod Shown
 pub mod Json
 pub mod Command
+pub mod Holding

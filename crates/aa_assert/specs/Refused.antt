@@ -1,7 +1,6 @@
 -- Why a claim isn't answered.
 -- Source: own.
 use Rattle.std.specs.Prelude.{◌≡◌, ℕ, List, codes, Option, false}
-use Rattle.aa_model.specs.declared.policy.Policy.{Policy}
 use Rattle.aa_model.specs.declared.request.Request.{Request}
 use Rattle.aa_quantifiers.specs.declared.word.Word.{Word}
 use Rattle.aa_quantifiers.specs.Words.{IsOf}
@@ -15,6 +14,7 @@ use Rattle.aa_claims.specs.declared.fault.Wrong.TheVariants.{NoRequest, NoPatter
 use Rattle.aa_claims.specs.declared.fault.ClaimFault.{ClaimFault}
 use Rattle.aa_claims.specs.declared.fault.ClaimFault.TheVariants as claims
 use Rattle.aa_claims.specs.Forms.{names_behind}
+use Rattle.aa_assert.specs.declared.part.Part.{Part}
 use Rattle.aa_assert.specs.declared.asked.Asked.{Asked}
 use Rattle.aa_assert.specs.declared.asked.Asked.TheVariants.{Never, Always, Enforced}
 use Rattle.aa_assert.specs.Asked.{is_enforced, IsAskedBy}
@@ -50,23 +50,23 @@ abbrev pub IsNoRequest : ClaimWord → ClaimWord → ℕ → Wrong → Type 0
 IsNoRequest head asked at fault = (is_enforced head asked ≡ false) × IsUnread asked at fault
 
 -- at the first of these names that names nobody, if they stand there
-abbrev pub IsUnnamed : List Policy → Option (List ClaimWord) → ℕ → Wrong → Type 0
-IsUnnamed policies names at fault = (fault ≡ NoProfile) × NamesNobody policies names at
+abbrev pub IsUnnamed : Part → Option (List ClaimWord) → ℕ → Wrong → Type 0
+IsUnnamed d names at fault = (fault ≡ NoProfile) × NamesNobody d names at
 
 -- so of the names of a clause
-abbrev pub IsNoProfile : List Policy → List ℕ → List ClaimWord → ℕ → Wrong → Type 0
-IsNoProfile policies keyword ws = IsUnnamed policies (names_behind keyword ws)
+abbrev pub IsNoProfile : Part → List ℕ → List ClaimWord → ℕ → Wrong → Type 0
+IsNoProfile d keyword ws = IsUnnamed d (names_behind keyword ws)
 
 -- why a claim is about nobody who is there: a name of `in` names nobody, or else one of `except`, or else it is about nobody
-pub data IsOutOfScope (policies : List Policy) (ws : List ClaimWord) (head : ClaimWord) (at : ℕ) (fault : Wrong) : Type 0 where
-  NotNamed : IsNoProfile policies (codes "in") ws at fault → IsOutOfScope policies ws head at fault
-  NotExcepted : AreSomebody policies (names_behind (codes "in") ws) → IsNoProfile policies (codes "except") ws at fault → IsOutOfScope policies ws head at fault
-  OfNobody : AreSomebody policies (names_behind (codes "in") ws) → AreSomebody policies (names_behind (codes "except") ws) → at ≡ head.at → fault ≡ Nobody
-      → is_about_some policies ws ≡ false → IsOutOfScope policies ws head at fault
+pub data IsOutOfScope (d : Part) (ws : List ClaimWord) (head : ClaimWord) (at : ℕ) (fault : Wrong) : Type 0 where
+  NotNamed : IsNoProfile d (codes "in") ws at fault → IsOutOfScope d ws head at fault
+  NotExcepted : AreSomebody d (names_behind (codes "in") ws) → IsNoProfile d (codes "except") ws at fault → IsOutOfScope d ws head at fault
+  OfNobody : AreSomebody d (names_behind (codes "in") ws) → AreSomebody d (names_behind (codes "except") ws) → at ≡ head.at → fault ≡ Nobody
+      → is_about_some d ws ≡ false → IsOutOfScope d ws head at fault
 
 -- why a claim of these words isn't answered: its second word is no word of requests, or else it is about nobody who is there, or else
 -- nothing can be asked
-pub data IsUnanswered (policies : List Policy) (ws : List ClaimWord) (head asked : ClaimWord) (at : ℕ) (fault : Wrong) : Type 0 where
-  NotRead : IsNoRequest head asked at fault → IsUnanswered policies ws head asked at fault
-  OfOthers : (a : Asked) → IsAskedBy head asked a → IsOutOfScope policies ws head at fault → IsUnanswered policies ws head asked at fault
-  NotAsked : (a : Asked) → IsAskedBy head asked a → IsInScope policies ws → AsksNoPath asked a at fault → IsUnanswered policies ws head asked at fault
+pub data IsUnanswered (d : Part) (ws : List ClaimWord) (head asked : ClaimWord) (at : ℕ) (fault : Wrong) : Type 0 where
+  NotRead : IsNoRequest head asked at fault → IsUnanswered d ws head asked at fault
+  OfOthers : (a : Asked) → IsAskedBy head asked a → IsOutOfScope d ws head at fault → IsUnanswered d ws head asked at fault
+  NotAsked : (a : Asked) → IsAskedBy head asked a → IsInScope d ws → AsksNoPath asked a at fault → IsUnanswered d ws head asked at fault

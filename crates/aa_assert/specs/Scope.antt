@@ -7,7 +7,11 @@ use Rattle.aa_model.specs.declared.policy.Policy.{Policy}
 use Rattle.aa_model.specs.declared.policy.Profile.{Profile}
 use Rattle.aa_claims.specs.declared.words.ClaimWord.{ClaimWord}
 use Rattle.aa_claims.specs.Forms.{is_word, names_behind}
-use Rattle.aa_assert.specs.Names.{names}
+use Rattle.aa_skipping.specs.declared.unread.Head.{Head}
+use Rattle.aa_skipping.specs.declared.unread.Unread.{Unread}
+use Rattle.aa_skipped.specs.declared.skipped.Skipped.{Skipped}
+use Rattle.aa_assert.specs.declared.part.Part.{Part}
+use Rattle.aa_assert.specs.Names.{names, may_name, covers}
 
 -- one of the words stands for the name; or else, where no words stand there
 abbrev pub is_among : Bool → Option (List ClaimWord) → List ℕ → Bool
@@ -30,36 +34,70 @@ is_about_free ws = names_free (codes "in") ws && not (names_free (codes "except"
 abbrev pub profiles_of : List Policy → List Profile
 profiles_of policies = option_map_or (λ (p : Policy). p.profiles) (slice_get policies 0) []
 
--- the word names tasks without a profile, or some profile
-abbrev pub is_somebody : List Policy → ClaimWord → Bool
-is_somebody policies w = is_word (codes "unconfined") w || list_any (λ (p : Profile). names w p.name) (profiles_of policies)
+-- a profile with that head, or a child of it, may have a name for which the word stands
+abbrev pub may_be : ClaimWord → Head → Bool
+may_be w h = names w h.name || may_name w (h.name ++ codes "//")
 
--- the claim is about some task
-abbrev pub is_about_some : List Policy → List ClaimWord → Bool
-is_about_some policies ws = is_about_free ws || list_any (λ (p : Profile). is_about ws p.name) (profiles_of policies)
+-- so of a skipped file
+abbrev pub may_have : ClaimWord → Skipped → Bool
+may_have w k = k.unread.others || list_any (may_be w) k.unread.heads
+
+-- one of the words may stand for a name that begins so; or else, where no words stand there
+abbrev pub may_be_among : Bool → Option (List ClaimWord) → List ℕ → Bool
+may_be_among without None front = without
+may_be_among without (Some ws) front = list_any (λ (w : ClaimWord). may_name w front) ws
+
+-- one of the words stands for each name that begins so
+abbrev pub are_all_among : Option (List ClaimWord) → List ℕ → Bool
+are_all_among None front = false
+are_all_among (Some ws) front = list_any (λ (w : ClaimWord). covers w.text.items front) ws
+
+-- a claim of these words may be about a profile whose full name begins so
+abbrev pub may_be_about_behind : List ClaimWord → List ℕ → Bool
+may_be_about_behind ws front = may_be_among true (names_behind (codes "in") ws) front && not (are_all_among (names_behind (codes "except") ws) front)
+
+-- so of a profile with that head, or of a child of it
+abbrev pub may_be_about : List ClaimWord → Head → Bool
+may_be_about ws h = is_about ws h.name || may_be_about_behind ws (h.name ++ codes "//")
+
+-- so of one of those that weren't read
+abbrev pub concerns : List ClaimWord → Unread → Bool
+concerns ws u = u.others || list_any (may_be_about ws) u.heads
+
+-- so of one of a skipped file
+abbrev pub may_concern : List ClaimWord → Skipped → Bool
+may_concern ws k = concerns ws k.unread
+
+-- the word names tasks without a profile, or some profile, or a skipped file may have one
+abbrev pub is_somebody : Part → ClaimWord → Bool
+is_somebody d w = is_word (codes "unconfined") w || (list_any (λ (p : Profile). names w p.name) (profiles_of d.decided.policies.now) || list_any (may_have w) d.skipped.now)
+
+-- the claim is about some task, or may be about one of a skipped file
+abbrev pub is_about_some : Part → List ClaimWord → Bool
+is_about_some d ws = is_about_free ws || (list_any (λ (p : Profile). is_about ws p.name) (profiles_of d.decided.policies.now) || list_any (may_concern ws) d.skipped.now)
 
 -- each name of a clause names somebody, if the clause stands there
-abbrev pub AreSomebody : List Policy → Option (List ClaimWord) → Type 0
-AreSomebody policies None = Unit {0}
-AreSomebody policies (Some ws) = list_all (is_somebody policies) ws ≡ true
+abbrev pub AreSomebody : Part → Option (List ClaimWord) → Type 0
+AreSomebody d None = Unit {0}
+AreSomebody d (Some ws) = list_all (is_somebody d) ws ≡ true
 
 -- of these names the first that names nobody stands there
-pub record IsFirstNobody (policies : List Policy) (ws : List ClaimWord) (at : ℕ) : Type 0 where
+pub record IsFirstNobody (d : Part) (ws : List ClaimWord) (at : ℕ) : Type 0 where
   pub earlier : List ClaimWord
   pub word : ClaimWord
   pub later : List ClaimWord
   pub among : ws ≡ earlier ++ word ∷ later
-  pub known : list_all (is_somebody policies) earlier ≡ true
-  pub unknown : is_somebody policies word ≡ false
+  pub known : list_all (is_somebody d) earlier ≡ true
+  pub unknown : is_somebody d word ≡ false
   pub at_is : at ≡ word.at
 
 -- so of the names of a clause, if it stands there
-abbrev pub NamesNobody : List Policy → Option (List ClaimWord) → ℕ → Type 0
-NamesNobody policies None at = ⊥
-NamesNobody policies (Some ws) at = IsFirstNobody policies ws at
+abbrev pub NamesNobody : Part → Option (List ClaimWord) → ℕ → Type 0
+NamesNobody d None at = ⊥
+NamesNobody d (Some ws) at = IsFirstNobody d ws at
 
 -- each name of the claim names somebody, and it is about somebody
-pub record IsInScope (policies : List Policy) (ws : List ClaimWord) : Type 0 where
-  pub within : AreSomebody policies (names_behind (codes "in") ws)
-  pub excepted : AreSomebody policies (names_behind (codes "except") ws)
-  pub some : is_about_some policies ws ≡ true
+pub record IsInScope (d : Part) (ws : List ClaimWord) : Type 0 where
+  pub within : AreSomebody d (names_behind (codes "in") ws)
+  pub excepted : AreSomebody d (names_behind (codes "except") ws)
+  pub some : is_about_some d ws ≡ true

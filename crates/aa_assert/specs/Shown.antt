@@ -1,10 +1,12 @@
 -- Answers as they are printed.
 -- Source: own.
-use Rattle.std.specs.Prelude.{ℕ, ◌==◌, not, List, ◌++◌, length, flat_map, codes, decimal, Bool, Option, Some, None}
+use Rattle.std.specs.Prelude.{ℕ, ◌==◌, not, List, [], ◌∷◌, ◌++◌, length, flat_map, codes, decimal, Bool, Option, Some, None, if◌then◌else◌}
 use Rattle.std.specs.List.{count_by}
 use Rattle.aa_base.specs.Values.{value}
 use Rattle.aa_text.specs.Visible.{all_visible}
 use Rattle.aa_ask.specs.Shown.{reasons_text}
+use Rattle.aa_undecided.specs.Answers.{PlacedFile}
+use Rattle.aa_undecided.specs.Shown.{doubt_reason}
 use Rattle.aa_who.specs.Untold.{untold_lines}
 use Rattle.aa_who.specs.Shown.{complains_mark}
 use Rattle.aa_assert.specs.Findings.{Found, ByRequest, Complaining}
@@ -28,17 +30,39 @@ by_text (Complaining name) = value name ++ codes " complains\n"
 abbrev pub finding_text : List ℕ → ℕ → Found → List ℕ
 finding_text path number f = broken_text path number ++ by_text f
 
--- all by whom a claim is broken
-abbrev pub answer_text : List ℕ → Answered → List ℕ
-answer_text path a = flat_map (finding_text path a.number) a.found.list
-
 -- somebody breaks the claim
 abbrev pub is_broken : Answered → Bool
 is_broken a = not (length a.found.list == 0)
 
--- how many claims there are, and how many are broken
+-- the skipped files that could break it, where nobody does
+abbrev pub files_open : Answered → List PlacedFile
+files_open a = if is_broken a then [] else a.found.doubt
+
+-- nobody breaks it, and skipped files could
+abbrev pub is_undecided : Answered → Bool
+is_undecided a = not (length (files_open a) == 0)
+
+-- PATH:LINE: undecided
+unfoldable pub undecided_text : List ℕ → ℕ → List ℕ
+undecided_text path number = all_visible path ++ codes ":" ++ decimal number ++ codes ": undecided\n"
+
+-- so, and by which files; nothing where there are none
+abbrev pub doubt_text : List ℕ → ℕ → List PlacedFile → List ℕ
+doubt_text path number [] = []
+doubt_text path number (file ∷ files) = undecided_text path number ++ doubt_reason (file ∷ files)
+
+-- all by whom a claim is broken, or that it is undecided
+abbrev pub answer_text : List ℕ → Answered → List ℕ
+answer_text path a = flat_map (finding_text path a.number) a.found.list ++ doubt_text path a.number (files_open a)
+
+-- how many are undecided, if some are
+abbrev pub undecided_count : ℕ → List ℕ
+undecided_count n = if n == 0 then [] else codes " " ++ decimal n ++ codes " undecided"
+
+-- how many claims there are, how many are broken, and how many are undecided
 unfoldable pub count_line : List Answered → List ℕ
-count_line answers = decimal (length answers) ++ codes " claims " ++ decimal (count_by is_broken answers) ++ codes " broken\n"
+count_line answers =
+    decimal (length answers) ++ codes " claims " ++ decimal (count_by is_broken answers) ++ codes " broken" ++ undecided_count (count_by is_undecided answers) ++ codes "\n"
 
 -- the lines on what can't be told
 abbrev pub untold_text : Answered → List ℕ

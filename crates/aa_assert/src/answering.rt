@@ -10,10 +10,9 @@ ghost use Rattle.aa_assert.specs.Answers.{answered, IsAnswerBy, IsAnswerOf, IsAn
 
 use crate::asked::asked_by;
 use crate::finding::{Claim, Findings, findings_of};
+use crate::part::Part;
 use crate::scope::{check_names, is_about_some};
 use aa_claims::{ClaimFault, ClaimLine, ClaimWord, Wrong};
-use aa_command::Decided;
-use aa_compile::Compiled;
 use std::alloc::Global;
 
 /// By whom the claim on a line is broken.
@@ -27,16 +26,16 @@ pub(crate) struct Answer {
 /// Looks whether each name of a claim names somebody, and whether the claim is about somebody.
 fn check_scope(
     alloc: Global,
-    policies: &[Compiled],
+    part: Part<'_>,
     words: &[ClaimWord],
     head: &ClaimWord,
 ) -> Result<(), ClaimFault>
-    ensures in_scope { OnOk result (IsInScope policies.now words.now) }
-    ensures refused { IfErr result (λ e. SaysAt (IsOutOfScope policies.now words.now head.now) e) }
+    ensures in_scope { OnOk result (IsInScope part.entry words.now) }
+    ensures refused { IfErr result (λ e. SaysAt (IsOutOfScope part.entry words.now head.now) e) }
 {
-    check_names(alloc, policies, words, "in")?;
-    check_names(alloc, policies, words, "except")?;
-    if !is_about_some(alloc, policies, words)? {
+    check_names(alloc, part, words, "in")?;
+    check_names(alloc, part, words, "except")?;
+    if !is_about_some(alloc, part, words)? {
         return Err(ClaimFault::At(head.at, Wrong::Nobody));
     }
     Ok(())
@@ -45,18 +44,18 @@ fn check_scope(
 /// By whom a claim of these words is broken.
 fn answer_by(
     alloc: Global,
-    decided: Decided<'_>,
+    part: Part<'_>,
     states: u32,
     is_first: bool,
     words: &[ClaimWord],
     head: &ClaimWord,
     word: &ClaimWord,
 ) -> Result<Findings, ClaimFault>
-    ensures answered { IfOk result (λ fs. IsAnswerBy is_first decided.entry (limit_of states) words.now head.now word.now (all_found fs)) }
-    ensures refused { IfErr result (λ e. SaysAt (IsUnanswered decided.entry.policies.now words.now head.now word.now) e) }
+    ensures answered { IfOk result (λ fs. IsAnswerBy is_first part.entry (limit_of states) words.now head.now word.now (all_found fs)) }
+    ensures refused { IfErr result (λ e. SaysAt (IsUnanswered part.entry words.now head.now word.now) e) }
 {
     let asked = asked_by(alloc, head, word)?;
-    check_scope(alloc, decided.policies, words, head)?;
+    check_scope(alloc, part, words, head)?;
     let claim = Claim {
         words,
         word,
@@ -64,7 +63,7 @@ fn answer_by(
         is_first,
         states,
     };
-    findings_of(alloc, decided, claim)
+    findings_of(alloc, part, claim)
 }
 
 /// By whom a claim of these words is broken, which has two at least.
@@ -72,16 +71,16 @@ fn answer_by(
 // which the contracts leave free.
 fn answer_of(
     alloc: Global,
-    decided: Decided<'_>,
+    part: Part<'_>,
     states: u32,
     is_first: bool,
     words: &[ClaimWord],
 ) -> Result<Findings, ClaimFault>
-    ensures answered { IfOk result (λ fs. IsAnswerOf is_first decided.entry (limit_of states) words.now (all_found fs)) }
-    ensures refused { IfErr result (λ e. SaysAt (IsUnansweredOf decided.entry words.now) e) }
+    ensures answered { IfOk result (λ fs. IsAnswerOf is_first part.entry (limit_of states) words.now (all_found fs)) }
+    ensures refused { IfErr result (λ e. SaysAt (IsUnansweredOf part.entry words.now) e) }
 {
     match words {
-        [head, word, ..] => answer_by(alloc, decided, states, is_first, words, head, word),
+        [head, word, ..] => answer_by(alloc, part, states, is_first, words, head, word),
         _ => Err(ClaimFault::NoMemory),
     }
 }
@@ -89,15 +88,15 @@ fn answer_of(
 /// By whom the claim on a line is broken.
 fn answer_to(
     alloc: Global,
-    decided: Decided<'_>,
+    part: Part<'_>,
     states: u32,
     is_first: bool,
     line: &ClaimLine,
 ) -> Result<Answer, ClaimFault>
-    ensures answered { IfOk result (λ a. IsAnswerTo is_first decided.entry (limit_of states) line.now (answered a)) }
-    ensures refused { IfErr result (λ e. SaysAt (IsUnansweredOf decided.entry line.now.words.items) e) }
+    ensures answered { IfOk result (λ a. IsAnswerTo is_first part.entry (limit_of states) line.now (answered a)) }
+    ensures refused { IfErr result (λ e. SaysAt (IsUnansweredOf part.entry line.now.words.items) e) }
 {
-    let findings = answer_of(alloc, decided, states, is_first, line.words.as_slice())?;
+    let findings = answer_of(alloc, part, states, is_first, line.words.as_slice())?;
     Ok(Answer {
         number: line.number,
         findings,
@@ -107,17 +106,17 @@ fn answer_to(
 /// By whom each claim is broken, or why one of them isn't answered.
 pub(crate) fn answers_to(
     alloc: Global,
-    decided: Decided<'_>,
+    part: Part<'_>,
     states: u32,
     is_first: bool,
     claims: &[ClaimLine],
 ) -> Result<Vec<Answer>, ClaimFault>
-    ensures answered { IfOk result (λ list. AreAnswers is_first decided.entry (limit_of states) claims.now (map answered list.items)) }
-    ensures refused { IfErr result (λ e. SaysAt (IsFirstUnanswered is_first decided.entry (limit_of states) claims.now) e) }
+    ensures answered { IfOk result (λ list. AreAnswers is_first part.entry (limit_of states) claims.now (map answered list.items)) }
+    ensures refused { IfErr result (λ e. SaysAt (IsFirstUnanswered is_first part.entry (limit_of states) claims.now) e) }
 {
     let mut answers = Vec::new(alloc);
     for line in claims {
-        answers.push(answer_to(alloc, decided, states, is_first, line)?)?;
+        answers.push(answer_to(alloc, part, states, is_first, line)?)?;
     }
     Ok(answers)
 }

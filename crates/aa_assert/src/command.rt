@@ -1,23 +1,26 @@
 //! What `assert` prints.
 
-ghost use Rattle.std.specs.Prelude.{◌≡◌, ◌++◌, map, OnOk, IfOk};
-ghost use Rattle.aa_files.specs.Texts.{texts};
+ghost use Rattle.std.specs.Prelude.{◌≡◌, ◌++◌, [], map, OnOk, IfOk};
 ghost use Rattle.aa_files.specs.FilesData.{IsMainText};
-ghost use Rattle.aa_command.specs.Policies.{IsPrintedFor};
 ghost use Rattle.aa_claims.specs.Reports.{IsClaimReport};
 ghost use Rattle.aa_command.specs.Refusals.{SaysFault};
 ghost use Rattle.aa_command.specs.Setting.{setting_of};
 ghost use Rattle.aa_command.specs.Printed.{printed};
+ghost use Rattle.aa_undecided.specs.Answers.{placed};
 ghost use Rattle.aa_assert.specs.Answers.{answered};
-ghost use Rattle.aa_assert.specs.Command.{wanted_text, status_of, assert_printed, IsAssertOf, IsAssertOutput};
+ghost use Rattle.aa_assert.specs.Json.{json_answers};
+ghost use Rattle.aa_assert.specs.Command.{told_text, wanted_text, status_of, assert_printed, IsAssertOf, IsAssertBy, IsAssertOutput};
 
 use crate::answering::{Answer, answers_to};
 use crate::json::push_json_answers;
-use crate::shown::{count_broken, push_answers, push_untold};
+use crate::part::Part;
+use crate::shown::{count_broken, count_undecided, push_answers, push_untold};
 use aa_claims::{ClaimFault, ClaimLine, Wrong, claim_report, read_claims};
 use aa_command::{Decided, Output, Settings, Use, fault_refused, path_refused, with_policy};
 use aa_files::{Tree, main_text};
+use aa_skipped::{Skipped, UsePart, push_skipped_count, with_read_policy};
 use aa_text::NoMemory;
+use aa_undecided::all_placed;
 use aa_who::{passed_in, push_passed};
 use std::alloc::{AllocError, Global};
 
@@ -31,16 +34,51 @@ pub struct AssertOptions<'a> {
     /// Whether of each claim the first is printed alone by whom it is broken.
     pub is_first: bool,
     pub is_json: bool,
+    /// Whether files that are refused are skipped.
+    pub skips: bool,
 }
 
-/// 1 where something can't be told, and else 4 where a claim is broken.
-fn status_of(untold: &[u8], broken: usize) -> u8
-    ensures { result ≡ status_of untold.now broken }
+/// 1 where something can't be told, else 4 where a claim is broken, and else 5 where one is undecided.
+fn status_of(untold: &[u8], broken: usize, undecided: usize) -> u8
+    ensures { result ≡ status_of untold.now broken undecided }
 {
     if !untold.is_empty() {
         return 1;
     }
-    if broken == 0 { 0 } else { 4 }
+    if broken != 0 {
+        return 4;
+    }
+    if undecided == 0 { 0 } else { 5 }
+}
+
+/// Appends the answers, how many rules decide nothing, and how many files are skipped.
+fn push_told(
+    out: &mut Vec<u8>,
+    alloc: Global,
+    options: &AssertOptions<'_>,
+    passed: usize,
+    skipped: &[Skipped],
+    answers: &[Answer],
+) -> Result<(), AllocError>
+    ensures { OnOk result (out.new.items ≡ out.old.items ++ told_text options.now passed skipped.now (map answered answers.now)) }
+{
+    push_answers(out, alloc, options.claims, answers)?;
+    push_passed(out, passed)?;
+    push_skipped_count(out, skipped.len())
+}
+
+/// The same as JSON.
+fn push_json(
+    out: &mut Vec<u8>,
+    alloc: Global,
+    passed: usize,
+    skipped: &[Skipped],
+    answers: &[Answer],
+) -> Result<(), AllocError>
+    ensures { OnOk result (out.new.items ≡ out.old.items ++ json_answers passed (map placed skipped.now) (map answered answers.now)) }
+{
+    let files = all_placed(alloc, skipped)?;
+    push_json_answers(out, alloc, passed, files.as_slice(), answers)
 }
 
 /// Appends answers as they are wanted, by a policy of which so many rules decide nothing.
@@ -49,29 +87,38 @@ fn push_wanted(
     alloc: Global,
     options: &AssertOptions<'_>,
     passed: usize,
+    skipped: &[Skipped],
     answers: &[Answer],
 ) -> Result<(), AllocError>
-    ensures { OnOk result (out.new.items ≡ out.old.items ++ wanted_text options.now passed (map answered answers.now)) }
+    ensures { OnOk result (out.new.items ≡ out.old.items ++ wanted_text options.now passed skipped.now (map answered answers.now)) }
 {
     if options.is_json {
-        return push_json_answers(out, alloc, passed, answers);
+        return push_json(out, alloc, passed, skipped, answers);
     }
-    push_answers(out, alloc, options.claims, answers)?;
-    push_passed(out, passed)
+    push_told(out, alloc, options, passed, skipped, answers)
 }
 
 fn output_of(
     alloc: Global,
     options: &AssertOptions<'_>,
     passed: usize,
+    skipped: &[Skipped],
     answers: &[Answer],
 ) -> Result<Output, AllocError>
-    ensures { IfOk result (λ out. printed out ≡ assert_printed options.now passed (map answered answers.now)) }
+    ensures { IfOk result (λ out. printed out ≡ assert_printed options.now passed skipped.now (map answered answers.now)) }
 {
     let mut output = Output::new(alloc);
-    push_wanted(&mut output.answers, alloc, options, passed, answers)?;
+    push_wanted(
+        &mut output.answers,
+        alloc,
+        options,
+        passed,
+        skipped,
+        answers,
+    )?;
     push_untold(&mut output.faults, answers)?;
-    output.status = status_of(output.faults.as_slice(), count_broken(answers));
+    let untold = output.faults.as_slice();
+    output.status = status_of(untold, count_broken(answers), count_undecided(answers));
     Ok(output)
 }
 
@@ -99,21 +146,36 @@ struct Asserting<'a> {
     claims: &'a [ClaimLine],
 }
 
-impl Use for Asserting<'_> {
-    ghost gives = { λ a d out. IsAssertOf a.states a.options.now a.text.now a.claims.now d out };
+impl UsePart for Asserting<'_> {
+    ghost gives = { λ a skipped d out. IsAssertOf a.states a.options.now a.text.now a.claims.now skipped d out };
 
-    fn use_policy(&self, alloc: Global, decided: Decided<'_>) -> Result<Output, NoMemory> {
+    fn use_part(
+        &self,
+        alloc: Global,
+        skipped: &[Skipped],
+        decided: Decided<'_>,
+    ) -> Result<Output, NoMemory> {
         let options = self.options;
-        match answers_to(alloc, decided, self.states, options.is_first, self.claims) {
+        let part = Part { decided, skipped };
+        match answers_to(alloc, part, self.states, options.is_first, self.claims) {
             Ok(answers) => {
                 let passed = passed_in(decided.policies);
-                Ok(output_of(alloc, options, passed, answers.as_slice())?)
+                let answers = answers.as_slice();
+                Ok(output_of(alloc, options, passed, skipped, answers)?)
             }
             Err(ClaimFault::NoMemory) => Err(NoMemory),
             Err(ClaimFault::At(at, wrong)) => {
                 wrong_said(alloc, options.claims, self.text, at, &wrong)
             }
         }
+    }
+}
+
+impl Use for Asserting<'_> {
+    ghost gives = { λ a d out. IsAssertOf a.states a.options.now a.text.now a.claims.now [] d out };
+
+    fn use_policy(&self, alloc: Global, decided: Decided<'_>) -> Result<Output, NoMemory> {
+        self.use_part(alloc, &[], decided)
     }
 }
 
@@ -126,7 +188,7 @@ fn assert_claims<T: Tree>(
     text: &[u8],
     claims: &[ClaimLine],
 ) -> Result<Output, NoMemory>
-    ensures { IfOk result (λ out. IsPrintedFor (setting_of (T.files tree.now) (T.taken tree.now) (T.input tree.now) settings.now) (texts options.now.files.now) (IsAssertOf settings.now.states options.now text.now claims.now) (printed out)) }
+    ensures { IfOk result (λ out. IsAssertBy (setting_of (T.files tree.now) (T.taken tree.now) (T.input tree.now) settings.now) options.now text.now claims.now (printed out)) }
 {
     let asserting = Asserting {
         states: settings.states,
@@ -134,6 +196,9 @@ fn assert_claims<T: Tree>(
         text,
         claims,
     };
+    if options.skips {
+        return with_read_policy(alloc, tree, settings, options.files, &asserting);
+    }
     with_policy(alloc, tree, settings, options.files, &asserting)
 }
 
@@ -157,7 +222,8 @@ fn assert_text<T: Tree>(
 
 /// Prints of each claim of a file by which profiles of the one policy that files are it is broken: each with a request that breaks it, none
 /// shorter, and the rules that decide it. A profile of which that can't be told is said, and the others are told. Refused, at its
-/// word, is what is no claim, names nobody, or can't be broken.
+/// word, is what is no claim, names nobody, or can't be broken. Where files that are refused are skipped, a claim that nobody breaks whom
+/// is read, and that their profiles could break, is undecided.
 pub fn assert_files<T: Tree>(
     alloc: Global,
     tree: &T,

@@ -1,23 +1,26 @@
 //! The profiles against which a claim is broken.
 
-ghost use Rattle.std.specs.Prelude.{◌≡◌, IfOk, IfErr, OnOk};
+ghost use Rattle.std.specs.Prelude.{◌≡◌, map, IfOk, IfErr, OnOk};
 ghost use Rattle.aa_load.specs.UnitPolicy.{limit_of};
 ghost use Rattle.aa_who.specs.Grants.{count_of};
 ghost use Rattle.aa_claims.specs.Faults.{SaysAt};
+ghost use Rattle.aa_undecided.specs.Answers.{placed_all};
 ghost use Rattle.aa_assert.specs.Scope.{is_about_free};
-ghost use Rattle.aa_assert.specs.Findings.{all_found, with_judged, with_complaining, nobody, is_done, is_passed, AddsJudged, AddsProfile, AddsFree, AddsAt, AreFound, IsFreeIf};
+ghost use Rattle.aa_assert.specs.Findings.{found, all_found, files_concerned, could_change, files_changing_in, files_changing, or_else, found_by, with_judged, with_doubt, with_complaining, nobody, is_done, is_passed, AddsJudged, AddsProfile, AddsFree, AddsAt, AreFound, IsFreeIf};
 ghost use Rattle.aa_assert.specs.Refused.{fault_of, IsNoPath, AsksNoPath};
 
 use crate::asked::Asked;
 use crate::enforced::{complains_at, verdict_of};
 use crate::judging::{Judgement, judge};
-use crate::scope::{is_about, is_about_free};
+use crate::part::Part;
+use crate::scope::{is_about, is_about_free, may_concern};
 use aa_ask::Verdict;
 use aa_claims::{ClaimFault, ClaimWord, Wrong};
-use aa_command::Decided;
-use aa_compile::profile_of;
-use aa_model::{Label, Profile};
-use aa_quantifiers::Word;
+use aa_compile::{Compiled, profile_of};
+use aa_model::{Label, Profile, Request};
+use aa_quantifiers::{Word, word_is_open};
+use aa_skipped::Skipped;
+use aa_undecided::{SkippedAt, files_deciding, push_if};
 use aa_who::{Untold, WhoFault, count_of, push_untold};
 use std::alloc::{AllocError, Global};
 
@@ -36,6 +39,8 @@ pub(crate) struct Findings {
     pub(crate) list: Vec<Finding>,
     /// Those of whom that can't be told.
     pub(crate) untold: Vec<Untold>,
+    /// Skipped files that could break it.
+    pub(crate) doubt: Vec<SkippedAt>,
 }
 
 /// The claim that is answered.
@@ -51,29 +56,147 @@ pub(crate) struct Claim<'a> {
     pub(crate) states: u32,
 }
 
+/// Whether by what is known of a skipped file's profiles these could change what is answered to requests of the word at a label.
+fn could_change(
+    alloc: Global,
+    compiled: &Compiled,
+    label: Label,
+    word: &Word,
+    file: &Skipped,
+) -> Result<bool, AllocError>
+    ensures { IfOk result (λ could. could ≡ could_change compiled.now.profiles label word.now file.now) }
+{
+    word_is_open(alloc, compiled, &file.unread, label, word)
+}
+
+fn files_changing_in(
+    alloc: Global,
+    skipped: &[Skipped],
+    label: Label,
+    word: &Word,
+    compiled: &Compiled,
+) -> Result<Vec<SkippedAt>, AllocError>
+    ensures { IfOk result (λ files. placed_all files.items ≡ files_changing_in skipped.now label word.now compiled.now) }
+{
+    let mut files = Vec::new(alloc);
+    for file in skipped {
+        let could = could_change(alloc, compiled, label, word, file)?;
+        push_if(alloc, &mut files, could, file)?;
+    }
+    Ok(files)
+}
+
+/// The skipped files that could change what is answered to requests of the word at a label.
+fn files_changing(
+    alloc: Global,
+    part: Part<'_>,
+    label: Label,
+    word: &Word,
+) -> Result<Vec<SkippedAt>, AllocError>
+    ensures { IfOk result (λ files. placed_all files.items ≡ files_changing part.entry label word.now) }
+{
+    match part.decided.policies.get(0) {
+        Some(compiled) => files_changing_in(alloc, part.skipped, label, word, compiled),
+        None => Ok(Vec::new(alloc)),
+    }
+}
+
+/// The skipped files that may have a profile which a claim of these words is about.
+fn files_concerned(
+    alloc: Global,
+    words: &[ClaimWord],
+    part: Part<'_>,
+) -> Result<Vec<SkippedAt>, AllocError>
+    ensures { IfOk result (λ files. placed_all files.items ≡ files_concerned words.now part.entry) }
+{
+    let mut files = Vec::new(alloc);
+    for file in part.skipped {
+        let may = may_concern(alloc, words, file)?;
+        push_if(alloc, &mut files, may, file)?;
+    }
+    Ok(files)
+}
+
+/// By whom a claim is broken, where no file could decide the request that breaks it.
+fn push_found(
+    list: &mut Vec<Finding>,
+    files: &[SkippedAt],
+    finding: Finding,
+) -> Result<(), AllocError>
+    ensures { OnOk result (map found list.new.items ≡ found_by (placed_all files.now) (map found list.old.items) (found finding)) }
+{
+    match files {
+        [] => {
+            list.push(finding)?;
+            Ok(())
+        }
+        [_, ..] => Ok(()),
+    }
+}
+
+/// Adds by whom a claim is broken, by that request.
+fn push_broken(
+    findings: &mut Findings,
+    alloc: Global,
+    part: Part<'_>,
+    label: Label,
+    request: &Request,
+) -> Result<(), AllocError>
+    ensures { OnOk result (all_found findings.new ≡ with_judged part.entry label (all_found findings.old) (Judgement.Broken request.now)) }
+{
+    let verdict = verdict_of(alloc, part.decided, label, request)?;
+    let complains = complains_at(part.decided.policies, label);
+    let files = files_deciding(alloc, part.decided.policies, part.skipped, label, request)?;
+    let finding = Finding::ByRequest(complains, verdict);
+    push_found(&mut findings.list, files.as_slice(), finding)
+}
+
 /// Adds what is judged at a label.
 fn push_judged(
     findings: &mut Findings,
     alloc: Global,
-    decided: Decided<'_>,
+    part: Part<'_>,
     label: Label,
     judgement: &Judgement,
 ) -> Result<(), AllocError>
-    ensures { OnOk result (all_found findings.new ≡ with_judged decided.entry label (all_found findings.old) judgement.now) }
+    ensures { OnOk result (all_found findings.new ≡ with_judged part.entry label (all_found findings.old) judgement.now) }
 {
     match judgement {
-        Judgement::Broken(request) => {
-            let verdict = verdict_of(alloc, decided, label, request)?;
-            let complains = complains_at(decided.policies, label);
-            findings.list.push(Finding::ByRequest(complains, verdict))?;
-            Ok(())
-        }
+        Judgement::Broken(request) => push_broken(findings, alloc, part, label, request),
         Judgement::Holds(_) => Ok(()),
         Judgement::Untold(line) => {
             let line = line.as_slice();
-            push_untold(&mut findings.untold, alloc, decided.policies, label, line)
+            let policies = part.decided.policies;
+            push_untold(&mut findings.untold, alloc, policies, label, line)
         }
     }
+}
+
+/// Takes the first list that isn't empty.
+fn or_else(list: &mut Vec<SkippedAt>, others: Vec<SkippedAt>)
+    ensures { placed_all list.new.items ≡ or_else (placed_all list.old.items) (placed_all others.items) }
+{
+    match list.as_slice() {
+        [] => *list = others,
+        [_, ..] => {}
+    }
+}
+
+/// Adds what is judged at a label, and files that could change the answers.
+fn push_judged_beside(
+    findings: &mut Findings,
+    alloc: Global,
+    part: Part<'_>,
+    label: Label,
+    word: &Word,
+    judgement: &Judgement,
+) -> Result<(), AllocError>
+    ensures { OnOk result (all_found findings.new ≡ with_doubt (files_changing part.entry label word.now) (with_judged part.entry label (all_found findings.old) judgement.now)) }
+{
+    push_judged(findings, alloc, part, label, judgement)?;
+    let files = files_changing(alloc, part, label, word)?;
+    or_else(&mut findings.doubt, files);
+    Ok(())
 }
 
 /// Why a claim isn't answered, by why its word isn't.
@@ -90,25 +213,25 @@ fn fault_of(word: &ClaimWord, fault: &WhoFault) -> ClaimFault
 fn push_at(
     findings: &mut Findings,
     alloc: Global,
-    decided: Decided<'_>,
+    part: Part<'_>,
     claim: Claim<'_>,
     label: Label,
     against: bool,
     word: &Word,
 ) -> Result<(), ClaimFault>
-    ensures added { OnOk result (AddsJudged decided.entry (limit_of claim.entry.states) label against word.now claim.entry.word.now.text.items (all_found findings.old) (all_found findings.new)) }
+    ensures added { OnOk result (AddsJudged part.entry (limit_of claim.entry.states) label against word.now claim.entry.word.now.text.items (all_found findings.old) (all_found findings.new)) }
     ensures refused { IfErr result (λ e. SaysAt (IsNoPath claim.entry.word.now word.now) e) }
 {
     match judge(
         alloc,
-        decided.policies,
+        part.decided.policies,
         claim.states,
         label,
         against,
         word,
         claim.word.text.as_slice(),
     ) {
-        Ok(judgement) => Ok(push_judged(findings, alloc, decided, label, &judgement)?),
+        Ok(judgement) => Ok(push_judged_beside(findings, alloc, part, label, word, &judgement)?),
         Err(fault) => Err(fault_of(claim.word, &fault)),
     }
 }
@@ -132,18 +255,18 @@ fn push_complaining(
 fn push_profile(
     findings: &mut Findings,
     alloc: Global,
-    decided: Decided<'_>,
+    part: Part<'_>,
     claim: Claim<'_>,
     number: u16,
     profile: &Profile,
 ) -> Result<(), ClaimFault>
-    ensures added { OnOk result (AddsProfile decided.entry (limit_of claim.entry.states) claim.entry.asked.now claim.entry.word.now.text.items number profile.now (all_found findings.old) (all_found findings.new)) }
+    ensures added { OnOk result (AddsProfile part.entry (limit_of claim.entry.states) claim.entry.asked.now claim.entry.word.now.text.items number profile.now (all_found findings.old) (all_found findings.new)) }
     ensures refused { IfErr result (λ e. SaysAt (AsksNoPath claim.entry.word.now claim.entry.asked.now) e) }
 {
     let label = Label::Confined(0, number);
     match claim.asked {
-        Asked::Never(word) => push_at(findings, alloc, decided, claim, label, true, word),
-        Asked::Always(word) => push_at(findings, alloc, decided, claim, label, false, word),
+        Asked::Never(word) => push_at(findings, alloc, part, claim, label, true, word),
+        Asked::Always(word) => push_at(findings, alloc, part, claim, label, false, word),
         Asked::Enforced => Ok(push_complaining(findings, alloc, profile)?),
     }
 }
@@ -152,16 +275,16 @@ fn push_profile(
 fn push_free(
     findings: &mut Findings,
     alloc: Global,
-    decided: Decided<'_>,
+    part: Part<'_>,
     claim: Claim<'_>,
 ) -> Result<(), ClaimFault>
-    ensures added { OnOk result (AddsFree decided.entry (limit_of claim.entry.states) claim.entry.asked.now claim.entry.word.now.text.items (all_found findings.old) (all_found findings.new)) }
+    ensures added { OnOk result (AddsFree part.entry (limit_of claim.entry.states) claim.entry.asked.now claim.entry.word.now.text.items (all_found findings.old) (all_found findings.new)) }
     ensures refused { IfErr result (λ e. SaysAt (AsksNoPath claim.entry.word.now claim.entry.asked.now) e) }
 {
     let label = Label::Unconfined(0);
     match claim.asked {
-        Asked::Never(word) => push_at(findings, alloc, decided, claim, label, true, word),
-        Asked::Always(word) => push_at(findings, alloc, decided, claim, label, false, word),
+        Asked::Never(word) => push_at(findings, alloc, part, claim, label, true, word),
+        Asked::Always(word) => push_at(findings, alloc, part, claim, label, false, word),
         Asked::Enforced => Ok(()),
     }
 }
@@ -192,65 +315,66 @@ fn is_passed(
 fn push_number(
     findings: &mut Findings,
     alloc: Global,
-    decided: Decided<'_>,
+    part: Part<'_>,
     claim: Claim<'_>,
     number: u16,
 ) -> Result<(), ClaimFault>
-    ensures added { OnOk result (AddsAt claim.entry.is_first decided.entry (limit_of claim.entry.states) claim.entry.words.now claim.entry.asked.now claim.entry.word.now.text.items number (all_found findings.old) (all_found findings.new)) }
+    ensures added { OnOk result (AddsAt claim.entry.is_first part.entry (limit_of claim.entry.states) claim.entry.words.now claim.entry.asked.now claim.entry.word.now.text.items number (all_found findings.old) (all_found findings.new)) }
     ensures refused { IfErr result (λ e. SaysAt (AsksNoPath claim.entry.word.now claim.entry.asked.now) e) }
 {
-    let Some(profile) = profile_of(decided.policies, 0, number) else {
+    let Some(profile) = profile_of(part.decided.policies, 0, number) else {
         return Ok(());
     };
     if is_passed(alloc, claim, profile, findings)? {
         return Ok(());
     }
-    push_profile(findings, alloc, decided, claim, number, profile)
+    push_profile(findings, alloc, part, claim, number, profile)
 }
 
-/// Nobody yet.
-fn nobody(alloc: Global) -> Findings
-    ensures { all_found result ≡ nobody }
+/// Nobody yet, but for files that may have a profile which the claim is about.
+fn nobody(alloc: Global, part: Part<'_>, claim: Claim<'_>) -> Result<Findings, AllocError>
+    ensures { IfOk result (λ fs. all_found fs ≡ nobody claim.entry.words.now part.entry) }
 {
-    Findings {
+    Ok(Findings {
         list: Vec::new(alloc),
         untold: Vec::new(alloc),
-    }
+        doubt: files_concerned(alloc, claim.words, part)?,
+    })
 }
 
 /// Whether a claim is broken by tasks without a profile.
-fn found_free(alloc: Global, decided: Decided<'_>, claim: Claim<'_>) -> Result<Findings, ClaimFault>
-    ensures found { IfOk result (λ fs. AddsFree decided.entry (limit_of claim.entry.states) claim.entry.asked.now claim.entry.word.now.text.items nobody (all_found fs)) }
+fn found_free(alloc: Global, part: Part<'_>, claim: Claim<'_>) -> Result<Findings, ClaimFault>
+    ensures found { IfOk result (λ fs. AddsFree part.entry (limit_of claim.entry.states) claim.entry.asked.now claim.entry.word.now.text.items (nobody claim.entry.words.now part.entry) (all_found fs)) }
     ensures refused { IfErr result (λ e. SaysAt (AsksNoPath claim.entry.word.now claim.entry.asked.now) e) }
 {
-    let mut findings = nobody(alloc);
-    push_free(&mut findings, alloc, decided, claim)?;
+    let mut findings = nobody(alloc, part, claim)?;
+    push_free(&mut findings, alloc, part, claim)?;
     Ok(findings)
 }
 
 /// Whether a claim is broken by tasks without a profile, where it is about them.
-fn started(alloc: Global, decided: Decided<'_>, claim: Claim<'_>) -> Result<Findings, ClaimFault>
-    ensures found { IfOk result (λ fs. IsFreeIf (is_about_free claim.entry.words.now) decided.entry (limit_of claim.entry.states) claim.entry.asked.now claim.entry.word.now.text.items (all_found fs)) }
+fn started(alloc: Global, part: Part<'_>, claim: Claim<'_>) -> Result<Findings, ClaimFault>
+    ensures found { IfOk result (λ fs. IsFreeIf (is_about_free claim.entry.words.now) part.entry (limit_of claim.entry.states) claim.entry.words.now claim.entry.asked.now claim.entry.word.now.text.items (all_found fs)) }
     ensures refused { IfErr result (λ e. SaysAt (AsksNoPath claim.entry.word.now claim.entry.asked.now) e) }
 {
     if is_about_free(claim.words) {
-        return found_free(alloc, decided, claim);
+        return found_free(alloc, part, claim);
     }
-    Ok(nobody(alloc))
+    Ok(nobody(alloc, part, claim)?)
 }
 
 /// By whom a claim is broken: tasks without a profile, and profiles in their order.
 pub(crate) fn findings_of(
     alloc: Global,
-    decided: Decided<'_>,
+    part: Part<'_>,
     claim: Claim<'_>,
 ) -> Result<Findings, ClaimFault>
-    ensures found { IfOk result (λ fs. AreFound claim.entry.is_first decided.entry (limit_of claim.entry.states) claim.entry.words.now claim.entry.asked.now claim.entry.word.now.text.items (count_of decided.entry.policies.now) (all_found fs)) }
+    ensures found { IfOk result (λ fs. AreFound claim.entry.is_first part.entry (limit_of claim.entry.states) claim.entry.words.now claim.entry.asked.now claim.entry.word.now.text.items (count_of part.entry.decided.policies.now) (all_found fs)) }
     ensures refused { IfErr result (λ e. SaysAt (AsksNoPath claim.entry.word.now claim.entry.asked.now) e) }
 {
-    let mut findings = started(alloc, decided, claim)?;
-    for number in 0..count_of(decided.policies) {
-        push_number(&mut findings, alloc, decided, claim, number)?;
+    let mut findings = started(alloc, part, claim)?;
+    for number in 0..count_of(part.decided.policies) {
+        push_number(&mut findings, alloc, part, claim, number)?;
     }
     Ok(findings)
 }

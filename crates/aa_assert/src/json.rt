@@ -4,17 +4,20 @@ ghost use Rattle.std.specs.Prelude.{◌≡◌, ◌++◌, codes, map, option_map,
 ghost use Rattle.aa_text.specs.Jsons.{key_text, member_text, list_text};
 ghost use Rattle.aa_ask.specs.Told.{told};
 ghost use Rattle.aa_who.specs.Untold.{json_asker};
+ghost use Rattle.aa_undecided.specs.Answers.{placed_all};
 ghost use Rattle.aa_assert.specs.Findings.{found, ByRequest, Complaining};
 ghost use Rattle.aa_assert.specs.Answers.{answered};
 ghost use Rattle.aa_assert.specs.Json.{json_whose, json_found, json_broken, json_answer, json_answers};
 
 use crate::answering::Answer;
 use crate::finding::Finding;
+use crate::shown::files_open;
 use aa_ask::Verdict;
 use aa_text::{
     ToJson, push_json_bytes, push_key, push_list, push_list_member, push_member, push_number,
     push_text,
 };
+use aa_undecided::{SkippedAt, push_files_member};
 use aa_who::push_untold_member;
 use std::alloc::{AllocError, Global};
 
@@ -123,6 +126,7 @@ impl ToJson for Answer {
     fn push_json(&self, out: &mut Vec<u8>, alloc: Global) -> Result<(), AllocError> {
         push_answer(out, alloc, self)?;
         push_untold_member(out, alloc, self.findings.untold.as_slice())?;
+        push_files_member(out, alloc, files_open(self))?;
         push_text(out, "}")
     }
 }
@@ -143,17 +147,19 @@ fn push_claims(out: &mut Vec<u8>, alloc: Global, answers: &[Answer]) -> Result<(
     push_all(out, alloc, answers)
 }
 
-/// Appends the answers as one JSON object, with how many rules decide nothing, and a line end.
+/// Appends the answers as one JSON object, with how many rules decide nothing and the files that are skipped, and a line end.
 #[tactic(auto, unfolding(crate::specs::Json::json_answers))]
 pub(crate) fn push_json_answers(
     out: &mut Vec<u8>,
     alloc: Global,
     passed: usize,
+    skipped: &[SkippedAt],
     answers: &[Answer],
 ) -> Result<(), AllocError>
-    ensures { OnOk result (out.new.items ≡ out.old.items ++ json_answers passed (map answered answers.now)) }
+    ensures { OnOk result (out.new.items ≡ out.old.items ++ json_answers passed (placed_all skipped.now) (map answered answers.now)) }
 {
     push_claims(out, alloc, answers)?;
     push_member(out, alloc, "passed_over", &passed)?;
+    push_files_member(out, alloc, skipped)?;
     push_text(out, "}\n")
 }

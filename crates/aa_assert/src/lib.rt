@@ -8,8 +8,11 @@ mod enforced;
 mod finding;
 mod json;
 mod judging;
+mod laws;
 mod names;
+mod part;
 mod scope;
 mod shown;
 
 pub use command::{AssertOptions, assert_files};
+pub use laws::claims_are_sound;

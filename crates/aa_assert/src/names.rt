@@ -3,7 +3,7 @@
 ghost use Rattle.std.specs.Prelude.{◌≡◌, map, false, IfOk};
 ghost use Rattle.std.specs.List.{list_any};
 ghost use Rattle.aa_claims.specs.declared.words.ClaimWord.{ClaimWord};
-ghost use Rattle.aa_assert.specs.Names.{name_item, is_in_digits, names};
+ghost use Rattle.aa_assert.specs.Names.{name_item, is_in_digits, names, may_begin, begins_in_digits, may_name, covers};
 
 use aa_ask::name_in_digits;
 use aa_claims::ClaimWord;
@@ -66,4 +66,91 @@ pub(crate) fn is_one_named(
         }
     }
     Ok(false)
+}
+
+/// Whether a word of these bytes may stand for a name that begins so.
+fn may_begin(front: &[u8], text: &[u8]) -> bool
+    ensures { result ≡ may_begin front.now text.now }
+{
+    let mut behind = front;
+    let mut rest = text;
+    while let [c, after @ ..] = behind {
+        let [b, others @ ..] = rest else {
+            return false;
+        };
+        if *b == b'*' {
+            return true;
+        }
+        if *b != *c {
+            return false;
+        }
+        behind = after;
+        rest = others;
+    }
+    true
+}
+
+/// Whether the name that stands in hexadecimal digits begins so.
+fn begins_in_digits(alloc: Global, digits: &[u8], front: &[u8]) -> Result<bool, AllocError>
+    ensures { IfOk result (λ is. is ≡ begins_in_digits digits.now front.now) }
+{
+    match name_in_digits(alloc, digits)? {
+        Some(name) => Ok(name.as_slice().starts_with(front)),
+        None => Ok(false),
+    }
+}
+
+/// Whether a word of a claim may stand for a full name that begins so.
+pub(crate) fn may_name(alloc: Global, word: &ClaimWord, front: &[u8]) -> Result<bool, AllocError>
+    ensures { IfOk result (λ may. may ≡ may_name word.now front.now) }
+{
+    if may_begin(front, word.text.as_slice()) {
+        return Ok(true);
+    }
+    Ok(!word.is_quoted && begins_in_digits(alloc, word.text.as_slice(), front)?)
+}
+
+/// Whether one of the words may.
+pub(crate) fn one_may_name(
+    alloc: Global,
+    words: &[ClaimWord],
+    front: &[u8],
+) -> Result<bool, AllocError>
+    ensures { IfOk result (λ may. may ≡ list_any (λ (w : ClaimWord). may_name w front.now) words.now) }
+{
+    for word in words {
+        if may_name(alloc, word, front)? {
+            return Ok(true);
+        }
+    }
+    Ok(false)
+}
+
+/// Whether a text ends with a `*`, and what stands before it stands for a front of this one.
+fn covers(text: &[u8], front: &[u8]) -> bool
+    ensures { result ≡ covers text.now front.now }
+{
+    let mut rest = text;
+    let mut behind = front;
+    while let [b, others @ ..] = rest {
+        if others.is_empty() {
+            return *b == b'*';
+        }
+        let [d, after @ ..] = behind else {
+            return false;
+        };
+        if *b != *d {
+            return false;
+        }
+        rest = others;
+        behind = after;
+    }
+    false
+}
+
+/// Whether one of the words stands for each name that begins so.
+pub(crate) fn one_covers(words: &[ClaimWord], front: &[u8]) -> bool
+    ensures { result ≡ list_any (λ (w : ClaimWord). covers w.text.items front.now) words.now }
+{
+    words.iter().any(|word| covers(word.text.as_slice(), front))
 }

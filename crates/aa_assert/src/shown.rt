@@ -2,14 +2,16 @@
 
 ghost use Rattle.std.specs.Prelude.{◌≡◌, ◌++◌, map, flat_map, option_map, count_by, OnOk};
 ghost use Rattle.aa_ask.specs.Told.{told};
+ghost use Rattle.aa_undecided.specs.Answers.{placed_all};
 ghost use Rattle.aa_assert.specs.Findings.{found, ByRequest, Complaining};
 ghost use Rattle.aa_assert.specs.Answers.{answered};
-ghost use Rattle.aa_assert.specs.Shown.{asker_text, broken_text, by_text, finding_text, answer_text, is_broken, count_line, untold_text, answers_text};
+ghost use Rattle.aa_assert.specs.Shown.{asker_text, broken_text, by_text, finding_text, is_broken, files_open, is_undecided, undecided_text, doubt_text, answer_text, undecided_count, count_line, untold_text, answers_text};
 
 use crate::answering::Answer;
 use crate::finding::Finding;
 use aa_ask::{Verdict, push_reasons};
 use aa_text::{push_name, push_number, push_text, push_visible};
+use aa_undecided::{SkippedAt, push_reason};
 use aa_who::{push_complains, push_untold_lines};
 use std::alloc::{AllocError, Global};
 
@@ -96,6 +98,51 @@ fn push_findings(
     Ok(())
 }
 
+/// Whether somebody breaks a claim.
+fn is_broken(answer: &Answer) -> bool
+    ensures { result ≡ is_broken (answered answer.now) }
+{
+    !answer.findings.list.is_empty()
+}
+
+/// The skipped files that could break a claim, where nobody does.
+pub(crate) fn files_open(answer: &Answer) -> &[SkippedAt]
+    ensures { placed_all result.now ≡ files_open (answered answer.now) }
+{
+    if is_broken(answer) {
+        return &[];
+    }
+    answer.findings.doubt.as_slice()
+}
+
+#[tactic(auto, unfolding(crate::specs::Shown::undecided_text))]
+fn push_undecided(out: &mut Vec<u8>, path: &[u8], number: usize) -> Result<(), AllocError>
+    ensures { OnOk result (out.new.items ≡ out.old.items ++ undecided_text path.now number) }
+{
+    push_visible(out, path)?;
+    push_text(out, ":")?;
+    push_number(out, number)?;
+    push_text(out, ": undecided\n")
+}
+
+/// Appends that a claim is undecided, and by which files, where there are some.
+fn push_doubt(
+    out: &mut Vec<u8>,
+    path: &[u8],
+    number: usize,
+    files: &[SkippedAt],
+) -> Result<(), AllocError>
+    ensures { OnOk result (out.new.items ≡ out.old.items ++ doubt_text path.now number (placed_all files.now)) }
+{
+    match files {
+        [] => Ok(()),
+        [_, ..] => {
+            push_undecided(out, path, number)?;
+            push_reason(out, files)
+        }
+    }
+}
+
 fn push_answer(
     out: &mut Vec<u8>,
     alloc: Global,
@@ -105,7 +152,8 @@ fn push_answer(
     ensures { OnOk result (out.new.items ≡ out.old.items ++ answer_text path.now (answered answer.now)) }
 {
     let findings = answer.findings.list.as_slice();
-    push_findings(out, alloc, path, answer.number, findings)
+    push_findings(out, alloc, path, answer.number, findings)?;
+    push_doubt(out, path, answer.number, files_open(answer))
 }
 
 fn push_all(
@@ -122,13 +170,6 @@ fn push_all(
     Ok(())
 }
 
-/// Whether somebody breaks a claim.
-fn is_broken(answer: &Answer) -> bool
-    ensures { result ≡ is_broken (answered answer.now) }
-{
-    !answer.findings.list.is_empty()
-}
-
 fn count_if_broken(answers: &[Answer]) -> usize
     ensures { result ≡ count_by (λ a. is_broken (answered a)) answers.now }
 {
@@ -142,6 +183,41 @@ pub(crate) fn count_broken(answers: &[Answer]) -> usize
     count_if_broken(answers)
 }
 
+/// Whether nobody breaks a claim, and skipped files could.
+fn is_undecided(answer: &Answer) -> bool
+    ensures { result ≡ is_undecided (answered answer.now) }
+{
+    match files_open(answer) {
+        [] => false,
+        [_, ..] => true,
+    }
+}
+
+fn count_if_undecided(answers: &[Answer]) -> usize
+    ensures { result ≡ count_by (λ a. is_undecided (answered a)) answers.now }
+{
+    answers.iter().filter(|answer| is_undecided(answer)).count()
+}
+
+/// How many claims are undecided.
+pub(crate) fn count_undecided(answers: &[Answer]) -> usize
+    ensures { result ≡ count_by is_undecided (map answered answers.now) }
+{
+    count_if_undecided(answers)
+}
+
+/// Appends how many claims are undecided, if some are.
+fn push_undecided_count(out: &mut Vec<u8>, count: usize) -> Result<(), AllocError>
+    ensures { OnOk result (out.new.items ≡ out.old.items ++ undecided_count count) }
+{
+    if count == 0 {
+        return Ok(());
+    }
+    push_text(out, " ")?;
+    push_number(out, count)?;
+    push_text(out, " undecided")
+}
+
 #[tactic(auto, unfolding(crate::specs::Shown::count_line))]
 fn push_count(out: &mut Vec<u8>, answers: &[Answer]) -> Result<(), AllocError>
     ensures { OnOk result (out.new.items ≡ out.old.items ++ count_line (map answered answers.now)) }
@@ -149,7 +225,9 @@ fn push_count(out: &mut Vec<u8>, answers: &[Answer]) -> Result<(), AllocError>
     push_number(out, answers.len())?;
     push_text(out, " claims ")?;
     push_number(out, count_broken(answers))?;
-    push_text(out, " broken\n")
+    push_text(out, " broken")?;
+    push_undecided_count(out, count_undecided(answers))?;
+    push_text(out, "\n")
 }
 
 /// Appends of all answers the lines on what can't be told.

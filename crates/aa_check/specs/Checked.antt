@@ -1,6 +1,6 @@
 -- What is found of each file that the command line names.
 -- Source: own.
-use Rattle.std.specs.Prelude.{ℕ, ◌≡◌, List, [], ◌∷◌, ◌++◌, ◌&&◌, length, count_by, sum_by, is_some, is_none, unwrap_or, option_to_list, codes, Bool, false, if◌then◌else◌, Option, Some, None, ◌⊎◌}
+use Rattle.std.specs.Prelude.{ℕ, ◌≡◌, List, [], ◌∷◌, ◌++◌, ◌&&◌, length, count_by, sum_by, is_some, is_none, unwrap_or, codes, Bool, false, if◌then◌else◌, Option, Some, None, ◌⊎◌}
 use Rattle.std.specs.List.{list_any}
 use Rattle.aa_base.specs.declared.fault.PolicyFault.{PolicyFault}
 use Rattle.aa_model.specs.declared.policy.Policy.{Policy}
@@ -100,15 +100,10 @@ pub record IsUntold (s : Setting) (arguments : List (List ℕ)) (r : CheckReport
   pub why : IsRootFault s.files s.taken s.base arguments e
   pub told : HasOneRefused e r
 
--- what is warned of where there is no file
-abbrev pub none_there : List (List ℕ) → Option (List ℕ)
-none_there [] = Some (codes "no file with profiles is there")
-none_there (path ∷ paths) = None
-
 -- what is found of the files at some paths, with warnings of others, and of there being none
 pub record AreChecked (s : Setting) (paths warnings : List (List ℕ)) (r : CheckReport) : Type 0 where
   pub found : AreFound s [] paths r.files.items
-  pub warned : texts r.warnings.items ≡ warnings ++ option_to_list (none_there paths)
+  pub warned : texts r.warnings.items ≡ warnings
 
 -- what is found of the files that the arguments stand for, or why these can't be told; and the counts of all
 pub record IsChecked (s : Setting) (arguments : List (List ℕ)) (r : CheckReport) : Type 0 where

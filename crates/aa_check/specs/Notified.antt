@@ -6,9 +6,9 @@ use Rattle.aa_check.specs.declared.sarif.Found.{Found}
 use Rattle.aa_check.specs.declared.sarif.RelatedPlace.{RelatedPlace}
 use Rattle.aa_check.specs.Sarif.{result_text, notification_text, link_text}
 
--- the texts of the warnings in a list
+-- the texts of the notifications in a list
 abbrev pub notified : List Notification → List (List ℕ)
-notified list = map (λ (n : Notification). notification_text n.bytes.now) list
+notified list = map (λ (n : Notification). notification_text n.level n.bytes.now) list
 
 -- the texts of the includes in a list
 abbrev pub related : List RelatedPlace → List (List ℕ)

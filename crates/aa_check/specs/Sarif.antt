@@ -7,6 +7,8 @@ use Rattle.aa_text.specs.Jsons.{json_text, json_bytes, key_text, bool_text, memb
 use Rattle.aa_text.specs.declared.position.PlaceAt.{PlaceAt}
 use Rattle.aa_text.specs.declared.fault.Link.{Link}
 use Rattle.aa_text.specs.declared.fault.FaultReport.{FaultReport}
+use Rattle.aa_check.specs.declared.sarif.Level.{Level}
+use Rattle.aa_check.specs.declared.sarif.Level.TheVariants.{Error, Warning}
 use Rattle.aa_check.specs.declared.report.FileReport.{FileReport}
 use Rattle.aa_check.specs.declared.report.CheckReport.{CheckReport}
 
@@ -66,7 +68,7 @@ place_member path place =
     key_text (codes "physicalLocation") ++ codes "{" ++ key_text (codes "artifactLocation") ++ codes "{" ++ key_text (codes "uri")
     ++ uri_text path ++ codes "}" ++ region_member place ++ codes "}"
 
--- where a fault is
+-- where a result is
 unfoldable pub location_text : List ℕ → Option PlaceAt → List ℕ
 location_text path place = codes "[{" ++ place_member path place ++ codes "}]"
 
@@ -78,9 +80,14 @@ link_text l = codes "{" ++ place_member l.path.items (Some l.place) ++ member_te
 unfoldable pub links_member : List Link → List ℕ
 links_member links = member_text (codes "relatedLocations") (list_text (map link_text links))
 
--- the kind of a fault
-unfoldable pub rule_members : List ℕ → List ℕ
-rule_members kind = codes "{" ++ key_text (codes "ruleId") ++ json_text kind ++ member_text (codes "level") (codes "\"error\"")
+-- how grave a result or a notification is
+abbrev pub level_text : Level → List ℕ
+level_text Error = codes "\"error\""
+level_text Warning = codes "\"warning\""
+
+-- the kind of a result, and how grave it is
+unfoldable pub rule_members : Level → List ℕ → List ℕ
+rule_members level kind = codes "{" ++ key_text (codes "ruleId") ++ json_text kind ++ member_text (codes "level") (level_text level)
 
 -- what a fault is and where
 unfoldable pub fault_members : FaultReport → List ℕ
@@ -88,19 +95,19 @@ fault_members f = member_text (codes "message") (message_text f.message.items) +
 
 -- a fault, with the includes on the way to it
 unfoldable pub result_text : FaultReport → List ℕ
-result_text f = rule_members f.kind.now ++ fault_members f ++ links_member f.chain.items ++ codes "}"
+result_text f = rule_members Error f.kind.now ++ fault_members f ++ links_member f.chain.items ++ codes "}"
 
 -- the results of a file: its first fault, if it has one, and those behind it
 abbrev pub results_of : FileReport → List (List ℕ)
 results_of f = map result_text (option_to_list f.fault) ++ map result_text f.further.items
 
--- a warning
-unfoldable pub notification_text : List ℕ → List ℕ
-notification_text warning = codes "{" ++ key_text (codes "level") ++ codes "\"warning\"" ++ member_text (codes "message") (message_text warning) ++ codes "}"
+-- what is told of a run besides its results
+unfoldable pub notification_text : Level → List ℕ → List ℕ
+notification_text level bytes = codes "{" ++ key_text (codes "level") ++ level_text level ++ member_text (codes "message") (message_text bytes) ++ codes "}"
 
 -- warnings
 abbrev pub notifications : List (Vec ℕ Global) → List (List ℕ)
-notifications warnings = map (λ (w : Vec ℕ Global). notification_text w.items) warnings
+notifications warnings = map (λ (w : Vec ℕ Global). notification_text Warning w.items) warnings
 
 -- all warnings: those of no file's own, and then each file's
 abbrev pub all_notifications : CheckReport → List (List ℕ)
@@ -110,15 +117,15 @@ all_notifications r = notifications r.warnings.items ++ flat_map (λ (f : FileRe
 unfoldable pub results_member : List FileReport → List ℕ
 results_member files = member_text (codes "results") (list_text (flat_map results_of files))
 
--- what is warned of, as the first member of an object
+-- what is told besides, as the first member of an object
 unfoldable pub notifications_member : List (List ℕ) → List ℕ
 notifications_member warnings = key_text (codes "toolExecutionNotifications") ++ list_text warnings
 
--- how checking went: what is warned of, and whether all could be read
+-- how a run went: what is told besides, and whether all could be looked at
 unfoldable pub invocations_text : Bool → List (List ℕ) → List ℕ
 invocations_text is_successful warnings = codes "[{" ++ notifications_member warnings ++ member_text (codes "executionSuccessful") (bool_text is_successful) ++ codes "}]"
 
--- what stands before the findings
+-- what stands before the results
 unfoldable pub sarif_head : List ℕ
 sarif_head =
     codes "{\"$schema\":\"https://json.schemastore.org/sarif-2.1.0.json\",\"version\":\"2.1.0\",\"runs\":[{\"tool\":{\"driver\":{\"name\":\"aapolicy\"}},\"columnKind\":\"unicodeCodePoints\""

@@ -1,6 +1,6 @@
 //! What `check` finds.
 
-ghost use Rattle.std.specs.Prelude.{◌≡◌, ◌≢◌, ◌↔◌, ◌≤◌, ◌++◌, ◌∷◌, ℕ, List, [], None, false, length, count_by, sum_by, is_some, unwrap_or, option_map, option_to_list, codes, All, IsTrue, IfOk, OnOk};
+ghost use Rattle.std.specs.Prelude.{◌≡◌, ◌≢◌, ◌↔◌, ◌≤◌, ◌++◌, ◌∷◌, ℕ, List, [], None, false, length, count_by, sum_by, is_some, unwrap_or, option_map, codes, All, IsTrue, IfOk, OnOk};
 ghost use Rattle.std.specs.List.{list_any};
 ghost use Rattle.aa_base.specs.declared.fault.PolicyKind.TheVariants.{NoMemory as WantOfMemory};
 ghost use Rattle.aa_files.specs.Texts.{texts, slices};
@@ -11,17 +11,17 @@ ghost use Rattle.aa_check.specs.Names.{IsFirst};
 ghost use Rattle.aa_command.specs.Setting.{setting_of};
 ghost use Rattle.aa_diagnostics.specs.Reports.{IsSaid};
 ghost use Rattle.aa_faults.specs.Further.{AreFurther};
-ghost use Rattle.aa_check.specs.Checked.{most_further, held_by, TellsHeld, is_untold, HasFault, HasOnly, none_there, IsFoundOf, IsFound, AreFound, CountsFiles, HasOneRefused, IsChecked};
+ghost use Rattle.aa_check.specs.Checked.{most_further, held_by, TellsHeld, is_untold, HasFault, HasOnly, IsFoundOf, IsFound, AreFound, CountsFiles, HasOneRefused, IsChecked};
 
 use crate::counting::{PolicyCounts, count_policy};
 use crate::naming::{FirstFiles, warned};
 use crate::report::{CheckReport, FileReport};
 use aa_base::{PolicyFault, PolicyKind};
-use aa_command::Settings;
+use aa_command::{Settings, rooted};
 use aa_compile::Compiled;
 use aa_diagnostics::{describe, fault_of_unit, unreadable};
 use aa_faults::further_faults;
-use aa_files::{Tree, Unit, UnitFault, load, roots_of};
+use aa_files::{Tree, Unit, UnitFault, load};
 use aa_load::compile_unit;
 use aa_skipped::unread_of;
 use aa_skipping::Unread;
@@ -307,32 +307,6 @@ fn untold(alloc: Global, fault: UnitFault) -> Result<CheckReport, NoMemory>
     Ok(report_of(files, Vec::new(alloc)))
 }
 
-fn there_is_none(alloc: Global) -> Result<Vec<u8>, AllocError>
-    ensures { IfOk result (λ line. line.items ≡ codes "no file with profiles is there") }
-{
-    Vec::from_slice(alloc, "no file with profiles is there".as_bytes())
-}
-
-/// What is warned of where there is no file.
-fn none_line(alloc: Global, paths: &[Vec<u8>]) -> Result<Option<Vec<u8>>, AllocError>
-    ensures { IfOk result (λ line. option_map (λ l. l.items) line ≡ none_there (texts paths.now)) }
-{
-    match paths {
-        [] => Ok(Some(there_is_none(alloc)?)),
-        [_, ..] => Ok(None),
-    }
-}
-
-fn with_line(others: Vec<Vec<u8>>, line: Option<Vec<u8>>) -> Result<Vec<Vec<u8>>, AllocError>
-    ensures { IfOk result (λ warnings. texts warnings.items ≡ texts others.items ++ option_to_list (option_map (λ l. l.items) line)) }
-{
-    let mut warnings = others;
-    if let Some(line) = line {
-        warnings.push(line)?;
-    }
-    Ok(warnings)
-}
-
 /// Reads and compiles each file by itself.
 pub fn check<T: Tree>(
     alloc: Global,
@@ -342,12 +316,10 @@ pub fn check<T: Tree>(
 ) -> Result<CheckReport, NoMemory>
     ensures { IfOk result (λ r. IsChecked (setting_of (T.files tree.now) (T.taken tree.now) (T.input tree.now) settings.now) (texts arguments.now) r) }
 {
-    match roots_of(alloc, tree, settings.base, arguments) {
+    match rooted(alloc, tree, settings.base, arguments) {
         Ok(roots) => {
             let files = check_files(alloc, tree, settings, roots.paths.as_slice())?;
-            let line = none_line(alloc, roots.paths.as_slice())?;
-            let warnings = with_line(roots.warnings, line)?;
-            Ok(report_of(files, warnings))
+            Ok(report_of(files, roots.warnings))
         }
         Err(fault) => untold(alloc, fault),
     }

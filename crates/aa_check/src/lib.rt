@@ -20,4 +20,7 @@ pub use form::Form;
 pub use gcc::push_gcc_report;
 pub use jsons::push_json_report;
 pub use report::{CheckReport, FileReport, Passed, ProfileReport};
-pub use sarif::push_sarif_report;
+pub use sarif::{
+    Invocations, Level, Location, Message, Notification, push_rule_members, push_sarif_head,
+    push_sarif_report,
+};

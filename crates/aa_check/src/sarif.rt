@@ -2,7 +2,7 @@
 
 ghost use Rattle.std.specs.Prelude.{◌≡◌, ◌++◌, ◌<◌, not, map, flat_map, option_to_list, codes, OnOk, IfOk};
 ghost use Rattle.aa_text.specs.Jsons.{json_bytes, member_text};
-ghost use Rattle.aa_check.specs.Sarif.{is_alphanumeric, is_plain, capital_digit, uri_byte, scheme_of, uri_text, ascii_of, as_text, message_text, start_line, region_text, region_member, place_member, location_text, link_text, links_member, rule_members, fault_members, result_text, results_of, notification_text, notifications, all_notifications, results_member, notifications_member, invocations_text, sarif_head, sarif_report};
+ghost use Rattle.aa_check.specs.Sarif.{is_alphanumeric, is_plain, capital_digit, uri_byte, scheme_of, uri_text, ascii_of, as_text, message_text, start_line, region_text, region_member, place_member, location_text, link_text, links_member, level_text, rule_members, fault_members, result_text, results_of, notification_text, notifications, all_notifications, results_member, notifications_member, invocations_text, sarif_head, sarif_report};
 ghost use Rattle.aa_check.specs.Notified.{notified, related, found};
 
 use crate::report::{CheckReport, FileReport};
@@ -103,8 +103,8 @@ fn push_as_text(out: &mut Vec<u8>, alloc: Global, bytes: &[u8]) -> Result<(), Al
 
 /// A message.
 #[derive(Clone, Copy)]
-struct Message<'a> {
-    bytes: &'a [u8],
+pub struct Message<'a> {
+    pub bytes: &'a [u8],
 }
 
 impl ToJson for Message<'_> {
@@ -190,11 +190,11 @@ fn push_place_member(
     push_text(out, "}")
 }
 
-/// Where a fault is.
+/// Where a result is.
 #[derive(Clone, Copy)]
-struct Location<'a> {
-    path: &'a [u8],
-    place: Option<PlaceAt>,
+pub struct Location<'a> {
+    pub path: &'a [u8],
+    pub place: Option<PlaceAt>,
 }
 
 impl ToJson for Location<'_> {
@@ -262,31 +262,52 @@ fn push_fault_members(
     push_member(out, alloc, "locations", &Location { path, place })
 }
 
+/// How grave a result or a notification is.
+#[derive(Clone, Copy, Debug, PartialEq, Eq)]
+pub enum Level {
+    Error,
+    Warning,
+}
+
+fn level_text(level: Level) -> &'static str
+    ensures { result.now ≡ level_text level }
+{
+    match level {
+        Level::Error => "\"error\"",
+        Level::Warning => "\"warning\"",
+    }
+}
+
 #[tactic(auto, unfolding(aa_text::specs::Jsons::member_text))]
-fn push_error_level(out: &mut Vec<u8>) -> Result<(), AllocError>
-    ensures { OnOk result (out.new.items ≡ out.old.items ++ member_text (codes "level") (codes "\"error\"")) }
+fn push_level(out: &mut Vec<u8>, level: Level) -> Result<(), AllocError>
+    ensures { OnOk result (out.new.items ≡ out.old.items ++ member_text (codes "level") (level_text level)) }
 {
     push_text(out, ",")?;
     push_key(out, "level")?;
-    push_text(out, "\"error\"")
+    push_text(out, level_text(level))
 }
 
-/// Opens the object of a fault, and appends its kind.
+/// Opens the object of a result, and appends its kind and how grave it is.
 #[tactic(auto, unfolding(crate::specs::Sarif::rule_members))]
-fn push_rule_members(out: &mut Vec<u8>, alloc: Global, kind: &str) -> Result<(), AllocError>
-    ensures { OnOk result (out.new.items ≡ out.old.items ++ rule_members kind.now) }
+pub fn push_rule_members(
+    out: &mut Vec<u8>,
+    alloc: Global,
+    level: Level,
+    kind: &str,
+) -> Result<(), AllocError>
+    ensures { OnOk result (out.new.items ≡ out.old.items ++ rule_members level kind.now) }
 {
     push_text(out, "{")?;
     push_key(out, "ruleId")?;
     push_json_text(out, alloc, kind)?;
-    push_error_level(out)
+    push_level(out, level)
 }
 
 #[tactic(auto, unfolding(crate::specs::Sarif::result_text))]
 fn push_result(out: &mut Vec<u8>, alloc: Global, fault: &FaultReport) -> Result<(), AllocError>
     ensures { OnOk result (out.new.items ≡ out.old.items ++ result_text fault.now) }
 {
-    push_rule_members(out, alloc, fault.kind)?;
+    push_rule_members(out, alloc, Level::Error, fault.kind)?;
     push_fault_members(out, alloc, fault)?;
     push_links(out, alloc, fault.chain.as_slice())?;
     push_text(out, "}")
@@ -354,20 +375,21 @@ fn push_results(out: &mut Vec<u8>, alloc: Global, files: &[FileReport]) -> Resul
     push_list_member(out, alloc, "results", list.as_slice())
 }
 
-/// A warning.
+/// What is told of a run besides its results.
 #[derive(Clone, Copy)]
-struct Notification<'a> {
-    bytes: &'a [u8],
+pub struct Notification<'a> {
+    pub level: Level,
+    pub bytes: &'a [u8],
 }
 
 impl ToJson for Notification<'_> {
-    ghost json = { λ n. notification_text n.bytes.now };
+    ghost json = { λ n. notification_text n.level n.bytes.now };
 
     #[tactic(auto, unfolding(crate::specs::Sarif::notification_text))]
     fn push_json(&self, out: &mut Vec<u8>, alloc: Global) -> Result<(), AllocError> {
         push_text(out, "{")?;
         push_key(out, "level")?;
-        push_text(out, "\"warning\"")?;
+        push_text(out, level_text(self.level))?;
         let bytes = self.bytes;
         push_member(out, alloc, "message", &Message { bytes })?;
         push_text(out, "}")
@@ -381,8 +403,10 @@ fn add_notifications<'r>(
     ensures { OnOk result (notified list.new.items ≡ notified list.old.items ++ notifications warnings.now) }
 {
     for warning in warnings {
-        let bytes = warning.as_slice();
-        list.push(Notification { bytes })?;
+        list.push(Notification {
+            level: Level::Warning,
+            bytes: warning.as_slice(),
+        })?;
     }
     Ok(())
 }
@@ -402,7 +426,7 @@ fn all_notifications<'r>(
     Ok(list)
 }
 
-/// Appends what is warned of, as the first member of an object.
+/// Appends what is told besides, as the first member of an object.
 #[tactic(auto, unfolding(crate::specs::Sarif::notifications_member))]
 fn push_notifications(
     out: &mut Vec<u8>,
@@ -415,11 +439,11 @@ fn push_notifications(
     push_list(out, alloc, warnings)
 }
 
-/// How checking went: what is warned of, and whether all could be read.
+/// How a run went: whether all could be looked at, and what is told besides.
 #[derive(Clone, Copy)]
-struct Invocations<'w, 'b> {
-    is_successful: bool,
-    warnings: &'w [Notification<'b>],
+pub struct Invocations<'w, 'b> {
+    pub is_successful: bool,
+    pub warnings: &'w [Notification<'b>],
 }
 
 impl ToJson for Invocations<'_, '_> {
@@ -444,9 +468,9 @@ fn run_of<'w, 'b>(report: &CheckReport, warnings: &'w [Notification<'b>]) -> Inv
     }
 }
 
-/// Appends what stands before the findings.
+/// Appends what stands before the results of a SARIF log.
 #[tactic(auto, unfolding(crate::specs::Sarif::sarif_head))]
-fn push_sarif_head(out: &mut Vec<u8>) -> Result<(), AllocError>
+pub fn push_sarif_head(out: &mut Vec<u8>) -> Result<(), AllocError>
     ensures { OnOk result (out.new.items ≡ out.old.items ++ sarif_head) }
 {
     push_text(

@@ -1,6 +1,7 @@
 pub mod Placed
 pub mod Setting
 pub mod Printed
+pub mod Sayings
 pub mod Refusals
 pub mod Loads
 pub mod Policies

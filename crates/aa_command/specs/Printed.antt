@@ -31,7 +31,3 @@ fault_alone fault status = record { answers = []; faults = fault_text fault; ref
 -- a fault in JSON as the member of an object, and a line end; nothing where there is none
 unfoldable pub refusal_line : List ℕ → List ℕ
 refusal_line fault = if length fault == 0 then [] else codes "{\"fault\":" ++ (fault ++ codes "}\n")
-
--- what is printed where the answers are in JSON: behind them the fault, if there is one
-abbrev pub in_json : Printed → Printed
-in_json p = record { answers = p.answers ++ refusal_line p.refusal; faults = p.faults; refusal = []; status = p.status }

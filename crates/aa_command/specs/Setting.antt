@@ -1,6 +1,6 @@
 -- What the commands on files are told: where files lie, where includes are searched, and what that makes of the arguments.
 -- Source: own.
-use Rattle.std.specs.Prelude.{ℕ, ◌≡◌, ◌≤◌, List, length, Option, IfSome}
+use Rattle.std.specs.Prelude.{ℕ, ◌≡◌, ◌≤◌, List, [], ◌∷◌, ◌++◌, length, codes, Option, IfSome}
 use Rattle.aa_files.specs.Texts.{slices}
 use Rattle.aa_files.specs.declared.unit.Unit as unit
 use Rattle.aa_files.specs.Files.{Files, Taken}
@@ -28,8 +28,13 @@ pub record IsLoaded (s : Setting) (path : List ℕ) (u : unit.Unit) : Type 0 whe
   pub main : IsMainText s.files s.input path u.text.items
   pub unit_is : IsUnit s.files s.folders path u.text.items u
 
--- the files that the arguments stand for, and what people are told of others; exactly these, where it is known what lies there
+-- what is warned of where there is no file
+abbrev pub none_there : List (List ℕ) → List (List ℕ)
+none_there [] = codes "no file with profiles is there" ∷ []
+none_there (path ∷ paths) = []
+
+-- the files that the arguments stand for, and what people are told of others, or that there is none; exactly these, where it is known what lies there
 pub record AreRoots (s : Setting) (arguments paths warnings : List (List ℕ)) : Type 0 where
   pub few : length paths ≤ 4096
   pub paths_are : IfSome s.files (λ f. IfSome s.taken (λ t. paths ≡ root_paths f t s.base arguments))
-  pub warnings_are : IfSome s.files (λ f. IfSome s.taken (λ t. warnings ≡ root_lines f t s.base arguments))
+  pub warnings_are : IfSome s.files (λ f. IfSome s.taken (λ t. warnings ≡ root_lines f t s.base arguments ++ none_there paths))

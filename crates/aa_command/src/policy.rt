@@ -13,11 +13,12 @@ use crate::decided::Decided;
 use crate::output::Output;
 use crate::placed::place_units;
 use crate::refusals::{fault_refused, policy_refused, unit_refused};
+use crate::roots::rooted;
 use crate::settings::Settings;
 use crate::warnings::behind_warnings;
 use aa_base::{PolicyFault, PolicyKind};
 use aa_diagnostics::{describe_repeated, describe_together};
-use aa_files::{Tree, Unit, UnitFault, load, roots_of};
+use aa_files::{Tree, Unit, UnitFault, load};
 use aa_load::{LoadingFault, RepeatedName, Texts, load_policy, sources_of};
 use aa_text::NoMemory;
 use aa_words::Sources;
@@ -225,7 +226,7 @@ pub fn with_policy<T: Tree, U: Use>(
 ) -> Result<Output, NoMemory>
     ensures { IfOk result (λ out. IsPrintedFor (setting_of (T.files tree.now) (T.taken tree.now) (T.input tree.now) settings.now) (texts arguments.now) (U.gives user.now) (printed out)) }
 {
-    match roots_of(alloc, tree, settings.base, arguments) {
+    match rooted(alloc, tree, settings.base, arguments) {
         Ok(roots) => {
             let own = with_paths(alloc, tree, settings, roots.paths.as_slice(), user)?;
             Ok(behind_warnings(alloc, roots.warnings.as_slice(), own)?)

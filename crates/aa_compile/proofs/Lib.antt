@@ -4,6 +4,7 @@ pub mod Hits
 pub mod Joins
 mod SideLemmas
 mod HitLemmas
+mod Owned
 mod DifferLemmas
 pub mod MatchedTexts
 pub mod ConflictLemmas

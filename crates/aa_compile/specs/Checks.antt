@@ -17,6 +17,7 @@ use Rattle.aa_compile.specs.declared.rows.RowsFault.TheVariants.{NoMemory as NoR
 use Rattle.aa_compile.specs.FileRules.{Conflicts}
 use Rattle.aa_compile.specs.Ways.{way_by}
 use Rattle.aa_compile.specs.Rows.{AreRowsOf, patterns_of}
+use Rattle.aa_compile.specs.Matched.{owners_from}
 use Rattle.aa_compile.specs.Patterns.{HasAutomaton}
 use Rattle.aa_compile.specs.Attached.{AnswerTable, Attaches, attachments_by, pattern_of}
 use Rattle.aa_compile.specs.declared.tables.ProfileRows.{ProfileRows}
@@ -88,6 +89,7 @@ pub record IsRight (profiles : List Profile) (number : ℕ) (p : Profile) (r : P
   pub automaton : IsAutomaton (patterns_of p.files) r.files.table
   pub below : Attaches profiles (children profiles number) r.children
   pub targets : r.targets.items ≡ targets_by profiles p
+  pub owners : r.owners.items ≡ owners_from 0 p.files
 
 -- so for the first n
 pub record AreRight (profiles : List Profile) (n : ℕ) (rows : List ProfileRows) : Type 0 where

@@ -13,6 +13,7 @@ pub mod Sides
 pub mod FileRules
 pub mod Holding
 pub mod Rows
+pub mod Matched
 pub mod Conflicts
 pub mod Attached
 pub mod Numbering

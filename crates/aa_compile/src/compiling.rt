@@ -9,6 +9,7 @@ ghost use Rattle.aa_model.specs.declared.policy.Profile.{Profile};
 ghost use Rattle.aa_model.specs.Lawful.{IsWithinLimits, ParentsComeFirst};
 ghost use Rattle.aa_compile.specs.Attached.{attached, Attaches};
 ghost use Rattle.aa_compile.specs.Rows.{IsVerdictOf, patterns_of};
+ghost use Rattle.aa_compile.specs.Matched.{rules_matching};
 ghost use Rattle.aa_compile.specs.Ways.{way_by};
 ghost use Rattle.aa_compile.specs.Found.{found_in};
 ghost use Rattle.aa_compile.specs.Numbering.{IsNumbering};
@@ -20,13 +21,14 @@ use crate::attach::AttachRows;
 use crate::groups::{groups_of, numbers_of_tops};
 use crate::mark::Way;
 use crate::numbering::number_profiles;
+use crate::owners::rules_of;
 use crate::side::Verdict;
 use crate::tables::{ProfileRows, fault_of_states, rows_of};
 use crate::transition::{Transition, lead};
 use aa_base::{Perms, PolicyFault, Spot};
 use aa_model::{ExecKind, Policy, Profile};
 use bitflags::Flags;
-use std::alloc::Global;
+use std::alloc::{AllocError, Global};
 use std::collections::HashMap;
 use std::marker::Model;
 
@@ -171,6 +173,23 @@ impl Compiled {
             return 0;
         }
         self.rows_at(number).files.states()
+    }
+
+    /// The numbers of the file rules of a profile of which some pattern matches the path, rising; none where there is no such profile.
+    /// One walk, and one look at a row: no other rule is looked at.
+    pub fn rules_matching(
+        &self,
+        alloc: Global,
+        number: u16,
+        path: &[u8],
+    ) -> Result<Vec<usize>, AllocError>
+        ensures { IfOk result (λ rules. rules.items ≡ rules_matching self.now.profiles number path.now) }
+    {
+        if number as usize >= self.policy.profiles.as_slice().len() {
+            return Ok(Vec::new(alloc));
+        }
+        let rows = self.rows_at(number);
+        rules_of(alloc, rows.owners.as_slice(), rows.files.matching(path))
     }
 
     /// What the file rules of a profile say of an object: one walk, and one look at a row.

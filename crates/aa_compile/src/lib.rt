@@ -9,6 +9,7 @@ mod groups;
 mod labels;
 mod mark;
 mod numbering;
+mod owners;
 mod rows;
 mod sets;
 mod side;

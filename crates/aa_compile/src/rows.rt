@@ -3,7 +3,7 @@
 ghost use Rattle.std.specs.Prelude.{◌≡◌, ◌+◌, ◌<◌, ◌≤◌, ◌++◌, IfOk, OnOk, Err, length};
 ghost use Rattle.aa_pattern.specs.Limits.{most_patterns, most_states};
 ghost use Rattle.aa_auto.specs.Nodes.{pointed};
-ghost use Rattle.aa_auto.specs.Tables.{HasPlaces, IsAutomaton, rows_of as states_of};
+ghost use Rattle.aa_auto.specs.Tables.{HasPlaces, IsAutomaton, list_at, place_of, rows_of as states_of};
 ghost use Rattle.aa_compile.specs.Ways.{numbered, way_by};
 ghost use Rattle.aa_compile.specs.Gathered.{picked};
 ghost use Rattle.aa_compile.specs.Marks.{marks_by};
@@ -183,6 +183,13 @@ impl FileRows {
         ensures { result ≡ states_of self.now.table }
     {
         self.automaton.rows()
+    }
+
+    /// The numbers of the rules' patterns that match the path, rising.
+    pub(crate) fn matching(&self, path: &[u8]) -> &[u16]
+        ensures { result.now ≡ list_at self.now.table (place_of self.now.table path.now) }
+    {
+        self.automaton.matching(path)
     }
 
     /// What the rules say of an object.

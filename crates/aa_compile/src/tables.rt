@@ -14,6 +14,7 @@ ghost use Rattle.aa_compile.specs.Checks.{rows_fault, states_fault, first_spot, 
 
 use crate::attach::AttachRows;
 use crate::groups::group_at;
+use crate::owners::owners_of;
 use crate::rows::{FileRows, RowsFault};
 use crate::targets::{Targets, all_targets};
 use aa_auto::BuildFault;
@@ -29,6 +30,8 @@ pub(crate) struct ProfileRows {
     pub(crate) children: AttachRows,
     /// What the names behind arrows stand for, rule by rule.
     pub(crate) targets: Vec<Targets>,
+    /// The number of the file rule that each pattern belongs to.
+    pub(crate) owners: Vec<usize>,
 }
 
 impl ProfileRows {
@@ -96,10 +99,12 @@ fn rows_of_profile(
         Err(fault) => return Err(fault_of_states(fault, profile.at)),
     };
     let targets = all_targets(alloc, numbers, profiles, profile)?;
+    let owners = owners_of(alloc, profile.files.as_slice())?;
     Ok(ProfileRows {
         files,
         children,
         targets,
+        owners,
     })
 }
 

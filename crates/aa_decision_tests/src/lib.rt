@@ -23,6 +23,8 @@ mod quantity_tests;
 #[cfg(test)]
 mod reachability_tests;
 #[cfg(test)]
+mod redundancy_tests;
+#[cfg(test)]
 mod region_tests;
 #[cfg(test)]
 mod representative_tests;

@@ -1,13 +1,35 @@
 //! The labels that tasks get to, of worked policies.
 
+ghost use Rattle.std.specs.Prelude.{◌<◌, ◌≤◌};
+ghost use Rattle.aa_pattern.specs.Limits.{most_states};
+ghost use Rattle.aa_reachability.specs.Reach.{HaveWays};
+
 use crate::comparing::{equal, equal_in, holds};
 use crate::texts::{FIRST, policies_in, push_label, push_request, step};
 use aa_compile::Compiled;
 use aa_model::Label;
-use aa_reachability::{Arrival, ReachFault, arrivals_from, way_to};
+use aa_reachability::{Arrival, Going, Reached, Untold, Why, arrivals_from, way_to};
 use std::process::Abort;
 
 const SECOND: Label = Label::Confined(0, 1);
+
+/// What is found from a label, by the policies as they are.
+fn found_from(
+    rt: &(impl Abort + AllocGlobal),
+    policies: &[Compiled],
+    from: Label,
+    limit: usize,
+) -> Reached
+    requires some { 0 < limit }
+    requires bounded { limit ≤ most_states }
+    ensures { HaveWays result.arrivals.items }
+{
+    let going = Going {
+        policies,
+        as_enforced: false,
+    };
+    arrivals_from(rt.alloc(), going, from, limit).expect(rt, "memory")
+}
 
 /// Each label with the number of requests up to it and the last of them.
 fn told(rt: &(impl Abort + AllocGlobal), list: &[Compiled], found: &[Arrival]) -> Vec<u8> {
@@ -44,8 +66,9 @@ const ARRIVALS: &str = "\
 /// From a label a task gets to these.
 fn gets_to(rt: &(impl Abort + AllocGlobal), texts: &str, from: Label, wanted: &str) {
     let list = policies_in(rt, texts);
-    let found = arrivals_from(rt.alloc(), list.as_slice(), from, 4096).expect(rt, texts);
-    let told = told(rt, list.as_slice(), found.as_slice());
+    let found = found_from(rt, list.as_slice(), from, 4096);
+    holds(rt, found.untold.is_empty());
+    let told = told(rt, list.as_slice(), found.arrivals.as_slice());
     let found = str::from_utf8(told.as_slice()).ok();
     equal_in(rt, found, Some(wanted), texts);
 }
@@ -65,7 +88,7 @@ fn a_task_gets_to_these_labels(rt: HostRuntime) {
 fn each_way_leads_to_its_label(rt: HostRuntime) {
     let text = "profile a { /x px -> b, } profile b { /y px -> c, } profile c { /z ux, }";
     let list = policies_in(&rt, text);
-    let found = arrivals_from(rt.alloc(), list.as_slice(), FIRST, 4096).expect(&rt, text);
+    let found = found_from(&rt, list.as_slice(), FIRST, 4096).arrivals;
     for number in 0..found.len() {
         let way = way_to(rt.alloc(), found.as_slice(), number).expect(&rt, "memory");
         equal(&rt, way.len(), found[number].length);
@@ -78,10 +101,22 @@ fn each_way_leads_to_its_label(rt: HostRuntime) {
 }
 
 #[test]
-fn the_label_is_named_whose_patterns_need_too_many_states(rt: HostRuntime) {
-    let text = "profile a { /x px -> b, } profile b { /**a??????? r, }";
+fn a_label_is_named_behind_which_patterns_need_too_many_states(rt: HostRuntime) {
+    let text =
+        "profile a { /x px -> b, /y px -> c, } profile b { /**a??????? r, /z px -> d, } profile c { } profile d { }";
     let list = policies_in(&rt, text);
-    let refused = arrivals_from(rt.alloc(), list.as_slice(), FIRST, 64);
-    let is_so = matches!(refused, Err(ReachFault::TooManyStates(SECOND)));
-    holds(&rt, is_so);
+    let found = found_from(&rt, list.as_slice(), FIRST, 64);
+    let told = told(&rt, list.as_slice(), found.arrivals.as_slice());
+    equal(
+        &rt,
+        str::from_utf8(told.as_slice()).ok(),
+        Some("a 0 |b 1 x:/x|c 1 x:/y|"),
+    );
+    let untold = Untold {
+        number: 1,
+        label: SECOND,
+        why: Why::TooManyStates,
+    };
+    equal(&rt, found.untold.len(), 1);
+    equal(&rt, found.untold.get(0).copied(), Some(untold));
 }

@@ -7,3 +7,4 @@ mod OfUnit
 mod Few
 mod Alike
 mod Conflicting
+mod Kept

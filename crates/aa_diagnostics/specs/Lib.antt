@@ -4,4 +4,5 @@ pub mod Words
 pub mod Sentences
 pub mod Conflicts
 pub mod Further
+pub mod Limits
 pub mod Reports

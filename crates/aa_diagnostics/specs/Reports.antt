@@ -17,6 +17,7 @@ use Rattle.aa_load.specs.UnitPolicy.{limit_of, IsFaultOfUnit}
 use Rattle.aa_files.specs.Nodes.{is_folder_in, node_in}
 use Rattle.aa_files.specs.Links.{place_if, excerpt_if, AreLinks}
 use Rattle.aa_diagnostics.specs.Sentences.{message}
+use Rattle.aa_diagnostics.specs.Limits.{IsLimitOf}
 use Rattle.aa_diagnostics.specs.Further.{IsFurther, ShowsEarlier}
 
 -- the kind of what is over a limit
@@ -32,12 +33,17 @@ is_of_whole u f = is_too_large f.kind && node_in u f.at.file == 0 && f.at.byte =
 abbrev pub has_place : unit.Unit → PolicyFault → Bool
 has_place u f = not (is_folder_in u f.at.file) && not (is_of_whole u f)
 
+-- why there is a fault of a unit: which limit the whole of it passes, or what is wrong at its byte
+pub record IsWhy (u : unit.Unit) (states : ℕ) (f : PolicyFault) (said : List ℕ) : Type 0 where
+  pub whole : is_of_whole u f ≡ true → IsLimitOf u said
+  pub there : is_of_whole u f ≡ false → said ≡ message states (text_in u f.at.file) f.at.byte f.kind
+
 -- what is said of a fault of a unit: in which file it lies and where, why, and with these lines behind it
 pub record IsReport (u : unit.Unit) (states : ℕ) (f : PolicyFault) (lines : List (List ℕ)) (r : FaultReport) : Type 0 where
   pub kind : r.kind.now ≡ kind_name f.kind
   pub path : r.path.items ≡ path_in u f.at.file
   pub place : r.place ≡ place_if (has_place u f) (text_in u f.at.file) f.at.byte
-  pub message : r.message.items ≡ message states (text_in u f.at.file) f.at.byte f.kind
+  pub message : IsWhy u states f r.message.items
   pub excerpt : r.excerpt.items ≡ excerpt_if (has_place u f) (text_in u f.at.file) f.at.byte
   pub chain : AreLinks u (node_in u f.at.file) r.chain.items
   pub further : texts r.further.items ≡ lines
@@ -71,7 +77,7 @@ unread_message unread.NotFound = codes "it can't be read (not found)"
 unread_message unread.NotAllowed = codes "it can't be read (not allowed)"
 unread_message unread.NotAFile = codes "it can't be read (not a file)"
 unread_message unread.Failed = codes "it can't be read (failed)"
-unread_message unread.TooLarge = codes "a file has at most 1,048,576 bytes, a command line 4,096 files, a profile file 4,095 included texts, and ask 65,536 words"
+unread_message unread.TooLarge = codes "a file has at most 1,048,576 bytes, a command line 4,096 files, and a profile file 4,095 included texts"
 
 -- what is said of a unit that can't be read, and whether that is why
 abbrev pub IsSaid : UnitFault → FaultReport → Bool → Type 0

@@ -1,11 +1,11 @@
 -- What is said of a kind of fault.
 -- Source: own.
-use Rattle.std.specs.Prelude.{ℕ, length, nat_le, nat_lt, ◌==◌, ◌&&◌, ◌++◌, List, [], ◌∷◌, drop, codes, decimal, Bool, false, Option, Some, None, if◌then◌else◌}
+use Rattle.std.specs.Prelude.{ℕ, length, nat_le, ◌==◌, ◌&&◌, ◌++◌, List, [], ◌∷◌, drop, codes, decimal, Bool, false, Option, Some, None, if◌then◌else◌}
 use Rattle.aa_base.specs.declared.fault.PolicyKind.{PolicyKind}
 use Rattle.aa_base.specs.declared.fault.PolicyKind.TheVariants.{NoMemory, MissingInclude, IncludeDepth, Syntax, Unsupported, UnknownWord, BadMode}
 use Rattle.aa_base.specs.declared.fault.PolicyKind.TheVariants.{WriteWithAppend, BadPattern, UndefinedVariable, VariableTwice, VariableCircle}
 use Rattle.aa_base.specs.declared.fault.PolicyKind.TheVariants.{TooManyExpansions, RelativePath, DuplicateProfile, ConflictingExec, TooManyStates, TooLarge}
-use Rattle.aa_diagnostics.specs.Words.{word_in, left_out}
+use Rattle.aa_diagnostics.specs.Words.{left_out}
 
 -- a part behind a colon, if there is one
 abbrev pub behind_colon : Option (List ℕ) → List ℕ
@@ -16,9 +16,9 @@ behind_colon (Some part) = codes ": " ++ part
 unfoldable pub too_many_states : ℕ → List ℕ
 too_many_states states = codes "more than " ++ decimal states ++ codes " states are needed; --states N raises the limit"
 
--- the part of the language that is left out, where the word at a byte tells
+-- the part of the language that is left out, where a byte tells
 unfoldable pub unsupported : List ℕ → ℕ → List ℕ
-unsupported text byte = codes "this part of the language is left out" ++ behind_colon (left_out (word_in text byte))
+unsupported text byte = codes "this part of the language is left out" ++ behind_colon (left_out text byte)
 
 -- the mark that some editors put before a text in UTF-8
 abbrev pub begins_with_mark : List ℕ → Bool
@@ -29,11 +29,10 @@ begins_with_mark _ = false
 abbrev pub unknown : List ℕ → List ℕ
 unknown text = if begins_with_mark text then codes "a byte order mark stands here; save the text without it" else codes "no table has this word"
 
--- a limit is passed: at a word that of its expansion, else one of the whole
-abbrev pub too_large : ℕ → List ℕ
-too_large byte =
-    if nat_lt 0 byte then codes "this expands to more than 16,384 bytes"
-    else codes "it has more than 4,096 profiles, 65,535 patterns in one automaton, 4,096 readings of texts, or 16,777,216 bytes with all that it includes"
+-- a limit is passed by what stands in a text, or where there is none, by several texts together
+abbrev pub too_large : List ℕ → List ℕ
+too_large [] = codes "they have more than 4,096 profiles, or 65,535 patterns of attachments at the top level"
+too_large (b ∷ bs) = codes "this expands to more than 16,384 bytes"
 
 -- what is wrong at a byte of a text, in one sentence; an automaton may have so many states
 abbrev pub message : ℕ → List ℕ → ℕ → PolicyKind → List ℕ
@@ -54,4 +53,4 @@ message states text byte TooManyExpansions = codes "this stands for more than 1,
 message states text byte DuplicateProfile = codes "an earlier profile has this name"
 message states text byte ConflictingExec = codes "two rules of this profile say otherwise how one program runs"
 message states text byte TooManyStates = too_many_states states
-message states text byte TooLarge = too_large byte
+message states text byte TooLarge = too_large text

@@ -5,9 +5,10 @@ ghost use Rattle.aa_base.specs.Kinds.{kind_name};
 ghost use Rattle.aa_files.specs.Texts.{texts, slices};
 ghost use Rattle.aa_diagnostics.specs.Further.{spot_line};
 ghost use Rattle.aa_diagnostics.specs.Sentences.{message};
-ghost use Rattle.aa_diagnostics.specs.Reports.{is_too_large, is_of_whole, has_place, IsReport, IsDescribed, IsOfWhole, unread_kind, unread_message};
+ghost use Rattle.aa_diagnostics.specs.Reports.{is_too_large, is_of_whole, has_place, IsWhy, IsReport, IsDescribed, IsOfWhole, unread_kind, unread_message};
 
 use crate::further::{further_of, spot_lines};
+use crate::limits::limit_of;
 use crate::sentence::message_of;
 use aa_base::{PolicyFault, PolicyKind, Spot, Unread};
 use aa_files::{Unit, excerpt_if, is_folder_at, links_to, node_of, place_if, text_at};
@@ -34,6 +35,17 @@ pub fn has_place(unit: &Unit, fault: PolicyFault) -> bool
     !is_folder_at(unit, fault.at.file) && !is_of_whole(unit, fault)
 }
 
+/// Why there is a fault.
+fn why(alloc: Global, unit: &Unit, fault: PolicyFault, states: u32) -> Result<Vec<u8>, AllocError>
+    ensures { IfOk result (λ said. IsWhy unit.now states fault said.items) }
+{
+    if is_of_whole(unit, fault) {
+        return limit_of(alloc, unit);
+    }
+    let (_, text) = text_at(unit, fault.at.file);
+    message_of(alloc, fault.kind, states, text, fault.at.byte as usize)
+}
+
 /// What is said of a fault: in which file it lies and where, and why.
 fn report_of(
     alloc: Global,
@@ -51,7 +63,7 @@ fn report_of(
         kind: fault.kind.name(),
         path: Vec::from_slice(alloc, path)?,
         place: place_if(there, text, byte),
-        message: message_of(alloc, fault.kind, states, text, byte)?,
+        message: why(alloc, unit, fault, states)?,
         excerpt: excerpt_if(alloc, there, text, byte)?,
         chain: links_to(alloc, unit, node_of(unit, fault.at.file))?,
         further,
@@ -145,7 +157,7 @@ fn unread_message(why: Unread) -> &'static str
         Unread::NotAFile => "it can't be read (not a file)",
         Unread::Failed => "it can't be read (failed)",
         Unread::TooLarge => {
-            "a file has at most 1,048,576 bytes, a command line 4,096 files, a profile file 4,095 included texts, and ask 65,536 words"
+            "a file has at most 1,048,576 bytes, a command line 4,096 files, and a profile file 4,095 included texts"
         }
     }
 }

@@ -102,7 +102,7 @@ fn tried(
     Ok(lines)
 }
 
-fn is_want_of_memory(fault: PolicyFault) -> bool
+pub(crate) fn is_want_of_memory(fault: PolicyFault) -> bool
     ensures { IsTrue result ↔ (fault.kind ≡ PolicyKind.NoMemory) }
 {
     fault.kind == PolicyKind::NoMemory

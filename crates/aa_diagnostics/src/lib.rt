@@ -5,6 +5,7 @@ mod conflict;
 mod described;
 mod further;
 mod left_out;
+mod limits;
 mod names;
 mod profiles;
 mod sentence;

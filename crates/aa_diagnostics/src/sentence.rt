@@ -4,7 +4,7 @@ ghost use Rattle.std.specs.Prelude.{◌≡◌, ◌++◌, codes, option_map, nat_
 ghost use Rattle.aa_diagnostics.specs.Words.{left_out};
 ghost use Rattle.aa_diagnostics.specs.Sentences.{behind_colon, too_many_states, unsupported, begins_with_mark, unknown, too_large, message};
 
-use crate::left_out::part_at;
+use crate::left_out::{from_place, part_at};
 use aa_base::PolicyKind;
 use aa_text::{push_number, push_text};
 use std::alloc::{AllocError, Global};
@@ -56,17 +56,6 @@ fn begins_with_mark(text: &[u8]) -> bool
     }
 }
 
-/// The bytes from a place on.
-fn from_place(text: &[u8], byte: usize) -> &[u8]
-    ensures { result.now ≡ drop byte text.now }
-{
-    if byte < text.len() {
-        &text[byte..]
-    } else {
-        &[]
-    }
-}
-
 fn unknown(text: &[u8]) -> &'static str
     ensures { result.now ≡ unknown text.now }
 {
@@ -77,13 +66,14 @@ fn unknown(text: &[u8]) -> &'static str
     }
 }
 
-fn too_large(byte: usize) -> &'static str
-    ensures { result.now ≡ too_large byte }
+fn too_large(text: &[u8]) -> &'static str
+    ensures { result.now ≡ too_large text.now }
 {
-    if byte > 0 {
-        "this expands to more than 16,384 bytes"
-    } else {
-        "it has more than 4,096 profiles, 65,535 patterns in one automaton, 4,096 readings of texts, or 16,777,216 bytes with all that it includes"
+    match text {
+        [] => {
+            "they have more than 4,096 profiles, or 65,535 patterns of attachments at the top level"
+        }
+        [_, ..] => "this expands to more than 16,384 bytes",
     }
 }
 
@@ -118,7 +108,7 @@ fn push_message(
             "two rules of this profile say otherwise how one program runs",
         ),
         PolicyKind::TooManyStates => push_too_many_states(out, states),
-        PolicyKind::TooLarge => push_text(out, too_large(byte)),
+        PolicyKind::TooLarge => push_text(out, too_large(text)),
     }
 }
 

@@ -1,5 +1,5 @@
 -- The requests of a task, and what its job's tasks are answered.
-use Rattle.std.proofs.Common.{Bool, true, false, cond, suc, zero, ◌≡◌, ◌⊎◌, inl, inr, ℕ, ◌+◌, ◌<◌, ◌≤◌, List, [], ◌∷◌}
+use Rattle.std.proofs.Common.{Bool, true, false, cond, suc, zero, ◌≡◌, inl, inr, ℕ, ◌+◌, ◌<◌, ◌≤◌, List, [], ◌∷◌}
 use Rattle.std.proofs.Common.{◌++◌, length, drop, take, get_or, map, Option, Some, None, refl, ap, sym, ◌∙◌, arith, append_assoc}
 use Rattle.std.specs.Prelude.{option_map, option_and_then, is_none, nat_le, ◌&&◌}
 use Rattle.std.specs.List.{position_from, list_all}

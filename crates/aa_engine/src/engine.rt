@@ -1,6 +1,6 @@
 //! The engines: a job's bytes in, lines out.
 
-ghost use Rattle.std.specs.Prelude.{◌≡◌, ◌≢◌, ◌<◌, ◌≤◌, ℕ, List, [], Ok, Some, length, take, IfOk, IfErr, OnOk, IsErrOf};
+ghost use Rattle.std.specs.Prelude.{◌≡◌, ◌≢◌, ◌<◌, ◌≤◌, ℕ, List, [], Ok, Some, flat_map, length, take, IfOk, IfErr, OnOk, IsErrOf};
 ghost use Rattle.std.specs.Io.KnownBytes.{Appends, Keeps};
 ghost use Rattle.std.specs.String.{string_bytes};
 ghost use Rattle.aa_jobs.specs.Jobs.{job_of};
@@ -12,7 +12,7 @@ use crate::fault::{RunFault, job_fault, mediate_fault, policy_fault};
 use crate::lending::mediate_lent;
 use crate::output::check_output;
 use crate::replay::replay_output;
-use crate::stream::{read_input, write_text};
+use crate::stream::{read_input, write_parts, write_text};
 use crate::tasks::{MediateFault, unknown_task};
 use crate::texts::run_output;
 use aa_compile::Compiled;
@@ -102,7 +102,7 @@ fn check_text_of(alloc: Global, bytes: Vec<u8>) -> Result<String, RunFault>
     check_text(alloc, &asked)
 }
 
-/// The text of `run` for a job whose tasks a machine answers, by that many workers.
+/// The text of `run` for a job whose tasks a machine answers, by that many workers, in parts.
 fn answered_text<
     M: Machine<State = Label, Request = Request, Answer = Answer> + Sync,
     R: Threads + Wait + Sync,
@@ -113,9 +113,9 @@ fn answered_text<
     policies: &[Compiled],
     machine: &M,
     workers: u32,
-) -> Result<String, MediateFault>
+) -> Result<Vec<String>, MediateFault>
     requires { (0 < workers) × (workers ≤ 16) }
-    ensures text { IfOk result (λ text. lines_from M.next M.reply machine.now job.now.several policies.now 0 job.now.tasks ≡ Some (string_bytes text)) }
+    ensures text { IfOk result (λ parts. lines_from M.next M.reply machine.now job.now.several policies.now 0 job.now.tasks ≡ Some (flat_map string_bytes parts.items)) }
     ensures unknown { (task : ℕ) → IsErrOf result (MediateFault.UnknownProfile task) → first_unknown policies.now job.now.tasks ≡ Some task }
 {
     let rows = match mediate_lent(rt, alloc, job, policies, machine, workers) {
@@ -134,35 +134,35 @@ fn answered_text<
     )?)
 }
 
-/// The text of `run` for a job and its policies.
+/// The text of `run` for a job and its policies, in parts.
 fn run_text<R: Threads + Wait + Sync>(
     rt: &R,
     alloc: Global,
     asked: &CompiledJob,
     workers: u32,
-) -> Result<String, RunFault>
+) -> Result<Vec<String>, RunFault>
     requires { (0 < workers) × (workers ≤ 16) }
-    ensures text { (input : List ℕ) → HandsIn input asked.now.job asked.now.policies.items → IfOk result (λ text. IsRunOutput input (string_bytes text)) }
+    ensures text { (input : List ℕ) → HandsIn input asked.now.job asked.now.policies.items → IfOk result (λ parts. IsRunOutput input (flat_map string_bytes parts.items)) }
     ensures cause { (input : List ℕ) → HandsIn input asked.now.job asked.now.policies.items → IfErr result (λ e. Explains e input) }
     ensures unwritten { IfErr result (λ e. e ≢ RunFault.Write) }
 {
     let policies = asked.policies.as_slice();
     let mediator = Mediator::new(policies);
     match answered_text(rt, alloc, &asked.job, policies, &mediator, workers) {
-        Ok(text) => Ok(text),
+        Ok(parts) => Ok(parts),
         Err(fault) => Err(mediate_fault(fault)),
     }
 }
 
-/// The text of `run` for the bytes of a job.
+/// The text of `run` for the bytes of a job, in parts.
 fn run_text_of<R: Threads + Wait + Sync>(
     rt: &R,
     alloc: Global,
     bytes: Vec<u8>,
     workers: u32,
-) -> Result<String, RunFault>
+) -> Result<Vec<String>, RunFault>
     requires { (0 < workers) × (workers ≤ 16) }
-    ensures text { IfOk result (λ text. IsRunOutput bytes.items (string_bytes text)) }
+    ensures text { IfOk result (λ parts. IsRunOutput bytes.items (flat_map string_bytes parts.items)) }
     ensures cause { IfErr result (λ e. Explains e bytes.items) }
     ensures unwritten { IfErr result (λ e. e ≢ RunFault.Write) }
 {
@@ -239,8 +239,8 @@ pub fn run_job<R: Read, W: Write, H: Threads + Wait + Sync>(
     ensures cause { IfErr result (λ e. IsExplained (R.remaining reader.old) e) }
 {
     let bytes = read_input(alloc, reader)?;
-    let text = run_text_of(rt, alloc, bytes, workers)?;
-    write_text(writer, text.as_bytes())
+    let parts = run_text_of(rt, alloc, bytes, workers)?;
+    write_parts(writer, parts.as_slice())
 }
 
 /// Reads a job, makes its events happen, each at the world of its own task, and writes a line for each.

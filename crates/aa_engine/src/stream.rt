@@ -1,7 +1,8 @@
 //! Reads a whole input, and writes a whole text.
 
-ghost use Rattle.std.specs.Prelude.{◌≡◌, ◌≢◌, ℕ, ◌+◌, ◌++◌, ◌≤◌, List, length, take, drop, OnOk, OnErr, IfOk, IfErr, IfSome};
+ghost use Rattle.std.specs.Prelude.{◌≡◌, ◌≢◌, ℕ, ◌+◌, ◌++◌, ◌≤◌, List, flat_map, length, take, drop, OnOk, OnErr, IfOk, IfErr, IfSome};
 ghost use Rattle.std.specs.Io.KnownBytes.{Appends};
+ghost use Rattle.std.specs.String.{string_bytes};
 ghost use Rattle.aa_engine.specs.Faults.{IsReadCause};
 
 use crate::fault::RunFault;
@@ -58,6 +59,21 @@ pub fn write_text<W: Write>(writer: &mut W, text: &[u8]) -> Result<(), RunFault>
             Ok(0) => return Err(RunFault::Write),
             Ok(n) => at += n,
             Err(_) => return Err(RunFault::Write),
+        }
+    }
+    Ok(())
+}
+
+/// Writes the parts of a text one behind the other, all of them or a front.
+pub fn write_parts<W: Write>(writer: &mut W, parts: &[String]) -> Result<(), RunFault>
+    ensures ok { OnOk result (Appends (W.contents writer.old) (W.contents writer.new) (flat_map string_bytes parts.now)) }
+    ensures err { OnErr result ((n : ℕ) × (n ≤ length (flat_map string_bytes parts.now))
+        × Appends (W.contents writer.old) (W.contents writer.new) (take n (flat_map string_bytes parts.now))) }
+    ensures cause { IfErr result (λ e. e ≡ RunFault.Write) }
+{
+    for part in parts {
+        if let Err(fault) = write_text(writer, part.as_bytes()) {
+            return Err(fault);
         }
     }
     Ok(())

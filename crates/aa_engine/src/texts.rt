@@ -1,6 +1,6 @@
 //! The text of a job's tasks, whose parts threads make side by side.
 
-ghost use Rattle.std.specs.Prelude.{◌≡◌, ◌++◌, ◌<◌, ℕ, All, IfOk, None, Some, length, map, slice_index_or};
+ghost use Rattle.std.specs.Prelude.{◌≡◌, ◌<◌, ℕ, All, IfOk, None, Some, flat_map, length, map, slice_index_or};
 ghost use Rattle.std.specs.String.{string_bytes};
 ghost use Rattle.aa_engine.specs.Answers.{task_label, job_answers_by, first_unknown};
 ghost use Rattle.aa_engine.specs.Output.{task_lines, lines_from};
@@ -130,52 +130,27 @@ fn lines_of<M: Machine<State = Label, Request = Request, Answer = Answer>>(
     Ok(lines)
 }
 
-/// How many bytes the lines of all have.
-fn length_of<'q, M: Machine<State = Label, Request = Request, Answer = Answer>>(
-    texts: &[TaskText<'_, 'q, M>],
-) -> usize {
-    let mut length: usize = 0;
-    for text in texts {
-        if let Some(lines) = &text.lines {
-            length = length.saturating_add(lines.len());
-        }
-    }
-    length
-}
-
-/// A text behind another. Where nothing stands before it, it isn't copied, and gets room for so many bytes in all.
-fn appended(mut front: String, mut text: String, room: usize) -> Result<String, AllocError>
-    ensures { IfOk result (λ both. string_bytes both ≡ string_bytes front ++ string_bytes text) }
-{
-    if front.is_empty() {
-        text.reserve_exact(room.saturating_sub(text.len()))?;
-        return Ok(text);
-    }
-    front.push_str(text.as_str())?;
-    Ok(front)
-}
-
-/// The lines of all, each task's behind those of the one before. Each is let go once it is appended.
-fn joined<'q, M: Machine<State = Label, Request = Request, Answer = Answer>>(
+/// The lines of all, in the tasks' order. Where those of one aren't there, memory ran out.
+fn taken<'q, M: Machine<State = Label, Request = Request, Answer = Answer>>(
     alloc: Global,
     texts: Vec<TaskText<'_, 'q, M>>,
-) -> Result<String, AllocError>
-    ensures { IfOk result (λ text. joined_lines texts.entry.items ≡ Some (string_bytes text)) }
+) -> Result<Vec<String>, AllocError>
+    ensures { IfOk result (λ parts. joined_lines texts.entry.items ≡ Some (flat_map string_bytes parts.items)) }
 {
-    let length = length_of(texts.as_slice());
-    let mut out = String::new(alloc);
+    let mut parts = Vec::with_capacity(alloc, texts.len())?;
     for text in texts {
         let Some(lines) = text.lines else {
             return Err(AllocError);
         };
-        out = appended(out, lines, length)?;
+        parts.push(lines)?;
     }
-    Ok(out)
+    Ok(parts)
 }
 
-/// The text of `run` for the tasks of a job, where a machine answers them so, lent their requests. The tasks' texts are made side by
-/// side, in at most as many threads as there are workers, and then joined.
+/// The text of `run` for the tasks of a job, where a machine answers them so, lent their requests: a part for each task, in order. The
+/// parts are made side by side, in at most as many threads as there are workers.
 // Reading a job and printing take most of a run of short requests. Want of memory still comes before the first byte is written.
+// The parts aren't joined: to copy them takes as long as four threads take to make them.
 pub fn run_output<
     'q,
     M: Machine<State = Label, Request = Request, Answer = Answer> + Sync,
@@ -189,10 +164,10 @@ pub fn run_output<
     machine: &'q M,
     rows: &[Vec<Answered<Lent<'q, M>>>],
     workers: u32,
-) -> Result<String, AllocError>
+) -> Result<Vec<String>, AllocError>
     requires { job_answers_by M.next M.reply machine.now policies.now tasks.now ≡ Some (map (λ row. row.items) rows.now) }
-    ensures { IfOk result (λ text. lines_from M.next M.reply machine.now several policies.now 0 tasks.now ≡ Some (string_bytes text)) }
+    ensures { IfOk result (λ parts. lines_from M.next M.reply machine.now several policies.now 0 tasks.now ≡ Some (flat_map string_bytes parts.items)) }
 {
     let texts = texts_to_make(alloc, several, policies, tasks, machine, rows)?;
-    joined(alloc, make_all(rt, texts, workers))
+    taken(alloc, make_all(rt, texts, workers))
 }

@@ -3,9 +3,10 @@ use Rattle.std.proofs.Common.{◌≡◌, ℕ, ◌+◌, ◌<◌, ◌≤◌, List,
 use Rattle.std.specs.Prelude.{option_to_list}
 use Rattle.std.proofs.lemmas.List.{at_drop_more, at_drop_all, append-nil}
 use Rattle.aa_compile.specs.Said.{minus}
-use Rattle.aa_explain.specs.Deciders.{part_of, decider_if, naming_from, first_allowing_from, unnamed}
+use Rattle.aa_explain.specs.Deciders.{part_of, unnamed}
+use Rattle.aa_explain.specs.Told.{sayings_of, named_by, first_told}
 use Rattle.aa_explain.specs.declared.deciders.Decider.{Decider}
-use Rattle.aa_explain.specs.declared.deciders.Saying.{Saying}
+use Rattle.aa_explain.specs.declared.told.Told.{Told}
 
 -- what a list has from n on, where what was found before n is in front of it
 abbrev joined : List Decider → Option Decider → List Decider → List Decider
@@ -14,55 +15,38 @@ joined old d rest = old ++ (option_to_list d ++ rest)
 pushed_on : (old new rest total : List Decider) (d : Option Decider) → new ≡ old ++ option_to_list d → joined old d rest ≡ total → new ++ rest ≡ total
 pushed_on old new rest total d pushed e = ap (λ (t : List Decider). t ++ rest) pushed ∙ (append_assoc old (option_to_list d) rest ∙ e)
 
-naming_step : (deny : Bool) (asked n : ℕ) (s : List Saying) (x : Saying) → n < length s
-    → naming_from deny asked n (drop n s) ≡ option_to_list (decider_if n (part_of deny (get_or s n x) asked)) ++ naming_from deny asked (n + 1) (drop (n + 1) s)
-unfolding naming_from
-naming_step deny asked n s x h = at_drop_more (naming_from deny asked n) s n x h
+first_step : (left n : ℕ) (ts : List Told) (x : Told) → n < length ts
+    → first_told left (drop n ts) ≡ option_to_list (named_by false left (get_or ts n x)) ++ first_told (minus left (part_of false (get_or ts n x).saying left)) (drop (n + 1) ts)
+unfolding first_told
+first_step left n ts x h = at_drop_more (first_told left) ts n x h
 
-pub naming_go : (deny : Bool) (asked n : ℕ) (s : List Saying) (x : Saying) (old new total : List Decider) (d : Option Decider) (a : ℕ) → n < length s → x ≡ get_or s n x
-    → a ≡ part_of deny x asked → d ≡ decider_if n a → new ≡ old ++ option_to_list d
-    → old ++ naming_from deny asked n (drop n s) ≡ total → new ++ naming_from deny asked (n + 1) (drop (n + 1) s) ≡ total
-naming_go deny asked n s x old new total d a h is e p pushed so_far =
-    let rest = naming_from deny asked (n + 1) (drop (n + 1) s) in
-    let here : d ≡ decider_if n (part_of deny (get_or s n x) asked) = p ∙ ap (decider_if n) (e ∙ ap (λ (y : Saying). part_of deny y asked) is) in
-    pushed_on old new rest total d pushed
-    (ap (λ (t : List Decider). old ++ t) (ap (λ (v : Option Decider). option_to_list v ++ rest) here ∙ sym (naming_step deny asked n s x h)) ∙ so_far)
-
-pub naming_end : (deny : Bool) (asked n : ℕ) (s : List Saying) (old total : List Decider) → length s ≤ n → old ++ naming_from deny asked n (drop n s) ≡ total → old ≡ total
-unfolding naming_from
-naming_end deny asked n s old total h so_far = sym (append-nil old) ∙ (ap (λ (t : List Decider). old ++ t) (sym (at_drop_all (naming_from deny asked n) s n h)) ∙ so_far)
-
-first_step : (left n : ℕ) (s : List Saying) (x : Saying) → n < length s
-    → first_allowing_from left n (drop n s) ≡ option_to_list (decider_if n (part_of false (get_or s n x) left)) ++ first_allowing_from (minus left (part_of false (get_or s n x) left)) (n + 1) (drop (n + 1) s)
-unfolding first_allowing_from
-first_step left n s x h = at_drop_more (first_allowing_from left n) s n x h
-
-pub first_go : (left after n : ℕ) (s : List Saying) (x : Saying) (old new total : List Decider) (d : Option Decider) (a : ℕ) → n < length s → x ≡ get_or s n x
-    → a ≡ part_of false x left → d ≡ decider_if n a → new ≡ old ++ option_to_list d → after ≡ minus left a
-    → old ++ first_allowing_from left n (drop n s) ≡ total → new ++ first_allowing_from after (n + 1) (drop (n + 1) s) ≡ total
-first_go left after n s x old new total d a h is e p pushed m so_far =
-    let took : a ≡ part_of false (get_or s n x) left = e ∙ ap (λ (y : Saying). part_of false y left) is in
-    let rest = λ (b : ℕ). first_allowing_from b (n + 1) (drop (n + 1) s) in
+pub first_go : (left after n : ℕ) (ts : List Told) (x : Told) (old new total : List Decider) (d : Option Decider) (a : ℕ) → n < length ts → x ≡ get_or ts n x
+    → a ≡ part_of false x.saying left → d ≡ named_by false left x → new ≡ old ++ option_to_list d → after ≡ minus left a
+    → old ++ first_told left (drop n ts) ≡ total → new ++ first_told after (drop (n + 1) ts) ≡ total
+first_go left after n ts x old new total d a h is e p pushed m so_far =
+    let took : a ≡ part_of false (get_or ts n x).saying left = e ∙ ap (λ (y : Told). part_of false y.saying left) is in
+    let rest = λ (b : ℕ). first_told b (drop (n + 1) ts) in
     pushed_on old new (rest after) total d pushed
     (ap (λ (t : List Decider). old ++ t)
-    (ap (λ (v : Option Decider). option_to_list v ++ rest after) (p ∙ ap (decider_if n) took)
-    ∙ (ap (λ (b : ℕ). option_to_list (decider_if n (part_of false (get_or s n x) left)) ++ rest b) (m ∙ ap (minus left) took)
-    ∙ sym (first_step left n s x h)))
+    (ap (λ (v : Option Decider). option_to_list v ++ rest after) (p ∙ ap (named_by false left) is)
+    ∙ (ap (λ (b : ℕ). option_to_list (named_by false left (get_or ts n x)) ++ rest b) (m ∙ ap (minus left) took)
+    ∙ sym (first_step left n ts x h)))
     ∙ so_far)
 
-pub first_end : (left n : ℕ) (s : List Saying) (old total : List Decider) → length s ≤ n → old ++ first_allowing_from left n (drop n s) ≡ total → old ≡ total
-unfolding first_allowing_from
-first_end left n s old total h so_far = sym (append-nil old) ∙ (ap (λ (t : List Decider). old ++ t) (sym (at_drop_all (first_allowing_from left n) s n h)) ∙ so_far)
+pub first_end : (left n : ℕ) (ts : List Told) (old total : List Decider) → length ts ≤ n → old ++ first_told left (drop n ts) ≡ total → old ≡ total
+unfolding first_told
+first_end left n ts old total h so_far = sym (append-nil old) ∙ (ap (λ (t : List Decider). old ++ t) (sym (at_drop_all (first_told left) ts n h)) ∙ so_far)
 
-unnamed_step : (deny : Bool) (left n : ℕ) (s : List Saying) (x : Saying) → n < length s → unnamed deny left (drop n s) ≡ unnamed deny (minus left (part_of deny (get_or s n x) left)) (drop (n + 1) s)
+unnamed_step : (deny : Bool) (left n : ℕ) (ts : List Told) (x : Told) → n < length ts
+    → unnamed deny left (sayings_of (drop n ts)) ≡ unnamed deny (minus left (part_of deny (get_or ts n x).saying left)) (sayings_of (drop (n + 1) ts))
 unfolding unnamed
-unnamed_step deny left n s x h = at_drop_more (unnamed deny left) s n x h
+unnamed_step deny left n ts x h = at_drop_more (λ (l : List Told). unnamed deny left (sayings_of l)) ts n x h
 
-pub unnamed_go : (deny : Bool) (left after n : ℕ) (s : List Saying) (x : Saying) (a total : ℕ) → n < length s → x ≡ get_or s n x → a ≡ part_of deny x left → after ≡ minus left a
-    → unnamed deny left (drop n s) ≡ total → unnamed deny after (drop (n + 1) s) ≡ total
-unnamed_go deny left after n s x a total h is e m so_far =
-    ap (λ (b : ℕ). unnamed deny b (drop (n + 1) s)) (m ∙ ap (minus left) (e ∙ ap (λ (y : Saying). part_of deny y left) is)) ∙ (sym (unnamed_step deny left n s x h) ∙ so_far)
+pub unnamed_go : (deny : Bool) (left after n : ℕ) (ts : List Told) (x : Told) (a total : ℕ) → n < length ts → x ≡ get_or ts n x → a ≡ part_of deny x.saying left → after ≡ minus left a
+    → unnamed deny left (sayings_of (drop n ts)) ≡ total → unnamed deny after (sayings_of (drop (n + 1) ts)) ≡ total
+unnamed_go deny left after n ts x a total h is e m so_far =
+    ap (λ (b : ℕ). unnamed deny b (sayings_of (drop (n + 1) ts))) (m ∙ ap (minus left) (e ∙ ap (λ (y : Told). part_of deny y.saying left) is)) ∙ (sym (unnamed_step deny left n ts x h) ∙ so_far)
 
-pub unnamed_end : (deny : Bool) (left n : ℕ) (s : List Saying) (total : ℕ) → length s ≤ n → unnamed deny left (drop n s) ≡ total → left ≡ total
+pub unnamed_end : (deny : Bool) (left n : ℕ) (ts : List Told) (total : ℕ) → length ts ≤ n → unnamed deny left (sayings_of (drop n ts)) ≡ total → left ≡ total
 unfolding unnamed
-unnamed_end deny left n s total h so_far = sym (at_drop_all (unnamed deny left) s n h) ∙ so_far
+unnamed_end deny left n ts total h so_far = sym (at_drop_all (λ (l : List Told). unnamed deny left (sayings_of l)) ts n h) ∙ so_far

@@ -1,3 +1,6 @@
+pub mod Bits
+mod Speaking
+mod Meeting
 mod Deciding
 pub mod Placing
 mod Plain

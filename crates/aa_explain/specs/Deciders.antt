@@ -8,7 +8,7 @@ use Rattle.aa_explain.specs.declared.deciders.Decider.{Decider}
 use Rattle.aa_explain.specs.declared.deciders.Deciders.{Deciders}
 use Rattle.aa_explain.specs.declared.deciders.Listed.{Listed}
 use Rattle.aa_explain.specs.declared.deciders.Listed.TheVariants.{Files}
-use Rattle.aa_explain.specs.declared.deciders.Saying.{Saying}
+use Rattle.aa_explain.specs.declared.told.Saying.{Saying}
 
 -- what a rule names of these permissions, if it speaks of the object and denies, or allows
 abbrev pub part_of : Bool → Saying → ℕ → ℕ

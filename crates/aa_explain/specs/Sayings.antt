@@ -14,7 +14,7 @@ use Rattle.aa_compile.specs.Said.{perms_of}
 use Rattle.aa_compile.specs.Patterns.{is_literal}
 use Rattle.aa_compile.specs.FileRules.{any_sort, applies_by, says_how}
 use Rattle.aa_compile.specs.Holding.{cap_holds, net_holds, change_holds}
-use Rattle.aa_explain.specs.declared.deciders.Saying.{Saying}
+use Rattle.aa_explain.specs.declared.told.Saying.{Saying}
 use Rattle.aa_explain.specs.declared.deciders.Listed.TheVariants as lists
 use Rattle.aa_explain.specs.Deciders.{Reasons, reasons_by, exec_reasons, granted_beside}
 

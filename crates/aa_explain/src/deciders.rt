@@ -1,14 +1,21 @@
 //! The rules that decide a request.
 
-ghost use Rattle.std.specs.Prelude.{◌≡◌, ◌++◌, map, option_map, option_to_list, OnOk, IfOk};
-ghost use Rattle.std.specs.List.{list_any};
+ghost use Rattle.std.specs.Prelude.{◌≡◌, ◌++◌, map, option_map, option_to_list, slice_get, OnOk, IfOk};
+ghost use Rattle.std.specs.List.{filter_map};
+ghost use Rattle.std.specs.Option.{option_and_then};
+ghost use Rattle.aa_model.specs.declared.policy.Profile.{Profile};
+ghost use Rattle.aa_compile.specs.Matched.{files_at};
 ghost use Rattle.aa_compile.specs.Said.{minus};
-ghost use Rattle.aa_explain.specs.Deciders.{part_of, decider_if, naming_from, first_allowing_from, unnamed, reasons, reasons_by, exec_reasons, granted_beside};
-ghost use Rattle.aa_explain.specs.Sayings.{file_saying, says_how_literally, chooses, is_denial, exec_saying, exec_sayings, bit_saying, cap_saying, net_saying, change_saying, reasons_of, target_reasons};
+ghost use Rattle.aa_explain.specs.Deciders.{part_of, decider_if, unnamed, reasons, reasons_by, exec_reasons, granted_beside};
+ghost use Rattle.aa_explain.specs.Sayings.{file_saying, exec_sayings, cap_saying, net_saying, change_saying, reasons_of, target_reasons};
+ghost use Rattle.aa_explain.specs.Told.{sayings_of, named_by, first_told, reasons_told, exec_reasons_told};
 
+use crate::told::{
+    BIT, Saying, Told, cap_sayings, change_sayings, exec_told, file_told, net_sayings, speaking,
+};
 use aa_base::{Cap, Family, Perms, SockType};
-use aa_compile::{applies, applies_literally, holds_cap, holds_change, holds_net, says_how};
-use aa_model::{CapRule, ChangeRule, ExecRequest, FileRule, NetRule, Profile, Request};
+use aa_compile::Compiled;
+use aa_model::{CapRule, ChangeRule, ExecRequest, LinkRequest, NetRule, Profile, Request};
 use bitflags::Flags;
 use std::alloc::{AllocError, Global};
 
@@ -38,15 +45,6 @@ pub struct Deciders {
     pub allows: Vec<Decider>,
     /// What is left: no rule allows it.
     pub lacking: Perms,
-}
-
-/// What a rule says of an object, whatever its sort.
-#[derive(Clone, Copy, Debug, PartialEq, Eq)]
-pub struct Saying {
-    /// Whether the rule speaks of it.
-    pub holds: bool,
-    pub deny: bool,
-    pub perms: Perms,
 }
 
 /// What a rule names of these permissions, if it speaks of the object with that verdict.
@@ -90,60 +88,57 @@ fn push_any(found: &mut Vec<Decider>, decider: Option<Decider>) -> Result<(), Al
     Ok(())
 }
 
+/// A rule with that verdict that names some of what is asked.
+fn named_by(told: Told, deny: bool, asked: Perms) -> Option<Decider>
+    ensures { result ≡ named_by deny asked.0 told }
+{
+    decider_if(told.rule, part_of(told.saying, deny, asked))
+}
+
 /// The rules with that verdict that name some of what is asked.
 fn naming(
     alloc: Global,
-    sayings: &[Saying],
+    told: &[Told],
     deny: bool,
     asked: Perms,
 ) -> Result<Vec<Decider>, AllocError>
-    ensures { IfOk result (λ found. found.items ≡ naming_from deny asked.0 0 sayings.now) }
+    ensures { IfOk result (λ found. found.items ≡ filter_map (named_by deny asked.0) told.now) }
 {
-    let mut found = Vec::new(alloc);
-    for (number, saying) in sayings.iter().enumerate() {
-        push_any(
-            &mut found,
-            decider_if(number, part_of(*saying, deny, asked)),
-        )?;
-    }
-    Ok(found)
+    told.iter()
+        .filter_map(|told| named_by(*told, deny, asked))
+        .collect(alloc)
 }
 
 /// The rules that allow some of what no rule before them allows.
-fn first_allowing(
-    alloc: Global,
-    sayings: &[Saying],
-    asked: Perms,
-) -> Result<Vec<Decider>, AllocError>
-    ensures { IfOk result (λ found. found.items ≡ first_allowing_from asked.0 0 sayings.now) }
+fn first_allowing(alloc: Global, told: &[Told], asked: Perms) -> Result<Vec<Decider>, AllocError>
+    ensures { IfOk result (λ found. found.items ≡ first_told asked.0 told.now) }
 {
     let mut found = Vec::new(alloc);
     let mut left = asked;
-    for (number, saying) in sayings.iter().enumerate() {
-        let allowed = part_of(*saying, false, left);
-        push_any(&mut found, decider_if(number, allowed))?;
-        left = left_of(left, allowed);
+    for rule in told {
+        push_any(&mut found, named_by(*rule, false, left))?;
+        left = left_of(left, part_of(rule.saying, false, left));
     }
     Ok(found)
 }
 
 /// What no rule with that verdict names of what is asked.
-fn unnamed(sayings: &[Saying], deny: bool, asked: Perms) -> Perms
-    ensures { result.0 ≡ unnamed deny asked.0 sayings.now }
+fn unnamed(told: &[Told], deny: bool, asked: Perms) -> Perms
+    ensures { result.0 ≡ unnamed deny asked.0 (sayings_of told.now) }
 {
     let mut left = asked;
-    for saying in sayings {
-        left = left_of(left, part_of(*saying, deny, left));
+    for rule in told {
+        left = left_of(left, part_of(rule.saying, deny, left));
     }
     left
 }
 
 /// The reason for an execution: the rules that deny it, else all that choose how it goes.
-#[tactic(auto, unfolding(crate::specs::Deciders::exec_reasons))]
-fn exec_deciders(alloc: Global, sayings: &[Saying]) -> Result<Deciders, AllocError>
-    ensures { IfOk result (λ d. reasons d ≡ exec_reasons sayings.now) }
+#[tactic(auto, unfolding(crate::specs::Told::exec_reasons_told))]
+fn exec_deciders_by(alloc: Global, told: &[Told]) -> Result<Deciders, AllocError>
+    ensures { IfOk result (λ d. reasons d ≡ exec_reasons_told told.now) }
 {
-    let denies = naming(alloc, sayings, true, Perms::EXEC)?;
+    let denies = naming(alloc, told, true, Perms::EXEC)?;
     if !denies.is_empty() {
         return Ok(Deciders {
             listed: Listed::Files,
@@ -155,271 +150,203 @@ fn exec_deciders(alloc: Global, sayings: &[Saying]) -> Result<Deciders, AllocErr
     Ok(Deciders {
         listed: Listed::Files,
         denies,
-        allows: naming(alloc, sayings, false, Perms::EXEC)?,
-        lacking: unnamed(sayings, false, Perms::EXEC),
+        allows: naming(alloc, told, false, Perms::EXEC)?,
+        lacking: unnamed(told, false, Perms::EXEC),
     })
 }
 
-/// The reason that these sayings give for what is asked.
+/// The reason that these rules give for what is asked.
 fn deciders_by(
     alloc: Global,
     listed: Listed,
-    sayings: &[Saying],
+    told: &[Told],
     asked: Perms,
 ) -> Result<Deciders, AllocError>
-    ensures { IfOk result (λ d. reasons d ≡ reasons_by listed sayings.now asked.0) }
+    ensures { IfOk result (λ d. reasons d ≡ reasons_told listed told.now asked.0) }
 {
-    let left = unnamed(sayings, true, asked);
+    let left = unnamed(told, true, asked);
     Ok(Deciders {
         listed,
-        denies: naming(alloc, sayings, true, asked)?,
-        allows: first_allowing(alloc, sayings, left)?,
-        lacking: unnamed(sayings, false, left),
+        denies: naming(alloc, told, true, asked)?,
+        allows: first_allowing(alloc, told, left)?,
+        lacking: unnamed(told, false, left),
     })
 }
 
-fn file_saying(rule: &FileRule, path: &[u8], owned: bool) -> Saying
-    ensures { result ≡ file_saying path.now owned rule.now }
-{
-    Saying {
-        holds: applies(rule, path, owned),
-        deny: rule.deny,
-        perms: rule.perms,
-    }
-}
-
-fn file_sayings(
+/// The reason for what is asked of the object at a path.
+fn file_deciders(
     alloc: Global,
-    rules: &[FileRule],
+    compiled: &Compiled,
+    number: u16,
     path: &[u8],
     owned: bool,
-) -> Result<Vec<Saying>, AllocError>
-    ensures { IfOk result (λ s. s.items ≡ map (file_saying path.now owned) rules.now) }
+    asked: Perms,
+) -> Result<Deciders, AllocError>
+    ensures { IfOk result (λ d. reasons d ≡ reasons_by Listed.Files (map (file_saying path.now owned) (files_at compiled.now.profiles number)) asked.0) }
 {
-    rules
-        .iter()
-        .map(|rule| file_saying(rule, path, owned))
-        .collect(alloc)
+    let told = file_told(alloc, compiled, number, path, owned)?;
+    deciders_by(alloc, Listed::Files, told.as_slice(), asked)
 }
 
-fn says_how_literally(rule: &FileRule, path: &[u8], owned: bool) -> bool
-    ensures { result ≡ says_how_literally path.now owned rule.now }
-{
-    says_how(rule) && applies_literally(rule, path, owned)
-}
-
-/// Whether a rule says how by a pattern of bytes alone, so that those that do so choose.
-fn is_told_literally(rules: &[FileRule], path: &[u8], owned: bool) -> bool
-    ensures { result ≡ list_any (says_how_literally path.now owned) rules.now }
-{
-    rules
-        .iter()
-        .any(|rule| says_how_literally(rule, path, owned))
-}
-
-/// Whether a rule is one of those that choose how a program is executed.
-fn chooses(rule: &FileRule, path: &[u8], owned: bool, literally: bool) -> bool
-    ensures { result ≡ chooses literally path.now owned rule.now }
-{
-    if literally {
-        says_how_literally(rule, path, owned)
-    } else {
-        says_how(rule) && applies(rule, path, owned)
-    }
-}
-
-fn is_denial(rule: &FileRule, path: &[u8], owned: bool) -> bool
-    ensures { result ≡ is_denial path.now owned rule.now }
-{
-    rule.deny && applies(rule, path, owned)
-}
-
-fn exec_saying(rule: &FileRule, path: &[u8], owned: bool, literally: bool) -> Saying
-    ensures { result ≡ exec_saying literally path.now owned rule.now }
-{
-    Saying {
-        holds: chooses(rule, path, owned, literally) || is_denial(rule, path, owned),
-        deny: rule.deny,
-        perms: rule.perms,
-    }
-}
-
-fn exec_sayings_by(
+/// The reason for an execution.
+fn exec_deciders(
     alloc: Global,
-    rules: &[FileRule],
-    path: &[u8],
-    owned: bool,
-    literally: bool,
-) -> Result<Vec<Saying>, AllocError>
-    ensures { IfOk result (λ s. s.items ≡ map (exec_saying literally path.now owned) rules.now) }
-{
-    rules
-        .iter()
-        .map(|rule| exec_saying(rule, path, owned, literally))
-        .collect(alloc)
-}
-
-/// For each rule whether it is one of those that choose how a program is executed, or denies that it is: those that say how and apply
-/// by a pattern of bytes alone, or else all that say how and apply.
-fn exec_sayings(
-    alloc: Global,
-    rules: &[FileRule],
-    path: &[u8],
-    owned: bool,
-) -> Result<Vec<Saying>, AllocError>
-    ensures { IfOk result (λ s. s.items ≡ exec_sayings path.now owned rules.now) }
-{
-    let literally = is_told_literally(rules, path, owned);
-    exec_sayings_by(alloc, rules, path, owned, literally)
-}
-
-fn exec_deciders_of(
-    alloc: Global,
-    rules: &[FileRule],
+    compiled: &Compiled,
+    number: u16,
     exec: &ExecRequest,
 ) -> Result<Deciders, AllocError>
-    ensures { IfOk result (λ d. reasons d ≡ exec_reasons (exec_sayings exec.now.path exec.now.owned rules.now)) }
+    ensures { IfOk result (λ d. reasons d ≡ exec_reasons (exec_sayings exec.now.path exec.now.owned (files_at compiled.now.profiles number))) }
 {
-    let sayings = exec_sayings(alloc, rules, exec.path(), exec.owned())?;
-    exec_deciders(alloc, sayings.as_slice())
+    let told = exec_told(alloc, compiled, number, exec.path(), exec.owned())?;
+    exec_deciders_by(alloc, told.as_slice())
 }
-
-/// The one bit of a request that isn't about a file.
-const BIT: Perms = Perms::READ;
 
 /// The bits of all permissions but LINK and EXEC.
 const BESIDE_LINK: Perms = Perms(55);
 
-/// What a rule that isn't about files says, on one bit.
-fn saying_of(holds: bool, deny: bool) -> Saying
-    ensures { result ≡ bit_saying holds deny }
+/// The reason for a request that isn't about a file.
+fn bit_deciders(alloc: Global, listed: Listed, sayings: &[Saying]) -> Result<Deciders, AllocError>
+    ensures { IfOk result (λ d. reasons d ≡ reasons_by listed sayings.now 1) }
 {
-    Saying {
-        holds,
-        deny,
-        perms: BIT,
-    }
+    let told = speaking(alloc, sayings)?;
+    deciders_by(alloc, listed, told.as_slice(), BIT)
 }
 
-fn cap_saying(rule: &CapRule, cap: Cap) -> Saying
-    ensures { result ≡ cap_saying cap rule.now }
+fn cap_deciders(alloc: Global, rules: &[CapRule], cap: Cap) -> Result<Deciders, AllocError>
+    ensures { IfOk result (λ d. reasons d ≡ reasons_by Listed.Caps (map (cap_saying cap) rules.now) 1) }
 {
-    saying_of(holds_cap(rule, cap), rule.deny)
+    let sayings = cap_sayings(alloc, rules, cap)?;
+    bit_deciders(alloc, Listed::Caps, sayings.as_slice())
 }
 
-fn cap_sayings(alloc: Global, rules: &[CapRule], cap: Cap) -> Result<Vec<Saying>, AllocError>
-    ensures { IfOk result (λ s. s.items ≡ map (cap_saying cap) rules.now) }
-{
-    rules
-        .iter()
-        .map(|rule| cap_saying(rule, cap))
-        .collect(alloc)
-}
-
-fn net_saying(rule: &NetRule, family: Family, kind: SockType) -> Saying
-    ensures { result ≡ net_saying family kind rule.now }
-{
-    saying_of(holds_net(rule, family, kind), rule.deny)
-}
-
-fn net_sayings(
+fn net_deciders(
     alloc: Global,
     rules: &[NetRule],
     family: Family,
     kind: SockType,
-) -> Result<Vec<Saying>, AllocError>
-    ensures { IfOk result (λ s. s.items ≡ map (net_saying family kind) rules.now) }
+) -> Result<Deciders, AllocError>
+    ensures { IfOk result (λ d. reasons d ≡ reasons_by Listed.Nets (map (net_saying family kind) rules.now) 1) }
 {
-    rules
-        .iter()
-        .map(|rule| net_saying(rule, family, kind))
-        .collect(alloc)
+    let sayings = net_sayings(alloc, rules, family, kind)?;
+    bit_deciders(alloc, Listed::Nets, sayings.as_slice())
 }
 
-fn change_saying(rule: &ChangeRule, name: &[u8]) -> Saying
-    ensures { result ≡ change_saying name.now rule.now }
+fn change_deciders(alloc: Global, rules: &[ChangeRule], name: &[u8]) -> Result<Deciders, AllocError>
+    ensures { IfOk result (λ d. reasons d ≡ reasons_by Listed.Changes (map (change_saying name.now) rules.now) 1) }
 {
-    saying_of(holds_change(rule, name), rule.deny)
+    let sayings = change_sayings(alloc, rules, name)?;
+    bit_deciders(alloc, Listed::Changes, sayings.as_slice())
 }
 
-fn change_sayings(
+/// The profile with that number.
+fn profile_in(compiled: &Compiled, number: u16) -> Option<&Profile>
+    ensures { option_map (λ p. p.now) result ≡ slice_get compiled.now.profiles number }
+{
+    compiled.policy().profiles.as_slice().get(number as usize)
+}
+
+/// The reason for the answer to a request of a task in a profile, which has that number.
+fn deciders_in(
     alloc: Global,
-    rules: &[ChangeRule],
-    name: &[u8],
-) -> Result<Vec<Saying>, AllocError>
-    ensures { IfOk result (λ s. s.items ≡ map (change_saying name.now) rules.now) }
-{
-    rules
-        .iter()
-        .map(|rule| change_saying(rule, name))
-        .collect(alloc)
-}
-
-/// The reason for the answer to a request of a task in a profile: of a link that at the link's path.
-pub fn deciders_of(
-    alloc: Global,
+    compiled: &Compiled,
+    number: u16,
     profile: &Profile,
     request: &Request,
 ) -> Result<Option<Deciders>, AllocError>
+    requires { files_at compiled.now.profiles number ≡ profile.now.files }
     ensures { IfOk result (λ d. option_map reasons d ≡ reasons_of profile.now request.now) }
 {
-    let files = profile.files.as_slice();
-    let (listed, sayings, asked) = match request {
-        Request::File(file) => (
-            Listed::Files,
-            file_sayings(alloc, files, file.path(), file.owned())?,
-            file.mask(),
-        ),
-        Request::Link(link) => (
-            Listed::Files,
-            file_sayings(alloc, files, link.link(), link.owned())?,
-            Perms::LINK,
-        ),
-        Request::Exec(exec) => {
-            return Ok(Some(exec_deciders_of(alloc, files, exec)?));
+    let deciders = match request {
+        Request::File(file) => {
+            let asked = file.mask();
+            file_deciders(alloc, compiled, number, file.path(), file.owned(), asked)?
         }
-        Request::Cap(cap) => (
-            Listed::Caps,
-            cap_sayings(alloc, profile.caps.as_slice(), *cap)?,
-            BIT,
-        ),
-        Request::Net(family, kind) => (
-            Listed::Nets,
-            net_sayings(alloc, profile.nets.as_slice(), *family, *kind)?,
-            BIT,
-        ),
-        Request::Change(change) => (
-            Listed::Changes,
-            change_sayings(alloc, profile.changes.as_slice(), change.name())?,
-            BIT,
-        ),
+        Request::Link(link) => {
+            let asked = Perms::LINK;
+            file_deciders(alloc, compiled, number, link.link(), link.owned(), asked)?
+        }
+        Request::Exec(exec) => exec_deciders(alloc, compiled, number, exec)?,
+        Request::Cap(cap) => cap_deciders(alloc, profile.caps.as_slice(), *cap)?,
+        Request::Net(family, kind) => {
+            net_deciders(alloc, profile.nets.as_slice(), *family, *kind)?
+        }
+        Request::Change(change) => {
+            change_deciders(alloc, profile.changes.as_slice(), change.name())?
+        }
         Request::Reload(_) => return Ok(None),
     };
-    Ok(Some(deciders_by(alloc, listed, sayings.as_slice(), asked)?))
+    Ok(Some(deciders))
+}
+
+/// The reason for the answer to a request of a task in the profile with that number: of a link that at the link's path. None where there
+/// is no such profile. Of the profile's file rules those alone are looked at of which a pattern matches the path.
+pub fn deciders_of(
+    alloc: Global,
+    compiled: &Compiled,
+    number: u16,
+    request: &Request,
+) -> Result<Option<Deciders>, AllocError>
+    ensures { IfOk result (λ d. option_map reasons d ≡ option_and_then (λ (p : Profile). reasons_of p request.now) (slice_get compiled.now.profiles number)) }
+{
+    match profile_in(compiled, number) {
+        Some(profile) => deciders_in(alloc, compiled, number, profile, request),
+        None => Ok(None),
+    }
 }
 
 /// What the rules grant beside LINK and EXEC.
-fn granted_beside(sayings: &[Saying]) -> Perms
-    ensures { result.0 ≡ granted_beside sayings.now }
+fn granted_beside(told: &[Told]) -> Perms
+    ensures { result.0 ≡ granted_beside (sayings_of told.now) }
 {
-    let left = unnamed(sayings, true, BESIDE_LINK);
-    left_of(left, unnamed(sayings, false, left))
+    let left = unnamed(told, true, BESIDE_LINK);
+    left_of(left, unnamed(told, false, left))
 }
 
-/// The reason for what a link's target has to grant: the permissions beside LINK and EXEC that the link's path grants.
-pub fn target_deciders(
+/// What a link's path grants beside LINK and EXEC, which its target has to grant.
+fn wanted_of_target(
     alloc: Global,
+    compiled: &Compiled,
+    number: u16,
+    link: &LinkRequest,
+) -> Result<Perms, AllocError>
+    ensures { IfOk result (λ perms. perms.0 ≡ granted_beside (map (file_saying link.now.link link.now.owned) (files_at compiled.now.profiles number))) }
+{
+    let told = file_told(alloc, compiled, number, link.link(), link.owned())?;
+    Ok(granted_beside(told.as_slice()))
+}
+
+/// The reason for what a link's target has to grant, by the rules of a profile, which has that number.
+fn target_in(
+    alloc: Global,
+    compiled: &Compiled,
+    number: u16,
     profile: &Profile,
     request: &Request,
 ) -> Result<Option<Deciders>, AllocError>
+    requires { files_at compiled.now.profiles number ≡ profile.now.files }
     ensures { IfOk result (λ d. option_map reasons d ≡ target_reasons profile.now request.now) }
 {
+    let _profile = profile;
     let Request::Link(link) = request else {
         return Ok(None);
     };
-    let files = profile.files.as_slice();
-    let at_link = file_sayings(alloc, files, link.link(), link.owned())?;
-    let asked = granted_beside(at_link.as_slice());
-    let sayings = file_sayings(alloc, files, link.target(), link.owned())?;
-    Ok(Some(deciders_by(alloc, Listed::Files, sayings.as_slice(), asked)?))
+    let asked = wanted_of_target(alloc, compiled, number, link)?;
+    let deciders = file_deciders(alloc, compiled, number, link.target(), link.owned(), asked)?;
+    Ok(Some(deciders))
+}
+
+/// The reason for what a link's target has to grant: the permissions beside LINK and EXEC that the link's path grants. None where there is
+/// no profile with that number, and for other requests.
+pub fn target_deciders(
+    alloc: Global,
+    compiled: &Compiled,
+    number: u16,
+    request: &Request,
+) -> Result<Option<Deciders>, AllocError>
+    ensures { IfOk result (λ d. option_map reasons d ≡ option_and_then (λ (p : Profile). target_reasons p request.now) (slice_get compiled.now.profiles number)) }
+{
+    match profile_in(compiled, number) {
+        Some(profile) => target_in(alloc, compiled, number, profile, request),
+        None => Ok(None),
+    }
 }

@@ -6,8 +6,10 @@ mod pairs;
 mod places;
 mod search;
 mod texts;
+mod told;
 mod ways;
 
 pub use deciders::{Decider, Deciders, Listed, deciders_of, target_deciders};
 pub use places::{Extent, ProfilePlaces, rule_places};
 pub use search::{Clash, clash_of};
+pub use told::Saying;

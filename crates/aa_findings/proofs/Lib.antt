@@ -2,3 +2,4 @@ mod Elements
 mod Standing
 mod Telling
 mod Loops
+mod Parents

@@ -1,5 +1,5 @@
 -- Rows at the paths of the regions stand for all files.
-use Rattle.std.proofs.Common.{◌≡◌, ◌⊎◌, ℕ, List, [], ◌∷◌, ◌++◌, Bool, true, false, Option, Contains, refl, ap, ◌∙◌, subst, ⊎_elim}
+use Rattle.std.proofs.Common.{◌≡◌, ℕ, List, [], ◌∷◌, ◌++◌, Bool, true, false, Contains, refl, subst, ⊎_elim}
 use Rattle.std.specs.List.{flat_map}
 use Rattle.std.proofs.lemmas.List.Elements.{Contains-append_left, Contains-push}
 use Rattle.aa_pattern.specs.declared.item.Item.{Item}
@@ -13,13 +13,10 @@ use Rattle.aa_compile.proofs.ConflictLemmas.{in_head, in_tail, in_cases, not_in}
 use Rattle.aa_representatives.proofs.Standing.{same_list}
 use Rattle.aa_findings.proofs.Elements.{in_flat_map, flat_map_in}
 use Rattle.aa_findings.specs.declared.rows.Row.{Row}
-use Rattle.aa_model.specs.declared.policy.Profile.{Profile}
-use Rattle.aa_findings.specs.declared.finding.Finding.{Finding}
 use Rattle.aa_findings.specs.declared.fault.FindingsFault.{FindingsFault}
 use Rattle.aa_findings.specs.declared.fault.FindingsFault.TheVariants.{NoMemory, TooManyPatterns, TooManyStates}
 use Rattle.aa_findings.specs.Faults.{IsFaultOf}
 use Rattle.aa_findings.specs.Rows.{below_root, row_of, rows_at, StandsFor, AreRows, HasNoRows}
-use Rattle.aa_findings.specs.Attached.{patterns_below, tied_path, ties_along, AddsTie}
 
 module _ (rules : List FileRule) (all : Pattern) (regions : List Region) (is_all : all.items.items ≡ below_root) (are : ArePathRegions (patterns_of rules ++ all ∷ []) regions) where
   abbrev pub at_region : Region → List Row
@@ -74,13 +71,3 @@ pub no_rows : (rules : List FileRule) (all : Pattern) (patterns : List Pattern) 
 no_rows rules all patterns limit NoMemory same is why = tt
 no_rows rules all patterns limit TooManyPatterns same is why = (all, is, subst (λ (ps : List Pattern). IsFaultOf ps limit TooManyPatterns) same why)
 no_rows rules all patterns limit TooManyStates same is why = (all, is, subst (λ (ps : List Pattern). IsFaultOf ps limit TooManyStates) same why)
-
--- a tie is added by the regions of attachments
-pub tie_added : (profiles : List Profile) (parent : Option ℕ) (n : ℕ) (patterns : List Pattern) (found regions : List Region) (paths texts : List (List ℕ)) (was now : List Finding)
-    → patterns ≡ patterns_below parent profiles → ArePathRegions patterns found → regions ≡ found
-    → paths ≡ flat_map (λ (r : Region). tied_path profiles parent n r.witness) regions → texts ≡ paths → now ≡ was ++ ties_along profiles parent n texts → AddsTie profiles parent n was now
-tie_added profiles parent n patterns found regions paths texts was now e are f g h added = record {
-  regions = found;
-  are = subst (λ (ps : List Pattern). ArePathRegions ps found) e are;
-  added = added ∙ ap (λ (ts : List (List ℕ)). was ++ ties_along profiles parent n ts) (h ∙ g ∙ ap (λ (rs : List Region). flat_map (λ (r : Region). tied_path profiles parent n r.witness) rs) f);
-}

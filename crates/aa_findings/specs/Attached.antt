@@ -1,6 +1,6 @@
 -- Attachments that tie.
 -- Source: apparmor.d(5), "Profile Head"; own.
-use Rattle.std.specs.Prelude.{◌≡◌, ℕ, zero, suc, ◌==◌, List, [], ◌∷◌, ◌++◌, length, flat_map, Bool, Option, Some, None, is_some, if◌then◌else◌}
+use Rattle.std.specs.Prelude.{◌≡◌, ℕ, zero, suc, ◌==◌, List, [], ◌∷◌, ◌++◌, length, map, flat_map, Bool, Option, Some, None, is_some, if◌then◌else◌}
 use Rattle.std.specs.List.{list_any, slice_get}
 use Rattle.std.specs.Option.{option_map_or}
 use Rattle.aa_pattern.specs.declared.pattern.Pattern.{Pattern}
@@ -11,6 +11,7 @@ use Rattle.aa_regions.specs.declared.regions.Region.{Region}
 use Rattle.aa_regions.specs.Regions.{ArePathRegions}
 use Rattle.aa_compile.specs.declared.attach.Attachment.{Attachment}
 use Rattle.aa_compile.specs.Attached.{attachment_by, strongest}
+use Rattle.aa_findings.specs.declared.attached.Shared.{Shared}
 use Rattle.aa_findings.specs.declared.finding.Finding.{Finding}
 use Rattle.aa_findings.specs.declared.finding.Kind.TheVariants.{Tie}
 use Rattle.aa_findings.specs.declared.finding.Subject.TheVariants.{Attachments}
@@ -42,13 +43,34 @@ first_other n (a ∷ rest) = if a.profile == n then None else Some a.profile
 abbrev pub tied_by : ℕ → List Attachment → Option ℕ
 tied_by n as' = if is_of n as' then first_other n as' else None
 
+-- a path, and the attachments below a parent that match it, none more strongly
+pub record Sharing : Type 0 where
+  pub path : List ℕ
+  pub strong : List Attachment
+
+-- the same of what the code keeps
+abbrev pub sharing : Shared → Sharing
+sharing s = record { path = s.path; strong = s.strong.items }
+
+-- those of a path
+abbrev pub shared_at : List Profile → Option ℕ → List ℕ → Sharing
+shared_at profiles parent path = record { path = path; strong = strongest (matches_before path parent profiles (length profiles)) }
+
+-- those of the paths of regions
+abbrev pub shared_by : List Profile → Option ℕ → List Region → List Sharing
+shared_by profiles parent regions = map (λ (r : Region). shared_at profiles parent r.witness) regions
+
 -- so of the attachments below a parent that match the path
 abbrev pub tied_at : List Profile → Option ℕ → ℕ → List ℕ → Option ℕ
-tied_at profiles parent n path = tied_by n (strongest (matches_before path parent profiles (length profiles)))
+tied_at profiles parent n path = tied_by n (shared_at profiles parent path).strong
+
+-- the path, if an earlier profile is attached as strongly there as profile n
+abbrev pub tied_in : ℕ → Sharing → List (List ℕ)
+tied_in n s = if is_some (tied_by n s.strong) then s.path ∷ [] else []
 
 -- the path, if an earlier profile is attached to it as strongly as profile n
 abbrev pub tied_path : List Profile → Option ℕ → ℕ → List ℕ → List (List ℕ)
-tied_path profiles parent n path = if is_some (tied_at profiles parent n path) then path ∷ [] else []
+tied_path profiles parent n path = tied_in n (shared_at profiles parent path)
 
 -- the attachments of a profile, if that is its parent, or if it has none where none is given
 abbrev pub attachments_if : Option ℕ → Profile → List Pattern

@@ -7,6 +7,7 @@ use Rattle.aa_model.specs.declared.rule.FileRule.{FileRule}
 use Rattle.aa_compile.specs.Said.{granted}
 use Rattle.aa_compile.specs.FileRules.{any_sort, applies_by}
 use Rattle.aa_findings.specs.declared.rows.Row.{Row}
+use Rattle.aa_findings.specs.Rules.{lets_free}
 use Rattle.aa_findings.specs.Sameness.{same, says_alike}
 
 -- the permissions to write and to append
@@ -25,7 +26,11 @@ applies_at r row = applies_by any_sort row.path row.owned r
 abbrev pub is_executed : Row → Bool
 is_executed row = shares (granted row.sets) only_exec
 
--- they let write it, or append to it, as the rule allows
+-- they do, the rule lets execute it, and that execution may end unconfined
+abbrev pub is_unconfined_exec : FileRule → Row → Bool
+is_unconfined_exec r row = lets_free r && (is_executed row && applies_at r row)
+
+-- the rules let write it, or append to it, as the rule allows
 abbrev pub is_written : FileRule → Row → Bool
 is_written r row = shares (granted row.sets) (bit_and r.perms.0 to_write)
 
@@ -45,9 +50,9 @@ is_on_all rows r = not r.deny && not (list_any (lacks r) rows)
 abbrev pub overrules : FileRule → Row → Bool
 overrules r row = shares r.perms.0 row.sets.allow.0 && applies_at r row
 
--- the rule denies without audit, in a profile that doesn't complain, and nowhere what another allows
+-- the rule denies, in a profile that doesn't complain, and nowhere what another allows
 abbrev pub is_idle : Bool → List Row → FileRule → Bool
-is_idle complain rows r = not complain && (r.deny && (not r.audit && not (list_any (overrules r) rows)))
+is_idle complain rows r = not complain && (r.deny && not (list_any (overrules r) rows))
 
 -- one of the rules alone applies to the file
 abbrev pub differ_at : FileRule → FileRule → Row → Bool

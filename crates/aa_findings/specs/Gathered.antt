@@ -1,6 +1,6 @@
 -- What is found of the rules of a profile, in their order.
 -- Source: own.
-use Rattle.std.specs.Prelude.{ℕ, zero, suc, List, [], ◌∷◌, ◌++◌, length, take, Bool, Option, Some, None, position, if◌then◌else◌, flat_map}
+use Rattle.std.specs.Prelude.{ℕ, zero, suc, List, [], ◌∷◌, ◌++◌, length, take, Bool, false, Option, Some, None, position, if◌then◌else◌, flat_map}
 use Rattle.std.specs.List.{slice_get}
 use Rattle.std.specs.Option.{option_map_or}
 use Rattle.aa_model.specs.declared.rule.FileRule.{FileRule}
@@ -10,12 +10,12 @@ use Rattle.aa_model.specs.declared.rule.ChangeRule.{ChangeRule}
 use Rattle.aa_model.specs.declared.policy.Profile.{Profile}
 use Rattle.aa_findings.specs.declared.finding.Finding.{Finding}
 use Rattle.aa_findings.specs.declared.finding.Kind.{Kind}
-use Rattle.aa_findings.specs.declared.finding.Kind.TheVariants.{UnconfinedExec, WrittenExec, AllFiles, AnyProfile, Duplicate, IdleDeny}
+use Rattle.aa_findings.specs.declared.finding.Kind.TheVariants.{UnconfinedExec, WrittenExec, AllFiles, AnyProfile, Duplicate, IdleDeny, Tie}
 use Rattle.aa_findings.specs.declared.finding.Subject.{Subject}
 use Rattle.aa_findings.specs.declared.finding.Subject.TheVariants as of
 use Rattle.aa_findings.specs.declared.rows.Row.{Row}
-use Rattle.aa_findings.specs.Rules.{is_unconfined_exec, is_any_profile}
-use Rattle.aa_findings.specs.Files.{is_written_exec, is_on_all, is_idle, repeats}
+use Rattle.aa_findings.specs.Rules.{is_any_profile}
+use Rattle.aa_findings.specs.Files.{is_unconfined_exec, is_written_exec, is_on_all, is_idle, repeats}
 use Rattle.aa_findings.specs.Sorts.{same_caps, is_idle_cap, same_nets, is_idle_net}
 use Rattle.aa_findings.specs.Shortest.{nearest}
 
@@ -28,27 +28,37 @@ abbrev pub found_again : Option ℕ → Subject → List Finding
 found_again None subject = []
 found_again (Some n) subject = record { kind = Duplicate; subject = subject; other = Some n; path = None } ∷ []
 
--- the path of a row, if the rule lets write what may be executed there
-abbrev pub written_at : FileRule → Row → List (List ℕ)
-written_at r row = if is_written_exec r row then row.path ∷ [] else []
+-- a finding that a file shows
+abbrev pub shows : Kind → FileRule → Row → Bool
+shows UnconfinedExec r row = is_unconfined_exec r row
+shows WrittenExec r row = is_written_exec r row
+shows AllFiles r row = false
+shows AnyProfile r row = false
+shows Duplicate r row = false
+shows IdleDeny r row = false
+shows Tie r row = false
 
--- the paths of all rows at which it does
-abbrev pub written_paths : List Row → FileRule → List (List ℕ)
-written_paths rows r = flat_map (written_at r) rows
+-- the path of a row that shows it
+abbrev pub shown_at : Kind → FileRule → Row → List (List ℕ)
+shown_at kind r row = if shows kind r row then row.path ∷ [] else []
 
--- that what a rule lets write may be executed, with a path, if there is one
-abbrev pub found_by : Option (List ℕ) → Subject → List Finding
-found_by None subject = []
-found_by (Some path) subject = record { kind = WrittenExec; subject = subject; other = None; path = Some path } ∷ []
+-- the paths of all rows that do
+abbrev pub shown_paths : Kind → List Row → FileRule → List (List ℕ)
+shown_paths kind rows r = flat_map (shown_at kind r) rows
+
+-- a finding with a path, if there is one
+abbrev pub found_by : Kind → Option (List ℕ) → Subject → List Finding
+found_by kind None subject = []
+found_by kind (Some path) subject = record { kind = kind; subject = subject; other = None; path = Some path } ∷ []
 
 -- with the first of the shortest of these paths
-abbrev pub found_along : List (List ℕ) → Subject → List Finding
-found_along paths subject = found_by (nearest paths (length paths)) subject
+abbrev pub found_along : Kind → List (List ℕ) → Subject → List Finding
+found_along kind paths subject = found_by kind (nearest paths (length paths)) subject
 
 -- of rule n on files
 unfoldable pub of_file : Bool → List Row → List FileRule → ℕ → FileRule → List Finding
 of_file complain rows rules n r =
-    found_if (is_unconfined_exec r) UnconfinedExec (of.File n) ++ found_along (written_paths rows r) (of.File n)
+    found_along UnconfinedExec (shown_paths UnconfinedExec rows r) (of.File n) ++ found_along WrittenExec (shown_paths WrittenExec rows r) (of.File n)
     ++ found_if (is_on_all rows r) AllFiles (of.File n) ++ found_again (position (repeats rows r) (take n rules)) (of.File n) ++ found_if (is_idle complain rows r) IdleDeny (of.File n)
 
 -- of the first n rules on files
@@ -75,13 +85,13 @@ nets_before complain rules zero = []
 nets_before complain rules (suc n) = nets_before complain rules n ++ option_map_or (of_net complain rules n) (slice_get rules n) []
 
 -- of rule n on changes of the profile
-abbrev pub of_change : ℕ → ChangeRule → List Finding
-of_change n r = found_if (is_any_profile r) AnyProfile (of.Change n)
+abbrev pub of_change : List ChangeRule → ℕ → ChangeRule → List Finding
+of_change rules n r = found_if (is_any_profile rules r) AnyProfile (of.Change n)
 
 -- of the first n of them
 abbrev pub changes_before : List ChangeRule → ℕ → List Finding
 changes_before rules zero = []
-changes_before rules (suc n) = changes_before rules n ++ option_map_or (of_change n) (slice_get rules n) []
+changes_before rules (suc n) = changes_before rules n ++ option_map_or (of_change rules n) (slice_get rules n) []
 
 -- of all rules of a profile, by rows that stand for all files
 unfoldable pub of_rules : List Row → Profile → List Finding

@@ -8,5 +8,6 @@ pub mod Sorts
 pub mod Shortest
 pub mod Gathered
 pub mod Attached
+pub mod Below
 pub mod Found
 pub mod Laws

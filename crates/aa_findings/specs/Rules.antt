@@ -1,6 +1,7 @@
 -- Rules that let a program run unconfined.
 -- Source: apparmor.d(5), "Access Modes", "change_profile rules"; own.
-use Rattle.std.specs.Prelude.{Bool, true, false, not, ◌&&◌, ◌||◌, Option, Some, None, is_some}
+use Rattle.std.specs.Prelude.{List, Bool, true, false, not, ◌&&◌, ◌||◌, Option, Some, None, is_some}
+use Rattle.std.specs.List.{list_any}
 use Rattle.aa_model.specs.declared.rule.Exec.{Exec}
 use Rattle.aa_model.specs.declared.rule.ExecKind.{ExecKind}
 use Rattle.aa_model.specs.declared.rule.ExecKind.TheVariants as kind
@@ -32,9 +33,13 @@ unconfined_by deny None = false
 unconfined_by deny (Some e) = not deny && ends_unconfined e
 
 -- what the rule lets execute may end unconfined
-abbrev pub is_unconfined_exec : FileRule → Bool
-is_unconfined_exec r = unconfined_by r.deny r.exec
+abbrev pub lets_free : FileRule → Bool
+lets_free r = unconfined_by r.deny r.exec
 
--- the rule lets change to each name
-abbrev pub is_any_profile : ChangeRule → Bool
-is_any_profile r = not r.deny && not (is_some r.pattern)
+-- the rule denies each name
+abbrev pub denies_all : ChangeRule → Bool
+denies_all r = r.deny && not (is_some r.pattern)
+
+-- the rule lets change to each name, and none denies each
+abbrev pub is_any_profile : List ChangeRule → ChangeRule → Bool
+is_any_profile rules r = not r.deny && (not (is_some r.pattern) && not (list_any denies_all rules))

@@ -14,9 +14,9 @@ same_caps q r = same q.audit r.audit && (same q.deny r.deny && q.caps.0 == r.cap
 abbrev pub allows_cap : CapRule → CapRule → Bool
 allows_cap r other = not other.deny && not (bit_and r.caps.0 other.caps.0 == 0)
 
--- the rule denies without audit, in a profile that doesn't complain, and nothing that another allows
+-- the rule denies, in a profile that doesn't complain, and nothing that another allows
 abbrev pub is_idle_cap : Bool → List CapRule → CapRule → Bool
-is_idle_cap complain rules r = not complain && (r.deny && (not r.audit && not (list_any (allows_cap r) rules)))
+is_idle_cap complain rules r = not complain && (r.deny && not (list_any (allows_cap r) rules))
 
 -- both say the same of the same sockets
 abbrev pub same_nets : NetRule → NetRule → Bool
@@ -26,6 +26,6 @@ same_nets q r = same q.audit r.audit && (same q.deny r.deny && (q.families == r.
 abbrev pub allows_net : NetRule → NetRule → Bool
 allows_net r other = not other.deny && (not (bit_and r.families other.families == 0) && not (bit_and r.kinds other.kinds == 0))
 
--- the rule denies without audit, in a profile that doesn't complain, and nothing that another allows
+-- the rule denies, in a profile that doesn't complain, and nothing that another allows
 abbrev pub is_idle_net : Bool → List NetRule → NetRule → Bool
-is_idle_net complain rules r = not complain && (r.deny && (not r.audit && not (list_any (allows_net r) rules)))
+is_idle_net complain rules r = not complain && (r.deny && not (list_any (allows_net r) rules))

@@ -1,17 +1,13 @@
 //! Attachments that tie.
 
-ghost use Rattle.std.specs.Prelude.{◌≡◌, ◌≤◌, ◌<◌, ◌++◌, ◌∷◌, [], length, flat_map, if◌then◌else◌, IfOk, IfErr, OnOk};
+ghost use Rattle.std.specs.Prelude.{◌≡◌, ◌≤◌, ◌++◌, ◌∷◌, [], length, map, flat_map, if◌then◌else◌, IfOk, OnOk};
 ghost use Rattle.std.specs.List.{list_any};
-ghost use Rattle.aa_pattern.specs.Limits.{most_states};
 ghost use Rattle.aa_auto.specs.Nodes.{pointed};
 ghost use Rattle.aa_compile.specs.Attached.{is_strong, longest, strongest};
-ghost use Rattle.aa_findings.specs.Faults.{IsFaultOf};
-ghost use Rattle.aa_findings.specs.Attached.{match_of, matches_of, matches_before, is_of, first_other, tied_at, tied_path, attachments_if, patterns_below, ties_along, AddsTie};
+ghost use Rattle.aa_findings.specs.Attached.{match_of, matches_of, matches_before, is_of, first_other, sharing, shared_at, shared_by, tied_by, tied_at, tied_in, attachments_if, patterns_below, ties_along};
 
-use crate::fault::FindingsFault;
 use crate::finding::{Finding, Kind, Subject};
 use crate::patterns::add_patterns;
-use crate::rows::regions_by;
 use crate::shortest::shortest;
 use aa_base::Text;
 use aa_compile::{Attachment, is_matched};
@@ -168,46 +164,77 @@ fn tied_at(
     requires { length profiles.now ≤ 4096 }
     ensures { IfOk result (λ other. other ≡ tied_at profiles.now parent number path.now) }
 {
-    let matches = matches_at(alloc, path, parent, profiles)?;
-    let strong = strongest(alloc, matches.as_slice())?;
-    if is_of(strong.as_slice(), number) {
-        return Ok(first_other(strong.as_slice(), number));
-    }
-    Ok(None)
+    let shared = shared_at(alloc, profiles, parent, path)?;
+    Ok(tied_by(shared.strong.as_slice(), number))
 }
 
-fn push_tied(
-    paths: &mut Vec<Text>,
+/// A path, and the attachments below a parent that match it, none more strongly.
+#[derive(Drop)]
+pub(crate) struct Shared {
+    pub(crate) path: Text,
+    pub(crate) strong: Vec<Attachment>,
+}
+
+fn shared_at(
     alloc: Global,
     profiles: &[Profile],
     parent: Option<u16>,
-    number: u16,
     path: &[u8],
-) -> Result<(), AllocError>
+) -> Result<Shared, AllocError>
     requires { length profiles.now ≤ 4096 }
-    ensures { OnOk result (paths.new.items ≡ paths.old.items ++ tied_path profiles.now parent number path.now) }
+    ensures { IfOk result (λ s. sharing s ≡ shared_at profiles.now parent path.now) }
 {
-    if tied_at(alloc, profiles, parent, number, path)?.is_some() {
-        paths.push(Text::copy_of(alloc, path)?)?;
+    let matches = matches_at(alloc, path, parent, profiles)?;
+    Ok(Shared {
+        path: Text::copy_of(alloc, path)?,
+        strong: strongest(alloc, matches.as_slice())?,
+    })
+}
+
+/// Those at the paths of regions.
+pub(crate) fn shared_by(
+    alloc: Global,
+    profiles: &[Profile],
+    parent: Option<u16>,
+    regions: &[Region],
+) -> Result<Vec<Shared>, AllocError>
+    requires { length profiles.now ≤ 4096 }
+    ensures { IfOk result (λ list. map sharing list.items ≡ shared_by profiles.now parent regions.now) }
+{
+    let mut list = Vec::new(alloc);
+    for region in regions {
+        let path = region.witness.as_slice();
+        list.push(shared_at(alloc, profiles, parent, path)?)?;
+    }
+    Ok(list)
+}
+
+/// The earlier profile that is attached as strongly as the one with that number, where nothing is more strongly.
+fn tied_by(strong: &[Attachment], number: u16) -> Option<u16>
+    ensures { result ≡ tied_by number strong.now }
+{
+    if is_of(strong, number) {
+        return first_other(strong, number);
+    }
+    None
+}
+
+fn push_tied(paths: &mut Vec<Text>, number: u16, shared: &Shared) -> Result<(), AllocError>
+    ensures { OnOk result (paths.new.items ≡ paths.old.items ++ tied_in number (sharing shared.now)) }
+{
+    if tied_by(shared.strong.as_slice(), number).is_some() {
+        paths.push(shared.path.try_clone()?)?;
     }
     Ok(())
 }
 
-/// The paths of the regions at which it ties.
-fn tied_paths(
-    alloc: Global,
-    profiles: &[Profile],
-    parent: Option<u16>,
-    number: u16,
-    regions: &[Region],
-) -> Result<Vec<Text>, AllocError>
-    requires { length profiles.now ≤ 4096 }
-    ensures { IfOk result (λ paths. paths.items ≡ flat_map (λ r. tied_path profiles.now parent number r.witness) regions.now) }
+/// The paths at which it ties.
+fn tied_paths(alloc: Global, number: u16, all: &[Shared]) -> Result<Vec<Text>, AllocError>
+    ensures { IfOk result (λ paths. paths.items ≡ flat_map (tied_in number) (map sharing all.now)) }
 {
     let mut paths = Vec::new(alloc);
-    for region in regions {
-        let path = region.witness.as_slice();
-        push_tied(&mut paths, alloc, profiles, parent, number, path)?;
+    for shared in all {
+        push_tied(&mut paths, number, shared)?;
     }
     Ok(paths)
 }
@@ -227,7 +254,7 @@ fn add_if_below<'p>(
 }
 
 /// The attachments of the profiles below a parent, or of the top-level profiles where none is given.
-fn patterns_below(
+pub(crate) fn patterns_below(
     alloc: Global,
     profiles: &[Profile],
     parent: Option<u16>,
@@ -280,26 +307,13 @@ pub(crate) fn push_tie(
     found: &mut Vec<Finding>,
     alloc: Global,
     profiles: &[Profile],
+    parent: Option<u16>,
     number: u16,
-    profile: &Profile,
-    limit: usize,
-) -> Result<(), FindingsFault>
-    requires few { length profiles.now ≤ 4096 }
-    requires some { 0 < limit }
-    requires limit { limit ≤ most_states }
-    ensures tie { OnOk result (AddsTie profiles.now profile.now.parent number found.old.items found.new.items) }
-    ensures many { IfErr result (λ e. IsFaultOf (patterns_below profile.now.parent profiles.now) limit e) }
+    all: &[Shared],
+) -> Result<(), AllocError>
+    requires { length profiles.now ≤ 4096 }
+    ensures { OnOk result (found.new.items ≡ found.old.items ++ ties_along profiles.now parent number (flat_map (tied_in number) (map sharing all.now))) }
 {
-    let patterns = patterns_below(alloc, profiles, profile.parent)?;
-    let regions = regions_by(alloc, patterns.as_slice(), limit)?;
-    let paths = tied_paths(alloc, profiles, profile.parent, number, regions.as_slice())?;
-    push_along(
-        found,
-        alloc,
-        profiles,
-        profile.parent,
-        number,
-        paths.as_slice(),
-    )?;
-    Ok(())
+    let paths = tied_paths(alloc, number, all)?;
+    push_along(found, alloc, profiles, parent, number, paths.as_slice())
 }

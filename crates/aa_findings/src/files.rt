@@ -3,8 +3,9 @@
 ghost use Rattle.std.specs.Prelude.{◌≡◌, position};
 ghost use Rattle.std.specs.List.{list_any};
 ghost use Rattle.aa_compile.specs.Said.{granted};
-ghost use Rattle.aa_findings.specs.Files.{shares, applies_at, is_executed, is_written, is_written_exec, lacks, is_on_all, overrules, is_idle, differ_at, repeats};
+ghost use Rattle.aa_findings.specs.Files.{shares, applies_at, is_executed, is_unconfined_exec, is_written, is_written_exec, lacks, is_on_all, overrules, is_idle, differ_at, repeats};
 
+use crate::exec::lets_free;
 use crate::rows::Row;
 use crate::sameness::{same, says_alike};
 use aa_base::Perms;
@@ -37,6 +38,13 @@ fn is_executed(row: &Row) -> bool
     ensures { result ≡ is_executed row.now }
 {
     shares(granted(row.sets), Perms::EXEC)
+}
+
+/// Whether the rule and the profile let execute the file, and the execution may end unconfined.
+pub(crate) fn is_unconfined_exec(rule: &FileRule, row: &Row) -> bool
+    ensures { result ≡ is_unconfined_exec rule.now row.now }
+{
+    lets_free(rule) && is_executed(row) && applies_at(rule, row)
 }
 
 fn is_written(rule: &FileRule, row: &Row) -> bool
@@ -83,11 +91,11 @@ fn overrules_one(rows: &[Row], rule: &FileRule) -> bool
     rows.iter().any(|row| overrules(rule, row))
 }
 
-/// Whether the rule denies without audit, in a profile that doesn't complain, and nothing that another allows.
+/// Whether the rule denies, in a profile that doesn't complain, and nothing that another allows.
 pub(crate) fn is_idle(complain: bool, rows: &[Row], rule: &FileRule) -> bool
     ensures { result ≡ is_idle complain rows.now rule.now }
 {
-    !complain && rule.deny && !rule.audit && !overrules_one(rows, rule)
+    !complain && rule.deny && !overrules_one(rows, rule)
 }
 
 fn differ_at(one: &FileRule, other: &FileRule, row: &Row) -> bool

@@ -1,11 +1,10 @@
 //! What is found of a profile, in the order of its rules.
 
-ghost use Rattle.std.specs.Prelude.{◌≡◌, ◌<◌, ◌++◌, ◌∷◌, [], Some, None, IfOk, OnOk, length, if◌then◌else◌};
-ghost use Rattle.aa_findings.specs.Files.{is_written_exec};
-ghost use Rattle.aa_findings.specs.Gathered.{found_if, found_along, found_again, written_paths, of_file, of_cap, of_net, of_change, files_before, caps_before, nets_before, changes_before, of_rules};
+ghost use Rattle.std.specs.Prelude.{◌≡◌, ◌<◌, ◌++◌, IfOk, OnOk, length};
+ghost use Rattle.aa_findings.specs.Gathered.{found_if, found_along, found_again, shows, shown_at, shown_paths, of_file, of_cap, of_net, of_change, files_before, caps_before, nets_before, changes_before, of_rules};
 
-use crate::exec::{is_any_profile, is_unconfined_exec};
-use crate::files::{is_idle, is_on_all, is_written_exec, repeated};
+use crate::exec::is_any_profile;
+use crate::files::{is_idle, is_on_all, is_unconfined_exec, is_written_exec, repeated};
 use crate::finding::{Finding, Kind, Subject};
 use crate::rows::Row;
 use crate::shortest::shortest;
@@ -53,39 +52,60 @@ fn push_again(
     Ok(())
 }
 
-/// The path of a row where the rule lets write what may be executed.
-fn push_written(paths: &mut Vec<Text>, rule: &FileRule, row: &Row) -> Result<(), AllocError>
-    ensures { OnOk result (paths.new.items ≡ paths.old.items ++ (if is_written_exec rule.now row.now then row.now.path ∷ [] else [])) }
+/// Whether a file shows a finding of the rule.
+fn shows(kind: Kind, rule: &FileRule, row: &Row) -> bool
+    ensures { result ≡ shows kind rule.now row.now }
 {
-    if is_written_exec(rule, row) {
+    match kind {
+        Kind::UnconfinedExec => is_unconfined_exec(rule, row),
+        Kind::WrittenExec => is_written_exec(rule, row),
+        _ => false,
+    }
+}
+
+fn push_shown(
+    paths: &mut Vec<Text>,
+    kind: Kind,
+    rule: &FileRule,
+    row: &Row,
+) -> Result<(), AllocError>
+    ensures { OnOk result (paths.new.items ≡ paths.old.items ++ shown_at kind rule.now row.now) }
+{
+    if shows(kind, rule, row) {
         paths.push(row.path.try_clone()?)?;
     }
     Ok(())
 }
 
-/// The paths at which the rule lets write what may be executed.
-fn written_paths(alloc: Global, rows: &[Row], rule: &FileRule) -> Result<Vec<Text>, AllocError>
-    ensures { IfOk result (λ paths. paths.items ≡ written_paths rows.now rule.now) }
+/// The paths that show it.
+fn shown_paths(
+    alloc: Global,
+    kind: Kind,
+    rows: &[Row],
+    rule: &FileRule,
+) -> Result<Vec<Text>, AllocError>
+    ensures { IfOk result (λ paths. paths.items ≡ shown_paths kind rows.now rule.now) }
 {
     let mut paths = Vec::new(alloc);
     for row in rows {
-        push_written(&mut paths, rule, row)?;
+        push_shown(&mut paths, kind, rule, row)?;
     }
     Ok(paths)
 }
 
-/// Adds that the rule lets write what may be executed, with the shortest of these paths, where there are any.
+/// Adds a finding with the shortest of these paths, where there are any.
 fn push_along(
     found: &mut Vec<Finding>,
     alloc: Global,
+    kind: Kind,
     paths: &[Text],
     subject: Subject,
 ) -> Result<(), AllocError>
-    ensures { OnOk result (found.new.items ≡ found.old.items ++ found_along paths.now subject) }
+    ensures { OnOk result (found.new.items ≡ found.old.items ++ found_along kind paths.now subject) }
 {
     if let Some(path) = shortest(paths) {
         found.push(Finding {
-            kind: Kind::WrittenExec,
+            kind,
             subject,
             other: None,
             path: Some(Text::copy_of(alloc, path)?),
@@ -109,15 +129,11 @@ fn push_file(
     ensures { OnOk result (found.new.items ≡ found.old.items ++ of_file complain rows.now rules.now number rule.now) }
 {
     let subject = Subject::File(number);
-    let paths = written_paths(alloc, rows, rule)?;
+    let free = shown_paths(alloc, Kind::UnconfinedExec, rows, rule)?;
+    let written = shown_paths(alloc, Kind::WrittenExec, rows, rule)?;
     let earlier = repeated(rows, &rules[..number], rule);
-    push_if(
-        found,
-        is_unconfined_exec(rule),
-        Kind::UnconfinedExec,
-        subject,
-    )?;
-    push_along(found, alloc, paths.as_slice(), subject)?;
+    push_along(found, alloc, Kind::UnconfinedExec, free.as_slice(), subject)?;
+    push_along(found, alloc, Kind::WrittenExec, written.as_slice(), subject)?;
     push_if(found, is_on_all(rows, rule), Kind::AllFiles, subject)?;
     push_again(found, earlier, subject)?;
     let idle = is_idle(complain, rows, rule);
@@ -196,12 +212,17 @@ fn push_nets(found: &mut Vec<Finding>, complain: bool, rules: &[NetRule]) -> Res
     Ok(())
 }
 
-fn push_change(found: &mut Vec<Finding>, rule: &ChangeRule, number: usize) -> Result<(), AllocError>
-    ensures { OnOk result (found.new.items ≡ found.old.items ++ of_change number rule.now) }
+fn push_change(
+    found: &mut Vec<Finding>,
+    rules: &[ChangeRule],
+    rule: &ChangeRule,
+    number: usize,
+) -> Result<(), AllocError>
+    ensures { OnOk result (found.new.items ≡ found.old.items ++ of_change rules.now number rule.now) }
 {
     push_if(
         found,
-        is_any_profile(rule),
+        is_any_profile(rules, rule),
         Kind::AnyProfile,
         Subject::Change(number),
     )
@@ -211,7 +232,7 @@ fn push_changes(found: &mut Vec<Finding>, rules: &[ChangeRule]) -> Result<(), Al
     ensures { OnOk result (found.new.items ≡ found.old.items ++ changes_before rules.now (length rules.now)) }
 {
     for number in 0..rules.len() {
-        push_change(found, &rules[number], number)?;
+        push_change(found, rules, &rules[number], number)?;
     }
     Ok(())
 }

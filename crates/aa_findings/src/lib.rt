@@ -2,6 +2,7 @@
 #![tactic(auto)]
 
 mod attached;
+mod below;
 mod exec;
 mod fault;
 mod files;
@@ -15,6 +16,7 @@ mod sameness;
 mod shortest;
 mod sorts;
 
+pub use below::{Attached, attached_of};
 pub use fault::FindingsFault;
 pub use finding::{Finding, Kind, Subject};
 pub use found::findings_of;

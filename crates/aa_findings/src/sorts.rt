@@ -34,11 +34,11 @@ fn is_cap_allowed(rules: &[CapRule], rule: &CapRule) -> bool
     rules.iter().any(|other| allows_cap(rule, other))
 }
 
-/// Whether the rule denies without audit, in a profile that doesn't complain, and nothing that another allows.
+/// Whether the rule denies, in a profile that doesn't complain, and nothing that another allows.
 pub(crate) fn is_idle_cap(complain: bool, rules: &[CapRule], rule: &CapRule) -> bool
     ensures { result ≡ is_idle_cap complain rules.now rule.now }
 {
-    !complain && rule.deny && !rule.audit && !is_cap_allowed(rules, rule)
+    !complain && rule.deny && !is_cap_allowed(rules, rule)
 }
 
 fn same_nets(rule: &NetRule, other: &NetRule) -> bool
@@ -70,9 +70,9 @@ fn is_net_allowed(rules: &[NetRule], rule: &NetRule) -> bool
     rules.iter().any(|other| allows_net(rule, other))
 }
 
-/// Whether the rule denies without audit, in a profile that doesn't complain, and nothing that another allows.
+/// Whether the rule denies, in a profile that doesn't complain, and nothing that another allows.
 pub(crate) fn is_idle_net(complain: bool, rules: &[NetRule], rule: &NetRule) -> bool
     ensures { result ≡ is_idle_net complain rules.now rule.now }
 {
-    !complain && rule.deny && !rule.audit && !is_net_allowed(rules, rule)
+    !complain && rule.deny && !is_net_allowed(rules, rule)
 }

@@ -1,6 +1,6 @@
 -- Where a unit first includes a name.
 use Rattle.std.proofs.Common.{◌≡◌, ℕ, Bool, true, false, cond, List, [], ◌∷◌, map, Option, Some, find, refl, subst, ◌∙◌}
-use Rattle.std.specs.Prelude.{◌&&◌, option_map, Vec}
+use Rattle.std.specs.Prelude.{option_map, Vec}
 use Rattle.std.specs.declared.alloc.Global.{Global}
 use Rattle.std.specs.Str.{bytes_eq}
 use Rattle.aa_words.specs.Includes.{included_name}

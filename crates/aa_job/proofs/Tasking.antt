@@ -17,7 +17,7 @@ use Rattle.aa_job.specs.Jobs.{IsJobWritten}
 use Rattle.aa_command.specs.declared.output.Output.{Output}
 use Rattle.aa_command.specs.Printed.{printed}
 use Rattle.aa_command.specs.LogFiles.{LogFiles, AreLogs}
-use Rattle.aa_job.specs.Command.{remarks, IsTasksOutput, Written, AreTasksOf, IsFirstUnreadOf}
+use Rattle.aa_job.specs.Command.{job_written, IsTasksOutput, Written, AreTasksOf, IsFirstUnreadOf}
 use Rattle.aa_command.proofs.Lying.{logs_more, path_behind}
 
 lines_none : (lying : Option LogFiles) (t : JobTasks) → HasTaken t [] → IfSome lying (λ files. (logs : List (List ℕ)) × AreLogs files [] logs × HasTaken t (flat_map (log_lines 0) logs))
@@ -83,8 +83,8 @@ unread_for lying qs ps before choice paths path p q unread = record {
 
 pub tasks_written : (ps : List JobPolicy) (sources : List Source) (states : ℕ) (t : JobTasks) (listed : List LogTask) (old text : List ℕ) (left : ℕ) (r : Result Output NoMemory)
     → t.is_too_large ≡ false → listed ≡ t.tasks.items → old ≡ [] → IsJobWritten ps sources listed states old text → left ≡ left_out listed
-    → IfOk r (λ (o : Output). printed o ≡ record { answers = text; faults = remarks (length ps) left t.strangers; refusal = []; status = 0 }) → IfOk r (λ (o : Output). IsTasksOutput ps sources states t (printed o))
+    → IfOk r (λ (o : Output). printed o ≡ job_written text (length ps) left t.strangers) → IfOk r (λ (o : Output). IsTasksOutput ps sources states t (printed o))
 tasks_written ps sources states t listed old text left r fits same empty job is says =
-    IfOk-weaker r (λ (o : Output). printed o ≡ record { answers = text; faults = remarks (length ps) left t.strangers; refusal = []; status = 0 }) (λ (o : Output). IsTasksOutput ps sources states t (printed o)) (λ o e.
+    IfOk-weaker r (λ (o : Output). printed o ≡ job_written text (length ps) left t.strangers) (λ (o : Output). IsTasksOutput ps sources states t (printed o)) (λ o e.
     Written fits text (subst (λ (l : List LogTask). IsJobWritten ps sources l states [] text) same (subst (λ (l : List ℕ). IsJobWritten ps sources listed states l text) empty job))
-    (e ∙ ap (λ (n : ℕ). record { answers = text; faults = remarks (length ps) n t.strangers; refusal = []; status = 0 }) (is ∙ ap left_out same))) says
+    (e ∙ ap (λ (n : ℕ). job_written text (length ps) n t.strangers) (is ∙ ap left_out same))) says

@@ -40,13 +40,27 @@ abbrev pub remarks : ℕ → ℕ → ℕ → List ℕ
 remarks policies left strangers =
     several_line policies ++ left_out_line left (codes " requests left out: they are no UTF-8\n") ++ left_out_line strangers (codes " requests left out: no profile here asks them\n")
 
--- the job, with what it doesn't have
+-- what is said where a job would be longer than one may be
+unfoldable pub long_job : List ℕ
+long_job = codes "TooLarge: a job has at most 16,777,216 bytes; name fewer files, or choose fewer lines of the logs by --profile, --since or --until\n"
+
+-- the job, with what it doesn't have, if it isn't too long
+abbrev pub job_written : List ℕ → ℕ → ℕ → ℕ → Printed
+job_written text policies left strangers =
+    if nat_lt 16777216 (length text) then faults_alone long_job 1
+    else record { answers = text; faults = remarks policies left strangers; refusal = []; status = 0 }
+
+-- the same of tasks
 abbrev pub job_printed : List JobPolicy → JobTasks → List ℕ → Printed
-job_printed ps t text = record { answers = text; faults = remarks (length ps) (left_out t.tasks.items) t.strangers; refusal = []; status = 0 }
+job_printed ps t text = job_written text (length ps) (left_out t.tasks.items) t.strangers
+
+-- what is said where a job can't have so many tasks, or a task so many requests
+unfoldable pub many_asked : List ℕ
+many_asked = codes "TooLarge: a job has at most 1,024 tasks, and a task 65,536 requests; choose fewer lines of the logs by --profile, --since or --until\n"
 
 -- what is printed of tasks: the job of them, or that a job can't have so many, or that a text is no UTF-8
 pub data IsTasksOutput (ps : List JobPolicy) (sources : List Source) (states : ℕ) (t : JobTasks) (out : Printed) : Type 0 where
-  TooLarge : t.is_too_large ≡ true → out ≡ faults_alone (codes "TooLarge: a job has at most 1,024 tasks, and a task 65,536 requests\n") 1 → IsTasksOutput ps sources states t out
+  TooLarge : t.is_too_large ≡ true → out ≡ faults_alone many_asked 1 → IsTasksOutput ps sources states t out
   NoText : t.is_too_large ≡ false → IsNoText ps sources t.tasks.items → out ≡ faults_alone (codes "NotText: a job holds UTF-8 text alone\n") 1 → IsTasksOutput ps sources states t out
   Written : t.is_too_large ≡ false → (text : List ℕ) → IsJobWritten ps sources t.tasks.items states [] text → out ≡ job_printed ps t text → IsTasksOutput ps sources states t out
 
@@ -74,7 +88,7 @@ pub data IsLogsOutput (lying : Option LogFiles) (o : JobOptions) (states : ℕ) 
 
 -- what is printed of units that include these sources
 pub data IsSourcesOutput (folders : List (List ℕ)) (states : ℕ) (lying : Option LogFiles) (o : JobOptions) (us : List unit.Unit) (sources : List Source) (out : Printed) : Type 0 where
-  TooMany : 4095 < length sources → out ≡ faults_alone (codes "TooLarge: a job has at most 4,095 included texts\n") 1 → IsSourcesOutput folders states lying o us sources out
+  TooMany : 4095 < length sources → out ≡ faults_alone (codes "TooLarge: a job has at most 4,095 included texts; name fewer files\n") 1 → IsSourcesOutput folders states lying o us sources out
   NoPolicy : (u : unit.Unit) (e : PolicyFault) → length sources ≤ 4095 → IsFirstRefused (limit_of states) us u e → SaysPolicyFault folders states u e out → IsSourcesOutput folders states lying o us sources out
   Policies : (ps : List JobPolicy) → length sources ≤ 4095 → AreJobPolicies (limit_of states) us ps → IsLogsOutput lying o states ps sources out → IsSourcesOutput folders states lying o us sources out
 
@@ -86,7 +100,7 @@ pub data IsUnitsOutput (folders : List (List ℕ)) (states : ℕ) (lying : Optio
 -- what is printed of the files at these paths: a job has 1 to 16 policies
 pub data IsPathsOutput (s : Setting) (lying : Option LogFiles) (o : JobOptions) (paths : List (List ℕ)) (out : Printed) : Type 0 where
   NoFile : paths ≡ [] → out ≡ faults_alone (codes "error: no file with profiles is there\n") 1 → IsPathsOutput s lying o paths out
-  TooManyFiles : paths ≢ [] → is_policy_count (length paths) ≡ false → out ≡ faults_alone (codes "TooLarge: a job has at most 16 policies\n") 1 → IsPathsOutput s lying o paths out
+  TooManyFiles : paths ≢ [] → is_policy_count (length paths) ≡ false → out ≡ faults_alone (codes "TooLarge: a job has at most 16 policies; name fewer files\n") 1 → IsPathsOutput s lying o paths out
   NotLoaded : (e : UnitFault) → is_policy_count (length paths) ≡ true → IsFirstUnread s paths e → SaysUnitFault e out → IsPathsOutput s lying o paths out
   Loaded : (us : List unit.Unit) → is_policy_count (length paths) ≡ true → AreLoaded s paths us → IsUnitsOutput s.folders s.states lying o us out → IsPathsOutput s lying o paths out
 

@@ -5,20 +5,23 @@ ghost use Rattle.aa_files.specs.Texts.{texts, slices};
 ghost use Rattle.aa_job.specs.Tasks.{HasTaken};
 ghost use Rattle.aa_command.specs.Setting.{setting_of};
 ghost use Rattle.aa_command.specs.Printed.{printed};
-ghost use Rattle.aa_job.specs.Command.{left_out_line, several_line, remarks, IsTasksOutput, AreTasksOf, IsFirstUnreadOf, IsLogsOutput, IsSourcesOutput, IsUnitsOutput, IsPathsOutput, IsJobOutput};
+ghost use Rattle.aa_job.specs.Command.{left_out_line, several_line, remarks, long_job, many_asked, job_written, IsTasksOutput, AreTasksOf, IsFirstUnreadOf, IsLogsOutput, IsSourcesOutput, IsUnitsOutput, IsPathsOutput, IsJobOutput};
 
 use crate::job::{JobFault, JobTasks, push_job};
 use crate::policies::{Unnamed, all_names, policies_of};
 use crate::shared::shared_sources;
 use aa_command::{
-    Logs, Output, Settings, UnreadLog, load_units, path_refused, policy_refused, refused,
+    Logs, Output, Settings, UnreadLog, load_units, path_refused, policy_refused, refused, rooted,
     unit_refused,
 };
-use aa_files::{Source, Tree, Unit, roots_of};
+use aa_files::{Source, Tree, Unit};
 use aa_logs::Choice;
 use aa_notation::{JobPolicy, is_policy_count};
 use aa_text::{NoMemory, push_number, push_text};
 use std::alloc::{AllocError, Global};
+
+/// The most bytes of a job.
+const MOST_BYTES: usize = 16777216;
 
 /// The most texts that the policies of a job include.
 const MOST_INCLUDES: usize = 4095;
@@ -69,7 +72,21 @@ fn push_remarks(
     push_left_out(out, strangers, what)
 }
 
-/// The job with what it doesn't have.
+#[tactic(auto, unfolding(crate::specs::Command::many_asked))]
+fn many_asked() -> &'static str
+    ensures { result.now ≡ many_asked }
+{
+    "TooLarge: a job has at most 1,024 tasks, and a task 65,536 requests; choose fewer lines of the logs by --profile, --since or --until\n"
+}
+
+#[tactic(auto, unfolding(crate::specs::Command::long_job))]
+fn long_job() -> &'static str
+    ensures { result.now ≡ long_job }
+{
+    "TooLarge: a job has at most 16,777,216 bytes; name fewer files, or choose fewer lines of the logs by --profile, --since or --until\n"
+}
+
+/// The job with what it doesn't have, if it isn't too long.
 fn written(
     alloc: Global,
     text: Vec<u8>,
@@ -77,8 +94,11 @@ fn written(
     left_out: u64,
     strangers: u64,
 ) -> Result<Output, NoMemory>
-    ensures { IfOk result (λ out. printed out ≡ record { answers = text.items; faults = remarks policies left_out strangers; refusal = []; status = 0 }) }
+    ensures { IfOk result (λ out. printed out ≡ job_written text.items policies left_out strangers) }
 {
+    if text.len() > MOST_BYTES {
+        return refused(alloc, long_job(), 1);
+    }
     let mut output = Output::new(alloc);
     push_remarks(&mut output.faults, policies, left_out, strangers)?;
     output.answers = text;
@@ -115,8 +135,7 @@ fn print_job(
     ensures { IfOk result (λ out. IsTasksOutput policies.now (map (λ s. s.now) sources.now) states tasks.now (printed out)) }
 {
     if tasks.is_too_large {
-        let line = "TooLarge: a job has at most 1,024 tasks, and a task 65,536 requests\n";
-        return refused(alloc, line, 1);
+        return refused(alloc, many_asked(), 1);
     }
     print_tasks(alloc, policies, sources, tasks, states)
 }
@@ -171,7 +190,7 @@ fn job_of_sources<R: Logs>(
     ensures { IfOk result (λ out. IsSourcesOutput (slices settings.now.folders.now) settings.now.states (R.lying reader.now) options.now units.now (map (λ s. s.now) sources.now) (printed out)) }
 {
     if sources.len() > MOST_INCLUDES {
-        let line = "TooLarge: a job has at most 4,095 included texts\n";
+        let line = "TooLarge: a job has at most 4,095 included texts; name fewer files\n";
         return refused(alloc, line, 1);
     }
     match all_names(alloc, settings.states, units) {
@@ -216,7 +235,7 @@ fn job_of_paths<T: Tree, R: Logs>(
         return refused(alloc, line, 1);
     }
     if !is_policy_count(paths.len()) {
-        let line = "TooLarge: a job has at most 16 policies\n";
+        let line = "TooLarge: a job has at most 16 policies; name fewer files\n";
         return refused(alloc, line, 1);
     }
     match load_units(alloc, tree, settings, paths) {
@@ -235,7 +254,7 @@ pub fn job_files<T: Tree, R: Logs>(
 ) -> Result<Output, NoMemory>
     ensures { IfOk result (λ out. IsJobOutput (setting_of (T.files tree.now) (T.taken tree.now) (T.input tree.now) settings.now) (R.lying reader.now) options.now (printed out)) }
 {
-    match roots_of(alloc, tree, settings.base, options.files) {
+    match rooted(alloc, tree, settings.base, options.files) {
         Ok(roots) => job_of_paths(
             alloc,
             tree,

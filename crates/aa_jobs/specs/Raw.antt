@@ -13,9 +13,9 @@ use Rattle.aa_jobs.specs.Written.{WrittenItem, exit_item, file_item, link_item, 
 -- an item of a task, without where it lies in memory
 abbrev pub raw_item : RawItem → WrittenItem
 raw_item raw.Exit = exit_item
-raw_item (raw.File path letters owned) = file_item path.now letters.now owned
-raw_item (raw.Link path target owned) = link_item path.now target.now owned
-raw_item (raw.Exec path owned) = exec_item path.now owned
+raw_item (raw.File owned path letters) = file_item path.now letters.now owned
+raw_item (raw.Link owned path target) = link_item path.now target.now owned
+raw_item (raw.Exec owned path) = exec_item path.now owned
 raw_item (raw.Cap name) = cap_item name.now
 raw_item (raw.Net family kind) = net_item family.now kind.now
 raw_item (raw.Change name) = change_item name.now

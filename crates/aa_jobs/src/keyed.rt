@@ -248,9 +248,9 @@ fn file_item<'t>(members: &[ItemMember<'t>]) -> Result<RawItem<'t>, JobFault>
     let letters = text_of(members, ItemKey::Mask)?;
     let owned = flag_of(members, ItemKey::Owned)?;
     Ok(RawItem::File {
+        owned,
         path,
         letters,
-        owned,
     })
 }
 
@@ -263,9 +263,9 @@ fn link_item<'t>(members: &[ItemMember<'t>]) -> Result<RawItem<'t>, JobFault>
     let target = text_of(members, ItemKey::To)?;
     let owned = flag_of(members, ItemKey::Owned)?;
     Ok(RawItem::Link {
+        owned,
         path,
         target,
-        owned,
     })
 }
 
@@ -276,7 +276,7 @@ fn exec_item<'t>(members: &[ItemMember<'t>]) -> Result<RawItem<'t>, JobFault>
     expect(Part::OfExec, members)?;
     let path = text_of(members, ItemKey::Exec)?;
     let owned = flag_of(members, ItemKey::Owned)?;
-    Ok(RawItem::Exec { path, owned })
+    Ok(RawItem::Exec { owned, path })
 }
 
 #[tactic(auto, unfolding(crate::specs::Shape::cap_shape))]

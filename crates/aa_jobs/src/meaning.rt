@@ -143,16 +143,16 @@ fn work(alloc: Global, item: &RawItem, policies: u16) -> Result<Work, JobFault>
     match item {
         RawItem::Exit => Ok(Work::Exit),
         RawItem::File {
+            owned,
             path,
             letters,
-            owned,
         } => asked(file_work(alloc, path.as_bytes(), letters.as_bytes(), *owned)),
         RawItem::Link {
+            owned,
             path,
             target,
-            owned,
         } => asked(link_work(alloc, path.as_bytes(), target.as_bytes(), *owned)),
-        RawItem::Exec { path, owned } => asked(exec_work(alloc, path.as_bytes(), *owned)),
+        RawItem::Exec { owned, path } => asked(exec_work(alloc, path.as_bytes(), *owned)),
         RawItem::Cap { name } => asked(cap_work(name.as_bytes())),
         RawItem::Net { family, kind } => asked(net_work(family.as_bytes(), kind.as_bytes())),
         RawItem::Change { name } => asked(change_work(alloc, name.as_bytes())),

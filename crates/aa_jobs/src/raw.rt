@@ -2,25 +2,25 @@
 
 /// An item of a task's list.
 // An item stands between the tree and the request so that the first fault is that of the whole job: shape, then limits, then
-// meaning. An item's tree is let go once the item is read, and only the items wait, each of two texts' addresses at most; a task's
-// items are let go once its requests are made. Tree and item borrow the job's bytes (a text with escapes: the reader's scratch);
+// meaning. An item's tree is let go once the item is read, and only the items wait, each of two texts' addresses at most (`owned`
+// stands first, where the variant's number leaves room); a task's items are let go once its requests are made. Tree and item borrow the job's bytes (a text with escapes: the reader's scratch);
 // `Request::file` and the like copy each text once.
 #[derive(Drop)]
 pub enum RawItem<'v> {
     Exit,
     File {
+        owned: bool,
         path: &'v str,
         letters: &'v str,
-        owned: bool,
     },
     Link {
+        owned: bool,
         path: &'v str,
         target: &'v str,
-        owned: bool,
     },
     Exec {
-        path: &'v str,
         owned: bool,
+        path: &'v str,
     },
     Cap {
         name: &'v str,

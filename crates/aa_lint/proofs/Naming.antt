@@ -1,12 +1,9 @@
--- Names of findings that are left out.
-use Rattle.std.proofs.Common.{◌≡◌, ℕ, List, [], ◌∷◌, refl, ap, Bool, Vec}
+-- Elements of lists that pass a test.
+use Rattle.std.proofs.Common.{◌≡◌, List, [], ◌∷◌, refl, ap, Bool, map}
 use Rattle.std.specs.Prelude.{◌||◌}
 use Rattle.std.specs.List.{list_any}
-use Rattle.std.specs.declared.alloc.Global.{Global}
-use Rattle.aa_files.specs.Texts.{texts}
-use Rattle.aa_findings.specs.declared.finding.Kind.{Kind}
-use Rattle.aa_lint.specs.Names.{is_called, is_left_out}
 
-pub one_of : (names : List (Vec ℕ Global)) (k : Kind) → list_any (λ (v : Vec ℕ Global). is_called v.items k) names ≡ is_left_out (texts names) k
-one_of [] k = refl
-one_of (v ∷ names) k = ap (λ (b : Bool). is_called v.items k || b) (one_of names k)
+-- some value passes the test where what is made of it does
+pub any_map : {A B : Type 0} (f : B → Bool) (g : A → B) (xs : List A) → list_any (λ x. f (g x)) xs ≡ list_any f (map g xs)
+any_map f g [] = refl
+any_map f g (x ∷ xs) = ap (λ (b : Bool). f (g x) || b) (any_map f g xs)

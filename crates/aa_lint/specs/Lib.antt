@@ -1,5 +1,11 @@
 pub mod Names
 pub mod Telling
+pub mod Untold
 pub mod Shown
+pub mod Jsons
+pub mod Sarif
+pub mod Listed
 pub mod Lint
+pub mod Known
+pub mod Forms
 pub mod Command

@@ -1,9 +1,8 @@
 -- What is found of all profiles.
 -- Source: own.
-use Rattle.std.specs.Prelude.{◌≡◌, ℕ, zero, suc, List, [], ◌++◌, length, codes, map, Option, Some, None}
+use Rattle.std.specs.Prelude.{◌≡◌, ℕ, zero, suc, List, [], ◌∷◌, ◌++◌, length, codes, map, Option, Some, None}
 use Rattle.std.specs.List.{slice_get}
 use Rattle.std.specs.Option.{option_map_or}
-use Rattle.aa_base.specs.Values.{value}
 use Rattle.aa_model.specs.declared.policy.Policy.{Policy}
 use Rattle.aa_model.specs.declared.policy.Profile.{Profile}
 use Rattle.aa_compile.specs.Labels.{profile_in}
@@ -12,29 +11,22 @@ use Rattle.aa_findings.specs.declared.fault.FindingsFault.TheVariants.{NoMemory,
 use Rattle.aa_findings.specs.declared.finding.Finding.{Finding}
 use Rattle.aa_findings.specs.Found.{AreFindingsAt, HasNoFindingsAt}
 use Rattle.aa_command.specs.declared.decided.Decided.{Decided}
-use Rattle.aa_lint.specs.declared.command.Lint.{Lint}
+use Rattle.aa_lint.specs.declared.gathering.Lint.{Lint}
 use Rattle.aa_lint.specs.Telling.{Telling, telling, all_told}
+use Rattle.aa_lint.specs.Untold.{Untelling, untelling, untold_text}
 
--- what is told, and the lines on profiles of which nothing can be found
+-- what is told, and the profiles of which nothing can be found
 pub record AllTold : Type 0 where
   pub told : List Telling
-  pub untold : List ℕ
+  pub untold : List Untelling
 
 -- the same of what the code keeps
 abbrev pub lint_data : Lint → AllTold
-lint_data l = record { told = map telling l.told.items; untold = l.untold.items }
+lint_data l = record { told = map telling l.told.items; untold = map untelling l.untold.items }
 
 -- the profiles of the first policy
 abbrev pub profiles_in : List Policy → List Profile
 profiles_in policies = option_map_or (λ (p : Policy). p.profiles) (slice_get policies 0) []
-
--- of which profile nothing can be found
-unfoldable pub untold_head : List ℕ → List ℕ
-untold_head name = codes "error: of " ++ value name ++ codes " nothing is found: "
-
--- and why, in a line
-abbrev pub untold_line : List ℕ → List ℕ → List ℕ
-untold_line name why = untold_head name ++ why ++ codes "\n"
 
 -- what is found of profile n, which is p, is added, but for what is left out
 abbrev pub with_found : Decided → List (List ℕ) → ℕ → Profile → List Finding → AllTold → AllTold
@@ -42,7 +34,7 @@ with_found d except n p found was = record { told = was.told ++ all_told d excep
 
 -- that nothing can be found of a profile is added, and why
 abbrev pub with_untold : Profile → List ℕ → AllTold → AllTold
-with_untold p why was = record { told = was.told; untold = was.untold ++ untold_line p.name why }
+with_untold p why was = record { told = was.told; untold = was.untold ++ record { profile = p.name; text = untold_text p.name why } ∷ [] }
 
 -- so by what stands against it; where memory ran out, nothing is told
 abbrev pub AddsWhy : Profile → FindingsFault → AllTold → AllTold → Type 0

@@ -1,6 +1,6 @@
 -- The names of findings, and why each is one.
 -- Source: own.
-use Rattle.std.specs.Prelude.{ℕ, List, [], ◌∷◌, codes, Bool, not}
+use Rattle.std.specs.Prelude.{ℕ, List, [], ◌∷◌, map, codes, Bool, not}
 use Rattle.std.specs.List.{list_any}
 use Rattle.std.specs.Str.{bytes_eq}
 use Rattle.aa_findings.specs.declared.finding.Finding.{Finding}
@@ -19,7 +19,7 @@ name_of Tie = codes "tie"
 
 -- why it is one; a path, a place or another profile goes on behind some
 abbrev pub why_of : Kind → List ℕ
-why_of UnconfinedExec = codes "what it lets execute may end unconfined"
+why_of UnconfinedExec = codes "what it lets execute may end unconfined, as "
 why_of WrittenExec = codes "what it lets write may be executed, as "
 why_of AllFiles = codes "it holds for all files"
 why_of AnyProfile = codes "it lets change to every profile, and to none"
@@ -30,6 +30,10 @@ why_of Tie = codes "attached as strongly is "
 -- all of them
 abbrev pub kinds : List Kind
 kinds = UnconfinedExec ∷ WrittenExec ∷ AllFiles ∷ AnyProfile ∷ Duplicate ∷ IdleDeny ∷ Tie ∷ []
+
+-- their names
+abbrev pub all_names : List (List ℕ)
+all_names = map name_of kinds
 
 -- a finding is called so
 abbrev pub is_called : List ℕ → Kind → Bool

@@ -1,13 +1,10 @@
 -- Findings with their places and their rules.
 -- Source: own.
-use Rattle.std.specs.Prelude.{ℕ, List, [], ◌++◌, flat_map, codes, Option, Some, option_map, option_to_list, option_and_then, unwrap_or, if◌then◌else◌}
+use Rattle.std.specs.Prelude.{ℕ, List, [], flat_map, Option, Some, None, option_map, option_to_list, option_and_then, unwrap_or, if◌then◌else◌}
 use Rattle.std.specs.List.{slice_get}
-use Rattle.std.specs.Option.{option_map_or}
 use Rattle.aa_base.specs.declared.fault.Spot.{Spot}
-use Rattle.aa_base.specs.Values.{value}
 use Rattle.aa_model.specs.declared.policy.Profile.{Profile}
 use Rattle.aa_text.specs.Places.{place_in}
-use Rattle.aa_text.specs.Texts.{where_text}
 use Rattle.aa_text.specs.declared.position.PlaceAt.{PlaceAt}
 use Rattle.aa_explain.specs.declared.places.ProfilePlaces.{ProfilePlaces}
 use Rattle.aa_files.specs.declared.unit.Unit as unit
@@ -15,25 +12,45 @@ use Rattle.aa_files.specs.Numbers.{path_in, text_in}
 use Rattle.aa_rule_text.specs.RuleTexts.{rule_text}
 use Rattle.aa_findings.specs.declared.finding.Finding.{Finding}
 use Rattle.aa_findings.specs.declared.finding.Kind.{Kind}
-use Rattle.aa_findings.specs.declared.finding.Kind.TheVariants.{UnconfinedExec, WrittenExec, AllFiles, AnyProfile, Duplicate, IdleDeny, Tie}
+use Rattle.aa_findings.specs.declared.finding.Kind.TheVariants.{Duplicate, Tie}
 use Rattle.aa_findings.specs.declared.finding.Subject.{Subject}
 use Rattle.aa_findings.specs.declared.finding.Subject.TheVariants.{Attachments, File, Cap, Net, Change}
 use Rattle.aa_command.specs.declared.decided.Decided.{Decided}
+use Rattle.aa_lint.specs.declared.told.Site.{Site}
 use Rattle.aa_lint.specs.declared.told.Told.{Told}
 use Rattle.aa_lint.specs.Names.{is_wanted}
 
--- a finding as it is told: where, of which profile, what goes with why it is one, and how the rule reads
-pub record Telling : Type 0 where
-  pub kind : Kind
+-- a place in a file
+pub record Standing : Type 0 where
   pub path : List ℕ
   pub place : PlaceAt
+
+-- the same of what the code keeps
+abbrev pub standing : Site → Standing
+standing s = record { path = s.path.items; place = s.place }
+
+-- a finding as it is told: where and of which profile, where the rule stands that is said again, which profile ties, a path that shows it, and
+-- how the rule reads
+pub record Telling : Type 0 where
+  pub kind : Kind
+  pub at : Standing
   pub profile : List ℕ
-  pub detail : List ℕ
-  pub rule : List ℕ
+  pub earlier : Option Standing
+  pub other : Option (List ℕ)
+  pub witness : Option (List ℕ)
+  pub rule : Option (List ℕ)
 
 -- the same of what the code keeps
 abbrev pub telling : Told → Telling
-telling t = record { kind = t.kind; path = t.path.items; place = t.place; profile = t.profile.items; detail = t.detail.items; rule = t.rule.items }
+telling t = record {
+  kind = t.kind;
+  at = standing t.at;
+  profile = t.profile.items;
+  earlier = option_map standing t.earlier;
+  other = option_map (λ n. n.items) t.other;
+  witness = option_map (λ p. p.items) t.witness;
+  rule = option_map (λ r. r.items) t.rule;
+}
 
 -- where the subject of a finding stands: a profile's name, or a rule
 abbrev pub spot_of : ProfilePlaces → Subject → Option Spot
@@ -55,52 +72,42 @@ with_number (Change _) n = Change n
 abbrev pub stands_at : List ℕ → ℕ → PlaceAt
 stands_at text byte = record { line = (place_in text byte).line; column = (place_in text byte).column; byte = byte }
 
--- a place of a unit, as it is shown
-abbrev pub spot_text : unit.Unit → Spot → List ℕ
-spot_text u at = where_text (path_in u at.file) (stands_at (text_in u at.file) at.byte)
+-- a place of a unit
+abbrev pub standing_at : unit.Unit → Spot → Standing
+standing_at u at = record { path = path_in u at.file; place = stands_at (text_in u at.file) at.byte }
+
+-- where the rule of that number stands
+abbrev pub earlier_at : unit.Unit → ProfilePlaces → Subject → ℕ → Option Standing
+earlier_at u places subject n = option_map (standing_at u) (spot_of places (with_number subject n))
 
 -- where the rule stands that is said again
-abbrev pub earlier_text : unit.Unit → ProfilePlaces → Subject → ℕ → List ℕ
-earlier_text u places subject n = option_map_or (spot_text u) (spot_of places (with_number subject n)) []
+abbrev pub earlier_by : Kind → unit.Unit → ProfilePlaces → Finding → Option Standing
+earlier_by Duplicate u places f = earlier_at u places f.subject (unwrap_or f.other 0)
+earlier_by _ u places f = None
 
 -- the name of a profile
-abbrev pub other_text : List Profile → ℕ → List ℕ
-other_text profiles n = option_map_or (λ (p : Profile). value p.name) (slice_get profiles n) []
+abbrev pub name_at : List Profile → ℕ → Option (List ℕ)
+name_at profiles n = option_map (λ (p : Profile). p.name) (slice_get profiles n)
 
--- a path, if there is one
-abbrev pub path_text : Option (List ℕ) → List ℕ
-path_text path = option_map_or value path []
-
--- the profile that ties, and a path at which it does
-abbrev pub tie_text : List Profile → Finding → List ℕ
-tie_text profiles f = other_text profiles (unwrap_or f.other 0) ++ codes ", as to " ++ path_text f.path
-
--- what goes with why it is a finding
-abbrev pub detail_by : Kind → List Profile → unit.Unit → ProfilePlaces → Finding → List ℕ
-detail_by UnconfinedExec profiles u places f = []
-detail_by WrittenExec profiles u places f = path_text f.path
-detail_by AllFiles profiles u places f = []
-detail_by AnyProfile profiles u places f = []
-detail_by Duplicate profiles u places f = earlier_text u places f.subject (unwrap_or f.other 0)
-detail_by IdleDeny profiles u places f = []
-detail_by Tie profiles u places f = tie_text profiles f
+-- the profile that ties
+abbrev pub other_by : Kind → List Profile → Finding → Option (List ℕ)
+other_by Tie profiles f = name_at profiles (unwrap_or f.other 0)
+other_by _ profiles f = None
 
 -- the text of a rule; none of attachments
-abbrev pub rule_of : List ℕ → ℕ → Subject → List ℕ
-rule_of text byte Attachments = []
-rule_of text byte (File n) = rule_text text byte
-rule_of text byte (Cap n) = rule_text text byte
-rule_of text byte (Net n) = rule_text text byte
-rule_of text byte (Change n) = rule_text text byte
+abbrev pub rule_of : List ℕ → ℕ → Subject → Option (List ℕ)
+rule_of text byte Attachments = None
+rule_of text byte _ = Some (rule_text text byte)
 
 -- a finding of the profile, at the place of its subject
 abbrev pub told_at : List Profile → Profile → unit.Unit → ProfilePlaces → Finding → Spot → Telling
 told_at profiles p u places f at = record {
   kind = f.kind;
-  path = path_in u at.file;
-  place = stands_at (text_in u at.file) at.byte;
+  at = standing_at u at;
   profile = p.name;
-  detail = detail_by f.kind profiles u places f;
+  earlier = earlier_by f.kind u places f;
+  other = other_by f.kind profiles f;
+  witness = f.path;
   rule = rule_of (text_in u at.file) at.byte f.subject;
 }
 

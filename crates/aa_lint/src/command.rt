@@ -1,228 +1,107 @@
 //! What `lint` prints.
 
-ghost use Rattle.std.specs.Prelude.{◌≡◌, ◌++◌, ◌<◌, ◌≤◌, IfOk, OnOk, map, option_map};
-ghost use Rattle.aa_pattern.specs.Limits.{most_states};
-ghost use Rattle.aa_files.specs.Texts.{texts};
-ghost use Rattle.aa_load.specs.UnitPolicy.{limit_of};
+ghost use Rattle.std.specs.Prelude.{◌≡◌, ◌++◌, [], IfOk, OnOk, map, option_map};
+ghost use Rattle.aa_files.specs.Texts.{texts, slices};
 ghost use Rattle.aa_command.specs.Setting.{setting_of};
 ghost use Rattle.aa_command.specs.Printed.{printed, faults_alone};
+ghost use Rattle.aa_text.specs.Nearest.{nearest_name};
+ghost use Rattle.aa_lint.specs.Names.{all_names};
 ghost use Rattle.aa_lint.specs.Telling.{telling};
-ghost use Rattle.aa_lint.specs.Lint.{lint_data, profiles_in, count_of, untold_head, untold_line, with_found, AddsWhy, AddsOf, AddsLint, AreTold};
-ghost use Rattle.aa_lint.specs.Command.{status_of, lint_printed, no_name, first_unknown, IsLintOf, IsLintOutput};
+ghost use Rattle.aa_lint.specs.Untold.{untelling, untold_lines};
+ghost use Rattle.aa_lint.specs.Known.{lines_in, unknown, all_gone};
+ghost use Rattle.aa_lint.specs.Lint.{lint_data};
+ghost use Rattle.aa_lint.specs.Command.{open_status, status_of, lint_printed, meant_part, no_name, first_unknown, IsLintOf, IsLintBut, IsLintBy, IsLintIf, IsLintOutput};
 
-use crate::finding_names::is_name;
-use crate::shown::push_lines;
-use crate::telling::push_all_told;
+use crate::finding_names::{is_name, meant_by};
+use crate::forms::push_answers;
+use crate::gathering::{Lint, lint_all};
+use crate::known::{lines_in, lines_of, push_all_gone, unknown_of};
 use crate::told::Told;
-use aa_command::{Decided, Output, Settings, Use, with_policy};
-use aa_compile::{Compiled, profile_of};
-use aa_files::Tree;
-use aa_findings::{Finding, FindingsFault, findings_of};
-use aa_model::Profile;
-use aa_text::{NoMemory, push_name, push_text, push_visible};
+use crate::untold::{Untold, push_all_untold};
+use aa_check::Form;
+use aa_command::{Decided, Output, Settings, Use, path_refused, with_policy};
+use aa_files::{Tree, main_text};
+use aa_skipped::{Skipped, UsePart, with_read_policy};
+use aa_text::{NoMemory, push_text, push_visible};
 use std::alloc::{AllocError, Global};
 
-/// What is looked for in which files.
+/// What is looked for in which files, and how it is printed.
 #[derive(Clone, Copy)]
 pub struct LintOptions<'a> {
     /// The files with profiles.
     pub files: &'a [Vec<u8>],
     /// The names of findings that are left out.
     pub except: &'a [Vec<u8>],
+    /// The file with findings that are accepted, a line each as it is printed.
+    pub known: Option<&'a [u8]>,
+    pub form: Form,
+    /// Whether files that are refused are skipped.
+    pub skips: bool,
 }
 
-/// How many states an automaton may have.
-fn limit_of(states: u32) -> usize
-    ensures is { result ≡ limit_of states }
-    ensures some { 0 < result }
-    ensures bounded { result ≤ most_states }
+/// 5 where files are skipped, which aren't looked at.
+fn open_status(skipped: &[Skipped]) -> u8
+    ensures { result ≡ open_status skipped.now }
 {
-    states.max(1).min(1_000_000) as usize
-}
-
-/// The profiles of the first policy.
-fn profiles_of(policies: &[Compiled]) -> &[Profile]
-    ensures { result.now ≡ profiles_in policies.now }
-{
-    match policies.get(0) {
-        Some(compiled) => compiled.policy().profiles.as_slice(),
-        None => &[],
+    match skipped {
+        [] => 0,
+        [_, ..] => 5,
     }
 }
 
-fn push_untold_head(out: &mut Vec<u8>, alloc: Global, name: &[u8]) -> Result<(), AllocError>
-    ensures { OnOk result (out.new.items ≡ out.old.items ++ untold_head name.now) }
-{
-    push_text(out, "error: of ")?;
-    push_name(out, alloc, name)?;
-    push_text(out, " nothing is found: ")
-}
-
-/// Appends that nothing can be found of a profile, and why.
-fn push_untold(out: &mut Vec<u8>, alloc: Global, name: &[u8], why: &str) -> Result<(), AllocError>
-    ensures { OnOk result (out.new.items ≡ out.old.items ++ untold_line name.now why.now) }
-{
-    push_untold_head(out, alloc, name)?;
-    push_text(out, why)?;
-    push_text(out, "\n")
-}
-
-/// What is found of all profiles, and the lines on those of which nothing can be.
-#[derive(Drop)]
-pub(crate) struct Lint {
-    pub(crate) told: Vec<Told>,
-    pub(crate) untold: Vec<u8>,
-}
-
-/// Adds what is found of a profile, but for what is left out.
-fn push_found(
-    lint: &mut Lint,
-    alloc: Global,
-    decided: Decided<'_>,
-    except: &[Vec<u8>],
-    number: u16,
-    profile: &Profile,
-    findings: &[Finding],
-) -> Result<(), AllocError>
-    ensures { OnOk result (lint_data lint.new ≡ with_found decided.entry (texts except.now) number profile.now findings.now (lint_data lint.old)) }
-{
-    let profiles = profiles_of(decided.policies);
-    let number = number as usize;
-    push_all_told(
-        &mut lint.told,
-        alloc,
-        decided,
-        except,
-        profiles,
-        number,
-        profile,
-        findings,
-    )
-}
-
-/// Adds why nothing can be found of a profile.
-fn push_unfound(
-    lint: &mut Lint,
-    alloc: Global,
-    profile: &Profile,
-    fault: FindingsFault,
-) -> Result<(), AllocError>
-    ensures { OnOk result (AddsWhy profile.now fault (lint_data lint.old) (lint_data lint.new)) }
-{
-    let name = profile.name.as_slice();
-    match fault {
-        FindingsFault::NoMemory => Err(AllocError),
-        FindingsFault::TooManyPatterns => push_untold(
-            &mut lint.untold,
-            alloc,
-            name,
-            "there are more than 65535 patterns",
-        ),
-        FindingsFault::TooManyStates => push_untold(
-            &mut lint.untold,
-            alloc,
-            name,
-            "its patterns need too many states together; --states allows more",
-        ),
-    }
-}
-
-/// Adds what is found of a profile, or why nothing can be.
-fn push_lint(
-    lint: &mut Lint,
-    alloc: Global,
-    decided: Decided<'_>,
-    states: u32,
-    except: &[Vec<u8>],
-    number: u16,
-    profile: &Profile,
-) -> Result<(), AllocError>
-    ensures { OnOk result (AddsOf decided.entry (limit_of states) (texts except.now) number profile.now (lint_data lint.old) (lint_data lint.new)) }
-{
-    match findings_of(alloc, decided.policies, number, limit_of(states)) {
-        Ok(findings) => {
-            push_found(
-                lint,
-                alloc,
-                decided,
-                except,
-                number,
-                profile,
-                findings.as_slice(),
-            )?;
-            Ok(())
-        }
-        Err(fault) => {
-            push_unfound(lint, alloc, profile, fault)?;
-            Ok(())
-        }
-    }
-}
-
-/// The same of the profile with that number, if it is there.
-fn push_lint_at(
-    lint: &mut Lint,
-    alloc: Global,
-    decided: Decided<'_>,
-    states: u32,
-    except: &[Vec<u8>],
-    number: u16,
-) -> Result<(), AllocError>
-    ensures { OnOk result (AddsLint decided.entry (limit_of states) (texts except.now) number (lint_data lint.old) (lint_data lint.new)) }
-{
-    let Some(profile) = profile_of(decided.policies, 0, number) else {
-        return Ok(());
-    };
-    push_lint(lint, alloc, decided, states, except, number, profile)
-}
-
-/// How many profiles there are.
-fn count_of(policies: &[Compiled]) -> u16
-    ensures { result ≡ count_of policies.now }
-{
-    match policies.get(0) {
-        Some(compiled) => compiled.policy().profiles.as_slice().len() as u16,
-        None => 0,
-    }
-}
-
-/// What is found of all profiles, in order.
-fn lint_all(
-    alloc: Global,
-    decided: Decided<'_>,
-    states: u32,
-    except: &[Vec<u8>],
-) -> Result<Lint, AllocError>
-    ensures { IfOk result (λ lint. AreTold decided.entry (limit_of states) (texts except.now) (count_of decided.entry.policies.now) (lint_data lint)) }
-{
-    let mut lint = Lint {
-        told: Vec::new(alloc),
-        untold: Vec::new(alloc),
-    };
-    for number in 0..count_of(decided.policies) {
-        push_lint_at(&mut lint, alloc, decided, states, except, number)?;
-    }
-    Ok(lint)
-}
-
-/// 1 where of a profile nothing can be found, and else 4 where something is.
-fn status_of(untold: &[u8], told: &[Told]) -> u8
-    ensures { result ≡ status_of untold.now (map telling told.now) }
+/// 1 where of a profile nothing can be found, else 4 where something is, and else 5 where files are skipped.
+fn status_of(untold: &[Untold], told: &[Told], skipped: &[Skipped]) -> u8
+    ensures { result ≡ status_of (map untelling untold.now) (map telling told.now) skipped.now }
 {
     if !untold.is_empty() {
         return 1;
     }
-    if told.is_empty() { 0 } else { 4 }
+    if !told.is_empty() {
+        return 4;
+    }
+    open_status(skipped)
 }
 
-fn output_of(alloc: Global, lint: Lint) -> Result<Output, AllocError>
-    ensures { IfOk result (λ out. printed out ≡ lint_printed (lint_data lint)) }
+/// Appends of which profiles nothing can be found, and which accepted lines aren't found.
+fn push_faults(
+    out: &mut Vec<u8>,
+    alloc: Global,
+    lines: &[&[u8]],
+    lint: &Lint,
+) -> Result<(), AllocError>
+    ensures { OnOk result (out.new.items ≡ out.old.items ++ untold_lines (lint_data lint.now).untold ++ all_gone (slices lines.now) (lint_data lint.now)) }
+{
+    let found = lines_of(alloc, lint.told.as_slice())?;
+    push_all_untold(out, lint.untold.as_slice())?;
+    push_all_gone(out, found.as_slice(), lines)
+}
+
+/// What is found, but for accepted lines.
+fn without(alloc: Global, lines: &[&[u8]], lint: Lint) -> Result<Lint, AllocError>
+    ensures { IfOk result (λ left. lint_data left ≡ unknown (slices lines.now) (lint_data lint)) }
 {
     let Lint { told, untold } = lint;
+    Ok(Lint {
+        told: unknown_of(alloc, lines, told)?,
+        untold,
+    })
+}
+
+/// Prints what is found, but for accepted lines.
+fn output_of(
+    alloc: Global,
+    form: Form,
+    lines: &[&[u8]],
+    skipped: &[Skipped],
+    lint: Lint,
+) -> Result<Output, AllocError>
+    ensures { IfOk result (λ out. printed out ≡ lint_printed form (slices lines.now) skipped.now (lint_data lint)) }
+{
     let mut output = Output::new(alloc);
-    output.status = status_of(untold.as_slice(), told.as_slice());
-    push_lines(&mut output.answers, alloc, told.as_slice())?;
-    output.faults = untold;
+    push_faults(&mut output.faults, alloc, lines, &lint)?;
+    let left = without(alloc, lines, lint)?;
+    push_answers(&mut output.answers, alloc, form, skipped.len(), &left)?;
+    output.status = status_of(left.untold.as_slice(), left.told.as_slice(), skipped);
     Ok(output)
 }
 
@@ -231,14 +110,29 @@ fn output_of(alloc: Global, lint: Lint) -> Result<Output, AllocError>
 struct Linting<'a> {
     states: u32,
     options: &'a LintOptions<'a>,
+    /// The lines of findings that are accepted.
+    lines: &'a [&'a [u8]],
+}
+
+impl UsePart for Linting<'_> {
+    ghost gives = { λ a skipped d out. IsLintOf a.states a.options.now (slices a.lines.now) skipped d out };
+
+    fn use_part(
+        &self,
+        alloc: Global,
+        skipped: &[Skipped],
+        decided: Decided<'_>,
+    ) -> Result<Output, NoMemory> {
+        let lint = lint_all(alloc, decided, self.states, self.options.except)?;
+        Ok(output_of(alloc, self.options.form, self.lines, skipped, lint)?)
+    }
 }
 
 impl Use for Linting<'_> {
-    ghost gives = { λ a d out. IsLintOf a.states a.options.now d out };
+    ghost gives = { λ a d out. IsLintOf a.states a.options.now (slices a.lines.now) [] d out };
 
     fn use_policy(&self, alloc: Global, decided: Decided<'_>) -> Result<Output, NoMemory> {
-        let lint = lint_all(alloc, decided, self.states, self.options.except)?;
-        Ok(output_of(alloc, lint)?)
+        self.use_part(alloc, &[], decided)
     }
 }
 
@@ -256,20 +150,107 @@ fn first_unknown(names: &[Vec<u8>]) -> Option<&[u8]>
     None
 }
 
-/// Refuses a name that no finding has.
+/// Appends the name that may have been meant, if there is one.
+fn push_meant(out: &mut Vec<u8>, word: &[u8]) -> Result<(), AllocError>
+    ensures { OnOk result (out.new.items ≡ out.old.items ++ meant_part (nearest_name all_names word.now)) }
+{
+    let Some(name) = meant_by(word) else {
+        return Ok(());
+    };
+    push_text(out, "; write ")?;
+    push_text(out, name)
+}
+
+/// Appends what is said of a name that no finding has.
 #[tactic(auto, unfolding(crate::specs::Command::no_name))]
+fn push_no_name(out: &mut Vec<u8>, name: &[u8]) -> Result<(), AllocError>
+    ensures { OnOk result (out.new.items ≡ out.old.items ++ no_name name.now) }
+{
+    push_text(out, "error: no finding is called so: ")?;
+    push_visible(out, name)?;
+    push_meant(out, name)?;
+    push_text(out, "\n")
+}
+
+/// Refuses a name that no finding has.
 fn name_refused(alloc: Global, name: &[u8]) -> Result<Output, NoMemory>
     ensures { IfOk result (λ out. printed out ≡ faults_alone (no_name name.now) 2) }
 {
     let mut output = Output::new(alloc);
-    push_text(&mut output.faults, "error: no finding is called so: ")?;
-    push_visible(&mut output.faults, name)?;
-    push_text(&mut output.faults, "\n")?;
+    push_no_name(&mut output.faults, name)?;
     output.status = 2;
     Ok(output)
 }
 
-/// Prints what the one policy that files are allows and is seldom meant, but for findings of the names that are left out.
+/// Prints what is found, but for these lines, in the files that are named, or in those that aren't refused.
+fn lint_but<T: Tree>(
+    alloc: Global,
+    tree: &T,
+    settings: &Settings<'_>,
+    options: &LintOptions<'_>,
+    lines: &[&[u8]],
+) -> Result<Output, NoMemory>
+    ensures { IfOk result (λ out. IsLintBut (setting_of (T.files tree.now) (T.taken tree.now) (T.input tree.now) settings.now) options.now (slices lines.now) (printed out)) }
+{
+    let linting = Linting {
+        states: settings.states,
+        options,
+        lines,
+    };
+    if options.skips {
+        return with_read_policy(alloc, tree, settings, options.files, &linting);
+    }
+    with_policy(alloc, tree, settings, options.files, &linting)
+}
+
+/// Prints what is found, but for the lines of a text.
+fn lint_text<T: Tree>(
+    alloc: Global,
+    tree: &T,
+    settings: &Settings<'_>,
+    options: &LintOptions<'_>,
+    text: &[u8],
+) -> Result<Output, NoMemory>
+    ensures { IfOk result (λ out. IsLintBut (setting_of (T.files tree.now) (T.taken tree.now) (T.input tree.now) settings.now) options.now (lines_in text.now) (printed out)) }
+{
+    let lines = lines_in(alloc, text)?;
+    lint_but(alloc, tree, settings, options, lines.as_slice())
+}
+
+/// Prints what is found, but for the lines of a file.
+fn lint_by<T: Tree>(
+    alloc: Global,
+    tree: &T,
+    settings: &Settings<'_>,
+    options: &LintOptions<'_>,
+    path: &[u8],
+) -> Result<Output, NoMemory>
+    ensures { IfOk result (λ out. IsLintBy (setting_of (T.files tree.now) (T.taken tree.now) (T.input tree.now) settings.now) options.now path.now (printed out)) }
+{
+    match main_text(alloc, tree, path) {
+        Ok(text) => lint_text(alloc, tree, settings, options, text.as_slice()),
+        Err(why) => path_refused(alloc, path, why),
+    }
+}
+
+/// Prints what is found, but for the lines of the file with what is accepted, where there is one.
+fn lint_if<T: Tree>(
+    alloc: Global,
+    tree: &T,
+    settings: &Settings<'_>,
+    options: &LintOptions<'_>,
+) -> Result<Output, NoMemory>
+    ensures { IfOk result (λ out. IsLintIf (setting_of (T.files tree.now) (T.taken tree.now) (T.input tree.now) settings.now) options.now (option_map (λ path. path.now) options.now.known) (printed out)) }
+{
+    match options.known {
+        Some(path) => lint_by(alloc, tree, settings, options, path),
+        None => lint_but(alloc, tree, settings, options, &[]),
+    }
+}
+
+/// Prints what the one policy that files are allows and is seldom meant, but for findings of the names that are left out, and for those
+/// that are accepted; of which lines of these nothing is found is told besides. Where files that are refused are skipped, the others are
+/// looked at, and it is undecided whether nothing is found.
 pub fn lint_files<T: Tree>(
     alloc: Global,
     tree: &T,
@@ -278,12 +259,8 @@ pub fn lint_files<T: Tree>(
 ) -> Result<Output, NoMemory>
     ensures { IfOk result (λ out. IsLintOutput (setting_of (T.files tree.now) (T.taken tree.now) (T.input tree.now) settings.now) options.now (printed out)) }
 {
-    let linting = Linting {
-        states: settings.states,
-        options,
-    };
     match first_unknown(options.except) {
         Some(name) => name_refused(alloc, name),
-        None => with_policy(alloc, tree, settings, options.files, &linting),
+        None => lint_if(alloc, tree, settings, options),
     }
 }

@@ -1,11 +1,13 @@
 //! The names of findings.
 
-ghost use Rattle.std.specs.Prelude.{◌≡◌};
+ghost use Rattle.std.specs.Prelude.{◌≡◌, option_map};
 ghost use Rattle.std.specs.List.{list_any};
 ghost use Rattle.aa_files.specs.Texts.{texts};
-ghost use Rattle.aa_lint.specs.Names.{name_of, why_of, is_called, is_left_out, is_name};
+ghost use Rattle.aa_text.specs.Nearest.{nearest_name};
+ghost use Rattle.aa_lint.specs.Names.{name_of, why_of, all_names, is_called, is_left_out, is_name};
 
 use aa_findings::Kind;
+use aa_text::nearest_name;
 
 /// How a finding is called.
 pub(crate) fn name_of(kind: Kind) -> &'static str
@@ -27,7 +29,7 @@ pub(crate) fn why_of(kind: Kind) -> &'static str
     ensures { result.now ≡ why_of kind }
 {
     match kind {
-        Kind::UnconfinedExec => "what it lets execute may end unconfined",
+        Kind::UnconfinedExec => "what it lets execute may end unconfined, as ",
         Kind::WrittenExec => "what it lets write may be executed, as ",
         Kind::AllFiles => "it holds for all files",
         Kind::AnyProfile => "it lets change to every profile, and to none",
@@ -54,6 +56,22 @@ pub(crate) fn is_name(name: &[u8]) -> bool
         || is_called(Kind::Duplicate, name)
         || is_called(Kind::IdleDeny, name)
         || is_called(Kind::Tie, name)
+}
+
+/// The name of a finding that may have been meant by a word that is none.
+pub(crate) fn meant_by(word: &[u8]) -> Option<&'static str>
+    ensures { option_map (λ name. name.now) result ≡ nearest_name all_names word.now }
+{
+    let names = [
+        name_of(Kind::UnconfinedExec),
+        name_of(Kind::WrittenExec),
+        name_of(Kind::AllFiles),
+        name_of(Kind::AnyProfile),
+        name_of(Kind::Duplicate),
+        name_of(Kind::IdleDeny),
+        name_of(Kind::Tie),
+    ];
+    nearest_name(&names, word)
 }
 
 fn is_one_left_out(kind: Kind, names: &[Vec<u8>]) -> bool

@@ -3,8 +3,14 @@
 
 mod command;
 mod finding_names;
+mod forms;
+mod gathering;
+mod jsons;
+mod known;
+mod sarif;
 mod shown;
 mod telling;
 mod told;
+mod untold;
 
 pub use command::{LintOptions, lint_files};

@@ -3,10 +3,10 @@
 ghost use Rattle.std.specs.Prelude.{◌≡◌, ◌++◌, map, flat_map, option_map, OnOk, IfOk};
 ghost use Rattle.aa_files.specs.Texts.{texts};
 ghost use Rattle.aa_lint.specs.Names.{is_wanted};
-ghost use Rattle.aa_lint.specs.Telling.{telling, spot_of, with_number, earlier_text, other_text, path_text, tie_text, detail_by, rule_of, told_at, told_of, told_wanted, unit_in, told_if, all_told};
+ghost use Rattle.aa_lint.specs.Telling.{standing, telling, spot_of, with_number, standing_at, earlier_at, earlier_by, name_at, other_by, rule_of, told_at, told_of, told_wanted, unit_in, told_if, all_told};
 
 use crate::finding_names::is_left_out;
-use crate::told::Told;
+use crate::told::{Site, Told};
 use aa_base::{Spot, Text};
 use aa_command::{Decided, PlacedUnit};
 use aa_explain::ProfilePlaces;
@@ -14,7 +14,6 @@ use aa_files::text_at;
 use aa_findings::{Finding, Kind, Subject};
 use aa_model::Profile;
 use aa_rule_text::rule_text;
-use aa_text::{push_name, push_text, push_where};
 use std::alloc::{AllocError, Global};
 
 /// Where the subject of a finding stands.
@@ -43,106 +42,101 @@ fn with_number(subject: Subject, number: usize) -> Subject
     }
 }
 
-/// Appends where the rule stands that is said again.
-fn push_earlier(
-    out: &mut Vec<u8>,
+/// A place of a unit.
+fn site_of(alloc: Global, unit: &PlacedUnit<'_>, at: Spot) -> Result<Site, AllocError>
+    ensures { IfOk result (λ site. standing site ≡ standing_at unit.now at) }
+{
+    let (path, _) = text_at(unit.unit(), at.file);
+    Ok(Site {
+        path: Vec::from_slice(alloc, path)?,
+        place: unit.place_at(at.file, at.byte as usize),
+    })
+}
+
+/// Where the rule of that number stands.
+fn earlier_at(
+    alloc: Global,
     unit: &PlacedUnit<'_>,
     places: &ProfilePlaces<'_>,
     subject: Subject,
     number: usize,
-) -> Result<(), AllocError>
-    ensures { OnOk result (out.new.items ≡ out.old.items ++ earlier_text unit.now places.now subject number) }
+) -> Result<Option<Site>, AllocError>
+    ensures { IfOk result (λ site. option_map standing site ≡ earlier_at unit.now places.now subject number) }
 {
-    let Some(at) = spot_of(places, with_number(subject, number)) else {
-        return Ok(());
-    };
-    let (path, _) = text_at(unit.unit(), at.file);
-    push_where(out, path, unit.place_at(at.file, at.byte as usize))
+    match spot_of(places, with_number(subject, number)) {
+        Some(at) => Ok(Some(site_of(alloc, unit, at)?)),
+        None => Ok(None),
+    }
 }
 
-/// Appends the profile that ties.
-fn push_other(
-    out: &mut Vec<u8>,
+/// Where the rule stands that is said again.
+fn earlier_of(
+    alloc: Global,
+    unit: &PlacedUnit<'_>,
+    places: &ProfilePlaces<'_>,
+    finding: &Finding,
+) -> Result<Option<Site>, AllocError>
+    ensures { IfOk result (λ site. option_map standing site ≡ earlier_by finding.now.kind unit.now places.now finding.now) }
+{
+    match finding.kind {
+        Kind::Duplicate => {
+            let number = finding.other.unwrap_or(0);
+            earlier_at(alloc, unit, places, finding.subject, number)
+        }
+        _ => Ok(None),
+    }
+}
+
+/// The full name of a profile.
+fn name_at(
     alloc: Global,
     profiles: &[Profile],
     number: usize,
-) -> Result<(), AllocError>
-    ensures { OnOk result (out.new.items ≡ out.old.items ++ other_text profiles.now number) }
+) -> Result<Option<Vec<u8>>, AllocError>
+    ensures { IfOk result (λ name. option_map (λ n. n.items) name ≡ name_at profiles.now number) }
 {
     match profiles.get(number) {
-        Some(profile) => push_name(out, alloc, profile.name.as_slice()),
-        None => Ok(()),
+        Some(profile) => Ok(Some(Vec::from_slice(alloc, profile.name.as_slice())?)),
+        None => Ok(None),
     }
 }
 
-fn push_path(out: &mut Vec<u8>, alloc: Global, path: &Option<Text>) -> Result<(), AllocError>
-    ensures { OnOk result (out.new.items ≡ out.old.items ++ path_text path.now) }
-{
-    match path {
-        Some(path) => push_name(out, alloc, path.as_slice()),
-        None => Ok(()),
-    }
-}
-
-fn push_tie(
-    out: &mut Vec<u8>,
+/// The profile that ties.
+fn other_of(
     alloc: Global,
     profiles: &[Profile],
     finding: &Finding,
-) -> Result<(), AllocError>
-    ensures { OnOk result (out.new.items ≡ out.old.items ++ tie_text profiles.now finding.now) }
-{
-    push_other(out, alloc, profiles, finding.other.unwrap_or(0))?;
-    push_text(out, ", as to ")?;
-    push_path(out, alloc, &finding.path)
-}
-
-/// Appends what goes with why it is a finding.
-fn push_detail(
-    out: &mut Vec<u8>,
-    alloc: Global,
-    profiles: &[Profile],
-    unit: &PlacedUnit<'_>,
-    places: &ProfilePlaces<'_>,
-    finding: &Finding,
-) -> Result<(), AllocError>
-    ensures { OnOk result (out.new.items ≡ out.old.items ++ detail_by finding.now.kind profiles.now unit.now places.now finding.now) }
+) -> Result<Option<Vec<u8>>, AllocError>
+    ensures { IfOk result (λ name. option_map (λ n. n.items) name ≡ other_by finding.now.kind profiles.now finding.now) }
 {
     match finding.kind {
-        Kind::WrittenExec => push_path(out, alloc, &finding.path),
-        Kind::Duplicate => {
-            let number = finding.other.unwrap_or(0);
-            push_earlier(out, unit, places, finding.subject, number)
-        }
-        Kind::Tie => push_tie(out, alloc, profiles, finding),
-        Kind::UnconfinedExec | Kind::AllFiles | Kind::AnyProfile | Kind::IdleDeny => Ok(()),
+        Kind::Tie => name_at(alloc, profiles, finding.other.unwrap_or(0)),
+        _ => Ok(None),
     }
 }
 
-/// What goes with why it is a finding.
-fn detail_of(
-    alloc: Global,
-    profiles: &[Profile],
-    unit: &PlacedUnit<'_>,
-    places: &ProfilePlaces<'_>,
-    finding: &Finding,
-) -> Result<Vec<u8>, AllocError>
-    ensures { IfOk result (λ detail. detail.items ≡ detail_by finding.now.kind profiles.now unit.now places.now finding.now) }
+/// A path that shows it.
+fn witness_of(alloc: Global, path: &Option<Text>) -> Result<Option<Vec<u8>>, AllocError>
+    ensures { IfOk result (λ witness. option_map (λ w. w.items) witness ≡ path.now) }
 {
-    let mut detail = Vec::new(alloc);
-    push_detail(&mut detail, alloc, profiles, unit, places, finding)?;
-    Ok(detail)
+    match path {
+        Some(path) => Ok(Some(Vec::from_slice(alloc, path.as_slice())?)),
+        None => Ok(None),
+    }
 }
 
 /// The text of a rule; none of attachments.
-fn rule_of(alloc: Global, text: &[u8], byte: usize, subject: Subject) -> Result<Vec<u8>, AllocError>
-    ensures { IfOk result (λ rule. rule.items ≡ rule_of text.now byte subject) }
+fn rule_of(
+    alloc: Global,
+    text: &[u8],
+    byte: usize,
+    subject: Subject,
+) -> Result<Option<Vec<u8>>, AllocError>
+    ensures { IfOk result (λ rule. option_map (λ r. r.items) rule ≡ rule_of text.now byte subject) }
 {
     match subject {
-        Subject::Attachments => Ok(Vec::new(alloc)),
-        Subject::File(_) | Subject::Cap(_) | Subject::Net(_) | Subject::Change(_) => {
-            rule_text(alloc, text, byte)
-        }
+        Subject::Attachments => Ok(None),
+        _ => Ok(Some(rule_text(alloc, text, byte)?)),
     }
 }
 
@@ -158,15 +152,15 @@ fn told_at(
 ) -> Result<Told, AllocError>
     ensures { IfOk result (λ t. telling t ≡ told_at profiles.now profile.now unit.now places.now finding.now at) }
 {
-    let (path, text) = text_at(unit.unit(), at.file);
-    let byte = at.byte as usize;
+    let (_, text) = text_at(unit.unit(), at.file);
     Ok(Told {
         kind: finding.kind,
-        path: Vec::from_slice(alloc, path)?,
-        place: unit.place_at(at.file, byte),
+        at: site_of(alloc, unit, at)?,
         profile: Vec::from_slice(alloc, profile.name.as_slice())?,
-        detail: detail_of(alloc, profiles, unit, places, finding)?,
-        rule: rule_of(alloc, text, byte, finding.subject)?,
+        earlier: earlier_of(alloc, unit, places, finding)?,
+        other: other_of(alloc, profiles, finding)?,
+        witness: witness_of(alloc, &finding.path)?,
+        rule: rule_of(alloc, text, at.byte as usize, finding.subject)?,
     })
 }
 

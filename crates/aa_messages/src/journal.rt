@@ -1,9 +1,10 @@
 //! The message of a line that the journal prints as JSON.
 
-ghost use Rattle.std.specs.Prelude.{◌≡◌, option_map, unwrap_or, IfOk};
+ghost use Rattle.std.specs.Prelude.{◌≡◌, option_map, option_and_then, unwrap_or, IfOk};
 ghost use Rattle.std.specs.Cow.{cow_slice_items};
-ghost use Rattle.serde_json.specs.View.{view};
-ghost use Rattle.aa_messages.specs.Journal.{begins_object, message_of, json_message, message_in};
+ghost use Rattle.serde_json.specs.Find.{as_array};
+ghost use Rattle.serde_json.specs.View.{view, items_view};
+ghost use Rattle.aa_messages.specs.Journal.{begins_object, byte_in, bytes_of, text_in, message_of, json_message, message_in};
 
 use serde_json::Value;
 use std::alloc::{AllocError, Global};
@@ -19,21 +20,57 @@ pub(crate) fn begins_object(line: &[u8]) -> bool
     }
 }
 
-/// The message of an object, where it is a text.
-fn message_of(value: &Value) -> Option<&str>
-    ensures { option_map (λ t. t.now) result ≡ message_of (view value.entry.now) }
+/// The byte that a value is, where it is one.
+fn byte_in(value: &Value) -> Option<u8>
+    ensures { result ≡ byte_in (view value.now) }
 {
-    match value.get("MESSAGE") {
-        Some(found) => found.as_str(),
-        None => None,
+    match value.as_u64() {
+        Some(number) if number < 256 => Some(number as u8),
+        _ => None,
     }
 }
 
-fn copied(alloc: Global, text: Option<&str>) -> Result<Option<Vec<u8>>, AllocError>
-    ensures { IfOk result (λ copy. option_map (λ b. b.items) copy ≡ option_map (λ t. t.now) text.entry) }
+/// The bytes that values are, where each is one.
+fn bytes_of(alloc: Global, values: &[Value]) -> Result<Option<Vec<u8>>, AllocError>
+    ensures { IfOk result (λ m. option_map (λ bytes. bytes.items) m ≡ bytes_of (items_view values.now)) }
 {
-    match text {
+    let mut bytes = Vec::new(alloc);
+    let mut rest = values;
+    while let [value, after @ ..] = rest {
+        match byte_in(value) {
+            Some(byte) => bytes.push(byte)?,
+            None => return Ok(None),
+        }
+        rest = after;
+    }
+    Ok(Some(bytes))
+}
+
+fn bytes_in(alloc: Global, value: &Value) -> Result<Option<Vec<u8>>, AllocError>
+    ensures { IfOk result (λ m. option_map (λ bytes. bytes.items) m ≡ option_and_then bytes_of (as_array (view value.now))) }
+{
+    match value.as_array() {
+        Some(values) => bytes_of(alloc, values.as_slice()),
+        None => Ok(None),
+    }
+}
+
+/// A text, or the bytes of one that isn't UTF-8.
+fn text_in(alloc: Global, value: &Value) -> Result<Option<Vec<u8>>, AllocError>
+    ensures { IfOk result (λ m. option_map (λ b. b.items) m ≡ text_in (view value.now)) }
+{
+    match value.as_str() {
         Some(text) => Ok(Some(Vec::from_slice(alloc, text.as_bytes())?)),
+        None => bytes_in(alloc, value),
+    }
+}
+
+/// The message of an object, where it is a text or the bytes of one.
+fn message_of(alloc: Global, value: &Value) -> Result<Option<Vec<u8>>, AllocError>
+    ensures { IfOk result (λ m. option_map (λ b. b.items) m ≡ message_of (view value.now)) }
+{
+    match value.get("MESSAGE") {
+        Some(found) => text_in(alloc, found),
         None => Ok(None),
     }
 }
@@ -44,7 +81,7 @@ fn json_message(alloc: Global, line: &[u8]) -> Result<Option<Vec<u8>>, AllocErro
     ensures { IfOk result (λ m. option_map (λ b. b.items) m ≡ json_message line.now) }
 {
     match Value::from_slice(alloc, line) {
-        Ok(value) => copied(alloc, message_of(&value)),
+        Ok(value) => message_of(alloc, &value),
         Err(e) if e.is_memory() => Err(AllocError),
         Err(_) => Ok(None),
     }
@@ -59,7 +96,7 @@ fn message_or<'l>(line: &'l [u8], message: Option<Vec<u8>>) -> CowSlice<'l, u8, 
     }
 }
 
-/// The message that a line is: that of an object of the journal which has one as a text, else the line itself.
+/// The message that a line is: that of an object of the journal which has one as a text or as a list of its bytes, else the line itself.
 #[tactic(auto, unfolding(crate::specs::Journal::message_in))]
 pub fn message_in<'l>(alloc: Global, line: &'l [u8]) -> Result<CowSlice<'l, u8, Global>, AllocError>
     ensures { IfOk result (λ m. cow_slice_items m ≡ message_in line.entry.now) }

@@ -8,11 +8,16 @@ use crate::path::{FilePath, is_good_path};
 use std::alloc::{AllocError, Global};
 use std::marker::Model;
 
-/// A request to make a hard link. Both of its paths are paths.
 #[derive(Drop)]
-pub struct LinkRequest {
+struct Paths {
     link: FilePath,
     target: FilePath,
+}
+
+/// A request to make a hard link. Both of its paths are paths. They lie apart, so that a request of any kind is as long as one path.
+#[derive(Drop)]
+pub struct LinkRequest {
+    paths: Box<Paths>,
     owned: bool,
 }
 
@@ -21,7 +26,7 @@ impl Model for LinkRequest {
 
     ghost Value = { RequestedLink };
 
-    ghost view = { λ r. record { link = r.link; target = r.target; owned = r.owned } };
+    ghost view = { λ r. record { link = r.paths.value.link; target = r.paths.value.target; owned = r.owned } };
 }
 
 impl LinkRequest {
@@ -42,11 +47,10 @@ impl LinkRequest {
         }
         let link = FilePath::copy_of(alloc, link)?;
         let target = FilePath::copy_of(alloc, target)?;
-        Ok(LinkRequest {
-            link,
-            target,
-            owned,
-        })
+        let Ok(paths) = Box::new(alloc, Paths { link, target }) else {
+            return Err(RequestFault::NoMemory);
+        };
+        Ok(LinkRequest { paths, owned })
     }
 
     /// The path that the link is to have.
@@ -54,7 +58,7 @@ impl LinkRequest {
         ensures path { result.now ≡ self.now.link }
         ensures is_one { is_path result.now ≡ true }
     {
-        self.link.as_slice()
+        self.paths.link.as_slice()
     }
 
     /// The path of the file that is linked to.
@@ -62,7 +66,7 @@ impl LinkRequest {
         ensures path { result.now ≡ self.now.target }
         ensures is_one { is_path result.now ≡ true }
     {
-        self.target.as_slice()
+        self.paths.target.as_slice()
     }
 
     /// Whether the task's user owns the file, at both paths.
@@ -75,9 +79,12 @@ impl LinkRequest {
     pub(crate) fn try_clone(&self) -> Result<LinkRequest, AllocError>
         ensures { IfOk result (λ r. r ≡ self.now) }
     {
+        let paths = Paths {
+            link: self.paths.link.try_clone()?,
+            target: self.paths.target.try_clone()?,
+        };
         Ok(LinkRequest {
-            link: self.link.try_clone()?,
-            target: self.target.try_clone()?,
+            paths: Box::new(*Box::allocator(&self.paths), paths)?,
             owned: self.owned,
         })
     }

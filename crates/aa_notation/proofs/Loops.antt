@@ -2,7 +2,7 @@
 use Rattle.std.proofs.Common.{◌≡◌, ℕ, ◌+◌, ◌-◌, ◌<◌, ◌≤◌, Bool, true, false, List, [], ◌∷◌, ◌++◌, length, take, drop}
 use Rattle.std.proofs.Common.{get_or, cond, refl, sym, ◌∙◌, ap, arith, append_assoc, Option, Some, None, nat_eq, option_map, option_and_then, bit_or}
 use Rattle.std.specs.List.{starts_with}
-use Rattle.std.proofs.lemmas.List.{length-drop, at_drop_more, at_drop_all, take_all, append-nil}
+use Rattle.std.proofs.lemmas.List.{at_drop_more, at_drop_all, append-nil}
 use Rattle.aa_notation.specs.Parts.{place_of}
 use Rattle.aa_notation.specs.Read.{letter_in, letters_in, byte_in, bytes_in}
 use Rattle.aa_logs.proofs.Found.{drop_one, drop_some, moved, moved_on}

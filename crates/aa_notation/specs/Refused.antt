@@ -3,9 +3,10 @@
 use Rattle.std.specs.Prelude.{ℕ, ◌+◌, ◌==◌, ◌&&◌, nat_le, nat_lt, List, [], ◌++◌, length, map, filter, codes, Bool, false, not, Option, Some, None, is_some, unwrap_or, if◌then◌else◌}
 use Rattle.std.specs.List.{list_any}
 use Rattle.std.specs.Str.{bytes_eq}
-use Rattle.aa_base.specs.Tables.{number_in, family_names}
+use Rattle.aa_base.specs.Tables.{number_in, capability_names, family_names, sock_type_names}
 use Rattle.aa_notation.specs.Parts.{split_in, behind}
 use Rattle.aa_notation.specs.Read.{letters_in, request_in}
+use Rattle.aa_notation.specs.Named.{named}
 
 -- what a path has to be
 unfoldable pub about_path : List ℕ
@@ -76,7 +77,7 @@ meant_two first second =
 
 -- a capability's name is one of small letters, without cap_
 abbrev pub meant_cap : List ℕ → List ℕ
-meant_cap name = codes "cap:" ++ unwrap_or (behind (codes "cap_") (lowered name)) (lowered name)
+meant_cap name = codes "cap:" ++ named capability_names (unwrap_or (behind (codes "cap_") (lowered name)) (lowered name))
 
 -- the type of sockets by which a protocol is spoken, or else the name itself
 abbrev pub type_of : List ℕ → List ℕ
@@ -88,8 +89,8 @@ type_of name =
 
 -- a family and the type by which a protocol is spoken; a family alone is of streams
 abbrev pub meant_parts : List ℕ → Option (List ℕ × List ℕ) → List ℕ
-meant_parts text None = text ++ codes "/stream"
-meant_parts text (Some s) = s.0 ++ (codes "/" ++ type_of s.1)
+meant_parts text None = named family_names text ++ codes "/stream"
+meant_parts text (Some s) = named family_names s.0 ++ (codes "/" ++ named sock_type_names (type_of s.1))
 
 -- the socket that may have been meant
 abbrev pub meant_net : List ℕ → List ℕ
@@ -107,15 +108,34 @@ has_x letters = nat_lt 1 (length letters) && list_any (λ b. b == 120) letters
 abbrev pub without_x : List ℕ → List ℕ
 without_x letters = filter (λ b. not (b == 120)) letters
 
+-- an execution is asked by a word of its own, beside one for the other letters, if they ask for something
+abbrev pub meant_exec : List ℕ → List ℕ → List ℕ → List ℕ
+meant_exec front letters text =
+    if is_request (word_of front (without_x letters) text) then meant_two (word_of front (without_x letters) text) (word_of front (codes "x") text)
+    else meant_one (word_of front (codes "x") text)
+
+-- the letters of a permission's name, or else small ones
+abbrev pub letters_meant : List ℕ → List ℕ
+letters_meant letters =
+    if bytes_eq letters (codes "read") then codes "r"
+    else (if bytes_eq letters (codes "write") then codes "w"
+    else (if bytes_eq letters (codes "file") then codes "rw"
+    else lowered letters))
+
 -- an execution is asked by a word of its own, and letters are small ones
 abbrev pub meant_letters : List ℕ → List ℕ → List ℕ → List ℕ
 meant_letters front letters text =
-    if has_x letters then meant_two (word_of front (without_x letters) text) (word_of front (codes "x") text)
-    else meant_one (word_of front (lowered letters) text)
+    if has_x letters then meant_exec front letters text
+    else meant_one (word_of front (letters_meant letters) text)
 
--- a path alone is read
+-- letters stand before a space, or a path alone is read
+abbrev pub meant_path : List ℕ → List ℕ → Option (List ℕ × List ℕ) → List ℕ
+meant_path front object None = meant_one (front ++ (codes "r:" ++ object))
+meant_path front object (Some s) = meant_letters front s.0 s.1
+
+-- letters stand before a colon
 abbrev pub meant_object : List ℕ → List ℕ → Option (List ℕ × List ℕ) → List ℕ
-meant_object front object None = meant_one (front ++ (codes "r:" ++ object))
+meant_object front object None = meant_path front object (split_in (codes " ") object)
 meant_object front object (Some s) = meant_letters front s.0 s.1
 
 -- the front of a word that says whose the object is

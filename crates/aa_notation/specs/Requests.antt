@@ -1,6 +1,6 @@
 -- A request as an item of a task's list in a job.
 -- Source: JSON; own.
-use Rattle.std.specs.Prelude.{ℕ, List, [], ◌++◌, ◌&&◌, codes, decimal, Bool, true, Option, unwrap_or, slice_get, if◌then◌else◌}
+use Rattle.std.specs.Prelude.{ℕ, List, [], ◌++◌, ◌&&◌, codes, decimal, Bool, true, unwrap_or, slice_get, if◌then◌else◌}
 use Rattle.std.specs.Str.{is_utf8}
 use Rattle.aa_base.specs.Tables.{capability_names, family_names, sock_type_names}
 use Rattle.aa_model.specs.Requests.{RequestedFile, RequestedLink, RequestedExec}

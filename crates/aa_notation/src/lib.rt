@@ -4,6 +4,7 @@
 mod digits;
 mod job;
 mod laws;
+mod named;
 mod read;
 mod refused;
 mod request;

@@ -4,8 +4,9 @@ ghost use Rattle.std.specs.Prelude.{◌≡◌, ◌==◌, ◌++◌, ◌&&◌, nat
 ghost use Rattle.std.specs.List.{list_any};
 ghost use Rattle.aa_notation.specs.Parts.{split_in, behind};
 ghost use Rattle.aa_notation.specs.Read.{letters_in};
-ghost use Rattle.aa_notation.specs.Refused.{about_path, about_letters, about_links, about_words, why_letters, why_parts, why_socket, object_of, why, small, lowered, is_request, meant_one, meant_two, meant_cap, type_of, meant_parts, meant_net, word_of, has_x, without_x, meant_letters, meant_object, owner_front, meant, refusal};
+ghost use Rattle.aa_notation.specs.Refused.{about_path, about_letters, about_links, about_words, why_letters, why_parts, why_socket, object_of, why, small, lowered, is_request, meant_one, meant_two, meant_cap, type_of, meant_parts, meant_net, word_of, has_x, without_x, meant_exec, letters_meant, meant_letters, meant_path, meant_object, owner_front, meant, refusal};
 
+use crate::named::{capability_named, family_named, sock_type_named};
 use crate::read::{WordFault, is_text, letters_of, read_word};
 use crate::split::{behind, split_at};
 use aa_base::{Family, Perms};
@@ -221,11 +222,8 @@ fn meant_cap(alloc: Global, name: &[u8]) -> Result<Vec<u8>, AllocError>
     ensures { IfOk result (λ word. word.items ≡ meant_cap name.now) }
 {
     let letters = lowered(alloc, name)?;
-    joined(
-        alloc,
-        "cap:".as_bytes(),
-        without_front(letters.as_slice(), "cap_"),
-    )
+    let name = without_front(letters.as_slice(), "cap_");
+    joined(alloc, "cap:".as_bytes(), capability_named(name))
 }
 
 fn type_of(name: &[u8]) -> &[u8]
@@ -248,12 +246,12 @@ fn push_parts(out: &mut Vec<u8>, text: &[u8]) -> Result<(), AllocError>
 {
     match split_at(text, "/") {
         Some((family, name)) => {
-            out.extend_from_slice(family)?;
+            out.extend_from_slice(family_named(family))?;
             push_text(out, "/")?;
-            out.extend_from_slice(type_of(name))
+            out.extend_from_slice(sock_type_named(type_of(name)))
         }
         None => {
-            out.extend_from_slice(text)?;
+            out.extend_from_slice(family_named(text))?;
             push_text(out, "/stream")
         }
     }
@@ -300,19 +298,39 @@ fn without_x(alloc: Global, letters: &[u8]) -> Result<Vec<u8>, AllocError>
         .collect(alloc)
 }
 
-fn push_both(
+/// What may have been meant by letters of which one is x.
+fn push_meant_exec(
     out: &mut Vec<u8>,
     alloc: Global,
     front: &str,
     letters: &[u8],
     text: &[u8],
 ) -> Result<(), AllocError>
-    ensures { OnOk result (out.new.items ≡ out.old.items ++ meant_two (word_of front.now (without_x letters.now) text.now) (word_of front.now (codes "x") text.now)) }
+    ensures { OnOk result (out.new.items ≡ out.old.items ++ meant_exec front.now letters.now text.now) }
 {
     let others = without_x(alloc, letters)?;
     let first = word_of(alloc, front, others.as_slice(), text)?;
     let second = word_of(alloc, front, "x".as_bytes(), text)?;
-    push_meant_two(out, alloc, first.as_slice(), second.as_slice())
+    if is_request(alloc, first.as_slice())? {
+        return push_meant_two(out, alloc, first.as_slice(), second.as_slice());
+    }
+    push_meant_one(out, alloc, second.as_slice())
+}
+
+/// The letters of a permission's name, or else small ones.
+fn letters_meant(alloc: Global, letters: &[u8]) -> Result<Vec<u8>, AllocError>
+    ensures { IfOk result (λ meant. meant.items ≡ letters_meant letters.now) }
+{
+    if is_text(letters, "read") {
+        return Vec::from_slice(alloc, "r".as_bytes());
+    }
+    if is_text(letters, "write") {
+        return Vec::from_slice(alloc, "w".as_bytes());
+    }
+    if is_text(letters, "file") {
+        return Vec::from_slice(alloc, "rw".as_bytes());
+    }
+    lowered(alloc, letters)
 }
 
 fn push_small(
@@ -322,9 +340,9 @@ fn push_small(
     letters: &[u8],
     text: &[u8],
 ) -> Result<(), AllocError>
-    ensures { OnOk result (out.new.items ≡ out.old.items ++ meant_one (word_of front.now (lowered letters.now) text.now)) }
+    ensures { OnOk result (out.new.items ≡ out.old.items ++ meant_one (word_of front.now (letters_meant letters.now) text.now)) }
 {
-    let letters = lowered(alloc, letters)?;
+    let letters = letters_meant(alloc, letters)?;
     let word = word_of(alloc, front, letters.as_slice(), text)?;
     push_meant_one(out, alloc, word.as_slice())
 }
@@ -339,24 +357,33 @@ fn push_meant_letters(
     ensures { OnOk result (out.new.items ≡ out.old.items ++ meant_letters front.now letters.now text.now) }
 {
     if has_x(letters) {
-        return push_both(out, alloc, front, letters, text);
+        return push_meant_exec(out, alloc, front, letters, text);
     }
     push_small(out, alloc, front, letters, text)
 }
 
 /// What may have been meant by a path alone.
-fn push_meant_path(
-    out: &mut Vec<u8>,
-    alloc: Global,
-    front: &str,
-    path: &[u8],
-) -> Result<(), AllocError>
+fn push_read(out: &mut Vec<u8>, alloc: Global, front: &str, path: &[u8]) -> Result<(), AllocError>
     ensures { OnOk result (out.new.items ≡ out.old.items ++ meant_one (front.now ++ (codes "r:" ++ path.now))) }
 {
     let mut word = Vec::from_slice(alloc, front.as_bytes())?;
     push_text(&mut word, "r:")?;
     word.extend_from_slice(path)?;
     push_meant_one(out, alloc, word.as_slice())
+}
+
+fn push_meant_path(
+    out: &mut Vec<u8>,
+    alloc: Global,
+    front: &str,
+    object: &[u8],
+) -> Result<(), AllocError>
+    ensures { OnOk result (out.new.items ≡ out.old.items ++ meant_path front.now object.now (split_in (codes " ") object.now)) }
+{
+    match split_at(object, " ") {
+        Some((letters, text)) => push_meant_letters(out, alloc, front, letters, text),
+        None => push_read(out, alloc, front, object),
+    }
 }
 
 fn push_meant_object(

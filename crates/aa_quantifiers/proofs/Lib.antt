@@ -1,4 +1,7 @@
 mod Filing
+mod OneText
 mod Standing
 mod Adding
 mod Best
+pub mod Growing
+mod Closing

@@ -1,6 +1,6 @@
 -- The requests of a word.
 -- Source: own.
-use Rattle.std.specs.Prelude.{◌≡◌, ℕ, List, [], ◌∷◌, ◌++◌, Bool, true, not, length, Contains}
+use Rattle.std.specs.Prelude.{◌≡◌, ℕ, List, [], ◌∷◌, ◌++◌, Bool, true, not, length, Contains, if◌then◌else◌}
 use Rattle.aa_pattern.specs.declared.pattern.Pattern.{Pattern}
 use Rattle.aa_pattern.specs.Matching.{is_match}
 use Rattle.aa_base.specs.declared.perms.Perms.{Perms}
@@ -9,6 +9,7 @@ use Rattle.aa_model.specs.declared.policy.Policy.{Policy}
 use Rattle.aa_model.specs.declared.label.Label.{Label}
 use Rattle.aa_model.specs.declared.request.Request.{Request}
 use Rattle.aa_model.specs.declared.request.Request.TheVariants.{File, Exec}
+use Rattle.aa_compile.specs.Patterns.{is_literal}
 use Rattle.aa_regions.specs.Regions.{IsAsked}
 use Rattle.aa_representatives.specs.Alike.{filing, deciding}
 use Rattle.aa_quantifiers.specs.declared.word.Whose.{Whose}
@@ -51,8 +52,12 @@ path_length (File r) = length r.path
 path_length (Exec r) = length r.path
 path_length _ = 0
 
--- the patterns by which the word's requests are answered at a label, and behind them its own
+-- the patterns that have to be told apart together with a word's own: none where that matches one path alone
+abbrev pub beside : List Pattern → Pattern → List Pattern
+beside ps p = if is_literal p then [] else ps ++ p ∷ []
+
+-- the patterns by which the word's requests are answered at a label, and behind them its own, as far as they have to be told apart
 abbrev pub patterns_at : List Policy → Label → Word → List Pattern
-patterns_at policies label (Files w) = filing policies label ++ w.pattern ∷ []
-patterns_at policies label (Execs w) = deciding policies label ++ w.pattern ∷ []
+patterns_at policies label (Files w) = beside (filing policies label) w.pattern
+patterns_at policies label (Execs w) = beside (deciding policies label) w.pattern
 patterns_at policies label (One r) = []

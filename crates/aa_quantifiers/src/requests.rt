@@ -1,21 +1,24 @@
 //! Requests of a word that stand for all of them.
 
-ghost use Rattle.std.specs.Prelude.{◌≡◌, ◌≢◌, ◌+◌, ◌<◌, ◌≤◌, ◌∷◌, [], true, Err, IfOk, OnOk, Contains, length};
+ghost use Rattle.std.specs.Prelude.{◌≡◌, ◌≢◌, ◌+◌, ◌++◌, ◌<◌, ◌≤◌, ◌∷◌, [], true, Err, IfOk, OnOk, Contains, length};
 ghost use Rattle.aa_pattern.specs.Limits.{most_patterns, most_states};
 ghost use Rattle.aa_pattern.specs.Matching.{is_match};
 ghost use Rattle.aa_auto.specs.Tables.{HasPlaces};
 ghost use Rattle.aa_base.specs.declared.perms.Perms.{Perms};
-ghost use Rattle.aa_model.specs.Requests.{is_mask};
+ghost use Rattle.aa_model.specs.Requests.{is_mask, is_path};
 ghost use Rattle.aa_model.specs.declared.request.Request.{Request};
 ghost use Rattle.aa_regions.specs.declared.regions.Region.{Region};
 ghost use Rattle.aa_regions.specs.Regions.{IsAsked};
 ghost use Rattle.aa_representatives.specs.Representatives.{Adds};
 ghost use Rattle.aa_quantifiers.specs.declared.word.Word.{Word};
+ghost use Rattle.aa_compile.specs.Patterns.{is_literal};
+ghost use Rattle.aa_representatives.specs.Alike.{filing, deciding};
 ghost use Rattle.aa_quantifiers.specs.Words.{asks_for, IsOf, patterns_at};
 ghost use Rattle.aa_quantifiers.specs.Candidates.{HasFilesBy, HasFilesOf, HasExecsOf};
 ghost use Rattle.aa_quantifiers.specs.Quantities.{StandForWord};
 
 use crate::fault::QuantityFault;
+use crate::literal::{is_askable, literal_path};
 use crate::word::{ExecsWord, FilesWord, Word};
 use aa_base::Perms;
 use aa_compile::{Compiled, is_matched};
@@ -228,6 +231,53 @@ fn execs_of(alloc: Global, word: &ExecsWord, regions: &[Region]) -> Result<Vec<R
     Ok(requests)
 }
 
+/// Requests at the paths of the regions of the label's rules and the word's pattern.
+fn files_by_regions(
+    alloc: Global,
+    policies: &[Compiled],
+    label: Label,
+    word: &FilesWord,
+    limit: usize,
+) -> Result<Vec<Request>, QuantityFault>
+    requires some { 0 < limit }
+    requires limit { limit ≤ most_states }
+    ensures stand { IfOk result (λ rs. StandForWord policies.now label (Word.Files word.now) rs.items) }
+    ensures many_patterns { result ≡ Err QuantityFault.TooManyPatterns → most_patterns < length (filing policies.now label ++ word.now.pattern ∷ []) }
+    ensures few_patterns { IfOk result (λ _. length (filing policies.now label ++ word.now.pattern ∷ []) ≤ most_patterns) }
+    ensures many_states { result ≡ Err QuantityFault.TooManyStates → HasPlaces (filing policies.now label ++ word.now.pattern ∷ []) (limit + 1) }
+    ensures few_states { IfOk result (λ _. HasPlaces (filing policies.now label ++ word.now.pattern ∷ []) (limit + 1) → ⊥) }
+    ensures made { result ≢ Err QuantityFault.NoRequest }
+{
+    let regions = filing_regions_and(alloc, policies, label, &word.pattern, limit)?;
+    let requests = files_of(alloc, word, regions.as_slice())?;
+    Ok(requests)
+}
+
+/// Requests at a path, if it can be asked for and the word's pattern matches it.
+fn files_at(alloc: Global, word: &FilesWord, path: &[u8]) -> Result<Vec<Request>, AllocError>
+    ensures each { IfOk result (λ rs. (r : Request) → Contains rs.items r → IsOf (Word.Files word.now) r) }
+    ensures has { IfOk result (λ rs. is_path path.now ≡ true → is_match word.now.pattern.items.items path.now ≡ true → HasFilesOf word.now.whose path.now word.now.masks rs.items) }
+{
+    let mut requests = Vec::new(alloc);
+    let is_path = is_askable(alloc, path)?;
+    if !is_path {
+        return Ok(requests);
+    }
+    add_files_if_matched(alloc, &mut requests, word, path)?;
+    Ok(requests)
+}
+
+/// Requests of a word whose pattern has no wildcard: those at the one path that it can match.
+fn files_at_literal(alloc: Global, word: &FilesWord) -> Result<Vec<Request>, AllocError>
+    requires { is_literal word.now.pattern ≡ true }
+    ensures each { IfOk result (λ rs. (r : Request) → Contains rs.items r → IsOf (Word.Files word.now) r) }
+    ensures all { IfOk result (λ rs. (r : Request) → IsOf (Word.Files word.now) r → Contains rs.items r) }
+{
+    let path = literal_path(alloc, &word.pattern)?;
+    let requests = files_at(alloc, word, path.as_slice())?;
+    Ok(requests)
+}
+
 fn of_files(
     alloc: Global,
     policies: &[Compiled],
@@ -241,11 +291,58 @@ fn of_files(
     ensures many_patterns { result ≡ Err QuantityFault.TooManyPatterns → most_patterns < length (patterns_at policies.now label (Word.Files word.now)) }
     ensures few_patterns { IfOk result (λ _. length (patterns_at policies.now label (Word.Files word.now)) ≤ most_patterns) }
     ensures many_states { result ≡ Err QuantityFault.TooManyStates → HasPlaces (patterns_at policies.now label (Word.Files word.now)) (limit + 1) }
-    ensures few_states { IfOk result (λ _. HasPlaces (patterns_at policies.now label (Word.Files word.now)) (limit + 1) → ⊥) }
     ensures made { result ≢ Err QuantityFault.NoRequest }
 {
-    let regions = filing_regions_and(alloc, policies, label, &word.pattern, limit)?;
-    let requests = files_of(alloc, word, regions.as_slice())?;
+    if word.pattern.is_literal() {
+        return Ok(files_at_literal(alloc, word)?);
+    }
+    files_by_regions(alloc, policies, label, word, limit)
+}
+
+/// Requests at the paths of the regions of the label's rules and the word's pattern.
+fn execs_by_regions(
+    alloc: Global,
+    policies: &[Compiled],
+    label: Label,
+    word: &ExecsWord,
+    limit: usize,
+) -> Result<Vec<Request>, QuantityFault>
+    requires some { 0 < limit }
+    requires limit { limit ≤ most_states }
+    ensures stand { IfOk result (λ rs. StandForWord policies.now label (Word.Execs word.now) rs.items) }
+    ensures many_patterns { result ≡ Err QuantityFault.TooManyPatterns → most_patterns < length (deciding policies.now label ++ word.now.pattern ∷ []) }
+    ensures few_patterns { IfOk result (λ _. length (deciding policies.now label ++ word.now.pattern ∷ []) ≤ most_patterns) }
+    ensures many_states { result ≡ Err QuantityFault.TooManyStates → HasPlaces (deciding policies.now label ++ word.now.pattern ∷ []) (limit + 1) }
+    ensures few_states { IfOk result (λ _. HasPlaces (deciding policies.now label ++ word.now.pattern ∷ []) (limit + 1) → ⊥) }
+    ensures made { result ≢ Err QuantityFault.NoRequest }
+{
+    let regions = deciding_regions_and(alloc, policies, label, &word.pattern, limit)?;
+    let requests = execs_of(alloc, word, regions.as_slice())?;
+    Ok(requests)
+}
+
+/// Requests at a path, if it can be asked for and the word's pattern matches it.
+fn execs_at(alloc: Global, word: &ExecsWord, path: &[u8]) -> Result<Vec<Request>, AllocError>
+    ensures each { IfOk result (λ rs. (r : Request) → Contains rs.items r → IsOf (Word.Execs word.now) r) }
+    ensures has { IfOk result (λ rs. is_path path.now ≡ true → is_match word.now.pattern.items.items path.now ≡ true → HasExecsOf word.now.whose path.now rs.items) }
+{
+    let mut requests = Vec::new(alloc);
+    let is_path = is_askable(alloc, path)?;
+    if !is_path {
+        return Ok(requests);
+    }
+    add_execs_if_matched(alloc, &mut requests, word, path)?;
+    Ok(requests)
+}
+
+/// Requests of a word whose pattern has no wildcard: those at the one path that it can match.
+fn execs_at_literal(alloc: Global, word: &ExecsWord) -> Result<Vec<Request>, AllocError>
+    requires { is_literal word.now.pattern ≡ true }
+    ensures each { IfOk result (λ rs. (r : Request) → Contains rs.items r → IsOf (Word.Execs word.now) r) }
+    ensures all { IfOk result (λ rs. (r : Request) → IsOf (Word.Execs word.now) r → Contains rs.items r) }
+{
+    let path = literal_path(alloc, &word.pattern)?;
+    let requests = execs_at(alloc, word, path.as_slice())?;
     Ok(requests)
 }
 
@@ -262,12 +359,12 @@ fn of_execs(
     ensures many_patterns { result ≡ Err QuantityFault.TooManyPatterns → most_patterns < length (patterns_at policies.now label (Word.Execs word.now)) }
     ensures few_patterns { IfOk result (λ _. length (patterns_at policies.now label (Word.Execs word.now)) ≤ most_patterns) }
     ensures many_states { result ≡ Err QuantityFault.TooManyStates → HasPlaces (patterns_at policies.now label (Word.Execs word.now)) (limit + 1) }
-    ensures few_states { IfOk result (λ _. HasPlaces (patterns_at policies.now label (Word.Execs word.now)) (limit + 1) → ⊥) }
     ensures made { result ≢ Err QuantityFault.NoRequest }
 {
-    let regions = deciding_regions_and(alloc, policies, label, &word.pattern, limit)?;
-    let requests = execs_of(alloc, word, regions.as_slice())?;
-    Ok(requests)
+    if word.pattern.is_literal() {
+        return Ok(execs_at_literal(alloc, word)?);
+    }
+    execs_by_regions(alloc, policies, label, word, limit)
 }
 
 fn of_one(alloc: Global, request: &Request) -> Result<Vec<Request>, AllocError>

@@ -1,21 +1,23 @@
 -- Routes that are told one after another.
-use Rattle.std.proofs.Common.{◌≡◌, ℕ, List, [], ◌∷◌, ◌++◌, map, Bool, true, false, if◌then◌else◌, Option, Some, None}
+use Rattle.std.proofs.Common.{◌≡◌, ℕ, ◌+◌, ◌<◌, List, [], ◌∷◌, ◌++◌, map, length, take, get_or, Bool, true, false, if◌then◌else◌, Option, Some, None, Result, Ok, Err}
 use Rattle.std.proofs.Common.{refl, sym, ap, ◌∙◌, subst, append-nil}
-use Rattle.std.proofs.lemmas.List.{map-append}
+use Rattle.std.specs.Prelude.{IfOk}
+use Rattle.std.proofs.lemmas.List.{map-append, take_more}
 use Rattle.aa_model.specs.declared.policy.Policy.{Policy}
 use Rattle.aa_model.specs.declared.label.Label.{Label}
 use Rattle.aa_model.specs.declared.request.Request.{Request}
 use Rattle.aa_model.specs.declared.request.Request.TheVariants.{File, Link, Exec, Cap, Net, Change, Reload}
 use Rattle.aa_model.specs.Requests.{RequestedExec}
 use Rattle.aa_reachability.specs.declared.trail.Arrival.{Arrival}
-use Rattle.aa_reachability.specs.Moves.{label_going}
-use Rattle.aa_reachability.specs.Reach.{AreWays, AreArrivals, AreNear}
+use Rattle.aa_reachability.specs.declared.reached.Untold.{Untold}
+use Rattle.aa_reachability.specs.declared.reached.Why.{Why}
+use Rattle.aa_reachability.specs.Moves.{label_going, HaveManyPatternsAt, IsWhy}
+use Rattle.aa_reachability.specs.Reach.{IsOpen, AreWays, AreArrivals, AreUntold, AreNear}
 use Rattle.aa_reach.specs.declared.routes.Route.{Route}
-use Rattle.aa_reach.specs.declared.answering.Told.{Told}
-use Rattle.aa_reach.specs.declared.answering.Told.TheVariants.{Routes, Untold}
+use Rattle.aa_reach.specs.declared.answering.Bar.{Bar}
+use Rattle.aa_reach.specs.declared.answering.Answer.{Answer}
 use Rattle.aa_reach.specs.Names.{Name, name_in, name_of}
-use Rattle.aa_reach.specs.Routes.{Turned, Routed, as_others, turned, turns_by, routed, is_wanted, route_to, route_if, all_routes, AreRoutes, AreEdges}
-use Rattle.aa_reach.specs.Answers.{IsUntold, IsTold, IsEdged}
+use Rattle.aa_reach.specs.Routes.{Turned, Routed, Barred, as_others, turned, turns_by, routed, barred, barred_by, is_wanted, route_to, route_if, all_routes, AreRoutes, AreEdges, Edges, NoEdges}
 
 -- what is no execution is asked as it is
 pub kept_as_is : (r : Request) → ((e : RequestedExec) → r ≡ Exec e → ⊥) → as_others r ≡ r
@@ -65,36 +67,48 @@ route_none enforced ps from targets o way old none =
     subst (λ (x : Option Arrival). old ≡ old ++ route_if enforced ps from targets x way) (sym none) (sym (append-nil old))
 
 -- routes to what was found
-pub routes_told : (enforced : Bool) (ps : List Policy) (from : Label) (targets : Option (List Label)) (found lent : List Arrival) (routes : List Routed)
-    → AreArrivals (label_going enforced ps) from found → lent ≡ found
-    → ((ways : List (List Request)) → AreWays lent ways → routes ≡ all_routes enforced ps from targets lent ways)
-    → AreRoutes enforced ps from targets routes
-routes_told enforced ps from targets found lent routes are same told = record {
+pub routes_told : (enforced : Bool) (ps : List Policy) (limit : ℕ) (from : Label) (targets : Option (List Label)) (found lent : List Arrival) (untold : List Untold)
+    (routes : List Routed) (bars : List Barred)
+    → AreArrivals (label_going enforced ps) (IsOpen untold) from found → AreUntold ps limit found untold → lent ≡ found
+    → ((ways : List (List Request)) → AreWays lent ways → routes ≡ all_routes enforced ps from targets lent ways) → bars ≡ map (barred_by ps) untold
+    → AreRoutes enforced ps limit from targets routes bars
+routes_told enforced ps limit from targets found lent untold routes bars are are_untold same told bars_are = record {
   arrivals = found;
+  untold = untold;
   are = are;
+  are_untold = are_untold;
   told =
       subst (λ (list : List Arrival). (ways : List (List Request)) → AreWays list ways → routes ≡ all_routes enforced ps from targets list ways)
       same told
       are.ways are.are;
+  bars_are = bars_are;
 }
 
-pub edges_told : (enforced : Bool) (ps : List Policy) (from : Label) (found lent : List Arrival) (routes : List Routed)
-    → AreNear (label_going enforced ps) from found → lent ≡ found
-    → ((ways : List (List Request)) → AreWays lent ways → routes ≡ all_routes enforced ps from None lent ways) → AreEdges enforced ps from routes
-edges_told enforced ps from found lent routes are same told = record {
-  arrivals = found;
-  are = are;
-  told =
-      subst (λ (list : List Arrival). (ways : List (List Request)) → AreWays list ways → routes ≡ all_routes enforced ps from None list ways) same told
-      are.ways are.are;
-}
+pub edges_told : (enforced : Bool) (ps : List Policy) (limit : ℕ) (from : Label) (found lent : List Arrival) (routes : List Routed) (bars : List Barred)
+    → AreNear (label_going enforced ps) from found → (HaveManyPatternsAt ps from → ⊥) → lent ≡ found
+    → ((ways : List (List Request)) → AreWays lent ways → routes ≡ all_routes enforced ps from None lent ways) → bars ≡ []
+    → AreEdges enforced ps limit from routes bars
+edges_told enforced ps limit from found lent routes bars are few same told none =
+    Edges found are few
+    (subst (λ (list : List Arrival). (ways : List (List Request)) → AreWays list ways → routes ≡ all_routes enforced ps from None list ways) same told
+    are.ways are.are)
+    none
 
--- where it is told why, nothing else is
-pub untold_told : (enforced : Bool) (ps : List Policy) (limit : ℕ) (targets : Option (List Label)) (from : Label) (t : Told)
-    → IsUntold ps limit t → IsTold enforced ps limit targets from t
-untold_told enforced ps limit targets from (Routes routes) is = absurd is
-untold_told enforced ps limit targets from (Untold line) is = is
+-- none, where it isn't told where one leads
+pub no_edges_told : {E : Type 0} (enforced : Bool) (ps : List Policy) (limit : ℕ) (from : Label) (why : Why) (r : Result Answer E)
+    → IsWhy ps limit from why → IfOk r (λ a. a.routes.items ≡ [])
+    → IfOk r (λ a. map barred a.bars.items ≡ record { at = name_of ps from; why = why } ∷ [])
+    → IfOk r (λ a. AreEdges enforced ps limit from (map routed a.routes.items) (map barred a.bars.items))
+no_edges_told enforced ps limit from why (Ok a) is none bars = NoEdges why is (ap (map routed) none) bars
+no_edges_told enforced ps limit from why (Err e) is none bars = tt
 
-pub untold_edged : (enforced : Bool) (ps : List Policy) (limit : ℕ) (from : Label) (t : Told) → IsUntold ps limit t → IsEdged enforced ps limit from t
-untold_edged enforced ps limit from (Routes routes) is = absurd is
-untold_edged enforced ps limit from (Untold line) is = is
+-- a label more from which it isn't told where requests lead on
+pub bars_more : (ps : List Policy) (all : List Untold) (i : ℕ) (u d : Untold) (old now : List Bar) (b : Bar) → i < length all → u ≡ get_or all i d
+    → now ≡ old ++ b ∷ [] → barred b ≡ barred_by ps u → map barred old ≡ map (barred_by ps) (take i all)
+    → map barred now ≡ map (barred_by ps) (take (i + 1) all)
+bars_more ps all i u d old now b lt item more is were =
+    ap (map barred) more ∙ map-append barred old (b ∷ []) ∙ ap (λ (bs : List Barred). bs ++ barred b ∷ []) were
+    ∙ ap (λ (x : Barred). map (barred_by ps) (take i all) ++ x ∷ []) is
+    ∙ sym (map-append (barred_by ps) (take i all) (u ∷ []))
+    ∙ ap (λ (x : Untold). map (barred_by ps) (take i all ++ x ∷ [])) item
+    ∙ ap (map (barred_by ps)) (sym (take_more all i d lt))

@@ -7,6 +7,7 @@ use Rattle.aa_model.specs.declared.policy.Policy.{Policy}
 use Rattle.aa_model.specs.declared.label.Label.{Label}
 use Rattle.aa_files.specs.Texts.{texts}
 use Rattle.aa_load.specs.UnitPolicy.{limit_of}
+use Rattle.aa_ask.specs.Naming.{count_of}
 use Rattle.aa_command.specs.declared.decided.Decided.{Decided}
 use Rattle.aa_command.specs.Setting.{Setting}
 use Rattle.aa_command.specs.Printed.{Printed, faults_alone}
@@ -18,7 +19,7 @@ use Rattle.aa_reach.specs.declared.graph.Vertex.{Vertex}
 use Rattle.aa_reach.specs.declared.shown.Manner.{Manner}
 use Rattle.aa_reach.specs.declared.command.ReachOptions.{ReachOptions}
 use Rattle.aa_reach.specs.declared.command.Asked.{Asked}
-use Rattle.aa_reach.specs.Names.{count_of, labels_named, NamesNone, AreNamed, SaysNone, SaysOne}
+use Rattle.aa_reach.specs.Names.{labels_named, NamesNone, AreNamed, SaysNone, SaysOne}
 use Rattle.aa_reach.specs.Answers.{AreAnswers, AreVertices}
 use Rattle.aa_reach.specs.Shown.{answer_text, passed_text, untold_text, is_reached}
 use Rattle.aa_reach.specs.Json.{json_answers}
@@ -54,9 +55,9 @@ SaysUnnamed policies o NoMemory = Unit {0}
 SaysUnnamed policies o (Refused line) = SaysOne policies (texts o.from.now) (Refused line) ⊎ SaysNoTarget policies (to_text o) (Refused line)
 
 -- each line tells where the task begins, where it is looked for some labels and there are several such beginnings
-abbrev pub manner_of : List Policy → ReachOptions → List Label → Manner
-manner_of policies o labels =
-    record { is_sought = is_some o.to; has_fronts = is_some o.to && nat_lt 1 (length labels); labels = labels_in policies }
+abbrev pub manner_of : List Policy → ReachOptions → List Label → ℕ → Manner
+manner_of policies o labels limit =
+    record { is_sought = is_some o.to; has_fronts = is_some o.to && nat_lt 1 (length labels); labels = labels_in policies; limit = limit }
 
 -- answers as they are wanted
 abbrev pub answers_text : Bool → Manner → ℕ → List Answer → List ℕ
@@ -76,9 +77,9 @@ abbrev pub reach_printed : Bool → Manner → ℕ → List Answer → Printed
 reach_printed is_json m passed answers =
     record {
       answers = answers_text is_json m passed answers;
-      faults = flat_map untold_text answers;
+      faults = flat_map (untold_text m.limit) answers;
       refusal = [];
-      status = status_of (flat_map untold_text answers) (has_found m answers);
+      status = status_of (flat_map (untold_text m.limit) answers) (has_found m answers);
     }
 
 -- the line of a refusal
@@ -95,18 +96,23 @@ pub record IsAsked (policies : List Policy) (o : ReachOptions) (a : Asked) : Typ
 pub record IsAnswered (limit : ℕ) (o : ReachOptions) (policies : List Policy) (a : Asked) (out : Printed) : Type 0 where
   pub answers : List Answer
   pub are : AreAnswers o.as_enforced policies limit (option_map (λ ts. ts.items) a.targets) a.labels.items answers
-  pub out_is : out ≡ reach_printed o.is_json (manner_of policies o a.labels.items) (passed_in policies) answers
+  pub out_is : out ≡ reach_printed o.is_json (manner_of policies o a.labels.items limit) (passed_in policies) answers
 
 -- the graph, and what can't be told
-abbrev pub graph_printed : ℕ → List Vertex → Printed
-graph_printed passed vertices =
-    record { answers = dot_text passed vertices; faults = flat_map untold_edges vertices; refusal = []; status = status_of (flat_map untold_edges vertices) false }
+abbrev pub graph_printed : ℕ → ℕ → List Vertex → Printed
+graph_printed limit passed vertices =
+    record {
+      answers = dot_text passed vertices;
+      faults = flat_map (untold_edges limit) vertices;
+      refusal = [];
+      status = status_of (flat_map (untold_edges limit) vertices) false;
+    }
 
 -- the graph of all labels is printed
 pub record IsGraphed (limit : ℕ) (o : ReachOptions) (policies : List Policy) (out : Printed) : Type 0 where
   pub vertices : List Vertex
   pub are : AreVertices o.as_enforced policies limit vertices
-  pub out_is : out ≡ graph_printed (passed_in policies) vertices
+  pub out_is : out ≡ graph_printed limit (passed_in policies) vertices
 
 -- no label is named where a task begins, and no graph is wanted
 abbrev pub asks_nothing : ReachOptions → Bool

@@ -2,12 +2,10 @@
 -- Source: Graphviz, "DOT Language"; own.
 use Rattle.std.specs.Prelude.{ℕ, ◌==◌, ◌||◌, List, [], ◌∷◌, ◌++◌, map, flat_map, codes, decimal, Bool, if◌then◌else◌}
 use Rattle.aa_ask.specs.Shown.{complain_mark}
-use Rattle.aa_reach.specs.declared.answering.Told.{Told}
-use Rattle.aa_reach.specs.declared.answering.Told.TheVariants.{Routes, Untold}
 use Rattle.aa_reach.specs.declared.graph.Vertex.{Vertex}
 use Rattle.aa_reach.specs.Names.{Name, name_in, called}
 use Rattle.aa_reach.specs.Routes.{Turned, Routed, routed}
-use Rattle.aa_reach.specs.Shown.{untold_of}
+use Rattle.aa_reach.specs.Shown.{untold_text}
 
 -- a byte between quotes: behind a backslash where it would end them or begin an escape
 abbrev pub dot_byte : ℕ → List ℕ
@@ -23,7 +21,7 @@ style_mark complains = if complains then codes " [style=dashed]" else []
 
 -- a node
 unfoldable pub node_line : Vertex → List ℕ
-node_line v = codes "  " ++ dot_string (called (name_in v.named)) ++ style_mark v.complains ++ codes ";\n"
+node_line v = codes "  " ++ dot_string (called (name_in v.edges.from)) ++ style_mark v.complains ++ codes ";\n"
 
 -- a request, and a mark where complain mode alone grants it
 abbrev pub edge_word : Turned → List ℕ
@@ -33,14 +31,9 @@ edge_word t = t.word ++ complain_mark t.complains
 unfoldable pub edge_line : Name → Routed → List ℕ
 edge_line from r = codes "  " ++ dot_string (called from) ++ codes " -> " ++ dot_string (called r.to) ++ codes " [label=" ++ dot_string (flat_map edge_word r.turns) ++ codes "];\n"
 
--- the edges from a label; none where they can't be told
-abbrev pub told_edges : Name → Told → List ℕ
-told_edges from (Routes routes) = flat_map (edge_line from) (map routed routes.items)
-told_edges from (Untold line) = []
-
--- those of a node
+-- the edges from a node
 abbrev pub node_edges : Vertex → List ℕ
-node_edges v = told_edges (name_in v.named) v.told
+node_edges v = flat_map (edge_line (name_in v.edges.from)) (map routed v.edges.routes.items)
 
 -- how many rules decide nothing, in a comment, where there are some
 abbrev pub passed_comment : ℕ → List ℕ
@@ -50,6 +43,6 @@ passed_comment n = if n == 0 then [] else codes "// " ++ decimal n ++ codes " ru
 unfoldable pub dot_text : ℕ → List Vertex → List ℕ
 dot_text passed vertices = codes "digraph labels {\n" ++ flat_map node_line vertices ++ flat_map node_edges vertices ++ codes "}\n" ++ passed_comment passed
 
--- the line on what can't be told of a label
-abbrev pub untold_edges : Vertex → List ℕ
-untold_edges v = untold_of v.told
+-- what isn't told of the edges from a node
+abbrev pub untold_edges : ℕ → Vertex → List ℕ
+untold_edges limit v = untold_text limit v.edges

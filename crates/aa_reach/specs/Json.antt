@@ -2,11 +2,9 @@
 -- Source: own.
 use Rattle.std.specs.Prelude.{ℕ, List, ◌++◌, map, codes, decimal, if◌then◌else◌}
 use Rattle.aa_text.specs.Jsons.{json_bytes, key_text, bool_text, member_text, list_text}
-use Rattle.aa_reach.specs.declared.answering.Told.{Told}
-use Rattle.aa_reach.specs.declared.answering.Told.TheVariants.{Routes, Untold}
 use Rattle.aa_reach.specs.declared.answering.Answer.{Answer}
 use Rattle.aa_reach.specs.Names.{Name, name_in}
-use Rattle.aa_reach.specs.Routes.{Turned, Routed, routed}
+use Rattle.aa_reach.specs.Routes.{Turned, Routed, routed, Barred, barred}
 
 -- the full name of a profile, or null where the task isn't confined
 abbrev pub json_name : Name → List ℕ
@@ -20,14 +18,15 @@ json_turn t = codes "{" ++ key_text (codes "request") ++ json_bytes t.word ++ me
 unfoldable pub json_route : Routed → List ℕ
 json_route r = codes "{" ++ key_text (codes "profile") ++ json_name r.to ++ member_text (codes "requests") (list_text (map json_turn r.turns)) ++ codes "}"
 
--- the routes, or null where they can't be told
-abbrev pub json_told : Told → List ℕ
-json_told (Routes routes) = list_text (map json_route (map routed routes.items))
-json_told (Untold line) = codes "null"
+-- a label from which it isn't told where requests lead on
+abbrev pub json_bar : Barred → List ℕ
+json_bar b = json_name b.at
 
--- a label where a task begins, and those that it can get to
+-- a label where a task begins, those that it can get to, and those from which it isn't told where requests lead on
 unfoldable pub json_answer : Answer → List ℕ
-json_answer a = codes "{" ++ key_text (codes "from") ++ json_name (name_in a.from) ++ member_text (codes "reached") (json_told a.told) ++ codes "}"
+json_answer a =
+    codes "{" ++ key_text (codes "from") ++ json_name (name_in a.from) ++ member_text (codes "reached") (list_text (map json_route (map routed a.routes.items)))
+    ++ member_text (codes "untold") (list_text (map json_bar (map barred a.bars.items))) ++ codes "}"
 
 -- the answers, how many labels there are, and how many rules decide nothing
 unfoldable pub json_answers : ℕ → ℕ → List Answer → List ℕ

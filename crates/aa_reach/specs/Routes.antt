@@ -11,10 +11,13 @@ use Rattle.aa_mediate.specs.Reply.{reply}
 use Rattle.aa_notation.specs.Written.{word_text}
 use Rattle.aa_ask.specs.Told.{is_same}
 use Rattle.aa_reachability.specs.declared.trail.Arrival.{Arrival}
-use Rattle.aa_reachability.specs.Moves.{is_by_complain, label_going}
-use Rattle.aa_reachability.specs.Reach.{AreArrivals, AreNear, way_at}
+use Rattle.aa_reachability.specs.declared.reached.Untold.{Untold}
+use Rattle.aa_reachability.specs.declared.reached.Why.{Why}
+use Rattle.aa_reachability.specs.Moves.{is_by_complain, label_going, HaveManyPatternsAt, IsWhy}
+use Rattle.aa_reachability.specs.Reach.{IsOpen, AreArrivals, AreUntold, AreNear, way_at}
 use Rattle.aa_reach.specs.declared.routes.Turn.{Turn}
 use Rattle.aa_reach.specs.declared.routes.Route.{Route}
+use Rattle.aa_reach.specs.declared.answering.Bar.{Bar}
 use Rattle.aa_reach.specs.Names.{Name, name_in, name_of}
 
 -- a request as one word, and whether it is granted by complain mode alone
@@ -86,15 +89,33 @@ first_routes enforced ps from targets arrivals ways (suc n) =
 abbrev pub all_routes : Bool → List Policy → Label → Option (List Label) → List Arrival → List (List Request) → List Routed
 all_routes enforced ps from targets arrivals ways = first_routes enforced ps from targets arrivals ways (length arrivals)
 
--- the routes to all labels that are wanted and to which requests lead from that label: one each, with as few requests as lead there; by
--- the policies as they are, or where what complain mode alone grants moves no task
-pub record AreRoutes (enforced : Bool) (ps : List Policy) (from : Label) (targets : Option (List Label)) (routes : List Routed) : Type 0 where
-  pub arrivals : List Arrival
-  pub are : AreArrivals (label_going enforced ps) from arrivals
-  pub told : routes ≡ all_routes enforced ps from targets arrivals are.ways
+-- a label from which it isn't told where requests lead on, and why
+pub record Barred : Type 0 where
+  pub at : Name
+  pub why : Why
 
--- the routes of one request to all other labels to which one leads
-pub record AreEdges (enforced : Bool) (ps : List Policy) (from : Label) (routes : List Routed) : Type 0 where
+-- one, without where it lies in memory
+abbrev pub barred : Bar → Barred
+barred b = record { at = name_in b.at; why = b.why }
+
+-- so of what was found
+abbrev pub barred_by : List Policy → Untold → Barred
+barred_by ps u = record { at = name_of ps u.label; why = u.why }
+
+-- the routes to all labels that are wanted and to which requests lead from that label, one each, with as few requests as lead there,
+-- those with fewer first: by the policies as they are, or where what complain mode alone grants moves no task; and the labels from which
+-- it isn't told where requests lead on, so that none is counted that leads on from one of these
+pub record AreRoutes (enforced : Bool) (ps : List Policy) (limit : ℕ) (from : Label) (targets : Option (List Label)) (routes : List Routed)
+    (bars : List Barred) : Type 0 where
   pub arrivals : List Arrival
-  pub are : AreNear (label_going enforced ps) from arrivals
-  pub told : routes ≡ all_routes enforced ps from None arrivals are.ways
+  pub untold : List Untold
+  pub are : AreArrivals (label_going enforced ps) (IsOpen untold) from arrivals
+  pub are_untold : AreUntold ps limit arrivals untold
+  pub told : routes ≡ all_routes enforced ps from targets arrivals are.ways
+  pub bars_are : bars ≡ map (barred_by ps) untold
+
+-- the routes of one request to all other labels to which one leads; or it isn't told where one leads, and there are none
+pub data AreEdges (enforced : Bool) (ps : List Policy) (limit : ℕ) (from : Label) (routes : List Routed) (bars : List Barred) : Type 0 where
+  Edges : (arrivals : List Arrival) → (are : AreNear (label_going enforced ps) from arrivals) → (HaveManyPatternsAt ps from → ⊥)
+      → routes ≡ all_routes enforced ps from None arrivals are.ways → bars ≡ [] → AreEdges enforced ps limit from routes bars
+  NoEdges : (why : Why) → IsWhy ps limit from why → routes ≡ [] → bars ≡ record { at = name_of ps from; why = why } ∷ [] → AreEdges enforced ps limit from routes bars

@@ -1,13 +1,13 @@
 -- Answers as they are printed.
 -- Source: own.
-use Rattle.std.specs.Prelude.{ℕ, ◌==◌, List, [], ◌++◌, length, map, flat_map, codes, decimal, Bool, false, not, if◌then◌else◌}
+use Rattle.std.specs.Prelude.{ℕ, ◌==◌, ◌||◌, List, [], ◌++◌, length, map, flat_map, codes, decimal, Bool, not, if◌then◌else◌}
 use Rattle.aa_ask.specs.Shown.{complain_mark}
-use Rattle.aa_reach.specs.declared.answering.Told.{Told}
-use Rattle.aa_reach.specs.declared.answering.Told.TheVariants.{Routes, Untold}
+use Rattle.aa_reachability.specs.declared.reached.Why.{Why}
+use Rattle.aa_reachability.specs.declared.reached.Why.TheVariants.{TooManyPatterns, TooManyStates}
 use Rattle.aa_reach.specs.declared.answering.Answer.{Answer}
 use Rattle.aa_reach.specs.declared.shown.Manner.{Manner}
 use Rattle.aa_reach.specs.Names.{Name, name_in, called}
-use Rattle.aa_reach.specs.Routes.{Turned, Routed, routed}
+use Rattle.aa_reach.specs.Routes.{Turned, Routed, routed, Barred, barred}
 
 -- a request behind a space, and a mark where complain mode alone grants it
 unfoldable pub turn_text : Turned → List ℕ
@@ -21,49 +21,49 @@ from_mark has_fronts from = if has_fronts then codes "from " ++ called from ++ c
 unfoldable pub route_line : Manner → Name → Routed → List ℕ
 route_line m from r = from_mark m.has_fronts from ++ called r.to ++ flat_map turn_text r.turns ++ codes "\n"
 
--- none of the labels that are asked for is reached
-abbrev pub none_line : Manner → Name → List Routed → List ℕ
-none_line m from routes = if length routes == 0 then from_mark m.has_fronts from ++ codes "no\n" else []
+-- none of the labels that are asked for is reached, which is told where it is known
+abbrev pub none_line : Manner → Answer → List ℕ
+none_line m a =
+    if not (length a.routes.items == 0) || not (length a.bars.items == 0) then [] else from_mark m.has_fronts (name_in a.from) ++ codes "no\n"
+
+-- there may be more labels, where it isn't told of one where requests lead on
+abbrev pub at_least : Answer → List ℕ
+at_least a = if length a.bars.items == 0 then [] else codes "at least "
 
 -- N of M labels from LABEL
-unfoldable pub count_line : Manner → Name → List Routed → List ℕ
-count_line m from routes = decimal (length routes) ++ codes " of " ++ decimal m.labels ++ codes " labels from " ++ called from ++ codes "\n"
+unfoldable pub labels_line : Manner → Answer → List ℕ
+labels_line m a =
+    decimal (length a.routes.items) ++ codes " of " ++ decimal m.labels ++ codes " labels from " ++ called (name_in a.from) ++ codes "\n"
+
+-- so many labels, or at least so many
+abbrev pub count_line : Manner → Answer → List ℕ
+count_line m a = at_least a ++ labels_line m a
 
 -- what stands behind the routes
-abbrev pub end_line : Manner → Name → List Routed → List ℕ
-end_line m from routes = if m.is_sought then none_line m from routes else count_line m from routes
-
--- the lines of routes
-abbrev pub routes_text : Manner → Name → List Routed → List ℕ
-routes_text m from routes = flat_map (route_line m from) routes ++ end_line m from routes
-
--- what is told of a label where a task begins; nothing where it can't be told
-abbrev pub told_text : Manner → Name → Told → List ℕ
-told_text m from (Routes routes) = routes_text m from (map routed routes.items)
-told_text m from (Untold line) = []
+abbrev pub end_line : Manner → Answer → List ℕ
+end_line m a = if m.is_sought then none_line m a else count_line m a
 
 -- the lines of an answer
 abbrev pub answer_text : Manner → Answer → List ℕ
-answer_text m a = told_text m (name_in a.from) a.told
+answer_text m a = flat_map (route_line m (name_in a.from)) (map routed a.routes.items) ++ end_line m a
 
 -- how many rules decide nothing, where there are some
 abbrev pub passed_text : ℕ → List ℕ
 passed_text n = if n == 0 then [] else decimal n ++ codes " rules passed over\n"
 
--- the line on what can't be told
-abbrev pub untold_of : Told → List ℕ
-untold_of (Routes routes) = []
-untold_of (Untold line) = line.items
+-- why it isn't told where requests lead on
+abbrev pub why_text : ℕ → Why → List ℕ
+why_text limit TooManyPatterns = codes "have more than 65535 patterns together\n"
+why_text limit TooManyStates = codes "need more than " ++ decimal limit ++ codes " states together; --states allows more\n"
 
--- those of an answer
-abbrev pub untold_text : Answer → List ℕ
-untold_text a = untold_of a.told
+-- from which label it isn't told
+unfoldable pub bar_line : ℕ → Barred → List ℕ
+bar_line limit b = codes "error: at " ++ called b.at ++ codes " the rules " ++ why_text limit b.why
 
--- there is a route
-abbrev pub has_route : Told → Bool
-has_route (Routes routes) = not (length routes.items == 0)
-has_route (Untold line) = false
+-- what an answer doesn't tell
+abbrev pub untold_text : ℕ → Answer → List ℕ
+untold_text limit a = flat_map (bar_line limit) (map barred a.bars.items)
 
 -- a label that is wanted is reached
 abbrev pub is_reached : Answer → Bool
-is_reached a = has_route a.told
+is_reached a = not (length a.routes.items == 0)

@@ -1,35 +1,32 @@
 //! What is told of each label where a task begins.
 
-ghost use Rattle.std.specs.Prelude.{◌≡◌, ◌++◌, ◌<◌, ◌≤◌, ◌+◌, codes, option_map, Err, IfOk, OnOk};
+ghost use Rattle.std.specs.Prelude.{◌≡◌, ◌<◌, ◌≤◌, map, option_map, IfOk};
 ghost use Rattle.aa_pattern.specs.Limits.{most_states};
 ghost use Rattle.aa_load.specs.UnitPolicy.{limit_of};
-ghost use Rattle.aa_model.specs.declared.label.Label.{Label};
-ghost use Rattle.aa_reachability.specs.Moves.{label_going, HaveManyPatternsAt, HavePlacesAt};
-ghost use Rattle.aa_reachability.specs.Reach.{AreArrivals};
-ghost use Rattle.aa_reach.specs.Names.{name_of, called};
-ghost use Rattle.aa_reach.specs.Answers.{rules_at, patterns_line, states_line, IsUntold, IsTold, IsAnswer, AreAnswers};
+ghost use Rattle.aa_reach.specs.Names.{name_of};
+ghost use Rattle.aa_reach.specs.Routes.{barred, barred_by};
+ghost use Rattle.aa_reach.specs.Answers.{IsAnswer, AreAnswers};
 
-use crate::naming::{Named, name_of, push_called};
-use crate::routes::{Route, View, routes_to};
+use crate::naming::{Named, name_of};
+use crate::routes::{Route, routes_to};
 use aa_compile::Compiled;
 use aa_model::Label;
-use aa_reachability::{Arrival, ReachFault, arrivals_from, enforced_arrivals_from};
-use aa_text::{push_number, push_text};
+use aa_reachability::{Going, Untold, Why, arrivals_from};
 use std::alloc::{AllocError, Global};
 
-/// The labels that a task can get to.
+/// A label from which it isn't told where requests lead on, and why.
 #[derive(Drop)]
-pub(crate) enum Told {
-    Routes(Vec<Route>),
-    /// It can't be told: the line on why.
-    Untold(Vec<u8>),
+pub(crate) struct Bar {
+    pub(crate) at: Named,
+    pub(crate) why: Why,
 }
 
-/// The label where a task begins, and those that it can get to.
+/// The label where a task begins, those that it can get to, and those from which it isn't told where requests lead on.
 #[derive(Drop)]
 pub(crate) struct Answer {
     pub(crate) from: Named,
-    pub(crate) told: Told,
+    pub(crate) routes: Vec<Route>,
+    pub(crate) bars: Vec<Bar>,
 }
 
 /// How many states an automaton may have.
@@ -41,148 +38,65 @@ pub(crate) fn limit_of(states: u32) -> usize
     states.max(1).min(1_000_000) as usize
 }
 
-/// Appends what is looked at together: the rules at a label.
-fn push_rules_at(
-    out: &mut Vec<u8>,
+/// The label of what isn't told, by its name.
+pub(crate) fn bar_at(
     alloc: Global,
     policies: &[Compiled],
     label: Label,
-) -> Result<(), AllocError>
-    ensures { OnOk result (out.new.items ≡ out.old.items ++ rules_at policies.now label) }
+    why: Why,
+) -> Result<Bar, AllocError>
+    ensures { IfOk result (λ b. barred b ≡ record { at = name_of policies.now label; why = why }) }
 {
-    let named = name_of(alloc, policies, label)?;
-    push_text(out, "error: at ")?;
-    push_called(out, alloc, &named)?;
-    push_text(out, " the rules ")
+    Ok(Bar {
+        at: name_of(alloc, policies, label)?,
+        why,
+    })
 }
 
-/// What is said where they have too many patterns.
-#[tactic(auto, unfolding(crate::specs::Answers::patterns_line))]
-fn patterns_line(alloc: Global, policies: &[Compiled], label: Label) -> Result<Vec<u8>, AllocError>
-    ensures { IfOk result (λ line. line.items ≡ patterns_line policies.now label) }
+fn bars_of(alloc: Global, policies: &[Compiled], untold: &[Untold]) -> Result<Vec<Bar>, AllocError>
+    ensures { IfOk result (λ bars. map barred bars.items ≡ map (barred_by policies.now) untold.now) }
 {
-    let mut line = Vec::new(alloc);
-    push_rules_at(&mut line, alloc, policies, label)?;
-    push_text(&mut line, "have more than 65535 patterns together\n")?;
-    Ok(line)
-}
-
-/// What is said where they need too many states.
-#[tactic(auto, unfolding(crate::specs::Answers::states_line))]
-fn states_line(
-    alloc: Global,
-    policies: &[Compiled],
-    label: Label,
-    limit: usize,
-) -> Result<Vec<u8>, AllocError>
-    ensures { IfOk result (λ line. line.items ≡ states_line policies.now label limit) }
-{
-    let mut line = Vec::new(alloc);
-    push_rules_at(&mut line, alloc, policies, label)?;
-    push_text(&mut line, "need more than ")?;
-    push_number(&mut line, limit)?;
-    push_text(&mut line, " states together; --states allows more\n")?;
-    Ok(line)
-}
-
-/// What is told where the labels can't be.
-pub(crate) fn untold(
-    alloc: Global,
-    policies: &[Compiled],
-    limit: usize,
-    fault: ReachFault,
-) -> Result<Told, AllocError>
-    requires many_patterns { (l : Label) → fault ≡ ReachFault.TooManyPatterns l → HaveManyPatternsAt policies.now l }
-    requires many_states { (l : Label) → fault ≡ ReachFault.TooManyStates l → HavePlacesAt policies.now l (limit + 1) }
-    ensures { IfOk result (λ t. IsUntold policies.now limit t) }
-{
-    match fault {
-        ReachFault::NoMemory => Err(AllocError),
-        ReachFault::TooManyPatterns(label) => {
-            Ok(Told::Untold(patterns_line(alloc, policies, label)?))
-        }
-        ReachFault::TooManyStates(label) => {
-            Ok(Told::Untold(states_line(alloc, policies, label, limit)?))
-        }
+    let mut bars = Vec::new(alloc);
+    for it in untold {
+        bars.push(bar_at(alloc, policies, it.label, it.why)?)?;
     }
-}
-
-/// The arrivals at all labels to which requests lead, by the policies as they are, or where what complain mode alone grants moves no task.
-fn arrivals_of(
-    alloc: Global,
-    view: View<'_>,
-    limit: usize,
-    from: Label,
-) -> Result<Vec<Arrival>, ReachFault>
-    requires some { 0 < limit }
-    requires bounded { limit ≤ most_states }
-    ensures arrivals { IfOk result (λ found. AreArrivals (label_going view.entry.as_enforced view.entry.policies.now) from found.items) }
-    ensures many_patterns { (l : Label) → result ≡ Err (ReachFault.TooManyPatterns l) → HaveManyPatternsAt view.entry.policies.now l }
-    ensures many_states { (l : Label) → result ≡ Err (ReachFault.TooManyStates l) → HavePlacesAt view.entry.policies.now l (limit + 1) }
-{
-    if view.as_enforced {
-        enforced_arrivals_from(alloc, view.policies, from, limit)
-    } else {
-        arrivals_from(alloc, view.policies, from, limit)
-    }
+    Ok(bars)
 }
 
 /// The labels that a task with this label can get to, of those that are wanted.
-fn told_from(
-    alloc: Global,
-    view: View<'_>,
-    limit: usize,
-    targets: Option<&[Label]>,
-    from: Label,
-) -> Result<Told, AllocError>
-    requires some { 0 < limit }
-    requires bounded { limit ≤ most_states }
-    ensures { IfOk result (λ t. IsTold view.entry.as_enforced view.entry.policies.now limit (option_map (λ ts. ts.now) targets.entry) from t) }
-{
-    match arrivals_of(alloc, view, limit, from) {
-        Ok(arrivals) => Ok(Told::Routes(routes_to(
-            alloc,
-            view,
-            from,
-            targets,
-            arrivals.as_slice(),
-        )?)),
-        Err(fault) => untold(alloc, view.policies, limit, fault),
-    }
-}
-
 fn answer_from(
     alloc: Global,
-    view: View<'_>,
+    going: Going<'_>,
     limit: usize,
     targets: Option<&[Label]>,
     from: Label,
 ) -> Result<Answer, AllocError>
     requires some { 0 < limit }
     requires bounded { limit ≤ most_states }
-    ensures { IfOk result (λ a. IsAnswer view.entry.as_enforced view.entry.policies.now limit (option_map (λ ts. ts.now) targets.entry) from a) }
+    ensures { IfOk result (λ a. IsAnswer going.entry.as_enforced going.entry.policies.now limit (option_map (λ ts. ts.now) targets.entry) from a) }
 {
-    Ok(Answer {
-        from: name_of(alloc, view.policies, from)?,
-        told: told_from(alloc, view, limit, targets, from)?,
-    })
+    let found = arrivals_from(alloc, going, from, limit)?;
+    let routes = routes_to(alloc, going, from, targets, found.arrivals.as_slice())?;
+    let bars = bars_of(alloc, going.policies, found.untold.as_slice())?;
+    let from = name_of(alloc, going.policies, from)?;
+    Ok(Answer { from, routes, bars })
 }
 
 /// Of each of these labels where a task begins those that it can get to, of which some may be wanted alone.
 pub(crate) fn answers_from(
     alloc: Global,
-    view: View<'_>,
+    going: Going<'_>,
     limit: usize,
     targets: Option<&[Label]>,
     labels: &[Label],
 ) -> Result<Vec<Answer>, AllocError>
     requires some { 0 < limit }
     requires bounded { limit ≤ most_states }
-    ensures { IfOk result (λ list. AreAnswers view.entry.as_enforced view.entry.policies.now limit (option_map (λ ts. ts.now) targets.entry) labels.now list.items) }
+    ensures { IfOk result (λ list. AreAnswers going.entry.as_enforced going.entry.policies.now limit (option_map (λ ts. ts.now) targets.entry) labels.now list.items) }
 {
     let mut answers = Vec::new(alloc);
     for label in labels {
-        answers.push(answer_from(alloc, view, limit, targets, *label)?)?;
+        answers.push(answer_from(alloc, going, limit, targets, *label)?)?;
     }
     Ok(answers)
 }

@@ -6,7 +6,7 @@ ghost use Rattle.aa_files.specs.Texts.{texts};
 ghost use Rattle.aa_pattern.specs.Limits.{most_states};
 ghost use Rattle.aa_command.specs.Setting.{setting_of};
 ghost use Rattle.aa_command.specs.Printed.{printed, faults_alone};
-ghost use Rattle.aa_reach.specs.Names.{count_of};
+ghost use Rattle.aa_ask.specs.Naming.{count_of};
 ghost use Rattle.aa_reach.specs.Shown.{is_reached};
 ghost use Rattle.aa_reach.specs.Command.{to_text, labels_in, passed_in, AreTargets, SaysNoTarget, SaysUnnamed, manner_of, answers_text, status_of, has_found, reach_printed, graph_printed, IsAsked, IsAnswered, IsGraphed, asks_nothing, IsReachOf, IsReachOutput};
 
@@ -15,12 +15,13 @@ use crate::dot::{push_dot, push_untold_edges};
 use crate::fault::NameFault;
 use crate::graph::{Vertex, vertices_of};
 use crate::json::push_json_answers;
-use crate::naming::{count_of, labels_by, labels_of};
-use crate::routes::View;
+use crate::naming::{labels_by, labels_of};
 use crate::shown::{Manner, is_reached, push_answers, push_passed, push_untold};
+use aa_ask::count_of;
 use aa_command::{Decided, Output, Settings, Use, refused, with_policy};
 use aa_compile::{Compiled, Label};
 use aa_files::Tree;
+use aa_reachability::Going;
 use aa_text::NoMemory;
 use std::alloc::{AllocError, Global};
 
@@ -93,14 +94,20 @@ fn passed_in(policies: &[Compiled]) -> usize
     }
 }
 
-fn manner_of(policies: &[Compiled], options: &ReachOptions<'_>, labels: &[Label]) -> Manner
-    ensures { result ≡ manner_of policies.now options.now labels.now }
+fn manner_of(
+    policies: &[Compiled],
+    options: &ReachOptions<'_>,
+    labels: &[Label],
+    limit: usize,
+) -> Manner
+    ensures { result ≡ manner_of policies.now options.now labels.now limit }
 {
     let is_sought = options.to.is_some();
     Manner {
         is_sought,
         has_fronts: is_sought && labels.len() > 1,
         labels: labels_in(policies),
+        limit,
     }
 }
 
@@ -156,7 +163,7 @@ fn output_of(
 {
     let mut output = Output::new(alloc);
     push_wanted(&mut output.answers, alloc, is_json, manner, passed, answers)?;
-    push_untold(&mut output.faults, answers)?;
+    push_untold(&mut output.faults, alloc, manner.limit, answers)?;
     output.status = status_of(output.faults.as_slice(), has_found(manner, answers));
     Ok(output)
 }
@@ -183,12 +190,12 @@ fn answered(
     ensures { IfOk result (λ out. IsAnswered limit options.now policies.now asked.now (printed out)) }
 {
     let labels = asked.labels.as_slice();
-    let view = View {
+    let going = Going {
         policies,
         as_enforced: options.as_enforced,
     };
-    let answers = answers_from(alloc, view, limit, targets_in(asked), labels)?;
-    let manner = manner_of(policies, options, labels);
+    let answers = answers_from(alloc, going, limit, targets_in(asked), labels)?;
+    let manner = manner_of(policies, options, labels, limit);
     output_of(
         alloc,
         options.is_json,
@@ -198,12 +205,17 @@ fn answered(
     )
 }
 
-fn graph_of(alloc: Global, passed: usize, vertices: &[Vertex]) -> Result<Output, AllocError>
-    ensures { IfOk result (λ out. printed out ≡ graph_printed passed vertices.now) }
+fn graph_of(
+    alloc: Global,
+    limit: usize,
+    passed: usize,
+    vertices: &[Vertex],
+) -> Result<Output, AllocError>
+    ensures { IfOk result (λ out. printed out ≡ graph_printed limit passed vertices.now) }
 {
     let mut output = Output::new(alloc);
     push_dot(&mut output.answers, alloc, passed, vertices)?;
-    push_untold_edges(&mut output.faults, vertices)?;
+    push_untold_edges(&mut output.faults, alloc, limit, vertices)?;
     output.status = status_of(output.faults.as_slice(), false);
     Ok(output)
 }
@@ -219,12 +231,12 @@ fn graphed(
     requires bounded { limit ≤ most_states }
     ensures { IfOk result (λ out. IsGraphed limit options.now policies.now (printed out)) }
 {
-    let view = View {
+    let going = Going {
         policies,
         as_enforced: options.as_enforced,
     };
-    let vertices = vertices_of(alloc, view, limit)?;
-    graph_of(alloc, passed_in(policies), vertices.as_slice())
+    let vertices = vertices_of(alloc, going, limit)?;
+    graph_of(alloc, limit, passed_in(policies), vertices.as_slice())
 }
 
 /// Prints the graph of all labels, or the answers for those that are asked about.
@@ -287,8 +299,8 @@ impl Use for Reaching<'_> {
 }
 
 /// Prints to which labels of the one policy that files are a task can get by requests, each with a list of requests that lead there,
-/// of which no shorter one does; all labels, or those that are asked for, or the graph of all. A label from which that can't be told is
-/// said, and the others are told. Refused are texts that name no label.
+/// of which no shorter one does; all labels, or those that are asked for, or the graph of all. A label from which it can't be told where
+/// requests lead on is said, and what is got to without it is told. Refused are texts that name no label.
 pub fn reach_files<T: Tree>(
     alloc: Global,
     tree: &T,

@@ -4,9 +4,8 @@ ghost use Rattle.std.specs.Prelude.{◌≡◌, ◌++◌, codes, map, flat_map, O
 ghost use Rattle.aa_ask.specs.Shown.{complain_mark};
 ghost use Rattle.aa_reach.specs.Names.{name_in, called};
 ghost use Rattle.aa_reach.specs.Routes.{turned, routed};
-ghost use Rattle.aa_reach.specs.Dot.{dot_byte, dot_string, style_mark, node_line, edge_word, edge_line, told_edges, node_edges, passed_comment, dot_text, untold_edges};
+ghost use Rattle.aa_reach.specs.Dot.{dot_byte, dot_string, style_mark, node_line, edge_word, edge_line, node_edges, passed_comment, dot_text, untold_edges};
 
-use crate::answering::Told;
 use crate::graph::Vertex;
 use crate::naming::{Named, push_called};
 use crate::routes::{Route, Turn};
@@ -64,7 +63,7 @@ fn push_node(out: &mut Vec<u8>, alloc: Global, vertex: &Vertex) -> Result<(), Al
     ensures { OnOk result (out.new.items ≡ out.old.items ++ node_line vertex.now) }
 {
     push_text(out, "  ")?;
-    push_label(out, alloc, &vertex.named)?;
+    push_label(out, alloc, &vertex.edges.from)?;
     push_style(out, vertex.complains)?;
     push_text(out, ";\n")
 }
@@ -131,10 +130,12 @@ fn push_edges(
 fn push_node_edges(out: &mut Vec<u8>, alloc: Global, vertex: &Vertex) -> Result<(), AllocError>
     ensures { OnOk result (out.new.items ≡ out.old.items ++ node_edges vertex.now) }
 {
-    match &vertex.told {
-        Told::Routes(routes) => push_edges(out, alloc, &vertex.named, routes.as_slice()),
-        Told::Untold(_) => Ok(()),
-    }
+    push_edges(
+        out,
+        alloc,
+        &vertex.edges.from,
+        vertex.edges.routes.as_slice(),
+    )
 }
 
 fn push_all_edges(out: &mut Vec<u8>, alloc: Global, vertices: &[Vertex]) -> Result<(), AllocError>
@@ -176,11 +177,16 @@ pub(crate) fn push_dot(
 }
 
 /// Appends the lines on what can't be told.
-pub(crate) fn push_untold_edges(out: &mut Vec<u8>, vertices: &[Vertex]) -> Result<(), AllocError>
-    ensures { OnOk result (out.new.items ≡ out.old.items ++ flat_map untold_edges vertices.now) }
+pub(crate) fn push_untold_edges(
+    out: &mut Vec<u8>,
+    alloc: Global,
+    limit: usize,
+    vertices: &[Vertex],
+) -> Result<(), AllocError>
+    ensures { OnOk result (out.new.items ≡ out.old.items ++ flat_map (untold_edges limit) vertices.now) }
 {
     for vertex in vertices {
-        push_untold_of(out, &vertex.told)?;
+        push_untold_of(out, alloc, limit, &vertex.edges)?;
     }
     Ok(())
 }

@@ -1,68 +1,106 @@
 //! The graph of all labels.
 
-ghost use Rattle.std.specs.Prelude.{◌≡◌, ◌<◌, ◌≤◌, IfOk};
+ghost use Rattle.std.specs.Prelude.{◌≡◌, ◌<◌, ◌≤◌, ◌∷◌, [], map, IfOk};
 ghost use Rattle.std.specs.List.{AllZip};
 ghost use Rattle.aa_pattern.specs.Limits.{most_states};
-ghost use Rattle.aa_reach.specs.Answers.{IsUntold, IsEdged, complains_at, IsVertex, first_labels, all_labels, AreVertices};
+ghost use Rattle.aa_reachability.specs.Moves.{IsWhy};
+ghost use Rattle.aa_reach.specs.Names.{name_in, name_of};
+ghost use Rattle.aa_reach.specs.Routes.{routed, barred, AreEdges};
+ghost use Rattle.aa_reach.specs.Answers.{complains_at, IsVertex, first_labels, all_labels, AreVertices};
 
-use crate::answering::{Told, untold};
-use crate::naming::{Named, count_of, name_of};
-use crate::routes::{View, routes_to};
+use crate::answering::{Answer, bar_at};
+use crate::naming::name_of;
+use crate::routes::routes_to;
+use aa_ask::count_of;
 use aa_compile::{Compiled, profile_of};
 use aa_model::Label;
-use aa_reachability::near_arrivals;
+use aa_reachability::{Going, Why, near_arrivals};
+use aa_representatives::RepresentativesFault;
 use std::alloc::{AllocError, Global};
 
-/// A label, and what leads from it to others.
+/// A label, and what leads from it to others by one request.
 #[derive(Drop)]
 pub(crate) struct Vertex {
-    pub(crate) named: Named,
     /// Whether it is a profile's in complain mode, and that counts.
     pub(crate) complains: bool,
-    pub(crate) told: Told,
+    pub(crate) edges: Answer,
 }
 
-fn complains_at(view: View<'_>, label: Label) -> bool
-    ensures { result ≡ complains_at view.entry.as_enforced view.entry.policies.now label }
+fn complains_at(going: Going<'_>, label: Label) -> bool
+    ensures { result ≡ complains_at going.entry.as_enforced going.entry.policies.now label }
 {
     let Label::Confined(policy, number) = label else {
         return false;
     };
-    if view.as_enforced {
+    if going.as_enforced {
         return false;
     }
-    match profile_of(view.policies, policy, number) {
+    match profile_of(going.policies, policy, number) {
         Some(profile) => profile.complain,
         None => false,
     }
 }
 
+/// No request, since it isn't told which lead from a label.
+fn no_edges(
+    alloc: Global,
+    policies: &[Compiled],
+    label: Label,
+    why: Why,
+) -> Result<Answer, AllocError>
+    ensures from { IfOk result (λ a. name_in a.from ≡ name_of policies.now label) }
+    ensures none { IfOk result (λ a. a.routes.items ≡ []) }
+    ensures bars { IfOk result (λ a. map barred a.bars.items ≡ record { at = name_of policies.now label; why = why } ∷ []) }
+{
+    let from = name_of(alloc, policies, label)?;
+    let routes = Vec::new(alloc);
+    let mut bars = Vec::new(alloc);
+    bars.push(bar_at(alloc, policies, label, why)?)?;
+    Ok(Answer { from, routes, bars })
+}
+
 /// A request that leads to each other label to which one leads, or why that can't be told.
-fn edges_of(alloc: Global, view: View<'_>, limit: usize, label: Label) -> Result<Told, AllocError>
+fn edges_of(
+    alloc: Global,
+    going: Going<'_>,
+    limit: usize,
+    label: Label,
+) -> Result<Answer, AllocError>
     requires some { 0 < limit }
     requires bounded { limit ≤ most_states }
-    ensures { IfOk result (λ t. IsEdged view.entry.as_enforced view.entry.policies.now limit label t) }
+    ensures from { IfOk result (λ a. name_in a.from ≡ name_of going.entry.policies.now label) }
+    ensures edges { IfOk result (λ a. AreEdges going.entry.as_enforced going.entry.policies.now limit label (map routed a.routes.items) (map barred a.bars.items)) }
 {
-    match near_arrivals(alloc, view.policies, view.as_enforced, label, limit) {
-        Ok(arrivals) => Ok(Told::Routes(routes_to(alloc, view, label, None, arrivals.as_slice())?)),
-        Err(fault) => untold(alloc, view.policies, limit, fault),
+    match near_arrivals(alloc, going, label, limit) {
+        Ok(arrivals) => {
+            let routes = routes_to(alloc, going, label, None, arrivals.as_slice())?;
+            let from = name_of(alloc, going.policies, label)?;
+            let bars = Vec::new(alloc);
+            Ok(Answer { from, routes, bars })
+        }
+        Err(RepresentativesFault::TooManyPatterns) => {
+            no_edges(alloc, going.policies, label, Why::TooManyPatterns)
+        }
+        Err(RepresentativesFault::TooManyStates) => {
+            no_edges(alloc, going.policies, label, Why::TooManyStates)
+        }
+        Err(RepresentativesFault::NoMemory) => Err(AllocError),
     }
 }
 
 fn vertex_of(
     alloc: Global,
-    view: View<'_>,
+    going: Going<'_>,
     limit: usize,
     label: Label,
 ) -> Result<Vertex, AllocError>
     requires some { 0 < limit }
     requires bounded { limit ≤ most_states }
-    ensures { IfOk result (λ v. IsVertex view.entry.as_enforced view.entry.policies.now limit label v) }
+    ensures { IfOk result (λ v. IsVertex going.entry.as_enforced going.entry.policies.now limit label v) }
 {
     Ok(Vertex {
-        named: name_of(alloc, view.policies, label)?,
-        complains: complains_at(view, label),
-        told: edges_of(alloc, view, limit, label)?,
+        complains: complains_at(going, label),
+        edges: edges_of(alloc, going, limit, label)?,
     })
 }
 
@@ -81,17 +119,17 @@ fn all_labels(alloc: Global, policies: &[Compiled]) -> Result<Vec<Label>, AllocE
 /// Labels, and what leads from each to others.
 fn vertices_at(
     alloc: Global,
-    view: View<'_>,
+    going: Going<'_>,
     limit: usize,
     labels: &[Label],
 ) -> Result<Vec<Vertex>, AllocError>
     requires some { 0 < limit }
     requires bounded { limit ≤ most_states }
-    ensures { IfOk result (λ list. AllZip (IsVertex view.entry.as_enforced view.entry.policies.now limit) labels.now list.items) }
+    ensures { IfOk result (λ list. AllZip (IsVertex going.entry.as_enforced going.entry.policies.now limit) labels.now list.items) }
 {
     let mut vertices = Vec::new(alloc);
     for label in labels {
-        vertices.push(vertex_of(alloc, view, limit, *label)?)?;
+        vertices.push(vertex_of(alloc, going, limit, *label)?)?;
     }
     Ok(vertices)
 }
@@ -99,13 +137,13 @@ fn vertices_at(
 /// All labels, and what leads from each to others.
 pub(crate) fn vertices_of(
     alloc: Global,
-    view: View<'_>,
+    going: Going<'_>,
     limit: usize,
 ) -> Result<Vec<Vertex>, AllocError>
     requires some { 0 < limit }
     requires bounded { limit ≤ most_states }
-    ensures { IfOk result (λ list. AreVertices view.entry.as_enforced view.entry.policies.now limit list.items) }
+    ensures { IfOk result (λ list. AreVertices going.entry.as_enforced going.entry.policies.now limit list.items) }
 {
-    let labels = all_labels(alloc, view.policies)?;
-    vertices_at(alloc, view, limit, labels.as_slice())
+    let labels = all_labels(alloc, going.policies)?;
+    vertices_at(alloc, going, limit, labels.as_slice())
 }

@@ -3,10 +3,10 @@
 ghost use Rattle.std.specs.Prelude.{◌≡◌, ◌++◌, codes, map, OnOk};
 ghost use Rattle.aa_text.specs.Jsons.{json_bytes, key_text, bool_text, member_text, list_text};
 ghost use Rattle.aa_reach.specs.Names.{name_in};
-ghost use Rattle.aa_reach.specs.Routes.{turned, routed};
-ghost use Rattle.aa_reach.specs.Json.{json_name, json_turn, json_route, json_told, json_answer, json_answers};
+ghost use Rattle.aa_reach.specs.Routes.{turned, routed, barred};
+ghost use Rattle.aa_reach.specs.Json.{json_name, json_turn, json_route, json_bar, json_answer, json_answers};
 
-use crate::answering::{Answer, Told};
+use crate::answering::{Answer, Bar};
 use crate::naming::Named;
 use crate::routes::{Route, Turn};
 use aa_text::{
@@ -74,24 +74,29 @@ impl ToJson for Route {
     }
 }
 
-fn push_routes(out: &mut Vec<u8>, alloc: Global, routes: &[Route]) -> Result<(), AllocError>
-    ensures { OnOk result (out.new.items ≡ out.old.items ++ list_text (map json_route (map routed routes.now))) }
+impl ToJson for Bar {
+    ghost use Rattle.aa_reach.specs.Routes.{barred};
+    ghost use Rattle.aa_reach.specs.Json.{json_bar};
+
+    ghost json = { λ bar. json_bar (barred bar) };
+
+    fn push_json(&self, out: &mut Vec<u8>, alloc: Global) -> Result<(), AllocError> {
+        self.at.push_json(out, alloc)
+    }
+}
+
+fn push_bars(out: &mut Vec<u8>, alloc: Global, bars: &[Bar]) -> Result<(), AllocError>
+    ensures { OnOk result (out.new.items ≡ out.old.items ++ member_text (codes "untold") (list_text (map json_bar (map barred bars.now)))) }
 {
-    push_list(out, alloc, routes)?;
+    push_list_member(out, alloc, "untold", bars)?;
     Ok(())
 }
 
-impl ToJson for Told {
-    ghost use Rattle.aa_reach.specs.Json.{json_told};
-
-    ghost json = { json_told };
-
-    fn push_json(&self, out: &mut Vec<u8>, alloc: Global) -> Result<(), AllocError> {
-        match self {
-            Told::Routes(routes) => push_routes(out, alloc, routes.as_slice()),
-            Told::Untold(_) => push_text(out, "null"),
-        }
-    }
+fn push_routes(out: &mut Vec<u8>, alloc: Global, routes: &[Route]) -> Result<(), AllocError>
+    ensures { OnOk result (out.new.items ≡ out.old.items ++ member_text (codes "reached") (list_text (map json_route (map routed routes.now)))) }
+{
+    push_list_member(out, alloc, "reached", routes)?;
+    Ok(())
 }
 
 impl ToJson for Answer {
@@ -103,7 +108,8 @@ impl ToJson for Answer {
     fn push_json(&self, out: &mut Vec<u8>, alloc: Global) -> Result<(), AllocError> {
         push_first(out, "from")?;
         self.from.push_json(out, alloc)?;
-        push_member(out, alloc, "reached", &self.told)?;
+        push_routes(out, alloc, self.routes.as_slice())?;
+        push_bars(out, alloc, self.bars.as_slice())?;
         push_text(out, "}")
     }
 }

@@ -4,21 +4,19 @@ ghost use Rattle.std.specs.Prelude.{◌≡◌, ◌++◌, List, map, option_map, 
 ghost use Rattle.std.specs.List.{list_any, slice_get};
 ghost use Rattle.aa_model.specs.declared.label.Label.{Label};
 ghost use Rattle.aa_model.specs.declared.request.Request.{Request};
-ghost use Rattle.aa_mediate.specs.Reply.{reply};
 ghost use Rattle.aa_notation.specs.Written.{word_text};
 ghost use Rattle.aa_ask.specs.Told.{is_same};
-ghost use Rattle.aa_reachability.specs.Moves.{is_by_complain, label_kept, label_going};
+ghost use Rattle.aa_reachability.specs.Moves.{label_going};
 ghost use Rattle.aa_reachability.specs.Reach.{AreWays, HaveWays, way_at};
 ghost use Rattle.aa_reach.specs.Names.{name_of};
 ghost use Rattle.aa_reach.specs.Routes.{turned, as_others, is_granted_alike, is_alike, plain, turn_by, turns_by, routed, is_wanted, route_to, route_if, first_routes, all_routes};
 
 use crate::naming::{Named, name_of};
+use aa_ask::is_same;
 use aa_compile::Compiled;
-use aa_machine::Machine;
-use aa_mediate::Mediator;
-use aa_model::{Answer, Label, NoteWord, Request};
+use aa_model::{Answer, Label, Request};
 use aa_notation::push_word;
-use aa_reachability::{Arrival, way_to};
+use aa_reachability::{Arrival, Going, answer_of, is_by_complain, label_after, way_to};
 use std::alloc::{AllocError, Global};
 
 /// A request of a list.
@@ -37,49 +35,12 @@ pub(crate) struct Route {
     pub(crate) turns: Vec<Turn>,
 }
 
-fn is_by_complain(answer: &Answer) -> bool
-    ensures { result ≡ is_by_complain answer.now }
-{
-    match answer.note {
-        Some(note) => note.word == NoteWord::Allowed,
-        None => false,
-    }
-}
-
-/// The policies that decide, and whether a task moves by what complain mode alone grants.
-#[derive(Clone, Copy)]
-pub(crate) struct View<'p> {
-    pub(crate) policies: &'p [Compiled],
-    /// It doesn't.
-    pub(crate) as_enforced: bool,
-}
-
-/// What the mediator answers a task with that label.
-fn answer_of(policies: &[Compiled], label: Label, request: &Request) -> Answer
-    ensures { result ≡ reply policies.now label request.now }
-{
-    let mut after = label;
-    Mediator::new(policies).step(&mut after, request)
-}
-
 fn word_of(alloc: Global, request: &Request) -> Result<Vec<u8>, AllocError>
     ensures { IfOk result (λ word. word.items ≡ word_text request.now) }
 {
     let mut word = Vec::new(alloc);
     push_word(&mut word, request)?;
     Ok(word)
-}
-
-fn is_same(before: Label, after: Label) -> bool
-    ensures { result ≡ is_same before after }
-{
-    match (before, after) {
-        (Label::Unconfined(before), Label::Unconfined(after)) => before == after,
-        (Label::Confined(before, first), Label::Confined(after, second)) => {
-            before == after && first == second
-        }
-        _ => false,
-    }
 }
 
 /// To execute a file of others, where it is one of the task's user's; all else as it is.
@@ -145,45 +106,22 @@ fn turn_of(
     })
 }
 
-/// The label of a task with that label after an answer, where it doesn't move by what complain mode alone grants.
-fn label_kept(label: Label, answer: &Answer) -> Label
-    ensures { result ≡ label_kept label answer.now }
-{
-    if is_by_complain(answer) {
-        label
-    } else {
-        answer.label
-    }
-}
-
-/// The label of a task after a request.
-fn label_after(view: View<'_>, label: Label, request: &Request) -> Label
-    ensures { result ≡ label_going view.entry.as_enforced view.entry.policies.now label request.now }
-{
-    let answer = answer_of(view.policies, label, request);
-    if view.as_enforced {
-        label_kept(label, &answer)
-    } else {
-        answer.label
-    }
-}
-
 /// The requests of one task, one after another.
 #[tactic(auto, unfolding(crate::specs::Routes::turns_by))]
 fn turns_of(
     alloc: Global,
-    view: View<'_>,
+    going: Going<'_>,
     from: Label,
     requests: &[Request],
 ) -> Result<Vec<Turn>, AllocError>
-    ensures { IfOk result (λ turns. map turned turns.items ≡ turns_by view.entry.as_enforced view.entry.policies.now from requests.now) }
+    ensures { IfOk result (λ turns. map turned turns.items ≡ turns_by going.entry.as_enforced going.entry.policies.now from requests.now) }
 {
     let mut label = from;
     let mut turns = Vec::new(alloc);
     let mut rest = requests;
     while let [request, after @ ..] = rest {
-        turns.push(turn_of(alloc, view.policies, label, request)?)?;
-        label = label_after(view, label, request);
+        turns.push(turn_of(alloc, going.policies, label, request)?)?;
+        label = label_after(going, label, request);
         rest = after;
     }
     Ok(turns)
@@ -209,7 +147,7 @@ fn is_wanted(from: Label, targets: Option<&[Label]>, label: Label) -> bool
 fn push_route(
     routes: &mut Vec<Route>,
     alloc: Global,
-    view: View<'_>,
+    going: Going<'_>,
     from: Label,
     targets: Option<&[Label]>,
     arrivals: &[Arrival],
@@ -217,7 +155,7 @@ fn push_route(
 ) -> Result<(), AllocError>
     requires { HaveWays arrivals.now }
     ensures { OnOk result ((ways : List (List Request)) → AreWays arrivals.now ways
-        → map routed routes.new.items ≡ map routed routes.old.items ++ route_if view.entry.as_enforced view.entry.policies.now from (option_map (λ ts. ts.now) targets.entry) (slice_get arrivals.now number) (way_at ways number)) }
+        → map routed routes.new.items ≡ map routed routes.old.items ++ route_if going.entry.as_enforced going.entry.policies.now from (option_map (λ ts. ts.now) targets.entry) (slice_get arrivals.now number) (way_at ways number)) }
 {
     let Some(arrival) = arrivals.get(number) else {
         return Ok(());
@@ -226,8 +164,8 @@ fn push_route(
         return Ok(());
     }
     let way = way_to(alloc, arrivals, number)?;
-    let to = name_of(alloc, view.policies, arrival.label)?;
-    let turns = turns_of(alloc, view, from, way.as_slice())?;
+    let to = name_of(alloc, going.policies, arrival.label)?;
+    let turns = turns_of(alloc, going, from, way.as_slice())?;
     routes.push(Route { to, turns })?;
     Ok(())
 }
@@ -235,18 +173,18 @@ fn push_route(
 /// The routes to the arrivals whose labels are wanted.
 pub(crate) fn routes_to(
     alloc: Global,
-    view: View<'_>,
+    going: Going<'_>,
     from: Label,
     targets: Option<&[Label]>,
     arrivals: &[Arrival],
 ) -> Result<Vec<Route>, AllocError>
     requires { HaveWays arrivals.now }
     ensures { IfOk result (λ routes. (ways : List (List Request)) → AreWays arrivals.now ways
-        → map routed routes.items ≡ all_routes view.entry.as_enforced view.entry.policies.now from (option_map (λ ts. ts.now) targets.entry) arrivals.now ways) }
+        → map routed routes.items ≡ all_routes going.entry.as_enforced going.entry.policies.now from (option_map (λ ts. ts.now) targets.entry) arrivals.now ways) }
 {
     let mut routes = Vec::new(alloc);
     for number in 0..arrivals.len() {
-        push_route(&mut routes, alloc, view, from, targets, arrivals, number)?;
+        push_route(&mut routes, alloc, going, from, targets, arrivals, number)?;
     }
     Ok(routes)
 }

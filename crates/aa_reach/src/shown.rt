@@ -3,12 +3,13 @@
 ghost use Rattle.std.specs.Prelude.{◌≡◌, ◌++◌, codes, map, flat_map, decimal, OnOk};
 ghost use Rattle.aa_ask.specs.Shown.{complain_mark};
 ghost use Rattle.aa_reach.specs.Names.{name_in, called};
-ghost use Rattle.aa_reach.specs.Routes.{turned, routed};
-ghost use Rattle.aa_reach.specs.Shown.{turn_text, from_mark, route_line, none_line, count_line, end_line, routes_text, told_text, answer_text, passed_text, untold_of, untold_text, has_route, is_reached};
+ghost use Rattle.aa_reach.specs.Routes.{turned, routed, barred};
+ghost use Rattle.aa_reach.specs.Shown.{turn_text, from_mark, route_line, none_line, at_least, labels_line, count_line, end_line, answer_text, passed_text, why_text, bar_line, untold_text, is_reached};
 
-use crate::answering::{Answer, Told};
+use crate::answering::{Answer, Bar};
 use crate::naming::{Named, push_called};
 use crate::routes::{Route, Turn};
+use aa_reachability::Why;
 use aa_text::{push_number, push_text};
 use std::alloc::{AllocError, Global};
 
@@ -21,6 +22,8 @@ pub(crate) struct Manner {
     pub(crate) has_fronts: bool,
     /// How many labels there are.
     pub(crate) labels: usize,
+    /// How many states an automaton may have.
+    pub(crate) limit: usize,
 }
 
 pub(crate) fn push_complain(out: &mut Vec<u8>, complains: bool) -> Result<(), AllocError>
@@ -102,64 +105,71 @@ fn push_none(
     out: &mut Vec<u8>,
     alloc: Global,
     manner: Manner,
-    from: &Named,
-    routes: &[Route],
+    answer: &Answer,
 ) -> Result<(), AllocError>
-    ensures { OnOk result (out.new.items ≡ out.old.items ++ none_line manner (name_in from.now) (map routed routes.now)) }
+    ensures { OnOk result (out.new.items ≡ out.old.items ++ none_line manner answer.now) }
 {
-    if !routes.is_empty() {
+    if !answer.routes.is_empty() || !answer.bars.is_empty() {
         return Ok(());
     }
-    push_from(out, alloc, manner.has_fronts, from)?;
+    push_from(out, alloc, manner.has_fronts, &answer.from)?;
     push_text(out, "no\n")
 }
 
+/// Appends that there may be more labels, where it isn't told of one where requests lead on.
+fn push_at_least(out: &mut Vec<u8>, answer: &Answer) -> Result<(), AllocError>
+    ensures { OnOk result (out.new.items ≡ out.old.items ++ at_least answer.now) }
+{
+    if answer.bars.is_empty() {
+        return Ok(());
+    }
+    push_text(out, "at least ")
+}
+
+/// Appends to how many labels of how many.
+#[tactic(auto, unfolding(crate::specs::Shown::labels_line))]
+fn push_labels(
+    out: &mut Vec<u8>,
+    alloc: Global,
+    manner: Manner,
+    answer: &Answer,
+) -> Result<(), AllocError>
+    ensures { OnOk result (out.new.items ≡ out.old.items ++ labels_line manner answer.now) }
+{
+    push_number(out, answer.routes.len())?;
+    push_text(out, " of ")?;
+    push_number(out, manner.labels)?;
+    push_text(out, " labels from ")?;
+    push_called(out, alloc, &answer.from)?;
+    push_text(out, "\n")
+}
+
 /// Appends to how many labels a task can get.
-#[tactic(auto, unfolding(crate::specs::Shown::count_line))]
 fn push_count(
     out: &mut Vec<u8>,
     alloc: Global,
     manner: Manner,
-    from: &Named,
-    routes: &[Route],
+    answer: &Answer,
 ) -> Result<(), AllocError>
-    ensures { OnOk result (out.new.items ≡ out.old.items ++ count_line manner (name_in from.now) (map routed routes.now)) }
+    ensures { OnOk result (out.new.items ≡ out.old.items ++ count_line manner answer.now) }
 {
-    push_number(out, routes.len())?;
-    push_text(out, " of ")?;
-    push_number(out, manner.labels)?;
-    push_text(out, " labels from ")?;
-    push_called(out, alloc, from)?;
-    push_text(out, "\n")
+    push_at_least(out, answer)?;
+    push_labels(out, alloc, manner, answer)
 }
 
 fn push_end(
     out: &mut Vec<u8>,
     alloc: Global,
     manner: Manner,
-    from: &Named,
-    routes: &[Route],
+    answer: &Answer,
 ) -> Result<(), AllocError>
-    ensures { OnOk result (out.new.items ≡ out.old.items ++ end_line manner (name_in from.now) (map routed routes.now)) }
+    ensures { OnOk result (out.new.items ≡ out.old.items ++ end_line manner answer.now) }
 {
     if manner.is_sought {
-        push_none(out, alloc, manner, from, routes)
+        push_none(out, alloc, manner, answer)
     } else {
-        push_count(out, alloc, manner, from, routes)
+        push_count(out, alloc, manner, answer)
     }
-}
-
-fn push_routes(
-    out: &mut Vec<u8>,
-    alloc: Global,
-    manner: Manner,
-    from: &Named,
-    routes: &[Route],
-) -> Result<(), AllocError>
-    ensures { OnOk result (out.new.items ≡ out.old.items ++ routes_text manner (name_in from.now) (map routed routes.now)) }
-{
-    push_each(out, alloc, manner, from, routes)?;
-    push_end(out, alloc, manner, from, routes)
 }
 
 fn push_answer(
@@ -170,10 +180,8 @@ fn push_answer(
 ) -> Result<(), AllocError>
     ensures { OnOk result (out.new.items ≡ out.old.items ++ answer_text manner answer.now) }
 {
-    match &answer.told {
-        Told::Routes(routes) => push_routes(out, alloc, manner, &answer.from, routes.as_slice()),
-        Told::Untold(_) => Ok(()),
-    }
+    push_each(out, alloc, manner, &answer.from, answer.routes.as_slice())?;
+    push_end(out, alloc, manner, answer)
 }
 
 /// Appends the answers.
@@ -202,21 +210,68 @@ pub(crate) fn push_passed(out: &mut Vec<u8>, count: usize) -> Result<(), AllocEr
     push_text(out, " rules passed over\n")
 }
 
-pub(crate) fn push_untold_of(out: &mut Vec<u8>, told: &Told) -> Result<(), AllocError>
-    ensures { OnOk result (out.new.items ≡ out.old.items ++ untold_of told.now) }
+/// Appends that more states are needed than there may be.
+fn push_states(out: &mut Vec<u8>, limit: usize) -> Result<(), AllocError>
+    ensures { OnOk result (out.new.items ≡ out.old.items ++ codes "need more than " ++ decimal limit ++ codes " states together; --states allows more\n") }
 {
-    match told {
-        Told::Routes(_) => Ok(()),
-        Told::Untold(line) => out.extend_from_slice(line.as_slice()),
+    push_text(out, "need more than ")?;
+    push_number(out, limit)?;
+    push_text(out, " states together; --states allows more\n")
+}
+
+/// Appends why it isn't told where requests lead on.
+fn push_why(out: &mut Vec<u8>, limit: usize, why: Why) -> Result<(), AllocError>
+    ensures { OnOk result (out.new.items ≡ out.old.items ++ why_text limit why) }
+{
+    match why {
+        Why::TooManyPatterns => push_text(out, "have more than 65535 patterns together\n"),
+        Why::TooManyStates => push_states(out, limit),
     }
 }
 
+/// Appends from which label it isn't told where requests lead on.
+#[tactic(auto, unfolding(crate::specs::Shown::bar_line))]
+fn push_bar(out: &mut Vec<u8>, alloc: Global, limit: usize, bar: &Bar) -> Result<(), AllocError>
+    ensures { OnOk result (out.new.items ≡ out.old.items ++ bar_line limit (barred bar.now)) }
+{
+    push_text(out, "error: at ")?;
+    push_called(out, alloc, &bar.at)?;
+    push_text(out, " the rules ")?;
+    push_why(out, limit, bar.why)
+}
+
+fn push_bars(out: &mut Vec<u8>, alloc: Global, limit: usize, bars: &[Bar]) -> Result<(), AllocError>
+    ensures { OnOk result (out.new.items ≡ out.old.items ++ flat_map (bar_line limit) (map barred bars.now)) }
+{
+    for bar in bars {
+        push_bar(out, alloc, limit, bar)?;
+    }
+    Ok(())
+}
+
+/// Appends the lines on what an answer doesn't tell.
+pub(crate) fn push_untold_of(
+    out: &mut Vec<u8>,
+    alloc: Global,
+    limit: usize,
+    answer: &Answer,
+) -> Result<(), AllocError>
+    ensures { OnOk result (out.new.items ≡ out.old.items ++ untold_text limit answer.now) }
+{
+    push_bars(out, alloc, limit, answer.bars.as_slice())
+}
+
 /// Appends the lines on what can't be told.
-pub(crate) fn push_untold(out: &mut Vec<u8>, answers: &[Answer]) -> Result<(), AllocError>
-    ensures { OnOk result (out.new.items ≡ out.old.items ++ flat_map untold_text answers.now) }
+pub(crate) fn push_untold(
+    out: &mut Vec<u8>,
+    alloc: Global,
+    limit: usize,
+    answers: &[Answer],
+) -> Result<(), AllocError>
+    ensures { OnOk result (out.new.items ≡ out.old.items ++ flat_map (untold_text limit) answers.now) }
 {
     for answer in answers {
-        push_untold_of(out, &answer.told)?;
+        push_untold_of(out, alloc, limit, answer)?;
     }
     Ok(())
 }
@@ -225,8 +280,5 @@ pub(crate) fn push_untold(out: &mut Vec<u8>, answers: &[Answer]) -> Result<(), A
 pub(crate) fn is_reached(answer: &Answer) -> bool
     ensures { result ≡ is_reached answer.now }
 {
-    match &answer.told {
-        Told::Routes(routes) => !routes.is_empty(),
-        Told::Untold(_) => false,
-    }
+    !answer.routes.is_empty()
 }

@@ -1,4 +1,5 @@
 mod Keeping
 mod Stepping
 mod Reaching
+mod Searching
 mod Backing

@@ -1,4 +1,4 @@
--- Where all arrivals are followed, each list of requests leads to the label of one.
+-- Arrivals that are added behind others, and which there are.
 use Rattle.std.proofs.Common.{◌≡◌, ℕ, ◌+◌, ◌<◌, ◌≤◌, List, [], ◌∷◌, ◌++◌, true}
 use Rattle.std.proofs.Common.{length, All, Contains, sym, ap, ◌∙◌, subst, arith}
 use Rattle.std.proofs.Common.{get_or, Some, ⊎_elim, append_assoc, append-nil}
@@ -19,46 +19,45 @@ use Rattle.aa_representatives.specs.Askable.{IsAskable}
 use Rattle.aa_reachability.specs.declared.trail.Arrival.{Arrival}
 use Rattle.aa_reachability.specs.Codes.{code, most_labels}
 use Rattle.aa_reachability.specs.Moves.{label_in, LeadAllBy}
-use Rattle.aa_reachability.specs.Reach.{IsWay, AreWays, IsShortest, AreArrivals, IsNear, AreNear, led_by, way_at}
-use Rattle.aa_reachability.specs.Trail.{no_arrival, arrival_at, IsTrail, IsLevel, IsWithin, AreFollowedBy, AreFollowed, Extends, ReachAll}
+use Rattle.aa_reachability.specs.Reach.{IsWay, AreWays, IsNear, AreNear, way_at}
+use Rattle.aa_reachability.specs.Trail.{no_arrival, arrival_at, IsTrail, IsLevel, IsWithin, AreFollowedBy, IsStepFrom, Extends}
 use Rattle.aa_reachability.proofs.Stepping.{arrival_old, below_most}
 
-pub extends_none : (arrivals : List Arrival) → Extends arrivals arrivals
-extends_none arrivals = record { more = []; are = sym (append-nil arrivals) }
+pub extends_none : (n : ℕ) (arrivals : List Arrival) → Extends n arrivals arrivals
+extends_none n arrivals = record { more = []; are = sym (append-nil arrivals); from = λ i late lt. absurd (omega (arith, late, lt)) }
 
-pub extends_on : (a b c : List Arrival) → Extends a b → Extends b c → Extends a c
-extends_on a b c f g = record { more = f.more ++ g.more; are = g.are ∙ ap (λ l. l ++ g.more) f.are ∙ append_assoc a f.more g.more }
-
-pub extends_length : (a b : List Arrival) → Extends a b → length a ≤ length b
+pub extends_length : {n : ℕ} (a b : List Arrival) → Extends n a b → length a ≤ length b
 extends_length a b f = omega (arith, ap length f.are, length-append a f.more)
 
 -- an old arrival is where it was
-pub extends_at : (a b : List Arrival) → Extends a b → (i : ℕ) → i < length a → arrival_at b i ≡ arrival_at a i
+pub extends_at : {n : ℕ} (a b : List Arrival) → Extends n a b → (i : ℕ) → i < length a → arrival_at b i ≡ arrival_at a i
 extends_at a b f i lt = ap (λ l. arrival_at l i) f.are ∙ arrival_old a f.more i lt
 
-pub within_on : (a b : List Arrival) → Extends a b → (l : Label) (n : ℕ) → IsWithin a l n → IsWithin b l n
-within_on a b f l n w = (
+pub extends_on : (n : ℕ) (a b c : List Arrival) → Extends n a b → Extends n b c → Extends n a c
+extends_on n a b c f g = record {
+  more = f.more ++ g.more;
+  are = g.are ∙ ap (λ l. l ++ g.more) f.are ∙ append_assoc a f.more g.more;
+  from = λ i late lt.
+      ⊎_elim
+      (λ (x : i < length b). subst (λ (y : Arrival). IsStepFrom n y.step) (sym (extends_at b c g i x)) (f.from i late x))
+      (λ (x : length b ≤ i). g.from i x lt)
+      (cases_lt i (length b));
+}
+
+pub within_on : {n : ℕ} (a b : List Arrival) → Extends n a b → (l : Label) (m : ℕ) → IsWithin a l m → IsWithin b l m
+within_on a b f l m w = (
   w.0,
   omega (arith, w.1, extends_length a b f),
   ap (λ (x : Arrival). x.label) (extends_at a b f w.0 w.1) ∙ w.2,
-  subst (λ (x : Arrival). x.length ≤ n) (sym (extends_at a b f w.0 w.1)) w.3,
+  subst (λ (x : Arrival). x.length ≤ m) (sym (extends_at a b f w.0 w.1)) w.3,
 )
 
-pub followed_on : (g : Going) (a b : List Arrival) → Extends a b → (k : ℕ) → k < length a → (Among : Request → Type 0)
+pub followed_on : {n : ℕ} (g : Going) (a b : List Arrival) → Extends n a b → (k : ℕ) → k < length a → (Among : Request → Type 0)
     → AreFollowedBy g a k Among
     → AreFollowedBy g b k Among
 followed_on g a b f k lt Among is r among =
     subst (λ (x : Arrival). IsWithin b (label_in g x.label r) (x.length + 1)) (sym (extends_at a b f k lt))
     (within_on a b f (label_in g (arrival_at a k).label r) ((arrival_at a k).length + 1) (is r among))
-
--- one arrival more is followed
-pub followed_more : (g : Going) (a b : List Arrival) (n : ℕ) → Extends a b → n < length a → AreFollowed g a n
-    → AreFollowedBy g b n IsAskable → AreFollowed g b (n + 1)
-followed_more g a b n f lt were here k below inside =
-    ⊎_elim
-    (λ (l : k < n). followed_on g a b f k (omega (arith, l, lt)) IsAskable (were k l (omega (arith, l, lt))))
-    (λ (late : n ≤ k). let e : n ≡ k = omega (arith, below, late) in subst (λ x. AreFollowedBy g b x IsAskable) e here)
-    (cases_lt k n)
 
 -- the next arrival is level where one is
 pub level_next : (arrivals : List Arrival) (n : ℕ)
@@ -81,22 +80,6 @@ followed_all g arrivals k rs lt lead each r asked =
     (λ (found : (q : Request) × Contains rs q × (label_in g l r ≡ label_in g l q)).
     subst (λ (m : Label). IsWithin arrivals m many) (sym found.2) (each found.0 found.1))
     (lead.all r asked)
-
-module _ (g : Going) (from : Label) (known : List ℕ) (arrivals : List Arrival) (trail : IsTrail g from known arrivals) (n : ℕ)
-    (all : length arrivals ≤ n) (followed : AreFollowed g arrivals n) where
-  on : (rs : List Request) (l : Label) (m : ℕ) → All IsAskable rs → IsWithin arrivals l m → IsWithin arrivals (led_by (label_in g) l rs) (m + length rs)
-  on [] l m asked w = (w.0, w.1, w.2, omega (arith, w.3))
-  on (r ∷ rs) l m asked w =
-      let next = followed w.0 (omega (arith, w.1, all)) w.1 r (All-head IsAskable r rs asked) in
-      let there : (arrival_at arrivals next.0).label ≡ label_in g l r = next.2 ∙ ap (λ (x : Label). label_in g x r) w.2 in
-      let rest = on rs (label_in g l r) (m + 1) (All-tail IsAskable r rs asked) (next.0, next.1, there, omega (arith, next.3, w.3)) in
-      (rest.0, rest.1, rest.2, omega (arith, rest.3))
-
-  pub reach_all : ReachAll g from arrivals
-  reach_all rs asked =
-      let first : (arrival_at arrivals 0).length ≤ 0 = (trail.each 0 trail.some).short in
-      let w = on rs from 0 asked (0, trail.some, trail.start, first) in
-      (w.0, w.1, w.2, omega (arith, w.3))
 
 -- different labels have different numbers, and so there are no more arrivals than numbers
 pub few_arrivals : (g : Going) (from : Label) (known : List ℕ) (arrivals : List Arrival) → IsTrail g from known arrivals
@@ -129,7 +112,7 @@ module _ (g : Going) (from : Label) (known : List ℕ) (arrivals : List Arrival)
       let differ = apart_from_distinct nat_eq known i j 0 trail.distinct lt (omega (arith, lj, long)) in
       absurd (cc (eq-eqb (get_or known i 0) (get_or known j 0) is, differ))
 
-  same : (i j : ℕ) → i < length arrivals → j < length arrivals → (arrival_at arrivals i).label ≡ (arrival_at arrivals j).label → i ≡ j
+  pub same : (i j : ℕ) → i < length arrivals → j < length arrivals → (arrival_at arrivals i).label ≡ (arrival_at arrivals j).label → i ≡ j
   same i j li lj e =
       ⊎_elim
       (λ (a : i < j). absurd (apart i j a lj e))
@@ -140,45 +123,22 @@ module _ (g : Going) (from : Label) (known : List ℕ) (arrivals : List Arrival)
       (cases_lt j i))
       (cases_lt i j)
 
-  here : (i : ℕ) (a : Arrival) → slice_get arrivals i ≡ Some a → (i < length arrivals) × (arrival_at arrivals i ≡ a)
+  pub here : (i : ℕ) (a : Arrival) → slice_get arrivals i ≡ Some a → (i < length arrivals) × (arrival_at arrivals i ≡ a)
   here i a e = (slice_get_within arrivals i a e, get_or_from_slice_get arrivals i a no_arrival e)
 
 module _ (g : Going) (from : Label) (known : List ℕ) (arrivals : List Arrival) (trail : IsTrail g from known arrivals) where
-  once : (i j : ℕ) (a b : Arrival) → slice_get arrivals i ≡ Some a → slice_get arrivals j ≡ Some b → a.label ≡ b.label → i ≡ j
+  pub once : (i j : ℕ) (a b : Arrival) → slice_get arrivals i ≡ Some a → slice_get arrivals j ≡ Some b → a.label ≡ b.label → i ≡ j
   once i j a b e f is =
       let h = here g from known arrivals trail i a e in
       let k = here g from known arrivals trail j b f in
       same g from known arrivals trail i j h.0 k.0 (ap (λ (x : Arrival). x.label) h.1 ∙ is ∙ sym (ap (λ (x : Arrival). x.label) k.1))
 
-  are_ways : AreWays arrivals trail.ways
+  pub are_ways : AreWays arrivals trail.ways
   are_ways = record {
     many = trail.many;
     each = λ i a e.
         let h = here g from known arrivals trail i a e in
         subst (λ (x : Arrival). IsWay i x.step trail.ways (way_at trail.ways i)) h.1 (trail.each i h.0).is_way;
-  }
-
-  pub are_arrivals : ReachAll g from arrivals → AreArrivals (label_in g) from arrivals
-  are_arrivals reach = record {
-    ways = trail.ways;
-    are = are_ways;
-    each = λ i a e.
-        let h = here g from known arrivals trail i a e in
-        let led = trail.each i h.0 in
-        subst (λ (x : Arrival). IsShortest (label_in g) from x (way_at trail.ways i)) h.1
-        (record {
-          asked = led.asked;
-          leads = led.leads;
-          long = led.long;
-          shortest = λ rs asked is.
-              let w = reach rs asked in
-              let j : w.0 ≡ i = same g from known arrivals trail w.0 i w.1 h.0 (w.2 ∙ is) in
-              subst (λ x. (arrival_at arrivals x).length ≤ length rs) j w.3;
-        });
-    all = λ rs asked.
-        let w = reach rs asked in
-        (w.0, arrival_at arrivals w.0, slice_get-get_or arrivals w.0 no_arrival w.1, w.2);
-    once = once;
   }
 
   -- where the first arrival is followed, those beside it are near

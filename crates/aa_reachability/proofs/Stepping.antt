@@ -18,7 +18,7 @@ use Rattle.aa_reachability.specs.declared.trail.Arrival.{Arrival}
 use Rattle.aa_reachability.specs.Codes.{code, IsFit, most_labels}
 use Rattle.aa_reachability.specs.Moves.{label_in}
 use Rattle.aa_reachability.specs.Reach.{IsWay, led_by, way_at}
-use Rattle.aa_reachability.specs.Trail.{no_arrival, arrival_at, codes_of, IsLed, IsTrail, IsLevel, IsWithin}
+use Rattle.aa_reachability.specs.Trail.{no_arrival, arrival_at, codes_of, IsLed, IsTrail, IsLevel, IsStepFrom, Extends, IsWithin}
 
 -- one request more leads on from where those before it lead
 pub led_more : (g : Going) (l : Label) (rs : List Request) (r : Request) → led_by (label_in g) l (rs ++ r ∷ []) ≡ label_in g (led_by (label_in g) l rs) r
@@ -152,6 +152,15 @@ module _ (g : Going) (from : Label) (known : List ℕ) (arrivals : List Arrival)
       (λ (a : j < length arrivals). omega (arith, length_old j a, length_old k lt, level lt j a))
       (λ (a : length arrivals ≤ j). omega (arith, length_at j a lj, length_old k lt, long_is))
       (cases_lt j (length arrivals))
+
+  pub extends_more : Extends k arrivals more
+  extends_more = record {
+    more = new ∷ [];
+    are = refl;
+    from = λ i late l.
+        let e : length arrivals ≡ i = omega (arith, late, l, length_push arrivals new) in
+        subst (λ n. IsStepFrom k (arrival_at more n).step) e (subst (λ (x : Arrival). IsStepFrom k x.step) (sym arrival_new) refl);
+  }
 
   pub reached_more : IsWithin more l ((arrival_at arrivals k).length + 1)
   reached_more = (

@@ -1,6 +1,6 @@
 -- Requests that move a task to another label.
 -- Source: own.
-use Rattle.std.specs.Prelude.{◌≡◌, ◌⊎◌, ◌<◌, ℕ, List, Bool, true, false, Contains, length, if◌then◌else◌}
+use Rattle.std.specs.Prelude.{◌≡◌, ◌⊎◌, ◌+◌, ◌<◌, ℕ, List, Bool, true, false, Contains, length, if◌then◌else◌}
 use Rattle.std.specs.Option.{option_map_or}
 use Rattle.aa_pattern.specs.Limits.{most_patterns}
 use Rattle.aa_auto.specs.Tables.{HasPlaces}
@@ -16,6 +16,8 @@ use Rattle.aa_representatives.specs.Alike.{deciding}
 use Rattle.aa_representatives.specs.Names.{many_name_patterns, HaveNamePlaces}
 use Rattle.aa_representatives.specs.Askable.{IsAskable}
 use Rattle.aa_reachability.specs.declared.going.Going.{Going}
+use Rattle.aa_reachability.specs.declared.reached.Why.{Why}
+use Rattle.aa_reachability.specs.declared.reached.Why.TheVariants.{TooManyPatterns, TooManyStates}
 
 -- the label of a task after a request
 abbrev pub label_next : List Policy → Label → Request → Label
@@ -63,3 +65,8 @@ HaveManyPatternsAt ps l = (most_patterns < length (deciding ps l)) ⊎ (most_pat
 -- the patterns on paths or those on names tell n texts apart, each two of them
 abbrev pub HavePlacesAt : List Policy → Label → ℕ → Type 0
 HavePlacesAt ps l n = HasPlaces (deciding ps l) n ⊎ HaveNamePlaces ps l n
+
+-- why it isn't told where requests lead from the label
+abbrev pub IsWhy : List Policy → ℕ → Label → Why → Type 0
+IsWhy ps limit l TooManyPatterns = HaveManyPatternsAt ps l
+IsWhy ps limit l TooManyStates = HavePlacesAt ps l (limit + 1)

@@ -1,12 +1,15 @@
 -- The labels that a task can get to.
 -- Source: breadth-first search; own.
-use Rattle.std.specs.Prelude.{◌≡◌, ◌<◌, ◌≤◌, ◌++◌, ◌∷◌, [], ℕ, List, Option, Some, None, All, length, slice_index_or}
+use Rattle.std.specs.Prelude.{◌≡◌, ◌<◌, ◌≤◌, ◌++◌, ◌∷◌, [], ℕ, List, Option, Some, None, All, Contains, length, slice_index_or}
 use Rattle.std.specs.List.{slice_get}
+use Rattle.aa_model.specs.declared.policy.Policy.{Policy}
 use Rattle.aa_model.specs.declared.label.Label.{Label}
 use Rattle.aa_model.specs.declared.request.Request.{Request}
 use Rattle.aa_representatives.specs.Askable.{IsAskable}
 use Rattle.aa_reachability.specs.declared.trail.Step.{Step}
 use Rattle.aa_reachability.specs.declared.trail.Arrival.{Arrival}
+use Rattle.aa_reachability.specs.declared.reached.Untold.{Untold}
+use Rattle.aa_reachability.specs.Moves.{HaveManyPatternsAt, IsWhy}
 
 -- the label after requests, one after another, where each leads on so
 abbrev pub led_by : (Label → Request → Label) → Label → List Request → Label
@@ -31,20 +34,49 @@ pub record AreWays (arrivals : List Arrival) (ways : List (List Request)) : Type
 abbrev pub HaveWays : List Arrival → Type 0
 HaveWays arrivals = (ways : List (List Request)) × AreWays arrivals ways
 
--- the requests can be asked and lead so to the label; no shorter list of such requests does
-pub record IsShortest (go : Label → Request → Label) (from : Label) (a : Arrival) (way : List Request) : Type 0 where
-  pub asked : All IsAskable way
+-- the label isn't one from which it isn't told where requests lead on
+abbrev pub IsOpen : List Untold → Label → Type 0
+IsOpen untold l = (u : Untold) → Contains untold u → u.label ≡ l → ⊥
+
+-- the requests lead on from such labels alone; where the last leads may be any
+abbrev pub PassBy : (Label → Request → Label) → (Label → Type 0) → Label → List Request → Type 0
+PassBy go Open l [] = Unit {0}
+PassBy go Open l (r ∷ rs) = Open l × PassBy go Open (go l r) rs
+
+-- requests that can be asked, and lead on from such labels alone
+pub record AreTold (go : Label → Request → Label) (Open : Label → Type 0) (from : Label) (rs : List Request) : Type 0 where
+  pub asked : All IsAskable rs
+  pub pass : PassBy go Open from rs
+
+-- the requests are such, and lead so to the label; no shorter list of such requests does
+pub record IsShortest (go : Label → Request → Label) (Open : Label → Type 0) (from : Label) (a : Arrival) (way : List Request) : Type 0 where
+  pub told : AreTold go Open from way
   pub leads : led_by go from way ≡ a.label
   pub long : length way ≡ a.length
-  pub shortest : (rs : List Request) → All IsAskable rs → led_by go from rs ≡ a.label → a.length ≤ length rs
+  pub shortest : (rs : List Request) → AreTold go Open from rs → led_by go from rs ≡ a.label → a.length ≤ length rs
 
--- an arrival for each label to which a list of requests that can be asked leads so, each with a shortest such list, and none twice
-pub record AreArrivals (go : Label → Request → Label) (from : Label) (arrivals : List Arrival) : Type 0 where
+-- an arrival for each label to which a list of such requests leads so, each with a shortest such list, and none twice; those with
+-- shorter lists first
+pub record AreArrivals (go : Label → Request → Label) (Open : Label → Type 0) (from : Label) (arrivals : List Arrival) : Type 0 where
   pub ways : List (List Request)
   pub are : AreWays arrivals ways
-  pub each : (i : ℕ) (a : Arrival) → slice_get arrivals i ≡ Some a → IsShortest go from a (way_at ways i)
-  pub all : (rs : List Request) → All IsAskable rs → (i : ℕ) × (a : Arrival) × (slice_get arrivals i ≡ Some a) × (a.label ≡ led_by go from rs)
+  pub each : (i : ℕ) (a : Arrival) → slice_get arrivals i ≡ Some a → IsShortest go Open from a (way_at ways i)
+  pub all : (rs : List Request) → AreTold go Open from rs → (i : ℕ) × (a : Arrival) × (slice_get arrivals i ≡ Some a) × (a.label ≡ led_by go from rs)
   pub once : (i j : ℕ) (a b : Arrival) → slice_get arrivals i ≡ Some a → slice_get arrivals j ≡ Some b → a.label ≡ b.label → i ≡ j
+  pub rising : (i j : ℕ) (a b : Arrival) → slice_get arrivals i ≡ Some a → slice_get arrivals j ≡ Some b → i ≤ j → a.length ≤ b.length
+
+-- it isn't told where requests lead on from that arrival: the patterns at its label are too many, or need too many states
+pub record IsUntold (ps : List Policy) (limit : ℕ) (arrivals : List Arrival) (u : Untold) : Type 0 where
+  pub arrival : Arrival
+  pub there : slice_get arrivals u.number ≡ Some arrival
+  pub label : arrival.label ≡ u.label
+  pub why : IsWhy ps limit u.label u.why
+
+-- so it is of these, in the order of the arrivals; from each other the patterns aren't too many
+pub record AreUntold (ps : List Policy) (limit : ℕ) (arrivals : List Arrival) (untold : List Untold) : Type 0 where
+  pub each : (u : Untold) → Contains untold u → IsUntold ps limit arrivals u
+  pub few : (i : ℕ) (a : Arrival) → slice_get arrivals i ≡ Some a → IsOpen untold a.label → HaveManyPatternsAt ps a.label → ⊥
+  pub rising : (i j : ℕ) (u v : Untold) → slice_get untold i ≡ Some u → slice_get untold j ≡ Some v → i < j → u.number < v.number
 
 -- at most one request that can be asked leads so to the label
 pub record IsNear (go : Label → Request → Label) (from : Label) (a : Arrival) (way : List Request) : Type 0 where

@@ -1,16 +1,20 @@
 -- The search, on its way: arrivals, shorter lists of requests first.
 -- Source: breadth-first search; own.
-use Rattle.std.specs.Prelude.{◌≡◌, ◌+◌, ◌<◌, ◌≤◌, ◌++◌, ℕ, List, None, All, length, map, nat_eq, slice_index_or}
+use Rattle.std.specs.Prelude.{◌≡◌, ◌+◌, ◌<◌, ◌≤◌, ◌++◌, ℕ, List, Option, Some, None, All, Contains, length, map, nat_eq, slice_index_or}
 use Rattle.std.specs.List.{IsDistinct}
 use Rattle.aa_reachability.specs.declared.going.Going.{Going}
+use Rattle.aa_model.specs.declared.policy.Policy.{Policy}
 use Rattle.aa_model.specs.declared.label.Label.{Label}
 use Rattle.aa_model.specs.declared.label.Label.TheVariants.{Unconfined}
 use Rattle.aa_model.specs.declared.request.Request.{Request}
 use Rattle.aa_representatives.specs.Askable.{IsAskable}
+use Rattle.aa_reachability.specs.declared.trail.Step.{Step}
 use Rattle.aa_reachability.specs.declared.trail.Arrival.{Arrival}
+use Rattle.aa_reachability.specs.declared.reached.Untold.{Untold}
+use Rattle.aa_reachability.specs.declared.reached.Why.TheVariants.{TooManyPatterns}
 use Rattle.aa_reachability.specs.Codes.{code, IsFit}
-use Rattle.aa_reachability.specs.Moves.{label_in}
-use Rattle.aa_reachability.specs.Reach.{IsWay, led_by, way_at}
+use Rattle.aa_reachability.specs.Moves.{label_in, HaveManyPatternsAt, IsWhy}
+use Rattle.aa_reachability.specs.Reach.{IsWay, AreTold, led_by, way_at}
 
 -- an arrival that stands for none
 abbrev pub no_arrival : Arrival
@@ -48,10 +52,16 @@ pub record IsTrail (g : Going) (from : Label) (known : List ℕ) (arrivals : Lis
 abbrev pub IsLevel : List Arrival → ℕ → Type 0
 IsLevel arrivals n = n < length arrivals → (j : ℕ) → j < length arrivals → (arrival_at arrivals j).length ≤ (arrival_at arrivals n).length + 1
 
--- arrivals are added behind
-pub record Extends (old arrivals : List Arrival) : Type 0 where
+-- the step goes on from arrival n
+abbrev pub IsStepFrom : ℕ → Option Step → Type 0
+IsStepFrom n None = ⊥
+IsStepFrom n (Some step) = step.from ≡ n
+
+-- arrivals are added behind, each by a request from arrival n
+pub record Extends (n : ℕ) (old arrivals : List Arrival) : Type 0 where
   pub more : List Arrival
   pub are : arrivals ≡ old ++ more
+  pub from : (i : ℕ) → length old ≤ i → i < length arrivals → IsStepFrom n (arrival_at arrivals i).step
 
 -- one of the arrivals has the label, by at most n requests
 abbrev pub IsWithin : List Arrival → Label → ℕ → Type 0
@@ -62,10 +72,38 @@ abbrev pub AreFollowedBy : Going → List Arrival → ℕ → (Request → Type 
 AreFollowedBy g arrivals k Among = (r : Request) → Among r
     → IsWithin arrivals (label_in g (arrival_at arrivals k).label r) ((arrival_at arrivals k).length + 1)
 
--- so where each request leads to that can be asked, from the first n arrivals
-abbrev pub AreFollowed : Going → List Arrival → ℕ → Type 0
-AreFollowed g arrivals n = (k : ℕ) → k < n → k < length arrivals → AreFollowedBy g arrivals k IsAskable
+-- arrival k is none from which it isn't told where requests lead on
+abbrev pub IsFollowed : List Untold → ℕ → Type 0
+IsFollowed untold k = (u : Untold) → Contains untold u → u.number ≡ k → ⊥
 
--- each list of requests that can be asked leads to the label of an arrival, which takes no more
-abbrev pub ReachAll : Going → Label → List Arrival → Type 0
-ReachAll g from arrivals = (rs : List Request) → All IsAskable rs → IsWithin arrivals (led_by (label_in g) from rs) (length rs)
+-- the step goes on from one of the first n arrivals that is none such
+abbrev pub IsStepBehind : ℕ → List Untold → Option Step → Type 0
+IsStepBehind n untold None = Unit {0}
+IsStepBehind n untold (Some step) = (step.from < n) × IsFollowed untold step.from
+
+-- from one of the first n arrivals it isn't told where requests lead on
+pub record IsUntoldBelow (ps : List Policy) (limit : ℕ) (arrivals : List Arrival) (n : ℕ) (u : Untold) : Type 0 where
+  pub below : u.number < n
+  pub label : (arrival_at arrivals u.number).label ≡ u.label
+  pub why : IsWhy ps limit u.label u.why
+
+-- one that stands for none
+abbrev pub no_untold : Untold
+no_untold = record { number = 0; label = Unconfined 0; why = TooManyPatterns }
+
+-- the number of the arrival of untold label i
+abbrev pub number_at : List Untold → ℕ → ℕ
+number_at untold i = (slice_index_or untold i no_untold).number
+
+-- the first n arrivals are followed by all requests that can be asked, but for those that are untold
+pub record AreFollowed (g : Going) (limit : ℕ) (arrivals : List Arrival) (untold : List Untold) (n : ℕ) : Type 0 where
+  pub within : n ≤ length arrivals
+  pub told : (k : ℕ) → k < n → IsFollowed untold k → AreFollowedBy g arrivals k IsAskable
+  pub few : (k : ℕ) → k < n → IsFollowed untold k → HaveManyPatternsAt g.policies.now (arrival_at arrivals k).label → ⊥
+  pub steps : (i : ℕ) → i < length arrivals → IsStepBehind n untold (arrival_at arrivals i).step
+  pub each : (u : Untold) → Contains untold u → IsUntoldBelow g.policies.now limit arrivals n u
+  pub rising : (i j : ℕ) → i < j → j < length untold → number_at untold i < number_at untold j
+
+-- each list of requests that can be asked, and that leads on from such labels alone, leads to the label of an arrival, which takes no more
+abbrev pub ReachAll : Going → (Label → Type 0) → Label → List Arrival → Type 0
+ReachAll g Open from arrivals = (rs : List Request) → AreTold (label_in g) Open from rs → IsWithin arrivals (led_by (label_in g) from rs) (length rs)

@@ -2,7 +2,7 @@
 
 ghost use Rattle.std.specs.Prelude.{◌≡◌};
 ghost use Rattle.aa_mediate.specs.Reply.{reply};
-ghost use Rattle.aa_reachability.specs.Moves.{is_by_complain, label_kept, label_in};
+ghost use Rattle.aa_reachability.specs.Moves.{is_by_complain, label_kept, label_going, label_in};
 
 use aa_compile::Compiled;
 use aa_machine::Machine;
@@ -11,14 +11,14 @@ use aa_model::{Answer, Label, NoteWord, Request};
 
 /// The policies that decide, and whether a task moves by what complain mode alone grants.
 #[derive(Clone, Copy)]
-pub(crate) struct Going<'p> {
-    pub(crate) policies: &'p [Compiled],
+pub struct Going<'p> {
+    pub policies: &'p [Compiled],
     /// It doesn't.
-    pub(crate) as_enforced: bool,
+    pub as_enforced: bool,
 }
 
 /// Whether an answer is granted by complain mode alone.
-fn is_by_complain(answer: &Answer) -> bool
+pub fn is_by_complain(answer: &Answer) -> bool
     ensures { result ≡ is_by_complain answer.now }
 {
     match answer.note {
@@ -38,7 +38,8 @@ fn label_kept(label: Label, answer: &Answer) -> Label
     }
 }
 
-fn answer_of(policies: &[Compiled], label: Label, request: &Request) -> Answer
+/// What the mediator answers a task with that label.
+pub fn answer_of(policies: &[Compiled], label: Label, request: &Request) -> Answer
     ensures { result ≡ reply policies.now label request.now }
 {
     let mut after = label;
@@ -47,8 +48,9 @@ fn answer_of(policies: &[Compiled], label: Label, request: &Request) -> Answer
 
 /// The label of a task after a request.
 #[tactic(auto, unfolding(crate::specs::Moves::label_in))]
-pub(crate) fn label_after(going: Going<'_>, label: Label, request: &Request) -> Label
-    ensures { result ≡ label_in going.entry label request.now }
+pub fn label_after(going: Going<'_>, label: Label, request: &Request) -> Label
+    ensures going { result ≡ label_going going.entry.as_enforced going.entry.policies.now label request.now }
+    ensures same { result ≡ label_in going.entry label request.now }
 {
     let answer = answer_of(going.policies, label, request);
     if going.as_enforced {

@@ -2,14 +2,15 @@
 #![tactic(auto)]
 
 mod codes;
-mod fault;
 mod going;
 mod moves;
+mod reached;
 mod search;
 mod trail;
 mod ways;
 
-pub use fault::ReachFault;
-pub use search::{arrivals_from, enforced_arrivals_from, near_arrivals};
+pub use going::{Going, answer_of, is_by_complain, label_after};
+pub use reached::{Reached, Untold, Why};
+pub use search::{arrivals_from, near_arrivals};
 pub use trail::{Arrival, Step};
 pub use ways::way_to;

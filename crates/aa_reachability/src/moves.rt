@@ -23,6 +23,7 @@ pub(crate) fn moves_at(
     requires limit { limit ≤ most_states }
     ensures lead { IfOk result (λ rs. LeadAll policies.now label rs.items) }
     ensures many_patterns { result ≡ Err RepresentativesFault.TooManyPatterns → HaveManyPatternsAt policies.now label }
+    ensures few_patterns { IfOk result (λ _. HaveManyPatternsAt policies.now label → ⊥) }
     ensures many_states { result ≡ Err RepresentativesFault.TooManyStates → HavePlacesAt policies.now label (limit + 1) }
 {
     let mut requests = exec_representatives(alloc, policies, label, limit)?;

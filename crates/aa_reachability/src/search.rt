@@ -2,17 +2,16 @@
 
 ghost use Rattle.std.specs.Prelude.{◌≡◌, ◌+◌, ◌<◌, ◌≤◌, Err, IfOk, OnOk, Contains, length};
 ghost use Rattle.aa_pattern.specs.Limits.{most_states};
-ghost use Rattle.aa_model.specs.declared.label.Label.{Label};
 ghost use Rattle.aa_model.specs.declared.request.Request.{Request};
 ghost use Rattle.aa_representatives.specs.Askable.{IsAskable};
-ghost use Rattle.aa_reachability.specs.Moves.{label_next, label_enforced, label_going, label_in, LeadAllBy, HaveManyPatternsAt, HavePlacesAt};
-ghost use Rattle.aa_reachability.specs.Reach.{AreArrivals, AreNear};
-ghost use Rattle.aa_reachability.specs.Trail.{IsTrail, IsLevel, Extends, AreFollowedBy, ReachAll};
+ghost use Rattle.aa_reachability.specs.Moves.{label_going, label_in, LeadAllBy, HaveManyPatternsAt, HavePlacesAt, IsWhy};
+ghost use Rattle.aa_reachability.specs.Reach.{IsOpen, AreArrivals, AreUntold, AreNear};
+ghost use Rattle.aa_reachability.specs.Trail.{arrival_at, IsTrail, IsLevel, Extends, AreFollowedBy, AreFollowed};
 
 use crate::codes::MAX_LABELS;
-use crate::fault::ReachFault;
 use crate::going::Going;
 use crate::moves::moves_at;
+use crate::reached::{Reached, Untold, Why};
 use crate::trail::{Arrival, Trail};
 use aa_compile::Compiled;
 use aa_model::{Label, Request};
@@ -25,19 +24,16 @@ fn moves_of(
     going: Going<'_>,
     label: Label,
     limit: usize,
-) -> Result<Vec<Request>, ReachFault>
+) -> Result<Vec<Request>, RepresentativesFault>
     requires some { 0 < limit }
     requires limit { limit ≤ most_states }
     ensures lead { IfOk result (λ rs. LeadAllBy going.entry label rs.items) }
-    ensures many_patterns { (l : Label) → result ≡ Err (ReachFault.TooManyPatterns l) → HaveManyPatternsAt going.entry.policies.now l }
-    ensures many_states { (l : Label) → result ≡ Err (ReachFault.TooManyStates l) → HavePlacesAt going.entry.policies.now l (limit + 1) }
+    ensures many_patterns { result ≡ Err RepresentativesFault.TooManyPatterns → HaveManyPatternsAt going.entry.policies.now label }
+    ensures few_patterns { IfOk result (λ _. HaveManyPatternsAt going.entry.policies.now label → ⊥) }
+    ensures many_states { result ≡ Err RepresentativesFault.TooManyStates → HavePlacesAt going.entry.policies.now label (limit + 1) }
 {
-    match moves_at(alloc, going.policies, label, limit) {
-        Ok(found) => Ok(found),
-        Err(RepresentativesFault::NoMemory) => Err(ReachFault::NoMemory),
-        Err(RepresentativesFault::TooManyPatterns) => Err(ReachFault::TooManyPatterns(label)),
-        Err(RepresentativesFault::TooManyStates) => Err(ReachFault::TooManyStates(label)),
-    }
+    let requests = moves_at(alloc, going.policies, label, limit)?;
+    Ok(requests)
 }
 
 /// Goes on from an arrival by each of these requests.
@@ -54,7 +50,7 @@ fn follow_each(
     requires asked { (r : Request) → Contains requests.now r → IsAskable r }
     ensures trail { OnOk result (IsTrail going.entry from trail.new.known.keys trail.new.arrivals.items) }
     ensures level { OnOk result (IsLevel trail.new.arrivals.items number) }
-    ensures extends { OnOk result (Extends trail.old.arrivals.items trail.new.arrivals.items) }
+    ensures extends { OnOk result (Extends number trail.old.arrivals.items trail.new.arrivals.items) }
     ensures followed { OnOk result (AreFollowedBy going.entry trail.new.arrivals.items number (λ r. Contains requests.now r)) }
 {
     for request in requests {
@@ -65,145 +61,135 @@ fn follow_each(
 
 /// Goes on from an arrival by requests that lead to each label to which one request leads.
 fn follow_all(
-    alloc: Global,
     trail: &mut Trail,
     going: Going<'_>,
     from: Label,
     number: usize,
+    requests: &[Request],
+) -> Result<(), AllocError>
+    requires trail { IsTrail going from trail.old.known.keys trail.old.arrivals.items }
+    requires within { number < length trail.old.arrivals.items }
+    requires level { IsLevel trail.old.arrivals.items number }
+    requires lead { LeadAllBy going (arrival_at trail.old.arrivals.items number).label requests.now }
+    ensures trail { OnOk result (IsTrail going.entry from trail.new.known.keys trail.new.arrivals.items) }
+    ensures level { OnOk result (IsLevel trail.new.arrivals.items number) }
+    ensures extends { OnOk result (Extends number trail.old.arrivals.items trail.new.arrivals.items) }
+    ensures followed { OnOk result (AreFollowedBy going.entry trail.new.arrivals.items number IsAskable) }
+{
+    follow_each(trail, going, from, number, requests)?;
+    Ok(())
+}
+
+/// Goes on from the next arrival, or adds why it isn't told where requests lead on from there.
+fn follow_next(
+    alloc: Global,
+    trail: &mut Trail,
+    untold: &mut Vec<Untold>,
+    going: Going<'_>,
+    from: Label,
+    number: usize,
     limit: usize,
-) -> Result<(), ReachFault>
+) -> Result<(), AllocError>
     requires some { 0 < limit }
     requires limit { limit ≤ most_states }
     requires trail { IsTrail going from trail.old.known.keys trail.old.arrivals.items }
     requires within { number < length trail.old.arrivals.items }
     requires level { IsLevel trail.old.arrivals.items number }
+    requires followed { AreFollowed going limit trail.old.arrivals.items untold.old.items number }
     ensures trail { OnOk result (IsTrail going.entry from trail.new.known.keys trail.new.arrivals.items) }
-    ensures level { OnOk result (IsLevel trail.new.arrivals.items number) }
-    ensures extends { OnOk result (Extends trail.old.arrivals.items trail.new.arrivals.items) }
-    ensures followed { OnOk result (AreFollowedBy going.entry trail.new.arrivals.items number IsAskable) }
-    ensures many_patterns { (l : Label) → result ≡ Err (ReachFault.TooManyPatterns l) → HaveManyPatternsAt going.entry.policies.now l }
-    ensures many_states { (l : Label) → result ≡ Err (ReachFault.TooManyStates l) → HavePlacesAt going.entry.policies.now l (limit + 1) }
+    ensures level { OnOk result (IsLevel trail.new.arrivals.items (number + 1)) }
+    ensures followed { OnOk result (AreFollowed going.entry limit trail.new.arrivals.items untold.new.items (number + 1)) }
 {
     let label = trail.arrivals[number].label;
-    let requests = moves_of(alloc, going, label, limit)?;
-    follow_each(trail, going, from, number, requests.as_slice())?;
-    Ok(())
+    match moves_of(alloc, going, label, limit) {
+        Ok(requests) => {
+            follow_all(trail, going, from, number, requests.as_slice())?;
+            Ok(())
+        }
+        Err(RepresentativesFault::TooManyPatterns) => {
+            let why = Why::TooManyPatterns;
+            untold.push(Untold { number, label, why })?;
+            Ok(())
+        }
+        Err(RepresentativesFault::TooManyStates) => {
+            let why = Why::TooManyStates;
+            untold.push(Untold { number, label, why })?;
+            Ok(())
+        }
+        Err(RepresentativesFault::NoMemory) => Err(AllocError),
+    }
+}
+
+/// What is found, before it is handed out.
+#[derive(Drop)]
+struct Found {
+    trail: Trail,
+    untold: Vec<Untold>,
 }
 
 /// The arrivals at all labels to which requests lead.
-fn trail_of(alloc: Global, going: Going<'_>, from: Label, limit: usize) -> Result<Trail, ReachFault>
+fn found_from(
+    alloc: Global,
+    going: Going<'_>,
+    from: Label,
+    limit: usize,
+) -> Result<Found, AllocError>
     requires some { 0 < limit }
     requires limit { limit ≤ most_states }
-    ensures trail { IfOk result (λ t. IsTrail going.entry from t.known.keys t.arrivals.items) }
-    ensures all { IfOk result (λ t. ReachAll going.entry from t.arrivals.items) }
-    ensures many_patterns { (l : Label) → result ≡ Err (ReachFault.TooManyPatterns l) → HaveManyPatternsAt going.entry.policies.now l }
-    ensures many_states { (l : Label) → result ≡ Err (ReachFault.TooManyStates l) → HavePlacesAt going.entry.policies.now l (limit + 1) }
+    ensures trail { IfOk result (λ f. IsTrail going.entry from f.trail.known.keys f.trail.arrivals.items) }
+    ensures followed { IfOk result (λ f. AreFollowed going.entry limit f.trail.arrivals.items f.untold.items (length f.trail.arrivals.items)) }
 {
     let mut trail = Trail::started(alloc, going, from)?;
+    let mut untold = Vec::new(alloc);
     for number in 0..MAX_LABELS {
         if number == trail.arrivals.len() {
-            return Ok(trail);
+            return Ok(Found { trail, untold });
         }
-        follow_all(alloc, &mut trail, going, from, number, limit)?;
+        follow_next(alloc, &mut trail, &mut untold, going, from, number, limit)?;
     }
-    Ok(trail)
-}
-
-/// The arrivals at all labels to which requests lead, shorter lists of requests first.
-fn arrivals_by(
-    alloc: Global,
-    going: Going<'_>,
-    from: Label,
-    limit: usize,
-) -> Result<Vec<Arrival>, ReachFault>
-    requires some { 0 < limit }
-    requires limit { limit ≤ most_states }
-    ensures arrivals { IfOk result (λ found. AreArrivals (label_in going.entry) from found.items) }
-    ensures many_patterns { (l : Label) → result ≡ Err (ReachFault.TooManyPatterns l) → HaveManyPatternsAt going.entry.policies.now l }
-    ensures many_states { (l : Label) → result ≡ Err (ReachFault.TooManyStates l) → HavePlacesAt going.entry.policies.now l (limit + 1) }
-{
-    let trail = trail_of(alloc, going, from, limit)?;
-    Ok(trail.into_arrivals())
-}
-
-/// The arrivals at all labels to which one request leads, and where a task begins.
-fn near_by(
-    alloc: Global,
-    going: Going<'_>,
-    from: Label,
-    limit: usize,
-) -> Result<Vec<Arrival>, ReachFault>
-    requires some { 0 < limit }
-    requires limit { limit ≤ most_states }
-    ensures near { IfOk result (λ found. AreNear (label_in going.entry) from found.items) }
-    ensures many_patterns { (l : Label) → result ≡ Err (ReachFault.TooManyPatterns l) → HaveManyPatternsAt going.entry.policies.now l }
-    ensures many_states { (l : Label) → result ≡ Err (ReachFault.TooManyStates l) → HavePlacesAt going.entry.policies.now l (limit + 1) }
-{
-    let mut trail = Trail::started(alloc, going, from)?;
-    follow_all(alloc, &mut trail, going, from, 0, limit)?;
-    Ok(trail.into_arrivals())
+    Ok(Found { trail, untold })
 }
 
 /// The labels that a task can get to from this one by requests that can be asked, itself first, each once, with a shortest list of
-/// requests that lead there; those with shorter lists first. The errors are `TooManyPatterns` and `TooManyStates`, of the patterns
-/// on paths or those on names that decide at a label, which they name, and `NoMemory`; an automaton may have at most `limit` states.
+/// requests that lead there; those with shorter lists first. Where the patterns on paths or those on names that decide at one of them
+/// are too many, or need more than `limit` states, it isn't told where requests lead on from there: such labels are named, and only
+/// lists of requests count that lead on from others.
 pub fn arrivals_from(
     alloc: Global,
-    policies: &[Compiled],
+    going: Going<'_>,
     from: Label,
     limit: usize,
-) -> Result<Vec<Arrival>, ReachFault>
+) -> Result<Reached, AllocError>
     requires some { 0 < limit }
     requires limit { limit ≤ most_states }
-    ensures arrivals { IfOk result (λ found. AreArrivals (label_next policies.now) from found.items) }
-    ensures many_patterns { (l : Label) → result ≡ Err (ReachFault.TooManyPatterns l) → HaveManyPatternsAt policies.now l }
-    ensures many_states { (l : Label) → result ≡ Err (ReachFault.TooManyStates l) → HavePlacesAt policies.now l (limit + 1) }
+    ensures arrivals { IfOk result (λ r. AreArrivals (label_going going.entry.as_enforced going.entry.policies.now) (IsOpen r.untold.items) from r.arrivals.items) }
+    ensures untold { IfOk result (λ r. AreUntold going.entry.policies.now limit r.arrivals.items r.untold.items) }
 {
-    let going = Going {
-        policies,
-        as_enforced: false,
-    };
-    arrivals_by(alloc, going, from, limit)
-}
-
-/// The same, where what complain mode alone grants moves no task.
-pub fn enforced_arrivals_from(
-    alloc: Global,
-    policies: &[Compiled],
-    from: Label,
-    limit: usize,
-) -> Result<Vec<Arrival>, ReachFault>
-    requires some { 0 < limit }
-    requires limit { limit ≤ most_states }
-    ensures arrivals { IfOk result (λ found. AreArrivals (label_enforced policies.now) from found.items) }
-    ensures many_patterns { (l : Label) → result ≡ Err (ReachFault.TooManyPatterns l) → HaveManyPatternsAt policies.now l }
-    ensures many_states { (l : Label) → result ≡ Err (ReachFault.TooManyStates l) → HavePlacesAt policies.now l (limit + 1) }
-{
-    let going = Going {
-        policies,
-        as_enforced: true,
-    };
-    arrivals_by(alloc, going, from, limit)
+    let found = found_from(alloc, going, from, limit)?;
+    Ok(Reached {
+        arrivals: found.trail.into_arrivals(),
+        untold: found.untold,
+    })
 }
 
 /// The labels to which one request that can be asked leads from this one, each once, with such a request, and this one itself, first.
-/// Where it is so wanted, what complain mode alone grants moves no task. The errors are as for all labels.
+/// The errors are `TooManyPatterns` and `TooManyStates`, of the patterns on paths or those on names that decide at this label, and
+/// `NoMemory`; an automaton may have at most `limit` states.
 pub fn near_arrivals(
     alloc: Global,
-    policies: &[Compiled],
-    as_enforced: bool,
+    going: Going<'_>,
     from: Label,
     limit: usize,
-) -> Result<Vec<Arrival>, ReachFault>
+) -> Result<Vec<Arrival>, RepresentativesFault>
     requires some { 0 < limit }
     requires limit { limit ≤ most_states }
-    ensures near { IfOk result (λ found. AreNear (label_going as_enforced policies.now) from found.items) }
-    ensures many_patterns { (l : Label) → result ≡ Err (ReachFault.TooManyPatterns l) → HaveManyPatternsAt policies.now l }
-    ensures many_states { (l : Label) → result ≡ Err (ReachFault.TooManyStates l) → HavePlacesAt policies.now l (limit + 1) }
+    ensures near { IfOk result (λ found. AreNear (label_going going.entry.as_enforced going.entry.policies.now) from found.items) }
+    ensures many_patterns { result ≡ Err RepresentativesFault.TooManyPatterns → HaveManyPatternsAt going.entry.policies.now from }
+    ensures few_patterns { IfOk result (λ _. HaveManyPatternsAt going.entry.policies.now from → ⊥) }
+    ensures many_states { result ≡ Err RepresentativesFault.TooManyStates → HavePlacesAt going.entry.policies.now from (limit + 1) }
 {
-    let going = Going {
-        policies,
-        as_enforced,
-    };
-    near_by(alloc, going, from, limit)
+    let requests = moves_of(alloc, going, from, limit)?;
+    let mut trail = Trail::started(alloc, going, from)?;
+    follow_all(&mut trail, going, from, 0, requests.as_slice())?;
+    Ok(trail.into_arrivals())
 }

@@ -38,6 +38,7 @@ impl Trail {
     pub(crate) fn started(alloc: Global, going: Going<'_>, from: Label) -> Result<Trail, AllocError>
         ensures trail { IfOk result (λ t. IsTrail going.entry from t.known.keys t.arrivals.items) }
         ensures level { IfOk result (λ t. IsLevel t.arrivals.items 0) }
+        ensures one { IfOk result (λ t. length t.arrivals.items ≡ 1) }
     {
         let mut known = IndexSet::new(alloc);
         known.insert(code_of(from))?;
@@ -64,7 +65,7 @@ impl Trail {
         requires asked { IsAskable request.now }
         ensures trail { OnOk result (IsTrail going.entry from self.new.known.keys self.new.arrivals.items) }
         ensures level { OnOk result (IsLevel self.new.arrivals.items number) }
-        ensures extends { OnOk result (Extends self.old.arrivals.items self.new.arrivals.items) }
+        ensures extends { OnOk result (Extends number self.old.arrivals.items self.new.arrivals.items) }
         ensures reached { OnOk result (IsWithin self.new.arrivals.items (label_in going.entry (arrival_at self.old.arrivals.items number).label request.now) ((arrival_at self.old.arrivals.items number).length + 1)) }
     {
         let before = &self.arrivals[number];

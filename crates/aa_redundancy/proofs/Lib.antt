@@ -1,5 +1,6 @@
 mod Numbered
 mod Masked
+mod PlainMarks
 mod Tabled
 mod Bits
 mod Replies
@@ -7,3 +8,5 @@ mod Asking
 mod Gone
 mod Marking
 mod Positions
+mod Placing
+mod Sparing

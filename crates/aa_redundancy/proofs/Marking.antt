@@ -6,10 +6,10 @@ use Rattle.std.proofs.lemmas.Bool.Decides.{eqb_tells}
 use Rattle.std.proofs.lemmas.List.{length-set, length-replicate, get_or-set_same, get_or-set_other, get_or-replicate, get_or_past, get_or_push}
 use Rattle.std.proofs.Math.ListN.{get_or-append}
 use Rattle.aa_redundancy.specs.declared.tables.Table.{Table}
-use Rattle.aa_redundancy.specs.Tables.{none_gone, SameTable}
-use Rattle.aa_redundancy.proofs.Gone.{table_same}
+use Rattle.aa_redundancy.specs.Tables.{none_gone, SameTables}
+use Rattle.aa_redundancy.proofs.Gone.{tables_same}
 use Rattle.aa_redundancy.specs.Without.{only, marked, with_later}
-use Rattle.aa_redundancy.specs.Going.{MarksThose, NoneMarked, AreLater, Settles}
+use Rattle.aa_redundancy.specs.Going.{MarksThose, NoneMarked, AreLater, GoesWith, Settles}
 
 -- of no list is anything marked
 pub none_of : (n : ℕ) → NoneMarked (replicate n false)
@@ -63,25 +63,38 @@ with_same flags others i behind n = ap (λ (b : Bool). n == i || b) (at (nat_lt 
     at false e = ap (λ (b : Bool). b && marked flags n) e ∙ sym (ap (λ (b : Bool). b && marked others n) e)
 
 -- from a number on each is marked as it should be, and none before
-pub record AreSettled (Same : (ℕ → Bool) → Type 0) (count from : ℕ) (flags : List Bool) : Type 0 where
+pub record AreSettled (Same : (ℕ → Bool) → Type 0) (wanted : List Bool) (count from : ℕ) (flags : List Bool) : Type 0 where
   pub below : (n : ℕ) → n < from → marked flags n ≡ false
-  pub each : (i : ℕ) → from ≤ i → i < count → (marked flags i ≡ true → Same (with_later flags i)) × (marked flags i ≡ false → Same (with_later flags i) → ⊥)
+  pub each : (i : ℕ) → from ≤ i → i < count → (marked flags i ≡ true → GoesWith Same wanted flags i) × (marked flags i ≡ false → GoesWith Same wanted flags i → ⊥)
   pub all : Same (marked flags)
 
-module _ (Same : (ℕ → Bool) → Type 0) (ext : (g h : ℕ → Bool) → ((n : ℕ) → g n ≡ h n) → Same g → Same h) where
+module _ (Same : (ℕ → Bool) → Type 0) (ext : (g h : ℕ → Bool) → ((n : ℕ) → g n ≡ h n) → Same g → Same h) (wanted : List Bool) where
+  -- a number isn't wanted
+  pub left_mark : (was : List Bool) (i : ℕ) → AreLater was i → Same (marked was) → marked wanted i ≡ false → Settles Same wanted i was was
+  left_mark was i later same isnt = record {
+    many = refl;
+    others = λ n ne. refl;
+    goes = λ e. absurd (true≢false (sym e ∙ later i (omega arith)));
+    stays = λ e s. true≢false (sym s.0 ∙ isnt);
+    all = same;
+  }
+
   -- a number is marked, and nothing changes; or it would, and the mark is taken away
-  pub kept_mark : (was : List Bool) (i : ℕ) → i < length was → AreLater was i → Same (marked (set was i true)) → Settles Same i was (set was i true)
-  kept_mark was i lt later same =
+  pub kept_mark : (was : List Bool) (i : ℕ) → i < length was → AreLater was i → marked wanted i ≡ true → Same (marked (set was i true)) → Settles Same wanted i was (set was i true)
+  kept_mark was i lt later is same =
       let here = get_or-set_same was i true false lt in record {
         many = length-set was i true;
         others = λ n ne. get_or-set_other was i n true false ne;
-        goes = λ e. ext (marked (set was i true)) (with_later (set was i true) i)
-            (later_are (set was i true) (set was i true) i here (λ n less. get_or-set_other was i n true false (λ e. omega (arith, e, less)) ∙ later n (omega (arith, less))) (λ n more. refl)) same;
+        goes = λ e. (
+          is,
+          ext (marked (set was i true)) (with_later (set was i true) i)
+              (later_are (set was i true) (set was i true) i here (λ n less. get_or-set_other was i n true false (λ e. omega (arith, e, less)) ∙ later n (omega (arith, less))) (λ n more. refl)) same,
+        );
         stays = λ e s. true≢false (sym here ∙ e);
         all = same;
       }
 
-  pub taken_mark : (was : List Bool) (i : ℕ) → i < length was → AreLater was i → Same (marked was) → (Same (marked (set was i true)) → ⊥) → Settles Same i was (set (set was i true) i false)
+  pub taken_mark : (was : List Bool) (i : ℕ) → i < length was → AreLater was i → Same (marked was) → (Same (marked (set was i true)) → ⊥) → Settles Same wanted i was (set (set was i true) i false)
   taken_mark was i lt later same changes =
       let one = set was i true in
       let now = set one i false in
@@ -94,7 +107,7 @@ module _ (Same : (ℕ → Bool) → Type 0) (ext : (g h : ℕ → Bool) → ((n 
         stays = λ e s. changes (ext (with_later now i) (marked one)
             (λ n. sym (later_are one now i (get_or-set_same was i true false lt)
             (λ n less. get_or-set_other was i n true false (λ e. omega (arith, e, less)) ∙ later n (omega (arith, less)))
-            (λ n more. get_or-set_other was i n true false (λ e. omega (arith, e, more)) ∙ sym (other n (λ e. omega (arith, e, more)))) n)) s);
+            (λ n more. get_or-set_other was i n true false (λ e. omega (arith, e, more)) ∙ sym (other n (λ e. omega (arith, e, more)))) n)) s.1);
         all = ext (marked was) (marked now)
             (λ n. ⊎_elim
             (λ (y : ((n == i) ≡ true) × (n ≡ i)). subst (λ (k : ℕ). marked was k ≡ marked now k) (sym y.1) (later i (omega arith) ∙ sym here))
@@ -102,31 +115,31 @@ module _ (Same : (ℕ → Bool) → Type 0) (ext : (g h : ℕ → Bool) → ((n 
       }
 
   -- one more is settled
-  pub settled_more : (count from i : ℕ) (was now : List Bool) → from ≡ i + 1 → AreSettled Same count from was → Settles Same i was now → AreSettled Same count i now
+  pub settled_more : (count from i : ℕ) (was now : List Bool) → from ≡ i + 1 → AreSettled Same wanted count from was → Settles Same wanted i was now → AreSettled Same wanted count i now
   settled_more count from i was now e old new = record {
     below = λ n lt. new.others n (λ f. omega (arith, f, lt)) ∙ old.below n (omega (arith, e, lt));
     each = λ j le lt.
         ⊎_elim
         (λ (y : ((j == i) ≡ true) × (j ≡ i)).
-        subst (λ (k : ℕ). (marked now k ≡ true → Same (with_later now k)) × (marked now k ≡ false → Same (with_later now k) → ⊥)) (sym y.1) (new.goes, new.stays))
+        subst (λ (k : ℕ). (marked now k ≡ true → GoesWith Same wanted now k) × (marked now k ≡ false → GoesWith Same wanted now k → ⊥)) (sym y.1) (new.goes, new.stays))
         (λ (z : ((j == i) ≡ false) × (j ≢ i)).
         let h = old.each j (let ne = z.1 in omega (arith, e, le, ne)) lt in
         let there = new.others j z.1 in
         let same : (n : ℕ) → j < n → marked was n ≡ marked now n = λ n more. sym (new.others n (λ f. omega (arith, f, le, more))) in (
-          λ t. ext (with_later was j) (with_later now j) (with_same was now j same) (h.0 (sym there ∙ t)),
-          λ t s. h.1 (sym there ∙ t) (ext (with_later now j) (with_later was j) (with_same now was j (λ n more. sym (same n more))) s),
+          λ t. let g = h.0 (sym there ∙ t) in (g.0, ext (with_later was j) (with_later now j) (with_same was now j same) g.1),
+          λ t s. h.1 (sym there ∙ t) (s.0, ext (with_later now j) (with_later was j) (with_same now was j (λ n more. sym (same n more))) s.1),
         ))
         (eqb_tells j i);
     all = new.all;
   }
 
 -- before any is settled
-pub none_settled : (t : Table) (count : ℕ) (flags : List Bool) → flags ≡ replicate count false → AreSettled (SameTable t) count (count - 0) flags
-none_settled t count flags e =
+pub none_settled : (ts : List Table) (wanted : List Bool) (count : ℕ) (flags : List Bool) → flags ≡ replicate count false → AreSettled (SameTables ts) wanted count (count - 0) flags
+none_settled ts wanted count flags e =
     let none : NoneMarked flags = λ n. ap (λ (fs : List Bool). marked fs n) e ∙ none_of count n in record {
       below = λ n lt. none n;
       each = λ i le lt. absurd (omega (arith, le, lt));
-      all = table_same t none_gone (marked flags) (λ n. sym (none n)) (λ row c owned. refl);
+      all = tables_same ts none_gone (marked flags) (λ n. sym (none n)) (λ t there row c owned. refl);
     }
 
 -- one more is marked alone, or isn't

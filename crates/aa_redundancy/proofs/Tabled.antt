@@ -1,32 +1,47 @@
 -- Tables decide whether rules can go.
-use Rattle.std.proofs.Common.{◌≡◌, ℕ, List, [], ◌∷◌, map, Bool, true, false, Option, Some, None, option_map, refl, sym, ap, ◌∙◌, subst, Contains, ⊎_elim}
+use Rattle.std.proofs.Common.{◌≡◌, ℕ, suc, ◌<◌, ◌+◌, ◌*◌, ◌/◌, ◌%◌, List, [], ◌∷◌, map, length, Bool, true, false, cond, Option, Some, None, option_map, refl, sym, ap, ◌∙◌, subst, Contains, arith, ⊎_elim}
+use Rattle.std.proofs.lemmas.List.Elements.{Contains-append_left, Contains-append_right, Contains-append_cases}
+use Rattle.aa_pattern.specs.declared.pattern.Pattern.{Pattern}
 use Rattle.aa_model.specs.declared.rule.Exec.{Exec}
 use Rattle.aa_model.specs.declared.rule.FileRule.{FileRule}
+use Rattle.aa_model.specs.declared.rule.CapRule.{CapRule}
+use Rattle.aa_model.specs.declared.rule.NetRule.{NetRule}
+use Rattle.aa_model.specs.declared.rule.ChangeRule.{ChangeRule}
+use Rattle.aa_base.specs.Tables.{capability_names, family_names, sock_type_names}
 use Rattle.aa_model.specs.Lawful.{has_exec}
 use Rattle.aa_auto.specs.Tables.{ListsMatching}
 use Rattle.aa_regions.specs.declared.regions.Region.{Region}
-use Rattle.aa_regions.specs.Regions.{ArePathRegions}
+use Rattle.aa_regions.specs.Regions.{ArePathRegions, AreRegions}
 use Rattle.aa_compile.specs.declared.side.Chosen.{Chosen}
+use Rattle.aa_compile.specs.declared.sets.RuleSets.{RuleSets}
 use Rattle.aa_compile.specs.Gathered.{picked}
+use Rattle.aa_compile.specs.Sides.{no_choice}
 use Rattle.aa_compile.specs.FileRules.{file_verdict, chosen, way_of}
+use Rattle.aa_compile.specs.Holding.{cap_holds, net_holds, change_holds}
 use Rattle.aa_compile.specs.Rows.{patterns_of}
 use Rattle.aa_compile.specs.Ways.{way_by}
 use Rattle.aa_compile.proofs.ConflictLemmas.{in_head, in_tail, in_cases, not_in}
 use Rattle.aa_compile.proofs.Transitions.{Says, chosen_says}
 use Rattle.aa_compile.proofs.WayLemmas.{tells_apart}
+use Rattle.aa_mediate.specs.Held.{cap_verdict, net_verdict, change_verdict}
+use Rattle.aa_representatives.specs.Alike.{patterns_in, change_patterns}
+use Rattle.aa_representatives.proofs.Standing.{same_list}
+use Rattle.aa_representatives.proofs.Matched.{change_alike}
 use Rattle.aa_redundancy.specs.declared.rights.Rights.{Rights}
 use Rattle.aa_redundancy.specs.declared.marks.RuleMark.{RuleMark}
 use Rattle.aa_redundancy.specs.declared.saying.Saying.{Saying}
 use Rattle.aa_redundancy.specs.declared.tables.Table.{Table}
-use Rattle.aa_redundancy.specs.Without.{without, only, marked, with_later}
+use Rattle.aa_redundancy.specs.Without.{without_from, without, only, marked, with_later}
 use Rattle.aa_redundancy.specs.Rights.{Lead, rights, lead_by, lead}
 use Rattle.aa_redundancy.specs.Marks.{marks_from, said_by}
-use Rattle.aa_redundancy.specs.Sameness.{SameFiles}
-use Rattle.aa_redundancy.specs.Tables.{none_gone, SameTable, Decides}
+use Rattle.aa_redundancy.specs.Plain.{cap_marks, net_marks, change_marks, cap_row, net_row, change_row, HasRows}
+use Rattle.aa_redundancy.specs.Sameness.{SameFiles, SameCaps, SameNets, SameChanges}
+use Rattle.aa_redundancy.specs.Tables.{none_gone, SameTables, Decides, AllDecide}
 use Rattle.aa_redundancy.specs.declared.going.Going.{Going}
 use Rattle.aa_redundancy.specs.Going.{AreGoing}
 use Rattle.aa_redundancy.proofs.Numbered.{without_none, left_in}
 use Rattle.aa_redundancy.proofs.Masked.{saying_left, said_is as files_said}
+use Rattle.aa_redundancy.proofs.PlainMarks.{said_is as plain_said}
 
 -- something of each element of a list is in the list of them
 pub in_map : {X Y : Type 0} (f : X → Y) (xs : List X) (x : X) → Contains xs x → Contains (map f xs) (f x)
@@ -119,12 +134,122 @@ module _ (rules : List FileRule) where
           at_row gone r.0.witness owned row lists ∙ to_saying gone r.0.witness owned (same r.0.witness owned is.asked) ∙ sym (at_row none_gone r.0.witness owned row lists);
     }
 
--- what can go by a table can go
-pub going_by : (t : Table) (Same : (ℕ → Bool) → Type 0) (count : ℕ) (g : Going) → Decides t Same → AreGoing (SameTable t) count g → AreGoing Same count g
-going_by t Same count g decides are = record {
+-- how many entries the tables have
+many_caps : length capability_names ≡ 41
+unfolding capability_names
+many_caps = refl
+
+many_families : length family_names ≡ 44
+unfolding family_names
+many_families = refl
+
+many_types : length sock_type_names ≡ 6
+unfolding sock_type_names
+many_types = refl
+
+-- rules that aren't about files
+abbrev plain_saying : RuleSets → Saying
+plain_saying v = record { rights = rights v; chosen = no_choice }
+
+module _ (rules : List CapRule) (t : Table) (marks : t.marks.items ≡ cap_marks 0 rules) (rows : HasRows (cap_row rules) 41 t.rows.items) where
+  cap_at : (g : ℕ → Bool) (owned : Bool) (c : ℕ) → said_by g owned (picked t.marks.items (cap_row rules c)) ≡ plain_saying (cap_verdict (without g rules) c)
+  cap_at g owned c =
+      ap (λ (ms : List RuleMark). said_by g owned (picked ms (cap_row rules c))) marks
+      ∙ plain_said (λ (r : CapRule). r.audit) (λ (r : CapRule). r.deny) (cap_holds c) rules g owned
+
+  caps_left : without none_gone rules ≡ rules
+  caps_left = without_none none_gone (λ n. refl) 0 rules
+
+  pub caps_decide : Decides t (λ gone. SameCaps rules (without gone rules))
+  caps_decide = record {
+    same = λ gone same c lt.
+        ap (λ (rs : List CapRule). rights (cap_verdict rs c)) (sym caps_left)
+        ∙ ap (λ (s : Saying). s.rights) (sym (cap_at none_gone true c) ∙ sym (same (cap_row rules c) (rows.all c (omega (arith, lt, many_caps))) true) ∙ cap_at gone true c);
+    told = λ gone same row c owned.
+        let k = rows.each row c in
+        let e = cap_at gone owned k.0 ∙ ap (λ (r : Rights). let s : Saying = record { rights = r; chosen = no_choice } in s) (sym (same k.0 (omega (arith, k.1, many_caps)))) ∙ ap (λ (rs : List CapRule). plain_saying (cap_verdict rs k.0)) (sym caps_left) ∙ sym (cap_at none_gone owned k.0) in
+        subst (λ (l : List ℕ). said_by gone owned (picked t.marks.items l) ≡ said_by none_gone owned (picked t.marks.items l)) (sym k.2) e;
+  }
+
+module _ (rules : List NetRule) (t : Table) (marks : t.marks.items ≡ net_marks 0 rules) (rows : HasRows (λ n. net_row rules (n / 6) (n % 6)) 264 t.rows.items) where
+  net_at : (g : ℕ → Bool) (owned : Bool) (f s : ℕ) → said_by g owned (picked t.marks.items (net_row rules f s)) ≡ plain_saying (net_verdict (without g rules) f s)
+  net_at g owned f s =
+      ap (λ (ms : List RuleMark). said_by g owned (picked ms (net_row rules f s))) marks
+      ∙ plain_said (λ (r : NetRule). r.audit) (λ (r : NetRule). r.deny) (net_holds f s) rules g owned
+
+  nets_left : without none_gone rules ≡ rules
+  nets_left = without_none none_gone (λ n. refl) 0 rules
+
+  row_there : (f s : ℕ) → f < 44 → s < 6 → Contains t.rows.items (net_row rules f s)
+  row_there f s p q =
+      let n = f * 6 + s in
+      let a : n / 6 ≡ f = omega arith in
+      let b : n % 6 ≡ s = omega arith in
+      subst (λ (i : ℕ). Contains t.rows.items (net_row rules i s)) a (subst (λ (j : ℕ). Contains t.rows.items (net_row rules (n / 6) j)) b (rows.all n (omega arith)))
+
+  pub nets_decide : Decides t (λ gone. SameNets rules (without gone rules))
+  nets_decide = record {
+    same = λ gone same f s lt less.
+        ap (λ (rs : List NetRule). rights (net_verdict rs f s)) (sym nets_left)
+        ∙ ap (λ (x : Saying). x.rights) (sym (net_at none_gone true f s) ∙ sym (same (net_row rules f s) (row_there f s (omega (arith, lt, many_families)) (omega (arith, less, many_types))) true) ∙ net_at gone true f s);
+    told = λ gone same row c owned.
+        let k = rows.each row c in
+        let f = k.0 / 6 in
+        let s = k.0 % 6 in
+        let e = net_at gone owned f s ∙ ap (λ (r : Rights). let x : Saying = record { rights = r; chosen = no_choice } in x) (sym (same f s (omega (arith, k.1, many_families)) (omega (arith, many_types)))) ∙ ap (λ (rs : List NetRule). plain_saying (net_verdict rs f s)) (sym nets_left) ∙ sym (net_at none_gone owned f s) in
+        subst (λ (l : List ℕ). said_by gone owned (picked t.marks.items l) ≡ said_by none_gone owned (picked t.marks.items l)) (sym k.2) e;
+  }
+
+-- the patterns of what is left were there
+left_patterns : (gone : ℕ → Bool) (k : ℕ) (rules : List ChangeRule) (p : Pattern) → Contains (change_patterns (without_from gone k rules)) p → Contains (change_patterns rules) p
+left_patterns gone k [] p c = c
+left_patterns gone k (r ∷ rs) p c = at (gone k) (left_patterns gone (suc k) rs p) c
+  where
+    at : (g : Bool) → (Contains (change_patterns (without_from gone (suc k) rs)) p → Contains (change_patterns rs) p) → Contains (change_patterns (cond g (without_from gone (suc k) rs) (r ∷ without_from gone (suc k) rs))) p → Contains (change_patterns (r ∷ rs)) p
+    at true so d = Contains-append_right (patterns_in r.pattern) (change_patterns rs) p (so d)
+    at false so d =
+        ⊎_elim (λ (h : Contains (patterns_in r.pattern) p). Contains-append_left (patterns_in r.pattern) (change_patterns rs) p h)
+        (λ (h : Contains (change_patterns (without_from gone (suc k) rs)) p). Contains-append_right (patterns_in r.pattern) (change_patterns rs) p (so h))
+        (Contains-append_cases (patterns_in r.pattern) (change_patterns (without_from gone (suc k) rs)) p d)
+
+module _ (rules : List ChangeRule) (t : Table) (regions : List Region) (are : AreRegions (change_patterns rules) [] 1 1024 regions)
+    (marks : t.marks.items ≡ change_marks 0 rules) (rows : t.rows.items ≡ map (λ (r : Region). change_row rules r.witness) regions) where
+  change_at : (g : ℕ → Bool) (owned : Bool) (name : List ℕ) → said_by g owned (picked t.marks.items (change_row rules name)) ≡ plain_saying (change_verdict (without g rules) name)
+  change_at g owned name =
+      ap (λ (ms : List RuleMark). said_by g owned (picked ms (change_row rules name))) marks
+      ∙ plain_said (λ (r : ChangeRule). r.audit) (λ (r : ChangeRule). r.deny) (change_holds name) rules g owned
+
+  changes_left : without none_gone rules ≡ rules
+  changes_left = without_none none_gone (λ n. refl) 0 rules
+
+  pub changes_decide : Decides t (λ gone. SameChanges rules (without gone rules))
+  changes_decide = record {
+    same = λ gone same name wanted.
+        let r = are.all name wanted in
+        let w = r.0.witness in
+        let alike = same_list (change_patterns rules) name w r.0.numbers r.2 (are.each r.0 r.1).lists in
+        let here : Contains t.rows.items (change_row rules w) = subst (λ (l : List (List ℕ)). Contains l (change_row rules w)) (sym rows) (in_map (λ (x : Region). change_row rules x.witness) regions r.0 r.1) in
+        ap rights (change_alike name w rules alike)
+        ∙ ap (λ (rs : List ChangeRule). rights (change_verdict rs w)) (sym changes_left)
+        ∙ ap (λ (s : Saying). s.rights) (sym (change_at none_gone true w) ∙ sym (same (change_row rules w) here true) ∙ change_at gone true w)
+        ∙ ap rights (sym (change_alike name w (without gone rules) (λ p c. alike p (left_patterns gone 0 rules p c))));
+    told = λ gone same row c owned.
+        let r = map_in (λ (x : Region). change_row rules x.witness) regions row (subst (λ (l : List (List ℕ)). Contains l row) rows c) in
+        let w = r.0.witness in
+        let e = change_at gone owned w ∙ ap (λ (x : Rights). let s : Saying = record { rights = x; chosen = no_choice } in s) (sym (same w (are.each r.0 r.1).wanted)) ∙ ap (λ (rs : List ChangeRule). plain_saying (change_verdict rs w)) (sym changes_left) ∙ sym (change_at none_gone owned w) in
+        subst (λ (l : List ℕ). said_by gone owned (picked t.marks.items l) ≡ said_by none_gone owned (picked t.marks.items l)) r.2 e;
+  }
+
+-- what can go by tables can go
+pub going_by : (ts : List Table) (Same : (ℕ → Bool) → Type 0) (count : ℕ) (g : Going) → AllDecide ts Same → AreGoing (SameTables ts) count g → AreGoing Same count g
+going_by ts Same count g decide are = record {
   many_alone = are.many_alone;
   many_together = are.many_together;
-  alone = λ i lt. let h = are.alone i lt in (λ e. decides.same (only i) (h.0 e), λ e s. h.1 e (decides.told (only i) s));
-  together = λ i lt. let h = are.together i lt in (λ e. decides.same (with_later g.together.items i) (h.0 e), λ e s. h.1 e (decides.told (with_later g.together.items i) s));
-  all = decides.same (marked g.together.items) are.all;
+  alone = λ i lt. let h = are.alone i lt in (λ e. decide.same (only i) (h.0 e), λ e s. h.1 e (decide.told (only i) s));
+  together = λ i lt.
+      let h = are.together i lt in (
+        λ e. let x = h.0 e in (x.0, decide.same (with_later g.together.items i) x.1),
+        λ e s. h.1 e (s.0, decide.told (with_later g.together.items i) s.1),
+      );
+  all = decide.same (marked g.together.items) are.all;
 }

@@ -1,13 +1,18 @@
 -- Why rules can't be looked through.
 -- Source: own.
-use Rattle.std.specs.Prelude.{◌<◌, ◌+◌, ℕ, List, length}
+use Rattle.std.specs.Prelude.{◌≡◌, ◌<◌, ◌+◌, ◌⊎◌, ℕ, List, length, Some, slice_get}
 use Rattle.aa_pattern.specs.Limits.{most_patterns}
 use Rattle.aa_pattern.specs.declared.pattern.Pattern.{Pattern}
 use Rattle.aa_auto.specs.Tables.{HasPlaces}
+use Rattle.aa_model.specs.declared.policy.Profile.{Profile}
+use Rattle.aa_compile.specs.Rows.{patterns_of}
+use Rattle.aa_representatives.specs.Alike.{change_patterns}
 use Rattle.aa_auto.specs.declared.build.BuildFault.{BuildFault}
 use Rattle.aa_auto.specs.declared.build.BuildFault.TheVariants.{NoMemory, TooManyStates}
 use Rattle.aa_redundancy.specs.declared.fault.RedundancyFault.{RedundancyFault}
 use Rattle.aa_redundancy.specs.declared.fault.RedundancyFault.TheVariants.{NoMemory as NoneLeft, TooManyPatterns as ManyPatterns, TooManyStates as ManyStates}
+use Rattle.aa_redundancy.specs.declared.fault.PolicyRedundancyFault.{PolicyRedundancyFault}
+use Rattle.aa_redundancy.specs.declared.fault.PolicyRedundancyFault.TheVariants.{NoMemory as NoneAtAll, OfProfile}
 
 -- by why the patterns have no automaton
 abbrev pub fault_of : BuildFault → RedundancyFault
@@ -19,3 +24,12 @@ abbrev pub IsFaultOf : List Pattern → ℕ → RedundancyFault → Type 0
 IsFaultOf patterns limit NoneLeft = Unit {0}
 IsFaultOf patterns limit ManyPatterns = most_patterns < length patterns
 IsFaultOf patterns limit ManyStates = HasPlaces patterns (limit + 1)
+
+-- the rules of a profile on files, or those on changes of the profile
+abbrev pub IsFaultIn : Profile → ℕ → RedundancyFault → Type 0
+IsFaultIn p limit e = IsFaultOf (patterns_of p.files) limit e ⊎ IsFaultOf (change_patterns p.changes) limit e
+
+-- so of one of the profiles, unless memory ran out
+abbrev pub IsRefusal : List Profile → ℕ → PolicyRedundancyFault → Type 0
+IsRefusal ps limit NoneAtAll = Unit {0}
+IsRefusal ps limit (OfProfile k e) = (p : Profile) × (slice_get ps k ≡ Some p) × IsFaultIn p limit e

@@ -1,4 +1,4 @@
--- Rules that can go, each by itself, and together.
+-- Places whose rules can go, each by itself, and together.
 -- Source: own.
 use Rattle.std.specs.Prelude.{◌≡◌, ◌≢◌, ℕ, ◌<◌, ◌≤◌, List, Bool, true, false, length}
 use Rattle.aa_redundancy.specs.declared.going.Going.{Going}
@@ -16,19 +16,23 @@ NoneMarked flags = (n : ℕ) → marked flags n ≡ false
 abbrev pub AreLater : List Bool → ℕ → Type 0
 AreLater flags i = (n : ℕ) → n ≤ i → marked flags n ≡ false
 
--- number i alone is marked anew, or isn't: exactly where nothing changes when it goes with those behind it
-pub record Settles (Same : (ℕ → Bool) → Type 0) (i : ℕ) (was now : List Bool) : Type 0 where
+-- a number goes: it is wanted, and nothing changes when it goes with those behind it that are marked
+abbrev pub GoesWith : ((ℕ → Bool) → Type 0) → List Bool → List Bool → ℕ → Type 0
+GoesWith Same wanted flags i = (marked wanted i ≡ true) × Same (with_later flags i)
+
+-- number i alone is marked anew, or isn't: exactly where it goes with those behind it
+pub record Settles (Same : (ℕ → Bool) → Type 0) (wanted : List Bool) (i : ℕ) (was now : List Bool) : Type 0 where
   pub many : length now ≡ length was
   pub others : (n : ℕ) → n ≢ i → marked now n ≡ marked was n
-  pub goes : marked now i ≡ true → Same (with_later now i)
-  pub stays : marked now i ≡ false → Same (with_later now i) → ⊥
+  pub goes : marked now i ≡ true → GoesWith Same wanted now i
+  pub stays : marked now i ≡ false → GoesWith Same wanted now i → ⊥
   pub all : Same (marked now)
 
--- a rule is marked alone exactly where nothing changes when it goes by itself; together, exactly where nothing changes when it goes with
--- those behind it that are marked so; and nothing changes when all of these go
+-- a place is marked alone exactly where nothing changes when it goes by itself; together, exactly where it is marked alone and nothing changes
+-- when it goes with those behind it that are marked together; and nothing changes when all of these go
 pub record AreGoing (Same : (ℕ → Bool) → Type 0) (count : ℕ) (g : Going) : Type 0 where
   pub many_alone : length g.alone.items ≡ count
   pub many_together : length g.together.items ≡ count
   pub alone : MarksThose g.alone.items count (λ i. Same (only i))
-  pub together : MarksThose g.together.items count (λ i. Same (with_later g.together.items i))
+  pub together : MarksThose g.together.items count (GoesWith Same g.alone.items g.together.items)
   pub all : Same (marked g.together.items)

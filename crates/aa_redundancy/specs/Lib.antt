@@ -9,4 +9,7 @@ pub mod Sameness
 pub mod Faults
 pub mod Marks
 pub mod Tables
+pub mod Plain
 pub mod Going
+pub mod Places
+pub mod Spared

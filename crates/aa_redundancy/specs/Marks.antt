@@ -1,6 +1,6 @@
 -- What rules say, beside the patterns by which they say it.
 -- Source: own.
-use Rattle.std.specs.Prelude.{ℕ, suc, List, [], ◌∷◌, ◌++◌, map, Bool, true, false, not, ◌&&◌, ◌||◌, if◌then◌else◌, Option, is_some, option_map}
+use Rattle.std.specs.Prelude.{ℕ, suc, List, [], ◌∷◌, ◌++◌, map, Bool, true, false, not, ◌&&◌, ◌||◌, if◌then◌else◌, Option, None, is_some, option_map}
 use Rattle.aa_pattern.specs.declared.pattern.Pattern.{Pattern}
 use Rattle.aa_model.specs.declared.rule.Exec.{Exec}
 use Rattle.aa_model.specs.declared.rule.FileRule.{FileRule}
@@ -10,7 +10,7 @@ use Rattle.aa_compile.specs.declared.side.Chosen.{Chosen}
 use Rattle.aa_compile.specs.declared.sets.RuleSets.{RuleSets}
 use Rattle.aa_compile.specs.Gathered.{gather}
 use Rattle.aa_compile.specs.Marks.{mark_by}
-use Rattle.aa_compile.specs.Said.{both, nothing}
+use Rattle.aa_compile.specs.Said.{perms_of, both, nothing}
 use Rattle.aa_compile.specs.Sides.{no_choice, earlier, mark_says}
 use Rattle.aa_redundancy.specs.declared.marks.RuleMark.{RuleMark}
 use Rattle.aa_redundancy.specs.declared.saying.Saying.{Saying}
@@ -28,6 +28,10 @@ rule_mark number k r p = mark_with k r (option_map number r.exec) p
 abbrev pub marks_from : (Exec → Way) → ℕ → List FileRule → List RuleMark
 marks_from number k [] = []
 marks_from number k (r ∷ rs) = map (rule_mark number k r) r.patterns ++ marks_from number (suc k) rs
+
+-- the mark of rule k, which isn't about files
+abbrev pub plain_mark : ℕ → Bool → Bool → RuleMark
+plain_mark k audit deny = record { rule = k; mark = record { audit = audit; deny = deny; owner = false; perms = perms_of 1; way = None; literal = false } }
 
 -- what a mark says of the owner or of others, where its rule isn't gone
 abbrev pub sets_of : (ℕ → Bool) → Bool → RuleMark → RuleSets

@@ -26,3 +26,12 @@ SameTable t gone = SameRows t.marks.items gone t.rows.items
 pub record Decides (t : Table) (Same : (ℕ → Bool) → Type 0) : Type 0 where
   pub same : (gone : ℕ → Bool) → SameTable t gone → Same gone
   pub told : (gone : ℕ → Bool) → Same gone → SameTable t gone
+
+-- so in each table
+abbrev pub SameTables : List Table → (ℕ → Bool) → Type 0
+SameTables ts gone = (t : Table) → Contains ts t → SameTable t gone
+
+-- tables are the same without rules exactly where something else is
+pub record AllDecide (ts : List Table) (Same : (ℕ → Bool) → Type 0) : Type 0 where
+  pub same : (gone : ℕ → Bool) → SameTables ts gone → Same gone
+  pub told : (gone : ℕ → Bool) → Same gone → SameTables ts gone

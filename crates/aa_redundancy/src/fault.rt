@@ -48,3 +48,22 @@ impl From<BuildFault> for RedundancyFault {
         }
     }
 }
+
+/// Why the redundant rules of a policy can't be told.
+#[derive(Clone, Copy)]
+pub enum PolicyRedundancyFault {
+    NoMemory,
+    /// Why those of the profile of that number can't be.
+    OfProfile(usize, RedundancyFault),
+}
+
+impl From<AllocError> for PolicyRedundancyFault {
+    ghost use Rattle.std.specs.Prelude.{◌≡◌};
+    ghost use Rattle.aa_redundancy.specs.declared.fault.PolicyRedundancyFault.TheVariants.{NoMemory};
+
+    ghost from_gives = { λ _ e. e ≡ NoMemory };
+
+    fn from(_: AllocError) -> Self {
+        PolicyRedundancyFault::NoMemory
+    }
+}

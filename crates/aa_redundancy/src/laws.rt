@@ -1,9 +1,16 @@
 //! What policies answer whose rules say the same.
 
 ghost use Rattle.aa_redundancy.specs.Sameness.{SayingSameAnswersSame};
+ghost use Rattle.aa_redundancy.specs.Spared.{SparedAnswersSame};
 
 /// Where the profiles of two policies say the same of whatever can be asked, both policies answer every list of requests the same,
 /// one after another, at every label. It does nothing: its contract is a law of the definitions.
 pub fn same_sayings_reply_alike()
     ensures { SayingSameAnswersSame }
+{}
+
+/// A policy without the rules of a place that can go, or without those of all places that can go together, answers every list of
+/// requests as the policy does, at every label. It does nothing: its contract is a law of the definitions.
+pub fn spared_rules_change_no_reply()
+    ensures { SparedAnswersSame }
 {}

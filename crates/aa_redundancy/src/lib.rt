@@ -1,18 +1,22 @@
-//! Rules on files without which every reply is as it is.
+//! Rules without which every reply is as it is, by the places where they stand.
 #![tactic(auto)]
 
+mod entries;
 mod fault;
 mod files;
 mod going;
 mod laws;
 mod marks;
+mod names;
+mod places;
 mod redundant;
 mod rights;
 mod rows;
 mod saying;
 mod tables;
 
-pub use fault::RedundancyFault;
+pub use fault::{PolicyRedundancyFault, RedundancyFault};
 pub use going::Going;
-pub use laws::same_sayings_reply_alike;
-pub use redundant::redundant_files;
+pub use laws::{same_sayings_reply_alike, spared_rules_change_no_reply};
+pub use places::PlaceNumbers;
+pub use redundant::redundant_places;

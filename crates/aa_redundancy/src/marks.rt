@@ -4,9 +4,9 @@ ghost use Rattle.std.specs.Prelude.{◌≡◌, ◌++◌, map, OnOk, IfOk, option
 ghost use Rattle.std.specs.Option.{option_and_then};
 ghost use Rattle.aa_compile.specs.Ways.{names, way_by};
 ghost use Rattle.aa_compile.specs.Marks.{mark_by};
-ghost use Rattle.aa_redundancy.specs.Marks.{mark_with, rule_mark, marks_from};
+ghost use Rattle.aa_redundancy.specs.Marks.{mark_with, rule_mark, marks_from, plain_mark};
 
-use aa_base::Text;
+use aa_base::{Perms, Text};
 use aa_compile::{Mark, Way};
 use aa_model::{Exec, FileRule};
 use aa_pattern::Pattern;
@@ -130,4 +130,21 @@ pub(crate) fn marks_of_files(alloc: Global, rules: &[FileRule]) -> Result<Vec<Ru
         add_rule(&mut marks, rules, number, &rules[number])?;
     }
     Ok(marks)
+}
+
+/// The mark of a rule that isn't about files.
+pub(crate) fn plain_mark(number: usize, audit: bool, deny: bool) -> RuleMark
+    ensures { result ≡ plain_mark number audit deny }
+{
+    RuleMark {
+        rule: number,
+        mark: Mark {
+            audit,
+            deny,
+            owner: false,
+            perms: Perms(1),
+            way: None,
+            literal: false,
+        },
+    }
 }

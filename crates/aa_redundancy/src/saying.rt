@@ -23,7 +23,7 @@ pub struct Saying {
     pub chosen: Chosen,
 }
 
-fn is_gone(gone: &[bool], rule: usize) -> bool
+pub(crate) fn is_gone(gone: &[bool], rule: usize) -> bool
     ensures { result ≡ marked gone.now rule }
 {
     match gone.get(rule) {

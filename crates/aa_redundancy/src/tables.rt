@@ -2,7 +2,7 @@
 
 ghost use Rattle.std.specs.Prelude.{◌≡◌, true, false};
 ghost use Rattle.aa_redundancy.specs.Without.{marked};
-ghost use Rattle.aa_redundancy.specs.Tables.{SameTable};
+ghost use Rattle.aa_redundancy.specs.Tables.{SameTable, SameTables};
 
 use crate::marks::RuleMark;
 use crate::saying::same_rows;
@@ -21,4 +21,18 @@ pub(crate) fn same_table(table: &Table, gone: &[bool]) -> bool
     ensures differs { result ≡ false → SameTable table.now (marked gone.now) → ⊥ }
 {
     same_rows(table.marks.as_slice(), table.rows.as_slice(), gone)
+}
+
+/// Whether those of each table do.
+pub(crate) fn same_tables(tables: &[Table], gone: &[bool]) -> bool
+    ensures same { result ≡ true → SameTables tables.now (marked gone.now) }
+    ensures differs { result ≡ false → SameTables tables.now (marked gone.now) → ⊥ }
+{
+    for number in 0..tables.len() {
+        let same = same_table(&tables[number], gone);
+        if !same {
+            return false;
+        }
+    }
+    true
 }

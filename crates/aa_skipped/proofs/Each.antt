@@ -26,7 +26,7 @@ use Rattle.aa_skipping.specs.Laws.{AnswersStand}
 use Rattle.aa_skipped.specs.Together.{together, has_label, one_decides, EachDecides}
 
 -- some head of a file is such, or it may have others
-abbrev some_head : (Head → Bool) → Unread → Bool
+abbrev pub some_head : (Head → Bool) → Unread → Bool
 some_head h u = u.others || list_any h u.heads
 
 four : (a b c d : Bool) → ((a || b) || (c || d)) ≡ ((a || c) || (b || d))
@@ -35,7 +35,7 @@ four false true true d = refl
 four false true false d = refl
 four false false c d = refl
 
-head_each : (h : Head → Bool) (us : List Unread) → some_head h (together us) ≡ list_any (some_head h) us
+pub head_each : (h : Head → Bool) (us : List Unread) → some_head h (together us) ≡ list_any (some_head h) us
 head_each h [] = refl
 head_each h (u ∷ us) =
     let t : Unread = together us in

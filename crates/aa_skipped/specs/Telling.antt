@@ -1,6 +1,6 @@
 -- What people are told of the files that are skipped.
 -- Source: own.
-use Rattle.std.specs.Prelude.{ℕ, List, ◌++◌, length, flat_map, codes, decimal, if◌then◌else◌}
+use Rattle.std.specs.Prelude.{ℕ, ◌==◌, List, [], ◌++◌, length, flat_map, codes, decimal, if◌then◌else◌}
 use Rattle.aa_base.specs.Values.{value}
 use Rattle.aa_text.specs.Visible.{all_visible}
 use Rattle.aa_text.specs.Faults.{fault_text}
@@ -36,3 +36,7 @@ skipped_text k = fault_text k.fault ++ skipped_line k
 -- what is printed, behind what is told of the files that are skipped
 abbrev pub behind_skipped : List Skipped → Printed → Printed
 behind_skipped skipped own = record { answers = own.answers; faults = flat_map skipped_text skipped ++ own.faults; refusal = own.refusal; status = own.status }
+
+-- how many files are skipped, where some are: so many aren't looked at
+abbrev pub count_text : ℕ → List ℕ
+count_text n = if n == 0 then [] else decimal n ++ codes " files skipped\n"

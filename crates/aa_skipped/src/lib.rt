@@ -5,6 +5,7 @@ mod bodies;
 mod flags;
 mod heads;
 mod laws;
+mod policy;
 mod repeated;
 mod skipped;
 mod sorting;
@@ -12,7 +13,8 @@ mod telling;
 
 pub use heads::unread_of;
 pub use laws::each_file_decides;
+pub use policy::{UsePart, with_read_policy};
 pub use repeated::part_repeated;
 pub use skipped::{Skipped, Sorted};
 pub use sorting::sort_paths;
-pub use telling::behind_skipped;
+pub use telling::{behind_skipped, push_skipped_count};

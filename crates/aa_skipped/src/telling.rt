@@ -3,7 +3,7 @@
 ghost use Rattle.std.specs.Prelude.{◌≡◌, ◌++◌, codes, flat_map, OnOk, IfOk};
 ghost use Rattle.aa_text.specs.Visible.{all_visible};
 ghost use Rattle.aa_command.specs.Printed.{printed};
-ghost use Rattle.aa_skipped.specs.Telling.{listed_head, listed_heads, what_is_known, skipped_words, skipped_line, skipped_text, behind_skipped};
+ghost use Rattle.aa_skipped.specs.Telling.{listed_head, listed_heads, what_is_known, skipped_words, skipped_line, skipped_text, behind_skipped, count_text};
 
 use crate::skipped::Skipped;
 use aa_command::Output;
@@ -103,4 +103,15 @@ pub fn behind_skipped(alloc: Global, skipped: &[Skipped], own: Output) -> Result
         refusal: own.refusal,
         status: own.status,
     })
+}
+
+/// Appends how many files are skipped, where some are.
+pub fn push_skipped_count(out: &mut Vec<u8>, count: usize) -> Result<(), AllocError>
+    ensures { OnOk result (out.new.items ≡ out.old.items ++ count_text count) }
+{
+    if count == 0 {
+        return Ok(());
+    }
+    push_number(out, count)?;
+    push_text(out, " files skipped\n")
 }

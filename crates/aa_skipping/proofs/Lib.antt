@@ -1,4 +1,4 @@
-mod Elements
+pub mod Elements
 mod Strongest
 mod Hits
 mod Numbers

@@ -10,5 +10,5 @@ mod unread;
 pub use laws::skipping_is_sound;
 pub use names::{is_of, name_is_doubtful};
 pub use searches::search_is_open;
-pub use undecided::is_undecided;
+pub use undecided::{is_undecided, way_is_unsure};
 pub use unread::{Head, Unread};

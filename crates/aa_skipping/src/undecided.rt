@@ -3,14 +3,14 @@
 ghost use Rattle.std.specs.Prelude.{◌≡◌, ◌<◌, [], Some, IfOk, length, option_map};
 ghost use Rattle.std.specs.List.{list_any, slice_get};
 ghost use Rattle.aa_compile.specs.Transitions.{child_name, target_of};
-ghost use Rattle.aa_skipping.specs.Undecided.{target_in, is_unsure, undecided_exec, is_doubtful_label, holds_with, lets_change, undecided_in, undecided_free, undecided};
+ghost use Rattle.aa_skipping.specs.Undecided.{target_in, is_unsure, is_unsure_way, undecided_exec, is_doubtful_label, holds_with, lets_change, undecided_in, undecided_free, undecided};
 
 use crate::names::name_is_doubtful;
 use crate::searches::search_is_open;
 use crate::unread::Unread;
 use aa_base::Perms;
 use aa_compile::{Compiled, holds_change};
-use aa_model::{ChangeRule, ExecKind, ExecRequest, FileRule, Label, Profile, Request};
+use aa_model::{ChangeRule, Exec, ExecKind, ExecRequest, FileRule, Label, Profile, Request};
 use bitflags::Flags;
 use std::alloc::{AllocError, Global};
 
@@ -80,6 +80,24 @@ fn is_unsure(
         (ExecKind::Child, Some(name)) => child_is_doubtful(alloc, compiled, unread, profile, name),
         _ => Ok(false),
     }
+}
+
+/// Whether it isn't known where an execution of a path leads by the way that a rule says.
+pub fn way_is_unsure(
+    alloc: Global,
+    compiled: &Compiled,
+    unread: &Unread,
+    profile: &Profile,
+    path: &[u8],
+    exec: &Exec,
+) -> Result<bool, AllocError>
+    ensures { IfOk result (λ b. b ≡ is_unsure_way compiled.now.profiles unread.now profile.now path.now exec.now) }
+{
+    let target = match &exec.target {
+        Some(target) => Some(target.as_slice()),
+        None => None,
+    };
+    is_unsure(alloc, compiled, unread, profile, path, exec.kind, target)
 }
 
 fn exec_is_undecided(

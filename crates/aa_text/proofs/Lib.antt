@@ -8,3 +8,4 @@ pub mod Below
 pub mod Plain
 pub mod Written
 pub mod Commas
+mod Nearing

@@ -6,3 +6,4 @@ pub mod Texts
 pub mod Jsons
 pub mod Faults
 pub mod Again
+pub mod Nearest

@@ -7,6 +7,7 @@ mod json_text;
 mod line;
 mod memory;
 mod name;
+mod nearest;
 mod place;
 mod place_laws;
 mod placed;
@@ -22,6 +23,7 @@ pub use json_text::{is_text, push_bool, push_json_bytes, push_json_text, push_ke
 pub use line::without_return;
 pub use memory::NoMemory;
 pub use name::push_name;
+pub use nearest::nearest_name;
 pub use place::{Place, place_of};
 pub use place_laws::places_rise;
 pub use placed::PlacedText;

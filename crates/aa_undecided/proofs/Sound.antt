@@ -40,7 +40,7 @@ held None f rest e = absurd (true≢false e)
 held (Some p) f rest e = refl
 
 -- in a profile that isn't there each file could decide
-has_some : (profiles : List Profile) (label : Label) (request : Request) (file : Skipped) (files : List Skipped) → one_decides profiles label request (unreads (file ∷ files)) ≡ false → has_label profiles label ≡ true
+pub has_some : (profiles : List Profile) (label : Label) (request : Request) (file : Skipped) (files : List Skipped) → one_decides profiles label request (unreads (file ∷ files)) ≡ false → has_label profiles label ≡ true
 unfolding undecided
 has_some profiles (Unconfined k) request file files e = refl
 has_some profiles (Confined k n) request file files e =

@@ -132,9 +132,13 @@ files_attaching policies skipped path = option_map_or (files_deciding policies s
 abbrev pub may_hold_one : Skipped → Bool
 may_hold_one k = k.unread.others || not (is_nil k.unread.heads)
 
+-- the files of which that is so
+abbrev pub holders : List Skipped → List PlacedFile
+holders skipped = map placed (filter may_hold_one skipped)
+
 -- the files that may hold the only profile, or one beside it; where two are read there is no only one
 abbrev pub files_holding : ℕ → List Skipped → List PlacedFile
-files_holding read skipped = if nat_lt 1 read then [] else map placed (filter may_hold_one skipped)
+files_holding read skipped = if nat_lt 1 read then [] else holders skipped
 
 -- the files that could decide under which label is asked: by the name, else by the program, else of the only profile
 abbrev pub files_opening_by : Decided → List Skipped → Option (List ℕ) → Option (List ℕ) → List PlacedFile

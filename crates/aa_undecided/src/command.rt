@@ -7,7 +7,6 @@ ghost use Rattle.aa_command.specs.Setting.{setting_of};
 ghost use Rattle.aa_command.specs.Printed.{printed, faults_alone};
 ghost use Rattle.aa_ask.specs.Command.{IsAskedBehind, IsAskedFrom};
 ghost use Rattle.aa_ask.specs.Unattached.{opening_warning};
-ghost use Rattle.aa_skipped.specs.Policies.{IsPrintedSkipping};
 ghost use Rattle.aa_undecided.specs.Answers.{placed_all, answered, files_opening};
 ghost use Rattle.aa_undecided.specs.Command.{answers_shown, is_denied, is_open, status_by, warning_unless, part_printed, words_answered, part_asked, IsPartAsked, IsPartOutput};
 
@@ -19,11 +18,9 @@ use crate::shown::push_answers;
 use aa_ask::{
     AskFault, AskOptions, MAX_WORDS, many_refused, opening_warning, push_words, words_refused,
 };
-use aa_command::{
-    Decided, Output, Settings, Use, behind_warnings, refused, unit_refused, with_units,
-};
-use aa_files::{Tree, main_text, roots_of};
-use aa_skipped::{Skipped, Sorted, behind_skipped, part_repeated, sort_paths};
+use aa_command::{Decided, Output, Settings, refused};
+use aa_files::{Tree, main_text};
+use aa_skipped::{Skipped, UsePart, with_read_policy};
 use aa_text::NoMemory;
 use std::alloc::{AllocError, Global};
 
@@ -174,42 +171,22 @@ fn answer_words(
 struct Answering<'a> {
     options: &'a AskOptions<'a>,
     words: &'a [Vec<u8>],
-    skipped: &'a [Skipped],
 }
 
-impl Use for Answering<'_> {
-    ghost gives = { λ a d out. out ≡ part_asked a.options.now (texts a.words.now) a.skipped.now d };
+impl UsePart for Answering<'_> {
+    ghost gives = { λ a skipped d out. out ≡ part_asked a.options.now (texts a.words.now) skipped d };
 
-    fn use_policy(&self, alloc: Global, decided: Decided<'_>) -> Result<Output, NoMemory> {
+    fn use_part(
+        &self,
+        alloc: Global,
+        skipped: &[Skipped],
+        decided: Decided<'_>,
+    ) -> Result<Output, NoMemory> {
         if self.words.is_empty() {
             return refused(alloc, "error: ask takes at least one word\n", 2);
         }
-        answer_words(alloc, self.options, self.words, self.skipped, decided)
+        answer_words(alloc, self.options, self.words, skipped, decided)
     }
-}
-
-/// Asks words of the policy of the files at these paths that aren't skipped.
-fn ask_paths<T: Tree>(
-    alloc: Global,
-    tree: &T,
-    settings: &Settings<'_>,
-    options: &AskOptions<'_>,
-    words: &[Vec<u8>],
-    paths: &[Vec<u8>],
-) -> Result<Output, NoMemory>
-    ensures { IfOk result (λ out. IsPrintedSkipping (setting_of (T.files tree.now) (T.taken tree.now) (T.input tree.now) settings.now) (texts paths.now)
-        (λ skipped d own. own ≡ part_asked options.now (texts words.now) skipped d) (printed out)) }
-{
-    let sorted = sort_paths(alloc, tree, settings, paths)?;
-    let parted = part_repeated(alloc, sorted)?;
-    let Sorted { units, skipped } = parted;
-    let answering = Answering {
-        options,
-        words,
-        skipped: skipped.as_slice(),
-    };
-    let own = with_units(alloc, settings, units.as_slice(), &answering)?;
-    Ok(behind_skipped(alloc, skipped.as_slice(), own)?)
 }
 
 fn ask_words<T: Tree>(
@@ -221,20 +198,8 @@ fn ask_words<T: Tree>(
 ) -> Result<Output, NoMemory>
     ensures { IfOk result (λ out. IsPartAsked (setting_of (T.files tree.now) (T.taken tree.now) (T.input tree.now) settings.now) options.now (texts words.now) (printed out)) }
 {
-    match roots_of(alloc, tree, settings.base, options.files) {
-        Ok(roots) => {
-            let own = ask_paths(
-                alloc,
-                tree,
-                settings,
-                options,
-                words,
-                roots.paths.as_slice(),
-            )?;
-            Ok(behind_warnings(alloc, roots.warnings.as_slice(), own)?)
-        }
-        Err(fault) => unit_refused(alloc, fault),
-    }
+    let answering = Answering { options, words };
+    with_read_policy(alloc, tree, settings, options.files, &answering)
 }
 
 /// Adds the words of the text of a file to those of the command line, and asks them all.

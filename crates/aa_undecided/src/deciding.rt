@@ -1,6 +1,6 @@
 //! The answer to one request where files are skipped.
 
-ghost use Rattle.std.specs.Prelude.{◌≡◌, ◌∷◌, ◌++◌, [], Some, OnOk, IfOk, if◌then◌else◌};
+ghost use Rattle.std.specs.Prelude.{◌≡◌, ◌∷◌, ◌++◌, [], map, Some, OnOk, IfOk, if◌then◌else◌};
 ghost use Rattle.aa_mediate.specs.Reply.{reply};
 ghost use Rattle.aa_ask.specs.Told.{verdict_on};
 ghost use Rattle.aa_notation.specs.Written.{word_text};
@@ -25,6 +25,17 @@ fn placed(alloc: Global, file: &Skipped) -> Result<SkippedAt, AllocError>
         at: Vec::from_slice(alloc, file.fault.path.as_slice())?,
         place: file.fault.place,
     })
+}
+
+/// Where the fault of each skipped file lies.
+pub fn all_placed(alloc: Global, skipped: &[Skipped]) -> Result<Vec<SkippedAt>, AllocError>
+    ensures { IfOk result (λ files. placed_all files.items ≡ map placed skipped.now) }
+{
+    let mut files = Vec::new(alloc);
+    for file in skipped {
+        files.push(placed(alloc, file)?)?;
+    }
+    Ok(files)
 }
 
 /// Adds a file, if it could decide.

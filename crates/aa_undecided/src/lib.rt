@@ -12,7 +12,8 @@ mod shown;
 
 pub use answered::{Answered, Doubt, SkippedAt};
 pub use command::ask_skipping;
-pub use deciding::{files_deciding, push_if};
+pub use deciding::{all_placed, files_deciding, push_if};
 pub use jsons::push_files_member;
 pub use laws::answers_are_sound;
-pub use shown::push_reason;
+pub use opening::{holders, one_may_hold};
+pub use shown::{push_reason, push_undecided};

@@ -1,10 +1,11 @@
 //! Which skipped files could decide under which label is asked.
 
 ghost use Rattle.std.specs.Prelude.{◌≡◌, ◌++◌, codes, map, filter, option_map, false, IfOk};
+ghost use Rattle.std.specs.List.{list_any};
 ghost use Rattle.std.specs.Option.{option_map_or};
 ghost use Rattle.aa_notation.specs.Read.{request_in};
 ghost use Rattle.aa_skipping.specs.Names.{is_doubtful};
-ghost use Rattle.aa_undecided.specs.Answers.{placed, placed_all, may_be_called, files_naming_in, files_naming, files_attaching, may_hold_one, files_holding, files_opening};
+ghost use Rattle.aa_undecided.specs.Answers.{placed, placed_all, may_be_called, files_naming_in, files_naming, files_attaching, may_hold_one, holders, files_holding, files_opening};
 
 use crate::answered::SkippedAt;
 use crate::deciding::{files_deciding, push_if};
@@ -115,6 +116,24 @@ fn may_hold_one(file: &Skipped) -> bool
     file.unread.others || !file.unread.heads.as_slice().is_empty()
 }
 
+/// Whether one of the skipped files may hold a profile.
+pub fn one_may_hold(skipped: &[Skipped]) -> bool
+    ensures { result ≡ list_any may_hold_one skipped.now }
+{
+    skipped.iter().any(|file| may_hold_one(file))
+}
+
+/// The skipped files that may hold a profile.
+pub fn holders(alloc: Global, skipped: &[Skipped]) -> Result<Vec<SkippedAt>, AllocError>
+    ensures { IfOk result (λ files. placed_all files.items ≡ holders skipped.now) }
+{
+    let mut files = Vec::new(alloc);
+    for file in skipped {
+        push_if(alloc, &mut files, may_hold_one(file), file)?;
+    }
+    Ok(files)
+}
+
 /// The skipped files that may hold a profile, where not more than one is read.
 fn files_holding(
     alloc: Global,
@@ -123,14 +142,10 @@ fn files_holding(
 ) -> Result<Vec<SkippedAt>, AllocError>
     ensures { IfOk result (λ files. placed_all files.items ≡ files_holding read skipped.now) }
 {
-    let mut files = Vec::new(alloc);
     if read > 1 {
-        return Ok(files);
+        return Ok(Vec::new(alloc));
     }
-    for file in skipped {
-        push_if(alloc, &mut files, may_hold_one(file), file)?;
-    }
-    Ok(files)
+    holders(alloc, skipped)
 }
 
 /// The skipped files that could decide under which label is asked.

@@ -61,14 +61,21 @@ pub fn push_reason(out: &mut Vec<u8>, files: &[SkippedAt]) -> Result<(), AllocEr
     }
 }
 
+/// Appends that a word is undecided, and why.
 #[tactic(auto, unfolding(crate::specs::Shown::doubt_text))]
+pub fn push_undecided(out: &mut Vec<u8>, word: &[u8], files: &[SkippedAt]) -> Result<(), AllocError>
+    ensures { OnOk result (out.new.items ≡ out.old.items ++ doubt_text (record { word = word.now; files = placed_all files.now })) }
+{
+    push_text(out, "undecided ")?;
+    out.extend_from_slice(word)?;
+    push_text(out, "\n")?;
+    push_reason(out, files)
+}
+
 fn push_doubt(out: &mut Vec<u8>, doubt: &Doubt) -> Result<(), AllocError>
     ensures { OnOk result (out.new.items ≡ out.old.items ++ doubt_text (record { word = doubt.now.word.items; files = placed_all doubt.now.files.items })) }
 {
-    push_text(out, "undecided ")?;
-    out.extend_from_slice(doubt.word.as_slice())?;
-    push_text(out, "\n")?;
-    push_reason(out, doubt.files.as_slice())
+    push_undecided(out, doubt.word.as_slice(), doubt.files.as_slice())
 }
 
 fn push_answer(

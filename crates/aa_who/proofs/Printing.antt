@@ -7,6 +7,7 @@ use Rattle.aa_files.specs.Texts.{texts}
 use Rattle.aa_load.specs.UnitPolicy.{limit_of}
 use Rattle.aa_command.specs.declared.decided.Decided.{Decided}
 use Rattle.aa_command.specs.Printed.{Printed, faults_alone}
+use Rattle.aa_skipped.specs.declared.skipped.Skipped.{Skipped}
 use Rattle.aa_who.specs.declared.fault.WhoFault.{WhoFault}
 use Rattle.aa_who.specs.declared.fault.WhoFault.TheVariants.{Refused}
 use Rattle.aa_who.specs.declared.answering.WordAnswer.{WordAnswer}
@@ -19,7 +20,7 @@ pub any_nobodys : (answers : List WordAnswer) → list_any (λ (a : WordAnswer).
 any_nobodys [] = refl
 any_nobodys (a ∷ answers) = ap (λ (b : Bool). is_nobodys (answered a) || b) (any_nobodys answers)
 
-pub unanswered_by : (states : ℕ) (o : WhoOptions) (d : Decided) (r : Result (Vec WordAnswer Global) WhoFault) (line : Vec ℕ Global) (out : Printed)
-    → r ≡ Err (Refused line) → IfErr r (SaysFirst d (limit_of states) (texts o.words.now)) → out ≡ faults_alone line.items 1 → IsWhoOf states o d out
-unanswered_by states o d r line out e why is =
+pub unanswered_by : (states : ℕ) (o : WhoOptions) (skipped : List Skipped) (d : Decided) (r : Result (Vec WordAnswer Global) WhoFault) (line : Vec ℕ Global) (out : Printed)
+    → r ≡ Err (Refused line) → IfErr r (SaysFirst d (limit_of states) (texts o.words.now)) → out ≡ faults_alone line.items 1 → IsWhoOf states o skipped d out
+unanswered_by states o skipped d r line out e why is =
     Unanswered line.items (subst (λ (x : Result (Vec WordAnswer Global) WhoFault). IfErr x (SaysFirst d (limit_of states) (texts o.words.now))) e why) is

@@ -3,6 +3,8 @@
 use Rattle.std.specs.Prelude.{ℕ, List, ◌++◌, map, codes, decimal, Bool, true, false, Option, Some, None, option_map}
 use Rattle.aa_text.specs.Jsons.{json_bytes, key_text, bool_text, member_text, member_if, list_text}
 use Rattle.aa_ask.specs.Json.{json_verdict}
+use Rattle.aa_undecided.specs.Answers.{PlacedFile}
+use Rattle.aa_undecided.specs.Jsons.{json_placed}
 use Rattle.aa_who.specs.Untold.{json_untold}
 use Rattle.aa_who.specs.Grants.{Granted}
 use Rattle.aa_who.specs.Answers.{Answered}
@@ -39,7 +41,10 @@ json_answer a =
     json_granted a ++ member_text (codes "untold") (list_text (map json_untold a.untold)) ++ member_text (codes "profiles") (decimal a.profiles)
     ++ member_text (codes "unconfined") (json_all a.is_free) ++ codes "}"
 
--- one JSON object with the answers, and how many rules decide nothing
-unfoldable pub json_answers : ℕ → List Answered → List ℕ
-json_answers passed answers =
-    codes "{" ++ key_text (codes "answers") ++ list_text (map json_answer answers) ++ member_text (codes "passed_over") (decimal passed) ++ codes "}\n"
+-- the answers, and how many rules decide nothing
+unfoldable pub json_told : ℕ → List Answered → List ℕ
+json_told passed answers = codes "{" ++ key_text (codes "answers") ++ list_text (map json_answer answers) ++ member_text (codes "passed_over") (decimal passed)
+
+-- one JSON object with these, and the files that are skipped
+unfoldable pub json_answers : ℕ → List PlacedFile → List Answered → List ℕ
+json_answers passed skipped answers = json_told passed answers ++ member_text (codes "skipped") (list_text (map json_placed skipped)) ++ codes "}\n"

@@ -1,10 +1,12 @@
 -- Answers as they are printed.
 -- Source: own.
-use Rattle.std.specs.Prelude.{ℕ, ◌==◌, ◌&&◌, List, [], ◌++◌, length, flat_map, codes, decimal, Bool, false, if◌then◌else◌, Option, Some, None, unwrap_or}
+use Rattle.std.specs.Prelude.{ℕ, ◌==◌, ◌&&◌, List, [], ◌∷◌, ◌++◌, length, flat_map, codes, decimal, Bool, false, if◌then◌else◌, Option, Some, None, unwrap_or}
 use Rattle.aa_base.specs.Values.{value}
 use Rattle.aa_text.specs.Visible.{all_visible}
 use Rattle.aa_ask.specs.Told.{Told}
 use Rattle.aa_ask.specs.Shown.{reasons_text}
+use Rattle.aa_undecided.specs.Answers.{PlacedFile}
+use Rattle.aa_undecided.specs.Shown.{doubt_text}
 use Rattle.aa_who.specs.Untold.{untold_lines}
 use Rattle.aa_who.specs.Grants.{Granted}
 use Rattle.aa_who.specs.Answers.{Answered}
@@ -35,9 +37,14 @@ grant_text word g = who_text word g ++ examples_mark g.verdict g.refused ++ comp
 abbrev pub is_nobodys : Answered → Bool
 is_nobodys a = length a.grants == 0 && length a.untold == 0
 
--- what is said then
-abbrev pub nobody_text : Answered → List ℕ
-nobody_text a = if is_nobodys a then codes "nobody " ++ all_visible a.word ++ codes "\n" else []
+-- what is said then: that nobody is granted it; or, where skipped files may hold profiles, that it is undecided
+abbrev pub none_text : List PlacedFile → List ℕ → List ℕ
+none_text [] word = codes "nobody " ++ all_visible word ++ codes "\n"
+none_text (file ∷ files) word = doubt_text (record { word = all_visible word; files = file ∷ files })
+
+-- the same, if it is so
+abbrev pub nobody_text : List PlacedFile → Answered → List ℕ
+nobody_text holders a = if is_nobodys a then none_text holders a.word else []
 
 -- what is said of tasks that aren't confined
 abbrev pub free_mark : Bool → List ℕ
@@ -51,9 +58,9 @@ count_line a = decimal (length a.grants) ++ codes " of " ++ decimal a.profiles +
 abbrev pub untold_text : Answered → List ℕ
 untold_text a = untold_lines a.untold ++ a.free_untold
 
--- the lines of an answer
-unfoldable pub answer_text : Answered → List ℕ
-answer_text a = flat_map (grant_text a.word) a.grants ++ nobody_text a ++ count_line a
+-- the lines of an answer, where these skipped files may hold profiles
+unfoldable pub answer_text : List PlacedFile → Answered → List ℕ
+answer_text holders a = flat_map (grant_text a.word) a.grants ++ nobody_text holders a ++ count_line a
 
 -- how many rules decide nothing, where there are some
 abbrev pub passed_text : ℕ → List ℕ

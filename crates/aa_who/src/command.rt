@@ -1,13 +1,15 @@
 //! What `who` prints.
 
-ghost use Rattle.std.specs.Prelude.{◌≡◌, ◌++◌, map, OnOk, IfOk, if◌then◌else◌};
+ghost use Rattle.std.specs.Prelude.{◌≡◌, ◌++◌, [], map, OnOk, IfOk, if◌then◌else◌};
 ghost use Rattle.std.specs.List.{list_any};
 ghost use Rattle.aa_files.specs.Texts.{texts};
 ghost use Rattle.aa_command.specs.Setting.{setting_of};
 ghost use Rattle.aa_command.specs.Printed.{printed, faults_alone};
+ghost use Rattle.aa_undecided.specs.Answers.{placed};
 ghost use Rattle.aa_who.specs.Answers.{answered};
 ghost use Rattle.aa_who.specs.Shown.{is_nobodys};
-ghost use Rattle.aa_who.specs.Command.{passed_in, answers_text, status_of, who_printed, IsWhoOf, IsWhoOutput};
+ghost use Rattle.aa_who.specs.Json.{json_answers};
+ghost use Rattle.aa_who.specs.Command.{passed_in, told_text, answers_text, status_of, who_printed, IsWhoOf, IsWhoBy, IsWhoOutput};
 
 use crate::answering::{WordAnswer, answers_to};
 use crate::fault::WhoFault;
@@ -16,7 +18,9 @@ use crate::shown::{is_nobodys, push_answers, push_passed, push_untold};
 use aa_command::{Decided, Output, Settings, Use, refused, with_policy};
 use aa_compile::Compiled;
 use aa_files::Tree;
+use aa_skipped::{Skipped, UsePart, push_skipped_count, with_read_policy};
 use aa_text::NoMemory;
+use aa_undecided::{all_placed, holders, one_may_hold};
 use std::alloc::{AllocError, Global};
 
 /// The most words of a call.
@@ -31,6 +35,8 @@ pub struct WhoOptions<'a> {
     pub is_json: bool,
     /// Whether the status alone answers.
     pub is_quiet: bool,
+    /// Whether files that are refused are skipped.
+    pub skips: bool,
 }
 
 /// How many rules of the policy decide nothing.
@@ -43,24 +49,54 @@ pub fn passed_in(policies: &[Compiled]) -> usize
     }
 }
 
+/// Appends the answers, how many rules decide nothing, and how many files are skipped.
+fn push_told(
+    out: &mut Vec<u8>,
+    alloc: Global,
+    passed: usize,
+    skipped: &[Skipped],
+    answers: &[WordAnswer],
+) -> Result<(), AllocError>
+    ensures { OnOk result (out.new.items ≡ out.old.items ++ told_text passed skipped.now (map answered answers.now)) }
+{
+    let files = holders(alloc, skipped)?;
+    push_answers(out, alloc, files.as_slice(), answers)?;
+    push_passed(out, passed)?;
+    push_skipped_count(out, skipped.len())
+}
+
+/// The same as JSON.
+fn push_json(
+    out: &mut Vec<u8>,
+    alloc: Global,
+    passed: usize,
+    skipped: &[Skipped],
+    answers: &[WordAnswer],
+) -> Result<(), AllocError>
+    ensures { OnOk result (out.new.items ≡ out.old.items ++ json_answers passed (map placed skipped.now) (map answered answers.now)) }
+{
+    let files = all_placed(alloc, skipped)?;
+    push_json_answers(out, alloc, passed, files.as_slice(), answers)
+}
+
 /// Appends answers as they are wanted, of a policy of which so many rules decide nothing.
 fn push_wanted(
     out: &mut Vec<u8>,
     alloc: Global,
     options: &WhoOptions<'_>,
     passed: usize,
+    skipped: &[Skipped],
     answers: &[WordAnswer],
 ) -> Result<(), AllocError>
-    ensures { OnOk result (out.new.items ≡ out.old.items ++ answers_text options.now passed (map answered answers.now)) }
+    ensures { OnOk result (out.new.items ≡ out.old.items ++ answers_text options.now passed skipped.now (map answered answers.now)) }
 {
     if options.is_json {
-        return push_json_answers(out, alloc, passed, answers);
+        return push_json(out, alloc, passed, skipped, answers);
     }
     if options.is_quiet {
         return Ok(());
     }
-    push_answers(out, alloc, answers)?;
-    push_passed(out, passed)
+    push_told(out, alloc, passed, skipped, answers)
 }
 
 fn is_one_nobodys(answers: &[WordAnswer]) -> bool
@@ -76,12 +112,15 @@ fn has_nobodys(answers: &[WordAnswer]) -> bool
     is_one_nobodys(answers)
 }
 
-/// 1 where something can't be told, and else 4 where nobody is granted a word.
-fn status_of(untold: &[u8], has_nobodys: bool) -> u8
-    ensures { result ≡ status_of untold.now has_nobodys }
+/// 1 where something can't be told, else 5 where skipped files may hold profiles, and else 4 where nobody is granted a word.
+fn status_of(untold: &[u8], is_open: bool, has_nobodys: bool) -> u8
+    ensures { result ≡ status_of untold.now is_open has_nobodys }
 {
     if !untold.is_empty() {
         return 1;
+    }
+    if is_open {
+        return 5;
     }
     if has_nobodys { 4 } else { 0 }
 }
@@ -90,14 +129,23 @@ fn output_of(
     alloc: Global,
     options: &WhoOptions<'_>,
     passed: usize,
+    skipped: &[Skipped],
     answers: &[WordAnswer],
 ) -> Result<Output, AllocError>
-    ensures { IfOk result (λ out. printed out ≡ who_printed options.now passed (map answered answers.now)) }
+    ensures { IfOk result (λ out. printed out ≡ who_printed options.now passed skipped.now (map answered answers.now)) }
 {
     let mut output = Output::new(alloc);
-    push_wanted(&mut output.answers, alloc, options, passed, answers)?;
+    push_wanted(
+        &mut output.answers,
+        alloc,
+        options,
+        passed,
+        skipped,
+        answers,
+    )?;
     push_untold(&mut output.faults, answers)?;
-    output.status = status_of(output.faults.as_slice(), has_nobodys(answers));
+    let untold = output.faults.as_slice();
+    output.status = status_of(untold, one_may_hold(skipped), has_nobodys(answers));
     Ok(output)
 }
 
@@ -118,17 +166,23 @@ struct Asking<'a> {
     options: &'a WhoOptions<'a>,
 }
 
-impl Use for Asking<'_> {
-    ghost gives = { λ a d out. IsWhoOf a.states a.options.now d out };
+impl UsePart for Asking<'_> {
+    ghost gives = { λ a skipped d out. IsWhoOf a.states a.options.now skipped d out };
 
-    fn use_policy(&self, alloc: Global, decided: Decided<'_>) -> Result<Output, NoMemory> {
+    fn use_part(
+        &self,
+        alloc: Global,
+        skipped: &[Skipped],
+        decided: Decided<'_>,
+    ) -> Result<Output, NoMemory> {
         if self.options.words.is_empty() {
             return refused(alloc, "error: who takes at least one word\n", 2);
         }
         match answers_to(alloc, decided, self.states, self.options.words) {
             Ok(answers) => {
                 let passed = passed_in(decided.policies);
-                Ok(output_of(alloc, self.options, passed, answers.as_slice())?)
+                let answers = answers.as_slice();
+                Ok(output_of(alloc, self.options, passed, skipped, answers)?)
             }
             Err(WhoFault::NoMemory) => Err(NoMemory),
             Err(WhoFault::Refused(line)) => Ok(unanswered(alloc, line)),
@@ -136,8 +190,36 @@ impl Use for Asking<'_> {
     }
 }
 
+impl Use for Asking<'_> {
+    ghost gives = { λ a d out. IsWhoOf a.states a.options.now [] d out };
+
+    fn use_policy(&self, alloc: Global, decided: Decided<'_>) -> Result<Output, NoMemory> {
+        self.use_part(alloc, &[], decided)
+    }
+}
+
+/// Answers the words by the files that are named, or by those that aren't refused.
+fn who_by<T: Tree>(
+    alloc: Global,
+    tree: &T,
+    settings: &Settings<'_>,
+    options: &WhoOptions<'_>,
+) -> Result<Output, NoMemory>
+    ensures { IfOk result (λ out. IsWhoBy (setting_of (T.files tree.now) (T.taken tree.now) (T.input tree.now) settings.now) options.now (printed out)) }
+{
+    let asking = Asking {
+        states: settings.states,
+        options,
+    };
+    if options.skips {
+        return with_read_policy(alloc, tree, settings, options.files, &asking);
+    }
+    with_policy(alloc, tree, settings, options.files, &asking)
+}
+
 /// Prints of each word which profiles of the one policy that files are have rules that allow what it asks: all of it, or some. A profile
-/// of which that can't be told is said, and the others are told. Refused are words that ask nothing.
+/// of which that can't be told is said, and the others are told. Refused are words that ask nothing. Where files that are refused are
+/// skipped, the others answer, and it is undecided whether nobody is granted a word.
 pub fn who_files<T: Tree>(
     alloc: Global,
     tree: &T,
@@ -149,9 +231,5 @@ pub fn who_files<T: Tree>(
     if options.words.len() > MAX_WORDS {
         return refused(alloc, "error: who takes at most 65536 words\n", 2);
     }
-    let asking = Asking {
-        states: settings.states,
-        options,
-    };
-    with_policy(alloc, tree, settings, options.files, &asking)
+    who_by(alloc, tree, settings, options)
 }

@@ -2,9 +2,10 @@
 
 ghost use Rattle.std.specs.Prelude.{◌≡◌, ◌++◌, codes, map, option_map, OnOk};
 ghost use Rattle.aa_text.specs.Jsons.{json_bytes, key_text, bool_text, member_text, member_if, list_text};
+ghost use Rattle.aa_undecided.specs.Answers.{placed_all};
 ghost use Rattle.aa_who.specs.Grants.{granted};
 ghost use Rattle.aa_who.specs.Answers.{answered};
-ghost use Rattle.aa_who.specs.Json.{is_none, json_front, json_shown, json_grant, json_granted, json_answer, json_answers};
+ghost use Rattle.aa_who.specs.Json.{is_none, json_front, json_shown, json_grant, json_granted, json_answer, json_told, json_answers};
 
 use crate::answering::WordAnswer;
 use crate::granting::Grant;
@@ -12,6 +13,7 @@ use crate::telling::push_untold_member;
 use aa_text::{
     ToJson, push_json_bytes, push_key, push_list, push_list_member, push_member, push_text,
 };
+use aa_undecided::{SkippedAt, push_files_member};
 use std::alloc::{AllocError, Global};
 
 /// Opens an object, and appends its first member.
@@ -108,19 +110,34 @@ fn push_all(out: &mut Vec<u8>, alloc: Global, answers: &[WordAnswer]) -> Result<
     Ok(())
 }
 
-/// Appends the answers as one JSON object, with how many rules decide nothing, and a line end.
-#[tactic(auto, unfolding(crate::specs::Json::json_answers))]
-pub(crate) fn push_json_answers(
+/// Appends the answers, and how many rules decide nothing.
+#[tactic(auto, unfolding(crate::specs::Json::json_told))]
+fn push_told(
     out: &mut Vec<u8>,
     alloc: Global,
     passed: usize,
     answers: &[WordAnswer],
 ) -> Result<(), AllocError>
-    ensures { OnOk result (out.new.items ≡ out.old.items ++ json_answers passed (map answered answers.now)) }
+    ensures { OnOk result (out.new.items ≡ out.old.items ++ json_told passed (map answered answers.now)) }
 {
     push_text(out, "{")?;
     push_key(out, "answers")?;
     push_all(out, alloc, answers)?;
-    push_member(out, alloc, "passed_over", &passed)?;
+    push_member(out, alloc, "passed_over", &passed)
+}
+
+/// Appends the answers as one JSON object, with how many rules decide nothing and the files that are skipped, and a line end.
+#[tactic(auto, unfolding(crate::specs::Json::json_answers))]
+pub(crate) fn push_json_answers(
+    out: &mut Vec<u8>,
+    alloc: Global,
+    passed: usize,
+    skipped: &[SkippedAt],
+    answers: &[WordAnswer],
+) -> Result<(), AllocError>
+    ensures { OnOk result (out.new.items ≡ out.old.items ++ json_answers passed (placed_all skipped.now) (map answered answers.now)) }
+{
+    push_told(out, alloc, passed, answers)?;
+    push_files_member(out, alloc, skipped)?;
     push_text(out, "}\n")
 }

@@ -1,12 +1,13 @@
 //! Answers as they are printed.
 
-ghost use Rattle.std.specs.Prelude.{◌≡◌, ◌++◌, codes, map, flat_map, option_map, decimal, OnOk};
+ghost use Rattle.std.specs.Prelude.{◌≡◌, ◌++◌, codes, map, flat_map, option_map, decimal, IfOk, OnOk};
 ghost use Rattle.aa_base.specs.Values.{value};
 ghost use Rattle.aa_text.specs.Visible.{all_visible};
 ghost use Rattle.aa_ask.specs.Told.{told};
+ghost use Rattle.aa_undecided.specs.Answers.{placed_all};
 ghost use Rattle.aa_who.specs.Grants.{granted};
 ghost use Rattle.aa_who.specs.Answers.{answered};
-ghost use Rattle.aa_who.specs.Shown.{quantity_mark, examples_mark, complains_mark, who_text, grant_text, is_nobodys, nobody_text, free_mark, count_line, answer_text, untold_text, passed_text};
+ghost use Rattle.aa_who.specs.Shown.{quantity_mark, examples_mark, complains_mark, who_text, grant_text, is_nobodys, none_text, nobody_text, free_mark, count_line, answer_text, untold_text, passed_text};
 
 use crate::answering::WordAnswer;
 use crate::counting::Counted;
@@ -14,6 +15,7 @@ use crate::granting::Grant;
 use crate::telling::push_untold_lines;
 use aa_ask::{Verdict, push_reasons};
 use aa_text::{push_name, push_number, push_text, push_visible};
+use aa_undecided::{SkippedAt, push_undecided};
 use std::alloc::{AllocError, Global};
 
 fn push_quantity(out: &mut Vec<u8>, refused: &Option<Vec<u8>>) -> Result<(), AllocError>
@@ -95,15 +97,46 @@ pub(crate) fn is_nobodys(answer: &WordAnswer) -> bool
     answer.grants.list.is_empty() && answer.grants.untold.is_empty()
 }
 
-fn push_nobody(out: &mut Vec<u8>, answer: &WordAnswer) -> Result<(), AllocError>
-    ensures { OnOk result (out.new.items ≡ out.old.items ++ nobody_text (answered answer.now)) }
+/// A word as it is shown.
+fn shown_word(alloc: Global, word: &[u8]) -> Result<Vec<u8>, AllocError>
+    ensures { IfOk result (λ shown. shown.items ≡ all_visible word.now) }
+{
+    let mut shown = Vec::new(alloc);
+    push_visible(&mut shown, word)?;
+    Ok(shown)
+}
+
+/// Appends that nobody is granted a word, or, where skipped files may hold profiles, that it is undecided.
+fn push_none(
+    out: &mut Vec<u8>,
+    alloc: Global,
+    holders: &[SkippedAt],
+    word: &[u8],
+) -> Result<(), AllocError>
+    ensures { OnOk result (out.new.items ≡ out.old.items ++ none_text (placed_all holders.now) word.now) }
+{
+    match holders {
+        [] => {
+            push_text(out, "nobody ")?;
+            push_visible(out, word)?;
+            push_text(out, "\n")
+        }
+        [_, ..] => push_undecided(out, shown_word(alloc, word)?.as_slice(), holders),
+    }
+}
+
+fn push_nobody(
+    out: &mut Vec<u8>,
+    alloc: Global,
+    holders: &[SkippedAt],
+    answer: &WordAnswer,
+) -> Result<(), AllocError>
+    ensures { OnOk result (out.new.items ≡ out.old.items ++ nobody_text (placed_all holders.now) (answered answer.now)) }
 {
     if !is_nobodys(answer) {
         return Ok(());
     }
-    push_text(out, "nobody ")?;
-    push_visible(out, answer.word.as_slice())?;
-    push_text(out, "\n")
+    push_none(out, alloc, holders, answer.word.as_slice())
 }
 
 fn push_free(out: &mut Vec<u8>, is_free: bool) -> Result<(), AllocError>
@@ -132,8 +165,13 @@ fn push_count(out: &mut Vec<u8>, answer: &WordAnswer) -> Result<(), AllocError>
 }
 
 #[tactic(auto, unfolding(crate::specs::Shown::answer_text))]
-fn push_answer(out: &mut Vec<u8>, alloc: Global, answer: &WordAnswer) -> Result<(), AllocError>
-    ensures { OnOk result (out.new.items ≡ out.old.items ++ answer_text (answered answer.now)) }
+fn push_answer(
+    out: &mut Vec<u8>,
+    alloc: Global,
+    holders: &[SkippedAt],
+    answer: &WordAnswer,
+) -> Result<(), AllocError>
+    ensures { OnOk result (out.new.items ≡ out.old.items ++ answer_text (placed_all holders.now) (answered answer.now)) }
 {
     push_grants(
         out,
@@ -141,7 +179,7 @@ fn push_answer(out: &mut Vec<u8>, alloc: Global, answer: &WordAnswer) -> Result<
         answer.word.as_slice(),
         answer.grants.list.as_slice(),
     )?;
-    push_nobody(out, answer)?;
+    push_nobody(out, alloc, holders, answer)?;
     push_count(out, answer)
 }
 
@@ -166,16 +204,17 @@ pub(crate) fn push_untold(out: &mut Vec<u8>, answers: &[WordAnswer]) -> Result<(
     Ok(())
 }
 
-/// Appends the answers, each with the rules.
+/// Appends the answers, each with the rules, where these skipped files may hold profiles.
 pub(crate) fn push_answers(
     out: &mut Vec<u8>,
     alloc: Global,
+    holders: &[SkippedAt],
     answers: &[WordAnswer],
 ) -> Result<(), AllocError>
-    ensures { OnOk result (out.new.items ≡ out.old.items ++ flat_map answer_text (map answered answers.now)) }
+    ensures { OnOk result (out.new.items ≡ out.old.items ++ flat_map (answer_text (placed_all holders.now)) (map answered answers.now)) }
 {
     for answer in answers {
-        push_answer(out, alloc, answer)?;
+        push_answer(out, alloc, holders, answer)?;
     }
     Ok(())
 }

@@ -38,6 +38,9 @@ const REACH: &str =
 const LINT: &str =
     "Says what a policy allows and is seldom meant, as in: aapolicy lint /etc/apparmor.d/usr.sbin.cupsd";
 
+const REDUNDANT: &str =
+    "Says which rules can go and every reply is as it is, as in: aapolicy redundant /etc/apparmor.d";
+
 const JOB: &str =
     "Prints the job that aamediate run decides alike, as in: aapolicy job /etc/apparmor.d/usr.sbin.cupsd --log /var/log/kern.log";
 
@@ -51,16 +54,13 @@ const MERGE: &str =
 const STATUSES: &str = "Exit status, where several hold the first:
   2  the command line is refused
   3  a file or folder can't be read, the output can't be written, or memory ran out
-  1  a policy is refused, or what is asked for isn't there
+  1  a policy is refused, what is asked for isn't there, or a line of a log isn't understood
   4  all was read, and the answer is no
   5  files that are skipped could change the answer
+  141  whoever reads the answers has gone before they were all written
   0  else
 
 docs/AAPOLICY.md has what each command reads and prints, docs/FAULTS.md what is refused.";
-
-/// The help of `--skip-refused`.
-const SKIP_REFUSED: &str =
-    "Skip files that are refused; what their profiles could change is undecided, with the exit status 5";
 
 /// How an argument is written.
 #[derive(Clone, Copy)]
@@ -119,6 +119,24 @@ const POLICY_ARGUMENTS: &[Argument] = &[
         form: Form::Value("PATH"),
         barred: None,
         help: "What standard input is called, where - is read as a text: that path stands for it",
+    },
+];
+
+/// What each command takes that goes on beside files that are refused, behind its own arguments.
+const SKIPPING_ARGUMENTS: &[Argument] = &[
+    Argument {
+        name: "skip-refused",
+        letter: None,
+        form: Form::Flag,
+        barred: None,
+        help: "Skip files that are refused; what their profiles could change is undecided, with the exit status 5",
+    },
+    Argument {
+        name: "undecided",
+        letter: None,
+        form: Form::Value("ok"),
+        barred: None,
+        help: "Take the exit status 0 for 5",
     },
 ];
 
@@ -272,13 +290,6 @@ const ASK_ARGUMENTS: &[Argument] = &[
         barred: None,
         help: "Print nothing: the exit status answers",
     },
-    Argument {
-        name: "skip-refused",
-        letter: None,
-        form: Form::Flag,
-        barred: None,
-        help: SKIP_REFUSED,
-    },
 ];
 
 /// What `lint` takes.
@@ -296,6 +307,45 @@ const LINT_ARGUMENTS: &[Argument] = &[
         form: Form::Values("NAME"),
         barred: None,
         help: "Leave out what is found by this name: unconfined-exec, write-exec, all-files, any-profile, duplicate, idle-deny or tie; of each of these, where there are several",
+    },
+    Argument {
+        name: "known",
+        letter: None,
+        form: Form::Value("FILE"),
+        barred: None,
+        help: "Leave out findings that are lines of a file, as they are printed; lines that aren't found are told",
+    },
+    Argument {
+        name: "format",
+        letter: None,
+        form: Form::Value("FORM"),
+        barred: Some("json"),
+        help: "How to answer: text, json, gcc (PATH:LINE:COLUMN: warning: SENTENCE [NAME], a line each) or sarif (version 2.1.0) [default: text]",
+    },
+    Argument {
+        name: "json",
+        letter: None,
+        form: Form::Flag,
+        barred: None,
+        help: "Answer in JSON, as --format json",
+    },
+];
+
+/// What `redundant` takes.
+const REDUNDANT_ARGUMENTS: &[Argument] = &[
+    Argument {
+        name: "PROFILE",
+        letter: None,
+        form: Form::NeededWords,
+        barred: None,
+        help: "A file with profiles, or a folder of such files, which are one policy together; - is standard input",
+    },
+    Argument {
+        name: "json",
+        letter: None,
+        form: Form::Flag,
+        barred: None,
+        help: "Answer in JSON",
     },
 ];
 
@@ -390,7 +440,7 @@ const REACH_ARGUMENTS: &[Argument] = &[
         name: "to",
         letter: None,
         form: Form::Value("LABEL"),
-        barred: None,
+        barred: Some("dot"),
         help: "Say whether it gets there alone: the exit status is 4 if it does",
     },
     Argument {
@@ -503,13 +553,6 @@ const LOG_ARGUMENTS: &[Argument] = &[
         barred: None,
         help: "Answer in JSON",
     },
-    Argument {
-        name: "skip-refused",
-        letter: None,
-        form: Form::Flag,
-        barred: None,
-        help: SKIP_REFUSED,
-    },
 ];
 
 /// What `merge` takes.
@@ -617,6 +660,8 @@ struct Named {
     /// What it takes besides, before what each command takes that reads policies.
     more: &'static [Argument],
     reads_policies: bool,
+    /// Whether it goes on beside files that are refused.
+    skips: bool,
 }
 
 const COMMANDS: &[Named] = &[
@@ -626,6 +671,7 @@ const COMMANDS: &[Named] = &[
         arguments: CHECK_ARGUMENTS,
         more: &[],
         reads_policies: true,
+        skips: false,
     },
     Named {
         name: "diff",
@@ -633,6 +679,7 @@ const COMMANDS: &[Named] = &[
         arguments: DIFF_ARGUMENTS,
         more: &[],
         reads_policies: true,
+        skips: false,
     },
     Named {
         name: "job",
@@ -640,6 +687,7 @@ const COMMANDS: &[Named] = &[
         arguments: JOB_ARGUMENTS,
         more: CHOICE_ARGUMENTS,
         reads_policies: true,
+        skips: false,
     },
     Named {
         name: "ask",
@@ -647,6 +695,7 @@ const COMMANDS: &[Named] = &[
         arguments: ASK_ARGUMENTS,
         more: &[],
         reads_policies: true,
+        skips: true,
     },
     Named {
         name: "who",
@@ -654,6 +703,7 @@ const COMMANDS: &[Named] = &[
         arguments: WHO_ARGUMENTS,
         more: &[],
         reads_policies: true,
+        skips: true,
     },
     Named {
         name: "assert",
@@ -661,6 +711,7 @@ const COMMANDS: &[Named] = &[
         arguments: ASSERT_ARGUMENTS,
         more: &[],
         reads_policies: true,
+        skips: true,
     },
     Named {
         name: "reach",
@@ -668,6 +719,7 @@ const COMMANDS: &[Named] = &[
         arguments: REACH_ARGUMENTS,
         more: &[],
         reads_policies: true,
+        skips: false,
     },
     Named {
         name: "lint",
@@ -675,6 +727,15 @@ const COMMANDS: &[Named] = &[
         arguments: LINT_ARGUMENTS,
         more: &[],
         reads_policies: true,
+        skips: true,
+    },
+    Named {
+        name: "redundant",
+        about: REDUNDANT,
+        arguments: REDUNDANT_ARGUMENTS,
+        more: &[],
+        reads_policies: true,
+        skips: false,
     },
     Named {
         name: "log",
@@ -682,6 +743,7 @@ const COMMANDS: &[Named] = &[
         arguments: LOG_ARGUMENTS,
         more: CHOICE_ARGUMENTS,
         reads_policies: true,
+        skips: true,
     },
     Named {
         name: "merge",
@@ -689,12 +751,18 @@ const COMMANDS: &[Named] = &[
         arguments: MERGE_ARGUMENTS,
         more: &[],
         reads_policies: false,
+        skips: false,
     },
 ];
+
+fn skipping_arguments(skips: bool) -> &'static [Argument] {
+    if skips { SKIPPING_ARGUMENTS } else { &[] }
+}
 
 fn command_of<'a>(alloc: Global, row: &Named) -> Result<Command<'a>, AllocError> {
     let command = Command::new(alloc, row.name).about(row.about);
     let command = with_arguments(alloc, command, row.arguments)?;
+    let command = with_arguments(alloc, command, skipping_arguments(row.skips))?;
     let command = with_arguments(alloc, command, row.more)?;
     if row.reads_policies {
         with_arguments(alloc, command, POLICY_ARGUMENTS)
@@ -802,6 +870,15 @@ pub(crate) fn states_of(matches: &ArgMatches<'_>) -> Option<u32> {
     match text.parse::<u32>() {
         Ok(states) if states >= 1 && states <= MOST_STATES => Some(states),
         _ => None,
+    }
+}
+
+/// Whether undecided answers are taken for well; none where the word is none that may be given.
+pub(crate) fn undecided_of(matches: &ArgMatches<'_>) -> Option<bool> {
+    match matches.get_str("undecided") {
+        None => Some(false),
+        Some("ok") => Some(true),
+        Some(_) => None,
     }
 }
 

@@ -1,7 +1,8 @@
 //! What the command line asks of each command.
 
 use crate::command::{
-    base_of, copies_of, folders_before, folders_of, old_base_of, second_of, states_of, values_of,
+    base_of, copies_of, folders_before, folders_of, old_base_of, second_of, states_of,
+    undecided_of, values_of,
 };
 use crate::handed::Handed;
 use crate::opened::{file_of, files_of, given_to, is_input};
@@ -19,6 +20,7 @@ use aa_log::{LogOptions, log_files};
 use aa_logs::{Choice, Form as Written, LogWord, name_of};
 use aa_merge::{MergeOptions, merge_files};
 use aa_reach::{ReachOptions, reach_files};
+use aa_redundant::{RedundantOptions, redundant_files};
 use aa_text::NoMemory;
 use aa_undecided::ask_skipping;
 use aa_who::{WhoOptions, who_files};
@@ -27,6 +29,9 @@ use std::alloc::{AllocError, Global};
 
 /// The files and logs of the host, and who is told of their reading.
 type Host<'a> = Watched<'a, HostRuntime, Progress<'a>>;
+
+/// The exit status of undecided answers.
+const UNDECIDED: u8 = 5;
 
 /// The value of an option as bytes, if it is there.
 fn value_of<'a>(matches: &ArgMatches<'a>, id: &str) -> Option<&'a [u8]> {
@@ -50,6 +55,11 @@ fn form_of(matches: &ArgMatches<'_>) -> Option<Form> {
     }
 }
 
+/// Says which forms there are.
+fn form_refused(alloc: Global) -> Result<Output, NoMemory> {
+    refused(alloc, "error: --format takes text, json, gcc or sarif\n", 2)
+}
+
 fn run_check(
     rt: &HostRuntime,
     tree: &Handed<'_, Host<'_>>,
@@ -62,8 +72,7 @@ fn run_check(
         files.push(Vec::from_slice(alloc, settings.base)?)?;
     }
     let Some(form) = form_of(matches) else {
-        let line = "error: --format takes text, json, gcc or sarif\n";
-        return refused(alloc, line, 2);
+        return form_refused(alloc);
     };
     let options = CheckOptions {
         files: files.as_slice(),
@@ -151,6 +160,7 @@ fn run_who(
         words: words.as_slice(),
         is_json: matches.get_flag("json"),
         is_quiet: matches.get_flag("quiet"),
+        skips: matches.get_flag("skip-refused"),
     };
     who_files(alloc, tree, settings, &options)
 }
@@ -168,6 +178,7 @@ fn run_assert(
         files: files.as_slice(),
         is_first: matches.get_flag("first"),
         is_json: matches.get_flag("json"),
+        skips: matches.get_flag("skip-refused"),
     };
     assert_files(alloc, tree, settings, &options)
 }
@@ -201,11 +212,32 @@ fn run_lint(
     let alloc = rt.alloc();
     let files = files_of(alloc, matches, "PROFILE")?;
     let except = copies_of(alloc, matches, "except")?;
+    let Some(form) = form_of(matches) else {
+        return form_refused(alloc);
+    };
     let options = LintOptions {
         files: files.as_slice(),
         except: except.as_slice(),
+        known: file_of(matches, "known"),
+        form,
+        skips: matches.get_flag("skip-refused"),
     };
     lint_files(alloc, tree, settings, &options)
+}
+
+fn run_redundant(
+    rt: &HostRuntime,
+    tree: &Handed<'_, Host<'_>>,
+    matches: &ArgMatches<'_>,
+    settings: &Settings<'_>,
+) -> Result<Output, NoMemory> {
+    let alloc = rt.alloc();
+    let files = files_of(alloc, matches, "PROFILE")?;
+    let options = RedundantOptions {
+        files: files.as_slice(),
+        is_json: matches.get_flag("json"),
+    };
+    redundant_files(alloc, tree, settings, &options)
 }
 
 fn run_log(
@@ -313,6 +345,7 @@ fn run_wanted(
         "assert" => run_assert(rt, tree, matches, settings),
         "reach" => run_reach(rt, tree, matches, settings),
         "lint" => run_lint(rt, tree, matches, settings),
+        "redundant" => run_redundant(rt, tree, matches, settings),
         _ => run_with_logs(rt, tree, name, matches, settings),
     }
 }
@@ -326,7 +359,8 @@ fn file_arguments(name: &str) -> &'static [&'static str] {
         "who" => &["PROFILE", "also"],
         "assert" => &["CLAIMS", "PROFILE"],
         "reach" => &["PROFILE"],
-        "lint" => &["PROFILE"],
+        "lint" => &["PROFILE", "known"],
+        "redundant" => &["PROFILE"],
         "log" => &["FILE", "against"],
         "merge" => &["PART", "parts"],
         _ => &["PROFILE", "log"],
@@ -349,6 +383,17 @@ fn input_refused(alloc: Global) -> Result<Output, NoMemory> {
     refused(alloc, "error: standard input can be read once\n", 2)
 }
 
+/// The output with the status 0 for that of undecided answers, where these are taken for well.
+fn taken(output: Output, undecided_is_well: bool) -> Output {
+    if undecided_is_well && output.status == UNDECIDED {
+        return Output {
+            status: 0,
+            ..output
+        };
+    }
+    output
+}
+
 /// Does what a command asks that reads policies, or says why not.
 fn run_with_policies(
     rt: &HostRuntime,
@@ -359,6 +404,9 @@ fn run_with_policies(
     let folders = folders_of(alloc, matches)?;
     let Some(states) = states_of(matches) else {
         return refused(alloc, "error: --states takes a number, 1 to 1000000\n", 2);
+    };
+    let Some(undecided_is_well) = undecided_of(matches) else {
+        return refused(alloc, "error: --undecided takes ok\n", 2);
     };
     if count_inputs(alloc, name, matches)? > 1 {
         return input_refused(alloc);
@@ -378,7 +426,7 @@ fn run_with_policies(
     let tree = Handed { tree: &host, given };
     let output = run_wanted(rt, &tree, name, matches, &settings);
     progress.end();
-    output
+    Ok(taken(output?, undecided_is_well))
 }
 
 fn run_merge(rt: &HostRuntime, matches: &ArgMatches<'_>) -> Result<Output, NoMemory> {
@@ -408,7 +456,7 @@ pub(crate) fn run_named(rt: &HostRuntime, matches: &ArgMatches<'_>) -> Result<Ou
         return refused(rt.alloc(), "error: no command is given\n", 2);
     };
     let output = run_command(rt, name, matches)?;
-    if matches.get_flag("json") {
+    if matches!(form_of(matches), Some(Form::Json)) {
         return Ok(in_json(rt.alloc(), output)?);
     }
     Ok(output)

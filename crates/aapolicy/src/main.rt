@@ -50,11 +50,15 @@ fn refuse_command(rt: &HostRuntime, error: &Error) -> u8 {
     if error.kind() == ErrorKind::OutOfMemory {
         return say_no_memory(rt);
     }
-    let is_written = error.print(rt).is_ok();
+    let written = error.print(rt);
     if error.use_stderr() {
         return REFUSED;
     }
-    if is_written { 0 } else { say_unwritten(rt) }
+    match written {
+        Ok(()) => 0,
+        Err(e) if e.kind() == io::ErrorKind::BrokenPipe => exit_status(Err(Unwritten::Closed)),
+        Err(_) => say_unwritten(rt),
+    }
 }
 
 /// Writes what was found, and gives the exit status.

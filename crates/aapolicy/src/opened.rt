@@ -40,6 +40,7 @@ fn text_arguments(name: &str) -> &'static [&'static str] {
         "diff" => &["OLD", "NEW"],
         "who" => &["PROFILE", "also"],
         "assert" => &["CLAIMS", "PROFILE"],
+        "lint" => &["PROFILE", "known"],
         "log" => &["against"],
         _ => &["PROFILE"],
     }

@@ -92,7 +92,7 @@ const WAYS: [(Unread, &str); 4] = [
     (Unread::Failed, "Unreadable: it can't be read (failed)"),
     (
         Unread::TooLarge,
-        "TooLarge: a file has at most 1,048,576 bytes, a command line 4,096 files, a profile file 4,095 included texts, and ask 65,536 words",
+        "TooLarge: a file has at most 1,048,576 bytes, a command line 4,096 files, and a profile file 4,095 included texts",
     ),
 ];
 

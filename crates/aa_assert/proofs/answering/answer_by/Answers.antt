@@ -14,23 +14,23 @@ use Rattle.aa_assert.proofs.answering.answer_by.Goals as goal
 pub returns-in_err-asked-clause-refused : goal.returns-in_err-asked-clause-refused
 returns-in_err-asked-clause-refused c =
     handed_on c.from_residual.result _ _ c.from_residual.ensures.1
-    (λ y p. rw p (not_read c.args.decided.policies.now c.args.words.now c.args.head.now c.args.word.now c.in_err-asked.field-0.0
+    (λ y p. rw p (not_read c.args.part c.args.words.now c.args.head.now c.args.word.now c.in_err-asked.field-0.0
     c.in_err-asked.ensures.refused))
 
 pub returns-in_err-check_scope-clause-refused : goal.returns-in_err-check_scope-clause-refused
 returns-in_err-check_scope-clause-refused c =
     let r = c.from_residual-in_err-check_scope in
     handed_on r.result _ _ r.ensures.1
-    (λ y p. rw p (of_others c.args.decided.policies.now c.args.words.now c.args.head.now c.args.word.now c.in_err-check_scope.field-0.0
+    (λ y p. rw p (of_others c.args.part c.args.words.now c.args.head.now c.args.word.now c.in_err-check_scope.field-0.0
     c.in_ok-asked.asked c.in_ok-asked.ensures.asked c.in_err-check_scope.ensures.refused))
 
 pub returns-clause-answered : goal.returns-clause-answered
 returns-clause-answered c =
-    let d = c.args.decided in
+    let d = c.args.part in
     let limit = limit_of c.args.states in
     let ws = c.args.words.now in
     IfOk-weaker c.findings_of.result
-    (λ (fs : Findings). AreFound c.args.is_first d limit ws c.in_ok-asked.asked c.args.word.now.text.items (count_of d.policies.now) (all_found fs))
+    (λ (fs : Findings). AreFound c.args.is_first d limit ws c.in_ok-asked.asked c.args.word.now.text.items (count_of d.decided.policies.now) (all_found fs))
     (λ (fs : Findings). IsAnswerBy c.args.is_first d limit ws c.args.head.now c.args.word.now (all_found fs))
     (λ fs are. record {
       says = c.in_ok-asked.asked;
@@ -41,7 +41,7 @@ returns-clause-answered c =
 
 pub returns-clause-refused : goal.returns-clause-refused
 returns-clause-refused c =
-    let ps = c.args.decided.policies.now in
+    let ps = c.args.part in
     let ws = c.args.words.now in
     let head = c.args.head.now in
     let asked = c.args.word.now in

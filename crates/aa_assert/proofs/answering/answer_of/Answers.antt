@@ -12,7 +12,7 @@ use Rattle.aa_assert.proofs.answering.answer_of.Goals as goal
 
 pub returns-in-len2-up-clause-answered : goal.returns-in-len2-up-clause-answered
 returns-in-len2-up-clause-answered c =
-    let d = c.args.decided in
+    let d = c.args.part in
     let limit = limit_of c.args.states in
     let ws = c.args.words.now in
     IfOk-weaker c.answer_by.result (λ (fs : Findings). IsAnswerBy c.args.is_first d limit ws c.head-item.result c.word-item.result (all_found fs))
@@ -22,10 +22,10 @@ returns-in-len2-up-clause-answered c =
 
 pub returns-in-len2-up-clause-refused : goal.returns-in-len2-up-clause-refused
 returns-in-len2-up-clause-refused c =
-    let d = c.args.decided in
+    let d = c.args.part in
     let ws = c.args.words.now in
-    IfErr-weaker c.answer_by.result (λ (e : ClaimFault). SaysAt (IsUnanswered d.policies.now ws c.head-item.result c.word-item.result) e)
+    IfErr-weaker c.answer_by.result (λ (e : ClaimFault). SaysAt (IsUnanswered d ws c.head-item.result c.word-item.result) e)
     (λ (e : ClaimFault). SaysAt (IsUnansweredOf d ws) e)
-    (λ e h. says_more (IsUnanswered d.policies.now ws c.head-item.result c.word-item.result) (IsUnansweredOf d ws) e
+    (λ e h. says_more (IsUnanswered d ws c.head-item.result c.word-item.result) (IsUnansweredOf d ws) e
     (λ at fault why. of_two d ws c.head-item.result c.word-item.result at fault c.in-len2-up.len_at_least c.head-item.is c.word-item.is why) h)
     c.answer_by.ensures.refused

@@ -1,15 +1,13 @@
 use Rattle.std.proofs.Common.{List, Err, ap, ◌∙◌, sym, subst}
 use Rattle.std.proofs.lemmas.Result.{IfOk-weaker}
-use Rattle.aa_files.specs.Texts.{texts}
 use Rattle.aa_command.specs.declared.output.Output.{Output}
 use Rattle.aa_command.specs.Setting.{setting_of}
 use Rattle.aa_command.specs.Printed.{printed}
 use Rattle.aa_command.specs.Refusals.{SaysFault}
-use Rattle.aa_command.specs.Policies.{IsPrintedFor}
 use Rattle.aa_claims.specs.declared.lines.ClaimLine.{ClaimLine}
 use Rattle.aa_claims.specs.Lines.{AreClaims, IsFirstFault}
 use Rattle.aa_claims.specs.Reports.{IsClaimReport}
-use Rattle.aa_assert.specs.Command.{IsAssertOf, IsAssertOutput, NoClaims, Claims}
+use Rattle.aa_assert.specs.Command.{IsAssertBy, IsAssertOutput, NoClaims, Claims}
 use Rattle.aa_assert.proofs.Saying.{said_at}
 use Rattle.aa_assert.proofs.command.assert_text.Goals as goal
 
@@ -18,7 +16,7 @@ returns-in-Ok g c =
     let s = setting_of (g.T.Tree.files c.args.tree.now) (g.T.Tree.taken c.args.tree.now) (g.T.Tree.input c.args.tree.now) c.args.settings.now in
     let o = c.args.options.now in
     IfOk-weaker c.assert_claims.result
-    (λ (out : Output). IsPrintedFor s (texts o.files.now) (IsAssertOf s.states o c.args.text.now c.as_slice.result.now) (printed out))
+    (λ (out : Output). IsAssertBy s o c.args.text.now c.as_slice.result.now (printed out))
     (λ (out : Output). IsAssertOutput s o (printed out))
     (λ out is. Claims c.args.text.now c.as_slice.result.now c.requires
     (subst (λ (cs : List ClaimLine). AreClaims c.args.text.now cs) (sym c.as_slice.ensures.value) c.in-Ok.ensures.claims) is)

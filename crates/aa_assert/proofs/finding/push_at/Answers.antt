@@ -12,10 +12,10 @@ returns-in-Err-clause-refused c =
     subst (λ (e : ClaimFault). SaysAt (IsNoPath c.args.claim.word.now c.args.word.now) e) (sym c.fault_of.ensures)
     (no_path_at c.args.claim.word.now c.args.word.now c.as_slice.result.now c.in-Err.fault c.in-Err.ensures.refused)
 
-pub returns-in_ok-push_judged-in-Ok-clause-added : goal.returns-in_ok-push_judged-in-Ok-clause-added
-returns-in_ok-push_judged-in-Ok-clause-added c = (
+pub returns-in_ok-push_judged_beside-in-Ok-clause-added : goal.returns-in_ok-push_judged_beside-in-Ok-clause-added
+returns-in_ok-push_judged_beside-in-Ok-clause-added c = (
   c.in-Ok.judgement,
-  subst (λ (t : List ℕ). IsJudged c.args.decided.policies.now (limit_of c.args.claim.states) c.args.label c.args.against c.args.word.now t c.in-Ok.judgement)
+  subst (λ (t : List ℕ). IsJudged c.args.part.decided.policies.now (limit_of c.args.claim.states) c.args.label c.args.against c.args.word.now t c.in-Ok.judgement)
       c.as_slice.ensures.value c.in-Ok.ensures.judged,
-  c.in_ok-push_judged-in-Ok.ensures,
+  c.in_ok-push_judged_beside-in-Ok.ensures,
 )

@@ -12,7 +12,7 @@ returns-in-Never-clause-added c =
     let k = c.args.claim in
     let was = all_found c.args.findings.now in
     let now = all_found c.push_at.new.findings in
-    subst (λ (a : Asked). OnOk c.push_at.result (AddsFree c.args.decided (limit_of k.states) a k.word.now.text.items was now))
+    subst (λ (a : Asked). OnOk c.push_at.result (AddsFree c.args.part (limit_of k.states) a k.word.now.text.items was now))
     (sym c.in-Never.is) c.push_at.ensures.added
 
 pub returns-in-Never-clause-refused : goal.returns-in-Never-clause-refused
@@ -25,7 +25,7 @@ returns-in-Always-clause-added c =
     let k = c.args.claim in
     let was = all_found c.args.findings.now in
     let now = all_found c.push_at-in-Always.new.findings in
-    subst (λ (a : Asked). OnOk c.push_at-in-Always.result (AddsFree c.args.decided (limit_of k.states) a k.word.now.text.items was now))
+    subst (λ (a : Asked). OnOk c.push_at-in-Always.result (AddsFree c.args.part (limit_of k.states) a k.word.now.text.items was now))
     (sym c.in-Always.is) c.push_at-in-Always.ensures.added
 
 pub returns-in-Always-clause-refused : goal.returns-in-Always-clause-refused

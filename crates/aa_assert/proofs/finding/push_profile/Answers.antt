@@ -12,7 +12,7 @@ returns-in-Never-clause-added c =
     let k = c.args.claim in
     let was = all_found c.args.findings.now in
     let now = all_found c.push_at.new.findings in
-    subst (λ (a : Asked). OnOk c.push_at.result (AddsProfile c.args.decided (limit_of k.states) a k.word.now.text.items c.args.number
+    subst (λ (a : Asked). OnOk c.push_at.result (AddsProfile c.args.part (limit_of k.states) a k.word.now.text.items c.args.number
     c.args.profile.now was now))
     (sym c.in-Never.is) c.push_at.ensures.added
 
@@ -26,7 +26,7 @@ returns-in-Always-clause-added c =
     let k = c.args.claim in
     let was = all_found c.args.findings.now in
     let now = all_found c.push_at-in-Always.new.findings in
-    subst (λ (a : Asked). OnOk c.push_at-in-Always.result (AddsProfile c.args.decided (limit_of k.states) a k.word.now.text.items c.args.number
+    subst (λ (a : Asked). OnOk c.push_at-in-Always.result (AddsProfile c.args.part (limit_of k.states) a k.word.now.text.items c.args.number
     c.args.profile.now was now))
     (sym c.in-Always.is) c.push_at-in-Always.ensures.added
 

@@ -9,11 +9,11 @@ pub returns-then-is_about_free-clause-found : goal.returns-then-is_about_free-cl
 returns-then-is_about_free-clause-found c =
     let k = c.args.claim in
     let limit = limit_of k.states in
-    subst (λ (b : Bool). IfOk c.found_free.result (λ (fs : Findings). IsFreeIf b c.args.decided limit k.asked.now k.word.now.text.items (all_found fs)))
+    subst (λ (b : Bool). IfOk c.found_free.result (λ (fs : Findings). IsFreeIf b c.args.part limit k.words.now k.asked.now k.word.now.text.items (all_found fs)))
     (sym c.if-is_about_free.true ∙ c.is_about_free.ensures) c.found_free.ensures.found
 
 pub returns-clause-found : goal.returns-clause-found
 returns-clause-found c =
     let k = c.args.claim in
-    subst (λ (b : Bool). IsFreeIf b c.args.decided (limit_of k.states) k.asked.now k.word.now.text.items (all_found c.nobody.result))
-    (sym c.if-is_about_free.false ∙ c.is_about_free.ensures) c.nobody.ensures
+    subst (λ (b : Bool). IsFreeIf b c.args.part (limit_of k.states) k.words.now k.asked.now k.word.now.text.items (all_found c.in_ok-nobody.field-0))
+    (sym c.if-is_about_free.false ∙ c.is_about_free.ensures) c.in_ok-nobody.ensures

@@ -4,7 +4,7 @@ use Rattle.std.proofs.lemmas.List.{length-map}
 use Rattle.aa_files.specs.Texts.{texts}
 use Rattle.aa_command.specs.Setting.{setting_of}
 use Rattle.aa_check.specs.declared.report.FileReport.{FileReport}
-use Rattle.aa_check.specs.Checked.{AreFound, none_there}
+use Rattle.aa_check.specs.Checked.{AreFound}
 use Rattle.aa_check.proofs.Found.{found_many, few_all, held_all}
 use Rattle.aa_check.proofs.checking.check.Goals as goal
 
@@ -27,13 +27,12 @@ report_of-requires-clause-held g c = held_all
     (setting_of (g.T.Tree.files c.args.tree.now) (g.T.Tree.taken c.args.tree.now) (g.T.Tree.input c.args.tree.now) c.args.settings.now) []
     (texts c.as_slice.result.now) c.in_ok-files-in-Ok.files.items c.in_ok-files-in-Ok.ensures
 
-pub returns-in_ok-warnings-in-Ok : goal.returns-in_ok-warnings-in-Ok
-returns-in_ok-warnings-in-Ok g c =
+pub returns-in_ok-files-in-Ok : goal.returns-in_ok-files-in-Ok
+returns-in_ok-files-in-Ok g c =
     let s = setting_of (g.T.Tree.files c.args.tree.now) (g.T.Tree.taken c.args.tree.now) (g.T.Tree.input c.args.tree.now) c.args.settings.now in
     let roots = c.in-Ok.roots in
     let paths = texts roots.paths.items in
     let files = c.in_ok-files-in-Ok.files in
-    let line = c.in_ok-line-in-Ok.line in
     record {
       each = inl (
         paths,
@@ -46,8 +45,7 @@ returns-in_ok-warnings-in-Ok g c =
         record {
           found = subst (λ (fs : List FileReport). AreFound s [] paths fs) (sym (ap (λ v. v.items) c.report_of.ensures.files))
               (subst (λ (ps : List (Vec ℕ Global)). AreFound s [] (texts ps) files.items) c.as_slice.ensures.value c.in_ok-files-in-Ok.ensures);
-          warned = ap (λ v. texts v.items) c.report_of.ensures.warnings ∙ (c.in_ok-warnings-in-Ok.ensures
-              ∙ ap (λ (o : Option (List ℕ)). texts roots.warnings.items ++ option_to_list o) (c.in_ok-line-in-Ok.ensures ∙ ap (λ (ps : List (Vec ℕ Global)). none_there (texts ps)) c.as_slice-in-Ok.ensures.value));
+          warned = ap (λ v. texts v.items) c.report_of.ensures.warnings;
         },
       );
       counts = c.report_of.ensures.counts;

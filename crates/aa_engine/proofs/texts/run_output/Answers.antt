@@ -1,7 +1,8 @@
 use denote.Param.Send.{sendable}
-use Rattle.std.proofs.Common.{◌≡◌, ◌∙◌, ap, sym, length, zero-add, string_bytes, Some}
+use Rattle.std.proofs.Common.{◌∙◌, ap, sym, zero-add, Some}
 use Rattle.std.proofs.lemmas.List.{length-map}
 use Rattle.aa_engine.proofs.Crossing.{task_text_send}
+use Rattle.aa_engine.proofs.Streams.{bytes_of}
 use Rattle.aa_engine.proofs.Writing.{all_known, as_many_rows, lines_joined, where_ok}
 use Rattle.aa_engine.proofs.texts.run_output.Goals as goal
 
@@ -17,7 +18,7 @@ texts_to_make-requires-clause-len g c = sym (length-map c.args.rows.now _) ∙ a
 pub returns : goal.returns
 returns g c =
     let ready = c.in_ok-texts.ensures {u = tt} in
-    where_ok c.joined.result _ _ (λ text whole.
-    lines_joined g.M.Machine.next g.M.Machine.reply c.args.machine.now c.args.several c.args.policies.now 0 c.args.tasks.now c.in_ok-texts.texts.items c.make_all.result.items (string_bytes text)
+    where_ok c.taken.result _ _ (λ parts whole.
+    lines_joined g.M.Machine.next g.M.Machine.reply c.args.machine.now c.args.several c.args.policies.now 0 c.args.tasks.now c.in_ok-texts.texts.items c.make_all.result.items (bytes_of parts.items)
     (c.requires ∙ ap (λ rows. Some rows) (sym ready.answers)) ready.labels ready.alike c.make_all.ensures.len
-    (λ i d lt. rw zero-add (c.make_all.ensures.made i d lt)) whole) c.joined.ensures
+    (λ i d lt. rw zero-add (c.make_all.ensures.made i d lt)) whole) c.taken.ensures

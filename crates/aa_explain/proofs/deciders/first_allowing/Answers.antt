@@ -1,15 +1,15 @@
 use Rattle.std.proofs.Common.{false, get_or}
 use Rattle.std.proofs.lemmas.List.{get_or_default}
-use Rattle.aa_explain.specs.declared.deciders.Saying.{Saying}
+use Rattle.aa_explain.specs.declared.told.Told.{Told}
 use Rattle.aa_explain.proofs.Deciding.{first_go, first_end}
 use Rattle.aa_explain.proofs.deciders.first_allowing.Goals as goal
 
-pub loop-number-preserved : goal.loop-number-preserved
-loop-number-preserved c =
-    let d : Saying = record { holds = false; deny = false; perms = record { 0 = 0 } } in
-    let x : Saying = get_or c.args.sayings.now c.loop-number.number d in
-    first_go c.loop-number.left.0 c.left_of-left.result.0 c.loop-number.number c.args.sayings.now x c.loop-number.found.items c.push_any.new.found.items _ c.decider_if.result c.part_of-allowed.result.0 c.loop-number-test.true
-    (get_or_default c.args.sayings.now c.loop-number.number d x c.loop-number-test.true) c.part_of-allowed.ensures c.decider_if.ensures c.in_ok-push_any.ensures c.left_of-left.ensures c.loop-number.invariant
+pub loop-rule-preserved : goal.loop-rule-preserved
+loop-rule-preserved c =
+    let d : Told = record { rule = 0; saying = record { holds = false; deny = false; perms = record { 0 = 0 } } } in
+    let x : Told = get_or c.args.told.now c.loop-rule.rule-index d in
+    first_go c.loop-rule.left.0 c.left_of-left.result.0 c.loop-rule.rule-index c.args.told.now x c.loop-rule.found.items c.push_any.new.found.items _ c.named_by.result c.part_of.result.0 c.loop-rule-test.true
+    (get_or_default c.args.told.now c.loop-rule.rule-index d x c.loop-rule-test.true) c.part_of.ensures c.named_by.ensures c.in_ok-push_any.ensures c.left_of-left.ensures c.loop-rule.invariant
 
 pub returns : goal.returns
-returns c = first_end c.loop-number.left.0 c.loop-number.number c.args.sayings.now c.loop-number.found.items _ c.loop-number-test.false c.loop-number.invariant
+returns c = first_end c.loop-rule.left.0 c.loop-rule.rule-index c.args.told.now c.loop-rule.found.items _ c.loop-rule-test.false c.loop-rule.invariant

@@ -5,8 +5,8 @@ use Rattle.aa_reach.proofs.answering.answers_from.Goals as goal
 
 pub loop-label-preserved : goal.loop-label-preserved
 loop-label-preserved c =
-    let view = c.args.view in
+    let going = c.args.going in
     let targets = option_map (λ ts. ts.now) c.args.targets in
-    zipped_next (IsAnswer view.as_enforced view.policies.now c.args.limit targets) c.args.labels.now c.loop-label.label-index _ _
+    zipped_next (IsAnswer going.as_enforced going.policies.now c.args.limit targets) c.args.labels.now c.loop-label.label-index _ _
     c.loop-label.answers.items c.push.new.self.items c.in_ok-answer_from.field-0
     c.loop-label-test.true refl c.in_ok-push.ensures.items c.in_ok-answer_from.ensures c.loop-label.invariant

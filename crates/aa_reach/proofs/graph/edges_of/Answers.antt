@@ -1,20 +1,25 @@
-use Rattle.std.proofs.Common.{map}
-use Rattle.std.proofs.lemmas.Result.{IfOk-weaker}
-use Rattle.aa_reach.specs.declared.answering.Told.{Told}
-use Rattle.aa_reach.specs.Routes.{routed}
-use Rattle.aa_reach.specs.Answers.{IsUntold, IsEdged}
-use Rattle.aa_reach.proofs.Telling.{edges_told, untold_edged}
+use Rattle.std.proofs.Common.{map, Err, ap}
+use Rattle.aa_reachability.specs.declared.reached.Why.TheVariants as why
+use Rattle.aa_reach.specs.Routes.{routed, barred}
+use Rattle.aa_reach.proofs.Telling.{edges_told, no_edges_told}
 use Rattle.aa_reach.proofs.graph.edges_of.Goals as goal
 
-pub returns-in_ok-routes_to-in-Ok : goal.returns-in_ok-routes_to-in-Ok
-returns-in_ok-routes_to-in-Ok c =
-    let view = c.args.view in
-    edges_told view.as_enforced view.policies.now c.args.label c.in-Ok.arrivals.items c.as_slice.result.now
-    (map routed c.in_ok-routes_to-in-Ok.field-0.items) c.in-Ok.ensures.near c.as_slice.ensures.value c.in_ok-routes_to-in-Ok.ensures
+pub returns-in_ok-from-in-Ok-clause-edges : goal.returns-in_ok-from-in-Ok-clause-edges
+returns-in_ok-from-in-Ok-clause-edges c =
+    let going = c.args.going in
+    edges_told going.as_enforced going.policies.now c.args.limit c.args.label c.in-Ok.arrivals.items c.as_slice.result.now
+    (map routed c.in_ok-routes-in-Ok.routes.items) (map barred c.new-bars.result.items) c.in-Ok.ensures.near c.in-Ok.ensures.few_patterns
+    c.as_slice.ensures.value c.in_ok-routes-in-Ok.ensures (ap (map barred) c.new-bars.ensures.items)
 
-pub returns-in-Err : goal.returns-in-Err
-returns-in-Err c =
-    let view = c.args.view in
-    IfOk-weaker c.untold.result (λ (t : Told). IsUntold view.policies.now c.args.limit t)
-    (λ (t : Told). IsEdged view.as_enforced view.policies.now c.args.limit c.args.label t)
-    (λ t is. untold_edged view.as_enforced view.policies.now c.args.limit c.args.label t is) c.untold.ensures
+pub returns-in-Err-TooManyPatterns-clause-edges : goal.returns-in-Err-TooManyPatterns-clause-edges
+returns-in-Err-TooManyPatterns-clause-edges c =
+    let going = c.args.going in
+    no_edges_told going.as_enforced going.policies.now c.args.limit c.args.label why.TooManyPatterns c.no_edges.result
+    (c.in-Err-TooManyPatterns.ensures.many_patterns (ap Err c.in-Err-TooManyPatterns.field-0-is)) c.no_edges.ensures.none c.no_edges.ensures.bars
+
+pub returns-in-Err-TooManyStates-clause-edges : goal.returns-in-Err-TooManyStates-clause-edges
+returns-in-Err-TooManyStates-clause-edges c =
+    let going = c.args.going in
+    no_edges_told going.as_enforced going.policies.now c.args.limit c.args.label why.TooManyStates c.no_edges-in-Err-TooManyStates.result
+    (c.in-Err-TooManyStates.ensures.many_states (ap Err c.in-Err-TooManyStates.field-0-is)) c.no_edges-in-Err-TooManyStates.ensures.none
+    c.no_edges-in-Err-TooManyStates.ensures.bars

@@ -9,8 +9,8 @@ use Rattle.aa_reach.proofs.graph.vertices_of.Goals as goal
 
 pub returns : goal.returns
 returns c =
-    let view = c.args.view in
-    let Is = IsVertex view.as_enforced view.policies.now c.args.limit in
+    let going = c.args.going in
+    let Is = IsVertex going.as_enforced going.policies.now c.args.limit in
     IfOk-weaker c.vertices_at.result (λ (list : Vec Vertex Global). AllZip Is c.as_slice.result.now list.items)
-    (λ (list : Vec Vertex Global). AreVertices view.as_enforced view.policies.now c.args.limit list.items)
+    (λ (list : Vec Vertex Global). AreVertices going.as_enforced going.policies.now c.args.limit list.items)
     (λ list are. subst (λ (ls : List Label). AllZip Is ls list.items) (c.as_slice.ensures.value ∙ c.in_ok-labels.ensures) are) c.vertices_at.ensures

@@ -6,8 +6,8 @@ use Rattle.aa_reach.proofs.routes.routes_to.Goals as goal
 
 pub loop-number-preserved : goal.loop-number-preserved
 loop-number-preserved c = λ ways are.
-    let e = c.args.view.as_enforced in
-    let ps = c.args.view.policies.now in
+    let e = c.args.going.as_enforced in
+    let ps = c.args.going.policies.now in
     let targets = option_map (λ ts. ts.now) c.args.targets in
     let arrivals = c.args.arrivals.now in
     let n = c.loop-number.number in

@@ -4,8 +4,8 @@ use Rattle.aa_reach.proofs.routes.turns_of.Given as goal
 
 abbrev pub invariant-loop-rest : goal.invariant-loop-rest
 invariant-loop-rest l =
-    map turned l.turns.items ++ turns_by l.view.as_enforced l.view.policies.now l.label l.rest
-    ≡ turns_by l.view.as_enforced l.view.policies.now l.fn.from l.requests
+    map turned l.turns.items ++ turns_by l.going.as_enforced l.going.policies.now l.label l.rest
+    ≡ turns_by l.going.as_enforced l.going.policies.now l.fn.from l.requests
 
 abbrev pub decreases-loop-rest : goal.decreases-loop-rest
 decreases-loop-rest l = length l.rest

@@ -1,9 +1,8 @@
-use Rattle.std.proofs.Common.{◌≡◌, List, Contains, sym, ◌∙◌, subst, arith}
-use Rattle.std.proofs.lemmas.List.{get_or_read}
+use Rattle.std.proofs.Common.{List, Contains, sym, subst, arith}
 use Rattle.aa_model.specs.declared.request.Request.{Request}
 use Rattle.aa_reachability.specs.declared.trail.Arrival.{Arrival}
 use Rattle.aa_reachability.specs.Moves.{LeadAllBy}
-use Rattle.aa_reachability.specs.Trail.{no_arrival, arrival_at, AreFollowedBy}
+use Rattle.aa_reachability.specs.Trail.{arrival_at}
 use Rattle.aa_reachability.proofs.Reaching.{extends_at, extends_length, followed_all}
 use Rattle.aa_reachability.proofs.search.follow_all.Goals as goal
 
@@ -13,11 +12,8 @@ returns-clause-followed c =
     let was = c.args.trail.now.arrivals.items in
     let now = c.follow_each.new.trail.arrivals.items in
     let n = c.args.number in
-    let requests = c.in_ok-requests.requests.items in
+    let requests = c.args.requests.now in
     let made = c.in_ok-follow_each.ensures in
-    let read : c.index.result.now ≡ arrival_at was n = get_or_read was n c.index.result.now c.requires.within c.index.ensures no_arrival in
-    let same : c.index.result.now ≡ arrival_at now n = read ∙ sym (extends_at was now made.extends n c.requires.within) in
-    let lead : LeadAllBy g (arrival_at now n).label requests = subst (λ (x : Arrival). LeadAllBy g x.label requests) same c.in_ok-requests.ensures.lead in
-    let each : AreFollowedBy g now n (Contains requests) = λ r among. made.followed r
-    (subst (λ (xs : List Request). Contains xs r) (sym c.as_slice.ensures.value) among) in
-    followed_all g now n requests (omega (arith, c.requires.within, extends_length was now made.extends)) lead each
+    let lead : LeadAllBy g (arrival_at now n).label requests =
+    subst (λ (x : Arrival). LeadAllBy g x.label requests) (sym (extends_at was now made.extends n c.requires.within)) c.requires.lead in
+    followed_all g now n requests (omega (arith, c.requires.within, extends_length was now made.extends)) lead made.followed

@@ -22,7 +22,7 @@ loop-request-preserved c =
     record {
       trail = made.trail;
       level = made.level;
-      extends = extends_on first was now inv.extends made.extends;
+      extends = extends_on n first was now inv.extends made.extends;
       behind = elements_more c.args.requests.now c.loop-request.request-index c.request-item.result (Leads was)
           (Leads now) c.loop-request-test.true c.request-item.is
           (λ r. within_on was now made.extends (label_in g (arrival_at first n).label r) many)

@@ -8,7 +8,7 @@ abbrev pub invariant-loop-request : goal.invariant-loop-request
 invariant-loop-request l = record {
   trail : IsTrail l.going l.from l.trail.known.keys l.trail.arrivals.items;
   level : IsLevel l.trail.arrivals.items l.number;
-  extends : Extends l.fn.trail.arrivals.items l.trail.arrivals.items;
+  extends : Extends l.number l.fn.trail.arrivals.items l.trail.arrivals.items;
   behind : (k : ℕ) (r : Request) → k < l.request-index → get_or l.requests k r ≡ r
       → IsWithin l.trail.arrivals.items (label_in l.going (arrival_at l.fn.trail.arrivals.items l.number).label r)
       ((arrival_at l.fn.trail.arrivals.items l.number).length + 1);

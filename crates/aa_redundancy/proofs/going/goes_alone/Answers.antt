@@ -1,6 +1,6 @@
 use Rattle.std.proofs.Common.{◌≡◌, List, Bool, sym, subst}
 use Rattle.aa_redundancy.specs.Without.{only, marked}
-use Rattle.aa_redundancy.proofs.Gone.{table_same}
+use Rattle.aa_redundancy.proofs.Gone.{tables_same}
 use Rattle.aa_redundancy.proofs.Marking.{one_marked, none_again}
 use Rattle.aa_redundancy.proofs.going.goes_alone.Goals as goal
 
@@ -9,12 +9,12 @@ returns-clause-still c = none_again c.args.gone.now.items c.args.number c.requir
 
 pub returns-clause-same : goal.returns-clause-same
 returns-clause-same c = λ e.
-    table_same c.args.table.now (marked c.as_slice.result.now) (only c.args.number)
+    tables_same c.args.tables.now (marked c.as_slice.result.now) (only c.args.number)
     (λ n. subst (λ (fs : List Bool). marked fs n ≡ only c.args.number n) (sym c.as_slice.ensures.value) (one_marked c.args.gone.now.items c.args.number c.requires.none c.requires.within n))
-    (c.same_table-goes.ensures.same e)
+    (c.same_tables-goes.ensures.same e)
 
 pub returns-clause-differs : goal.returns-clause-differs
 returns-clause-differs c = λ e s.
-    c.same_table-goes.ensures.differs e
-    (table_same c.args.table.now (only c.args.number) (marked c.as_slice.result.now)
+    c.same_tables-goes.ensures.differs e
+    (tables_same c.args.tables.now (only c.args.number) (marked c.as_slice.result.now)
     (λ n. sym (subst (λ (fs : List Bool). marked fs n ≡ only c.args.number n) (sym c.as_slice.ensures.value) (one_marked c.args.gone.now.items c.args.number c.requires.none c.requires.within n))) s)

@@ -9,8 +9,9 @@ use Rattle.aa_representatives.specs.Askable.{IsAskable}
 use Rattle.aa_reachability.specs.declared.trail.Step.{Step}
 use Rattle.aa_reachability.specs.declared.trail.Arrival.{Arrival}
 use Rattle.aa_reachability.specs.Moves.{label_in}
-use Rattle.aa_reachability.specs.Trail.{no_arrival, arrival_at, IsTrail, IsLevel, IsWithin}
-use Rattle.aa_reachability.proofs.Stepping.{trail_more, level_more, reached_more, reached_known, is_known, added_keys}
+use Rattle.aa_reachability.specs.Trail.{no_arrival, arrival_at, IsTrail, IsLevel, IsWithin, Extends}
+use Rattle.aa_reachability.proofs.Stepping.{trail_more, level_more, extends_more, reached_more, reached_known, is_known, added_keys}
+use Rattle.aa_reachability.proofs.Reaching.{extends_none}
 use Rattle.aa_reachability.proofs.trail.Trail.follow.Goals as goal
 
 pub returns-then-not-is_new-clause-reached : goal.returns-then-not-is_new-clause-reached
@@ -19,7 +20,7 @@ returns-then-not-is_new-clause-reached c =
     let read : c.index-before.result.now ≡ arrival_at arrivals c.args.number =
     get_or_read arrivals c.args.number c.index-before.result.now c.requires.within c.index-before.ensures no_arrival in
     let label : c.label_after-label.result ≡ label_in c.args.going (arrival_at arrivals c.args.number).label c.args.request.now =
-    c.label_after-label.ensures ∙ ap (λ (a : Arrival). label_in c.args.going a.label c.args.request.now) read in
+    c.label_after-label.ensures.same ∙ ap (λ (a : Arrival). label_in c.args.going a.label c.args.request.now) read in
     let known : list_any (nat_eq c.code_of.result) c.args.self.now.known.keys ≡ true =
     is_known (list_any (nat_eq c.code_of.result) c.args.self.now.known.keys) c.in_ok-is_new.is_new c.in_ok-is_new.ensures.added c.if-not-is_new.true in
     subst (λ (l : Label). IsWithin arrivals l ((arrival_at arrivals c.args.number).length + 1)) label
@@ -34,7 +35,7 @@ returns-clause-trail c =
     let same : c.in_ok-request.request ≡ c.args.request.now = c.in_ok-request.ensures.same in
     let asked : IsAskable c.in_ok-request.request = subst IsAskable (sym same) c.requires.asked in
     let label : c.label_after-label.result ≡ label_in c.args.going (arrival_at arrivals c.args.number).label c.in_ok-request.request =
-    c.label_after-label.ensures ∙ ap (λ (a : Arrival). label_in c.args.going a.label c.args.request.now) read
+    c.label_after-label.ensures.same ∙ ap (λ (a : Arrival). label_in c.args.going a.label c.args.request.now) read
     ∙ ap (λ (r : Request). label_in c.args.going (arrival_at arrivals c.args.number).label r) (sym same) in
     let long : c.index-before.result.now.length + 1 ≡ (arrival_at arrivals c.args.number).length + 1 = ap (λ (a : Arrival). a.length + 1) read in
     let keys = added_keys c.args.self.now.known.keys c.insert_full.new.self.keys c.code_of.result c.in_ok-is_new.is_new c.in_ok-is_new.ensures.added c.if-not-is_new.false
@@ -45,6 +46,24 @@ returns-clause-trail c =
     subst (IsTrail c.args.going c.args.from c.insert_full.new.self.keys) (sym c.in_ok-push.ensures.items)
     made
 
+pub returns-then-not-is_new-clause-extends : goal.returns-then-not-is_new-clause-extends
+returns-then-not-is_new-clause-extends c = extends_none c.args.number c.args.self.now.arrivals.items
+
+pub returns-clause-extends : goal.returns-clause-extends
+returns-clause-extends c =
+    let arrivals = c.args.self.now.arrivals.items in
+    let read : c.index-before.result.now ≡ arrival_at arrivals c.args.number =
+    get_or_read arrivals c.args.number c.index-before.result.now c.requires.within c.index-before.ensures no_arrival in
+    let same : c.in_ok-request.request ≡ c.args.request.now = c.in_ok-request.ensures.same in
+    let asked : IsAskable c.in_ok-request.request = subst IsAskable (sym same) c.requires.asked in
+    let label : c.label_after-label.result ≡ label_in c.args.going (arrival_at arrivals c.args.number).label c.in_ok-request.request =
+    c.label_after-label.ensures.same ∙ ap (λ (a : Arrival). label_in c.args.going a.label c.args.request.now) read
+    ∙ ap (λ (r : Request). label_in c.args.going (arrival_at arrivals c.args.number).label r) (sym same) in
+    let long : c.index-before.result.now.length + 1 ≡ (arrival_at arrivals c.args.number).length + 1 = ap (λ (a : Arrival). a.length + 1) read in
+    subst (Extends c.args.number arrivals) (sym c.in_ok-push.ensures.items)
+    (extends_more c.args.going c.args.from c.args.self.now.known.keys arrivals c.requires.trail c.args.number c.in_ok-request.request c.label_after-label.result
+    c.requires.within c.requires.level asked label c.code_of.ensures.fits (c.index-before.result.now.length + 1) long)
+
 pub returns-clause-level : goal.returns-clause-level
 returns-clause-level c =
     let arrivals = c.args.self.now.arrivals.items in
@@ -53,7 +72,7 @@ returns-clause-level c =
     let same : c.in_ok-request.request ≡ c.args.request.now = c.in_ok-request.ensures.same in
     let asked : IsAskable c.in_ok-request.request = subst IsAskable (sym same) c.requires.asked in
     let label : c.label_after-label.result ≡ label_in c.args.going (arrival_at arrivals c.args.number).label c.in_ok-request.request =
-    c.label_after-label.ensures ∙ ap (λ (a : Arrival). label_in c.args.going a.label c.args.request.now) read
+    c.label_after-label.ensures.same ∙ ap (λ (a : Arrival). label_in c.args.going a.label c.args.request.now) read
     ∙ ap (λ (r : Request). label_in c.args.going (arrival_at arrivals c.args.number).label r) (sym same) in
     let long : c.index-before.result.now.length + 1 ≡ (arrival_at arrivals c.args.number).length + 1 = ap (λ (a : Arrival). a.length + 1) read in
     subst (λ l. IsLevel l c.args.number) (sym c.in_ok-push.ensures.items)
@@ -68,7 +87,7 @@ returns-clause-reached c =
     let same : c.in_ok-request.request ≡ c.args.request.now = c.in_ok-request.ensures.same in
     let asked : IsAskable c.in_ok-request.request = subst IsAskable (sym same) c.requires.asked in
     let label : c.label_after-label.result ≡ label_in c.args.going (arrival_at arrivals c.args.number).label c.in_ok-request.request =
-    c.label_after-label.ensures ∙ ap (λ (a : Arrival). label_in c.args.going a.label c.args.request.now) read
+    c.label_after-label.ensures.same ∙ ap (λ (a : Arrival). label_in c.args.going a.label c.args.request.now) read
     ∙ ap (λ (r : Request). label_in c.args.going (arrival_at arrivals c.args.number).label r) (sym same) in
     let long : c.index-before.result.now.length + 1 ≡ (arrival_at arrivals c.args.number).length + 1 = ap (λ (a : Arrival). a.length + 1) read in
     let step : Step = record { from = c.args.number; request = c.in_ok-request.request } in

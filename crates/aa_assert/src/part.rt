@@ -1,0 +1,11 @@
+//! What claims are answered by.
+
+use aa_command::Decided;
+use aa_skipped::Skipped;
+
+/// The one policy of the files that are read, and the files that are skipped.
+#[derive(Clone, Copy)]
+pub(crate) struct Part<'a> {
+    pub(crate) decided: Decided<'a>,
+    pub(crate) skipped: &'a [Skipped],
+}

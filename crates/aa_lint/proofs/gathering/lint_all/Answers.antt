@@ -1,0 +1,11 @@
+use Rattle.std.proofs.Common.{ℕ, subst, IfOk}
+use Rattle.aa_files.specs.Texts.{texts}
+use Rattle.aa_lint.specs.declared.gathering.Lint.{Lint}
+use Rattle.aa_lint.specs.Lint.{AreTold, count_of, lint_data}
+use Rattle.aa_lint.proofs.gathering.lint_all.Goals as goal
+
+pub returns : goal.returns
+returns c =
+    let d = c.args.decided in
+    let except = texts c.args.except.now in
+    subst (λ (limit : ℕ). IfOk c.lint_within.result (λ (l : Lint). AreTold d limit except (count_of d.policies.now) (lint_data l))) c.limit_of.ensures.is c.lint_within.ensures

@@ -1,0 +1,38 @@
+use Rattle.std.proofs.Common.{[], length, refl, sym, inl, inr}
+use Rattle.std.proofs.lemmas.List.{append-nil}
+use Rattle.std.specs.List.{slice_get}
+use Rattle.std.proofs.lemmas.Option.{slice_get_read, slice_get_past}
+use Rattle.aa_redundancy.proofs.Placing.{none_there, both_there}
+use Rattle.aa_redundancy.proofs.redundant.push_tables_at.Goals as goal
+
+pub returns-in_default-clause-tables : goal.returns-in_default-clause-tables
+returns-in_default-clause-tables c =
+    let ps = c.args.profiles.now in
+    let ns = c.args.numbers.now in
+    let i = c.args.number in
+    ([], sym (append-nil c.args.tables.now.items), none_there (slice_get ps i) (slice_get ns i) (inr (slice_get_past ns i c.in_default.ensures'.lookup.3)))
+
+pub returns-in_default-2-clause-tables : goal.returns-in_default-2-clause-tables
+returns-in_default-2-clause-tables c =
+    let ps = c.args.profiles.now in
+    let ns = c.args.numbers.now in
+    let i = c.args.number in
+    ([], sym (append-nil c.args.tables.now.items), none_there (slice_get ps i) (slice_get ns i) (inl (slice_get_past ps i c.in_default.ensures.lookup.3)))
+
+pub returns-in-Ok-clause-tables : goal.returns-in-Ok-clause-tables
+returns-in-Ok-clause-tables c =
+    let ps = c.args.profiles.now in
+    let ns = c.args.numbers.now in
+    let i = c.args.number in
+    let p = c.in-Some-Some.profile.now in
+    let n = c.in-Some-Some.numbers.now in
+    let one = slice_get_read ps (length ps) i p refl c.in-Some-Some.ensures.lookup.3.0 c.in-Some-Some.ensures.lookup.1 in
+    let other = slice_get_read ns (length ns) i n refl c.in-Some-Some.ensures'.lookup.3.0 c.in-Some-Some.ensures'.lookup.1 in
+    let h = c.in-Ok.ensures.tables in
+    (h.0, h.1, both_there (slice_get ps i) (slice_get ns i) p n h.0 one other h.2)
+
+pub returns-in-Err-clause-refused : goal.returns-in-Err-clause-refused
+returns-in-Err-clause-refused c =
+    let ps = c.args.profiles.now in
+    let p = c.in-Some-Some.profile.now in
+    (p, slice_get_read ps (length ps) c.args.number p refl c.in-Some-Some.ensures.lookup.3.0 c.in-Some-Some.ensures.lookup.1, c.in-Err.ensures.many)

@@ -1,0 +1,74 @@
+-- What `redundant` prints.
+-- Source: own.
+use Rattle.std.specs.Prelude.{◌≡◌, ℕ, ◌==◌, List, [], ◌++◌, length, codes, Bool, Some, slice_get, if◌then◌else◌}
+use Rattle.std.specs.Option.{option_map_or}
+use Rattle.aa_base.specs.Values.{value}
+use Rattle.aa_files.specs.Texts.{texts}
+use Rattle.aa_model.specs.declared.policy.Policy.{Policy}
+use Rattle.aa_model.specs.declared.policy.Profile.{Profile}
+use Rattle.aa_load.specs.UnitPolicy.{limit_of}
+use Rattle.aa_command.specs.declared.decided.Decided.{Decided}
+use Rattle.aa_command.specs.Setting.{Setting}
+use Rattle.aa_command.specs.Printed.{Printed, faults_alone}
+use Rattle.aa_command.specs.Policies.{IsPrintedFor}
+use Rattle.aa_redundancy.specs.declared.going.Going.{Going}
+use Rattle.aa_redundancy.specs.declared.fault.RedundancyFault.{RedundancyFault}
+use Rattle.aa_redundancy.specs.declared.fault.RedundancyFault.TheVariants.{NoMemory, TooManyPatterns, TooManyStates}
+use Rattle.aa_redundancy.specs.Faults.{IsFaultIn}
+use Rattle.aa_redundancy.specs.Places.{SameProfiles}
+use Rattle.aa_redundancy.specs.Going.{AreGoing}
+use Rattle.aa_redundant.specs.declared.command.RedundantOptions.{RedundantOptions}
+use Rattle.aa_redundant.specs.Places.{all_places, all_numbers}
+use Rattle.aa_redundant.specs.Told.{Telling, rules_of}
+use Rattle.aa_redundant.specs.Shown.{rules_text}
+use Rattle.aa_redundant.specs.Json.{json_rules}
+
+-- the profiles of the first policy
+abbrev pub first_profiles : List Policy → List Profile
+first_profiles policies = option_map_or (λ (p : Policy). p.profiles) (slice_get policies 0) []
+
+-- nothing changes for any profile when the rules of some places go
+abbrev pub Spares : Decided → (ℕ → Bool) → Type 0
+Spares d gone = SameProfiles (first_profiles d.policies.now) (all_numbers d) (length (first_profiles d.policies.now)) gone
+
+-- the rules that can go by themselves, and those that can go together
+abbrev pub answers_text : Bool → List Telling → List Telling → List ℕ
+answers_text is_json redundant going = if is_json then json_rules redundant going else rules_text redundant going
+
+-- 4 where a rule can go
+abbrev pub status_of : List Telling → ℕ
+status_of redundant = if length redundant == 0 then 0 else 4
+
+-- so they are printed
+abbrev pub rules_printed : Bool → List Telling → List Telling → Printed
+rules_printed is_json redundant going =
+    record { answers = answers_text is_json redundant going; faults = codes ""; refusal = codes ""; status = status_of redundant }
+
+-- the rules of the places that can go
+abbrev pub going_printed : Bool → Decided → Going → Printed
+going_printed is_json d g =
+    rules_printed is_json (rules_of d.units.now g.alone.items (all_places d)) (rules_of d.units.now g.together.items (all_places d))
+
+-- why it can't be told
+abbrev pub why_of : RedundancyFault → List ℕ
+why_of NoMemory = codes "memory ran out"
+why_of TooManyPatterns = codes "there are more than 65535 patterns"
+why_of TooManyStates = codes "its patterns need too many states together; --states allows more"
+
+-- of which profile it can't be told
+unfoldable pub untold_head : List ℕ → List ℕ
+untold_head name = codes "error: of " ++ value name ++ codes " it can't be told which rules are redundant: "
+
+-- and why, in a line
+abbrev pub untold_line : List ℕ → RedundancyFault → List ℕ
+untold_line name e = untold_head name ++ why_of e ++ codes "\n"
+
+-- what is printed of the policy that files are: the rules of the places that can go, or of which profile that can't be told
+pub data IsRedundantOf (states : ℕ) (o : RedundantOptions) (d : Decided) (out : Printed) : Type 0 where
+  CanTell : (g : Going) → AreGoing (Spares d) (length (all_places d)) g → out ≡ going_printed o.is_json d g → IsRedundantOf states o d out
+  CantTell : (k : ℕ) (p : Profile) (e : RedundancyFault) → slice_get (first_profiles d.policies.now) k ≡ Some p → IsFaultIn p (limit_of states) e
+      → out ≡ faults_alone (untold_line p.name e) 1 → IsRedundantOf states o d out
+
+-- what `redundant` prints
+abbrev pub IsRedundantOutput : Setting → RedundantOptions → Printed → Type 0
+IsRedundantOutput s o out = IsPrintedFor s (texts o.files.now) (IsRedundantOf s.states o) out

@@ -1,0 +1,5 @@
+pub mod Places
+pub mod Told
+pub mod Shown
+pub mod Json
+pub mod Command
