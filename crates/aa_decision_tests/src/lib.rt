@@ -32,5 +32,7 @@ mod representative_tests;
 mod skipping_tests;
 #[cfg(test)]
 mod texts;
+#[cfg(test)]
+mod unclean_path_tests;
 
 pub use plain::verdict_by_rules;
