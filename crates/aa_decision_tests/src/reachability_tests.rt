@@ -60,6 +60,10 @@ const ARRIVALS: &str = "\
     §profile a { /x ux, } profile b /y { }»a 0 |unconfined 1 x:/x|b 2 x:/y|\
     §Changes of profile\
     §profile a { change_profile -> b, } profile b { } profile c { }»a 0 |b 1 change:b|\
+    §Changes of which a rule denies one\
+    §profile a { change_profile -> b, deny change_profile -> b, change_profile -> c, } profile b { } profile c { }»a 0 |c 1 change:c|\
+    §Changes to names that a pattern matches\
+    §profile a { change_profile -> b*, } profile b1 { } profile c { }»a 0 |b1 1 change:b1|\
     §A label of the policy of a task that may ask for another\
     §profile a { /x r, }¦profile a { /x w, }»a 0 |a@1 1 reload:1|";
 
@@ -103,7 +107,7 @@ fn each_way_leads_to_its_label(rt: HostRuntime) {
 #[test]
 fn a_label_is_named_behind_which_patterns_need_too_many_states(rt: HostRuntime) {
     let text =
-        "profile a { /x px -> b, /y px -> c, } profile b { /**a??????? r, /z px -> d, } profile c { } profile d { }";
+        "profile a { /x px -> b, /y px -> c, } profile b { /**a??????? rix, /z px -> d, } profile c { } profile d { }";
     let list = policies_in(&rt, text);
     let found = found_from(&rt, list.as_slice(), FIRST, 64);
     let told = told(&rt, list.as_slice(), found.arrivals.as_slice());

@@ -5,9 +5,7 @@ use crate::texts::policies_in;
 use aa_base::Seq;
 use aa_compile::Compiled;
 use aa_model::Profile;
-use aa_redundancy::{
-    Going, PlaceNumbers, PolicyRedundancyFault, RedundancyFault, redundant_places,
-};
+use aa_redundancy::{Excess, Going, PlaceNumbers, PolicyRedundancyFault, redundant_places};
 use std::process::Abort;
 
 /// So many numbers that nothing before has.
@@ -156,7 +154,7 @@ fn the_profile_is_named_whose_patterns_need_too_many_states(rt: HostRuntime) {
     let refused = redundant_places(rt.alloc(), profiles, places.as_slice(), 0, 7);
     let is_so = matches!(
         refused,
-        Err(PolicyRedundancyFault::OfProfile(1, RedundancyFault::TooManyStates))
+        Err(PolicyRedundancyFault::OfProfile(1, Excess::States))
     );
     holds(&rt, is_so);
 }

@@ -3,3 +3,4 @@ mod Sided
 mod Lists
 mod Telling
 mod Merging
+mod Quiet

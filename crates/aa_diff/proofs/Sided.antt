@@ -1,6 +1,5 @@
 -- A side is refused, or its policy gives what is printed.
-use Rattle.std.proofs.Common.{Result, Ok, Err, IfOk, ◌≡◌, ℕ, ◌<◌, ◌≤◌, ◌⊎◌, inl, inr, List, refl, ap, sym, ◌∙◌, subst, arith, ⊎_elim}
-use Rattle.std.proofs.lemmas.Bool.{cases_lt}
+use Rattle.std.proofs.Common.{Result, Ok, Err, IfOk, ◌≡◌, ℕ, ◌<◌, ◌≤◌, ◌⊎◌, inl, inr, List, [], Bool, true, false, refl, ap, sym, ◌∙◌, subst, arith, ⊎_elim}
 use Rattle.aa_files.specs.declared.unit.Unit as unit
 use Rattle.aa_files.specs.declared.unit.UnitFault.{UnitFault}
 use Rattle.aa_files.specs.declared.unit.UnitFault.TheVariants.{NoMemory, At, Ambiguous}
@@ -12,8 +11,12 @@ use Rattle.aa_text.specs.declared.memory.NoMemory.{NoMemory as NoMemoryLeft}
 use Rattle.aa_command.specs.declared.output.Output.{Output}
 use Rattle.aa_command.specs.Printed.{Printed, printed}
 use Rattle.aa_command.specs.Refusals.{SaysUnitFault, SaysLoadingFault}
-use Rattle.aa_command.specs.Policies.{Refused, Decides, Unread, Read, IsPrintedFor, NoRoots, Rooted, behind_warnings}
+use Rattle.aa_command.specs.Policies.{Refused, Decides, Unread, Read, IsPrintedBy, IsPrintedFor, NoRoots, Rooted, behind_warnings}
+use Rattle.aa_skipped.specs.declared.skipped.Skipped.{Skipped}
+use Rattle.aa_skipped.specs.Telling.{behind_skipped}
+use Rattle.aa_skipped.specs.Policies.{IsPrintedOf, NoRoots as NoRootsOf, Rooted as RootedOf}
 use Rattle.aa_diff.specs.Sides.{IsRefused, behind, marked, IsMarked, IsGiven, IsOfSide, Refused as SideRefused, Compared}
+use Rattle.aa_diff.specs.Sides.{IsRefusedBeside, IsGivenBeside, IsOfPart, PartRefused, PartCompared, IsSide}
 
 -- what is printed of the files of arguments: that they are refused, or what their policy gives
 pub split : (s : Setting) (arguments : List (List ℕ)) (gives : Decided → Printed → Type 0) (out : Printed) → IsPrintedFor s arguments gives out
@@ -68,60 +71,126 @@ marked_once : (p q : Printed) → marked p ≡ marked q → p ≡ q
 marked_once p q e =
     same_parts p q (ap (λ (x : Printed). x.answers) e) (ap (λ (x : Printed). x.faults) e) (ap (λ (x : Printed). x.refusal) e) (omega (arith, ap (λ (x : Printed). x.status) e))
 
-module _ (side : List ℕ) (s : Setting) (arguments : List (List ℕ)) (gives : Decided → Printed → Type 0) where
-  -- what is marked was given, behind warnings too
-  marked_is : (d : Decided) (out given : Printed) (g : IsGiven s arguments (IsMarked gives) d out) → out ≡ marked given → behind_warnings g.read.warnings g.gives_it.given ≡ given
-  marked_is d out given g is =
-      let own : out ≡ marked (behind_warnings g.read.warnings g.gives_it.given) = g.is ∙ ap (behind_warnings g.read.warnings) g.gives_it.is in
-      marked_once (behind_warnings g.read.warnings g.gives_it.given) given (sym own ∙ is)
+-- what is printed of a side is a refusal, or what was given, marked
+abbrev pub IsTwo : List ℕ → (Printed → Type 0) → Printed → Type 0
+IsTwo side Of out = ((out.status < 128) × Of (behind side out)) ⊎ ((given : Printed) × (out ≡ marked given) × (given.status < 128) × Of given)
 
-  pub given_side : (out given : Printed) → 128 ≤ out.status → out ≡ marked given → IsPrintedFor s arguments (IsMarked gives) out → IsOfSide side s arguments gives given
-  given_side out given high is printed =
-      ⊎_elim
-      (λ (refused : IsRefused s arguments out). absurd (let low = refused_low s arguments out refused in omega (arith, high, low)))
-      (λ (h : (d : Decided) × IsGiven s arguments (IsMarked gives) d out).
-      Compared h.0 (record { read = h.1.read; own = h.1.gives_it.given; gives_it = h.1.gives_it.gives_it; is = sym (marked_is h.0 out given h.1 is) }))
-      (split s arguments (IsMarked gives) out printed)
-
-  pub given_low : (out given : Printed) → 128 ≤ out.status → out ≡ marked given → IsPrintedFor s arguments (IsMarked gives) out → given.status < 128
-  given_low out given high is printed =
-      ⊎_elim
-      (λ (refused : IsRefused s arguments out). absurd (let low = refused_low s arguments out refused in omega (arith, high, low)))
-      (λ (h : (d : Decided) × IsGiven s arguments (IsMarked gives) d out).
-      subst (λ (p : Printed). p.status < 128) (marked_is h.0 out given h.1 is) h.1.gives_it.low)
-      (split s arguments (IsMarked gives) out printed)
-
-  -- what isn't is a refusal
-  pub refused_side : (out : Printed) → out.status < 128 → IsPrintedFor s arguments (IsMarked gives) out → IsOfSide side s arguments gives (behind side out)
-  refused_side out low printed =
-      ⊎_elim
-      (λ (refused : IsRefused s arguments out). SideRefused out refused refl)
-      (λ (h : (d : Decided) × IsGiven s arguments (IsMarked gives) d out).
-      absurd (let n = ap (λ (p : Printed). p.status) (h.1.is ∙ ap (behind_warnings h.1.read.warnings) h.1.gives_it.is) in omega (arith, low, n)))
-      (split s arguments (IsMarked gives) out printed)
-
+module _ (side : List ℕ) (Of : Printed → Type 0) (out told : Printed) (two : IsTwo side Of out)
+    (given : 128 ≤ out.status → out ≡ marked told) (refused : out.status < 128 → told ≡ behind side out) where
   -- which it is is told by the status
-  pub side_of : (out told : Printed) → (128 ≤ out.status → out ≡ marked told) → (out.status < 128 → told ≡ behind side out) → IsPrintedFor s arguments (IsMarked gives) out → IsOfSide side s arguments gives told
-  side_of out told given refused printed =
+  pub side_of : Of told × (told.status < 128)
+  side_of =
       ⊎_elim
-      (λ (low : out.status < 128). subst (λ (p : Printed). IsOfSide side s arguments gives p) (sym (refused low)) (refused_side out low printed))
-      (λ (high : 128 ≤ out.status). given_side out told high (given high) printed)
-      (cases_lt out.status 128)
+      (λ (r : (out.status < 128) × Of (behind side out)).
+      (subst Of (sym (refused r.0)) r.1, subst (λ (n : ℕ). n < 128) (sym (ap (λ (p : Printed). p.status) (refused r.0))) r.0))
+      (λ (g : (p : Printed) × (out ≡ marked p) × (p.status < 128) × Of p).
+      let high : 128 ≤ out.status = subst (λ (n : ℕ). 128 ≤ n) (sym (ap (λ (p : Printed). p.status) g.1)) (omega arith) in
+      let same : g.0 ≡ told = marked_once g.0 told (sym g.1 ∙ given high) in
+      (subst Of same g.3, subst (λ (p : Printed). p.status < 128) same g.2))
+      two
 
-  pub side_low : (out told : Printed) → (128 ≤ out.status → out ≡ marked told) → (out.status < 128 → told ≡ behind side out) → IsPrintedFor s arguments (IsMarked gives) out → told.status < 128
-  side_low out told given refused printed =
+-- so of an output
+module _ (side : List ℕ) (Of : Printed → Type 0) (r : Result Output NoMemoryLeft) (q : Printed)
+    (given : IfOk r (λ (out : Output). 128 ≤ q.status → q ≡ marked (printed out))) (refused : IfOk r (λ (out : Output). q.status < 128 → printed out ≡ behind side q))
+    (two : IsTwo side Of q) where
+  pub sided : IfOk r (λ (out : Output). Of (printed out))
+  sided = by r given refused
+    where
+      by : (x : Result Output NoMemoryLeft) → IfOk x (λ (out : Output). 128 ≤ q.status → q ≡ marked (printed out)) → IfOk x (λ (out : Output). q.status < 128 → printed out ≡ behind side q)
+          → IfOk x (λ (out : Output). Of (printed out))
+      by (Ok out) g h = (side_of side Of q (printed out) two g h).0
+      by (Err e) g h = tt
+
+  pub sided_low : IfOk r (λ (out : Output). out.status < 128)
+  sided_low = by r given refused
+    where
+      by : (x : Result Output NoMemoryLeft) → IfOk x (λ (out : Output). 128 ≤ q.status → q ≡ marked (printed out)) → IfOk x (λ (out : Output). q.status < 128 → printed out ≡ behind side q)
+          → IfOk x (λ (out : Output). out.status < 128)
+      by (Ok out) g h = (side_of side Of q (printed out) two g h).1
+      by (Err e) g h = tt
+
+-- ---- all files of a side
+
+module _ (side : List ℕ) (s : Setting) (arguments : List (List ℕ)) (gives : Decided → Printed → Type 0) where
+  pub two_of : (out : Printed) → IsPrintedFor s arguments (IsMarked gives) out → IsTwo side (IsOfSide side s arguments gives) out
+  two_of out printed =
       ⊎_elim
-      (λ (low : out.status < 128). subst (λ (n : ℕ). n < 128) (sym (ap (λ (p : Printed). p.status) (refused low))) low)
-      (λ (high : 128 ≤ out.status). given_low out told high (given high) printed)
-      (cases_lt out.status 128)
+      (λ (refused : IsRefused s arguments out). inl (refused_low s arguments out refused, SideRefused out refused refl))
+      (λ (h : (d : Decided) × IsGiven s arguments (IsMarked gives) d out).
+      let own = behind_warnings h.1.read.warnings h.1.gives_it.given in
+      inr (
+        own,
+        h.1.is ∙ ap (behind_warnings h.1.read.warnings) h.1.gives_it.is,
+        h.1.gives_it.low,
+        Compared h.0 (record { read = h.1.read; own = h.1.gives_it.given; gives_it = h.1.gives_it.gives_it; is = refl }),
+      ))
+      (split s arguments (IsMarked gives) out printed)
 
-  -- so of an output
-  pub sided : (r : Result Output NoMemoryLeft) (q : Printed) → IfOk r (λ (out : Output). 128 ≤ q.status → q ≡ marked (printed out)) → IfOk r (λ (out : Output). q.status < 128 → printed out ≡ behind side q)
-      → IsPrintedFor s arguments (IsMarked gives) q → IfOk r (λ (out : Output). IsOfSide side s arguments gives (printed out))
-  sided (Ok out) q given refused is = side_of q (printed out) given refused is
-  sided (Err e) q given refused is = tt
+-- ---- those that aren't skipped
 
-  pub sided_low : (r : Result Output NoMemoryLeft) (q : Printed) → IfOk r (λ (out : Output). 128 ≤ q.status → q ≡ marked (printed out)) → IfOk r (λ (out : Output). q.status < 128 → printed out ≡ behind side q)
-      → IsPrintedFor s arguments (IsMarked gives) q → IfOk r (λ (out : Output). out.status < 128)
-  sided_low (Ok out) q given refused is = side_low q (printed out) given refused is
-  sided_low (Err e) q given refused is = tt
+-- what is printed of them: that they are refused, or what their policy gives
+part_split : (s : Setting) (arguments : List (List ℕ)) (gives : List Skipped → Decided → Printed → Type 0) (out : Printed) → IsPrintedOf s arguments gives out
+    → (IsRefusedBeside s arguments out × (out.status < 128)) ⊎ IsGivenBeside s arguments gives out
+part_split s arguments gives out (NoRootsOf e root says) = inl (NoRootsOf e root says, unit_low e out says)
+part_split s arguments gives out (RootedOf paths warnings own roots at is) = by at.own at.by at.behind
+  where
+    by : (inner : Printed) → IsPrintedBy s.folders s.states at.units (gives at.skipped) inner → own ≡ behind_skipped at.skipped inner
+        → (IsRefusedBeside s arguments out × (out.status < 128)) ⊎ IsGivenBeside s arguments gives out
+    by inner (Refused f none says) behind_is =
+        inl (
+          RootedOf paths warnings own roots (record {
+            good = at.good;
+            refused = at.refused;
+            sorted = at.sorted;
+            units = at.units;
+            skipped = at.skipped;
+            parted = at.parted;
+            own = inner;
+            by = Refused f none says;
+            behind = behind_is;
+          }) is,
+          status_low out (behind_warnings warnings own) is (status_low own (behind_skipped at.skipped inner) behind_is (loading_low s.folders s.states at.units f inner says)),
+        )
+    by inner (Decides d decided given) behind_is =
+        inr (record {
+          skipped = at.skipped;
+          decided = d;
+          read = record {
+            paths = paths;
+            warnings = warnings;
+            roots = roots;
+            good = at.good;
+            refused = at.refused;
+            sorted = at.sorted;
+            units = at.units;
+            parted = at.parted;
+            decided = decided;
+          };
+          own = inner;
+          gives_it = given;
+          is = is ∙ ap (behind_warnings warnings) behind_is;
+        })
+
+module _ (side : List ℕ) (s : Setting) (arguments : List (List ℕ)) (gives : List Skipped → Decided → Printed → Type 0) where
+  pub part_two : (out : Printed) → IsPrintedOf s arguments (λ ks d p. IsMarked (gives ks) d p) out → IsTwo side (IsOfPart side s arguments gives) out
+  part_two out printed =
+      ⊎_elim
+      (λ (refused : IsRefusedBeside s arguments out × (out.status < 128)). inl (refused.1, PartRefused out refused.0 refl))
+      (λ (h : IsGivenBeside s arguments (λ ks d p. IsMarked (gives ks) d p) out).
+      let own = behind_warnings h.read.warnings (behind_skipped h.skipped h.gives_it.given) in
+      inr (
+        own,
+        h.is ∙ ap (λ (p : Printed). behind_warnings h.read.warnings (behind_skipped h.skipped p)) h.gives_it.is,
+        h.gives_it.low,
+        PartCompared (record { skipped = h.skipped; decided = h.decided; read = h.read; own = h.gives_it.given; gives_it = h.gives_it.gives_it; is = refl }),
+      ))
+      (part_split s arguments (λ ks d p. IsMarked (gives ks) d p) out printed)
+
+-- ---- either
+
+module _ (side : List ℕ) (s : Setting) (arguments : List (List ℕ)) (gives : List Skipped → Decided → Printed → Type 0) (skips : Bool) where
+  pub all_side : skips ≡ false → (out : Printed) → IsOfSide side s arguments (gives []) out → IsSide skips side s arguments gives out
+  all_side e out is = subst (λ (b : Bool). IsSide b side s arguments gives out) (sym e) is
+
+  pub part_side : skips ≡ true → (out : Printed) → IsOfPart side s arguments gives out → IsSide skips side s arguments gives out
+  part_side e out is = subst (λ (b : Bool). IsSide b side s arguments gives out) (sym e) is

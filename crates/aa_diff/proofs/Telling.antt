@@ -30,7 +30,8 @@ use Rattle.aa_diff.specs.Findings.{who_number, kind_number, is_of_class, is_alik
 use Rattle.aa_diff.specs.Gathered.{is_single, is_mixed, is_part, is_as_well, covers, recent, hides, counted_up, changed_at, added_at, added, gathered}
 use Rattle.aa_diff.specs.Gathered.{gathered_next}
 use Rattle.aa_diff.specs.Joined.{is_one_object, joins, both_of, joined_at, joined, joined_all}
-use Rattle.aa_diff.specs.Report.{called, is_named, is_wanted, wanted_of, shown_of, lines_of}
+use Rattle.aa_diff.specs.Named.{is_named}
+use Rattle.aa_diff.specs.Report.{called, is_wanted, wanted_of, shown_of, lines_of}
 use Rattle.aa_diff.specs.Telling.{AreAmong, HoldsOf, OfAll, OfSame, TellsOf, IsToldBy, IsTold, Itself, ByPart, bare, IsOfEntry, AreLinesOf, OneGains}
 use Rattle.aa_diff.specs.Telling.{OneIsGain, LinesTellEntries}
 
@@ -101,7 +102,7 @@ each_contained P (y ∷ ys) x all (suc k, lt, is) = each_contained P ys x all.1 
 
 -- ---- findings of one class
 
-label_same : (l m : Label) → is_same l m ≡ true → l ≡ m
+pub label_same : (l m : Label) → is_same l m ≡ true → l ≡ m
 label_same (Unconfined j) (Unconfined k) e = ap Unconfined (eqb-true j k e)
 label_same (Unconfined j) (Confined k n) e = absurd cc
 label_same (Confined j m) (Unconfined k) e = absurd cc

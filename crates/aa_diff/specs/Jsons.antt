@@ -24,6 +24,8 @@ use Rattle.aa_diff.specs.Findings.{is_minor, is_profile, is_counted}
 use Rattle.aa_passed_over.specs.Apart.{ApartRule}
 use Rattle.aa_diff.specs.Lines.{Told, lines_with}
 use Rattle.aa_diff.specs.Printed.{asked_of, sign_text, side_text, name_asked}
+use Rattle.aa_diff.specs.Untold.{AllUntold}
+use Rattle.aa_diff.specs.UntoldShown.{json_all_untold}
 use Rattle.aa_diff.specs.Report.{headed, is_profile_with, profiles_counted}
 
 -- a rule: where it stands, and how it reads
@@ -95,9 +97,9 @@ abbrev pub json_names : Sign → List Finding → List ℕ
 json_names sign fs = list_text (map json_name (filter (is_profile_with sign) fs))
 
 -- how many profiles are compared, differ, are gone and are new
-unfoldable pub json_profile_counts : List Policy → List Told → List Finding → List ℕ
-json_profile_counts ps ls fs =
-    key_text (codes "compared") ++ decimal (profiles_counted ps fs) ++ member_text (codes "differ") (decimal (headed 0 None ls))
+unfoldable pub json_profile_counts : List Policy → ℕ → List Told → List Finding → List ℕ
+json_profile_counts ps out ls fs =
+    key_text (codes "compared") ++ decimal (profiles_counted ps out fs) ++ member_text (codes "differ") (decimal (headed 0 None ls))
     ++ member_text (codes "gone") (decimal (count_by (is_profile_with Loss) fs)) ++ member_text (codes "new") (decimal (count_by (is_profile_with Gain) fs))
 
 -- how many lines have each sign, and how many rules are passed over
@@ -107,8 +109,8 @@ json_line_counts fs rules =
     ++ member_text (codes "other") (decimal (count_by (is_counted Other) fs)) ++ member_text (codes "passed_over") (decimal rules)
 
 -- how many there are
-abbrev pub json_counts : List Policy → List Told → List Finding → ℕ → List ℕ
-json_counts ps ls fs rules = codes "{" ++ json_profile_counts ps ls fs ++ json_line_counts fs rules ++ codes "}"
+abbrev pub json_counts : List Policy → ℕ → List Told → List Finding → ℕ → List ℕ
+json_counts ps out ls fs rules = codes "{" ++ json_profile_counts ps out ls fs ++ json_line_counts fs rules ++ codes "}"
 
 -- the profile of a rule that is passed over, and which policy alone has it
 unfoldable pub json_rule_side : List Policy → ApartRule → List ℕ
@@ -140,12 +142,12 @@ json_head o =
     codes "{" ++ key_text (codes "old") ++ json_paths o.old.now ++ member_text (codes "new") (json_paths o.new.now)
     ++ member_text (codes "gains_alone") (bool_text o.wanted.gains)
 
--- the lines, the rules that are passed over, the profiles that are gone and that are new, and how many there are
-abbrev pub json_found : Decided → Decided → List Finding → List ApartRule → List ℕ
-json_found d e fs rs =
+-- the lines, the rules that are passed over, the profiles that are gone and that are new, how many there are, and what isn't told
+abbrev pub json_found : Decided → Decided → List Finding → List ApartRule → AllUntold → List ℕ
+json_found d e fs rs a =
     member_text (codes "lines") (json_lines d e fs) ++ member_text (codes "passed_over") (json_all_passed_over d.policies.now rs) ++ json_profiles fs
-    ++ member_text (codes "counts") (json_counts d.policies.now (lines_with fs rs) fs (length rs))
+    ++ member_text (codes "counts") (json_counts d.policies.now a.left_out (lines_with fs rs) fs (length rs)) ++ json_all_untold a
 
 -- the one object, and a line end
-abbrev pub json_report : DiffOptions → Decided → Decided → List Finding → List ApartRule → List ℕ
-json_report o d e fs rs = json_head o ++ json_found d e fs rs ++ codes "}\n"
+abbrev pub json_report : DiffOptions → Decided → Decided → List Finding → List ApartRule → AllUntold → List ℕ
+json_report o d e fs rs a = json_head o ++ json_found d e fs rs a ++ codes "}\n"

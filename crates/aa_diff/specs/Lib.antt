@@ -1,3 +1,4 @@
+pub mod Named
 pub mod Signs
 pub mod Changes
 pub mod Rules
@@ -6,8 +7,11 @@ pub mod Gathered
 pub mod Joined
 pub mod Lines
 pub mod Printed
+pub mod Untold
+pub mod UntoldShown
 pub mod Report
 pub mod Jsons
 pub mod Telling
 pub mod Sides
 pub mod Command
+pub mod Holding

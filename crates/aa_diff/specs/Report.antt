@@ -1,8 +1,6 @@
 -- The report of the differences of two policies.
 -- Source: own.
-use Rattle.std.specs.Prelude.{ℕ, List, [], ◌∷◌, ◌++◌, ◌+◌, ◌==◌, ◌&&◌, ◌||◌, not, min, Bool, codes, decimal, count_by, flat_map, length, Option, Some, None, if◌then◌else◌}
-use Rattle.std.specs.List.{list_any}
-use Rattle.std.specs.Str.{bytes_eq}
+use Rattle.std.specs.Prelude.{ℕ, List, [], ◌∷◌, ◌++◌, ◌+◌, ◌-◌, ◌==◌, ◌&&◌, ◌||◌, not, min, Bool, codes, decimal, count_by, flat_map, length, Option, Some, None, if◌then◌else◌}
 use Rattle.aa_model.specs.declared.policy.Policy.{Policy}
 use Rattle.aa_model.specs.declared.label.Label.{Label}
 use Rattle.aa_model.specs.declared.label.Label.TheVariants.{Confined}
@@ -20,16 +18,15 @@ use Rattle.aa_diff.specs.Signs.{sign_number}
 use Rattle.aa_diff.specs.Findings.{is_profile, is_counted}
 use Rattle.aa_diff.specs.Gathered.{gathered}
 use Rattle.aa_diff.specs.Joined.{joined_all}
+use Rattle.aa_diff.specs.Named.{is_named}
+use Rattle.aa_diff.specs.Untold.{AllUntold}
+use Rattle.aa_diff.specs.UntoldShown.{untold_text, skipped_text}
 use Rattle.aa_diff.specs.Lines.{Told, label_of, is_of_profile, lines_with}
 use Rattle.aa_diff.specs.Printed.{name_asked, profile_if, free_text, is_behind, confined_text}
 
 -- the name of the profile that a finding is about, or unconfined
 abbrev pub called : List Policy → Finding → List ℕ
 called ps f = if is_profile f then name_asked f.request else label_name ps f.from
-
--- the name is one of these, or there are none
-abbrev pub is_named : List (List ℕ) → List ℕ → Bool
-is_named names name = length names == 0 || list_any (λ n. bytes_eq n name) names
 
 -- a finding is shown: any or a gain, of any profile or of one of these
 abbrev pub is_wanted : List Policy → Wanted → Finding → Bool
@@ -76,18 +73,18 @@ headed n before (l ∷ ls) = if is_of_profile l then headed (headed_next n befor
 abbrev pub is_profile_with : Sign → Finding → Bool
 is_profile_with sign f = is_profile f && sign_number f.sign == sign_number sign
 
--- how many profiles are in one policy or the other
-abbrev pub profiles_counted : List Policy → List Finding → ℕ
-profiles_counted ps fs = min (length (first_profiles ps) + count_by (is_profile_with Gain) fs) 18446744073709551615
+-- how many profiles are in one policy or the other, without so many of the first that aren't compared
+abbrev pub profiles_counted : List Policy → ℕ → List Finding → ℕ
+profiles_counted ps out fs = min (length (first_profiles ps) - out + count_by (is_profile_with Gain) fs) 18446744073709551615
 
 -- a number, and what it counts
 unfoldable pub count_text : ℕ → List ℕ → List ℕ
 count_text n what = decimal n ++ what
 
 -- how many profiles differ, are gone and are new
-abbrev pub profile_counts : List Policy → List Told → List Finding → List ℕ
-profile_counts ps ls fs =
-    count_text (profiles_counted ps fs) (codes " profiles compared: ") ++ count_text (headed 0 None ls) (codes " differ, ")
+abbrev pub profile_counts : List Policy → ℕ → List Told → List Finding → List ℕ
+profile_counts ps out ls fs =
+    count_text (profiles_counted ps out fs) (codes " profiles compared: ") ++ count_text (headed 0 None ls) (codes " differ, ")
     ++ count_text (count_by (is_profile_with Loss) fs) (codes " gone, ") ++ count_text (count_by (is_profile_with Gain) fs) (codes " new; ")
 
 -- how many rules that are passed over one policy alone has, if there are any
@@ -100,11 +97,18 @@ line_counts fs =
     codes "lines: " ++ count_text (count_by (is_counted Gain) fs) (codes " gain, ") ++ count_text (count_by (is_counted Loss) fs) (codes " lose, ")
     ++ count_text (count_by (is_counted Other) fs) (codes " other")
 
--- the lines of each profile, profiles that are gone or new, the findings of unconfined tasks, and how many there are
-abbrev pub report_of : List Policy → List Told → List Finding → ℕ → List ℕ
-report_of ps ls fs rules =
-    confined_text ps None ls ++ flat_map profile_if fs ++ free_text fs ++ profile_counts ps ls fs ++ line_counts fs ++ rules_count rules
+-- the lines of each profile, profiles that are gone or new, and the findings of unconfined tasks
+abbrev pub lines_text : List Policy → List Told → List Finding → List ℕ
+lines_text ps ls fs = confined_text ps None ls ++ flat_map profile_if fs ++ free_text fs
+
+-- how many there are
+abbrev pub counts_text : List Policy → ℕ → List Told → List Finding → ℕ → List ℕ
+counts_text ps out ls fs rules = profile_counts ps out ls fs ++ line_counts fs ++ rules_count rules
+
+-- the lines, what isn't told, how many there are, and how many files are skipped
+abbrev pub report_of : List Policy → List Told → List Finding → ℕ → AllUntold → List ℕ
+report_of ps ls fs rules a = lines_text ps ls fs ++ untold_text a ++ counts_text ps a.left_out ls fs rules ++ skipped_text a
 
 -- the report of what is shown
-abbrev pub report_text : List Policy → List Finding → List ApartRule → List ℕ
-report_text ps fs rs = report_of ps (lines_with fs rs) fs (length rs)
+abbrev pub report_text : List Policy → List Finding → List ApartRule → AllUntold → List ℕ
+report_text ps fs rs a = report_of ps (lines_with fs rs) fs (length rs) a

@@ -12,21 +12,26 @@ ghost use Rattle.aa_command.specs.Printed.{printed, faults_alone};
 ghost use Rattle.aa_load.specs.UnitPolicy.{limit_of};
 ghost use Rattle.aa_passed_over.specs.Apart.{apart, all_apart};
 ghost use Rattle.aa_diff.specs.Report.{rules_shown};
-ghost use Rattle.aa_diff.specs.Sides.{IsMarked, IsOfSide};
-ghost use Rattle.aa_diff.specs.Command.{states_text, patterns_text, findings_text, reported, compared, IsCompared, IsNewSide, IsDiffOutput};
+ghost use Rattle.aa_diff.specs.Untold.{doubts_data};
+ghost use Rattle.aa_diff.specs.Sides.{IsMarked};
+ghost use Rattle.aa_diff.specs.Command.{states_text, patterns_text, findings_text, status_of, reported, printed_lines, compared, IsCompared, IsComparedBeside, IsNewSide, IsNewBeside, IsDiffOutput};
 
 use crate::change::push_label_name;
+use crate::deciding::decided_of;
 use crate::finding::Finding;
 use crate::json::push_json_report;
 use crate::options::{DiffOptions, Wanted};
+use crate::part::Part;
 use crate::report::{push_report, rules_shown, wanted_lines};
-use crate::sides::{mark, of_side};
+use crate::sides::{mark, note, of_side};
+use crate::untold::{Doubts, all_untold};
 use aa_command::{Decided, Output, Settings, Use, with_policy};
 use aa_compile::Compiled;
 use aa_differences::{Difference, DifferencesFault, policy_differences};
 use aa_files::Tree;
 use aa_model::Label;
 use aa_passed_over::{Apart, rules_apart};
+use aa_skipped::{Skipped, UsePart, with_read_policy};
 use aa_text::{NoMemory, push_number, push_text};
 use std::alloc::{AllocError, Global};
 
@@ -93,14 +98,17 @@ fn say_patterns(alloc: Global, policies: &[Compiled], label: Label) -> Result<Ou
     Ok(output)
 }
 
-/// The status of that many findings and rules.
-fn status_of(findings: usize, rules: usize) -> u8
-    ensures { result ≡ (if findings == 0 && rules == 0 then 0 else 4) }
+/// 4 where there are findings or rules that are passed over, else 5 where something isn't told.
+fn status_of(findings: usize, rules: usize, undecided: usize, apart: usize) -> u8
+    ensures { result ≡ status_of findings rules undecided apart }
 {
-    if findings == 0 && rules == 0 { 0 } else { 4 }
+    if findings != 0 || rules != 0 {
+        return 4;
+    }
+    if undecided == 0 && apart == 0 { 0 } else { 5 }
 }
 
-/// Appends findings and rules that are passed over, as they are wanted: as JSON, or as text.
+/// Appends findings, rules that are passed over, and what isn't told, as it is wanted: as JSON, or as text.
 fn push_findings(
     out: &mut Vec<u8>,
     alloc: Global,
@@ -109,13 +117,14 @@ fn push_findings(
     new: Decided<'_>,
     findings: &[Finding],
     rules: &[Apart],
+    doubts: &Doubts,
 ) -> Result<(), AllocError>
-    ensures { OnOk result (out.new.items ≡ out.old.items ++ findings_text options.now old.entry new.entry findings.now (map apart rules.now)) }
+    ensures { OnOk result (out.new.items ≡ out.old.items ++ findings_text options.now old.entry new.entry findings.now (map apart rules.now) (doubts_data doubts.now)) }
 {
     if options.is_json {
-        return push_json_report(out, alloc, options, old, new, findings, rules);
+        return push_json_report(out, alloc, options, old, new, findings, rules, doubts);
     }
-    push_report(out, alloc, old.policies, findings, rules)
+    push_report(out, alloc, old.policies, findings, rules, doubts)
 }
 
 /// The rules that are passed over, that one policy alone has, and that are shown.
@@ -131,7 +140,7 @@ fn wanted_rules(
     rules_shown(alloc, old.policies, wanted, rules.as_slice())
 }
 
-/// Prints findings and rules that are passed over.
+/// Prints findings, rules that are passed over, and what isn't told.
 fn print_found(
     alloc: Global,
     options: &DiffOptions<'_>,
@@ -139,8 +148,9 @@ fn print_found(
     new: Decided<'_>,
     findings: &[Finding],
     rules: &[Apart],
+    doubts: &Doubts,
 ) -> Result<Output, NoMemory>
-    ensures { IfOk result (λ out. printed out ≡ reported options.now old.entry new.entry findings.now (map apart rules.now)) }
+    ensures { IfOk result (λ out. printed out ≡ reported options.now old.entry new.entry findings.now (map apart rules.now) (doubts_data doubts.now)) }
 {
     let mut output = Output::new(alloc);
     push_findings(
@@ -151,20 +161,27 @@ fn print_found(
         new,
         findings,
         rules,
+        doubts,
     )?;
-    output.status = status_of(findings.len(), rules.len());
+    output.status = status_of(
+        findings.len(),
+        rules.len(),
+        doubts.undecided.len(),
+        doubts.not_compared.len(),
+    );
     Ok(output)
 }
 
-/// Prints differences.
-fn print_differences(
+/// Prints differences that no skipped file could decide.
+fn print_decided(
     alloc: Global,
     options: &DiffOptions<'_>,
     old: Decided<'_>,
     new: Decided<'_>,
     differences: &[Difference],
+    doubts: &Doubts,
 ) -> Result<Output, NoMemory>
-    ensures { IfOk result (λ out. printed out ≡ compared options.now old.entry new.entry differences.now) }
+    ensures { IfOk result (λ out. printed out ≡ printed_lines options.now old.entry new.entry differences.now (doubts_data doubts.now)) }
 {
     let findings = wanted_lines(alloc, old, new, options.wanted, differences)?;
     let rules = wanted_rules(alloc, old, new, options.wanted)?;
@@ -175,6 +192,29 @@ fn print_differences(
         new,
         findings.as_slice(),
         rules.as_slice(),
+        doubts,
+    )
+}
+
+/// Prints differences.
+fn print_differences(
+    alloc: Global,
+    options: &DiffOptions<'_>,
+    old: Part<'_>,
+    new: Part<'_>,
+    differences: Vec<Difference>,
+) -> Result<Output, NoMemory>
+    ensures { IfOk result (λ out. printed out ≡ compared options.now old.entry new.entry differences.items) }
+{
+    let doubts = all_untold(alloc, options.wanted, old, new)?;
+    let decided = decided_of(alloc, old, new, differences)?;
+    print_decided(
+        alloc,
+        options,
+        old.decided,
+        new.decided,
+        decided.as_slice(),
+        &doubts,
     )
 }
 
@@ -205,25 +245,42 @@ fn compare(
     alloc: Global,
     options: &DiffOptions<'_>,
     states: u32,
-    old: Decided<'_>,
-    new: Decided<'_>,
+    old: Part<'_>,
+    new: Part<'_>,
 ) -> Result<Output, NoMemory>
     ensures compared { IfOk result (λ out. IsCompared options.now states old.entry new.entry (printed out)) }
     ensures low { IfOk result (λ out. out.status < 128) }
 {
     let limit = limit_of(states);
-    match differences_of(alloc, old, new, limit) {
-        Ok(found) => print_differences(alloc, options, old, new, found.as_slice()),
+    match differences_of(alloc, old.decided, new.decided, limit) {
+        Ok(found) => print_differences(alloc, options, old, new, found),
         Err(DifferencesFault::NoMemory) => Err(NoMemory),
         Err(DifferencesFault::TooManyPatterns(label, _)) => say_patterns(
             alloc,
-            old.policies,
+            old.decided.policies,
             label,
         ),
         Err(DifferencesFault::TooManyStates(label, _)) => {
-            say_states(alloc, old.policies, label, limit)
+            say_states(alloc, old.decided.policies, label, limit)
         }
     }
+}
+
+/// The same, behind how many files the new side skips.
+fn compare_beside(
+    alloc: Global,
+    options: &DiffOptions<'_>,
+    states: u32,
+    old: Part<'_>,
+    skipped: &[Skipped],
+    decided: Decided<'_>,
+) -> Result<Output, NoMemory>
+    ensures compared { IfOk result (λ out. IsComparedBeside options.now states old.entry skipped.now decided.entry (printed out)) }
+    ensures low { IfOk result (λ out. out.status < 128) }
+{
+    let new = Part { decided, skipped };
+    let own = compare(alloc, options, states, old, new)?;
+    note(alloc, "NEW", skipped.len(), own)
 }
 
 /// Compares the policy of the old files with that of new ones.
@@ -231,14 +288,28 @@ fn compare(
 struct Comparing<'a> {
     options: &'a DiffOptions<'a>,
     states: u32,
-    old: Decided<'a>,
+    old: Part<'a>,
+}
+
+impl UsePart for Comparing<'_> {
+    ghost gives = { λ a skipped d out. IsMarked (λ e q. IsComparedBeside a.options.now a.states a.old skipped e q) d out };
+
+    fn use_part(
+        &self,
+        alloc: Global,
+        skipped: &[Skipped],
+        decided: Decided<'_>,
+    ) -> Result<Output, NoMemory> {
+        let output = compare_beside(alloc, self.options, self.states, self.old, skipped, decided)?;
+        Ok(mark(output))
+    }
 }
 
 impl Use for Comparing<'_> {
-    ghost gives = { λ a d out. IsMarked (λ e q. IsCompared a.options.now a.states a.old e q) d out };
+    ghost gives = { λ a d out. IsMarked (λ e q. IsComparedBeside a.options.now a.states a.old [] e q) d out };
 
     fn use_policy(&self, alloc: Global, decided: Decided<'_>) -> Result<Output, NoMemory> {
-        Ok(mark(compare(alloc, self.options, self.states, self.old, decided)?))
+        self.use_part(alloc, &[], decided)
     }
 }
 
@@ -251,13 +322,13 @@ struct Reading<'a, T: Tree> {
     options: &'a DiffOptions<'a>,
 }
 
-/// Compiles the new files, and compares their policy with that of the old ones.
+/// Compiles the new files, or those that aren't skipped, and compares their policy with that of the old ones.
 fn compare_new<T: Tree>(
     alloc: Global,
     tree: &T,
     settings: &Settings<'_>,
     options: &DiffOptions<'_>,
-    old: Decided<'_>,
+    old: Part<'_>,
 ) -> Result<Output, NoMemory>
     ensures of { IfOk result (λ out. IsNewSide (setting_of (T.files tree.now) (T.taken tree.now) (T.input tree.now) settings.now) options.now old.entry (printed out)) }
     ensures low { IfOk result (λ out. out.status < 128) }
@@ -267,20 +338,63 @@ fn compare_new<T: Tree>(
         states: settings.states,
         old,
     };
+    if options.skips {
+        let output = with_read_policy(alloc, tree, settings, options.new, &comparing)?;
+        return of_side(alloc, "NEW", output);
+    }
     let output = with_policy(alloc, tree, settings, options.new, &comparing)?;
     of_side(alloc, "NEW", output)
 }
 
+/// The same, behind how many files the old side skips.
+fn compare_new_beside<T: Tree>(
+    alloc: Global,
+    tree: &T,
+    settings: &Settings<'_>,
+    options: &DiffOptions<'_>,
+    skipped: &[Skipped],
+    decided: Decided<'_>,
+) -> Result<Output, NoMemory>
+    ensures of { IfOk result (λ out. IsNewBeside (setting_of (T.files tree.now) (T.taken tree.now) (T.input tree.now) settings.now) options.now skipped.now decided.entry (printed out)) }
+    ensures low { IfOk result (λ out. out.status < 128) }
+{
+    let old = Part { decided, skipped };
+    let own = compare_new(alloc, tree, settings, options, old)?;
+    note(alloc, "OLD", skipped.len(), own)
+}
+
+impl<T: Tree> UsePart for Reading<'_, T> {
+    ghost gives = { λ a skipped d out. IsMarked (λ e q. IsNewBeside (setting_of (T.files a.tree.now) (T.taken a.tree.now) (T.input a.tree.now) a.settings.now) a.options.now skipped e q) d out };
+
+    fn use_part(
+        &self,
+        alloc: Global,
+        skipped: &[Skipped],
+        decided: Decided<'_>,
+    ) -> Result<Output, NoMemory> {
+        let output = compare_new_beside(
+            alloc,
+            self.tree,
+            self.settings,
+            self.options,
+            skipped,
+            decided,
+        )?;
+        Ok(mark(output))
+    }
+}
+
 impl<T: Tree> Use for Reading<'_, T> {
-    ghost gives = { λ a d out. IsMarked (λ e q. IsNewSide (setting_of (T.files a.tree.now) (T.taken a.tree.now) (T.input a.tree.now) a.settings.now) a.options.now e q) d out };
+    ghost gives = { λ a d out. IsMarked (λ e q. IsNewBeside (setting_of (T.files a.tree.now) (T.taken a.tree.now) (T.input a.tree.now) a.settings.now) a.options.now [] e q) d out };
 
     fn use_policy(&self, alloc: Global, decided: Decided<'_>) -> Result<Output, NoMemory> {
-        Ok(mark(compare_new(alloc, self.tree, self.settings, self.options, decided)?))
+        self.use_part(alloc, &[], decided)
     }
 }
 
 /// Compares the one policy that the old files of one tree are with that of the new ones of another. A side that is refused is told as
-/// `ask` tells it, with which side it is.
+/// `ask` tells it, with which side it is. Where files that are refused are skipped, the others are compared, and what the skipped ones
+/// could change isn't told.
 pub fn diff_files<T: Tree>(
     alloc: Global,
     before: &T,
@@ -296,6 +410,10 @@ pub fn diff_files<T: Tree>(
         settings: new,
         options,
     };
+    if options.skips {
+        let output = with_read_policy(alloc, before, old, options.old, &reading)?;
+        return of_side(alloc, "OLD", output);
+    }
     let output = with_policy(alloc, before, old, options.old, &reading)?;
     of_side(alloc, "OLD", output)
 }

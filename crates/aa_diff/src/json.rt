@@ -8,6 +8,7 @@ ghost use Rattle.aa_diff.specs.declared.signs.Sign.TheVariants.{Gain, Loss};
 ghost use Rattle.aa_passed_over.specs.Apart.{apart};
 ghost use Rattle.aa_diff.specs.Lines.{told, lines_with};
 ghost use Rattle.aa_diff.specs.Printed.{asked_of};
+ghost use Rattle.aa_diff.specs.Untold.{doubts_data};
 ghost use Rattle.aa_diff.specs.Jsons.{json_rules, json_sides, rules_told, json_accounting, json_profile, json_sign, json_start, is_of_others, json_told, json_line, json_lines, json_names, json_profile_counts, json_line_counts, json_counts, json_paths, json_head, json_rule_side, json_rule_text, json_all_passed_over, json_profiles, json_found, json_report};
 
 use crate::finding::{Finding, Who, is_minor, is_profile};
@@ -17,6 +18,8 @@ use crate::printing::{asked_of, name_asked, side_text, sign_text};
 use crate::report::{count_lines, count_profiles, headed, is_profile_with, profiles_counted};
 use crate::rules::{rules_at, stands_among};
 use crate::signs::{Sign, is_confined};
+use crate::untold::Doubts;
+use crate::untold_shown::push_json_untold;
 use aa_ask::DeciderLine;
 use aa_command::Decided;
 use aa_compile::{Compiled, name_of_label};
@@ -333,13 +336,14 @@ fn push_profile_counts(
     out: &mut Vec<u8>,
     alloc: Global,
     policies: &[Compiled],
+    left_out: usize,
     lines: &[Line<'_>],
     findings: &[Finding],
 ) -> Result<(), AllocError>
-    ensures { OnOk result (out.new.items ≡ out.old.items ++ json_profile_counts policies.now (map told lines.now) findings.now) }
+    ensures { OnOk result (out.new.items ≡ out.old.items ++ json_profile_counts policies.now left_out (map told lines.now) findings.now) }
 {
     push_key(out, "compared")?;
-    push_number(out, profiles_counted(policies, findings))?;
+    push_number(out, profiles_counted(policies, left_out, findings))?;
     push_member(out, alloc, "differ", &headed(lines))?;
     push_member(out, alloc, "gone", &count_profiles(Sign::Loss, findings))?;
     push_member(out, alloc, "new", &count_profiles(Sign::Gain, findings))
@@ -364,14 +368,15 @@ fn push_counts(
     out: &mut Vec<u8>,
     alloc: Global,
     policies: &[Compiled],
+    left_out: usize,
     lines: &[Line<'_>],
     findings: &[Finding],
     rules: usize,
 ) -> Result<(), AllocError>
-    ensures { OnOk result (out.new.items ≡ out.old.items ++ json_counts policies.now (map told lines.now) findings.now rules) }
+    ensures { OnOk result (out.new.items ≡ out.old.items ++ json_counts policies.now left_out (map told lines.now) findings.now rules) }
 {
     push_text(out, "{")?;
-    push_profile_counts(out, alloc, policies, lines, findings)?;
+    push_profile_counts(out, alloc, policies, left_out, lines, findings)?;
     push_line_counts(out, alloc, findings, rules)?;
     push_text(out, "}")
 }
@@ -382,10 +387,11 @@ fn push_counts_member(
     out: &mut Vec<u8>,
     alloc: Global,
     policies: &[Compiled],
+    left_out: usize,
     findings: &[Finding],
     rules: &[Apart],
 ) -> Result<(), AllocError>
-    ensures { OnOk result (out.new.items ≡ out.old.items ++ member_text (codes "counts") (json_counts policies.now (lines_with findings.now (map apart rules.now)) findings.now (length (map apart rules.now)))) }
+    ensures { OnOk result (out.new.items ≡ out.old.items ++ member_text (codes "counts") (json_counts policies.now left_out (lines_with findings.now (map apart rules.now)) findings.now (length (map apart rules.now)))) }
 {
     let lines = lines_with(alloc, findings, rules)?;
     push_text(out, ",")?;
@@ -394,6 +400,7 @@ fn push_counts_member(
         out,
         alloc,
         policies,
+        left_out,
         lines.as_slice(),
         findings,
         rules.len(),
@@ -532,7 +539,7 @@ fn push_json_head(
     push_member(out, alloc, "gains_alone", &options.wanted.gains)
 }
 
-/// Appends the lines, the rules that are passed over, the profiles that are gone and that are new, and how many there are.
+/// Appends the lines, the rules that are passed over, the profiles that are gone and that are new, how many there are, and what isn't told.
 fn push_json_found(
     out: &mut Vec<u8>,
     alloc: Global,
@@ -540,17 +547,19 @@ fn push_json_found(
     new: Decided<'_>,
     findings: &[Finding],
     rules: &[Apart],
+    doubts: &Doubts,
 ) -> Result<(), AllocError>
-    ensures { OnOk result (out.new.items ≡ out.old.items ++ json_found old.entry new.entry findings.now (map apart rules.now)) }
+    ensures { OnOk result (out.new.items ≡ out.old.items ++ json_found old.entry new.entry findings.now (map apart rules.now) (doubts_data doubts.now)) }
 {
     push_lines_member(out, alloc, old, new, findings)?;
     push_rules_apart(out, alloc, old.policies, rules)?;
     push_json_profiles(out, alloc, findings)?;
-    push_counts_member(out, alloc, old.policies, findings, rules)
+    push_counts_member(out, alloc, old.policies, doubts.left_out, findings, rules)?;
+    push_json_untold(out, alloc, doubts)
 }
 
 /// Appends findings and rules that are passed over as one JSON object and a line end: what is compared, the lines, these rules, the profiles
-/// that are gone and that are new, and how many there are.
+/// that are gone and that are new, how many there are, and what isn't told.
 pub(crate) fn push_json_report(
     out: &mut Vec<u8>,
     alloc: Global,
@@ -559,10 +568,11 @@ pub(crate) fn push_json_report(
     new: Decided<'_>,
     findings: &[Finding],
     rules: &[Apart],
+    doubts: &Doubts,
 ) -> Result<(), AllocError>
-    ensures { OnOk result (out.new.items ≡ out.old.items ++ json_report options.now old.entry new.entry findings.now (map apart rules.now)) }
+    ensures { OnOk result (out.new.items ≡ out.old.items ++ json_report options.now old.entry new.entry findings.now (map apart rules.now) (doubts_data doubts.now)) }
 {
     push_json_head(out, alloc, options)?;
-    push_json_found(out, alloc, old, new, findings, rules)?;
+    push_json_found(out, alloc, old, new, findings, rules, doubts)?;
     push_text(out, "}\n")
 }

@@ -3,6 +3,7 @@
 
 mod change;
 mod command;
+mod deciding;
 mod finding;
 mod gathering;
 mod joining;
@@ -10,15 +11,17 @@ mod json;
 mod laws;
 mod lines;
 mod options;
+mod part;
 mod printing;
 mod report;
 mod rules;
 mod sides;
 mod signs;
+mod untold;
+mod untold_shown;
 
 pub use command::diff_files;
 pub use finding::{Finding, Who};
-pub use laws::lines_tell_entries;
+pub use laws::{differences_are_sound, lines_tell_entries};
 pub use options::{DiffOptions, Wanted};
-pub use report::push_report;
 pub use signs::{Sign, sign_of};

@@ -18,4 +18,6 @@ pub struct DiffOptions<'a> {
     pub new: &'a [Vec<u8>],
     pub wanted: Wanted<'a>,
     pub is_json: bool,
+    /// Whether files that are refused are skipped.
+    pub skips: bool,
 }

@@ -84,7 +84,7 @@ pub(crate) fn sign_text(sign: Sign) -> &'static str
     }
 }
 
-fn push_more(out: &mut Vec<u8>, more: u64) -> Result<(), AllocError>
+pub(crate) fn push_more(out: &mut Vec<u8>, more: u64) -> Result<(), AllocError>
     ensures { OnOk result (out.new.items ≡ out.old.items ++ more_text more) }
 {
     if more == 0 {

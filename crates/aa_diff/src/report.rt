@@ -8,7 +8,9 @@ ghost use Rattle.aa_ask.specs.Unattached.{first_profiles};
 ghost use Rattle.aa_diff.specs.Findings.{is_counted};
 ghost use Rattle.aa_passed_over.specs.Apart.{apart};
 ghost use Rattle.aa_diff.specs.Lines.{told};
-ghost use Rattle.aa_diff.specs.Report.{called, is_named, is_wanted, wanted_of, shown_of, lines_of, headed_next, headed, is_profile_with, profiles_counted, count_text, profile_counts, line_counts, is_rule_wanted, rule_wanted_of, rules_shown, rules_count, report_of, report_text};
+ghost use Rattle.aa_diff.specs.Named.{is_named};
+ghost use Rattle.aa_diff.specs.Untold.{doubts_data};
+ghost use Rattle.aa_diff.specs.Report.{called, is_wanted, wanted_of, shown_of, lines_of, headed_next, headed, is_profile_with, profiles_counted, count_text, profile_counts, line_counts, is_rule_wanted, rule_wanted_of, rules_shown, rules_count, lines_text, counts_text, report_of, report_text};
 
 use crate::finding::{Finding, copy_of, is_counted, is_profile};
 use crate::gathering::gather;
@@ -17,6 +19,8 @@ use crate::lines::{Line, label_of, lines_with};
 use crate::options::Wanted;
 use crate::printing::{is_behind, name_asked, push_confined, push_free, push_profiles};
 use crate::signs::{Sign, is_confined, sign_number};
+use crate::untold::Doubts;
+use crate::untold_shown::{push_skipped, push_untold};
 use aa_command::Decided;
 use aa_compile::{Compiled, name_of_label};
 use aa_differences::Difference;
@@ -41,7 +45,7 @@ fn is_among(names: &[Vec<u8>], name: &[u8]) -> bool
     names.iter().any(|known| known.as_slice() == name)
 }
 
-fn is_named(names: &[Vec<u8>], name: &[u8]) -> bool
+pub(crate) fn is_named(names: &[Vec<u8>], name: &[u8]) -> bool
     ensures { result ≡ is_named (texts names.now) name.now }
 {
     names.is_empty() || is_among(names, name)
@@ -217,11 +221,17 @@ fn profiles_of(policies: &[Compiled]) -> usize
     }
 }
 
-/// How many profiles are in one policy or the other.
-pub(crate) fn profiles_counted(policies: &[Compiled], findings: &[Finding]) -> usize
-    ensures { result ≡ profiles_counted policies.now findings.now }
+/// How many profiles are in one policy or the other, without so many of the first that aren't compared.
+pub(crate) fn profiles_counted(
+    policies: &[Compiled],
+    left_out: usize,
+    findings: &[Finding],
+) -> usize
+    ensures { result ≡ profiles_counted policies.now left_out findings.now }
 {
-    profiles_of(policies).saturating_add(count_profiles(Sign::Gain, findings))
+    profiles_of(policies)
+        .saturating_sub(left_out)
+        .saturating_add(count_profiles(Sign::Gain, findings))
 }
 
 /// Appends a number, and what it counts.
@@ -238,11 +248,12 @@ fn push_count(out: &mut Vec<u8>, count: usize, what: &str) -> Result<(), AllocEr
 fn push_compared(
     out: &mut Vec<u8>,
     policies: &[Compiled],
+    left_out: usize,
     findings: &[Finding],
 ) -> Result<(), AllocError>
-    ensures { OnOk result (out.new.items ≡ out.old.items ++ count_text (profiles_counted policies.now findings.now) (codes " profiles compared: ")) }
+    ensures { OnOk result (out.new.items ≡ out.old.items ++ count_text (profiles_counted policies.now left_out findings.now) (codes " profiles compared: ")) }
 {
-    push_number(out, profiles_counted(policies, findings))?;
+    push_number(out, profiles_counted(policies, left_out, findings))?;
     push_text(out, " profiles compared: ")
 }
 
@@ -259,12 +270,13 @@ fn push_headed(out: &mut Vec<u8>, lines: &[Line<'_>]) -> Result<(), AllocError>
 fn push_profile_counts(
     out: &mut Vec<u8>,
     policies: &[Compiled],
+    left_out: usize,
     lines: &[Line<'_>],
     findings: &[Finding],
 ) -> Result<(), AllocError>
-    ensures { OnOk result (out.new.items ≡ out.old.items ++ profile_counts policies.now (map told lines.now) findings.now) }
+    ensures { OnOk result (out.new.items ≡ out.old.items ++ profile_counts policies.now left_out (map told lines.now) findings.now) }
 {
-    push_compared(out, policies, findings)?;
+    push_compared(out, policies, left_out, findings)?;
     push_headed(out, lines)?;
     push_count(out, count_profiles(Sign::Loss, findings), " gone, ")?;
     push_count(out, count_profiles(Sign::Gain, findings), " new; ")
@@ -291,7 +303,38 @@ fn push_rules_count(out: &mut Vec<u8>, count: usize) -> Result<(), AllocError>
     push_count(out, count, " passed over\n")
 }
 
-/// Appends the lines of each profile, profiles that are gone or new, the findings of unconfined tasks, and how many there are.
+/// Appends the lines of each profile, profiles that are gone or new, and the findings of unconfined tasks.
+fn push_lines(
+    out: &mut Vec<u8>,
+    alloc: Global,
+    policies: &[Compiled],
+    lines: &[Line<'_>],
+    findings: &[Finding],
+) -> Result<(), AllocError>
+    ensures { OnOk result (out.new.items ≡ out.old.items ++ lines_text policies.now (map told lines.now) findings.now) }
+{
+    push_confined(out, alloc, policies, lines)?;
+    push_profiles(out, alloc, findings)?;
+    push_free(out, alloc, findings)
+}
+
+/// Appends how many there are.
+fn push_counts(
+    out: &mut Vec<u8>,
+    policies: &[Compiled],
+    left_out: usize,
+    lines: &[Line<'_>],
+    findings: &[Finding],
+    rules: usize,
+) -> Result<(), AllocError>
+    ensures { OnOk result (out.new.items ≡ out.old.items ++ counts_text policies.now left_out (map told lines.now) findings.now rules) }
+{
+    push_profile_counts(out, policies, left_out, lines, findings)?;
+    push_line_counts(out, findings)?;
+    push_rules_count(out, rules)
+}
+
+/// Appends the lines, what isn't told, how many there are, and how many files are skipped.
 fn push_report_of(
     out: &mut Vec<u8>,
     alloc: Global,
@@ -299,26 +342,26 @@ fn push_report_of(
     lines: &[Line<'_>],
     findings: &[Finding],
     rules: usize,
+    doubts: &Doubts,
 ) -> Result<(), AllocError>
-    ensures { OnOk result (out.new.items ≡ out.old.items ++ report_of policies.now (map told lines.now) findings.now rules) }
+    ensures { OnOk result (out.new.items ≡ out.old.items ++ report_of policies.now (map told lines.now) findings.now rules (doubts_data doubts.now)) }
 {
-    push_confined(out, alloc, policies, lines)?;
-    push_profiles(out, alloc, findings)?;
-    push_free(out, alloc, findings)?;
-    push_profile_counts(out, policies, lines, findings)?;
-    push_line_counts(out, findings)?;
-    push_rules_count(out, rules)
+    push_lines(out, alloc, policies, lines, findings)?;
+    push_untold(out, alloc, doubts)?;
+    push_counts(out, policies, doubts.left_out, lines, findings, rules)?;
+    push_skipped(out, doubts)
 }
 
-/// Appends the report of findings, and of rules that are passed over and that one policy alone has.
-pub fn push_report(
+/// Appends the report of findings, of rules that are passed over and that one policy alone has, and of what isn't told.
+pub(crate) fn push_report(
     out: &mut Vec<u8>,
     alloc: Global,
     policies: &[Compiled],
     findings: &[Finding],
     rules: &[Apart],
+    doubts: &Doubts,
 ) -> Result<(), AllocError>
-    ensures { OnOk result (out.new.items ≡ out.old.items ++ report_text policies.now findings.now (map apart rules.now)) }
+    ensures { OnOk result (out.new.items ≡ out.old.items ++ report_text policies.now findings.now (map apart rules.now) (doubts_data doubts.now)) }
 {
     let lines = lines_with(alloc, findings, rules)?;
     push_report_of(
@@ -328,5 +371,6 @@ pub fn push_report(
         lines.as_slice(),
         findings,
         rules.len(),
+        doubts,
     )
 }

@@ -2,10 +2,10 @@
 
 ghost use Rattle.std.specs.Prelude.{◌≡◌, ◌<◌, ◌≤◌, ◌++◌, OnOk, IfOk};
 ghost use Rattle.aa_command.specs.Printed.{printed};
-ghost use Rattle.aa_diff.specs.Sides.{behind, marked, refused_text};
+ghost use Rattle.aa_diff.specs.Sides.{behind, marked, refused_text, note_text, noted};
 
 use aa_command::Output;
-use aa_text::{NoMemory, push_text};
+use aa_text::{NoMemory, push_number, push_text};
 use std::alloc::{AllocError, Global};
 
 /// What is added to the status of an output that a policy gave, until it is known that none was refused.
@@ -28,6 +28,32 @@ fn push_refused(out: &mut Vec<u8>, side: &str, faults: &[u8]) -> Result<(), Allo
     push_text(out, side)?;
     push_text(out, " can't be compared:\n")?;
     out.extend_from_slice(faults)
+}
+
+/// Appends how many files a side skips, where it skips some.
+fn push_note(out: &mut Vec<u8>, side: &str, count: usize) -> Result<(), AllocError>
+    ensures { OnOk result (out.new.items ≡ out.old.items ++ note_text side.now count) }
+{
+    if count == 0 {
+        return Ok(());
+    }
+    push_text(out, "warning: ")?;
+    push_text(out, side)?;
+    push_text(out, " skips ")?;
+    push_number(out, count)?;
+    push_text(out, " files\n")
+}
+
+/// What is printed, behind how many files a side skips.
+pub(crate) fn note(alloc: Global, side: &str, count: usize, own: Output) -> Result<Output, NoMemory>
+    ensures { IfOk result (λ out. printed out ≡ noted side.now count (printed own)) }
+{
+    let mut noted = own;
+    let mut faults = Vec::new(alloc);
+    push_note(&mut faults, side, count)?;
+    faults.extend_from_slice(noted.faults.as_slice())?;
+    noted.faults = faults;
+    Ok(noted)
 }
 
 fn told_of(alloc: Global, side: &str, output: Output) -> Result<Output, NoMemory>

@@ -6,5 +6,6 @@ mod SameReplies
 mod Zipped
 mod Adding
 mod Running
-mod Pairing
+pub mod Pairing
 mod Listing
+mod Closed

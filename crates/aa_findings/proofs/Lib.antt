@@ -1,5 +1,12 @@
 mod Elements
+mod Placing
+mod Indexing
+mod Applying
+mod Keying
+mod Grouping
 mod Standing
+mod Nearest
 mod Telling
 mod Loops
 mod Parents
+mod Tying

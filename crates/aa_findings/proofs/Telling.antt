@@ -1,9 +1,8 @@
 -- What rows tell of a rule is so of the files that can be asked for.
-use Rattle.std.proofs.Common.{◌≡◌, ℕ, zero, suc, ◌+◌, ◌<◌, ◌≤◌, List, [], ◌∷◌, length, get_or, Bool, true, false, Option, Some, None, Contains, refl, sym, ap, ◌∙◌, subst, add-one, arith, ⊎_elim}
-use Rattle.std.specs.Prelude.{◌↔◌, ◌||◌, ◌&&◌, not, nat_le, bit_and, if◌then◌else◌}
+use Rattle.std.proofs.Common.{◌≡◌, ℕ, ◌<◌, ◌≤◌, List, [], ◌∷◌, length, get_or, Bool, true, false, Option, Some, None, Contains, refl, sym, ap, ◌∙◌, subst, arith, ⊎_elim}
+use Rattle.std.specs.Prelude.{◌↔◌, ◌||◌, ◌&&◌, not, bit_and, if◌then◌else◌}
 use Rattle.std.specs.List.{list_any}
 use Rattle.std.proofs.lemmas.List.{get_or_default}
-use Rattle.std.proofs.lemmas.Bool.{cases_lt, leb-true, leb-false}
 use Rattle.aa_base.specs.Permissions.{only_exec}
 use Rattle.aa_model.specs.declared.rule.FileRule.{FileRule}
 use Rattle.aa_compile.specs.declared.sets.RuleSets.{RuleSets}
@@ -12,6 +11,7 @@ use Rattle.aa_compile.specs.FileRules.{any_sort, applies_by, file_verdict}
 use Rattle.aa_compile.proofs.ConflictLemmas.{in_head, in_cases, not_in}
 use Rattle.aa_representatives.proofs.Matched.{of_rule, some_match_alike, verdict_alike}
 use Rattle.aa_findings.proofs.Elements.{any_in, in_any, in_flat_map, flat_map_in}
+use Rattle.aa_findings.proofs.Nearest.{IsNear, near}
 use Rattle.aa_findings.specs.declared.finding.Kind.{Kind}
 use Rattle.aa_findings.specs.declared.finding.Kind.TheVariants.{UnconfinedExec, WrittenExec, AllFiles, AnyProfile, Duplicate, IdleDeny, Tie}
 use Rattle.aa_findings.specs.declared.rows.Row.{Row}
@@ -19,38 +19,9 @@ use Rattle.aa_findings.specs.Rows.{row_of, StandsFor, AreRows}
 use Rattle.aa_findings.specs.Rules.{lets_free}
 use Rattle.aa_findings.specs.Sameness.{same}
 use Rattle.aa_findings.specs.Files.{to_write, shares, applies_at, is_unconfined_exec, is_written_exec, lacks, overrules, differ_at}
-use Rattle.aa_findings.specs.Shortest.{nearer, nearest}
+use Rattle.aa_findings.specs.Shortest.{nearest}
 use Rattle.aa_findings.specs.Gathered.{shows, shown_at, shown_paths}
 use Rattle.aa_findings.specs.Laws.{Passes, Somewhere, IsNearest, RowsTell}
-
--- the first of the shortest
-abbrev IsNear : List (List ℕ) → ℕ → Option (List ℕ) → Type 0
-IsNear paths n None = n ≡ 0
-IsNear paths n (Some best) = Contains paths best × ((k : ℕ) → k < n → length best ≤ length (get_or paths k []))
-
-module _ (paths : List (List ℕ)) (n : ℕ) (lt : n < length paths) where
-  abbrev pub this : List ℕ
-  this = get_or paths n []
-
-  is_there : Contains paths this
-  is_there = (n, lt, get_or_default paths n this [] lt)
-
-  at_most : (best : List ℕ) → length best ≤ length this → ((k : ℕ) → k < n → length best ≤ length (get_or paths k [])) → (k : ℕ) → k < n + 1 → length best ≤ length (get_or paths k [])
-  at_most best le least k less =
-      ⊎_elim (λ (below : k < n). least k below) (λ (above : n ≤ k). subst (λ (m : ℕ). length best ≤ length (get_or paths m [])) (omega (arith, less, above)) le) (cases_lt k n)
-
-  one_more : (o : Option (List ℕ)) → IsNear paths n o → IsNear paths (n + 1) (Some (nearer o this))
-  one_more None none = (is_there, at_most this (omega arith) (λ k less. absurd (omega (arith, none, less))))
-  one_more (Some best) (there, least) = by (nat_le (length best) (length this)) refl
-    where
-      by : (b : Bool) → nat_le (length best) (length this) ≡ b → IsNear paths (n + 1) (Some (if b then best else this))
-      by true e = (there, at_most best (leb-true (length best) (length this) e) least)
-      by false e = let longer = leb-false (length best) (length this) e in (is_there, at_most this (omega arith) (λ k less. let l = least k less in omega (arith, l, longer)))
-
-near : (paths : List (List ℕ)) (n : ℕ) → n ≤ length paths → IsNear paths n (nearest paths n)
-near paths zero le = refl
-near paths (suc n) le =
-    subst (λ (k : ℕ). IsNear paths k (nearest paths (suc n))) (add-one n) (one_more paths n (omega (arith, le)) (nearest paths n) (near paths n (omega (arith, le))))
 
 module _ (rules : List FileRule) (rows : List Row) (are : AreRows rules rows) where
   -- a test that is passed by a file as by the row that stands for it

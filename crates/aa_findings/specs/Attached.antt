@@ -1,96 +1,119 @@
 -- Attachments that tie.
 -- Source: apparmor.d(5), "Profile Head"; own.
-use Rattle.std.specs.Prelude.{◌≡◌, ℕ, zero, suc, ◌==◌, List, [], ◌∷◌, ◌++◌, length, map, flat_map, Bool, Option, Some, None, is_some, if◌then◌else◌}
-use Rattle.std.specs.List.{list_any, slice_get}
-use Rattle.std.specs.Option.{option_map_or}
+use Rattle.std.specs.Prelude.{◌≡◌, ℕ, ◌==◌, not, List, [], ◌∷◌, ◌++◌, length, map, flat_map, filter, Bool, false, Option, Some, None, is_some, if◌then◌else◌}
+use Rattle.std.specs.List.{list_any}
+use Rattle.std.specs.Str.{bytes_eq}
 use Rattle.aa_pattern.specs.declared.pattern.Pattern.{Pattern}
 use Rattle.aa_pattern.specs.Matching.{is_match}
 use Rattle.aa_model.specs.declared.policy.Profile.{Profile}
-use Rattle.aa_model.specs.Lawful.{has_parent}
 use Rattle.aa_regions.specs.declared.regions.Region.{Region}
 use Rattle.aa_regions.specs.Regions.{ArePathRegions}
 use Rattle.aa_compile.specs.declared.attach.Attachment.{Attachment}
-use Rattle.aa_compile.specs.Attached.{attachment_by, strongest}
+use Rattle.aa_compile.specs.Attached.{attachment_of, attachments_by, pattern_of, strongest}
+use Rattle.aa_compile.specs.Gathered.{picked}
 use Rattle.aa_findings.specs.declared.attached.Shared.{Shared}
 use Rattle.aa_findings.specs.declared.finding.Finding.{Finding}
 use Rattle.aa_findings.specs.declared.finding.Kind.TheVariants.{Tie}
 use Rattle.aa_findings.specs.declared.finding.Subject.TheVariants.{Attachments}
+use Rattle.aa_findings.specs.Places.{has}
 use Rattle.aa_findings.specs.Shortest.{nearest}
 
--- an attachment of profile n, if it matches the path
-abbrev pub match_of : List ℕ → ℕ → Pattern → List Attachment
-match_of path n p = if is_match p.items.items path then attachment_by n p ∷ [] else []
+-- the patterns of the attachments of the profiles with these numbers
+abbrev pub patterns_at : List Profile → List ℕ → List Pattern
+patterns_at profiles group = map pattern_of (attachments_by profiles group)
 
--- those of profile n that match, if that is its parent, or if it has none where none is given
-abbrev pub matches_of : List ℕ → Option ℕ → ℕ → Profile → List Attachment
-matches_of path parent n p = if has_parent parent p then flat_map (match_of path n) p.attachments else []
+-- what is kept of each
+abbrev pub kept_at : List Profile → List ℕ → List Attachment
+kept_at profiles group = map attachment_of (attachments_by profiles group)
 
--- those of the first n profiles
-abbrev pub matches_before : List ℕ → Option ℕ → List Profile → ℕ → List Attachment
-matches_before path parent profiles zero = []
-matches_before path parent profiles (suc n) = matches_before path parent profiles n ++ option_map_or (matches_of path parent n) (slice_get profiles n) []
+-- the profiles of attachments
+abbrev pub numbers_of : List Attachment → List ℕ
+numbers_of as' = map (λ (a : Attachment). a.profile) as'
 
--- one of the attachments is of that profile
-abbrev pub is_of : ℕ → List Attachment → Bool
-is_of n as' = list_any (λ (a : Attachment). a.profile == n) as'
+-- the profiles with these numbers whose attachments match the path, none more strongly
+abbrev pub strong_at : List Profile → List ℕ → List ℕ → List ℕ
+strong_at profiles group path = numbers_of (strongest (map attachment_of (filter (λ h. is_match h.1.items.items path) (attachments_by profiles group))))
 
--- the profile of the first, if that is another
-abbrev pub first_other : ℕ → List Attachment → Option ℕ
+-- the first of some profiles, if it is another than profile n
+abbrev pub first_other : ℕ → List ℕ → Option ℕ
 first_other n [] = None
-first_other n (a ∷ rest) = if a.profile == n then None else Some a.profile
+first_other n (m ∷ rest) = if m == n then None else Some m
 
--- the first profile of the strongest attachments, if it is another than profile n, which has one of these too
-abbrev pub tied_by : ℕ → List Attachment → Option ℕ
-tied_by n as' = if is_of n as' then first_other n as' else None
+-- so where profile n is one of them too
+abbrev pub tied_by : ℕ → List ℕ → Option ℕ
+tied_by n numbers = if has n numbers then first_other n numbers else None
 
--- a path, and the attachments below a parent that match it, none more strongly
+-- they aren't all one
+abbrev pub are_several : List ℕ → Bool
+are_several [] = false
+are_several (n ∷ rest) = list_any (λ k. not (k == n)) rest
+
+-- a path, and the profiles whose attachments match it, none more strongly
 pub record Sharing : Type 0 where
   pub path : List ℕ
-  pub strong : List Attachment
+  pub profiles : List ℕ
 
 -- the same of what the code keeps
 abbrev pub sharing : Shared → Sharing
-sharing s = record { path = s.path; strong = s.strong.items }
+sharing s = record { path = s.path; profiles = s.profiles.items }
 
 -- those of a path
-abbrev pub shared_at : List Profile → Option ℕ → List ℕ → Sharing
-shared_at profiles parent path = record { path = path; strong = strongest (matches_before path parent profiles (length profiles)) }
+abbrev pub shared_at : List Profile → List ℕ → List ℕ → Sharing
+shared_at profiles group path = record { path = path; profiles = strong_at profiles group path }
 
--- those of the paths of regions
-abbrev pub shared_by : List Profile → Option ℕ → List Region → List Sharing
-shared_by profiles parent regions = map (λ (r : Region). shared_at profiles parent r.witness) regions
+-- those of a region, by the numbers of the attachments
+abbrev pub shared_in : List Attachment → Region → Sharing
+shared_in kept r = record { path = r.witness; profiles = numbers_of (strongest (picked kept r.numbers)) }
 
--- so of the attachments below a parent that match the path
-abbrev pub tied_at : List Profile → Option ℕ → ℕ → List ℕ → Option ℕ
-tied_at profiles parent n path = tied_by n (shared_at profiles parent path).strong
+-- where they aren't all one
+abbrev pub shared_if : Sharing → List Sharing
+shared_if s = if are_several s.profiles then s ∷ [] else []
+
+-- those of the paths of regions at which they aren't
+abbrev pub shared_by : List Profile → List ℕ → List Region → List Sharing
+shared_by profiles group regions = flat_map (λ (r : Region). shared_if (shared_at profiles group r.witness)) regions
 
 -- the path, if an earlier profile is attached as strongly there as profile n
 abbrev pub tied_in : ℕ → Sharing → List (List ℕ)
-tied_in n s = if is_some (tied_by n s.strong) then s.path ∷ [] else []
+tied_in n s = if is_some (tied_by n s.profiles) then s.path ∷ [] else []
 
--- the path, if an earlier profile is attached to it as strongly as profile n
-abbrev pub tied_path : List Profile → Option ℕ → ℕ → List ℕ → List (List ℕ)
-tied_path profiles parent n path = tied_in n (shared_at profiles parent path)
+-- so at a path
+abbrev pub tied_path : List Profile → List ℕ → ℕ → List ℕ → List (List ℕ)
+tied_path profiles group n path = tied_in n (shared_at profiles group path)
 
--- the attachments of a profile, if that is its parent, or if it has none where none is given
-abbrev pub attachments_if : Option ℕ → Profile → List Pattern
-attachments_if parent p = if has_parent parent p then p.attachments else []
+-- so at the paths of regions
+abbrev pub tied_paths : List Profile → List ℕ → ℕ → List Region → List (List ℕ)
+tied_paths profiles group n regions = flat_map (λ (r : Region). tied_path profiles group n r.witness) regions
 
--- of the profiles below a parent, or of the top-level profiles where none is given
-abbrev pub patterns_below : Option ℕ → List Profile → List Pattern
-patterns_below parent profiles = flat_map (attachments_if parent) profiles
+-- that profile n ties at a path, with that earlier profile
+abbrev pub tie_at : Option ℕ → List ℕ → List Finding
+tie_at other path = record { kind = Tie; subject = Attachments; other = other; path = Some path } ∷ []
 
--- that profile n ties at a path, with the earlier profile, if there is such a path
-abbrev pub ties_at : List Profile → Option ℕ → ℕ → Option (List ℕ) → List Finding
-ties_at profiles parent n None = []
-ties_at profiles parent n (Some path) = record { kind = Tie; subject = Attachments; other = tied_at profiles parent n path; path = Some path } ∷ []
+-- with the earlier profile, if there is such a path
+abbrev pub ties_at : List Profile → List ℕ → ℕ → Option (List ℕ) → List Finding
+ties_at profiles group n None = []
+ties_at profiles group n (Some path) = tie_at (tied_by n (strong_at profiles group path)) path
 
 -- with the first of the shortest of these paths
-abbrev pub ties_along : List Profile → Option ℕ → ℕ → List (List ℕ) → List Finding
-ties_along profiles parent n paths = ties_at profiles parent n (nearest paths (length paths))
+abbrev pub ties_along : List Profile → List ℕ → ℕ → List (List ℕ) → List Finding
+ties_along profiles group n paths = ties_at profiles group n (nearest paths (length paths))
 
--- that profile n ties is added, by regions that stand for all paths that can be asked for
-pub record AddsTie (profiles : List Profile) (parent : Option ℕ) (n : ℕ) (was now : List Finding) : Type 0 where
+-- the earlier profile that is attached as strongly at the first of these that have the path
+abbrev pub other_at : ℕ → List Sharing → List ℕ → Option ℕ
+other_at n [] path = None
+other_at n (s ∷ rest) path = if bytes_eq s.path path then tied_by n s.profiles else other_at n rest path
+
+-- that profile n ties at a path, with the earlier profile among these
+abbrev pub ties_among : ℕ → List Sharing → Option (List ℕ) → List Finding
+ties_among n shared None = []
+ties_among n shared (Some path) = tie_at (other_at n shared path) path
+
+-- with the first of the shortest of these paths
+abbrev pub ties_of : ℕ → List Sharing → List Finding
+ties_of n shared = ties_among n shared (nearest (flat_map (tied_in n) shared) (length (flat_map (tied_in n) shared)))
+
+-- that profile n, which is one of these, ties is added, by regions that stand for all paths that can be asked for
+pub record AddsTie (profiles : List Profile) (group : List ℕ) (n : ℕ) (was now : List Finding) : Type 0 where
   pub regions : List Region
-  pub are : ArePathRegions (patterns_below parent profiles) regions
-  pub added : now ≡ was ++ ties_along profiles parent n (flat_map (λ (r : Region). tied_path profiles parent n r.witness) regions)
+  pub are : ArePathRegions (patterns_at profiles group) regions
+  pub added : now ≡ was ++ ties_along profiles group n (tied_paths profiles group n regions)

@@ -9,20 +9,21 @@ use Rattle.aa_findings.specs.declared.finding.Finding.{Finding}
 use Rattle.aa_findings.specs.declared.rows.Row.{Row}
 use Rattle.aa_findings.specs.Faults.{IsFaultOf}
 use Rattle.aa_findings.specs.Rows.{AreRows, HasNoRows}
-use Rattle.aa_findings.specs.Attached.{AddsTie, patterns_below}
+use Rattle.aa_compile.specs.Attached.{numbers_below}
+use Rattle.aa_findings.specs.Attached.{AddsTie, patterns_at}
 use Rattle.aa_findings.specs.Gathered.{of_rules}
 
 -- of profile n, which is p: that it ties, and then what is found of its rules by rows that stand for all files
 pub record AreFindings (profiles : List Profile) (n : ℕ) (p : Profile) (found : List Finding) : Type 0 where
   pub ties : List Finding
-  pub are_ties : AddsTie profiles p.parent n [] ties
+  pub are_ties : AddsTie profiles (numbers_below p.parent 0 profiles) n [] ties
   pub rows : List Row
   pub are_rows : AreRows p.files rows
   pub are : found ≡ ties ++ of_rules rows p
 
 -- why nothing can be found: the attachments beside the profile's, or the patterns of its rules, are too many or need more states than the limit
 abbrev pub HasNoFindings : List Profile → Profile → ℕ → FindingsFault → Type 0
-HasNoFindings profiles p limit e = IsFaultOf (patterns_below p.parent profiles) limit e ⊎ HasNoRows p.files limit e
+HasNoFindings profiles p limit e = IsFaultOf (patterns_at profiles (numbers_below p.parent 0 profiles)) limit e ⊎ HasNoRows p.files limit e
 
 -- nothing, where there is no such profile
 abbrev pub AreFindingsIn : List Profile → ℕ → Option Profile → List Finding → Type 0

@@ -3,7 +3,10 @@ pub mod Faults
 pub mod Rules
 pub mod Sameness
 pub mod Rows
+pub mod Places
 pub mod Files
+pub mod Applied
+pub mod Keys
 pub mod Sorts
 pub mod Shortest
 pub mod Gathered

@@ -1,13 +1,13 @@
 //! What is found of rules on files.
 
-ghost use Rattle.std.specs.Prelude.{◌≡◌, position};
+ghost use Rattle.std.specs.Prelude.{◌≡◌};
 ghost use Rattle.std.specs.List.{list_any};
 ghost use Rattle.aa_compile.specs.Said.{granted};
-ghost use Rattle.aa_findings.specs.Files.{shares, applies_at, is_executed, is_unconfined_exec, is_written, is_written_exec, lacks, is_on_all, overrules, is_idle, differ_at, repeats};
+ghost use Rattle.aa_findings.specs.Files.{shares, applies_at, is_executed, is_unconfined_exec, is_written, is_written_exec, lacks, is_on_all, overrules, is_idle};
+ghost use Rattle.aa_findings.specs.Places.{at_place, places};
 
 use crate::exec::lets_free;
 use crate::rows::Row;
-use crate::sameness::{same, says_alike};
 use aa_base::Perms;
 use aa_compile::{RuleSets, applies};
 use aa_model::FileRule;
@@ -85,40 +85,33 @@ fn overrules(rule: &FileRule, row: &Row) -> bool
     shares(rule.perms, row.sets.allow) && applies_at(rule, row)
 }
 
-fn overrules_one(rows: &[Row], rule: &FileRule) -> bool
+fn overrules_at(rows: &[Row], place: usize, rule: &FileRule) -> bool
+    ensures { result ≡ at_place (overrules rule.now) rows.now place }
+{
+    match rows.get(place) {
+        Some(row) => overrules(rule, row),
+        None => false,
+    }
+}
+
+fn overrules_among(rows: &[Row], applied: &[usize], rule: &FileRule) -> bool
+    ensures { result ≡ list_any (at_place (overrules rule.now) rows.now) applied.now }
+{
+    applied.iter().any(|place| overrules_at(rows, *place, rule))
+}
+
+/// Whether the rule denies what another allows of one of the rows at which it applies.
+fn overrules_one(rows: &[Row], applied: &[usize], rule: &FileRule) -> bool
+    requires { applied.now ≡ places (applies_at rule.now) rows.now }
     ensures { result ≡ list_any (overrules rule.now) rows.now }
 {
-    rows.iter().any(|row| overrules(rule, row))
+    overrules_among(rows, applied, rule)
 }
 
 /// Whether the rule denies, in a profile that doesn't complain, and nothing that another allows.
-pub(crate) fn is_idle(complain: bool, rows: &[Row], rule: &FileRule) -> bool
+pub(crate) fn is_idle(complain: bool, rows: &[Row], applied: &[usize], rule: &FileRule) -> bool
+    requires { applied.now ≡ places (applies_at rule.now) rows.now }
     ensures { result ≡ is_idle complain rows.now rule.now }
 {
-    !complain && rule.deny && !overrules_one(rows, rule)
-}
-
-fn differ_at(one: &FileRule, other: &FileRule, row: &Row) -> bool
-    ensures { result ≡ differ_at one.now other.now row.now }
-{
-    !same(applies_at(one, row), applies_at(other, row))
-}
-
-fn differ(rows: &[Row], one: &FileRule, other: &FileRule) -> bool
-    ensures { result ≡ list_any (differ_at one.now other.now) rows.now }
-{
-    rows.iter().any(|row| differ_at(one, other, row))
-}
-
-fn repeats(rows: &[Row], one: &FileRule, other: &FileRule) -> bool
-    ensures { result ≡ repeats rows.now one.now other.now }
-{
-    says_alike(one, other) && !differ(rows, one, other)
-}
-
-/// The first of these rules that says what the rule says.
-pub(crate) fn repeated(rows: &[Row], rules: &[FileRule], rule: &FileRule) -> Option<usize>
-    ensures { result ≡ position (repeats rows.now rule.now) rules.now }
-{
-    rules.iter().position(|other| repeats(rows, rule, other))
+    !complain && rule.deny && !overrules_one(rows, applied, rule)
 }

@@ -6,12 +6,13 @@ ghost use Rattle.aa_pattern.specs.Limits.{most_states};
 ghost use Rattle.aa_findings.specs.Below.{AreBelow, AreAttached};
 ghost use Rattle.aa_findings.specs.Found.{AreFindings, HasNoFindings, AreFindingsIn, HasNoFindingsIn, AreFindingsAt, HasNoFindingsAt};
 
-use crate::attached::push_tie;
+use crate::applied::applied_of;
 use crate::below::{Attached, Below, shared_below};
 use crate::fault::FindingsFault;
 use crate::finding::Finding;
 use crate::gathering::push_rules;
 use crate::rows::rows_of;
+use crate::ties::push_tie;
 use aa_compile::Compiled;
 use aa_model::Profile;
 use std::alloc::Global;
@@ -32,12 +33,18 @@ fn findings_in(
     ensures found { IfOk result (λ found. AreFindings compiled.now.profiles number profile.now found.items) }
     ensures many { IfErr result (λ e. HasNoFindings compiled.now.profiles profile.now limit e) }
 {
-    let profiles = compiled.policy().profiles.as_slice();
     let shared = shared_below(below, profile.parent)?;
     let mut found = Vec::new(alloc);
-    push_tie(&mut found, alloc, profiles, profile.parent, number, shared)?;
+    push_tie(&mut found, alloc, number as usize, shared)?;
     let rows = rows_of(alloc, compiled, number, profile, limit)?;
-    push_rules(&mut found, alloc, rows.as_slice(), profile)?;
+    let index = applied_of(alloc, compiled, number, profile, rows.as_slice())?;
+    push_rules(
+        &mut found,
+        alloc,
+        rows.as_slice(),
+        index.as_slice(),
+        profile,
+    )?;
     Ok(found)
 }
 

@@ -1,17 +1,25 @@
 //! What is found of a profile, in the order of its rules.
 
-ghost use Rattle.std.specs.Prelude.{◌≡◌, ◌<◌, ◌++◌, IfOk, OnOk, length};
+ghost use Rattle.std.specs.Prelude.{◌≡◌, ◌<◌, ◌+◌, ◌++◌, IfOk, OnOk, Some, length, take, position, flat_map};
+ghost use Rattle.std.specs.List.{slice_get};
+ghost use Rattle.aa_findings.specs.Files.{applies_at, repeats};
+ghost use Rattle.aa_findings.specs.Places.{places, lists, given_at};
+ghost use Rattle.aa_findings.specs.Applied.{AreApplied};
+ghost use Rattle.aa_findings.specs.Keys.{AreFirsts};
 ghost use Rattle.aa_findings.specs.Gathered.{found_if, found_along, found_again, shows, shown_at, shown_paths, of_file, of_cap, of_net, of_change, files_before, caps_before, nets_before, changes_before, of_rules};
 
 use crate::exec::is_any_profile;
-use crate::files::{is_idle, is_on_all, is_unconfined_exec, is_written_exec, repeated};
+use crate::files::{is_idle, is_on_all, is_unconfined_exec, is_written_exec};
 use crate::finding::{Finding, Kind, Subject};
+use crate::index::list_at;
+use crate::keys::repeated;
 use crate::rows::Row;
 use crate::shortest::shortest;
 use crate::sorts::{is_idle_cap, is_idle_net, repeated_cap, repeated_net};
 use aa_base::Text;
 use aa_model::{CapRule, ChangeRule, FileRule, NetRule, Profile};
 use std::alloc::{AllocError, Global};
+use std::collections::HashMap;
 
 /// Adds a finding, where there is one.
 fn push_if(
@@ -77,19 +85,50 @@ fn push_shown(
     Ok(())
 }
 
-/// The paths that show it.
+fn push_shown_at(
+    paths: &mut Vec<Text>,
+    kind: Kind,
+    rule: &FileRule,
+    rows: &[Row],
+    place: usize,
+) -> Result<(), AllocError>
+    ensures { OnOk result (paths.new.items ≡ paths.old.items ++ given_at (shown_at kind rule.now) rows.now place) }
+{
+    match rows.get(place) {
+        Some(row) => push_shown(paths, kind, rule, row),
+        None => Ok(()),
+    }
+}
+
+/// The paths that show it, of the rows at these places.
+fn shown_among(
+    alloc: Global,
+    kind: Kind,
+    rows: &[Row],
+    applied: &[usize],
+    rule: &FileRule,
+) -> Result<Vec<Text>, AllocError>
+    ensures { IfOk result (λ paths. paths.items ≡ flat_map (given_at (shown_at kind rule.now) rows.now) applied.now) }
+{
+    let mut paths = Vec::new(alloc);
+    for place in applied {
+        push_shown_at(&mut paths, kind, rule, rows, *place)?;
+    }
+    Ok(paths)
+}
+
+/// The paths that show it: of rows at which the rule applies.
 fn shown_paths(
     alloc: Global,
     kind: Kind,
     rows: &[Row],
+    applied: &[usize],
     rule: &FileRule,
 ) -> Result<Vec<Text>, AllocError>
+    requires { applied.now ≡ places (applies_at rule.now) rows.now }
     ensures { IfOk result (λ paths. paths.items ≡ shown_paths kind rows.now rule.now) }
 {
-    let mut paths = Vec::new(alloc);
-    for row in rows {
-        push_shown(&mut paths, kind, rule, row)?;
-    }
+    let paths = shown_among(alloc, kind, rows, applied, rule)?;
     Ok(paths)
 }
 
@@ -114,44 +153,86 @@ fn push_along(
     Ok(())
 }
 
-/// Adds what is found of a rule on files.
+/// Adds what is found of a rule on files, beside an earlier one that says the same.
 #[tactic(auto, unfolding(crate::specs::Gathered::of_file))]
 fn push_file(
     found: &mut Vec<Finding>,
     alloc: Global,
     complain: bool,
     rows: &[Row],
+    applied: &[usize],
     rules: &[FileRule],
     rule: &FileRule,
     number: usize,
+    earlier: Option<usize>,
 ) -> Result<(), AllocError>
-    requires { number < length rules.now }
+    requires applied { applied.now ≡ places (applies_at rule.now) rows.now }
+    requires earlier { earlier ≡ position (repeats rows.now rule.now) (take number rules.now) }
     ensures { OnOk result (found.new.items ≡ found.old.items ++ of_file complain rows.now rules.now number rule.now) }
 {
+    let _rules = rules;
     let subject = Subject::File(number);
-    let free = shown_paths(alloc, Kind::UnconfinedExec, rows, rule)?;
-    let written = shown_paths(alloc, Kind::WrittenExec, rows, rule)?;
-    let earlier = repeated(rows, &rules[..number], rule);
+    let free = shown_paths(alloc, Kind::UnconfinedExec, rows, applied, rule)?;
+    let written = shown_paths(alloc, Kind::WrittenExec, rows, applied, rule)?;
     push_along(found, alloc, Kind::UnconfinedExec, free.as_slice(), subject)?;
     push_along(found, alloc, Kind::WrittenExec, written.as_slice(), subject)?;
     push_if(found, is_on_all(rows, rule), Kind::AllFiles, subject)?;
     push_again(found, earlier, subject)?;
-    let idle = is_idle(complain, rows, rule);
+    let idle = is_idle(complain, rows, applied, rule);
     push_if(found, idle, Kind::IdleDeny, subject)
 }
 
-/// Adds what is found of the rules on files.
+/// Adds what is found of a rule on files, by the first of those before it with each key; it is then one of these.
+fn push_keyed(
+    found: &mut Vec<Finding>,
+    firsts: &mut HashMap<Vec<usize>, usize>,
+    alloc: Global,
+    complain: bool,
+    rows: &[Row],
+    applied: &[usize],
+    rules: &[FileRule],
+    rule: &FileRule,
+    number: usize,
+) -> Result<(), AllocError>
+    requires applied { applied.now ≡ places (applies_at rule.now) rows.now }
+    requires firsts { AreFirsts firsts.old rows.now (take number rules.now) }
+    requires rule { slice_get rules.now number ≡ Some rule.now }
+    ensures found { OnOk result (found.new.items ≡ found.old.items ++ of_file complain rows.now rules.now number rule.now) }
+    ensures firsts { OnOk result (AreFirsts firsts.new rows.now (take (number + 1) rules.now)) }
+{
+    let earlier = repeated(alloc, firsts, rule, applied, number)?;
+    push_file(
+        found, alloc, complain, rows, applied, rules, rule, number, earlier,
+    )?;
+    Ok(())
+}
+
+/// Adds what is found of the rules on files, by the rows at which each applies.
 fn push_files(
     found: &mut Vec<Finding>,
     alloc: Global,
     complain: bool,
     rows: &[Row],
+    index: &[Vec<usize>],
     rules: &[FileRule],
 ) -> Result<(), AllocError>
+    requires { AreApplied rules.now rows.now (lists index.now) }
     ensures { OnOk result (found.new.items ≡ found.old.items ++ files_before complain rows.now rules.now (length rules.now)) }
 {
+    let mut firsts = HashMap::new(alloc);
     for number in 0..rules.len() {
-        push_file(found, alloc, complain, rows, rules, &rules[number], number)?;
+        let applied = list_at(index, number);
+        push_keyed(
+            found,
+            &mut firsts,
+            alloc,
+            complain,
+            rows,
+            applied,
+            rules,
+            &rules[number],
+            number,
+        )?;
     }
     Ok(())
 }
@@ -237,18 +318,27 @@ fn push_changes(found: &mut Vec<Finding>, rules: &[ChangeRule]) -> Result<(), Al
     Ok(())
 }
 
-/// Adds what is found of the rules of a profile, by rows that stand for all files.
+/// Adds what is found of the rules of a profile, by rows that stand for all files, and those of them at which each rule applies.
 #[tactic(auto, unfolding(crate::specs::Gathered::of_rules))]
 pub(crate) fn push_rules(
     found: &mut Vec<Finding>,
     alloc: Global,
     rows: &[Row],
+    index: &[Vec<usize>],
     profile: &Profile,
 ) -> Result<(), AllocError>
+    requires { AreApplied profile.now.files rows.now (lists index.now) }
     ensures { OnOk result (found.new.items ≡ found.old.items ++ of_rules rows.now profile.now) }
 {
     let complain = profile.complain;
-    push_files(found, alloc, complain, rows, profile.files.as_slice())?;
+    push_files(
+        found,
+        alloc,
+        complain,
+        rows,
+        index,
+        profile.files.as_slice(),
+    )?;
     push_caps(found, complain, profile.caps.as_slice())?;
     push_nets(found, complain, profile.nets.as_slice())?;
     push_changes(found, profile.changes.as_slice())

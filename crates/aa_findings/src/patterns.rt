@@ -19,7 +19,7 @@ pub(crate) fn root_pattern(alloc: Global) -> Result<Pattern, AllocError>
     Ok(Pattern { items })
 }
 
-pub(crate) fn add_patterns<'p>(
+fn add_patterns<'p>(
     pointers: &mut Vec<&'p Pattern>,
     patterns: &'p [Pattern],
 ) -> Result<(), AllocError>

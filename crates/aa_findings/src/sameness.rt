@@ -1,10 +1,9 @@
-//! Whether two rules say the same, where they speak of the same objects.
+//! What rules say, as numbers.
 
-ghost use Rattle.std.specs.Prelude.{◌≡◌, ◌==◌};
-ghost use Rattle.aa_findings.specs.Sameness.{same, kind_number, fallback_number, same_name, same_exec, same_way, says_alike};
+ghost use Rattle.std.specs.Prelude.{◌≡◌};
+ghost use Rattle.aa_findings.specs.Sameness.{same, kind_number, fallback_number};
 
-use aa_base::Text;
-use aa_model::{Exec, ExecKind, Fallback, FileRule};
+use aa_model::{ExecKind, Fallback};
 
 pub(crate) fn same(one: bool, other: bool) -> bool
     ensures { result ≡ same one other }
@@ -12,7 +11,7 @@ pub(crate) fn same(one: bool, other: bool) -> bool
     if one { other } else { !other }
 }
 
-fn kind_number(kind: ExecKind) -> u8
+pub(crate) fn kind_number(kind: ExecKind) -> u8
     ensures { result ≡ kind_number kind }
 {
     match kind {
@@ -23,7 +22,7 @@ fn kind_number(kind: ExecKind) -> u8
     }
 }
 
-fn fallback_number(fallback: Fallback) -> u8
+pub(crate) fn fallback_number(fallback: Fallback) -> u8
     ensures { result ≡ fallback_number fallback }
 {
     match fallback {
@@ -31,43 +30,4 @@ fn fallback_number(fallback: Fallback) -> u8
         Fallback::Inherit => 1,
         Fallback::Unconfined => 2,
     }
-}
-
-fn same_name(one: &Option<Text>, other: &Option<Text>) -> bool
-    ensures { result ≡ same_name one.now other.now }
-{
-    match (one, other) {
-        (Some(one), Some(other)) => one.as_slice() == other.as_slice(),
-        (None, None) => true,
-        _ => false,
-    }
-}
-
-fn same_way(one: &Exec, other: &Exec) -> bool
-    ensures { result ≡ same_way one.now other.now }
-{
-    kind_number(one.kind) == kind_number(other.kind)
-        && fallback_number(one.fallback) == fallback_number(other.fallback)
-        && same(one.scrub, other.scrub)
-        && same_name(&one.target, &other.target)
-}
-
-fn same_exec(one: &Option<Exec>, other: &Option<Exec>) -> bool
-    ensures { result ≡ same_exec one.now other.now }
-{
-    match (one, other) {
-        (Some(one), Some(other)) => same_way(one, other),
-        (None, None) => true,
-        _ => false,
-    }
-}
-
-/// Whether both say the same of the objects that they speak of.
-pub(crate) fn says_alike(one: &FileRule, other: &FileRule) -> bool
-    ensures { result ≡ says_alike one.now other.now }
-{
-    same(one.audit, other.audit)
-        && same(one.deny, other.deny)
-        && one.perms.0 == other.perms.0
-        && same_exec(&one.exec, &other.exec)
 }

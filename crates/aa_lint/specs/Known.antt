@@ -1,7 +1,7 @@
 -- Findings that are accepted.
 -- Source: own.
-use Rattle.std.specs.Prelude.{ℕ, ◌==◌, ◌||◌, List, [], ◌∷◌, ◌++◌, length, map, flat_map, codes, nat_eq, Bool, if◌then◌else◌}
-use Rattle.std.specs.List.{list_any, slice_split, starts_with, ends_with}
+use Rattle.std.specs.Prelude.{ℕ, ◌==◌, ◌||◌, ◌&&◌, List, [], ◌∷◌, ◌++◌, length, map, flat_map, codes, nat_eq, nat_lt, Bool, if◌then◌else◌}
+use Rattle.std.specs.List.{list_any, slice_split, starts_with}
 use Rattle.std.specs.Str.{bytes_eq}
 use Rattle.aa_text.specs.Excerpts.{without_return}
 use Rattle.aa_text.specs.Visible.{all_visible}
@@ -25,9 +25,19 @@ unknown_if lines t = if is_among lines (line_of t) then [] else t ∷ []
 abbrev pub unknown : List (List ℕ) → AllTold → AllTold
 unknown lines all = record { told = flat_map (unknown_if lines) all.told; untold = all.untold }
 
--- a line that is no finding's: it is empty, a comment, or says how many findings there were, or how many files were skipped
+-- what stands behind the digits at the front
+abbrev pub after_digits : List ℕ → List ℕ
+after_digits [] = []
+after_digits (b ∷ rest) = if nat_lt b 48 || nat_lt 57 b then b ∷ rest else after_digits rest
+
+-- a line that says how many findings there were, or how many files were skipped
+abbrev pub is_count : List ℕ → Bool
+is_count line =
+    nat_lt (length (after_digits line)) (length line) && (bytes_eq (after_digits line) (codes " findings") || bytes_eq (after_digits line) (codes " files skipped"))
+
+-- a line that is no finding's: it is empty, a comment, or such a count
 abbrev pub is_aside : List ℕ → Bool
-is_aside line = length line == 0 || starts_with nat_eq line (codes "#") || ends_with nat_eq line (codes " findings") || ends_with nat_eq line (codes " files skipped")
+is_aside line = length line == 0 || starts_with nat_eq line (codes "#") || is_count line
 
 -- that the finding of a line isn't found, where so it is
 unfoldable pub gone_text : List ℕ → List ℕ

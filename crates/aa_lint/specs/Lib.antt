@@ -7,5 +7,6 @@ pub mod Sarif
 pub mod Listed
 pub mod Lint
 pub mod Known
+pub mod Lines
 pub mod Forms
 pub mod Command

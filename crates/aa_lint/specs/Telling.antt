@@ -1,6 +1,6 @@
 -- Findings with their places and their rules.
 -- Source: own.
-use Rattle.std.specs.Prelude.{ℕ, List, [], flat_map, Option, Some, None, option_map, option_to_list, option_and_then, unwrap_or, if◌then◌else◌}
+use Rattle.std.specs.Prelude.{ℕ, ◌==◌, ◌&&◌, not, List, [], flat_map, Bool, false, Option, Some, None, option_map, option_to_list, option_and_then, unwrap_or, if◌then◌else◌}
 use Rattle.std.specs.List.{slice_get}
 use Rattle.aa_base.specs.declared.fault.Spot.{Spot}
 use Rattle.aa_model.specs.declared.policy.Profile.{Profile}
@@ -85,6 +85,17 @@ abbrev pub earlier_by : Kind → unit.Unit → ProfilePlaces → Finding → Opt
 earlier_by Duplicate u places f = earlier_at u places f.subject (unwrap_or f.other 0)
 earlier_by _ u places f = None
 
+-- the places are one
+abbrev pub same_spot : Option Spot → Option Spot → Bool
+same_spot (Some a) (Some b) = a.file == b.file && a.byte == b.byte
+same_spot (Some a) None = false
+same_spot None b = false
+
+-- a rule is said again where it stands itself: its file is read again
+abbrev pub is_read_again : Kind → ProfilePlaces → Finding → Bool
+is_read_again Duplicate places f = same_spot (spot_of places f.subject) (spot_of places (with_number f.subject (unwrap_or f.other 0)))
+is_read_again _ places f = false
+
 -- the name of a profile
 abbrev pub name_at : List Profile → ℕ → Option (List ℕ)
 name_at profiles n = option_map (λ (p : Profile). p.name) (slice_get profiles n)
@@ -119,9 +130,9 @@ told_of profiles p u places f = option_to_list (option_map (told_at profiles p u
 abbrev pub unit_in : List unit.Unit → List ℕ → ℕ → Option unit.Unit
 unit_in units owners n = option_and_then (slice_get units) (slice_get owners n)
 
--- where it isn't left out
+-- where it isn't left out, nor of a rule that is said again where it stands itself
 abbrev pub told_wanted : List (List ℕ) → List Profile → Profile → unit.Unit → ProfilePlaces → Finding → List Telling
-told_wanted except profiles p u places f = if is_wanted except f then told_of profiles p u places f else []
+told_wanted except profiles p u places f = if is_wanted except f && not (is_read_again f.kind places f) then told_of profiles p u places f else []
 
 -- nothing is told where a profile's file or its places aren't there
 abbrev pub told_if : List (List ℕ) → List Profile → Profile → Option unit.Unit → Option ProfilePlaces → List Finding → List Telling

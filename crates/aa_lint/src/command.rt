@@ -16,6 +16,7 @@ use crate::finding_names::{is_name, meant_by};
 use crate::forms::push_answers;
 use crate::gathering::{Lint, lint_all};
 use crate::known::{lines_in, lines_of, push_all_gone, unknown_of};
+use crate::lines::lines_as_set;
 use crate::told::Told;
 use crate::untold::{Untold, push_all_untold};
 use aa_check::Form;
@@ -73,7 +74,7 @@ fn push_faults(
 {
     let found = lines_of(alloc, lint.told.as_slice())?;
     push_all_untold(out, lint.untold.as_slice())?;
-    push_all_gone(out, found.as_slice(), lines)
+    push_all_gone(out, alloc, found.as_slice(), lines)
 }
 
 /// What is found, but for accepted lines.
@@ -81,8 +82,9 @@ fn without(alloc: Global, lines: &[&[u8]], lint: Lint) -> Result<Lint, AllocErro
     ensures { IfOk result (λ left. lint_data left ≡ unknown (slices lines.now) (lint_data lint)) }
 {
     let Lint { told, untold } = lint;
+    let set = lines_as_set(alloc, lines)?;
     Ok(Lint {
-        told: unknown_of(alloc, lines, told)?,
+        told: unknown_of(alloc, &set, lines, told)?,
         untold,
     })
 }

@@ -7,6 +7,7 @@ mod forms;
 mod gathering;
 mod jsons;
 mod known;
+mod lines;
 mod sarif;
 mod shown;
 mod telling;

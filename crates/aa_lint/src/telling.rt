@@ -3,7 +3,7 @@
 ghost use Rattle.std.specs.Prelude.{◌≡◌, ◌++◌, map, flat_map, option_map, OnOk, IfOk};
 ghost use Rattle.aa_files.specs.Texts.{texts};
 ghost use Rattle.aa_lint.specs.Names.{is_wanted};
-ghost use Rattle.aa_lint.specs.Telling.{standing, telling, spot_of, with_number, standing_at, earlier_at, earlier_by, name_at, other_by, rule_of, told_at, told_of, told_wanted, unit_in, told_if, all_told};
+ghost use Rattle.aa_lint.specs.Telling.{standing, telling, spot_of, with_number, standing_at, earlier_at, earlier_by, same_spot, is_read_again, name_at, other_by, rule_of, told_at, told_of, told_wanted, unit_in, told_if, all_told};
 
 use crate::finding_names::is_left_out;
 use crate::told::{Site, Told};
@@ -84,6 +84,29 @@ fn earlier_of(
             earlier_at(alloc, unit, places, finding.subject, number)
         }
         _ => Ok(None),
+    }
+}
+
+fn same_spot(one: Option<Spot>, other: Option<Spot>) -> bool
+    ensures { result ≡ same_spot one other }
+{
+    match (one, other) {
+        (Some(one), Some(other)) => one.file == other.file && one.byte == other.byte,
+        _ => false,
+    }
+}
+
+/// Whether a rule is said again where it stands itself: its file is read again.
+fn is_read_again(places: &ProfilePlaces<'_>, finding: &Finding) -> bool
+    ensures { result ≡ is_read_again finding.now.kind places.now finding.now }
+{
+    match finding.kind {
+        Kind::Duplicate => {
+            let number = finding.other.unwrap_or(0);
+            let earlier = spot_of(places, with_number(finding.subject, number));
+            same_spot(spot_of(places, finding.subject), earlier)
+        }
+        _ => false,
     }
 }
 
@@ -202,7 +225,7 @@ fn is_wanted(finding: &Finding, except: &[Vec<u8>]) -> bool
     !is_left_out(finding.kind, except)
 }
 
-/// Adds a finding, as it is told, where it isn't left out.
+/// Adds a finding, as it is told, where it isn't left out, nor of a rule that is said again where it stands itself.
 fn push_wanted(
     told: &mut Vec<Told>,
     alloc: Global,
@@ -215,7 +238,7 @@ fn push_wanted(
 ) -> Result<(), AllocError>
     ensures { OnOk result (map telling told.new.items ≡ map telling told.old.items ++ told_wanted (texts except.now) profiles.now profile.now unit.now places.now finding.now) }
 {
-    if is_wanted(finding, except) {
+    if is_wanted(finding, except) && !is_read_again(places, finding) {
         return push_told(told, alloc, profiles, profile, unit, places, finding);
     }
     Ok(())

@@ -121,7 +121,7 @@ fn push_alone(
 }
 
 /// The number of the profile of that name in the first policy.
-fn number_named(policies: &[Compiled], name: &[u8]) -> Option<u16>
+pub fn number_named(policies: &[Compiled], name: &[u8]) -> Option<u16>
     ensures { result ≡ number_named policies.now name.now }
 {
     match policies.get(0) {
@@ -179,7 +179,7 @@ fn push_apart_of(
 }
 
 /// The profiles of the first policy.
-fn first_profiles(policies: &[Compiled]) -> &[Profile]
+pub fn first_profiles(policies: &[Compiled]) -> &[Profile]
     ensures { result.now ≡ first_profiles policies.now }
 {
     match policies.get(0) {

@@ -37,10 +37,10 @@ use Rattle.aa_quantifiers.specs.Doubts.{byte_of, may_go_on, may_meet, meets, may
 
 -- ---- two patterns that match one path
 
-abbrev HasFront : ℕ → List Item → List ℕ → Type 0
+abbrev pub HasFront : ℕ → List Item → List ℕ → Type 0
 HasFront a xs s = (t : List ℕ) × (s ≡ a ∷ t) × Matches xs t
 
-byte_front : (x : Item) (xs : List Item) (a : ℕ) (s : List ℕ) → byte_of x ≡ Some a → Matches (x ∷ xs) s → HasFront a xs s
+pub byte_front : (x : Item) (xs : List Item) (a : ℕ) (s : List ℕ) → byte_of x ≡ Some a → Matches (x ∷ xs) s → HasFront a xs s
 byte_front (Byte c) xs a s e m = (m.1, m.2 ∙ ap (λ l. l ++ m.1) (m.3.0 ∙ ap (λ (b : ℕ). b ∷ []) (same_Some c a e)), m.4)
 byte_front _ xs a s e m = cc
 
@@ -70,7 +70,7 @@ module _ (profiles : List Profile) (unread : Unread) (pattern : Pattern) (path :
   rival_meets : (b : Pattern) → is_rival profiles path b ≡ true → meets pattern b ≡ true
   rival_meets b e = meet_at pattern b path matched (left (is_match b.items.items path) _ e)
 
-  open_grows : is_open profiles unread path ≡ true → may_attach pattern unread ≡ true
+  pub open_grows : is_open profiles unread path ≡ true → may_attach pattern unread ≡ true
   open_grows e =
       or_grows unread.others (list_any (has_rival profiles path) unread.heads) _
       (any_grows (λ (h : Head). list_any (meets pattern) h.attachments) (has_rival profiles path)

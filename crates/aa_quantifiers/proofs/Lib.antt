@@ -4,4 +4,4 @@ mod Standing
 mod Adding
 mod Best
 pub mod Growing
-mod Closing
+pub mod Closing

@@ -13,7 +13,7 @@ use aa_skipping::{Head, Unread, is_undecided, way_is_unsure};
 use std::alloc::{AllocError, Global};
 
 /// The byte that an item is, if it is one.
-fn byte_of(item: &Item) -> Option<u8>
+pub fn byte_of(item: &Item) -> Option<u8>
     ensures { result ≡ byte_of item.now }
 {
     match item {
@@ -67,14 +67,14 @@ fn one_may_attach(pattern: &Pattern, heads: &[Head]) -> bool
 }
 
 /// Whether a profile that wasn't read may be attached to some path of the pattern.
-fn may_attach(pattern: &Pattern, unread: &Unread) -> bool
+pub fn may_attach(pattern: &Pattern, unread: &Unread) -> bool
     ensures { result ≡ may_attach pattern.now unread.now }
 {
     unread.others || one_may_attach(pattern, unread.heads.as_slice())
 }
 
 /// Whether such a way to execute searches by attachment among all profiles.
-fn is_search(exec: &Exec) -> bool
+pub fn is_search(exec: &Exec) -> bool
     ensures { result ≡ is_search exec.now.kind exec.now.target }
 {
     match (exec.kind, &exec.target) {

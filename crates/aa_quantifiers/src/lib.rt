@@ -9,7 +9,7 @@ mod requests;
 mod shortest;
 mod word;
 
-pub use doubts::{closed_words_are_decided, word_is_open};
+pub use doubts::{byte_of, closed_words_are_decided, is_search, may_attach, word_is_open};
 pub use fault::QuantityFault;
 pub use quantity::{Quantity, quantity_of};
 pub use word::{ExecsWord, FilesWord, Whose, Word};

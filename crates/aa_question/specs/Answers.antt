@@ -70,6 +70,7 @@ pub record Compares (q : DiffAsked) (o : DiffOptions) : Type 0 where
   pub gains : o.wanted.gains ≡ q.gains
   pub profiles : texts o.wanted.profiles.now ≡ q.profiles
   pub json : o.is_json ≡ true
+  pub whole : o.skips ≡ false
 
 -- what `diff --json` prints of the two sides of a question
 pub record IsDiffOf (q : DiffAsked) (out : Printed) : Type 0 where

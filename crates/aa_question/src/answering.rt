@@ -140,6 +140,7 @@ fn diff_asked(alloc: Global, question: &DiffQuestion) -> Result<Output, NoMemory
         new: question.new.files.paths.as_slice(),
         wanted,
         is_json: true,
+        skips: false,
     };
     diff_files(
         alloc,

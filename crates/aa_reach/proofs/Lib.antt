@@ -4,3 +4,4 @@ pub mod Telling
 pub mod Leading
 pub mod Asking
 pub mod Drawing
+mod Turning

@@ -8,16 +8,17 @@ use Rattle.aa_model.specs.declared.label.Label.{Label}
 use Rattle.aa_model.specs.declared.request.Request.{Request}
 use Rattle.aa_model.specs.declared.request.Request.TheVariants.{File, Link, Exec, Cap, Net, Change, Reload}
 use Rattle.aa_model.specs.Requests.{RequestedExec}
+use Rattle.aa_mediate.specs.Reply.{reply}
 use Rattle.aa_reachability.specs.declared.trail.Arrival.{Arrival}
 use Rattle.aa_reachability.specs.declared.reached.Untold.{Untold}
 use Rattle.aa_reachability.specs.declared.reached.Why.{Why}
 use Rattle.aa_reachability.specs.Moves.{label_going, HaveManyPatternsAt, IsWhy}
-use Rattle.aa_reachability.specs.Reach.{IsOpen, AreWays, AreArrivals, AreUntold, AreNear}
+use Rattle.aa_reachability.specs.Reach.{IsOpen, AreArrivals, AreUntold, AreNear}
 use Rattle.aa_reach.specs.declared.routes.Route.{Route}
 use Rattle.aa_reach.specs.declared.answering.Bar.{Bar}
 use Rattle.aa_reach.specs.declared.answering.Answer.{Answer}
 use Rattle.aa_reach.specs.Names.{Name, name_in, name_of}
-use Rattle.aa_reach.specs.Routes.{Turned, Routed, Barred, as_others, turned, turns_by, routed, barred, barred_by, is_wanted, route_to, route_if, all_routes, AreRoutes, AreEdges, Edges, NoEdges}
+use Rattle.aa_reach.specs.Routes.{Turned, Routed, Barred, as_others, is_alike, turned, plain, turns_by, LeadThere, routed, barred, barred_by, is_wanted, route_to, route_if, all_routes, AreRoutes, AreEdges, Edges, NoEdges}
 
 -- what is no execution is asked as it is
 pub kept_as_is : (r : Request) → ((e : RequestedExec) → r ≡ Exec e → ⊥) → as_others r ≡ r
@@ -28,6 +29,13 @@ kept_as_is (Cap c) isnt = refl
 kept_as_is (Net f s) isnt = refl
 kept_as_is (Change name) isnt = refl
 kept_as_is (Reload m) isnt = refl
+
+pub plain_as_is : (ps : List Policy) (l : Label) (r : Request) → ((e : RequestedExec) → r ≡ Exec e → ⊥) → plain ps l r ≡ r
+plain_as_is ps l r isnt = at (is_alike (reply ps l (as_others r)) (reply ps l r))
+  where
+    at : (b : Bool) → (if b then as_others r else r) ≡ r
+    at true = kept_as_is r isnt
+    at false = refl
 
 -- one route more
 route_added : (enforced : Bool) (ps : List Policy) (from : Label) (targets : Option (List Label)) (a : Arrival) (way : List Request)
@@ -70,7 +78,8 @@ route_none enforced ps from targets o way old none =
 pub routes_told : (enforced : Bool) (ps : List Policy) (limit : ℕ) (from : Label) (targets : Option (List Label)) (found lent : List Arrival) (untold : List Untold)
     (routes : List Routed) (bars : List Barred)
     → AreArrivals (label_going enforced ps) (IsOpen untold) from found → AreUntold ps limit found untold → lent ≡ found
-    → ((ways : List (List Request)) → AreWays lent ways → routes ≡ all_routes enforced ps from targets lent ways) → bars ≡ map (barred_by ps) untold
+    → ((ways : List (List Request)) → LeadThere enforced ps from lent ways → routes ≡ all_routes enforced ps from targets lent ways)
+    → bars ≡ map (barred_by ps) untold
     → AreRoutes enforced ps limit from targets routes bars
 routes_told enforced ps limit from targets found lent untold routes bars are are_untold same told bars_are = record {
   arrivals = found;
@@ -78,20 +87,20 @@ routes_told enforced ps limit from targets found lent untold routes bars are are
   are = are;
   are_untold = are_untold;
   told =
-      subst (λ (list : List Arrival). (ways : List (List Request)) → AreWays list ways → routes ≡ all_routes enforced ps from targets list ways)
+      subst (λ (list : List Arrival). (ways : List (List Request)) → LeadThere enforced ps from list ways → routes ≡ all_routes enforced ps from targets list ways)
       same told
-      are.ways are.are;
+      are.ways (record { are = are.are; lead = λ i a e. (are.each i a e).leads });
   bars_are = bars_are;
 }
 
 pub edges_told : (enforced : Bool) (ps : List Policy) (limit : ℕ) (from : Label) (found lent : List Arrival) (routes : List Routed) (bars : List Barred)
     → AreNear (label_going enforced ps) from found → (HaveManyPatternsAt ps from → ⊥) → lent ≡ found
-    → ((ways : List (List Request)) → AreWays lent ways → routes ≡ all_routes enforced ps from None lent ways) → bars ≡ []
+    → ((ways : List (List Request)) → LeadThere enforced ps from lent ways → routes ≡ all_routes enforced ps from None lent ways) → bars ≡ []
     → AreEdges enforced ps limit from routes bars
 edges_told enforced ps limit from found lent routes bars are few same told none =
     Edges found are few
-    (subst (λ (list : List Arrival). (ways : List (List Request)) → AreWays list ways → routes ≡ all_routes enforced ps from None list ways) same told
-    are.ways are.are)
+    (subst (λ (list : List Arrival). (ways : List (List Request)) → LeadThere enforced ps from list ways → routes ≡ all_routes enforced ps from None list ways)
+    same told are.ways (record { are = are.are; lead = λ i a e. (are.each i a e).leads }))
     none
 
 -- none, where it isn't told where one leads

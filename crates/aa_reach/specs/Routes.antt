@@ -14,7 +14,7 @@ use Rattle.aa_reachability.specs.declared.trail.Arrival.{Arrival}
 use Rattle.aa_reachability.specs.declared.reached.Untold.{Untold}
 use Rattle.aa_reachability.specs.declared.reached.Why.{Why}
 use Rattle.aa_reachability.specs.Moves.{is_by_complain, label_going, HaveManyPatternsAt, IsWhy}
-use Rattle.aa_reachability.specs.Reach.{IsOpen, AreArrivals, AreUntold, AreNear, way_at}
+use Rattle.aa_reachability.specs.Reach.{IsOpen, AreWays, AreArrivals, AreUntold, AreNear, led_by, way_at}
 use Rattle.aa_reach.specs.declared.routes.Turn.{Turn}
 use Rattle.aa_reach.specs.declared.routes.Route.{Route}
 use Rattle.aa_reach.specs.declared.answering.Bar.{Bar}
@@ -54,6 +54,11 @@ turn_by ps l r = record { word = word_text r; complains = is_by_complain (reply 
 unfoldable pub turns_by : Bool → List Policy → Label → List Request → List Turned
 turns_by enforced ps l [] = []
 turns_by enforced ps l (r ∷ rs) = turn_by ps l (plain ps l r) ∷ turns_by enforced ps (label_going enforced ps l r) rs
+
+-- the lists of requests by which arrivals are got to, which lead to their labels
+pub record LeadThere (enforced : Bool) (ps : List Policy) (from : Label) (arrivals : List Arrival) (ways : List (List Request)) : Type 0 where
+  pub are : AreWays arrivals ways
+  pub lead : (i : ℕ) (a : Arrival) → slice_get arrivals i ≡ Some a → led_by (label_going enforced ps) from (way_at ways i) ≡ a.label
 
 -- a label, and requests that lead there
 pub record Routed : Type 0 where

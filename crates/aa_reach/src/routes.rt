@@ -1,22 +1,21 @@
 //! The labels that a task can get to, each with the requests that lead there.
 
-ghost use Rattle.std.specs.Prelude.{◌≡◌, ◌++◌, List, map, option_map, length, IfOk, IfErr, OnOk};
+ghost use Rattle.std.specs.Prelude.{◌≡◌, ◌++◌, ◌<◌, List, map, option_map, length, reverse, IfOk, IfErr, OnOk};
 ghost use Rattle.std.specs.List.{list_any, slice_get};
 ghost use Rattle.aa_model.specs.declared.label.Label.{Label};
 ghost use Rattle.aa_model.specs.declared.request.Request.{Request};
 ghost use Rattle.aa_notation.specs.Written.{word_text};
 ghost use Rattle.aa_ask.specs.Told.{is_same};
-ghost use Rattle.aa_reachability.specs.Moves.{label_going};
-ghost use Rattle.aa_reachability.specs.Reach.{AreWays, HaveWays, way_at};
+ghost use Rattle.aa_reachability.specs.Reach.{HaveWays, way_at};
 ghost use Rattle.aa_reach.specs.Names.{name_of};
-ghost use Rattle.aa_reach.specs.Routes.{turned, as_others, is_granted_alike, is_alike, plain, turn_by, turns_by, routed, is_wanted, route_to, route_if, first_routes, all_routes};
+ghost use Rattle.aa_reach.specs.Routes.{turned, as_others, is_granted_alike, is_alike, plain, turn_by, turns_by, LeadThere, routed, is_wanted, route_to, route_if, first_routes, all_routes};
 
 use crate::naming::{Named, name_of};
 use aa_ask::is_same;
 use aa_compile::Compiled;
 use aa_model::{Answer, Label, Request};
 use aa_notation::push_word;
-use aa_reachability::{Arrival, Going, answer_of, is_by_complain, label_after, way_to};
+use aa_reachability::{Arrival, Going, answer_of, complains_by, is_by_complain};
 use std::alloc::{AllocError, Global};
 
 /// A request of a list.
@@ -74,7 +73,7 @@ fn is_alike(one: &Answer, other: &Answer) -> bool
 }
 
 /// The request as others own the file, where that is answered alike.
-fn plain_of(
+fn plain_exec(
     alloc: Global,
     policies: &[Compiled],
     label: Label,
@@ -91,6 +90,21 @@ fn plain_of(
     }
 }
 
+/// The same; what is no execution is asked as it is.
+fn plain_of(
+    alloc: Global,
+    policies: &[Compiled],
+    label: Label,
+    request: &Request,
+) -> Result<Request, AllocError>
+    ensures { IfOk result (λ r. r ≡ plain policies.now label request.now) }
+{
+    match request {
+        Request::Exec(_) => plain_exec(alloc, policies, label, request),
+        _ => request.try_clone(),
+    }
+}
+
 fn turn_of(
     alloc: Global,
     policies: &[Compiled],
@@ -102,28 +116,47 @@ fn turn_of(
     let request = plain_of(alloc, policies, label, request)?;
     Ok(Turn {
         word: word_of(alloc, &request)?,
-        complains: is_by_complain(&answer_of(policies, label, &request)),
+        complains: complains_by(policies, label, &request),
     })
 }
 
-/// The requests of one task, one after another.
-#[tactic(auto, unfolding(crate::specs::Routes::turns_by))]
-fn turns_of(
+/// The requests by which an arrival is got to, as they are told, last first. Where each is asked is known by the arrivals: none is
+/// answered again to see where it leads.
+fn turns_back(
     alloc: Global,
     going: Going<'_>,
-    from: Label,
-    requests: &[Request],
+    arrivals: &[Arrival],
+    number: usize,
 ) -> Result<Vec<Turn>, AllocError>
-    ensures { IfOk result (λ turns. map turned turns.items ≡ turns_by going.entry.as_enforced going.entry.policies.now from requests.now) }
+    requires number { number < length arrivals.now }
+    requires ways { HaveWays arrivals.now }
+    ensures { IfOk result (λ turns. (from : Label) (ways : List (List Request)) → LeadThere going.entry.as_enforced going.entry.policies.now from arrivals.now ways
+        → map turned (reverse turns.items) ≡ turns_by going.entry.as_enforced going.entry.policies.now from (way_at ways number)) }
 {
-    let mut label = from;
     let mut turns = Vec::new(alloc);
-    let mut rest = requests;
-    while let [request, after @ ..] = rest {
-        turns.push(turn_of(alloc, going.policies, label, request)?)?;
-        label = label_after(going, label, request);
-        rest = after;
+    let mut at = number;
+    while let Some(step) = &arrivals[at].step {
+        let label = arrivals[step.from].label;
+        turns.push(turn_of(alloc, going.policies, label, &step.request)?)?;
+        at = step.from;
     }
+    Ok(turns)
+}
+
+/// The requests by which an arrival is got to, as they are told.
+fn turns_to(
+    alloc: Global,
+    going: Going<'_>,
+    arrivals: &[Arrival],
+    number: usize,
+) -> Result<Vec<Turn>, AllocError>
+    requires number { number < length arrivals.now }
+    requires ways { HaveWays arrivals.now }
+    ensures { IfOk result (λ turns. (from : Label) (ways : List (List Request)) → LeadThere going.entry.as_enforced going.entry.policies.now from arrivals.now ways
+        → map turned turns.items ≡ turns_by going.entry.as_enforced going.entry.policies.now from (way_at ways number)) }
+{
+    let mut turns = turns_back(alloc, going, arrivals, number)?;
+    turns.reverse();
     Ok(turns)
 }
 
@@ -154,7 +187,7 @@ fn push_route(
     number: usize,
 ) -> Result<(), AllocError>
     requires { HaveWays arrivals.now }
-    ensures { OnOk result ((ways : List (List Request)) → AreWays arrivals.now ways
+    ensures { OnOk result ((ways : List (List Request)) → LeadThere going.entry.as_enforced going.entry.policies.now from arrivals.now ways
         → map routed routes.new.items ≡ map routed routes.old.items ++ route_if going.entry.as_enforced going.entry.policies.now from (option_map (λ ts. ts.now) targets.entry) (slice_get arrivals.now number) (way_at ways number)) }
 {
     let Some(arrival) = arrivals.get(number) else {
@@ -163,9 +196,8 @@ fn push_route(
     if !is_wanted(from, targets, arrival.label) {
         return Ok(());
     }
-    let way = way_to(alloc, arrivals, number)?;
     let to = name_of(alloc, going.policies, arrival.label)?;
-    let turns = turns_of(alloc, going, from, way.as_slice())?;
+    let turns = turns_to(alloc, going, arrivals, number)?;
     routes.push(Route { to, turns })?;
     Ok(())
 }
@@ -179,7 +211,7 @@ pub(crate) fn routes_to(
     arrivals: &[Arrival],
 ) -> Result<Vec<Route>, AllocError>
     requires { HaveWays arrivals.now }
-    ensures { IfOk result (λ routes. (ways : List (List Request)) → AreWays arrivals.now ways
+    ensures { IfOk result (λ routes. (ways : List (List Request)) → LeadThere going.entry.as_enforced going.entry.policies.now from arrivals.now ways
         → map routed routes.items ≡ all_routes going.entry.as_enforced going.entry.policies.now from (option_map (λ ts. ts.now) targets.entry) arrivals.now ways) }
 {
     let mut routes = Vec::new(alloc);

@@ -1,8 +1,9 @@
 -- Requests that leave the label, and those that move it.
-use Rattle.std.proofs.Common.{◌≡◌, ◌⊎◌, ℕ, Bool, true, false, cond, List, ◌++◌, Option, Some, None, Contains, inl, inr, refl, sym}
+use Rattle.std.proofs.Common.{◌≡◌, ◌⊎◌, ℕ, Bool, true, false, cond, List, ◌++◌, Option, Some, None, Contains, inl, inr, refl, sym, ◌∙◌}
 use Rattle.std.proofs.Common.{ap, subst, ⊎_elim}
-use Rattle.std.specs.Prelude.{◌==◌}
+use Rattle.std.specs.Prelude.{IsPermutation, ◌==◌}
 use Rattle.std.specs.List.{slice_get}
+use Rattle.std.proofs.lemmas.List.Sorted.{Contains-permutation, IsPermutation-sym}
 use Rattle.std.proofs.lemmas.List.Elements.{Contains-append_left, Contains-append_right, Contains-append_cases}
 use Rattle.aa_model.specs.declared.policy.Policy.{Policy}
 use Rattle.aa_model.specs.declared.policy.Profile.{Profile}
@@ -11,16 +12,16 @@ use Rattle.aa_model.specs.declared.label.Label.TheVariants.{Unconfined, Confined
 use Rattle.aa_model.specs.declared.request.Request.{Request}
 use Rattle.aa_model.specs.declared.request.Request.TheVariants.{File, Link, Exec, Cap, Net, Change, Reload}
 use Rattle.aa_model.specs.declared.answer.Answer.{Answer}
-use Rattle.aa_compile.specs.Labels.{policy_number}
+use Rattle.aa_compile.specs.Labels.{policy_number, label_named}
 use Rattle.aa_mediate.specs.declared.bits.RequestBits.{RequestBits}
 use Rattle.aa_mediate.specs.Decided.{blocked}
-use Rattle.aa_mediate.specs.Reply.{kept, reply_at, reply_by, reply}
+use Rattle.aa_mediate.specs.Reply.{found_or, kept, reply_at, reply_by, reply}
 use Rattle.aa_representatives.specs.Askable.{IsFile, IsExec, IsLink, IsCap, IsNet, IsChange, IsReload, IsAskable}
-use Rattle.aa_representatives.specs.Representatives.{AreRepresentatives}
 use Rattle.aa_reachability.specs.declared.going.Going.{Going}
-use Rattle.aa_reachability.specs.Moves.{is_by_complain, label_kept, label_next, label_in, LeadAll, LeadAllBy}
+use Rattle.aa_reachability.specs.Granted.{IsGranted}
+use Rattle.aa_reachability.specs.Moves.{is_by_complain, label_kept, label_next, label_in, LeadAllOf, LeadAll, LeadAllBy}
 
-label_of_either : (b : Bool) (x y : Answer) (l : Label) → x.label ≡ l → y.label ≡ l → (cond b x y).label ≡ l
+pub label_of_either : (b : Bool) (x y : Answer) (l : Label) → x.label ≡ l → y.label ≡ l → (cond b x y).label ≡ l
 label_of_either true x y l e f = e
 label_of_either false x y l e f = f
 
@@ -100,17 +101,20 @@ net_stays (Reload m) is = absurd is
 
 -- those that stand for executions, changes and reloads, put together, lead to all labels
 module _ (ps : List Policy) (l : Label) (execs changes reloads rs : List Request) (are : rs ≡ (execs ++ changes) ++ reloads)
-    (of_execs : AreRepresentatives ps l IsExec execs) (of_changes : AreRepresentatives ps l IsChange changes)
-    (of_reloads : AreRepresentatives ps l IsReload reloads) where
+    (of_execs : LeadAllOf ps l IsExec execs) (of_changes : LeadAllOf ps l IsChange changes) (of_reloads : LeadAllOf ps l IsReload reloads) where
   abbrev Leads : Request → Type 0
   Leads r = (label_next ps l r ≡ l) ⊎ ((q : Request) × Contains rs q × (reply ps l r ≡ reply ps l q))
 
   among : (q : Request) → Contains ((execs ++ changes) ++ reloads) q → Contains rs q
   among q c = subst (λ xs. Contains xs q) (sym are) c
 
-  leads_by : (Kind : Request → Type 0) (some : List Request) → AreRepresentatives ps l Kind some → ((q : Request) → Contains some q → Contains rs q)
+  leads_by : (Kind : Request → Type 0) (some : List Request) → LeadAllOf ps l Kind some → ((q : Request) → Contains some q → Contains rs q)
       → (r : Request) → Kind r → Leads r
-  leads_by Kind some stand within r is = let s = stand.all r is in inr (s.0, within s.0 s.1, s.2)
+  leads_by Kind some lead within r is =
+      ⊎_elim
+      (λ (stays : label_next ps l r ≡ l). inl stays)
+      (λ (s : (q : Request) × Contains some q × (reply ps l r ≡ reply ps l q)). inr (s.0, within s.0 s.1, s.2))
+      (lead.all r is)
 
   stayed : (r : Request) → Stays r → Leads r
   stayed r is = inl (stays ps l r is)
@@ -165,4 +169,28 @@ lead_by g l rs lead = record {
       (λ (stays : label_next g.policies.now l r ≡ l). inl (stays_so g l r stays))
       (λ (found : (q : Request) × Contains rs q × (reply g.policies.now l r ≡ reply g.policies.now l q)). inr (found.0, found.1, moves_so g l r found.0 found.2))
       (lead.all r asked);
+}
+
+kept_same : (b c : Bool) (l m : Label) → c ≡ false → cond b (cond c l m) m ≡ m
+kept_same true false l m e = refl
+kept_same true true l m e = absurd (let f : true ≡ false = e in cc)
+kept_same false c l m e = refl
+
+-- a change that is granted leads to the label of its name
+pub label_granted : (g : Going) (l : Label) (s : List ℕ) → IsGranted g.policies.now l (Change s)
+    → label_in g l (Change s) ≡ found_or l (label_named g.policies.now (policy_number l) s)
+unfolding label_in
+label_granted g l s is =
+    kept_same g.as_enforced (is_by_complain (reply g.policies.now l (Change s))) l (label_next g.policies.now l (Change s)) is.1 ∙ is.0
+
+-- in whatever order they stand
+pub lead_permuted : (ps : List Policy) (l : Label) (Kind : Request → Type 0) (xs ys : List Request) → IsPermutation xs ys → LeadAllOf ps l Kind xs
+    → LeadAllOf ps l Kind ys
+lead_permuted ps l Kind xs ys same lead = record {
+  each = λ r c. lead.each r (Contains-permutation ys xs r (IsPermutation-sym xs ys same) c);
+  all = λ r kind.
+      ⊎_elim
+      (λ (stays : label_next ps l r ≡ l). inl stays)
+      (λ (s : (q : Request) × Contains xs q × (reply ps l r ≡ reply ps l q)). inr (s.0, Contains-permutation xs ys s.0 same s.1, s.2))
+      (lead.all r kind);
 }

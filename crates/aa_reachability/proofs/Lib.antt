@@ -2,4 +2,11 @@ mod Keeping
 mod Stepping
 mod Reaching
 mod Searching
-mod Backing
+pub mod Backing
+mod Counting
+mod Elements
+mod Single
+mod Executing
+mod Changing
+mod Enforcing
+mod Granting

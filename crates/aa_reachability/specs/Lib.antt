@@ -1,6 +1,10 @@
 pub use Rattle.aa_representatives.specs.Alike
 pub use Rattle.aa_representatives.specs.Names
+pub mod Changes
 pub mod Codes
+pub mod Extents
+pub mod Granted
 pub mod Moves
+pub mod Single
 pub mod Reach
 pub mod Trail

@@ -32,6 +32,10 @@ says_allowed _ = false
 abbrev pub is_by_complain : Answer → Bool
 is_by_complain a = option_map_or (λ (n : Note). says_allowed n.word) a.note false
 
+-- a request is granted so
+abbrev pub complains_by : List Policy → Label → Request → Bool
+complains_by ps l r = is_by_complain (reply ps l r)
+
 -- the label of a task with that label after an answer, where it doesn't move by what complain mode alone grants
 abbrev pub label_kept : Label → Answer → Label
 label_kept l a = if is_by_complain a then l else a.label
@@ -47,6 +51,11 @@ label_going enforced ps l r = if enforced then label_enforced ps l r else label_
 -- so of a task that goes on from label to label
 unfoldable pub label_in : Going → Label → Request → Label
 label_in g l r = label_going g.as_enforced g.policies.now l r
+
+-- requests of a kind; each of the kind that moves a task is answered as one of them
+pub record LeadAllOf (ps : List Policy) (l : Label) (Kind : Request → Type 0) (rs : List Request) : Type 0 where
+  pub each : (r : Request) → Contains rs r → Kind r
+  pub all : (r : Request) → Kind r → (label_next ps l r ≡ l) ⊎ ((q : Request) × Contains rs q × (reply ps l r ≡ reply ps l q))
 
 -- requests that can be asked; each request that moves a task is answered as one of them
 pub record LeadAll (ps : List Policy) (l : Label) (rs : List Request) : Type 0 where

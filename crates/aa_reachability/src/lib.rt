@@ -1,15 +1,19 @@
 //! The labels that a task can get to, each by a shortest list of requests.
 #![tactic(auto)]
 
+mod changes;
 mod codes;
+mod execs;
+mod extent;
 mod going;
 mod moves;
+mod order;
 mod reached;
 mod search;
 mod trail;
 mod ways;
 
-pub use going::{Going, answer_of, is_by_complain, label_after};
+pub use going::{Going, answer_of, complains_by, is_by_complain, label_after};
 pub use reached::{Reached, Untold, Why};
 pub use search::{arrivals_from, near_arrivals};
 pub use trail::{Arrival, Step};

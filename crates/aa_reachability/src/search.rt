@@ -4,13 +4,16 @@ ghost use Rattle.std.specs.Prelude.{◌≡◌, ◌+◌, ◌<◌, ◌≤◌, Err,
 ghost use Rattle.aa_pattern.specs.Limits.{most_states};
 ghost use Rattle.aa_model.specs.declared.request.Request.{Request};
 ghost use Rattle.aa_representatives.specs.Askable.{IsAskable};
+ghost use Rattle.aa_reachability.specs.Extents.{IsExtent};
+ghost use Rattle.aa_reachability.specs.Granted.{AreGranted};
 ghost use Rattle.aa_reachability.specs.Moves.{label_going, label_in, LeadAllBy, HaveManyPatternsAt, HavePlacesAt, IsWhy};
 ghost use Rattle.aa_reachability.specs.Reach.{IsOpen, AreArrivals, AreUntold, AreNear};
 ghost use Rattle.aa_reachability.specs.Trail.{arrival_at, IsTrail, IsLevel, Extends, AreFollowedBy, AreFollowed};
 
 use crate::codes::MAX_LABELS;
+use crate::extent::{Extent, extent_at};
 use crate::going::Going;
-use crate::moves::moves_at;
+use crate::moves::{Moves, moves_at};
 use crate::reached::{Reached, Untold, Why};
 use crate::trail::{Arrival, Trail};
 use aa_compile::Compiled;
@@ -22,18 +25,21 @@ use std::alloc::{AllocError, Global};
 fn moves_of(
     alloc: Global,
     going: Going<'_>,
+    extent: Extent,
     label: Label,
     limit: usize,
-) -> Result<Vec<Request>, RepresentativesFault>
+) -> Result<Moves, RepresentativesFault>
     requires some { 0 < limit }
     requires limit { limit ≤ most_states }
-    ensures lead { IfOk result (λ rs. LeadAllBy going.entry label rs.items) }
+    requires extent { IsExtent going.policies.now extent }
+    ensures lead { IfOk result (λ ms. LeadAllBy going.entry label ms.requests.items) }
+    ensures granted { IfOk result (λ ms. AreGranted going.entry.policies.now label ms.are_granted ms.requests.items) }
     ensures many_patterns { result ≡ Err RepresentativesFault.TooManyPatterns → HaveManyPatternsAt going.entry.policies.now label }
     ensures few_patterns { IfOk result (λ _. HaveManyPatternsAt going.entry.policies.now label → ⊥) }
     ensures many_states { result ≡ Err RepresentativesFault.TooManyStates → HavePlacesAt going.entry.policies.now label (limit + 1) }
 {
-    let requests = moves_at(alloc, going.policies, label, limit)?;
-    Ok(requests)
+    let moves = moves_at(alloc, going.policies, extent, label, limit)?;
+    Ok(moves)
 }
 
 /// Goes on from an arrival by each of these requests.
@@ -43,18 +49,20 @@ fn follow_each(
     from: Label,
     number: usize,
     requests: &[Request],
+    are_granted: bool,
 ) -> Result<(), AllocError>
     requires trail { IsTrail going from trail.old.known.keys trail.old.arrivals.items }
     requires within { number < length trail.old.arrivals.items }
     requires level { IsLevel trail.old.arrivals.items number }
     requires asked { (r : Request) → Contains requests.now r → IsAskable r }
+    requires granted { AreGranted going.policies.now (arrival_at trail.old.arrivals.items number).label are_granted requests.now }
     ensures trail { OnOk result (IsTrail going.entry from trail.new.known.keys trail.new.arrivals.items) }
     ensures level { OnOk result (IsLevel trail.new.arrivals.items number) }
     ensures extends { OnOk result (Extends number trail.old.arrivals.items trail.new.arrivals.items) }
     ensures followed { OnOk result (AreFollowedBy going.entry trail.new.arrivals.items number (λ r. Contains requests.now r)) }
 {
     for request in requests {
-        trail.follow(going, from, number, request)?;
+        trail.follow(going, from, number, request, are_granted)?;
     }
     Ok(())
 }
@@ -66,17 +74,19 @@ fn follow_all(
     from: Label,
     number: usize,
     requests: &[Request],
+    are_granted: bool,
 ) -> Result<(), AllocError>
     requires trail { IsTrail going from trail.old.known.keys trail.old.arrivals.items }
     requires within { number < length trail.old.arrivals.items }
     requires level { IsLevel trail.old.arrivals.items number }
     requires lead { LeadAllBy going (arrival_at trail.old.arrivals.items number).label requests.now }
+    requires granted { AreGranted going.policies.now (arrival_at trail.old.arrivals.items number).label are_granted requests.now }
     ensures trail { OnOk result (IsTrail going.entry from trail.new.known.keys trail.new.arrivals.items) }
     ensures level { OnOk result (IsLevel trail.new.arrivals.items number) }
     ensures extends { OnOk result (Extends number trail.old.arrivals.items trail.new.arrivals.items) }
     ensures followed { OnOk result (AreFollowedBy going.entry trail.new.arrivals.items number IsAskable) }
 {
-    follow_each(trail, going, from, number, requests)?;
+    follow_each(trail, going, from, number, requests, are_granted)?;
     Ok(())
 }
 
@@ -86,12 +96,14 @@ fn follow_next(
     trail: &mut Trail,
     untold: &mut Vec<Untold>,
     going: Going<'_>,
+    extent: Extent,
     from: Label,
     number: usize,
     limit: usize,
 ) -> Result<(), AllocError>
     requires some { 0 < limit }
     requires limit { limit ≤ most_states }
+    requires extent { IsExtent going.policies.now extent }
     requires trail { IsTrail going from trail.old.known.keys trail.old.arrivals.items }
     requires within { number < length trail.old.arrivals.items }
     requires level { IsLevel trail.old.arrivals.items number }
@@ -101,9 +113,10 @@ fn follow_next(
     ensures followed { OnOk result (AreFollowed going.entry limit trail.new.arrivals.items untold.new.items (number + 1)) }
 {
     let label = trail.arrivals[number].label;
-    match moves_of(alloc, going, label, limit) {
-        Ok(requests) => {
-            follow_all(trail, going, from, number, requests.as_slice())?;
+    match moves_of(alloc, going, extent, label, limit) {
+        Ok(moves) => {
+            let requests = moves.requests.as_slice();
+            follow_all(trail, going, from, number, requests, moves.are_granted)?;
             Ok(())
         }
         Err(RepresentativesFault::TooManyPatterns) => {
@@ -139,13 +152,23 @@ fn found_from(
     ensures trail { IfOk result (λ f. IsTrail going.entry from f.trail.known.keys f.trail.arrivals.items) }
     ensures followed { IfOk result (λ f. AreFollowed going.entry limit f.trail.arrivals.items f.untold.items (length f.trail.arrivals.items)) }
 {
+    let extent = extent_at(going.policies, from);
     let mut trail = Trail::started(alloc, going, from)?;
     let mut untold = Vec::new(alloc);
     for number in 0..MAX_LABELS {
         if number == trail.arrivals.len() {
             return Ok(Found { trail, untold });
         }
-        follow_next(alloc, &mut trail, &mut untold, going, from, number, limit)?;
+        follow_next(
+            alloc,
+            &mut trail,
+            &mut untold,
+            going,
+            extent,
+            from,
+            number,
+            limit,
+        )?;
     }
     Ok(Found { trail, untold })
 }
@@ -188,8 +211,10 @@ pub fn near_arrivals(
     ensures few_patterns { IfOk result (λ _. HaveManyPatternsAt going.entry.policies.now from → ⊥) }
     ensures many_states { result ≡ Err RepresentativesFault.TooManyStates → HavePlacesAt going.entry.policies.now from (limit + 1) }
 {
-    let requests = moves_of(alloc, going, from, limit)?;
+    let extent = extent_at(going.policies, from);
+    let moves = moves_of(alloc, going, extent, from, limit)?;
     let mut trail = Trail::started(alloc, going, from)?;
-    follow_all(&mut trail, going, from, 0, requests.as_slice())?;
+    let requests = moves.requests.as_slice();
+    follow_all(&mut trail, going, from, 0, requests, moves.are_granted)?;
     Ok(trail.into_arrivals())
 }

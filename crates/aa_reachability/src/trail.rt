@@ -1,12 +1,13 @@
 //! Labels with shortest lists of requests that lead to them, one after another.
 
-ghost use Rattle.std.specs.Prelude.{◌≡◌, ◌+◌, ◌<◌, IfOk, OnOk, length};
+ghost use Rattle.std.specs.Prelude.{◌≡◌, ◌+◌, ◌<◌, true, IfOk, OnOk, length};
 ghost use Rattle.aa_representatives.specs.Askable.{IsAskable};
+ghost use Rattle.aa_reachability.specs.Granted.{IsGranted};
 ghost use Rattle.aa_reachability.specs.Moves.{label_in};
 ghost use Rattle.aa_reachability.specs.Trail.{arrival_at, IsTrail, IsLevel, IsWithin, Extends};
 
 use crate::codes::code_of;
-use crate::going::{Going, label_after};
+use crate::going::{Going, label_at};
 use aa_model::{Label, Request};
 use indexmap::IndexSet;
 use std::alloc::{AllocError, Global};
@@ -58,18 +59,20 @@ impl Trail {
         from: Label,
         number: usize,
         request: &Request,
+        are_granted: bool,
     ) -> Result<(), AllocError>
         requires trail { IsTrail going from self.old.known.keys self.old.arrivals.items }
         requires within { number < length self.old.arrivals.items }
         requires level { IsLevel self.old.arrivals.items number }
         requires asked { IsAskable request.now }
+        requires granted { are_granted ≡ true → IsGranted going.policies.now (arrival_at self.old.arrivals.items number).label request.now }
         ensures trail { OnOk result (IsTrail going.entry from self.new.known.keys self.new.arrivals.items) }
         ensures level { OnOk result (IsLevel self.new.arrivals.items number) }
         ensures extends { OnOk result (Extends number self.old.arrivals.items self.new.arrivals.items) }
         ensures reached { OnOk result (IsWithin self.new.arrivals.items (label_in going.entry (arrival_at self.old.arrivals.items number).label request.now) ((arrival_at self.old.arrivals.items number).length + 1)) }
     {
         let before = &self.arrivals[number];
-        let label = label_after(going, before.label, request);
+        let label = label_at(going, before.label, request, are_granted);
         let length = before.length + 1;
         let (_, is_new) = self.known.insert_full(code_of(label))?;
         if !is_new {

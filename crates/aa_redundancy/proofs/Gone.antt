@@ -1,11 +1,7 @@
 -- Marks of rules that aren't gone.
-use Rattle.std.proofs.Common.{◌≡◌, ℕ, ◌+◌, ◌<◌, ◌≤◌, List, [], ◌∷◌, length, get_or, Bool, true, false, not, cond, Option, Some, None, refl, sym, ap, ◌∙◌, subst, arith, ⊎_elim}
-use Rattle.std.proofs.lemmas.Bool.{cases_lt}
-use Rattle.std.proofs.lemmas.List.{get_or_default}
+use Rattle.std.proofs.Common.{◌≡◌, ℕ, List, [], ◌∷◌, Bool, true, false, not, cond, Option, Some, None, refl, sym, ap, ◌∙◌}
 use Rattle.std.specs.Prelude.{◌&&◌, ◌||◌, is_some}
-use Rattle.std.specs.List.{list_any, slice_get, cons_option}
-use Rattle.std.specs.Option.{option_map_or}
-use Rattle.std.proofs.lemmas.Bool.{or_parts}
+use Rattle.std.specs.List.{slice_get, cons_option}
 use Rattle.aa_model.specs.Lawful.{has_exec}
 use Rattle.aa_compile.specs.declared.sets.RuleSets.{RuleSets}
 use Rattle.aa_compile.specs.declared.side.Chosen.{Chosen}
@@ -17,7 +13,7 @@ use Rattle.aa_redundancy.specs.declared.saying.Saying.{Saying}
 use Rattle.aa_redundancy.specs.declared.tables.Table.{Table}
 use Rattle.aa_redundancy.specs.Rights.{rights}
 use Rattle.aa_redundancy.specs.Marks.{is_sort, sets_of, choice_of, sets_by, choice_by, choose, chosen_by, led, said_by}
-use Rattle.aa_redundancy.specs.Tables.{none_gone, SameRow, SameTable, SameTables}
+use Rattle.aa_redundancy.specs.Tables.{SameRow, SameTable, SameTables}
 
 -- two ways to say which rules are gone, that agree on the rules of a row
 module _ (gone others : ℕ → Bool) (marks : List RuleMark) where
@@ -74,24 +70,3 @@ table_same t gone others same h = λ row c. row_same gone others t.marks.items s
 
 pub tables_same : (ts : List Table) (gone others : ℕ → Bool) → ((n : ℕ) → gone n ≡ others n) → SameTables ts gone → SameTables ts others
 tables_same ts gone others same h = λ t c. table_same t gone others same (h t c)
-
--- one more of the tables is the same
-pub tables_more : (ts : List Table) (gone : ℕ → Bool) (n : ℕ) (x : Table) → n < length ts → x ≡ get_or ts n x → SameTable x gone
-    → ((k : ℕ) (t : Table) → k < n → get_or ts k t ≡ t → SameTable t gone) → (k : ℕ) (t : Table) → k < n + 1 → get_or ts k t ≡ t → SameTable t gone
-tables_more ts gone n x lt is same before k t less e =
-    ⊎_elim (λ (l : k < n). before k t l e)
-    (λ (g : n ≤ k).
-    let here : n ≡ k = omega (arith, g, less) in
-    let At : Table → Type 0 = λ (y : Table). SameTable y gone in
-    subst At (is ∙ get_or_default ts n x t lt ∙ ap (λ (i : ℕ). get_or ts i t) here ∙ e) same)
-    (cases_lt k n)
-
--- no rule of the row is gone
-pub none_here : (gone : ℕ → Bool) (marks : List RuleMark) (row : List ℕ)
-    → list_any (λ n. option_map_or (λ (m : RuleMark). gone m.rule) (slice_get marks n) false) row ≡ false → Agree gone none_gone marks row
-none_here gone marks [] e = tt
-none_here gone marks (n ∷ ns) e = let p = or_parts _ _ e in (at (slice_get marks n) p.0, none_here gone marks ns p.1)
-  where
-    at : (o : Option RuleMark) → option_map_or (λ (m : RuleMark). gone m.rule) o false ≡ false → AgreeAt gone none_gone marks o
-    at None h = tt
-    at (Some m) h = h

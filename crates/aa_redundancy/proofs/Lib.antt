@@ -6,6 +6,7 @@ mod Bits
 mod Replies
 mod Asking
 mod Gone
+mod Mentioning
 mod Marking
 mod Positions
 mod Placing

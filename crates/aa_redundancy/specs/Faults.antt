@@ -11,6 +11,8 @@ use Rattle.aa_auto.specs.declared.build.BuildFault.{BuildFault}
 use Rattle.aa_auto.specs.declared.build.BuildFault.TheVariants.{NoMemory, TooManyStates}
 use Rattle.aa_redundancy.specs.declared.fault.RedundancyFault.{RedundancyFault}
 use Rattle.aa_redundancy.specs.declared.fault.RedundancyFault.TheVariants.{NoMemory as NoneLeft, TooManyPatterns as ManyPatterns, TooManyStates as ManyStates}
+use Rattle.aa_redundancy.specs.declared.fault.Excess.{Excess}
+use Rattle.aa_redundancy.specs.declared.fault.Excess.TheVariants.{Patterns, States}
 use Rattle.aa_redundancy.specs.declared.fault.PolicyRedundancyFault.{PolicyRedundancyFault}
 use Rattle.aa_redundancy.specs.declared.fault.PolicyRedundancyFault.TheVariants.{NoMemory as NoneAtAll, OfProfile}
 
@@ -29,7 +31,18 @@ IsFaultOf patterns limit ManyStates = HasPlaces patterns (limit + 1)
 abbrev pub IsFaultIn : Profile → ℕ → RedundancyFault → Type 0
 IsFaultIn p limit e = IsFaultOf (patterns_of p.files) limit e ⊎ IsFaultOf (change_patterns p.changes) limit e
 
--- so of one of the profiles, unless memory ran out
+-- the rules of a profile on files, or those on changes of the profile, have too much of this
+abbrev pub Exceeds : Profile → ℕ → Excess → Type 0
+Exceeds p limit Patterns = IsFaultIn p limit ManyPatterns
+Exceeds p limit States = IsFaultIn p limit ManyStates
+
+-- by why the rules of the profile of that number can't be looked through
+abbrev pub fault_at : ℕ → RedundancyFault → PolicyRedundancyFault
+fault_at k NoneLeft = NoneAtAll
+fault_at k ManyPatterns = OfProfile k Patterns
+fault_at k ManyStates = OfProfile k States
+
+-- one of the profiles has too much, unless memory ran out
 abbrev pub IsRefusal : List Profile → ℕ → PolicyRedundancyFault → Type 0
 IsRefusal ps limit NoneAtAll = Unit {0}
-IsRefusal ps limit (OfProfile k e) = (p : Profile) × (slice_get ps k ≡ Some p) × IsFaultIn p limit e
+IsRefusal ps limit (OfProfile k e) = (p : Profile) × (slice_get ps k ≡ Some p) × Exceeds p limit e

@@ -9,6 +9,7 @@ pub mod Sameness
 pub mod Faults
 pub mod Marks
 pub mod Tables
+pub mod Mentions
 pub mod Plain
 pub mod Going
 pub mod Places

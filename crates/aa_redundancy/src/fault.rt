@@ -1,5 +1,8 @@
 //! Why rules can't be looked through.
 
+ghost use Rattle.std.specs.Prelude.{◌≡◌};
+ghost use Rattle.aa_redundancy.specs.Faults.{fault_at};
+
 use aa_auto::BuildFault;
 use std::alloc::{AllocError, AllocFailed};
 
@@ -49,12 +52,38 @@ impl From<BuildFault> for RedundancyFault {
     }
 }
 
+/// What a profile has too much of for its redundant rules to be told.
+#[derive(Clone, Copy)]
+pub enum Excess {
+    /// More patterns than can be matched together.
+    Patterns,
+    /// Patterns that need more states than the limit.
+    States,
+}
+
 /// Why the redundant rules of a policy can't be told.
 #[derive(Clone, Copy)]
 pub enum PolicyRedundancyFault {
     NoMemory,
-    /// Why those of the profile of that number can't be.
-    OfProfile(usize, RedundancyFault),
+    /// What the profile of that number has too much of.
+    OfProfile(usize, Excess),
+}
+
+impl PolicyRedundancyFault {
+    /// The fault of the profile of that number.
+    pub(crate) fn of_profile(number: usize, fault: RedundancyFault) -> Self
+        ensures { result ≡ fault_at number fault }
+    {
+        match fault {
+            RedundancyFault::NoMemory => PolicyRedundancyFault::NoMemory,
+            RedundancyFault::TooManyPatterns => {
+                PolicyRedundancyFault::OfProfile(number, Excess::Patterns)
+            }
+            RedundancyFault::TooManyStates => {
+                PolicyRedundancyFault::OfProfile(number, Excess::States)
+            }
+        }
+    }
 }
 
 impl From<AllocError> for PolicyRedundancyFault {

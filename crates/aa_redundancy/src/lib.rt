@@ -7,6 +7,7 @@ mod files;
 mod going;
 mod laws;
 mod marks;
+mod mentions;
 mod names;
 mod places;
 mod redundant;
@@ -15,7 +16,7 @@ mod rows;
 mod saying;
 mod tables;
 
-pub use fault::{PolicyRedundancyFault, RedundancyFault};
+pub use fault::{Excess, PolicyRedundancyFault, RedundancyFault};
 pub use going::Going;
 pub use laws::{same_sayings_reply_alike, spared_rules_change_no_reply};
 pub use places::PlaceNumbers;

@@ -135,7 +135,7 @@ fn push_tables_at(
     };
     match push_tables(tables, alloc, profile, numbers, limit) {
         Ok(()) => Ok(()),
-        Err(fault) => Err(PolicyRedundancyFault::OfProfile(number, fault)),
+        Err(fault) => Err(PolicyRedundancyFault::of_profile(number, fault)),
     }
 }
 

@@ -1,18 +1,18 @@
 //! What marks say together, when rules are gone.
 
 ghost use Rattle.std.specs.Prelude.{◌≡◌, ◌&&◌, false, true};
-ghost use Rattle.std.specs.List.{slice_get, list_any};
+ghost use Rattle.std.specs.List.{slice_get};
 ghost use Rattle.std.specs.Option.{option_map_or};
 ghost use Rattle.aa_compile.specs.Gathered.{picked};
 ghost use Rattle.aa_compile.specs.Said.{nothing};
 ghost use Rattle.aa_compile.specs.Sides.{no_choice, earlier};
 ghost use Rattle.aa_redundancy.specs.Without.{marked};
 ghost use Rattle.aa_redundancy.specs.Marks.{is_sort, sets_of, choice_of, sets_by, choice_by, chosen_by, choose, led, said_by};
-ghost use Rattle.aa_redundancy.specs.Tables.{none_gone, SameRow, SameRows};
+ghost use Rattle.aa_redundancy.specs.Tables.{none_gone, SameRow};
 
 use crate::marks::RuleMark;
 use crate::rights::{Rights, rights_of};
-use aa_base::{Perms, Seq};
+use aa_base::Perms;
 use aa_compile::{Chosen, RuleSets, Way};
 use bitflags::Flags;
 
@@ -145,22 +145,6 @@ fn said_by(marks: &[RuleMark], row: &[usize], owned: bool, gone: &[bool]) -> Say
     }
 }
 
-/// Whether the rule of the mark is gone.
-fn is_gone_at(marks: &[RuleMark], number: usize, gone: &[bool]) -> bool
-    ensures { result ≡ option_map_or (λ m. marked gone.now m.rule) (slice_get marks.now number) false }
-{
-    match marks.get(number) {
-        Some(mark) => is_gone(gone, mark.rule),
-        None => false,
-    }
-}
-
-fn has_gone(marks: &[RuleMark], row: &[usize], gone: &[bool]) -> bool
-    ensures { result ≡ list_any (λ n. option_map_or (λ m. marked gone.now m.rule) (slice_get marks.now n) false) row.now }
-{
-    row.iter().any(|number| is_gone_at(marks, *number, gone))
-}
-
 fn same_way(one: Option<Way>, other: Option<Way>) -> bool
     ensures same { result ≡ true → one ≡ other }
     ensures differs { result ≡ false → one ≡ other → ⊥ }
@@ -205,32 +189,14 @@ fn same_saying(marks: &[RuleMark], row: &[usize], owned: bool, gone: &[bool]) ->
     are_same(left, all)
 }
 
-/// Whether they say the same of both. Where no rule of theirs is gone, they do.
-fn same_row(marks: &[RuleMark], row: &[usize], gone: &[bool]) -> bool
+/// Whether they say the same of both.
+pub(crate) fn same_row(marks: &[RuleMark], row: &[usize], gone: &[bool]) -> bool
     ensures same { result ≡ true → SameRow marks.now (marked gone.now) row.now }
     ensures differs { result ≡ false → SameRow marks.now (marked gone.now) row.now → ⊥ }
 {
-    let has = has_gone(marks, row, gone);
-    if !has {
-        return true;
-    }
     let of_owner = same_saying(marks, row, true, gone);
     if !of_owner {
         return false;
     }
     same_saying(marks, row, false, gone)
-}
-
-/// Whether the marks of each row do.
-pub(crate) fn same_rows(marks: &[RuleMark], rows: &[Seq<usize>], gone: &[bool]) -> bool
-    ensures same { result ≡ true → SameRows marks.now (marked gone.now) rows.now }
-    ensures differs { result ≡ false → SameRows marks.now (marked gone.now) rows.now → ⊥ }
-{
-    for number in 0..rows.len() {
-        let same = same_row(marks, rows[number].as_slice(), gone);
-        if !same {
-            return false;
-        }
-    }
-    true
 }

@@ -12,9 +12,9 @@ use Rattle.aa_command.specs.Setting.{Setting}
 use Rattle.aa_command.specs.Printed.{Printed, faults_alone}
 use Rattle.aa_command.specs.Policies.{IsPrintedFor}
 use Rattle.aa_redundancy.specs.declared.going.Going.{Going}
-use Rattle.aa_redundancy.specs.declared.fault.RedundancyFault.{RedundancyFault}
-use Rattle.aa_redundancy.specs.declared.fault.RedundancyFault.TheVariants.{NoMemory, TooManyPatterns, TooManyStates}
-use Rattle.aa_redundancy.specs.Faults.{IsFaultIn}
+use Rattle.aa_redundancy.specs.declared.fault.Excess.{Excess}
+use Rattle.aa_redundancy.specs.declared.fault.Excess.TheVariants.{Patterns, States}
+use Rattle.aa_redundancy.specs.Faults.{Exceeds}
 use Rattle.aa_redundancy.specs.Places.{SameProfiles}
 use Rattle.aa_redundancy.specs.Going.{AreGoing}
 use Rattle.aa_redundant.specs.declared.command.RedundantOptions.{RedundantOptions}
@@ -50,23 +50,22 @@ going_printed is_json d g =
     rules_printed is_json (rules_of d.units.now g.alone.items (all_places d)) (rules_of d.units.now g.together.items (all_places d))
 
 -- why it can't be told
-abbrev pub why_of : RedundancyFault → List ℕ
-why_of NoMemory = codes "memory ran out"
-why_of TooManyPatterns = codes "there are more than 65535 patterns"
-why_of TooManyStates = codes "its patterns need too many states together; --states allows more"
+abbrev pub why_of : Excess → List ℕ
+why_of Patterns = codes "there are more than 65535 patterns"
+why_of States = codes "its patterns need too many states together; --states allows more"
 
 -- of which profile it can't be told
 unfoldable pub untold_head : List ℕ → List ℕ
 untold_head name = codes "error: of " ++ value name ++ codes " it can't be told which rules are redundant: "
 
 -- and why, in a line
-abbrev pub untold_line : List ℕ → RedundancyFault → List ℕ
+abbrev pub untold_line : List ℕ → Excess → List ℕ
 untold_line name e = untold_head name ++ why_of e ++ codes "\n"
 
 -- what is printed of the policy that files are: the rules of the places that can go, or of which profile that can't be told
 pub data IsRedundantOf (states : ℕ) (o : RedundantOptions) (d : Decided) (out : Printed) : Type 0 where
   CanTell : (g : Going) → AreGoing (Spares d) (length (all_places d)) g → out ≡ going_printed o.is_json d g → IsRedundantOf states o d out
-  CantTell : (k : ℕ) (p : Profile) (e : RedundancyFault) → slice_get (first_profiles d.policies.now) k ≡ Some p → IsFaultIn p (limit_of states) e
+  CantTell : (k : ℕ) (p : Profile) (e : Excess) → slice_get (first_profiles d.policies.now) k ≡ Some p → Exceeds p (limit_of states) e
       → out ≡ faults_alone (untold_line p.name e) 1 → IsRedundantOf states o d out
 
 -- what `redundant` prints

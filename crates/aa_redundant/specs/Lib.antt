@@ -1,4 +1,5 @@
 pub mod Places
+pub mod Known
 pub mod Told
 pub mod Shown
 pub mod Json

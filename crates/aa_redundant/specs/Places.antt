@@ -1,7 +1,6 @@
 -- The places where the rules of a policy of files stand, each once.
 -- Source: own.
-use Rattle.std.specs.Prelude.{ℕ, zero, suc, ◌==◌, ◌&&◌, List, [], ◌∷◌, ◌++◌, length, map, Bool, Option, Some, unwrap_or, position, slice_get, if◌then◌else◌}
-use Rattle.std.specs.List.{list_any}
+use Rattle.std.specs.Prelude.{◌≡◌, ℕ, zero, suc, ◌==◌, ◌&&◌, List, [], ◌∷◌, ◌++◌, length, map, filter, Bool, not, Option, Some, unwrap_or, position, slice_get}
 use Rattle.std.specs.Option.{option_map_or}
 use Rattle.std.specs.Str.{bytes_eq}
 use Rattle.aa_base.specs.declared.fault.Spot.{Spot}
@@ -18,38 +17,38 @@ path_at us p = option_map_or (λ (u : unit.Unit). path_in u p.at.file) (slice_ge
 
 -- the same byte of files of one path
 abbrev pub same_place : List unit.Unit → RulePlace → RulePlace → Bool
-same_place us p q = p.at.byte == q.at.byte && bytes_eq (path_at us p) (path_at us q)
+same_place us p q = bytes_eq (path_at us p) (path_at us q) && p.at.byte == q.at.byte
 
--- a place is added that isn't there
-abbrev pub with_place : List unit.Unit → List RulePlace → RulePlace → List RulePlace
-with_place us ps p = if list_any (same_place us p) ps then ps else ps ++ p ∷ []
+-- the first of each, where some are the same
+abbrev pub distinct : {X : Type 0} → (X → X → Bool) → List X → List X
+distinct same [] = []
+distinct same (x ∷ xs) = x ∷ filter (λ y. not (same x y)) (distinct same xs)
 
--- those of rules of a unit are added
-abbrev pub with_spots : List unit.Unit → ℕ → List Spot → List RulePlace → List RulePlace
-with_spots us n [] ps = ps
-with_spots us n (at ∷ rest) ps = with_spots us n rest (with_place us ps (record { unit = n; at = at }))
+-- a byte of a file of a unit
+abbrev pub place_in : ℕ → Spot → RulePlace
+place_in n at = record { unit = n; at = at }
 
--- those of a profile's rules
-abbrev pub with_profile : List unit.Unit → ℕ → ProfilePlaces → List RulePlace → List RulePlace
-with_profile us n of ps = with_spots us n of.changes.items (with_spots us n of.nets.items (with_spots us n of.caps.items (with_spots us n of.files.items ps)))
+-- where the rules of a profile stand, sort by sort
+abbrev pub spots_of : ProfilePlaces → List Spot
+spots_of of = of.files.items ++ of.caps.items ++ of.nets.items ++ of.changes.items
 
 -- so where the profile's unit and its places are there
-abbrev pub with_known : List unit.Unit → Option ℕ → Option ProfilePlaces → List RulePlace → List RulePlace
-with_known us (Some n) (Some of) ps = with_profile us n of ps
-with_known us _ _ ps = ps
+abbrev pub places_of : Option ℕ → Option ProfilePlaces → List RulePlace
+places_of (Some n) (Some of) = map (place_in n) (spots_of of)
+places_of _ _ = []
 
--- the places of the rules of the first n profiles, each once, in order
+-- of the rules of the first n profiles, in order
 abbrev pub first_places : Decided → ℕ → List RulePlace
 first_places d zero = []
-first_places d (suc n) = with_known d.units.now (slice_get d.owners.now n) (slice_get d.places.now n) (first_places d n)
+first_places d (suc n) = first_places d n ++ places_of (slice_get d.owners.now n) (slice_get d.places.now n)
 
--- of all profiles
+-- the places of all rules, each once, where it comes first
 abbrev pub all_places : Decided → List RulePlace
-all_places d = first_places d (length d.places.now)
+all_places d = distinct (same_place d.units.now) (first_places d (length d.places.now))
 
--- the number of a place of a unit
+-- the number of a place of a unit; one that isn't there would have the number behind all
 abbrev pub number_in : List unit.Unit → List RulePlace → ℕ → Spot → ℕ
-number_in us ps n at = unwrap_or (position (same_place us (record { unit = n; at = at })) ps) 0
+number_in us ps n at = unwrap_or (position (same_place us (place_in n at)) ps) (length ps)
 
 -- those of a list
 abbrev pub numbers_in : List unit.Unit → List RulePlace → ℕ → List Spot → List ℕ

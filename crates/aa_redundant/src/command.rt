@@ -9,19 +9,21 @@ ghost use Rattle.aa_command.specs.Printed.{printed, faults_alone};
 ghost use Rattle.aa_redundancy.specs.Faults.{IsRefusal};
 ghost use Rattle.aa_redundancy.specs.Going.{AreGoing};
 ghost use Rattle.aa_redundant.specs.Places.{all_places};
+ghost use Rattle.aa_redundant.specs.Known.{AreKeys};
 ghost use Rattle.aa_redundant.specs.Told.{telling};
 ghost use Rattle.aa_redundant.specs.Command.{first_profiles, Spares, answers_text, status_of, rules_printed, going_printed, why_of, untold_head, untold_line, IsRedundantOf, IsRedundantOutput};
 
 use crate::json::push_json_rules;
+use crate::known::{KnownPlaces, known_places};
 use crate::numbers::all_numbers;
-use crate::places::{RulePlace, all_places};
+use crate::places::{RulePlace, rule_places};
 use crate::shown::push_rules;
 use crate::told::{ToldRule, rules_of};
 use aa_command::{Decided, Output, Settings, Use, with_policy};
 use aa_compile::Compiled;
 use aa_files::Tree;
 use aa_model::Profile;
-use aa_redundancy::{Going, PolicyRedundancyFault, RedundancyFault, redundant_places};
+use aa_redundancy::{Excess, Going, PolicyRedundancyFault, redundant_places};
 use aa_text::{NoMemory, push_name, push_text};
 use std::alloc::{AllocError, Global};
 
@@ -57,18 +59,19 @@ fn going_of(
     alloc: Global,
     states: u32,
     decided: Decided<'_>,
-    places: &[RulePlace],
+    known: &KnownPlaces<'_>,
 ) -> Result<Going, PolicyRedundancyFault>
-    requires { places.now ≡ all_places decided }
-    ensures going { IfOk result (λ g. AreGoing (Spares decided.entry) (length places.now) g) }
+    requires keys { AreKeys decided.units.now known.now.keys.keys known.now.places.items }
+    requires places { known.now.places.items ≡ all_places decided }
+    ensures going { IfOk result (λ g. AreGoing (Spares decided.entry) (length (all_places decided.entry)) g) }
     ensures refused { IfErr result (λ e. IsRefusal (first_profiles decided.entry.policies.now) (limit_of states) e) }
 {
-    let numbers = all_numbers(alloc, decided, places)?;
+    let numbers = all_numbers(alloc, decided, known)?;
     let going = redundant_places(
         alloc,
         first_profiles(decided.policies),
         numbers.as_slice(),
-        places.len(),
+        known.places.len(),
         limit_of(states),
     )?;
     Ok(going)
@@ -128,15 +131,12 @@ fn going_printed(
     rules_printed(alloc, is_json, redundant.as_slice(), together.as_slice())
 }
 
-fn why_of(fault: RedundancyFault) -> &'static str
-    ensures { result.now ≡ why_of fault }
+fn why_of(excess: Excess) -> &'static str
+    ensures { result.now ≡ why_of excess }
 {
-    match fault {
-        RedundancyFault::NoMemory => "memory ran out",
-        RedundancyFault::TooManyPatterns => "there are more than 65535 patterns",
-        RedundancyFault::TooManyStates => {
-            "its patterns need too many states together; --states allows more"
-        }
+    match excess {
+        Excess::Patterns => "there are more than 65535 patterns",
+        Excess::States => { "its patterns need too many states together; --states allows more" }
     }
 }
 
@@ -152,21 +152,21 @@ fn push_untold(
     out: &mut Vec<u8>,
     alloc: Global,
     name: &[u8],
-    fault: RedundancyFault,
+    excess: Excess,
 ) -> Result<(), AllocError>
-    ensures { OnOk result (out.new.items ≡ out.old.items ++ untold_line name.now fault) }
+    ensures { OnOk result (out.new.items ≡ out.old.items ++ untold_line name.now excess) }
 {
     push_untold_head(out, alloc, name)?;
-    push_text(out, why_of(fault))?;
+    push_text(out, why_of(excess))?;
     push_text(out, "\n")
 }
 
 /// Says of which profile it can't be told, and why.
-fn untold(alloc: Global, name: &[u8], fault: RedundancyFault) -> Result<Output, AllocError>
-    ensures { IfOk result (λ out. printed out ≡ faults_alone (untold_line name.now fault) 1) }
+fn untold(alloc: Global, name: &[u8], excess: Excess) -> Result<Output, AllocError>
+    ensures { IfOk result (λ out. printed out ≡ faults_alone (untold_line name.now excess) 1) }
 {
     let mut output = Output::new(alloc);
-    push_untold(&mut output.faults, alloc, name, fault)?;
+    push_untold(&mut output.faults, alloc, name, excess)?;
     output.status = 1;
     Ok(output)
 }
@@ -176,12 +176,12 @@ fn untold_at(
     alloc: Global,
     profiles: &[Profile],
     number: usize,
-    fault: RedundancyFault,
+    excess: Excess,
 ) -> Result<Output, AllocError>
-    ensures { IfOk result (λ out. (p : Profile) × (slice_get profiles.now number ≡ Some p) × (printed out ≡ faults_alone (untold_line p.name fault) 1)) }
+    ensures { IfOk result (λ out. (p : Profile) × (slice_get profiles.now number ≡ Some p) × (printed out ≡ faults_alone (untold_line p.name excess) 1)) }
 {
     match profiles.get(number) {
-        Some(profile) => untold(alloc, profile.name.as_slice(), fault),
+        Some(profile) => untold(alloc, profile.name.as_slice(), excess),
         None => Err(AllocError),
     }
 }
@@ -200,8 +200,8 @@ fn untold_of(
     let profiles = first_profiles(decided.policies);
     match fault {
         PolicyRedundancyFault::NoMemory => Err(AllocError),
-        PolicyRedundancyFault::OfProfile(number, fault) => {
-            untold_at(alloc, profiles, number, fault)
+        PolicyRedundancyFault::OfProfile(number, excess) => {
+            untold_at(alloc, profiles, number, excess)
         }
     }
 }
@@ -215,10 +215,16 @@ fn redundant_of(
 ) -> Result<Output, AllocError>
     ensures { IfOk result (λ out. IsRedundantOf states options.now decided.entry (printed out)) }
 {
-    let places = all_places(alloc, decided)?;
-    let places = places.as_slice();
-    match going_of(alloc, states, decided, places) {
-        Ok(going) => going_printed(alloc, options.is_json, decided, places, &going),
+    let all = rule_places(alloc, decided)?;
+    let known = known_places(alloc, decided.units, all.as_slice())?;
+    match going_of(alloc, states, decided, &known) {
+        Ok(going) => going_printed(
+            alloc,
+            options.is_json,
+            decided,
+            known.places.as_slice(),
+            &going,
+        ),
         Err(fault) => untold_of(alloc, states, options, decided, fault),
     }
 }

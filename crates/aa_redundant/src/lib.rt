@@ -3,6 +3,7 @@
 
 mod command;
 mod json;
+mod known;
 mod numbers;
 mod places;
 mod shown;

@@ -1,8 +1,7 @@
-//! The places where the rules of a policy of files stand, each once.
+//! The places where the rules of a policy of files stand.
 
-ghost use Rattle.std.specs.Prelude.{◌≡◌, option_map, IfOk, OnOk};
-ghost use Rattle.std.specs.List.{list_any};
-ghost use Rattle.aa_redundant.specs.Places.{path_at, same_place, with_place, with_spots, with_profile, with_known, all_places};
+ghost use Rattle.std.specs.Prelude.{◌≡◌, ◌++◌, map, option_map, length, IfOk, OnOk};
+ghost use Rattle.aa_redundant.specs.Places.{path_at, place_in, places_of, first_places};
 
 use aa_base::Spot;
 use aa_command::{Decided, PlacedUnit};
@@ -18,7 +17,7 @@ pub(crate) struct RulePlace {
 }
 
 /// The path of the file of a place.
-fn path_at<'p>(units: &'p [PlacedUnit<'_>], place: RulePlace) -> &'p [u8]
+pub(crate) fn path_at<'p>(units: &'p [PlacedUnit<'_>], place: RulePlace) -> &'p [u8]
     ensures { result.now ≡ path_at units.now place }
 {
     match units.get(place.unit) {
@@ -27,90 +26,41 @@ fn path_at<'p>(units: &'p [PlacedUnit<'_>], place: RulePlace) -> &'p [u8]
     }
 }
 
-/// Whether they are one byte of files of one path.
-pub(crate) fn same_place(units: &[PlacedUnit<'_>], one: RulePlace, other: RulePlace) -> bool
-    ensures { result ≡ same_place units.now one other }
+/// Adds places of a unit.
+fn push_spots(places: &mut Vec<RulePlace>, unit: usize, spots: &[Spot]) -> Result<(), AllocError>
+    ensures { OnOk result (places.new.items ≡ places.old.items ++ map (place_in unit) spots.now) }
 {
-    one.at.byte == other.at.byte && path_at(units, one) == path_at(units, other)
-}
-
-fn is_among(units: &[PlacedUnit<'_>], one: RulePlace, places: &[RulePlace]) -> bool
-    ensures { result ≡ list_any (same_place units.now one) places.now }
-{
-    places.iter().any(|place| same_place(units, one, *place))
-}
-
-/// Adds a place that isn't there.
-fn push_place(
-    places: &mut Vec<RulePlace>,
-    units: &[PlacedUnit<'_>],
-    one: RulePlace,
-) -> Result<(), AllocError>
-    ensures { OnOk result (places.new.items ≡ with_place units.now places.old.items one) }
-{
-    if is_among(units, one, places.as_slice()) {
-        return Ok(());
-    }
-    places.push(one)?;
-    Ok(())
-}
-
-/// Adds the places of rules of a unit.
-fn push_spots(
-    places: &mut Vec<RulePlace>,
-    units: &[PlacedUnit<'_>],
-    unit: usize,
-    spots: &[Spot],
-) -> Result<(), AllocError>
-    ensures { OnOk result (places.new.items ≡ with_spots units.now unit spots.now places.old.items) }
-{
-    let mut rest = spots;
-    while let [at, after @ ..] = rest {
-        push_place(places, units, RulePlace { unit, at: *at })?;
-        rest = after;
+    for at in spots {
+        places.push(RulePlace { unit, at: *at })?;
     }
     Ok(())
 }
 
-/// Adds the places of a profile's rules.
-fn push_profile(
-    places: &mut Vec<RulePlace>,
-    units: &[PlacedUnit<'_>],
-    unit: usize,
-    of: &ProfilePlaces<'_>,
-) -> Result<(), AllocError>
-    ensures { OnOk result (places.new.items ≡ with_profile units.now unit of.now places.old.items) }
-{
-    push_spots(places, units, unit, of.files.as_slice())?;
-    push_spots(places, units, unit, of.caps.as_slice())?;
-    push_spots(places, units, unit, of.nets.as_slice())?;
-    push_spots(places, units, unit, of.changes.as_slice())
-}
-
-/// The same, where they are there.
+/// Adds the places of a profile's rules, where they are there.
 fn push_known(
     places: &mut Vec<RulePlace>,
-    units: &[PlacedUnit<'_>],
     unit: Option<&usize>,
     of: Option<&ProfilePlaces<'_>>,
 ) -> Result<(), AllocError>
-    ensures { OnOk result (places.new.items ≡ with_known units.now (option_map (λ u. u.now) unit.entry) (option_map (λ p. p.now) of.entry) places.old.items) }
+    ensures { OnOk result (places.new.items ≡ places.old.items ++ places_of (option_map (λ u. u.now) unit.entry) (option_map (λ p. p.now) of.entry)) }
 {
-    match (unit, of) {
-        (Some(unit), Some(of)) => push_profile(places, units, *unit, of),
-        _ => Ok(()),
-    }
+    let (Some(unit), Some(of)) = (unit, of) else {
+        return Ok(());
+    };
+    push_spots(places, *unit, of.files.as_slice())?;
+    push_spots(places, *unit, of.caps.as_slice())?;
+    push_spots(places, *unit, of.nets.as_slice())?;
+    push_spots(places, *unit, of.changes.as_slice())
 }
 
-/// The places of all rules, each once, in order.
-pub(crate) fn all_places(alloc: Global, decided: Decided<'_>) -> Result<Vec<RulePlace>, AllocError>
-    ensures { IfOk result (λ places. places.items ≡ all_places decided.entry) }
+/// The places of all rules, in order.
+pub(crate) fn rule_places(alloc: Global, decided: Decided<'_>) -> Result<Vec<RulePlace>, AllocError>
+    ensures { IfOk result (λ places. places.items ≡ first_places decided.entry (length decided.entry.places.now)) }
 {
     let mut places = Vec::new(alloc);
     for number in 0..decided.places.len() {
         push_known(
             &mut places,
-            decided.units,
             decided.owners.get(number),
             decided.places.get(number),
         )?;

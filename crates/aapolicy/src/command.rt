@@ -679,7 +679,7 @@ const COMMANDS: &[Named] = &[
         arguments: DIFF_ARGUMENTS,
         more: &[],
         reads_policies: true,
-        skips: false,
+        skips: true,
     },
     Named {
         name: "job",

@@ -142,6 +142,7 @@ fn run_diff(
         new: new.as_slice(),
         wanted,
         is_json: matches.get_flag("json"),
+        skips: matches.get_flag("skip-refused"),
     };
     diff_files(alloc, tree, tree, &before, settings, &options)
 }

@@ -1,11 +1,10 @@
-use Rattle.std.proofs.Common.{◌≡◌, List, map, ap, ◌∙◌}
+use Rattle.std.proofs.Common.{◌≡◌, List, ap, ◌∙◌}
 use Rattle.std.proofs.lemmas.Result.{IfOk-weaker}
 use Rattle.aa_command.specs.declared.output.Output.{Output}
 use Rattle.aa_command.specs.Printed.{printed}
-use Rattle.aa_passed_over.specs.Apart.{apart}
-use Rattle.aa_diff.specs.declared.finding.Finding.{Finding}
-use Rattle.aa_diff.specs.Report.{shown_of, lines_of}
-use Rattle.aa_diff.specs.Command.{reported, compared}
+use Rattle.aa_differences.specs.declared.at_labels.Difference.{Difference}
+use Rattle.aa_diff.specs.Untold.{doubts_data, decided_of}
+use Rattle.aa_diff.specs.Command.{printed_lines, compared}
 use Rattle.aa_diff.proofs.command.print_differences.Goals as goal
 
 pub returns : goal.returns
@@ -13,7 +12,8 @@ returns c =
     let o = c.args.options.now in
     let d = c.args.old in
     let e = c.args.new in
-    let rs = map apart c.as_slice-2.result.now in
-    IfOk-weaker c.print_found.result (λ (out : Output). printed out ≡ reported o d e c.as_slice.result.now rs) (λ (out : Output). printed out ≡ compared o d e c.args.differences.now)
-    (λ out is. is ∙ (ap (λ (fs : List Finding). reported o d e fs rs) (c.as_slice.ensures.value ∙ c.in_ok-findings.ensures)
-    ∙ ap (reported o d e (shown_of d.policies.now o.wanted (lines_of d e c.args.differences.now))) (ap (map apart) c.as_slice-2.ensures.value ∙ c.in_ok-rules.ensures))) c.print_found.ensures
+    let a = doubts_data c.in_ok-doubts.doubts in
+    IfOk-weaker c.print_decided.result (λ (out : Output). printed out ≡ printed_lines o d.decided e.decided c.as_slice.result.now a)
+    (λ (out : Output). printed out ≡ compared o d e c.args.differences.items)
+    (λ out is. is ∙ (ap (λ (xs : List Difference). printed_lines o d.decided e.decided xs a) (c.as_slice.ensures.value ∙ c.in_ok-decided.ensures)
+    ∙ ap (printed_lines o d.decided e.decided (decided_of d e c.args.differences.items)) c.in_ok-doubts.ensures)) c.print_decided.ensures

@@ -1,11 +1,10 @@
-use Rattle.std.proofs.Common.{◌≡◌, ◌++◌, List, [], Result, Ok, Err, map, sym, ap, ◌∙◌, subst, inl, rules}
-use Rattle.std.specs.List.{flat_map}
+use Rattle.std.proofs.Common.{◌≡◌, ◌++◌, List, [], Result, Ok, Err, map, sym, ap, ◌∙◌, subst, inl}
 use Rattle.std.specs.Result.{IfErr, IsErrAnd}
-use Rattle.aa_model.specs.declared.policy.Profile.{Profile}
+use Rattle.aa_compile.specs.Attached.{numbers_below}
 use Rattle.aa_findings.specs.declared.fault.FindingsFault.{FindingsFault}
 use Rattle.aa_findings.specs.declared.finding.Finding.{Finding}
 use Rattle.aa_findings.specs.declared.rows.Row.{Row}
-use Rattle.aa_findings.specs.Attached.{sharing, tied_in, ties_along}
+use Rattle.aa_findings.specs.Attached.{sharing, ties_of}
 use Rattle.aa_findings.specs.Gathered.{of_rules}
 use Rattle.aa_findings.specs.Found.{HasNoFindings}
 use Rattle.aa_findings.proofs.Parents.{shown_there, exceeds_there, tie_shown}
@@ -30,17 +29,14 @@ returns-clause-found c =
     let p = c.args.profile.now in
     let n = c.args.number in
     let shared = c.in_ok-shared.shared.now in
-    let paths = flat_map (tied_in n) (map sharing shared) in
     let ties = c.push_tie.new.found.items in
-    let profiles_are : c.as_slice-profiles.result.now ≡ profiles = search rules in
-    let added : ties ≡ ties_along profiles p.parent n paths =
-    c.in_ok-push_tie.ensures
-    ∙ ap (λ (l : List Finding). l ++ ties_along c.as_slice-profiles.result.now p.parent n paths) c.new-found.ensures.items
-    ∙ ap (λ (ps : List Profile). ties_along ps p.parent n paths) profiles_are in
+    let added : ties ≡ ties_of n (map sharing shared) =
+    c.in_ok-push_tie.ensures ∙ ap (λ (l : List Finding). l ++ ties_of n (map sharing shared)) c.new-found.ensures.items in
     record {
       ties = ties;
-      are_ties = tie_shown profiles c.args.limit p.parent n shared [] ties (shown_there profiles c.args.limit _ c.args.below.now c.requires.below p.parent shared c.in_ok-shared.ensures.shown) added;
+      are_ties = tie_shown profiles (numbers_below p.parent 0 profiles) n shared [] ties
+          (shown_there profiles c.args.limit _ c.args.below.now c.requires.below p.parent shared c.in_ok-shared.ensures.shown) added;
       rows = c.in_ok-rows.rows.items;
       are_rows = c.in_ok-rows.ensures.rows;
-      are = c.in_ok-push_rules.ensures ∙ ap (λ (rows : List Row). ties ++ of_rules rows p) c.as_slice.ensures.value;
+      are = c.in_ok-push_rules.ensures ∙ ap (λ (rows : List Row). ties ++ of_rules rows p) c.as_slice-2.ensures.value;
     }

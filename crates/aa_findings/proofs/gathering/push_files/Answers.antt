@@ -7,5 +7,8 @@ pub loop-number-preserved : goal.loop-number-preserved
 loop-number-preserved c =
     let rows = c.args.rows.now in
     let rules = c.args.rules.now in
-    one_more (of_file c.args.complain rows rules) (files_before c.args.complain rows rules) rules c.loop-number.number c.index-rules-number.result c.args.found.now.items c.loop-number.found.items c.push_file.new.found.items
-    c.loop-number-test.true c.index-rules-number.is refl c.loop-number.invariant c.in_ok-push_file.ensures
+    record {
+      found = one_more (of_file c.args.complain rows rules) (files_before c.args.complain rows rules) rules c.loop-number.number c.index-rules-number.result c.args.found.now.items c.loop-number.found.items
+          c.push_keyed.new.found.items c.loop-number-test.true c.index-rules-number.is refl c.loop-number.invariant.found c.in_ok-push_keyed.ensures.found;
+      firsts = c.in_ok-push_keyed.ensures.firsts;
+    }

@@ -13,5 +13,6 @@ returns c =
       gains = refl;
       profiles = ap texts c.as_slice-5.ensures.value;
       json = refl;
+      whole = refl;
     })
     c.diff_files.ensures

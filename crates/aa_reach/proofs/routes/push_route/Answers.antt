@@ -1,9 +1,8 @@
-use Rattle.std.proofs.Common.{List, length, map, option_map, refl, sym, ap, ◌∙◌}
+use Rattle.std.proofs.Common.{length, map, option_map, refl, sym, ◌∙◌}
 use Rattle.std.specs.List.{slice_get}
 use Rattle.std.proofs.lemmas.Option.{slice_get_read, slice_get_past}
-use Rattle.aa_model.specs.declared.request.Request.{Request}
 use Rattle.aa_reachability.specs.Reach.{way_at}
-use Rattle.aa_reach.specs.Routes.{routed, turns_by}
+use Rattle.aa_reach.specs.Routes.{routed}
 use Rattle.aa_reach.proofs.Telling.{route_found, route_left, route_none}
 use Rattle.aa_reach.proofs.routes.push_route.Goals as goal
 
@@ -37,5 +36,4 @@ returns c = λ ways are.
     c.args.routes.now.items c.push.new.self.items (record { to = c.in_ok-to.to; turns = c.in_ok-turns.turns })
     (slice_get_read arrivals (length arrivals) n a refl there.3.0 there.1) c.in_ok-push.ensures.items (sym c.is_wanted.ensures ∙ c.if-not-is_wanted.false)
     c.in_ok-to.ensures
-    (c.in_ok-turns.ensures
-    ∙ ap (λ (way : List Request). turns_by going.as_enforced going.policies.now c.args.from way) (c.as_slice.ensures.value ∙ c.in_ok-way.ensures ways are))
+    (c.in_ok-turns.ensures c.args.from ways are)

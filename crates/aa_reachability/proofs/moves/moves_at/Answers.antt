@@ -1,22 +1,44 @@
-use Rattle.std.proofs.Common.{◌<◌, ◌++◌, length, ap, ◌∙◌, arith, ⊎_elim}
+use Rattle.std.proofs.Common.{◌≡◌, ◌<◌, ◌++◌, List, length, ap, ◌∙◌, arith, ⊎_elim}
 use Rattle.aa_pattern.specs.Limits.{most_patterns}
+use Rattle.aa_model.specs.declared.request.Request.{Request}
 use Rattle.aa_representatives.specs.Alike.{deciding}
+use Rattle.aa_representatives.specs.Askable.{IsExec, IsChange, IsReload}
 use Rattle.aa_representatives.specs.Names.{many_name_patterns}
-use Rattle.aa_reachability.proofs.Keeping.{lead_all}
+use Rattle.aa_reachability.proofs.Executing.{of_representatives}
+use Rattle.aa_reachability.proofs.Granting.{granted_all, granted_permuted}
+use Rattle.aa_reachability.proofs.Keeping.{lead_all, lead_permuted}
 use Rattle.aa_reachability.proofs.moves.moves_at.Goals as goal
 
 pub returns-clause-lead : goal.returns-clause-lead
 returns-clause-lead c =
+    let ps = c.args.policies.now in
+    let l = c.args.label in
     let execs = c.in_ok-requests.requests.items in
     let changes = c.in_ok-changes.changes.items in
     let reloads = c.in_ok-reloads.reloads.items in
-    lead_all c.args.policies.now c.args.label execs changes reloads c.append-2.new.self.items
+    lead_all ps l execs changes reloads c.append-2.new.self.items
     (c.in_ok-append-2.ensures.items ∙ ap (λ xs. xs ++ reloads) c.in_ok-append.ensures.items)
-    c.in_ok-requests.ensures.representatives c.in_ok-changes.ensures.representatives (c.in_ok-reloads.ensures c.args.label)
+    (lead_permuted ps l IsExec c.in_ok-execs.execs.items execs c.in_ok-requests.ensures c.in_ok-execs.ensures.lead)
+    (lead_permuted ps l IsChange c.in_ok-found.found.requests.items changes c.in_ok-changes.ensures c.in_ok-found.ensures.lead)
+    (of_representatives ps l IsReload reloads (c.in_ok-reloads.ensures l))
+
+pub returns-clause-granted : goal.returns-clause-granted
+returns-clause-granted c =
+    let ps = c.args.policies.now in
+    let l = c.args.label in
+    let found = c.in_ok-found.found in
+    let execs = c.in_ok-requests.requests.items in
+    let changes = c.in_ok-changes.changes.items in
+    let reloads = c.in_ok-reloads.reloads.items in
+    granted_all ps l found.are_granted execs changes reloads c.append-2.new.self.items
+    (c.in_ok-append-2.ensures.items ∙ ap (λ (xs : List Request). xs ++ reloads) c.in_ok-append.ensures.items)
+    (lead_permuted ps l IsExec c.in_ok-execs.execs.items execs c.in_ok-requests.ensures c.in_ok-execs.ensures.lead).each
+    (granted_permuted ps l found.are_granted found.requests.items changes c.in_ok-changes.ensures c.in_ok-found.ensures.granted)
+    (c.in_ok-reloads.ensures l).each
 
 pub returns-clause-few_patterns : goal.returns-clause-few_patterns
 returns-clause-few_patterns c = λ many.
     ⊎_elim
-    (λ (paths : most_patterns < length (deciding c.args.policies.now c.args.label)). absurd (omega (arith, paths, c.in_ok-requests.ensures.few_patterns)))
-    (λ (names : most_patterns < many_name_patterns c.args.policies.now c.args.label). absurd (omega (arith, names, c.in_ok-changes.ensures.few_patterns)))
+    (λ (paths : most_patterns < length (deciding c.args.policies.now c.args.label)). absurd (omega (arith, paths, c.in_ok-execs.ensures.few_patterns)))
+    (λ (names : most_patterns < many_name_patterns c.args.policies.now c.args.label). absurd (omega (arith, names, c.in_ok-found.ensures.few_patterns)))
     many

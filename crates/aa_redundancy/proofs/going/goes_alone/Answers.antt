@@ -1,6 +1,8 @@
 use Rattle.std.proofs.Common.{◌≡◌, List, Bool, sym, subst}
 use Rattle.aa_redundancy.specs.Without.{only, marked}
+use Rattle.aa_redundancy.specs.Mentions.{lists}
 use Rattle.aa_redundancy.proofs.Gone.{tables_same}
+use Rattle.aa_redundancy.proofs.Mentioning.{within_lists, rest_goes, none_changes}
 use Rattle.aa_redundancy.proofs.Marking.{one_marked, none_again}
 use Rattle.aa_redundancy.proofs.going.goes_alone.Goals as goal
 
@@ -11,10 +13,11 @@ pub returns-clause-same : goal.returns-clause-same
 returns-clause-same c = λ e.
     tables_same c.args.tables.now (marked c.as_slice.result.now) (only c.args.number)
     (λ n. subst (λ (fs : List Bool). marked fs n ≡ only c.args.number n) (sym c.as_slice.ensures.value) (one_marked c.args.gone.now.items c.args.number c.requires.none c.requires.within n))
-    (c.same_tables-goes.ensures.same e)
+    (rest_goes c.args.tables.now (lists c.args.listed.now) c.args.gone.now.items c.as_slice.result.now c.args.number c.requires.rows (within_lists c.args.listed.now c.args.gone.now.items c.args.number c.requires.many c.requires.within) c.as_slice.ensures.value
+    (none_changes c.args.tables.now c.args.gone.now.items c.requires.none) (c.same_without-goes.ensures.same e))
 
 pub returns-clause-differs : goal.returns-clause-differs
 returns-clause-differs c = λ e s.
-    c.same_tables-goes.ensures.differs e
+    c.same_without-goes.ensures.differs e
     (tables_same c.args.tables.now (only c.args.number) (marked c.as_slice.result.now)
     (λ n. sym (subst (λ (fs : List Bool). marked fs n ≡ only c.args.number n) (sym c.as_slice.ensures.value) (one_marked c.args.gone.now.items c.args.number c.requires.none c.requires.within n))) s)

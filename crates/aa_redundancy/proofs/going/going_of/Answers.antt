@@ -1,7 +1,17 @@
-use Rattle.std.proofs.Common.{List, Bool, subst}
+use Rattle.std.proofs.Common.{List, Bool, sym, subst}
+use Rattle.std.specs.Global.{Global}
+use Rattle.std.specs.declared.vec.Vec.{Vec}
+use Rattle.aa_redundancy.specs.declared.mentions.RowNumber.{RowNumber}
+use Rattle.aa_redundancy.specs.Mentions.{lists, AreListed}
 use Rattle.aa_redundancy.specs.Tables.{SameTables}
 use Rattle.aa_redundancy.specs.Going.{MarksThose, GoesWith}
 use Rattle.aa_redundancy.proofs.going.going_of.Goals as goal
+
+pub alone-requires-clause-rows : goal.alone-requires-clause-rows
+alone-requires-clause-rows c = subst (λ (ls : List (Vec RowNumber Global)). AreListed c.args.tables.now (lists ls)) (sym c.as_slice-listed.ensures.value) c.in_ok-listed.ensures.all
+
+pub together-requires-clause-rows : goal.together-requires-clause-rows
+together-requires-clause-rows c = subst (λ (ls : List (Vec RowNumber Global)). AreListed c.args.tables.now (lists ls)) (sym c.as_slice-listed.ensures.value) c.in_ok-listed.ensures.all
 
 pub returns : goal.returns
 returns c =

@@ -1,4 +1,4 @@
-use Rattle.std.proofs.Common.{◌≡◌, ℕ, ◌+◌, ◌-◌, ◌∙◌, ap, length, arith, subst}
+use Rattle.std.proofs.Common.{◌≡◌, ℕ, ◌+◌, ◌-◌, ◌∙◌, sym, ap, length, arith, subst}
 use Rattle.std.proofs.lemmas.List.{length-replicate}
 use Rattle.std.proofs.Common.{false}
 use Rattle.aa_redundancy.specs.Tables.{SameTables}
@@ -14,6 +14,8 @@ loop-done-init c = record {
 
 pub mark_if_goes-requires : goal.mark_if_goes-requires
 mark_if_goes-requires c = record {
+  rows = c.requires.rows;
+  many = c.loop-done.invariant.wide ∙ sym c.requires.listed;
   within = omega (arith, c.loop-done.invariant.wide);
   later = λ n le. c.loop-done.invariant.settled.below n (omega (arith, le));
   all = c.loop-done.invariant.settled.all;

@@ -1,7 +1,11 @@
-use Rattle.std.proofs.Common.{[], length, refl, sym, inl, inr}
+use Rattle.std.proofs.Common.{◌≡◌, ℕ, List, [], length, Some, refl, sym, inl, inr, subst}
 use Rattle.std.proofs.lemmas.List.{append-nil}
 use Rattle.std.specs.List.{slice_get}
 use Rattle.std.proofs.lemmas.Option.{slice_get_read, slice_get_past}
+use Rattle.aa_model.specs.declared.policy.Profile.{Profile}
+use Rattle.aa_redundancy.specs.declared.fault.RedundancyFault.{RedundancyFault}
+use Rattle.aa_redundancy.specs.declared.fault.RedundancyFault.TheVariants.{NoMemory, TooManyPatterns, TooManyStates}
+use Rattle.aa_redundancy.specs.Faults.{IsFaultIn, IsRefusal, fault_at}
 use Rattle.aa_redundancy.proofs.Placing.{none_there, both_there}
 use Rattle.aa_redundancy.proofs.redundant.push_tables_at.Goals as goal
 
@@ -31,8 +35,15 @@ returns-in-Ok-clause-tables c =
     let h = c.in-Ok.ensures.tables in
     (h.0, h.1, both_there (slice_get ps i) (slice_get ns i) p n h.0 one other h.2)
 
+-- a fault of the profile of that number is one of the policy
+is_refusal : (ps : List Profile) (k limit : ℕ) (p : Profile) (e : RedundancyFault) → slice_get ps k ≡ Some p → IsFaultIn p limit e → IsRefusal ps limit (fault_at k e)
+is_refusal ps k limit p NoMemory at is = tt
+is_refusal ps k limit p TooManyPatterns at is = (p, at, is)
+is_refusal ps k limit p TooManyStates at is = (p, at, is)
+
 pub returns-in-Err-clause-refused : goal.returns-in-Err-clause-refused
 returns-in-Err-clause-refused c =
     let ps = c.args.profiles.now in
     let p = c.in-Some-Some.profile.now in
-    (p, slice_get_read ps (length ps) c.args.number p refl c.in-Some-Some.ensures.lookup.3.0 c.in-Some-Some.ensures.lookup.1, c.in-Err.ensures.many)
+    let at = slice_get_read ps (length ps) c.args.number p refl c.in-Some-Some.ensures.lookup.3.0 c.in-Some-Some.ensures.lookup.1 in
+    subst (IsRefusal ps c.args.limit) (sym c.of_profile.ensures) (is_refusal ps c.args.number c.args.limit p c.in-Err.fault at c.in-Err.ensures.many)

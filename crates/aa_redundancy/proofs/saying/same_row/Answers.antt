@@ -1,17 +1,9 @@
-use Rattle.std.proofs.Common.{Bool, true, false, sym, ◌∙◌}
-use Rattle.aa_redundancy.specs.Without.{marked}
-use Rattle.aa_redundancy.specs.Tables.{none_gone}
-use Rattle.aa_redundancy.proofs.Gone.{none_here, said_same}
+use Rattle.std.proofs.Common.{Bool, true, false}
 use Rattle.aa_redundancy.proofs.saying.same_row.Goals as goal
 
 by_owner : (P : Bool → Type 0) → P true → P false → (owned : Bool) → P owned
 by_owner P t f true = t
 by_owner P t f false = f
-
-pub returns-then-not-has-clause-same : goal.returns-then-not-has-clause-same
-returns-then-not-has-clause-same c = λ e owned.
-    said_same (marked c.args.gone.now) none_gone c.args.marks.now c.args.row.now
-    (none_here (marked c.args.gone.now) c.args.marks.now c.args.row.now (sym c.has_gone-has.ensures ∙ c.if-not-has.true)) owned
 
 pub returns-then-not-of_owner-clause-differs : goal.returns-then-not-of_owner-clause-differs
 returns-then-not-of_owner-clause-differs c = λ e s. c.same_saying-of_owner.ensures.differs c.if-not-of_owner.true (s true)

@@ -6,11 +6,11 @@ use Rattle.aa_redundant.proofs.numbers.numbers_in.Goals as goal
 
 pub loop-at-preserved : goal.loop-at-preserved
 loop-at-preserved c =
-    let f : Spot → ℕ = number_in c.args.units.now c.args.places.now c.args.unit in
+    let f : Spot → ℕ = number_in c.args.units.now c.args.known.now.places.items c.args.unit in
     let spots = c.args.spots.now in
     let i = c.loop-at.at-index in
     let none : Spot = record { file = 0; byte = 0 } in
     c.in_ok-push.ensures.items
-    ∙ ap (λ (l : List ℕ). l ++ c.number_in.result ∷ []) c.loop-at.invariant
-    ∙ ap (λ (n : ℕ). map f (take i spots) ++ n ∷ []) c.number_in.ensures
+    ∙ ap (λ (l : List ℕ). l ++ c.number_of.result ∷ []) c.loop-at.invariant
+    ∙ ap (λ (n : ℕ). map f (take i spots) ++ n ∷ []) c.number_of.ensures
     ∙ sym (map_more f spots i none c.loop-at-test.true)

@@ -1,0 +1,69 @@
+-- What isn't told, as it is printed.
+-- Source: own.
+use Rattle.std.specs.Prelude.{ℕ, List, [], ◌∷◌, ◌++◌, ◌+◌, length, map, flat_map, codes}
+use Rattle.aa_base.specs.Values.{value}
+use Rattle.aa_text.specs.Visible.{all_visible}
+use Rattle.aa_text.specs.Jsons.{json_bytes, key_text, member_text, list_text}
+use Rattle.aa_skipped.specs.Telling.{count_text}
+use Rattle.aa_undecided.specs.Answers.{PlacedFile}
+use Rattle.aa_undecided.specs.Shown.{refused_at}
+use Rattle.aa_undecided.specs.Jsons.{json_placed}
+use Rattle.aa_passed_over.specs.declared.apart.Side.{Side}
+use Rattle.aa_passed_over.specs.declared.apart.Side.TheVariants.{Old, New}
+use Rattle.aa_diff.specs.Printed.{side_text, more_text}
+use Rattle.aa_diff.specs.Untold.{About, Free, Named, Others, Untold, AllUntold}
+
+-- ---- as text
+
+-- of whom
+abbrev pub about_text : About → List ℕ
+about_text Free = codes "unconfined is"
+about_text (Named name) = codes "profile " ++ value name ++ codes " is"
+about_text Others = codes "other profiles are"
+
+-- the side skips a file, where that is refused, and how many more files there are
+unfoldable pub skips_text : Side → PlacedFile → ℕ → List ℕ
+skips_text side file more = side_text side ++ codes " skips " ++ all_visible file.path ++ refused_at file.at file.place ++ more_text more
+
+-- the first of the files
+abbrev pub files_text : List PlacedFile → List PlacedFile → List ℕ
+files_text (f ∷ fs) new = skips_text Old f (length fs + length new)
+files_text [] (f ∷ fs) = skips_text New f (length fs)
+files_text [] [] = []
+
+-- a line
+unfoldable pub untold_line : List ℕ → Untold → List ℕ
+untold_line words u = about_text u.who ++ words ++ files_text u.old u.new ++ codes "\n"
+
+-- at which labels something is undecided, and which profiles aren't compared
+abbrev pub untold_text : AllUntold → List ℕ
+untold_text a = flat_map (untold_line (codes " undecided: ")) a.undecided ++ flat_map (untold_line (codes " not compared: ")) a.not_compared
+
+-- how many files are skipped
+abbrev pub skipped_text : AllUntold → List ℕ
+skipped_text a = count_text (length a.old + length a.new)
+
+-- ---- as JSON
+
+-- the profile, or null
+abbrev pub json_who : About → List ℕ
+json_who (Named name) = json_bytes name
+json_who _ = codes "null"
+
+-- the files of each side, as members
+unfoldable pub json_files : List PlacedFile → List PlacedFile → List ℕ
+json_files old new = member_text (codes "old") (list_text (map json_placed old)) ++ member_text (codes "new") (list_text (map json_placed new))
+
+-- an object
+unfoldable pub json_untold : Untold → List ℕ
+json_untold u = codes "{" ++ key_text (codes "profile") ++ json_who u.who ++ json_files u.old u.new ++ codes "}"
+
+-- the files that are skipped: those of the old side, and those of the new one
+unfoldable pub json_skipped : List PlacedFile → List PlacedFile → List ℕ
+json_skipped old new = codes "{" ++ key_text (codes "old") ++ list_text (map json_placed old) ++ member_text (codes "new") (list_text (map json_placed new)) ++ codes "}"
+
+-- all, as members
+unfoldable pub json_all_untold : AllUntold → List ℕ
+json_all_untold a =
+    member_text (codes "undecided") (list_text (map json_untold a.undecided)) ++ member_text (codes "not_compared") (list_text (map json_untold a.not_compared))
+    ++ member_text (codes "skipped") (json_skipped a.old a.new)

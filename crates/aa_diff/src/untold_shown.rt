@@ -1,0 +1,257 @@
+//! What isn't told, as it is printed.
+
+ghost use Rattle.std.specs.Prelude.{◌≡◌, ◌++◌, ◌+◌, codes, flat_map, map, length, OnOk};
+ghost use Rattle.aa_base.specs.Values.{value};
+ghost use Rattle.aa_text.specs.Jsons.{key_text, member_text, list_text};
+ghost use Rattle.aa_undecided.specs.Answers.{placed_data, placed_all};
+ghost use Rattle.aa_text.specs.Faults.{where_if};
+ghost use Rattle.aa_undecided.specs.Shown.{refused_at};
+ghost use Rattle.aa_undecided.specs.Jsons.{json_placed};
+ghost use Rattle.aa_diff.specs.Untold.{about, untold, doubts_data};
+ghost use Rattle.aa_diff.specs.UntoldShown.{about_text, skips_text, files_text, untold_line, untold_text, skipped_text, json_who, json_files, json_untold, json_skipped, json_all_untold};
+
+use crate::printing::{push_more, side_text};
+use crate::untold::{Doubt, Doubts, Subject};
+use aa_passed_over::Side;
+use aa_skipped::push_skipped_count;
+use aa_text::{
+    PlaceAt, ToJson, push_json_bytes, push_key, push_list, push_list_member, push_name, push_text,
+    push_visible, push_where,
+};
+use aa_undecided::SkippedAt;
+use std::alloc::{AllocError, Global};
+
+fn push_profile(out: &mut Vec<u8>, alloc: Global, name: &[u8]) -> Result<(), AllocError>
+    ensures { OnOk result (out.new.items ≡ out.old.items ++ (codes "profile " ++ (value name.now ++ codes " is"))) }
+{
+    push_text(out, "profile ")?;
+    push_name(out, alloc, name)?;
+    push_text(out, " is")
+}
+
+/// Appends of whom something isn't told.
+fn push_about(out: &mut Vec<u8>, alloc: Global, subject: &Subject) -> Result<(), AllocError>
+    ensures { OnOk result (out.new.items ≡ out.old.items ++ about_text (about subject.now)) }
+{
+    match subject {
+        Subject::Unconfined => push_text(out, "unconfined is"),
+        Subject::Profile(name) => push_profile(out, alloc, name.as_slice()),
+        Subject::Others => push_text(out, "other profiles are"),
+    }
+}
+
+fn push_place(out: &mut Vec<u8>, at: &[u8], place: Option<PlaceAt>) -> Result<(), AllocError>
+    ensures { OnOk result (out.new.items ≡ out.old.items ++ where_if at.now place) }
+{
+    match place {
+        Some(place) => push_where(out, at, place),
+        None => push_visible(out, at),
+    }
+}
+
+/// Appends where a file is refused.
+#[tactic(auto, unfolding(aa_undecided::specs::Shown::refused_at))]
+fn push_refused_at(out: &mut Vec<u8>, at: &[u8], place: Option<PlaceAt>) -> Result<(), AllocError>
+    ensures { OnOk result (out.new.items ≡ out.old.items ++ refused_at at.now place) }
+{
+    push_text(out, ", refused at ")?;
+    push_place(out, at, place)
+}
+
+/// Appends that a side skips a file, where that is refused, and how many more files there are.
+#[tactic(auto, unfolding(crate::specs::UntoldShown::skips_text))]
+fn push_skips(
+    out: &mut Vec<u8>,
+    side: Side,
+    file: &SkippedAt,
+    more: usize,
+) -> Result<(), AllocError>
+    ensures { OnOk result (out.new.items ≡ out.old.items ++ skips_text side (placed_data file.now) more) }
+{
+    push_text(out, side_text(side))?;
+    push_text(out, " skips ")?;
+    push_visible(out, file.path.as_slice())?;
+    push_refused_at(out, file.at.as_slice(), file.place)?;
+    push_more(out, more as u64)
+}
+
+fn push_files(out: &mut Vec<u8>, old: &[SkippedAt], new: &[SkippedAt]) -> Result<(), AllocError>
+    ensures { OnOk result (out.new.items ≡ out.old.items ++ files_text (placed_all old.now) (placed_all new.now)) }
+{
+    match (old, new) {
+        ([file, more @ ..], others) => { push_skips(out, Side::Old, file, count_of(more, others)) }
+        ([], [file, more @ ..]) => push_skips(out, Side::New, file, more.len()),
+        ([], []) => Ok(()),
+    }
+}
+
+#[tactic(auto, unfolding(crate::specs::UntoldShown::untold_line))]
+fn push_line(out: &mut Vec<u8>, alloc: Global, words: &str, doubt: &Doubt) -> Result<(), AllocError>
+    ensures { OnOk result (out.new.items ≡ out.old.items ++ untold_line words.now (untold doubt.now)) }
+{
+    push_about(out, alloc, &doubt.subject)?;
+    push_text(out, words)?;
+    push_files(out, doubt.old.as_slice(), doubt.new.as_slice())?;
+    push_text(out, "\n")
+}
+
+fn push_lines(
+    out: &mut Vec<u8>,
+    alloc: Global,
+    words: &str,
+    doubts: &[Doubt],
+) -> Result<(), AllocError>
+    ensures { OnOk result (out.new.items ≡ out.old.items ++ flat_map (untold_line words.now) (map untold doubts.now)) }
+{
+    for doubt in doubts {
+        push_line(out, alloc, words, doubt)?;
+    }
+    Ok(())
+}
+
+/// Appends at which labels something is undecided, and which profiles aren't compared.
+pub(crate) fn push_untold(
+    out: &mut Vec<u8>,
+    alloc: Global,
+    doubts: &Doubts,
+) -> Result<(), AllocError>
+    ensures { OnOk result (out.new.items ≡ out.old.items ++ untold_text (doubts_data doubts.now)) }
+{
+    push_lines(out, alloc, " undecided: ", doubts.undecided.as_slice())?;
+    push_lines(
+        out,
+        alloc,
+        " not compared: ",
+        doubts.not_compared.as_slice(),
+    )
+}
+
+/// How many files there are on both sides.
+fn count_of(old: &[SkippedAt], new: &[SkippedAt]) -> usize
+    ensures { result ≡ length (placed_all old.now) + length (placed_all new.now) }
+{
+    old.len() + new.len()
+}
+
+/// Appends how many files are skipped, where some are.
+pub(crate) fn push_skipped(out: &mut Vec<u8>, doubts: &Doubts) -> Result<(), AllocError>
+    ensures { OnOk result (out.new.items ≡ out.old.items ++ skipped_text (doubts_data doubts.now)) }
+{
+    push_skipped_count(out, count_of(doubts.old.as_slice(), doubts.new.as_slice()))
+}
+
+fn push_json_who(out: &mut Vec<u8>, alloc: Global, subject: &Subject) -> Result<(), AllocError>
+    ensures { OnOk result (out.new.items ≡ out.old.items ++ json_who (about subject.now)) }
+{
+    match subject {
+        Subject::Profile(name) => push_json_bytes(out, alloc, name.as_slice()),
+        _ => push_text(out, "null"),
+    }
+}
+
+/// Appends the member of some files.
+fn push_member_of(
+    out: &mut Vec<u8>,
+    alloc: Global,
+    key: &str,
+    files: &[SkippedAt],
+) -> Result<(), AllocError>
+    ensures { OnOk result (out.new.items ≡ out.old.items ++ member_text key.now (list_text (map json_placed (placed_all files.now)))) }
+{
+    push_list_member(out, alloc, key, files)?;
+    Ok(())
+}
+
+/// Appends the files of each side, as members.
+#[tactic(auto, unfolding(crate::specs::UntoldShown::json_files))]
+fn push_json_files(
+    out: &mut Vec<u8>,
+    alloc: Global,
+    old: &[SkippedAt],
+    new: &[SkippedAt],
+) -> Result<(), AllocError>
+    ensures { OnOk result (out.new.items ≡ out.old.items ++ json_files (placed_all old.now) (placed_all new.now)) }
+{
+    push_member_of(out, alloc, "old", old)?;
+    push_member_of(out, alloc, "new", new)
+}
+
+impl ToJson for Doubt {
+    ghost use Rattle.aa_diff.specs.Untold.{untold};
+    ghost use Rattle.aa_diff.specs.UntoldShown.{json_untold};
+
+    ghost json = { λ doubt. json_untold (untold doubt) };
+
+    #[tactic(auto, unfolding(crate::specs::UntoldShown::json_untold))]
+    fn push_json(&self, out: &mut Vec<u8>, alloc: Global) -> Result<(), AllocError> {
+        push_text(out, "{")?;
+        push_key(out, "profile")?;
+        push_json_who(out, alloc, &self.subject)?;
+        push_json_files(out, alloc, self.old.as_slice(), self.new.as_slice())?;
+        push_text(out, "}")
+    }
+}
+
+fn push_doubts_member(
+    out: &mut Vec<u8>,
+    alloc: Global,
+    key: &str,
+    doubts: &[Doubt],
+) -> Result<(), AllocError>
+    ensures { OnOk result (out.new.items ≡ out.old.items ++ member_text key.now (list_text (map json_untold (map untold doubts.now)))) }
+{
+    push_list_member(out, alloc, key, doubts)?;
+    Ok(())
+}
+
+fn push_list_of(out: &mut Vec<u8>, alloc: Global, files: &[SkippedAt]) -> Result<(), AllocError>
+    ensures { OnOk result (out.new.items ≡ out.old.items ++ list_text (map json_placed (placed_all files.now))) }
+{
+    push_list(out, alloc, files)?;
+    Ok(())
+}
+
+/// Appends the files that are skipped: those of the old side, and those of the new one.
+#[tactic(auto, unfolding(crate::specs::UntoldShown::json_skipped))]
+fn push_json_skipped(
+    out: &mut Vec<u8>,
+    alloc: Global,
+    old: &[SkippedAt],
+    new: &[SkippedAt],
+) -> Result<(), AllocError>
+    ensures { OnOk result (out.new.items ≡ out.old.items ++ json_skipped (placed_all old.now) (placed_all new.now)) }
+{
+    push_text(out, "{")?;
+    push_key(out, "old")?;
+    push_list_of(out, alloc, old)?;
+    push_member_of(out, alloc, "new", new)?;
+    push_text(out, "}")
+}
+
+#[tactic(auto, unfolding(aa_text::specs::Jsons::member_text))]
+fn push_skipped_member(
+    out: &mut Vec<u8>,
+    alloc: Global,
+    old: &[SkippedAt],
+    new: &[SkippedAt],
+) -> Result<(), AllocError>
+    ensures { OnOk result (out.new.items ≡ out.old.items ++ member_text (codes "skipped") (json_skipped (placed_all old.now) (placed_all new.now))) }
+{
+    push_text(out, ",")?;
+    push_key(out, "skipped")?;
+    push_json_skipped(out, alloc, old, new)
+}
+
+/// Appends all that isn't told, as members.
+#[tactic(auto, unfolding(crate::specs::UntoldShown::json_all_untold))]
+pub(crate) fn push_json_untold(
+    out: &mut Vec<u8>,
+    alloc: Global,
+    doubts: &Doubts,
+) -> Result<(), AllocError>
+    ensures { OnOk result (out.new.items ≡ out.old.items ++ json_all_untold (doubts_data doubts.now)) }
+{
+    push_doubts_member(out, alloc, "undecided", doubts.undecided.as_slice())?;
+    push_doubts_member(out, alloc, "not_compared", doubts.not_compared.as_slice())?;
+    push_skipped_member(out, alloc, doubts.old.as_slice(), doubts.new.as_slice())
+}

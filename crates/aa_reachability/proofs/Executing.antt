@@ -1,0 +1,131 @@
+-- Executions of the files that rules name one by one, and of those that stand for all.
+use Rattle.std.proofs.Common.{◌≡◌, ◌⊎◌, ℕ, Bool, true, false, cond, List, [], ◌∷◌, Option, Some, None, Contains, inl, inr, refl, sym, ap, ◌∙◌, subst, ⊎_elim, Vec}
+use Rattle.std.specs.Prelude.{◌&&◌, ◌||◌, ◌==◌, not, IfSome}
+use Rattle.std.specs.declared.alloc.Global.{Global}
+use Rattle.std.specs.List.{slice_get, list_any}
+use Rattle.std.specs.Option.{option_map_or}
+use Rattle.std.proofs.lemmas.Bool.{and_parts}
+use Rattle.aa_pattern.specs.declared.pattern.Pattern.{Pattern}
+use Rattle.aa_pattern.specs.Matching.{is_match}
+use Rattle.aa_model.specs.Lawful.{has_exec}
+use Rattle.aa_model.specs.Requests.{RequestedExec}
+use Rattle.aa_model.specs.declared.rule.Exec.{Exec as Way}
+use Rattle.aa_model.specs.declared.rule.FileRule.{FileRule}
+use Rattle.aa_model.specs.declared.policy.Policy.{Policy}
+use Rattle.aa_model.specs.declared.policy.Profile.{Profile}
+use Rattle.aa_model.specs.declared.label.Label.{Label}
+use Rattle.aa_model.specs.declared.label.Label.TheVariants.{Unconfined, Confined}
+use Rattle.aa_model.specs.declared.request.Request.{Request}
+use Rattle.aa_model.specs.declared.request.Request.TheVariants.{File, Link, Exec, Cap, Net, Change, Reload}
+use Rattle.aa_compile.specs.Labels.{profile_in}
+use Rattle.aa_compile.specs.FileRules.{file_verdict, chosen, ways_by, applies_by, some_match, says_how, any_sort, is_nil, way_of}
+use Rattle.aa_compile.specs.Patterns.{is_literal}
+use Rattle.aa_compile.specs.declared.transition.Transition.{Transition}
+use Rattle.aa_compile.specs.declared.transition.Transition.TheVariants.{Denied, Nowhere}
+use Rattle.aa_compile.specs.Transitions.{leads_by, transition}
+use Rattle.aa_mediate.specs.Bits.{exec_bits}
+use Rattle.aa_mediate.specs.Decided.{blocked}
+use Rattle.aa_mediate.specs.Reply.{label_after, exec_reply, reply_at, reply_by, reply}
+use Rattle.aa_representatives.specs.Askable.{IsExec}
+use Rattle.aa_representatives.specs.Representatives.{AreRepresentatives}
+use Rattle.aa_reachability.specs.Extents.{IsProfileAt}
+use Rattle.aa_reachability.specs.Moves.{label_next, LeadAllOf}
+use Rattle.aa_reachability.specs.Single.{HasExecsOfRule}
+use Rattle.aa_reachability.proofs.Counting.{in_policy}
+use Rattle.aa_reachability.proofs.Elements.{head_in, kept_in, some_in}
+use Rattle.aa_reachability.proofs.Keeping.{label_of_either}
+
+pub of_representatives : (ps : List Policy) (l : Label) (Kind : Request → Type 0) (rs : List Request) → AreRepresentatives ps l Kind rs
+    → LeadAllOf ps l Kind rs
+of_representatives ps l Kind rs stand = record { each = stand.each; all = λ r kind. inr (stand.all r kind) }
+
+-- a rule says how, and one of its patterns matches the path
+record Names (rules : List FileRule) (path : List ℕ) : Type 0 where
+  rule : FileRule
+  within : Contains rules rule
+  how : says_how rule ≡ true
+  pattern : Pattern
+  among : Contains rule.patterns pattern
+  match : is_match pattern.items.items path ≡ true
+
+way_names : (sort : Pattern → Bool) (rules : List FileRule) (path : List ℕ) (owned : Bool) (r : FileRule) → Contains (ways_by sort rules path owned) r
+    → Names rules path
+way_names sort rules path owned r c =
+    let kept = kept_in (λ (x : FileRule). says_how x && applies_by sort path owned x) rules r c in
+    let says = and_parts (says_how r) (applies_by sort path owned r) kept.1 in
+    let applied = and_parts (owned || not r.owner) (some_match sort path r.patterns) says.1 in
+    let found = some_in (λ (p : Pattern). sort p && is_match p.items.items path) r.patterns applied.1 in
+    record {
+      rule = r;
+      within = kept.0;
+      how = says.0;
+      pattern = found.0;
+      among = found.1;
+      match = (and_parts (sort found.0) (is_match found.0.items.items path) found.2).1;
+    }
+
+chosen_names : (rules : List FileRule) (path : List ℕ) (owned : Bool) (r : FileRule) → Contains (chosen rules path owned) r → Names rules path
+chosen_names rules path owned r c = at (is_nil (ways_by is_literal rules path owned)) c
+  where
+    at : (b : Bool) → Contains (cond b (ways_by any_sort rules path owned) (ways_by is_literal rules path owned)) r → Names rules path
+    at true c = way_names any_sort rules path owned r c
+    at false c = way_names is_literal rules path owned r c
+
+no_way : (rules : List FileRule) → (way_of rules ≡ None) ⊎ ((r : FileRule) × Contains rules r)
+no_way [] = inl refl
+no_way (r ∷ rules) = inr (r, head_in r rules)
+
+module _ (ps : List Policy) (k n : ℕ) (p : Profile) (at : profile_in ps k n ≡ Some p) where
+  exec_label : (policy : Policy) → slice_get ps k ≡ Some policy → slice_get policy.profiles n ≡ Some p → (r : RequestedExec)
+      → label_next ps (Confined k n) (Exec r) ≡ (exec_reply k policy.profiles n p r).label
+  unfolding reply
+  exec_label policy there here r =
+      ap (λ (o : Option Policy). (reply_by ps (Confined k n) o (Exec r)).label) there
+      ∙ ap (λ (o : Option Profile). (reply_at ps k policy.profiles n o (Exec r)).label) here
+
+  nowhere : (profiles : List Profile) (path : List ℕ) (b : Bool) (o : Option Way) → o ≡ None
+      → label_after k n (cond b Denied (option_map_or (leads_by profiles n p path) o Nowhere)) ≡ Confined k n
+  nowhere profiles path true o e = refl
+  nowhere profiles path false None e = refl
+  nowhere profiles path false (Some w) e = absurd (let f : Some w ≡ None = e in cc)
+
+  -- no rule says how it is executed
+  stays : (r : RequestedExec) → way_of (chosen p.files r.path r.owned) ≡ None → label_next ps (Confined k n) (Exec r) ≡ Confined k n
+  stays r none =
+      let there = in_policy (slice_get ps k) n p at in
+      let profiles = there.0.profiles in
+      exec_label there.0 there.1 there.2 r
+      ∙ label_of_either (blocked p (exec_bits p.files r (transition profiles n p r.path r.owned)) == 0) _ _ (Confined k n)
+      (nowhere profiles r.path (has_exec (file_verdict p.files r.path r.owned).deny) (way_of (chosen p.files r.path r.owned)) none) refl
+
+  module _ (rs : List Request) (each : (r : Request) → Contains rs r → IsExec r) (has : (r : FileRule) → Contains p.files r → HasExecsOfRule rs r) where
+    leads : (r : Request) → IsExec r
+        → (label_next ps (Confined k n) r ≡ Confined k n) ⊎ ((q : Request) × Contains rs q × (reply ps (Confined k n) r ≡ reply ps (Confined k n) q))
+    leads (Exec r) asked =
+        ⊎_elim
+        (λ (none : way_of (chosen p.files r.path r.owned) ≡ None). inl (stays r none))
+        (λ (some : (x : FileRule) × Contains (chosen p.files r.path r.owned) x).
+        let it = chosen_names p.files r.path r.owned some.0 some.1 in
+        inr (Exec r, has it.rule it.within it.how it.pattern it.among r.path it.match asked r.owned, refl))
+        (no_way (chosen p.files r.path r.owned))
+    leads (File r) asked = absurd asked
+    leads (Link r) asked = absurd asked
+    leads (Cap c) asked = absurd asked
+    leads (Net f s) asked = absurd asked
+    leads (Change name) asked = absurd asked
+    leads (Reload m) asked = absurd asked
+
+    execs_lead : LeadAllOf ps (Confined k n) IsExec rs
+    execs_lead = record { each = each; all = leads }
+
+pub execs_lead_at : (ps : List Policy) (l : Label) (p : Profile) → IsProfileAt ps l p → (rs : List Request)
+    → ((r : Request) → Contains rs r → IsExec r) → ((r : FileRule) → Contains p.files r → HasExecsOfRule rs r) → LeadAllOf ps l IsExec rs
+execs_lead_at ps (Confined k n) p at rs each has = execs_lead ps k n p at rs each has
+execs_lead_at ps (Unconfined k) p at rs each has = absurd at
+
+-- so where there are such
+pub execs_lead_some : (ps : List Policy) (l : Label) (p : Profile) → IsProfileAt ps l p → (o : Option (Vec Request Global))
+    → IfSome o (λ rs. (r : Request) → Contains rs.items r → IsExec r) → IfSome o (λ rs. (r : FileRule) → Contains p.files r → HasExecsOfRule rs.items r)
+    → IfSome o (λ rs. LeadAllOf ps l IsExec rs.items)
+execs_lead_some ps l p at None each has = tt
+execs_lead_some ps l p at (Some rs) each has = execs_lead_at ps l p at rs.items each has
