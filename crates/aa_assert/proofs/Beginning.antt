@@ -2,21 +2,21 @@
 use Rattle.std.proofs.Common.{◌≡◌, ℕ, List, [], ◌∷◌, ◌++◌, map, codes, Bool, true, false, true≢false, cond, Option, Some, None, refl, sym, ap, subst, ◌∙◌}
 use Rattle.std.specs.Prelude.{not, ◌&&◌, ◌||◌, ◌==◌}
 use Rattle.std.specs.Bool.{nat_eq}
-use Rattle.std.specs.List.{All, list_any, starts_with}
+use Rattle.std.specs.List.{All, starts_with}
 use Rattle.std.specs.Option.{option_map_or}
 use Rattle.std.specs.Str.{bytes_eq}
 use Rattle.std.proofs.lemmas.Bool.{eq-eqb, eqb-true}
 use Rattle.std.proofs.lemmas.List.{append-nil}
 use Rattle.std.proofs.lemmas.List.Elements.{All-nil, All-cons, All-head, All-tail}
 use Rattle.std.proofs.lemmas.Slice.Eq.{bytes_eq-Decides}
-use Rattle.aa_pattern.specs.declared.item.Item.{Item, Byte, Deep}
+use Rattle.aa_pattern.specs.declared.item.Item.{Byte, Deep}
 use Rattle.aa_pattern.specs.Globs.{Allows, Matches, IsNonzeroByte}
 use Rattle.aa_pattern.specs.Matching.{is_match}
 use Rattle.aa_pattern.proofs.Decided.{decided}
 use Rattle.aa_ask.specs.Asked.{name_in_digits}
-use Rattle.aa_quantifiers.proofs.Growing.{left, right, both, or_grows, any_grows}
+use Rattle.aa_quantifiers.proofs.Growing.{left, right, both, any_grows}
 use Rattle.aa_claims.specs.declared.words.ClaimWord.{ClaimWord}
-use Rattle.aa_claims.specs.Forms.{names_behind}
+use Rattle.aa_claims.specs.Forms.{names_behind, names_within}
 use Rattle.aa_assert.specs.Names.{name_item, is_in_digits, names, may_begin, begins_in_digits, may_name, covers}
 use Rattle.aa_assert.specs.Scope.{is_among, is_about, may_be_among, are_all_among, may_be_about_behind}
 
@@ -114,7 +114,7 @@ not_grows a false f e = refl
 
 pub about_begins : (ws : List ClaimWord) (front rest : List ℕ) → All IsNonzeroByte (front ++ rest) → is_about ws (front ++ rest) ≡ true → may_be_about_behind ws front ≡ true
 about_begins ws front rest all e =
-    let within = names_behind (codes "in") ws in
+    let within = names_within ws in
     let excepted = names_behind (codes "except") ws in
     let some = is_among true within (front ++ rest) in
     let none = not (is_among false excepted (front ++ rest)) in

@@ -5,6 +5,7 @@ pub mod Unanswered
 pub mod Turns
 pub mod Turning
 pub mod Adding
+pub mod Passing
 mod Beginning
 mod Clear
 mod Sound

@@ -1,6 +1,6 @@
 -- What isn't undecided of a claim is so by the policy of all files.
-use Rattle.std.proofs.Common.{◌≡◌, ℕ, ◌<◌, ◌≤◌, List, [], ◌∷◌, ◌++◌, length, map, get_or, Bool, true, false, true≢false, Option, Some, None, refl, sym, ap, subst, ◌∙◌, Contains, ⊎_elim, arith, append_assoc}
-use Rattle.std.specs.Prelude.{not, ◌&&◌, ◌||◌, is_some, filter, codes, IsTrue, if◌then◌else◌}
+use Rattle.std.proofs.Common.{◌≡◌, ℕ, ◌<◌, ◌≤◌, List, [], ◌∷◌, ◌++◌, length, map, get_or, Bool, true, false, true≢false, Option, Some, None, refl, sym, ap, subst, ◌∙◌, Contains, ⊎_elim, arith}
+use Rattle.std.specs.Prelude.{◌||◌, filter, codes, IsTrue, if◌then◌else◌}
 use Rattle.std.specs.Option.{option_map_or}
 use Rattle.std.specs.List.{All, list_any, slice_get}
 use Rattle.std.proofs.lemmas.Option.{slice_get_cases, same_Some}
@@ -23,7 +23,7 @@ use Rattle.aa_skipping.specs.Undecided.{undecided}
 use Rattle.aa_skipping.specs.Laws.{moved, moved_answer}
 use Rattle.aa_skipping.proofs.Elements.{none_in}
 use Rattle.aa_skipped.specs.declared.skipped.Skipped.{Skipped}
-use Rattle.aa_skipped.specs.Together.{together, one_decides, has_label, EachDecides}
+use Rattle.aa_skipped.specs.Together.{together, one_decides, EachDecides}
 use Rattle.aa_skipped.proofs.Each.{head_each}
 use Rattle.aa_undecided.specs.Answers.{placed, files_deciding}
 use Rattle.aa_undecided.specs.Holding.{unreads, IsWhole}
@@ -31,15 +31,15 @@ use Rattle.aa_undecided.proofs.Sound.{none_such, has_some}
 use Rattle.aa_who.specs.Grants.{count_of}
 use Rattle.aa_claims.specs.declared.words.ClaimWord.{ClaimWord}
 use Rattle.aa_assert.specs.declared.asked.Asked.{Asked}
-use Rattle.aa_assert.specs.declared.asked.Asked.TheVariants.{Never, Always, Enforced}
+use Rattle.aa_assert.specs.declared.asked.Asked.TheVariants.{Never, Leads, Always, Reaches, Enforced}
 use Rattle.aa_assert.specs.declared.part.Part.{Part}
 use Rattle.aa_assert.specs.Enforced.{complains_at}
 use Rattle.aa_assert.specs.Judging.{IsBroken}
-use Rattle.aa_assert.specs.Scope.{is_about, may_be_about_behind, may_be_about, concerns}
+use Rattle.aa_assert.specs.Scope.{is_about, may_be_about, concerns}
 use Rattle.aa_assert.specs.Findings.{files_concerned, files_changing}
-use Rattle.aa_assert.specs.Holding.{IsBrokenAt, IsClear, AreNamesText, ClaimsHold, FreeClaimsHold, BreakingsStand}
+use Rattle.aa_assert.specs.Holding.{is_on_answers, IsBrokenAt, AreNamesText, ClaimsHold, FreeClaimsHold, BreakingsStand}
 use Rattle.aa_assert.proofs.Beginning.{about_begins}
-use Rattle.aa_assert.proofs.Clear.{IsKept, AreKept, IsProfileKept, AllKept, all_clear}
+use Rattle.aa_assert.proofs.Clear.{IsKept, AreKept, IsProfileKept, all_clear}
 
 -- what fails of each fails of the others too
 none_more : (f g : Unread → Bool) → ((u : Unread) → f u ≡ false → g u ≡ false) → (us : List Unread) → list_any f us ≡ false → list_any g us ≡ false
@@ -98,19 +98,22 @@ module _ (each : EachDecides) (d : Part) (read whole : Policy) (place : ℕ → 
     no_files l r none = subst (λ (ps : List Policy). files_deciding ps ks l r ≡ []) (sym w.one) (such_none (λ (u : Unread). undecided read.profiles u l r) ks none)
 
     -- a word that is kept at a label isn't broken there by the whole
-    kept_holds : (l : Label) (v : Word) (against : Bool) → IsKept d l v against → IsBroken (whole ∷ []) (moved place l) v against → ⊥
+    kept_holds : (l : Label) (v : Word) (against : Bool) → IsKept d l v (IsAnswered d.decided.policies.now l against)
+        → IsBroken v (IsAnswered (whole ∷ []) (moved place l) against) → ⊥
     kept_holds l v against kept broken =
         let none = closed_by l v kept.closed broken.0 broken.1 in
         let here : IsAnswered d.decided.policies.now l against broken.0 = ap grants (by_read l broken.0) ∙ (sym (ap grants (sure_by l broken.0 none)) ∙ broken.2) in
         let other = kept.holds (broken.0, broken.1, here) in
         other.2 (no_files l other.0 (closed_by l v kept.closed other.0 other.1))
 
-    says_hold : (l : Label) (says : Asked) → AreKept d l says → (says ≡ Enforced → complains_at (whole ∷ []) (moved place l) ≡ false) → IsBrokenAt (whole ∷ []) (moved place l) says → ⊥
-    says_hold l (Never v) kept enforced broken = kept_holds l v true kept broken
-    says_hold l (Always v) kept enforced broken = kept_holds l v false kept broken
-    says_hold l Enforced kept enforced broken = true≢false (sym broken ∙ enforced refl)
+    says_hold : (l : Label) (says : Asked) → is_on_answers says ≡ true → AreKept d l says → (says ≡ Enforced → complains_at (whole ∷ []) (moved place l) ≡ false) → IsBrokenAt (whole ∷ []) (moved place l) says → ⊥
+    says_hold l (Never v) on kept enforced broken = kept_holds l v true kept broken
+    says_hold l (Leads v ls) on kept enforced broken = absurd (true≢false (sym on))
+    says_hold l (Reaches ls) on kept enforced broken = absurd (true≢false (sym on))
+    says_hold l (Always v) on kept enforced broken = kept_holds l v false kept broken
+    says_hold l Enforced on kept enforced broken = true≢false (sym broken ∙ enforced refl)
 
-    module _ (ws : List ClaimWord) (says : Asked) (unconcerned : files_concerned ws d ≡ []) where
+    module _ (ws : List ClaimWord) (says : Asked) (on : is_on_answers says ≡ true) (unconcerned : files_concerned ws d ≡ []) where
       -- no profile that wasn't read has a name that the claim is about
       none_concerned : concerns ws (together (unreads ks)) ≡ false
       none_concerned = head_each (may_be_about ws) (unreads ks) ∙ none_such (concerns ws) ks unconcerned
@@ -150,7 +153,7 @@ module _ (each : EachDecides) (d : Part) (read whole : Policy) (place : ℕ → 
                 let there = w.joined.kept n p is in
                 let same = same_Some _ _ (sym there.1 ∙ (ap (slice_get whole.profiles) at ∙ got)) in
                 let k = kept n lt p is (subst (λ (x : Profile). is_about ws x.name ≡ true) (sym same) about) in
-                says_hold (Confined 0 n) says k.kept (λ e. ap (λ (o : Option Profile). option_map_or (λ (x : Profile). x.complain) o false) there.1 ∙ k.enforced e)
+                says_hold (Confined 0 n) says on k.kept (λ e. ap (λ (o : Option Profile). option_map_or (λ (x : Profile). x.complain) o false) there.1 ∙ k.enforced e)
                 (subst (λ (i : ℕ). IsBrokenAt (whole ∷ []) (Confined 0 i) says) (sym at) broken)
 
         pub holds : AreNamesText whole → (m : ℕ) (q : Profile) → slice_get whole.profiles m ≡ Some q → is_about ws q.name ≡ true → IsBrokenAt (whole ∷ []) (Confined 0 m) says → ⊥
@@ -163,15 +166,15 @@ module _ (each : EachDecides) (d : Part) (read whole : Policy) (place : ℕ → 
             (w.joined.added m q got)
 
 pub claims_hold : EachDecides → ClosedWords → ClaimsHold
-claims_hold each closed first d limit ws says text fs read whole place w texts are clear m q got about broken =
+claims_hold each closed first d limit ws says text fs read whole place w texts are clear on m q got about broken =
     let kept = all_clear d limit first ws says text (count_of d.decided.policies.now) fs are clear in
     let each_kept = subst (λ (ps : List Policy). (k : ℕ) → k < count_of ps → (p : Profile) → profile_in ps 0 k ≡ Some p → is_about ws p.name ≡ true → IsProfileKept d says k p) w.one kept.each in
-    holds each d read whole place w closed ws says kept.unconcerned each_kept texts m q got about broken
+    holds each d read whole place w closed ws says on kept.unconcerned each_kept texts m q got about broken
 
 pub free_claims_hold : EachDecides → ClosedWords → FreeClaimsHold
-free_claims_hold each closed first d limit ws says text fs read whole place w are clear about broken =
+free_claims_hold each closed first d limit ws says text fs read whole place w are clear on about broken =
     let kept = all_clear d limit first ws says text (count_of d.decided.policies.now) fs are clear in
-    says_hold each d read whole place w closed (Unconfined 0) says (kept.free about) (λ e. refl) broken
+    says_hold each d read whole place w closed (Unconfined 0) says on (kept.free about) (λ e. refl) broken
 
 pub breakings_stand : EachDecides → BreakingsStand
 breakings_stand each d read whole place w l r against none answered = stands each d read whole place w l r against none answered

@@ -1,20 +1,22 @@
 -- Why claims aren't answered, handed on.
-use Rattle.std.proofs.Common.{◌≡◌, ℕ, zero, suc, ◌<◌, ◌≤◌, List, [], ◌∷◌, ◌++◌, length, take, drop, get_or, codes, false, Vec, ap, sym, subst, arith}
+use Rattle.std.proofs.Common.{◌≡◌, ℕ, zero, suc, ◌<◌, ◌≤◌, List, [], ◌∷◌, ◌++◌, length, take, drop, get_or, codes, true, false, Vec, ap, sym, subst, arith}
 use Rattle.std.specs.declared.alloc.Global.{Global}
 use Rattle.aa_assert.specs.declared.part.Part.{Part}
 use Rattle.aa_who.specs.declared.fault.Misread.{Misread}
 use Rattle.aa_who.specs.declared.fault.Misread.TheVariants as misread
-use Rattle.aa_who.specs.Words.{SaysMisread}
+use Rattle.aa_who.specs.Words.{IsRead, SaysMisread}
 use Rattle.aa_claims.specs.declared.words.ClaimWord.{ClaimWord}
 use Rattle.aa_claims.specs.declared.fault.Wrong.{Wrong}
 use Rattle.aa_claims.specs.declared.fault.ClaimFault.{ClaimFault}
 use Rattle.aa_claims.specs.declared.fault.ClaimFault.TheVariants.{NoMemory, At}
 use Rattle.aa_claims.specs.Faults.{SaysAt}
-use Rattle.aa_claims.specs.Forms.{names_behind}
+use Rattle.aa_claims.specs.Forms.{is_word, is_reach, names_behind, names_within, names_led}
+use Rattle.aa_quantifiers.specs.declared.word.Word.{Word}
 use Rattle.aa_assert.specs.declared.asked.Asked.{Asked}
 use Rattle.aa_assert.specs.Asked.{is_enforced, IsAskedBy}
 use Rattle.aa_assert.specs.Scope.{AreSomebody, IsInScope}
-use Rattle.aa_assert.specs.Refused.{IsUnread, IsNoRequest, IsNoProfile, IsOutOfScope, NotNamed, NotExcepted, AsksNoPath, IsUnanswered, NotRead, OfOthers, NotAsked}
+use Rattle.aa_assert.specs.Refused.{IsUnread, IsNoLead, IsNoLeadBehind, IsUnsaid, NotRead, NotLeading}
+use Rattle.aa_assert.specs.Refused.{IsUnnamed, IsOutOfScope, NotNamed, NotExcepted, NotLed, AsksNoPath, IsUnanswered, NotSaid, OfOthers, NotAsked}
 use Rattle.aa_assert.specs.Answers.{IsUnansweredOf}
 
 pub says_more : (P Q : ℕ → Wrong → Type 0) (e : ClaimFault) → ((at : ℕ) (fault : Wrong) → P at fault → Q at fault) → SaysAt P e → SaysAt Q e
@@ -33,26 +35,37 @@ pub no_request_at : (text items : List ℕ) (e : Misread) (why : Vec ℕ Global)
 no_request_at text items e why is same h =
     subst (λ (t : List ℕ). SaysMisread t (misread.NoRequest why)) same (subst (λ (x : Misread). SaysMisread text x) is h)
 
--- the word isn't read, where the claim isn't that no profile complains
-pub unread_of : (head asked : ClaimWord) (e : ClaimFault) → is_enforced head asked ≡ false → SaysAt (IsUnread asked) e → SaysAt (IsNoRequest head asked) e
-unread_of head asked e others = says_more (IsUnread asked) (IsNoRequest head asked) e (λ at fault h. (others, h))
+-- the word isn't read, where the claim isn't that no profile complains; or it leads nowhere
+module _ (ws : List ClaimWord) (head asked : ClaimWord) (e : ClaimFault) where
+  pub unread_of : is_enforced head asked ≡ false → is_reach head asked ≡ false → SaysAt (IsUnread asked) e → SaysAt (IsUnsaid ws head asked) e
+  unread_of others here = says_more (IsUnread asked) (IsUnsaid ws head asked) e (λ at fault h. NotRead (others, here, h))
+
+  pub no_lead_of : (w : Word) → IsRead asked.text.items w → SaysAt (IsNoLeadBehind head ws w) e → SaysAt (IsUnsaid ws head asked) e
+  no_lead_of w read = says_more (IsNoLeadBehind head ws w) (IsUnsaid ws head asked) e (λ at fault h. NotLeading w read h)
+
+  pub no_lead_behind : (w : Word) → is_word (codes "never") head ≡ true → SaysAt (IsNoLead ws w) e → SaysAt (IsNoLeadBehind head ws w) e
+  no_lead_behind w never = says_more (IsNoLead ws w) (IsNoLeadBehind head ws w) e (λ at fault h. (never, h))
 
 module _ (d : Part) (ws : List ClaimWord) (head : ClaimWord) (e : ClaimFault) where
-  pub not_named : SaysAt (IsNoProfile d (codes "in") ws) e → SaysAt (IsOutOfScope d ws head) e
-  not_named = says_more (IsNoProfile d (codes "in") ws) (IsOutOfScope d ws head) e (λ at fault h. NotNamed h)
+  pub not_named : SaysAt (IsUnnamed d (names_within ws)) e → SaysAt (IsOutOfScope d ws head) e
+  not_named = says_more (IsUnnamed d (names_within ws)) (IsOutOfScope d ws head) e (λ at fault h. NotNamed h)
 
-  pub not_excepted : AreSomebody d (names_behind (codes "in") ws) → SaysAt (IsNoProfile d (codes "except") ws) e
+  pub not_excepted : AreSomebody d (names_within ws) → SaysAt (IsUnnamed d (names_behind (codes "except") ws)) e
       → SaysAt (IsOutOfScope d ws head) e
-  not_excepted within = says_more (IsNoProfile d (codes "except") ws) (IsOutOfScope d ws head) e (λ at fault h. NotExcepted within h)
+  not_excepted within = says_more (IsUnnamed d (names_behind (codes "except") ws)) (IsOutOfScope d ws head) e (λ at fault h. NotExcepted within h)
+
+  pub not_led : AreSomebody d (names_within ws) → AreSomebody d (names_behind (codes "except") ws)
+      → SaysAt (IsUnnamed d (names_led ws)) e → SaysAt (IsOutOfScope d ws head) e
+  not_led within excepted = says_more (IsUnnamed d (names_led ws)) (IsOutOfScope d ws head) e (λ at fault h. NotLed within excepted h)
 
 module _ (d : Part) (ws : List ClaimWord) (head asked : ClaimWord) (e : ClaimFault) where
-  pub not_read : SaysAt (IsNoRequest head asked) e → SaysAt (IsUnanswered d ws head asked) e
-  not_read = says_more (IsNoRequest head asked) (IsUnanswered d ws head asked) e (λ at fault h. NotRead h)
+  pub not_said : SaysAt (IsUnsaid ws head asked) e → SaysAt (IsUnanswered d ws head asked) e
+  not_said = says_more (IsUnsaid ws head asked) (IsUnanswered d ws head asked) e (λ at fault h. NotSaid h)
 
-  pub of_others : (a : Asked) → IsAskedBy head asked a → SaysAt (IsOutOfScope d ws head) e → SaysAt (IsUnanswered d ws head asked) e
+  pub of_others : (a : Asked) → IsAskedBy d ws head asked a → SaysAt (IsOutOfScope d ws head) e → SaysAt (IsUnanswered d ws head asked) e
   of_others a is = says_more (IsOutOfScope d ws head) (IsUnanswered d ws head asked) e (λ at fault h. OfOthers a is h)
 
-  pub not_asked : (a : Asked) → IsAskedBy head asked a → IsInScope d ws → SaysAt (AsksNoPath asked a) e → SaysAt (IsUnanswered d ws head asked) e
+  pub not_asked : (a : Asked) → IsAskedBy d ws head asked a → IsInScope d ws → SaysAt (AsksNoPath asked a) e → SaysAt (IsUnanswered d ws head asked) e
   not_asked a is scope = says_more (AsksNoPath asked a) (IsUnanswered d ws head asked) e (λ at fault h. NotAsked a is scope h)
 
 -- a claim of two words at least isn't answered for what is said of its first two

@@ -26,7 +26,7 @@ answered a = record { number = a.number; found = all_found a.findings }
 -- the answer to a claim of these words, of which the first two are these: each of its names names somebody, and it is about somebody
 pub record IsAnswerBy (first : Bool) (d : Part) (limit : ℕ) (ws : List ClaimWord) (head asked : ClaimWord) (found : AllFound) : Type 0 where
   pub says : Asked
-  pub is_asked : IsAskedBy head asked says
+  pub is_asked : IsAskedBy d ws head asked says
   pub scope : IsInScope d ws
   pub are : AreFound first d limit ws says asked.text.items (count_of d.decided.policies.now) found
 

@@ -17,7 +17,14 @@ use Rattle.aa_undecided.specs.Answers.{PlacedFile, placed, placed_all, files_dec
 use Rattle.aa_quantifiers.specs.Doubts.{is_open_word}
 use Rattle.aa_assert.specs.declared.part.Part.{Part}
 use Rattle.aa_assert.specs.declared.asked.Asked.{Asked}
-use Rattle.aa_assert.specs.declared.asked.Asked.TheVariants.{Never, Always, Enforced}
+use Rattle.aa_assert.specs.declared.asked.Asked.TheVariants.{Never, Leads, Always, Reaches, Enforced}
+use Rattle.aa_assert.specs.declared.passage.Passage.{Passage}
+use Rattle.aa_assert.specs.declared.passage.Passage.TheVariants as passage
+use Rattle.aa_assert.specs.Passages.{going, WayTold, way_told, way_in, IsPassage}
+use Rattle.aa_quantifiers.specs.declared.aim.Labels.{Labels}
+use Rattle.aa_quantifiers.specs.Quantities.{IsAnswered}
+use Rattle.aa_model.specs.declared.request.Request.{Request}
+use Rattle.aa_assert.specs.Leading.{IsLedTo}
 use Rattle.aa_assert.specs.declared.judging.Judgement.{Judgement}
 use Rattle.aa_assert.specs.declared.judging.Judgement.TheVariants as is
 use Rattle.aa_assert.specs.declared.finding.Finding.{Finding}
@@ -31,11 +38,13 @@ use Rattle.aa_assert.specs.Judging.{IsJudged}
 -- the profile of that name, which complains
 pub data Found : Type 0 where
   ByRequest : Bool → Told → Found
+  ByWay : Bool → WayTold → Found
   Complaining : List ℕ → Found
 
 -- so, without where it lies in memory
 abbrev pub found : Finding → Found
 found (finding.ByRequest complains v) = ByRequest complains (told v)
+found (finding.ByWay complains w) = ByWay complains (way_in w)
 found (finding.Complaining name) = Complaining name.items
 
 -- by whom a claim is broken, and those of whom that can't be told; and skipped files that could break it
@@ -93,10 +102,40 @@ with_judged d l fs (is.Untold line) = record { list = fs.list; untold = fs.untol
 abbrev pub with_doubt : List PlacedFile → AllFound → AllFound
 with_doubt files fs = record { list = fs.list; untold = fs.untold; doubt = or_else fs.doubt files }
 
--- whether the claim that no request of the word is answered so is broken at a label, is added
-abbrev pub AddsJudged : Part → ℕ → Label → Bool → Word → List ℕ → AllFound → AllFound → Type 0
-AddsJudged d limit l against w text was now =
-    (j : Judgement) × IsJudged d.decided.policies.now limit l against w text j × (now ≡ with_doubt (files_changing d l w) (with_judged d l was j))
+-- whether the claim that of no request of the word it is so is broken at a label, is added
+abbrev pub AddsJudged : Part → ℕ → Label → (Request → Type 0) → Word → List ℕ → AllFound → AllFound → Type 0
+AddsJudged d limit l Is w text was now =
+    (j : Judgement) × IsJudged d.decided.policies.now limit l Is w text j × (now ≡ with_doubt (files_changing d l w) (with_judged d l was j))
+
+-- so of the claim that none is answered so
+abbrev pub AddsAnswered : Part → ℕ → Label → Bool → Word → List ℕ → AllFound → AllFound → Type 0
+AddsAnswered d limit l granted w text was now = AddsJudged d limit l (IsAnswered d.decided.policies.now l granted) w text was now
+
+-- and of the claim that none leads to these labels
+abbrev pub AddsLed : Part → ℕ → Label → Labels → Word → List ℕ → AllFound → AllFound → Type 0
+AddsLed d limit l ls w text was now = AddsJudged d limit l (IsLedTo d.decided.policies.now l ls) w text was now
+
+-- these, or else the skipped files that could decide the first of some requests, asked one after another, that any could decide
+abbrev pub files_on_way : List Policy → List Skipped → List PlacedFile → Label → List Request → List PlacedFile
+files_on_way ps skipped found l [] = found
+files_on_way ps skipped found l (r ∷ rs) = files_on_way ps skipped (or_else found (files_deciding ps skipped l r)) (going ps l r) rs
+
+-- whether a task that begins at a label comes to some labels is added
+abbrev pub with_passage : Part → Label → AllFound → Passage → AllFound
+with_passage d l fs (passage.Through way) =
+    record {
+      list = found_by (files_on_way d.decided.policies.now d.skipped.now [] l way.items) fs.list
+          (ByWay (complains_at d.decided.policies.now l) (way_told d.decided.policies.now l way.items));
+      untold = fs.untold;
+      doubt = fs.doubt;
+    }
+with_passage d l fs passage.Nowhere = fs
+with_passage d l fs (passage.Untold line) = record { list = fs.list; untold = fs.untold ++ untold_at d.decided.policies.now l line.items ∷ []; doubt = fs.doubt }
+
+-- so, and each skipped file could lead further
+abbrev pub AddsPassage : Part → ℕ → Label → Labels → AllFound → AllFound → Type 0
+AddsPassage d limit l ls was now =
+    (p : Passage) × IsPassage d.decided.policies.now limit l ls p × (now ≡ with_doubt (map placed d.skipped.now) (with_passage d l was p))
 
 -- a profile that complains is added
 abbrev pub with_complaining : Profile → AllFound → AllFound
@@ -104,14 +143,18 @@ with_complaining p fs = if p.complain then record { list = fs.list ++ Complainin
 
 -- whether a claim is broken by profile n, which is p, is added
 abbrev pub AddsProfile : Part → ℕ → Asked → List ℕ → ℕ → Profile → AllFound → AllFound → Type 0
-AddsProfile d limit (Never w) text n p was now = AddsJudged d limit (Confined 0 n) true w text was now
-AddsProfile d limit (Always w) text n p was now = AddsJudged d limit (Confined 0 n) false w text was now
+AddsProfile d limit (Never w) text n p was now = AddsAnswered d limit (Confined 0 n) true w text was now
+AddsProfile d limit (Leads w ls) text n p was now = AddsLed d limit (Confined 0 n) ls w text was now
+AddsProfile d limit (Reaches ls) text n p was now = AddsPassage d limit (Confined 0 n) ls was now
+AddsProfile d limit (Always w) text n p was now = AddsAnswered d limit (Confined 0 n) false w text was now
 AddsProfile d limit Enforced text n p was now = now ≡ with_complaining p was
 
 -- whether it is broken by a task without a profile
 abbrev pub AddsFree : Part → ℕ → Asked → List ℕ → AllFound → AllFound → Type 0
-AddsFree d limit (Never w) text was now = AddsJudged d limit (Unconfined 0) true w text was now
-AddsFree d limit (Always w) text was now = AddsJudged d limit (Unconfined 0) false w text was now
+AddsFree d limit (Never w) text was now = AddsAnswered d limit (Unconfined 0) true w text was now
+AddsFree d limit (Leads w ls) text was now = AddsLed d limit (Unconfined 0) ls w text was now
+AddsFree d limit (Reaches ls) text was now = AddsPassage d limit (Unconfined 0) ls was now
+AddsFree d limit (Always w) text was now = AddsAnswered d limit (Unconfined 0) false w text was now
 AddsFree d limit Enforced text was now = now ≡ was
 
 -- where the first is wanted alone, nobody is looked at behind one by whom the claim is broken

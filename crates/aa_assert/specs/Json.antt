@@ -1,12 +1,12 @@
 -- Answers as they are printed in JSON.
 -- Source: own.
 use Rattle.std.specs.Prelude.{ℕ, List, ◌++◌, map, codes, decimal, Bool, true, Option, Some}
-use Rattle.aa_text.specs.Jsons.{key_text, bool_text, member_text, list_text}
+use Rattle.aa_text.specs.Jsons.{key_text, bool_text, json_bytes, member_text, list_text}
 use Rattle.aa_ask.specs.Json.{json_verdict}
 use Rattle.aa_who.specs.Untold.{json_asker, json_untold}
 use Rattle.aa_undecided.specs.Answers.{PlacedFile}
 use Rattle.aa_undecided.specs.Jsons.{json_placed}
-use Rattle.aa_assert.specs.Findings.{Found, ByRequest, Complaining}
+use Rattle.aa_assert.specs.Findings.{Found, ByRequest, ByWay, Complaining}
 use Rattle.aa_assert.specs.Answers.{Answered}
 use Rattle.aa_assert.specs.Shown.{files_open}
 
@@ -14,9 +14,11 @@ use Rattle.aa_assert.specs.Shown.{files_open}
 unfoldable pub json_whose : Option (List ℕ) → Bool → List ℕ
 json_whose name complains = codes "{" ++ (key_text (codes "profile") ++ json_asker name) ++ member_text (codes "complains") (bool_text complains)
 
--- by whom a claim is broken: such a profile, with the verdict on a request, as of ask, or without one
+-- by whom a claim is broken: such a profile, with the verdict on a request, as of ask, or with where it leads and by which words, or without
 unfoldable pub json_found : Found → List ℕ
 json_found (ByRequest complains t) = json_whose t.asker complains ++ member_text (codes "as") (json_verdict t) ++ codes "}"
+json_found (ByWay complains w) =
+    json_whose w.asker complains ++ member_text (codes "reaches") (json_asker w.to) ++ member_text (codes "by") (list_text (map json_bytes w.words)) ++ codes "}"
 json_found (Complaining name) = json_whose (Some name) true ++ codes "}"
 
 -- a claim by the number of its line, and by whom it is broken

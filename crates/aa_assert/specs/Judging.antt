@@ -1,41 +1,37 @@
 -- Whether a claim is broken at a label.
 -- Source: own.
-use Rattle.std.specs.Prelude.{ℕ, List, Bool, true, false, not}
+use Rattle.std.specs.Prelude.{ℕ, List}
 use Rattle.aa_model.specs.declared.policy.Policy.{Policy}
 use Rattle.aa_model.specs.declared.label.Label.{Label}
 use Rattle.aa_model.specs.declared.request.Request.{Request}
 use Rattle.aa_quantifiers.specs.declared.word.Word.{Word}
 use Rattle.aa_quantifiers.specs.Words.{IsOf}
-use Rattle.aa_quantifiers.specs.Quantities.{IsAnswered, IsShortest}
-use Rattle.aa_quantifiers.specs.declared.quantity.Quantity.{Quantity}
-use Rattle.aa_quantifiers.specs.declared.quantity.Quantity.TheVariants.{Every, Partly, Never}
-use Rattle.aa_who.specs.declared.counting.Counted.{Counted}
-use Rattle.aa_who.specs.declared.counting.Counted.TheVariants as counted
+use Rattle.aa_quantifiers.specs.Quantities.{IsShortestOf}
+use Rattle.aa_quantifiers.specs.declared.aim.First.{First}
+use Rattle.aa_quantifiers.specs.declared.aim.First.TheVariants as first
+use Rattle.aa_who.specs.declared.counting.Sought.{Sought}
+use Rattle.aa_who.specs.declared.counting.Sought.TheVariants as sought
 use Rattle.aa_who.specs.Counts.{CantTell}
 use Rattle.aa_assert.specs.declared.judging.Judgement.{Judgement}
 use Rattle.aa_assert.specs.declared.judging.Judgement.TheVariants.{Broken, Holds, Untold}
 
--- some of the requests is answered so at the label by the rules: the claim that none is, is broken there
-abbrev pub IsBroken : List Policy → Label → Word → Bool → Type 0
-IsBroken ps l w against = (r : Request) × IsOf w r × IsAnswered ps l against r
+-- of some of the requests it is so: the claim that of none it is, is broken
+abbrev pub IsBroken : Word → (Request → Type 0) → Type 0
+IsBroken w Is = (r : Request) × IsOf w r × Is r
 
--- a claim that no request of the word is answered so: it is broken by a request, and no such request has a shorter path; or it holds,
--- though the word asks something, which is answered otherwise; or that can't be told
-abbrev pub IsJudged : List Policy → ℕ → Label → Bool → Word → List ℕ → Judgement → Type 0
-IsJudged ps limit l against w text (Broken r) = IsBroken ps l w against × IsShortest ps l w against r
-IsJudged ps limit l against w text (Holds r) = IsOf w r × IsAnswered ps l (not against) r × (IsBroken ps l w against → ⊥)
-IsJudged ps limit l against w text (Untold line) = CantTell ps limit l w text line.items
+-- a claim that of no request of the word it is so: it is broken by a request, and no such request has a shorter path; or it holds, though
+-- the word asks something; or at the label that can't be told
+abbrev pub IsJudged : List Policy → ℕ → Label → (Request → Type 0) → Word → List ℕ → Judgement → Type 0
+IsJudged ps limit l Is w text (Broken r) = IsBroken w Is × IsShortestOf w Is r
+IsJudged ps limit l Is w text (Holds r) = IsOf w r × (IsBroken w Is → ⊥)
+IsJudged ps limit l Is w text (Untold line) = CantTell ps limit l w text line.items
 
--- how many are granted says whether a claim is broken that none is, or that none isn't
-abbrev pub judged_by : Bool → Quantity → Judgement
-judged_by true (Every one) = Broken one
-judged_by true (Partly one other) = Broken one
-judged_by true (Never other) = Holds other
-judged_by false (Every one) = Holds one
-judged_by false (Partly one other) = Broken other
-judged_by false (Never other) = Broken other
+-- so says what was found first
+abbrev pub judged_by : First → Judgement
+judged_by (first.Some r) = Broken r
+judged_by (first.None r) = Holds r
 
--- the same, where it may not be told
-abbrev pub judged_of : Bool → Counted → Judgement
-judged_of against (counted.Told q) = judged_by against q
-judged_of against (counted.Untold line) = Untold line
+-- or that it can't be told
+abbrev pub judged_of : Sought → Judgement
+judged_of (sought.Told f) = judged_by f
+judged_of (sought.Untold line) = Untold line

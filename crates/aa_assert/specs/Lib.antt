@@ -1,6 +1,8 @@
 pub mod Names
 pub mod Scope
+pub mod Leading
 pub mod Asked
+pub mod Passages
 pub mod Judging
 pub mod Enforced
 pub mod Refused

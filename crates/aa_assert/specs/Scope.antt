@@ -6,7 +6,7 @@ use Rattle.std.specs.List.{list_all, list_any, slice_get}
 use Rattle.aa_model.specs.declared.policy.Policy.{Policy}
 use Rattle.aa_model.specs.declared.policy.Profile.{Profile}
 use Rattle.aa_claims.specs.declared.words.ClaimWord.{ClaimWord}
-use Rattle.aa_claims.specs.Forms.{is_word, names_behind}
+use Rattle.aa_claims.specs.Forms.{is_word, names_behind, names_within, names_led}
 use Rattle.aa_skipping.specs.declared.unread.Head.{Head}
 use Rattle.aa_skipping.specs.declared.unread.Unread.{Unread}
 use Rattle.aa_skipped.specs.declared.skipped.Skipped.{Skipped}
@@ -18,17 +18,17 @@ abbrev pub is_among : Bool → Option (List ClaimWord) → List ℕ → Bool
 is_among without None name = without
 is_among without (Some ws) name = list_any (λ (w : ClaimWord). names w name) ws
 
--- a claim of these words is about the profile of that full name: `in` names it, or doesn't stand there, and `except` doesn't name it
+-- a claim of these words is about the profile of that full name: `in` or `from` names it, or neither stands there, and `except` doesn't name it
 abbrev pub is_about : List ClaimWord → List ℕ → Bool
-is_about ws name = is_among true (names_behind (codes "in") ws) name && not (is_among false (names_behind (codes "except") ws) name)
+is_about ws name = is_among true (names_within ws) name && not (is_among false (names_behind (codes "except") ws) name)
 
 -- a clause names tasks without a profile, as unconfined
-abbrev pub names_free : List ℕ → List ClaimWord → Bool
-names_free keyword ws = option_map_or (λ (names : List ClaimWord). list_any (λ (w : ClaimWord). is_word (codes "unconfined") w) names) (names_behind keyword ws) false
+abbrev pub names_free : Option (List ClaimWord) → Bool
+names_free clause = option_map_or (λ (names : List ClaimWord). list_any (λ (w : ClaimWord). is_word (codes "unconfined") w) names) clause false
 
--- a claim of these words is about tasks without a profile: `in` names them, and `except` doesn't
+-- a claim of these words is about tasks without a profile: `in` or `from` names them, and `except` doesn't
 abbrev pub is_about_free : List ClaimWord → Bool
-is_about_free ws = names_free (codes "in") ws && not (names_free (codes "except") ws)
+is_about_free ws = names_free (names_within ws) && not (names_free (names_behind (codes "except") ws))
 
 -- the profiles of the policy
 abbrev pub profiles_of : List Policy → List Profile
@@ -54,7 +54,7 @@ are_all_among (Some ws) front = list_any (λ (w : ClaimWord). covers w.text.item
 
 -- a claim of these words may be about a profile whose full name begins so
 abbrev pub may_be_about_behind : List ClaimWord → List ℕ → Bool
-may_be_about_behind ws front = may_be_among true (names_behind (codes "in") ws) front && not (are_all_among (names_behind (codes "except") ws) front)
+may_be_about_behind ws front = may_be_among true (names_within ws) front && not (are_all_among (names_behind (codes "except") ws) front)
 
 -- so of a profile with that head, or of a child of it
 abbrev pub may_be_about : List ClaimWord → Head → Bool
@@ -98,6 +98,7 @@ NamesNobody d (Some ws) at = IsFirstNobody d ws at
 
 -- each name of the claim names somebody, and it is about somebody
 pub record IsInScope (d : Part) (ws : List ClaimWord) : Type 0 where
-  pub within : AreSomebody d (names_behind (codes "in") ws)
+  pub within : AreSomebody d (names_within ws)
   pub excepted : AreSomebody d (names_behind (codes "except") ws)
+  pub led : AreSomebody d (names_led ws)
   pub some : is_about_some d ws ≡ true

@@ -9,7 +9,7 @@ use Rattle.aa_undecided.specs.Answers.{PlacedFile}
 use Rattle.aa_undecided.specs.Shown.{doubt_reason}
 use Rattle.aa_who.specs.Untold.{untold_lines}
 use Rattle.aa_who.specs.Shown.{complains_mark}
-use Rattle.aa_assert.specs.Findings.{Found, ByRequest, Complaining}
+use Rattle.aa_assert.specs.Findings.{Found, ByRequest, ByWay, Complaining}
 use Rattle.aa_assert.specs.Answers.{Answered}
 
 -- how a task's profile is called, or that it has none
@@ -21,9 +21,14 @@ asker_text (Some name) = value name
 unfoldable pub broken_text : List ℕ → ℕ → List ℕ
 broken_text path number = all_visible path ++ codes ":" ++ decimal number ++ codes ": broken: "
 
--- by whom: NAME WORD, a mark where the profile complains, and the rules; or NAME complains
+-- a word behind a space
+abbrev pub word_behind : List ℕ → List ℕ
+word_behind word = codes " " ++ word
+
+-- by whom: NAME WORD, a mark where the profile complains, and the rules; or NAME reaches LABEL: WORD.., with that mark; or NAME complains
 unfoldable pub by_text : Found → List ℕ
 by_text (ByRequest complains t) = asker_text t.asker ++ codes " " ++ t.word ++ complains_mark complains ++ codes "\n" ++ reasons_text t
+by_text (ByWay complains w) = asker_text w.asker ++ codes " reaches " ++ asker_text w.to ++ codes ":" ++ flat_map word_behind w.words ++ complains_mark complains ++ codes "\n"
 by_text (Complaining name) = value name ++ codes " complains\n"
 
 -- so of a claim

@@ -12,7 +12,7 @@ use crate::asked::asked_by;
 use crate::finding::{Claim, Findings, findings_of};
 use crate::part::Part;
 use crate::scope::{check_names, is_about_some};
-use aa_claims::{ClaimFault, ClaimLine, ClaimWord, Wrong};
+use aa_claims::{ClaimFault, ClaimLine, ClaimWord, Wrong, names_behind, names_led, names_within};
 use std::alloc::Global;
 
 /// By whom the claim on a line is broken.
@@ -33,8 +33,9 @@ fn check_scope(
     ensures in_scope { OnOk result (IsInScope part.entry words.now) }
     ensures refused { IfErr result (λ e. SaysAt (IsOutOfScope part.entry words.now head.now) e) }
 {
-    check_names(alloc, part, words, "in")?;
-    check_names(alloc, part, words, "except")?;
+    check_names(alloc, part, names_within(words))?;
+    check_names(alloc, part, names_behind(words, "except"))?;
+    check_names(alloc, part, names_led(words))?;
     if !is_about_some(alloc, part, words)? {
         return Err(ClaimFault::At(head.at, Wrong::Nobody));
     }
@@ -54,7 +55,7 @@ fn answer_by(
     ensures answered { IfOk result (λ fs. IsAnswerBy is_first part.entry (limit_of states) words.now head.now word.now (all_found fs)) }
     ensures refused { IfErr result (λ e. SaysAt (IsUnanswered part.entry words.now head.now word.now) e) }
 {
-    let asked = asked_by(alloc, head, word)?;
+    let asked = asked_by(alloc, part, words, head, word)?;
     check_scope(alloc, part, words, head)?;
     let claim = Claim {
         words,

@@ -1,16 +1,19 @@
 //! What a claim says of requests.
 
-ghost use Rattle.std.specs.Prelude.{◌≡◌, ◌++◌, ◌==◌, bit_and, not, IfOk, IfErr, OnOk};
+ghost use Rattle.std.specs.Prelude.{◌≡◌, ◌++◌, ◌==◌, bit_and, codes, not, Some, IfOk, IfErr, OnOk};
 ghost use Rattle.std.specs.List.{list_any};
 ghost use Rattle.aa_base.specs.declared.perms.Perms.{Perms};
 ghost use Rattle.aa_who.specs.Words.{IsRead};
 ghost use Rattle.aa_claims.specs.Faults.{SaysAt};
-ghost use Rattle.aa_assert.specs.Asked.{letter_if, letters_of, is_enforced, IsByLetters, IsAskedOf, IsAskedBy};
-ghost use Rattle.aa_assert.specs.Refused.{IsUnread, IsNoRequest};
+ghost use Rattle.aa_claims.specs.Forms.{keyword_of};
+ghost use Rattle.aa_assert.specs.Asked.{letter_if, letters_of, is_enforced, IsByLetters, IsLedAsked, IsNeverAsked, IsAskedOf, IsAskedBy};
+ghost use Rattle.aa_assert.specs.Refused.{IsUnread, IsNoLead, IsNoLeadBehind, IsUnsaid};
 
+use crate::leading::{labels_of, may_lead};
+use crate::part::Part;
 use aa_base::{Perms, Seq};
-use aa_claims::{ClaimFault, ClaimWord, Wrong, is_word};
-use aa_quantifiers::{FilesWord, Word};
+use aa_claims::{ClaimFault, ClaimWord, Wrong, is_reach, is_word, keyword_of};
+use aa_quantifiers::{FilesWord, Labels, Word};
 use aa_who::{Misread, read_asked};
 use bitflags::Flags;
 use std::alloc::{AllocError, Global};
@@ -20,8 +23,12 @@ use std::alloc::{AllocError, Global};
 pub(crate) enum Asked {
     /// None of the requests is granted.
     Never(Word),
+    /// None of the requests leads to one of these labels.
+    Leads(Word, Labels),
     /// Each of the requests is granted.
     Always(Word),
+    /// A task never comes to one of these labels.
+    Reaches(Labels),
     /// No profile complains.
     Enforced,
 }
@@ -104,28 +111,76 @@ fn is_enforced(head: &ClaimWord, asked: &ClaimWord) -> bool
     is_word(head, "always") && is_word(asked, "enforced")
 }
 
-/// What a claim of this head says of these requests.
-fn asked_of(alloc: Global, head: &ClaimWord, word: Word) -> Result<Asked, AllocError>
-    ensures { IfOk result (λ a. IsAskedOf head.now word a) }
+/// What a claim says whose requests lead nowhere that `to` names. Refused at `to` where they are neither executions nor a change.
+fn led_of(
+    alloc: Global,
+    part: Part<'_>,
+    words: &[ClaimWord],
+    word: Word,
+    to: &ClaimWord,
+) -> Result<Asked, ClaimFault>
+    requires { keyword_of (codes "to") words.now ≡ Some to.now }
+    ensures asked { IfOk result (λ a. IsLedAsked part.entry words.now word a) }
+    ensures refused { IfErr result (λ e. SaysAt (IsNoLead words.now word) e) }
+{
+    if !may_lead(&word) {
+        return Err(ClaimFault::At(to.at, Wrong::NoLead));
+    }
+    let labels = labels_of(alloc, part.decided.policies, words)?;
+    Ok(Asked::Leads(word, labels))
+}
+
+/// What a claim says of requests that begins with never.
+fn never_of(
+    alloc: Global,
+    part: Part<'_>,
+    words: &[ClaimWord],
+    word: Word,
+) -> Result<Asked, ClaimFault>
+    ensures asked { IfOk result (λ a. IsNeverAsked part.entry words.now word a) }
+    ensures refused { IfErr result (λ e. SaysAt (IsNoLead words.now word) e) }
+{
+    match keyword_of(words, "to") {
+        Some(to) => led_of(alloc, part, words, word, to),
+        None => Ok(Asked::Never(by_letters(alloc, word)?)),
+    }
+}
+
+/// What a claim of these words says of requests.
+fn asked_of(
+    alloc: Global,
+    part: Part<'_>,
+    words: &[ClaimWord],
+    head: &ClaimWord,
+    word: Word,
+) -> Result<Asked, ClaimFault>
+    ensures asked { IfOk result (λ a. IsAskedOf part.entry words.now head.now word a) }
+    ensures refused { IfErr result (λ e. SaysAt (IsNoLeadBehind head.now words.now word) e) }
 {
     if is_word(head, "never") {
-        return Ok(Asked::Never(by_letters(alloc, word)?));
+        return never_of(alloc, part, words, word);
     }
     Ok(Asked::Always(word))
 }
 
-/// What a claim of these two words says. Refused where the second is no word of requests, with why.
+/// What a claim of these words says, of which these are the first two. Refused where the second is no word of requests, with why, or where
+/// `to` stands behind others than executions and changes.
 pub(crate) fn asked_by(
     alloc: Global,
+    part: Part<'_>,
+    words: &[ClaimWord],
     head: &ClaimWord,
     asked: &ClaimWord,
 ) -> Result<Asked, ClaimFault>
-    ensures asked { IfOk result (λ a. IsAskedBy head.now asked.now a) }
-    ensures refused { IfErr result (λ e. SaysAt (IsNoRequest head.now asked.now) e) }
+    ensures asked { IfOk result (λ a. IsAskedBy part.entry words.now head.now asked.now a) }
+    ensures refused { IfErr result (λ e. SaysAt (IsUnsaid words.now head.now asked.now) e) }
 {
     if is_enforced(head, asked) {
         return Ok(Asked::Enforced);
     }
+    if is_reach(head, asked) {
+        return Ok(Asked::Reaches(labels_of(alloc, part.decided.policies, words)?));
+    }
     let word = read_requests(alloc, asked)?;
-    Ok(asked_of(alloc, head, word)?)
+    asked_of(alloc, part, words, head, word)
 }

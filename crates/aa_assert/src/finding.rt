@@ -1,26 +1,29 @@
 //! The profiles against which a claim is broken.
 
-ghost use Rattle.std.specs.Prelude.{◌≡◌, map, IfOk, IfErr, OnOk};
+ghost use Rattle.std.specs.Prelude.{◌≡◌, [], map, IfOk, IfErr, OnOk};
 ghost use Rattle.aa_load.specs.UnitPolicy.{limit_of};
+ghost use Rattle.aa_quantifiers.specs.Aims.{IsMet};
 ghost use Rattle.aa_who.specs.Grants.{count_of};
 ghost use Rattle.aa_claims.specs.Faults.{SaysAt};
 ghost use Rattle.aa_undecided.specs.Answers.{placed_all};
 ghost use Rattle.aa_assert.specs.Scope.{is_about_free};
-ghost use Rattle.aa_assert.specs.Findings.{found, all_found, files_concerned, could_change, files_changing_in, files_changing, or_else, found_by, with_judged, with_doubt, with_complaining, nobody, is_done, is_passed, AddsJudged, AddsProfile, AddsFree, AddsAt, AreFound, IsFreeIf};
+ghost use Rattle.aa_assert.specs.Findings.{found, all_found, files_concerned, could_change, files_changing_in, files_changing, or_else, found_by, with_judged, with_doubt, files_on_way, with_passage, with_complaining, nobody, is_done, is_passed, AddsJudged, AddsAnswered, AddsLed, AddsPassage, AddsProfile, AddsFree, AddsAt, AreFound, IsFreeIf};
 ghost use Rattle.aa_assert.specs.Refused.{fault_of, IsNoPath, AsksNoPath};
 
 use crate::asked::Asked;
 use crate::enforced::{complains_at, verdict_of};
 use crate::judging::{Judgement, judge};
 use crate::part::Part;
+use crate::passage::{Passage, passage_of};
 use crate::scope::{is_about, is_about_free, may_concern};
+use crate::way::{Way, next, way_of};
 use aa_ask::Verdict;
 use aa_claims::{ClaimFault, ClaimWord, Wrong};
 use aa_compile::{Compiled, profile_of};
 use aa_model::{Label, Profile, Request};
-use aa_quantifiers::{Word, word_is_open};
+use aa_quantifiers::{Aim, Labels, Word, word_is_open};
 use aa_skipped::Skipped;
-use aa_undecided::{SkippedAt, files_deciding, push_if};
+use aa_undecided::{SkippedAt, all_placed, files_deciding, push_if};
 use aa_who::{Untold, WhoFault, count_of, push_untold};
 use std::alloc::{AllocError, Global};
 
@@ -29,6 +32,8 @@ use std::alloc::{AllocError, Global};
 pub(crate) enum Finding {
     /// Whether the profile complains, and the verdict on a request where its rules are enforced.
     ByRequest(bool, Verdict),
+    /// Whether the profile complains, and a list of requests that leads where it is claimed that none does.
+    ByWay(bool, Way),
     /// The profile of this name, which complains.
     Complaining(Vec<u8>),
 }
@@ -216,10 +221,10 @@ fn push_at(
     part: Part<'_>,
     claim: Claim<'_>,
     label: Label,
-    against: bool,
+    aim: Aim<'_>,
     word: &Word,
 ) -> Result<(), ClaimFault>
-    ensures added { OnOk result (AddsJudged part.entry (limit_of claim.entry.states) label against word.now claim.entry.word.now.text.items (all_found findings.old) (all_found findings.new)) }
+    ensures added { OnOk result (AddsJudged part.entry (limit_of claim.entry.states) label (IsMet part.entry.decided.policies.now label aim.entry) word.now claim.entry.word.now.text.items (all_found findings.old) (all_found findings.new)) }
     ensures refused { IfErr result (λ e. SaysAt (IsNoPath claim.entry.word.now word.now) e) }
 {
     match judge(
@@ -227,13 +232,125 @@ fn push_at(
         part.decided.policies,
         claim.states,
         label,
-        against,
+        aim,
         word,
         claim.word.text.as_slice(),
     ) {
         Ok(judgement) => Ok(push_judged_beside(findings, alloc, part, label, word, &judgement)?),
         Err(fault) => Err(fault_of(claim.word, &fault)),
     }
+}
+
+/// Adds whether the claim that no request is granted, or that none is refused, is broken at a label.
+fn push_answered(
+    findings: &mut Findings,
+    alloc: Global,
+    part: Part<'_>,
+    claim: Claim<'_>,
+    label: Label,
+    granted: bool,
+    word: &Word,
+) -> Result<(), ClaimFault>
+    ensures added { OnOk result (AddsAnswered part.entry (limit_of claim.entry.states) label granted word.now claim.entry.word.now.text.items (all_found findings.old) (all_found findings.new)) }
+    ensures refused { IfErr result (λ e. SaysAt (IsNoPath claim.entry.word.now word.now) e) }
+{
+    let aim = Aim::Answered(granted);
+    push_at(findings, alloc, part, claim, label, aim, word)
+}
+
+/// Adds whether the claim that no request leads to one of these labels is broken at a label.
+fn push_led(
+    findings: &mut Findings,
+    alloc: Global,
+    part: Part<'_>,
+    claim: Claim<'_>,
+    label: Label,
+    labels: &Labels,
+    word: &Word,
+) -> Result<(), ClaimFault>
+    ensures added { OnOk result (AddsLed part.entry (limit_of claim.entry.states) label labels.now word.now claim.entry.word.now.text.items (all_found findings.old) (all_found findings.new)) }
+    ensures refused { IfErr result (λ e. SaysAt (IsNoPath claim.entry.word.now word.now) e) }
+{
+    let aim = Aim::Led(labels);
+    push_at(findings, alloc, part, claim, label, aim, word)
+}
+
+/// The skipped files that could decide the first of these requests, asked one after another, that any could decide.
+fn files_on_way(
+    alloc: Global,
+    part: Part<'_>,
+    from: Label,
+    requests: &[Request],
+) -> Result<Vec<SkippedAt>, AllocError>
+    ensures { IfOk result (λ files. placed_all files.items ≡ files_on_way part.entry.decided.policies.now part.entry.skipped.now [] from requests.now) }
+{
+    let policies = part.decided.policies;
+    let mut found = Vec::new(alloc);
+    let mut label = from;
+    let mut rest = requests;
+    while let [request, after @ ..] = rest {
+        let files = files_deciding(alloc, policies, part.skipped, label, request)?;
+        or_else(&mut found, files);
+        label = next(policies, label, request);
+        rest = after;
+    }
+    Ok(found)
+}
+
+/// Adds by whom a claim is broken, by these requests.
+fn push_through(
+    findings: &mut Findings,
+    alloc: Global,
+    part: Part<'_>,
+    label: Label,
+    requests: &Vec<Request>,
+) -> Result<(), AllocError>
+    ensures { OnOk result (all_found findings.new ≡ with_passage part.entry label (all_found findings.old) (Passage.Through requests.now)) }
+{
+    let way = way_of(alloc, part.decided.policies, label, requests.as_slice())?;
+    let complains = complains_at(part.decided.policies, label);
+    let files = files_on_way(alloc, part, label, requests.as_slice())?;
+    let finding = Finding::ByWay(complains, way);
+    push_found(&mut findings.list, files.as_slice(), finding)
+}
+
+/// Adds whether a task that begins at a label comes to some labels.
+fn push_passage(
+    findings: &mut Findings,
+    alloc: Global,
+    part: Part<'_>,
+    label: Label,
+    passage: &Passage,
+) -> Result<(), AllocError>
+    ensures { OnOk result (all_found findings.new ≡ with_passage part.entry label (all_found findings.old) passage.now) }
+{
+    match passage {
+        Passage::Through(way) => push_through(findings, alloc, part, label, way),
+        Passage::Nowhere => Ok(()),
+        Passage::Untold(line) => {
+            let line = line.as_slice();
+            let policies = part.decided.policies;
+            push_untold(&mut findings.untold, alloc, policies, label, line)
+        }
+    }
+}
+
+/// Adds whether a task comes to one of these labels, and that each skipped file could lead it further.
+fn push_reached(
+    findings: &mut Findings,
+    alloc: Global,
+    part: Part<'_>,
+    claim: Claim<'_>,
+    label: Label,
+    labels: &Labels,
+) -> Result<(), AllocError>
+    ensures { OnOk result (AddsPassage part.entry (limit_of claim.entry.states) label labels.now (all_found findings.old) (all_found findings.new)) }
+{
+    let passage = passage_of(alloc, part.decided.policies, claim.states, label, labels)?;
+    push_passage(findings, alloc, part, label, &passage)?;
+    let files = all_placed(alloc, part.skipped)?;
+    or_else(&mut findings.doubt, files);
+    Ok(())
 }
 
 /// Adds a profile, where it complains.
@@ -265,8 +382,10 @@ fn push_profile(
 {
     let label = Label::Confined(0, number);
     match claim.asked {
-        Asked::Never(word) => push_at(findings, alloc, part, claim, label, true, word),
-        Asked::Always(word) => push_at(findings, alloc, part, claim, label, false, word),
+        Asked::Never(word) => push_answered(findings, alloc, part, claim, label, true, word),
+        Asked::Leads(word, labels) => push_led(findings, alloc, part, claim, label, labels, word),
+        Asked::Always(word) => push_answered(findings, alloc, part, claim, label, false, word),
+        Asked::Reaches(labels) => Ok(push_reached(findings, alloc, part, claim, label, labels)?),
         Asked::Enforced => Ok(push_complaining(findings, alloc, profile)?),
     }
 }
@@ -283,8 +402,10 @@ fn push_free(
 {
     let label = Label::Unconfined(0);
     match claim.asked {
-        Asked::Never(word) => push_at(findings, alloc, part, claim, label, true, word),
-        Asked::Always(word) => push_at(findings, alloc, part, claim, label, false, word),
+        Asked::Never(word) => push_answered(findings, alloc, part, claim, label, true, word),
+        Asked::Leads(word, labels) => push_led(findings, alloc, part, claim, label, labels, word),
+        Asked::Always(word) => push_answered(findings, alloc, part, claim, label, false, word),
+        Asked::Reaches(labels) => Ok(push_reached(findings, alloc, part, claim, label, labels)?),
         Asked::Enforced => Ok(()),
     }
 }

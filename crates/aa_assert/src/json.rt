@@ -1,17 +1,19 @@
 //! Answers as they are printed in JSON.
 
 ghost use Rattle.std.specs.Prelude.{◌≡◌, ◌++◌, codes, map, option_map, OnOk};
-ghost use Rattle.aa_text.specs.Jsons.{key_text, member_text, list_text};
+ghost use Rattle.aa_text.specs.Jsons.{key_text, json_bytes, member_text, list_text};
 ghost use Rattle.aa_ask.specs.Told.{told};
 ghost use Rattle.aa_who.specs.Untold.{json_asker};
 ghost use Rattle.aa_undecided.specs.Answers.{placed_all};
-ghost use Rattle.aa_assert.specs.Findings.{found, ByRequest, Complaining};
+ghost use Rattle.aa_assert.specs.Findings.{found, ByRequest, ByWay, Complaining};
+ghost use Rattle.aa_assert.specs.Passages.{way_in};
 ghost use Rattle.aa_assert.specs.Answers.{answered};
 ghost use Rattle.aa_assert.specs.Json.{json_whose, json_found, json_broken, json_answer, json_answers};
 
 use crate::answering::Answer;
 use crate::finding::Finding;
 use crate::shown::files_open;
+use crate::way::Way;
 use aa_ask::Verdict;
 use aa_text::{
     ToJson, push_json_bytes, push_key, push_list, push_list_member, push_member, push_number,
@@ -71,6 +73,32 @@ fn push_verdict(
     push_text(out, "}")
 }
 
+fn push_words(out: &mut Vec<u8>, alloc: Global, words: &[Vec<u8>]) -> Result<(), AllocError>
+    ensures { OnOk result (out.new.items ≡ out.old.items ++ member_text (codes "by") (list_text (map json_bytes (map (λ w. w.items) words.now)))) }
+{
+    push_list_member(out, alloc, "by", words)?;
+    Ok(())
+}
+
+#[tactic(auto, unfolding(aa_text::specs::Jsons::member_text))]
+fn push_to(out: &mut Vec<u8>, alloc: Global, to: Option<&[u8]>) -> Result<(), AllocError>
+    ensures { OnOk result (out.new.items ≡ out.old.items ++ member_text (codes "reaches") (json_asker (option_map (λ n. n.now) to.entry))) }
+{
+    push_text(out, ",")?;
+    push_key(out, "reaches")?;
+    push_asker(out, alloc, to)
+}
+
+#[tactic(auto, unfolding(crate::specs::Json::json_found))]
+fn push_way(out: &mut Vec<u8>, alloc: Global, complains: bool, way: &Way) -> Result<(), AllocError>
+    ensures { OnOk result (out.new.items ≡ out.old.items ++ json_found (ByWay complains (way_in way.now))) }
+{
+    push_whose(out, alloc, name_in(&way.asker), complains)?;
+    push_to(out, alloc, name_in(&way.to))?;
+    push_words(out, alloc, way.words.as_slice())?;
+    push_text(out, "}")
+}
+
 /// Appends that a profile complains.
 #[tactic(auto, unfolding(crate::specs::Json::json_found))]
 fn push_complaining(out: &mut Vec<u8>, alloc: Global, name: &[u8]) -> Result<(), AllocError>
@@ -83,7 +111,8 @@ fn push_complaining(out: &mut Vec<u8>, alloc: Global, name: &[u8]) -> Result<(),
 impl ToJson for Finding {
     ghost use Rattle.aa_ask.specs.Told.{told};
     ghost use Rattle.aa_who.specs.Untold.{json_asker};
-    ghost use Rattle.aa_assert.specs.Findings.{found, ByRequest, Complaining};
+    ghost use Rattle.aa_assert.specs.Findings.{found, ByRequest, ByWay, Complaining};
+    ghost use Rattle.aa_assert.specs.Passages.{way_in};
     ghost use Rattle.aa_assert.specs.Json.{json_found};
 
     ghost json = { λ finding. json_found (found finding) };
@@ -93,6 +122,7 @@ impl ToJson for Finding {
             Finding::ByRequest(complains, verdict) => {
                 push_verdict(out, alloc, *complains, verdict)
             }
+            Finding::ByWay(complains, way) => push_way(out, alloc, *complains, way),
             Finding::Complaining(name) => push_complaining(out, alloc, name.as_slice()),
         }
     }

@@ -9,10 +9,13 @@ mod finding;
 mod json;
 mod judging;
 mod laws;
+mod leading;
 mod names;
 mod part;
+mod passage;
 mod scope;
 mod shown;
+mod way;
 
 pub use command::{AssertOptions, assert_files};
 pub use laws::claims_are_sound;

@@ -5,14 +5,14 @@ ghost use Rattle.std.specs.List.{list_any};
 ghost use Rattle.aa_model.specs.declared.policy.Profile.{Profile};
 ghost use Rattle.aa_claims.specs.declared.words.ClaimWord.{ClaimWord};
 ghost use Rattle.aa_claims.specs.Faults.{SaysAt};
-ghost use Rattle.aa_claims.specs.Forms.{is_word, names_behind};
+ghost use Rattle.aa_claims.specs.Forms.{is_word, names_behind, names_within};
 ghost use Rattle.aa_assert.specs.Names.{names};
 ghost use Rattle.aa_assert.specs.Scope.{is_among, is_about, names_free, is_about_free, profiles_of, may_be, may_have, may_be_among, are_all_among, may_be_about_behind, may_be_about, may_concern, is_somebody, is_about_some, AreSomebody};
-ghost use Rattle.aa_assert.specs.Refused.{IsUnnamed, IsNoProfile};
+ghost use Rattle.aa_assert.specs.Refused.{IsUnnamed};
 
 use crate::names::{is_named, is_one_named, may_name, one_covers, one_may_name};
 use crate::part::Part;
-use aa_claims::{ClaimFault, ClaimWord, Wrong, is_word, names_behind};
+use aa_claims::{ClaimFault, ClaimWord, Wrong, is_word, names_behind, names_within};
 use aa_compile::Compiled;
 use aa_model::Profile;
 use aa_skipped::Skipped;
@@ -20,7 +20,7 @@ use aa_skipping::Head;
 use std::alloc::{AllocError, Global};
 
 /// Whether one of the words of a clause stands for a full name; or else `without`, where the clause doesn't stand there.
-fn is_among(
+pub(crate) fn is_among(
     alloc: Global,
     without: bool,
     words: Option<&[ClaimWord]>,
@@ -38,7 +38,7 @@ fn is_among(
 pub(crate) fn is_about(alloc: Global, words: &[ClaimWord], name: &[u8]) -> Result<bool, AllocError>
     ensures { IfOk result (λ is. is ≡ is_about words.now name.now) }
 {
-    if !is_among(alloc, true, names_behind(words, "in"), name)? {
+    if !is_among(alloc, true, names_within(words), name)? {
         return Ok(false);
     }
     Ok(!is_among(alloc, false, names_behind(words, "except"), name)?)
@@ -51,10 +51,10 @@ fn is_unconfined_named(words: &[ClaimWord]) -> bool
 }
 
 /// Whether a clause names tasks without a profile.
-fn names_free(words: &[ClaimWord], keyword: &str) -> bool
-    ensures { result ≡ names_free keyword.now words.now }
+pub(crate) fn names_free(clause: Option<&[ClaimWord]>) -> bool
+    ensures { result ≡ names_free (option_map (λ ws. ws.now) clause.entry) }
 {
-    match names_behind(words, keyword) {
+    match clause {
         Some(names) => is_unconfined_named(names),
         None => false,
     }
@@ -64,11 +64,11 @@ fn names_free(words: &[ClaimWord], keyword: &str) -> bool
 pub(crate) fn is_about_free(words: &[ClaimWord]) -> bool
     ensures { result ≡ is_about_free words.now }
 {
-    names_free(words, "in") && !names_free(words, "except")
+    names_free(names_within(words)) && !names_free(names_behind(words, "except"))
 }
 
 /// The profiles of the policy.
-fn profiles_of(policies: &[Compiled]) -> &[Profile]
+pub(crate) fn profiles_of(policies: &[Compiled]) -> &[Profile]
     ensures { result.now ≡ profiles_of policies.now }
 {
     match policies.get(0) {
@@ -169,7 +169,7 @@ fn are_all_among(words: Option<&[ClaimWord]>, front: &[u8]) -> bool
 fn may_be_about_behind(alloc: Global, words: &[ClaimWord], front: &[u8]) -> Result<bool, AllocError>
     ensures { IfOk result (λ may. may ≡ may_be_about_behind words.now front.now) }
 {
-    if !may_be_among(alloc, true, names_behind(words, "in"), front)? {
+    if !may_be_among(alloc, true, names_within(words), front)? {
         return Ok(false);
     }
     Ok(!are_all_among(names_behind(words, "except"), front))
@@ -255,13 +255,12 @@ fn check_words(alloc: Global, part: Part<'_>, words: &[ClaimWord]) -> Result<(),
 pub(crate) fn check_names(
     alloc: Global,
     part: Part<'_>,
-    words: &[ClaimWord],
-    keyword: &str,
+    clause: Option<&[ClaimWord]>,
 ) -> Result<(), ClaimFault>
-    ensures named { OnOk result (AreSomebody part.entry (names_behind keyword.now words.now)) }
-    ensures refused { IfErr result (λ e. SaysAt (IsNoProfile part.entry keyword.now words.now) e) }
+    ensures named { OnOk result (AreSomebody part.entry (option_map (λ ws. ws.now) clause.entry)) }
+    ensures refused { IfErr result (λ e. SaysAt (IsUnnamed part.entry (option_map (λ ws. ws.now) clause.entry)) e) }
 {
-    match names_behind(words, keyword) {
+    match clause {
         Some(names) => check_words(alloc, part, names),
         None => Ok(()),
     }

@@ -3,12 +3,14 @@
 ghost use Rattle.std.specs.Prelude.{◌≡◌, ◌++◌, map, flat_map, option_map, count_by, OnOk};
 ghost use Rattle.aa_ask.specs.Told.{told};
 ghost use Rattle.aa_undecided.specs.Answers.{placed_all};
-ghost use Rattle.aa_assert.specs.Findings.{found, ByRequest, Complaining};
+ghost use Rattle.aa_assert.specs.Findings.{found, ByRequest, ByWay, Complaining};
+ghost use Rattle.aa_assert.specs.Passages.{way_in};
 ghost use Rattle.aa_assert.specs.Answers.{answered};
-ghost use Rattle.aa_assert.specs.Shown.{asker_text, broken_text, by_text, finding_text, is_broken, files_open, is_undecided, undecided_text, doubt_text, answer_text, undecided_count, count_line, untold_text, answers_text};
+ghost use Rattle.aa_assert.specs.Shown.{asker_text, broken_text, word_behind, by_text, finding_text, is_broken, files_open, is_undecided, undecided_text, doubt_text, answer_text, undecided_count, count_line, untold_text, answers_text};
 
 use crate::answering::Answer;
 use crate::finding::Finding;
+use crate::way::Way;
 use aa_ask::{Verdict, push_reasons};
 use aa_text::{push_name, push_number, push_text, push_visible};
 use aa_undecided::{SkippedAt, push_reason};
@@ -52,6 +54,30 @@ fn push_verdict(
     push_reasons(out, verdict)
 }
 
+fn push_words(out: &mut Vec<u8>, words: &[Vec<u8>]) -> Result<(), AllocError>
+    ensures { OnOk result (out.new.items ≡ out.old.items ++ flat_map word_behind (map (λ w. w.items) words.now)) }
+{
+    for word in words {
+        push_text(out, " ")?;
+        out.extend_from_slice(word.as_slice())?;
+    }
+    Ok(())
+}
+
+/// Appends who comes where, and by which requests.
+#[tactic(auto, unfolding(crate::specs::Shown::by_text))]
+fn push_way(out: &mut Vec<u8>, alloc: Global, complains: bool, way: &Way) -> Result<(), AllocError>
+    ensures { OnOk result (out.new.items ≡ out.old.items ++ by_text (ByWay complains (way_in way.now))) }
+{
+    push_asker(out, alloc, &way.asker)?;
+    push_text(out, " reaches ")?;
+    push_asker(out, alloc, &way.to)?;
+    push_text(out, ":")?;
+    push_words(out, way.words.as_slice())?;
+    push_complains(out, complains)?;
+    push_text(out, "\n")
+}
+
 /// Appends that a profile complains.
 #[tactic(auto, unfolding(crate::specs::Shown::by_text))]
 fn push_complaining(out: &mut Vec<u8>, alloc: Global, name: &[u8]) -> Result<(), AllocError>
@@ -66,6 +92,7 @@ fn push_by(out: &mut Vec<u8>, alloc: Global, finding: &Finding) -> Result<(), Al
 {
     match finding {
         Finding::ByRequest(complains, verdict) => push_verdict(out, alloc, *complains, verdict),
+        Finding::ByWay(complains, way) => push_way(out, alloc, *complains, way),
         Finding::Complaining(name) => push_complaining(out, alloc, name.as_slice()),
     }
 }

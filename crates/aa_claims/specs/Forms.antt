@@ -6,7 +6,7 @@ use Rattle.std.specs.List.{list_any, slice_get}
 use Rattle.std.specs.Str.{bytes_eq}
 use Rattle.aa_claims.specs.declared.words.ClaimWord.{ClaimWord}
 use Rattle.aa_claims.specs.declared.fault.Wrong.{Wrong}
-use Rattle.aa_claims.specs.declared.fault.Wrong.TheVariants.{NoClaim, Nothing, NoClause, Twice, NotHere, NoName, Unanswered}
+use Rattle.aa_claims.specs.declared.fault.Wrong.TheVariants.{NoClaim, Nothing, NoClause, Twice, NotHere, NoName, NoFrom}
 
 -- the word is this one, without quotes
 abbrev pub is_word : List ℕ → ClaimWord → Bool
@@ -25,41 +25,50 @@ abbrev pub head_wrong : ClaimWord → List ClaimWord → Option Wrong
 head_wrong w [] = Some (if is_head w then Nothing else NoClaim)
 head_wrong w (v ∷ vs) = if is_head w then None else Some NoClaim
 
--- with the second, which says what is claimed
-abbrev pub asked_wrong : ClaimWord → ClaimWord → Option Wrong
-asked_wrong head w =
-    if is_keyword w then Some Nothing
-    else (if is_word (codes "never") head && is_word (codes "reach") w then Some Unanswered else None)
-
--- a claim of this head and this second word has such a clause: never has in, except and to; always has in; always enforced has none
-abbrev pub has_clause : ClaimWord → ClaimWord → ClaimWord → Bool
-has_clause head asked w =
-    if is_word (codes "always") head then not (is_word (codes "enforced") asked) && is_word (codes "in") w
-    else not (is_word (codes "from") w)
-
--- names stand behind a word that begins a clause
+-- names stand behind a word
 abbrev pub begins_names : List ClaimWord → Bool
 begins_names [] = false
 begins_names (w ∷ ws) = not (is_keyword w)
+
+-- the claim that a task never comes to some labels
+abbrev pub is_reach : ClaimWord → ClaimWord → Bool
+is_reach head asked = is_word (codes "never") head && is_word (codes "reach") asked
+
+-- what is wrong with its second word: no name stands behind it, or it isn't said where a task begins
+abbrev pub reach_wrong : List ClaimWord → Option Wrong
+reach_wrong later = if not (begins_names later) then Some NoName else (if list_any (is_word (codes "from")) later then None else Some NoFrom)
+
+-- with the second word, which says what is claimed
+abbrev pub asked_wrong : ClaimWord → ClaimWord → List ClaimWord → Option Wrong
+asked_wrong head w later = if is_keyword w then Some Nothing else (if is_reach head w then reach_wrong later else None)
+
+-- a claim that begins with never has such a clause: never reach has from, others have in, except and to
+abbrev pub never_has : ClaimWord → ClaimWord → ClaimWord → Bool
+never_has head asked w = if is_reach head asked then is_word (codes "from") w else not (is_word (codes "from") w)
+
+-- a claim of this head and this second word has such a clause: always has in, and always enforced none
+abbrev pub has_clause : ClaimWord → ClaimWord → ClaimWord → Bool
+has_clause head asked w =
+    if is_word (codes "always") head then not (is_word (codes "enforced") asked) && is_word (codes "in") w
+    else never_has head asked w
 
 -- what is wrong with a word that begins a clause, behind these words of clauses
 abbrev pub clause_wrong : ClaimWord → ClaimWord → List ClaimWord → ClaimWord → List ClaimWord → Option Wrong
 clause_wrong head asked earlier w later =
     if list_any (λ v. not v.is_quoted && bytes_eq v.text.items w.text.items) earlier then Some Twice
     else (if not (has_clause head asked w) then Some NotHere
-    else (if not (begins_names later) then Some NoName
-    else (if is_word (codes "to") w then Some Unanswered else None)))
+    else (if begins_names later then None else Some NoName))
 
--- with a word behind the second: the first of them has to begin a clause
+-- with a word behind the second: the first of them has to begin a clause, but behind reach
 abbrev pub later_wrong : ClaimWord → ClaimWord → List ClaimWord → ClaimWord → List ClaimWord → Option Wrong
 later_wrong head asked earlier w later =
     if is_keyword w then clause_wrong head asked earlier w later
-    else (if length earlier == 0 then Some NoClause else None)
+    else (if length earlier == 0 && not (is_reach head asked) then Some NoClause else None)
 
 -- with a word between these
 abbrev pub wrong_between : List ClaimWord → ClaimWord → List ClaimWord → Option Wrong
 wrong_between [] w later = head_wrong w later
-wrong_between (head ∷ []) w later = asked_wrong head w
+wrong_between (head ∷ []) w later = asked_wrong head w later
 wrong_between (head ∷ asked ∷ earlier) w later = later_wrong head asked earlier w later
 
 -- with the word of that number, if there is one
@@ -86,3 +95,20 @@ up_to_clause ws = take (unwrap_or (position is_keyword ws) (length ws)) ws
 -- the names of the clause that a word begins, if it stands in the claim
 abbrev pub names_behind : List ℕ → List ClaimWord → Option (List ClaimWord)
 names_behind text ws = option_map (λ n. up_to_clause (drop (n + 1) ws)) (position (is_word text) ws)
+
+-- the word that begins a clause, if it stands in the claim
+abbrev pub keyword_of : List ℕ → List ClaimWord → Option ClaimWord
+keyword_of text ws = option_and_then (slice_get ws) (position (is_word text) ws)
+
+-- the first names, or else the others
+abbrev pub names_or : Option (List ClaimWord) → Option (List ClaimWord) → Option (List ClaimWord)
+names_or (Some ws) other = Some ws
+names_or None other = other
+
+-- the names of those whom a claim is about, if it says them: where a task begins, or whose requests are claimed
+abbrev pub names_within : List ClaimWord → Option (List ClaimWord)
+names_within ws = names_or (names_behind (codes "from") ws) (names_behind (codes "in") ws)
+
+-- the names of the labels to which nothing leads, if it says them
+abbrev pub names_led : List ClaimWord → Option (List ClaimWord)
+names_led ws = names_or (names_behind (codes "to") ws) (names_behind (codes "reach") ws)

@@ -23,8 +23,10 @@ pub enum Wrong {
     NotHere,
     /// A clause names nothing.
     NoName,
-    /// It is a form of claims that isn't answered.
-    Unanswered,
+    /// It isn't said where a task begins that never comes somewhere.
+    NoFrom,
+    /// Where a task comes to is said, and what is claimed is neither an execution nor a change of profile.
+    NoLead,
     /// No profile has such a name.
     NoProfile,
     /// No path that can be asked for is matched.

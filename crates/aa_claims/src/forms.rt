@@ -1,10 +1,10 @@
 //! The forms of claims.
 
-ghost use Rattle.std.specs.Prelude.{◌≡◌, ◌+◌, ◌<◌, ◌&&◌, ℕ, not, drop, take, length, position, option_map, IfSome, IfNone, Option, Some, None};
+ghost use Rattle.std.specs.Prelude.{◌≡◌, ◌+◌, ◌<◌, ◌&&◌, ℕ, codes, not, drop, take, length, position, option_map, IfSome, IfNone, Option, Some, None};
 ghost use Rattle.std.specs.List.{list_any};
 ghost use Rattle.std.specs.Str.{bytes_eq};
 ghost use Rattle.aa_claims.specs.declared.words.ClaimWord.{ClaimWord};
-ghost use Rattle.aa_claims.specs.Forms.{is_word, is_keyword, is_head, head_wrong, asked_wrong, has_clause, begins_names, clause_wrong, later_wrong, wrong_between, wrong_at, up_to_clause, names_behind, AreRight, IsFirstWrong};
+ghost use Rattle.aa_claims.specs.Forms.{is_word, is_keyword, is_head, head_wrong, begins_names, is_reach, reach_wrong, asked_wrong, never_has, has_clause, clause_wrong, later_wrong, wrong_between, wrong_at, up_to_clause, names_behind, keyword_of, names_or, names_within, names_led, AreRight, IsFirstWrong};
 
 use crate::fault::Wrong;
 use crate::words::ClaimWord;
@@ -44,17 +44,64 @@ fn head_wrong(word: &ClaimWord, later: &[ClaimWord]) -> Option<Wrong>
     }
 }
 
+/// Whether names stand there.
+fn begins_names(words: &[ClaimWord]) -> bool
+    ensures { result ≡ begins_names words.now }
+{
+    match words {
+        [] => false,
+        [first, ..] => !is_keyword(first),
+    }
+}
+
+/// Whether a claim of this head and this second word says that a task never comes to some labels.
+pub fn is_reach(head: &ClaimWord, asked: &ClaimWord) -> bool
+    ensures { result ≡ is_reach head.now asked.now }
+{
+    is_word(head, "never") && is_word(asked, "reach")
+}
+
+fn has_from(words: &[ClaimWord]) -> bool
+    ensures { result ≡ list_any (is_word (codes "from")) words.now }
+{
+    words.iter().any(|word| is_word(word, "from"))
+}
+
+/// What is wrong with `reach`, behind which these words stand.
+fn reach_wrong(later: &[ClaimWord]) -> Option<Wrong>
+    ensures { result ≡ reach_wrong later.now }
+{
+    if !begins_names(later) {
+        return Some(Wrong::NoName);
+    }
+    if has_from(later) {
+        None
+    } else {
+        Some(Wrong::NoFrom)
+    }
+}
+
 /// What is wrong with the second, which says what is claimed.
-fn asked_wrong(head: &ClaimWord, word: &ClaimWord) -> Option<Wrong>
-    ensures { result ≡ asked_wrong head.now word.now }
+fn asked_wrong(head: &ClaimWord, word: &ClaimWord, later: &[ClaimWord]) -> Option<Wrong>
+    ensures { result ≡ asked_wrong head.now word.now later.now }
 {
     if is_keyword(word) {
         return Some(Wrong::Nothing);
     }
-    if is_word(head, "never") && is_word(word, "reach") {
-        Some(Wrong::Unanswered)
+    if is_reach(head, word) {
+        reach_wrong(later)
     } else {
         None
+    }
+}
+
+fn never_has(head: &ClaimWord, asked: &ClaimWord, word: &ClaimWord) -> bool
+    ensures { result ≡ never_has head.now asked.now word.now }
+{
+    if is_reach(head, asked) {
+        is_word(word, "from")
+    } else {
+        !is_word(word, "from")
     }
 }
 
@@ -65,17 +112,7 @@ fn has_clause(head: &ClaimWord, asked: &ClaimWord, word: &ClaimWord) -> bool
     if is_word(head, "always") {
         !is_word(asked, "enforced") && is_word(word, "in")
     } else {
-        !is_word(word, "from")
-    }
-}
-
-/// Whether names stand there.
-fn begins_names(words: &[ClaimWord]) -> bool
-    ensures { result ≡ begins_names words.now }
-{
-    match words {
-        [] => false,
-        [first, ..] => !is_keyword(first),
+        never_has(head, asked, word)
     }
 }
 
@@ -102,13 +139,10 @@ fn clause_wrong(
     if !has_clause(head, asked, word) {
         return Some(Wrong::NotHere);
     }
-    if !begins_names(later) {
-        return Some(Wrong::NoName);
-    }
-    if is_word(word, "to") {
-        Some(Wrong::Unanswered)
-    } else {
+    if begins_names(later) {
         None
+    } else {
+        Some(Wrong::NoName)
     }
 }
 
@@ -125,7 +159,7 @@ fn later_wrong(
     if is_keyword(word) {
         return clause_wrong(head, asked, earlier, word, later);
     }
-    if earlier.is_empty() {
+    if earlier.is_empty() && !is_reach(head, asked) {
         Some(Wrong::NoClause)
     } else {
         None
@@ -138,7 +172,7 @@ fn wrong_between(earlier: &[ClaimWord], word: &ClaimWord, later: &[ClaimWord]) -
 {
     match earlier {
         [] => head_wrong(word, later),
-        [head] => asked_wrong(head, word),
+        [head] => asked_wrong(head, word, later),
         [head, asked, earlier @ ..] => later_wrong(head, asked, earlier, word, later),
     }
 }
@@ -196,4 +230,41 @@ pub fn names_behind<'w>(words: &'w [ClaimWord], keyword: &str) -> Option<&'w [Cl
         Some(at) => Some(up_to_clause(&words[at + 1..])),
         None => None,
     }
+}
+
+/// The word that begins a clause, if it stands in the claim.
+pub fn keyword_of<'w>(words: &'w [ClaimWord], keyword: &str) -> Option<&'w ClaimWord>
+    ensures { option_map (λ word. word.now) result ≡ keyword_of keyword.now words.entry.now }
+{
+    match word_at(words, keyword) {
+        Some(at) => words.get(at),
+        None => None,
+    }
+}
+
+/// The first names, or else the others.
+fn names_or<'w>(
+    names: Option<&'w [ClaimWord]>,
+    others: Option<&'w [ClaimWord]>,
+) -> Option<&'w [ClaimWord]>
+    ensures { option_map (λ ws. ws.now) result ≡ names_or (option_map (λ ws. ws.now) names.entry) (option_map (λ ws. ws.now) others.entry) }
+{
+    match names {
+        Some(words) => Some(words),
+        None => others,
+    }
+}
+
+/// The names of those whom a claim is about, if it says them: where a task begins, or whose requests are claimed.
+pub fn names_within(words: &[ClaimWord]) -> Option<&[ClaimWord]>
+    ensures { option_map (λ ws. ws.now) result ≡ names_within words.entry.now }
+{
+    names_or(names_behind(words, "from"), names_behind(words, "in"))
+}
+
+/// The names of the labels to which nothing leads, if a claim says them.
+pub fn names_led(words: &[ClaimWord]) -> Option<&[ClaimWord]>
+    ensures { option_map (λ ws. ws.now) result ≡ names_led words.entry.now }
+{
+    names_or(names_behind(words, "to"), names_behind(words, "reach"))
 }

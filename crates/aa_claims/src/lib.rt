@@ -8,7 +8,7 @@ mod report;
 mod words;
 
 pub use fault::{ClaimFault, Wrong};
-pub use forms::{is_word, names_behind};
+pub use forms::{is_reach, is_word, keyword_of, names_behind, names_led, names_within};
 pub use lines::{ClaimLine, read_claims};
 pub use report::claim_report;
 pub use words::ClaimWord;

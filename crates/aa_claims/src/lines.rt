@@ -77,7 +77,8 @@ fn push_claim(
 
 /// The claims of a text, one a line; lines of blanks and comments are none. Each has one of these forms:
 ///
-/// - `never WORD`, `always WORD`, each with `in NAME..` behind it or without, `never` with `except NAME..` too,
+/// - `never WORD`, `always WORD`, each with `in NAME..` behind it or without, `never` with `except NAME..` and `to NAME..` too,
+/// - `never reach NAME.. from NAME..`,
 /// - `always enforced`.
 ///
 /// A word in quotes stands for itself, also where it is one of these. Of what is wrong the first is said, at its word: a quote that

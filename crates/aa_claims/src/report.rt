@@ -20,11 +20,12 @@ fn opening_of(wrong: &Wrong) -> &'static str
         }
         Wrong::NoRequest(_) => "this is no request: ",
         Wrong::NoPattern => "the path is no pattern",
-        Wrong::NoClause => "in or except is wanted here",
+        Wrong::NoClause => "in, except or to is wanted here",
         Wrong::Twice => "this clause stands in the claim before",
         Wrong::NotHere => "such a claim has no such clause",
         Wrong::NoName => "a name is wanted behind this word",
-        Wrong::Unanswered => "claims of this form aren't answered by this version",
+        Wrong::NoFrom => "from isn't said: behind these names those are wanted where a task begins",
+        Wrong::NoLead => "to stands behind executions and changes of profile alone",
         Wrong::NoProfile => "no profile has such a name",
         Wrong::NoPath => {
             "no path that can be asked for matches the pattern: nothing can break the claim"

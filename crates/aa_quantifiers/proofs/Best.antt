@@ -9,7 +9,13 @@ use Rattle.aa_mediate.specs.Reply.{reply}
 use Rattle.aa_quantifiers.specs.declared.word.Word.{Word}
 use Rattle.aa_quantifiers.specs.Words.{IsOf, path_length}
 use Rattle.aa_quantifiers.specs.Shorter.{is_shorter_than}
-use Rattle.aa_quantifiers.specs.Quantities.{grants, IsAnswered, IsShortest, AllAre, StandForWord, IsAmong, IsBest}
+use Rattle.aa_model.specs.declared.answer.Answer.{Answer}
+use Rattle.aa_quantifiers.specs.declared.aim.Aim.{Aim}
+use Rattle.aa_quantifiers.specs.declared.aim.Aim.TheVariants.{Answered}
+use Rattle.aa_quantifiers.specs.declared.aim.First.{First}
+use Rattle.aa_quantifiers.specs.declared.aim.First.TheVariants as first
+use Rattle.aa_quantifiers.specs.Quantities.{grants, IsAnswered, IsShortest, IsShortestOf, AllAre, StandForWord, IsAmong, IsBest}
+use Rattle.aa_quantifiers.specs.Aims.{Meets, IsMet, IsFirst, IsOther}
 
 is_true : (b : Bool) → (b ≡ false → ⊥) → b ≡ true
 is_true true f = refl
@@ -20,30 +26,48 @@ is_false true f = absurd (f refl)
 is_false false f = refl
 
 module _ (ps : List Policy) (l : Label) (w : Word) (rs : List Request) (stand : StandForWord ps l w rs) where
-  pub shortest_is : (granted : Bool) (r : Request) → IsBest ps l granted rs (length rs) (Some r) → IsShortest ps l w granted r
-  shortest_is granted r best = record {
+  -- requests with one answer are alike
+  met_alike : (aim : Aim) (r q : Request) → reply ps l r ≡ reply ps l q → IsMet ps l aim r → IsMet ps l aim q
+  met_alike aim r q same met = subst (Meets aim) same met
+
+  pub first_is : (aim : Aim) (r : Request) → IsBest (IsMet ps l aim) rs (length rs) (Some r) → IsShortestOf w (IsMet ps l aim) r
+  first_is aim r best = record {
     is = stand.each r best.0;
     answer = best.1;
     shortest = λ q is answer.
         let s = stand.all q is in
-        let le : path_length r ≤ path_length s.0 = best.2 s.0 s.1 (ap grants (sym s.2) ∙ answer) in
+        let le : path_length r ≤ path_length s.0 = best.2 s.0 s.1 (met_alike aim q s.0 s.2 answer) in
         omega (arith, le, s.3);
   }
 
-  pub none_is : (granted : Bool) → IsBest ps l granted rs (length rs) None → (r : Request) → IsOf w r → IsAnswered ps l granted r → ⊥
-  none_is granted none r is answer = let s = stand.all r is in none s.0 s.1 (ap grants (sym s.2) ∙ answer)
+  pub none_met : (aim : Aim) → IsBest (IsMet ps l aim) rs (length rs) None → (r : Request) → IsOf w r → IsMet ps l aim r → ⊥
+  none_met aim none r is answer = let s = stand.all r is in none s.0 s.1 (met_alike aim r s.0 s.2 answer)
 
-  pub all_granted : IsBest ps l false rs (length rs) None → AllAre ps l w true
+  pub shortest_is : (granted : Bool) (r : Request) → IsBest (IsMet ps l (Answered granted)) rs (length rs) (Some r) → IsShortest ps l w granted r
+  shortest_is granted r best = first_is (Answered granted) r best
+
+  none_is : (granted : Bool) → IsBest (IsMet ps l (Answered granted)) rs (length rs) None → (r : Request) → IsOf w r → IsAnswered ps l granted r → ⊥
+  none_is granted none r is answer = none_met (Answered granted) none r is answer
+
+  -- where no request stands for the word it asks nothing; one that stands for it is its own
+  pub asks_nothing : length rs ≡ 0 → (r : Request) → IsOf w r → ⊥
+  asks_nothing none r is = let s = stand.all r is in omega (arith, none, s.1.1)
+
+  pub none_first : (aim : Aim) (f : First) → IsBest (IsMet ps l aim) rs (length rs) None → IsOther rs f → IsFirst ps l w aim f
+  none_first aim (first.Some r) none other = absurd other
+  none_first aim (first.None r) none other = (stand.each r other, none_met aim none)
+
+  pub all_granted : IsBest (IsMet ps l (Answered false)) rs (length rs) None → AllAre ps l w true
   all_granted none r is = is_true (grants (reply ps l r)) (none_is false none r is)
 
-  pub all_refused : IsBest ps l true rs (length rs) None → AllAre ps l w false
+  pub all_refused : IsBest (IsMet ps l (Answered true)) rs (length rs) None → AllAre ps l w false
   all_refused none r is = is_false (grants (reply ps l r)) (none_is true none r is)
 
-  pub no_request : IsBest ps l true rs (length rs) None → IsBest ps l false rs (length rs) None → (r : Request) → IsOf w r → ⊥
+  pub no_request : IsBest (IsMet ps l (Answered true)) rs (length rs) None → IsBest (IsMet ps l (Answered false)) rs (length rs) None → (r : Request) → IsOf w r → ⊥
   no_request none other r is = none_is true none r is (all_granted other r is)
 
 -- one request more
-module _ (ps : List Policy) (l : Label) (granted : Bool) (rs : List Request) (n : ℕ) (r : Request) (lt : n < length rs) (here : r ≡ get_or rs n r) where
+module _ (Is : Request → Type 0) (rs : List Request) (n : ℕ) (r : Request) (lt : n < length rs) (here : r ≡ get_or rs n r) where
   earlier : (q : Request) → IsAmong rs n q → IsAmong rs (n + 1) q
   earlier q (k, less, e) = (k, omega (arith, less), e)
 
@@ -60,21 +84,21 @@ module _ (ps : List Policy) (l : Label) (granted : Bool) (rs : List Request) (n 
       subst P (here ∙ get_or_default rs n r q lt ∙ ap (λ (m : ℕ). get_or rs m q) same ∙ e) now)
       (cases_lt k n)
 
-  pub passed : (best : Option Request) → (IsAnswered ps l granted r → ⊥) → IsBest ps l granted rs n best → IsBest ps l granted rs (n + 1) best
-  passed (Some b) not_so (among, answer, least) = (earlier b among, answer, one_of (λ q. IsAnswered ps l granted q → path_length b ≤ path_length q) least (λ so. absurd (not_so so)))
-  passed None not_so none = one_of (λ q. IsAnswered ps l granted q → ⊥) none not_so
+  pub passed : (best : Option Request) → (Is r → ⊥) → IsBest Is rs n best → IsBest Is rs (n + 1) best
+  passed (Some b) not_so (among, answer, least) = (earlier b among, answer, one_of (λ q. Is q → path_length b ≤ path_length q) least (λ so. absurd (not_so so)))
+  passed None not_so none = one_of (λ q. Is q → ⊥) none not_so
 
-  pub no_shorter : (best : Option Request) → is_shorter_than r best ≡ false → IsBest ps l granted rs n best → IsBest ps l granted rs (n + 1) best
+  pub no_shorter : (best : Option Request) → is_shorter_than r best ≡ false → IsBest Is rs n best → IsBest Is rs (n + 1) best
   no_shorter (Some b) longer (among, answer, least) =
-      (earlier b among, answer, one_of (λ q. IsAnswered ps l granted q → path_length b ≤ path_length q) least (λ so. omega (arith, ltb-false (path_length r) (path_length b) longer)))
+      (earlier b among, answer, one_of (λ q. Is q → path_length b ≤ path_length q) least (λ so. omega (arith, ltb-false (path_length r) (path_length b) longer)))
   no_shorter None longer none = absurd (let e : true ≡ false = longer in cc)
 
-  pub taken : (best : Option Request) → is_shorter_than r best ≡ true → IsAnswered ps l granted r → IsBest ps l granted rs n best → IsBest ps l granted rs (n + 1) (Some r)
-  taken best shorter so is = (this, so, one_of (λ q. IsAnswered ps l granted q → path_length r ≤ path_length q) (before best shorter is) (λ _. omega arith))
+  pub taken : (best : Option Request) → is_shorter_than r best ≡ true → Is r → IsBest Is rs n best → IsBest Is rs (n + 1) (Some r)
+  taken best shorter so is = (this, so, one_of (λ q. Is q → path_length r ≤ path_length q) (before best shorter is) (λ _. omega arith))
     where
-      before : (best : Option Request) → is_shorter_than r best ≡ true → IsBest ps l granted rs n best → (q : Request) → IsAmong rs n q → IsAnswered ps l granted q → path_length r ≤ path_length q
+      before : (best : Option Request) → is_shorter_than r best ≡ true → IsBest Is rs n best → (q : Request) → IsAmong rs n q → Is q → path_length r ≤ path_length q
       before (Some b) short (among, answer, least) q in' other = omega (arith, ltb-true (path_length r) (path_length b) short, least q in' other)
       before None short none q in' other = absurd (none q in' other)
 
-  pub passed_over : (best : Option Request) → (IsAnswered ps l granted r → ⊥) ⊎ (is_shorter_than r best ≡ false) → IsBest ps l granted rs n best → IsBest ps l granted rs (n + 1) best
-  passed_over best why is = ⊎_elim (λ (no : IsAnswered ps l granted r → ⊥). passed best no is) (λ (longer : is_shorter_than r best ≡ false). no_shorter best longer is) why
+  pub passed_over : (best : Option Request) → (Is r → ⊥) ⊎ (is_shorter_than r best ≡ false) → IsBest Is rs n best → IsBest Is rs (n + 1) best
+  passed_over best why is = ⊎_elim (λ (no : Is r → ⊥). passed best no is) (λ (longer : is_shorter_than r best ≡ false). no_shorter best longer is) why

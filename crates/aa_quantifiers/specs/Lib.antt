@@ -3,6 +3,7 @@ pub mod Faults
 pub mod Words
 pub mod Literal
 pub mod Quantities
+pub mod Aims
 pub mod Candidates
 pub mod Shorter
 pub mod Doubts

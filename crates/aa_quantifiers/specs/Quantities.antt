@@ -28,11 +28,15 @@ grants a = a.granted && not (option_map_or (λ (n : Note). is_allowed_anyway n.w
 abbrev pub IsAnswered : List Policy → Label → Bool → Request → Type 0
 IsAnswered ps l granted r = grants (reply ps l r) ≡ granted
 
--- a request of the word that is answered so, and no such request has a shorter path
-pub record IsShortest (ps : List Policy) (l : Label) (w : Word) (granted : Bool) (r : Request) : Type 0 where
+-- a request of the word of which something is so, and no such request has a shorter path
+pub record IsShortestOf (w : Word) (Is : Request → Type 0) (r : Request) : Type 0 where
   pub is : IsOf w r
-  pub answer : IsAnswered ps l granted r
-  pub shortest : (q : Request) → IsOf w q → IsAnswered ps l granted q → path_length r ≤ path_length q
+  pub answer : Is r
+  pub shortest : (q : Request) → IsOf w q → Is q → path_length r ≤ path_length q
+
+-- of those that are answered so
+abbrev pub IsShortest : List Policy → Label → Word → Bool → Request → Type 0
+IsShortest ps l w granted r = IsShortestOf w (IsAnswered ps l granted) r
 
 -- all requests of the word are answered so
 abbrev pub AllAre : List Policy → Label → Word → Bool → Type 0
@@ -53,7 +57,7 @@ pub record StandForWord (ps : List Policy) (l : Label) (w : Word) (rs : List Req
 abbrev pub IsAmong : List Request → ℕ → Request → Type 0
 IsAmong rs n r = (k : ℕ) × (k < n) × (slice_index_or rs k r ≡ r)
 
--- of the first n requests one with a shortest path of those that are answered so, if there are any
-abbrev pub IsBest : List Policy → Label → Bool → List Request → ℕ → Option Request → Type 0
-IsBest ps l granted rs n (Some r) = IsAmong rs n r × IsAnswered ps l granted r × ((q : Request) → IsAmong rs n q → IsAnswered ps l granted q → path_length r ≤ path_length q)
-IsBest ps l granted rs n None = (q : Request) → IsAmong rs n q → IsAnswered ps l granted q → ⊥
+-- of the first n requests one with a shortest path of those of which something is so, if there are any
+abbrev pub IsBest : (Request → Type 0) → List Request → ℕ → Option Request → Type 0
+IsBest Is rs n (Some r) = IsAmong rs n r × Is r × ((q : Request) → IsAmong rs n q → Is q → path_length r ≤ path_length q)
+IsBest Is rs n None = (q : Request) → IsAmong rs n q → Is q → ⊥

@@ -1,16 +1,18 @@
-//! The shortest request that is granted, or refused.
+//! The shortest request that is answered as is wanted.
 
 ghost use Rattle.std.specs.Prelude.{◌≡◌, ◌⊎◌, ◌+◌, ◌<◌, IfOk, OnOk, false, true, length};
 ghost use Rattle.std.specs.Option.{option_map_or};
 ghost use Rattle.aa_mediate.specs.Reply.{reply};
 ghost use Rattle.aa_quantifiers.specs.Words.{path_length};
-ghost use Rattle.aa_quantifiers.specs.Quantities.{is_allowed_anyway, grants, IsAnswered, IsBest};
+ghost use Rattle.aa_quantifiers.specs.Quantities.{is_allowed_anyway, grants, IsBest};
+ghost use Rattle.aa_quantifiers.specs.Aims.{IsMet, Meets};
 ghost use Rattle.aa_quantifiers.specs.Shorter.{is_shorter_than};
 
+use crate::aim::Aim;
 use aa_compile::Compiled;
 use aa_machine::Machine;
 use aa_mediate::Mediator;
-use aa_model::{Label, Note, NoteWord, Request};
+use aa_model::{Answer, Label, Note, NoteWord, Request};
 use std::alloc::AllocError;
 
 /// Whether an answer is granted by complain mode alone.
@@ -23,12 +25,18 @@ fn is_by_complain(note: Option<Note>) -> bool
     }
 }
 
-/// Whether the rules allow a request of a task with that label.
-fn is_granted(policies: &[Compiled], label: Label, request: &Request) -> bool
-    ensures { result ≡ grants (reply policies.now label request.now) }
+/// What is answered to a request of a task with that label.
+fn answer_of(policies: &[Compiled], label: Label, request: &Request) -> Answer
+    ensures { result ≡ reply policies.now label request.now }
 {
     let mut label = label;
-    let answer = Mediator::new(policies).step(&mut label, request);
+    Mediator::new(policies).step(&mut label, request)
+}
+
+/// Whether the rules allow what is answered so.
+fn is_granted(answer: &Answer) -> bool
+    ensures { result ≡ grants answer.now }
+{
     answer.granted && !is_by_complain(answer.note)
 }
 
@@ -53,14 +61,34 @@ fn is_shorter(request: &Request, best: &Option<Request>) -> bool
 }
 
 /// Whether the rules allow it, or don't, as is wanted.
-fn is_answered(policies: &[Compiled], label: Label, granted: bool, request: &Request) -> bool
-    ensures yes { result ≡ true → IsAnswered policies.now label granted request.now }
-    ensures no { result ≡ false → IsAnswered policies.now label granted request.now → ⊥ }
+fn is_as_wanted(answer: &Answer, granted: bool) -> bool
+    ensures yes { result ≡ true → grants answer.now ≡ granted }
+    ensures no { result ≡ false → grants answer.now ≡ granted → ⊥ }
 {
-    if is_granted(policies, label, request) != granted {
+    if is_granted(answer) != granted {
         return false;
     }
     true
+}
+
+/// Whether an answer is one that is looked for.
+fn is_met(aim: Aim<'_>, answer: &Answer) -> bool
+    ensures yes { result ≡ true → Meets aim.entry answer.now }
+    ensures no { result ≡ false → Meets aim.entry answer.now → ⊥ }
+{
+    match aim {
+        Aim::Answered(granted) => is_as_wanted(answer, granted),
+        Aim::Led(labels) => is_granted(answer) && labels.has(answer.label),
+    }
+}
+
+/// Whether what is answered to a request is.
+fn is_answered(policies: &[Compiled], label: Label, aim: Aim<'_>, request: &Request) -> bool
+    ensures yes { result ≡ true → IsMet policies.now label aim.entry request.now }
+    ensures no { result ≡ false → IsMet policies.now label aim.entry request.now → ⊥ }
+{
+    let answer = answer_of(policies, label, request);
+    is_met(aim, &answer)
 }
 
 /// Whether a request is answered otherwise, or not shorter than the best one.
@@ -68,13 +96,13 @@ fn is_passed(
     best: &Option<Request>,
     policies: &[Compiled],
     label: Label,
-    granted: bool,
+    aim: Aim<'_>,
     request: &Request,
 ) -> bool
-    ensures passed { result ≡ true → (IsAnswered policies.now label granted request.now → ⊥) ⊎ (is_shorter_than request.now best.now ≡ false) }
-    ensures better { result ≡ false → IsAnswered policies.now label granted request.now × (is_shorter_than request.now best.now ≡ true) }
+    ensures passed { result ≡ true → (IsMet policies.now label aim.entry request.now → ⊥) ⊎ (is_shorter_than request.now best.now ≡ false) }
+    ensures better { result ≡ false → IsMet policies.now label aim.entry request.now × (is_shorter_than request.now best.now ≡ true) }
 {
-    if !is_answered(policies, label, granted, request) {
+    if !is_answered(policies, label, aim, request) {
         return true;
     }
     !is_shorter(request, best)
@@ -85,34 +113,34 @@ fn take_if_shorter(
     best: &mut Option<Request>,
     policies: &[Compiled],
     label: Label,
-    granted: bool,
+    aim: Aim<'_>,
     requests: &[Request],
     number: usize,
 ) -> Result<(), AllocError>
     requires within { number < length requests.now }
-    requires best { IsBest policies.now label granted requests.now number best.old }
-    ensures { OnOk result (IsBest policies.now label granted requests.now (number + 1) best.new) }
+    requires best { IsBest (IsMet policies.now label aim) requests.now number best.old }
+    ensures { OnOk result (IsBest (IsMet policies.now label aim.entry) requests.now (number + 1) best.new) }
 {
     let request = &requests[number];
-    if is_passed(best, policies, label, granted, request) {
+    if is_passed(best, policies, label, aim, request) {
         return Ok(());
     }
     *best = Some(request.try_clone()?);
     Ok(())
 }
 
-/// Of the requests that are granted, or refused, one with a shortest path; none where there are none.
+/// Of the requests that are answered as is wanted, one with a shortest path; none where there are none.
 pub(crate) fn shortest(
     policies: &[Compiled],
     label: Label,
-    granted: bool,
+    aim: Aim<'_>,
     requests: &[Request],
 ) -> Result<Option<Request>, AllocError>
-    ensures { IfOk result (λ best. IsBest policies.now label granted requests.now (length requests.now) best) }
+    ensures { IfOk result (λ best. IsBest (IsMet policies.now label aim.entry) requests.now (length requests.now) best) }
 {
     let mut best = None;
     for number in 0..requests.len() {
-        take_if_shorter(&mut best, policies, label, granted, requests, number)?;
+        take_if_shorter(&mut best, policies, label, aim, requests, number)?;
     }
     Ok(best)
 }

@@ -15,10 +15,14 @@ use Rattle.aa_quantifiers.specs.declared.quantity.Quantity.{Quantity}
 use Rattle.aa_quantifiers.specs.declared.quantity.Quantity.TheVariants.{Every, Partly, Never}
 use Rattle.aa_quantifiers.specs.Words.{IsOf, patterns_at}
 use Rattle.aa_quantifiers.specs.Quantities.{IsQuantity}
+use Rattle.aa_quantifiers.specs.Aims.{IsFirst}
+use Rattle.aa_quantifiers.specs.declared.aim.Aim.{Aim}
 use Rattle.aa_who.specs.declared.fault.WhoFault.{WhoFault}
 use Rattle.aa_who.specs.declared.fault.WhoFault.TheVariants.{NoMemory, Refused}
 use Rattle.aa_who.specs.declared.counting.Counted.{Counted}
-use Rattle.aa_who.specs.declared.counting.Counted.TheVariants.{Told, Untold}
+use Rattle.aa_who.specs.declared.counting.Counted.TheVariants as counted
+use Rattle.aa_who.specs.declared.counting.Sought.{Sought}
+use Rattle.aa_who.specs.declared.counting.Sought.TheVariants as sought
 use Rattle.aa_who.specs.Words.{no_path}
 
 -- how a label is called
@@ -45,8 +49,13 @@ pub data CantTell (policies : List Policy) (limit : ℕ) (l : Label) (w : Word) 
 
 -- how many of the requests a label is granted, or why that can't be told
 abbrev pub IsCounted : List Policy → ℕ → Label → Word → List ℕ → Counted → Type 0
-IsCounted policies limit l w text (Told q) = IsQuantity policies l w q
-IsCounted policies limit l w text (Untold line) = CantTell policies limit l w text line.items
+IsCounted policies limit l w text (counted.Told q) = IsQuantity policies l w q
+IsCounted policies limit l w text (counted.Untold line) = CantTell policies limit l w text line.items
+
+-- a first of the requests that is answered to a label as is wanted, or why that can't be told
+abbrev pub IsSought : List Policy → ℕ → Label → Word → Aim → List ℕ → Sought → Type 0
+IsSought policies limit l w aim text (sought.Told f) = IsFirst policies l w aim f
+IsSought policies limit l w aim text (sought.Untold line) = CantTell policies limit l w text line.items
 
 -- all are granted
 abbrev pub is_all : Quantity → Bool
@@ -56,8 +65,8 @@ is_all (Never other) = false
 
 -- whether all are, where it can be told
 abbrev pub all_told : Counted → Option Bool
-all_told (Told q) = Some (is_all q)
-all_told (Untold line) = None
+all_told (counted.Told q) = Some (is_all q)
+all_told (counted.Untold line) = None
 
 -- it is told that all are
 abbrev pub is_every : Counted → Bool
@@ -65,8 +74,8 @@ is_every c = unwrap_or (all_told c) false
 
 -- the line on why it can't be told, if it can't
 abbrev pub untold_of : Counted → List ℕ
-untold_of (Told q) = []
-untold_of (Untold line) = line.items
+untold_of (counted.Told q) = []
+untold_of (counted.Untold line) = line.items
 
 -- a refusal says that the word asks nothing, unless memory ran out
 abbrev pub SaysNoPath : Word → List ℕ → WhoFault → Type 0

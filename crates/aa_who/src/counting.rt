@@ -5,19 +5,19 @@ ghost use Rattle.aa_pattern.specs.Limits.{most_states};
 ghost use Rattle.aa_text.specs.Visible.{all_visible};
 ghost use Rattle.aa_load.specs.UnitPolicy.{limit_of};
 ghost use Rattle.aa_who.specs.Words.{no_path, IsSaid};
-ghost use Rattle.aa_who.specs.Counts.{asker, together, patterns_line, states_line, is_all, is_every, IsCounted, SaysNoPath};
+ghost use Rattle.aa_who.specs.Counts.{asker, together, patterns_line, states_line, is_all, is_every, IsCounted, IsSought, SaysNoPath};
 
 use crate::fault::WhoFault;
 use crate::reading::said_of;
 use aa_compile::{Compiled, name_of_label};
 use aa_model::Label;
-use aa_quantifiers::{Quantity, QuantityFault, Word, quantity_of};
+use aa_quantifiers::{Aim, First, Quantity, QuantityFault, Word, first_of, quantity_of};
 use aa_text::{ToJson, push_bool, push_name, push_number, push_text, push_visible};
 use std::alloc::{AllocError, Global};
 
 /// How many of the requests of a word a task is granted.
 #[derive(Drop)]
-pub enum Counted {
+pub(crate) enum Counted {
     Told(Quantity),
     /// It can't be told: the line on why.
     Untold(Vec<u8>),
@@ -142,7 +142,7 @@ fn no_path(alloc: Global, text: &[u8]) -> Result<WhoFault, AllocError>
 }
 
 /// How many of the requests of a word a task with that label is granted. Refused where the word asks nothing.
-pub fn count_at(
+pub(crate) fn count_at(
     alloc: Global,
     policies: &[Compiled],
     states: u32,
@@ -163,6 +163,41 @@ pub fn count_at(
         }
         Err(QuantityFault::TooManyStates) => {
             Ok(Counted::Untold(states_line(alloc, policies, label, text, limit)?))
+        }
+    }
+}
+
+/// A first of a word's requests that is answered as is wanted.
+#[derive(Drop)]
+pub enum Sought {
+    Told(First),
+    /// It can't be told: the line on why.
+    Untold(Vec<u8>),
+}
+
+/// A first of a word's requests that is answered to a task with that label as is wanted. Refused where the word asks nothing.
+pub fn first_at(
+    alloc: Global,
+    policies: &[Compiled],
+    states: u32,
+    label: Label,
+    word: &Word,
+    aim: Aim<'_>,
+    text: &[u8],
+) -> Result<Sought, WhoFault>
+    ensures sought { IfOk result (λ s. IsSought policies.now (limit_of states) label word.now aim.entry text.now s) }
+    ensures refused { IfErr result (λ e. SaysNoPath word.now text.now e) }
+{
+    let limit = limit_of(states);
+    match first_of(alloc, policies, label, word, aim, limit) {
+        Ok(first) => Ok(Sought::Told(first)),
+        Err(QuantityFault::NoMemory) => Err(WhoFault::NoMemory),
+        Err(QuantityFault::NoRequest) => Err(no_path(alloc, text)?),
+        Err(QuantityFault::TooManyPatterns) => {
+            Ok(Sought::Untold(patterns_line(alloc, policies, label, text)?))
+        }
+        Err(QuantityFault::TooManyStates) => {
+            Ok(Sought::Untold(states_line(alloc, policies, label, text, limit)?))
         }
     }
 }

@@ -12,9 +12,9 @@ mod shown;
 mod telling;
 
 pub use command::{WhoOptions, passed_in, who_files};
-pub use counting::{Counted, count_at};
+pub use counting::{Sought, first_at};
 pub use fault::{Misread, WhoFault};
 pub use granting::count_of;
 pub use reading::read_asked;
 pub use shown::{push_complains, push_passed};
-pub use telling::{Untold, push_untold, push_untold_lines, push_untold_member};
+pub use telling::{Untold, asker_of, push_untold, push_untold_lines, push_untold_member};

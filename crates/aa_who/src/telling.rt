@@ -20,7 +20,7 @@ pub struct Untold {
 }
 
 /// The full name of a label's profile, if the task is confined.
-fn asker_of(
+pub fn asker_of(
     alloc: Global,
     policies: &[Compiled],
     label: Label,

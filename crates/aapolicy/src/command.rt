@@ -395,7 +395,7 @@ const ASSERT_ARGUMENTS: &[Argument] = &[
         letter: None,
         form: Form::NeededWord,
         barred: None,
-        help: "A file of claims, one a line: never WORD or always WORD, with in NAME.. or except NAME.. behind it, or always enforced; - is standard input",
+        help: "A file of claims, one a line: never WORD, with in NAME.., except NAME.. or to NAME.. behind it, always WORD, with in NAME.. or not, always enforced, or never reach NAME.. from NAME..; - is standard input",
     },
     Argument {
         name: "PROFILE",

@@ -8,13 +8,13 @@ use Rattle.aa_assert.specs.declared.finding.Findings.{Findings}
 use Rattle.aa_assert.specs.Refused.{AsksNoPath, IsUnanswered}
 use Rattle.aa_assert.specs.Findings.{all_found, AreFound}
 use Rattle.aa_assert.specs.Answers.{IsAnswerBy}
-use Rattle.aa_assert.proofs.Unanswered.{not_read, of_others, not_asked}
+use Rattle.aa_assert.proofs.Unanswered.{not_said, of_others, not_asked}
 use Rattle.aa_assert.proofs.answering.answer_by.Goals as goal
 
 pub returns-in_err-asked-clause-refused : goal.returns-in_err-asked-clause-refused
 returns-in_err-asked-clause-refused c =
     handed_on c.from_residual.result _ _ c.from_residual.ensures.1
-    (λ y p. rw p (not_read c.args.part c.args.words.now c.args.head.now c.args.word.now c.in_err-asked.field-0.0
+    (λ y p. rw p (not_said c.args.part c.args.words.now c.args.head.now c.args.word.now c.in_err-asked.field-0.0
     c.in_err-asked.ensures.refused))
 
 pub returns-in_err-check_scope-clause-refused : goal.returns-in_err-check_scope-clause-refused

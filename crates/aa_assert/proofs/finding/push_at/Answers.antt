@@ -2,6 +2,7 @@ use Rattle.std.proofs.Common.{ℕ, List, sym, subst}
 use Rattle.aa_load.specs.UnitPolicy.{limit_of}
 use Rattle.aa_claims.specs.declared.fault.ClaimFault.{ClaimFault}
 use Rattle.aa_claims.specs.Faults.{SaysAt}
+use Rattle.aa_quantifiers.specs.Aims.{IsMet}
 use Rattle.aa_assert.specs.Judging.{IsJudged}
 use Rattle.aa_assert.specs.Refused.{IsNoPath}
 use Rattle.aa_assert.proofs.Judged.{no_path_at}
@@ -15,7 +16,7 @@ returns-in-Err-clause-refused c =
 pub returns-in_ok-push_judged_beside-in-Ok-clause-added : goal.returns-in_ok-push_judged_beside-in-Ok-clause-added
 returns-in_ok-push_judged_beside-in-Ok-clause-added c = (
   c.in-Ok.judgement,
-  subst (λ (t : List ℕ). IsJudged c.args.part.decided.policies.now (limit_of c.args.claim.states) c.args.label c.args.against c.args.word.now t c.in-Ok.judgement)
+  subst (λ (t : List ℕ). IsJudged c.args.part.decided.policies.now (limit_of c.args.claim.states) c.args.label (IsMet c.args.part.decided.policies.now c.args.label c.args.aim) c.args.word.now t c.in-Ok.judgement)
       c.as_slice.ensures.value c.in-Ok.ensures.judged,
   c.in_ok-push_judged_beside-in-Ok.ensures,
 )

@@ -1,0 +1,92 @@
+-- Whether a task comes to some labels.
+-- Source: own.
+use Rattle.std.specs.Prelude.{◌≡◌, ◌≤◌, ◌&&◌, ◌∷◌, ◌++◌, [], ℕ, List, Bool, true, false, not, codes, decimal, length, map, Option, option_map, Contains, if◌then◌else◌}
+use Rattle.std.specs.List.{All}
+use Rattle.aa_model.specs.declared.policy.Policy.{Policy}
+use Rattle.aa_model.specs.declared.label.Label.{Label}
+use Rattle.aa_model.specs.declared.request.Request.{Request}
+use Rattle.aa_model.specs.declared.request.Request.TheVariants.{Exec}
+use Rattle.aa_notation.specs.Written.{word_text}
+use Rattle.aa_representatives.specs.Askable.{IsAskable}
+use Rattle.aa_reachability.specs.declared.reached.Untold.{Untold}
+use Rattle.aa_reachability.specs.declared.reached.Why.{Why}
+use Rattle.aa_reachability.specs.declared.reached.Why.TheVariants.{TooManyPatterns, TooManyStates}
+use Rattle.aa_reachability.specs.Moves.{label_going, IsWhy}
+use Rattle.aa_reachability.specs.Reach.{led_by, IsOpen, AreTold}
+use Rattle.aa_quantifiers.specs.declared.aim.Labels.{Labels}
+use Rattle.aa_quantifiers.specs.Aims.{has_label}
+use Rattle.aa_ask.specs.Told.{is_same, asker_of}
+use Rattle.aa_who.specs.Counts.{asker}
+use Rattle.aa_assert.specs.declared.passage.Passage.{Passage}
+use Rattle.aa_assert.specs.declared.way.Way.{Way}
+use Rattle.aa_assert.specs.declared.passage.Passage.TheVariants.{Through, Nowhere, Untold as Unknown}
+
+-- the label after a request that complain mode alone doesn't grant
+abbrev pub going : List Policy → Label → Request → Label
+going ps l r = label_going true ps l r
+
+-- another label than that where the task begins, and one of these
+abbrev pub is_elsewhere : Labels → Label → Label → Bool
+is_elsewhere ls from l = not (is_same from l) && has_label ls l
+
+-- executions and changes that can be asked, and lead there one after another
+pub record IsWayTo (ps : List Policy) (from : Label) (ls : Labels) (rs : List Request) : Type 0 where
+  pub asked : All IsAskable rs
+  pub leads : is_elsewhere ls from (led_by (going ps) from rs) ≡ true
+
+-- such a list, and none is shorter that leads on from no label with too many rules
+pub record IsShortestWay (ps : List Policy) (limit : ℕ) (from : Label) (ls : Labels) (way : List Request) : Type 0 where
+  pub is : IsWayTo ps from ls way
+  pub untold : List Untold
+  pub why : (u : Untold) → Contains untold u → IsWhy ps limit u.label u.why
+  pub shortest : (rs : List Request) → AreTold (going ps) (IsOpen untold) from rs → is_elsewhere ls from (led_by (going ps) from rs) ≡ true
+      → length way ≤ length rs
+
+-- why it isn't told where requests lead on
+abbrev pub why_text : ℕ → Why → List ℕ
+why_text limit TooManyPatterns = codes "have more than 65535 patterns together\n"
+why_text limit TooManyStates = codes "need more than " ++ decimal limit ++ codes " states together; --states allows more\n"
+
+-- from which label it isn't told
+abbrev pub untold_line : List Policy → ℕ → Untold → List ℕ
+untold_line ps limit u = codes "error: at " ++ asker ps u.label ++ codes " the rules " ++ why_text limit u.why
+
+-- the claim that a task comes to none of these labels: it is broken by a list of requests; or by none; or that can't be told
+abbrev pub IsPassage : List Policy → ℕ → Label → Labels → Passage → Type 0
+IsPassage ps limit from ls (Through way) = IsShortestWay ps limit from ls way.items
+IsPassage ps limit from ls Nowhere = (rs : List Request) → IsWayTo ps from ls rs → ⊥
+IsPassage ps limit from ls (Unknown line) = (u : Untold) × IsWhy ps limit u.label u.why × (line.items ≡ untold_line ps limit u)
+
+-- no list is known of: there is none, or it isn't told of one of these labels where requests lead on
+abbrev pub IsWithout : List Policy → ℕ → List Untold → Passage → Type 0
+IsWithout ps limit untold (Through way) = ⊥
+IsWithout ps limit untold Nowhere = untold ≡ []
+IsWithout ps limit untold (Unknown line) = (u : Untold) × Contains untold u × (line.items ≡ untold_line ps limit u)
+
+-- a list of requests that leads to another label: who begins, where it leads, and the words
+pub record WayTold : Type 0 where
+  pub asker : Option (List ℕ)
+  pub to : Option (List ℕ)
+  pub words : List (List ℕ)
+
+-- to execute a file of others, where it is one of the task's user's; all else as it is
+abbrev pub as_others : Request → Request
+as_others (Exec r) = Exec (record { path = r.path; owned = false })
+as_others r = r
+
+-- the request as others own the file, where that leads to the same label
+abbrev pub plain : List Policy → Label → Request → Request
+plain ps l r = if is_same (going ps l (as_others r)) (going ps l r) then as_others r else r
+
+-- the requests of one task, one after another, as words
+unfoldable pub words_by : List Policy → Label → List Request → List (List ℕ)
+words_by ps l [] = []
+words_by ps l (r ∷ rs) = word_text (plain ps l r) ∷ words_by ps (going ps l r) rs
+
+-- so of a task that begins at a label
+abbrev pub way_told : List Policy → Label → List Request → WayTold
+way_told ps from way = record { asker = asker_of ps from; to = asker_of ps (led_by (going ps) from way); words = words_by ps from way }
+
+-- so, without where it lies in memory
+abbrev pub way_in : Way → WayTold
+way_in w = record { asker = option_map (λ n. n.items) w.asker; to = option_map (λ n. n.items) w.to; words = map (λ word. word.items) w.words.items }
