@@ -18,6 +18,7 @@ use Rattle.aa_diff.specs.Changes.{label_word}
 use Rattle.aa_passed_over.specs.Apart.{ApartRule, all_apart}
 use Rattle.aa_diff.specs.Report.{shown_of, lines_of, rules_shown, report_text}
 use Rattle.aa_diff.specs.Jsons.{json_report}
+use Rattle.aa_diff.specs.Html.{html_report}
 use Rattle.aa_skipped.specs.declared.skipped.Skipped.{Skipped}
 use Rattle.aa_diff.specs.declared.part.Part.{Part}
 use Rattle.aa_diff.specs.Untold.{AllUntold, all_untold, decided_of}
@@ -31,9 +32,10 @@ states_text ps l limit = codes "error: at " ++ label_word ps l ++ codes " the pa
 abbrev pub patterns_text : List Policy → Label → List ℕ
 patterns_text ps l = codes "error: at " ++ label_word ps l ++ codes " OLD and NEW have more than 65535 patterns together\n"
 
--- findings, rules that are passed over, and what isn't told, as it is wanted: as JSON, or as text
+-- findings, rules that are passed over, and what isn't told, as it is wanted: as JSON, as a page or as text
 abbrev pub findings_text : DiffOptions → Decided → Decided → List Finding → List ApartRule → AllUntold → List ℕ
-findings_text o d e fs rs a = if o.is_json then json_report o d e fs rs a else report_text d.policies.now fs rs a
+findings_text o d e fs rs a =
+    if o.is_json then json_report o d e fs rs a else (if o.is_html then html_report o d e fs rs a else report_text d.policies.now fs rs a)
 
 -- 4 where there are findings or such rules, else 5 where something isn't told
 abbrev pub status_of : ℕ → ℕ → ℕ → ℕ → ℕ
@@ -52,7 +54,7 @@ abbrev pub compared : DiffOptions → Part → Part → List Difference → Prin
 compared o d e xs = printed_lines o d.decided e.decided (decided_of d e xs) (all_untold o.wanted d e)
 
 -- What is printed of two policies: each difference listed is one, each request that is answered differently is listed by one of its
--- kind with its answers, none is listed exactly where the policies answer alike, and the text, or the JSON, is that of those of this list
+-- kind with its answers, none is listed exactly where the policies answer alike, and the text, the JSON or the page is that of those of this list
 -- that no skipped file could decide, of the rules that are passed over, and of what isn't told.
 pub data IsCompared (o : DiffOptions) (states : ℕ) (d e : Part) (out : Printed) : Type 0 where
   Listed : (xs : List Difference) → ((x : Difference) → Contains xs x → IsDifference d.decided.policies.now e.decided.policies.now x)

@@ -11,6 +11,7 @@ pub mod Untold
 pub mod UntoldShown
 pub mod Report
 pub mod Jsons
+pub mod Html
 pub mod Telling
 pub mod Sides
 pub mod Command

@@ -31,9 +31,13 @@ files_text (f ∷ fs) new = skips_text Old f (length fs + length new)
 files_text [] (f ∷ fs) = skips_text New f (length fs)
 files_text [] [] = []
 
+-- that, in words
+unfoldable pub untold_words : List ℕ → Untold → List ℕ
+untold_words words u = about_text u.who ++ words ++ files_text u.old u.new
+
 -- a line
-unfoldable pub untold_line : List ℕ → Untold → List ℕ
-untold_line words u = about_text u.who ++ words ++ files_text u.old u.new ++ codes "\n"
+abbrev pub untold_line : List ℕ → Untold → List ℕ
+untold_line words u = untold_words words u ++ codes "\n"
 
 -- at which labels something is undecided, and which profiles aren't compared
 abbrev pub untold_text : AllUntold → List ℕ

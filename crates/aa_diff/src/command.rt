@@ -19,6 +19,7 @@ ghost use Rattle.aa_diff.specs.Command.{states_text, patterns_text, findings_tex
 use crate::change::push_label_name;
 use crate::deciding::decided_of;
 use crate::finding::Finding;
+use crate::html::push_html_report;
 use crate::json::push_json_report;
 use crate::options::{DiffOptions, Wanted};
 use crate::part::Part;
@@ -108,7 +109,7 @@ fn status_of(findings: usize, rules: usize, undecided: usize, apart: usize) -> u
     if undecided == 0 && apart == 0 { 0 } else { 5 }
 }
 
-/// Appends findings, rules that are passed over, and what isn't told, as it is wanted: as JSON, or as text.
+/// Appends findings, rules that are passed over, and what isn't told, as it is wanted: as JSON, as a page or as text.
 fn push_findings(
     out: &mut Vec<u8>,
     alloc: Global,
@@ -123,6 +124,9 @@ fn push_findings(
 {
     if options.is_json {
         return push_json_report(out, alloc, options, old, new, findings, rules, doubts);
+    }
+    if options.is_html {
+        return push_html_report(out, alloc, options, old, new, findings, rules, doubts);
     }
     push_report(out, alloc, old.policies, findings, rules, doubts)
 }

@@ -109,7 +109,7 @@ fn push_json_sides(
 }
 
 /// The rules that decide a request, where rules are told.
-fn rules_told(
+pub(crate) fn rules_told(
     alloc: Global,
     is_minor: bool,
     decided: Decided<'_>,
@@ -166,7 +166,7 @@ fn push_json_sign(out: &mut Vec<u8>, sign: Sign) -> Result<(), AllocError>
 }
 
 /// The first request of a finding as one word.
-fn asked_word(alloc: Global, finding: &Finding) -> Result<Vec<u8>, AllocError>
+pub(crate) fn asked_word(alloc: Global, finding: &Finding) -> Result<Vec<u8>, AllocError>
     ensures { IfOk result (λ word. word.items ≡ word_text (asked_of finding.now)) }
 {
     let request = asked_of(alloc, finding)?;

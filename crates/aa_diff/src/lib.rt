@@ -6,6 +6,7 @@ mod command;
 mod deciding;
 mod finding;
 mod gathering;
+mod html;
 mod joining;
 mod json;
 mod laws;

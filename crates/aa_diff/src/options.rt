@@ -20,4 +20,6 @@ pub struct DiffOptions<'a> {
     pub is_json: bool,
     /// Whether files that are refused are skipped.
     pub skips: bool,
+    /// Whether a page of HTML is wanted.
+    pub is_html: bool,
 }

@@ -64,7 +64,7 @@ fn push_asked(out: &mut Vec<u8>, alloc: Global, finding: &Finding) -> Result<(),
     push_word(out, &request)
 }
 
-fn push_others(out: &mut Vec<u8>, who: Who) -> Result<(), AllocError>
+pub(crate) fn push_others(out: &mut Vec<u8>, who: Who) -> Result<(), AllocError>
     ensures { OnOk result (out.new.items ≡ out.old.items ++ others_text who) }
 {
     match who {
@@ -127,7 +127,7 @@ fn push_line(out: &mut Vec<u8>, alloc: Global, finding: &Finding) -> Result<(), 
     push_end(out, finding)
 }
 
-fn gone_text(sign: Sign) -> &'static str
+pub(crate) fn gone_text(sign: Sign) -> &'static str
     ensures { result.now ≡ gone_text sign }
 {
     match sign {
@@ -183,13 +183,13 @@ pub(crate) fn push_profiles(
 }
 
 /// Whether it is about what else unconfined tasks are answered.
-fn is_free(finding: &Finding) -> bool
+pub(crate) fn is_free(finding: &Finding) -> bool
     ensures { result ≡ is_free finding.now }
 {
     !is_confined(finding.from) && !is_profile(finding)
 }
 
-fn is_one_free(findings: &[Finding]) -> bool
+pub(crate) fn is_one_free(findings: &[Finding]) -> bool
     ensures { result ≡ list_any is_free findings.now }
 {
     findings.iter().any(|finding| is_free(finding))

@@ -267,7 +267,7 @@ fn push_headed(out: &mut Vec<u8>, lines: &[Line<'_>]) -> Result<(), AllocError>
 }
 
 /// Appends how many profiles differ, are gone and are new.
-fn push_profile_counts(
+pub(crate) fn push_profile_counts(
     out: &mut Vec<u8>,
     policies: &[Compiled],
     left_out: usize,
@@ -283,7 +283,7 @@ fn push_profile_counts(
 }
 
 /// Appends how many lines have each sign.
-fn push_line_counts(out: &mut Vec<u8>, findings: &[Finding]) -> Result<(), AllocError>
+pub(crate) fn push_line_counts(out: &mut Vec<u8>, findings: &[Finding]) -> Result<(), AllocError>
     ensures { OnOk result (out.new.items ≡ out.old.items ++ line_counts findings.now) }
 {
     push_text(out, "lines: ")?;
@@ -293,7 +293,7 @@ fn push_line_counts(out: &mut Vec<u8>, findings: &[Finding]) -> Result<(), Alloc
 }
 
 /// Appends how many rules that are passed over one policy alone has, if there are any.
-fn push_rules_count(out: &mut Vec<u8>, count: usize) -> Result<(), AllocError>
+pub(crate) fn push_rules_count(out: &mut Vec<u8>, count: usize) -> Result<(), AllocError>
     ensures { OnOk result (out.new.items ≡ out.old.items ++ rules_count count) }
 {
     if count == 0 {

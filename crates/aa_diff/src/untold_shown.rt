@@ -8,7 +8,7 @@ ghost use Rattle.aa_text.specs.Faults.{where_if};
 ghost use Rattle.aa_undecided.specs.Shown.{refused_at};
 ghost use Rattle.aa_undecided.specs.Jsons.{json_placed};
 ghost use Rattle.aa_diff.specs.Untold.{about, untold, doubts_data};
-ghost use Rattle.aa_diff.specs.UntoldShown.{about_text, skips_text, files_text, untold_line, untold_text, skipped_text, json_who, json_files, json_untold, json_skipped, json_all_untold};
+ghost use Rattle.aa_diff.specs.UntoldShown.{about_text, skips_text, files_text, untold_words, untold_line, untold_text, skipped_text, json_who, json_files, json_untold, json_skipped, json_all_untold};
 
 use crate::printing::{push_more, side_text};
 use crate::untold::{Doubt, Doubts, Subject};
@@ -85,13 +85,25 @@ fn push_files(out: &mut Vec<u8>, old: &[SkippedAt], new: &[SkippedAt]) -> Result
     }
 }
 
-#[tactic(auto, unfolding(crate::specs::UntoldShown::untold_line))]
-fn push_line(out: &mut Vec<u8>, alloc: Global, words: &str, doubt: &Doubt) -> Result<(), AllocError>
-    ensures { OnOk result (out.new.items ≡ out.old.items ++ untold_line words.now (untold doubt.now)) }
+/// Appends of whom something isn't told, and the first of the files that could tell.
+#[tactic(auto, unfolding(crate::specs::UntoldShown::untold_words))]
+pub(crate) fn push_words(
+    out: &mut Vec<u8>,
+    alloc: Global,
+    words: &str,
+    doubt: &Doubt,
+) -> Result<(), AllocError>
+    ensures { OnOk result (out.new.items ≡ out.old.items ++ untold_words words.now (untold doubt.now)) }
 {
     push_about(out, alloc, &doubt.subject)?;
     push_text(out, words)?;
-    push_files(out, doubt.old.as_slice(), doubt.new.as_slice())?;
+    push_files(out, doubt.old.as_slice(), doubt.new.as_slice())
+}
+
+fn push_line(out: &mut Vec<u8>, alloc: Global, words: &str, doubt: &Doubt) -> Result<(), AllocError>
+    ensures { OnOk result (out.new.items ≡ out.old.items ++ untold_line words.now (untold doubt.now)) }
+{
+    push_words(out, alloc, words, doubt)?;
     push_text(out, "\n")
 }
 
@@ -127,7 +139,7 @@ pub(crate) fn push_untold(
 }
 
 /// How many files there are on both sides.
-fn count_of(old: &[SkippedAt], new: &[SkippedAt]) -> usize
+pub(crate) fn count_of(old: &[SkippedAt], new: &[SkippedAt]) -> usize
     ensures { result ≡ length (placed_all old.now) + length (placed_all new.now) }
 {
     old.len() + new.len()

@@ -141,6 +141,7 @@ fn diff_asked(alloc: Global, question: &DiffQuestion) -> Result<Output, NoMemory
         wanted,
         is_json: true,
         skips: false,
+        is_html: false,
     };
     diff_files(
         alloc,

@@ -210,6 +210,13 @@ const DIFF_ARGUMENTS: &[Argument] = &[
         help: "Print lines of the profile with this full name alone, or of unconfined tasks; of each of these, where there are several",
     },
     Argument {
+        name: "html",
+        letter: None,
+        form: Form::Flag,
+        barred: Some("json"),
+        help: "Answer by one page of HTML, which fetches nothing and runs no script",
+    },
+    Argument {
         name: "json",
         letter: None,
         form: Form::Flag,

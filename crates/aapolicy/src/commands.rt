@@ -143,6 +143,7 @@ fn run_diff(
         wanted,
         is_json: matches.get_flag("json"),
         skips: matches.get_flag("skip-refused"),
+        is_html: matches.get_flag("html"),
     };
     diff_files(alloc, tree, tree, &before, settings, &options)
 }

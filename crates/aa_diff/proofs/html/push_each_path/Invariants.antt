@@ -1,0 +1,8 @@
+use Rattle.std.proofs.Common.{◌≡◌, ◌++◌, take}
+use Rattle.std.specs.Prelude.{flat_map}
+use Rattle.aa_files.specs.Texts.{texts}
+use Rattle.aa_diff.specs.Html.{html_path}
+use Rattle.aa_diff.proofs.html.push_each_path.Given as goal
+
+abbrev pub invariant-loop-path : goal.invariant-loop-path
+invariant-loop-path l = l.out.items ≡ l.initial.out.items ++ flat_map html_path (texts (take l.path-index l.paths))
