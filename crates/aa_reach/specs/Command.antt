@@ -24,6 +24,7 @@ use Rattle.aa_reach.specs.Answers.{AreAnswers, AreVertices}
 use Rattle.aa_reach.specs.Shown.{answer_text, passed_text, untold_text, is_reached}
 use Rattle.aa_reach.specs.Json.{json_answers}
 use Rattle.aa_reach.specs.Dot.{dot_text, untold_edges}
+use Rattle.aa_reach.specs.Html.{html_page}
 
 -- the text that names the labels that are asked for, if they are
 abbrev pub to_text : ReachOptions → Option (List ℕ)
@@ -114,16 +115,35 @@ pub record IsGraphed (limit : ℕ) (o : ReachOptions) (policies : List Policy) (
   pub are : AreVertices o.as_enforced policies limit vertices
   pub out_is : out ≡ graph_printed limit (passed_in policies) vertices
 
+-- the page, and what can't be told; what the answers don't tell is among it, since the graph has all labels
+abbrev pub page_printed : ReachOptions → Manner → ℕ → List Answer → List Vertex → Printed
+page_printed o m passed answers vertices =
+    record {
+      answers = html_page o m passed answers vertices;
+      faults = flat_map (untold_edges m.limit) vertices;
+      refusal = [];
+      status = status_of (flat_map (untold_edges m.limit) vertices) (has_found m answers);
+    }
+
+-- the answers for these labels are printed on a page, with the graph of all labels
+pub record IsPaged (limit : ℕ) (o : ReachOptions) (policies : List Policy) (a : Asked) (out : Printed) : Type 0 where
+  pub answers : List Answer
+  pub are : AreAnswers o.as_enforced policies limit (option_map (λ ts. ts.items) a.targets) a.labels.items answers
+  pub vertices : List Vertex
+  pub drawn : AreVertices o.as_enforced policies limit vertices
+  pub out_is : out ≡ page_printed o (manner_of policies o a.labels.items limit) (passed_in policies) answers vertices
+
 -- no label is named where a task begins, and no graph is wanted
 abbrev pub asks_nothing : ReachOptions → Bool
-asks_nothing o = length o.from.now == 0 && not o.is_dot
+asks_nothing o = length o.from.now == 0 && not o.is_dot && not o.is_html
 
--- what is printed, where the files are this policy: the labels that a task can get to, or the graph of all, or which text
--- names no label
+-- what is printed, where the files are this policy: the labels that a task can get to, or the graph of all, or a page of both, or
+-- which text names no label
 pub data IsReachOf (states : ℕ) (o : ReachOptions) (d : Decided) (out : Printed) : Type 0 where
   NoLabel : asks_nothing o ≡ true → out ≡ faults_alone (codes "error: reach takes at least one --from\n") 2 → IsReachOf states o d out
   Unnamed : (e : NameFault) (line : List ℕ) → asks_nothing o ≡ false → SaysLine e line → SaysUnnamed d.policies.now o e → out ≡ faults_alone line 1 → IsReachOf states o d out
-  Answers : (a : Asked) → asks_nothing o ≡ false → IsAsked d.policies.now o a → o.is_dot ≡ false → IsAnswered (limit_of states) o d.policies.now a out → IsReachOf states o d out
+  Answers : (a : Asked) → asks_nothing o ≡ false → IsAsked d.policies.now o a → o.is_dot ≡ false → o.is_html ≡ false → IsAnswered (limit_of states) o d.policies.now a out → IsReachOf states o d out
+  Page : (a : Asked) → IsAsked d.policies.now o a → o.is_dot ≡ false → o.is_html ≡ true → IsPaged (limit_of states) o d.policies.now a out → IsReachOf states o d out
   Graph : (a : Asked) → IsAsked d.policies.now o a → o.is_dot ≡ true → IsGraphed (limit_of states) o d.policies.now out → IsReachOf states o d out
 
 -- What `reach` prints.

@@ -4,5 +4,6 @@ pub mod Answers
 pub mod Shown
 pub mod Json
 pub mod Dot
+pub mod Html
 pub mod Command
 pub mod Laws

@@ -37,14 +37,15 @@ abbrev pub SaysOne : List Policy → List (List ℕ) → NameFault → Type 0
 SaysOne policies texts NoMemory = Unit {0}
 SaysOne policies texts (Refused line) = (text : List ℕ) × Contains texts text × SaysNone policies text (Refused line)
 
--- whether it is a profile's label, and its full name, or unconfined
+-- a label, whether it is a profile's, and its full name, or unconfined
 pub record Name : Type 0 where
+  pub label : Label
   pub confined : Bool
   pub text : List ℕ
 
 -- a name, without where it lies in memory
 abbrev pub name_in : Named → Name
-name_in n = record { confined = n.is_confined; text = n.name.items }
+name_in n = record { label = n.label; confined = n.is_confined; text = n.name.items }
 
 -- a task with that label is confined
 abbrev pub is_confined : Label → Bool
@@ -53,7 +54,7 @@ is_confined (Confined k n) = true
 
 -- the name of a label
 abbrev pub name_of : List Policy → Label → Name
-name_of policies l = record { confined = is_confined l; text = label_name policies l }
+name_of policies l = record { label = l; confined = is_confined l; text = label_name policies l }
 
 -- how a label is called: by its full name as audit lines have it, or unconfined
 abbrev pub called : Name → List ℕ

@@ -8,12 +8,13 @@ ghost use Rattle.aa_command.specs.Setting.{setting_of};
 ghost use Rattle.aa_command.specs.Printed.{printed, faults_alone};
 ghost use Rattle.aa_ask.specs.Naming.{count_of};
 ghost use Rattle.aa_reach.specs.Shown.{is_reached};
-ghost use Rattle.aa_reach.specs.Command.{to_text, labels_in, passed_in, AreTargets, SaysNoTarget, SaysUnnamed, manner_of, answers_text, status_of, has_found, reach_printed, graph_printed, IsAsked, IsAnswered, IsGraphed, asks_nothing, IsReachOf, IsReachOutput};
+ghost use Rattle.aa_reach.specs.Command.{to_text, labels_in, passed_in, AreTargets, SaysNoTarget, SaysUnnamed, manner_of, answers_text, status_of, has_found, reach_printed, graph_printed, page_printed, IsAsked, IsAnswered, IsGraphed, IsPaged, asks_nothing, IsReachOf, IsReachOutput};
 
 use crate::answering::{Answer, answers_from, limit_of};
 use crate::dot::{push_dot, push_untold_edges};
 use crate::fault::NameFault;
 use crate::graph::{Vertex, vertices_of};
+use crate::html::push_page;
 use crate::json::push_json_answers;
 use crate::naming::{labels_by, labels_of};
 use crate::shown::{Manner, is_reached, push_answers, push_passed, push_untold};
@@ -39,6 +40,8 @@ pub struct ReachOptions<'a> {
     pub is_json: bool,
     /// Whether the graph of all labels is wanted, in the language of Graphviz.
     pub is_dot: bool,
+    /// Whether a page of HTML is wanted, with the answers and the graph.
+    pub is_html: bool,
 }
 
 /// The labels where a task begins, and those that it should get to, if some are asked for.
@@ -239,6 +242,82 @@ fn graphed(
     graph_of(alloc, limit, passed_in(policies), vertices.as_slice())
 }
 
+fn page_of(
+    alloc: Global,
+    options: &ReachOptions<'_>,
+    manner: Manner,
+    passed: usize,
+    answers: &[Answer],
+    vertices: &[Vertex],
+) -> Result<Output, AllocError>
+    ensures { IfOk result (λ out. printed out ≡ page_printed options.now manner passed answers.now vertices.now) }
+{
+    let mut output = Output::new(alloc);
+    push_page(
+        &mut output.answers,
+        alloc,
+        options,
+        manner,
+        passed,
+        answers,
+        vertices,
+    )?;
+    push_untold_edges(&mut output.faults, alloc, manner.limit, vertices)?;
+    output.status = status_of(output.faults.as_slice(), has_found(manner, answers));
+    Ok(output)
+}
+
+/// Prints the page of the answers for labels, and of the graph of all.
+fn paged(
+    alloc: Global,
+    limit: usize,
+    options: &ReachOptions<'_>,
+    policies: &[Compiled],
+    asked: &Asked,
+) -> Result<Output, AllocError>
+    requires limited { 0 < limit }
+    requires bounded { limit ≤ most_states }
+    ensures { IfOk result (λ out. IsPaged limit options.now policies.now asked.now (printed out)) }
+{
+    let labels = asked.labels.as_slice();
+    let going = Going {
+        policies,
+        as_enforced: options.as_enforced,
+    };
+    let answers = answers_from(alloc, going, limit, targets_in(asked), labels)?;
+    let vertices = vertices_of(alloc, going, limit)?;
+    let manner = manner_of(policies, options, labels, limit);
+    page_of(
+        alloc,
+        options,
+        manner,
+        passed_in(policies),
+        answers.as_slice(),
+        vertices.as_slice(),
+    )
+}
+
+/// Prints the answers for labels that are asked about, alone or on a page with the graph of all.
+fn told(
+    alloc: Global,
+    states: u32,
+    options: &ReachOptions<'_>,
+    decided: Decided<'_>,
+    asked: &Asked,
+) -> Result<Output, AllocError>
+    requires asked { IsAsked decided.policies.now options.now asked.now }
+    requires some { asks_nothing options.now ≡ false }
+    requires no_dot { options.now.is_dot ≡ false }
+    ensures { IfOk result (λ out. IsReachOf states options.now decided.entry (printed out)) }
+{
+    let limit = limit_of(states);
+    if options.is_html {
+        paged(alloc, limit, options, decided.policies, asked)
+    } else {
+        answered(alloc, limit, options, decided.policies, asked)
+    }
+}
+
 /// Prints the graph of all labels, or the answers for those that are asked about.
 fn wanted(
     alloc: Global,
@@ -255,7 +334,7 @@ fn wanted(
     if options.is_dot {
         graphed(alloc, limit, options, decided.policies)
     } else {
-        answered(alloc, limit, options, decided.policies, asked)
+        told(alloc, states, options, decided, asked)
     }
 }
 
@@ -263,7 +342,7 @@ fn wanted(
 fn asks_nothing(options: &ReachOptions<'_>) -> bool
     ensures { result ≡ asks_nothing options.now }
 {
-    options.from.is_empty() && !options.is_dot
+    options.from.is_empty() && !options.is_dot && !options.is_html
 }
 
 /// Says a line in place of the answers.

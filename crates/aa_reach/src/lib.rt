@@ -6,6 +6,7 @@ mod command;
 mod dot;
 mod fault;
 mod graph;
+mod html;
 mod json;
 mod laws;
 mod naming;

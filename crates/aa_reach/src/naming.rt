@@ -72,6 +72,7 @@ pub(crate) fn labels_of(
 /// What a label is called.
 #[derive(Drop)]
 pub(crate) struct Named {
+    pub(crate) label: Label,
     pub(crate) is_confined: bool,
     /// The full name of its profile, or `unconfined`.
     pub(crate) name: Vec<u8>,
@@ -92,6 +93,7 @@ pub(crate) fn name_of(
     ensures { IfOk result (λ n. name_in n ≡ name_of policies.now label) }
 {
     Ok(Named {
+        label,
         is_confined: is_confined(label),
         name: Vec::from_slice(alloc, name_of_label(policies, label))?,
     })

@@ -42,7 +42,7 @@ fn push_turn(out: &mut Vec<u8>, turn: &Turn) -> Result<(), AllocError>
     push_complain(out, turn.complains)
 }
 
-fn push_turns(out: &mut Vec<u8>, turns: &[Turn]) -> Result<(), AllocError>
+pub(crate) fn push_turns(out: &mut Vec<u8>, turns: &[Turn]) -> Result<(), AllocError>
     ensures { OnOk result (out.new.items ≡ out.old.items ++ flat_map turn_text (map turned turns.now)) }
 {
     for turn in turns {
@@ -117,7 +117,7 @@ fn push_none(
 }
 
 /// Appends that there may be more labels, where it isn't told of one where requests lead on.
-fn push_at_least(out: &mut Vec<u8>, answer: &Answer) -> Result<(), AllocError>
+pub(crate) fn push_at_least(out: &mut Vec<u8>, answer: &Answer) -> Result<(), AllocError>
     ensures { OnOk result (out.new.items ≡ out.old.items ++ at_least answer.now) }
 {
     if answer.bars.is_empty() {

@@ -465,10 +465,17 @@ const REACH_ARGUMENTS: &[Argument] = &[
         help: "Print the graph of all labels for Graphviz, each edge with a request",
     },
     Argument {
+        name: "html",
+        letter: None,
+        form: Form::Flag,
+        barred: Some("dot"),
+        help: "Answer by one page of HTML with the graph of all labels, which fetches nothing and runs no script",
+    },
+    Argument {
         name: "json",
         letter: None,
         form: Form::Flag,
-        barred: None,
+        barred: Some("html"),
         help: "Answer in JSON",
     },
 ];

@@ -201,6 +201,7 @@ fn run_reach(
         as_enforced: matches.get_flag("as-enforced"),
         is_json: matches.get_flag("json"),
         is_dot: matches.get_flag("dot"),
+        is_html: matches.get_flag("html"),
     };
     reach_files(alloc, tree, settings, &options)
 }
