@@ -6,6 +6,7 @@ pub mod Keys
 pub mod Looks
 pub mod Numbers
 pub mod Parts
+pub mod Plain
 pub mod Rows
 pub mod Trees
 pub mod Turns

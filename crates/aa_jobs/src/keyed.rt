@@ -1,6 +1,6 @@
 //! An item of a task: its members are kept by their keys, which are looked up once, and values of other kinds than an item asks for alike.
 
-ghost use Rattle.std.specs.Prelude.{◌≡◌, true, map, option_map, IfOk};
+ghost use Rattle.std.specs.Prelude.{◌≡◌, ◌∷◌, [], true, map, option_map, IfOk, IfSome, Ok};
 ghost use Rattle.std.specs.List.{list_all, list_any};
 ghost use Rattle.std.specs.Str.{bytes_eq};
 ghost use Rattle.serde_json.specs.Data.{Data, Members, object, put};
@@ -316,12 +316,47 @@ fn reload_item<'t>(members: &[ItemMember<'t>]) -> Result<RawItem<'t>, JobFault>
     Ok(RawItem::Reload { policy })
 }
 
+/// The item of a file's path and then its letters.
+fn path_and_letters<'t>(
+    one: ItemKey,
+    path: ItemValue<'t>,
+    other: ItemKey,
+    letters: ItemValue<'t>,
+) -> Option<RawItem<'t>>
+    ensures { IfSome result (λ item. request_shape (object (item_object ((one, path.entry) ∷ (other, letters.entry) ∷ []))) ≡ Ok (raw_item item)) }
+{
+    match (one, path, other, letters) {
+        (ItemKey::File, ItemValue::Text(path), ItemKey::Mask, ItemValue::Text(letters)) => {
+            Some(RawItem::File {
+                owned: false,
+                path,
+                letters,
+            })
+        }
+        _ => None,
+    }
+}
+
+/// The item of just these two members, as most items stand.
+fn plain_item<'t>(members: &[ItemMember<'t>]) -> Option<RawItem<'t>>
+    ensures { IfSome result (λ item. request_shape (object (item_object members.now)) ≡ Ok (raw_item item)) }
+{
+    if members.len() != 2 {
+        return None;
+    }
+    let first = &members[0];
+    let second = &members[1];
+    path_and_letters(first.0, first.1, second.0, second.1)
+}
+
 /// The item that an object of these members is, by the key that tells its kind.
 #[tactic(auto, unfolding(crate::specs::Shape::request_shape))]
 pub fn request_item<'t>(members: &[ItemMember<'t>]) -> Result<RawItem<'t>, JobFault>
     ensures { Gives raw_item result (request_shape (object (item_object members.now))) }
 {
-    if has_key(members, ItemKey::File) {
+    if let Some(item) = plain_item(members) {
+        Ok(item)
+    } else if has_key(members, ItemKey::File) {
         file_item(members)
     } else if has_key(members, ItemKey::Link) {
         link_item(members)

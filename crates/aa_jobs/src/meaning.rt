@@ -1,6 +1,6 @@
 //! What stands in a job means these tasks and events, or `BadRequest`.
 
-ghost use Rattle.std.specs.Prelude.{◌≡◌, ◌==◌, map, true, Result, IfOk};
+ghost use Rattle.std.specs.Prelude.{◌≡◌, ◌==◌, map, true, false, Result, IfOk, IfSome, MatchOption};
 ghost use Rattle.std.specs.List.{list_any, list_all};
 ghost use Rattle.aa_jobs.specs.Steps.{Gives, each};
 ghost use Rattle.aa_jobs.specs.Limits.{within_limits};
@@ -50,13 +50,38 @@ fn mask_of(letters: &[u8]) -> Perms
         .union(perm_if(letters, b'm', Perms::MMAP))
 }
 
+/// The permissions of `r`, `w` or `rw`, as most masks are written.
+fn plain_mask(letters: &[u8]) -> Option<Perms>
+    ensures { IfSome result (λ mask. (list_all is_letter letters.now ≡ true) × (mask.0 ≡ mask_bits letters.now)) }
+{
+    match letters {
+        [b'r'] => Some(Perms::READ),
+        [b'w'] => Some(Perms::WRITE),
+        [b'r', b'w'] => Some(Perms::READ.union(Perms::WRITE)),
+        _ => None,
+    }
+}
+
+/// The permissions of a mask's letters, if all of them are known.
+fn known_mask(letters: &[u8]) -> Option<Perms>
+    ensures { MatchOption result (list_all is_letter letters.now ≡ false) (λ mask. (list_all is_letter letters.now ≡ true) × (mask.0 ≡ mask_bits letters.now)) }
+{
+    if let Some(mask) = plain_mask(letters) {
+        return Some(mask);
+    }
+    if !are_letters(letters) {
+        return None;
+    }
+    Some(mask_of(letters))
+}
+
 fn file_work(alloc: Global, path: &[u8], letters: &[u8], owned: bool) -> Result<Request, JobFault>
     ensures { Gives (λ r. r) result (file_request path.now letters.now owned) }
 {
-    if !are_letters(letters) {
+    let Some(mask) = known_mask(letters) else {
         return Err(JobFault::BadRequest);
-    }
-    match Request::file(alloc, path, mask_of(letters), owned) {
+    };
+    match Request::file(alloc, path, mask, owned) {
         Ok(request) => Ok(request),
         Err(RequestFault::NoMemory) => Err(JobFault::NoMemory),
         Err(RequestFault::BadPath | RequestFault::BadMask | RequestFault::BadName) => {

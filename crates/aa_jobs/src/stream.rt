@@ -26,6 +26,7 @@ use std::alloc::Global;
 /// What stands in a value, or the fault of its shape: a later fault of the whole text may count before it.
 type Shaped<X> = Result<X, JobFault>;
 
+#[inline(always)]
 fn next_token<'t>(reader: &mut Reader<'t>) -> Result<Token<'t>, JobFault>
     ensures { MatchResult result (λ t. reader.old ≡ token_of t ∷ reader.new) (λ e. (e ≡ NotJson) × (reader.old ≡ [])) }
 {
@@ -35,6 +36,7 @@ fn next_token<'t>(reader: &mut Reader<'t>) -> Result<Token<'t>, JobFault>
     }
 }
 
+#[inline(always)]
 fn next_key<'t>(reader: &mut Reader<'t>) -> Result<Option<&'t str>, JobFault>
     ensures { Gives (λ k. (option_map (λ s. s.now) k, reader.new)) result (needed NotJson (read_key reader.old)) }
 {
