@@ -24,12 +24,12 @@ use Rattle.aa_representatives.proofs.Replied.{files_alike}
 use Rattle.aa_representatives.proofs.Standing.{region_of}
 
 -- the image of an element is among the images, and each is one
-image_in : {X Y : Type 0} (f : X → Y) (xs : List X) (x : X) → Contains xs x → Contains (map f xs) (f x)
+pub image_in : {X Y : Type 0} (f : X → Y) (xs : List X) (x : X) → Contains xs x → Contains (map f xs) (f x)
 image_in f [] x c = absurd (none_in x c)
 image_in f (q ∷ xs) x (zero, lt, e) = (0, omega arith, ap f e)
 image_in f (q ∷ xs) x (suc k, lt, e) = Contains-append_right (f q ∷ []) (map f xs) (f x) (image_in f xs x (k, omega arith, e))
 
-image_of : {X Y : Type 0} (f : X → Y) (xs : List X) (y : Y) → Contains (map f xs) y → (x : X) × Contains xs x × (f x ≡ y)
+pub image_of : {X Y : Type 0} (f : X → Y) (xs : List X) (y : Y) → Contains (map f xs) y → (x : X) × Contains xs x × (f x ≡ y)
 image_of f [] y c = absurd (none_in y c)
 image_of f (q ∷ xs) y (zero, lt, e) = (q, Contains-append_left (q ∷ []) xs q (0, omega arith, refl), e)
 image_of f (q ∷ xs) y (suc k, lt, e) = let r = image_of f xs y (k, omega arith, e) in (r.0, Contains-append_right (q ∷ []) xs r.0 r.1, r.2)
@@ -55,7 +55,7 @@ through_by (Unconfined k) (Some policy) s w u v alike a b = tt
 through_by (Confined k n) None s w u v alike a b = tt
 through_by (Unconfined k) None s w u v alike a b = tt
 
-through : (policies : List Policy) (label : Label) (s w u : List ℕ) (v : Option Said) → MatchAlike (deciding policies label) s w → IsSaidAt policies label w v → IsSaidAt policies label u v → SayAlikeAt policies label s u
+pub through : (policies : List Policy) (label : Label) (s w u : List ℕ) (v : Option Said) → MatchAlike (deciding policies label) s w → IsSaidAt policies label w v → IsSaidAt policies label u v → SayAlikeAt policies label s u
 through policies label s w u v alike a b = through_by label (slice_get policies (policy_number label)) s w u v alike a b
 
 module _ (ps : List Policy) (l : Label) (qs : List Policy) (m : Label) where
@@ -82,7 +82,7 @@ module _ (ps : List Policy) (l : Label) (qs : List Policy) (m : Label) where
         );
   }
 
-  made_said : (path : List ℕ) (one other : Option Said) (c : SaidClass) → IsSaidAt ps l path one → IsSaidAt qs m path other → c.one ≡ one → c.other ≡ other → IsSaidAtBoth ps l qs m path c
+  pub made_said : (path : List ℕ) (one other : Option Said) (c : SaidClass) → IsSaidAt ps l path one → IsSaidAt qs m path other → c.one ≡ one → c.other ≡ other → IsSaidAtBoth ps l qs m path c
   made_said path one other c a b e f = record { one = subst (λ (v : Option Said). IsSaidAt ps l path v) (sym e) a; other = subst (λ (v : Option Said). IsSaidAt qs m path v) (sym f) b }
 
   pub classes_more : (regions : List Region) (i : ℕ) (r : Region) (was now : List SaidClass) (path : List ℕ) (one other : Option Said) → i < length regions → r ≡ get_or regions i r → path ≡ r.witness → IsAsked r.witness

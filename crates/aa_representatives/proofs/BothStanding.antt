@@ -163,16 +163,16 @@ one_of_both ps l qs m rs both = record { each = both.each; all = λ r k. let q =
 
 -- requests at paths, at names and by numbers together
 module _ (ps : List Policy) (l : Label) (qs : List Policy) (m : Label) (paths names numbers both all : List Request) (e : both ≡ paths ++ names) (f : all ≡ both ++ numbers) where
-  of_paths : (r : Request) → Contains paths r → Contains all r
+  pub of_paths : (r : Request) → Contains paths r → Contains all r
   of_paths r c = subst (λ (x : List Request). Contains x r) (sym f) (Contains-append_left both numbers r (subst (λ (x : List Request). Contains x r) (sym e) (Contains-append_left paths names r c)))
 
-  of_names : (r : Request) → Contains names r → Contains all r
+  pub of_names : (r : Request) → Contains names r → Contains all r
   of_names r c = subst (λ (x : List Request). Contains x r) (sym f) (Contains-append_left both numbers r (subst (λ (x : List Request). Contains x r) (sym e) (Contains-append_right paths names r c)))
 
-  of_numbers : (r : Request) → Contains numbers r → Contains all r
+  pub of_numbers : (r : Request) → Contains numbers r → Contains all r
   of_numbers r c = subst (λ (x : List Request). Contains x r) (sym f) (Contains-append_right both numbers r c)
 
-  each_of : ((r : Request) → Contains paths r → IsAskable r) → ((r : Request) → Contains names r → IsAskable r) → ((r : Request) → Contains numbers r → IsAskable r) → (r : Request) → Contains all r → IsAskable r
+  pub each_of : ((r : Request) → Contains paths r → IsAskable r) → ((r : Request) → Contains names r → IsAskable r) → ((r : Request) → Contains numbers r → IsAskable r) → (r : Request) → Contains all r → IsAskable r
   each_of x y z r c =
       ⊎_elim
       (λ (d : Contains both r). ⊎_elim (x r) (y r) (Contains-append_cases paths names r (subst (λ (x : List Request). Contains x r) e d)))

@@ -11,4 +11,6 @@ pub mod Linking
 mod Entering
 mod BothSaid
 mod BothStanding
+mod ApartSaid
+mod ApartStanding
 mod BothChanging

@@ -8,3 +8,4 @@ pub mod Representatives
 pub mod Names
 pub mod Classes
 pub mod Both
+pub mod Apart

@@ -2,6 +2,7 @@
 #![tactic(auto)]
 
 mod all;
+mod apart;
 mod both;
 mod changes;
 mod classes;
@@ -18,11 +19,14 @@ mod regions;
 mod reloads;
 mod said;
 
-pub use all::{representatives, representatives_of_both};
+pub use all::{representatives, representatives_of_both, representatives_of_both_and};
 pub use changes::change_representatives;
 pub use fault::RepresentativesFault;
 pub use laws::alike_paths_reply_alike;
 pub use links::link_representatives;
 pub use paths::{exec_representatives, file_representatives};
-pub use regions::{deciding_regions, deciding_regions_and, filing_regions_and};
+pub use regions::{
+    deciding_regions, deciding_regions_and, deciding_regions_and_two, filing_regions_and,
+    filing_regions_and_two,
+};
 pub use reloads::reload_representatives;

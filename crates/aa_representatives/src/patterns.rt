@@ -175,3 +175,51 @@ pub(crate) fn deciding_patterns_and<'p>(
     pointers.push(pattern)?;
     Ok(pointers)
 }
+
+/// These patterns, and two more behind them.
+pub(crate) fn filing_patterns_and_two<'p>(
+    alloc: Global,
+    policies: &'p [Compiled],
+    label: Label,
+    one: &'p Pattern,
+    other: &'p Pattern,
+) -> Result<Vec<&'p Pattern>, AllocError>
+    ensures { IfOk result (λ pointers. pointed pointers.items ≡ filing policies.now label ++ one.now ∷ other.now ∷ []) }
+{
+    let mut pointers = filing_patterns(alloc, policies, label)?;
+    pointers.push(one)?;
+    pointers.push(other)?;
+    Ok(pointers)
+}
+
+/// The patterns by which paths are answered at a label, and two more behind them.
+pub(crate) fn deciding_patterns_and_two<'p>(
+    alloc: Global,
+    policies: &'p [Compiled],
+    label: Label,
+    one: &'p Pattern,
+    other: &'p Pattern,
+) -> Result<Vec<&'p Pattern>, AllocError>
+    ensures { IfOk result (λ pointers. pointed pointers.items ≡ deciding policies.now label ++ one.now ∷ other.now ∷ []) }
+{
+    let mut pointers = deciding_patterns(alloc, policies, label)?;
+    pointers.push(one)?;
+    pointers.push(other)?;
+    Ok(pointers)
+}
+
+/// The patterns by which paths are answered at one of two labels, and one more behind them.
+pub(crate) fn deciding_patterns_of_both_and<'p>(
+    alloc: Global,
+    one: &'p [Compiled],
+    from: Label,
+    other: &'p [Compiled],
+    to: Label,
+    pattern: &'p Pattern,
+) -> Result<Vec<&'p Pattern>, AllocError>
+    ensures { IfOk result (λ pointers. pointed pointers.items ≡ deciding_both one.now from other.now to ++ pattern.now ∷ []) }
+{
+    let mut pointers = deciding_patterns_of_both(alloc, one, from, other, to)?;
+    pointers.push(pattern)?;
+    Ok(pointers)
+}

@@ -10,7 +10,8 @@ ghost use Rattle.aa_representatives.specs.Both.{deciding_both};
 
 use crate::fault::RepresentativesFault;
 use crate::patterns::{
-    deciding_patterns, deciding_patterns_and, deciding_patterns_of_both, filing_patterns_and,
+    deciding_patterns, deciding_patterns_and, deciding_patterns_and_two, deciding_patterns_of_both,
+    deciding_patterns_of_both_and, filing_patterns_and, filing_patterns_and_two,
 };
 use aa_compile::Compiled;
 use aa_model::Label;
@@ -122,5 +123,69 @@ pub fn filing_regions_and(
     ensures few_states { IfOk result (λ _. HasPlaces (filing policies.now label ++ pattern.now ∷ []) (limit + 1) → ⊥) }
 {
     let patterns = filing_patterns_and(alloc, policies, label, pattern)?;
+    regions_by(alloc, patterns.as_slice(), limit)
+}
+
+/// Those by the patterns that decide at the label, and two more.
+pub fn deciding_regions_and_two(
+    alloc: Global,
+    policies: &[Compiled],
+    label: Label,
+    one: &Pattern,
+    other: &Pattern,
+    limit: usize,
+) -> Result<Vec<Region>, RepresentativesFault>
+    requires some { 0 < limit }
+    requires limit { limit ≤ most_states }
+    ensures regions { IfOk result (λ rs. ArePathRegions (deciding policies.now label ++ one.now ∷ other.now ∷ []) rs.items) }
+    ensures many_patterns { result ≡ Err RepresentativesFault.TooManyPatterns → most_patterns < length (deciding policies.now label ++ one.now ∷ other.now ∷ []) }
+    ensures few_patterns { IfOk result (λ _. length (deciding policies.now label ++ one.now ∷ other.now ∷ []) ≤ most_patterns) }
+    ensures many_states { result ≡ Err RepresentativesFault.TooManyStates → HasPlaces (deciding policies.now label ++ one.now ∷ other.now ∷ []) (limit + 1) }
+    ensures few_states { IfOk result (λ _. HasPlaces (deciding policies.now label ++ one.now ∷ other.now ∷ []) (limit + 1) → ⊥) }
+{
+    let patterns = deciding_patterns_and_two(alloc, policies, label, one, other)?;
+    regions_by(alloc, patterns.as_slice(), limit)
+}
+
+/// Those by the patterns of the file rules of the label's profile alone, and two more.
+pub fn filing_regions_and_two(
+    alloc: Global,
+    policies: &[Compiled],
+    label: Label,
+    one: &Pattern,
+    other: &Pattern,
+    limit: usize,
+) -> Result<Vec<Region>, RepresentativesFault>
+    requires some { 0 < limit }
+    requires limit { limit ≤ most_states }
+    ensures regions { IfOk result (λ rs. ArePathRegions (filing policies.now label ++ one.now ∷ other.now ∷ []) rs.items) }
+    ensures many_patterns { result ≡ Err RepresentativesFault.TooManyPatterns → most_patterns < length (filing policies.now label ++ one.now ∷ other.now ∷ []) }
+    ensures few_patterns { IfOk result (λ _. length (filing policies.now label ++ one.now ∷ other.now ∷ []) ≤ most_patterns) }
+    ensures many_states { result ≡ Err RepresentativesFault.TooManyStates → HasPlaces (filing policies.now label ++ one.now ∷ other.now ∷ []) (limit + 1) }
+    ensures few_states { IfOk result (λ _. HasPlaces (filing policies.now label ++ one.now ∷ other.now ∷ []) (limit + 1) → ⊥) }
+{
+    let patterns = filing_patterns_and_two(alloc, policies, label, one, other)?;
+    regions_by(alloc, patterns.as_slice(), limit)
+}
+
+/// Those by the patterns that decide at one of two labels, each in policies of its own, and one more.
+pub(crate) fn deciding_regions_of_both_and(
+    alloc: Global,
+    one: &[Compiled],
+    from: Label,
+    other: &[Compiled],
+    to: Label,
+    pattern: &Pattern,
+    limit: usize,
+) -> Result<Vec<Region>, RepresentativesFault>
+    requires some { 0 < limit }
+    requires limit { limit ≤ most_states }
+    ensures regions { IfOk result (λ rs. ArePathRegions (deciding_both one.now from other.now to ++ pattern.now ∷ []) rs.items) }
+    ensures many_patterns { result ≡ Err RepresentativesFault.TooManyPatterns → most_patterns < length (deciding_both one.now from other.now to ++ pattern.now ∷ []) }
+    ensures few_patterns { IfOk result (λ _. length (deciding_both one.now from other.now to ++ pattern.now ∷ []) ≤ most_patterns) }
+    ensures many_states { result ≡ Err RepresentativesFault.TooManyStates → HasPlaces (deciding_both one.now from other.now to ++ pattern.now ∷ []) (limit + 1) }
+    ensures few_states { IfOk result (λ _. HasPlaces (deciding_both one.now from other.now to ++ pattern.now ∷ []) (limit + 1) → ⊥) }
+{
+    let patterns = deciding_patterns_of_both_and(alloc, one, from, other, to, pattern)?;
     regions_by(alloc, patterns.as_slice(), limit)
 }

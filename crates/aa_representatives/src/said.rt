@@ -17,14 +17,14 @@ use std::alloc::{AllocError, Global};
 
 /// What the rules of a profile say of a path, of the owner and of others.
 #[derive(Clone, Copy)]
-struct Said {
+pub(crate) struct Said {
     owned: Verdict,
     other: Verdict,
 }
 
 /// What the rules at two labels say of a path; nothing is said where the label has no profile.
 #[derive(Drop)]
-struct SaidClass {
+pub(crate) struct SaidClass {
     one: Option<Said>,
     other: Option<Said>,
     path: Text,
@@ -81,7 +81,7 @@ fn said_in(compiled: &Compiled, number: u16, path: &[u8]) -> Said
 }
 
 /// What the rules at a label say of a path.
-fn said_at(policies: &[Compiled], label: Label, path: &[u8]) -> Option<Said>
+pub(crate) fn said_at(policies: &[Compiled], label: Label, path: &[u8]) -> Option<Said>
     ensures { IsSaidAt policies.now label path.now result }
 {
     let Label::Confined(policy, number) = label else {
@@ -97,7 +97,7 @@ fn said_at(policies: &[Compiled], label: Label, path: &[u8]) -> Option<Said>
 }
 
 /// Adds the class of the path, where it isn't there.
-fn add_class(
+pub(crate) fn add_class(
     alloc: Global,
     classes: &mut Vec<SaidClass>,
     path: &[u8],
@@ -138,7 +138,7 @@ fn classes_of(
     Ok(classes)
 }
 
-fn paths_of(alloc: Global, classes: &[SaidClass]) -> Result<Vec<Text>, AllocError>
+pub(crate) fn paths_of(alloc: Global, classes: &[SaidClass]) -> Result<Vec<Text>, AllocError>
     ensures { IfOk result (λ paths. paths.items ≡ map (λ c. c.path) classes.now) }
 {
     let mut paths = Vec::new(alloc);

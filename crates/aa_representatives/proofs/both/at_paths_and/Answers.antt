@@ -1,0 +1,53 @@
+use Rattle.std.proofs.Common.{ℕ, List, Contains, subst}
+use Rattle.aa_model.specs.declared.request.Request.{Request}
+use Rattle.aa_regions.specs.declared.regions.Region.{Region}
+use Rattle.aa_representatives.specs.Askable.{IsFile, IsLink, IsExec}
+use Rattle.aa_representatives.specs.Representatives.{HasFiles, HasExecs, HasLinks}
+use Rattle.aa_representatives.proofs.Adding.{none_in, adds_keep}
+use Rattle.aa_representatives.proofs.ApartStanding.{apart_keep, files_apart, execs_apart, links_apart}
+use Rattle.aa_representatives.proofs.BothStanding.{file_askable, link_askable, exec_askable, askable_more}
+use Rattle.aa_representatives.proofs.both.at_paths_and.Goals as goal
+
+pub returns-clause-each : goal.returns-clause-each
+returns-clause-each c =
+    let none = c.new-requests.result.items in
+    let files = c.add_files.new.requests.items in
+    let execs = c.add_execs.new.requests.items in
+    let links = c.add_links.new.requests.items in
+    askable_more IsLink link_askable execs links c.in_ok-add_links.ensures.adds
+    (askable_more IsExec exec_askable files execs c.in_ok-add_execs.ensures.adds
+    (askable_more IsFile file_askable none files c.in_ok-add_files.ensures.adds
+    (λ r d. absurd (none_in r (subst (λ (l : List Request). Contains l r) c.new-requests.ensures.items d)))))
+
+pub returns-clause-files : goal.returns-clause-files
+returns-clause-files c =
+    let ps = c.args.one.now in
+    let qs = c.args.other.now in
+    let p = c.args.pattern.now in
+    let files = c.add_files.new.requests.items in
+    let execs = c.add_execs.new.requests.items in
+    let links = c.add_links.new.requests.items in
+    let has = subst (λ (l : List Region). (r : Region) → Contains l r → HasFiles r.witness 128 files)
+    c.as_slice-2.ensures.value c.in_ok-add_files.ensures.has in
+    apart_keep ps c.args.from qs c.args.to p IsFile execs links (adds_keep IsLink execs links c.in_ok-add_links.ensures.adds)
+    (apart_keep ps c.args.from qs c.args.to p IsFile files execs (adds_keep IsExec files execs c.in_ok-add_execs.ensures.adds)
+    (files_apart ps c.args.from qs c.args.to p files c.in_ok-regions.regions.items c.in_ok-regions.ensures.regions has))
+
+pub returns-clause-execs : goal.returns-clause-execs
+returns-clause-execs c =
+    let ps = c.args.one.now in
+    let qs = c.args.other.now in
+    let p = c.args.pattern.now in
+    let execs = c.add_execs.new.requests.items in
+    let links = c.add_links.new.requests.items in
+    let has = subst (λ (l : List Region). (r : Region) → Contains l r → HasExecs r.witness execs)
+    c.as_slice-3.ensures.value c.in_ok-add_execs.ensures.has in
+    apart_keep ps c.args.from qs c.args.to p IsExec execs links (adds_keep IsLink execs links c.in_ok-add_links.ensures.adds)
+    (execs_apart ps c.args.from qs c.args.to p execs c.in_ok-regions.regions.items c.in_ok-regions.ensures.regions has)
+
+pub returns-clause-links : goal.returns-clause-links
+returns-clause-links c =
+    let links = c.add_links.new.requests.items in
+    let has = subst (λ (l : List (List ℕ)). (s u : List ℕ) → Contains l s → Contains l u → HasLinks s u links)
+    c.as_slice-4.ensures.value c.in_ok-add_links.ensures.has in
+    links_apart c.args.one.now c.args.from c.args.other.now c.args.to c.args.pattern.now links c.in_ok-paths.paths.items c.in_ok-paths.ensures has
