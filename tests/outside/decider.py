@@ -69,11 +69,12 @@ class Decider:
 
 
 class Profile:
-    """A profile with rules on files, on executions (denied, the owner's, pattern, how, target) and on changes (denied, pattern or none)."""
+    """A profile with rules on files, on executions (denied, the owner's, pattern, how, target), on changes (denied, pattern or none), on capabilities (denied,
+    their names or none for all) and on sockets (denied, family or none, type or none)."""
 
-    def __init__(self, name, parent, attachment, complains, files, execs, changes):
+    def __init__(self, name, parent, attachment, complains, files, execs, changes, caps=(), nets=()):
         self.name, self.parent, self.attachment, self.complains = name, parent, attachment, complains
-        self.files, self.execs, self.changes = files, execs, changes
+        self.files, self.execs, self.changes, self.caps, self.nets = files, execs, changes, caps, nets
         self.decider = Decider(files)
         self.attached = as_regex(attachment) if attachment else None
         self.how = [(*it, as_regex(it[2])) for it in execs]
@@ -85,6 +86,8 @@ class Profile:
         for is_denied, is_owners, text, how, target in self.execs:
             lines.append(f"{'deny ' * is_denied}{'owner ' * is_owners}{text} {'x' if is_denied else how}{f' -> {target}' if target else ''},")
         lines += [f"{'deny ' * is_denied}change_profile{f' -> {text}' if text else ''}," for is_denied, text in self.changes]
+        lines += [f"{'deny ' * is_denied}{' '.join(['capability', *names])}," for is_denied, names in self.caps]
+        lines += [f"{'deny ' * is_denied}{' '.join(['network', *filter(None, sockets)])}," for is_denied, *sockets in self.nets]
         lines += [line for it in children for line in it.text([]).splitlines()]
         return f"profile {head} {{\n" + "".join(f"  {line}\n" for line in lines) + "}\n"
 
@@ -142,6 +145,18 @@ class Policy:
             return True, to, False
         granted = profile.complains and True not in holding
         return granted, to if granted and there else label, granted
+
+    def enables(self, label, name):
+        """Whether the rules allow a capability."""
+        if label is None:
+            return True
+        return {is_denied for is_denied, names in self.profiles[label].caps if not names or name in names} == {False}
+
+    def opens(self, label, family, kind):
+        """Whether they allow a socket."""
+        if label is None:
+            return True
+        return {is_denied for is_denied, *sockets in self.profiles[label].nets if sockets[0] in (None, family) and sockets[1] in (None, kind)} == {False}
 
     def answered(self, label, word):
         """The same of a request word to execute or to change."""

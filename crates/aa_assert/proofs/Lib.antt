@@ -4,8 +4,11 @@ pub mod Saying
 pub mod Unanswered
 pub mod Turns
 pub mod Turning
-pub mod Adding
+pub mod Looking
 pub mod Passing
+mod There
+mod Naming
 mod Beginning
 mod Clear
+mod Telling
 mod Sound

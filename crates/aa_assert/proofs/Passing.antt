@@ -16,11 +16,11 @@ use Rattle.aa_reachability.specs.declared.trail.Arrival.{Arrival}
 use Rattle.aa_reachability.specs.declared.reached.Untold.{Untold}
 use Rattle.aa_representatives.specs.Askable.{IsAskable}
 use Rattle.aa_reachability.specs.Trail.{no_arrival}
-use Rattle.aa_reachability.specs.Reach.{led_by, way_at, AreWays, IsOpen, PassBy, AreArrivals, AreUntold}
+use Rattle.aa_reachability.specs.Moves.{IsWhy}
+use Rattle.aa_reachability.specs.Reach.{led_by, way_at, AreWays, IsOpen, PassBy, AreTold, AreArrivals, AreUntold}
 use Rattle.aa_quantifiers.specs.declared.aim.Labels.{Labels}
-use Rattle.aa_assert.specs.declared.passage.Passage.{Passage}
-use Rattle.aa_assert.specs.declared.passage.Passage.TheVariants.{Through, Nowhere, Untold as Unknown}
-use Rattle.aa_assert.specs.Passages.{going, as_others, is_elsewhere, IsShortestWay, IsWithout, IsPassage}
+use Rattle.aa_assert.specs.declared.passage.Passage.TheVariants.{Through}
+use Rattle.aa_assert.specs.Passages.{going, as_others, is_elsewhere, IsTellable, IsShortestWay, IsUntellable, passage_past, IsPassage}
 
 -- what is no execution is told as it is
 pub kept_as_is : (r : Request) → ((e : RequestedExec) → r ≡ Exec e → ⊥) → as_others r ≡ r
@@ -39,10 +39,24 @@ none_there p xs e j x at =
     let within = slice_get_within xs j x at in
     subst (λ y. p y ≡ false) (get_or_from_slice_get xs j x x at) (fails_before_first p xs j x (omega (arith, long, within)))
 
+first_in : (u : Untold) (us : List Untold) → Contains (u ∷ us) u
+first_in u us = (0, grind (arith, common_steps), refl)
+
 module _ (ps : List Policy) (limit : ℕ) (from : Label) (ls : Labels) (arrivals : List Arrival) (untold : List Untold)
     (are : AreArrivals (going ps) (IsOpen untold) from arrivals) (of : AreUntold ps limit arrivals untold) where
   abbrev is_there : Arrival → Bool
   is_there a = is_elsewhere ls from a.label
+
+  -- what leads on from labels alone of which that can be told, leads on from none that is untold
+  open_at : (l : Label) → IsTellable ps limit l → IsOpen untold l
+  open_at l can u c e = can u.why (subst (λ (x : Label). IsWhy ps limit x u.why) e (of.each u c).why)
+
+  pass_open : (rs : List Request) (l : Label) → PassBy (going ps) (IsTellable ps limit) l rs → PassBy (going ps) (IsOpen untold) l rs
+  pass_open [] l pass = tt
+  pass_open (r ∷ rs) l pass = (open_at l pass.0, pass_open rs (going ps l r) pass.1)
+
+  told_open : (rs : List Request) → AreTold (going ps) (IsTellable ps limit) from rs → AreTold (going ps) (IsOpen untold) from rs
+  told_open rs told = record { asked = told.asked; pass = pass_open rs from told.pass }
 
   pub through : (i : ℕ) (way : List Request) → way ≡ way_at are.ways i → position is_there arrivals ≡ Some i → IsShortestWay ps limit from ls way
   through i way is at =
@@ -54,11 +68,10 @@ module _ (ps : List Policy) (limit : ℕ) (from : Label) (ls : Labels) (arrivals
           asked = subst (All IsAskable) (sym is) s.told.asked;
           leads = subst (λ (w : List Request). is_elsewhere ls from (led_by (going ps) from w) ≡ true) (sym is) (ap (is_elsewhere ls from) s.leads ∙ p.1);
         };
-        untold = untold;
-        why = λ u c. (of.each u c).why;
-        shortest = λ rs told there.
+        shortest = λ rs t.
+            let told = told_open rs t.told in
             let r = are.all rs told in
-            let also : is_there r.1 ≡ true = ap (is_elsewhere ls from) r.3 ∙ there in
+            let also : is_there r.1 ≡ true = ap (is_elsewhere ls from) r.3 ∙ t.leads in
             let behind : i ≤ r.0 = no_earlier i r.0 r.1 p.2 r.2 also in
             let more = are.rising i r.0 (get_or arrivals i no_arrival) r.1 here r.2 behind in
             let least = (are.each r.0 r.1 r.2).shortest rs told (sym r.3) in
@@ -81,12 +94,28 @@ module _ (ps : List Policy) (limit : ℕ) (from : Label) (ls : Labels) (arrivals
       none_in : (u : Untold) → Contains [] u → ⊥
       none_in u c = omega (arith, c.1)
 
-  pub without : (p : Passage) → position is_there arrivals ≡ None → IsWithout ps limit untold p → IsPassage ps limit from ls p
-  without (Through way) none is = absurd is
-  without Nowhere none is = λ rs w.
-      let r = are.all rs (record { asked = w.asked; pass = open_all rs from is }) in
-      true≢false (sym (ap (is_elsewhere ls from) r.3 ∙ w.leads) ∙ none_there is_there arrivals none r.0 r.1 r.2)
-  without (Unknown line) none is = (is.0, (of.each is.0 is.1).why, is.2)
+  -- where no arrival is at one of the labels, no list of requests leads there of which that is told
+  not_there : (rs : List Request) → position is_there arrivals ≡ None → AreTold (going ps) (IsOpen untold) from rs
+      → is_elsewhere ls from (led_by (going ps) from rs) ≡ true → ⊥
+  not_there rs none told leads =
+      let r = are.all rs told in
+      true≢false (sym (ap (is_elsewhere ls from) r.3 ∙ leads) ∙ none_there is_there arrivals none r.0 r.1 r.2)
+
+  untellable : (u : Untold) → Contains untold u → position is_there arrivals ≡ None → IsUntellable ps limit from ls u.label u.why
+  untellable u c none =
+      let it = of.each u c in
+      let s = are.each u.number it.arrival it.there in
+      record {
+        way = way_at are.ways u.number;
+        asked = s.told.asked;
+        leads = s.leads ∙ it.label;
+        reason = it.why;
+        none = λ rs t. not_there rs none (told_open rs t.told) t.leads;
+      }
+
+  pub without : (us : List Untold) → untold ≡ us → position is_there arrivals ≡ None → IsPassage ps limit from ls (passage_past us)
+  without [] e none = λ rs w. not_there rs none (record { asked = w.asked; pass = open_all rs from e }) w.leads
+  without (u ∷ us) e none = untellable u (subst (λ (x : List Untold). Contains x u) (sym e) (first_in u us)) none
 
 -- so of a slice of the arrivals
 module _ (ps : List Policy) (limit : ℕ) (from : Label) (ls : Labels) (slice arrivals : List Arrival) (untold : List Untold) (same : slice ≡ arrivals)
@@ -101,6 +130,6 @@ module _ (ps : List Policy) (limit : ℕ) (from : Label) (ls : Labels) (slice ar
       → position (λ (a : Arrival). is_elsewhere ls from a.label) slice ≡ Some i → IsPassage ps limit from ls (Through way)
   through_it i way is at = through ps limit from ls slice untold are_too of_too i way.items (is are_too.ways are_too.are) at
 
-  pub without_it : (p : Passage) → position (λ (a : Arrival). is_elsewhere ls from a.label) slice ≡ None → IsWithout ps limit untold p
-      → IsPassage ps limit from ls p
-  without_it p none is = without ps limit from ls slice untold are_too of_too p none is
+  pub without_it : (us : List Untold) → us ≡ untold → position (λ (a : Arrival). is_elsewhere ls from a.label) slice ≡ None
+      → IsPassage ps limit from ls (passage_past us)
+  without_it us e none = without ps limit from ls slice untold are_too of_too us (sym e) none

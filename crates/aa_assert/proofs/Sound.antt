@@ -1,15 +1,16 @@
 -- What isn't undecided of a claim is so by the policy of all files.
 use Rattle.std.proofs.Common.{◌≡◌, ℕ, ◌<◌, ◌≤◌, List, [], ◌∷◌, ◌++◌, length, map, get_or, Bool, true, false, true≢false, Option, Some, None, refl, sym, ap, subst, ◌∙◌, Contains, ⊎_elim, arith}
-use Rattle.std.specs.Prelude.{◌||◌, filter, codes, IsTrue, if◌then◌else◌}
-use Rattle.std.specs.Option.{option_map_or}
+use Rattle.std.specs.Prelude.{◌||◌, filter, codes, is_some, IsTrue, if◌then◌else◌}
+use Rattle.std.specs.Option.{option_map_or, option_and_then}
 use Rattle.std.specs.List.{All, list_any, slice_get}
-use Rattle.std.proofs.lemmas.Option.{slice_get_cases, same_Some}
+use Rattle.std.proofs.lemmas.Option.{slice_get_cases, slice_get_within, same_Some}
 use Rattle.aa_pattern.specs.Globs.{IsNonzeroByte}
 use Rattle.aa_model.specs.declared.policy.Policy.{Policy}
 use Rattle.aa_model.specs.declared.policy.Profile.{Profile}
 use Rattle.aa_model.specs.declared.label.Label.{Label}
 use Rattle.aa_model.specs.declared.label.Label.TheVariants.{Unconfined, Confined}
 use Rattle.aa_model.specs.declared.request.Request.{Request}
+use Rattle.aa_model.specs.declared.answer.Answer.{Answer}
 use Rattle.aa_compile.specs.Labels.{profile_in}
 use Rattle.aa_mediate.specs.Reply.{reply}
 use Rattle.aa_quantifiers.specs.declared.word.Word.{Word}
@@ -23,23 +24,31 @@ use Rattle.aa_skipping.specs.Undecided.{undecided}
 use Rattle.aa_skipping.specs.Laws.{moved, moved_answer}
 use Rattle.aa_skipping.proofs.Elements.{none_in}
 use Rattle.aa_skipped.specs.declared.skipped.Skipped.{Skipped}
-use Rattle.aa_skipped.specs.Together.{together, one_decides, EachDecides}
+use Rattle.aa_skipped.specs.Together.{together, one_decides, has_label, EachDecides}
 use Rattle.aa_skipped.proofs.Each.{head_each}
-use Rattle.aa_undecided.specs.Answers.{placed, files_deciding}
+use Rattle.aa_undecided.specs.Answers.{placed, files_among, files_deciding}
 use Rattle.aa_undecided.specs.Holding.{unreads, IsWhole}
 use Rattle.aa_undecided.proofs.Sound.{none_such, has_some}
 use Rattle.aa_who.specs.Grants.{count_of}
+use Rattle.aa_reachability.specs.Moves.{is_by_complain, label_kept}
+use Rattle.aa_reachability.specs.Reach.{led_by}
 use Rattle.aa_claims.specs.declared.words.ClaimWord.{ClaimWord}
+use Rattle.aa_claims.specs.Forms.{names_led}
 use Rattle.aa_assert.specs.declared.asked.Asked.{Asked}
 use Rattle.aa_assert.specs.declared.asked.Asked.TheVariants.{Never, Leads, Always, Reaches, Enforced}
 use Rattle.aa_assert.specs.declared.part.Part.{Part}
 use Rattle.aa_assert.specs.Enforced.{complains_at}
 use Rattle.aa_assert.specs.Judging.{IsBroken}
+use Rattle.aa_assert.specs.Leading.{is_named_in, IsLedTo}
+use Rattle.aa_assert.specs.Passages.{going}
 use Rattle.aa_assert.specs.Scope.{is_about, may_be_about, concerns}
-use Rattle.aa_assert.specs.Findings.{files_concerned, files_changing}
-use Rattle.aa_assert.specs.Holding.{is_on_answers, IsBrokenAt, AreNamesText, ClaimsHold, FreeClaimsHold, BreakingsStand}
+use Rattle.aa_assert.specs.Findings.{AllFound, files_concerned, files_changing_in, files_changing, files_on_way}
+use Rattle.aa_assert.specs.Answers.{IsAnswerBy}
+use Rattle.aa_assert.specs.Holding.{is_led_to, EndsThere, IsBrokenAt, Holds, IsClear, ClearClaimsHold, AreNamesText, ClaimsHold, FreeClaimsHold, BreakingsStand, EndingsStand, WaysStand}
 use Rattle.aa_assert.proofs.Beginning.{about_begins}
-use Rattle.aa_assert.proofs.Clear.{IsKept, AreKept, IsProfileKept, all_clear}
+use Rattle.aa_assert.proofs.Clear.{IsKept, AreKept, AllKept, all_clear, cons_nil, no_else}
+use Rattle.aa_assert.proofs.Naming.{AreSaid, are_said, ends_led, comes_way}
+use Rattle.aa_assert.proofs.There.{leads_there}
 
 -- what fails of each fails of the others too
 none_more : (f g : Unread → Bool) → ((u : Unread) → f u ≡ false → g u ≡ false) → (us : List Unread) → list_any f us ≡ false → list_any g us ≡ false
@@ -63,6 +72,19 @@ or_none : (a b : Bool) → (a || b) ≡ false → (a ≡ false) × (b ≡ false)
 or_none true b e = absurd (true≢false e)
 or_none false b e = (refl, e)
 
+-- where no file could change the answers to a word, none could decide one of its requests
+closed_files : ClosedWords → (d : Part) (l : Label) (v : Word) → files_changing d l v ≡ [] → (r : Request) → IsOf v r
+    → files_deciding d.decided.policies.now d.skipped.now l r ≡ []
+unfolding files_deciding
+closed_files closed d l v none r is = at (slice_get d.decided.policies.now 0) none
+  where
+    at : (o : Option Policy) → option_map_or (files_changing_in d.skipped.now l v) o [] ≡ [] → option_map_or (files_among d.skipped.now l r) o [] ≡ []
+    at None e = refl
+    at (Some p) e =
+        such_none (λ (u : Unread). undecided p.profiles u l r) d.skipped.now
+        (none_more (λ (u : Unread). is_open_word p.profiles u l v) (λ (u : Unread). undecided p.profiles u l r) (λ u f. closed p.profiles u l v f r is)
+        (unreads d.skipped.now) (none_such (λ (u : Unread). is_open_word p.profiles u l v) d.skipped.now e))
+
 module _ (each : EachDecides) (d : Part) (read whole : Policy) (place : ℕ → ℕ) (w : IsWhole d.decided d.skipped.now read whole place) where
   abbrev ks : List Skipped
   ks = d.skipped.now
@@ -85,6 +107,60 @@ module _ (each : EachDecides) (d : Part) (read whole : Policy) (place : ℕ → 
       → IsAnswered (whole ∷ []) (moved place l) against r
   stands l r against none answered = ap grants (sure_by l r (decided_by l r none)) ∙ (sym (ap grants (by_read l r)) ∙ answered)
 
+  -- ---- labels
+
+  led_at : (ws : List ClaimWord) (n : ℕ) (o : Option Profile) → slice_get read.profiles n ≡ o → is_some o ≡ true
+      → option_map_or (is_named_in (names_led ws)) (slice_get whole.profiles (place n)) false ≡ option_map_or (is_named_in (names_led ws)) o false
+  led_at ws n None e some = absurd (true≢false (sym some))
+  led_at ws n (Some p) e some = ap (λ (o : Option Profile). option_map_or (is_named_in (names_led ws)) o false) (w.joined.kept n p e).1
+
+  -- a label that is there is named as it was
+  led_same : (ws : List ClaimWord) (l : Label) → has_label read.profiles l ≡ true → is_led_to (whole ∷ []) ws (moved place l) ≡ is_led_to (read ∷ []) ws l
+  led_same ws (Unconfined k) has = refl
+  led_same ws (Confined k n) has = led_at ws n (slice_get read.profiles n) refl has
+
+  there : (l : Label) (r : Request) → one_decides read.profiles l r (unreads ks) ≡ false → has_label read.profiles l ≡ true
+  there l r none = has_some read.profiles l r w.file w.files (subst (λ (xs : List Skipped). one_decides read.profiles l r (unreads xs) ≡ false) w.some none)
+
+  -- so is that to which a request leads that none could decide
+  led_after : (ws : List ClaimWord) (l : Label) (r : Request) → one_decides read.profiles l r (unreads ks) ≡ false
+      → is_led_to (whole ∷ []) ws (reply (whole ∷ []) (moved place l) r).label ≡ is_led_to d.decided.policies.now ws (reply d.decided.policies.now l r).label
+  led_after ws l r none =
+      ap (λ (a : Answer). is_led_to (whole ∷ []) ws a.label) (sure_by l r none)
+      ∙ (led_same ws (reply (read ∷ []) l r).label (leads_there read l r (there l r none))
+      ∙ ap (λ (ps : List Policy). is_led_to ps ws (reply ps l r).label) (sym w.one))
+
+  granted_same : (l : Label) (r : Request) → one_decides read.profiles l r (unreads ks) ≡ false
+      → grants (reply (whole ∷ []) (moved place l) r) ≡ grants (reply d.decided.policies.now l r)
+  granted_same l r none = ap grants (sure_by l r none) ∙ sym (ap grants (by_read l r))
+
+  ends_there : (ws : List ClaimWord) (l : Label) (r : Request) → one_decides read.profiles l r (unreads ks) ≡ false → EndsThere d.decided.policies.now ws l r
+      → EndsThere (whole ∷ []) ws (moved place l) r
+  ends_there ws l r none ends = (granted_same l r none ∙ ends.0, led_after ws l r none ∙ ends.1)
+
+  ends_back : (ws : List ClaimWord) (l : Label) (r : Request) → one_decides read.profiles l r (unreads ks) ≡ false → EndsThere (whole ∷ []) ws (moved place l) r
+      → EndsThere d.decided.policies.now ws l r
+  ends_back ws l r none ends = (sym (granted_same l r none) ∙ ends.0, sym (led_after ws l r none) ∙ ends.1)
+
+  kept_moved : (l : Label) (a : Answer) → label_kept (moved place l) (moved_answer place a) ≡ moved place (label_kept l a)
+  kept_moved l a = at (is_by_complain a)
+    where
+      at : (b : Bool) → (if b then moved place l else moved place a.label) ≡ moved place (if b then l else a.label)
+      at true = refl
+      at false = refl
+
+  goes : (l : Label) (r : Request) → files_deciding d.decided.policies.now ks l r ≡ [] → going (whole ∷ []) (moved place l) r ≡ moved place (going d.decided.policies.now l r)
+  goes l r none =
+      ap (label_kept (moved place l)) (sure_by l r (decided_by l r none) ∙ sym (ap (moved_answer place) (by_read l r)))
+      ∙ kept_moved l (reply d.decided.policies.now l r)
+
+  ways : (l : Label) (rs : List Request) → files_on_way d.decided.policies.now ks l rs ≡ []
+      → led_by (going (whole ∷ [])) (moved place l) rs ≡ moved place (led_by (going d.decided.policies.now) l rs)
+  ways l [] none = refl
+  ways l (r ∷ rs) none =
+      let parts = no_else (files_deciding d.decided.policies.now ks l r) (files_on_way d.decided.policies.now ks (going d.decided.policies.now l r) rs) none in
+      ap (λ (m : Label). led_by (going (whole ∷ [])) m rs) (goes l r parts.0) ∙ ways (going d.decided.policies.now l r) rs parts.1
+
   module _ (closed_words : ClosedWords) where
     -- no file could change the word's answers: none could decide one of its requests
     closed_by : (l : Label) (v : Word) → files_changing d l v ≡ [] → (r : Request) → IsOf v r → one_decides read.profiles l r (unreads ks) ≡ false
@@ -93,27 +169,29 @@ module _ (each : EachDecides) (d : Part) (read whole : Policy) (place : ℕ → 
         none_more (λ (u : Unread). is_open_word read.profiles u l v) (λ (u : Unread). undecided read.profiles u l r)
         (λ u e. closed_words read.profiles u l v e r is) (unreads ks) (none_such (λ (u : Unread). is_open_word read.profiles u l v) ks here)
 
-    no_files : (l : Label) (r : Request) → one_decides read.profiles l r (unreads ks) ≡ false → files_deciding d.decided.policies.now ks l r ≡ []
-    unfolding files_deciding
-    no_files l r none = subst (λ (ps : List Policy). files_deciding ps ks l r ≡ []) (sym w.one) (such_none (λ (u : Unread). undecided read.profiles u l r) ks none)
-
     -- a word that is kept at a label isn't broken there by the whole
-    kept_holds : (l : Label) (v : Word) (against : Bool) → IsKept d l v (IsAnswered d.decided.policies.now l against)
-        → IsBroken v (IsAnswered (whole ∷ []) (moved place l) against) → ⊥
-    kept_holds l v against kept broken =
-        let none = closed_by l v kept.closed broken.0 broken.1 in
-        let here : IsAnswered d.decided.policies.now l against broken.0 = ap grants (by_read l broken.0) ∙ (sym (ap grants (sure_by l broken.0 none)) ∙ broken.2) in
+    kept_holds : (l : Label) (v : Word) (Is IsHere : Request → Type 0) → ((r : Request) → one_decides read.profiles l r (unreads ks) ≡ false → IsHere r → Is r)
+        → IsKept d l v Is → IsBroken v IsHere → ⊥
+    kept_holds l v Is IsHere back kept broken =
+        let here = back broken.0 (closed_by l v kept.closed broken.0 broken.1) broken.2 in
         let other = kept.holds (broken.0, broken.1, here) in
-        other.2 (no_files l other.0 (closed_by l v kept.closed other.0 other.1))
+        other.2 (closed_files closed_words d l v kept.closed other.0 other.1)
 
-    says_hold : (l : Label) (says : Asked) → is_on_answers says ≡ true → AreKept d l says → (says ≡ Enforced → complains_at (whole ∷ []) (moved place l) ≡ false) → IsBrokenAt (whole ∷ []) (moved place l) says → ⊥
-    says_hold l (Never v) on kept enforced broken = kept_holds l v true kept broken
-    says_hold l (Leads v ls) on kept enforced broken = absurd (true≢false (sym on))
-    says_hold l (Reaches ls) on kept enforced broken = absurd (true≢false (sym on))
-    says_hold l (Always v) on kept enforced broken = kept_holds l v false kept broken
-    says_hold l Enforced on kept enforced broken = true≢false (sym broken ∙ enforced refl)
+    answered_back : (l : Label) (against : Bool) (r : Request) → one_decides read.profiles l r (unreads ks) ≡ false → IsAnswered (whole ∷ []) (moved place l) against r
+        → IsAnswered d.decided.policies.now l against r
+    answered_back l against r none answered = ap grants (by_read l r) ∙ (sym (ap grants (sure_by l r none)) ∙ answered)
 
-    module _ (ws : List ClaimWord) (says : Asked) (on : is_on_answers says ≡ true) (unconcerned : files_concerned ws d ≡ []) where
+    says_hold : (ws : List ClaimWord) (l : Label) (says : Asked) → AreSaid d.decided.policies.now ws says → AreKept d l says
+        → (says ≡ Enforced → complains_at (whole ∷ []) (moved place l) ≡ false) → IsBrokenAt (whole ∷ []) ws (moved place l) says → ⊥
+    says_hold ws l (Never v) said kept enforced broken = kept_holds l v _ _ (answered_back l true) kept broken
+    says_hold ws l (Always v) said kept enforced broken = kept_holds l v _ _ (answered_back l false) kept broken
+    says_hold ws l (Leads v ls) said kept enforced broken =
+        kept_holds l v (IsLedTo d.decided.policies.now l ls) (EndsThere (whole ∷ []) ws (moved place l))
+        (λ r none ends. ends_led d.decided.policies.now ws ls said l r (ends_back ws l r none ends)) kept broken
+    says_hold ws l (Reaches ls) said kept enforced broken = cons_nil w.file w.files (sym w.some ∙ kept.0)
+    says_hold ws l Enforced said kept enforced broken = true≢false (sym broken ∙ enforced refl)
+
+    module _ (ws : List ClaimWord) (says : Asked) (said : AreSaid d.decided.policies.now ws says) (unconcerned : files_concerned ws d ≡ []) where
       -- no profile that wasn't read has a name that the claim is about
       none_concerned : concerns ws (together (unreads ks)) ≡ false
       none_concerned = head_each (may_be_about ws) (unreads ks) ∙ none_such (concerns ws) ks unconcerned
@@ -139,24 +217,30 @@ module _ (each : EachDecides) (d : Part) (read whole : Policy) (place : ℕ → 
           (sym (about_begins ws (h.0.name ++ codes "//") unread.name (subst (All IsNonzeroByte) called text) (subst (λ (n : List ℕ). is_about ws n ≡ true) called about))
           ∙ (or_none (is_about ws h.0.name) _ h.1).1)
 
-      module _ (kept : (k : ℕ) → k < length read.profiles → (p : Profile) → slice_get read.profiles k ≡ Some p → is_about ws p.name ≡ true → IsProfileKept d says k p) where
+      module _ (kept : (k : ℕ) → k < length read.profiles → (p : Profile) → slice_get read.profiles k ≡ Some p → is_about ws p.name ≡ true → AreKept d (Confined 0 k) says) where
         read_holds : (n m : ℕ) (q : Profile) → n < length read.profiles → place n ≡ m → slice_get whole.profiles m ≡ Some q → is_about ws q.name ≡ true
-            → IsBrokenAt (whole ∷ []) (Confined 0 m) says → ⊥
+            → IsBrokenAt (whole ∷ []) ws (Confined 0 m) says → ⊥
         read_holds n m q lt at got about broken =
             ⊎_elim
             (λ (here : (x : Profile) × (n < length read.profiles) × (slice_get read.profiles n ≡ Some x) × (get_or read.profiles n x ≡ x)). found here.0 here.2)
             (λ (none : (length read.profiles ≤ n) × (slice_get read.profiles n ≡ None)). absurd (omega (arith, lt, none.0)))
             (slice_get_cases read.profiles n).1
           where
+            enforced_here : (p : Profile) → slice_get read.profiles n ≡ Some p → complains_at d.decided.policies.now (Confined 0 n) ≡ false → p.complain ≡ false
+            enforced_here p is e =
+                ap (λ (o : Option Profile). option_map_or (λ (x : Profile). x.complain) o false) (sym is)
+                ∙ subst (λ (ps : List Policy). complains_at ps (Confined 0 n) ≡ false) w.one e
+
             found : (p : Profile) → slice_get read.profiles n ≡ Some p → ⊥
             found p is =
                 let there = w.joined.kept n p is in
                 let same = same_Some _ _ (sym there.1 ∙ (ap (slice_get whole.profiles) at ∙ got)) in
                 let k = kept n lt p is (subst (λ (x : Profile). is_about ws x.name ≡ true) (sym same) about) in
-                says_hold (Confined 0 n) says on k.kept (λ e. ap (λ (o : Option Profile). option_map_or (λ (x : Profile). x.complain) o false) there.1 ∙ k.enforced e)
-                (subst (λ (i : ℕ). IsBrokenAt (whole ∷ []) (Confined 0 i) says) (sym at) broken)
+                says_hold ws (Confined 0 n) says said k
+                (λ e. ap (λ (o : Option Profile). option_map_or (λ (x : Profile). x.complain) o false) there.1 ∙ enforced_here p is (subst (AreKept d (Confined 0 n)) e k))
+                (subst (λ (i : ℕ). IsBrokenAt (whole ∷ []) ws (Confined 0 i) says) (sym at) broken)
 
-        pub holds : AreNamesText whole → (m : ℕ) (q : Profile) → slice_get whole.profiles m ≡ Some q → is_about ws q.name ≡ true → IsBrokenAt (whole ∷ []) (Confined 0 m) says → ⊥
+        pub holds : AreNamesText whole → (m : ℕ) (q : Profile) → slice_get whole.profiles m ≡ Some q → is_about ws q.name ≡ true → IsBrokenAt (whole ∷ []) ws (Confined 0 m) says → ⊥
         holds texts m q got about broken =
             ⊎_elim
             (λ (old : (n : ℕ) × (n < length read.profiles) × (place n ≡ m)). read_holds old.0 m q old.1 old.2 got about broken)
@@ -165,16 +249,62 @@ module _ (each : EachDecides) (d : Part) (read whole : Policy) (place : ℕ → 
             (λ (child : IsUnreadChild (together (unreads ks)) (length read.profiles) whole.profiles place q). not_child q child (texts m q got) about) added)
             (w.joined.added m q got)
 
+within : (ps : List Policy) (n : ℕ) (p : Profile) → profile_in ps 0 n ≡ Some p → n < count_of ps
+within ps n p e = at (slice_get ps 0) e
+  where
+    at : (o : Option Policy) → option_and_then (λ (q : Policy). slice_get q.profiles n) o ≡ Some p → n < option_map_or (λ (q : Policy). length q.profiles) o 0
+    at None f = absurd (let g : None ≡ Some p = f in cc)
+    at (Some q) f = slice_get_within q.profiles n p f
+
+-- what is known of a claim that is clear
+module _ (first : Bool) (d : Part) (limit : ℕ) (ws : List ClaimWord) (head asked : ClaimWord) (fs : AllFound) (answer : IsAnswerBy first d limit ws head asked fs)
+    (clear : IsClear fs) where
+  said : AreSaid d.decided.policies.now ws answer.says
+  said = are_said d ws head asked answer.says answer.is_asked
+
+  kept : AllKept first d limit ws answer.says asked.text.items (count_of d.decided.policies.now)
+  kept = all_clear first d limit ws answer.says asked.text.items (count_of d.decided.policies.now) answer.are.0 answer.are.1 (subst IsClear answer.are.2 clear)
+
+  module _ (closed : ClosedWords) where
+    none_broken : (l : Label) (v : Word) (Is : Request → Type 0) → IsKept d l v Is → IsBroken v Is → ⊥
+    none_broken l v Is k broken =
+        let other = k.holds broken in
+        other.2 (closed_files closed d l v k.closed other.0 other.1)
+
+    holds_here : (l : Label) (says : Asked) → AreSaid d.decided.policies.now ws says → AreKept d l says → IsBrokenAt d.decided.policies.now ws l says → ⊥
+    holds_here l (Never v) is k broken = none_broken l v _ k broken
+    holds_here l (Always v) is k broken = none_broken l v _ k broken
+    holds_here l (Leads v ls) is k broken =
+        none_broken l v _ k (broken.0, broken.1, ends_led d.decided.policies.now ws ls is l broken.0 broken.2)
+    holds_here l (Reaches ls) is k broken = k.1 broken.0 (comes_way d.decided.policies.now ws ls is l broken.0 broken.1)
+    holds_here l Enforced is k broken = true≢false (sym broken ∙ k)
+
+    claim_holds : Holds d.decided.policies.now ws answer.says
+    claim_holds = record {
+      free = λ about broken. holds_here (Unconfined 0) answer.says said (kept.free about) broken;
+      each = λ n p e about broken. holds_here (Confined 0 n) answer.says said (kept.each n (within d.decided.policies.now n p e) p e about) broken;
+    }
+
+pub clear_claims_hold : ClosedWords → ClearClaimsHold
+clear_claims_hold closed first d limit ws head asked fs answer clear = claim_holds first d limit ws head asked fs answer clear closed
+
 pub claims_hold : EachDecides → ClosedWords → ClaimsHold
-claims_hold each closed first d limit ws says text fs read whole place w texts are clear on m q got about broken =
-    let kept = all_clear d limit first ws says text (count_of d.decided.policies.now) fs are clear in
-    let each_kept = subst (λ (ps : List Policy). (k : ℕ) → k < count_of ps → (p : Profile) → profile_in ps 0 k ≡ Some p → is_about ws p.name ≡ true → IsProfileKept d says k p) w.one kept.each in
-    holds each d read whole place w closed ws says on kept.unconcerned each_kept texts m q got about broken
+claims_hold each closed first d limit ws head asked fs read whole place w texts answer clear m q got about broken =
+    let k = kept first d limit ws head asked fs answer clear in
+    let each_kept = subst (λ (ps : List Policy). (i : ℕ) → i < count_of ps → (p : Profile) → profile_in ps 0 i ≡ Some p → is_about ws p.name ≡ true
+    → AreKept d (Confined 0 i) answer.says) w.one k.each in
+    holds each d read whole place w closed ws answer.says (said first d limit ws head asked fs answer clear) k.unconcerned each_kept texts m q got about broken
 
 pub free_claims_hold : EachDecides → ClosedWords → FreeClaimsHold
-free_claims_hold each closed first d limit ws says text fs read whole place w are clear on about broken =
-    let kept = all_clear d limit first ws says text (count_of d.decided.policies.now) fs are clear in
-    says_hold each d read whole place w closed (Unconfined 0) says on (kept.free about) (λ e. refl) broken
+free_claims_hold each closed first d limit ws head asked fs read whole place w answer clear about broken =
+    let k = kept first d limit ws head asked fs answer clear in
+    says_hold each d read whole place w closed ws (Unconfined 0) answer.says (said first d limit ws head asked fs answer clear) (k.free about) (λ e. refl) broken
 
 pub breakings_stand : EachDecides → BreakingsStand
 breakings_stand each d read whole place w l r against none answered = stands each d read whole place w l r against none answered
+
+pub endings_stand : EachDecides → EndingsStand
+endings_stand each d read whole place w ws l r none ends = ends_there each d read whole place w ws l r (decided_by each d read whole place w l r none) ends
+
+pub ways_stand : EachDecides → WaysStand
+ways_stand each d read whole place w l rs none = ways each d read whole place w l rs none

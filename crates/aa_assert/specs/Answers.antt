@@ -2,7 +2,6 @@
 -- Source: own.
 use Rattle.std.specs.Prelude.{◌≡◌, ℕ, List, ◌∷◌, ◌++◌, Bool}
 use Rattle.std.specs.List.{AllZip}
-use Rattle.aa_who.specs.Grants.{count_of}
 use Rattle.aa_claims.specs.declared.words.ClaimWord.{ClaimWord}
 use Rattle.aa_claims.specs.declared.lines.ClaimLine.{ClaimLine}
 use Rattle.aa_claims.specs.declared.fault.Wrong.{Wrong}
@@ -28,7 +27,7 @@ pub record IsAnswerBy (first : Bool) (d : Part) (limit : ℕ) (ws : List ClaimWo
   pub says : Asked
   pub is_asked : IsAskedBy d ws head asked says
   pub scope : IsInScope d ws
-  pub are : AreFound first d limit ws says asked.text.items (count_of d.decided.policies.now) found
+  pub are : AreFound first d limit ws says asked.text.items found
 
 -- the same of a claim by its words
 abbrev pub IsAnswerOf : Bool → Part → ℕ → List ClaimWord → AllFound → Type 0

@@ -1,15 +1,18 @@
 -- The profiles against which a claim is broken.
 -- Source: own.
-use Rattle.std.specs.Prelude.{◌≡◌, ℕ, zero, suc, ◌==◌, ◌&&◌, ◌||◌, not, List, [], ◌∷◌, ◌++◌, length, map, filter, Bool, true, false, Option, Some, None, if◌then◌else◌}
+use Rattle.std.specs.Prelude.{◌≡◌, ℕ, zero, suc, ◌&&◌, not, List, [], ◌∷◌, ◌++◌, map, flat_map, filter, Bool, true, false, Option, Some, None, MatchBool, if◌then◌else◌}
 use Rattle.std.specs.Option.{option_map_or}
 use Rattle.std.specs.List.{slice_get}
 use Rattle.aa_model.specs.declared.policy.Policy.{Policy}
 use Rattle.aa_model.specs.declared.policy.Profile.{Profile}
 use Rattle.aa_model.specs.declared.label.Label.{Label}
 use Rattle.aa_model.specs.declared.label.Label.TheVariants.{Unconfined, Confined}
+use Rattle.aa_compile.specs.FileRules.{is_nil}
 use Rattle.aa_compile.specs.Labels.{profile_in}
 use Rattle.aa_skipped.specs.declared.skipped.Skipped.{Skipped}
 use Rattle.aa_ask.specs.Told.{Told, told}
+use Rattle.aa_ask.specs.Verdicts.{profile_at}
+use Rattle.aa_who.specs.Grants.{count_of}
 use Rattle.aa_who.specs.Untold.{Untold, untold, untold_at}
 use Rattle.aa_quantifiers.specs.declared.word.Word.{Word}
 use Rattle.aa_claims.specs.declared.words.ClaimWord.{ClaimWord}
@@ -20,7 +23,7 @@ use Rattle.aa_assert.specs.declared.asked.Asked.{Asked}
 use Rattle.aa_assert.specs.declared.asked.Asked.TheVariants.{Never, Leads, Always, Reaches, Enforced}
 use Rattle.aa_assert.specs.declared.passage.Passage.{Passage}
 use Rattle.aa_assert.specs.declared.passage.Passage.TheVariants as passage
-use Rattle.aa_assert.specs.Passages.{going, WayTold, way_told, way_in, IsPassage}
+use Rattle.aa_assert.specs.Passages.{going, WayTold, way_told, way_in, untold_line, IsPassage}
 use Rattle.aa_quantifiers.specs.declared.aim.Labels.{Labels}
 use Rattle.aa_quantifiers.specs.Quantities.{IsAnswered}
 use Rattle.aa_model.specs.declared.request.Request.{Request}
@@ -57,13 +60,7 @@ pub record AllFound : Type 0 where
 abbrev pub all_found : Findings → AllFound
 all_found fs = record { list = map found fs.list.items; untold = map untold fs.untold.items; doubt = placed_all fs.doubt.items }
 
--- the skipped files that may have a profile which a claim of these words is about
-abbrev pub files_concerned : List ClaimWord → Part → List PlacedFile
-files_concerned ws d = map placed (filter (may_concern ws) d.skipped.now)
-
--- nobody yet, but for such files
-abbrev pub nobody : List ClaimWord → Part → AllFound
-nobody ws d = record { list = []; untold = []; doubt = files_concerned ws d }
+-- ---- at a label
 
 -- by what is known of a skipped file's profiles, these could change what is answered to requests of the word at a label
 abbrev pub could_change : List Profile → Label → Word → Skipped → Bool
@@ -82,109 +79,127 @@ abbrev pub or_else : List PlacedFile → List PlacedFile → List PlacedFile
 or_else [] others = others
 or_else (file ∷ files) others = file ∷ files
 
--- by whom a claim is broken, where these files could decide the request that breaks it: where there are none, that one
-abbrev pub found_by : List PlacedFile → List Found → Found → List Found
-found_by [] fs f = fs ++ f ∷ []
-found_by (file ∷ files) fs f = fs
+-- what is told, where none of these files could decide it
+abbrev pub told_unless : List PlacedFile → Found → List Found
+told_unless [] f = f ∷ []
+told_unless (file ∷ files) f = []
 
--- what is judged at a label is added
-abbrev pub with_judged : Part → Label → AllFound → Judgement → AllFound
-with_judged d l fs (is.Broken r) =
+-- by what a claim is broken at a label, as it is judged
+abbrev pub broken_by : Part → Label → Judgement → List Found
+broken_by d l (is.Broken r) =
+    told_unless (files_deciding d.decided.policies.now d.skipped.now l r) (ByRequest (complains_at d.decided.policies.now l) (enforced_on d.decided l r))
+broken_by d l _ = []
+
+-- that it can't be told there
+abbrev pub untold_by : List Policy → Label → Judgement → List Untold
+untold_by ps l (is.Untold line) = untold_at ps l line.items ∷ []
+untold_by ps l _ = []
+
+-- both, and the files that could change what is answered to requests of the word
+abbrev pub judged_found : Part → Label → Word → Judgement → AllFound
+judged_found d l w j = record { list = broken_by d l j; untold = untold_by d.decided.policies.now l j; doubt = files_changing d l w }
+
+-- what is found of the claim that of no request of the word it is so
+abbrev pub IsFoundOf : Part → ℕ → Label → (Request → Type 0) → Word → List ℕ → AllFound → Type 0
+IsFoundOf d limit l Is w text fs = (j : Judgement) × IsJudged d.decided.policies.now limit l Is w text j × (fs ≡ judged_found d l w j)
+
+-- the skipped files that could decide the first of some requests, asked one after another, that any could decide
+abbrev pub files_on_way : List Policy → List Skipped → Label → List Request → List PlacedFile
+files_on_way ps skipped l [] = []
+files_on_way ps skipped l (r ∷ rs) = or_else (files_deciding ps skipped l r) (files_on_way ps skipped (going ps l r) rs)
+
+-- a list of requests that leads a task from a label to another
+abbrev pub by_way : Part → Label → List Request → List Found
+by_way d l way =
+    told_unless (files_on_way d.decided.policies.now d.skipped.now l way)
+    (ByWay (complains_at d.decided.policies.now l) (way_told d.decided.policies.now l way))
+
+-- by what the claim is broken that none leads it there
+abbrev pub passed_by : Part → Label → Passage → List Found
+passed_by d l (passage.Through way) = by_way d l way.items
+passed_by d l _ = []
+
+-- that it can't be told
+abbrev pub untold_of : List Policy → ℕ → Label → Passage → List Untold
+untold_of ps limit l (passage.Untold at why) = untold_at ps l (untold_line ps limit at why) ∷ []
+untold_of ps limit l _ = []
+
+-- both; and each skipped file could lead further
+abbrev pub passage_found : Part → ℕ → Label → Passage → AllFound
+passage_found d limit l p =
+    record { list = passed_by d l p; untold = untold_of d.decided.policies.now limit l p; doubt = map placed d.skipped.now }
+
+-- what is found of the claim that a task doesn't come to these labels
+abbrev pub IsFoundOfPassage : Part → ℕ → Label → Labels → AllFound → Type 0
+IsFoundOfPassage d limit l ls fs = (p : Passage) × IsPassage d.decided.policies.now limit l ls p × (fs ≡ passage_found d limit l p)
+
+-- a profile, if it complains
+abbrev pub complaining_in : Option Profile → List Found
+complaining_in None = []
+complaining_in (Some p) = if p.complain then Complaining p.name ∷ [] else []
+
+-- that of a label
+abbrev pub complaining_found : List Policy → Label → AllFound
+complaining_found ps l = record { list = complaining_in (profile_at ps l); untold = []; doubt = [] }
+
+-- what is found at a label of a claim that says this, whose word has this text
+abbrev pub IsFoundAt : Part → ℕ → Asked → List ℕ → Label → AllFound → Type 0
+IsFoundAt d limit (Never w) text l fs = IsFoundOf d limit l (IsAnswered d.decided.policies.now l true) w text fs
+IsFoundAt d limit (Leads w ls) text l fs = IsFoundOf d limit l (IsLedTo d.decided.policies.now l ls) w text fs
+IsFoundAt d limit (Always w) text l fs = IsFoundOf d limit l (IsAnswered d.decided.policies.now l false) w text fs
+IsFoundAt d limit (Reaches ls) text l fs = IsFoundOfPassage d limit l ls fs
+IsFoundAt d limit Enforced text l fs = fs ≡ complaining_found d.decided.policies.now l
+
+-- ---- at all labels that a claim is about
+
+-- somebody is found
+abbrev pub is_found : AllFound → Bool
+is_found fs = not (is_nil fs.list)
+
+-- what is found at each of some labels, in their order; where the first is wanted alone, nothing behind one at which somebody is found
+abbrev pub AreFoundAt : Bool → (Label → AllFound → Type 0) → List Label → List AllFound → Type 0
+AreFoundAt first At [] found = found ≡ []
+AreFoundAt first At (l ∷ ls) [] = ⊥
+AreFoundAt first At (l ∷ ls) (fs ∷ found) = At l fs × MatchBool (first && is_found fs) (found ≡ []) (AreFoundAt first At ls found)
+
+-- of lists of files the first that isn't empty
+abbrev pub first_some : List (List PlacedFile) → List PlacedFile
+first_some [] = []
+first_some (files ∷ rest) = or_else files (first_some rest)
+
+-- all that is found, where these files may have profiles that the claim is about
+abbrev pub all_of : List PlacedFile → List AllFound → AllFound
+all_of concerned found =
     record {
-      list = found_by (files_deciding d.decided.policies.now d.skipped.now l r) fs.list (ByRequest (complains_at d.decided.policies.now l) (enforced_on d.decided l r));
-      untold = fs.untold;
-      doubt = fs.doubt;
+      list = flat_map (λ (fs : AllFound). fs.list) found;
+      untold = flat_map (λ (fs : AllFound). fs.untold) found;
+      doubt = or_else concerned (first_some (map (λ (fs : AllFound). fs.doubt) found));
     }
-with_judged d l fs (is.Holds r) = fs
-with_judged d l fs (is.Untold line) = record { list = fs.list; untold = fs.untold ++ untold_at d.decided.policies.now l line.items ∷ []; doubt = fs.doubt }
 
--- and so are files that could change the answers
-abbrev pub with_doubt : List PlacedFile → AllFound → AllFound
-with_doubt files fs = record { list = fs.list; untold = fs.untold; doubt = or_else fs.doubt files }
+-- what is found at one more label
+abbrev pub and_found : AllFound → AllFound → AllFound
+and_found was fs = record { list = was.list ++ fs.list; untold = was.untold ++ fs.untold; doubt = or_else was.doubt fs.doubt }
 
--- whether the claim that of no request of the word it is so is broken at a label, is added
-abbrev pub AddsJudged : Part → ℕ → Label → (Request → Type 0) → Word → List ℕ → AllFound → AllFound → Type 0
-AddsJudged d limit l Is w text was now =
-    (j : Judgement) × IsJudged d.decided.policies.now limit l Is w text j × (now ≡ with_doubt (files_changing d l w) (with_judged d l was j))
+-- the label of profile n, if a claim of these words is about it
+abbrev pub label_if : List ClaimWord → ℕ → Option Profile → List Label
+label_if ws n None = []
+label_if ws n (Some p) = if is_about ws p.name then Confined 0 n ∷ [] else []
 
--- so of the claim that none is answered so
-abbrev pub AddsAnswered : Part → ℕ → Label → Bool → Word → List ℕ → AllFound → AllFound → Type 0
-AddsAnswered d limit l granted w text was now = AddsJudged d limit l (IsAnswered d.decided.policies.now l granted) w text was now
+-- the labels that it is about: of tasks without a profile, and of the first n profiles, in this order
+abbrev pub labels_about : List Policy → List ClaimWord → ℕ → List Label
+labels_about ps ws zero = if is_about_free ws then Unconfined 0 ∷ [] else []
+labels_about ps ws (suc n) = labels_about ps ws n ++ label_if ws n (profile_in ps 0 n)
 
--- and of the claim that none leads to these labels
-abbrev pub AddsLed : Part → ℕ → Label → Labels → Word → List ℕ → AllFound → AllFound → Type 0
-AddsLed d limit l ls w text was now = AddsJudged d limit l (IsLedTo d.decided.policies.now l ls) w text was now
+-- the skipped files that may have a profile which it is about
+abbrev pub files_concerned : List ClaimWord → Part → List PlacedFile
+files_concerned ws d = map placed (filter (may_concern ws) d.skipped.now)
 
--- these, or else the skipped files that could decide the first of some requests, asked one after another, that any could decide
-abbrev pub files_on_way : List Policy → List Skipped → List PlacedFile → Label → List Request → List PlacedFile
-files_on_way ps skipped found l [] = found
-files_on_way ps skipped found l (r ∷ rs) = files_on_way ps skipped (or_else found (files_deciding ps skipped l r)) (going ps l r) rs
+-- by whom of the tasks without a profile and of the first n profiles a claim of these words is broken, which says this
+abbrev pub AreFoundOf : Bool → Part → ℕ → List ClaimWord → Asked → List ℕ → ℕ → AllFound → Type 0
+AreFoundOf first d limit ws says text n fs =
+    (found : List AllFound) × AreFoundAt first (IsFoundAt d limit says text) (labels_about d.decided.policies.now ws n) found
+    × (fs ≡ all_of (files_concerned ws d) found)
 
--- whether a task that begins at a label comes to some labels is added
-abbrev pub with_passage : Part → Label → AllFound → Passage → AllFound
-with_passage d l fs (passage.Through way) =
-    record {
-      list = found_by (files_on_way d.decided.policies.now d.skipped.now [] l way.items) fs.list
-          (ByWay (complains_at d.decided.policies.now l) (way_told d.decided.policies.now l way.items));
-      untold = fs.untold;
-      doubt = fs.doubt;
-    }
-with_passage d l fs passage.Nowhere = fs
-with_passage d l fs (passage.Untold line) = record { list = fs.list; untold = fs.untold ++ untold_at d.decided.policies.now l line.items ∷ []; doubt = fs.doubt }
-
--- so, and each skipped file could lead further
-abbrev pub AddsPassage : Part → ℕ → Label → Labels → AllFound → AllFound → Type 0
-AddsPassage d limit l ls was now =
-    (p : Passage) × IsPassage d.decided.policies.now limit l ls p × (now ≡ with_doubt (map placed d.skipped.now) (with_passage d l was p))
-
--- a profile that complains is added
-abbrev pub with_complaining : Profile → AllFound → AllFound
-with_complaining p fs = if p.complain then record { list = fs.list ++ Complaining p.name ∷ []; untold = fs.untold; doubt = fs.doubt } else fs
-
--- whether a claim is broken by profile n, which is p, is added
-abbrev pub AddsProfile : Part → ℕ → Asked → List ℕ → ℕ → Profile → AllFound → AllFound → Type 0
-AddsProfile d limit (Never w) text n p was now = AddsAnswered d limit (Confined 0 n) true w text was now
-AddsProfile d limit (Leads w ls) text n p was now = AddsLed d limit (Confined 0 n) ls w text was now
-AddsProfile d limit (Reaches ls) text n p was now = AddsPassage d limit (Confined 0 n) ls was now
-AddsProfile d limit (Always w) text n p was now = AddsAnswered d limit (Confined 0 n) false w text was now
-AddsProfile d limit Enforced text n p was now = now ≡ with_complaining p was
-
--- whether it is broken by a task without a profile
-abbrev pub AddsFree : Part → ℕ → Asked → List ℕ → AllFound → AllFound → Type 0
-AddsFree d limit (Never w) text was now = AddsAnswered d limit (Unconfined 0) true w text was now
-AddsFree d limit (Leads w ls) text was now = AddsLed d limit (Unconfined 0) ls w text was now
-AddsFree d limit (Reaches ls) text was now = AddsPassage d limit (Unconfined 0) ls was now
-AddsFree d limit (Always w) text was now = AddsAnswered d limit (Unconfined 0) false w text was now
-AddsFree d limit Enforced text was now = now ≡ was
-
--- where the first is wanted alone, nobody is looked at behind one by whom the claim is broken
-abbrev pub is_done : Bool → AllFound → Bool
-is_done first fs = first && not (length fs.list == 0)
-
--- a profile at which nobody looks: the claim isn't about it, or it is done
-abbrev pub is_passed : Bool → List ClaimWord → Profile → AllFound → Bool
-is_passed first ws p fs = is_done first fs || not (is_about ws p.name)
-
--- whether it is broken by a profile is added, where that is looked at
-abbrev pub AddsIf : Bool → Part → ℕ → Asked → List ℕ → ℕ → Profile → AllFound → AllFound → Type 0
-AddsIf true d limit a text n p was now = now ≡ was
-AddsIf false d limit a text n p was now = AddsProfile d limit a text n p was now
-
--- so of profile n, if it is there
-abbrev pub AddsOf : Bool → Part → ℕ → List ClaimWord → Asked → List ℕ → ℕ → Option Profile → AllFound → AllFound → Type 0
-AddsOf first d limit ws a text n None was now = now ≡ was
-AddsOf first d limit ws a text n (Some p) was now = AddsIf (is_passed first ws p was) d limit a text n p was now
-
--- the same of the number alone
-abbrev pub AddsAt : Bool → Part → ℕ → List ClaimWord → Asked → List ℕ → ℕ → AllFound → AllFound → Type 0
-AddsAt first d limit ws a text n was now = AddsOf first d limit ws a text n (profile_in d.decided.policies.now 0 n) was now
-
--- whether it is broken by a task without a profile, where it is about such
-abbrev pub IsFreeIf : Bool → Part → ℕ → List ClaimWord → Asked → List ℕ → AllFound → Type 0
-IsFreeIf true d limit ws a text fs = AddsFree d limit a text (nobody ws d) fs
-IsFreeIf false d limit ws a text fs = fs ≡ nobody ws d
-
--- by whom of the tasks without a profile and of the first n profiles, in this order, a claim of these words is broken, which says this
-abbrev pub AreFound : Bool → Part → ℕ → List ClaimWord → Asked → List ℕ → ℕ → AllFound → Type 0
-AreFound first d limit ws a text zero fs = IsFreeIf (is_about_free ws) d limit ws a text fs
-AreFound first d limit ws a text (suc n) fs = (before : AllFound) × AreFound first d limit ws a text n before × AddsAt first d limit ws a text n before fs
+-- by whom of all
+abbrev pub AreFound : Bool → Part → ℕ → List ClaimWord → Asked → List ℕ → AllFound → Type 0
+AreFound first d limit ws says text fs = AreFoundOf first d limit ws says text (count_of d.decided.policies.now) fs

@@ -1,6 +1,7 @@
--- What isn't undecided is so by the policy of all files, whatever profiles the skipped ones have.
+-- What the answers to a claim say of it: whether it holds, also by the policy of all files, whatever profiles the skipped ones have.
 -- Source: own.
-use Rattle.std.specs.Prelude.{◌≡◌, ℕ, List, [], ◌∷◌, Bool, true, false, Some}
+use Rattle.std.specs.Prelude.{◌≡◌, ℕ, List, [], ◌∷◌, Bool, true, false, Some, Contains}
+use Rattle.std.specs.Option.{option_map_or}
 use Rattle.std.specs.List.{All, slice_get}
 use Rattle.aa_pattern.specs.Globs.{IsNonzeroByte}
 use Rattle.aa_model.specs.declared.policy.Policy.{Policy}
@@ -8,35 +9,63 @@ use Rattle.aa_model.specs.declared.policy.Profile.{Profile}
 use Rattle.aa_model.specs.declared.label.Label.{Label}
 use Rattle.aa_model.specs.declared.label.Label.TheVariants.{Unconfined, Confined}
 use Rattle.aa_model.specs.declared.request.Request.{Request}
+use Rattle.aa_compile.specs.Labels.{profile_in}
+use Rattle.aa_mediate.specs.Reply.{reply}
+use Rattle.aa_ask.specs.Told.{is_same}
+use Rattle.aa_ask.specs.Verdicts.{profile_at}
+use Rattle.aa_representatives.specs.Askable.{IsAskable}
+use Rattle.aa_reachability.specs.Reach.{led_by}
 use Rattle.aa_skipping.specs.Laws.{moved}
 use Rattle.aa_undecided.specs.Answers.{files_deciding}
 use Rattle.aa_undecided.specs.Holding.{IsWhole}
-use Rattle.aa_quantifiers.specs.Quantities.{IsAnswered}
-use Rattle.aa_who.specs.Grants.{count_of}
+use Rattle.aa_quantifiers.specs.declared.word.Word.{Word}
+use Rattle.aa_quantifiers.specs.Words.{IsOf}
+use Rattle.aa_quantifiers.specs.Quantities.{grants, IsAnswered}
 use Rattle.aa_claims.specs.declared.words.ClaimWord.{ClaimWord}
+use Rattle.aa_claims.specs.Forms.{names_led}
 use Rattle.aa_assert.specs.declared.asked.Asked.{Asked}
 use Rattle.aa_assert.specs.declared.asked.Asked.TheVariants.{Never, Leads, Always, Reaches, Enforced}
 use Rattle.aa_assert.specs.declared.part.Part.{Part}
-use Rattle.aa_assert.specs.Enforced.{complains_at}
+use Rattle.aa_assert.specs.Enforced.{complains_at, enforced_on}
 use Rattle.aa_assert.specs.Judging.{IsBroken}
-use Rattle.aa_assert.specs.Leading.{IsLedTo}
-use Rattle.aa_assert.specs.Passages.{IsWayTo}
-use Rattle.aa_assert.specs.Scope.{is_about, is_about_free}
-use Rattle.aa_assert.specs.Findings.{AllFound, AreFound}
+use Rattle.aa_assert.specs.Leading.{is_named_in}
+use Rattle.aa_assert.specs.Passages.{going, way_told}
+use Rattle.aa_assert.specs.Scope.{is_about, is_about_free, names_free, profiles_of}
+use Rattle.aa_assert.specs.Findings.{AllFound, Found, ByRequest, ByWay, Complaining, files_on_way}
+use Rattle.aa_assert.specs.Answers.{IsAnswerBy}
 
--- a claim that says this is broken at a label
-abbrev pub IsBrokenAt : List Policy → Label → Asked → Type 0
-IsBrokenAt ps l (Never w) = IsBroken w (IsAnswered ps l true)
-IsBrokenAt ps l (Leads w ls) = IsBroken w (IsLedTo ps l ls)
-IsBrokenAt ps l (Reaches ls) = (rs : List Request) × IsWayTo ps l ls rs
-IsBrokenAt ps l (Always w) = IsBroken w (IsAnswered ps l false)
-IsBrokenAt ps l Enforced = complains_at ps l ≡ true
+-- ---- what it means that a claim is broken
 
--- a claim says how requests are answered, or that no profile complains; it doesn't say where these lead
-abbrev pub is_on_answers : Asked → Bool
-is_on_answers (Leads w ls) = false
-is_on_answers (Reaches ls) = false
-is_on_answers _ = true
+-- `to` or `reach` names tasks without a profile, or the profile of the label
+abbrev pub is_led_to : List Policy → List ClaimWord → Label → Bool
+is_led_to ps ws (Unconfined k) = names_free (names_led ws)
+is_led_to ps ws (Confined k n) = option_map_or (is_named_in (names_led ws)) (slice_get (profiles_of ps) n) false
+
+-- the rules allow the request at the label, and a label that the claim names is the task's then
+abbrev pub EndsThere : List Policy → List ClaimWord → Label → Request → Type 0
+EndsThere ps ws l r = (grants (reply ps l r) ≡ true) × (is_led_to ps ws (reply ps l r).label ≡ true)
+
+-- requests that can be asked, which lead one after another, where rules are enforced, from the label to another that the claim names
+pub record ComesThere (ps : List Policy) (ws : List ClaimWord) (l : Label) (rs : List Request) : Type 0 where
+  pub asked : All IsAskable rs
+  pub leaves : is_same l (led_by (going ps) l rs) ≡ false
+  pub arrives : is_led_to ps ws (led_by (going ps) l rs) ≡ true
+
+-- a claim of these words that says this is broken at a label: a request of its word is granted, or ends at a label that it names, or isn't
+-- granted; or requests come to one; or the profile complains
+abbrev pub IsBrokenAt : List Policy → List ClaimWord → Label → Asked → Type 0
+IsBrokenAt ps ws l (Never w) = IsBroken w (IsAnswered ps l true)
+IsBrokenAt ps ws l (Leads w ls) = IsBroken w (EndsThere ps ws l)
+IsBrokenAt ps ws l (Always w) = IsBroken w (IsAnswered ps l false)
+IsBrokenAt ps ws l (Reaches ls) = (rs : List Request) × ComesThere ps ws l rs
+IsBrokenAt ps ws l Enforced = complains_at ps l ≡ true
+
+-- it is broken by nobody whom it is about: neither by tasks without a profile nor by profiles
+pub record Holds (ps : List Policy) (ws : List ClaimWord) (says : Asked) : Type 0 where
+  pub free : is_about_free ws ≡ true → IsBrokenAt ps ws (Unconfined 0) says → ⊥
+  pub each : (n : ℕ) (p : Profile) → profile_in ps 0 n ≡ Some p → is_about ws p.name ≡ true → IsBrokenAt ps ws (Confined 0 n) says → ⊥
+
+-- ---- what an answer says
 
 -- nobody breaks a claim, that can be told of everybody, and no skipped file could break it
 pub record IsClear (fs : AllFound) : Type 0 where
@@ -44,23 +73,71 @@ pub record IsClear (fs : AllFound) : Type 0 where
   pub told : fs.untold ≡ []
   pub sure : fs.doubt ≡ []
 
+-- a claim that is clear holds
+abbrev pub ClearClaimsHold : Type 0
+ClearClaimsHold = (first : Bool) (d : Part) (limit : ℕ) (ws : List ClaimWord) (head asked : ClaimWord) (fs : AllFound)
+    → (answer : IsAnswerBy first d limit ws head asked fs) → IsClear fs → Holds d.decided.policies.now ws answer.says
+
+-- the label is that of tasks without a profile, or of a profile, and the claim is about these
+abbrev pub IsAbout : List Policy → List ClaimWord → Label → Type 0
+IsAbout ps ws (Unconfined k) = (k ≡ 0) × (is_about_free ws ≡ true)
+IsAbout ps ws (Confined k n) = (k ≡ 0) × ((p : Profile) × (profile_in ps 0 n ≡ Some p) × (is_about ws p.name ≡ true))
+
+-- what is told is the verdict on a request of the word of which it is so
+abbrev pub ByRequestOf : Part → Label → Word → (Request → Type 0) → Found → Type 0
+ByRequestOf d l w Is f = (r : Request) × IsOf w r × Is r × (f ≡ ByRequest (complains_at d.decided.policies.now l) (enforced_on d.decided l r))
+
+-- what is told shows that a claim of these words, which says this, is broken at the label
+abbrev pub Shows : Part → List ClaimWord → Label → Asked → Found → Type 0
+Shows d ws l (Never w) f = ByRequestOf d l w (IsAnswered d.decided.policies.now l true) f
+Shows d ws l (Leads w ls) f = ByRequestOf d l w (EndsThere d.decided.policies.now ws l) f
+Shows d ws l (Always w) f = ByRequestOf d l w (IsAnswered d.decided.policies.now l false) f
+Shows d ws l (Reaches ls) f =
+    (rs : List Request) × ComesThere d.decided.policies.now ws l rs
+    × (f ≡ ByWay (complains_at d.decided.policies.now l) (way_told d.decided.policies.now l rs))
+Shows d ws l Enforced f = (p : Profile) × (profile_at d.decided.policies.now l ≡ Some p) × (p.complain ≡ true) × (f ≡ Complaining p.name)
+
+-- each by whom a claim is told to be broken is one whom it is about, and breaks it
+abbrev pub ToldBreak : Type 0
+ToldBreak = (first : Bool) (d : Part) (limit : ℕ) (ws : List ClaimWord) (head asked : ClaimWord) (fs : AllFound)
+    → (answer : IsAnswerBy first d limit ws head asked fs) → (f : Found) → Contains fs.list f
+    → (l : Label) × IsAbout d.decided.policies.now ws l × Shows d ws l answer.says f
+
+-- so that it doesn't hold
+abbrev pub ToldFail : Type 0
+ToldFail = (first : Bool) (d : Part) (limit : ℕ) (ws : List ClaimWord) (head asked : ClaimWord) (fs : AllFound)
+    → (answer : IsAnswerBy first d limit ws head asked fs) → (f : Found) → Contains fs.list f → Holds d.decided.policies.now ws answer.says → ⊥
+
+-- ---- beside skipped files
+
 -- no name holds a byte that no pattern matches: zero
 abbrev pub AreNamesText : Policy → Type 0
 AreNamesText whole = (m : ℕ) (q : Profile) → slice_get whole.profiles m ≡ Some q → All IsNonzeroByte q.name
 
--- a claim on answers that is clear is broken by no profile of that policy that it is about
+-- a claim that is clear is broken by no profile of that policy that it is about
 abbrev pub ClaimsHold : Type 0
-ClaimsHold = (first : Bool) (d : Part) (limit : ℕ) (ws : List ClaimWord) (says : Asked) (text : List ℕ) (fs : AllFound) (read whole : Policy) (place : ℕ → ℕ)
-    → IsWhole d.decided d.skipped.now read whole place → AreNamesText whole → AreFound first d limit ws says text (count_of d.decided.policies.now) fs → IsClear fs
-    → is_on_answers says ≡ true → (m : ℕ) (q : Profile) → slice_get whole.profiles m ≡ Some q → is_about ws q.name ≡ true → IsBrokenAt (whole ∷ []) (Confined 0 m) says → ⊥
+ClaimsHold = (first : Bool) (d : Part) (limit : ℕ) (ws : List ClaimWord) (head asked : ClaimWord) (fs : AllFound) (read whole : Policy) (place : ℕ → ℕ)
+    → IsWhole d.decided d.skipped.now read whole place → AreNamesText whole → (answer : IsAnswerBy first d limit ws head asked fs) → IsClear fs
+    → (m : ℕ) (q : Profile) → slice_get whole.profiles m ≡ Some q → is_about ws q.name ≡ true → IsBrokenAt (whole ∷ []) ws (Confined 0 m) answer.says → ⊥
 
 -- nor by a task without a profile, where it is about these
 abbrev pub FreeClaimsHold : Type 0
-FreeClaimsHold = (first : Bool) (d : Part) (limit : ℕ) (ws : List ClaimWord) (says : Asked) (text : List ℕ) (fs : AllFound) (read whole : Policy) (place : ℕ → ℕ)
-    → IsWhole d.decided d.skipped.now read whole place → AreFound first d limit ws says text (count_of d.decided.policies.now) fs → IsClear fs
-    → is_on_answers says ≡ true → is_about_free ws ≡ true → IsBrokenAt (whole ∷ []) (Unconfined 0) says → ⊥
+FreeClaimsHold = (first : Bool) (d : Part) (limit : ℕ) (ws : List ClaimWord) (head asked : ClaimWord) (fs : AllFound) (read whole : Policy) (place : ℕ → ℕ)
+    → IsWhole d.decided d.skipped.now read whole place → (answer : IsAnswerBy first d limit ws head asked fs) → IsClear fs
+    → is_about_free ws ≡ true → IsBrokenAt (whole ∷ []) ws (Unconfined 0) answer.says → ⊥
 
 -- a request that no skipped file could decide is answered so by that policy: one that breaks a claim breaks it there
 abbrev pub BreakingsStand : Type 0
 BreakingsStand = (d : Part) (read whole : Policy) (place : ℕ → ℕ) → IsWhole d.decided d.skipped.now read whole place → (l : Label) (r : Request) (against : Bool)
     → files_deciding d.decided.policies.now d.skipped.now l r ≡ [] → IsAnswered d.decided.policies.now l against r → IsAnswered (whole ∷ []) (moved place l) against r
+
+-- and one that ends at a label which the claim names ends at such a one there
+abbrev pub EndingsStand : Type 0
+EndingsStand = (d : Part) (read whole : Policy) (place : ℕ → ℕ) → IsWhole d.decided d.skipped.now read whole place → (ws : List ClaimWord) (l : Label) (r : Request)
+    → files_deciding d.decided.policies.now d.skipped.now l r ≡ [] → EndsThere d.decided.policies.now ws l r → EndsThere (whole ∷ []) ws (moved place l) r
+
+-- requests of which no skipped file could decide any, one after another, lead there to the same profile, or out of all
+abbrev pub WaysStand : Type 0
+WaysStand = (d : Part) (read whole : Policy) (place : ℕ → ℕ) → IsWhole d.decided d.skipped.now read whole place → (l : Label) (rs : List Request)
+    → files_on_way d.decided.policies.now d.skipped.now l rs ≡ []
+    → led_by (going (whole ∷ [])) (moved place l) rs ≡ moved place (led_by (going d.decided.policies.now) l rs)

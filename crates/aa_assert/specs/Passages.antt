@@ -1,6 +1,6 @@
 -- Whether a task comes to some labels.
 -- Source: own.
-use Rattle.std.specs.Prelude.{◌≡◌, ◌≤◌, ◌&&◌, ◌∷◌, ◌++◌, [], ℕ, List, Bool, true, false, not, codes, decimal, length, map, Option, option_map, Contains, if◌then◌else◌}
+use Rattle.std.specs.Prelude.{◌≡◌, ◌≤◌, ◌&&◌, ◌∷◌, ◌++◌, [], ℕ, List, Bool, true, false, not, codes, decimal, length, map, Option, option_map, if◌then◌else◌}
 use Rattle.std.specs.List.{All}
 use Rattle.aa_model.specs.declared.policy.Policy.{Policy}
 use Rattle.aa_model.specs.declared.label.Label.{Label}
@@ -12,7 +12,7 @@ use Rattle.aa_reachability.specs.declared.reached.Untold.{Untold}
 use Rattle.aa_reachability.specs.declared.reached.Why.{Why}
 use Rattle.aa_reachability.specs.declared.reached.Why.TheVariants.{TooManyPatterns, TooManyStates}
 use Rattle.aa_reachability.specs.Moves.{label_going, IsWhy}
-use Rattle.aa_reachability.specs.Reach.{led_by, IsOpen, AreTold}
+use Rattle.aa_reachability.specs.Reach.{led_by, AreTold}
 use Rattle.aa_quantifiers.specs.declared.aim.Labels.{Labels}
 use Rattle.aa_quantifiers.specs.Aims.{has_label}
 use Rattle.aa_ask.specs.Told.{is_same, asker_of}
@@ -34,34 +34,48 @@ pub record IsWayTo (ps : List Policy) (from : Label) (ls : Labels) (rs : List Re
   pub asked : All IsAskable rs
   pub leads : is_elsewhere ls from (led_by (going ps) from rs) ≡ true
 
--- such a list, and none is shorter that leads on from no label with too many rules
+-- it can be told where requests lead on from the label: the patterns that decide there are neither too many, nor do they need too many states
+abbrev pub IsTellable : List Policy → ℕ → Label → Type 0
+IsTellable ps limit l = (why : Why) → IsWhy ps limit l why → ⊥
+
+-- executions and changes that lead there, and on from no label but such
+pub record IsTellableWay (ps : List Policy) (limit : ℕ) (from : Label) (ls : Labels) (rs : List Request) : Type 0 where
+  pub told : AreTold (going ps) (IsTellable ps limit) from rs
+  pub leads : is_elsewhere ls from (led_by (going ps) from rs) ≡ true
+
+-- a list that leads there, and none of such is shorter
 pub record IsShortestWay (ps : List Policy) (limit : ℕ) (from : Label) (ls : Labels) (way : List Request) : Type 0 where
   pub is : IsWayTo ps from ls way
-  pub untold : List Untold
-  pub why : (u : Untold) → Contains untold u → IsWhy ps limit u.label u.why
-  pub shortest : (rs : List Request) → AreTold (going ps) (IsOpen untold) from rs → is_elsewhere ls from (led_by (going ps) from rs) ≡ true
-      → length way ≤ length rs
+  pub shortest : (rs : List Request) → IsTellableWay ps limit from ls rs → length way ≤ length rs
+
+-- requests that can be asked lead to a label from which it can't be told where they lead on, for this reason; and where it can be told, none leads there
+pub record IsUntellable (ps : List Policy) (limit : ℕ) (from : Label) (ls : Labels) (at : Label) (why : Why) : Type 0 where
+  pub way : List Request
+  pub asked : All IsAskable way
+  pub leads : led_by (going ps) from way ≡ at
+  pub reason : IsWhy ps limit at why
+  pub none : (rs : List Request) → IsTellableWay ps limit from ls rs → ⊥
 
 -- why it isn't told where requests lead on
 abbrev pub why_text : ℕ → Why → List ℕ
 why_text limit TooManyPatterns = codes "have more than 65535 patterns together\n"
 why_text limit TooManyStates = codes "need more than " ++ decimal limit ++ codes " states together; --states allows more\n"
 
--- from which label it isn't told
-abbrev pub untold_line : List Policy → ℕ → Untold → List ℕ
-untold_line ps limit u = codes "error: at " ++ asker ps u.label ++ codes " the rules " ++ why_text limit u.why
+-- at which label it isn't told
+abbrev pub untold_line : List Policy → ℕ → Label → Why → List ℕ
+untold_line ps limit at why = codes "error: at " ++ asker ps at ++ codes " the rules " ++ why_text limit why
 
--- the claim that a task comes to none of these labels: it is broken by a list of requests; or by none; or that can't be told
+-- the claim that a task comes to none of these labels: it is broken by a list of requests; or by none; or that can't be told, since it can't
+-- be told where requests lead on from some label
 abbrev pub IsPassage : List Policy → ℕ → Label → Labels → Passage → Type 0
 IsPassage ps limit from ls (Through way) = IsShortestWay ps limit from ls way.items
 IsPassage ps limit from ls Nowhere = (rs : List Request) → IsWayTo ps from ls rs → ⊥
-IsPassage ps limit from ls (Unknown line) = (u : Untold) × IsWhy ps limit u.label u.why × (line.items ≡ untold_line ps limit u)
+IsPassage ps limit from ls (Unknown at why) = IsUntellable ps limit from ls at why
 
--- no list is known of: there is none, or it isn't told of one of these labels where requests lead on
-abbrev pub IsWithout : List Policy → ℕ → List Untold → Passage → Type 0
-IsWithout ps limit untold (Through way) = ⊥
-IsWithout ps limit untold Nowhere = untold ≡ []
-IsWithout ps limit untold (Unknown line) = (u : Untold) × Contains untold u × (line.items ≡ untold_line ps limit u)
+-- no list is found: so it is, or it isn't told of the first of these labels where requests lead on
+abbrev pub passage_past : List Untold → Passage
+passage_past [] = Nowhere
+passage_past (u ∷ us) = Unknown u.label u.why
 
 -- a list of requests that leads to another label: who begins, where it leads, and the words
 pub record WayTold : Type 0 where

@@ -9,7 +9,8 @@ ghost use Rattle.aa_assert.specs.Refused.{IsOutOfScope, IsUnanswered};
 ghost use Rattle.aa_assert.specs.Answers.{answered, IsAnswerBy, IsAnswerOf, IsAnswerTo, AreAnswers, IsUnansweredOf, IsFirstUnanswered};
 
 use crate::asked::asked_by;
-use crate::finding::{Claim, Findings, findings_of};
+use crate::finding::{Claim, Findings};
+use crate::gathering::findings_of;
 use crate::part::Part;
 use crate::scope::{check_names, is_about_some};
 use aa_claims::{ClaimFault, ClaimLine, ClaimWord, Wrong, names_behind, names_led, names_within};

@@ -1,30 +1,30 @@
-//! The profiles against which a claim is broken.
+//! By what a claim is broken at a label.
 
-ghost use Rattle.std.specs.Prelude.{◌≡◌, [], map, IfOk, IfErr, OnOk};
+ghost use Rattle.std.specs.Prelude.{◌≡◌, [], ◌∷◌, map, option_map, IfOk, IfErr};
 ghost use Rattle.aa_load.specs.UnitPolicy.{limit_of};
+ghost use Rattle.aa_ask.specs.Verdicts.{profile_at};
 ghost use Rattle.aa_quantifiers.specs.Aims.{IsMet};
-ghost use Rattle.aa_who.specs.Grants.{count_of};
+ghost use Rattle.aa_who.specs.Untold.{untold, untold_at};
 ghost use Rattle.aa_claims.specs.Faults.{SaysAt};
 ghost use Rattle.aa_undecided.specs.Answers.{placed_all};
-ghost use Rattle.aa_assert.specs.Scope.{is_about_free};
-ghost use Rattle.aa_assert.specs.Findings.{found, all_found, files_concerned, could_change, files_changing_in, files_changing, or_else, found_by, with_judged, with_doubt, files_on_way, with_passage, with_complaining, nobody, is_done, is_passed, AddsJudged, AddsAnswered, AddsLed, AddsPassage, AddsProfile, AddsFree, AddsAt, AreFound, IsFreeIf};
+ghost use Rattle.aa_assert.specs.Findings.{found, all_found, could_change, files_changing_in, files_changing, or_else, told_unless, broken_by, untold_by, judged_found, IsFoundOf, files_on_way, by_way, passed_by, untold_of, passage_found, IsFoundOfPassage, complaining_in, complaining_found, IsFoundAt};
 ghost use Rattle.aa_assert.specs.Refused.{fault_of, IsNoPath, AsksNoPath};
 
 use crate::asked::Asked;
 use crate::enforced::{complains_at, verdict_of};
 use crate::judging::{Judgement, judge};
 use crate::part::Part;
-use crate::passage::{Passage, passage_of};
-use crate::scope::{is_about, is_about_free, may_concern};
+use crate::passage::{Passage, passage_of, untold_line};
 use crate::way::{Way, next, way_of};
 use aa_ask::Verdict;
 use aa_claims::{ClaimFault, ClaimWord, Wrong};
 use aa_compile::{Compiled, profile_of};
 use aa_model::{Label, Profile, Request};
 use aa_quantifiers::{Aim, Labels, Word, word_is_open};
+use aa_reachability::Why;
 use aa_skipped::Skipped;
 use aa_undecided::{SkippedAt, all_placed, files_deciding, push_if};
-use aa_who::{Untold, WhoFault, count_of, push_untold};
+use aa_who::{Untold, WhoFault, push_untold};
 use std::alloc::{AllocError, Global};
 
 /// By what a claim is broken.
@@ -106,102 +106,99 @@ fn files_changing(
     }
 }
 
-/// The skipped files that may have a profile which a claim of these words is about.
-fn files_concerned(
+/// What is told, where no file could decide it.
+fn told_unless(
     alloc: Global,
-    words: &[ClaimWord],
-    part: Part<'_>,
-) -> Result<Vec<SkippedAt>, AllocError>
-    ensures { IfOk result (λ files. placed_all files.items ≡ files_concerned words.now part.entry) }
-{
-    let mut files = Vec::new(alloc);
-    for file in part.skipped {
-        let may = may_concern(alloc, words, file)?;
-        push_if(alloc, &mut files, may, file)?;
-    }
-    Ok(files)
-}
-
-/// By whom a claim is broken, where no file could decide the request that breaks it.
-fn push_found(
-    list: &mut Vec<Finding>,
     files: &[SkippedAt],
     finding: Finding,
-) -> Result<(), AllocError>
-    ensures { OnOk result (map found list.new.items ≡ found_by (placed_all files.now) (map found list.old.items) (found finding)) }
+) -> Result<Vec<Finding>, AllocError>
+    ensures { IfOk result (λ list. map found list.items ≡ told_unless (placed_all files.now) (found finding)) }
 {
+    let mut list = Vec::new(alloc);
     match files {
-        [] => {
-            list.push(finding)?;
-            Ok(())
-        }
-        [_, ..] => Ok(()),
+        [] => list.push(finding)?,
+        [_, ..] => {}
     }
+    Ok(list)
 }
 
-/// Adds by whom a claim is broken, by that request.
-fn push_broken(
-    findings: &mut Findings,
+/// The verdict on a request that breaks a claim.
+fn broken_by_request(
     alloc: Global,
     part: Part<'_>,
     label: Label,
     request: &Request,
-) -> Result<(), AllocError>
-    ensures { OnOk result (all_found findings.new ≡ with_judged part.entry label (all_found findings.old) (Judgement.Broken request.now)) }
+) -> Result<Vec<Finding>, AllocError>
+    ensures { IfOk result (λ list. map found list.items ≡ broken_by part.entry label (Judgement.Broken request.now)) }
 {
     let verdict = verdict_of(alloc, part.decided, label, request)?;
     let complains = complains_at(part.decided.policies, label);
     let files = files_deciding(alloc, part.decided.policies, part.skipped, label, request)?;
     let finding = Finding::ByRequest(complains, verdict);
-    push_found(&mut findings.list, files.as_slice(), finding)
+    told_unless(alloc, files.as_slice(), finding)
 }
 
-/// Adds what is judged at a label.
-fn push_judged(
-    findings: &mut Findings,
+/// By what a claim is broken at a label, as it is judged.
+fn broken_by(
     alloc: Global,
     part: Part<'_>,
     label: Label,
     judgement: &Judgement,
-) -> Result<(), AllocError>
-    ensures { OnOk result (all_found findings.new ≡ with_judged part.entry label (all_found findings.old) judgement.now) }
+) -> Result<Vec<Finding>, AllocError>
+    ensures { IfOk result (λ list. map found list.items ≡ broken_by part.entry label judgement.now) }
 {
     match judgement {
-        Judgement::Broken(request) => push_broken(findings, alloc, part, label, request),
-        Judgement::Holds(_) => Ok(()),
-        Judgement::Untold(line) => {
-            let line = line.as_slice();
-            let policies = part.decided.policies;
-            push_untold(&mut findings.untold, alloc, policies, label, line)
-        }
+        Judgement::Broken(request) => broken_by_request(alloc, part, label, request),
+        Judgement::Holds(_) => Ok(Vec::new(alloc)),
+        Judgement::Untold(_) => Ok(Vec::new(alloc)),
     }
 }
 
-/// Takes the first list that isn't empty.
-fn or_else(list: &mut Vec<SkippedAt>, others: Vec<SkippedAt>)
-    ensures { placed_all list.new.items ≡ or_else (placed_all list.old.items) (placed_all others.items) }
+/// That it can't be told at a label, with the line on why.
+fn one_untold(
+    alloc: Global,
+    policies: &[Compiled],
+    label: Label,
+    line: &[u8],
+) -> Result<Vec<Untold>, AllocError>
+    ensures { IfOk result (λ list. map untold list.items ≡ untold_at policies.now label line.now ∷ []) }
 {
-    match list.as_slice() {
-        [] => *list = others,
-        [_, ..] => {}
+    let mut list = Vec::new(alloc);
+    push_untold(&mut list, alloc, policies, label, line)?;
+    Ok(list)
+}
+
+/// That it can't be told, where it is judged so.
+fn untold_by(
+    alloc: Global,
+    policies: &[Compiled],
+    label: Label,
+    judgement: &Judgement,
+) -> Result<Vec<Untold>, AllocError>
+    ensures { IfOk result (λ list. map untold list.items ≡ untold_by policies.now label judgement.now) }
+{
+    match judgement {
+        Judgement::Broken(_) => Ok(Vec::new(alloc)),
+        Judgement::Holds(_) => Ok(Vec::new(alloc)),
+        Judgement::Untold(line) => one_untold(alloc, policies, label, line.as_slice()),
     }
 }
 
-/// Adds what is judged at a label, and files that could change the answers.
-fn push_judged_beside(
-    findings: &mut Findings,
+/// By what a claim is broken at a label, or that it can't be told, and the files that could change the answers.
+fn judged_found(
     alloc: Global,
     part: Part<'_>,
     label: Label,
     word: &Word,
     judgement: &Judgement,
-) -> Result<(), AllocError>
-    ensures { OnOk result (all_found findings.new ≡ with_doubt (files_changing part.entry label word.now) (with_judged part.entry label (all_found findings.old) judgement.now)) }
+) -> Result<Findings, AllocError>
+    ensures { IfOk result (λ fs. all_found fs ≡ judged_found part.entry label word.now judgement.now) }
 {
-    push_judged(findings, alloc, part, label, judgement)?;
-    let files = files_changing(alloc, part, label, word)?;
-    or_else(&mut findings.doubt, files);
-    Ok(())
+    Ok(Findings {
+        list: broken_by(alloc, part, label, judgement)?,
+        untold: untold_by(alloc, part.decided.policies, label, judgement)?,
+        doubt: files_changing(alloc, part, label, word)?,
+    })
 }
 
 /// Why a claim isn't answered, by why its word isn't.
@@ -214,17 +211,16 @@ fn fault_of(word: &ClaimWord, fault: &WhoFault) -> ClaimFault
     }
 }
 
-/// Adds whether the claim that no request is answered so is broken at a label.
-fn push_at(
-    findings: &mut Findings,
+/// What is found at a label of the claim that no request is answered so.
+fn found_of(
     alloc: Global,
     part: Part<'_>,
     claim: Claim<'_>,
     label: Label,
     aim: Aim<'_>,
     word: &Word,
-) -> Result<(), ClaimFault>
-    ensures added { OnOk result (AddsJudged part.entry (limit_of claim.entry.states) label (IsMet part.entry.decided.policies.now label aim.entry) word.now claim.entry.word.now.text.items (all_found findings.old) (all_found findings.new)) }
+) -> Result<Findings, ClaimFault>
+    ensures found { IfOk result (λ fs. IsFoundOf part.entry (limit_of claim.entry.states) label (IsMet part.entry.decided.policies.now label aim.entry) word.now claim.entry.word.now.text.items (all_found fs)) }
     ensures refused { IfErr result (λ e. SaysAt (IsNoPath claim.entry.word.now word.now) e) }
 {
     match judge(
@@ -236,43 +232,9 @@ fn push_at(
         word,
         claim.word.text.as_slice(),
     ) {
-        Ok(judgement) => Ok(push_judged_beside(findings, alloc, part, label, word, &judgement)?),
+        Ok(judgement) => Ok(judged_found(alloc, part, label, word, &judgement)?),
         Err(fault) => Err(fault_of(claim.word, &fault)),
     }
-}
-
-/// Adds whether the claim that no request is granted, or that none is refused, is broken at a label.
-fn push_answered(
-    findings: &mut Findings,
-    alloc: Global,
-    part: Part<'_>,
-    claim: Claim<'_>,
-    label: Label,
-    granted: bool,
-    word: &Word,
-) -> Result<(), ClaimFault>
-    ensures added { OnOk result (AddsAnswered part.entry (limit_of claim.entry.states) label granted word.now claim.entry.word.now.text.items (all_found findings.old) (all_found findings.new)) }
-    ensures refused { IfErr result (λ e. SaysAt (IsNoPath claim.entry.word.now word.now) e) }
-{
-    let aim = Aim::Answered(granted);
-    push_at(findings, alloc, part, claim, label, aim, word)
-}
-
-/// Adds whether the claim that no request leads to one of these labels is broken at a label.
-fn push_led(
-    findings: &mut Findings,
-    alloc: Global,
-    part: Part<'_>,
-    claim: Claim<'_>,
-    label: Label,
-    labels: &Labels,
-    word: &Word,
-) -> Result<(), ClaimFault>
-    ensures added { OnOk result (AddsLed part.entry (limit_of claim.entry.states) label labels.now word.now claim.entry.word.now.text.items (all_found findings.old) (all_found findings.new)) }
-    ensures refused { IfErr result (λ e. SaysAt (IsNoPath claim.entry.word.now word.now) e) }
-{
-    let aim = Aim::Led(labels);
-    push_at(findings, alloc, part, claim, label, aim, word)
 }
 
 /// The skipped files that could decide the first of these requests, asked one after another, that any could decide.
@@ -282,220 +244,173 @@ fn files_on_way(
     from: Label,
     requests: &[Request],
 ) -> Result<Vec<SkippedAt>, AllocError>
-    ensures { IfOk result (λ files. placed_all files.items ≡ files_on_way part.entry.decided.policies.now part.entry.skipped.now [] from requests.now) }
+    ensures { IfOk result (λ files. placed_all files.items ≡ files_on_way part.entry.decided.policies.now part.entry.skipped.now from requests.now) }
 {
     let policies = part.decided.policies;
-    let mut found = Vec::new(alloc);
     let mut label = from;
     let mut rest = requests;
     while let [request, after @ ..] = rest {
         let files = files_deciding(alloc, policies, part.skipped, label, request)?;
-        or_else(&mut found, files);
+        if !files.is_empty() {
+            return Ok(files);
+        }
         label = next(policies, label, request);
         rest = after;
     }
-    Ok(found)
+    Ok(Vec::new(alloc))
 }
 
-/// Adds by whom a claim is broken, by these requests.
-fn push_through(
-    findings: &mut Findings,
+/// A list of requests that leads a task from a label to another, where no file could decide one of them.
+fn by_way(
     alloc: Global,
     part: Part<'_>,
     label: Label,
-    requests: &Vec<Request>,
-) -> Result<(), AllocError>
-    ensures { OnOk result (all_found findings.new ≡ with_passage part.entry label (all_found findings.old) (Passage.Through requests.now)) }
+    requests: &[Request],
+) -> Result<Vec<Finding>, AllocError>
+    ensures { IfOk result (λ list. map found list.items ≡ by_way part.entry label requests.now) }
 {
-    let way = way_of(alloc, part.decided.policies, label, requests.as_slice())?;
+    let way = way_of(alloc, part.decided.policies, label, requests)?;
     let complains = complains_at(part.decided.policies, label);
-    let files = files_on_way(alloc, part, label, requests.as_slice())?;
+    let files = files_on_way(alloc, part, label, requests)?;
     let finding = Finding::ByWay(complains, way);
-    push_found(&mut findings.list, files.as_slice(), finding)
+    told_unless(alloc, files.as_slice(), finding)
 }
 
-/// Adds whether a task that begins at a label comes to some labels.
-fn push_passage(
-    findings: &mut Findings,
+/// By what the claim is broken that no list of requests leads there.
+fn passed_by(
     alloc: Global,
     part: Part<'_>,
     label: Label,
     passage: &Passage,
-) -> Result<(), AllocError>
-    ensures { OnOk result (all_found findings.new ≡ with_passage part.entry label (all_found findings.old) passage.now) }
+) -> Result<Vec<Finding>, AllocError>
+    ensures { IfOk result (λ list. map found list.items ≡ passed_by part.entry label passage.now) }
 {
     match passage {
-        Passage::Through(way) => push_through(findings, alloc, part, label, way),
-        Passage::Nowhere => Ok(()),
-        Passage::Untold(line) => {
-            let line = line.as_slice();
-            let policies = part.decided.policies;
-            push_untold(&mut findings.untold, alloc, policies, label, line)
-        }
+        Passage::Through(way) => by_way(alloc, part, label, way.as_slice()),
+        Passage::Nowhere => Ok(Vec::new(alloc)),
+        Passage::Untold(_, _) => Ok(Vec::new(alloc)),
     }
 }
 
-/// Adds whether a task comes to one of these labels, and that each skipped file could lead it further.
-fn push_reached(
-    findings: &mut Findings,
+/// That it can't be told, since it isn't told at a label where requests lead on.
+fn untold_past(
+    alloc: Global,
+    policies: &[Compiled],
+    states: u32,
+    label: Label,
+    at: Label,
+    why: Why,
+) -> Result<Vec<Untold>, AllocError>
+    ensures { IfOk result (λ list. map untold list.items ≡ untold_of policies.now (limit_of states) label (Passage.Untold at why)) }
+{
+    let line = untold_line(alloc, policies, states, at, why)?;
+    one_untold(alloc, policies, label, line.as_slice())
+}
+
+/// That it can't be told whether a task comes to some labels, where that is so.
+fn untold_of(
+    alloc: Global,
+    policies: &[Compiled],
+    states: u32,
+    label: Label,
+    passage: &Passage,
+) -> Result<Vec<Untold>, AllocError>
+    ensures { IfOk result (λ list. map untold list.items ≡ untold_of policies.now (limit_of states) label passage.now) }
+{
+    match passage {
+        Passage::Through(_) => Ok(Vec::new(alloc)),
+        Passage::Nowhere => Ok(Vec::new(alloc)),
+        Passage::Untold(at, why) => untold_past(alloc, policies, states, label, *at, *why),
+    }
+}
+
+/// By what the claim is broken, or that it can't be told; and each skipped file, which could lead the task further.
+fn passage_found(
+    alloc: Global,
+    part: Part<'_>,
+    states: u32,
+    label: Label,
+    passage: &Passage,
+) -> Result<Findings, AllocError>
+    ensures { IfOk result (λ fs. all_found fs ≡ passage_found part.entry (limit_of states) label passage.now) }
+{
+    Ok(Findings {
+        list: passed_by(alloc, part, label, passage)?,
+        untold: untold_of(alloc, part.decided.policies, states, label, passage)?,
+        doubt: all_placed(alloc, part.skipped)?,
+    })
+}
+
+/// What is found of the claim that a task with that label comes to none of these.
+fn reached_found(
+    alloc: Global,
+    part: Part<'_>,
+    states: u32,
+    label: Label,
+    labels: &Labels,
+) -> Result<Findings, AllocError>
+    ensures { IfOk result (λ fs. IsFoundOfPassage part.entry (limit_of states) label labels.now (all_found fs)) }
+{
+    let passage = passage_of(alloc, part.decided.policies, states, label, labels)?;
+    passage_found(alloc, part, states, label, &passage)
+}
+
+/// The profile of a label, if it has one.
+fn profile_at(policies: &[Compiled], label: Label) -> Option<&Profile>
+    ensures { option_map (λ p. p.now) result ≡ profile_at policies.now label }
+{
+    match label {
+        Label::Unconfined(_) => None,
+        Label::Confined(policy, number) => profile_of(policies, policy, number),
+    }
+}
+
+/// A profile, if it complains.
+fn complaining_in(alloc: Global, profile: Option<&Profile>) -> Result<Vec<Finding>, AllocError>
+    ensures { IfOk result (λ list. map found list.items ≡ complaining_in (option_map (λ p. p.now) profile.entry)) }
+{
+    let mut list = Vec::new(alloc);
+    let Some(profile) = profile else {
+        return Ok(list);
+    };
+    if profile.complain {
+        let name = Vec::from_slice(alloc, profile.name.as_slice())?;
+        list.push(Finding::Complaining(name))?;
+    }
+    Ok(list)
+}
+
+/// What is found of the claim that no profile complains.
+fn complaining_found(
+    alloc: Global,
+    policies: &[Compiled],
+    label: Label,
+) -> Result<Findings, AllocError>
+    ensures { IfOk result (λ fs. all_found fs ≡ complaining_found policies.now label) }
+{
+    Ok(Findings {
+        list: complaining_in(alloc, profile_at(policies, label))?,
+        untold: Vec::new(alloc),
+        doubt: Vec::new(alloc),
+    })
+}
+
+/// What is found of a claim at a label. Refused where its word asks nothing.
+pub(crate) fn found_at(
     alloc: Global,
     part: Part<'_>,
     claim: Claim<'_>,
     label: Label,
-    labels: &Labels,
-) -> Result<(), AllocError>
-    ensures { OnOk result (AddsPassage part.entry (limit_of claim.entry.states) label labels.now (all_found findings.old) (all_found findings.new)) }
-{
-    let passage = passage_of(alloc, part.decided.policies, claim.states, label, labels)?;
-    push_passage(findings, alloc, part, label, &passage)?;
-    let files = all_placed(alloc, part.skipped)?;
-    or_else(&mut findings.doubt, files);
-    Ok(())
-}
-
-/// Adds a profile, where it complains.
-fn push_complaining(
-    findings: &mut Findings,
-    alloc: Global,
-    profile: &Profile,
-) -> Result<(), AllocError>
-    ensures { OnOk result (all_found findings.new ≡ with_complaining profile.now (all_found findings.old)) }
-{
-    if profile.complain {
-        let name = Vec::from_slice(alloc, profile.name.as_slice())?;
-        findings.list.push(Finding::Complaining(name))?;
-    }
-    Ok(())
-}
-
-/// Adds whether a claim is broken by a profile.
-fn push_profile(
-    findings: &mut Findings,
-    alloc: Global,
-    part: Part<'_>,
-    claim: Claim<'_>,
-    number: u16,
-    profile: &Profile,
-) -> Result<(), ClaimFault>
-    ensures added { OnOk result (AddsProfile part.entry (limit_of claim.entry.states) claim.entry.asked.now claim.entry.word.now.text.items number profile.now (all_found findings.old) (all_found findings.new)) }
-    ensures refused { IfErr result (λ e. SaysAt (AsksNoPath claim.entry.word.now claim.entry.asked.now) e) }
-{
-    let label = Label::Confined(0, number);
-    match claim.asked {
-        Asked::Never(word) => push_answered(findings, alloc, part, claim, label, true, word),
-        Asked::Leads(word, labels) => push_led(findings, alloc, part, claim, label, labels, word),
-        Asked::Always(word) => push_answered(findings, alloc, part, claim, label, false, word),
-        Asked::Reaches(labels) => Ok(push_reached(findings, alloc, part, claim, label, labels)?),
-        Asked::Enforced => Ok(push_complaining(findings, alloc, profile)?),
-    }
-}
-
-/// Adds whether a claim is broken by tasks without a profile.
-fn push_free(
-    findings: &mut Findings,
-    alloc: Global,
-    part: Part<'_>,
-    claim: Claim<'_>,
-) -> Result<(), ClaimFault>
-    ensures added { OnOk result (AddsFree part.entry (limit_of claim.entry.states) claim.entry.asked.now claim.entry.word.now.text.items (all_found findings.old) (all_found findings.new)) }
-    ensures refused { IfErr result (λ e. SaysAt (AsksNoPath claim.entry.word.now claim.entry.asked.now) e) }
-{
-    let label = Label::Unconfined(0);
-    match claim.asked {
-        Asked::Never(word) => push_answered(findings, alloc, part, claim, label, true, word),
-        Asked::Leads(word, labels) => push_led(findings, alloc, part, claim, label, labels, word),
-        Asked::Always(word) => push_answered(findings, alloc, part, claim, label, false, word),
-        Asked::Reaches(labels) => Ok(push_reached(findings, alloc, part, claim, label, labels)?),
-        Asked::Enforced => Ok(()),
-    }
-}
-
-/// Whether nobody more is looked at.
-fn is_done(is_first: bool, findings: &Findings) -> bool
-    ensures { result ≡ is_done is_first (all_found findings.now) }
-{
-    is_first && !findings.list.is_empty()
-}
-
-/// Whether a profile isn't looked at.
-fn is_passed(
-    alloc: Global,
-    claim: Claim<'_>,
-    profile: &Profile,
-    findings: &Findings,
-) -> Result<bool, AllocError>
-    ensures { IfOk result (λ is. is ≡ is_passed claim.entry.is_first claim.entry.words.now profile.now (all_found findings.now)) }
-{
-    if is_done(claim.is_first, findings) {
-        return Ok(true);
-    }
-    Ok(!is_about(alloc, claim.words, profile.name.as_slice())?)
-}
-
-/// Adds whether a claim is broken by the profile of that number.
-fn push_number(
-    findings: &mut Findings,
-    alloc: Global,
-    part: Part<'_>,
-    claim: Claim<'_>,
-    number: u16,
-) -> Result<(), ClaimFault>
-    ensures added { OnOk result (AddsAt claim.entry.is_first part.entry (limit_of claim.entry.states) claim.entry.words.now claim.entry.asked.now claim.entry.word.now.text.items number (all_found findings.old) (all_found findings.new)) }
-    ensures refused { IfErr result (λ e. SaysAt (AsksNoPath claim.entry.word.now claim.entry.asked.now) e) }
-{
-    let Some(profile) = profile_of(part.decided.policies, 0, number) else {
-        return Ok(());
-    };
-    if is_passed(alloc, claim, profile, findings)? {
-        return Ok(());
-    }
-    push_profile(findings, alloc, part, claim, number, profile)
-}
-
-/// Nobody yet, but for files that may have a profile which the claim is about.
-fn nobody(alloc: Global, part: Part<'_>, claim: Claim<'_>) -> Result<Findings, AllocError>
-    ensures { IfOk result (λ fs. all_found fs ≡ nobody claim.entry.words.now part.entry) }
-{
-    Ok(Findings {
-        list: Vec::new(alloc),
-        untold: Vec::new(alloc),
-        doubt: files_concerned(alloc, claim.words, part)?,
-    })
-}
-
-/// Whether a claim is broken by tasks without a profile.
-fn found_free(alloc: Global, part: Part<'_>, claim: Claim<'_>) -> Result<Findings, ClaimFault>
-    ensures found { IfOk result (λ fs. AddsFree part.entry (limit_of claim.entry.states) claim.entry.asked.now claim.entry.word.now.text.items (nobody claim.entry.words.now part.entry) (all_found fs)) }
-    ensures refused { IfErr result (λ e. SaysAt (AsksNoPath claim.entry.word.now claim.entry.asked.now) e) }
-{
-    let mut findings = nobody(alloc, part, claim)?;
-    push_free(&mut findings, alloc, part, claim)?;
-    Ok(findings)
-}
-
-/// Whether a claim is broken by tasks without a profile, where it is about them.
-fn started(alloc: Global, part: Part<'_>, claim: Claim<'_>) -> Result<Findings, ClaimFault>
-    ensures found { IfOk result (λ fs. IsFreeIf (is_about_free claim.entry.words.now) part.entry (limit_of claim.entry.states) claim.entry.words.now claim.entry.asked.now claim.entry.word.now.text.items (all_found fs)) }
-    ensures refused { IfErr result (λ e. SaysAt (AsksNoPath claim.entry.word.now claim.entry.asked.now) e) }
-{
-    if is_about_free(claim.words) {
-        return found_free(alloc, part, claim);
-    }
-    Ok(nobody(alloc, part, claim)?)
-}
-
-/// By whom a claim is broken: tasks without a profile, and profiles in their order.
-pub(crate) fn findings_of(
-    alloc: Global,
-    part: Part<'_>,
-    claim: Claim<'_>,
 ) -> Result<Findings, ClaimFault>
-    ensures found { IfOk result (λ fs. AreFound claim.entry.is_first part.entry (limit_of claim.entry.states) claim.entry.words.now claim.entry.asked.now claim.entry.word.now.text.items (count_of part.entry.decided.policies.now) (all_found fs)) }
+    ensures found { IfOk result (λ fs. IsFoundAt part.entry (limit_of claim.entry.states) claim.entry.asked.now claim.entry.word.now.text.items label (all_found fs)) }
     ensures refused { IfErr result (λ e. SaysAt (AsksNoPath claim.entry.word.now claim.entry.asked.now) e) }
 {
-    let mut findings = started(alloc, part, claim)?;
-    for number in 0..count_of(part.decided.policies) {
-        push_number(&mut findings, alloc, part, claim, number)?;
+    let policies = part.decided.policies;
+    match claim.asked {
+        Asked::Never(word) => found_of(alloc, part, claim, label, Aim::Answered(true), word),
+        Asked::Leads(word, labels) => found_of(alloc, part, claim, label, Aim::Led(labels), word),
+        Asked::Always(word) => found_of(alloc, part, claim, label, Aim::Answered(false), word),
+        Asked::Reaches(labels) => Ok(reached_found(alloc, part, claim.states, label, labels)?),
+        Asked::Enforced => Ok(complaining_found(alloc, policies, label)?),
     }
-    Ok(findings)
 }

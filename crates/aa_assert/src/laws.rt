@@ -1,17 +1,30 @@
-//! What skipped files don't change of claims.
+//! What answers say of claims, and what skipped files don't change of that.
 
-ghost use Rattle.aa_assert.specs.Holding.{ClaimsHold, FreeClaimsHold, BreakingsStand};
+ghost use Rattle.aa_assert.specs.Holding.{ClearClaimsHold, ToldBreak, ToldFail, ClaimsHold, FreeClaimsHold, BreakingsStand, EndingsStand, WaysStand};
 
 use aa_quantifiers::closed_words_are_decided;
 use aa_skipped::each_file_decides;
 
+/// A claim that nobody breaks whom it is about, where that can be told of everybody and no skipped file could break it, holds; and each of
+/// whom it is told that he breaks a claim is one whom it is about, and breaks it. It does nothing: its contract is a law of the definitions.
+pub fn answers_tell_what_holds()
+    ensures clear { ClearClaimsHold }
+    ensures told { ToldBreak }
+    ensures broken { ToldFail }
+{
+    closed_words_are_decided()
+}
+
 /// Whatever profiles the skipped files have, as long as they have the heads that are known and a policy of them and the read ones is lawful:
 /// a claim that is neither broken nor undecided, and of which all can be told, is broken by nobody whom it is about; and a request by which
-/// one is broken breaks it there. It does nothing: its contract is a law of the definitions.
+/// one is broken breaks it there, and so do requests one after another, as far as they lead to the same profile. It does nothing: its
+/// contract is a law of the definitions.
 pub fn claims_are_sound()
     ensures claims { ClaimsHold }
     ensures free { FreeClaimsHold }
     ensures broken { BreakingsStand }
+    ensures ended { EndingsStand }
+    ensures led { WaysStand }
 {
     each_file_decides();
     closed_words_are_decided()

@@ -6,6 +6,7 @@ mod asked;
 mod command;
 mod enforced;
 mod finding;
+mod gathering;
 mod json;
 mod judging;
 mod laws;
@@ -18,4 +19,4 @@ mod shown;
 mod way;
 
 pub use command::{AssertOptions, assert_files};
-pub use laws::claims_are_sound;
+pub use laws::{answers_tell_what_holds, claims_are_sound};

@@ -5,7 +5,7 @@ ghost use Rattle.aa_pattern.specs.Limits.{most_states};
 ghost use Rattle.aa_load.specs.UnitPolicy.{limit_of};
 ghost use Rattle.aa_reachability.specs.declared.trail.Arrival.{Arrival};
 ghost use Rattle.aa_who.specs.Counts.{asker};
-ghost use Rattle.aa_assert.specs.Passages.{is_elsewhere, why_text, untold_line, IsWithout, IsPassage};
+ghost use Rattle.aa_assert.specs.Passages.{is_elsewhere, why_text, untold_line, passage_past, IsPassage};
 
 use aa_ask::is_same;
 use aa_compile::{Compiled, name_of_label};
@@ -21,8 +21,8 @@ pub(crate) enum Passage {
     /// By these requests, one after another.
     Through(Vec<Request>),
     Nowhere,
-    /// It can't be told: the line on why.
-    Untold(Vec<u8>),
+    /// It can't be told, since it isn't told where requests lead on from this label, for this reason.
+    Untold(Label, Why),
 }
 
 /// How many states an automaton may have.
@@ -83,35 +83,31 @@ fn push_why(out: &mut Vec<u8>, limit: usize, why: Why) -> Result<(), AllocError>
     }
 }
 
-/// From which label it isn't told where requests lead on.
-fn untold_line(
+/// At which label it isn't told where requests lead on, and why.
+pub(crate) fn untold_line(
     alloc: Global,
     policies: &[Compiled],
-    limit: usize,
-    untold: &Untold,
+    states: u32,
+    at: Label,
+    why: Why,
 ) -> Result<Vec<u8>, AllocError>
-    ensures { IfOk result (λ line. line.items ≡ untold_line policies.now limit untold.now) }
+    ensures { IfOk result (λ line. line.items ≡ untold_line policies.now (limit_of states) at why) }
 {
     let mut line = Vec::new(alloc);
     push_text(&mut line, "error: at ")?;
-    push_asker(&mut line, alloc, policies, untold.label)?;
+    push_asker(&mut line, alloc, policies, at)?;
     push_text(&mut line, " the rules ")?;
-    push_why(&mut line, limit, untold.why)?;
+    push_why(&mut line, limit_of(states), why)?;
     Ok(line)
 }
 
 /// By no list of requests that is known of; or that isn't known, where it isn't told of a label where requests lead on.
-fn passage_without(
-    alloc: Global,
-    policies: &[Compiled],
-    limit: usize,
-    untold: &[Untold],
-) -> Result<Passage, AllocError>
-    ensures { IfOk result (λ p. IsWithout policies.now limit untold.now p) }
+fn passage_past(untold: &[Untold]) -> Passage
+    ensures { result ≡ passage_past untold.now }
 {
     match untold {
-        [] => Ok(Passage::Nowhere),
-        [one, ..] => Ok(Passage::Untold(untold_line(alloc, policies, limit, one)?)),
+        [] => Passage::Nowhere,
+        [one, ..] => Passage::Untold(one.label, one.why),
     }
 }
 
@@ -134,6 +130,6 @@ pub(crate) fn passage_of(
     let arrivals = found.arrivals.as_slice();
     match first_elsewhere(arrivals, labels, from) {
         Some(number) => Ok(Passage::Through(way_to(alloc, arrivals, number)?)),
-        None => passage_without(alloc, policies, limit, found.untold.as_slice()),
+        None => Ok(passage_past(found.untold.as_slice())),
     }
 }

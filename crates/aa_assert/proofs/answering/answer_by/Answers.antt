@@ -1,6 +1,5 @@
 use Rattle.std.proofs.lemmas.Result.{IfOk-weaker, IfErr-weaker}
 use Rattle.aa_load.specs.UnitPolicy.{limit_of}
-use Rattle.aa_who.specs.Grants.{count_of}
 use Rattle.aa_claims.specs.declared.fault.ClaimFault.{ClaimFault}
 use Rattle.aa_claims.specs.Faults.{SaysAt}
 use Rattle.aa_claims.proofs.Claims.{handed_on}
@@ -30,7 +29,7 @@ returns-clause-answered c =
     let limit = limit_of c.args.states in
     let ws = c.args.words.now in
     IfOk-weaker c.findings_of.result
-    (λ (fs : Findings). AreFound c.args.is_first d limit ws c.in_ok-asked.asked c.args.word.now.text.items (count_of d.decided.policies.now) (all_found fs))
+    (λ (fs : Findings). AreFound c.args.is_first d limit ws c.in_ok-asked.asked c.args.word.now.text.items (all_found fs))
     (λ (fs : Findings). IsAnswerBy c.args.is_first d limit ws c.args.head.now c.args.word.now (all_found fs))
     (λ fs are. record {
       says = c.in_ok-asked.asked;

@@ -1,10 +1,8 @@
-use Rattle.std.proofs.Common.{ℕ, List, sym, subst}
-use Rattle.std.proofs.lemmas.Result.{IfOk-weaker}
+use Rattle.std.proofs.Common.{ℕ, sym, subst}
 use Rattle.aa_load.specs.UnitPolicy.{limit_of}
-use Rattle.aa_reachability.specs.declared.reached.Untold.{Untold}
 use Rattle.aa_reachability.specs.Reach.{AreUntold}
 use Rattle.aa_assert.specs.declared.passage.Passage.{Passage}
-use Rattle.aa_assert.specs.Passages.{IsWithout, IsPassage}
+use Rattle.aa_assert.specs.Passages.{IsPassage}
 use Rattle.aa_assert.proofs.Passing.{through_it, without_it}
 use Rattle.aa_assert.proofs.passage.passage_of.Goals as goal
 
@@ -19,12 +17,8 @@ pub returns : goal.returns
 returns c =
     let ps = c.args.policies.now in
     let limit = limit_of c.args.states in
-    let from = c.args.from in
-    let ls = c.args.labels.now in
     let found = c.in_ok-found.found in
     let of = subst (λ (n : ℕ). AreUntold ps n found.arrivals.items found.untold.items) c.limit_of-limit.ensures.is c.in_ok-found.ensures.untold in
-    IfOk-weaker c.passage_without.result (λ (p : Passage). IsWithout ps c.limit_of-limit.result c.as_slice.result.now p) (λ (p : Passage). IsPassage ps limit from ls p)
-    (λ p is. without_it ps limit from ls c.as_slice-arrivals.result.now found.arrivals.items found.untold.items c.as_slice-arrivals.ensures.value
-    c.in_ok-found.ensures.arrivals of p (sym c.in-None.ensures.found)
-    (subst (λ (us : List Untold). IsWithout ps limit us p) c.as_slice.ensures.value
-    (subst (λ (n : ℕ). IsWithout ps n c.as_slice.result.now p) c.limit_of-limit.ensures.is is))) c.passage_without.ensures
+    subst (λ (p : Passage). IsPassage ps limit c.args.from c.args.labels.now p) (sym c.passage_past.ensures)
+    (without_it ps limit c.args.from c.args.labels.now c.as_slice-arrivals.result.now found.arrivals.items found.untold.items c.as_slice-arrivals.ensures.value
+    c.in_ok-found.ensures.arrivals of c.as_slice.result.now c.as_slice.ensures.value (sym c.in-None.ensures.found))

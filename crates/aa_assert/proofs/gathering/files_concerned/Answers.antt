@@ -1,7 +1,7 @@
 use Rattle.aa_undecided.specs.Answers.{placed_all}
 use Rattle.aa_undecided.proofs.Files.{kept_more}
 use Rattle.aa_assert.specs.Scope.{may_concern}
-use Rattle.aa_assert.proofs.finding.files_concerned.Goals as goal
+use Rattle.aa_assert.proofs.gathering.files_concerned.Goals as goal
 
 pub loop-file-preserved : goal.loop-file-preserved
 loop-file-preserved c =

@@ -1,8 +1,0 @@
-use Rattle.aa_load.specs.UnitPolicy.{limit_of}
-use Rattle.aa_assert.specs.Findings.{AreFound, all_found}
-use Rattle.aa_assert.proofs.finding.findings_of.Given as goal
-
-abbrev pub invariant-loop-number : goal.invariant-loop-number
-invariant-loop-number l =
-    AreFound l.claim.is_first l.part (limit_of l.claim.states) l.claim.words.now l.claim.asked.now l.claim.word.now.text.items l.number
-    (all_found l.findings)

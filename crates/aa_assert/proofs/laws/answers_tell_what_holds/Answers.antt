@@ -1,0 +1,10 @@
+use Rattle.aa_assert.proofs.Sound.{clear_claims_hold}
+use Rattle.aa_assert.proofs.Telling.{told_break, told_fail}
+use Rattle.aa_assert.proofs.laws.answers_tell_what_holds.Goals as goal
+
+pub returns : goal.returns
+returns c = record {
+  clear = clear_claims_hold c.closed_words_are_decided.ensures;
+  told = told_break;
+  broken = told_fail;
+}
