@@ -69,9 +69,9 @@ fn can_go(rt: &(impl Abort + AllocGlobal), text: &str, wanted: &str) {
         let own = own_places(rt, &mut next, profile);
         places.push(own).expect(rt, "memory");
     }
-    let going = redundant_places(rt.alloc(), profiles, places.as_slice(), next, 4096);
-    let going = going.ok().expect(rt, text);
-    let told = told(rt, &going);
+    let redundant = redundant_places(rt.alloc(), profiles, places.as_slice(), next, 4096);
+    let redundant = redundant.ok().expect(rt, text);
+    let told = told(rt, &redundant.going);
     equal_in(rt, str::from_utf8(told.as_slice()).ok(), Some(wanted), text);
 }
 
@@ -130,9 +130,9 @@ fn shared_can_go(rt: &(impl Abort + AllocGlobal), text: &str, first: &[usize], w
     let mut places = Vec::new(rt.alloc());
     places.push(of_files(rt, first)).expect(rt, "memory");
     places.push(of_files(rt, &[0])).expect(rt, "memory");
-    let going = redundant_places(rt.alloc(), profiles, places.as_slice(), 2, 4096);
-    let going = going.ok().expect(rt, text);
-    let told = told(rt, &going);
+    let redundant = redundant_places(rt.alloc(), profiles, places.as_slice(), 2, 4096);
+    let redundant = redundant.ok().expect(rt, text);
+    let told = told(rt, &redundant.going);
     equal_in(rt, str::from_utf8(told.as_slice()).ok(), Some(wanted), text);
 }
 

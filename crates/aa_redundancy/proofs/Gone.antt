@@ -53,7 +53,7 @@ module _ (gone others : ℕ → Bool) (marks : List RuleMark) where
       ∙ ap (λ (l : Chosen). let s : Saying = record { rights = rights (sets_by others owned (picked marks row)); chosen = led (has_exec (sets_by others owned (picked marks row)).deny) (choose l (choice_by gone false owned (picked marks row))) } in s) literal
       ∙ ap (λ (a : Chosen). let s : Saying = record { rights = rights (sets_by others owned (picked marks row)); chosen = led (has_exec (sets_by others owned (picked marks row)).deny) (choose (choice_by others true owned (picked marks row)) a) } in s) any
 
-  agree_all : ((n : ℕ) → gone n ≡ others n) → (row : List ℕ) → Agree row
+  pub agree_all : ((n : ℕ) → gone n ≡ others n) → (row : List ℕ) → Agree row
   agree_all same [] = tt
   agree_all same (n ∷ ns) = (at (slice_get marks n), agree_all same ns)
     where

@@ -11,3 +11,6 @@ mod Marking
 mod Positions
 mod Placing
 mod Sparing
+mod Keeping
+mod Reasoning
+mod Leaving

@@ -6,7 +6,7 @@ use Rattle.std.proofs.lemmas.Bool.{cases_lt}
 use Rattle.std.proofs.lemmas.Bool.Decides.{eqb_tells}
 use Rattle.std.specs.Global.{Global}
 use Rattle.std.specs.declared.vec.Vec.{Vec}
-use Rattle.std.proofs.lemmas.List.{take_more, length-map, length-set, get_or-set_same, get_or-set_other}
+use Rattle.std.proofs.lemmas.List.{take_more, length-map, get_or-map, length-set, get_or-set_same, get_or-set_other}
 use Rattle.std.proofs.lemmas.List.Elements.{Contains-get_or, Contains-append_left, Contains-append_right, Contains-push, Contains-push_cases}
 use Rattle.std.proofs.lemmas.Option.{slice_get-get_or, slice_get_read, same_Some}
 use Rattle.aa_redundancy.specs.declared.marks.RuleMark.{RuleMark}
@@ -90,7 +90,7 @@ tables_more ts i x old new lt is stay before here k t less e =
 
 -- a row mentions the place, or its rules are gone as they were
 module _ (t : Table) (place : ℕ) (was now : ℕ → Bool) (others : (n : ℕ) → n ≢ place → now n ≡ was n) where
-  mentions_or_agrees : (row : List ℕ) → Mentions t row place ⊎ Agree now was t.marks.items row
+  pub mentions_or_agrees : (row : List ℕ) → Mentions t row place ⊎ Agree now was t.marks.items row
   mentions_or_agrees [] = inr tt
   mentions_or_agrees (n ∷ ns) = at (slice_get t.marks.items n) refl (mentions_or_agrees ns)
     where
@@ -106,7 +106,7 @@ module _ (t : Table) (place : ℕ) (was now : ℕ → Bool) (others : (n : ℕ) 
           (λ (z : ((m.rule == place) ≡ false) × (m.rule ≢ place)). inr (others m.rule z.1, a))
           (eqb_tells m.rule place)
 
-read_at : {X : Type 0} (xs : List X) (x : X) (c : Contains xs x) → slice_get xs c.0 ≡ Some x
+pub read_at : {X : Type 0} (xs : List X) (x : X) (c : Contains xs x) → slice_get xs c.0 ≡ Some x
 read_at xs x c = slice_get-get_or xs c.0 x c.1 ∙ ap Some c.2
 
 -- where the rows that mention a place say the same, so do all, since the others do as before
@@ -134,3 +134,8 @@ none_changes ts gone none = tables_same ts none_gone (marked gone) (λ n. sym (n
 
 pub within_lists : (listed : List (Vec RowNumber Global)) (gone : List Bool) (i : ℕ) → length gone ≡ length listed → i < length gone → i < length (lists listed)
 within_lists listed gone i many lt = let long = length-map listed (λ (v : Vec RowNumber Global). v.items) in omega (arith, many, lt, long)
+
+-- the rows that are listed at a place, as they lie in memory
+pub rows_are : (listed : List (Vec RowNumber Global)) (place : ℕ) (one : Vec RowNumber Global) (rows : List RowNumber) → place < length listed → one ≡ get_or listed place one → rows ≡ one.items
+    → rows ≡ rows_at (lists listed) place
+rows_are listed place one rows lt is e = let items = λ (v : Vec RowNumber Global). v.items in e ∙ ap items is ∙ sym (get_or-map items listed place one [] lt)

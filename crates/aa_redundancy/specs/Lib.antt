@@ -6,6 +6,9 @@ pub use Rattle.aa_representatives.specs.Askable
 pub mod Without
 pub mod Rights
 pub mod Sameness
+pub mod Covering
+pub mod Reasons
+pub mod Keeping
 pub mod Faults
 pub mod Marks
 pub mod Tables

@@ -5,7 +5,7 @@ use Rattle.std.specs.declared.vec.Vec.{Vec}
 use Rattle.aa_redundancy.specs.declared.marks.RuleMark.{RuleMark}
 use Rattle.aa_redundancy.specs.declared.tables.Table.{Table}
 use Rattle.aa_redundancy.specs.declared.mentions.RowNumber.{RowNumber}
-use Rattle.aa_redundancy.specs.Tables.{SameRow}
+use Rattle.aa_redundancy.specs.Tables.{Relation, Equal, none_gone, RowRelated}
 
 -- a row of a table has a mark of a rule of a place
 pub record Mentions (t : Table) (row : List ℕ) (place : ℕ) : Type 0 where
@@ -40,6 +40,10 @@ pub record StayListed (old new : List (List RowNumber)) : Type 0 where
   pub many : length new ≡ length old
   pub stay : (place : ℕ) (at : RowNumber) → Contains (rows_at old place) at → Contains (rows_at new place) at
 
+-- what the marks of a row say when rules are gone is so related to what they say when others are
+abbrev pub RelatedAt : Relation → List Table → (ℕ → Bool) → (ℕ → Bool) → RowNumber → Type 0
+RelatedAt R ts gone others at = (t : Table) (row : List ℕ) → slice_get ts at.table ≡ Some t → slice_get t.rows.items at.row ≡ Some row → RowRelated R t.marks.items gone others row
+
 -- the marks of a row say the same when rules are gone
 abbrev pub SameAt : List Table → (ℕ → Bool) → RowNumber → Type 0
-SameAt ts gone at = (t : Table) (row : List ℕ) → slice_get ts at.table ≡ Some t → slice_get t.rows.items at.row ≡ Some row → SameRow t.marks.items gone row
+SameAt ts gone at = RelatedAt Equal ts gone none_gone at

@@ -4,7 +4,8 @@ ghost use Rattle.std.specs.Prelude.{◌≡◌, ◌<◌, ◌/◌, ◌%◌, ◌++�
 ghost use Rattle.aa_compile.specs.Holding.{holds, cap_holds, net_holds};
 ghost use Rattle.aa_redundancy.specs.Without.{without};
 ghost use Rattle.aa_redundancy.specs.Sameness.{SameCaps, SameNets};
-ghost use Rattle.aa_redundancy.specs.Tables.{Decides};
+ghost use Rattle.aa_redundancy.specs.Covering.{Within, CapsWithin, NetsWithin};
+ghost use Rattle.aa_redundancy.specs.Tables.{Equal, Decides};
 ghost use Rattle.aa_redundancy.specs.Plain.{cap_marks, net_marks, cap_row, net_row, HasRows};
 
 use crate::marks::{RuleMark, plain_mark};
@@ -122,7 +123,8 @@ fn rows_of_nets(alloc: Global, rules: &[NetRule]) -> Result<Vec<Seq<usize>>, All
 
 /// A row for each capability.
 pub(crate) fn table_of_caps(alloc: Global, rules: &[CapRule]) -> Result<Table, AllocError>
-    ensures { IfOk result (λ t. Decides t (λ gone. SameCaps rules.now (without gone rules.now))) }
+    ensures alike { IfOk result (λ t. Decides Equal t (λ gone others. SameCaps (without gone rules.now) (without others rules.now))) }
+    ensures within { IfOk result (λ t. Decides Within t (λ gone others. CapsWithin (without gone rules.now) (without others rules.now))) }
 {
     let marks = marks_of_caps(alloc, rules)?;
     let rows = rows_of_caps(alloc, rules)?;
@@ -131,7 +133,8 @@ pub(crate) fn table_of_caps(alloc: Global, rules: &[CapRule]) -> Result<Table, A
 
 /// A row for each family and each type.
 pub(crate) fn table_of_nets(alloc: Global, rules: &[NetRule]) -> Result<Table, AllocError>
-    ensures { IfOk result (λ t. Decides t (λ gone. SameNets rules.now (without gone rules.now))) }
+    ensures alike { IfOk result (λ t. Decides Equal t (λ gone others. SameNets (without gone rules.now) (without others rules.now))) }
+    ensures within { IfOk result (λ t. Decides Within t (λ gone others. NetsWithin (without gone rules.now) (without others rules.now))) }
 {
     let marks = marks_of_nets(alloc, rules)?;
     let rows = rows_of_nets(alloc, rules)?;

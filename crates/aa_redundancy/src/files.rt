@@ -8,7 +8,8 @@ ghost use Rattle.aa_compile.specs.Rows.{patterns_of};
 ghost use Rattle.aa_redundancy.specs.Faults.{IsFaultOf};
 ghost use Rattle.aa_redundancy.specs.Without.{without};
 ghost use Rattle.aa_redundancy.specs.Sameness.{SameFiles};
-ghost use Rattle.aa_redundancy.specs.Tables.{Decides};
+ghost use Rattle.aa_redundancy.specs.Covering.{Within, FilesWithin};
+ghost use Rattle.aa_redundancy.specs.Tables.{Equal, Decides};
 
 use crate::fault::RedundancyFault;
 use crate::marks::marks_of_files;
@@ -53,7 +54,8 @@ pub(crate) fn table_of_files(
 ) -> Result<Table, RedundancyFault>
     requires some { 0 < limit }
     requires limit { limit ≤ most_states }
-    ensures decides { IfOk result (λ t. Decides t (λ gone. SameFiles rules.now (without gone rules.now))) }
+    ensures alike { IfOk result (λ t. Decides Equal t (λ gone others. SameFiles (without gone rules.now) (without others rules.now))) }
+    ensures within { IfOk result (λ t. Decides Within t (λ gone others. FilesWithin (without gone rules.now) (without others rules.now))) }
     ensures many { IfErr result (λ e. IsFaultOf (patterns_of rules.now) limit e) }
 {
     let regions = regions_of_files(alloc, rules, limit)?;

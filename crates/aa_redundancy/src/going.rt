@@ -7,7 +7,7 @@ ghost use Rattle.aa_redundancy.specs.Mentions.{lists, rows_at, AreListed, SameAt
 ghost use Rattle.aa_redundancy.specs.Going.{MarksThose, NoneMarked, AreLater, GoesWith, Settles, AreGoing};
 
 use crate::mentions::{RowNumber, listed_rows};
-use crate::saying::is_gone;
+use crate::saying::is_marked;
 use crate::tables::{Table, same_rows};
 use std::alloc::{AllocError, Global};
 
@@ -94,7 +94,7 @@ fn mark_if_goes(
     requires all { SameTables tables.now (marked gone.old.items) }
     ensures { Settles (SameTables tables.now) wanted.now number gone.old.items gone.new.items }
 {
-    let is_wanted = is_gone(wanted, number);
+    let is_wanted = is_marked(wanted, number);
     if !is_wanted {
         return;
     }

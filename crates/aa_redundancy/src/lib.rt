@@ -1,6 +1,7 @@
 //! Rules without which every reply is as it is, by the places where they stand.
 #![tactic(auto)]
 
+mod beside;
 mod entries;
 mod fault;
 mod files;
@@ -9,7 +10,9 @@ mod laws;
 mod marks;
 mod mentions;
 mod names;
+mod needed;
 mod places;
+mod reasons;
 mod redundant;
 mod rights;
 mod rows;
@@ -20,4 +23,5 @@ pub use fault::{Excess, PolicyRedundancyFault, RedundancyFault};
 pub use going::Going;
 pub use laws::{same_sayings_reply_alike, spared_rules_change_no_reply};
 pub use places::PlaceNumbers;
-pub use redundant::redundant_places;
+pub use reasons::Reason;
+pub use redundant::{Redundant, redundant_places};

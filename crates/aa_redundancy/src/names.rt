@@ -8,7 +8,8 @@ ghost use Rattle.aa_representatives.specs.Alike.{patterns_in, change_patterns};
 ghost use Rattle.aa_redundancy.specs.Faults.{IsFaultOf};
 ghost use Rattle.aa_redundancy.specs.Without.{without};
 ghost use Rattle.aa_redundancy.specs.Sameness.{SameChanges};
-ghost use Rattle.aa_redundancy.specs.Tables.{Decides};
+ghost use Rattle.aa_redundancy.specs.Covering.{Within, ChangesWithin};
+ghost use Rattle.aa_redundancy.specs.Tables.{Equal, Decides};
 ghost use Rattle.aa_redundancy.specs.Plain.{change_marks, change_row};
 
 use crate::entries::push_if;
@@ -126,7 +127,8 @@ pub(crate) fn table_of_changes(
 ) -> Result<Table, RedundancyFault>
     requires some { 0 < limit }
     requires limit { limit ≤ most_states }
-    ensures decides { IfOk result (λ t. Decides t (λ gone. SameChanges rules.now (without gone rules.now))) }
+    ensures alike { IfOk result (λ t. Decides Equal t (λ gone others. SameChanges (without gone rules.now) (without others rules.now))) }
+    ensures within { IfOk result (λ t. Decides Within t (λ gone others. ChangesWithin (without gone rules.now) (without others rules.now))) }
     ensures many { IfErr result (λ e. IsFaultOf (change_patterns rules.now) limit e) }
 {
     let regions = regions_of_names(alloc, rules, limit)?;

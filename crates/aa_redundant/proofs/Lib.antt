@@ -1,2 +1,3 @@
 mod Numbering
 mod Knowing
+mod Staying

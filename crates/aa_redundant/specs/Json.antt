@@ -1,14 +1,26 @@
 -- Redundant rules as they are printed in JSON.
 -- Source: own.
-use Rattle.std.specs.Prelude.{ℕ, List, ◌++◌, map, codes, Some}
+use Rattle.std.specs.Prelude.{ℕ, List, ◌++◌, map, codes, Some, Bool, if◌then◌else◌}
 use Rattle.aa_text.specs.Jsons.{json_bytes, json_place, key_text, member_text, list_text}
-use Rattle.aa_redundant.specs.Told.{Telling}
+use Rattle.aa_redundant.specs.Told.{Telling, Explained}
 
--- a rule: where it stands, and how it reads
-unfoldable pub json_rule : Telling → List ℕ
-json_rule t = codes "{" ++ json_place t.path (Some t.place) ++ member_text (codes "rule") (json_bytes t.text) ++ codes "}"
+-- where a rule stands, and how it reads
+unfoldable pub json_told : Telling → List ℕ
+json_told t = codes "{" ++ json_place t.path (Some t.place) ++ member_text (codes "rule") (json_bytes t.text)
+
+-- a rule
+abbrev pub json_rule : Telling → List ℕ
+json_rule t = json_told t ++ codes "}"
+
+-- the key of the others, by whether they say what the rule says
+abbrev pub reason_key : Bool → List ℕ
+reason_key is_covered = if is_covered then codes "covered_by" else codes "overruled_by"
+
+-- a redundant rule, and beside which others
+unfoldable pub json_explained : Explained → List ℕ
+json_explained e = json_told e.rule ++ member_text (reason_key e.is_covered) (list_text (map json_rule e.others)) ++ codes "}"
 
 -- those that can go by themselves, and those that can go together
-unfoldable pub json_rules : List Telling → List Telling → List ℕ
+unfoldable pub json_rules : List Explained → List Telling → List ℕ
 json_rules redundant going =
-    codes "{" ++ key_text (codes "redundant") ++ list_text (map json_rule redundant) ++ member_text (codes "may_go") (list_text (map json_rule going)) ++ codes "}\n"
+    codes "{" ++ key_text (codes "redundant") ++ list_text (map json_explained redundant) ++ member_text (codes "may_go") (list_text (map json_rule going)) ++ codes "}\n"

@@ -8,11 +8,14 @@ ghost use Rattle.aa_command.specs.Setting.{setting_of};
 ghost use Rattle.aa_command.specs.Printed.{printed, faults_alone};
 ghost use Rattle.aa_redundancy.specs.Faults.{IsRefusal};
 ghost use Rattle.aa_redundancy.specs.Going.{AreGoing};
+ghost use Rattle.aa_redundancy.specs.Places.{ProfileAlike, ProfileWithin};
+ghost use Rattle.aa_redundancy.specs.Reasons.{AreReasons};
 ghost use Rattle.aa_redundant.specs.Places.{all_places};
 ghost use Rattle.aa_redundant.specs.Known.{AreKeys};
-ghost use Rattle.aa_redundant.specs.Told.{telling};
-ghost use Rattle.aa_redundant.specs.Command.{first_profiles, Spares, answers_text, status_of, rules_printed, going_printed, why_of, untold_head, untold_line, IsRedundantOf, IsRedundantOutput};
+ghost use Rattle.aa_redundant.specs.Told.{telling, explaining};
+ghost use Rattle.aa_redundant.specs.Command.{first_profiles, Spares, OfProfiles, answers_text, status_of, rules_printed, redundant_printed, why_of, untold_head, untold_line, IsRedundantOf, IsRedundantOutput};
 
+use crate::explained::{ExplainedRule, all_explained};
 use crate::json::push_json_rules;
 use crate::known::{KnownPlaces, known_places};
 use crate::numbers::all_numbers;
@@ -23,7 +26,9 @@ use aa_command::{Decided, Output, Settings, Use, with_policy};
 use aa_compile::Compiled;
 use aa_files::Tree;
 use aa_model::Profile;
-use aa_redundancy::{Excess, Going, PolicyRedundancyFault, redundant_places};
+use aa_redundancy::{
+    Excess, PolicyRedundancyFault, Redundant, redundant_places, spared_rules_change_no_reply,
+};
 use aa_text::{NoMemory, push_name, push_text};
 use std::alloc::{AllocError, Global};
 
@@ -54,27 +59,28 @@ fn first_profiles(policies: &[Compiled]) -> &[Profile]
     }
 }
 
-/// The places that can go.
-fn going_of(
+/// The places that can go, and why.
+fn redundant_in(
     alloc: Global,
     states: u32,
     decided: Decided<'_>,
     known: &KnownPlaces<'_>,
-) -> Result<Going, PolicyRedundancyFault>
+) -> Result<Redundant, PolicyRedundancyFault>
     requires keys { AreKeys decided.units.now known.now.keys.keys known.now.places.items }
     requires places { known.now.places.items ≡ all_places decided }
-    ensures going { IfOk result (λ g. AreGoing (Spares decided.entry) (length (all_places decided.entry)) g) }
+    ensures going { IfOk result (λ r. AreGoing (Spares decided.entry) (length (all_places decided.entry)) r.going) }
+    ensures reasons { IfOk result (λ r. AreReasons (OfProfiles ProfileAlike decided.entry) (OfProfiles ProfileWithin decided.entry) r.going.alone.items r.reasons.items) }
     ensures refused { IfErr result (λ e. IsRefusal (first_profiles decided.entry.policies.now) (limit_of states) e) }
 {
     let numbers = all_numbers(alloc, decided, known)?;
-    let going = redundant_places(
+    let redundant = redundant_places(
         alloc,
         first_profiles(decided.policies),
         numbers.as_slice(),
         known.places.len(),
         limit_of(states),
     )?;
-    Ok(going)
+    Ok(redundant)
 }
 
 /// Appends the rules as they are wanted.
@@ -82,10 +88,10 @@ fn push_wanted(
     out: &mut Vec<u8>,
     alloc: Global,
     is_json: bool,
-    redundant: &[ToldRule],
+    redundant: &[ExplainedRule],
     going: &[ToldRule],
 ) -> Result<(), AllocError>
-    ensures { OnOk result (out.new.items ≡ out.old.items ++ answers_text is_json (map telling redundant.now) (map telling going.now)) }
+    ensures { OnOk result (out.new.items ≡ out.old.items ++ answers_text is_json (map explaining redundant.now) (map telling going.now)) }
 {
     if is_json {
         return push_json_rules(out, alloc, redundant, going);
@@ -94,8 +100,8 @@ fn push_wanted(
 }
 
 /// 4 where a rule can go.
-fn status_of(redundant: &[ToldRule]) -> u8
-    ensures { result ≡ status_of (map telling redundant.now) }
+fn status_of(redundant: &[ExplainedRule]) -> u8
+    ensures { result ≡ status_of (map explaining redundant.now) }
 {
     if redundant.is_empty() { 0 } else { 4 }
 }
@@ -103,10 +109,10 @@ fn status_of(redundant: &[ToldRule]) -> u8
 fn rules_printed(
     alloc: Global,
     is_json: bool,
-    redundant: &[ToldRule],
+    redundant: &[ExplainedRule],
     going: &[ToldRule],
 ) -> Result<Output, AllocError>
-    ensures { IfOk result (λ out. printed out ≡ rules_printed is_json (map telling redundant.now) (map telling going.now)) }
+    ensures { IfOk result (λ out. printed out ≡ rules_printed is_json (map explaining redundant.now) (map telling going.now)) }
 {
     let mut output = Output::new(alloc);
     push_wanted(&mut output.answers, alloc, is_json, redundant, going)?;
@@ -114,21 +120,22 @@ fn rules_printed(
     Ok(output)
 }
 
-/// Prints the rules of the places that can go.
-fn going_printed(
+/// Prints the rules of the places that can go, and why.
+fn redundant_printed(
     alloc: Global,
     is_json: bool,
     decided: Decided<'_>,
     places: &[RulePlace],
-    going: &Going,
+    redundant: &Redundant,
 ) -> Result<Output, AllocError>
     requires { places.now ≡ all_places decided }
-    ensures { IfOk result (λ out. printed out ≡ going_printed is_json decided.entry going.now) }
+    ensures { IfOk result (λ out. printed out ≡ redundant_printed is_json decided.entry redundant.now) }
 {
     let units = decided.units;
-    let redundant = rules_of(alloc, units, going.alone.as_slice(), places)?;
-    let together = rules_of(alloc, units, going.together.as_slice(), places)?;
-    rules_printed(alloc, is_json, redundant.as_slice(), together.as_slice())
+    let alone = all_explained(alloc, units, places, redundant.reasons.as_slice())?;
+    let together = redundant.going.together.as_slice();
+    let going = rules_of(alloc, units, together, places)?;
+    rules_printed(alloc, is_json, alone.as_slice(), going.as_slice())
 }
 
 fn why_of(excess: Excess) -> &'static str
@@ -217,13 +224,14 @@ fn redundant_of(
 {
     let all = rule_places(alloc, decided)?;
     let known = known_places(alloc, decided.units, all.as_slice())?;
-    match going_of(alloc, states, decided, &known) {
-        Ok(going) => going_printed(
+    spared_rules_change_no_reply();
+    match redundant_in(alloc, states, decided, &known) {
+        Ok(redundant) => redundant_printed(
             alloc,
             options.is_json,
             decided,
             known.places.as_slice(),
-            &going,
+            &redundant,
         ),
         Err(fault) => untold_of(alloc, states, options, decided, fault),
     }
@@ -244,8 +252,8 @@ impl Use for Looking<'_> {
     }
 }
 
-/// Prints the rules of the one policy that files are without which every reply is as it is, each once where it stands, and those that can
-/// go together. Where that can't be told of a profile, that profile and why.
+/// Prints the rules of the one policy that files are without which every reply is as it is, each once where it stands and why, and those
+/// that can go together. Where that can't be told of a profile, that profile and why.
 pub fn redundant_files<T: Tree>(
     alloc: Global,
     tree: &T,

@@ -2,14 +2,25 @@
 
 ghost use Rattle.std.specs.Prelude.{◌≡◌, ◌++◌, codes, map, OnOk};
 ghost use Rattle.aa_text.specs.Jsons.{key_text, member_text, list_text};
-ghost use Rattle.aa_redundant.specs.Told.{telling};
-ghost use Rattle.aa_redundant.specs.Json.{json_rule, json_rules};
+ghost use Rattle.aa_redundant.specs.Told.{telling, explaining};
+ghost use Rattle.aa_redundant.specs.Json.{json_told, json_rule, reason_key, json_explained, json_rules};
 
+use crate::explained::ExplainedRule;
 use crate::told::ToldRule;
 use aa_text::{
     ToJson, push_json_place, push_key, push_list, push_list_member, push_member, push_text,
 };
 use std::alloc::{AllocError, Global};
+
+/// Appends where a rule stands, and how it reads.
+#[tactic(auto, unfolding(crate::specs::Json::json_told))]
+fn push_json_told(out: &mut Vec<u8>, alloc: Global, rule: &ToldRule) -> Result<(), AllocError>
+    ensures { OnOk result (out.new.items ≡ out.old.items ++ json_told (telling rule.now)) }
+{
+    push_text(out, "{")?;
+    push_json_place(out, alloc, rule.path.as_slice(), Some(rule.place))?;
+    push_member(out, alloc, "rule", &rule.text)
+}
 
 impl ToJson for ToldRule {
     ghost use Rattle.aa_redundant.specs.Told.{telling};
@@ -17,11 +28,46 @@ impl ToJson for ToldRule {
 
     ghost json = { λ rule. json_rule (telling rule) };
 
-    #[tactic(auto, unfolding(crate::specs::Json::json_rule))]
     fn push_json(&self, out: &mut Vec<u8>, alloc: Global) -> Result<(), AllocError> {
-        push_text(out, "{")?;
-        push_json_place(out, alloc, self.path.as_slice(), Some(self.place))?;
-        push_member(out, alloc, "rule", &self.text)?;
+        push_json_told(out, alloc, self)?;
+        push_text(out, "}")
+    }
+}
+
+fn reason_key(is_covered: bool) -> &'static str
+    ensures { result.now ≡ reason_key is_covered }
+{
+    if is_covered {
+        "covered_by"
+    } else {
+        "overruled_by"
+    }
+}
+
+/// Appends the others as a member.
+fn push_others(
+    out: &mut Vec<u8>,
+    alloc: Global,
+    key: &str,
+    rules: &[ToldRule],
+) -> Result<(), AllocError>
+    ensures { OnOk result (out.new.items ≡ out.old.items ++ member_text key.now (list_text (map json_rule (map telling rules.now)))) }
+{
+    push_list_member(out, alloc, key, rules)?;
+    Ok(())
+}
+
+impl ToJson for ExplainedRule {
+    ghost use Rattle.aa_redundant.specs.Told.{explaining};
+    ghost use Rattle.aa_redundant.specs.Json.{json_explained};
+
+    ghost json = { λ rule. json_explained (explaining rule) };
+
+    #[tactic(auto, unfolding(crate::specs::Json::json_explained))]
+    fn push_json(&self, out: &mut Vec<u8>, alloc: Global) -> Result<(), AllocError> {
+        push_json_told(out, alloc, &self.rule)?;
+        let others = self.others.as_slice();
+        push_others(out, alloc, reason_key(self.is_covered), others)?;
         push_text(out, "}")
     }
 }
@@ -34,17 +80,14 @@ fn push_first(out: &mut Vec<u8>, key: &str) -> Result<(), AllocError>
     push_key(out, key)
 }
 
-fn push_told(out: &mut Vec<u8>, alloc: Global, rules: &[ToldRule]) -> Result<(), AllocError>
-    ensures { OnOk result (out.new.items ≡ out.old.items ++ list_text (map json_rule (map telling rules.now))) }
+fn push_explained(
+    out: &mut Vec<u8>,
+    alloc: Global,
+    rules: &[ExplainedRule],
+) -> Result<(), AllocError>
+    ensures { OnOk result (out.new.items ≡ out.old.items ++ list_text (map json_explained (map explaining rules.now))) }
 {
     push_list(out, alloc, rules)?;
-    Ok(())
-}
-
-fn push_going(out: &mut Vec<u8>, alloc: Global, rules: &[ToldRule]) -> Result<(), AllocError>
-    ensures { OnOk result (out.new.items ≡ out.old.items ++ member_text (codes "may_go") (list_text (map json_rule (map telling rules.now)))) }
-{
-    push_list_member(out, alloc, "may_go", rules)?;
     Ok(())
 }
 
@@ -53,13 +96,13 @@ fn push_going(out: &mut Vec<u8>, alloc: Global, rules: &[ToldRule]) -> Result<()
 pub(crate) fn push_json_rules(
     out: &mut Vec<u8>,
     alloc: Global,
-    redundant: &[ToldRule],
+    redundant: &[ExplainedRule],
     going: &[ToldRule],
 ) -> Result<(), AllocError>
-    ensures { OnOk result (out.new.items ≡ out.old.items ++ json_rules (map telling redundant.now) (map telling going.now)) }
+    ensures { OnOk result (out.new.items ≡ out.old.items ++ json_rules (map explaining redundant.now) (map telling going.now)) }
 {
     push_first(out, "redundant")?;
-    push_told(out, alloc, redundant)?;
-    push_going(out, alloc, going)?;
+    push_explained(out, alloc, redundant)?;
+    push_others(out, alloc, "may_go", going)?;
     push_text(out, "}\n")
 }

@@ -1,9 +1,10 @@
 //! Redundant rules as they are printed.
 
 ghost use Rattle.std.specs.Prelude.{◌≡◌, ◌++◌, map, flat_map, OnOk};
-ghost use Rattle.aa_redundant.specs.Told.{telling};
-ghost use Rattle.aa_redundant.specs.Shown.{rule_line, count_line, rules_text};
+ghost use Rattle.aa_redundant.specs.Told.{telling, explaining};
+ghost use Rattle.aa_redundant.specs.Shown.{rule_line, other_line, reason_word, reason_lines, explained_lines, count_line, rules_text};
 
+use crate::explained::ExplainedRule;
 use crate::told::ToldRule;
 use aa_text::{push_number, push_text, push_visible, push_where};
 use std::alloc::AllocError;
@@ -30,6 +31,66 @@ fn push_each(out: &mut Vec<u8>, word: &str, rules: &[ToldRule]) -> Result<(), Al
     Ok(())
 }
 
+/// Appends one of the other rules in a line: `WORD PLACE: RULE`, indented.
+#[tactic(auto, unfolding(crate::specs::Shown::other_line))]
+fn push_other(out: &mut Vec<u8>, word: &str, rule: &ToldRule) -> Result<(), AllocError>
+    ensures { OnOk result (out.new.items ≡ out.old.items ++ other_line word.now (telling rule.now)) }
+{
+    push_text(out, "    ")?;
+    push_text(out, word)?;
+    push_text(out, " ")?;
+    push_where(out, rule.path.as_slice(), rule.place)?;
+    push_text(out, ": ")?;
+    push_visible(out, rule.text.as_slice())?;
+    push_text(out, "\n")
+}
+
+fn push_others(out: &mut Vec<u8>, word: &str, rules: &[ToldRule]) -> Result<(), AllocError>
+    ensures { OnOk result (out.new.items ≡ out.old.items ++ flat_map (other_line word.now) (map telling rules.now)) }
+{
+    for rule in rules {
+        push_other(out, word, rule)?;
+    }
+    Ok(())
+}
+
+fn reason_word(is_covered: bool) -> &'static str
+    ensures { result.now ≡ reason_word is_covered }
+{
+    if is_covered {
+        "covered by"
+    } else {
+        "overruled by"
+    }
+}
+
+/// Appends beside which other rules a rule changes nothing.
+fn push_reason(out: &mut Vec<u8>, is_covered: bool, others: &[ToldRule]) -> Result<(), AllocError>
+    ensures { OnOk result (out.new.items ≡ out.old.items ++ reason_lines is_covered (map telling others.now)) }
+{
+    if others.is_empty() {
+        return push_text(out, "    matches nothing that can be asked for\n");
+    }
+    push_others(out, reason_word(is_covered), others)
+}
+
+/// Appends a redundant rule, and why.
+fn push_explained(out: &mut Vec<u8>, rule: &ExplainedRule) -> Result<(), AllocError>
+    ensures { OnOk result (out.new.items ≡ out.old.items ++ explained_lines (explaining rule.now)) }
+{
+    push_line(out, "redundant", &rule.rule)?;
+    push_reason(out, rule.is_covered, rule.others.as_slice())
+}
+
+fn push_each_explained(out: &mut Vec<u8>, rules: &[ExplainedRule]) -> Result<(), AllocError>
+    ensures { OnOk result (out.new.items ≡ out.old.items ++ flat_map explained_lines (map explaining rules.now)) }
+{
+    for rule in rules {
+        push_explained(out, rule)?;
+    }
+    Ok(())
+}
+
 /// Appends how many rules are redundant, and how many of these may go together.
 #[tactic(auto, unfolding(crate::specs::Shown::count_line))]
 fn push_count(out: &mut Vec<u8>, redundant: usize, going: usize) -> Result<(), AllocError>
@@ -44,12 +105,12 @@ fn push_count(out: &mut Vec<u8>, redundant: usize, going: usize) -> Result<(), A
 /// Appends the rules that can go by themselves, those that can go together, and how many these are.
 pub(crate) fn push_rules(
     out: &mut Vec<u8>,
-    redundant: &[ToldRule],
+    redundant: &[ExplainedRule],
     going: &[ToldRule],
 ) -> Result<(), AllocError>
-    ensures { OnOk result (out.new.items ≡ out.old.items ++ rules_text (map telling redundant.now) (map telling going.now)) }
+    ensures { OnOk result (out.new.items ≡ out.old.items ++ rules_text (map explaining redundant.now) (map telling going.now)) }
 {
-    push_each(out, "redundant", redundant)?;
+    push_each_explained(out, redundant)?;
     push_each(out, "may go", going)?;
     push_count(out, redundant.len(), going.len())
 }

@@ -21,7 +21,11 @@ pub(crate) struct ToldRule {
 }
 
 /// The rule that stands there in a unit.
-fn rule_at(alloc: Global, unit: &PlacedUnit<'_>, at: Spot) -> Result<ToldRule, AllocError>
+pub(crate) fn rule_at(
+    alloc: Global,
+    unit: &PlacedUnit<'_>,
+    at: Spot,
+) -> Result<ToldRule, AllocError>
     ensures { IfOk result (λ rule. telling rule ≡ rule_at at unit.now) }
 {
     let (path, text) = text_at(unit.unit(), at.file);
@@ -52,7 +56,7 @@ fn push_rule_in(
 }
 
 /// Adds the rule of a place.
-fn push_rule(
+pub(crate) fn push_rule(
     rules: &mut Vec<ToldRule>,
     alloc: Global,
     units: &[PlacedUnit<'_>],

@@ -10,12 +10,12 @@ use Rattle.aa_redundancy.proofs.going.mark_if_goes.Goals as goal
 pub returns-then-not-is_wanted : goal.returns-then-not-is_wanted
 returns-then-not-is_wanted c =
     left_mark (SameTables c.args.tables.now) (tables_same c.args.tables.now) c.args.wanted.now c.args.gone.now.items c.args.number c.requires.later c.requires.all
-    (sym c.is_gone-is_wanted.ensures ∙ c.if-not-is_wanted.true)
+    (sym c.is_marked-is_wanted.ensures ∙ c.if-not-is_wanted.true)
 
 pub returns-then-goes : goal.returns-then-goes
 returns-then-goes c =
     kept_mark (SameTables c.args.tables.now) (tables_same c.args.tables.now) c.args.wanted.now c.args.gone.now.items c.args.number c.requires.within c.requires.later
-    (sym c.is_gone-is_wanted.ensures ∙ c.if-not-is_wanted.false)
+    (sym c.is_marked-is_wanted.ensures ∙ c.if-not-is_wanted.false)
     (subst (λ (fs : List Bool). SameTables c.args.tables.now (marked fs)) c.as_slice.ensures.value
     (rest_goes c.args.tables.now (lists c.args.listed.now) c.args.gone.now.items c.as_slice.result.now c.args.number c.requires.rows
     (within_lists c.args.listed.now c.args.gone.now.items c.args.number c.requires.many c.requires.within) c.as_slice.ensures.value c.requires.all (c.same_without-goes.ensures.same c.if-goes.true)))

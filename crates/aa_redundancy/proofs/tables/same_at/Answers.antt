@@ -2,13 +2,15 @@ use Rattle.std.proofs.Common.{ℕ, List, Contains, sym, subst}
 use Rattle.std.proofs.lemmas.List.Elements.{Contains-get_or}
 use Rattle.aa_redundancy.specs.declared.marks.RuleMark.{RuleMark}
 use Rattle.aa_redundancy.specs.Without.{marked}
-use Rattle.aa_redundancy.specs.Tables.{SameRows}
+use Rattle.aa_redundancy.specs.Tables.{Equal, RowsRelated}
 use Rattle.aa_redundancy.proofs.tables.same_at.Goals as goal
 
 pub returns-clause-differs : goal.returns-clause-differs
 returns-clause-differs c = λ e s.
     let t = c.index-tables-row.result in
+    let gone = marked c.args.gone.now in
+    let others = marked c.args.others.now in
     let there : Contains c.args.tables.now t = subst (Contains c.args.tables.now) (sym c.index-tables-row.is) (Contains-get_or c.args.tables.now c.args.row.table t c.if-row-tables.false) in
     c.same_in.ensures.differs e
-    (subst (λ (ms : List RuleMark). SameRows ms (marked c.args.gone.now) c.as_slice-2.result.now) (sym c.as_slice.ensures.value)
-    (subst (λ (rs : List (List ℕ)). SameRows t.marks.items (marked c.args.gone.now) rs) (sym c.as_slice-2.ensures.value) (s t there)))
+    (subst (λ (ms : List RuleMark). RowsRelated Equal ms gone others c.as_slice.result.now) (sym c.as_slice-marks.ensures.value)
+    (subst (λ (rs : List (List ℕ)). RowsRelated Equal t.marks.items gone others rs) (sym c.as_slice.ensures.value) (s t there)))
