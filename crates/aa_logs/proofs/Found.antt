@@ -1,32 +1,12 @@
--- Fields by their keys, parts of texts, and numbers digit by digit.
+-- Parts of texts, and numbers digit by digit.
 use Rattle.std.proofs.Common.{◌≡◌, ℕ, ◌+◌, ◌-◌, ◌*◌, ◌^◌, ◌<◌, ◌≤◌, Bool, true, false, ◌&&◌, List, [], ◌∷◌}
-use Rattle.std.proofs.Common.{◌++◌, length, take, drop, get_or, map, cond, refl, sym, ◌∙◌, ap, arith, Option, Some, None}
-use Rattle.std.specs.Prelude.{reverse, find, count_by, option_map, nat_eq, nat_lt}
+use Rattle.std.proofs.Common.{length, drop, get_or, map, cond, refl, sym, ◌∙◌, ap, arith, Option, Some, None}
+use Rattle.std.specs.Prelude.{count_by, option_map, nat_eq, nat_lt}
 use Rattle.std.specs.List.{starts_with, list_any, fold}
-use Rattle.std.specs.Str.{bytes_eq}
-use Rattle.std.proofs.lemmas.List.{length-drop, reverse-append, map-append, at_drop_more, at_drop_all}
-use Rattle.aa_logs.specs.declared.word.LogWord.{LogWord}
-use Rattle.aa_logs.specs.Words.{WordData, word_data, words_data, last_of}
-use Rattle.aa_logs.specs.Values.{name_in}
-use Rattle.aa_logs.specs.Fields.{field_in, raw_in, text_in, place_of, is_digit, number_from, number_in}
+use Rattle.std.proofs.lemmas.List.{length-drop, at_drop_more, at_drop_all}
+use Rattle.aa_logs.specs.Fields.{place_of, is_digit, number_from, number_in}
 
 module _ {X Y : Type 0} (f : X → Y) where
-  reverse-map : (xs : List X) → reverse (map f xs) ≡ map f (reverse xs)
-  reverse-map [] = refl
-  reverse-map (x ∷ xs) =
-      reverse-append (f x ∷ []) (map f xs)
-      ∙ (ap (λ (t : List Y). t ++ f x ∷ []) (reverse-map xs)
-      ∙ (sym (map-append f (reverse xs) (x ∷ []))
-      ∙ ap (map f) (sym (reverse-append (x ∷ []) xs))))
-
-  found : (b : Bool) (x : X) (r : Option Y) (s : Option X) → r ≡ option_map f s → cond b (Some (f x)) r ≡ option_map f (cond b (Some x) s)
-  found true x r s e = refl
-  found false x r s e = e
-
-  find-map : (p : Y → Bool) (xs : List X) → find p (map f xs) ≡ option_map f (find (λ x. p (f x)) xs)
-  find-map p [] = refl
-  find-map p (x ∷ xs) = found (p (f x)) x (find p (map f xs)) (find (λ y. p (f y)) xs) (find-map p xs)
-
   pub any-map : (p : Y → Bool) (xs : List X) → list_any p (map f xs) ≡ list_any (λ x. p (f x)) xs
   any-map p [] = refl
   any-map p (x ∷ xs) = cc (any-map p xs)
@@ -37,30 +17,6 @@ module _ {X Y : Type 0} (f : X → Y) where
 
   pub count-map : (p : Y → Bool) (xs : List X) → count_by p (map f xs) ≡ count_by (λ x. p (f x)) xs
   count-map p xs = sum-map p 0 xs
-
--- the field with a key, among words and among what they say
-pub field_data : (key : List ℕ) (ws : List LogWord) → field_in key (words_data ws) ≡ option_map word_data (last_of key ws)
-unfolding field_in
-field_data key ws =
-    ap (find (λ (w : WordData). bytes_eq w.key key)) (reverse-map word_data ws)
-    ∙ find-map word_data (λ (w : WordData). bytes_eq w.key key) (reverse ws)
-
-shown : {A : Type 0} (show : WordData → A) (k key : List ℕ) (ws : List LogWord) (o : Option LogWord) → k ≡ key → o ≡ last_of k ws → option_map show (option_map word_data o) ≡ option_map show (field_in key (words_data ws))
-shown show k key ws o e f =
-    ap (λ (q : Option LogWord). option_map show (option_map word_data q)) (f ∙ ap (λ (q : List ℕ). last_of q ws) e)
-    ∙ sym (ap (option_map show) (field_data key ws))
-
-pub raw_some : (k key : List ℕ) (ws : List LogWord) (w : LogWord) → k ≡ key → Some w ≡ last_of k ws → Some (w.text.now) ≡ raw_in key (words_data ws)
-raw_some k key ws w e f = shown (λ (w : WordData). w.text) k key ws (Some w) e f
-
-pub raw_none : (k key : List ℕ) (ws : List LogWord) → k ≡ key → None ≡ last_of k ws → None ≡ raw_in key (words_data ws)
-raw_none k key ws e f = shown (λ (w : WordData). w.text) k key ws None e f
-
-pub text_some : (k key : List ℕ) (ws : List LogWord) (w : LogWord) (name : List ℕ) → k ≡ key → Some w ≡ last_of k ws → name ≡ name_in (word_data w) → Some name ≡ text_in key (words_data ws)
-text_some k key ws w name e f g = ap Some g ∙ shown name_in k key ws (Some w) e f
-
-pub text_none : (k key : List ℕ) (ws : List LogWord) → k ≡ key → None ≡ last_of k ws → None ≡ text_in key (words_data ws)
-text_none k key ws e f = shown name_in k key ws None e f
 
 -- a part stands first, or behind the first byte
 place_case : (part t : List ℕ) → 0 < length t → place_of part t ≡ cond (starts_with nat_eq t part) (Some 0) (option_map (λ n. n + 1) (place_of part (drop 1 t)))

@@ -1,5 +1,5 @@
 -- The letters of a mask, one by one.
-use Rattle.std.proofs.Common.{◌≡◌, ℕ, ◌+◌, ◌<◌, List, [], ◌∷◌, ◌++◌, refl, length, drop, get_or, Option, Some, None, ap, sym, ◌∙◌, ◌≤◌}
+use Rattle.std.proofs.Common.{◌≡◌, ℕ, ◌+◌, ◌<◌, List, length, drop, get_or, Option, Some, None, ap, sym, ◌∙◌, ◌≤◌}
 use Rattle.std.specs.Prelude.{option_and_then, bit_or}
 use Rattle.std.proofs.lemmas.List.{at_drop_more, at_drop_all}
 use Rattle.aa_logs.specs.Masks.{letter_bits, letters_bits}

@@ -10,3 +10,5 @@ pub mod Telling
 pub mod Placed
 pub mod Cells
 pub mod Cutting
+pub mod ByKeys
+pub mod KeyBytes

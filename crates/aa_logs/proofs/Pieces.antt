@@ -1,8 +1,8 @@
 -- Reading piece by piece.
-use Rattle.std.proofs.Common.{◌≡◌, ℕ, zero, suc, ◌+◌, ◌-◌, ◌<◌, ◌≤◌, Bool, true, false, not, List, [], ◌∷◌, ◌++◌, length, take, drop, cond, refl, sym, ◌∙◌, ap, arith, append_assoc}
+use Rattle.std.proofs.Common.{◌≡◌, ℕ, zero, suc, ◌+◌, ◌-◌, ◌<◌, Bool, true, false, not, List, [], ◌∷◌, ◌++◌, length, take, drop, cond, refl, sym, ◌∙◌, ap, arith, append_assoc}
 use Rattle.std.specs.Prelude.{option_to_list, Option, Some, None, position, ◌==◌, ◌&&◌, nat_lt}
 use Rattle.std.proofs.lemmas.List.{length-drop, take_all, append-nil}
-use Rattle.aa_logs.specs.Words.{is_separator, run_len, key_len, plain_piece, quoted_piece, field_piece, run_piece, keyed_piece, first_piece, words_behind, words_of, WordData, PieceData}
+use Rattle.aa_logs.specs.Words.{is_separator, run_len, key_len, quoted_piece, field_piece, keyed_piece, first_piece, words_behind, words_of, WordData, PieceData}
 
 -- the words behind so many bytes are those of what stands there
 pub words_behind-drop : (n : ℕ) (line : List ℕ) → words_behind n line ≡ words_of (drop n line)

@@ -1,6 +1,7 @@
 pub mod Asked
 pub mod Chosen
 pub mod Fields
+pub mod Keys
 pub mod Masks
 pub mod Outcomes
 pub mod Records

@@ -1,6 +1,6 @@
 -- What a line of a log is: another's, one that asks nothing, or a record of what was asked and what became of it.
 -- Source: as the kernel and the audit daemon write; as the kernel numbers records; as the audit daemon writes; own.
-use Rattle.std.specs.Prelude.{◌≡◌, ℕ, ◌+◌, ◌-◌, ◌==◌, ◌||◌, ◌&&◌, not, nat_le, nat_lt, nat_eq, List, [], ◌∷◌, length, take}
+use Rattle.std.specs.Prelude.{ℕ, ◌-◌, ◌==◌, ◌||◌, ◌&&◌, not, nat_le, nat_lt, nat_eq, List, [], ◌∷◌, length, take}
 use Rattle.std.specs.Prelude.{drop, codes, count_by, Bool, true, false, if◌then◌else◌, Option, Some, None, is_some, slice_get, Result, Ok, Err}
 use Rattle.std.specs.List.{starts_with, list_any, prefix_len}
 use Rattle.std.specs.Option.{option_and_then, option_or}
@@ -127,6 +127,14 @@ is_open w = is_form_open w.form
 -- a quote that isn't closed, a stamp that is none, two stamps
 unfoldable pub is_broken : List WordData → Bool
 is_broken ws = list_any is_open ws || list_any is_false_stamp ws || nat_lt 1 (count_by begins_stamp ws)
+
+-- whether a stamp has come, with one word more; none where no line has such words
+abbrev pub stamped_by : Bool → WordData → Option Bool
+stamped_by stamped w =
+    if is_open w then None
+    else (if not (begins_stamp w) then Some stamped
+    else (if stamped || is_false_stamp w then None
+    else Some true))
 
 -- a namespace is named that isn't the first one
 abbrev pub is_other_space : Option (List ℕ) → Bool

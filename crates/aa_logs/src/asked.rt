@@ -4,15 +4,15 @@ ghost use Rattle.std.specs.Prelude.{◌≡◌, ◌==◌, ◌||◌, option_map, N
 ghost use Rattle.std.specs.Option.{option_and_then, option_or};
 ghost use Rattle.aa_model.specs.Requests.{is_path};
 ghost use Rattle.aa_logs.specs.declared.line.Reason.TheVariants.{Mask, Path};
-ghost use Rattle.aa_logs.specs.Words.{words_data};
 ghost use Rattle.aa_logs.specs.Masks.{letters_bits};
 ghost use Rattle.aa_logs.specs.Fields.{raw_in, place_of};
 ghost use Rattle.aa_logs.specs.Asked.{Tells, Because, keyword_of, passed_over, halves_by, halves_at, halves_in, mask_owner, mask_of, asked_mask, owned_in, is_text_there, cap_in, exec_in, link_in, change_in, net_by, file_in, requested, object_in, by_operation, asked_in, because, made_of};
 
 use crate::field::{begins, either_text, is_text, number_in, place_of, raw_of, text_of};
+use crate::key::Key;
+use crate::keyed::KeyedWords;
 use crate::line::{Reason, Refusal};
 use crate::mask::{letters_of, owned_by};
-use crate::word::LogWord;
 use aa_base::{Cap, Family, Perms, SockType};
 use aa_model::{Request, RequestFault};
 use bitflags::Flags;
@@ -93,10 +93,10 @@ fn keyword(operation: &[u8]) -> Option<&'static str>
 }
 
 /// The keyword of the rule that a line is about and that never decides here, by its class or else by its operation.
-fn passed_over(words: &[LogWord<'_>], operation: &[u8]) -> Option<&'static str>
-    ensures { option_map (λ k. k.now) result ≡ passed_over operation.now (words_data words.now) }
+fn passed_over(words: &KeyedWords<'_>, operation: &[u8]) -> Option<&'static str>
+    ensures { option_map (λ k. k.now) result ≡ passed_over operation.now words.now }
 {
-    let by_class = match raw_of(words, "class") {
+    let by_class = match raw_of(words, Key::Class) {
         Some(class) => keyword(class),
         None => None,
     };
@@ -161,34 +161,38 @@ fn asked_by(text: &[u8]) -> Option<Asked>
     mask_of(letters_of(Perms(0), letters), owned)
 }
 
-fn is_owned(words: &[LogWord<'_>], by_mask: Option<bool>) -> bool
-    ensures { result ≡ owned_in by_mask (words_data words.now) }
+fn is_owned(words: &KeyedWords<'_>, by_mask: Option<bool>) -> bool
+    ensures { result ≡ owned_in by_mask words.now }
 {
-    owned_by(number_in(words, "fsuid"), number_in(words, "ouid"), by_mask)
+    owned_by(
+        number_in(words, Key::Fsuid),
+        number_in(words, Key::Ouid),
+        by_mask,
+    )
 }
 
 /// Whose the object is, by an old mask.
-fn mask_owner(words: &[LogWord<'_>]) -> Option<bool>
-    ensures { result ≡ mask_owner (words_data words.now) }
+fn mask_owner(words: &KeyedWords<'_>) -> Option<bool>
+    ensures { result ≡ mask_owner words.now }
 {
-    match raw_of(words, "requested_mask") {
+    match raw_of(words, Key::RequestedMask) {
         Some(letters) => owner_in(letters),
         None => None,
     }
 }
 
 /// The name of a capability.
-fn cap_name<'s>(words: &[LogWord<'s>]) -> Option<&'s [u8]>
-    ensures { option_map (λ t. t.now) result ≡ option_or (raw_in (codes "capname") (words_data words.entry.now)) (raw_in (codes "name") (words_data words.entry.now)) }
+fn cap_name<'s>(words: &KeyedWords<'s>) -> Option<&'s [u8]>
+    ensures { option_map (λ t. t.now) result ≡ option_or (raw_in (codes "capname") words.entry.now) (raw_in (codes "name") words.entry.now) }
 {
-    match raw_of(words, "capname") {
+    match raw_of(words, Key::Capname) {
         Some(name) => Some(name),
-        None => raw_of(words, "name"),
+        None => raw_of(words, Key::Name),
     }
 }
 
-fn cap_of(words: &[LogWord<'_>]) -> Result<Request, Refusal>
-    ensures { Tells (λ r. r) result (cap_in (words_data words.now)) }
+fn cap_of(words: &KeyedWords<'_>) -> Result<Request, Refusal>
+    ensures { Tells (λ r. r) result (cap_in words.now) }
 {
     let Some(name) = cap_name(words) else {
         return Err(Refusal::Skipped(Reason::Capability));
@@ -199,33 +203,33 @@ fn cap_of(words: &[LogWord<'_>]) -> Result<Request, Refusal>
     }
 }
 
-fn exec_of(alloc: Global, words: &[LogWord<'_>]) -> Result<Request, Refusal>
-    ensures { Tells (λ r. r) result (exec_in (words_data words.now)) }
+fn exec_of(alloc: Global, words: &KeyedWords<'_>) -> Result<Request, Refusal>
+    ensures { Tells (λ r. r) result (exec_in words.now) }
 {
-    let Some(path) = text_of(alloc, words, "name")? else {
+    let Some(path) = text_of(alloc, words, Key::Name)? else {
         return Err(Refusal::Skipped(Reason::Path));
     };
     let owned = is_owned(words, mask_owner(words));
     made(Request::exec(alloc, path.as_slice(), owned))
 }
 
-fn link_of(alloc: Global, words: &[LogWord<'_>]) -> Result<Request, Refusal>
-    ensures { Tells (λ r. r) result (link_in (words_data words.now)) }
+fn link_of(alloc: Global, words: &KeyedWords<'_>) -> Result<Request, Refusal>
+    ensures { Tells (λ r. r) result (link_in words.now) }
 {
-    let Some(link) = text_of(alloc, words, "name")? else {
+    let Some(link) = text_of(alloc, words, Key::Name)? else {
         return Err(Refusal::Skipped(Reason::Path));
     };
-    let Some(target) = either_text(alloc, words, "target", "name2")? else {
+    let Some(target) = either_text(alloc, words, Key::Target, Key::Name2)? else {
         return Err(Refusal::Skipped(Reason::Path));
     };
     let owned = is_owned(words, mask_owner(words));
     made(Request::link(alloc, link.as_slice(), target.as_slice(), owned))
 }
 
-fn change_of(alloc: Global, words: &[LogWord<'_>]) -> Result<Request, Refusal>
-    ensures { Tells (λ r. r) result (change_in (words_data words.now)) }
+fn change_of(alloc: Global, words: &KeyedWords<'_>) -> Result<Request, Refusal>
+    ensures { Tells (λ r. r) result (change_in words.now) }
 {
-    let Some(name) = either_text(alloc, words, "target", "name")? else {
+    let Some(name) = either_text(alloc, words, Key::Target, Key::Name)? else {
         return Err(Refusal::Skipped(Reason::Name));
     };
     made(Request::change(alloc, name.as_slice()))
@@ -250,10 +254,10 @@ fn no_mask(alloc: Global, path: &[u8]) -> Result<Request, Refusal>
     made(Request::file(alloc, path, Perms(0), false))
 }
 
-fn file_of(alloc: Global, words: &[LogWord<'_>], letters: &[u8]) -> Result<Request, Refusal>
-    ensures { Tells (λ r. r) result (file_in (words_data words.now) letters.now) }
+fn file_of(alloc: Global, words: &KeyedWords<'_>, letters: &[u8]) -> Result<Request, Refusal>
+    ensures { Tells (λ r. r) result (file_in words.now letters.now) }
 {
-    let Some(path) = text_of(alloc, words, "name")? else {
+    let Some(path) = text_of(alloc, words, Key::Name)? else {
         return Err(Refusal::Skipped(Reason::Operation));
     };
     let Some(asked) = asked_by(letters) else {
@@ -264,20 +268,20 @@ fn file_of(alloc: Global, words: &[LogWord<'_>], letters: &[u8]) -> Result<Reque
 }
 
 /// The use of a file that a requested mask asks for.
-fn requested(alloc: Global, words: &[LogWord<'_>]) -> Result<Request, Refusal>
-    ensures { Tells (λ r. r) result (requested (words_data words.now)) }
+fn requested(alloc: Global, words: &KeyedWords<'_>) -> Result<Request, Refusal>
+    ensures { Tells (λ r. r) result (requested words.now) }
 {
-    match raw_of(words, "requested_mask") {
+    match raw_of(words, Key::RequestedMask) {
         Some(letters) => file_of(alloc, words, letters),
         None => Err(Refusal::Skipped(Reason::Operation)),
     }
 }
 
 /// The request of an operation that isn't known by its name.
-fn object_of(alloc: Global, words: &[LogWord<'_>]) -> Result<Request, Refusal>
-    ensures { Tells (λ r. r) result (object_in (words_data words.now)) }
+fn object_of(alloc: Global, words: &KeyedWords<'_>) -> Result<Request, Refusal>
+    ensures { Tells (λ r. r) result (object_in words.now) }
 {
-    match (raw_of(words, "family"), raw_of(words, "sock_type")) {
+    match (raw_of(words, Key::Family), raw_of(words, Key::SockType)) {
         (Some(family), Some(kind)) => net_of(family, kind),
         _ => requested(alloc, words),
     }
@@ -285,8 +289,8 @@ fn object_of(alloc: Global, words: &[LogWord<'_>]) -> Result<Request, Refusal>
 
 /// The request of an operation that rules decide here.
 #[tactic(auto, unfolding(crate::specs::Asked::by_operation))]
-fn by_operation(alloc: Global, words: &[LogWord<'_>], operation: &[u8]) -> Result<Request, Refusal>
-    ensures { Tells (λ r. r) result (by_operation (words_data words.now) operation.now) }
+fn by_operation(alloc: Global, words: &KeyedWords<'_>, operation: &[u8]) -> Result<Request, Refusal>
+    ensures { Tells (λ r. r) result (by_operation words.now operation.now) }
 {
     if is_text(operation, "capable") {
         return cap_of(words);
@@ -304,10 +308,10 @@ fn by_operation(alloc: Global, words: &[LogWord<'_>], operation: &[u8]) -> Resul
 }
 
 /// Whether a line says that no rule decided, since the task may gain no privileges.
-fn is_without_rule(words: &[LogWord<'_>]) -> bool
-    ensures { result ≡ is_text_there (codes "no new privs") (raw_in (codes "info") (words_data words.now)) }
+fn is_without_rule(words: &KeyedWords<'_>) -> bool
+    ensures { result ≡ is_text_there (codes "no new privs") (raw_in (codes "info") words.now) }
 {
-    match raw_of(words, "info") {
+    match raw_of(words, Key::Info) {
         Some(text) => is_text(text, "no new privs"),
         None => false,
     }
@@ -315,10 +319,10 @@ fn is_without_rule(words: &[LogWord<'_>]) -> bool
 
 /// The request that the fields of a line are, or why they are none.
 #[tactic(auto, unfolding(crate::specs::Asked::asked_in))]
-pub(crate) fn asked_of(alloc: Global, words: &[LogWord<'_>]) -> Result<Request, Refusal>
-    ensures { Tells (λ r. r) result (asked_in (words_data words.now)) }
+pub(crate) fn asked_of(alloc: Global, words: &KeyedWords<'_>) -> Result<Request, Refusal>
+    ensures { Tells (λ r. r) result (asked_in words.now) }
 {
-    let Some(operation) = raw_of(words, "operation") else {
+    let Some(operation) = raw_of(words, Key::Operation) else {
         return Err(Refusal::Skipped(Reason::Broken));
     };
     if is_without_rule(words) {

@@ -8,8 +8,9 @@ ghost use Rattle.aa_logs.specs.Words.{word_data, words_data};
 ghost use Rattle.aa_logs.specs.Chosen.{is_among, is_from, is_up_to, is_between, second_at, is_stamp_between, is_in_time, are_chosen, is_chosen};
 
 use crate::field::{either_text, number_of};
+use crate::key::Key;
+use crate::keyed::{KeyedWords, keyed_words};
 use crate::line::{begins_stamp, digits, is_time, without_return};
-use crate::reading::read_line;
 use crate::word::LogWord;
 use std::alloc::{AllocError, Global};
 use std::borrow::CowSlice;
@@ -106,11 +107,15 @@ fn is_in_time(since: Option<u64>, until: Option<u64>, words: &[LogWord<'_>]) -> 
     (since.is_none() && until.is_none()) || has_stamp_between(since, until, words)
 }
 
-fn are_chosen(alloc: Global, choice: &Choice<'_>, words: &[LogWord<'_>]) -> Result<bool, AllocError>
-    ensures { IfOk result (λ chosen. chosen ≡ are_chosen (map (λ n. n.items) choice.now.profiles.now) choice.now.since choice.now.until (words_data words.now)) }
+fn are_chosen(
+    alloc: Global,
+    choice: &Choice<'_>,
+    words: &KeyedWords<'_>,
+) -> Result<bool, AllocError>
+    ensures { IfOk result (λ chosen. chosen ≡ are_chosen (map (λ n. n.items) choice.now.profiles.now) choice.now.since choice.now.until words.now) }
 {
-    let profile = either_text(alloc, words, "profile", "label")?;
-    Ok(is_among(choice.profiles, profile) && is_in_time(choice.since, choice.until, words))
+    let profile = either_text(alloc, words, Key::Profile, Key::Label)?;
+    Ok(is_among(choice.profiles, profile) && is_in_time(choice.since, choice.until, words.words()))
 }
 
 /// Whether a line of a log, without its end, is wanted. A CR at its end is none of its bytes.
@@ -118,6 +123,6 @@ fn are_chosen(alloc: Global, choice: &Choice<'_>, words: &[LogWord<'_>]) -> Resu
 pub fn is_chosen(alloc: Global, choice: &Choice<'_>, line: &[u8]) -> Result<bool, AllocError>
     ensures { IfOk result (λ chosen. chosen ≡ is_chosen (map (λ n. n.items) choice.now.profiles.now) choice.now.since choice.now.until line.now) }
 {
-    let words = read_line(alloc, without_return(line))?;
-    are_chosen(alloc, choice, words.as_slice())
+    let words = keyed_words(alloc, without_return(line))?;
+    are_chosen(alloc, choice, &words)
 }

@@ -5,12 +5,12 @@ ghost use Rattle.std.specs.List.{starts_with};
 ghost use Rattle.std.specs.Option.{is_some, option_and_then, option_or};
 ghost use Rattle.std.specs.Str.{bytes_eq};
 ghost use Rattle.std.specs.Cow.{cow_slice_items};
-ghost use Rattle.aa_logs.specs.Words.{words_data};
 ghost use Rattle.aa_logs.specs.Fields.{raw_in, text_in, place_of, is_digit, number_from, number_in};
+ghost use Rattle.aa_logs.specs.Keys.{key_name};
 
-use crate::reading::last_of;
+use crate::key::Key;
+use crate::keyed::KeyedWords;
 use crate::value::name_in;
-use crate::word::LogWord;
 use std::alloc::{AllocError, Global};
 use std::borrow::CowSlice;
 
@@ -48,10 +48,10 @@ pub(crate) fn has_part(text: &[u8], part: &str) -> bool
 }
 
 /// The value of a field as it stands.
-pub(crate) fn raw_of<'s>(words: &[LogWord<'s>], key: &str) -> Option<&'s [u8]>
-    ensures { option_map (λ t. t.now) result ≡ raw_in key.now (words_data words.entry.now) }
+pub(crate) fn raw_of<'s>(words: &KeyedWords<'s>, key: Key) -> Option<&'s [u8]>
+    ensures { option_map (λ t. t.now) result ≡ raw_in (key_name key) words.entry.now }
 {
-    match last_of(words, key.as_bytes()) {
+    match words.last(key) {
         Some(word) => Some(word.text),
         None => None,
     }
@@ -60,13 +60,13 @@ pub(crate) fn raw_of<'s>(words: &[LogWord<'s>], key: &str) -> Option<&'s [u8]>
 /// The bytes that the value of a field stands for which is a name.
 pub(crate) fn text_of<'s>(
     alloc: Global,
-    words: &[LogWord<'s>],
-    key: &str,
+    words: &KeyedWords<'s>,
+    key: Key,
 ) -> Result<Option<CowSlice<'s, u8, Global>>, AllocError>
-    ensures { IfOk result (λ name. option_map cow_slice_items name ≡ text_in key.now (words_data words.entry.now)) }
+    ensures { IfOk result (λ name. option_map cow_slice_items name ≡ text_in (key_name key) words.entry.now) }
 {
-    match last_of(words, key.as_bytes()) {
-        Some(word) => Ok(Some(name_in(alloc, word)?)),
+    match words.last(key) {
+        Some(word) => Ok(Some(name_in(alloc, &word)?)),
         None => Ok(None),
     }
 }
@@ -74,11 +74,11 @@ pub(crate) fn text_of<'s>(
 /// The first of two names that is there.
 pub(crate) fn either_text<'s>(
     alloc: Global,
-    words: &[LogWord<'s>],
-    first: &str,
-    second: &str,
+    words: &KeyedWords<'s>,
+    first: Key,
+    second: Key,
 ) -> Result<Option<CowSlice<'s, u8, Global>>, AllocError>
-    ensures { IfOk result (λ name. option_map cow_slice_items name ≡ option_or (text_in first.now (words_data words.entry.now)) (text_in second.now (words_data words.entry.now))) }
+    ensures { IfOk result (λ name. option_map cow_slice_items name ≡ option_or (text_in (key_name first) words.entry.now) (text_in (key_name second) words.entry.now)) }
 {
     match text_of(alloc, words, first)? {
         Some(name) => Ok(Some(name)),
@@ -120,8 +120,8 @@ pub(crate) fn number_of(text: &[u8]) -> Option<u64>
 }
 
 /// The number that is the value of a field.
-pub(crate) fn number_in(words: &[LogWord<'_>], key: &str) -> Option<u64>
-    ensures { result ≡ option_and_then number_in (raw_in key.now (words_data words.now)) }
+pub(crate) fn number_in(words: &KeyedWords<'_>, key: Key) -> Option<u64>
+    ensures { result ≡ option_and_then number_in (raw_in (key_name key) words.now) }
 {
     match raw_of(words, key) {
         Some(text) => number_of(text),

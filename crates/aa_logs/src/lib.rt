@@ -6,6 +6,8 @@ mod asked;
 mod chosen;
 mod counts;
 mod field;
+mod key;
+mod keyed;
 mod line;
 mod lines;
 mod mask;

@@ -1,18 +1,19 @@
 //! What a line of a log says: whether it is the access control's, and what was asked.
 
-ghost use Rattle.std.specs.Prelude.{◌≡◌, ◌≤◌, ◌||◌, length, codes, count_by, option_map, [], IfOk};
-ghost use Rattle.std.specs.List.{list_any, prefix_len};
+ghost use Rattle.std.specs.Prelude.{◌≡◌, ◌≤◌, ◌||◌, length, codes, option_map, [], IfOk};
+ghost use Rattle.std.specs.List.{prefix_len};
 ghost use Rattle.std.specs.Str.{bytes_eq};
 ghost use Rattle.std.specs.Cow.{cow_slice_items};
 ghost use Rattle.aa_logs.specs.Words.{word_data, words_data};
 ghost use Rattle.aa_logs.specs.Fields.{is_digit};
 ghost use Rattle.aa_logs.specs.Asked.{Tells};
 ghost use Rattle.aa_logs.specs.Outcomes.{record_data, outcome};
-ghost use Rattle.aa_logs.specs.Records.{is_mark_at, has_mark_at, is_record, told_by_word, is_one_of, told_by_type, is_old_type, told_in, behind_digits, is_time, may_be_stamp, begins_stamp, is_false_stamp, is_open, is_broken, is_other_space, profile_in, record_by, record_in, without_return, outcome_of, line_in};
+ghost use Rattle.aa_logs.specs.Records.{is_mark_at, has_mark_at, is_record, told_by_word, is_one_of, told_by_type, is_old_type, told_in, behind_digits, is_time, may_be_stamp, begins_stamp, is_false_stamp, is_open, is_broken, stamped_by, is_other_space, profile_in, record_by, record_in, without_return, outcome_of, line_in};
 
 use crate::asked::asked_of;
 use crate::field::{begins, either_text, has_part, is_digit, is_text, number_in, raw_of, text_of};
-use crate::reading::read_line;
+use crate::key::Key;
+use crate::keyed::{KeyedWords, keyed_words};
 use crate::word::{Form, LogWord};
 use aa_model::Request;
 use memchr::memchr;
@@ -273,36 +274,36 @@ fn is_open(word: &LogWord<'_>) -> bool
     }
 }
 
-fn has_open(words: &[LogWord<'_>]) -> bool
-    ensures { result ≡ list_any (λ w. is_open (word_data w)) words.now }
+/// Whether a stamp has come, with one word more; none where no line has such words.
+fn stamped_by(is_stamped: bool, word: &LogWord<'_>) -> Option<bool>
+    ensures { result ≡ stamped_by is_stamped (word_data word.now) }
 {
-    words.iter().any(|word| is_open(word))
-}
-
-fn has_false_stamp(words: &[LogWord<'_>]) -> bool
-    ensures { result ≡ list_any (λ w. is_false_stamp (word_data w)) words.now }
-{
-    words.iter().any(|word| is_false_stamp(word))
-}
-
-/// How many words begin as a stamp does.
-fn stamps(words: &[LogWord<'_>]) -> usize
-    ensures { result ≡ count_by (λ w. begins_stamp (word_data w)) words.now }
-{
-    words.iter().filter(|word| begins_stamp(word)).count()
+    if is_open(word) {
+        return None;
+    }
+    if !begins_stamp(word) {
+        return Some(is_stamped);
+    }
+    if is_stamped || is_false_stamp(word) {
+        return None;
+    }
+    Some(true)
 }
 
 /// Whether what a line's words are can't be: a quote that isn't closed, a stamp that is none, two stamps.
 fn are_broken(words: &[LogWord<'_>]) -> bool
     ensures { result ≡ is_broken (words_data words.now) }
 {
-    if has_open(words) {
-        return true;
+    let mut is_stamped = false;
+    let mut rest = words;
+    while let [word, after @ ..] = rest {
+        let Some(stamped) = stamped_by(is_stamped, word) else {
+            return true;
+        };
+        is_stamped = stamped;
+        rest = after;
     }
-    if has_false_stamp(words) {
-        return true;
-    }
-    stamps(words) > 1
+    false
 }
 
 /// Whether a namespace is named that isn't the first one.
@@ -317,13 +318,13 @@ fn is_elsewhere(space: Option<CowSlice<'_, u8, Global>>) -> bool
 
 /// The profile that asked, by its full name.
 #[tactic(auto, unfolding(crate::specs::Records::profile_in))]
-fn profile_of(alloc: Global, words: &[LogWord<'_>]) -> Result<Vec<u8>, Refusal>
-    ensures { Tells (λ name. name.items) result (profile_in (words_data words.now)) }
+fn profile_of(alloc: Global, words: &KeyedWords<'_>) -> Result<Vec<u8>, Refusal>
+    ensures { Tells (λ name. name.items) result (profile_in words.now) }
 {
-    let Some(name) = either_text(alloc, words, "profile", "label")? else {
+    let Some(name) = either_text(alloc, words, Key::Profile, Key::Label)? else {
         return Err(Refusal::Skipped(Reason::NoProfile));
     };
-    let is_elsewhere = is_elsewhere(text_of(alloc, words, "namespace")?);
+    let is_elsewhere = is_elsewhere(text_of(alloc, words, Key::Namespace)?);
     if begins(name.as_slice(), ":") || is_elsewhere {
         return Err(Refusal::Skipped(Reason::Namespace));
     }
@@ -335,16 +336,16 @@ fn profile_of(alloc: Global, words: &[LogWord<'_>]) -> Result<Vec<u8>, Refusal>
 
 /// What the words of a record tell, if it is one.
 #[tactic(auto, unfolding(crate::specs::Records::told_in))]
-fn told_of(words: &[LogWord<'_>]) -> Result<Option<Told>, Refusal>
-    ensures { Tells (λ t. t) result (told_in (words_data words.now)) }
+fn told_of(words: &KeyedWords<'_>) -> Result<Option<Told>, Refusal>
+    ensures { Tells (λ t. t) result (told_in words.now) }
 {
-    if let Some(word) = raw_of(words, "apparmor") {
+    if let Some(word) = raw_of(words, Key::Apparmor) {
         return match told_by_word(word) {
             Some(told) => Ok(Some(told)),
             None => Err(Refusal::Skipped(Reason::Broken)),
         };
     }
-    match raw_of(words, "type") {
+    match raw_of(words, Key::Kind) {
         Some(kind) if is_old_type(kind) => Err(Refusal::Skipped(Reason::OldForm)),
         Some(kind) => Ok(told_by_type(kind)),
         None => Ok(None),
@@ -353,10 +354,10 @@ fn told_of(words: &[LogWord<'_>]) -> Result<Option<Told>, Refusal>
 
 /// What a record's words say.
 #[tactic(auto, unfolding(crate::specs::Records::record_by))]
-fn record_by(alloc: Global, words: &[LogWord<'_>]) -> Result<Option<Record>, Refusal>
-    ensures { Tells (option_map record_data) result (record_by (words_data words.now)) }
+fn record_by(alloc: Global, words: &KeyedWords<'_>) -> Result<Option<Record>, Refusal>
+    ensures { Tells (option_map record_data) result (record_by words.now) }
 {
-    if are_broken(words) {
+    if are_broken(words.words()) {
         return Err(Refusal::Skipped(Reason::Broken));
     }
     let then = match told_of(words)? {
@@ -370,7 +371,7 @@ fn record_by(alloc: Global, words: &[LogWord<'_>]) -> Result<Option<Record>, Ref
         then,
         profile,
         request,
-        pid: number_in(words, "pid"),
+        pid: number_in(words, Key::Pid),
     }))
 }
 
@@ -381,8 +382,8 @@ fn record_of(alloc: Global, line: &[u8]) -> Result<Option<Record>, Refusal>
     if line.len() > MAX_LINE {
         return Err(Refusal::Skipped(Reason::Broken));
     }
-    let words = read_line(alloc, line)?;
-    record_by(alloc, words.as_slice())
+    let words = keyed_words(alloc, line)?;
+    record_by(alloc, &words)
 }
 
 /// A line without the CR that it may end in.

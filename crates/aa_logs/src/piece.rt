@@ -27,10 +27,15 @@ fn begins_key(b: u8) -> bool
     (b >= b'a' && b <= b'z') || (b >= b'A' && b <= b'Z') || b == b'_'
 }
 
+/// The bytes that a key can go on with, each at its place; a dot stands for another.
+const KEY_BYTES: [u8; 256] =
+    *b"................................................0123456789.......ABCDEFGHIJKLMNOPQRSTUVWXYZ...._.abcdefghijklmnopqrstuvwxyz.....................................................................................................................................";
+
+#[tactic(auto, using(crate::proofs::KeyBytes::as_listed))]
 fn goes_on_key(b: u8) -> bool
     ensures { result ≡ goes_on_key b }
 {
-    begins_key(b) || (b >= b'0' && b <= b'9')
+    KEY_BYTES[usize::from(b)] != b'.'
 }
 
 /// How long the run is up to the next separator.

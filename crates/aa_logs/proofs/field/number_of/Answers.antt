@@ -1,4 +1,4 @@
-use Rattle.std.proofs.Common.{◌≡◌, ◌<◌, length, rules, tests, arith}
+use Rattle.std.proofs.Common.{◌≡◌, ◌<◌, length, rules, tests}
 use Rattle.aa_logs.proofs.Found.{number_begins, number_empty, number_stop, number_go, number_end}
 use Rattle.aa_logs.proofs.field.number_of.Goals as goal
 
