@@ -17,7 +17,7 @@ ghost use Rattle.aa_log.specs.Found.{Asked, Skipped, asked_at, asked_key, skippe
 ghost use Rattle.aa_log.specs.Orders.{up_to, key_at, items_at, profile_of, reason_key, IsOrder, IsInOrder};
 ghost use Rattle.aa_log.specs.Printed.{key_text};
 
-use crate::printing::push_asked;
+use crate::printing::push_profile;
 use aa_base::Unread;
 use aa_logs::{Choice, Line, Lines, Reason, Record, Then, is_chosen, line_of, named, then_name};
 use aa_model::Request;
@@ -97,12 +97,13 @@ fn word_of(alloc: Global, request: &Request) -> Result<Vec<u8>, AllocError>
 
 /// A request as it is printed.
 #[tactic(auto, unfolding(crate::specs::Printed::key_text))]
-fn key_of(alloc: Global, then: Then, profile: &[u8], word: &[u8]) -> Result<Vec<u8>, AllocError>
-    ensures { IfOk result (λ key. key.items ≡ key_text then profile.now word.now) }
+fn key_of(alloc: Global, asked: &Record) -> Result<Vec<u8>, AllocError>
+    ensures { IfOk result (λ key. key.items ≡ key_text asked.now.then asked.now.profile.items (word_text asked.now.request)) }
 {
     let mut key = Vec::with_capacity(alloc, KEY_ROOM)?;
-    push_text(&mut key, then_name(then))?;
-    push_asked(&mut key, alloc, profile, word)?;
+    push_text(&mut key, then_name(asked.then))?;
+    push_profile(&mut key, alloc, asked.profile.as_slice())?;
+    push_word(&mut key, &asked.request)?;
     Ok(key)
 }
 
@@ -158,26 +159,6 @@ fn add_entry(
     Ok(())
 }
 
-/// Counts a request once more, or notes it as a new one if there are few enough: this entry, which is found by that key.
-fn count_entry(
-    entries: &mut Vec<Entry>,
-    numbers: &mut HashMap<Vec<u8>, usize>,
-    key: Vec<u8>,
-    entry: Entry,
-) -> Result<(), Unread>
-    requires key { key.items ≡ entry_key entry }
-    requires word { entry.word.items ≡ word_text entry.request }
-    requires once { entry.count ≡ 1 }
-    ensures found { OnOk result ((before : List Asked) → AreFound before entries.old.items numbers.old → AreFound (before ++ (entry_data entry).item ∷ []) entries.new.items numbers.new) }
-    ensures room { IfErr result (λ why. IsRefused why ((before : List Asked) → AreFound before entries.old.items numbers.old → most_requests < length (firsts asked_key (before ++ (entry_data entry).item ∷ [])))) }
-{
-    if let Some(number) = number_of(numbers, key.as_slice()) {
-        count_again(entries, number);
-        return Ok(());
-    }
-    add_entry(entries, numbers, key, entry)
-}
-
 /// The entry of a request that was asked at that place alone.
 fn entry_of(alloc: Global, asked: Record, place: LinePlace) -> Result<Entry, AllocError>
     ensures asked { IfOk result (λ entry. entry_data entry ≡ record { item = asked_at (record_data asked) place; count = 1 }) }
@@ -205,14 +186,13 @@ fn count_request(
     ensures found { OnOk result ((before : List Asked) → AreFound before entries.old.items numbers.old → AreFound (before ++ asked_at (record_data asked) place ∷ []) entries.new.items numbers.new) }
     ensures room { IfErr result (λ why. IsRefused why ((before : List Asked) → AreFound before entries.old.items numbers.old → most_requests < length (firsts asked_key (before ++ asked_at (record_data asked) place ∷ [])))) }
 {
+    let key = key_of(alloc, &asked)?;
+    if let Some(number) = number_of(numbers, key.as_slice()) {
+        count_again(entries, number);
+        return Ok(());
+    }
     let entry = entry_of(alloc, asked, place)?;
-    let key = key_of(
-        alloc,
-        entry.then,
-        entry.profile.as_slice(),
-        entry.word.as_slice(),
-    )?;
-    count_entry(entries, numbers, key, entry)
+    add_entry(entries, numbers, key, entry)
 }
 
 /// Whether lines are skipped for that reason.
@@ -368,7 +348,15 @@ impl<'a> LogReport<'a> {
         Ok(true)
     }
 
-    fn count_line(&mut self, alloc: Global, line: &[u8], number: u64) -> Result<(), Unread>
+    /// Counts a line that is known.
+    pub(crate) fn count_found(
+        &mut self,
+        alloc: Global,
+        line: &[u8],
+        number: u64,
+        found: Line,
+    ) -> Result<(), Unread>
+        requires { outcome found ≡ line_in line.now }
         ensures log { OnOk result (self.new.log ≡ self.old.log) }
         ensures choice { OnOk result (self.new.choice ≡ self.old.choice) }
         ensures kept { OnOk result (is_some self.new.each_skipped ≡ is_some self.old.each_skipped) }
@@ -376,7 +364,6 @@ impl<'a> LogReport<'a> {
         ensures room { IfErr result (λ why. IsRefused why ((before : List LogLine) → IsReport before self.old → most_requests < distinct_in self.old.choice (before ++ log_line self.old.log number line.now ∷ []))) }
     {
         self.lines = self.lines.saturating_add(1);
-        let found = line_of(alloc, line)?;
         if let Line::Other = found {
             self.other = self.other.saturating_add(1);
             return Ok(());
@@ -427,7 +414,8 @@ impl Lines for LogReport<'_> {
         ensures taken { OnOk result ((before : List LogLine) → IsReport before self.old → IsReport (before ++ log_line self.old.log number line.now ∷ []) self.new) }
         ensures room { IfErr result (λ why. IsRefused why ((before : List LogLine) → IsReport before self.old → most_requests < distinct_in self.old.choice (before ++ log_line self.old.log number line.now ∷ []))) }
     {
-        self.count_line(alloc, line, number)
+        let found = line_of(alloc, line)?;
+        self.count_found(alloc, line, number, found)
     }
 }
 

@@ -46,8 +46,21 @@ pub fn push_entry(
     push_rest(out, alloc, logs, entry)
 }
 
+/// Appends a profile between spaces.
+pub(crate) fn push_profile(
+    out: &mut Vec<u8>,
+    alloc: Global,
+    profile: &[u8],
+) -> Result<(), AllocError>
+    ensures { OnOk result (out.new.items ≡ out.old.items ++ codes " " ++ value profile.now ++ codes " ") }
+{
+    push_text(out, " ")?;
+    push_name(out, alloc, profile)?;
+    push_text(out, " ")
+}
+
 /// Appends a profile and the word of what it asks, each behind a space.
-pub(crate) fn push_asked(
+fn push_asked(
     out: &mut Vec<u8>,
     alloc: Global,
     profile: &[u8],
@@ -55,9 +68,7 @@ pub(crate) fn push_asked(
 ) -> Result<(), AllocError>
     ensures { OnOk result (out.new.items ≡ out.old.items ++ codes " " ++ value profile.now ++ codes " " ++ word.now) }
 {
-    push_text(out, " ")?;
-    push_name(out, alloc, profile)?;
-    push_text(out, " ")?;
+    push_profile(out, alloc, profile)?;
     out.extend_from_slice(word)
 }
 

@@ -3,14 +3,16 @@
 ghost use Rattle.std.specs.Prelude.{◌≡◌, ℕ, ◌+◌, List, [], ◌∷◌, ◌++◌, Some, None, min, replicate, is_some, OnOk, if◌then◌else◌};
 ghost use Rattle.std.specs.Option.{option_or};
 ghost use Rattle.aa_logs.specs.LogLines.{LogLine, log_line};
+ghost use Rattle.aa_logs.specs.Outcomes.{outcome};
+ghost use Rattle.aa_logs.specs.Records.{line_in};
 ghost use Rattle.aa_log.specs.Counted.{greatest};
 ghost use Rattle.aa_log.specs.Found.{HasSameSettings, IsReport};
 ghost use Rattle.aa_log.specs.Said.{HasSaidTheSame, IsSaid};
 
 use crate::logging::{LinePlace, LogReport};
 use aa_base::Unread;
-use aa_logs::{Choice, Lines};
-use aa_messages::{is_unclear, said_in};
+use aa_logs::{Choice, Line, Lines, line_of};
+use aa_messages::{is_unclear_as, said_in};
 use std::alloc::Global;
 
 /// What is found in logs, and which lines aren't understood.
@@ -46,18 +48,23 @@ fn first_of(first: Option<LinePlace>, is_unclear: bool, place: LinePlace) -> Opt
     }
 }
 
-/// Has a report take a line so often.
+/// Has a report take a line so often, of which is known what it is.
 fn take_times(
     report: &mut LogReport<'_>,
     alloc: Global,
     line: &[u8],
     number: u64,
     times: u32,
+    found: Line,
 ) -> Result<(), Unread>
+    requires { outcome found ≡ line_in line.now }
     ensures log { OnOk result (report.new.log ≡ report.old.log) }
     ensures keeps { OnOk result (HasSameSettings report.old report.new) }
     ensures taken { OnOk result ((before : List LogLine) → IsReport before report.old → IsReport (before ++ replicate times (log_line report.old.log number line.now)) report.new) }
 {
+    if times == 1 {
+        return report.count_found(alloc, line, number, found);
+    }
     for _ in 0..times {
         report.take_line(alloc, line, number)?;
     }
@@ -91,11 +98,12 @@ impl Lines for SaidReport<'_> {
     fn take_line(&mut self, alloc: Global, line: &[u8], number: u64) -> Result<(), Unread> {
         let said = said_in(alloc, line)?;
         let text = said.text.as_slice();
-        let is_unclear = is_unclear(alloc, text)?;
+        let found = line_of(alloc, text)?;
+        let is_unclear = is_unclear_as(text, &found);
         let log = self.report.log;
         let place = LinePlace { log, line: number };
         self.unclear = counted(self.unclear, is_unclear);
         self.first_unclear = first_of(self.first_unclear, is_unclear, place);
-        take_times(&mut self.report, alloc, text, number, said.times)
+        take_times(&mut self.report, alloc, text, number, said.times, found)
     }
 }

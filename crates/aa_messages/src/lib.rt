@@ -10,4 +10,4 @@ mod unclear;
 pub use journal::message_in;
 pub use repeated::{Repeated, repeated_in};
 pub use said::{Said, said_in};
-pub use unclear::is_unclear;
+pub use unclear::{is_unclear, is_unclear_as};

@@ -3,6 +3,7 @@
 ghost use Rattle.std.specs.Prelude.{◌≡◌, ◌≤◌, length, take, codes, IfOk};
 ghost use Rattle.std.specs.List.{list_any};
 ghost use Rattle.aa_logs.specs.Outcomes.{outcome};
+ghost use Rattle.aa_logs.specs.Records.{line_in};
 ghost use Rattle.aa_messages.specs.Parts.{behind_part};
 ghost use Rattle.aa_messages.specs.Unclear.{is_binary, is_no_text, is_bare, is_interpreted, may_hide, is_another, is_unclear};
 
@@ -82,4 +83,13 @@ pub fn is_unclear(alloc: Global, line: &[u8]) -> Result<bool, AllocError>
         return Ok(false);
     }
     Ok(is_another(&line_of(alloc, line)?))
+}
+
+/// The same, where it is known what the line is.
+#[tactic(auto, unfolding(crate::specs::Unclear::is_unclear))]
+pub fn is_unclear_as(line: &[u8], known: &Line) -> bool
+    requires { outcome known.now ≡ line_in line.now }
+    ensures { result ≡ is_unclear line.now }
+{
+    is_another(known) && may_hide(line)
 }

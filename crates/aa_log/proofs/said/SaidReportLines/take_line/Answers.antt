@@ -17,7 +17,7 @@ returns-clause-taken c =
     on_ok_weaker c.take_times.result (λ taken before is.
     one_said before (log_line old.report.log number c.args.line.now) old
     (record { report = c.take_times.new.report; unclear = c.counted-self.result; first_unclear = c.first_of-self.result })
-    (said_data said) c.in_ok-is_unclear.is_unclear c.in_ok-said.ensures
-    (c.in_ok-is_unclear.ensures ∙ ap is_unclear text)
+    (said_data said) c.is_unclear_as-is_unclear.result c.in_ok-said.ensures
+    (c.is_unclear_as-is_unclear.ensures ∙ ap is_unclear text)
     (λ b f. subst (λ (t : List ℕ). IsReport (b ++ replicate said.times (log_line old.report.log number t)) c.take_times.new.report) text
     (taken b f)) c.counted-self.ensures c.first_of-self.ensures is) c.take_times.ensures.taken

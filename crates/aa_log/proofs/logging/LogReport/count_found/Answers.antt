@@ -9,12 +9,12 @@ use Rattle.aa_log.specs.declared.logging.LogReport.{LogReport}
 use Rattle.aa_log.specs.Found.{left_in}
 use Rattle.aa_log.proofs.Results.{on_ok_both, if_refused}
 use Rattle.aa_log.proofs.Taking.{wanted_in, kept_in, same_in, taken_other, taken_left, taken_skipped, taken_asks, many_in}
-use Rattle.aa_log.proofs.logging.LogReport.count_line.Goals as goal
+use Rattle.aa_log.proofs.logging.LogReport.count_found.Goals as goal
 
 pub returns-in-Other-clause-taken : goal.returns-in-Other-clause-taken
 returns-in-Other-clause-taken c = λ before f.
     let l : LogLine = log_line c.args.self.now.log c.args.number c.args.line.now in
-    let is : line_in c.args.line.now ≡ Another = sym c.in_ok-found.ensures ∙ ap outcome c.in-Other.is in
+    let is : line_in c.args.line.now ≡ Another = sym c.requires ∙ ap outcome c.in-Other.is in
     taken_other before l c.args.self.now c.saturating_add-self.result c.saturating_add-self-in-Other.result is c.saturating_add-self.ensures c.saturating_add-self-in-Other.ensures f
 
 pub returns-then-branch : goal.returns-then-branch
@@ -24,8 +24,8 @@ returns-then-branch c =
       log = same_in (λ (x : LogReport). x.log) c.args.self.now c.leaves_out.new.self c.saturating_add-self.result c.in_ok-leaves_out.field-0 (λ count. refl) left.counted;
       choice = same_in (λ (x : LogReport). x.choice) c.args.self.now c.leaves_out.new.self c.saturating_add-self.result c.in_ok-leaves_out.field-0 (λ count. refl) left.counted;
       kept = same_in (λ (x : LogReport). is_some x.each_skipped) c.args.self.now c.leaves_out.new.self c.saturating_add-self.result c.in_ok-leaves_out.field-0 (λ count. refl) left.counted;
-      taken = λ before f. taken_left before l c.args.self.now c.leaves_out.new.self c.saturating_add-self.result c.in_ok-found.found c.in_ok-leaves_out.field-0
-          c.in_default.not-Other c.in_ok-found.ensures c.saturating_add-self.ensures c.if-branch.true left.left left.counted f;
+      taken = λ before f. taken_left before l c.args.self.now c.leaves_out.new.self c.saturating_add-self.result c.args.found c.in_ok-leaves_out.field-0
+          c.in_default.not-Other c.requires c.saturating_add-self.ensures c.if-branch.true left.left left.counted f;
       room = tt;
     }
 
@@ -35,7 +35,7 @@ returns-in_ok-count_skipped-in-Skipped c =
     let l : LogLine = log_line r.log c.args.number c.args.line.now in
     let left = c.in_ok-leaves_out.ensures in
     let mid : c.leaves_out.new.self ≡ record r { lines = c.saturating_add-self.result } = kept_in r c.leaves_out.new.self c.saturating_add-self.result c.in_ok-leaves_out.field-0 c.if-branch.false left.counted in
-    let is : line_in c.args.line.now ≡ AsksNothing (cause_of c.in-Skipped.reason) = sym c.in_ok-found.ensures ∙ ap outcome c.in-Skipped.is in
+    let is : line_in c.args.line.now ≡ AsksNothing (cause_of c.in-Skipped.reason) = sym c.requires ∙ ap outcome c.in-Skipped.is in
     let e = c.in_ok-count_skipped-in-Skipped.ensures in record {
       log = ap (λ (x : LogReport). x.log) e.counted ∙ ap (λ (x : LogReport). x.log) mid;
       choice = ap (λ (x : LogReport). x.choice) e.counted ∙ ap (λ (x : LogReport). x.choice) mid;
@@ -51,7 +51,7 @@ returns-in-Asks c =
     let l : LogLine = log_line r.log c.args.number c.args.line.now in
     let left = c.in_ok-leaves_out.ensures in
     let mid : c.leaves_out.new.self ≡ record r { lines = c.saturating_add-self.result } = kept_in r c.leaves_out.new.self c.saturating_add-self.result c.in_ok-leaves_out.field-0 c.if-branch.false left.counted in
-    let is : line_in c.args.line.now ≡ AsksFor (record_data c.in-Asks.record) = sym c.in_ok-found.ensures ∙ ap outcome c.in-Asks.is in
+    let is : line_in c.args.line.now ≡ AsksFor (record_data c.in-Asks.record) = sym c.requires ∙ ap outcome c.in-Asks.is in
     let e = c.count_record.ensures in record {
       log = on_ok_weaker c.count_record.result (λ now. ap (λ (x : LogReport). x.log) now ∙ ap (λ (x : LogReport). x.log) mid) e.counted;
       choice = on_ok_weaker c.count_record.result (λ now. ap (λ (x : LogReport). x.choice) now ∙ ap (λ (x : LogReport). x.choice) mid) e.counted;
