@@ -1,7 +1,13 @@
 -- What `diff` prints.
 -- Source: own.
-use Rattle.std.specs.Prelude.{ℕ, ◌≡◌, ◌↔◌, ◌+◌, ◌==◌, ◌&&◌, List, [], ◌++◌, Contains, length, codes, decimal, if◌then◌else◌}
+use Rattle.std.specs.Prelude.{ℕ, ◌≡◌, ◌↔◌, ◌+◌, ◌==◌, ◌&&◌, List, [], ◌++◌, Contains, length, codes, decimal, Option, Some, None, option_map, Err, Vec, if◌then◌else◌}
+use Rattle.std.specs.Borrow.{Bor}
+use Rattle.std.specs.declared.alloc.Global.{Global}
+use Rattle.aa_base.specs.declared.unread.Unread.{Unread}
 use Rattle.aa_files.specs.Texts.{texts}
+use Rattle.aa_files.specs.FilesData.{IsMain, IsMainText}
+use Rattle.aa_report.specs.Entries.{entries_in}
+use Rattle.aa_report.specs.Markdown.{markdown_of}
 use Rattle.aa_model.specs.declared.policy.Policy.{Policy}
 use Rattle.aa_model.specs.declared.label.Label.{Label}
 use Rattle.aa_representatives.specs.Both.{HaveManyPatterns, HavePlaces}
@@ -11,12 +17,16 @@ use Rattle.aa_differences.specs.Differences.{IsDifference, ListAll}
 use Rattle.aa_load.specs.UnitPolicy.{limit_of}
 use Rattle.aa_command.specs.declared.decided.Decided.{Decided}
 use Rattle.aa_command.specs.Setting.{Setting}
-use Rattle.aa_command.specs.Printed.{Printed, answers_alone, faults_alone}
+use Rattle.aa_command.specs.Printed.{Printed, faults_alone}
+use Rattle.aa_command.specs.Refusals.{SaysUnread}
 use Rattle.aa_diff.specs.declared.options.DiffOptions.{DiffOptions}
+use Rattle.aa_diff.specs.declared.options.DiffForm.{DiffForm}
+use Rattle.aa_diff.specs.declared.options.DiffForm.TheVariants.{Text, Json, Html, Markdown}
 use Rattle.aa_diff.specs.declared.finding.Finding.{Finding}
 use Rattle.aa_diff.specs.Changes.{label_word}
 use Rattle.aa_passed_over.specs.Apart.{ApartRule, all_apart}
-use Rattle.aa_diff.specs.Report.{shown_of, lines_of, rules_shown, report_text}
+use Rattle.aa_diff.specs.Report.{lines_of, report_text}
+use Rattle.aa_diff.specs.Accepted.{findings_left, rules_left, gone_of}
 use Rattle.aa_diff.specs.Jsons.{json_report}
 use Rattle.aa_diff.specs.Html.{html_report}
 use Rattle.aa_skipped.specs.declared.skipped.Skipped.{Skipped}
@@ -32,30 +42,42 @@ states_text ps l limit = codes "error: at " ++ label_word ps l ++ codes " the pa
 abbrev pub patterns_text : List Policy → Label → List ℕ
 patterns_text ps l = codes "error: at " ++ label_word ps l ++ codes " OLD and NEW have more than 65535 patterns together\n"
 
--- findings, rules that are passed over, and what isn't told, as it is wanted: as JSON, as a page or as text
-abbrev pub findings_text : DiffOptions → Decided → Decided → List Finding → List ApartRule → AllUntold → List ℕ
-findings_text o d e fs rs a =
-    if o.is_json then json_report o d e fs rs a else (if o.is_html then html_report o d e fs rs a else report_text d.policies.now fs rs a)
+-- findings, rules that are passed over, and what isn't told, in a form
+abbrev pub findings_in : DiffForm → DiffOptions → Decided → Decided → List Finding → List ApartRule → AllUntold → List ℕ
+findings_in Text o d e fs rs a = report_text d.policies.now fs rs a
+findings_in Json o d e fs rs a = json_report o d e fs rs a
+findings_in Html o d e fs rs a = html_report o d e fs rs a
+findings_in Markdown o d e fs rs a = markdown_of (report_text d.policies.now fs rs a)
 
 -- 4 where there are findings or such rules, else 5 where something isn't told
 abbrev pub status_of : ℕ → ℕ → ℕ → ℕ → ℕ
 status_of findings rules undecided apart = if findings == 0 && rules == 0 then (if undecided == 0 && apart == 0 then 0 else 5) else 4
 
--- the same, with its status
-abbrev pub reported : DiffOptions → Decided → Decided → List Finding → List ApartRule → AllUntold → Printed
-reported o d e fs rs a = answers_alone (findings_text o d e fs rs a) (status_of (length fs) (length rs) (length a.undecided) (length a.not_compared))
+-- the same with its status, and which accepted findings there aren't
+abbrev pub reported : DiffOptions → Decided → Decided → List Finding → List ApartRule → List ℕ → AllUntold → Printed
+reported o d e fs rs gone a = record {
+  answers = findings_in o.form o d e fs rs a;
+  faults = gone;
+  refusal = [];
+  status = status_of (length fs) (length rs) (length a.undecided) (length a.not_compared);
+}
 
--- the lines of differences that are shown, the rules that are passed over and that one policy alone has, and what isn't told
+-- those of all findings and of all rules that are passed over which are shown and not accepted, and what isn't told
+abbrev pub reported_but : DiffOptions → List (List ℕ) → Decided → Decided → List Finding → List ApartRule → AllUntold → Printed
+reported_but o accepted d e fs rs a =
+    reported o d e (findings_left d.policies.now o.wanted accepted fs) (rules_left d.policies.now o.wanted accepted rs) (gone_of d.policies.now accepted fs rs) a
+
+-- so the lines of differences, and the rules that are passed over and that one policy alone has
 abbrev pub printed_lines : DiffOptions → Decided → Decided → List Difference → AllUntold → Printed
-printed_lines o d e xs a = reported o d e (shown_of d.policies.now o.wanted (lines_of d e xs)) (rules_shown d.policies.now o.wanted (all_apart d e)) a
+printed_lines o d e xs a = reported_but o (texts o.accepted.now) d e (lines_of d e xs) (all_apart d e) a
 
 -- so of those differences that no skipped file could decide, and with all that isn't told
 abbrev pub compared : DiffOptions → Part → Part → List Difference → Printed
 compared o d e xs = printed_lines o d.decided e.decided (decided_of d e xs) (all_untold o.wanted d e)
 
 -- What is printed of two policies: each difference listed is one, each request that is answered differently is listed by one of its
--- kind with its answers, none is listed exactly where the policies answer alike, and the text, the JSON or the page is that of those of this list
--- that no skipped file could decide, of the rules that are passed over, and of what isn't told.
+-- kind with its answers, none is listed exactly where the policies answer alike, and what is printed in the form that is wanted is that of those of
+-- this list that no skipped file could decide and that aren't accepted, of the rules that are passed over, and of what isn't told.
 pub data IsCompared (o : DiffOptions) (states : ℕ) (d e : Part) (out : Printed) : Type 0 where
   Listed : (xs : List Difference) → ((x : Difference) → Contains xs x → IsDifference d.decided.policies.now e.decided.policies.now x)
       → ListAll d.decided.policies.now e.decided.policies.now xs
@@ -89,6 +111,25 @@ pub record IsNewBeside (t : Setting) (o : DiffOptions) (skipped : List Skipped) 
   pub new_side : IsNewSide t o part own
   pub is : out ≡ noted (codes "OLD") (length skipped) own
 
--- What `diff` prints: that the old files are refused, that the new ones are, or how their policies differ.
+-- what is printed of both sides: that the old files are refused, that the new ones are, or how their policies differ
+abbrev pub IsDiffBut : Setting → Setting → DiffOptions → Printed → Type 0
+IsDiffBut s t o out = IsSide o.skips (codes "OLD") s (texts o.old.now) (IsNewBeside t o) out
+
+-- the same is asked, and these findings are accepted
+abbrev pub accepting : DiffOptions → Bor (List (Vec ℕ Global)) → DiffOptions
+accepting o accepted = record { old = o.old; new = o.new; wanted = o.wanted; form = o.form; skips = o.skips; accepted = accepted; known = o.known }
+
+-- what is printed where the findings of a file of the new side are accepted: that, or that the file can't be read
+pub data IsDiffBy (s t : Setting) (o : DiffOptions) (path : List ℕ) (out : Printed) : Type 0 where
+  CantRead : (why : Unread) → IsMain t.files t.input path (Err why) → SaysUnread path why out → IsDiffBy s t o path out
+  Accepted : (text : List ℕ) → IsMainText t.files t.input path text → (accepted : Bor (List (Vec ℕ Global))) → texts accepted.now ≡ entries_in text
+      → IsDiffBut s t (accepting o accepted) out → IsDiffBy s t o path out
+
+-- where there is such a file, which is read before the others
+abbrev pub IsDiffIf : Setting → Setting → DiffOptions → Option (List ℕ) → Printed → Type 0
+IsDiffIf s t o None out = IsDiffBut s t o out
+IsDiffIf s t o (Some path) out = IsDiffBy s t o path out
+
+-- What `diff` prints: that a file is refused, or how the policies differ.
 abbrev pub IsDiffOutput : Setting → Setting → DiffOptions → Printed → Type 0
-IsDiffOutput s t o out = IsSide o.skips (codes "OLD") s (texts o.old.now) (IsNewBeside t o) out
+IsDiffOutput s t o out = IsDiffIf s t o (option_map (λ path. path.now) o.known) out

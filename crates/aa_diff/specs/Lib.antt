@@ -12,6 +12,7 @@ pub mod UntoldShown
 pub mod Report
 pub mod Jsons
 pub mod Html
+pub mod Accepted
 pub mod Telling
 pub mod Sides
 pub mod Command

@@ -57,12 +57,24 @@ abbrev pub more_text : ℕ → List ℕ
 more_text n = if n == 0 then [] else codes ", and " ++ decimal n ++ codes " more"
 
 -- the sign and the request of a line
-unfoldable pub line_start : Finding → List ℕ
-line_start f = codes "  " ++ sign_text f.sign ++ codes " " ++ word_text (asked_of f) ++ others_text f.who
+unfoldable pub asked_part : Finding → List ℕ
+asked_part f = sign_text f.sign ++ codes " " ++ word_text (asked_of f) ++ others_text f.who
 
--- how it was answered and is, how many there are besides, and the lines of the rules
+-- how it was answered and is, and how many there are besides
+unfoldable pub change_part : Finding → List ℕ
+change_part f = codes " " ++ f.change ++ more_text f.more
+
+-- both
+abbrev pub finding_part : Finding → List ℕ
+finding_part f = asked_part f ++ change_part f
+
+-- the begin of its line
+unfoldable pub line_start : Finding → List ℕ
+line_start f = codes "  " ++ finding_part f
+
+-- the end of its line, and the lines of the rules
 unfoldable pub line_end : Finding → List ℕ
-line_end f = codes " " ++ f.change ++ more_text f.more ++ codes "\n" ++ f.rules
+line_end f = codes "\n" ++ f.rules
 
 -- the line of a finding, and those of its rules
 abbrev pub line_text : Finding → List ℕ
@@ -79,9 +91,13 @@ abbrev pub name_asked : Request → List ℕ
 name_asked (Change name) = name
 name_asked _ = []
 
--- the line of a profile that is gone or new
-unfoldable pub profile_text : Finding → List ℕ
-profile_text f = codes "profile " ++ value (name_asked f.request) ++ gone_text f.sign ++ word_text f.request ++ codes "\n"
+-- what is said of a profile that is gone or new
+unfoldable pub profile_part : Finding → List ℕ
+profile_part f = codes "profile " ++ value (name_asked f.request) ++ gone_text f.sign ++ word_text f.request
+
+-- its line
+abbrev pub profile_text : Finding → List ℕ
+profile_text f = profile_part f ++ codes "\n"
 
 -- the same, if it is one
 abbrev pub profile_if : Finding → List ℕ
@@ -114,8 +130,12 @@ side_text Old = codes "OLD"
 side_text New = codes "NEW"
 
 -- a rule that is passed over, and which policy alone has it
+unfoldable pub rule_part : ApartRule → List ℕ
+rule_part r = codes "? " ++ all_visible (shortened r.rule.text) ++ codes " only in " ++ side_text r.side
+
+-- its line
 unfoldable pub passed_over_text : ApartRule → List ℕ
-passed_over_text r = codes "  ? " ++ all_visible (shortened r.rule.text) ++ codes " only in " ++ side_text r.side ++ codes "\n"
+passed_over_text r = codes "  " ++ rule_part r ++ codes "\n"
 
 -- a line about a profile
 abbrev pub told_text : Told → List ℕ

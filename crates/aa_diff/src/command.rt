@@ -10,28 +10,34 @@ ghost use Rattle.aa_model.specs.declared.label.Label.{Label};
 ghost use Rattle.aa_command.specs.Setting.{setting_of};
 ghost use Rattle.aa_command.specs.Printed.{printed, faults_alone};
 ghost use Rattle.aa_load.specs.UnitPolicy.{limit_of};
-ghost use Rattle.aa_passed_over.specs.Apart.{apart, all_apart};
-ghost use Rattle.aa_diff.specs.Report.{rules_shown};
+ghost use Rattle.aa_files.specs.Texts.{texts};
+ghost use Rattle.aa_files.specs.FilesData.{IsMainText};
+ghost use Rattle.aa_report.specs.Markdown.{markdown_of};
+ghost use Rattle.aa_passed_over.specs.Apart.{apart};
+ghost use Rattle.aa_diff.specs.Report.{report_text};
+ghost use Rattle.aa_diff.specs.Accepted.{gone_of};
 ghost use Rattle.aa_diff.specs.Untold.{doubts_data};
 ghost use Rattle.aa_diff.specs.Sides.{IsMarked};
-ghost use Rattle.aa_diff.specs.Command.{states_text, patterns_text, findings_text, status_of, reported, printed_lines, compared, IsCompared, IsComparedBeside, IsNewSide, IsNewBeside, IsDiffOutput};
+ghost use Rattle.aa_diff.specs.Command.{states_text, patterns_text, findings_in, status_of, reported, reported_but, printed_lines, compared, IsCompared, IsComparedBeside, IsNewSide, IsNewBeside, IsDiffBut, accepting, IsDiffBy, IsDiffOutput};
 
+use crate::accepted::{findings_left, push_gone, rules_left};
 use crate::change::push_label_name;
 use crate::deciding::decided_of;
 use crate::finding::Finding;
 use crate::html::push_html_report;
 use crate::json::push_json_report;
-use crate::options::{DiffOptions, Wanted};
+use crate::options::{DiffForm, DiffOptions};
 use crate::part::Part;
-use crate::report::{push_report, rules_shown, wanted_lines};
+use crate::report::{lines_of, push_report};
 use crate::sides::{mark, note, of_side};
 use crate::untold::{Doubts, all_untold};
-use aa_command::{Decided, Output, Settings, Use, with_policy};
+use aa_command::{Decided, Output, Settings, Use, path_refused, with_policy};
 use aa_compile::Compiled;
 use aa_differences::{Difference, DifferencesFault, policy_differences};
-use aa_files::Tree;
+use aa_files::{Tree, main_text};
 use aa_model::Label;
 use aa_passed_over::{Apart, rules_apart};
+use aa_report::{entries_in, push_markdown};
 use aa_skipped::{Skipped, UsePart, with_read_policy};
 use aa_text::{NoMemory, push_number, push_text};
 use std::alloc::{AllocError, Global};
@@ -109,7 +115,23 @@ fn status_of(findings: usize, rules: usize, undecided: usize, apart: usize) -> u
     if undecided == 0 && apart == 0 { 0 } else { 5 }
 }
 
-/// Appends findings, rules that are passed over, and what isn't told, as it is wanted: as JSON, as a page or as text.
+/// Appends the text of findings, of rules that are passed over, and of what isn't told, as Markdown.
+fn push_markdown_report(
+    out: &mut Vec<u8>,
+    alloc: Global,
+    policies: &[Compiled],
+    findings: &[Finding],
+    rules: &[Apart],
+    doubts: &Doubts,
+) -> Result<(), AllocError>
+    ensures { OnOk result (out.new.items ≡ out.old.items ++ markdown_of (report_text policies.now findings.now (map apart rules.now) (doubts_data doubts.now))) }
+{
+    let mut text = Vec::new(alloc);
+    push_report(&mut text, alloc, policies, findings, rules, doubts)?;
+    push_markdown(out, alloc, text.as_slice())
+}
+
+/// Appends findings, rules that are passed over, and what isn't told, in the form that is wanted.
 fn push_findings(
     out: &mut Vec<u8>,
     alloc: Global,
@@ -120,31 +142,19 @@ fn push_findings(
     rules: &[Apart],
     doubts: &Doubts,
 ) -> Result<(), AllocError>
-    ensures { OnOk result (out.new.items ≡ out.old.items ++ findings_text options.now old.entry new.entry findings.now (map apart rules.now) (doubts_data doubts.now)) }
+    ensures { OnOk result (out.new.items ≡ out.old.items ++ findings_in options.now.form options.now old.entry new.entry findings.now (map apart rules.now) (doubts_data doubts.now)) }
 {
-    if options.is_json {
-        return push_json_report(out, alloc, options, old, new, findings, rules, doubts);
+    match options.form {
+        DiffForm::Text => push_report(out, alloc, old.policies, findings, rules, doubts),
+        DiffForm::Json => push_json_report(out, alloc, options, old, new, findings, rules, doubts),
+        DiffForm::Html => push_html_report(out, alloc, options, old, new, findings, rules, doubts),
+        DiffForm::Markdown => {
+            push_markdown_report(out, alloc, old.policies, findings, rules, doubts)
+        }
     }
-    if options.is_html {
-        return push_html_report(out, alloc, options, old, new, findings, rules, doubts);
-    }
-    push_report(out, alloc, old.policies, findings, rules, doubts)
 }
 
-/// The rules that are passed over, that one policy alone has, and that are shown.
-fn wanted_rules(
-    alloc: Global,
-    old: Decided<'_>,
-    new: Decided<'_>,
-    wanted: Wanted<'_>,
-) -> Result<Vec<Apart>, AllocError>
-    ensures { IfOk result (λ rules. map apart rules.items ≡ rules_shown old.entry.policies.now wanted.entry (all_apart old.entry new.entry)) }
-{
-    let rules = rules_apart(alloc, old, new)?;
-    rules_shown(alloc, old.policies, wanted, rules.as_slice())
-}
-
-/// Prints findings, rules that are passed over, and what isn't told.
+/// Prints findings, rules that are passed over, and what isn't told, beside which accepted findings there aren't.
 fn print_found(
     alloc: Global,
     options: &DiffOptions<'_>,
@@ -152,11 +162,13 @@ fn print_found(
     new: Decided<'_>,
     findings: &[Finding],
     rules: &[Apart],
+    gone: Vec<u8>,
     doubts: &Doubts,
 ) -> Result<Output, NoMemory>
-    ensures { IfOk result (λ out. printed out ≡ reported options.now old.entry new.entry findings.now (map apart rules.now) (doubts_data doubts.now)) }
+    ensures { IfOk result (λ out. printed out ≡ reported options.now old.entry new.entry findings.now (map apart rules.now) gone.items (doubts_data doubts.now)) }
 {
     let mut output = Output::new(alloc);
+    output.faults = gone;
     push_findings(
         &mut output.answers,
         alloc,
@@ -176,6 +188,49 @@ fn print_found(
     Ok(output)
 }
 
+/// Which accepted findings there aren't.
+fn gone_of(
+    alloc: Global,
+    policies: &[Compiled],
+    accepted: &[Vec<u8>],
+    findings: &[Finding],
+    rules: &[Apart],
+) -> Result<Vec<u8>, AllocError>
+    ensures { IfOk result (λ gone. gone.items ≡ gone_of policies.now (texts accepted.now) findings.now (map apart rules.now)) }
+{
+    let mut gone = Vec::new(alloc);
+    push_gone(&mut gone, alloc, policies, accepted, findings, rules)?;
+    Ok(gone)
+}
+
+/// Prints those of findings and of rules that are passed over which are shown and not accepted.
+fn print_but(
+    alloc: Global,
+    options: &DiffOptions<'_>,
+    old: Decided<'_>,
+    new: Decided<'_>,
+    findings: &[Finding],
+    rules: &[Apart],
+    doubts: &Doubts,
+) -> Result<Output, NoMemory>
+    ensures { IfOk result (λ out. printed out ≡ reported_but options.now (texts options.now.accepted.now) old.entry new.entry findings.now (map apart rules.now) (doubts_data doubts.now)) }
+{
+    let accepted = options.accepted;
+    let gone = gone_of(alloc, old.policies, accepted, findings, rules)?;
+    let findings = findings_left(alloc, old.policies, options.wanted, accepted, findings)?;
+    let rules = rules_left(alloc, old.policies, options.wanted, accepted, rules)?;
+    print_found(
+        alloc,
+        options,
+        old,
+        new,
+        findings.as_slice(),
+        rules.as_slice(),
+        gone,
+        doubts,
+    )
+}
+
 /// Prints differences that no skipped file could decide.
 fn print_decided(
     alloc: Global,
@@ -187,9 +242,9 @@ fn print_decided(
 ) -> Result<Output, NoMemory>
     ensures { IfOk result (λ out. printed out ≡ printed_lines options.now old.entry new.entry differences.now (doubts_data doubts.now)) }
 {
-    let findings = wanted_lines(alloc, old, new, options.wanted, differences)?;
-    let rules = wanted_rules(alloc, old, new, options.wanted)?;
-    print_found(
+    let findings = lines_of(alloc, old, new, differences)?;
+    let rules = rules_apart(alloc, old, new)?;
+    print_but(
         alloc,
         options,
         old,
@@ -396,10 +451,8 @@ impl<T: Tree> Use for Reading<'_, T> {
     }
 }
 
-/// Compares the one policy that the old files of one tree are with that of the new ones of another. A side that is refused is told as
-/// `ask` tells it, with which side it is. Where files that are refused are skipped, the others are compared, and what the skipped ones
-/// could change isn't told.
-pub fn diff_files<T: Tree>(
+/// Compares the old files with the new ones.
+fn diff_but<T: Tree>(
     alloc: Global,
     before: &T,
     after: &T,
@@ -407,7 +460,7 @@ pub fn diff_files<T: Tree>(
     new: &Settings<'_>,
     options: &DiffOptions<'_>,
 ) -> Result<Output, NoMemory>
-    ensures { IfOk result (λ out. IsDiffOutput (setting_of (T.files before.now) (T.taken before.now) (T.input before.now) old.now) (setting_of (T.files after.now) (T.taken after.now) (T.input after.now) new.now) options.now (printed out)) }
+    ensures { IfOk result (λ out. IsDiffBut (setting_of (T.files before.now) (T.taken before.now) (T.input before.now) old.now) (setting_of (T.files after.now) (T.taken after.now) (T.input after.now) new.now) options.now (printed out)) }
 {
     let reading = Reading {
         tree: after,
@@ -420,4 +473,93 @@ pub fn diff_files<T: Tree>(
     }
     let output = with_policy(alloc, before, old, options.old, &reading)?;
     of_side(alloc, "OLD", output)
+}
+
+/// The same, where the findings of a text are accepted.
+fn diff_accepting<T: Tree>(
+    alloc: Global,
+    before: &T,
+    after: &T,
+    old: &Settings<'_>,
+    new: &Settings<'_>,
+    options: &DiffOptions<'_>,
+    accepted: &[Vec<u8>],
+) -> Result<Output, NoMemory>
+    ensures { IfOk result (λ out. IsDiffBut (setting_of (T.files before.now) (T.taken before.now) (T.input before.now) old.now) (setting_of (T.files after.now) (T.taken after.now) (T.input after.now) new.now) (accepting options.now accepted.entry) (printed out)) }
+{
+    let options = DiffOptions {
+        old: options.old,
+        new: options.new,
+        wanted: options.wanted,
+        form: options.form,
+        skips: options.skips,
+        accepted,
+        known: options.known,
+    };
+    diff_but(alloc, before, after, old, new, &options)
+}
+
+/// The same by the text of the file with them.
+fn diff_text<T: Tree>(
+    alloc: Global,
+    before: &T,
+    after: &T,
+    old: &Settings<'_>,
+    new: &Settings<'_>,
+    options: &DiffOptions<'_>,
+    path: &[u8],
+    text: &[u8],
+) -> Result<Output, NoMemory>
+    requires { IsMainText (T.files after.now) (T.input after.now) path.now text.now }
+    ensures { IfOk result (λ out. IsDiffBy (setting_of (T.files before.now) (T.taken before.now) (T.input before.now) old.now) (setting_of (T.files after.now) (T.taken after.now) (T.input after.now) new.now) options.now path.now (printed out)) }
+{
+    let accepted = entries_in(alloc, text)?;
+    diff_accepting(alloc, before, after, old, new, options, accepted.as_slice())
+}
+
+/// The same by the file with them.
+fn diff_by<T: Tree>(
+    alloc: Global,
+    before: &T,
+    after: &T,
+    old: &Settings<'_>,
+    new: &Settings<'_>,
+    options: &DiffOptions<'_>,
+    path: &[u8],
+) -> Result<Output, NoMemory>
+    ensures { IfOk result (λ out. IsDiffBy (setting_of (T.files before.now) (T.taken before.now) (T.input before.now) old.now) (setting_of (T.files after.now) (T.taken after.now) (T.input after.now) new.now) options.now path.now (printed out)) }
+{
+    match main_text(alloc, after, path) {
+        Ok(text) => diff_text(
+            alloc,
+            before,
+            after,
+            old,
+            new,
+            options,
+            path,
+            text.as_slice(),
+        ),
+        Err(why) => path_refused(alloc, path, why),
+    }
+}
+
+/// Compares the one policy that the old files of one tree are with that of the new ones of another. The file with findings that are
+/// accepted, if there is one, is read first; of which of these there are none is told besides. A side that is refused is told as `ask`
+/// tells it, with which side it is. Where files that are refused are skipped, the others are compared, and what the skipped ones could
+/// change isn't told.
+pub fn diff_files<T: Tree>(
+    alloc: Global,
+    before: &T,
+    after: &T,
+    old: &Settings<'_>,
+    new: &Settings<'_>,
+    options: &DiffOptions<'_>,
+) -> Result<Output, NoMemory>
+    ensures { IfOk result (λ out. IsDiffOutput (setting_of (T.files before.now) (T.taken before.now) (T.input before.now) old.now) (setting_of (T.files after.now) (T.taken after.now) (T.input after.now) new.now) options.now (printed out)) }
+{
+    match options.known {
+        Some(path) => diff_by(alloc, before, after, old, new, options, path),
+        None => diff_but(alloc, before, after, old, new, options),
+    }
 }

@@ -1,6 +1,7 @@
 //! What `diff` prints: the requests that two policies of files answer differently, line by line, with the rules that account for it.
 #![tactic(auto)]
 
+mod accepted;
 mod change;
 mod command;
 mod deciding;
@@ -24,5 +25,5 @@ mod untold_shown;
 pub use command::diff_files;
 pub use finding::{Finding, Who};
 pub use laws::{differences_are_sound, lines_tell_entries};
-pub use options::{DiffOptions, Wanted};
+pub use options::{DiffForm, DiffOptions, Wanted};
 pub use signs::{Sign, sign_of};

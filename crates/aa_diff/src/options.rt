@@ -9,6 +9,19 @@ pub struct Wanted<'a> {
     pub profiles: &'a [Vec<u8>],
 }
 
+/// How differences are printed.
+#[derive(Clone, Copy)]
+pub enum DiffForm {
+    /// Lines, those of a profile behind its heading.
+    Text,
+    /// One object.
+    Json,
+    /// A page.
+    Html,
+    /// The lines as lists below headings, as for the text of a merge request.
+    Markdown,
+}
+
 /// What is compared, and what is shown of it.
 #[derive(Clone, Copy)]
 pub struct DiffOptions<'a> {
@@ -17,9 +30,11 @@ pub struct DiffOptions<'a> {
     /// The files of the new policy.
     pub new: &'a [Vec<u8>],
     pub wanted: Wanted<'a>,
-    pub is_json: bool,
+    pub form: DiffForm,
     /// Whether files that are refused are skipped.
     pub skips: bool,
-    /// Whether a page of HTML is wanted.
-    pub is_html: bool,
+    /// The findings that are accepted, which are left out: each its line behind its heading, a colon and a space.
+    pub accepted: &'a [Vec<u8>],
+    /// A file of the new side with findings that are accepted in place of these, as they are printed.
+    pub known: Option<&'a [u8]>,
 }

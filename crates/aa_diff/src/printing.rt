@@ -5,7 +5,7 @@ ghost use Rattle.std.specs.List.{list_any};
 ghost use Rattle.aa_base.specs.Values.{value};
 ghost use Rattle.aa_notation.specs.Written.{word_text};
 ghost use Rattle.aa_diff.specs.declared.finding.Finding.{Finding};
-ghost use Rattle.aa_diff.specs.Printed.{is_owner, asked_by, asked_of, others_text, sign_text, more_text, line_start, line_end, line_text, gone_text, name_asked, profile_text, profile_if, free_if, is_free, is_behind, heading, side_text, passed_over_text, told_text, confined_text, free_text};
+ghost use Rattle.aa_diff.specs.Printed.{is_owner, asked_by, asked_of, others_text, sign_text, more_text, asked_part, change_part, finding_part, line_start, line_end, line_text, gone_text, name_asked, profile_part, profile_text, profile_if, free_if, is_free, is_behind, heading, side_text, rule_part, passed_over_text, told_text, confined_text, free_text};
 ghost use Rattle.aa_passed_over.specs.Apart.{apart};
 ghost use Rattle.aa_diff.specs.Lines.{told};
 
@@ -96,25 +96,52 @@ pub(crate) fn push_more(out: &mut Vec<u8>, more: u64) -> Result<(), AllocError>
 }
 
 /// Appends the sign and the request of a line.
-#[tactic(auto, unfolding(crate::specs::Printed::line_start))]
-fn push_start(out: &mut Vec<u8>, alloc: Global, finding: &Finding) -> Result<(), AllocError>
-    ensures { OnOk result (out.new.items ≡ out.old.items ++ line_start finding.now) }
+#[tactic(auto, unfolding(crate::specs::Printed::asked_part))]
+fn push_asked_part(out: &mut Vec<u8>, alloc: Global, finding: &Finding) -> Result<(), AllocError>
+    ensures { OnOk result (out.new.items ≡ out.old.items ++ asked_part finding.now) }
 {
-    push_text(out, "  ")?;
     push_text(out, sign_text(finding.sign))?;
     push_text(out, " ")?;
     push_asked(out, alloc, finding)?;
     push_others(out, finding.who)
 }
 
-/// Appends the rest of a line, and the lines of its rules.
+/// Appends how it was answered and is, and how many there are besides.
+#[tactic(auto, unfolding(crate::specs::Printed::change_part))]
+fn push_change_part(out: &mut Vec<u8>, finding: &Finding) -> Result<(), AllocError>
+    ensures { OnOk result (out.new.items ≡ out.old.items ++ change_part finding.now) }
+{
+    push_text(out, " ")?;
+    out.extend_from_slice(finding.change.as_slice())?;
+    push_more(out, finding.more)
+}
+
+/// Appends what stands on the line of a finding.
+pub(crate) fn push_finding_part(
+    out: &mut Vec<u8>,
+    alloc: Global,
+    finding: &Finding,
+) -> Result<(), AllocError>
+    ensures { OnOk result (out.new.items ≡ out.old.items ++ finding_part finding.now) }
+{
+    push_asked_part(out, alloc, finding)?;
+    push_change_part(out, finding)
+}
+
+/// Begins the line of a finding.
+#[tactic(auto, unfolding(crate::specs::Printed::line_start))]
+fn push_start(out: &mut Vec<u8>, alloc: Global, finding: &Finding) -> Result<(), AllocError>
+    ensures { OnOk result (out.new.items ≡ out.old.items ++ line_start finding.now) }
+{
+    push_text(out, "  ")?;
+    push_finding_part(out, alloc, finding)
+}
+
+/// Ends a line, and appends the lines of its rules.
 #[tactic(auto, unfolding(crate::specs::Printed::line_end))]
 fn push_end(out: &mut Vec<u8>, finding: &Finding) -> Result<(), AllocError>
     ensures { OnOk result (out.new.items ≡ out.old.items ++ line_end finding.now) }
 {
-    push_text(out, " ")?;
-    out.extend_from_slice(finding.change.as_slice())?;
-    push_more(out, finding.more)?;
     push_text(out, "\n")?;
     out.extend_from_slice(finding.rules.as_slice())
 }
@@ -147,15 +174,26 @@ pub(crate) fn name_asked(request: &Request) -> &[u8]
     }
 }
 
-/// Appends the line of a profile that is gone or new.
-#[tactic(auto, unfolding(crate::specs::Printed::profile_text))]
-fn push_profile(out: &mut Vec<u8>, alloc: Global, finding: &Finding) -> Result<(), AllocError>
-    ensures { OnOk result (out.new.items ≡ out.old.items ++ profile_text finding.now) }
+/// Appends what is said of a profile that is gone or new.
+#[tactic(auto, unfolding(crate::specs::Printed::profile_part))]
+pub(crate) fn push_profile_part(
+    out: &mut Vec<u8>,
+    alloc: Global,
+    finding: &Finding,
+) -> Result<(), AllocError>
+    ensures { OnOk result (out.new.items ≡ out.old.items ++ profile_part finding.now) }
 {
     push_text(out, "profile ")?;
     push_name(out, alloc, name_asked(&finding.request))?;
     push_text(out, gone_text(finding.sign))?;
-    push_word(out, &finding.request)?;
+    push_word(out, &finding.request)
+}
+
+/// Appends the line of a profile that is gone or new.
+fn push_profile(out: &mut Vec<u8>, alloc: Global, finding: &Finding) -> Result<(), AllocError>
+    ensures { OnOk result (out.new.items ≡ out.old.items ++ profile_text finding.now) }
+{
+    push_profile_part(out, alloc, finding)?;
     push_text(out, "\n")
 }
 
@@ -266,15 +304,24 @@ pub(crate) fn side_text(side: Side) -> &'static str
     }
 }
 
+/// Appends what stands on the line of a rule that is passed over.
+#[tactic(auto, unfolding(crate::specs::Printed::rule_part))]
+pub(crate) fn push_rule_part(out: &mut Vec<u8>, rule: &Apart) -> Result<(), AllocError>
+    ensures { OnOk result (out.new.items ≡ out.old.items ++ rule_part (apart rule.now)) }
+{
+    push_text(out, "? ")?;
+    push_visible(out, shortened(rule.rule.text.as_slice()))?;
+    push_text(out, " only in ")?;
+    push_text(out, side_text(rule.side))
+}
+
 /// Appends the line of a rule that is passed over.
 #[tactic(auto, unfolding(crate::specs::Printed::passed_over_text))]
 fn push_passed_over(out: &mut Vec<u8>, rule: &Apart) -> Result<(), AllocError>
     ensures { OnOk result (out.new.items ≡ out.old.items ++ passed_over_text (apart rule.now)) }
 {
-    push_text(out, "  ? ")?;
-    push_visible(out, shortened(rule.rule.text.as_slice()))?;
-    push_text(out, " only in ")?;
-    push_text(out, side_text(rule.side))?;
+    push_text(out, "  ")?;
+    push_rule_part(out, rule)?;
     push_text(out, "\n")
 }
 

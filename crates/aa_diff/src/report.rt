@@ -73,7 +73,7 @@ fn add_wanted(
 }
 
 /// Those of the findings that are wanted.
-fn shown_of(
+pub(crate) fn shown_of(
     alloc: Global,
     policies: &[Compiled],
     wanted: Wanted<'_>,
@@ -140,20 +140,6 @@ pub(crate) fn lines_of(
     let gathered = gather(alloc, old, new, differences)?;
     let joined = join_all(alloc, gathered.as_slice())?;
     join_all(alloc, joined.as_slice())
-}
-
-/// The findings that are shown.
-pub(crate) fn wanted_lines(
-    alloc: Global,
-    old: Decided<'_>,
-    new: Decided<'_>,
-    wanted: Wanted<'_>,
-    differences: &[Difference],
-) -> Result<Vec<Finding>, AllocError>
-    ensures { IfOk result (λ fs. fs.items ≡ shown_of old.entry.policies.now wanted.entry (lines_of old.entry new.entry differences.now)) }
-{
-    let lines = lines_of(alloc, old, new, differences)?;
-    shown_of(alloc, old.policies, wanted, lines.as_slice())
 }
 
 /// Counts a profile more where the line before is of another.

@@ -20,7 +20,8 @@ use Rattle.aa_lint.specs.Names.{all_names, is_name}
 use Rattle.aa_lint.specs.Telling.{Telling}
 use Rattle.aa_lint.specs.Untold.{Untelling, untold_lines}
 use Rattle.aa_lint.specs.Forms.{answers_in}
-use Rattle.aa_lint.specs.Known.{lines_in, unknown, all_gone}
+use Rattle.aa_report.specs.Lines.{lines_in}
+use Rattle.aa_lint.specs.Known.{unknown, gone_among}
 use Rattle.aa_lint.specs.Lint.{AllTold, AreTold, count_of}
 
 -- 5 where files are skipped, which aren't looked at
@@ -36,7 +37,7 @@ status_of untold told skipped = if length untold == 0 then (if length told == 0 
 abbrev pub lint_printed : Form → List (List ℕ) → List Skipped → AllTold → Printed
 lint_printed form lines skipped all = record {
   answers = answers_in form (length skipped) (unknown lines all);
-  faults = untold_lines all.untold ++ all_gone lines all;
+  faults = untold_lines all.untold ++ gone_among lines all;
   refusal = [];
   status = status_of all.untold (unknown lines all).told skipped;
 }

@@ -7,6 +7,5 @@ pub mod Sarif
 pub mod Listed
 pub mod Lint
 pub mod Known
-pub mod Lines
 pub mod Forms
 pub mod Command

@@ -8,20 +8,21 @@ ghost use Rattle.aa_text.specs.Nearest.{nearest_name};
 ghost use Rattle.aa_lint.specs.Names.{all_names};
 ghost use Rattle.aa_lint.specs.Telling.{telling};
 ghost use Rattle.aa_lint.specs.Untold.{untelling, untold_lines};
-ghost use Rattle.aa_lint.specs.Known.{lines_in, unknown, all_gone};
+ghost use Rattle.aa_report.specs.Lines.{lines_in};
+ghost use Rattle.aa_lint.specs.Known.{unknown, gone_among};
 ghost use Rattle.aa_lint.specs.Lint.{lint_data};
 ghost use Rattle.aa_lint.specs.Command.{open_status, status_of, lint_printed, meant_part, no_name, first_unknown, IsLintOf, IsLintBut, IsLintBy, IsLintIf, IsLintOutput};
 
 use crate::finding_names::{is_name, meant_by};
 use crate::forms::push_answers;
 use crate::gathering::{Lint, lint_all};
-use crate::known::{lines_in, lines_of, push_all_gone, unknown_of};
-use crate::lines::lines_as_set;
+use crate::known::{lines_of, push_gone_among, unknown_of};
 use crate::told::Told;
 use crate::untold::{Untold, push_all_untold};
 use aa_check::Form;
 use aa_command::{Decided, Output, Settings, Use, path_refused, with_policy};
 use aa_files::{Tree, main_text};
+use aa_report::{lines_as_set, lines_in};
 use aa_skipped::{Skipped, UsePart, with_read_policy};
 use aa_text::{NoMemory, push_text, push_visible};
 use std::alloc::{AllocError, Global};
@@ -70,11 +71,11 @@ fn push_faults(
     lines: &[&[u8]],
     lint: &Lint,
 ) -> Result<(), AllocError>
-    ensures { OnOk result (out.new.items ≡ out.old.items ++ untold_lines (lint_data lint.now).untold ++ all_gone (slices lines.now) (lint_data lint.now)) }
+    ensures { OnOk result (out.new.items ≡ out.old.items ++ untold_lines (lint_data lint.now).untold ++ gone_among (slices lines.now) (lint_data lint.now)) }
 {
     let found = lines_of(alloc, lint.told.as_slice())?;
     push_all_untold(out, lint.untold.as_slice())?;
-    push_all_gone(out, alloc, found.as_slice(), lines)
+    push_gone_among(out, alloc, found.as_slice(), lines)
 }
 
 /// What is found, but for accepted lines.

@@ -7,7 +7,6 @@ mod forms;
 mod gathering;
 mod jsons;
 mod known;
-mod lines;
 mod sarif;
 mod shown;
 mod telling;

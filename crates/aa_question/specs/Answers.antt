@@ -1,6 +1,6 @@
 -- What a question is answered.
 -- Source: own.
-use Rattle.std.specs.Prelude.{ℕ, ◌≡◌, ◌++◌, List, codes, true, false, None, Some, option_map, Result, Ok, Err}
+use Rattle.std.specs.Prelude.{ℕ, ◌≡◌, ◌++◌, List, [], codes, true, false, None, Some, option_map, Result, Ok, Err}
 use Rattle.aa_text.specs.Visible.{all_visible}
 use Rattle.aa_files.specs.Searches.{named_before}
 use Rattle.aa_files.specs.Texts.{texts}
@@ -13,6 +13,7 @@ use Rattle.aa_ask.specs.declared.asking.Manner.{Manner}
 use Rattle.aa_ask.specs.declared.command.AskOptions.{AskOptions}
 use Rattle.aa_ask.specs.Command.{IsAskOutput}
 use Rattle.aa_diff.specs.declared.options.DiffOptions.{DiffOptions}
+use Rattle.aa_diff.specs.declared.options.DiffForm.TheVariants as diff_form
 use Rattle.aa_diff.specs.Command.{IsDiffOutput}
 use Rattle.aa_question.specs.declared.question.QuestionFault.{QuestionFault}
 use Rattle.aa_question.specs.declared.question.QuestionFault.TheVariants.{NoMemory, NotJson, NotObject, Unknown, Bad, UnknownIn, BadIn}
@@ -69,8 +70,10 @@ pub record Compares (q : DiffAsked) (o : DiffOptions) : Type 0 where
   pub new : texts o.new.now ≡ q.new.files.paths
   pub gains : o.wanted.gains ≡ q.gains
   pub profiles : texts o.wanted.profiles.now ≡ q.profiles
-  pub json : o.is_json ≡ true
+  pub json : o.form ≡ diff_form.Json
   pub whole : o.skips ≡ false
+  pub accepted : o.accepted.now ≡ []
+  pub known : o.known ≡ None
 
 -- what `diff --json` prints of the two sides of a question
 pub record IsDiffOf (q : DiffAsked) (out : Printed) : Type 0 where

@@ -15,7 +15,7 @@ use crate::reading::{read_diff_question, read_question};
 use aa_ask::{AskOptions, Manner, ask_files};
 use aa_check::{CheckOptions, Form, check_files};
 use aa_command::{Output, Settings};
-use aa_diff::{DiffOptions, Wanted, diff_files};
+use aa_diff::{DiffForm, DiffOptions, Wanted, diff_files};
 use aa_files::searched_folders;
 use aa_text::{NoMemory, push_text, push_visible};
 use std::alloc::{AllocError, Global};
@@ -139,9 +139,10 @@ fn diff_asked(alloc: Global, question: &DiffQuestion) -> Result<Output, NoMemory
         old: question.old.files.paths.as_slice(),
         new: question.new.files.paths.as_slice(),
         wanted,
-        is_json: true,
+        form: DiffForm::Json,
         skips: false,
-        is_html: false,
+        accepted: &[],
+        known: None,
     };
     diff_files(
         alloc,

@@ -210,18 +210,32 @@ const DIFF_ARGUMENTS: &[Argument] = &[
         help: "Print lines of the profile with this full name alone, or of unconfined tasks; of each of these, where there are several",
     },
     Argument {
+        name: "known",
+        letter: None,
+        form: Form::Value("FILE"),
+        barred: None,
+        help: "Leave out findings that stand in a file, as they are printed below the heading of their profile; those that aren't found are told",
+    },
+    Argument {
+        name: "format",
+        letter: None,
+        form: Form::Value("FORM"),
+        barred: Some("json"),
+        help: "How to answer: text, json, html (one page, which fetches nothing and runs no script) or markdown (lists below headings, for a merge request) [default: text]",
+    },
+    Argument {
         name: "html",
         letter: None,
         form: Form::Flag,
-        barred: Some("json"),
-        help: "Answer by one page of HTML, which fetches nothing and runs no script",
+        barred: Some("format"),
+        help: "Answer by a page, as --format html",
     },
     Argument {
         name: "json",
         letter: None,
         form: Form::Flag,
-        barred: None,
-        help: "Answer in JSON",
+        barred: Some("html"),
+        help: "Answer in JSON, as --format json",
     },
 ];
 
@@ -678,7 +692,8 @@ struct Named {
     skips: bool,
 }
 
-const COMMANDS: &[Named] = &[
+/// The commands on policies as they are.
+const POLICY_COMMANDS: &[Named] = &[
     Named {
         name: "check",
         about: CHECK,
@@ -703,6 +718,10 @@ const COMMANDS: &[Named] = &[
         reads_policies: true,
         skips: false,
     },
+];
+
+/// The commands on what is asked.
+const REQUEST_COMMANDS: &[Named] = &[
     Named {
         name: "ask",
         about: ASK,
@@ -735,6 +754,10 @@ const COMMANDS: &[Named] = &[
         reads_policies: true,
         skips: false,
     },
+];
+
+/// The commands on rules.
+const RULE_COMMANDS: &[Named] = &[
     Named {
         name: "lint",
         about: LINT,
@@ -751,6 +774,10 @@ const COMMANDS: &[Named] = &[
         reads_policies: true,
         skips: false,
     },
+];
+
+/// The commands on logs.
+const LOG_COMMANDS: &[Named] = &[
     Named {
         name: "log",
         about: LOG,
@@ -802,12 +829,40 @@ fn with_command<'a>(
     program.subcommand(command_of(alloc, row)?)
 }
 
-fn command_line<'a>(alloc: Global) -> Result<Command<'a>, AllocError> {
-    let mut program = program(alloc);
-    for row in COMMANDS {
+fn policy_commands() -> &'static [Named] {
+    POLICY_COMMANDS
+}
+
+fn request_commands() -> &'static [Named] {
+    REQUEST_COMMANDS
+}
+
+fn rule_commands() -> &'static [Named] {
+    RULE_COMMANDS
+}
+
+fn log_commands() -> &'static [Named] {
+    LOG_COMMANDS
+}
+
+fn with_commands<'a>(
+    alloc: Global,
+    program: Command<'a>,
+    rows: &[Named],
+) -> Result<Command<'a>, AllocError> {
+    let mut program = program;
+    for row in rows {
         program = with_command(alloc, program, row)?;
     }
     Ok(program)
+}
+
+/// The program with its commands, in the order of help.
+fn command_line<'a>(alloc: Global) -> Result<Command<'a>, AllocError> {
+    let program = with_commands(alloc, program(alloc), policy_commands())?;
+    let program = with_commands(alloc, program, request_commands())?;
+    let program = with_commands(alloc, program, rule_commands())?;
+    with_commands(alloc, program, log_commands())
 }
 
 /// The words of the command line, read. The first word is the program's name.

@@ -13,7 +13,7 @@ use aa_ask::{AskOptions, Manner, ask_files};
 use aa_assert::{AssertOptions, assert_files};
 use aa_check::{CheckOptions, Form, check_files};
 use aa_command::{Output, Settings, in_json, refused};
-use aa_diff::{DiffOptions, Wanted, diff_files};
+use aa_diff::{DiffForm, DiffOptions, Wanted, diff_files};
 use aa_job::{JobOptions, job_files};
 use aa_lint::{LintOptions, lint_files};
 use aa_log::{LogOptions, log_files};
@@ -58,6 +58,32 @@ fn form_of(matches: &ArgMatches<'_>) -> Option<Form> {
 /// Says which forms there are.
 fn form_refused(alloc: Global) -> Result<Output, NoMemory> {
     refused(alloc, "error: --format takes text, json, gcc or sarif\n", 2)
+}
+
+/// The form in which differences are wanted; none where there is no such form.
+fn diff_form_of(matches: &ArgMatches<'_>) -> Option<DiffForm> {
+    if matches.get_flag("json") {
+        return Some(DiffForm::Json);
+    }
+    if matches.get_flag("html") {
+        return Some(DiffForm::Html);
+    }
+    match matches.get_str("format") {
+        None | Some("text") => Some(DiffForm::Text),
+        Some("json") => Some(DiffForm::Json),
+        Some("html") => Some(DiffForm::Html),
+        Some("markdown") => Some(DiffForm::Markdown),
+        Some(_) => None,
+    }
+}
+
+/// Says in which forms differences are told.
+fn diff_form_refused(alloc: Global) -> Result<Output, NoMemory> {
+    refused(
+        alloc,
+        "error: --format takes text, json, html or markdown\n",
+        2,
+    )
 }
 
 fn run_check(
@@ -137,13 +163,17 @@ fn run_diff(
         gains: matches.get_flag("gains"),
         profiles: profiles.as_slice(),
     };
+    let Some(form) = diff_form_of(matches) else {
+        return diff_form_refused(alloc);
+    };
     let options = DiffOptions {
         old: old.as_slice(),
         new: new.as_slice(),
         wanted,
-        is_json: matches.get_flag("json"),
+        form,
         skips: matches.get_flag("skip-refused"),
-        is_html: matches.get_flag("html"),
+        accepted: &[],
+        known: file_of(matches, "known"),
     };
     diff_files(alloc, tree, tree, &before, settings, &options)
 }
@@ -358,7 +388,7 @@ fn file_arguments(name: &str) -> &'static [&'static str] {
     match name {
         "check" => &["PROFILE"],
         "ask" => &["PROFILE", "also", "from"],
-        "diff" => &["OLD", "NEW"],
+        "diff" => &["OLD", "NEW", "known"],
         "who" => &["PROFILE", "also"],
         "assert" => &["CLAIMS", "PROFILE"],
         "reach" => &["PROFILE"],

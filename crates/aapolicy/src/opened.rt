@@ -37,7 +37,7 @@ pub(crate) fn is_input(path: &[u8]) -> bool
 fn text_arguments(name: &str) -> &'static [&'static str] {
     match name {
         "ask" => &["PROFILE", "also", "from"],
-        "diff" => &["OLD", "NEW"],
+        "diff" => &["OLD", "NEW", "known"],
         "who" => &["PROFILE", "also"],
         "assert" => &["CLAIMS", "PROFILE"],
         "lint" => &["PROFILE", "known"],

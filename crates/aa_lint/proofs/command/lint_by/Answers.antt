@@ -5,7 +5,7 @@ use Rattle.aa_command.specs.declared.output.Output.{Output}
 use Rattle.aa_command.specs.Setting.{setting_of}
 use Rattle.aa_command.specs.Printed.{printed}
 use Rattle.aa_command.specs.Refusals.{SaysUnread}
-use Rattle.aa_lint.specs.Known.{lines_in}
+use Rattle.aa_report.specs.Lines.{lines_in}
 use Rattle.aa_lint.specs.Command.{IsLintBut, IsLintBy, CantRead, Accepted}
 use Rattle.aa_lint.proofs.command.lint_by.Goals as goal
 

@@ -14,5 +14,7 @@ returns c =
       profiles = ap texts c.as_slice-5.ensures.value;
       json = refl;
       whole = refl;
+      accepted = refl;
+      known = refl;
     })
     c.diff_files.ensures

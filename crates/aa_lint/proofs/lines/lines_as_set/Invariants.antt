@@ -1,7 +1,0 @@
-use Rattle.std.proofs.Common.{take}
-use Rattle.aa_files.specs.Texts.{slices}
-use Rattle.aa_lint.specs.Lines.{AreIn}
-use Rattle.aa_lint.proofs.lines.lines_as_set.Given as goal
-
-abbrev pub invariant-loop-line : goal.invariant-loop-line
-invariant-loop-line l = AreIn l.set (slices (take l.line-index l.lines))
