@@ -98,10 +98,12 @@ none_decide ps l r = at (slice_get ps 0)
 
 none_on_way : (ps : List Policy) (l : Label) (rs : List Request) → files_on_way ps [] l rs ≡ []
 none_on_way ps l [] = refl
-none_on_way ps l (r ∷ rs) = ap (λ (fs : List PlacedFile). or_else fs (files_on_way ps [] (going ps l r) rs)) (none_decide ps l r) ∙ none_on_way ps (going ps l r) rs
+none_on_way ps l (r ∷ rs) =
+    ap (λ (fs : List PlacedFile). or_else fs (files_on_way ps [] (going ps l r) rs)) (none_decide ps l r) ∙ none_on_way ps (going ps l r) rs
 
 module _ (d : Part) (limit : ℕ) (text : List ℕ) (l : Label) (fs : AllFound) (clear : IsClear fs) where
-  judged_kept : (Is : Request → Type 0) (w : Word) (j : Judgement) → IsJudged d.decided.policies.now limit l Is w text j → fs ≡ judged_found d l w j → IsKept d l w Is
+  judged_kept : (Is : Request → Type 0) (w : Word) (j : Judgement) → IsJudged d.decided.policies.now limit l Is w text j → fs ≡ judged_found d l w j
+      → IsKept d l w Is
   judged_kept Is w (is.Holds r) judged eq =
       record { closed = sym (ap (λ (x : AllFound). x.doubt) eq) ∙ clear.sure; holds = λ broken. absurd (judged.1 broken) }
   judged_kept Is w (is.Untold line) judged eq = absurd (cons_nil _ _ (sym (ap (λ (x : AllFound). x.untold) eq) ∙ clear.told))
@@ -154,7 +156,8 @@ module _ (first : Bool) (At : Label → AllFound → Type 0) where
       let c = no_else g.doubt (first_some (map (λ (fs : AllFound). fs.doubt) found)) sure in
       ⊎_elim
       (λ (e : k ≡ l). (g, subst (λ (x : Label). At x g) e are.0, record { nobody = a.0; told = b.0; sure = c.0 }))
-      (λ (more : In l ls). each_clear ls found (on (first && is_found g) (ap (λ (xs : List Found). first && not (is_nil xs)) a.0 ∙ never first) are.1) a.1 b.1 c.1 l more)
+      (λ (more : In l ls). each_clear ls found (on (first && is_found g)
+      (ap (λ (xs : List Found). first && not (is_nil xs)) a.0 ∙ never first) are.1) a.1 b.1 c.1 l more)
       i
     where
       never : (b : Bool) → (b && false) ≡ false

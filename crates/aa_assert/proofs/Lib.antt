@@ -6,6 +6,8 @@ pub mod Turns
 pub mod Turning
 pub mod Looking
 pub mod Passing
+mod Apart
+mod Enforcing
 mod There
 mod Naming
 mod Beginning

@@ -44,7 +44,8 @@ made a b c e f g same alike like =
     ap first same ∙ (ap next alike ∙ ap last like)
 
 -- one more is added
-pub all_more : (concerned : List PlacedFile) (found : List AllFound) (fs : AllFound) → all_of concerned (found ++ fs ∷ []) ≡ and_found (all_of concerned found) fs
+pub all_more : (concerned : List PlacedFile) (found : List AllFound) (fs : AllFound)
+    → all_of concerned (found ++ fs ∷ []) ≡ and_found (all_of concerned found) fs
 all_more concerned found fs =
     made _ _ _ _ _ _
     (flat_more (λ (x : AllFound). x.list) found fs)
@@ -127,7 +128,8 @@ module _ (first : Bool) (d : Part) (limit : ℕ) (ws : List ClaimWord) (a : Aske
 
   unmoved : (n : ℕ) (was : AllFound) → label_if ws n (profile_in d.decided.policies.now 0 n) ≡ [] → Of n was → Of (suc n) was
   unmoved n was e of =
-      same_next n was [] e (λ found are all. subst (λ (x : List Label). AreFoundAt first At x found) (sym (append-nil (labels_about d.decided.policies.now ws n))) are) of
+      same_next n was [] e (λ found are all. subst (λ (x : List Label). AreFoundAt first At x found)
+      (sym (append-nil (labels_about d.decided.policies.now ws n))) are) of
 
   -- there is no such profile
   pub absent : (n : ℕ) (was : AllFound) → profile_in d.decided.policies.now 0 n ≡ None → Of n was → Of (suc n) was

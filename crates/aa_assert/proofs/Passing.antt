@@ -79,7 +79,8 @@ module _ (ps : List Policy) (limit : ℕ) (from : Label) (ls : Labels) (arrivals
             omega (arith, long, more, least);
       }
     where
-      no_earlier : (i j : ℕ) (b : Arrival) → ((k : ℕ) → k < i → is_there (get_or arrivals k no_arrival) ≡ false) → slice_get arrivals j ≡ Some b → is_there b ≡ true → i ≤ j
+      no_earlier : (i j : ℕ) (b : Arrival) → ((k : ℕ) → k < i → is_there (get_or arrivals k no_arrival) ≡ false) → slice_get arrivals j ≡ Some b
+          → is_there b ≡ true → i ≤ j
       no_earlier i j b none got there =
           ⊎_elim
           (λ (lt : j < i). absurd (true≢false (sym there ∙ (ap is_there (sym (get_or_from_slice_get arrivals j b no_arrival got)) ∙ none j lt))))

@@ -1,9 +1,10 @@
 -- What isn't undecided of a claim is so by the policy of all files.
 use Rattle.std.proofs.Common.{◌≡◌, ℕ, ◌<◌, ◌≤◌, List, [], ◌∷◌, ◌++◌, length, map, get_or, Bool, true, false, true≢false, Option, Some, None, refl, sym, ap, subst, ◌∙◌, Contains, ⊎_elim, arith}
-use Rattle.std.specs.Prelude.{◌||◌, filter, codes, is_some, IsTrue, if◌then◌else◌}
+use Rattle.std.specs.Prelude.{◌||◌, ◌==◌, filter, codes, is_some, IsTrue, if◌then◌else◌}
 use Rattle.std.specs.Option.{option_map_or, option_and_then}
 use Rattle.std.specs.List.{All, list_any, slice_get}
 use Rattle.std.proofs.lemmas.Option.{slice_get_cases, slice_get_within, same_Some}
+use Rattle.std.proofs.lemmas.Bool.{eqb-true, eq-eqb}
 use Rattle.aa_pattern.specs.Globs.{IsNonzeroByte}
 use Rattle.aa_model.specs.declared.policy.Policy.{Policy}
 use Rattle.aa_model.specs.declared.policy.Profile.{Profile}
@@ -44,7 +45,9 @@ use Rattle.aa_assert.specs.Passages.{going}
 use Rattle.aa_assert.specs.Scope.{is_about, may_be_about, concerns}
 use Rattle.aa_assert.specs.Findings.{AllFound, files_concerned, files_changing_in, files_changing, files_on_way}
 use Rattle.aa_assert.specs.Answers.{IsAnswerBy}
-use Rattle.aa_assert.specs.Holding.{is_led_to, EndsThere, IsBrokenAt, Holds, IsClear, ClearClaimsHold, AreNamesText, ClaimsHold, FreeClaimsHold, BreakingsStand, EndingsStand, WaysStand}
+use Rattle.aa_assert.specs.Holding.{is_led_to, EndsThere, IsBrokenAt, Holds, IsClear, ClearClaimsHold, AreNamesText, ClaimsHold, FreeClaimsHold, BreakingsStand, EndingsStand, WaysStand, ArrivalsStand, ComesThere}
+use Rattle.aa_ask.specs.Told.{is_same}
+use Rattle.aa_assert.proofs.Apart.{itself, differ, same_number}
 use Rattle.aa_assert.proofs.Beginning.{about_begins}
 use Rattle.aa_assert.proofs.Clear.{IsKept, AreKept, AllKept, all_clear, cons_nil, no_else}
 use Rattle.aa_assert.proofs.Naming.{AreSaid, are_said, ends_led, comes_way}
@@ -64,7 +67,9 @@ such_none : (p : Unread → Bool) (skipped : List Skipped) → list_any p (unrea
 such_none p [] e = refl
 such_none p (k ∷ ks) e = at (such_none p ks) (p k.unread) refl e
   where
-    at : (list_any p (unreads ks) ≡ false → map placed (filter (λ (x : Skipped). p x.unread) ks) ≡ []) → (b : Bool) → p k.unread ≡ b → (b || list_any p (unreads ks)) ≡ false → map placed (if b then k ∷ filter (λ (x : Skipped). p x.unread) ks else filter (λ (x : Skipped). p x.unread) ks) ≡ []
+    at : (list_any p (unreads ks) ≡ false → map placed (filter (λ (x : Skipped). p x.unread) ks) ≡ []) → (b : Bool) → p k.unread ≡ b
+        → (b || list_any p (unreads ks)) ≡ false → map placed
+        (if b then k ∷ filter (λ (x : Skipped). p x.unread) ks else filter (λ (x : Skipped). p x.unread) ks) ≡ []
     at rest true f n = absurd (true≢false n)
     at rest false f n = rest n
 
@@ -90,7 +95,8 @@ module _ (each : EachDecides) (d : Part) (read whole : Policy) (place : ℕ → 
   ks = d.skipped.now
 
   -- none of the files could decide: the answer is that of the whole
-  sure_by : (l : Label) (r : Request) → one_decides read.profiles l r (unreads ks) ≡ false → reply (whole ∷ []) (moved place l) r ≡ moved_answer place (reply (read ∷ []) l r)
+  sure_by : (l : Label) (r : Request) → one_decides read.profiles l r (unreads ks) ≡ false
+      → reply (whole ∷ []) (moved place l) r ≡ moved_answer place (reply (read ∷ []) l r)
   sure_by l r none =
       let has = has_some read.profiles l r w.file w.files (subst (λ (xs : List Skipped). one_decides read.profiles l r (unreads xs) ≡ false) w.some none) in
       each (unreads ks) read whole place w.joined l r has none
@@ -149,7 +155,8 @@ module _ (each : EachDecides) (d : Part) (read whole : Policy) (place : ℕ → 
       at true = refl
       at false = refl
 
-  goes : (l : Label) (r : Request) → files_deciding d.decided.policies.now ks l r ≡ [] → going (whole ∷ []) (moved place l) r ≡ moved place (going d.decided.policies.now l r)
+  goes : (l : Label) (r : Request) → files_deciding d.decided.policies.now ks l r ≡ []
+      → going (whole ∷ []) (moved place l) r ≡ moved place (going d.decided.policies.now l r)
   goes l r none =
       ap (label_kept (moved place l)) (sure_by l r (decided_by l r none) ∙ sym (ap (moved_answer place) (by_read l r)))
       ∙ kept_moved l (reply d.decided.policies.now l r)
@@ -161,11 +168,74 @@ module _ (each : EachDecides) (d : Part) (read whole : Policy) (place : ℕ → 
       let parts = no_else (files_deciding d.decided.policies.now ks l r) (files_on_way d.decided.policies.now ks (going d.decided.policies.now l r) rs) none in
       ap (λ (m : Label). led_by (going (whole ∷ [])) m rs) (goes l r parts.0) ∙ ways (going d.decided.policies.now l r) rs parts.1
 
+  -- ---- where ways end
+
+  has_kept : (l : Label) (a : Answer) → has_label read.profiles l ≡ true → has_label read.profiles a.label ≡ true
+      → has_label read.profiles (label_kept l a) ≡ true
+  has_kept l a here next = at (is_by_complain a)
+    where
+      at : (b : Bool) → has_label read.profiles (if b then l else a.label) ≡ true
+      at true = here
+      at false = next
+
+  has_led : (rs : List Request) (l : Label) → has_label read.profiles l ≡ true
+      → has_label read.profiles (led_by (going d.decided.policies.now) l rs) ≡ true
+  has_led [] l has = has
+  has_led (r ∷ rs) l has =
+      has_led rs (going d.decided.policies.now l r)
+      (has_kept l (reply d.decided.policies.now l r) has
+      (ap (λ (a : Answer). has_label read.profiles a.label) (by_read l r) ∙ leads_there read l r has))
+
+  -- no two read profiles have one place
+  once : (m n : ℕ) (o u : Option Profile) → slice_get read.profiles m ≡ o → slice_get read.profiles n ≡ u → is_some o ≡ true → is_some u ≡ true
+      → place m ≡ place n → m ≡ n
+  once m n None u e f has too same = absurd (true≢false (sym has))
+  once m n (Some p) None e f has too same = absurd (true≢false (sym too))
+  once m n (Some p) (Some q) e f has too same =
+      let here = w.joined.kept m p e in
+      let there_too = w.joined.kept n q f in
+      let one = same_Some _ _ (sym here.1 ∙ (ap (slice_get whole.profiles) same ∙ there_too.1)) in
+      same_number read.profiles read.lawful.distinct m n p q e f (ap (λ (x : Profile). x.name) one)
+
+  apart : (l m : Label) → has_label read.profiles l ≡ true → has_label read.profiles m ≡ true → is_same l m ≡ false
+      → is_same (moved place l) (moved place m) ≡ false
+  apart (Unconfined j) (Unconfined k) has too e = e
+  apart (Unconfined j) (Confined k n) has too e = refl
+  apart (Confined j m) (Unconfined k) has too e = refl
+  apart (Confined j m) (Confined k n) has too e =
+      differ (j == k) (m == n) (place m == place n)
+      (λ same. eq-eqb m n
+      (once m n (slice_get read.profiles m) (slice_get read.profiles n) refl refl has too (eqb-true (place m) (place n) same)))
+      e
+
+  begins : (l : Label) (rs : List Request) → files_on_way d.decided.policies.now ks l rs ≡ []
+      → is_same l (led_by (going d.decided.policies.now) l rs) ≡ false → has_label read.profiles l ≡ true
+  begins l [] none leaves = absurd (true≢false (sym (itself l) ∙ leaves))
+  begins l (r ∷ rs) none leaves =
+      let parts = no_else (files_deciding d.decided.policies.now ks l r) (files_on_way d.decided.policies.now ks (going d.decided.policies.now l r) rs) none in
+      there l r (decided_by l r parts.0)
+
+  comes : (ws : List ClaimWord) (l : Label) (rs : List Request) → files_on_way d.decided.policies.now ks l rs ≡ []
+      → ComesThere d.decided.policies.now ws l rs → ComesThere (whole ∷ []) ws (moved place l) rs
+  comes ws l rs none c =
+      let end = led_by (going d.decided.policies.now) l rs in
+      let has = begins l rs none c.leaves in
+      let has_end = has_led rs l has in
+      let led = ways l rs none in
+      record {
+        asked = c.asked;
+        leaves = ap (is_same (moved place l)) led ∙ apart l end has has_end c.leaves;
+        arrives =
+            ap (is_led_to (whole ∷ []) ws) led
+            ∙ (led_same ws end has_end ∙ (ap (λ (ps : List Policy). is_led_to ps ws end) (sym w.one) ∙ c.arrives));
+      }
+
   module _ (closed_words : ClosedWords) where
     -- no file could change the word's answers: none could decide one of its requests
     closed_by : (l : Label) (v : Word) → files_changing d l v ≡ [] → (r : Request) → IsOf v r → one_decides read.profiles l r (unreads ks) ≡ false
     closed_by l v none r is =
-        let here = subst (λ (ps : List Policy). option_map_or (λ (p : Policy). map placed (filter (λ (k : Skipped). is_open_word p.profiles k.unread l v) ks)) (slice_get ps 0) [] ≡ []) w.one none in
+        let here = subst (λ (ps : List Policy). option_map_or
+        (λ (p : Policy). map placed (filter (λ (k : Skipped). is_open_word p.profiles k.unread l v) ks)) (slice_get ps 0) [] ≡ []) w.one none in
         none_more (λ (u : Unread). is_open_word read.profiles u l v) (λ (u : Unread). undecided read.profiles u l r)
         (λ u e. closed_words read.profiles u l v e r is) (unreads ks) (none_such (λ (u : Unread). is_open_word read.profiles u l v) ks here)
 
@@ -177,7 +247,8 @@ module _ (each : EachDecides) (d : Part) (read whole : Policy) (place : ℕ → 
         let other = kept.holds (broken.0, broken.1, here) in
         other.2 (closed_files closed_words d l v kept.closed other.0 other.1)
 
-    answered_back : (l : Label) (against : Bool) (r : Request) → one_decides read.profiles l r (unreads ks) ≡ false → IsAnswered (whole ∷ []) (moved place l) against r
+    answered_back : (l : Label) (against : Bool) (r : Request) → one_decides read.profiles l r (unreads ks) ≡ false
+        → IsAnswered (whole ∷ []) (moved place l) against r
         → IsAnswered d.decided.policies.now l against r
     answered_back l against r none answered = ap grants (by_read l r) ∙ (sym (ap grants (sure_by l r none)) ∙ answered)
 
@@ -201,7 +272,8 @@ module _ (each : EachDecides) (d : Part) (read whole : Policy) (place : ℕ → 
           let none = or_none (together (unreads ks)).others (list_any (may_be_about ws) (together (unreads ks)).heads) none_concerned in
           ⊎_elim
           (λ (t : IsTrue (together (unreads ks)).others). absurd (true≢false (sym t ∙ none.0)))
-          (λ (h : (x : Head) × Contains (together (unreads ks)).heads x × HasHead top x). (h.0, none_in (may_be_about ws) (together (unreads ks)).heads none.1 h.0 h.1, h.2.called))
+          (λ (h : (x : Head) × Contains (together (unreads ks)).heads x × HasHead top x).
+          (h.0, none_in (may_be_about ws) (together (unreads ks)).heads none.1 h.0 h.1, h.2.called))
           unread.known
 
       not_top : (q : Profile) → IsUnreadTop (together (unreads ks)) q → is_about ws q.name ≡ true → ⊥
@@ -209,15 +281,19 @@ module _ (each : EachDecides) (d : Part) (read whole : Policy) (place : ℕ → 
           let h = known q unread in
           true≢false (sym (subst (λ (n : List ℕ). is_about ws n ≡ true) h.2 about) ∙ (or_none (is_about ws h.0.name) _ h.1).0)
 
-      not_child : (q : Profile) → IsUnreadChild (together (unreads ks)) (length read.profiles) whole.profiles place q → All IsNonzeroByte q.name → is_about ws q.name ≡ true → ⊥
+      not_child : (q : Profile) → IsUnreadChild (together (unreads ks)) (length read.profiles) whole.profiles place q → All IsNonzeroByte q.name
+          → is_about ws q.name ≡ true → ⊥
       not_child q unread text about =
           let h = known unread.parent unread.unread_too in
           let called : q.name ≡ (h.0.name ++ codes "//") ++ unread.name = unread.called ∙ ap (λ (n : List ℕ). (n ++ codes "//") ++ unread.name) h.2 in
           true≢false
-          (sym (about_begins ws (h.0.name ++ codes "//") unread.name (subst (All IsNonzeroByte) called text) (subst (λ (n : List ℕ). is_about ws n ≡ true) called about))
+          (sym (about_begins ws (h.0.name ++ codes "//") unread.name (subst (All IsNonzeroByte) called text)
+          (subst (λ (n : List ℕ). is_about ws n ≡ true) called about))
           ∙ (or_none (is_about ws h.0.name) _ h.1).1)
 
-      module _ (kept : (k : ℕ) → k < length read.profiles → (p : Profile) → slice_get read.profiles k ≡ Some p → is_about ws p.name ≡ true → AreKept d (Confined 0 k) says) where
+      module _
+          (kept : (k : ℕ) → k < length read.profiles → (p : Profile) → slice_get read.profiles k ≡ Some p → is_about ws p.name ≡ true → AreKept d
+          (Confined 0 k) says) where
         read_holds : (n m : ℕ) (q : Profile) → n < length read.profiles → place n ≡ m → slice_get whole.profiles m ≡ Some q → is_about ws q.name ≡ true
             → IsBrokenAt (whole ∷ []) ws (Confined 0 m) says → ⊥
         read_holds n m q lt at got about broken =
@@ -237,10 +313,12 @@ module _ (each : EachDecides) (d : Part) (read whole : Policy) (place : ℕ → 
                 let same = same_Some _ _ (sym there.1 ∙ (ap (slice_get whole.profiles) at ∙ got)) in
                 let k = kept n lt p is (subst (λ (x : Profile). is_about ws x.name ≡ true) (sym same) about) in
                 says_hold ws (Confined 0 n) says said k
-                (λ e. ap (λ (o : Option Profile). option_map_or (λ (x : Profile). x.complain) o false) there.1 ∙ enforced_here p is (subst (AreKept d (Confined 0 n)) e k))
+                (λ e. ap (λ (o : Option Profile). option_map_or (λ (x : Profile). x.complain) o false) there.1 ∙ enforced_here p is
+                (subst (AreKept d (Confined 0 n)) e k))
                 (subst (λ (i : ℕ). IsBrokenAt (whole ∷ []) ws (Confined 0 i) says) (sym at) broken)
 
-        pub holds : AreNamesText whole → (m : ℕ) (q : Profile) → slice_get whole.profiles m ≡ Some q → is_about ws q.name ≡ true → IsBrokenAt (whole ∷ []) ws (Confined 0 m) says → ⊥
+        pub holds : AreNamesText whole → (m : ℕ) (q : Profile) → slice_get whole.profiles m ≡ Some q → is_about ws q.name ≡ true
+            → IsBrokenAt (whole ∷ []) ws (Confined 0 m) says → ⊥
         holds texts m q got about broken =
             ⊎_elim
             (λ (old : (n : ℕ) × (n < length read.profiles) × (place n ≡ m)). read_holds old.0 m q old.1 old.2 got about broken)
@@ -257,7 +335,8 @@ within ps n p e = at (slice_get ps 0) e
     at (Some q) f = slice_get_within q.profiles n p f
 
 -- what is known of a claim that is clear
-module _ (first : Bool) (d : Part) (limit : ℕ) (ws : List ClaimWord) (head asked : ClaimWord) (fs : AllFound) (answer : IsAnswerBy first d limit ws head asked fs)
+module _ (first : Bool) (d : Part) (limit : ℕ) (ws : List ClaimWord) (head asked : ClaimWord) (fs : AllFound)
+    (answer : IsAnswerBy first d limit ws head asked fs)
     (clear : IsClear fs) where
   said : AreSaid d.decided.policies.now ws answer.says
   said = are_said d ws head asked answer.says answer.is_asked
@@ -298,13 +377,17 @@ claims_hold each closed first d limit ws head asked fs read whole place w texts 
 pub free_claims_hold : EachDecides → ClosedWords → FreeClaimsHold
 free_claims_hold each closed first d limit ws head asked fs read whole place w answer clear about broken =
     let k = kept first d limit ws head asked fs answer clear in
-    says_hold each d read whole place w closed ws (Unconfined 0) answer.says (said first d limit ws head asked fs answer clear) (k.free about) (λ e. refl) broken
+    says_hold each d read whole place w closed ws (Unconfined 0) answer.says (said first d limit ws head asked fs answer clear) (k.free about)
+    (λ e. refl) broken
 
 pub breakings_stand : EachDecides → BreakingsStand
 breakings_stand each d read whole place w l r against none answered = stands each d read whole place w l r against none answered
 
 pub endings_stand : EachDecides → EndingsStand
 endings_stand each d read whole place w ws l r none ends = ends_there each d read whole place w ws l r (decided_by each d read whole place w l r none) ends
+
+pub arrivals_stand : EachDecides → ArrivalsStand
+arrivals_stand each d read whole place w ws l rs none c = comes each d read whole place w ws l rs none c
 
 pub ways_stand : EachDecides → WaysStand
 ways_stand each d read whole place w l rs none = ways each d read whole place w l rs none

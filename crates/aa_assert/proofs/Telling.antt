@@ -62,7 +62,8 @@ module _ (d : Part) (limit : ℕ) (ws : List ClaimWord) (text : List ℕ) (l : L
   unless_one [] g i = in_one f g i
   unless_one (file ∷ files) g i = absurd i
 
-  by_judgement : (Is : Request → Type 0) (w : Word) (j : Judgement) → IsJudged d.decided.policies.now limit l Is w text j → In f (broken_by d l j) → ByRequestOf d l w Is f
+  by_judgement : (Is : Request → Type 0) (w : Word) (j : Judgement) → IsJudged d.decided.policies.now limit l Is w text j → In f (broken_by d l j)
+      → ByRequestOf d l w Is f
   by_judgement Is w (is.Broken r) judged i = (r, judged.1.is, judged.1.answer, unless_one _ _ i)
   by_judgement Is w (is.Holds r) judged i = absurd i
   by_judgement Is w (is.Untold line) judged i = absurd i
@@ -70,7 +71,8 @@ module _ (d : Part) (limit : ℕ) (ws : List ClaimWord) (text : List ℕ) (l : L
   by_request : (Is : Request → Type 0) (w : Word) → IsFoundOf d limit l Is w text fs → ByRequestOf d l w Is f
   by_request Is w is = by_judgement Is w is.0 is.1 (subst (λ (x : AllFound). In f x.list) is.2 there)
 
-  by_passage : (ls : Labels) → AreSaid d.decided.policies.now ws (Reaches ls) → (p : Passage) → IsPassage d.decided.policies.now limit l ls p → In f (passed_by d l p)
+  by_passage : (ls : Labels) → AreSaid d.decided.policies.now ws (Reaches ls) → (p : Passage) → IsPassage d.decided.policies.now limit l ls p
+      → In f (passed_by d l p)
       → Shows d ws l (Reaches ls) f
   by_passage ls said (passage.Through way) is i = (way.items, way_comes d.decided.policies.now ws ls said l way.items is.is, unless_one _ _ i)
   by_passage ls said passage.Nowhere is i = absurd i
@@ -97,7 +99,8 @@ pub told_break : ToldBreak
 told_break first d limit ws head asked fs answer f c =
     let are = answer.are in
     let i = subst (λ (x : AllFound). In f x.list) are.2 (contains_in fs.list f c.0 c.1 c.2) in
-    let t = told_at first (IsFoundAt d limit answer.says asked.text.items) f (labels_about d.decided.policies.now ws (count_of d.decided.policies.now)) are.0 are.1 i in (
+    let t = told_at first (IsFoundAt d limit answer.says asked.text.items) f
+    (labels_about d.decided.policies.now ws (count_of d.decided.policies.now)) are.0 are.1 i in (
       t.0,
       in_about d.decided.policies.now ws (count_of d.decided.policies.now) t.0 t.1,
       shown d limit ws asked.text.items t.0 t.2.0 f t.2.2 answer.says (are_said d ws head asked answer.says answer.is_asked) t.2.1,

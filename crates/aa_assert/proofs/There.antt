@@ -102,7 +102,8 @@ module _ (profiles : List Profile) where
   attached_there : (ns : List ℕ) (path : List ℕ) (m : ℕ) → attached profiles ns path ≡ Some m → IsThere m
   attached_there ns path m e =
       let hs = filter (λ (h : ℕ × Pattern). is_match h.1.items.items path) (attachments_by profiles ns) in
-      let found = each_filter (λ (h : ℕ × Pattern). IsThere h.0) (λ (h : ℕ × Pattern). is_match h.1.items.items path) (attachments_by profiles ns) (all_there ns) in
+      let found = each_filter (λ (h : ℕ × Pattern). IsThere h.0) (λ (h : ℕ × Pattern). is_match h.1.items.items path) (attachments_by profiles ns)
+      (all_there ns) in
       let as' = map attachment_of hs in
       let each = each_map (λ (a : Attachment). IsThere a.profile) attachment_of hs found in
       let strong = each_filter (λ (a : Attachment). IsThere a.profile) (is_strong (list_any (λ (a : Attachment). a.literal) as') (longest as')) as' each in
@@ -209,7 +210,8 @@ module _ (read : Policy) where
   free_there (Link l) = refl
   free_there (Cap c) = refl
   free_there (Net f s) = refl
-  free_there (Execute r) = by_there read.profiles 0 (attached read.profiles (tops read.profiles) r.path) (attached_there read.profiles (tops read.profiles) r.path)
+  free_there (Execute r) =
+      by_there read.profiles 0 (attached read.profiles (tops read.profiles) r.path) (attached_there read.profiles (tops read.profiles) r.path)
   free_there (Change name) = or_there read.profiles (Unconfined 0) (label_named (read ∷ []) 0 name) refl (name_there name)
   free_there (Reload m) = at (slice_get (read ∷ []) m)
     where
@@ -232,7 +234,8 @@ module _ (read : Policy) where
       (or_there read.profiles (Confined 0 n) found is (name_there name))
   in_there n p (Reload m) is = or_there read.profiles (Confined 0 n) (confined_in (read ∷ []) m p.name) is (reload_there p.name m)
 
-  at_there : (n : ℕ) (o : Option Profile) (r : Request) → IsThere read.profiles n → has_label read.profiles (reply_at (read ∷ []) 0 read.profiles n o r).label ≡ true
+  at_there : (n : ℕ) (o : Option Profile) (r : Request) → IsThere read.profiles n
+      → has_label read.profiles (reply_at (read ∷ []) 0 read.profiles n o r).label ≡ true
   at_there n None r is = is
   at_there n (Some p) r is = in_there n p r is
 

@@ -8,19 +8,22 @@ use Rattle.aa_claims.specs.declared.fault.Wrong.{Wrong}
 use Rattle.aa_assert.specs.declared.part.Part.{Part}
 use Rattle.aa_assert.specs.declared.asked.Asked.{Asked}
 use Rattle.aa_assert.specs.declared.answering.Answer.{Answer}
+use Rattle.aa_assert.specs.declared.kind.Kind.{Kind}
+use Rattle.aa_assert.specs.Kinds.{kind_of}
 use Rattle.aa_assert.specs.Asked.{IsAskedBy}
 use Rattle.aa_assert.specs.Scope.{IsInScope}
 use Rattle.aa_assert.specs.Findings.{AllFound, all_found, AreFound}
 use Rattle.aa_assert.specs.Refused.{IsUnanswered}
 
--- by whom the claim on the line of that number is broken
+-- by whom the claim on the line of that number is broken, and of what kind it is
 pub record Answered : Type 0 where
   pub number : ℕ
+  pub kind : Kind
   pub found : AllFound
 
 -- an answer, without where it lies in memory
 abbrev pub answered : Answer → Answered
-answered a = record { number = a.number; found = all_found a.findings }
+answered a = record { number = a.number; kind = a.kind; found = all_found a.findings }
 
 -- the answer to a claim of these words, of which the first two are these: each of its names names somebody, and it is about somebody
 pub record IsAnswerBy (first : Bool) (d : Part) (limit : ℕ) (ws : List ClaimWord) (head asked : ClaimWord) (found : AllFound) : Type 0 where
@@ -37,6 +40,7 @@ IsAnswerOf first d limit _ found = ⊥
 -- the answer to the claim on a line
 pub record IsAnswerTo (first : Bool) (d : Part) (limit : ℕ) (l : ClaimLine) (a : Answered) : Type 0 where
   pub number_is : a.number ≡ l.number
+  pub kind_is : a.kind ≡ kind_of l.words.items
   pub is : IsAnswerOf first d limit l.words.items a.found
 
 -- the answers to claims, one by one

@@ -25,6 +25,10 @@ use Rattle.aa_assert.specs.declared.command.AssertOptions.{AssertOptions}
 use Rattle.aa_assert.specs.Answers.{Answered, AreAnswers, IsFirstUnanswered}
 use Rattle.aa_assert.specs.Shown.{answers_text, untold_text, is_broken, is_undecided}
 use Rattle.aa_assert.specs.Json.{json_answers}
+use Rattle.aa_assert.specs.Gcc.{gcc_answers}
+use Rattle.aa_assert.specs.Sarif.{sarif_answers}
+use Rattle.aa_check.specs.declared.form.Form.{Form}
+use Rattle.aa_check.specs.declared.form.Form.TheVariants.{Text, Json, Gcc, Sarif}
 
 -- 1 where something can't be told, else 4 where a claim is broken, and else 5 where one is undecided
 abbrev pub status_of : List ℕ → ℕ → ℕ → ℕ
@@ -34,9 +38,16 @@ status_of untold broken undecided = if length untold == 0 then (if broken == 0 t
 abbrev pub told_text : AssertOptions → ℕ → List Skipped → List Answered → List ℕ
 told_text o passed skipped answers = answers_text o.claims.now answers ++ passed_text passed ++ count_text (length skipped)
 
--- answers as they are wanted, by a policy of which so many rules decide nothing: as JSON, or as text
+-- answers in a form, by a policy of which so many rules decide nothing; text and JSON tell these, and how many files are skipped
+abbrev pub text_in : Form → AssertOptions → ℕ → List Skipped → List Answered → List ℕ
+text_in Text o passed skipped answers = told_text o passed skipped answers
+text_in Json o passed skipped answers = json_answers passed (map placed skipped) answers
+text_in Gcc o passed skipped answers = gcc_answers o.claims.now answers
+text_in Sarif o passed skipped answers = sarif_answers o.claims.now answers
+
+-- in the form that is wanted
 abbrev pub wanted_text : AssertOptions → ℕ → List Skipped → List Answered → List ℕ
-wanted_text o passed skipped answers = if o.is_json then json_answers passed (map placed skipped) answers else told_text o passed skipped answers
+wanted_text o passed skipped answers = text_in o.form o passed skipped answers
 
 -- the answers, and what can't be told
 abbrev pub assert_printed : AssertOptions → ℕ → List Skipped → List Answered → Printed

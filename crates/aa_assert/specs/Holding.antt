@@ -128,12 +128,14 @@ FreeClaimsHold = (first : Bool) (d : Part) (limit : ℕ) (ws : List ClaimWord) (
 
 -- a request that no skipped file could decide is answered so by that policy: one that breaks a claim breaks it there
 abbrev pub BreakingsStand : Type 0
-BreakingsStand = (d : Part) (read whole : Policy) (place : ℕ → ℕ) → IsWhole d.decided d.skipped.now read whole place → (l : Label) (r : Request) (against : Bool)
-    → files_deciding d.decided.policies.now d.skipped.now l r ≡ [] → IsAnswered d.decided.policies.now l against r → IsAnswered (whole ∷ []) (moved place l) against r
+BreakingsStand = (d : Part) (read whole : Policy) (place : ℕ → ℕ) → IsWhole d.decided d.skipped.now read whole place
+    → (l : Label) (r : Request) (against : Bool) → files_deciding d.decided.policies.now d.skipped.now l r ≡ []
+    → IsAnswered d.decided.policies.now l against r → IsAnswered (whole ∷ []) (moved place l) against r
 
 -- and one that ends at a label which the claim names ends at such a one there
 abbrev pub EndingsStand : Type 0
-EndingsStand = (d : Part) (read whole : Policy) (place : ℕ → ℕ) → IsWhole d.decided d.skipped.now read whole place → (ws : List ClaimWord) (l : Label) (r : Request)
+EndingsStand = (d : Part) (read whole : Policy) (place : ℕ → ℕ) → IsWhole d.decided d.skipped.now read whole place
+    → (ws : List ClaimWord) (l : Label) (r : Request)
     → files_deciding d.decided.policies.now d.skipped.now l r ≡ [] → EndsThere d.decided.policies.now ws l r → EndsThere (whole ∷ []) ws (moved place l) r
 
 -- requests of which no skipped file could decide any, one after another, lead there to the same profile, or out of all
@@ -141,3 +143,10 @@ abbrev pub WaysStand : Type 0
 WaysStand = (d : Part) (read whole : Policy) (place : ℕ → ℕ) → IsWhole d.decided d.skipped.now read whole place → (l : Label) (rs : List Request)
     → files_on_way d.decided.policies.now d.skipped.now l rs ≡ []
     → led_by (going (whole ∷ [])) (moved place l) rs ≡ moved place (led_by (going d.decided.policies.now) l rs)
+
+-- so that those which come to a label that a claim names, from another, come to such a one there, from another: a way that breaks the claim
+-- breaks it there
+abbrev pub ArrivalsStand : Type 0
+ArrivalsStand = (d : Part) (read whole : Policy) (place : ℕ → ℕ) → IsWhole d.decided d.skipped.now read whole place
+    → (ws : List ClaimWord) (l : Label) (rs : List Request) → files_on_way d.decided.policies.now d.skipped.now l rs ≡ []
+    → ComesThere d.decided.policies.now ws l rs → ComesThere (whole ∷ []) ws (moved place l) rs

@@ -7,8 +7,13 @@ pub mod Judging
 pub mod Enforced
 pub mod Refused
 pub mod Findings
+pub mod Kinds
 pub mod Answers
 pub mod Shown
+pub mod Outcomes
+pub mod Gcc
+pub mod Sarif
+pub mod Listed
 pub mod Json
 pub mod Command
 pub mod Holding

@@ -25,11 +25,21 @@ broken_text path number = all_visible path ++ codes ":" ++ decimal number ++ cod
 abbrev pub word_behind : List ℕ → List ℕ
 word_behind word = codes " " ++ word
 
--- by whom: NAME WORD, a mark where the profile complains, and the rules; or NAME reaches LABEL: WORD.., with that mark; or NAME complains
-unfoldable pub by_text : Found → List ℕ
-by_text (ByRequest complains t) = asker_text t.asker ++ codes " " ++ t.word ++ complains_mark complains ++ codes "\n" ++ reasons_text t
-by_text (ByWay complains w) = asker_text w.asker ++ codes " reaches " ++ asker_text w.to ++ codes ":" ++ flat_map word_behind w.words ++ complains_mark complains ++ codes "\n"
-by_text (Complaining name) = value name ++ codes " complains\n"
+-- by whom: NAME WORD, a mark where the profile complains; or NAME reaches LABEL: WORD.., with that mark; or NAME complains
+unfoldable pub by_line : Found → List ℕ
+by_line (ByRequest complains t) = asker_text t.asker ++ codes " " ++ t.word ++ complains_mark complains
+by_line (ByWay complains w) = asker_text w.asker ++ codes " reaches " ++ asker_text w.to ++ codes ":" ++ flat_map word_behind w.words ++ complains_mark complains
+by_line (Complaining name) = value name ++ codes " complains"
+
+-- the rules that decide a request
+abbrev pub why_text : Found → List ℕ
+why_text (ByRequest complains t) = reasons_text t
+why_text (ByWay complains w) = []
+why_text (Complaining name) = []
+
+-- so, and the rules
+abbrev pub by_text : Found → List ℕ
+by_text f = by_line f ++ codes "\n" ++ why_text f
 
 -- so of a claim
 abbrev pub finding_text : List ℕ → ℕ → Found → List ℕ

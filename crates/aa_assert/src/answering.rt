@@ -11,6 +11,7 @@ ghost use Rattle.aa_assert.specs.Answers.{answered, IsAnswerBy, IsAnswerOf, IsAn
 use crate::asked::asked_by;
 use crate::finding::{Claim, Findings};
 use crate::gathering::findings_of;
+use crate::kind::{Kind, kind_of};
 use crate::part::Part;
 use crate::scope::{check_names, is_about_some};
 use aa_claims::{ClaimFault, ClaimLine, ClaimWord, Wrong, names_behind, names_led, names_within};
@@ -21,6 +22,7 @@ use std::alloc::Global;
 pub(crate) struct Answer {
     /// The line's number, from 1.
     pub(crate) number: usize,
+    pub(crate) kind: Kind,
     pub(crate) findings: Findings,
 }
 
@@ -98,9 +100,12 @@ fn answer_to(
     ensures answered { IfOk result (λ a. IsAnswerTo is_first part.entry (limit_of states) line.now (answered a)) }
     ensures refused { IfErr result (λ e. SaysAt (IsUnansweredOf part.entry line.now.words.items) e) }
 {
-    let findings = answer_of(alloc, part, states, is_first, line.words.as_slice())?;
+    let words = line.words.as_slice();
+    let findings = answer_of(alloc, part, states, is_first, words)?;
+    let kind = kind_of(words);
     Ok(Answer {
         number: line.number,
+        kind,
         findings,
     })
 }

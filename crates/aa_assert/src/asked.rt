@@ -105,7 +105,7 @@ fn read_requests(alloc: Global, asked: &ClaimWord) -> Result<Word, ClaimFault>
 }
 
 /// Whether a claim says that no profile complains.
-fn is_enforced(head: &ClaimWord, asked: &ClaimWord) -> bool
+pub(crate) fn is_enforced(head: &ClaimWord, asked: &ClaimWord) -> bool
     ensures { result ≡ is_enforced head.now asked.now }
 {
     is_word(head, "always") && is_word(asked, "enforced")

@@ -12,9 +12,12 @@ ghost use Rattle.aa_assert.specs.Json.{json_answers};
 ghost use Rattle.aa_assert.specs.Command.{told_text, wanted_text, status_of, assert_printed, IsAssertOf, IsAssertBy, IsAssertOutput};
 
 use crate::answering::{Answer, answers_to};
+use crate::gcc::push_gcc_answers;
 use crate::json::push_json_answers;
 use crate::part::Part;
+use crate::sarif::push_sarif_answers;
 use crate::shown::{count_broken, count_undecided, push_answers, push_untold};
+use aa_check::Form;
 use aa_claims::{ClaimFault, ClaimLine, Wrong, claim_report, read_claims};
 use aa_command::{Decided, Output, Settings, Use, fault_refused, path_refused, with_policy};
 use aa_files::{Tree, main_text};
@@ -33,7 +36,7 @@ pub struct AssertOptions<'a> {
     pub files: &'a [Vec<u8>],
     /// Whether of each claim the first is printed alone by whom it is broken.
     pub is_first: bool,
-    pub is_json: bool,
+    pub form: Form,
     /// Whether files that are refused are skipped.
     pub skips: bool,
 }
@@ -92,10 +95,12 @@ fn push_wanted(
 ) -> Result<(), AllocError>
     ensures { OnOk result (out.new.items ≡ out.old.items ++ wanted_text options.now passed skipped.now (map answered answers.now)) }
 {
-    if options.is_json {
-        return push_json(out, alloc, passed, skipped, answers);
+    match options.form {
+        Form::Text => push_told(out, alloc, options, passed, skipped, answers),
+        Form::Json => push_json(out, alloc, passed, skipped, answers),
+        Form::Gcc => push_gcc_answers(out, alloc, options.claims, answers),
+        Form::Sarif => push_sarif_answers(out, alloc, options.claims, answers),
     }
-    push_told(out, alloc, options, passed, skipped, answers)
 }
 
 fn output_of(

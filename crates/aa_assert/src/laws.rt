@@ -1,6 +1,7 @@
-//! What answers say of claims, and what skipped files don't change of that.
+//! What answers say of claims, and what skipped files don't change of that; and what verdicts are where rules are enforced.
 
-ghost use Rattle.aa_assert.specs.Holding.{ClearClaimsHold, ToldBreak, ToldFail, ClaimsHold, FreeClaimsHold, BreakingsStand, EndingsStand, WaysStand};
+ghost use Rattle.aa_assert.specs.Enforced.{EnforcedVerdicts};
+ghost use Rattle.aa_assert.specs.Holding.{ClearClaimsHold, ToldBreak, ToldFail, ClaimsHold, FreeClaimsHold, BreakingsStand, EndingsStand, WaysStand, ArrivalsStand};
 
 use aa_quantifiers::closed_words_are_decided;
 use aa_skipped::each_file_decides;
@@ -17,15 +18,22 @@ pub fn answers_tell_what_holds()
 
 /// Whatever profiles the skipped files have, as long as they have the heads that are known and a policy of them and the read ones is lawful:
 /// a claim that is neither broken nor undecided, and of which all can be told, is broken by nobody whom it is about; and a request by which
-/// one is broken breaks it there, and so do requests one after another, as far as they lead to the same profile. It does nothing: its
-/// contract is a law of the definitions.
+/// one is broken breaks it there, and so do requests one after another: they lead to the same profile, which is another than that where
+/// they begin. It does nothing: its contract is a law of the definitions.
 pub fn claims_are_sound()
     ensures claims { ClaimsHold }
     ensures free { FreeClaimsHold }
     ensures broken { BreakingsStand }
     ensures ended { EndingsStand }
     ensures led { WaysStand }
+    ensures comes { ArrivalsStand }
 {
     each_file_decides();
     closed_words_are_decided()
 }
+
+/// The verdict on a request where rules are enforced tells the mediator's answer by the policies whose complain flags are cleared. It does
+/// nothing: its contract is a law of the definitions.
+pub fn verdicts_are_enforced()
+    ensures { EnforcedVerdicts }
+{}

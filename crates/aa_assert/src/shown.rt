@@ -6,7 +6,7 @@ ghost use Rattle.aa_undecided.specs.Answers.{placed_all};
 ghost use Rattle.aa_assert.specs.Findings.{found, ByRequest, ByWay, Complaining};
 ghost use Rattle.aa_assert.specs.Passages.{way_in};
 ghost use Rattle.aa_assert.specs.Answers.{answered};
-ghost use Rattle.aa_assert.specs.Shown.{asker_text, broken_text, word_behind, by_text, finding_text, is_broken, files_open, is_undecided, undecided_text, doubt_text, answer_text, undecided_count, count_line, untold_text, answers_text};
+ghost use Rattle.aa_assert.specs.Shown.{asker_text, broken_text, word_behind, by_line, why_text, by_text, finding_text, is_broken, files_open, is_undecided, undecided_text, doubt_text, answer_text, undecided_count, count_line, untold_text, answers_text};
 
 use crate::answering::Answer;
 use crate::finding::Finding;
@@ -36,22 +36,20 @@ fn push_broken(out: &mut Vec<u8>, path: &[u8], number: usize) -> Result<(), Allo
     push_text(out, ": broken: ")
 }
 
-/// Appends who is answered a request so, and the rules.
-#[tactic(auto, unfolding(crate::specs::Shown::by_text))]
+/// Appends who is answered a request so.
+#[tactic(auto, unfolding(crate::specs::Shown::by_line))]
 fn push_verdict(
     out: &mut Vec<u8>,
     alloc: Global,
     complains: bool,
     verdict: &Verdict,
 ) -> Result<(), AllocError>
-    ensures { OnOk result (out.new.items ≡ out.old.items ++ by_text (ByRequest complains (told verdict.now))) }
+    ensures { OnOk result (out.new.items ≡ out.old.items ++ by_line (ByRequest complains (told verdict.now))) }
 {
     push_asker(out, alloc, &verdict.asker)?;
     push_text(out, " ")?;
     out.extend_from_slice(verdict.word.as_slice())?;
-    push_complains(out, complains)?;
-    push_text(out, "\n")?;
-    push_reasons(out, verdict)
+    push_complains(out, complains)
 }
 
 fn push_words(out: &mut Vec<u8>, words: &[Vec<u8>]) -> Result<(), AllocError>
@@ -65,36 +63,59 @@ fn push_words(out: &mut Vec<u8>, words: &[Vec<u8>]) -> Result<(), AllocError>
 }
 
 /// Appends who comes where, and by which requests.
-#[tactic(auto, unfolding(crate::specs::Shown::by_text))]
+#[tactic(auto, unfolding(crate::specs::Shown::by_line))]
 fn push_way(out: &mut Vec<u8>, alloc: Global, complains: bool, way: &Way) -> Result<(), AllocError>
-    ensures { OnOk result (out.new.items ≡ out.old.items ++ by_text (ByWay complains (way_in way.now))) }
+    ensures { OnOk result (out.new.items ≡ out.old.items ++ by_line (ByWay complains (way_in way.now))) }
 {
     push_asker(out, alloc, &way.asker)?;
     push_text(out, " reaches ")?;
     push_asker(out, alloc, &way.to)?;
     push_text(out, ":")?;
     push_words(out, way.words.as_slice())?;
-    push_complains(out, complains)?;
-    push_text(out, "\n")
+    push_complains(out, complains)
 }
 
 /// Appends that a profile complains.
-#[tactic(auto, unfolding(crate::specs::Shown::by_text))]
+#[tactic(auto, unfolding(crate::specs::Shown::by_line))]
 fn push_complaining(out: &mut Vec<u8>, alloc: Global, name: &[u8]) -> Result<(), AllocError>
-    ensures { OnOk result (out.new.items ≡ out.old.items ++ by_text (Complaining name.now)) }
+    ensures { OnOk result (out.new.items ≡ out.old.items ++ by_line (Complaining name.now)) }
 {
     push_name(out, alloc, name)?;
-    push_text(out, " complains\n")
+    push_text(out, " complains")
 }
 
-fn push_by(out: &mut Vec<u8>, alloc: Global, finding: &Finding) -> Result<(), AllocError>
-    ensures { OnOk result (out.new.items ≡ out.old.items ++ by_text (found finding.now)) }
+/// Appends by whom a claim is broken.
+pub(crate) fn push_by_line(
+    out: &mut Vec<u8>,
+    alloc: Global,
+    finding: &Finding,
+) -> Result<(), AllocError>
+    ensures { OnOk result (out.new.items ≡ out.old.items ++ by_line (found finding.now)) }
 {
     match finding {
         Finding::ByRequest(complains, verdict) => push_verdict(out, alloc, *complains, verdict),
         Finding::ByWay(complains, way) => push_way(out, alloc, *complains, way),
         Finding::Complaining(name) => push_complaining(out, alloc, name.as_slice()),
     }
+}
+
+/// Appends the rules that decide a request.
+fn push_why(out: &mut Vec<u8>, finding: &Finding) -> Result<(), AllocError>
+    ensures { OnOk result (out.new.items ≡ out.old.items ++ why_text (found finding.now)) }
+{
+    match finding {
+        Finding::ByRequest(_, verdict) => push_reasons(out, verdict),
+        Finding::ByWay(_, _) => Ok(()),
+        Finding::Complaining(_) => Ok(()),
+    }
+}
+
+fn push_by(out: &mut Vec<u8>, alloc: Global, finding: &Finding) -> Result<(), AllocError>
+    ensures { OnOk result (out.new.items ≡ out.old.items ++ by_text (found finding.now)) }
+{
+    push_by_line(out, alloc, finding)?;
+    push_text(out, "\n")?;
+    push_why(out, finding)
 }
 
 fn push_finding(

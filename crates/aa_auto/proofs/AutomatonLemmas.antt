@@ -1,7 +1,8 @@
 -- The sets that were found make an automaton.
-use Rattle.std.proofs.Common.{◌≡◌, ℕ, ◌+◌, ◌*◌, ◌<◌, List, [], ◌∷◌, ◌++◌, length, get_or, drop, drop-cons, suc, refl, sym, ap, ◌∙◌, subst, arith, append_assoc}
+use Rattle.std.proofs.Common.{◌≡◌, ℕ, ◌+◌, ◌*◌, ◌<◌, ◌≤◌, List, [], ◌∷◌, ◌++◌, length, get_or, drop, drop-cons, suc, refl, sym, ap, ◌∙◌, subst, arith, append_assoc}
 use Rattle.std.proofs.lemmas.List.{append-nil, get_or_default}
 use Rattle.std.proofs.lemmas.List.Elements.{All-head, All-tail}
+use Rattle.aa_pattern.specs.Limits.{most_states}
 use Rattle.aa_auto.specs.declared.net.Net.{Net}
 use Rattle.aa_auto.specs.Nets.{IsNetOf, patterns_of, kept_of}
 use Rattle.aa_auto.specs.Classes.{IsSame}
@@ -15,7 +16,7 @@ use Rattle.aa_auto.proofs.LawLemmas.{same_bytes}
 use Rattle.aa_auto.proofs.ListedLemmas.{row_list, some_row, number_within}
 use Rattle.aa_auto.proofs.ExploredLemmas.{same_sets, same_places, spots_same}
 
-row_after-append : (t : Table) (row : ℕ) (s u : List ℕ) → row_after t row (s ++ u) ≡ row_after t (row_after t row s) u
+pub row_after-append : (t : Table) (row : ℕ) (s u : List ℕ) → row_after t row (s ++ u) ≡ row_after t (row_after t row s) u
 row_after-append t row [] u = refl
 row_after-append t row (b ∷ s) u = row_after-append t (get_or t.cells (t.width * row + get_or t.classes b 0) 0) s u
 
@@ -97,17 +98,19 @@ module _ (net : Net) (is : IsNetOf net) (sets : List (List ℕ)) (of bytes cells
   }
 
   -- what a run of the automaton needs
-  table : IsTable (record { classes = of; width = length bytes; cells = cells; listed = l.listed; lists = l.lists })
-  table = record {
+  table : length sets ≤ most_states → IsTable (record { classes = of; width = length bytes; cells = cells; listed = l.listed; lists = l.lists })
+  table few = record {
     some = omega (arith, all.reached.some, all.listed.many);
+    few_rows = omega (arith, few, all.listed.many);
+    few_lists = omega (arith, few, all.listed.many, all.listed.listing.few);
     wide = omega (arith, classes.division.within 0 (omega arith));
     few = classes.division.few;
     bytes = classes.division.many;
     classed = classes.division.within;
     whole = all.whole ∙ ap (λ n. length bytes * n) (sym all.listed.many);
-    within = λ row class lt few.
+    within = λ row class lt few_class.
         let lt' : row < length sets = omega (arith, lt, all.listed.many) in
-        omega (arith, (all.filled row class few (subst (λ n. length bytes * row + class < n) (sym all.whole) (cell_below (length bytes) row (length sets) class lt' few))).within, all.listed.many);
+        omega (arith, (all.filled row class few_class (subst (λ n. length bytes * row + class < n) (sym all.whole) (cell_below (length bytes) row (length sets) class lt' few_class))).within, all.listed.many);
     numbered = number_within l all.listed.listing;
   }
 
@@ -121,11 +124,11 @@ same_table of w v xs ys ls ms us vs e f g h =
 
 -- both of a table whose parts were copied
 pub built : (net : Net) (is : IsNetOf net) (sets : List (List ℕ)) (of bytes cells : List ℕ) (l : Listing) → AreClassesOf (patterns_of net) of bytes → IsExplored net sets bytes cells l →
-    (v : ℕ) (ys ms : List ℕ) (vs : List (List ℕ)) → length bytes ≡ v → ys ≡ cells → ms ≡ l.listed → vs ≡ l.lists →
+    length sets ≤ most_states → (v : ℕ) (ys ms : List ℕ) (vs : List (List ℕ)) → length bytes ≡ v → ys ≡ cells → ms ≡ l.listed → vs ≡ l.lists →
     IsTable (table_of of v ys ms vs) × IsAutomaton (patterns_of net) (table_of of v ys ms vs)
-built net is sets of bytes cells l classes all v ys ms vs e f g h =
+built net is sets of bytes cells l classes all few v ys ms vs e f g h =
     let same = same_table of (length bytes) v cells ys l.listed ms l.lists vs e (sym f) (sym g) (sym h) in
-    (subst IsTable same (table net is sets of bytes cells l classes all), subst (IsAutomaton (patterns_of net)) same (automaton net is sets of bytes cells l classes all))
+    (subst IsTable same (table net is sets of bytes cells l classes all few), subst (IsAutomaton (patterns_of net)) same (automaton net is sets of bytes cells l classes all))
 
 -- one more byte of the text
 pub row_on : (t : Table) (text : List ℕ) (k row class next : ℕ) → IsTable t → k < length text → get_or text k 0 < 256 → row < rows_of t →

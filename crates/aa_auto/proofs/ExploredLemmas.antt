@@ -35,15 +35,15 @@ at_heads [] g i = absurd i
 at_heads (h ∷ hs) g i = ⊎_elim (λ (e : g ≡ h). (0, omega arith, sym e)) (λ (r : In g hs). let q = at_heads hs g r in (suc q.0, omega (arith, q.1), q.2)) i
 
 -- the texts of the numbers below n
-abbrev listed : (ℕ → List ℕ) → ℕ → List (List ℕ)
+abbrev pub listed : (ℕ → List ℕ) → ℕ → List (List ℕ)
 listed f zero = []
 listed f (suc n) = listed f n ++ f n ∷ []
 
-length-listed : (f : ℕ → List ℕ) (n : ℕ) → length (listed f n) ≡ n
+pub length-listed : (f : ℕ → List ℕ) (n : ℕ) → length (listed f n) ≡ n
 length-listed f zero = refl
 length-listed f (suc n) = omega (arith, length-listed f n, length-append (listed f n) (f n ∷ []))
 
-get_or-listed : (f : ℕ → List ℕ) (n i : ℕ) → i < n → get_or (listed f n) i [] ≡ f i
+pub get_or-listed : (f : ℕ → List ℕ) (n i : ℕ) → i < n → get_or (listed f n) i [] ≡ f i
 get_or-listed f zero i lt = absurd (omega arith)
 get_or-listed f (suc n) i lt =
     ⊎_elim

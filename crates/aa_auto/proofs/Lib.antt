@@ -20,3 +20,6 @@ pub mod ExploredLemmas
 pub mod CellLemmas
 pub mod AutomatonLemmas
 pub mod FewLemmas
+pub mod PairLemmas
+pub mod JoinLemmas
+pub mod ProductLemmas

@@ -1,5 +1,5 @@
 -- What is noted of positions tells which bytes lead alike from them.
-use Rattle.std.proofs.Common.{Contains, ◌≡◌, ℕ, ◌+◌, ◌<◌, ◌↔◌, ◌⊎◌, Bool, List, [], ◌∷◌, ◌++◌, length, get_or, take, sym}
+use Rattle.std.proofs.Common.{Contains, ◌≡◌, ℕ, ◌+◌, ◌<◌, ◌↔◌, ◌⊎◌, List, [], ◌∷◌, ◌++◌, length, get_or, take, sym}
 use Rattle.std.proofs.Common.{ap, ◌∙◌, subst, inl, inr, ⊎_elim}
 use Rattle.std.proofs.lemmas.List.{take_more}
 use Rattle.std.proofs.lemmas.List.Elements.{Contains-push, Contains-push_cases, Contains-append_left}
@@ -28,27 +28,27 @@ continues_node (Join k) a b p q c = c
 continues_node (After i) a b p q c = continues_item i.now a b p q c
 
 -- of bytes that are free, those lead alike that the asked positions find alike
-pub alike_noted : (nodes : List Node) (set : List ℕ) (named : List Bool) (asked : List ℕ) (a b : ℕ) → IsFree named a → IsFree named b →
+pub alike_noted : (nodes : List Node) (set : List ℕ) (mark : ℕ) (named : List ℕ) (asked : List ℕ) (a b : ℕ) → IsFree mark named a → IsFree mark named b →
     LeadAlike nodes a b asked →
-    AreNoted nodes set named asked → LeadAlike nodes a b set
-alike_noted nodes set named asked a b fa fb like noted = λ p h.
+    AreNoted nodes set mark named asked → LeadAlike nodes a b set
+alike_noted nodes set mark named asked a b fa fb like noted = λ p h.
     ⊎_elim
     (λ c. like p c)
     (λ (e : BeginsNode (get_or nodes (p + 1) Start) a ↔ BeginsNode (get_or nodes (p + 1) Start) b). (e, noted.alike p h a b fa fb))
     (noted.noted p h a b fa fb)
 
 -- a star's bytes were noted before the position
-pub own_noted : (node : Node) (old new : List Bool) → NotesStars old new → NotesOwn node old new
-own_noted node old new stars = record {
+pub own_noted : (node : Node) (mark : ℕ) (old new : List ℕ) → NotesStars mark old new → NotesOwn node mark old new
+own_noted node mark old new stars = record {
   many = stars.many;
   free = stars.free;
   alike = λ a b fa fb. (continues_node node a b (stars.names a fa) (stars.names b fb), continues_node node b a (stars.names b fb) (stars.names a fa));
 }
 
 -- what stands before and what stands behind the position were noted, one after the other
-pub noted_both : (nodes : List Node) (start : ℕ) (old mid new : List Bool) (was asked : List ℕ) → NotesOwn (get_or nodes start Start) old mid →
-    NotesNext (get_or nodes (start + 1) Start) start mid new was asked → Notes nodes start old new was asked
-noted_both nodes start old mid new was asked own next = record {
+pub noted_both : (nodes : List Node) (start mark : ℕ) (old mid new : List ℕ) (was asked : List ℕ) → NotesOwn (get_or nodes start Start) mark old mid →
+    NotesNext (get_or nodes (start + 1) Start) start mark mid new was asked → Notes nodes start mark old new was asked
+noted_both nodes start mark old mid new was asked own next = record {
   next = record {
     many = next.many ∙ own.many;
     free = λ b f. own.free b (next.free b f);
@@ -60,11 +60,11 @@ noted_both nodes start old mid new was asked own next = record {
 }
 
 -- one more position
-pub noted_more : (nodes : List Node) (set : List ℕ) (k start : ℕ) (named new : List Bool) (was asked : List ℕ) → k < length set →
+pub noted_more : (nodes : List Node) (set : List ℕ) (k start mark : ℕ) (named new : List ℕ) (was asked : List ℕ) → k < length set →
     start ≡ get_or set k 0 →
-    AreNoted nodes (take k set) named was → Notes nodes start named new was asked → AreNoted nodes (take (k + 1) set) new asked
-noted_more nodes set k start named new was asked lt is all one =
-    subst (λ z. AreNoted nodes z new asked) (sym (take_more set k 0 lt ∙ ap (λ z. take k set ++ z ∷ []) (sym is))) (record {
+    AreNoted nodes (take k set) mark named was → Notes nodes start mark named new was asked → AreNoted nodes (take (k + 1) set) mark new asked
+noted_more nodes set k start mark named new was asked lt is all one =
+    subst (λ z. AreNoted nodes z mark new asked) (sym (take_more set k 0 lt ∙ ap (λ z. take k set ++ z ∷ []) (sym is))) (record {
       many = one.next.many ∙ all.many;
       from = λ n h. ⊎_elim
           (λ o. Contains-append_left (take k set) (start ∷ []) n (all.from n o))

@@ -1,7 +1,8 @@
 -- The sets of positions that were found so far.
-use Rattle.std.specs.Prelude.{◌≡◌, ℕ, ◌+◌, ◌*◌, ◌<◌, ◌⊎◌, Option, List, [], ◌∷◌, ◌++◌, length, slice_index, slice_index_or}
+use Rattle.std.specs.Prelude.{◌≡◌, ℕ, ◌*◌, ◌<◌, ◌⊎◌, Option, List, [], ◌∷◌, ◌++◌, length, slice_index_or}
 use Rattle.aa_auto.specs.declared.net.Net.{Net}
 use Rattle.aa_auto.specs.Apart.{IsApart}
+use Rattle.aa_auto.specs.Cells.{AreCellsBy}
 use Rattle.aa_auto.specs.Listed.{Listing, IsListing, AddsRow, row_lists}
 use Rattle.aa_auto.specs.Nets.{patterns_of, kept_of}
 use Rattle.aa_auto.specs.Spots.{IsSpotsOf, Leads, Stood}
@@ -35,9 +36,7 @@ pub record Goes (net : Net) (sets : List (List ℕ)) (row byte next : ℕ) : Typ
 
 -- the cells so far are right for the byte of each class
 abbrev pub AreFilled : Net → List (List ℕ) → List ℕ → List ℕ → Type 0
-AreFilled net sets bytes cells =
-    (row class : ℕ) → class < length bytes → length bytes * row + class < length cells →
-    Goes net sets row (slice_index bytes class) (slice_index cells (length bytes * row + class))
+AreFilled net sets bytes cells = AreCellsBy (Goes net sets) bytes cells
 
 -- later sets are added behind
 abbrev pub Extends : List (List ℕ) → List (List ℕ) → Type 0

@@ -2,6 +2,7 @@ pub use Rattle.aa_pattern.specs.Globs
 pub use Rattle.aa_pattern.specs.Places
 pub use Rattle.aa_pattern.specs.Steps
 pub mod Apart
+pub mod Cells
 pub mod Classes
 pub mod Closed
 pub mod Division
@@ -12,6 +13,7 @@ pub mod Merged
 pub mod Nets
 pub mod Nodes
 pub mod Noted
+pub mod Pairs
 pub mod Positions
 pub mod Sorted
 pub mod Spots

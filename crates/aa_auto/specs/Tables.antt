@@ -4,6 +4,7 @@ use Rattle.std.specs.Prelude.{◌≡◌, ℕ, ◌+◌, ◌*◌, ◌<◌, ◌≤�
 use Rattle.std.specs.List.Sorted.{IsStrictlyIncreasing}
 use Rattle.aa_pattern.specs.declared.pattern.Pattern.{Pattern}
 use Rattle.aa_pattern.specs.Globs.{Matches}
+use Rattle.aa_pattern.specs.Limits.{most_states}
 use Rattle.aa_pattern.specs.Places.{SamePlaces}
 use Rattle.aa_auto.specs.Apart.{IsApart}
 use Rattle.aa_auto.specs.Classes.{IsSame}
@@ -89,9 +90,11 @@ pub record HasPlaces (ps : List Pattern) (n : ℕ) : Type 0 where
   pub bytes : All IsText texts
   pub apart : (i j : ℕ) → i < n → j < n → SamePlaces ps (slice_index_or texts i []) (slice_index_or texts j []) → i ≡ j
 
--- whole rows, whose cells name rows, each with a list
+-- whole rows, whose cells name rows, each with a list; neither rows nor lists are more than an automaton may have
 pub record IsTable (t : Table) : Type 0 where
   pub some : 0 < rows_of t
+  pub few_rows : rows_of t ≤ most_states
+  pub few_lists : length t.lists ≤ most_states
   pub wide : 0 < t.width
   pub few : t.width ≤ 256
   pub bytes : length t.classes ≡ 256

@@ -1,13 +1,14 @@
 //! The automaton: a table of rows over classes of bytes, and what it answers of a text.
 
-ghost use Rattle.std.specs.Prelude.{◌≡◌, ◌+◌, ◌<◌, ◌≤◌, ◌∷◌, IfOk, IfErr, Err, [], length, slice_index, slice_index_or};
+ghost use Rattle.std.specs.Prelude.{◌≡◌, ◌+◌, ◌<◌, ◌≤◌, ◌∷◌, IfOk, IfErr, Err, [], length, map, slice_index, slice_index_or};
 ghost use Rattle.aa_pattern.specs.Limits.{most_patterns, most_states};
 ghost use Rattle.aa_pattern.specs.Places.{DecideNext};
 ghost use Rattle.aa_auto.specs.Division.{AreClassesOf};
 ghost use Rattle.aa_auto.specs.Explored.{IsExplored};
 ghost use Rattle.aa_auto.specs.Nets.{IsNetOf, patterns_of};
 ghost use Rattle.aa_auto.specs.Nodes.{pointed};
-ghost use Rattle.aa_auto.specs.Tables.{IsAutomaton, BytesLeadAlike, HasPlaces, rows_of, classes_of, row_after, place_of, list_number, list_at};
+ghost use Rattle.aa_auto.specs.Pairs.{TellsBytes};
+ghost use Rattle.aa_auto.specs.Tables.{IsAutomaton, IsTable, BytesLeadAlike, HasPlaces, rows_of, classes_of, row_after, place_of, list_number, list_at};
 
 use crate::build::{BuildFault, Found, explore};
 use crate::classes::Classes;
@@ -53,6 +54,7 @@ impl Automaton {
         requires some { 0 < limit }
         requires limit { limit ≤ most_states }
         ensures automaton { IfOk result (IsAutomaton patterns.now) }
+        ensures bytes { IfOk result (TellsBytes patterns.now) }
         ensures within { IfOk result (λ a. rows_of a ≤ limit) }
         ensures too_many { result ≡ Err BuildFault.TooManyStates → HasPlaces patterns.now (limit + 1) }
 
@@ -75,6 +77,7 @@ impl Automaton {
         requires some { 0 < limit }
         requires limit { limit ≤ most_states }
         ensures automaton { IfOk result (IsAutomaton (pointed patterns.now)) }
+        ensures bytes { IfOk result (TellsBytes (pointed patterns.now)) }
         ensures within { IfOk result (λ a. rows_of a ≤ limit) }
         ensures too_many { result ≡ Err BuildFault.TooManyStates → HasPlaces (pointed patterns.now) (limit + 1) }
 
@@ -92,6 +95,7 @@ impl Automaton {
         requires some { 0 < limit }
         requires limit { limit ≤ most_states }
         ensures automaton { IfOk result (IsAutomaton (patterns_of net.now)) }
+        ensures bytes { IfOk result (TellsBytes (patterns_of net.now)) }
         ensures within { IfOk result (λ a. rows_of a ≤ limit) }
         ensures too_many { result ≡ Err BuildFault.TooManyStates → HasPlaces (patterns_of net.now) (limit + 1) }
     {
@@ -111,7 +115,9 @@ impl Automaton {
         requires net { IsNetOf net.now }
         requires classes { AreClassesOf (patterns_of net.now) classes.of.items classes.bytes.items }
         requires explored { IsExplored net.now found.sets classes.bytes.items cells.items found.lists }
+        requires few { length found.sets ≤ most_states }
         ensures automaton { IfOk result (IsAutomaton (patterns_of net.now)) }
+        ensures bytes { IfOk result (TellsBytes (patterns_of net.now)) }
         ensures rows { IfOk result (λ a. rows_of a ≡ length found.sets) }
         ensures err { IfErr result (λ e. e ≡ BuildFault.NoMemory) }
     {
@@ -126,6 +132,33 @@ impl Automaton {
             listed,
             lists,
         })
+    }
+
+    /// Does nothing: each automaton is such a table.
+    pub(crate) fn law(&self)
+        ensures { IsTable self.now }
+    {
+        let _ = &self.cells;
+    }
+
+    /// The automaton with these tables.
+    pub(crate) fn of_tables(
+        classes: Vec<u8>,
+        width: usize,
+        cells: Vec<u32>,
+        listed: Vec<u32>,
+        lists: Vec<Vec<u16>>,
+    ) -> Automaton
+        requires { IsTable (record { classes = classes.items; width = width; cells = cells.items; listed = listed.items; lists = map (λ v. v.items) lists.items }) }
+        ensures { result ≡ record { classes = classes.items; width = width; cells = cells.items; listed = listed.items; lists = map (λ v. v.items) lists.items } }
+    {
+        Automaton {
+            classes,
+            width,
+            cells,
+            listed,
+            lists,
+        }
     }
 
     /// The numbers of the patterns that match, rising.
@@ -154,7 +187,16 @@ impl Automaton {
         ensures next { result ≡ row_after self.now row (byte ∷ []) }
         ensures within { result < rows_of self.now }
     {
-        self.cells[self.width * row + self.class_of(byte)] as usize
+        self.cell(row, byte) as usize
+    }
+
+    /// The same, as it is kept.
+    pub(crate) fn cell(&self, row: usize, byte: u8) -> u32
+        requires { row < rows_of self.now }
+        ensures next { result ≡ row_after self.now row (byte ∷ []) }
+        ensures within { result < rows_of self.now }
+    {
+        self.cells[self.width * row + self.class_of(byte)]
     }
 
     /// The class of the byte. Bytes of one class lead from each row to the same one.
@@ -179,7 +221,16 @@ impl Automaton {
         ensures number { result ≡ list_number self.now row }
         ensures within { result < length self.now.lists }
     {
-        self.listed[row] as usize
+        self.list_number(row) as usize
+    }
+
+    /// The same, as it is kept.
+    pub(crate) fn list_number(&self, row: usize) -> u32
+        requires { row < rows_of self.now }
+        ensures number { result ≡ list_number self.now row }
+        ensures within { result < length self.now.lists }
+    {
+        self.listed[row]
     }
 
     /// How many different lists `matching` gives.

@@ -143,17 +143,19 @@ fn next_row(
 /// The byte that a row's others are compared with: no text in UTF-8 has it, so that few patterns name it.
 const USUAL: u8 = 255;
 
-/// What is noted of a row's positions.
-fn noted_row(alloc: Global, net: &Net, row: usize, sets: &Sets) -> Result<Noted, AllocError>
+/// Notes a row's positions, in place of those of the row before.
+fn note_row(net: &Net, row: usize, sets: &Sets, noted: &mut Noted) -> Result<(), AllocError>
     requires net { IsNetOf net.now }
     requires reached { AreReached net.now sets.now }
     requires row { row < length sets.now }
-    ensures { IfOk result (λ t. AreNoted net.now.nodes.items (slice_index_or sets.now row []) t.named.items t.asked.items) }
+    requires number { row < 4294967296 }
+    requires bytes { length noted.old.named.items ≡ 256 }
+    ensures { OnOk result (AreNoted net.now.nodes.items (slice_index_or sets.now row []) row noted.new.named.items noted.new.asked.items) }
 {
     let Some(set) = sets.get(row) else {
         unreachable!()
     };
-    net.noted(alloc, set)
+    net.note(set, row as u32, noted)
 }
 
 /// The number of the set that the byte leads to: `next` where it leads as the usual byte does, else as in `next_row`.
@@ -174,7 +176,7 @@ fn cell_of(
     requires few { length found.old.sets ≤ limit }
     requires limit { limit ≤ most_states }
     requires usual { Goes net.now found.old.sets row 255 next }
-    requires noted { AreNoted net.now.nodes.items (slice_index_or found.old.sets row []) noted.now.named.items noted.now.asked.items }
+    requires noted { AreNoted net.now.nodes.items (slice_index_or found.old.sets row []) row noted.now.named.items noted.now.asked.items }
     ensures reached { OnOk result (AreReached net.now found.new.sets) }
     ensures listed { OnOk result (AreListed net.now found.new.sets found.new.lists) }
     ensures goes { IfOk result (λ cell. Goes net.now found.new.sets row byte cell) }
@@ -182,7 +184,7 @@ fn cell_of(
     ensures few { OnOk result (length found.new.sets ≤ limit) }
     ensures too_many { result ≡ Err BuildFault.TooManyStates → HasPlaces (patterns_of net.now) (limit + 1) }
 {
-    if net.lead_alike(USUAL, byte, noted) {
+    if net.lead_alike(row as u32, USUAL, byte, noted) {
         return Ok(next);
     }
     next_row(alloc, net, limit, row, byte, found)
@@ -195,6 +197,7 @@ fn fill_row(
     bytes: &[u8],
     limit: usize,
     row: usize,
+    noted: &mut Noted,
     found: &mut Found,
     cells: &mut Vec<u32>,
 ) -> Result<(), BuildFault>
@@ -206,18 +209,20 @@ fn fill_row(
     requires limit { limit ≤ most_states }
     requires filled { AreFilled net.now found.old.sets bytes.now cells.old.items }
     requires cells { length cells.old.items ≡ length bytes.now * row }
+    requires noted { length noted.old.named.items ≡ 256 }
     ensures reached { OnOk result (AreReached net.now found.new.sets) }
     ensures listed { OnOk result (AreListed net.now found.new.sets found.new.lists) }
     ensures filled { OnOk result (AreFilled net.now found.new.sets bytes.now cells.new.items) }
     ensures cells { OnOk result (length cells.new.items ≡ length bytes.now * (row + 1)) }
     ensures row { OnOk result (row < length found.new.sets) }
+    ensures noted { OnOk result (length noted.new.named.items ≡ 256) }
     ensures few { OnOk result (length found.new.sets ≤ limit) }
     ensures too_many { result ≡ Err BuildFault.TooManyStates → HasPlaces (patterns_of net.now) (limit + 1) }
 {
     let usual = next_row(alloc, net, limit, row, USUAL, found)?;
-    let noted = noted_row(alloc, net, row, &found.sets)?;
+    note_row(net, row, &found.sets, noted)?;
     for byte in bytes {
-        let next = cell_of(alloc, net, limit, row, *byte, usual, &noted, found)?;
+        let next = cell_of(alloc, net, limit, row, *byte, usual, noted, found)?;
         cells.push(next as u32)?;
     }
     Ok(())
@@ -242,11 +247,12 @@ fn fill_rows(
     ensures too_many { result ≡ Err BuildFault.TooManyStates → HasPlaces (patterns_of net.now) (limit + 1) }
 {
     let mut cells = Vec::new(alloc);
+    let mut noted = Noted::new(alloc)?;
     for row in 0..limit {
         if row == found.sets.len() {
             return Ok(cells);
         }
-        fill_row(alloc, net, bytes, limit, row, found, &mut cells)?;
+        fill_row(alloc, net, bytes, limit, row, &mut noted, found, &mut cells)?;
     }
     Ok(cells)
 }

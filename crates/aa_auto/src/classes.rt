@@ -47,7 +47,7 @@ fn class_for(keys: &[u32], bytes: &mut Vec<u8>, byte: u8) -> Result<u8, AllocErr
 }
 
 /// Bytes are of one class where they have one key.
-fn divide(alloc: Global, keys: &[u32]) -> Result<Classes, AllocError>
+pub(crate) fn divide(alloc: Global, keys: &[u32]) -> Result<Classes, AllocError>
     requires { length keys.now ≡ 256 }
     ensures { IfOk result (λ c. Divides keys.now 256 c.of.items c.bytes.items) }
 {

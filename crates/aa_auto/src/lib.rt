@@ -2,17 +2,21 @@
 #![tactic(auto)]
 
 mod automaton;
+mod beside;
 mod build;
 mod classes;
 mod closing;
 mod finals;
+mod joining;
 mod jumps;
+mod keys;
 mod lists;
 mod merging;
 mod moves;
 mod net;
 mod nodes;
 mod noted;
+mod pairs;
 mod positions;
 mod sets;
 mod sorted;

@@ -14,7 +14,7 @@ use crate::finals::{finals_of, numbers_at};
 use crate::jumps::jumps_of;
 use crate::moves::{beginnings, moved};
 use crate::nodes::Node;
-use crate::noted::{Noted, noted_of};
+use crate::noted::{Noted, note_set};
 use crate::positions::positions_of;
 use aa_pattern::Pattern;
 use std::alloc::{AllocError, Global};
@@ -152,23 +152,30 @@ impl Net<'_> {
         )
     }
 
-    /// What is noted of the positions of a set.
-    pub(crate) fn noted(&self, alloc: Global, set: &[u32]) -> Result<Noted, AllocError>
+    /// Notes the positions of a set by this mark, in place of what was noted before.
+    pub(crate) fn note(&self, set: &[u32], mark: u32, noted: &mut Noted) -> Result<(), AllocError>
         requires net { IsNetOf self.now }
         requires set { (n : ℕ) → Contains set.now n → n < length self.now.nodes.items }
-        ensures { IfOk result (λ t. AreNoted self.now.nodes.items set.now t.named.items t.asked.items) }
+        requires bytes { length noted.old.named.items ≡ 256 }
+        ensures { OnOk result (AreNoted self.now.nodes.items set.now mark noted.new.named.items noted.new.asked.items) }
     {
-        noted_of(alloc, self.nodes.as_slice(), set)
+        note_set(
+            self.nodes.as_slice(),
+            set,
+            mark,
+            &mut noted.named,
+            &mut noted.asked,
+        )
     }
 
-    /// Whether two bytes lead to the same positions from those that were noted.
-    pub(crate) fn lead_alike(&self, a: u8, b: u8, noted: &Noted) -> bool
+    /// Whether two bytes lead to the same positions from those that were noted by this mark.
+    pub(crate) fn lead_alike(&self, mark: u32, a: u8, b: u8, noted: &Noted) -> bool
         requires net { IsNetOf self.now }
         requires named { length noted.now.named.items ≡ 256 }
         requires asked { (n : ℕ) → Contains noted.now.asked.items n → n < length self.now.nodes.items }
-        ensures { IsTrue result → (set : List ℕ) → AreNoted self.now.nodes.items set noted.now.named.items noted.now.asked.items → LeadAlike self.now.nodes.items a b set }
+        ensures { IsTrue result → (set : List ℕ) → AreNoted self.now.nodes.items set mark noted.now.named.items noted.now.asked.items → LeadAlike self.now.nodes.items a b set }
     {
-        noted.lead_alike(self.nodes.as_slice(), a, b)
+        noted.lead_alike(self.nodes.as_slice(), mark, a, b)
     }
 
     /// Makes `scratch.numbers` those of the patterns that match a text that stands at the positions of `scratch.set`, rising.

@@ -73,6 +73,13 @@ impl Model for Cap {
 }
 
 impl Cap {
+    /// The names of all capabilities, each at its number.
+    pub fn names() -> &'static [&'static str]
+        ensures { map (λ entry. entry.now) result.now ≡ capability_names }
+    {
+        names()
+    }
+
     /// The capability with that name, if there is one.
     pub fn from_name(name: &[u8]) -> Option<Cap>
         ensures { result ≡ number_in capability_names name.now }

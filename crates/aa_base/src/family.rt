@@ -76,6 +76,13 @@ impl Model for Family {
 }
 
 impl Family {
+    /// The names of all families, each at its number.
+    pub fn names() -> &'static [&'static str]
+        ensures { map (λ entry. entry.now) result.now ≡ family_names }
+    {
+        names()
+    }
+
     /// The family with that name, if there is one.
     pub fn from_name(name: &[u8]) -> Option<Family>
         ensures { result ≡ number_in family_names name.now }

@@ -31,6 +31,13 @@ impl Model for SockType {
 }
 
 impl SockType {
+    /// The names of all types, each at its number.
+    pub fn names() -> &'static [&'static str]
+        ensures { map (λ entry. entry.now) result.now ≡ sock_type_names }
+    {
+        names()
+    }
+
     /// The type with that name, if there is one.
     pub fn from_name(name: &[u8]) -> Option<SockType>
         ensures { result ≡ number_in sock_type_names name.now }

@@ -1,6 +1,6 @@
 -- What is counted of a file's profiles.
 -- Source: own.
-use Rattle.std.specs.Prelude.{ℕ, ◌≡◌, ◌==◌, List, [], ◌∷◌, map, length, filter, count_by, not, Some, slice_get}
+use Rattle.std.specs.Prelude.{ℕ, ◌≡◌, ◌==◌, List, [], ◌∷◌, map, codes, length, filter, count_by, not, Some, slice_get}
 use Rattle.std.specs.Str.{bytes_eq}
 use Rattle.aa_base.specs.declared.fault.Spot.{Spot}
 use Rattle.aa_model.specs.declared.policy.Policy.{Policy}
@@ -13,6 +13,7 @@ use Rattle.aa_text.specs.Places.{place_in}
 use Rattle.aa_files.specs.declared.unit.Unit as unit
 use Rattle.aa_files.specs.Numbers.{text_in}
 use Rattle.aa_check.specs.declared.lines.LineCount.{LineCount}
+use Rattle.aa_check.specs.declared.report.Count.{Count}
 use Rattle.aa_check.specs.declared.report.ProfileReport.{ProfileReport}
 use Rattle.aa_check.specs.declared.report.Passed.{Passed}
 
@@ -78,3 +79,25 @@ pub record CountsPolicy (u : unit.Unit) (policy : Policy) (profiles : List Profi
   pub many : length profiles ≡ length policy.profiles
   pub each : EachIsCounted u policy.passed_over policy.profiles profiles
   pub keywords : map passed_data passed ≡ keyword_counts policy.passed_over
+
+-- one of the counts of a profile: its key in JSON, the words behind it in a line, and how many there are
+pub record Told : Type 0 where
+  pub key : List ℕ
+  pub words : List ℕ
+  pub number : ℕ
+
+-- a count, without where its words lie in memory
+abbrev pub told : Count → Told
+told c = record { key = c.key.now; words = c.words.now; number = c.number }
+
+-- so many, told by that key and by these words
+abbrev pub counted : List ℕ → List ℕ → ℕ → Told
+counted key words number = record { key = key; words = words; number = number }
+
+-- what is counted of a profile: its rules on files, on capabilities and on sockets, the patterns of its file rules, the states of their
+-- automaton, and its rules that are passed over
+abbrev pub counts_of : ProfileReport → List Told
+counts_of p =
+    counted (codes "files") (codes " file") p.files ∷ counted (codes "caps") (codes " capability") p.caps
+    ∷ counted (codes "nets") (codes " network") p.nets ∷ counted (codes "patterns") (codes " patterns") p.patterns
+    ∷ counted (codes "states") (codes " states") p.states ∷ counted (codes "passed_over") (codes " passed over") p.passed_over ∷ []

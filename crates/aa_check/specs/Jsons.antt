@@ -1,21 +1,24 @@
 -- What `check` finds, as a JSON object.
 -- Source: own.
-use Rattle.std.specs.Prelude.{ℕ, List, [], ◌++◌, ◌==◌, length, if◌then◌else◌, map, codes, decimal, is_none, option_map, Vec}
+use Rattle.std.specs.Prelude.{ℕ, List, [], ◌++◌, ◌==◌, length, if◌then◌else◌, map, flat_map, codes, decimal, is_none, option_map, Vec}
 use Rattle.std.specs.declared.alloc.Global.{Global}
 use Rattle.aa_text.specs.Jsons.{json_bytes, key_text, bool_text, member_text, member_if, list_text}
 use Rattle.aa_text.specs.declared.fault.FaultReport.{FaultReport}
 use Rattle.aa_text.specs.Faults.{json_fault}
 use Rattle.aa_check.specs.declared.report.ProfileReport.{ProfileReport}
+use Rattle.aa_check.specs.Counts.{Told, counts_of}
 use Rattle.aa_check.specs.declared.report.FileReport.{FileReport}
 use Rattle.aa_check.specs.declared.report.CheckReport.{CheckReport}
+
+-- a count as a member
+abbrev pub json_count : Told → List ℕ
+json_count c = member_text c.key (decimal c.number)
 
 -- a profile with its line and its counts
 unfoldable pub json_profile : ProfileReport → List ℕ
 json_profile p =
     codes "{" ++ key_text (codes "name") ++ json_bytes p.name.items ++ member_text (codes "line") (decimal p.line)
-    ++ member_text (codes "files") (decimal p.files) ++ member_text (codes "caps") (decimal p.caps) ++ member_text (codes "nets") (decimal p.nets)
-    ++ member_text (codes "patterns") (decimal p.patterns) ++ member_text (codes "states") (decimal p.states)
-    ++ member_text (codes "passed_over") (decimal p.passed_over) ++ codes "}"
+    ++ flat_map json_count (counts_of p) ++ codes "}"
 
 -- the members of a file's path, and of whether it is accepted
 unfoldable pub json_path : FileReport → List ℕ

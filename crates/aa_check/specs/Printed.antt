@@ -10,22 +10,19 @@ use Rattle.aa_check.specs.declared.report.ProfileReport.{ProfileReport}
 use Rattle.aa_check.specs.declared.report.Passed.{Passed}
 use Rattle.aa_check.specs.declared.report.FileReport.{FileReport}
 use Rattle.aa_check.specs.declared.report.CheckReport.{CheckReport}
+use Rattle.aa_check.specs.Counts.{Told, counts_of}
 
 -- a number behind a space, and what it counts
 unfoldable pub count_text : ℕ → List ℕ → List ℕ
 count_text count what = codes " " ++ decimal count ++ what
 
--- how many rules a profile has on files, on capabilities and on sockets
-unfoldable pub rules_text : ProfileReport → List ℕ
-rules_text p = count_text p.files (codes " file") ++ count_text p.caps (codes " capability") ++ count_text p.nets (codes " network")
-
--- the patterns of its file rules, the states of their automaton, and its rules that are passed over
-unfoldable pub sizes_text : ProfileReport → List ℕ
-sizes_text p = count_text p.patterns (codes " patterns") ++ count_text p.states (codes " states") ++ count_text p.passed_over (codes " passed over\n")
+-- one of the counts of a profile
+abbrev pub told_text : Told → List ℕ
+told_text c = count_text c.number c.words
 
 -- the line of a profile: its name as audit lines have it, and its counts
 unfoldable pub profile_line : ProfileReport → List ℕ
-profile_line p = codes "  profile " ++ value p.name.items ++ rules_text p ++ sizes_text p
+profile_line p = codes "  profile " ++ value p.name.items ++ flat_map told_text (counts_of p) ++ codes "\n"
 
 -- a keyword, and how often it comes
 unfoldable pub passed_text : Passed → List ℕ

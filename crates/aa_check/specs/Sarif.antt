@@ -72,9 +72,13 @@ place_member path place =
 unfoldable pub location_text : List ℕ → Option PlaceAt → List ℕ
 location_text path place = codes "[{" ++ place_member path place ++ codes "}]"
 
+-- a place besides that of a result, and what it has to do with it
+unfoldable pub related_text : List ℕ → Option PlaceAt → List ℕ → List ℕ
+related_text path place bytes = codes "{" ++ place_member path place ++ member_text (codes "message") (message_text bytes) ++ codes "}"
+
 -- an include on the way to a fault
 unfoldable pub link_text : Link → List ℕ
-link_text l = codes "{" ++ place_member l.path.items (Some l.place) ++ member_text (codes "message") (message_text (codes "included here")) ++ codes "}"
+link_text l = related_text l.path.items (Some l.place) (codes "included here")
 
 -- the includes on the way to a fault
 unfoldable pub links_member : List Link → List ℕ

@@ -1,11 +1,12 @@
 //! How the findings of `check` are printed.
 
-ghost use Rattle.std.specs.Prelude.{◌≡◌, ◌++◌, flat_map, codes, is_some, OnOk, if◌then◌else◌};
+ghost use Rattle.std.specs.Prelude.{◌≡◌, ◌++◌, map, flat_map, codes, is_some, OnOk, if◌then◌else◌};
 ghost use Rattle.aa_text.specs.Visible.{all_visible};
 ghost use Rattle.aa_text.specs.Faults.{fault_text};
-ghost use Rattle.aa_check.specs.Printed.{count_text, rules_text, sizes_text, profile_line, passed_text, passed_line, file_line, file_text, last_line, untold_text, held_text, held_line, report_text, warning_line, warning_lines, fault_if, file_faults, faults_text};
+ghost use Rattle.aa_check.specs.Counts.{told};
+ghost use Rattle.aa_check.specs.Printed.{count_text, told_text, profile_line, passed_text, passed_line, file_line, file_text, last_line, untold_text, held_text, held_line, report_text, warning_line, warning_lines, fault_if, file_faults, faults_text};
 
-use crate::report::{CheckReport, FileReport, Passed, ProfileReport};
+use crate::report::{CheckReport, Count, FileReport, Passed, ProfileReport};
 use aa_text::{FaultReport, push_fault, push_name, push_number, push_text, push_visible};
 use std::alloc::{AllocError, Global};
 
@@ -18,22 +19,13 @@ fn push_count(out: &mut Vec<u8>, count: usize, what: &str) -> Result<(), AllocEr
     push_text(out, what)
 }
 
-#[tactic(auto, unfolding(crate::specs::Printed::rules_text))]
-fn push_rules(out: &mut Vec<u8>, profile: &ProfileReport) -> Result<(), AllocError>
-    ensures { OnOk result (out.new.items ≡ out.old.items ++ rules_text profile.now) }
+fn push_counts(out: &mut Vec<u8>, counts: &[Count]) -> Result<(), AllocError>
+    ensures { OnOk result (out.new.items ≡ out.old.items ++ flat_map told_text (map told counts.now)) }
 {
-    push_count(out, profile.files, " file")?;
-    push_count(out, profile.caps, " capability")?;
-    push_count(out, profile.nets, " network")
-}
-
-#[tactic(auto, unfolding(crate::specs::Printed::sizes_text))]
-fn push_sizes(out: &mut Vec<u8>, profile: &ProfileReport) -> Result<(), AllocError>
-    ensures { OnOk result (out.new.items ≡ out.old.items ++ sizes_text profile.now) }
-{
-    push_count(out, profile.patterns, " patterns")?;
-    push_count(out, profile.states, " states")?;
-    push_count(out, profile.passed_over, " passed over\n")
+    for count in counts {
+        push_count(out, count.number, count.words)?;
+    }
+    Ok(())
 }
 
 /// Appends the line of a profile.
@@ -43,8 +35,8 @@ fn push_profile(out: &mut Vec<u8>, alloc: Global, profile: &ProfileReport) -> Re
 {
     push_text(out, "  profile ")?;
     push_name(out, alloc, profile.name.as_slice())?;
-    push_rules(out, profile)?;
-    push_sizes(out, profile)
+    push_counts(out, &profile.counts())?;
+    push_text(out, "\n")
 }
 
 fn push_profiles(

@@ -1,14 +1,25 @@
 //! How the findings of `check` are printed as JSON.
 
-ghost use Rattle.std.specs.Prelude.{◌≡◌, ◌++◌, OnOk};
-ghost use Rattle.aa_check.specs.Jsons.{json_path, json_further, json_report};
+ghost use Rattle.std.specs.Prelude.{◌≡◌, ◌++◌, map, flat_map, OnOk};
+ghost use Rattle.aa_check.specs.Counts.{told};
+ghost use Rattle.aa_check.specs.Jsons.{json_count, json_path, json_further, json_report};
 
-use crate::report::{CheckReport, FileReport, ProfileReport};
+use crate::report::{CheckReport, Count, FileReport, ProfileReport};
 use aa_text::{
     FaultReport, ToJson, push_json_bytes, push_key, push_list, push_list_member, push_member,
     push_member_if, push_text,
 };
 use std::alloc::{AllocError, Global};
+
+/// Appends each count as a member.
+fn push_json_counts(out: &mut Vec<u8>, alloc: Global, counts: &[Count]) -> Result<(), AllocError>
+    ensures { OnOk result (out.new.items ≡ out.old.items ++ flat_map json_count (map told counts.now)) }
+{
+    for count in counts {
+        push_member(out, alloc, count.key, &count.number)?;
+    }
+    Ok(())
+}
 
 impl ToJson for ProfileReport {
     ghost use Rattle.aa_check.specs.Jsons.{json_profile};
@@ -21,12 +32,7 @@ impl ToJson for ProfileReport {
         push_key(out, "name")?;
         push_json_bytes(out, alloc, self.name.as_slice())?;
         push_member(out, alloc, "line", &self.line)?;
-        push_member(out, alloc, "files", &self.files)?;
-        push_member(out, alloc, "caps", &self.caps)?;
-        push_member(out, alloc, "nets", &self.nets)?;
-        push_member(out, alloc, "patterns", &self.patterns)?;
-        push_member(out, alloc, "states", &self.states)?;
-        push_member(out, alloc, "passed_over", &self.passed_over)?;
+        push_json_counts(out, alloc, &self.counts())?;
         push_text(out, "}")
     }
 }

@@ -21,6 +21,6 @@ pub use gcc::push_gcc_report;
 pub use jsons::push_json_report;
 pub use report::{CheckReport, FileReport, Passed, ProfileReport};
 pub use sarif::{
-    Invocations, Level, Location, Message, Notification, push_rule_members, push_sarif_head,
-    push_sarif_report,
+    Invocations, Level, Location, Message, Notification, Related, push_rule_members,
+    push_sarif_head, push_sarif_report,
 };

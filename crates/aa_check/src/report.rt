@@ -1,6 +1,7 @@
 //! What is found of files.
 
-ghost use Rattle.std.specs.Prelude.{◌≡◌, ◌==◌, if◌then◌else◌};
+ghost use Rattle.std.specs.Prelude.{◌≡◌, ◌==◌, map, if◌then◌else◌};
+ghost use Rattle.aa_check.specs.Counts.{told, counts_of};
 
 use aa_text::FaultReport;
 
@@ -17,6 +18,38 @@ pub struct ProfileReport {
     /// How many states the automaton of its file rules has.
     pub states: usize,
     pub passed_over: usize,
+}
+
+/// One of the counts of a profile, as it is told.
+#[derive(Clone, Copy)]
+pub(crate) struct Count {
+    /// The key of its member in JSON.
+    pub key: &'static str,
+    /// The words behind the number in the line of the profile.
+    pub words: &'static str,
+    pub number: usize,
+}
+
+fn called(key: &'static str, words: &'static str, number: usize) -> Count
+    ensures { told result ≡ record { key = key.now; words = words.now; number = number } }
+{
+    Count { key, words, number }
+}
+
+impl ProfileReport {
+    /// What is counted of it, in the order in which text and JSON tell it.
+    pub(crate) fn counts(&self) -> [Count; 6]
+        ensures { map told result ≡ counts_of self.now }
+    {
+        [
+            called("files", " file", self.files),
+            called("caps", " capability", self.caps),
+            called("nets", " network", self.nets),
+            called("patterns", " patterns", self.patterns),
+            called("states", " states", self.states),
+            called("passed_over", " passed over", self.passed_over),
+        ]
+    }
 }
 
 /// How often a keyword comes whose rules never decide.

@@ -2,7 +2,7 @@
 
 ghost use Rattle.std.specs.Prelude.{◌≡◌, ◌++◌, ◌<◌, not, map, flat_map, option_to_list, codes, OnOk, IfOk};
 ghost use Rattle.aa_text.specs.Jsons.{json_bytes, member_text};
-ghost use Rattle.aa_check.specs.Sarif.{is_alphanumeric, is_plain, capital_digit, uri_byte, scheme_of, uri_text, ascii_of, as_text, message_text, start_line, region_text, region_member, place_member, location_text, link_text, links_member, level_text, rule_members, fault_members, result_text, results_of, notification_text, notifications, all_notifications, results_member, notifications_member, invocations_text, sarif_head, sarif_report};
+ghost use Rattle.aa_check.specs.Sarif.{is_alphanumeric, is_plain, capital_digit, uri_byte, scheme_of, uri_text, ascii_of, as_text, message_text, start_line, region_text, region_member, place_member, location_text, related_text, link_text, links_member, level_text, rule_members, fault_members, result_text, results_of, notification_text, notifications, all_notifications, results_member, notifications_member, invocations_text, sarif_head, sarif_report};
 ghost use Rattle.aa_check.specs.Notified.{notified, related, found};
 
 use crate::report::{CheckReport, FileReport};
@@ -208,6 +208,27 @@ impl ToJson for Location<'_> {
     }
 }
 
+/// A place besides that of a result, and what it has to do with it.
+#[derive(Clone, Copy)]
+pub struct Related<'a> {
+    pub path: &'a [u8],
+    pub place: Option<PlaceAt>,
+    pub bytes: &'a [u8],
+}
+
+impl ToJson for Related<'_> {
+    ghost json = { λ r. related_text r.path.now r.place r.bytes.now };
+
+    #[tactic(auto, unfolding(crate::specs::Sarif::related_text))]
+    fn push_json(&self, out: &mut Vec<u8>, alloc: Global) -> Result<(), AllocError> {
+        let bytes = self.bytes;
+        push_text(out, "{")?;
+        push_place_member(out, alloc, self.path, self.place)?;
+        push_member(out, alloc, "message", &Message { bytes })?;
+        push_text(out, "}")
+    }
+}
+
 /// An include on the way to a fault.
 #[derive(Clone, Copy)]
 struct RelatedPlace<'a> {
@@ -219,11 +240,12 @@ impl ToJson for RelatedPlace<'_> {
 
     #[tactic(auto, unfolding(crate::specs::Sarif::link_text))]
     fn push_json(&self, out: &mut Vec<u8>, alloc: Global) -> Result<(), AllocError> {
-        let bytes: &[u8] = b"included here";
-        push_text(out, "{")?;
-        push_place_member(out, alloc, self.link.path.as_slice(), Some(self.link.place))?;
-        push_member(out, alloc, "message", &Message { bytes })?;
-        push_text(out, "}")
+        let related = Related {
+            path: self.link.path.as_slice(),
+            place: Some(self.link.place),
+            bytes: b"included here",
+        };
+        related.push_json(out, alloc)
     }
 }
 

@@ -19,3 +19,4 @@ mod StateLemmas
 mod CheckLemmas
 pub mod Transitions
 mod Bytes
+pub mod HeldLemmas

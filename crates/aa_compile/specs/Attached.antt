@@ -1,6 +1,6 @@
 -- Which profile is attached to a path.
 -- Source: apparmor.d(5), "Profile Head"; own.
-use Rattle.std.specs.Prelude.{◌≡◌, ℕ, suc, max, List, [], ◌∷◌, map, length, Bool, false, ◌==◌, if◌then◌else◌, filter, Option, Some, None}
+use Rattle.std.specs.Prelude.{◌≡◌, ◌≤◌, ℕ, suc, max, List, [], ◌∷◌, map, length, Bool, false, ◌==◌, if◌then◌else◌, filter, Option, Some, None}
 use Rattle.std.specs.Option.{option_and_then, option_map_or}
 use Rattle.std.specs.List.{list_any, list_all, take_while, slice_get, filter_map, flat_map}
 use Rattle.aa_pattern.specs.declared.pattern.Pattern.{Pattern}
@@ -8,6 +8,8 @@ use Rattle.aa_pattern.specs.Globs.{is_byte}
 use Rattle.aa_model.specs.declared.policy.Profile.{Profile}
 use Rattle.aa_model.specs.Lawful.{has_parent}
 use Rattle.aa_pattern.specs.Matching.{is_match}
+use Rattle.aa_pattern.specs.Limits.{most_patterns}
+use Rattle.aa_auto.specs.Pairs.{IsBuilt}
 use Rattle.aa_auto.specs.Tables.{Table, IsText, list_number, place_of}
 use Rattle.aa_compile.specs.declared.attach.Attachment.{Attachment}
 use Rattle.aa_compile.specs.Gathered.{picked}
@@ -63,10 +65,11 @@ pattern_of h = h.1
 abbrev pub attachment_of : ℕ × Pattern → Attachment
 attachment_of h = attachment_by h.0 h.1
 
--- an automaton, and an answer for each of its lists
+-- an automaton, an answer for each of its lists, and of how many attachments it is
 pub record AnswerTable : Type 0 where
   pub table : Table
   pub answers : List (Option ℕ)
+  pub count : ℕ
 
 -- the answer that a path leads to
 abbrev pub answer_at : AnswerTable → List ℕ → Option ℕ
@@ -104,3 +107,9 @@ profiles_of literal front as' numbers = filter_map (profile_if literal front as'
 -- each path leads to the profile that is attached to it
 abbrev pub Attaches : List Profile → List ℕ → AnswerTable → Type 0
 Attaches profiles numbers t = (path : List ℕ) → IsText path → answer_at t path ≡ attached profiles numbers path
+
+-- the automaton is that of the attachments of the profiles with these numbers, which are so many, and no more than can be matched together
+pub record AreAttached (profiles : List Profile) (numbers : List ℕ) (t : AnswerTable) : Type 0 where
+  pub built : IsBuilt (map pattern_of (attachments_by profiles numbers)) t.table
+  pub counted : t.count ≡ length (map pattern_of (attachments_by profiles numbers))
+  pub few : t.count ≤ most_patterns

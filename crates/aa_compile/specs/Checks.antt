@@ -1,14 +1,16 @@
 -- What a policy has to pass, in this order, and what refuses it.
 -- Source: own.
-use Rattle.std.specs.Prelude.{◌≡◌, ℕ, ◌+◌, ◌<◌, List, [], ◌∷◌, map, length, Some}
+use Rattle.std.specs.Prelude.{◌≡◌, ℕ, ◌+◌, ◌<◌, ◌≤◌, List, [], ◌∷◌, map, length, Some}
 use Rattle.std.specs.List.{slice_get}
 use Rattle.aa_base.specs.declared.fault.PolicyFault.{PolicyFault}
 use Rattle.aa_base.specs.declared.fault.PolicyKind.{PolicyKind}
 use Rattle.aa_base.specs.declared.fault.PolicyKind.TheVariants.{ConflictingExec, TooManyStates as ManyStates}
 use Rattle.aa_base.specs.declared.fault.Spot.{Spot}
 use Rattle.aa_base.specs.Kinds.{no_memory}
+use Rattle.aa_pattern.specs.Limits.{most_patterns}
 use Rattle.aa_pattern.specs.declared.pattern.Pattern.{Pattern}
 use Rattle.aa_model.specs.declared.policy.Profile.{Profile}
+use Rattle.aa_auto.specs.Pairs.{TellsBytes}
 use Rattle.aa_auto.specs.Tables.{HasPlaces, IsAutomaton}
 use Rattle.aa_auto.specs.declared.build.BuildFault.{BuildFault}
 use Rattle.aa_auto.specs.declared.build.BuildFault.TheVariants.{NoMemory, TooManyStates}
@@ -19,7 +21,7 @@ use Rattle.aa_compile.specs.Ways.{way_by}
 use Rattle.aa_compile.specs.Rows.{AreRowsOf, patterns_of}
 use Rattle.aa_compile.specs.Matched.{owners_from}
 use Rattle.aa_compile.specs.Patterns.{HasAutomaton}
-use Rattle.aa_compile.specs.Attached.{AnswerTable, Attaches, attachments_by, pattern_of}
+use Rattle.aa_compile.specs.Attached.{AnswerTable, Attaches, AreAttached, attachments_by, pattern_of}
 use Rattle.aa_compile.specs.declared.tables.ProfileRows.{ProfileRows}
 pub use Rattle.aa_compile.specs.Transitions.{children, tops}
 use Rattle.aa_compile.specs.Transitions.{targets_by}
@@ -87,7 +89,10 @@ pub record IsAccepted (profiles : List Profile) (limit : ℕ) : Type 0 where
 pub record IsRight (profiles : List Profile) (number : ℕ) (p : Profile) (r : ProfileRows) : Type 0 where
   pub files : AreRowsOf (way_by p.files) p.files r.files
   pub automaton : IsAutomaton (patterns_of p.files) r.files.table
+  pub bytes : TellsBytes (patterns_of p.files) r.files.table
+  pub few : length (patterns_of p.files) ≤ most_patterns
   pub below : Attaches profiles (children profiles number) r.children
+  pub below_built : AreAttached profiles (children profiles number) r.children
   pub targets : r.targets.items ≡ targets_by profiles p
   pub owners : r.owners.items ≡ owners_from 0 p.files
 
@@ -99,4 +104,5 @@ pub record AreRight (profiles : List Profile) (n : ℕ) (rows : List ProfileRows
 -- what is kept says what the profiles say
 pub record IsCompiled (profiles : List Profile) (above : AnswerTable) (rows : List ProfileRows) : Type 0 where
   pub tops_are : Attaches profiles (tops profiles) above
+  pub tops_built : AreAttached profiles (tops profiles) above
   pub rows_are : AreRight profiles (length profiles) rows

@@ -1,4 +1,5 @@
 pub use Rattle.aa_auto.specs.Nodes
+pub use Rattle.aa_auto.specs.Pairs
 pub use Rattle.aa_auto.specs.Tables
 pub use Rattle.aa_pattern.specs.Matching
 pub use Rattle.aa_model.specs.Lawful

@@ -7,7 +7,7 @@ ghost use Rattle.std.specs.List.{list_any};
 ghost use Rattle.aa_pattern.specs.Limits.{most_patterns, most_states};
 ghost use Rattle.aa_compile.specs.Gathered.{picked};
 ghost use Rattle.aa_compile.specs.Patterns.{HasAutomaton};
-ghost use Rattle.aa_compile.specs.Attached.{is_strong, longest, common, attached_by, literal_at, front_at, profile_if, profiles_of, answers_by, answer_at, attachments_at, attachments_by, attachment_by, pattern_of, attachment_of, Attaches};
+ghost use Rattle.aa_compile.specs.Attached.{is_strong, longest, common, attached_by, literal_at, front_at, profile_if, profiles_of, answers_by, answer_at, attachments_at, attachments_by, attachment_by, pattern_of, attachment_of, AreAttached, Attaches};
 
 use aa_auto::{Automaton, BuildFault};
 use aa_model::Profile;
@@ -178,6 +178,8 @@ pub struct AttachRows {
     automaton: Automaton,
     /// One for each list.
     answers: Vec<Option<u16>>,
+    /// How many attachments there are.
+    count: usize,
 }
 
 impl Model for AttachRows {
@@ -186,7 +188,7 @@ impl Model for AttachRows {
 
     ghost Value = { AnswerTable };
 
-    ghost view = { λ r. record { table = r.automaton; answers = r.answers.items } };
+    ghost view = { λ r. record { table = r.automaton; answers = r.answers.items; count = r.count } };
 
     ghost invariant = { λ r. length r.answers.items ≡ length r.automaton.lists };
 }
@@ -203,13 +205,32 @@ impl AttachRows {
         requires some { 0 < limit }
         requires limit { limit ≤ most_states }
         ensures ok { IfOk result (Attaches profiles.now numbers.now) }
+        ensures attached { IfOk result (AreAttached profiles.now numbers.now) }
         ensures fits { IfOk result (λ _. HasAutomaton (map pattern_of (attachments_by profiles.now numbers.now)) limit) }
         ensures too_many { result ≡ Err BuildFault.TooManyStates → HasPlaces (map pattern_of (attachments_by profiles.now numbers.now)) (limit + 1) }
     {
         let (pointers, attachments) = attachments_of(alloc, profiles, numbers)?;
         let automaton = Automaton::of(alloc, pointers.as_slice(), limit)?;
         let answers = answers_of(alloc, &automaton, attachments.as_slice())?;
-        Ok(AttachRows { automaton, answers })
+        Ok(AttachRows {
+            automaton,
+            answers,
+            count: pointers.len(),
+        })
+    }
+
+    /// The automaton of the attachments.
+    pub(crate) fn automaton(&self) -> &Automaton
+        ensures { result.now ≡ self.now.table }
+    {
+        &self.automaton
+    }
+
+    /// How many attachments there are.
+    pub(crate) fn count(&self) -> usize
+        ensures { result ≡ self.now.count }
+    {
+        self.count
     }
 
     /// The profile that is attached to the path.

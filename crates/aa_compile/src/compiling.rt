@@ -3,11 +3,11 @@
 ghost use Rattle.std.specs.Prelude.{◌≡◌, ◌≤◌, ◌<◌, ◌↔◌, ◌⊎◌, ℕ, Some, length, IfOk, IfErr};
 ghost use Rattle.std.specs.List.{slice_get};
 ghost use Rattle.std.specs.Option.{is_some};
-ghost use Rattle.aa_pattern.specs.Limits.{most_states};
+ghost use Rattle.aa_pattern.specs.Limits.{most_patterns, most_states};
 ghost use Rattle.aa_base.specs.Kinds.{no_memory};
 ghost use Rattle.aa_model.specs.declared.policy.Profile.{Profile};
 ghost use Rattle.aa_model.specs.Lawful.{IsWithinLimits, ParentsComeFirst};
-ghost use Rattle.aa_compile.specs.Attached.{attached, Attaches};
+ghost use Rattle.aa_compile.specs.Attached.{attached, AreAttached, Attaches};
 ghost use Rattle.aa_compile.specs.Rows.{IsVerdictOf, patterns_of};
 ghost use Rattle.aa_compile.specs.Matched.{rules_matching};
 ghost use Rattle.aa_compile.specs.Ways.{way_by};
@@ -15,7 +15,8 @@ ghost use Rattle.aa_compile.specs.Found.{found_in};
 ghost use Rattle.aa_compile.specs.Numbering.{IsNumbering};
 ghost use Rattle.aa_compile.specs.States.{HasStates};
 ghost use Rattle.aa_compile.specs.Transitions.{attached_below, named, transition};
-ghost use Rattle.aa_compile.specs.Checks.{tops, first_spot, IsRight, AreRight, IsRefused, IsAccepted};
+ghost use Rattle.aa_auto.specs.Pairs.{IsBuilt};
+ghost use Rattle.aa_compile.specs.Checks.{attached_patterns, children, tops, first_spot, IsRight, AreRight, IsRefused, IsAccepted};
 
 use crate::attach::AttachRows;
 use crate::groups::{groups_of, numbers_of_tops};
@@ -25,6 +26,7 @@ use crate::owners::rules_of;
 use crate::side::Verdict;
 use crate::tables::{ProfileRows, fault_of_states, rows_of};
 use crate::transition::{Transition, lead};
+use aa_auto::Automaton;
 use aa_base::{Perms, PolicyFault, Spot};
 use aa_model::{ExecKind, Policy, Profile};
 use bitflags::Flags;
@@ -90,6 +92,7 @@ fn tables_of(alloc: Global, profiles: &[Profile], limit: usize) -> Result<Tables
     requires limit { limit ≤ most_states }
     ensures right { IfOk result (λ t. AreRight profiles.now (length profiles.now) t.rows.items) }
     ensures tops { IfOk result (λ t. Attaches profiles.now (tops profiles.now) t.tops) }
+    ensures built { IfOk result (λ t. AreAttached profiles.now (tops profiles.now) t.tops) }
     ensures names { IfOk result (λ t. IsNumbering t.names profiles.now) }
     ensures accepted { IfOk result (λ _. IsAccepted profiles.now limit) }
     ensures refused { IfErr result (λ f. (f ≡ no_memory) ⊎ IsRefused profiles.now limit f) }
@@ -162,6 +165,55 @@ impl Compiled {
             return None;
         }
         self.rows_at(parent).children.attached(path)
+    }
+
+    /// The automaton of the patterns of a profile's file rules.
+    pub fn file_automaton(&self, number: u16) -> &Automaton
+        requires { number < length self.now.profiles }
+        ensures { (p : Profile) → slice_get self.now.profiles number ≡ Some p → IsBuilt (patterns_of p.files) result.now }
+    {
+        self.rows_at(number).files.automaton()
+    }
+
+    /// How many patterns these are.
+    pub fn file_patterns(&self, number: u16) -> usize
+        requires { number < length self.now.profiles }
+        ensures count { (p : Profile) → slice_get self.now.profiles number ≡ Some p → result ≡ length (patterns_of p.files) }
+        ensures few { result ≤ most_patterns }
+    {
+        self.rows_at(number).owners.len()
+    }
+
+    /// The automaton of the attachments of the top-level profiles.
+    pub fn top_automaton(&self) -> &Automaton
+        ensures { IsBuilt (attached_patterns self.now.profiles (tops self.now.profiles)) result.now }
+    {
+        self.tops.automaton()
+    }
+
+    /// How many attachments these are.
+    pub fn top_patterns(&self) -> usize
+        ensures count { result ≡ length (attached_patterns self.now.profiles (tops self.now.profiles)) }
+        ensures few { result ≤ most_patterns }
+    {
+        self.tops.count()
+    }
+
+    /// The automaton of the attachments of a profile's children.
+    pub fn child_automaton(&self, parent: u16) -> &Automaton
+        requires { parent < length self.now.profiles }
+        ensures { IsBuilt (attached_patterns self.now.profiles (children self.now.profiles parent)) result.now }
+    {
+        self.rows_at(parent).children.automaton()
+    }
+
+    /// How many attachments these are.
+    pub fn child_patterns(&self, parent: u16) -> usize
+        requires { parent < length self.now.profiles }
+        ensures count { result ≡ length (attached_patterns self.now.profiles (children self.now.profiles parent)) }
+        ensures few { result ≤ most_patterns }
+    {
+        self.rows_at(parent).children.count()
     }
 
     /// How many states the automaton of a profile's file rules has; none where there is no such profile.

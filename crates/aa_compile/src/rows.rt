@@ -3,6 +3,7 @@
 ghost use Rattle.std.specs.Prelude.{◌≡◌, ◌+◌, ◌<◌, ◌≤◌, ◌++◌, IfOk, OnOk, Err, length};
 ghost use Rattle.aa_pattern.specs.Limits.{most_patterns, most_states};
 ghost use Rattle.aa_auto.specs.Nodes.{pointed};
+ghost use Rattle.aa_auto.specs.Pairs.{TellsBytes};
 ghost use Rattle.aa_auto.specs.Tables.{HasPlaces, IsAutomaton, list_at, place_of, rows_of as states_of};
 ghost use Rattle.aa_compile.specs.Ways.{numbered, way_by};
 ghost use Rattle.aa_compile.specs.Gathered.{picked};
@@ -76,6 +77,7 @@ fn automaton_of(alloc: Global, rules: &[FileRule], limit: usize) -> Result<Autom
     requires some { 0 < limit }
     requires limit { limit ≤ most_states }
     ensures automaton { IfOk result (IsAutomaton (patterns_of rules.now)) }
+    ensures bytes { IfOk result (TellsBytes (patterns_of rules.now)) }
     ensures within { IfOk result (λ a. states_of a ≤ limit) }
     ensures too_many { result ≡ Err BuildFault.TooManyStates → HasPlaces (patterns_of rules.now) (limit + 1) }
 {
@@ -163,6 +165,7 @@ impl FileRows {
         requires limit { limit ≤ most_states }
         ensures ok { IfOk result (λ r. AreRowsOf (way_by rules.now) rules.now r) }
         ensures automaton { IfOk result (λ r. IsAutomaton (patterns_of rules.now) r.table) }
+        ensures bytes { IfOk result (λ r. TellsBytes (patterns_of rules.now) r.table) }
         ensures free { IfOk result (λ _. Conflicts rules.now → ⊥) }
         ensures conflict { result ≡ Err RowsFault.Conflict → Conflicts rules.now }
         ensures fits { IfOk result (λ _. HasAutomaton (patterns_of rules.now) limit) }
@@ -176,6 +179,13 @@ impl FileRows {
         }
         let rows = rows_of(alloc, &automaton, marks.as_slice())?;
         Ok(FileRows { automaton, rows })
+    }
+
+    /// The automaton of the rules' patterns.
+    pub(crate) fn automaton(&self) -> &Automaton
+        ensures { result.now ≡ self.now.table }
+    {
+        &self.automaton
     }
 
     /// How many rows the automaton of the rules has.

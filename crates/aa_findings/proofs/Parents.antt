@@ -1,5 +1,6 @@
 -- The paths at which profiles tie, by the parent of these.
-use Rattle.std.proofs.Common.{◌≡◌, ◌⊎◌, ℕ, zero, suc, ◌+◌, List, [], ◌∷◌, ◌++◌, length, cond, Bool, true, false, true≢false, Option, Some, None, Contains, refl, sym, ap, ◌∙◌, subst, ⊎_elim, inl, inr, add-one, arith}
+use Rattle.std.proofs.Common.{◌≡◌, ◌⊎◌, ℕ, zero, suc, ◌+◌, List, [], ◌∷◌, ◌++◌, length, cond, Bool, true, false, true≢false, Option, Some, None, Contains}
+use Rattle.std.proofs.Common.{refl, sym, ap, ◌∙◌, subst, ⊎_elim, inl, inr, add-one, arith}
 use Rattle.std.specs.Prelude.{map, not, is_some, ◌||◌, ◌==◌}
 use Rattle.std.specs.List.{slice_get, flat_map, list_any}
 use Rattle.std.specs.Bool.{nat_eq}
@@ -27,7 +28,8 @@ use Rattle.aa_findings.specs.declared.finding.Finding.{Finding}
 use Rattle.aa_findings.specs.Faults.{IsFaultOf}
 use Rattle.aa_findings.specs.Places.{places, places_from, has}
 use Rattle.aa_findings.specs.Shortest.{nearest}
-use Rattle.aa_findings.specs.Attached.{patterns_at, kept_at, numbers_of, strong_at, tied_by, are_several, Sharing, sharing, shared_at, shared_in, shared_if, shared_by, tied_in, tied_path, tied_paths, tie_at, ties_at, other_at, ties_among, ties_of, AddsTie}
+use Rattle.aa_findings.specs.Attached.{patterns_at, kept_at, numbers_of, strong_at, tied_by, are_several, Sharing, sharing, shared_at, shared_in, shared_if, shared_by}
+use Rattle.aa_findings.specs.Attached.{tied_in, tied_path, tied_paths, tie_at, ties_at, other_at, ties_among, ties_of, AddsTie}
 use Rattle.aa_findings.specs.Below.{IsBelow, parent_at, place_of, row_of_parent, AreBelow, ShowsBelow, ExceedsBelow}
 use Rattle.aa_findings.proofs.Elements.{any_in, in_any, in_flat_map}
 use Rattle.aa_findings.proofs.Nearest.{IsNear, near}

@@ -1,5 +1,6 @@
 -- Texts that are kept, and rules that none of them reads as.
-use Rattle.std.proofs.Common.{◌≡◌, ℕ, Bool, true, false, ◌||◌, cond, List, [], ◌∷◌, ◌++◌, map, Option, Some, is_some, refl, sym, ap, ◌∙◌, append_assoc, ◌<◌, ◌≤◌, ◌-◌, length, get_or, take, drop, arith}
+use Rattle.std.proofs.Common.{◌≡◌, ℕ, Bool, true, false, ◌||◌, cond, List, [], ◌∷◌, ◌++◌, map, Option, Some, is_some}
+use Rattle.std.proofs.Common.{refl, sym, ap, ◌∙◌, append_assoc, ◌<◌, ◌≤◌, ◌-◌, length, get_or, take, drop, arith}
 use Rattle.std.proofs.lemmas.List.{append-nil, take_all}
 use Rattle.std.specs.Str.{bytes_eq}
 use Rattle.std.specs.Map.{lookup}

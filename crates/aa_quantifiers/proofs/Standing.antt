@@ -1,14 +1,17 @@
 -- Requests at the paths of the regions that the word's pattern matches stand for all of the word.
-use Rattle.std.proofs.Common.{◌≡◌, ℕ, zero, suc, ◌<◌, ◌≤◌, List, [], ◌∷◌, ◌++◌, true, Contains, length, refl, sym, ◌∙◌, subst, arith}
+use Rattle.std.proofs.Common.{◌≡◌, ℕ, zero, suc, ◌≤◌, List, [], ◌∷◌}
+use Rattle.std.proofs.Common.{◌++◌, true, Contains, length, refl, sym, ◌∙◌, subst, arith}
 use Rattle.std.proofs.lemmas.List.Elements.{Contains-append_left, Contains-push}
 use Rattle.aa_pattern.specs.Matching.{is_match}
+use Rattle.aa_pattern.proofs.Decided.{decided}
 use Rattle.aa_pattern.specs.declared.pattern.Pattern.{Pattern}
 use Rattle.aa_model.specs.declared.policy.Policy.{Policy}
 use Rattle.aa_model.specs.declared.label.Label.{Label}
 use Rattle.aa_model.specs.declared.request.Request.{Request}
 use Rattle.aa_model.specs.declared.request.Request.TheVariants.{File, Link, Exec, Cap, Net, Change, Reload}
 use Rattle.aa_regions.specs.declared.regions.Region.{Region}
-use Rattle.aa_regions.specs.Regions.{IsAsked, ArePathRegions}
+use Rattle.aa_regions.specs.Automata.{ArePathRegionsWithin}
+use Rattle.aa_regions.specs.Regions.{IsAsked}
 use Rattle.aa_mediate.specs.Reply.{reply}
 use Rattle.aa_representatives.specs.Alike.{MatchAlike, filing, deciding}
 use Rattle.aa_representatives.proofs.Standing.{same_list}
@@ -29,23 +32,25 @@ record IsFound (ps : List Pattern) (p : Pattern) (regions : List Region) (s : Li
   alike : MatchAlike ps s region.witness
   short : length region.witness ≤ length s
 
-found : (ps : List Pattern) (p : Pattern) (regions : List Region) → ArePathRegions (ps ++ p ∷ []) regions → (s : List ℕ) → IsAsked s → is_match p.items.items s ≡ true → IsFound ps p regions s
+found : (ps : List Pattern) (p : Pattern) (regions : List Region) → ArePathRegionsWithin ps p regions → (s : List ℕ) → IsAsked s
+    → is_match p.items.items s ≡ true → IsFound ps p regions s
 found ps p regions are s asked matched =
-    let r = are.all s asked in
-    let each = are.each r.0 r.1 in
-    let alike = same_list (ps ++ p ∷ []) s r.0.witness r.0.numbers r.2 each.lists in
+    let r = are.all s asked ((decided p.items.items s).0 matched) in
+    let each = are.each r.0 r.1 r.2 in
+    let alike = same_list (ps ++ p ∷ []) s r.0.witness r.0.numbers r.3 each.lists in
     record {
       region = r.0;
       there = r.1;
       matched = sym (alike p (Contains-push ps p)) ∙ matched;
       alike = λ q c. alike q (Contains-append_left ps (p ∷ []) q c);
-      short = each.shortest s asked r.2;
+      short = each.shortest s asked r.3;
     }
 
 module _ (policies : List Policy) (label : Label) (regions : List Region) (rs : List Request) where
-  module _ (w : FilesWord) (are : ArePathRegions (filing policies label ++ w.pattern ∷ []) regions)
+  module _ (w : FilesWord) (are : ArePathRegionsWithin (filing policies label) w.pattern regions)
       (has : (r : Region) → Contains regions r → is_match w.pattern.items.items r.witness ≡ true → HasFilesOf w.whose r.witness w.masks rs) where
-    file_for : (r : Request) → IsOf (Files w) r → (q : Request) × Contains rs q × (reply policies label r ≡ reply policies label q) × (path_length q ≤ path_length r)
+    file_for : (r : Request) → IsOf (Files w) r → (q : Request) × Contains rs q × (reply policies label r ≡ reply policies label q)
+        × (path_length q ≤ path_length r)
     file_for (File f) is =
         let r = found (filing policies label) w.pattern regions are f.path is.asked is.matched in (
           File (record { path = r.region.witness; mask = f.mask; owned = f.owned }),
@@ -63,9 +68,10 @@ module _ (policies : List Policy) (label : Label) (regions : List Region) (rs : 
     pub files_stand : ((r : Request) → Contains rs r → IsOf (Files w) r) → StandForWord policies label (Files w) rs
     files_stand each = record { each = each; all = file_for }
 
-  module _ (w : ExecsWord) (are : ArePathRegions (deciding policies label ++ w.pattern ∷ []) regions)
+  module _ (w : ExecsWord) (are : ArePathRegionsWithin (deciding policies label) w.pattern regions)
       (has : (r : Region) → Contains regions r → is_match w.pattern.items.items r.witness ≡ true → HasExecsOf w.whose r.witness rs) where
-    exec_for : (r : Request) → IsOf (Execs w) r → (q : Request) × Contains rs q × (reply policies label r ≡ reply policies label q) × (path_length q ≤ path_length r)
+    exec_for : (r : Request) → IsOf (Execs w) r → (q : Request) × Contains rs q × (reply policies label r ≡ reply policies label q)
+        × (path_length q ≤ path_length r)
     exec_for (Exec x) is =
         let r = found (deciding policies label) w.pattern regions are x.path is.asked is.matched in (
           Exec (record { path = r.region.witness; owned = x.owned }),

@@ -24,7 +24,7 @@ use aa_base::Perms;
 use aa_compile::{Compiled, is_matched};
 use aa_model::{Label, Request, RequestFault};
 use aa_regions::Region;
-use aa_representatives::{deciding_regions_and, filing_regions_and};
+use aa_representatives::{deciding_regions_within, filing_regions_within};
 use std::alloc::{AllocError, Global};
 
 /// Adds the request to use a file, where the mask can be asked for.
@@ -248,7 +248,7 @@ fn files_by_regions(
     ensures few_states { IfOk result (λ _. HasPlaces (filing policies.now label ++ word.now.pattern ∷ []) (limit + 1) → ⊥) }
     ensures made { result ≢ Err QuantityFault.NoRequest }
 {
-    let regions = filing_regions_and(alloc, policies, label, &word.pattern, limit)?;
+    let regions = filing_regions_within(alloc, policies, label, &word.pattern, limit)?;
     let requests = files_of(alloc, word, regions.as_slice())?;
     Ok(requests)
 }
@@ -316,7 +316,7 @@ fn execs_by_regions(
     ensures few_states { IfOk result (λ _. HasPlaces (deciding policies.now label ++ word.now.pattern ∷ []) (limit + 1) → ⊥) }
     ensures made { result ≢ Err QuantityFault.NoRequest }
 {
-    let regions = deciding_regions_and(alloc, policies, label, &word.pattern, limit)?;
+    let regions = deciding_regions_within(alloc, policies, label, &word.pattern, limit)?;
     let requests = execs_of(alloc, word, regions.as_slice())?;
     Ok(requests)
 }

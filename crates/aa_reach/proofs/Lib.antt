@@ -5,3 +5,5 @@ pub mod Leading
 pub mod Asking
 pub mod Drawing
 mod Turning
+mod Shutting
+mod Sounds

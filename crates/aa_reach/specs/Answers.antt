@@ -11,17 +11,29 @@ use Rattle.aa_compile.specs.Labels.{profile_in}
 use Rattle.aa_ask.specs.Naming.{count_of}
 use Rattle.aa_reach.specs.declared.answering.Answer.{Answer}
 use Rattle.aa_reach.specs.declared.graph.Vertex.{Vertex}
-use Rattle.aa_reach.specs.Names.{name_in, name_of}
+use Rattle.aa_reach.specs.Names.{name_in, name_of, name_left_open}
+use Rattle.aa_skipped.specs.declared.skipped.Skipped.{Skipped}
+use Rattle.aa_reach.specs.Doubts.{Doubted, doubted, doubted_at, doubted_name}
 use Rattle.aa_reach.specs.Routes.{routed, barred, AreRoutes, AreEdges}
 
--- the answer for a label
-pub record IsAnswer (enforced : Bool) (policies : List Policy) (limit : ℕ) (targets : Option (List Label)) (from : Label) (a : Answer) : Type 0 where
+-- the answer for a label, where some labels may be asked for, and some by texts that are left open
+pub record IsAnswer (enforced : Bool) (policies : List Policy) (skipped : List Skipped) (limit : ℕ) (targets : Option (List Label)) (sought : List (List ℕ))
+    (from : Label) (a : Answer) : Type 0 where
   pub from_is : name_in a.from ≡ name_of policies from
-  pub told : AreRoutes enforced policies limit from targets (map routed a.routes.items) (map barred a.bars.items)
+  pub doubts : List Doubted
+  pub told : AreRoutes enforced policies skipped limit from targets (map routed a.routes.items) (map barred a.bars.items) doubts
+  pub doubts_are : map doubted a.doubts.items ≡ map (doubted_name skipped) sought ++ doubts
 
 -- the answers for labels, one by one
-abbrev pub AreAnswers : Bool → List Policy → ℕ → Option (List Label) → List Label → List Answer → Type 0
-AreAnswers enforced policies limit targets labels answers = AllZip (IsAnswer enforced policies limit targets) labels answers
+abbrev pub AreAnswers : Bool → List Policy → List Skipped → ℕ → Option (List Label) → List (List ℕ) → List Label → List Answer → Type 0
+AreAnswers enforced policies skipped limit targets sought labels answers = AllZip (IsAnswer enforced policies skipped limit targets sought) labels answers
+
+-- the answer for a text that is left open: nothing is told but which files may hold what it names
+pub record IsOpenAnswer (skipped : List Skipped) (text : List ℕ) (a : Answer) : Type 0 where
+  pub from_is : name_in a.from ≡ name_left_open text
+  pub none : a.routes.items ≡ []
+  pub told : a.bars.items ≡ []
+  pub doubts : map doubted a.doubts.items ≡ doubted_name skipped text ∷ []
 
 -- the profile of a label is in complain mode, and that counts
 abbrev pub complains_at : Bool → List Policy → Label → Bool
@@ -29,10 +41,11 @@ complains_at enforced policies (Unconfined k) = false
 complains_at enforced policies (Confined k n) = not enforced && option_map_or (λ (p : Profile). p.complain) (profile_in policies k n) false
 
 -- a label in the graph of all, with what leads from it to others
-pub record IsVertex (enforced : Bool) (policies : List Policy) (limit : ℕ) (l : Label) (v : Vertex) : Type 0 where
+pub record IsVertex (enforced : Bool) (policies : List Policy) (skipped : List Skipped) (limit : ℕ) (l : Label) (v : Vertex) : Type 0 where
   pub name_is : name_in v.edges.from ≡ name_of policies l
   pub complains : v.complains ≡ complains_at enforced policies l
-  pub told : AreEdges enforced policies limit l (map routed v.edges.routes.items) (map barred v.edges.bars.items)
+  pub told : AreEdges enforced policies skipped limit l (map routed v.edges.routes.items) (map barred v.edges.bars.items)
+  pub doubts : map doubted v.edges.doubts.items ≡ doubted_at policies skipped l
 
 -- the labels of the first n profiles
 abbrev pub first_labels : ℕ → List Label
@@ -44,5 +57,5 @@ abbrev pub all_labels : List Policy → List Label
 all_labels policies = (Unconfined 0 ∷ []) ++ first_labels (count_of policies)
 
 -- all of them in the graph, one by one
-abbrev pub AreVertices : Bool → List Policy → ℕ → List Vertex → Type 0
-AreVertices enforced policies limit vertices = AllZip (IsVertex enforced policies limit) (all_labels policies) vertices
+abbrev pub AreVertices : Bool → List Policy → List Skipped → ℕ → List Vertex → Type 0
+AreVertices enforced policies skipped limit vertices = AllZip (IsVertex enforced policies skipped limit) (all_labels policies) vertices

@@ -5,7 +5,8 @@ use Rattle.aa_ask.specs.Shown.{complain_mark}
 use Rattle.aa_reach.specs.declared.graph.Vertex.{Vertex}
 use Rattle.aa_reach.specs.Names.{Name, name_in, called}
 use Rattle.aa_reach.specs.Routes.{Turned, Routed, routed}
-use Rattle.aa_reach.specs.Shown.{untold_text}
+use Rattle.aa_skipped.specs.Telling.{count_text}
+use Rattle.aa_reach.specs.Shown.{untold_text, is_undecided}
 
 -- a byte between quotes: behind a backslash where it would end them or begin an escape
 abbrev pub dot_byte : ℕ → List ℕ
@@ -19,9 +20,13 @@ dot_string text = codes "\"" ++ flat_map dot_byte text ++ codes "\""
 abbrev pub style_mark : Bool → List ℕ
 style_mark complains = if complains then codes " [style=dashed]" else []
 
+-- a label at which something is undecided has two borders
+abbrev pub border_mark : Bool → List ℕ
+border_mark undecided = if undecided then codes " [peripheries=2]" else []
+
 -- a node
 unfoldable pub node_line : Vertex → List ℕ
-node_line v = codes "  " ++ dot_string (called (name_in v.edges.from)) ++ style_mark v.complains ++ codes ";\n"
+node_line v = codes "  " ++ dot_string (called (name_in v.edges.from)) ++ style_mark v.complains ++ border_mark (is_undecided v.edges) ++ codes ";\n"
 
 -- a request, and a mark where complain mode alone grants it
 abbrev pub edge_word : Turned → List ℕ
@@ -29,7 +34,9 @@ edge_word t = t.word ++ complain_mark t.complains
 
 -- an edge, with a request that leads on by it
 unfoldable pub edge_line : Name → Routed → List ℕ
-edge_line from r = codes "  " ++ dot_string (called from) ++ codes " -> " ++ dot_string (called r.to) ++ codes " [label=" ++ dot_string (flat_map edge_word r.turns) ++ codes "];\n"
+edge_line from r =
+    codes "  " ++ dot_string (called from) ++ codes " -> " ++ dot_string (called r.to) ++ codes " [label="
+    ++ dot_string (flat_map edge_word r.turns) ++ codes "];\n"
 
 -- the edges from a node
 abbrev pub node_edges : Vertex → List ℕ
@@ -39,9 +46,18 @@ node_edges v = flat_map (edge_line (name_in v.edges.from)) (map routed v.edges.r
 abbrev pub passed_comment : ℕ → List ℕ
 passed_comment n = if n == 0 then [] else codes "// " ++ decimal n ++ codes " rules passed over\n"
 
+-- how many files are skipped, so too
+abbrev pub skipped_comment : ℕ → List ℕ
+skipped_comment n = if n == 0 then [] else codes "// " ++ count_text n
+
+-- both
+unfoldable pub dot_comments : ℕ → ℕ → List ℕ
+dot_comments passed skipped = passed_comment passed ++ skipped_comment skipped
+
 -- the graph
-unfoldable pub dot_text : ℕ → List Vertex → List ℕ
-dot_text passed vertices = codes "digraph labels {\n" ++ flat_map node_line vertices ++ flat_map node_edges vertices ++ codes "}\n" ++ passed_comment passed
+unfoldable pub dot_text : ℕ → ℕ → List Vertex → List ℕ
+dot_text passed skipped vertices =
+    codes "digraph labels {\n" ++ flat_map node_line vertices ++ flat_map node_edges vertices ++ codes "}\n" ++ dot_comments passed skipped
 
 -- what isn't told of the edges from a node
 abbrev pub untold_edges : ℕ → Vertex → List ℕ

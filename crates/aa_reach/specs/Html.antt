@@ -1,6 +1,7 @@
 -- The page of labels: what is told of each where a task begins, and the graph of all.
 -- Source: own.
-use Rattle.std.specs.Prelude.{ℕ, ◌+◌, ◌==◌, ◌||◌, not, max, List, [], ◌∷◌, ◌++◌, length, map, flat_map, codes, decimal, Bool, true, false, if◌then◌else◌}
+use Rattle.std.specs.Prelude.{ℕ, ◌+◌, ◌==◌, ◌||◌, not, max, List, [], ◌∷◌, ◌++◌, length, map, flat_map, codes, decimal, Bool, true}
+use Rattle.std.specs.Prelude.{false, if◌then◌else◌}
 use Rattle.aa_model.specs.declared.label.Label.{Label}
 use Rattle.aa_model.specs.declared.label.Label.TheVariants.{Unconfined, Confined}
 use Rattle.aa_files.specs.Texts.{texts}
@@ -15,7 +16,9 @@ use Rattle.aa_reach.specs.declared.shown.Manner.{Manner}
 use Rattle.aa_reach.specs.declared.command.ReachOptions.{ReachOptions}
 use Rattle.aa_reach.specs.Names.{Name, name_in, called}
 use Rattle.aa_reach.specs.Routes.{Turned, Routed, routed, Barred, barred}
-use Rattle.aa_reach.specs.Shown.{turn_text, at_least, passed_text}
+use Rattle.aa_skipped.specs.Telling.{count_text}
+use Rattle.aa_reach.specs.Doubts.{Doubted, doubted}
+use Rattle.aa_reach.specs.Shown.{turn_text, is_known, is_undecided, at_least, passed_text}
 
 -- a request, and a mark where complain mode alone grants it
 unfoldable pub html_turn : Turned → List ℕ
@@ -33,13 +36,21 @@ not_told_words = codes "not told from "
 unfoldable pub html_bar : Barred → List ℕ
 html_bar b = plain_start ++ not_told_words ++ code_text (called b.at) ++ line_end
 
+-- what is said of a label at which an execution or a change could lead into skipped files
+unfoldable pub undecided_words : List ℕ
+undecided_words = codes "undecided from "
+
+-- such a label
+unfoldable pub html_doubt : Doubted → List ℕ
+html_doubt d = plain_start ++ undecided_words ++ code_text (called d.at) ++ line_end
+
 -- to how many labels, or at least how many
 unfoldable pub html_labels : Manner → Answer → List ℕ
 html_labels m a = codes ": " ++ at_least a ++ decimal (length a.routes.items) ++ codes " of " ++ decimal m.labels ++ codes " labels"
 
 -- none of the labels that are asked for is reached, which is told where it is known
 abbrev pub html_none : Answer → List ℕ
-html_none a = if not (length a.routes.items == 0) || not (length a.bars.items == 0) then [] else codes ": no"
+html_none a = if not (length a.routes.items == 0) || not (is_known a) then [] else codes ": no"
 
 -- what stands behind the label where a task begins
 abbrev pub html_end : Manner → Answer → List ℕ
@@ -49,9 +60,13 @@ html_end m a = if m.is_sought then html_none a else html_labels m a
 abbrev pub answer_title : Manner → Answer → List ℕ
 answer_title m a = codes "from " ++ called (name_in a.from) ++ html_end m a
 
+-- what an answer doesn't tell
+abbrev pub html_untold : Answer → List ℕ
+html_untold a = flat_map html_bar (map barred a.bars.items) ++ flat_map html_doubt (map doubted a.doubts.items)
+
 -- what an answer tells, and what it doesn't, in a list
 unfoldable pub html_told : Answer → List ℕ
-html_told a = list_start ++ flat_map html_route (map routed a.routes.items) ++ flat_map html_bar (map barred a.bars.items) ++ list_end
+html_told a = list_start ++ flat_map html_route (map routed a.routes.items) ++ html_untold a ++ list_end
 
 -- an answer, in a section
 unfoldable pub html_answer : Manner → Answer → List ℕ
@@ -62,9 +77,13 @@ abbrev pub number_of : Label → ℕ
 number_of (Unconfined k) = 0
 number_of (Confined k n) = n + 1
 
+-- what stands at a node: the label, and whether something is undecided there
+abbrev pub node_name : Vertex → List ℕ
+node_name v = called (name_in v.edges.from) ++ (if is_undecided v.edges then codes " (undecided)" else [])
+
 -- a node, of so many
 abbrev pub html_node : ℕ → Vertex → List ℕ
-html_node count v = node_text count (number_of (name_in v.edges.from).label) (called (name_in v.edges.from)) v.complains
+html_node count v = node_text count (number_of (name_in v.edges.from).label) (node_name v) v.complains
 
 -- what is told of an edge: both labels, and a request that leads from one to the other
 unfoldable pub edge_title : Name → Routed → List ℕ
@@ -81,7 +100,7 @@ html_edges count v = flat_map (html_edge count (name_in v.edges.from)) (map rout
 -- how many bytes the longest name has, and n at least
 abbrev pub widest : ℕ → List Vertex → ℕ
 widest n [] = n
-widest n (v ∷ vs) = widest (max n (length (called (name_in v.edges.from)))) vs
+widest n (v ∷ vs) = widest (max n (length (node_name v))) vs
 
 -- the nodes and the edges
 unfoldable pub html_drawing : List Vertex → List ℕ
@@ -102,7 +121,7 @@ html_step from r = plain_start ++ step_labels from r.to ++ flat_map html_turn r.
 
 -- the edges from a node as lines, or that they aren't told
 abbrev pub html_steps : Vertex → List ℕ
-html_steps v = flat_map (html_step (name_in v.edges.from)) (map routed v.edges.routes.items) ++ flat_map html_bar (map barred v.edges.bars.items)
+html_steps v = flat_map (html_step (name_in v.edges.from)) (map routed v.edges.routes.items) ++ html_untold v.edges
 
 -- all edges, in a section that is folded at first
 unfoldable pub html_all_steps : List Vertex → List ℕ
@@ -128,6 +147,14 @@ html_files o = files_words ++ flat_map html_path (texts o.files.now) ++ enforced
 abbrev pub html_passed : ℕ → List ℕ
 html_passed n = if n == 0 then [] else codes "<p>" ++ passed_text n ++ codes "</p>\n"
 
+-- how many files are skipped, so too
+abbrev pub html_skipped : ℕ → List ℕ
+html_skipped n = if n == 0 then [] else codes "<p>" ++ count_text n ++ codes "</p>\n"
+
+-- both
+unfoldable pub html_counts : ℕ → ℕ → List ℕ
+html_counts passed skipped = html_passed passed ++ html_skipped skipped
+
 -- the page's title
 unfoldable pub page_title : List ℕ
 page_title = codes "aapolicy reach"
@@ -141,9 +168,9 @@ unfoldable pub html_labels_all : List Vertex → List ℕ
 html_labels_all vs = html_graph vs ++ html_all_steps vs
 
 -- what stands last
-unfoldable pub html_foot : ℕ → List ℕ
-html_foot passed = html_passed passed ++ page_end
+unfoldable pub html_foot : ℕ → ℕ → List ℕ
+html_foot passed skipped = html_counts passed skipped ++ page_end
 
 -- the page
-unfoldable pub html_page : ReachOptions → Manner → ℕ → List Answer → List Vertex → List ℕ
-html_page o m passed answers vs = html_head o ++ flat_map (html_answer m) answers ++ html_labels_all vs ++ html_foot passed
+unfoldable pub html_page : ReachOptions → Manner → ℕ → ℕ → List Answer → List Vertex → List ℕ
+html_page o m passed skipped answers vs = html_head o ++ flat_map (html_answer m) answers ++ html_labels_all vs ++ html_foot passed skipped

@@ -32,7 +32,8 @@ pub record ToldLead (enforced : Bool) (ps : List Policy) (from : Label) (way : L
   pub read : All (λ r. has_word r ≡ true) way
       → map (λ t. request_in false t.word) (turns_by enforced ps from way) ≡ map Some (told_way enforced ps from way)
   pub lead : led_by (label_going enforced ps) from (told_way enforced ps from way) ≡ led_by (label_going enforced ps) from way
-  pub run : enforced ≡ false → state_after (label_next ps) (reply ps) from (told_way enforced ps from way) ≡ state_after (label_next ps) (reply ps) from way
+  pub run : enforced ≡ false
+      → state_after (label_next ps) (reply ps) from (told_way enforced ps from way) ≡ state_after (label_next ps) (reply ps) from way
 
 -- so of each list of requests that can be asked
 abbrev pub WordsLead : Type 0

@@ -1,4 +1,6 @@
+pub mod Heads
 pub mod Names
+pub mod Doubts
 pub mod Routes
 pub mod Answers
 pub mod Shown
@@ -7,3 +9,4 @@ pub mod Dot
 pub mod Html
 pub mod Command
 pub mod Laws
+pub mod Holding

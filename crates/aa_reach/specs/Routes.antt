@@ -1,6 +1,7 @@
 -- The labels that a task can get to, each with a shortest list of requests, as they are told.
 -- Source: own.
-use Rattle.std.specs.Prelude.{◌≡◌, ℕ, zero, suc, List, [], ◌∷◌, ◌++◌, map, length, Bool, false, not, ◌&&◌, if◌then◌else◌, Option, Some, None}
+use Rattle.std.specs.Prelude.{◌≡◌, ◌<◌, ℕ, zero, suc, List, [], ◌∷◌, ◌++◌, map, flat_map, length, Bool, false, not, ◌&&◌}
+use Rattle.std.specs.Prelude.{if◌then◌else◌, Option, Some, None}
 use Rattle.std.specs.List.{list_any, slice_get}
 use Rattle.aa_model.specs.declared.policy.Policy.{Policy}
 use Rattle.aa_model.specs.declared.label.Label.{Label}
@@ -10,15 +11,20 @@ use Rattle.aa_model.specs.declared.answer.Answer.{Answer}
 use Rattle.aa_mediate.specs.Reply.{reply}
 use Rattle.aa_notation.specs.Written.{word_text}
 use Rattle.aa_ask.specs.Told.{is_same}
+use Rattle.aa_reachability.specs.declared.trail.Step.{Step}
 use Rattle.aa_reachability.specs.declared.trail.Arrival.{Arrival}
 use Rattle.aa_reachability.specs.declared.reached.Untold.{Untold}
 use Rattle.aa_reachability.specs.declared.reached.Why.{Why}
 use Rattle.aa_reachability.specs.Moves.{is_by_complain, label_going, HaveManyPatternsAt, IsWhy}
-use Rattle.aa_reachability.specs.Reach.{IsOpen, AreWays, AreArrivals, AreUntold, AreNear, led_by, way_at}
+use Rattle.aa_reachability.specs.Reach.{IsOpen, AreWays, AreUntold, led_by, way_at}
+use Rattle.aa_reachability.specs.Beside.{label_decided, IsSure, AreArrivalsBeside, AreNearBeside}
+use Rattle.aa_skipped.specs.declared.skipped.Skipped.{Skipped}
+use Rattle.aa_undecided.specs.Holding.{unreads}
 use Rattle.aa_reach.specs.declared.routes.Turn.{Turn}
 use Rattle.aa_reach.specs.declared.routes.Route.{Route}
 use Rattle.aa_reach.specs.declared.answering.Bar.{Bar}
 use Rattle.aa_reach.specs.Names.{Name, name_in, name_of}
+use Rattle.aa_reach.specs.Doubts.{IsShut, IsDecided, Doubted, doubted_of}
 
 -- a request as one word, and whether it is granted by complain mode alone
 pub record Turned : Type 0 where
@@ -27,7 +33,7 @@ pub record Turned : Type 0 where
 
 -- one, without where it lies in memory
 abbrev pub turned : Turn → Turned
-turned t = record { word = t.word.items; complains = t.complains }
+turned t = record { word = t.word.value.items; complains = t.complains }
 
 -- to execute a file of others, where it is one of the task's user's; all else as it is
 abbrev pub as_others : Request → Request
@@ -54,6 +60,21 @@ turn_by ps l r = record { word = word_text r; complains = is_by_complain (reply 
 unfoldable pub turns_by : Bool → List Policy → Label → List Request → List Turned
 turns_by enforced ps l [] = []
 turns_by enforced ps l (r ∷ rs) = turn_by ps l (plain ps l r) ∷ turns_by enforced ps (label_going enforced ps l r) rs
+
+-- a step goes on from one of the first n arrivals
+abbrev pub IsStepWithin : ℕ → Option Step → Type 0
+IsStepWithin n None = Unit {0}
+IsStepWithin n (Some step) = step.from < n
+
+-- the last request of a list as it is told, asked at the label of the arrival to which those before it lead
+abbrev pub IsLast : List Policy → List Arrival → Option Step → Turn → Type 0
+IsLast ps arrivals None t = Unit {0}
+IsLast ps arrivals (Some step) t = (b : Arrival) → slice_get arrivals step.from ≡ Some b → turned t ≡ turn_by ps b.label (plain ps b.label step.request)
+
+-- those of arrivals, one by one
+pub record AreLasts (ps : List Policy) (arrivals : List Arrival) (lasts : List Turn) : Type 0 where
+  pub many : length lasts ≡ length arrivals
+  pub each : (i : ℕ) (a : Arrival) (t : Turn) → slice_get arrivals i ≡ Some a → slice_get lasts i ≡ Some t → IsLast ps arrivals a.step t
 
 -- the lists of requests by which arrivals are got to, which lead to their labels
 pub record LeadThere (enforced : Bool) (ps : List Policy) (from : Label) (arrivals : List Arrival) (ways : List (List Request)) : Type 0 where
@@ -107,20 +128,36 @@ barred b = record { at = name_in b.at; why = b.why }
 abbrev pub barred_by : List Policy → Untold → Barred
 barred_by ps u = record { at = name_of ps u.label; why = u.why }
 
--- the routes to all labels that are wanted and to which requests lead from that label, one each, with as few requests as lead there,
--- those with fewer first: by the policies as they are, or where what complain mode alone grants moves no task; and the labels from which
--- it isn't told where requests lead on, so that none is counted that leads on from one of these
-pub record AreRoutes (enforced : Bool) (ps : List Policy) (limit : ℕ) (from : Label) (targets : Option (List Label)) (routes : List Routed)
-    (bars : List Barred) : Type 0 where
+-- beside files that are skipped a request that they could decide leads nowhere; arrivals are at all labels to which requests lead on from
+-- labels at which they could change nothing and of which it is told where requests lead on
+abbrev pub AreFound : Bool → List Policy → List Skipped → List Untold → Label → List Arrival → Type 0
+AreFound enforced ps skipped untold from arrivals =
+    AreArrivalsBeside (label_decided enforced ps (unreads skipped)) (IsOpen untold) (IsSure untold (IsShut ps skipped)) (IsDecided ps skipped) from arrivals
+
+-- the routes to all labels that are wanted and to which requests lead from that label that no skipped file could decide, one each, with
+-- as few requests as lead there (past labels that are named no more), those with fewer first: by the policies as they are, or where what
+-- complain mode alone grants moves no task; the labels from which it isn't told where requests lead on; and those at which an execution
+-- or a change could lead into skipped files. So none is left out to which requests lead on from labels that aren't named so
+pub record AreRoutes (enforced : Bool) (ps : List Policy) (skipped : List Skipped) (limit : ℕ) (from : Label) (targets : Option (List Label))
+    (routes : List Routed) (bars : List Barred) (doubts : List Doubted) : Type 0 where
   pub arrivals : List Arrival
   pub untold : List Untold
-  pub are : AreArrivals (label_going enforced ps) (IsOpen untold) from arrivals
+  pub are : AreFound enforced ps skipped untold from arrivals
   pub are_untold : AreUntold ps limit arrivals untold
   pub told : routes ≡ all_routes enforced ps from targets arrivals are.ways
   pub bars_are : bars ≡ map (barred_by ps) untold
+  pub doubts_are : doubts ≡ flat_map (doubted_of ps skipped) arrivals
 
--- the routes of one request to all other labels to which one leads; or it isn't told where one leads, and there are none
-pub data AreEdges (enforced : Bool) (ps : List Policy) (limit : ℕ) (from : Label) (routes : List Routed) (bars : List Barred) : Type 0 where
-  Edges : (arrivals : List Arrival) → (are : AreNear (label_going enforced ps) from arrivals) → (HaveManyPatternsAt ps from → ⊥)
-      → routes ≡ all_routes enforced ps from None arrivals are.ways → bars ≡ [] → AreEdges enforced ps limit from routes bars
-  NoEdges : (why : Why) → IsWhy ps limit from why → routes ≡ [] → bars ≡ record { at = name_of ps from; why = why } ∷ [] → AreEdges enforced ps limit from routes bars
+-- arrivals at labels to which one request leads that no skipped file could decide: at all, each by a request before which none comes that
+-- leads there, where they could change nothing at that label
+abbrev pub AreFoundNear : Bool → List Policy → List Skipped → Label → List Arrival → Type 0
+AreFoundNear enforced ps skipped from arrivals =
+    AreNearBeside (label_decided enforced ps (unreads skipped)) (IsShut ps skipped) (IsDecided ps skipped) from arrivals
+
+-- the routes of one request to all other labels to which one leads so; or it isn't told where one leads, and there are none
+pub data AreEdges (enforced : Bool) (ps : List Policy) (skipped : List Skipped) (limit : ℕ) (from : Label) (routes : List Routed)
+    (bars : List Barred) : Type 0 where
+  Edges : (arrivals : List Arrival) → (are : AreFoundNear enforced ps skipped from arrivals) → (HaveManyPatternsAt ps from → ⊥)
+      → routes ≡ all_routes enforced ps from None arrivals are.ways → bars ≡ [] → AreEdges enforced ps skipped limit from routes bars
+  NoEdges : (why : Why) → IsWhy ps limit from why → routes ≡ [] → bars ≡ record { at = name_of ps from; why = why } ∷ []
+      → AreEdges enforced ps skipped limit from routes bars

@@ -1,13 +1,15 @@
 -- Answers as they are printed.
 -- Source: own.
-use Rattle.std.specs.Prelude.{ℕ, ◌==◌, ◌||◌, List, [], ◌++◌, length, map, flat_map, codes, decimal, Bool, not, if◌then◌else◌}
+use Rattle.std.specs.Prelude.{ℕ, ◌==◌, ◌||◌, ◌&&◌, List, [], ◌++◌, length, map, flat_map, codes, decimal, Bool, not, if◌then◌else◌}
 use Rattle.aa_ask.specs.Shown.{complain_mark}
 use Rattle.aa_reachability.specs.declared.reached.Why.{Why}
 use Rattle.aa_reachability.specs.declared.reached.Why.TheVariants.{TooManyPatterns, TooManyStates}
 use Rattle.aa_reach.specs.declared.answering.Answer.{Answer}
 use Rattle.aa_reach.specs.declared.shown.Manner.{Manner}
 use Rattle.aa_reach.specs.Names.{Name, name_in, called}
+use Rattle.aa_undecided.specs.Shown.{doubt_text}
 use Rattle.aa_reach.specs.Routes.{Turned, Routed, routed, Barred, barred}
+use Rattle.aa_reach.specs.Doubts.{Doubted, doubted}
 
 -- a request behind a space, and a mark where complain mode alone grants it
 unfoldable pub turn_text : Turned → List ℕ
@@ -21,14 +23,22 @@ from_mark has_fronts from = if has_fronts then codes "from " ++ called from ++ c
 unfoldable pub route_line : Manner → Name → Routed → List ℕ
 route_line m from r = from_mark m.has_fronts from ++ called r.to ++ flat_map turn_text r.turns ++ codes "\n"
 
+-- undecided LABEL: an execution or a change could lead into skipped files there, of which the first is named
+unfoldable pub doubt_lines : Manner → Name → Doubted → List ℕ
+doubt_lines m from d = from_mark m.has_fronts from ++ doubt_text (record { word = called d.at; files = d.files })
+
+-- it is known which labels are reached
+abbrev pub is_known : Answer → Bool
+is_known a = length a.bars.items == 0 && length a.doubts.items == 0
+
 -- none of the labels that are asked for is reached, which is told where it is known
 abbrev pub none_line : Manner → Answer → List ℕ
 none_line m a =
-    if not (length a.routes.items == 0) || not (length a.bars.items == 0) then [] else from_mark m.has_fronts (name_in a.from) ++ codes "no\n"
+    if not (length a.routes.items == 0) || not (is_known a) then [] else from_mark m.has_fronts (name_in a.from) ++ codes "no\n"
 
--- there may be more labels, where it isn't told of one where requests lead on
+-- there may be more labels, where it isn't known which are reached
 abbrev pub at_least : Answer → List ℕ
-at_least a = if length a.bars.items == 0 then [] else codes "at least "
+at_least a = if is_known a then [] else codes "at least "
 
 -- N of M labels from LABEL
 unfoldable pub labels_line : Manner → Answer → List ℕ
@@ -45,7 +55,9 @@ end_line m a = if m.is_sought then none_line m a else count_line m a
 
 -- the lines of an answer
 abbrev pub answer_text : Manner → Answer → List ℕ
-answer_text m a = flat_map (route_line m (name_in a.from)) (map routed a.routes.items) ++ end_line m a
+answer_text m a =
+    flat_map (route_line m (name_in a.from)) (map routed a.routes.items) ++ flat_map (doubt_lines m (name_in a.from)) (map doubted a.doubts.items)
+    ++ end_line m a
 
 -- how many rules decide nothing, where there are some
 abbrev pub passed_text : ℕ → List ℕ
@@ -63,6 +75,10 @@ bar_line limit b = codes "error: at " ++ called b.at ++ codes " the rules " ++ w
 -- what an answer doesn't tell
 abbrev pub untold_text : ℕ → Answer → List ℕ
 untold_text limit a = flat_map (bar_line limit) (map barred a.bars.items)
+
+-- at a label of an answer something is undecided
+abbrev pub is_undecided : Answer → Bool
+is_undecided a = not (length a.doubts.items == 0)
 
 -- a label that is wanted is reached
 abbrev pub is_reached : Answer → Bool

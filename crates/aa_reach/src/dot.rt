@@ -4,12 +4,13 @@ ghost use Rattle.std.specs.Prelude.{◌≡◌, ◌++◌, codes, map, flat_map, O
 ghost use Rattle.aa_ask.specs.Shown.{complain_mark};
 ghost use Rattle.aa_reach.specs.Names.{name_in, called};
 ghost use Rattle.aa_reach.specs.Routes.{turned, routed};
-ghost use Rattle.aa_reach.specs.Dot.{dot_byte, dot_string, style_mark, node_line, edge_word, edge_line, node_edges, passed_comment, dot_text, untold_edges};
+ghost use Rattle.aa_reach.specs.Dot.{dot_byte, dot_string, style_mark, border_mark, node_line, edge_word, edge_line, node_edges, passed_comment, skipped_comment, dot_comments, dot_text, untold_edges};
 
 use crate::graph::Vertex;
 use crate::naming::{Named, push_called};
 use crate::routes::{Route, Turn};
-use crate::shown::{push_complain, push_untold_of};
+use crate::shown::{is_undecided, push_complain, push_untold_of};
+use aa_skipped::push_skipped_count;
 use aa_text::{push_number, push_text};
 use std::alloc::{AllocError, Global};
 
@@ -58,6 +59,12 @@ fn push_style(out: &mut Vec<u8>, complains: bool) -> Result<(), AllocError>
     push_text(out, if complains { " [style=dashed]" } else { "" })
 }
 
+fn push_border(out: &mut Vec<u8>, undecided: bool) -> Result<(), AllocError>
+    ensures { OnOk result (out.new.items ≡ out.old.items ++ border_mark undecided) }
+{
+    push_text(out, if undecided { " [peripheries=2]" } else { "" })
+}
+
 #[tactic(auto, unfolding(crate::specs::Dot::node_line))]
 fn push_node(out: &mut Vec<u8>, alloc: Global, vertex: &Vertex) -> Result<(), AllocError>
     ensures { OnOk result (out.new.items ≡ out.old.items ++ node_line vertex.now) }
@@ -65,6 +72,7 @@ fn push_node(out: &mut Vec<u8>, alloc: Global, vertex: &Vertex) -> Result<(), Al
     push_text(out, "  ")?;
     push_label(out, alloc, &vertex.edges.from)?;
     push_style(out, vertex.complains)?;
+    push_border(out, is_undecided(&vertex.edges))?;
     push_text(out, ";\n")
 }
 
@@ -80,7 +88,7 @@ fn push_nodes(out: &mut Vec<u8>, alloc: Global, vertices: &[Vertex]) -> Result<(
 fn push_word(out: &mut Vec<u8>, turn: &Turn) -> Result<(), AllocError>
     ensures { OnOk result (out.new.items ≡ out.old.items ++ edge_word (turned turn.now)) }
 {
-    out.extend_from_slice(turn.word.as_slice())?;
+    out.extend_from_slice(turn.word())?;
     push_complain(out, turn.complains)
 }
 
@@ -159,21 +167,42 @@ fn push_comment(out: &mut Vec<u8>, count: usize) -> Result<(), AllocError>
     push_text(out, " rules passed over\n")
 }
 
+/// Appends how many files are skipped, in a comment, where there are some.
+fn push_skipped(out: &mut Vec<u8>, count: usize) -> Result<(), AllocError>
+    ensures { OnOk result (out.new.items ≡ out.old.items ++ skipped_comment count) }
+{
+    if count == 0 {
+        return Ok(());
+    }
+    push_text(out, "// ")?;
+    push_skipped_count(out, count)
+}
+
+/// Appends both.
+#[tactic(auto, unfolding(crate::specs::Dot::dot_comments))]
+fn push_comments(out: &mut Vec<u8>, passed: usize, skipped: usize) -> Result<(), AllocError>
+    ensures { OnOk result (out.new.items ≡ out.old.items ++ dot_comments passed skipped) }
+{
+    push_comment(out, passed)?;
+    push_skipped(out, skipped)
+}
+
 /// Appends the graph.
 #[tactic(auto, unfolding(crate::specs::Dot::dot_text))]
 pub(crate) fn push_dot(
     out: &mut Vec<u8>,
     alloc: Global,
     passed: usize,
+    skipped: usize,
     vertices: &[Vertex],
 ) -> Result<(), AllocError>
-    ensures { OnOk result (out.new.items ≡ out.old.items ++ dot_text passed vertices.now) }
+    ensures { OnOk result (out.new.items ≡ out.old.items ++ dot_text passed skipped vertices.now) }
 {
     push_text(out, "digraph labels {\n")?;
     push_nodes(out, alloc, vertices)?;
     push_all_edges(out, alloc, vertices)?;
     push_text(out, "}\n")?;
-    push_comment(out, passed)
+    push_comments(out, passed, skipped)
 }
 
 /// Appends the lines on what can't be told.

@@ -4,33 +4,29 @@ ghost use Rattle.std.specs.Prelude.{◌≡◌, ◌++◌, map, flat_map, OnOk, If
 ghost use Rattle.aa_files.specs.Texts.{texts};
 ghost use Rattle.aa_reach.specs.Names.{name_in, called};
 ghost use Rattle.aa_reach.specs.Routes.{turned, routed, barred};
+ghost use Rattle.aa_reach.specs.Doubts.{doubted};
 ghost use Rattle.aa_page.specs.Escaped.{code_text};
 ghost use Rattle.aa_page.specs.Pages.{page_start};
-ghost use Rattle.aa_reach.specs.Html.{html_turn, html_route, not_told_words, html_bar, html_labels, html_none, html_end, answer_title, html_told, html_answer, number_of, html_node, edge_title, html_edge, html_edges, widest, html_drawing, html_graph, step_labels, html_step, html_steps, html_all_steps, html_path, enforced_mark, files_words, html_files, html_passed, page_title, html_head, html_labels_all, html_foot, html_page};
+ghost use Rattle.aa_reach.specs.Html.{html_turn, html_route, not_told_words, html_bar, undecided_words, html_doubt, html_labels, html_none, html_end, answer_title, html_untold, html_told, html_answer, number_of, node_name, html_node, edge_title, html_edge, html_edges, widest, html_drawing, html_graph, step_labels, html_step, html_steps, html_all_steps, html_path, enforced_mark, files_words, html_files, html_passed, html_skipped, html_counts, page_title, html_head, html_labels_all, html_foot, html_page};
 
 use crate::answering::{Answer, Bar};
 use crate::command::ReachOptions;
+use crate::doubts::Doubt;
 use crate::graph::Vertex;
-use crate::naming::{Named, push_called};
+use crate::naming::{Named, called, push_called};
 use crate::routes::{Route, Turn};
-use crate::shown::{Manner, push_at_least, push_complain, push_passed, push_turns};
+use crate::shown::{
+    Manner, is_known, is_undecided, push_at_least, push_complain, push_passed, push_turns,
+};
 use aa_model::Label;
 use aa_page::{
     push_code, push_drawing_end, push_drawing_start, push_edge, push_line_end, push_list_end,
     push_list_start, push_node, push_page_end, push_page_start, push_plain_start, push_section_end,
     push_section_start,
 };
+use aa_skipped::push_skipped_count;
 use aa_text::{push_number, push_text};
 use std::alloc::{AllocError, Global};
-
-/// What a label is called.
-fn called(alloc: Global, named: &Named) -> Result<Vec<u8>, AllocError>
-    ensures { IfOk result (λ name. name.items ≡ called (name_in named.now)) }
-{
-    let mut name = Vec::new(alloc);
-    push_called(&mut name, alloc, named)?;
-    Ok(name)
-}
 
 fn push_label(out: &mut Vec<u8>, alloc: Global, named: &Named) -> Result<(), AllocError>
     ensures { OnOk result (out.new.items ≡ out.old.items ++ code_text (called (name_in named.now))) }
@@ -45,7 +41,7 @@ fn push_turn(out: &mut Vec<u8>, alloc: Global, turn: &Turn) -> Result<(), AllocE
     ensures { OnOk result (out.new.items ≡ out.old.items ++ html_turn (turned turn.now)) }
 {
     push_text(out, " ")?;
-    push_code(out, alloc, turn.word.as_slice())?;
+    push_code(out, alloc, turn.word())?;
     push_complain(out, turn.complains)
 }
 
@@ -105,6 +101,41 @@ fn push_bars(out: &mut Vec<u8>, alloc: Global, bars: &[Bar]) -> Result<(), Alloc
     Ok(())
 }
 
+#[tactic(auto, unfolding(crate::specs::Html::undecided_words))]
+fn push_undecided(out: &mut Vec<u8>) -> Result<(), AllocError>
+    ensures { OnOk result (out.new.items ≡ out.old.items ++ undecided_words) }
+{
+    push_text(out, "undecided from ")
+}
+
+/// Appends a label at which an execution or a change could lead into skipped files.
+#[tactic(auto, unfolding(crate::specs::Html::html_doubt))]
+fn push_doubt(out: &mut Vec<u8>, alloc: Global, doubt: &Doubt) -> Result<(), AllocError>
+    ensures { OnOk result (out.new.items ≡ out.old.items ++ html_doubt (doubted doubt.now)) }
+{
+    push_plain_start(out)?;
+    push_undecided(out)?;
+    push_label(out, alloc, &doubt.at)?;
+    push_line_end(out)
+}
+
+fn push_doubts(out: &mut Vec<u8>, alloc: Global, doubts: &[Doubt]) -> Result<(), AllocError>
+    ensures { OnOk result (out.new.items ≡ out.old.items ++ flat_map html_doubt (map doubted doubts.now)) }
+{
+    for doubt in doubts {
+        push_doubt(out, alloc, doubt)?;
+    }
+    Ok(())
+}
+
+/// Appends what an answer doesn't tell.
+fn push_untold(out: &mut Vec<u8>, alloc: Global, answer: &Answer) -> Result<(), AllocError>
+    ensures { OnOk result (out.new.items ≡ out.old.items ++ html_untold answer.now) }
+{
+    push_bars(out, alloc, answer.bars.as_slice())?;
+    push_doubts(out, alloc, answer.doubts.as_slice())
+}
+
 /// Appends to how many labels of how many.
 #[tactic(auto, unfolding(crate::specs::Html::html_labels))]
 fn push_labels(out: &mut Vec<u8>, manner: Manner, answer: &Answer) -> Result<(), AllocError>
@@ -122,7 +153,7 @@ fn push_labels(out: &mut Vec<u8>, manner: Manner, answer: &Answer) -> Result<(),
 fn push_none(out: &mut Vec<u8>, answer: &Answer) -> Result<(), AllocError>
     ensures { OnOk result (out.new.items ≡ out.old.items ++ html_none answer.now) }
 {
-    if !answer.routes.is_empty() || !answer.bars.is_empty() {
+    if !answer.routes.is_empty() || !is_known(answer) {
         return Ok(());
     }
     push_text(out, ": no")
@@ -156,7 +187,7 @@ fn push_told(out: &mut Vec<u8>, alloc: Global, answer: &Answer) -> Result<(), Al
 {
     push_list_start(out)?;
     push_routes(out, alloc, answer.routes.as_slice())?;
-    push_bars(out, alloc, answer.bars.as_slice())?;
+    push_untold(out, alloc, answer)?;
     push_list_end(out)
 }
 
@@ -199,6 +230,20 @@ fn number_of(label: Label) -> usize
     }
 }
 
+/// What stands at a node: the label, and whether something is undecided there.
+fn node_name(alloc: Global, vertex: &Vertex) -> Result<Vec<u8>, AllocError>
+    ensures { IfOk result (λ name. name.items ≡ node_name vertex.now) }
+{
+    let mut name = called(alloc, &vertex.edges.from)?;
+    let mark = if is_undecided(&vertex.edges) {
+        " (undecided)"
+    } else {
+        ""
+    };
+    push_text(&mut name, mark)?;
+    Ok(name)
+}
+
 fn push_vertex(
     out: &mut Vec<u8>,
     alloc: Global,
@@ -207,9 +252,8 @@ fn push_vertex(
 ) -> Result<(), AllocError>
     ensures { OnOk result (out.new.items ≡ out.old.items ++ html_node count vertex.now) }
 {
-    let from = &vertex.edges.from;
-    let name = called(alloc, from)?;
-    let number = number_of(from.label);
+    let name = node_name(alloc, vertex)?;
+    let number = number_of(vertex.edges.from.label);
     push_node(out, alloc, count, number, name.as_slice(), vertex.complains)
 }
 
@@ -304,7 +348,7 @@ fn widest(alloc: Global, vertices: &[Vertex]) -> Result<usize, AllocError>
     let mut most: usize = 0;
     let mut rest = vertices;
     while let [vertex, after @ ..] = rest {
-        let name = called(alloc, &vertex.edges.from)?;
+        let name = node_name(alloc, vertex)?;
         most = most.max(name.len());
         rest = after;
     }
@@ -383,7 +427,7 @@ fn push_steps_from(out: &mut Vec<u8>, alloc: Global, vertex: &Vertex) -> Result<
 {
     let edges = &vertex.edges;
     push_steps(out, alloc, &edges.from, edges.routes.as_slice())?;
-    push_bars(out, alloc, edges.bars.as_slice())
+    push_untold(out, alloc, edges)
 }
 
 fn push_each_step(out: &mut Vec<u8>, alloc: Global, vertices: &[Vertex]) -> Result<(), AllocError>
@@ -462,6 +506,27 @@ fn push_passed_over(out: &mut Vec<u8>, count: usize) -> Result<(), AllocError>
     push_text(out, "</p>\n")
 }
 
+/// Appends how many files are skipped, where some are.
+fn push_skipped(out: &mut Vec<u8>, count: usize) -> Result<(), AllocError>
+    ensures { OnOk result (out.new.items ≡ out.old.items ++ html_skipped count) }
+{
+    if count == 0 {
+        return Ok(());
+    }
+    push_text(out, "<p>")?;
+    push_skipped_count(out, count)?;
+    push_text(out, "</p>\n")
+}
+
+/// Appends both.
+#[tactic(auto, unfolding(crate::specs::Html::html_counts))]
+fn push_counts(out: &mut Vec<u8>, passed: usize, skipped: usize) -> Result<(), AllocError>
+    ensures { OnOk result (out.new.items ≡ out.old.items ++ html_counts passed skipped) }
+{
+    push_passed_over(out, passed)?;
+    push_skipped(out, skipped)
+}
+
 /// Appends the begin of the page.
 #[tactic(auto, unfolding(crate::specs::Html::page_title))]
 fn push_title(out: &mut Vec<u8>, alloc: Global) -> Result<(), AllocError>
@@ -490,10 +555,10 @@ fn push_all_labels(out: &mut Vec<u8>, alloc: Global, vertices: &[Vertex]) -> Res
 
 /// Appends what stands last.
 #[tactic(auto, unfolding(crate::specs::Html::html_foot))]
-fn push_foot(out: &mut Vec<u8>, passed: usize) -> Result<(), AllocError>
-    ensures { OnOk result (out.new.items ≡ out.old.items ++ html_foot passed) }
+fn push_foot(out: &mut Vec<u8>, passed: usize, skipped: usize) -> Result<(), AllocError>
+    ensures { OnOk result (out.new.items ≡ out.old.items ++ html_foot passed skipped) }
 {
-    push_passed_over(out, passed)?;
+    push_counts(out, passed, skipped)?;
     push_page_end(out)
 }
 
@@ -505,13 +570,14 @@ pub(crate) fn push_page(
     options: &ReachOptions<'_>,
     manner: Manner,
     passed: usize,
+    skipped: usize,
     answers: &[Answer],
     vertices: &[Vertex],
 ) -> Result<(), AllocError>
-    ensures { OnOk result (out.new.items ≡ out.old.items ++ html_page options.now manner passed answers.now vertices.now) }
+    ensures { OnOk result (out.new.items ≡ out.old.items ++ html_page options.now manner passed skipped answers.now vertices.now) }
 {
     push_head(out, alloc, options)?;
     push_answers(out, alloc, manner, answers)?;
     push_all_labels(out, alloc, vertices)?;
-    push_foot(out, passed)
+    push_foot(out, passed, skipped)
 }

@@ -3,15 +3,19 @@
 ghost use Rattle.std.specs.Prelude.{◌≡◌, ◌++◌, codes, map, OnOk};
 ghost use Rattle.aa_text.specs.Jsons.{json_bytes, key_text, bool_text, member_text, list_text};
 ghost use Rattle.aa_reach.specs.Names.{name_in};
+ghost use Rattle.aa_undecided.specs.Answers.{placed_all};
 ghost use Rattle.aa_reach.specs.Routes.{turned, routed, barred};
-ghost use Rattle.aa_reach.specs.Json.{json_name, json_turn, json_route, json_bar, json_answer, json_answers};
+ghost use Rattle.aa_reach.specs.Doubts.{doubted};
+ghost use Rattle.aa_reach.specs.Json.{json_name, json_turn, json_route, json_bar, json_doubt, json_doubts, json_answer, json_skipped, json_answers};
 
 use crate::answering::{Answer, Bar};
+use crate::doubts::Doubt;
 use crate::naming::Named;
 use crate::routes::{Route, Turn};
 use aa_text::{
     ToJson, push_json_bytes, push_key, push_list, push_list_member, push_member, push_text,
 };
+use aa_undecided::{SkippedAt, push_files_member};
 use std::alloc::{AllocError, Global};
 
 /// Opens an object with a key.
@@ -46,7 +50,7 @@ impl ToJson for Turn {
     #[tactic(auto, unfolding(crate::specs::Json::json_turn))]
     fn push_json(&self, out: &mut Vec<u8>, alloc: Global) -> Result<(), AllocError> {
         push_first(out, "request")?;
-        self.word.push_json(out, alloc)?;
+        push_json_bytes(out, alloc, self.word())?;
         push_member(out, alloc, "complain", &self.complains)?;
         push_text(out, "}")
     }
@@ -92,6 +96,48 @@ fn push_bars(out: &mut Vec<u8>, alloc: Global, bars: &[Bar]) -> Result<(), Alloc
     Ok(())
 }
 
+impl ToJson for Doubt {
+    ghost use Rattle.aa_reach.specs.Doubts.{doubted};
+    ghost use Rattle.aa_reach.specs.Json.{json_doubt};
+
+    ghost json = { λ doubt. json_doubt (doubted doubt) };
+
+    #[tactic(auto, unfolding(crate::specs::Json::json_doubt))]
+    fn push_json(&self, out: &mut Vec<u8>, alloc: Global) -> Result<(), AllocError> {
+        push_first(out, "profile")?;
+        self.at.push_json(out, alloc)?;
+        push_files_member(out, alloc, self.files.as_slice())?;
+        push_text(out, "}")
+    }
+}
+
+fn push_each_doubt(out: &mut Vec<u8>, alloc: Global, doubts: &[Doubt]) -> Result<(), AllocError>
+    ensures { OnOk result (out.new.items ≡ out.old.items ++ member_text (codes "undecided") (list_text (map json_doubt (map doubted doubts.now)))) }
+{
+    push_list_member(out, alloc, "undecided", doubts)?;
+    Ok(())
+}
+
+/// Appends a comma and the member of labels at which something is undecided, where there are some.
+fn push_doubts(out: &mut Vec<u8>, alloc: Global, doubts: &[Doubt]) -> Result<(), AllocError>
+    ensures { OnOk result (out.new.items ≡ out.old.items ++ json_doubts (map doubted doubts.now)) }
+{
+    if doubts.is_empty() {
+        return Ok(());
+    }
+    push_each_doubt(out, alloc, doubts)
+}
+
+/// Appends a comma and the member of the files that are skipped, where there are some.
+fn push_skipped(out: &mut Vec<u8>, alloc: Global, files: &[SkippedAt]) -> Result<(), AllocError>
+    ensures { OnOk result (out.new.items ≡ out.old.items ++ json_skipped (placed_all files.now)) }
+{
+    if files.is_empty() {
+        return Ok(());
+    }
+    push_files_member(out, alloc, files)
+}
+
 fn push_routes(out: &mut Vec<u8>, alloc: Global, routes: &[Route]) -> Result<(), AllocError>
     ensures { OnOk result (out.new.items ≡ out.old.items ++ member_text (codes "reached") (list_text (map json_route (map routed routes.now)))) }
 {
@@ -110,6 +156,7 @@ impl ToJson for Answer {
         self.from.push_json(out, alloc)?;
         push_routes(out, alloc, self.routes.as_slice())?;
         push_bars(out, alloc, self.bars.as_slice())?;
+        push_doubts(out, alloc, self.doubts.as_slice())?;
         push_text(out, "}")
     }
 }
@@ -121,13 +168,15 @@ pub(crate) fn push_json_answers(
     alloc: Global,
     labels: usize,
     passed: usize,
+    skipped: &[SkippedAt],
     answers: &[Answer],
 ) -> Result<(), AllocError>
-    ensures { OnOk result (out.new.items ≡ out.old.items ++ json_answers labels passed answers.now) }
+    ensures { OnOk result (out.new.items ≡ out.old.items ++ json_answers labels passed (placed_all skipped.now) answers.now) }
 {
     push_first(out, "answers")?;
     push_list(out, alloc, answers)?;
     push_member(out, alloc, "labels", &labels)?;
     push_member(out, alloc, "passed_over", &passed)?;
+    push_skipped(out, alloc, skipped)?;
     push_text(out, "}\n")
 }

@@ -2,10 +2,13 @@
 #![tactic(auto)]
 
 mod answering;
+mod beside;
 mod command;
 mod dot;
+mod doubts;
 mod fault;
 mod graph;
+mod heads;
 mod html;
 mod json;
 mod laws;
@@ -14,4 +17,4 @@ mod routes;
 mod shown;
 
 pub use command::{ReachOptions, reach_files};
-pub use laws::words_lead;
+pub use laws::{labels_are_sound, words_lead};

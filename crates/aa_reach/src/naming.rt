@@ -1,14 +1,16 @@
 //! The labels that texts name, and what labels are called.
 
-ghost use Rattle.std.specs.Prelude.{◌≡◌, ◌++◌, IfOk, IfErr, OnOk};
+ghost use Rattle.std.specs.Prelude.{◌≡◌, ◌++◌, ◌∷◌, [], IfOk, IfErr, OnOk};
 ghost use Rattle.aa_files.specs.Texts.{texts};
 ghost use Rattle.aa_ask.specs.Asked.{no_profile};
-ghost use Rattle.aa_reach.specs.Names.{labels_named, AreNamed, NamesNone, SaysNone, SaysOne, name_in, name_of, is_confined, called};
+ghost use Rattle.aa_reach.specs.Names.{labels_named, IsNamed, AreNamed, SaysNone, SaysOne, name_in, name_of, name_left_open, is_confined, called};
 
 use crate::fault::NameFault;
+use crate::heads::one_may_hold;
 use aa_ask::profiles_named;
 use aa_compile::{Compiled, name_of_label};
 use aa_model::Label;
+use aa_skipped::Skipped;
 use aa_text::{push_name, push_text, push_visible};
 use std::alloc::{AllocError, Global};
 
@@ -35,38 +37,67 @@ fn no_profile(alloc: Global, text: &[u8]) -> Result<Vec<u8>, AllocError>
     Ok(line)
 }
 
-/// The labels that a text names. Refused where it names none.
-pub(crate) fn labels_by(
+/// Labels that texts name, and texts that name none but may name a profile of a skipped file.
+#[derive(Drop)]
+pub(crate) struct Names {
+    pub(crate) labels: Vec<Label>,
+    pub(crate) opens: Vec<Vec<u8>>,
+}
+
+/// A text that names no label, by itself.
+fn left_open(alloc: Global, text: &[u8]) -> Result<Names, AllocError>
+    ensures labels { IfOk result (λ n. n.labels.items ≡ []) }
+    ensures opens { IfOk result (λ n. texts n.opens.items ≡ text.now ∷ []) }
+{
+    let labels = Vec::new(alloc);
+    let mut opens = Vec::new(alloc);
+    opens.push(Vec::from_slice(alloc, text)?)?;
+    Ok(Names { labels, opens })
+}
+
+/// The labels that a text names; where it names none, itself, if a skipped file may hold a profile that it names. Else it is refused.
+pub(crate) fn names_by(
     alloc: Global,
     policies: &[Compiled],
+    skipped: &[Skipped],
     text: &[u8],
-) -> Result<Vec<Label>, NameFault>
-    ensures named { IfOk result (λ labels. labels.items ≡ labels_named policies.now text.now) }
-    ensures some { IfOk result (λ _. NamesNone policies.now text.now → ⊥) }
-    ensures refused { IfErr result (λ e. SaysNone policies.now text.now e) }
+) -> Result<Names, NameFault>
+    ensures named { IfOk result (λ n. IsNamed policies.now skipped.now text.now n.labels.items (texts n.opens.items)) }
+    ensures refused { IfErr result (λ e. SaysNone policies.now skipped.now text.now e) }
 {
     let labels = labels_named(alloc, policies, text)?;
-    if labels.is_empty() {
+    if !labels.is_empty() {
+        let opens = Vec::new(alloc);
+        return Ok(Names { labels, opens });
+    }
+    let may_hold = one_may_hold(alloc, text, skipped)?;
+    if !may_hold {
         return Err(NameFault::Refused(no_profile(alloc, text)?));
     }
-    Ok(labels)
+    let names = left_open(alloc, text)?;
+    Ok(names)
 }
 
 /// The labels that texts name: `unconfined` is that word alone, and `*` stands for any bytes of a profile's full name; where a text
-/// names none so, it may be a name in hexadecimal digits. Refused where a text names none.
-pub(crate) fn labels_of(
+/// names none so, it may be a name in hexadecimal digits. A text that names none is left open, where a skipped file may hold a profile
+/// that it names, and else refused.
+pub(crate) fn names_of(
     alloc: Global,
     policies: &[Compiled],
+    skipped: &[Skipped],
     words: &[Vec<u8>],
-) -> Result<Vec<Label>, NameFault>
-    ensures named { IfOk result (λ labels. AreNamed policies.now (texts words.now) labels.items) }
-    ensures refused { IfErr result (λ e. SaysOne policies.now (texts words.now) e) }
+) -> Result<Names, NameFault>
+    ensures named { IfOk result (λ n. AreNamed policies.now skipped.now (texts words.now) n.labels.items (texts n.opens.items)) }
+    ensures refused { IfErr result (λ e. SaysOne policies.now skipped.now (texts words.now) e) }
 {
     let mut labels = Vec::new(alloc);
+    let mut opens = Vec::new(alloc);
     for word in words {
-        labels.append(&mut labels_by(alloc, policies, word.as_slice())?)?;
+        let mut names = names_by(alloc, policies, skipped, word.as_slice())?;
+        labels.append(&mut names.labels)?;
+        opens.append(&mut names.opens)?;
     }
-    Ok(labels)
+    Ok(Names { labels, opens })
 }
 
 /// What a label is called.
@@ -99,6 +130,17 @@ pub(crate) fn name_of(
     })
 }
 
+/// The name of what a text that is left open may name.
+pub(crate) fn name_left_open(alloc: Global, text: &[u8]) -> Result<Named, AllocError>
+    ensures { IfOk result (λ n. name_in n ≡ name_left_open text.now) }
+{
+    Ok(Named {
+        label: Label::Unconfined(0),
+        is_confined: true,
+        name: Vec::from_slice(alloc, text)?,
+    })
+}
+
 /// Appends what a label is called.
 pub(crate) fn push_called(out: &mut Vec<u8>, alloc: Global, named: &Named) -> Result<(), AllocError>
     ensures { OnOk result (out.new.items ≡ out.old.items ++ called (name_in named.now)) }
@@ -108,4 +150,13 @@ pub(crate) fn push_called(out: &mut Vec<u8>, alloc: Global, named: &Named) -> Re
     } else {
         out.extend_from_slice(named.name.as_slice())
     }
+}
+
+/// What a label is called.
+pub(crate) fn called(alloc: Global, named: &Named) -> Result<Vec<u8>, AllocError>
+    ensures { IfOk result (λ name. name.items ≡ called (name_in named.now)) }
+{
+    let mut name = Vec::new(alloc);
+    push_called(&mut name, alloc, named)?;
+    Ok(name)
 }

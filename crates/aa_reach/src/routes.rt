@@ -8,23 +8,33 @@ ghost use Rattle.aa_notation.specs.Written.{word_text};
 ghost use Rattle.aa_ask.specs.Told.{is_same};
 ghost use Rattle.aa_reachability.specs.Reach.{HaveWays, way_at};
 ghost use Rattle.aa_reach.specs.Names.{name_of};
-ghost use Rattle.aa_reach.specs.Routes.{turned, as_others, is_granted_alike, is_alike, plain, turn_by, turns_by, LeadThere, routed, is_wanted, route_to, route_if, first_routes, all_routes};
+ghost use Rattle.aa_reach.specs.Routes.{turned, as_others, is_granted_alike, is_alike, plain, turn_by, turns_by, IsStepWithin, IsLast, AreLasts, LeadThere, routed, is_wanted, route_to, route_if, first_routes, all_routes};
 
 use crate::naming::{Named, name_of};
 use aa_ask::is_same;
 use aa_compile::Compiled;
 use aa_model::{Answer, Label, Request};
 use aa_notation::push_word;
-use aa_reachability::{Arrival, Going, answer_of, complains_by, is_by_complain};
+use aa_reachability::{Arrival, Going, Step, answer_of, complains_by, is_by_complain};
 use std::alloc::{AllocError, Global};
+use std::rc::Rc;
 
 /// A request of a list.
 #[derive(Drop)]
 pub(crate) struct Turn {
-    /// The request as one word.
-    pub(crate) word: Vec<u8>,
+    /// The request as one word, which the lists that go on by it share.
+    word: Rc<Vec<u8>, Global>,
     /// Whether it is granted by complain mode alone.
     pub(crate) complains: bool,
+}
+
+impl Turn {
+    /// The request as one word.
+    pub(crate) fn word(&self) -> &[u8]
+        ensures { result.now ≡ (turned self.now).word }
+    {
+        self.word.as_slice()
+    }
 }
 
 /// A label, and requests that lead there.
@@ -115,29 +125,74 @@ fn turn_of(
 {
     let request = plain_of(alloc, policies, label, request)?;
     Ok(Turn {
-        word: word_of(alloc, &request)?,
+        word: Rc::new(alloc, word_of(alloc, &request)?)?,
         complains: complains_by(policies, label, &request),
     })
 }
 
-/// The requests by which an arrival is got to, as they are told, last first. Where each is asked is known by the arrivals: none is
-/// answered again to see where it leads.
+/// The last request of a list, as it is told, asked where those before it lead; an empty one, where there is none.
+fn last_of(
+    alloc: Global,
+    policies: &[Compiled],
+    arrivals: &[Arrival],
+    step: &Option<Step>,
+) -> Result<Turn, AllocError>
+    requires { IsStepWithin (length arrivals.now) step.now }
+    ensures { IfOk result (λ t. IsLast policies.now arrivals.now step.now t) }
+{
+    match step {
+        Some(step) => turn_of(alloc, policies, arrivals[step.from].label, &step.request),
+        None => Ok(Turn {
+            word: Rc::new(alloc, Vec::new(alloc))?,
+            complains: false,
+        }),
+    }
+}
+
+/// The last request of the list of each arrival. So each is asked once, in how many lists it may be.
+fn lasts_of(
+    alloc: Global,
+    policies: &[Compiled],
+    arrivals: &[Arrival],
+) -> Result<Vec<Turn>, AllocError>
+    requires { HaveWays arrivals.now }
+    ensures { IfOk result (λ lasts. AreLasts policies.now arrivals.now lasts.items) }
+{
+    let mut lasts = Vec::new(alloc);
+    for arrival in arrivals {
+        lasts.push(last_of(alloc, policies, arrivals, &arrival.step)?)?;
+    }
+    Ok(lasts)
+}
+
+/// The same request for another list: its word isn't made anew.
+fn share_of(turn: &Turn) -> Result<Turn, AllocError>
+    ensures { IfOk result (λ t. turned t ≡ turned turn.now) }
+{
+    Ok(Turn {
+        word: turn.word.clone()?,
+        complains: turn.complains,
+    })
+}
+
+/// The requests by which an arrival is got to, as they are told, last first.
 fn turns_back(
     alloc: Global,
     going: Going<'_>,
     arrivals: &[Arrival],
+    lasts: &[Turn],
     number: usize,
 ) -> Result<Vec<Turn>, AllocError>
     requires number { number < length arrivals.now }
     requires ways { HaveWays arrivals.now }
+    requires lasts { AreLasts going.policies.now arrivals.now lasts.now }
     ensures { IfOk result (λ turns. (from : Label) (ways : List (List Request)) → LeadThere going.entry.as_enforced going.entry.policies.now from arrivals.now ways
         → map turned (reverse turns.items) ≡ turns_by going.entry.as_enforced going.entry.policies.now from (way_at ways number)) }
 {
-    let mut turns = Vec::new(alloc);
+    let mut turns = Vec::with_capacity(alloc, arrivals[number].length)?;
     let mut at = number;
     while let Some(step) = &arrivals[at].step {
-        let label = arrivals[step.from].label;
-        turns.push(turn_of(alloc, going.policies, label, &step.request)?)?;
+        turns.push(share_of(&lasts[at])?)?;
         at = step.from;
     }
     Ok(turns)
@@ -148,14 +203,16 @@ fn turns_to(
     alloc: Global,
     going: Going<'_>,
     arrivals: &[Arrival],
+    lasts: &[Turn],
     number: usize,
 ) -> Result<Vec<Turn>, AllocError>
     requires number { number < length arrivals.now }
     requires ways { HaveWays arrivals.now }
+    requires lasts { AreLasts going.policies.now arrivals.now lasts.now }
     ensures { IfOk result (λ turns. (from : Label) (ways : List (List Request)) → LeadThere going.entry.as_enforced going.entry.policies.now from arrivals.now ways
         → map turned turns.items ≡ turns_by going.entry.as_enforced going.entry.policies.now from (way_at ways number)) }
 {
-    let mut turns = turns_back(alloc, going, arrivals, number)?;
+    let mut turns = turns_back(alloc, going, arrivals, lasts, number)?;
     turns.reverse();
     Ok(turns)
 }
@@ -184,9 +241,11 @@ fn push_route(
     from: Label,
     targets: Option<&[Label]>,
     arrivals: &[Arrival],
+    lasts: &[Turn],
     number: usize,
 ) -> Result<(), AllocError>
-    requires { HaveWays arrivals.now }
+    requires ways { HaveWays arrivals.now }
+    requires lasts { AreLasts going.policies.now arrivals.now lasts.now }
     ensures { OnOk result ((ways : List (List Request)) → LeadThere going.entry.as_enforced going.entry.policies.now from arrivals.now ways
         → map routed routes.new.items ≡ map routed routes.old.items ++ route_if going.entry.as_enforced going.entry.policies.now from (option_map (λ ts. ts.now) targets.entry) (slice_get arrivals.now number) (way_at ways number)) }
 {
@@ -197,7 +256,7 @@ fn push_route(
         return Ok(());
     }
     let to = name_of(alloc, going.policies, arrival.label)?;
-    let turns = turns_to(alloc, going, arrivals, number)?;
+    let turns = turns_to(alloc, going, arrivals, lasts, number)?;
     routes.push(Route { to, turns })?;
     Ok(())
 }
@@ -214,9 +273,20 @@ pub(crate) fn routes_to(
     ensures { IfOk result (λ routes. (ways : List (List Request)) → LeadThere going.entry.as_enforced going.entry.policies.now from arrivals.now ways
         → map routed routes.items ≡ all_routes going.entry.as_enforced going.entry.policies.now from (option_map (λ ts. ts.now) targets.entry) arrivals.now ways) }
 {
+    let found = lasts_of(alloc, going.policies, arrivals)?;
+    let lasts = found.as_slice();
     let mut routes = Vec::new(alloc);
     for number in 0..arrivals.len() {
-        push_route(&mut routes, alloc, going, from, targets, arrivals, number)?;
+        push_route(
+            &mut routes,
+            alloc,
+            going,
+            from,
+            targets,
+            arrivals,
+            lasts,
+            number,
+        )?;
     }
     Ok(routes)
 }

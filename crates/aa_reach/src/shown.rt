@@ -4,13 +4,16 @@ ghost use Rattle.std.specs.Prelude.{◌≡◌, ◌++◌, codes, map, flat_map, d
 ghost use Rattle.aa_ask.specs.Shown.{complain_mark};
 ghost use Rattle.aa_reach.specs.Names.{name_in, called};
 ghost use Rattle.aa_reach.specs.Routes.{turned, routed, barred};
-ghost use Rattle.aa_reach.specs.Shown.{turn_text, from_mark, route_line, none_line, at_least, labels_line, count_line, end_line, answer_text, passed_text, why_text, bar_line, untold_text, is_reached};
+ghost use Rattle.aa_reach.specs.Doubts.{doubted};
+ghost use Rattle.aa_reach.specs.Shown.{turn_text, from_mark, route_line, doubt_lines, is_known, is_undecided, none_line, at_least, labels_line, count_line, end_line, answer_text, passed_text, why_text, bar_line, untold_text, is_reached};
 
 use crate::answering::{Answer, Bar};
-use crate::naming::{Named, push_called};
+use crate::doubts::Doubt;
+use crate::naming::{Named, called, push_called};
 use crate::routes::{Route, Turn};
 use aa_reachability::Why;
 use aa_text::{push_number, push_text};
+use aa_undecided::push_undecided;
 use std::alloc::{AllocError, Global};
 
 /// How answers are printed.
@@ -38,7 +41,7 @@ fn push_turn(out: &mut Vec<u8>, turn: &Turn) -> Result<(), AllocError>
     ensures { OnOk result (out.new.items ≡ out.old.items ++ turn_text (turned turn.now)) }
 {
     push_text(out, " ")?;
-    out.extend_from_slice(turn.word.as_slice())?;
+    out.extend_from_slice(turn.word())?;
     push_complain(out, turn.complains)
 }
 
@@ -100,6 +103,51 @@ fn push_each(
     Ok(())
 }
 
+/// Appends that an execution or a change could lead into skipped files at a label, and the first of them.
+#[tactic(auto, unfolding(crate::specs::Shown::doubt_lines))]
+fn push_doubt(
+    out: &mut Vec<u8>,
+    alloc: Global,
+    manner: Manner,
+    from: &Named,
+    doubt: &Doubt,
+) -> Result<(), AllocError>
+    ensures { OnOk result (out.new.items ≡ out.old.items ++ doubt_lines manner (name_in from.now) (doubted doubt.now)) }
+{
+    let name = called(alloc, &doubt.at)?;
+    push_from(out, alloc, manner.has_fronts, from)?;
+    push_undecided(out, name.as_slice(), doubt.files.as_slice())
+}
+
+fn push_doubts(
+    out: &mut Vec<u8>,
+    alloc: Global,
+    manner: Manner,
+    from: &Named,
+    doubts: &[Doubt],
+) -> Result<(), AllocError>
+    ensures { OnOk result (out.new.items ≡ out.old.items ++ flat_map (doubt_lines manner (name_in from.now)) (map doubted doubts.now)) }
+{
+    for doubt in doubts {
+        push_doubt(out, alloc, manner, from, doubt)?;
+    }
+    Ok(())
+}
+
+/// Whether it is known which labels are reached.
+pub(crate) fn is_known(answer: &Answer) -> bool
+    ensures { result ≡ is_known answer.now }
+{
+    answer.bars.is_empty() && answer.doubts.is_empty()
+}
+
+/// Whether at a label of an answer something is undecided.
+pub(crate) fn is_undecided(answer: &Answer) -> bool
+    ensures { result ≡ is_undecided answer.now }
+{
+    !answer.doubts.is_empty()
+}
+
 /// Appends that none of the labels that are asked for is reached, where that is so.
 fn push_none(
     out: &mut Vec<u8>,
@@ -109,18 +157,18 @@ fn push_none(
 ) -> Result<(), AllocError>
     ensures { OnOk result (out.new.items ≡ out.old.items ++ none_line manner answer.now) }
 {
-    if !answer.routes.is_empty() || !answer.bars.is_empty() {
+    if !answer.routes.is_empty() || !is_known(answer) {
         return Ok(());
     }
     push_from(out, alloc, manner.has_fronts, &answer.from)?;
     push_text(out, "no\n")
 }
 
-/// Appends that there may be more labels, where it isn't told of one where requests lead on.
+/// Appends that there may be more labels, where it isn't known which are reached.
 pub(crate) fn push_at_least(out: &mut Vec<u8>, answer: &Answer) -> Result<(), AllocError>
     ensures { OnOk result (out.new.items ≡ out.old.items ++ at_least answer.now) }
 {
-    if answer.bars.is_empty() {
+    if is_known(answer) {
         return Ok(());
     }
     push_text(out, "at least ")
@@ -181,6 +229,7 @@ fn push_answer(
     ensures { OnOk result (out.new.items ≡ out.old.items ++ answer_text manner answer.now) }
 {
     push_each(out, alloc, manner, &answer.from, answer.routes.as_slice())?;
+    push_doubts(out, alloc, manner, &answer.from, answer.doubts.as_slice())?;
     push_end(out, alloc, manner, answer)
 }
 

@@ -29,11 +29,13 @@ use Rattle.aa_mediate.specs.Held.{saying, change_verdict}
 use Rattle.aa_mediate.specs.Reply.{found_or, change_reply, reply_at, reply_by, reply}
 use Rattle.aa_representatives.specs.Askable.{IsChange}
 use Rattle.aa_representatives.specs.Representatives.{HasChange}
+use Rattle.aa_reachability.specs.Order.{IsNoLater}
 use Rattle.aa_reachability.specs.Moves.{label_next, LeadAllOf}
 use Rattle.aa_reachability.specs.Single.{HasChangesOfRule, HasNames}
 use Rattle.aa_reachability.proofs.Counting.{in_policy}
 use Rattle.aa_reachability.proofs.Elements.{head_in, tail_in}
 use Rattle.aa_reachability.proofs.Keeping.{label_of_either}
+use Rattle.aa_reachability.proofs.Ordering.{no_later_same}
 
 placed : {X : Type 0} (f : X → Bool) (xs : List X) (i : ℕ) → position f xs ≡ Some i → (x : X) × Contains xs x × (f x ≡ true)
 placed f [] i e = absurd (let g : None ≡ Some i = e in cc)
@@ -124,14 +126,16 @@ module _ (ps : List Policy) (k n : ℕ) (p : Profile) (at : profile_in ps k n �
 
   module _ (rs : List Request) (each : (r : Request) → Contains rs r → IsChange r) where
     abbrev Leads : Request → Type 0
-    Leads r = (label_next ps (Confined k n) r ≡ Confined k n) ⊎ ((q : Request) × Contains rs q × (reply ps (Confined k n) r ≡ reply ps (Confined k n) q))
+    Leads r =
+        (label_next ps (Confined k n) r ≡ Confined k n)
+        ⊎ ((q : Request) × Contains rs q × (reply ps (Confined k n) r ≡ reply ps (Confined k n) q) × IsNoLater q r)
 
     module _ (enforced : p.complain ≡ false) (has : (r : ChangeRule) → Contains p.changes r → HasChangesOfRule rs r) where
       leads_by_rules : (r : Request) → IsChange r → Leads r
       leads_by_rules (Change s) asked =
           ⊎_elim
           (λ (none : (change_verdict p.changes s).allow.0 ≡ 0). inl (change_label s ∙ refused s (found s) enforced none))
-          (λ (x : Names p.changes s). inr (Change s, has x.rule x.within x.allows s x.holds asked.1, refl))
+          (λ (x : Names p.changes s). inr (Change s, has x.rule x.within x.allows s x.holds asked.1, refl, no_later_same (Change s)))
           (allowing p.changes s)
       leads_by_rules (File r) asked = absurd asked
       leads_by_rules (Link r) asked = absurd asked
@@ -148,7 +152,7 @@ module _ (ps : List Policy) (k n : ℕ) (p : Profile) (at : profile_in ps k n �
       leads_by_names (Change s) asked =
           ⊎_elim
           (λ (none : found s ≡ None). inl (change_label s ∙ lost s (found s) none))
-          (λ (x : HasChange s rs). inr (Change s, x asked.1, refl))
+          (λ (x : HasChange s rs). inr (Change s, x asked.1, refl, no_later_same (Change s)))
           (some_name rs k s (slice_get ps k) has)
       leads_by_names (File r) asked = absurd asked
       leads_by_names (Link r) asked = absurd asked
@@ -172,11 +176,12 @@ module _ (ps : List Policy) (k : ℕ) (rs : List Request) (each : (r : Request) 
   free_stays s e = free_lost (slice_get ps k) s e
 
   free_leads : (r : Request) → IsChange r
-      → (label_next ps (Unconfined k) r ≡ Unconfined k) ⊎ ((q : Request) × Contains rs q × (reply ps (Unconfined k) r ≡ reply ps (Unconfined k) q))
+      → (label_next ps (Unconfined k) r ≡ Unconfined k)
+      ⊎ ((q : Request) × Contains rs q × (reply ps (Unconfined k) r ≡ reply ps (Unconfined k) q) × IsNoLater q r)
   free_leads (Change s) asked =
       ⊎_elim
       (λ (none : label_named ps k s ≡ None). inl (free_stays s none))
-      (λ (x : HasChange s rs). inr (Change s, x asked.1, refl))
+      (λ (x : HasChange s rs). inr (Change s, x asked.1, refl, no_later_same (Change s)))
       (some_name rs k s (slice_get ps k) has)
   free_leads (File r) asked = absurd asked
   free_leads (Link r) asked = absurd asked

@@ -28,16 +28,56 @@ use Rattle.aa_mediate.specs.Decided.{blocked}
 use Rattle.aa_mediate.specs.Reply.{label_after, exec_reply, reply_at, reply_by, reply}
 use Rattle.aa_representatives.specs.Askable.{IsExec}
 use Rattle.aa_representatives.specs.Representatives.{AreRepresentatives}
+use Rattle.aa_auto.specs.Tables.{ListsMatching}
+use Rattle.aa_regions.specs.declared.regions.Region.{Region}
+use Rattle.aa_regions.specs.Regions.{IsAsked, ArePathRegions}
+use Rattle.aa_representatives.specs.Alike.{deciding}
+use Rattle.aa_representatives.specs.Representatives.{HasExecs}
+use Rattle.aa_representatives.proofs.Standing.{same_list}
+use Rattle.aa_representatives.proofs.Replied.{execs_reply_alike}
 use Rattle.aa_reachability.specs.Extents.{IsProfileAt}
+use Rattle.aa_reachability.specs.Order.{IsNoLater}
 use Rattle.aa_reachability.specs.Moves.{label_next, LeadAllOf}
 use Rattle.aa_reachability.specs.Single.{HasExecsOfRule}
 use Rattle.aa_reachability.proofs.Counting.{in_policy}
 use Rattle.aa_reachability.proofs.Elements.{head_in, kept_in, some_in}
 use Rattle.aa_reachability.proofs.Keeping.{label_of_either}
+use Rattle.aa_reachability.proofs.Ordering.{no_later_same}
 
-pub of_representatives : (ps : List Policy) (l : Label) (Kind : Request → Type 0) (rs : List Request) → AreRepresentatives ps l Kind rs
-    → LeadAllOf ps l Kind rs
-of_representatives ps l Kind rs stand = record { each = stand.each; all = λ r kind. inr (stand.all r kind) }
+-- requests that stand for all of a kind of which none comes before another
+pub of_representatives : (ps : List Policy) (l : Label) (Kind : Request → Type 0) (rs : List Request)
+    → ((r q : Request) → Kind r → Kind q → IsNoLater q r) → AreRepresentatives ps l Kind rs → LeadAllOf ps l Kind rs
+of_representatives ps l Kind rs level stand = record {
+  each = stand.each;
+  all = λ r kind.
+      let q = stand.all r kind in
+      inr (q.0, q.1, q.2, level r q.0 kind (stand.each q.0 q.1));
+}
+
+-- those to execute the files at a shortest path of each region
+module _ (ps : List Policy) (l : Label) (regions : List Region) (are : ArePathRegions (deciding ps l) regions) (rs : List Request)
+    (has : (r : Region) → Contains regions r → HasExecs r.witness rs) where
+  by_region : (r : Request) → IsExec r
+      → (label_next ps l r ≡ l) ⊎ ((q : Request) × Contains rs q × (reply ps l r ≡ reply ps l q) × IsNoLater q r)
+  by_region (Exec x) asked =
+      let r = are.all x.path asked in
+      let is = are.each r.0 r.1 in
+      let alike = same_list (deciding ps l) x.path r.0.witness r.0.numbers r.2 is.lists in
+      inr (
+        Exec (record { path = r.0.witness; owned = x.owned }),
+        has r.0 r.1 x.owned,
+        execs_reply_alike ps x.path r.0.witness l alike x.owned,
+        inr (refl, is.shortest x.path asked r.2),
+      )
+  by_region (File f) asked = absurd asked
+  by_region (Link k) asked = absurd asked
+  by_region (Cap c) asked = absurd asked
+  by_region (Net f s) asked = absurd asked
+  by_region (Change name) asked = absurd asked
+  by_region (Reload m) asked = absurd asked
+
+  pub regions_lead : ((r : Request) → Contains rs r → IsExec r) → LeadAllOf ps l IsExec rs
+  regions_lead each = record { each = each; all = by_region }
 
 -- a rule says how, and one of its patterns matches the path
 record Names (rules : List FileRule) (path : List ℕ) : Type 0 where
@@ -100,13 +140,14 @@ module _ (ps : List Policy) (k n : ℕ) (p : Profile) (at : profile_in ps k n �
 
   module _ (rs : List Request) (each : (r : Request) → Contains rs r → IsExec r) (has : (r : FileRule) → Contains p.files r → HasExecsOfRule rs r) where
     leads : (r : Request) → IsExec r
-        → (label_next ps (Confined k n) r ≡ Confined k n) ⊎ ((q : Request) × Contains rs q × (reply ps (Confined k n) r ≡ reply ps (Confined k n) q))
+        → (label_next ps (Confined k n) r ≡ Confined k n)
+        ⊎ ((q : Request) × Contains rs q × (reply ps (Confined k n) r ≡ reply ps (Confined k n) q) × IsNoLater q r)
     leads (Exec r) asked =
         ⊎_elim
         (λ (none : way_of (chosen p.files r.path r.owned) ≡ None). inl (stays r none))
         (λ (some : (x : FileRule) × Contains (chosen p.files r.path r.owned) x).
         let it = chosen_names p.files r.path r.owned some.0 some.1 in
-        inr (Exec r, has it.rule it.within it.how it.pattern it.among r.path it.match asked r.owned, refl))
+        inr (Exec r, has it.rule it.within it.how it.pattern it.among r.path it.match asked r.owned, refl, no_later_same (Exec r)))
         (no_way (chosen p.files r.path r.owned))
     leads (File r) asked = absurd asked
     leads (Link r) asked = absurd asked

@@ -19,6 +19,7 @@ use Rattle.aa_mediate.specs.Reply.{found_or, kept, reply_at, reply_by, reply}
 use Rattle.aa_representatives.specs.Askable.{IsFile, IsExec, IsLink, IsCap, IsNet, IsChange, IsReload, IsAskable}
 use Rattle.aa_reachability.specs.declared.going.Going.{Going}
 use Rattle.aa_reachability.specs.Granted.{IsGranted}
+use Rattle.aa_reachability.specs.Order.{IsNoLater}
 use Rattle.aa_reachability.specs.Moves.{is_by_complain, label_kept, label_next, label_in, LeadAllOf, LeadAll, LeadAllBy}
 
 pub label_of_either : (b : Bool) (x y : Answer) (l : Label) → x.label ≡ l → y.label ≡ l → (cond b x y).label ≡ l
@@ -103,7 +104,7 @@ net_stays (Reload m) is = absurd is
 module _ (ps : List Policy) (l : Label) (execs changes reloads rs : List Request) (are : rs ≡ (execs ++ changes) ++ reloads)
     (of_execs : LeadAllOf ps l IsExec execs) (of_changes : LeadAllOf ps l IsChange changes) (of_reloads : LeadAllOf ps l IsReload reloads) where
   abbrev Leads : Request → Type 0
-  Leads r = (label_next ps l r ≡ l) ⊎ ((q : Request) × Contains rs q × (reply ps l r ≡ reply ps l q))
+  Leads r = (label_next ps l r ≡ l) ⊎ ((q : Request) × Contains rs q × (reply ps l r ≡ reply ps l q) × IsNoLater q r)
 
   among : (q : Request) → Contains ((execs ++ changes) ++ reloads) q → Contains rs q
   among q c = subst (λ xs. Contains xs q) (sym are) c
@@ -113,7 +114,7 @@ module _ (ps : List Policy) (l : Label) (execs changes reloads rs : List Request
   leads_by Kind some lead within r is =
       ⊎_elim
       (λ (stays : label_next ps l r ≡ l). inl stays)
-      (λ (s : (q : Request) × Contains some q × (reply ps l r ≡ reply ps l q)). inr (s.0, within s.0 s.1, s.2))
+      (λ (s : (q : Request) × Contains some q × (reply ps l r ≡ reply ps l q) × IsNoLater q r). inr (s.0, within s.0 s.1, s.2, s.3))
       (lead.all r is)
 
   stayed : (r : Request) → Stays r → Leads r
@@ -167,7 +168,8 @@ lead_by g l rs lead = record {
   all = λ r asked.
       ⊎_elim
       (λ (stays : label_next g.policies.now l r ≡ l). inl (stays_so g l r stays))
-      (λ (found : (q : Request) × Contains rs q × (reply g.policies.now l r ≡ reply g.policies.now l q)). inr (found.0, found.1, moves_so g l r found.0 found.2))
+      (λ (found : (q : Request) × Contains rs q × (reply g.policies.now l r ≡ reply g.policies.now l q) × IsNoLater q r).
+      inr (found.0, found.1, moves_so g l r found.0 found.2, found.3))
       (lead.all r asked);
 }
 
@@ -191,6 +193,7 @@ lead_permuted ps l Kind xs ys same lead = record {
   all = λ r kind.
       ⊎_elim
       (λ (stays : label_next ps l r ≡ l). inl stays)
-      (λ (s : (q : Request) × Contains xs q × (reply ps l r ≡ reply ps l q)). inr (s.0, Contains-permutation xs ys s.0 same s.1, s.2))
+      (λ (s : (q : Request) × Contains xs q × (reply ps l r ≡ reply ps l q) × IsNoLater q r).
+      inr (s.0, Contains-permutation xs ys s.0 same s.1, s.2, s.3))
       (lead.all r kind);
 }

@@ -7,33 +7,34 @@ use Rattle.std.proofs.lemmas.Bool.{cases_lt}
 use Rattle.std.proofs.lemmas.List.{length_push, get_or_append_left, get_or_push}
 use Rattle.std.proofs.lemmas.List.Elements.{All-head, All-tail, Contains-push, Contains-append_left, Contains-append_cases}
 use Rattle.std.proofs.lemmas.Option.{slice_get_within, slice_get-get_or, get_or_from_slice_get}
+use Rattle.aa_model.specs.declared.policy.Policy.{Policy}
 use Rattle.aa_model.specs.declared.label.Label.{Label}
 use Rattle.aa_model.specs.declared.request.Request.{Request}
 use Rattle.aa_representatives.specs.Askable.{IsAskable}
-use Rattle.aa_reachability.specs.declared.going.Going.{Going}
 use Rattle.aa_reachability.specs.declared.trail.Step.{Step}
 use Rattle.aa_reachability.specs.declared.trail.Arrival.{Arrival}
 use Rattle.aa_reachability.specs.declared.reached.Untold.{Untold}
 use Rattle.aa_reachability.specs.declared.reached.Why.{Why}
-use Rattle.aa_reachability.specs.Moves.{label_in, label_going, HaveManyPatternsAt, IsWhy}
-use Rattle.aa_reachability.specs.Reach.{IsWay, IsOpen, PassBy, AreTold, IsShortest, AreArrivals, AreUntold, led_by, way_at}
+use Rattle.aa_reachability.specs.Moves.{HaveManyPatternsAt, IsWhy}
+use Rattle.aa_reachability.specs.Reach.{IsWay, IsOpen, PassBy, AreTold, AreUntold, led_by, way_at}
+use Rattle.aa_reachability.specs.Beside.{IsSure, IsShortestBeside, AreArrivalsBeside}
 use Rattle.aa_reachability.specs.Trail.{no_arrival, arrival_at, IsTrail, IsWithin, AreFollowedBy, IsStepFrom, Extends, IsFollowed}
 use Rattle.aa_reachability.specs.Trail.{IsStepBehind, IsUntoldBelow, no_untold, number_at, AreFollowed, ReachAll}
-use Rattle.aa_reachability.proofs.Reaching.{extends_length, extends_at, followed_on, same, here, once, are_ways}
+use Rattle.aa_reachability.proofs.Reaching.{extends_length, extends_at, followed_on, same, here, once, are_ways, keeps}
 
 first_step : (o : Option Step) (ways : List (List Request)) (way : List Request) → IsWay 0 o ways way → IsStepBehind 0 [] o
 first_step None ways way is = tt
 first_step (Some s) ways way is = absurd (omega (arith, is.0))
 
 -- where the task begins nothing is followed yet
-pub first_followed : (g : Going) (from : Label) (known : List ℕ) (limit : ℕ) (arrivals : List Arrival) (untold : List Untold)
-    → IsTrail g from known arrivals
-    → length arrivals ≡ 1 → untold ≡ [] → AreFollowed g limit arrivals untold 0
-first_followed g from known limit arrivals untold trail one none =
-    subst (λ (us : List Untold). AreFollowed g limit arrivals us 0) (sym none)
+pub first_followed : (go : Label → Request → Label) (Sure : Label → Type 0) (ps : List Policy) (from : Label) (known : List ℕ) (limit : ℕ) (arrivals : List Arrival) (untold : List Untold)
+    → IsTrail go from known arrivals
+    → length arrivals ≡ 1 → untold ≡ [] → AreFollowed go Sure ps limit arrivals untold 0
+first_followed go Sure ps from known limit arrivals untold trail one none =
+    subst (λ (us : List Untold). AreFollowed go Sure ps limit arrivals us 0) (sym none)
     (record {
       within = omega arith;
-      told = λ k lt f. absurd (omega (arith, lt));
+      told = λ k lt f s. absurd (omega (arith, lt));
       few = λ k lt f m. absurd (omega (arith, lt));
       steps = λ i lt.
           let z : 0 ≡ i = omega (arith, lt, one) in
@@ -52,18 +53,23 @@ step_new n untold None is f = absurd is
 step_new n untold (Some s) is f = (omega (arith, is), subst (IsFollowed untold) (sym is) f)
 
 -- one arrival more is followed
-pub told_next : (g : Going) (limit : ℕ) (was now : List Arrival) (untold : List Untold) (n : ℕ) → Extends n was now → n < length was
-    → AreFollowed g limit was untold n → AreFollowedBy g now n IsAskable
-    → (HaveManyPatternsAt g.policies.now (arrival_at was n).label → ⊥) → AreFollowed g limit now untold (n + 1)
-told_next g limit was now untold n ext lt old followed few =
-    let Few : Label → Type 0 = λ l. HaveManyPatternsAt g.policies.now l → ⊥ in
+pub told_next : (go : Label → Request → Label) (Sure : Label → Type 0) (ps : List Policy) (limit : ℕ) (was now : List Arrival) (untold : List Untold) (n : ℕ)
+    → Extends n was now → n < length was
+    → AreFollowed go Sure ps limit was untold n → (Sure (arrival_at was n).label → AreFollowedBy go now n IsAskable)
+    → (HaveManyPatternsAt ps (arrival_at was n).label → ⊥) → AreFollowed go Sure ps limit now untold (n + 1)
+told_next go Sure ps limit was now untold n ext lt old followed few =
+    let Few : Label → Type 0 = λ l. HaveManyPatternsAt ps l → ⊥ in
     let here : IsFollowed untold n = λ u c e. absurd (omega (arith, (old.each u c).below, e)) in
     record {
       within = omega (arith, lt, extends_length was now ext);
-      told = λ k below f.
+      told = λ k below f sure.
+          let at : k < length was = omega (arith, below, lt) in
+          let sure_then : Sure (arrival_at was k).label = subst (λ (x : Arrival). Sure x.label) (extends_at was now ext k at) sure in
           ⊎_elim
-          (λ (l : k < n). followed_on g was now ext k (omega (arith, l, lt)) IsAskable (old.told k l f))
-          (λ (late : n ≤ k). let e : n ≡ k = omega (arith, below, late) in subst (λ x. AreFollowedBy g now x IsAskable) e followed)
+          (λ (l : k < n). followed_on go was now ext k at IsAskable (old.told k l f sure_then))
+          (λ (late : n ≤ k).
+          let e : n ≡ k = omega (arith, below, late) in
+          subst (λ x. AreFollowedBy go now x IsAskable) e (followed (subst (λ x. Sure (arrival_at was x).label) (sym e) sure_then)))
           (cases_lt k n);
       few = λ k below f.
           let at : k < length was = omega (arith, below, lt) in
@@ -90,8 +96,8 @@ told_next g limit was now untold n ext lt old followed few =
     }
 
 -- of the next arrival it isn't told
-module _ (g : Going) (limit : ℕ) (arrivals : List Arrival) (untold : List Untold) (n : ℕ) (why : Why) (lt : n < length arrivals)
-    (old : AreFollowed g limit arrivals untold n) (is_why : IsWhy g.policies.now limit (arrival_at arrivals n).label why) where
+module _ (go : Label → Request → Label) (Sure : Label → Type 0) (ps : List Policy) (limit : ℕ) (arrivals : List Arrival) (untold : List Untold) (n : ℕ)
+    (why : Why) (lt : n < length arrivals) (old : AreFollowed go Sure ps limit arrivals untold n) (is_why : IsWhy ps limit (arrival_at arrivals n).label why) where
   abbrev one : Untold
   one = record { number = n; label = (arrival_at arrivals n).label; why = why }
 
@@ -143,22 +149,22 @@ module _ (g : Going) (limit : ℕ) (arrivals : List Arrival) (untold : List Unto
       subst (λ m. number_at more i < number_at more m) e (omega (arith, number_old i li, number_new, number_below i li)))
       (cases_lt j (length untold))
 
-  pub untold_next : (now : List Untold) → now ≡ more → AreFollowed g limit arrivals now (n + 1)
+  pub untold_next : (now : List Untold) → now ≡ more → AreFollowed go Sure ps limit arrivals now (n + 1)
   untold_next now is =
-      subst (λ (us : List Untold). AreFollowed g limit arrivals us (n + 1)) (sym is)
+      subst (λ (us : List Untold). AreFollowed go Sure ps limit arrivals us (n + 1)) (sym is)
       (record {
         within = omega (arith, lt);
-        told = λ k below f. old.told k (earlier k below f) (before k f);
+        told = λ k below f s. old.told k (earlier k below f) (before k f) s;
         few = λ k below f. old.few k (earlier k below f) (before k f);
         steps = λ i li. step_past (arrival_at arrivals i).step (old.steps i li);
         each = λ u c.
             ⊎_elim
             (λ (x : Contains untold u).
             let v = old.each u x in
-            let it : IsUntoldBelow g.policies.now limit arrivals (n + 1) u = record { below = omega (arith, v.below); label = v.label; why = v.why } in
+            let it : IsUntoldBelow ps limit arrivals (n + 1) u = record { below = omega (arith, v.below); label = v.label; why = v.why } in
             it)
             (λ (x : Contains (one ∷ []) u).
-            subst (IsUntoldBelow g.policies.now limit arrivals (n + 1)) (is_one u x)
+            subst (IsUntoldBelow ps limit arrivals (n + 1)) (is_one u x)
             (record { below = omega arith; label = refl; why = is_why }))
             (Contains-append_cases untold (one ∷ []) u c);
         rising = rising_more;
@@ -170,9 +176,11 @@ pass_more : (go : Label → Request → Label) (Open : Label → Type 0) (l : La
 pass_more go Open l [] r pass free = (free, tt)
 pass_more go Open l (q ∷ rs) r pass free = (pass.0, pass_more go Open (go l q) rs r pass.1 free)
 
--- where all arrivals are followed that can be
-module _ (g : Going) (from : Label) (known : List ℕ) (arrivals : List Arrival) (trail : IsTrail g from known arrivals) (limit : ℕ)
-    (untold : List Untold) (followed : AreFollowed g limit arrivals untold (length arrivals)) where
+-- where all arrivals are followed that can be, and what holds of each request that leads to another label
+module _ (go : Label → Request → Label) (Sure : Label → Type 0) (Holds : Label → Request → Type 0) (ps : List Policy) (from : Label) (known : List ℕ)
+    (arrivals : List Arrival) (trail : IsTrail go from known arrivals) (limit : ℕ) (untold : List Untold)
+    (followed : AreFollowed go Sure ps limit arrivals untold (length arrivals))
+    (holds : (l : Label) (r : Request) → (go l r ≡ l → ⊥) → Holds l r) where
   number_within : (u : Untold) → Contains untold u → u.number < length arrivals
   number_within u c = (followed.each u c).below
 
@@ -180,18 +188,18 @@ module _ (g : Going) (from : Label) (known : List ℕ) (arrivals : List Arrival)
   followed_at k free u c e = free u c (sym (followed.each u c).label ∙ ap (λ (i : ℕ). (arrival_at arrivals i).label) e)
 
   open_at : (k : ℕ) → k < length arrivals → IsFollowed untold k → IsOpen untold (arrival_at arrivals k).label
-  open_at k lt f u c e = f u c (same g from known arrivals trail u.number k (number_within u c) lt ((followed.each u c).label ∙ e))
+  open_at k lt f u c e = f u c (same go from known arrivals trail u.number k (number_within u c) lt ((followed.each u c).label ∙ e))
 
   abbrev Passes : List Request → Type 0
-  Passes rs = PassBy (label_in g) (IsOpen untold) from rs
+  Passes rs = PassBy go (IsOpen untold) from rs
 
   pass_by_step : (i : ℕ) (o : Option Step) (way : List Request) → i < length arrivals → IsWay i o trail.ways way → IsStepBehind (length arrivals) untold o
       → ((k : ℕ) → k < i → Passes (way_at trail.ways k)) → Passes way
   pass_by_step i None way lt is behind earlier = subst Passes (sym is) tt
   pass_by_step i (Some s) way lt is behind earlier =
-      let free : IsOpen untold (led_by (label_in g) from (way_at trail.ways s.from)) =
+      let free : IsOpen untold (led_by go from (way_at trail.ways s.from)) =
       subst (IsOpen untold) (sym (trail.each s.from behind.0).leads) (open_at s.from behind.0 behind.1) in
-      subst Passes (sym is.1) (pass_more (label_in g) (IsOpen untold) from (way_at trail.ways s.from) s.request (earlier s.from is.0) free)
+      subst Passes (sym is.1) (pass_more go (IsOpen untold) from (way_at trail.ways s.from) s.request (earlier s.from is.0) free)
 
   pass_below : (m i : ℕ) → i < m → i < length arrivals → Passes (way_at trail.ways i)
   pass_below zero i lt li = absurd (omega (arith, lt))
@@ -202,51 +210,52 @@ module _ (g : Going) (from : Label) (known : List ℕ) (arrivals : List Arrival)
   passes : (i : ℕ) → i < length arrivals → Passes (way_at trail.ways i)
   passes i li = pass_below (i + 1) i (omega arith) li
 
-  on : (rs : List Request) (l : Label) (m : ℕ) → All IsAskable rs → PassBy (label_in g) (IsOpen untold) l rs → IsWithin arrivals l m
-      → IsWithin arrivals (led_by (label_in g) l rs) (m + length rs)
+  on : (rs : List Request) (l : Label) (m : ℕ) → All IsAskable rs → PassBy go (IsSure untold Sure) l rs → IsWithin arrivals l m
+      → IsWithin arrivals (led_by go l rs) (m + length rs)
   on [] l m asked pass w = (w.0, w.1, w.2, omega (arith, w.3))
   on (r ∷ rs) l m asked pass w =
-      let free : IsOpen untold (arrival_at arrivals w.0).label = subst (IsOpen untold) (sym w.2) pass.0 in
-      let next = followed.told w.0 w.1 (followed_at w.0 free) r (All-head IsAskable r rs asked) in
-      let there : (arrival_at arrivals next.0).label ≡ label_in g l r = next.2 ∙ ap (λ (x : Label). label_in g x r) w.2 in
-      let rest = on rs (label_in g l r) (m + 1) (All-tail IsAskable r rs asked) pass.1 (next.0, next.1, there, omega (arith, next.3, w.3)) in
+      let free : IsSure untold Sure (arrival_at arrivals w.0).label = subst (IsSure untold Sure) (sym w.2) pass.0 in
+      let next = followed.told w.0 w.1 (followed_at w.0 free.0) free.1 r (All-head IsAskable r rs asked) in
+      let there : (arrival_at arrivals next.0).label ≡ go l r = next.2 ∙ ap (λ (x : Label). go x r) w.2 in
+      let rest = on rs (go l r) (m + 1) (All-tail IsAskable r rs asked) pass.1 (next.0, next.1, there, omega (arith, next.3, w.3)) in
       (rest.0, rest.1, rest.2, omega (arith, rest.3))
 
-  reach_all : ReachAll g (IsOpen untold) from arrivals
+  reach_all : ReachAll go (IsSure untold Sure) from arrivals
   reach_all rs told =
       let first : (arrival_at arrivals 0).length ≤ 0 = (trail.each 0 trail.some).short in
       let w = on rs from 0 told.asked told.pass (0, trail.some, trail.start, first) in
       (w.0, w.1, w.2, omega (arith, w.3))
 
-  pub are_arrivals : AreArrivals (label_in g) (IsOpen untold) from arrivals
+  pub are_arrivals : AreArrivalsBeside go (IsOpen untold) (IsSure untold Sure) Holds from arrivals
   are_arrivals = record {
     ways = trail.ways;
-    are = are_ways g from known arrivals trail;
+    are = are_ways go from known arrivals trail;
     each = λ i a e.
-        let h = here g from known arrivals trail i a e in
+        let h = here go from known arrivals trail i a e in
         let led = trail.each i h.0 in
-        subst (λ (x : Arrival). IsShortest (label_in g) (IsOpen untold) from x (way_at trail.ways i)) h.1
+        subst (λ (x : Arrival). IsShortestBeside go (IsOpen untold) (IsSure untold Sure) Holds from x (way_at trail.ways i)) h.1
         (record {
           told = record { asked = led.asked; pass = passes i h.0 };
+          kept = keeps go Holds from known arrivals trail holds i h.0;
           leads = led.leads;
           long = led.long;
           shortest = λ rs told is.
               let w = reach_all rs told in
-              let j : w.0 ≡ i = same g from known arrivals trail w.0 i w.1 h.0 (w.2 ∙ is) in
+              let j : w.0 ≡ i = same go from known arrivals trail w.0 i w.1 h.0 (w.2 ∙ is) in
               subst (λ x. (arrival_at arrivals x).length ≤ length rs) j w.3;
         });
     all = λ rs told.
         let w = reach_all rs told in
         (w.0, arrival_at arrivals w.0, slice_get-get_or arrivals w.0 no_arrival w.1, w.2);
-    once = once g from known arrivals trail;
+    once = once go from known arrivals trail;
     rising = λ i j a b e f le.
-        let h = here g from known arrivals trail i a e in
-        let k = here g from known arrivals trail j b f in
+        let h = here go from known arrivals trail i a e in
+        let k = here go from known arrivals trail j b f in
         let less = trail.rising i j le k.0 in
         omega (arith, less, ap (λ (x : Arrival). x.length) h.1, ap (λ (x : Arrival). x.length) k.1);
   }
 
-  pub are_untold : AreUntold g.policies.now limit arrivals untold
+  pub are_untold : AreUntold ps limit arrivals untold
   are_untold = record {
     each = λ u c.
         let x = followed.each u c in
@@ -257,8 +266,8 @@ module _ (g : Going) (from : Label) (known : List ℕ) (arrivals : List Arrival)
           why = x.why;
         };
     few = λ i a e free.
-        let h = here g from known arrivals trail i a e in
-        let Few : Arrival → Type 0 = λ x. IsOpen untold x.label → HaveManyPatternsAt g.policies.now x.label → ⊥ in
+        let h = here go from known arrivals trail i a e in
+        let Few : Arrival → Type 0 = λ x. IsOpen untold x.label → HaveManyPatternsAt ps x.label → ⊥ in
         let it : Few (arrival_at arrivals i) = λ o. followed.few i h.0 (followed_at i o) in
         subst Few h.1 it free;
     rising = λ i j u v e f lt.

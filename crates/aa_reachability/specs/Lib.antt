@@ -4,7 +4,10 @@ pub mod Changes
 pub mod Codes
 pub mod Extents
 pub mod Granted
+pub mod Order
 pub mod Moves
 pub mod Single
 pub mod Reach
+pub mod Beside
+pub mod Course
 pub mod Trail

@@ -16,6 +16,7 @@ use Rattle.aa_representatives.specs.Alike.{deciding}
 use Rattle.aa_representatives.specs.Names.{many_name_patterns, HaveNamePlaces}
 use Rattle.aa_representatives.specs.Askable.{IsAskable}
 use Rattle.aa_reachability.specs.declared.going.Going.{Going}
+use Rattle.aa_reachability.specs.Order.{IsNoLater}
 use Rattle.aa_reachability.specs.declared.reached.Why.{Why}
 use Rattle.aa_reachability.specs.declared.reached.Why.TheVariants.{TooManyPatterns, TooManyStates}
 
@@ -52,20 +53,20 @@ label_going enforced ps l r = if enforced then label_enforced ps l r else label_
 unfoldable pub label_in : Going → Label → Request → Label
 label_in g l r = label_going g.as_enforced g.policies.now l r
 
--- requests of a kind; each of the kind that moves a task is answered as one of them
+-- requests of a kind; each of the kind that moves a task is answered as one of them that comes no later
 pub record LeadAllOf (ps : List Policy) (l : Label) (Kind : Request → Type 0) (rs : List Request) : Type 0 where
   pub each : (r : Request) → Contains rs r → Kind r
-  pub all : (r : Request) → Kind r → (label_next ps l r ≡ l) ⊎ ((q : Request) × Contains rs q × (reply ps l r ≡ reply ps l q))
+  pub all : (r : Request) → Kind r → (label_next ps l r ≡ l) ⊎ ((q : Request) × Contains rs q × (reply ps l r ≡ reply ps l q) × IsNoLater q r)
 
--- requests that can be asked; each request that moves a task is answered as one of them
+-- requests that can be asked; each request that moves a task is answered as one of them that comes no later
 pub record LeadAll (ps : List Policy) (l : Label) (rs : List Request) : Type 0 where
   pub each : (r : Request) → Contains rs r → IsAskable r
-  pub all : (r : Request) → IsAskable r → (label_next ps l r ≡ l) ⊎ ((q : Request) × Contains rs q × (reply ps l r ≡ reply ps l q))
+  pub all : (r : Request) → IsAskable r → (label_next ps l r ≡ l) ⊎ ((q : Request) × Contains rs q × (reply ps l r ≡ reply ps l q) × IsNoLater q r)
 
--- requests that can be asked; to each label to which some request leads, one of them leads, but for the label itself
+-- requests that can be asked; to where one leads, but for the label itself, one of them leads that comes no later
 pub record LeadAllBy (g : Going) (l : Label) (rs : List Request) : Type 0 where
   pub each : (r : Request) → Contains rs r → IsAskable r
-  pub all : (r : Request) → IsAskable r → (label_in g l r ≡ l) ⊎ ((q : Request) × Contains rs q × (label_in g l r ≡ label_in g l q))
+  pub all : (r : Request) → IsAskable r → (label_in g l r ≡ l) ⊎ ((q : Request) × Contains rs q × (label_in g l r ≡ label_in g l q) × IsNoLater q r)
 
 -- the patterns on paths or those on names that decide at the label are more than can be matched together
 abbrev pub HaveManyPatternsAt : List Policy → Label → Type 0

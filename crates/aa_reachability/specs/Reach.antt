@@ -9,6 +9,7 @@ use Rattle.aa_representatives.specs.Askable.{IsAskable}
 use Rattle.aa_reachability.specs.declared.trail.Step.{Step}
 use Rattle.aa_reachability.specs.declared.trail.Arrival.{Arrival}
 use Rattle.aa_reachability.specs.declared.reached.Untold.{Untold}
+use Rattle.aa_reachability.specs.Order.{IsNoLater}
 use Rattle.aa_reachability.specs.Moves.{HaveManyPatternsAt, IsWhy}
 
 -- the label after requests, one after another, where each leads on so
@@ -84,10 +85,13 @@ pub record IsNear (go : Label → Request → Label) (from : Label) (a : Arrival
   pub leads : led_by go from way ≡ a.label
   pub short : length way ≤ 1
 
--- an arrival for each label to which one request that can be asked leads so, each with such a request, and none twice
+-- an arrival for each label to which one request that can be asked leads so, none twice, each with such a request, before which none comes
+-- that leads there
 pub record AreNear (go : Label → Request → Label) (from : Label) (arrivals : List Arrival) : Type 0 where
   pub ways : List (List Request)
   pub are : AreWays arrivals ways
   pub each : (i : ℕ) (a : Arrival) → slice_get arrivals i ≡ Some a → IsNear go from a (way_at ways i)
   pub all : (r : Request) → IsAskable r → (i : ℕ) × (a : Arrival) × (slice_get arrivals i ≡ Some a) × (a.label ≡ go from r)
+  pub shortest : (i : ℕ) (a : Arrival) (step : Step) → slice_get arrivals i ≡ Some a → a.step ≡ Some step
+      → (r : Request) → IsAskable r → go from r ≡ a.label → IsNoLater step.request r
   pub once : (i j : ℕ) (a b : Arrival) → slice_get arrivals i ≡ Some a → slice_get arrivals j ≡ Some b → a.label ≡ b.label → i ≡ j

@@ -2,7 +2,6 @@
 -- Source: breadth-first search; own.
 use Rattle.std.specs.Prelude.{◌≡◌, ◌+◌, ◌<◌, ◌≤◌, ◌++◌, ℕ, List, Option, Some, None, All, Contains, length, map, nat_eq, slice_index_or}
 use Rattle.std.specs.List.{IsDistinct}
-use Rattle.aa_reachability.specs.declared.going.Going.{Going}
 use Rattle.aa_model.specs.declared.policy.Policy.{Policy}
 use Rattle.aa_model.specs.declared.label.Label.{Label}
 use Rattle.aa_model.specs.declared.label.Label.TheVariants.{Unconfined}
@@ -13,7 +12,7 @@ use Rattle.aa_reachability.specs.declared.trail.Arrival.{Arrival}
 use Rattle.aa_reachability.specs.declared.reached.Untold.{Untold}
 use Rattle.aa_reachability.specs.declared.reached.Why.TheVariants.{TooManyPatterns}
 use Rattle.aa_reachability.specs.Codes.{code, IsFit}
-use Rattle.aa_reachability.specs.Moves.{label_in, HaveManyPatternsAt, IsWhy}
+use Rattle.aa_reachability.specs.Moves.{HaveManyPatternsAt, IsWhy}
 use Rattle.aa_reachability.specs.Reach.{IsWay, AreTold, led_by, way_at}
 
 -- an arrival that stands for none
@@ -29,21 +28,21 @@ abbrev pub codes_of : List Arrival → List ℕ
 codes_of arrivals = map (λ (a : Arrival). code a.label) arrivals
 
 -- arrival i, with the requests that lead there: they can be asked, and are as many as is told, and no more than i
-pub record IsLed (g : Going) (from : Label) (ways : List (List Request)) (i : ℕ) (a : Arrival) (way : List Request) : Type 0 where
+pub record IsLed (go : Label → Request → Label) (from : Label) (ways : List (List Request)) (i : ℕ) (a : Arrival) (way : List Request) : Type 0 where
   pub is_way : IsWay i a.step ways way
   pub asked : All IsAskable way
-  pub leads : led_by (label_in g) from way ≡ a.label
+  pub leads : led_by go from way ≡ a.label
   pub long : length way ≡ a.length
   pub short : a.length ≤ i
   pub fits : IsFit a.label
 
 -- each arrival is led to, at different labels, of which the numbers are known; a later one by no fewer requests
-pub record IsTrail (g : Going) (from : Label) (known : List ℕ) (arrivals : List Arrival) : Type 0 where
+pub record IsTrail (go : Label → Request → Label) (from : Label) (known : List ℕ) (arrivals : List Arrival) : Type 0 where
   pub ways : List (List Request)
   pub many : length ways ≡ length arrivals
   pub some : 0 < length arrivals
   pub start : (arrival_at arrivals 0).label ≡ from
-  pub each : (i : ℕ) → i < length arrivals → IsLed g from ways i (arrival_at arrivals i) (way_at ways i)
+  pub each : (i : ℕ) → i < length arrivals → IsLed go from ways i (arrival_at arrivals i) (way_at ways i)
   pub codes : known ≡ codes_of arrivals
   pub distinct : IsDistinct nat_eq known
   pub rising : (i j : ℕ) → i ≤ j → j < length arrivals → (arrival_at arrivals i).length ≤ (arrival_at arrivals j).length
@@ -68,9 +67,9 @@ abbrev pub IsWithin : List Arrival → Label → ℕ → Type 0
 IsWithin arrivals l n = (j : ℕ) × (j < length arrivals) × ((arrival_at arrivals j).label ≡ l) × ((arrival_at arrivals j).length ≤ n)
 
 -- where each of these requests leads to from arrival k there is an arrival, by no more requests
-abbrev pub AreFollowedBy : Going → List Arrival → ℕ → (Request → Type 0) → Type 0
-AreFollowedBy g arrivals k Among = (r : Request) → Among r
-    → IsWithin arrivals (label_in g (arrival_at arrivals k).label r) ((arrival_at arrivals k).length + 1)
+abbrev pub AreFollowedBy : (Label → Request → Label) → List Arrival → ℕ → (Request → Type 0) → Type 0
+AreFollowedBy go arrivals k Among = (r : Request) → Among r
+    → IsWithin arrivals (go (arrival_at arrivals k).label r) ((arrival_at arrivals k).length + 1)
 
 -- arrival k is none from which it isn't told where requests lead on
 abbrev pub IsFollowed : List Untold → ℕ → Type 0
@@ -95,15 +94,41 @@ no_untold = record { number = 0; label = Unconfined 0; why = TooManyPatterns }
 abbrev pub number_at : List Untold → ℕ → ℕ
 number_at untold i = (slice_index_or untold i no_untold).number
 
--- the first n arrivals are followed by all requests that can be asked, but for those that are untold
-pub record AreFollowed (g : Going) (limit : ℕ) (arrivals : List Arrival) (untold : List Untold) (n : ℕ) : Type 0 where
+-- the step is by that request
+abbrev pub IsStepBy : Request → Option Step → Type 0
+IsStepBy r None = ⊥
+IsStepBy r (Some step) = step.request ≡ r
+
+-- so are those of the arrivals behind the first n
+abbrev pub AreAddedBy : Request → ℕ → List Arrival → Type 0
+AreAddedBy r n arrivals = (i : ℕ) → n ≤ i → i < length arrivals → IsStepBy r (arrival_at arrivals i).step
+
+-- of these requests it is the first that leads from one label to the other
+pub record IsFirstTo (go : Label → Request → Label) (l m : Label) (rs : List Request) (r : Request) : Type 0 where
+  pub place : ℕ
+  pub within : place < length rs
+  pub is : slice_index_or rs place r ≡ r
+  pub before : (j : ℕ) (q : Request) → j < place → slice_index_or rs j q ≡ q → go l q ≡ m → ⊥
+
+-- so is that of a step
+abbrev pub IsFirstStep : (Label → Request → Label) → Label → List Request → Label → Option Step → Type 0
+IsFirstStep go l rs m None = ⊥
+IsFirstStep go l rs m (Some step) = IsFirstTo go l m rs step.request
+
+-- so are those of the arrivals behind the first n
+abbrev pub AreFirst : (Label → Request → Label) → Label → List Request → ℕ → List Arrival → Type 0
+AreFirst go l rs n arrivals =
+    (i : ℕ) → n ≤ i → i < length arrivals → IsFirstStep go l rs (arrival_at arrivals i).label (arrival_at arrivals i).step
+
+-- the first n arrivals are followed, but for those that are untold; those at labels of that kind by all requests that can be asked
+pub record AreFollowed (go : Label → Request → Label) (Sure : Label → Type 0) (ps : List Policy) (limit : ℕ) (arrivals : List Arrival) (untold : List Untold) (n : ℕ) : Type 0 where
   pub within : n ≤ length arrivals
-  pub told : (k : ℕ) → k < n → IsFollowed untold k → AreFollowedBy g arrivals k IsAskable
-  pub few : (k : ℕ) → k < n → IsFollowed untold k → HaveManyPatternsAt g.policies.now (arrival_at arrivals k).label → ⊥
+  pub told : (k : ℕ) → k < n → IsFollowed untold k → Sure (arrival_at arrivals k).label → AreFollowedBy go arrivals k IsAskable
+  pub few : (k : ℕ) → k < n → IsFollowed untold k → HaveManyPatternsAt ps (arrival_at arrivals k).label → ⊥
   pub steps : (i : ℕ) → i < length arrivals → IsStepBehind n untold (arrival_at arrivals i).step
-  pub each : (u : Untold) → Contains untold u → IsUntoldBelow g.policies.now limit arrivals n u
+  pub each : (u : Untold) → Contains untold u → IsUntoldBelow ps limit arrivals n u
   pub rising : (i j : ℕ) → i < j → j < length untold → number_at untold i < number_at untold j
 
 -- each list of requests that can be asked, and that leads on from such labels alone, leads to the label of an arrival, which takes no more
-abbrev pub ReachAll : Going → (Label → Type 0) → Label → List Arrival → Type 0
-ReachAll g Open from arrivals = (rs : List Request) → AreTold (label_in g) Open from rs → IsWithin arrivals (led_by (label_in g) from rs) (length rs)
+abbrev pub ReachAll : (Label → Request → Label) → (Label → Type 0) → Label → List Arrival → Type 0
+ReachAll go Open from arrivals = (rs : List Request) → AreTold go Open from rs → IsWithin arrivals (led_by go from rs) (length rs)

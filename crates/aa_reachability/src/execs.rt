@@ -7,6 +7,8 @@ ghost use Rattle.aa_auto.specs.Tables.{IsText, HasPlaces};
 ghost use Rattle.aa_model.specs.Requests.{is_path};
 ghost use Rattle.aa_model.specs.declared.request.Request.{Request};
 ghost use Rattle.aa_model.specs.declared.rule.FileRule.{FileRule};
+ghost use Rattle.aa_regions.specs.declared.regions.Region.{Region};
+ghost use Rattle.aa_regions.specs.Regions.{IsAsked};
 ghost use Rattle.aa_compile.specs.FileRules.{says_how};
 ghost use Rattle.aa_representatives.specs.Alike.{deciding};
 ghost use Rattle.aa_representatives.specs.Askable.{IsExec};
@@ -20,7 +22,8 @@ use crate::extent::{Extent, profile_with_few};
 use aa_compile::Compiled;
 use aa_model::{FileRule, Label, Profile, Request, RequestFault};
 use aa_pattern::{Item, Pattern};
-use aa_representatives::{RepresentativesFault, exec_representatives};
+use aa_regions::Region;
+use aa_representatives::{RepresentativesFault, deciding_regions};
 use std::alloc::{AllocError, Global};
 
 /// The one text that a pattern of bytes alone matches.
@@ -176,8 +179,44 @@ fn few_execs(
     Ok(execs)
 }
 
-/// Executions that can be asked, such that each that moves a task is answered as one of them. The errors are `TooManyPatterns`,
-/// `TooManyStates` and `NoMemory`.
+/// Adds the requests to execute a file, of the owner and of others, at the path of each region.
+fn add_execs_of_regions(
+    alloc: Global,
+    requests: &mut Vec<Request>,
+    regions: &[Region],
+) -> Result<(), AllocError>
+    requires { (r : Region) → Contains regions.now r → IsAsked r.witness }
+    ensures adds { OnOk result (Adds IsExec requests.old.items requests.new.items) }
+    ensures has { OnOk result ((r : Region) → Contains regions.now r → HasExecs r.witness requests.new.items) }
+{
+    for region in regions {
+        add_execs_at(alloc, requests, region.witness.as_slice())?;
+    }
+    Ok(())
+}
+
+/// The same at a label: those at a shortest path of each region of paths that are answered alike.
+fn region_execs(
+    alloc: Global,
+    policies: &[Compiled],
+    label: Label,
+    limit: usize,
+) -> Result<Vec<Request>, RepresentativesFault>
+    requires some { 0 < limit }
+    requires limit { limit ≤ most_states }
+    ensures lead { IfOk result (λ rs. LeadAllOf policies.now label IsExec rs.items) }
+    ensures many_patterns { result ≡ Err RepresentativesFault.TooManyPatterns → most_patterns < length (deciding policies.now label) }
+    ensures few_patterns { IfOk result (λ _. length (deciding policies.now label) ≤ most_patterns) }
+    ensures many_states { result ≡ Err RepresentativesFault.TooManyStates → HasPlaces (deciding policies.now label) (limit + 1) }
+{
+    let regions = deciding_regions(alloc, policies, label, limit)?;
+    let mut requests = Vec::new(alloc);
+    add_execs_of_regions(alloc, &mut requests, regions.as_slice())?;
+    Ok(requests)
+}
+
+/// Executions that can be asked, such that each that moves a task is answered as one of them with no longer a path. The errors are
+/// `TooManyPatterns`, `TooManyStates` and `NoMemory`.
 pub(crate) fn execs_at(
     alloc: Global,
     policies: &[Compiled],
@@ -196,6 +235,6 @@ pub(crate) fn execs_at(
     if let Some(requests) = few_execs(alloc, policies, extent, label)? {
         return Ok(requests);
     }
-    let requests = exec_representatives(alloc, policies, label, limit)?;
+    let requests = region_execs(alloc, policies, label, limit)?;
     Ok(requests)
 }

@@ -4,6 +4,7 @@ ghost use Rattle.std.specs.Prelude.{◌≡◌, ◌+◌, ◌<◌, ◌≤◌, Err,
 ghost use Rattle.aa_pattern.specs.Limits.{most_states};
 ghost use Rattle.aa_reachability.specs.Extents.{IsExtent};
 ghost use Rattle.aa_reachability.specs.Granted.{AreGranted};
+ghost use Rattle.aa_reachability.specs.Order.{IsInOrder};
 ghost use Rattle.aa_reachability.specs.Moves.{LeadAll, HaveManyPatternsAt, HavePlacesAt};
 
 use crate::changes::{Changes, changes_at};
@@ -22,8 +23,8 @@ pub(crate) struct Moves {
     pub(crate) are_granted: bool,
 }
 
-/// Requests that can be asked, such that to each label to which some request leads, one of them does, but for the label itself. The
-/// errors are `TooManyPatterns`, `TooManyStates` and `NoMemory`.
+/// Requests that can be asked, such that to each label to which some request leads, one of them does that comes no later, but for the label
+/// itself: executions first, then changes, those with shorter paths or names before others. The errors are `TooManyPatterns`, `TooManyStates` and `NoMemory`.
 pub(crate) fn moves_at(
     alloc: Global,
     policies: &[Compiled],
@@ -35,6 +36,7 @@ pub(crate) fn moves_at(
     requires limit { limit ≤ most_states }
     requires extent { IsExtent policies.now extent }
     ensures lead { IfOk result (λ ms. LeadAll policies.now label ms.requests.items) }
+    ensures ordered { IfOk result (λ ms. IsInOrder ms.requests.items) }
     ensures granted { IfOk result (λ ms. AreGranted policies.now label ms.are_granted ms.requests.items) }
     ensures many_patterns { result ≡ Err RepresentativesFault.TooManyPatterns → HaveManyPatternsAt policies.now label }
     ensures few_patterns { IfOk result (λ _. HaveManyPatternsAt policies.now label → ⊥) }

@@ -1,13 +1,17 @@
 //! The order in which requests are tried: shorter ones first.
 
-ghost use Rattle.std.specs.Prelude.{IfOk, IsPermutation};
+ghost use Rattle.std.specs.Prelude.{◌≡◌, IfOk, IsPermutation, length};
+ghost use Rattle.std.specs.List.Sorted.{IsNonDecreasingBy};
+ghost use Rattle.aa_reachability.specs.Order.{text_length};
 
 use aa_model::Request;
 use std::alloc::AllocError;
 use std::cmp::Ordering;
 
 /// The bytes of the path that an execution is of, or of the name that a change asks for.
-fn text_in(request: &Request) -> &[u8] {
+fn text_in(request: &Request) -> &[u8]
+    ensures { length result.now ≡ text_length request.now }
+{
     match request {
         Request::Exec(exec) => exec.path(),
         Request::Change(change) => change.name(),
@@ -38,10 +42,27 @@ fn by_text(one: &Request, other: &Request) -> Ordering {
     by_bytes(one, other)
 }
 
-/// The same requests, those with shorter paths or names first.
-pub(crate) fn in_order(mut requests: Vec<Request>) -> Result<Vec<Request>, AllocError>
+/// How many they are.
+fn text_length(request: &Request) -> usize
+    ensures { result ≡ text_length request.now }
+{
+    text_in(request).len()
+}
+
+/// The same requests, of one length in the order of their bytes.
+fn in_order_of_bytes(mut requests: Vec<Request>) -> Result<Vec<Request>, AllocError>
     ensures { IfOk result (λ rs. IsPermutation requests.items rs.items) }
 {
     requests.sort_by(|one, other| by_text(one, other))?;
+    Ok(requests)
+}
+
+/// The same requests, those with shorter paths or names first.
+pub(crate) fn in_order(requests: Vec<Request>) -> Result<Vec<Request>, AllocError>
+    ensures same { IfOk result (λ rs. IsPermutation requests.items rs.items) }
+    ensures rising { IfOk result (λ rs. IsNonDecreasingBy text_length rs.items) }
+{
+    let mut requests = in_order_of_bytes(requests)?;
+    requests.sort_by_key(|request| text_length(request))?;
     Ok(requests)
 }

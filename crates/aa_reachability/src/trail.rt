@@ -3,11 +3,11 @@
 ghost use Rattle.std.specs.Prelude.{◌≡◌, ◌+◌, ◌<◌, true, IfOk, OnOk, length};
 ghost use Rattle.aa_representatives.specs.Askable.{IsAskable};
 ghost use Rattle.aa_reachability.specs.Granted.{IsGranted};
-ghost use Rattle.aa_reachability.specs.Moves.{label_in};
-ghost use Rattle.aa_reachability.specs.Trail.{arrival_at, IsTrail, IsLevel, IsWithin, Extends};
+ghost use Rattle.aa_reachability.specs.Course.{label_on, IsDecidedOn};
+ghost use Rattle.aa_reachability.specs.Trail.{arrival_at, IsTrail, IsLevel, IsWithin, Extends, AreAddedBy};
 
+use crate::beside::{Course, label_on};
 use crate::codes::code_of;
-use crate::going::{Going, label_at};
 use aa_model::{Label, Request};
 use indexmap::IndexSet;
 use std::alloc::{AllocError, Global};
@@ -36,8 +36,12 @@ pub(crate) struct Trail {
 
 impl Trail {
     /// The first arrival: at the label where the task begins.
-    pub(crate) fn started(alloc: Global, going: Going<'_>, from: Label) -> Result<Trail, AllocError>
-        ensures trail { IfOk result (λ t. IsTrail going.entry from t.known.keys t.arrivals.items) }
+    pub(crate) fn started(
+        alloc: Global,
+        course: Course<'_>,
+        from: Label,
+    ) -> Result<Trail, AllocError>
+        ensures trail { IfOk result (λ t. IsTrail (label_on course.entry) from t.known.keys t.arrivals.items) }
         ensures level { IfOk result (λ t. IsLevel t.arrivals.items 0) }
         ensures one { IfOk result (λ t. length t.arrivals.items ≡ 1) }
     {
@@ -55,25 +59,30 @@ impl Trail {
     /// Goes on from an arrival by one request, where its label isn't known yet.
     pub(crate) fn follow(
         &mut self,
-        going: Going<'_>,
+        alloc: Global,
+        course: Course<'_>,
         from: Label,
         number: usize,
         request: &Request,
         are_granted: bool,
+        are_sure: bool,
     ) -> Result<(), AllocError>
-        requires trail { IsTrail going from self.old.known.keys self.old.arrivals.items }
+        requires trail { IsTrail (label_on course) from self.old.known.keys self.old.arrivals.items }
         requires within { number < length self.old.arrivals.items }
         requires level { IsLevel self.old.arrivals.items number }
         requires asked { IsAskable request.now }
-        requires granted { are_granted ≡ true → IsGranted going.policies.now (arrival_at self.old.arrivals.items number).label request.now }
-        ensures trail { OnOk result (IsTrail going.entry from self.new.known.keys self.new.arrivals.items) }
+        requires granted { are_granted ≡ true → IsGranted course.going.policies.now (arrival_at self.old.arrivals.items number).label request.now }
+        requires sure { are_sure ≡ true → IsDecidedOn course (arrival_at self.old.arrivals.items number).label request.now }
+        ensures trail { OnOk result (IsTrail (label_on course.entry) from self.new.known.keys self.new.arrivals.items) }
         ensures level { OnOk result (IsLevel self.new.arrivals.items number) }
         ensures extends { OnOk result (Extends number self.old.arrivals.items self.new.arrivals.items) }
-        ensures reached { OnOk result (IsWithin self.new.arrivals.items (label_in going.entry (arrival_at self.old.arrivals.items number).label request.now) ((arrival_at self.old.arrivals.items number).length + 1)) }
+        ensures added { OnOk result (AreAddedBy request.now (length self.old.arrivals.items) self.new.arrivals.items) }
+        ensures reached { OnOk result (IsWithin self.new.arrivals.items (label_on course.entry (arrival_at self.old.arrivals.items number).label request.now) ((arrival_at self.old.arrivals.items number).length + 1)) }
     {
         let before = &self.arrivals[number];
-        let label = label_at(going, before.label, request, are_granted);
+        let from_label = before.label;
         let length = before.length + 1;
+        let label = label_on(alloc, course, from_label, request, are_granted, are_sure)?;
         let (_, is_new) = self.known.insert_full(code_of(label))?;
         if !is_new {
             return Ok(());

@@ -1,10 +1,13 @@
 -- The regions of the steps are those of the patterns.
-use Rattle.std.proofs.Common.{◌≡◌, ℕ, ◌+◌, ◌<◌, ◌≤◌, List, [], ◌∷◌, ◌++◌, Bool, true, false, true≢false, length, map, get_or, set, Fits, w8, Contains, refl, sym, ap, ◌∙◌, subst, arith, ⊎_elim}
+use Rattle.std.proofs.Common.{◌≡◌, ℕ, ◌+◌, ◌<◌, ◌≤◌, List, [], ◌∷◌, ◌++◌, Bool, true, false, true≢false, Some, length, map, get_or, slice_get, set, Fits, w8, Contains, refl, sym, ap, ◌∙◌, subst, arith, ⊎_elim}
 use Rattle.std.proofs.lemmas.Bool.{cases_eq, cases_lt}
+use Rattle.std.proofs.lemmas.Option.{slice_get-get_or}
 use Rattle.std.proofs.lemmas.List.{length-set, length_push, length-map, get_or-set_same, get_or-set_other, get_or_append_left, get_or_push, get_or_default, get_or-map, map_push}
 use Rattle.std.proofs.lemmas.List.Elements.{All-append, All-from_get_or, All-weaker, Contains-get_or, Contains-push, Contains-push_cases, Contains-append_left}
 use Rattle.aa_pattern.specs.declared.pattern.Pattern.{Pattern}
 use Rattle.aa_auto.specs.Apart.{IsApart}
+use Rattle.aa_pattern.specs.Globs.{Matches}
+use Rattle.aa_auto.specs.Pairs.{IsNarrowed}
 use Rattle.aa_auto.specs.Tables.{Table, IsText, IsAutomaton, ListsMatching, place_of, list_at, list_number}
 use Rattle.aa_auto.proofs.SortedLemmas.{same_rising}
 use Rattle.aa_regions.specs.declared.steps.Step.{Step}
@@ -12,6 +15,7 @@ use Rattle.aa_regions.specs.declared.regions.Region.{Region}
 use Rattle.aa_regions.specs.Wanted.{IsWanted, IsFrom}
 use Rattle.aa_regions.specs.Steps.{step_at, text_at, IsRising, IsTrail, AreSpelled, AreEarlier, AreNumbered, ReachAll}
 use Rattle.aa_regions.specs.Regions.{IsRegion, AreRegions, IsTaken, IsTakenOf, AreCollected}
+use Rattle.aa_regions.specs.Automata.{HasLists, AreRegionsBy}
 
 abbrev pub numbers_of : Region → List ℕ
 numbers_of r = r.numbers
@@ -133,17 +137,20 @@ pub wanted_text : (head : List ℕ) (low max : ℕ) (s : List ℕ) → IsText he
 wanted_text head low max s of w =
     subst IsText (sym w.whole) (All-append (λ b. b < 256) head w.rest of (All-weaker (IsFrom low) (λ b. b < 256) (λ b h. h.1) w.rest w.bytes))
 
+slice_get-last : (ps : List Pattern) (q : Pattern) → slice_get (ps ++ q ∷ []) (length ps) ≡ Some q
+slice_get-last ps q = slice_get-get_or (ps ++ q ∷ []) (length ps) q (omega (arith, length_push ps q)) ∙ ap Some (get_or_push ps q q (length ps) refl)
+
 -- a slice of bytes is a text
 pub text_of : (s : List ℕ) → ((i : ℕ) → Fits w8 (get_or s i 0)) → IsText s
 text_of s fits = All-from_get_or (λ b. b < 256) s 0 (λ i lt. let f = fits i in omega (arith, f.fits))
 
 -- each row of the steps has a list
-pub trail_numbered : (ps : List Pattern) (t : Table) → IsAutomaton ps t → (head : List ℕ) (low max : ℕ) → IsText head
+pub trail_numbered : (t : Table) → HasLists t → (head : List ℕ) (low max : ℕ) → IsText head
     → (seen : List Bool) (steps : List Step) → IsTrail t head low max seen steps → AreNumbered t steps
-trail_numbered ps t auto head low max bytes seen steps trail i lt =
+trail_numbered t lists head low max bytes seen steps trail i lt =
     let at = trail.each i lt in
     subst (λ row. list_number t row < length t.lists) at.place
-    (auto.numbered (text_at trail.texts i) (wanted_text head low max (text_at trail.texts i) bytes at.wanted))
+    (lists.numbered (text_at trail.texts i) (wanted_text head low max (text_at trail.texts i) bytes at.wanted))
 
 -- a step's texts are spelled so
 pub trail_spelled : (t : Table) (head : List ℕ) (low max : ℕ) (seen : List Bool) (steps : List Step) (trail : IsTrail t head low max seen steps)
@@ -158,49 +165,92 @@ trail_earlier t head low max seen steps trail i some lt =
     (λ (p : ((step_at steps i).from < i) × (text_at trail.texts i ≡ text_at trail.texts (step_at steps i).from ++ (step_at steps i).byte ∷ [])). p.0)
     (trail.each i lt).spelled
 
-module _ (ps : List Pattern) (t : Table) (auto : IsAutomaton ps t) (head : List ℕ) (low max : ℕ) (bytes : IsText head) (seen : List Bool)
-    (steps : List Step) (trail : IsTrail t head low max seen steps)
+module _ (t : Table) (head : List ℕ) (low max : ℕ) (seen : List Bool) (steps : List Step) (trail : IsTrail t head low max seen steps)
     (reach : ReachAll t head low max steps) (taken : List Bool) (rs : List Region) (c : AreCollected t head steps (length steps) taken rs) where
-  -- the list of a text is that of its row
-  list_of : (s : List ℕ) → IsWanted head low max s → (numbers : List ℕ) → ListsMatching ps s numbers → list_at t (place_of t s) ≡ numbers
-  list_of s w numbers l =
-      let m = auto.matching s (wanted_text head low max s bytes w) in
-      same_rising (list_at t (place_of t s)) numbers m.rising l.rising (λ n x. (l.exact n).1 ((m.exact n).0 x)) (λ n x. (m.exact n).1 ((l.exact n).0 x))
+  -- of a region the step, its text and its row
+  text_is : (r : Region) (in' : Contains rs r) → r.witness ≡ text_at trail.texts (c.each r in').0
+  text_is r in' = (c.each r in').3.text trail.texts (trail_spelled t head low max seen steps trail)
 
-  number_in : (s : List ℕ) → IsWanted head low max s → list_number t (place_of t s) < length t.lists
-  number_in s w = auto.numbered s (wanted_text head low max s bytes w)
+  wanted : (r : Region) → Contains rs r → IsWanted head low max r.witness
+  wanted r in' = let of = (c.each r in').3 in subst (IsWanted head low max) (sym (text_is r in')) (trail.each (c.each r in').0 of.within).wanted
 
-  region : (r : Region) → Contains rs r → IsRegion ps head low max r
-  region r in' =
-      let f = c.each r in' in
-      let k = f.0 in
-      let of = f.3 in
-      let at = trail.each k of.within in
-      let text : r.witness ≡ text_at trail.texts k = of.text trail.texts (trail_spelled t head low max seen steps trail) in
-      let wanted : IsWanted head low max r.witness = subst (IsWanted head low max) (sym text) at.wanted in
-      let place : place_of t r.witness ≡ (step_at steps k).row = ap (place_of t) text ∙ at.place in
-      let lists : list_at t (place_of t r.witness) ≡ r.numbers = ap (list_at t) place ∙ sym of.numbers in
-      record {
-        wanted = wanted;
-        lists = subst (ListsMatching ps r.witness) lists (auto.matching r.witness (wanted_text head low max r.witness bytes wanted));
-        shortest = λ s w l.
-            let j = reach s w in
-            let same : get_or t.lists (list_number t (place_of t s)) [] ≡ get_or t.lists (list_number t (place_of t r.witness)) [] =
-            list_of s w r.numbers l ∙ sym lists in
-            let number : list_number t (place_of t s) ≡ list_number t (place_of t r.witness) =
-            auto.apart (list_number t (place_of t s)) (list_number t (place_of t r.witness)) (number_in s w) (number_in r.witness wanted) same in
-            let rows : list_number t (step_at steps j.0).row ≡ list_number t (step_at steps k).row =
-            ap (list_number t) j.2 ∙ number ∙ ap (list_number t) place in
-            omega (arith, of.first j.0 j.1 rows, j.3, ap length text, at.long);
-      }
+  place_is : (r : Region) (in' : Contains rs r) → place_of t r.witness ≡ (step_at steps (c.each r in').0).row
+  place_is r in' = let of = (c.each r in').3 in ap (place_of t) (text_is r in') ∙ (trail.each (c.each r in').0 of.within).place
 
-  pub are_regions : AreRegions ps head low max rs
-  are_regions = record {
-    each = region;
+  pub regions_by : AreRegionsBy t head low max rs
+  regions_by = record {
+    wanted = wanted;
+    lists = λ r in'. ap (list_at t) (place_is r in') ∙ sym (c.each r in').3.numbers;
+    shortest = λ r in' s w number.
+        let of = (c.each r in').3 in
+        let j = reach s w in
+        let rows : list_number t (step_at steps j.0).row ≡ list_number t (step_at steps (c.each r in').0).row =
+        ap (list_number t) j.2 ∙ number ∙ ap (list_number t) (place_is r in') in
+        omega (arith, of.first j.0 j.1 rows, j.3, ap length (text_is r in'), (trail.each (c.each r in').0 of.within).long);
     all = λ s w.
         let j = reach s w in
         let f = c.all (list_number t (step_at steps j.0).row) (c.marked j.0 j.1) in
-        let numbers : list_at t (place_of t s) ≡ f.0.numbers = ap (list_at t) (sym j.2) ∙ sym f.2 in
-        (f.0, f.1, subst (ListsMatching ps s) numbers (auto.matching s (wanted_text head low max s bytes w)));
+        (f.0, f.1, ap (list_at t) (sym j.2) ∙ sym f.2);
     apart = c.apart;
   }
+
+-- where two lists say exactly which patterns match a text, they are the same
+same_lists : (ps : List Pattern) (s xs ys : List ℕ) → ListsMatching ps s xs → ListsMatching ps s ys → xs ≡ ys
+same_lists ps s xs ys m l = same_rising xs ys m.rising l.rising (λ n x. (l.exact n).1 ((m.exact n).0 x)) (λ n x. (m.exact n).1 ((l.exact n).0 x))
+
+-- a region of texts whose lists are those of the patterns
+region_is : (ps : List Pattern) (t : Table) (head : List ℕ) (low max : ℕ) (rs : List Region) → IsText head → HasLists t → AreRegionsBy t head low max rs → (r : Region) → Contains rs r →
+    ListsMatching ps r.witness (list_at t (place_of t r.witness)) → ((s : List ℕ) → IsText s → ListsMatching ps s r.numbers → ListsMatching ps s (list_at t (place_of t s))) →
+    IsRegion ps head low max r
+region_is ps t head low max rs bytes has by r in' lists each = record {
+  wanted = by.wanted r in';
+  lists = subst (ListsMatching ps r.witness) (by.lists r in') lists;
+  shortest = λ s w l.
+      let text = wanted_text head low max s bytes w in
+      by.shortest r in' s w
+      (has.apart (list_number t (place_of t s)) (list_number t (place_of t r.witness)) (has.numbered s text) (has.numbered r.witness (wanted_text head low max r.witness bytes (by.wanted r in')))
+      (same_lists ps s (list_at t (place_of t s)) r.numbers (each s text l) l ∙ sym (by.lists r in')));
+}
+
+pub automaton_lists : (ps : List Pattern) (t : Table) → IsAutomaton ps t → HasLists t
+automaton_lists ps t a = record { numbered = a.numbered; apart = a.apart }
+
+pub narrowed_lists : (ps : List Pattern) (q : Pattern) (t : Table) → IsNarrowed ps q t → HasLists t
+narrowed_lists ps q t n = record { numbered = n.numbered; apart = n.apart }
+
+pub are_regions : (ps : List Pattern) (t : Table) (head : List ℕ) (low max : ℕ) (rs : List Region) → IsText head → IsAutomaton ps t → AreRegionsBy t head low max rs → AreRegions ps head low max rs
+are_regions ps t head low max rs bytes a by = record {
+  each = λ r in'. region_is ps t head low max rs bytes (automaton_lists ps t a) by r in' (a.matching r.witness (wanted_text head low max r.witness bytes (by.wanted r in'))) (λ s text l. a.matching s text);
+  all = λ s w. let f = by.all s w in (f.0, f.1, subst (ListsMatching ps s) f.2 (a.matching s (wanted_text head low max s bytes w)));
+  apart = by.apart;
+}
+
+-- the last pattern is listed just where it matches
+pub last_in : (ps : List Pattern) (q : Pattern) (s numbers : List ℕ) → ListsMatching (ps ++ q ∷ []) s numbers → Matches q.items.items s → Contains numbers (length ps)
+last_in ps q s numbers l m = (l.exact (length ps)).1 (q, slice_get-last ps q, m)
+
+pub last_of : (ps : List Pattern) (q : Pattern) (s numbers : List ℕ) → ListsMatching (ps ++ q ∷ []) s numbers → Contains numbers (length ps) → Matches q.items.items s
+last_of ps q s numbers l c =
+    let m = (l.exact (length ps)).0 c in
+    let same : m.0 ≡ q = cc (sym m.1 ∙ slice_get-last ps q) in
+    subst (λ (z : Pattern). Matches z.items.items s) same m.2
+
+pub within_regions : (ps : List Pattern) (q : Pattern) (t : Table) (head : List ℕ) (low max : ℕ) (rs : List Region) → IsText head → IsNarrowed ps q t → AreRegionsBy t head low max rs →
+    ((r : Region) → Contains rs r → Matches q.items.items r.witness → IsRegion (ps ++ q ∷ []) head low max r)
+    × ((s : List ℕ) → IsWanted head low max s → Matches q.items.items s → (r : Region) × Contains rs r × Matches q.items.items r.witness × ListsMatching (ps ++ q ∷ []) s r.numbers)
+within_regions ps q t head low max rs bytes n by = (
+  λ r in' m.
+      let lists = n.matching r.witness (text r in') m in
+      let has : Contains r.numbers (length ps) = subst (λ z. Contains z (length ps)) (by.lists r in') (last_in ps q r.witness (list_at t (place_of t r.witness)) lists m) in
+      region_is (ps ++ q ∷ []) t head low max rs bytes (narrowed_lists ps q t n) by r in' lists (λ s of l. n.matching s of (last_of ps q s r.numbers l has)),
+  λ s w m.
+      let of = wanted_text head low max s bytes w in
+      let f = by.all s w in
+      let lists = n.matching s of m in
+      let has : Contains (list_at t (place_of t f.0.witness)) (length ps) =
+      subst (λ z. Contains z (length ps)) (f.2 ∙ sym (by.lists f.0 f.1)) (last_in ps q s (list_at t (place_of t s)) lists m) in
+      (f.0, f.1, n.matched f.0.witness (text f.0 f.1) has, subst (ListsMatching (ps ++ q ∷ []) s) f.2 lists),
+)
+  where
+    text : (r : Region) → Contains rs r → IsText r.witness
+    text r in' = wanted_text head low max r.witness bytes (by.wanted r in')

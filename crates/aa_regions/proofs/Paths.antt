@@ -1,15 +1,18 @@
 -- Paths that can be asked for are texts of a kind.
-use Rattle.std.proofs.Common.{◌≡◌, ℕ, ◌<◌, ◌≤◌, List, [], ◌∷◌, true, false, length, Result, Ok, Err, IfOk, All, refl, sym, ap, subst, arith}
+use Rattle.std.proofs.Common.{◌≡◌, ℕ, ◌<◌, ◌≤◌, List, [], ◌∷◌, ◌++◌, true, false, length, Result, Ok, Err, IfOk, All, refl, sym, ap, subst, arith}
 use Rattle.std.specs.Prelude.{not, ◌&&◌, ◌==◌, nat_le}
 use Rattle.std.specs.List.{list_any}
 use Rattle.std.proofs.lemmas.Bool.{and_parts, and_from, or_parts, or_from, not-true, not_from_false, eqb-true, ne_eqb, eqb-false, leb-true, le-leb}
 use Rattle.std.proofs.lemmas.List.Elements.{All-head, All-tail, All-cons, All-nil}
 use Rattle.aa_pattern.specs.declared.pattern.Pattern.{Pattern}
-use Rattle.aa_auto.specs.Tables.{IsText}
+use Rattle.aa_auto.specs.Pairs.{IsNarrowed}
+use Rattle.aa_auto.specs.Tables.{Table, IsText}
 use Rattle.aa_model.specs.Requests.{begins_with}
 use Rattle.aa_regions.specs.declared.regions.Region.{Region}
 use Rattle.aa_regions.specs.Wanted.{IsWanted, IsFrom}
 use Rattle.aa_regions.specs.Regions.{AreRegions, ArePathRegions, IsAsked}
+use Rattle.aa_regions.specs.Automata.{AreRegionsBy, ArePathRegionsWithin}
+use Rattle.aa_regions.proofs.Collecting.{last_in, last_of, within_regions}
 
 abbrev head : List ℕ
 head = 47 ∷ []
@@ -65,6 +68,29 @@ path_regions ps rs are = record {
         shortest = λ s a l. is.shortest s (asked_wanted s a) l;
       };
   all = λ s a. are.all s (asked_wanted s a);
+  apart = are.apart;
+}
+
+pub within_paths : (ps : List Pattern) (q : Pattern) (t : Table) (rs : List Region) → IsNarrowed ps q t → AreRegionsBy t head 1 4095 rs → ArePathRegionsWithin ps q rs
+within_paths ps q t rs n by =
+    let r = within_regions ps q t head 1 4095 rs (All-cons (λ x. x < 256) 47 [] (omega arith) (All-nil (λ x. x < 256))) n by in
+    record {
+      asked = λ r in'. wanted_asked r.witness (by.wanted r in');
+      each = λ r' in' m.
+          let is = r.0 r' in' m in
+          record { asked = wanted_asked r'.witness is.wanted; lists = is.lists; shortest = λ s a l. is.shortest s (asked_wanted s a) l };
+      all = λ s a m. r.1 s (asked_wanted s a) m;
+      apart = by.apart;
+    }
+
+-- regions of all paths are such of those that the last pattern matches, too
+pub all_within : (ps : List Pattern) (q : Pattern) (rs : List Region) → ArePathRegions (ps ++ q ∷ []) rs → ArePathRegionsWithin ps q rs
+all_within ps q rs are = record {
+  asked = λ r in'. (are.each r in').asked;
+  each = λ r in' m. are.each r in';
+  all = λ s a m.
+      let f = are.all s a in
+      (f.0, f.1, last_of ps q f.0.witness f.0.numbers (are.each f.0 f.1).lists (last_in ps q s f.0.numbers f.2 m), f.2);
   apart = are.apart;
 }
 

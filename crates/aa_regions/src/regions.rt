@@ -1,10 +1,13 @@
 //! Regions: the texts of a kind that the same patterns match.
 
-ghost use Rattle.std.specs.Prelude.{◌≡◌, ◌+◌, ◌<◌, ◌≤◌, ◌∷◌, [], ℕ, IfOk, OnOk, Err, length};
+ghost use Rattle.std.specs.Prelude.{◌≡◌, ◌+◌, ◌<◌, ◌≤◌, ◌∷◌, [], List, IfOk, OnOk, Err, length};
 ghost use Rattle.aa_pattern.specs.Limits.{most_patterns, most_states};
 ghost use Rattle.aa_auto.specs.Apart.{IsApart};
 ghost use Rattle.aa_auto.specs.Nodes.{pointed};
-ghost use Rattle.aa_auto.specs.Tables.{HasPlaces, list_at, list_number};
+ghost use Rattle.aa_auto.specs.Pairs.{IsNarrowed};
+ghost use Rattle.aa_auto.specs.Tables.{HasPlaces, IsAutomaton, list_at, list_number};
+ghost use Rattle.aa_pattern.specs.declared.pattern.Pattern.{Pattern};
+ghost use Rattle.aa_regions.specs.Automata.{AreRegionsBy, ArePathRegionsWithin, HasLists};
 ghost use Rattle.aa_regions.specs.Steps.{step_at, text_at, AreSpelled, AreEarlier, AreNumbered, AreRowsIn, IsRising};
 ghost use Rattle.aa_regions.specs.Regions.{AreRegions, ArePathRegions, AreCollected};
 
@@ -105,6 +108,25 @@ fn collect_all(
     Ok(found)
 }
 
+/// The regions of the texts that begin with `head`, go on with bytes of at least `low`, and have at most `max` bytes, by the lists of
+/// the automaton, in the order of their shortest texts.
+fn regions_by(
+    alloc: Global,
+    automaton: &Automaton,
+    head: &[u8],
+    low: u8,
+    max: usize,
+) -> Result<Vec<Region>, AllocError>
+    requires lists { HasLists automaton.now }
+    requires head { length head.now ≤ max }
+    requires low { low ≤ 97 }
+    ensures { IfOk result (λ rs. AreRegionsBy automaton.now head.now low max rs.items) }
+{
+    let trail = trail_of(alloc, automaton, head, low, max)?;
+    let found = collect_all(alloc, automaton, head, trail.steps.as_slice())?;
+    Ok(found.into_regions())
+}
+
 /// The regions of the texts that begin with `head`, go on with bytes of at least `low`, and have at most `max` bytes, in the
 /// order of their shortest texts. The errors are `TooManyStates`, just where the patterns need an automaton of more rows than
 /// the limit, and `NoMemory`.
@@ -126,9 +148,8 @@ pub fn regions_of(
     ensures fits { IfOk result (λ rs. HasPlaces (pointed patterns.now) (limit + 1) → ⊥) }
 {
     let automaton = Automaton::of(alloc, patterns, limit)?;
-    let trail = trail_of(alloc, &automaton, head, low, max)?;
-    let found = collect_all(alloc, &automaton, head, trail.steps.as_slice())?;
-    Ok(found.into_regions())
+    let regions = regions_by(alloc, &automaton, head, low, max)?;
+    Ok(regions)
 }
 
 /// The longest path that can be asked for.
@@ -149,4 +170,28 @@ pub fn path_regions(
     ensures fits { IfOk result (λ rs. HasPlaces (pointed patterns.now) (limit + 1) → ⊥) }
 {
     regions_of(alloc, patterns, limit, b"/", 1, MAX_PATH)
+}
+
+/// The regions of the paths that can be asked for, by the lists of the automaton.
+fn path_regions_by(alloc: Global, automaton: &Automaton) -> Result<Vec<Region>, AllocError>
+    requires { HasLists automaton.now }
+    ensures { IfOk result (λ rs. AreRegionsBy automaton.now (47 ∷ []) 1 4095 rs.items) }
+{
+    regions_by(alloc, automaton, b"/", 1, MAX_PATH)
+}
+
+/// The regions of the paths that can be asked for, by the patterns of the automaton.
+pub fn path_regions_of(alloc: Global, automaton: &Automaton) -> Result<Vec<Region>, AllocError>
+    requires { HasLists automaton.now }
+    ensures { IfOk result (λ rs. (ps : List Pattern) → IsAutomaton ps automaton.now → ArePathRegions ps rs.items) }
+{
+    path_regions_by(alloc, automaton)
+}
+
+/// The regions of the paths that can be asked for and that the last pattern of the narrowed automaton matches, and some of others.
+pub fn path_regions_within(alloc: Global, automaton: &Automaton) -> Result<Vec<Region>, AllocError>
+    requires { HasLists automaton.now }
+    ensures { IfOk result (λ rs. (ps : List Pattern) (q : Pattern) → IsNarrowed ps q automaton.now → ArePathRegionsWithin ps q rs.items) }
+{
+    path_regions_by(alloc, automaton)
 }

@@ -2,6 +2,7 @@ pub mod Matched
 pub mod Replied
 mod BelowLemmas
 pub mod Adding
+pub mod Making
 pub mod Standing
 mod Reloading
 mod Literal

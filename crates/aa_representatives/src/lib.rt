@@ -3,6 +3,7 @@
 
 mod all;
 mod apart;
+mod automata;
 mod both;
 mod changes;
 mod classes;
@@ -26,7 +27,7 @@ pub use laws::alike_paths_reply_alike;
 pub use links::link_representatives;
 pub use paths::{exec_representatives, file_representatives};
 pub use regions::{
-    deciding_regions, deciding_regions_and, deciding_regions_and_two, filing_regions_and,
-    filing_regions_and_two,
+    deciding_regions, deciding_regions_and, deciding_regions_and_two, deciding_regions_within,
+    filing_regions_and, filing_regions_and_two, filing_regions_within,
 };
 pub use reloads::reload_representatives;

@@ -24,7 +24,7 @@ const ASK: &str =
     "Decides requests, and names the rules that decided, as in: aapolicy ask /etc/apparmor.d/usr.sbin.cupsd r:/etc/passwd x:/bin/sh cap:net_admin";
 
 const DIFF: &str =
-    "Says which requests two policies answer differently, and names the rules, as in: aapolicy diff old/apparmor.d new/apparmor.d";
+    "Says which requests two policies answer differently, and names the rules, as in: aapolicy diff --old-base old/apparmor.d -b new/apparmor.d old/apparmor.d new/apparmor.d";
 
 const WHO: &str =
     "Says which profiles' rules allow what is asked, all of it or some, as in: aapolicy who /etc/apparmor.d 'w:/home/**' cap:sys_admin";
@@ -39,7 +39,7 @@ const LINT: &str =
     "Says what a policy allows and is seldom meant, as in: aapolicy lint /etc/apparmor.d/usr.sbin.cupsd";
 
 const REDUNDANT: &str =
-    "Says which rules can go and every reply is as it is, as in: aapolicy redundant /etc/apparmor.d";
+    "Says without which rules every reply stays as it is, as in: aapolicy redundant /etc/apparmor.d";
 
 const JOB: &str =
     "Prints the job that aamediate run decides alike, as in: aapolicy job /etc/apparmor.d/usr.sbin.cupsd --log /var/log/kern.log";
@@ -168,7 +168,7 @@ const CHECK_ARGUMENTS: &[Argument] = &[
         letter: Some('q'),
         form: Form::Flag,
         barred: None,
-        help: "Print faults alone",
+        help: "Print only faults",
     },
 ];
 
@@ -193,21 +193,21 @@ const DIFF_ARGUMENTS: &[Argument] = &[
         letter: None,
         form: Form::Value("DIR"),
         barred: None,
-        help: "The folder in which includes of OLD are searched last, in place of the base folder",
+        help: "The folder in which includes of OLD are searched last [default: that of -b, which is for both then]",
     },
     Argument {
         name: "gains",
         letter: None,
         form: Form::Flag,
         barred: None,
-        help: "Print what is newly granted alone",
+        help: "Print only what is newly granted, and the rules that are passed over",
     },
     Argument {
         name: "profile",
         letter: None,
         form: Form::Values("NAME"),
         barred: None,
-        help: "Print lines of the profile with this full name alone, or of unconfined tasks; of each of these, where there are several",
+        help: "Print only lines of the profile with this full name, or of unconfined tasks; of each of these, where there are several",
     },
     Argument {
         name: "known",
@@ -384,14 +384,14 @@ const WHO_ARGUMENTS: &[Argument] = &[
         letter: None,
         form: Form::Words,
         barred: None,
-        help: "[owned:|other:]LETTERS:PATTERN, with letters of rwakm, w to write or to append, or x to execute; cap:NAME, net:FAMILY/TYPE, change:NAME",
+        help: "[owned:|other:]LETTERS:PATTERN, with letters of rwakm, w to write or to append, or x to execute, and a pattern that begins with / and has no variable; cap:NAME, net:FAMILY/TYPE, change:NAME",
     },
     Argument {
         name: "also",
         letter: None,
         form: Form::Values("PROFILE"),
         barred: None,
-        help: "Another file or folder, whose profiles belong to the same policy",
+        help: "More files with profiles, whose profiles are there too",
     },
     Argument {
         name: "json",
@@ -430,14 +430,21 @@ const ASSERT_ARGUMENTS: &[Argument] = &[
         letter: None,
         form: Form::Flag,
         barred: None,
-        help: "Print of each claim the first alone by whom it is broken",
+        help: "Print of each claim only the first by whom it is broken",
+    },
+    Argument {
+        name: "format",
+        letter: None,
+        form: Form::Value("FORM"),
+        barred: Some("json"),
+        help: "How to answer: text, json, gcc (CLAIMS:LINE:1: error: SENTENCE [KIND], a line each, and a note for each rule) or sarif (version 2.1.0) [default: text]",
     },
     Argument {
         name: "json",
         letter: None,
         form: Form::Flag,
         barred: None,
-        help: "Answer in JSON",
+        help: "Answer in JSON, as --format json",
     },
 ];
 
@@ -462,7 +469,7 @@ const REACH_ARGUMENTS: &[Argument] = &[
         letter: None,
         form: Form::Value("LABEL"),
         barred: Some("dot"),
-        help: "Say whether it gets there alone: the exit status is 4 if it does",
+        help: "Print only the lists that lead to this label, or no: the exit status is 4 if one does",
     },
     Argument {
         name: "as-enforced",
@@ -501,21 +508,21 @@ const CHOICE_ARGUMENTS: &[Argument] = &[
         letter: None,
         form: Form::Values("NAME"),
         barred: None,
-        help: "Read lines of the profile with this full name alone; of each of these, where there are several",
+        help: "Read only lines of the profile with this full name; of each of these, where there are several",
     },
     Argument {
         name: "since",
         letter: None,
         form: Form::Value("SECONDS"),
         barred: None,
-        help: "Read lines alone whose stamp has this second since 1970 or a later one",
+        help: "Read only lines whose stamp has this second since 1970 or a later one",
     },
     Argument {
         name: "until",
         letter: None,
         form: Form::Value("SECONDS"),
         barred: None,
-        help: "Read lines alone whose stamp has this second since 1970 or an earlier one",
+        help: "Read only lines whose stamp has this second since 1970 or an earlier one",
     },
 ];
 
@@ -752,7 +759,7 @@ const REQUEST_COMMANDS: &[Named] = &[
         arguments: REACH_ARGUMENTS,
         more: &[],
         reads_policies: true,
-        skips: false,
+        skips: true,
     },
 ];
 

@@ -205,11 +205,14 @@ fn run_assert(
 ) -> Result<Output, NoMemory> {
     let alloc = rt.alloc();
     let files = files_of(alloc, matches, "PROFILE")?;
+    let Some(form) = form_of(matches) else {
+        return form_refused(alloc);
+    };
     let options = AssertOptions {
         claims: file_of(matches, "CLAIMS").unwrap_or("-".as_bytes()),
         files: files.as_slice(),
         is_first: matches.get_flag("first"),
-        is_json: matches.get_flag("json"),
+        form,
         skips: matches.get_flag("skip-refused"),
     };
     assert_files(alloc, tree, settings, &options)
@@ -232,6 +235,7 @@ fn run_reach(
         is_json: matches.get_flag("json"),
         is_dot: matches.get_flag("dot"),
         is_html: matches.get_flag("html"),
+        skips: matches.get_flag("skip-refused"),
     };
     reach_files(alloc, tree, settings, &options)
 }

@@ -16,7 +16,8 @@ returns-in-Err-clause-refused c =
 pub returns-in_ok-judged_found-in-Ok-clause-found : goal.returns-in_ok-judged_found-in-Ok-clause-found
 returns-in_ok-judged_found-in-Ok-clause-found c = (
   c.in-Ok.judgement,
-  subst (λ (t : List ℕ). IsJudged c.args.part.decided.policies.now (limit_of c.args.claim.states) c.args.label (IsMet c.args.part.decided.policies.now c.args.label c.args.aim) c.args.word.now t c.in-Ok.judgement)
+  subst (λ (t : List ℕ). IsJudged c.args.part.decided.policies.now (limit_of c.args.claim.states) c.args.label
+      (IsMet c.args.part.decided.policies.now c.args.label c.args.aim) c.args.word.now t c.in-Ok.judgement)
       c.as_slice.ensures.value c.in-Ok.ensures.judged,
   c.in_ok-judged_found-in-Ok.ensures,
 )

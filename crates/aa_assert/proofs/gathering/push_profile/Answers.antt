@@ -19,7 +19,8 @@ returns-clause-found c =
     let was = all_found c.args.findings.now in
     let now = all_found c.push_at.new.findings in
     on_ok_weaker c.push_at.result
-    (λ t. subst (λ (n : ℕ). AreFoundOf k.is_first c.args.part (limit_of k.states) k.words.now k.asked.now k.word.now.text.items n now) (sym (add-one c.args.number))
+    (λ t. subst (λ (n : ℕ). AreFoundOf k.is_first c.args.part (limit_of k.states) k.words.now k.asked.now k.word.now.text.items n now)
+    (sym (add-one c.args.number))
     (looked k.is_first c.args.part (limit_of k.states) k.words.now k.asked.now k.word.now.text.items c.args.number c.args.profile.now was now t.0 c.requires.there
     (sym c.in_ok-is_passed.ensures ∙ c.if-branch.false) t.1 t.2 c.requires.before))
     c.push_at.ensures.added

@@ -1,4 +1,4 @@
-use Rattle.aa_assert.proofs.Sound.{claims_hold, free_claims_hold, breakings_stand, endings_stand, ways_stand}
+use Rattle.aa_assert.proofs.Sound.{claims_hold, free_claims_hold, breakings_stand, endings_stand, ways_stand, arrivals_stand}
 use Rattle.aa_assert.proofs.laws.claims_are_sound.Goals as goal
 
 pub returns : goal.returns
@@ -8,4 +8,5 @@ returns c = record {
   broken = breakings_stand c.each_file_decides.ensures;
   ended = endings_stand c.each_file_decides.ensures;
   led = ways_stand c.each_file_decides.ensures;
+  comes = arrivals_stand c.each_file_decides.ensures;
 }

@@ -11,7 +11,8 @@ returns-in-Some c =
     let found = c.in_ok-found.found in
     let of = subst (λ (n : ℕ). AreUntold c.args.policies.now n found.arrivals.items found.untold.items) c.limit_of-limit.ensures.is c.in_ok-found.ensures.untold in
     through_it c.args.policies.now (limit_of c.args.states) c.args.from c.args.labels.now c.as_slice-arrivals.result.now found.arrivals.items found.untold.items
-    c.as_slice-arrivals.ensures.value c.in_ok-found.ensures.arrivals of c.in-Some.number c.in_ok-way_to-in-Some.field-0 c.in_ok-way_to-in-Some.ensures (sym c.in-Some.ensures.found)
+    c.as_slice-arrivals.ensures.value c.in_ok-found.ensures.arrivals of c.in-Some.number c.in_ok-way_to-in-Some.field-0 c.in_ok-way_to-in-Some.ensures
+    (sym c.in-Some.ensures.found)
 
 pub returns : goal.returns
 returns c =

@@ -11,7 +11,7 @@ loop-byte-init c = record {
   listed = c.in_ok-usual.ensures.listed;
   filled = filled_on c.args.net.now c.args.found.now.sets c.next_row.new.found.sets c.in_ok-usual.ensures.extends c.args.bytes.now c.args.cells.now.items c.args.row c.requires.cells c.requires.row c.requires.filled;
   usual = c.in_ok-usual.ensures.goes;
-  noted = c.in_ok-noted.ensures;
+  noted = c.in_ok-note_row.ensures;
   many = omega (arith, c.requires.cells);
   row = omega (arith, c.requires.row, longer c.args.net.now c.args.found.now.sets c.next_row.new.found.sets c.in_ok-usual.ensures.extends);
   few = c.in_ok-usual.ensures.few;
@@ -25,12 +25,15 @@ loop-byte-preserved c = record {
       (filled_more c.args.net.now c.loop-byte.found.sets c.cell_of.new.found.sets c.in_ok-next.ensures.extends c.args.bytes.now c.loop-byte.cells.items c.args.row c.loop-byte.byte-index _ c.in_ok-next.next
       c.loop-byte.invariant.many c.loop-byte-test.true refl c.loop-byte.invariant.row c.loop-byte.invariant.filled c.in_ok-next.ensures.goes);
   usual = goes_on c.args.net.now c.loop-byte.found.sets c.cell_of.new.found.sets c.in_ok-next.ensures.extends c.args.row 255 c.in_ok-usual.usual c.loop-byte.invariant.row c.loop-byte.invariant.usual;
-  noted = subst (λ z. AreNoted c.args.net.now.nodes.items z c.in_ok-noted.noted.named.items c.in_ok-noted.noted.asked.items)
+  noted = subst (λ z. AreNoted c.args.net.now.nodes.items z c.args.row c.note_row.new.noted.named.items c.note_row.new.noted.asked.items)
       (sym (kept c.args.net.now c.loop-byte.found.sets c.cell_of.new.found.sets c.in_ok-next.ensures.extends c.args.row c.loop-byte.invariant.row)) c.loop-byte.invariant.noted;
   many = omega (arith, c.loop-byte.invariant.many, c.in_ok-push.ensures.len, c.push.new.self.ok, c.loop-byte.cells.ok);
   row = omega (arith, c.loop-byte.invariant.row, longer c.args.net.now c.loop-byte.found.sets c.cell_of.new.found.sets c.in_ok-next.ensures.extends);
   few = c.in_ok-next.ensures.few;
 }
 
-pub noted_row-requires-clause-row : goal.noted_row-requires-clause-row
-noted_row-requires-clause-row c = grind (arith, common_steps)
+pub note_row-requires-clause-row : goal.note_row-requires-clause-row
+note_row-requires-clause-row c = grind (arith, common_steps)
+
+pub note_row-requires-clause-number : goal.note_row-requires-clause-number
+note_row-requires-clause-number c = omega (arith, c.requires.row, c.requires.few, c.requires.limit)

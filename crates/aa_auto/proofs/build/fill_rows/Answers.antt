@@ -10,4 +10,5 @@ loop-row-init c = record {
   many = ap length c.new-cells.ensures.items ∙ sym (mul-zero (length c.args.bytes.now));
   row = omega arith;
   few = c.requires.few;
+  noted = c.in_ok-noted.ensures;
 }

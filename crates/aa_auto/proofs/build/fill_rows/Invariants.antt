@@ -10,4 +10,5 @@ invariant-loop-row l = record {
   many : length l.cells.items ≡ length l.bytes * l.row;
   row : l.row ≤ length l.found.sets;
   few : length l.found.sets ≤ l.limit;
+  noted : length l.noted.named.items ≡ 256;
 }

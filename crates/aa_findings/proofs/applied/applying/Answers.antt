@@ -9,13 +9,17 @@ pub returns-then-row : goal.returns-then-row
 returns-then-row c =
     let p = c.args.profile.now in
     let row = c.args.row.now in
-    c.in_ok-matching.ensures ∙ ap (λ (path : List ℕ). rules_matching c.args.compiled.now.profiles c.args.number path) c.as_slice.ensures ∙ rules_met c.args.compiled.now.profiles c.args.number p row.path c.requires.profile ∙ all_apply row p.files c.if-row.true
+    let profiles = c.args.compiled.now.profiles in
+    let matched = ap (rules_matching profiles c.args.number) c.as_slice.ensures in
+    c.in_ok-matching.ensures ∙ matched ∙ rules_met profiles c.args.number p row.path c.requires.profile ∙ all_apply row p.files c.if-row.true
 
 pub returns : goal.returns
 returns c =
     let p = c.args.profile.now in
     let row = c.args.row.now in
-    let met = c.in_ok-matching.ensures ∙ ap (λ (path : List ℕ). rules_matching c.args.compiled.now.profiles c.args.number path) c.as_slice.ensures ∙ rules_met c.args.compiled.now.profiles c.args.number p row.path c.requires.profile in
+    let profiles = c.args.compiled.now.profiles in
+    let matched = ap (rules_matching profiles c.args.number) c.as_slice.ensures in
+    let met = c.in_ok-matching.ensures ∙ matched ∙ rules_met profiles c.args.number p row.path c.requires.profile in
     c.in_ok-kept.ensures
     ∙ ap (λ (l : List ℕ). filter (λ n. not (is_owners c.as_slice-2.result.now n)) l) (c.as_slice-3.ensures.value ∙ met)
     ∙ rw c.as_slice-2.ensures (others_apply row p.files c.if-row.false)

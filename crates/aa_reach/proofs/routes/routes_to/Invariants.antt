@@ -5,4 +5,5 @@ use Rattle.aa_reach.proofs.routes.routes_to.Given as goal
 
 abbrev pub invariant-loop-number : goal.invariant-loop-number
 invariant-loop-number l = (ways : List (List Request)) → LeadThere l.going.as_enforced l.going.policies.now l.from l.arrivals ways
-    → map routed l.routes.items ≡ first_routes l.going.as_enforced l.going.policies.now l.from (option_map (λ ts. ts.now) l.targets) l.arrivals ways l.number
+    → map routed l.routes.items ≡ first_routes l.going.as_enforced l.going.policies.now l.from (option_map (λ ts. ts.now) l.targets) l.arrivals ways
+    l.number

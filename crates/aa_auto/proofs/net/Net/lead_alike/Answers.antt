@@ -9,4 +9,4 @@ lead_alike-requires-clause-asked c = λ n h. omega (arith, c.requires.asked n h,
 pub returns : goal.returns
 returns c = λ t set all.
     subst (λ z. LeadAlike z c.args.a c.args.b set) c.as_slice.ensures.value
-    (c.lead_alike.ensures t set (subst (λ z. AreNoted z set c.args.noted.now.named.items c.args.noted.now.asked.items) (sym c.as_slice.ensures.value) all))
+    (c.lead_alike.ensures t set (subst (λ z. AreNoted z set c.args.mark c.args.noted.now.named.items c.args.noted.now.asked.items) (sym c.as_slice.ensures.value) all))

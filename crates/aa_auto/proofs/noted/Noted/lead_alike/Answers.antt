@@ -10,6 +10,6 @@ lead_alike-requires-clause-within c = λ n h. c.requires.asked n (subst (λ z. C
 pub returns-then-are_free : goal.returns-then-are_free
 returns-then-are_free c = λ t set all.
     let free = c.are_free.ensures c.if-are_free.true in
-    alike_noted c.args.nodes.now set c.args.self.now.named.items c.args.self.now.asked.items c.args.a c.args.b
-    (subst (λ z. IsFree z c.args.a) c.as_slice.ensures.value free.0) (subst (λ z. IsFree z c.args.b) c.as_slice.ensures.value free.1)
+    alike_noted c.args.nodes.now set c.args.mark c.args.self.now.named.items c.args.self.now.asked.items c.args.a c.args.b
+    (subst (λ z. IsFree c.args.mark z c.args.a) c.as_slice.ensures.value free.0) (subst (λ z. IsFree c.args.mark z c.args.b) c.as_slice.ensures.value free.1)
     (subst (λ z. LeadAlike c.args.nodes.now c.args.a c.args.b z) c.as_slice-then-are_free.ensures.value (c.lead_alike.ensures t)) all

@@ -1,0 +1,9 @@
+use Rattle.std.proofs.lemmas.Grind.{common_steps}
+use Rattle.std.proofs.Common.{arith}
+use Rattle.aa_check.proofs.jsons.push_json_counts.Goals as goal
+
+pub loop-count-preserved : goal.loop-count-preserved
+loop-count-preserved c = grind (arith, common_steps)
+
+pub returns : goal.returns
+returns c = grind (arith, common_steps)

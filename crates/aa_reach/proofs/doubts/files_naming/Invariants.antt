@@ -1,0 +1,8 @@
+use Rattle.std.proofs.Common.{◌≡◌, map, take}
+use Rattle.std.specs.Prelude.{filter}
+use Rattle.aa_undecided.specs.Answers.{placed, placed_all}
+use Rattle.aa_reach.specs.Heads.{may_hold}
+use Rattle.aa_reach.proofs.doubts.files_naming.Given as goal
+
+abbrev pub invariant-loop-file : goal.invariant-loop-file
+invariant-loop-file l = placed_all l.files.items ≡ map placed (filter (may_hold l.text) (take l.file-index l.skipped))

@@ -1,7 +1,0 @@
-use Rattle.std.proofs.Common.{take}
-use Rattle.aa_files.specs.Texts.{texts}
-use Rattle.aa_reach.specs.Names.{AreNamed}
-use Rattle.aa_reach.proofs.naming.labels_of.Given as goal
-
-abbrev pub invariant-loop-word : goal.invariant-loop-word
-invariant-loop-word l = AreNamed l.policies (texts (take l.word-index l.words)) l.labels.items
