@@ -18,6 +18,7 @@ use Rattle.aa_quantifiers.specs.Quantities.{IsAnswered}
 use Rattle.aa_quantifiers.specs.declared.aim.Labels.{Labels}
 use Rattle.aa_skipped.specs.declared.skipped.Skipped.{Skipped}
 use Rattle.aa_undecided.specs.Answers.{PlacedFile, placed, files_among, files_deciding}
+use Rattle.aa_who.specs.Grants.{does_count}
 use Rattle.aa_claims.specs.declared.words.ClaimWord.{ClaimWord}
 use Rattle.aa_assert.specs.declared.passage.Passage.{Passage}
 use Rattle.aa_assert.specs.declared.passage.Passage.TheVariants as passage
@@ -31,8 +32,11 @@ use Rattle.aa_assert.specs.Judging.{IsBroken, IsJudged}
 use Rattle.aa_assert.specs.Leading.{IsLedTo}
 use Rattle.aa_assert.specs.Passages.{going, IsWayTo, IsPassage}
 use Rattle.aa_assert.specs.Scope.{is_about, is_about_free}
-use Rattle.aa_assert.specs.Findings.{Found, AllFound, Complaining, files_changing, or_else, told_unless, judged_found, IsFoundOf, files_on_way, passage_found, complaining_in, IsFoundAt, is_found, AreFoundAt, first_some, all_of, label_if, labels_about, files_concerned}
-use Rattle.aa_assert.specs.Holding.{IsClear, IsAbout}
+use Rattle.aa_assert.specs.Findings.{Found, AllFound, Complaining, files_changing, or_else, told_unless, broken_if, judged_found, IsFoundOf}
+use Rattle.aa_assert.specs.Findings.{files_on_way, passage_found, complaining_in, IsFoundAt, is_found, AreFoundAt, first_some, all_of, label_if}
+use Rattle.aa_assert.specs.Findings.{labels_about, files_concerned}
+use Rattle.aa_assert.specs.Holding.{Counted, IsClear, IsAbout}
+use Rattle.aa_assert.proofs.Counted.{uncounted_too}
 
 -- ---- lists
 
@@ -56,7 +60,7 @@ in_parts x (y ∷ xs) ys i = ⊎_elim (λ e. inl (inl e)) (λ more. ⊎_elim (λ
 pub cons_nil : {X : Type 0} (x : X) (xs : List X) → x ∷ xs ≡ [] → ⊥
 cons_nil x xs e = cc
 
-nil_parts : {X : Type 0} (xs ys : List X) → xs ++ ys ≡ [] → (xs ≡ []) × (ys ≡ [])
+pub nil_parts : {X : Type 0} (xs ys : List X) → xs ++ ys ≡ [] → (xs ≡ []) × (ys ≡ [])
 nil_parts [] ys e = (refl, e)
 nil_parts (x ∷ xs) ys e = absurd (cons_nil x (xs ++ ys) e)
 
@@ -81,9 +85,9 @@ pub record IsKept (d : Part) (l : Label) (w : Word) (Is : Request → Type 0) : 
 
 -- so of what a claim says; where it says that nothing leads to some labels no file is skipped, and nothing does; and no profile complains
 abbrev pub AreKept : Part → Label → Asked → Type 0
-AreKept d l (Never w) = IsKept d l w (IsAnswered d.decided.policies.now l true)
-AreKept d l (Leads w ls) = IsKept d l w (IsLedTo d.decided.policies.now l ls)
-AreKept d l (Always w) = IsKept d l w (IsAnswered d.decided.policies.now l false)
+AreKept d l (Never w) = IsKept d l w (Counted d.unclean (IsAnswered d.decided.policies.now l true))
+AreKept d l (Leads w ls) = IsKept d l w (Counted d.unclean (IsLedTo d.decided.policies.now l ls))
+AreKept d l (Always w) = IsKept d l w (Counted d.unclean (IsAnswered d.decided.policies.now l false))
 AreKept d l (Reaches ls) = (d.skipped.now ≡ []) × ((rs : List Request) → IsWayTo d.decided.policies.now l ls rs → ⊥)
 AreKept d l Enforced = complains_at d.decided.policies.now l ≡ false
 
@@ -102,18 +106,28 @@ none_on_way ps l (r ∷ rs) =
     ap (λ (fs : List PlacedFile). or_else fs (files_on_way ps [] (going ps l r) rs)) (none_decide ps l r) ∙ none_on_way ps (going ps l r) rs
 
 module _ (d : Part) (limit : ℕ) (text : List ℕ) (l : Label) (fs : AllFound) (clear : IsClear fs) where
-  judged_kept : (Is : Request → Type 0) (w : Word) (j : Judgement) → IsJudged d.decided.policies.now limit l Is w text j → fs ≡ judged_found d l w j
-      → IsKept d l w Is
+  judged_kept : (Is : Request → Type 0) (w : Word) (j : Judgement) → IsJudged d.decided.policies.now limit l Is w text j
+      → fs ≡ judged_found d l w j → IsKept d l w (Counted d.unclean Is)
   judged_kept Is w (is.Holds r) judged eq =
-      record { closed = sym (ap (λ (x : AllFound). x.doubt) eq) ∙ clear.sure; holds = λ broken. absurd (judged.1 broken) }
+      record { closed = sym (ap (λ (x : AllFound). x.doubt) eq) ∙ clear.sure; holds = λ broken. absurd (judged.1 (broken.0, broken.1, broken.2.1)) }
   judged_kept Is w (is.Untold line) judged eq = absurd (cons_nil _ _ (sym (ap (λ (x : AllFound). x.untold) eq) ∙ clear.told))
   judged_kept Is w (is.Broken r) judged eq =
       record {
         closed = sym (ap (λ (x : AllFound). x.doubt) eq) ∙ clear.sure;
-        holds = λ broken. (r, judged.1.is, some_file _ _ (sym (ap (λ (x : AllFound). x.list) eq) ∙ clear.nobody));
+        holds = λ broken. at (does_count d.unclean r) refl broken;
       }
+    where
+      at : (b : Bool) → does_count d.unclean r ≡ b → IsBroken w (Counted d.unclean Is)
+          → (q : Request) × IsOf w q × (files_deciding d.decided.policies.now d.skipped.now l q ≡ [] → ⊥)
+      at true e broken = (
+        r,
+        judged.1.is,
+        some_file _ _
+            (sym (ap (λ (b : Bool). broken_if b d l (is.Broken r)) e) ∙ (sym (ap (λ (x : AllFound). x.list) eq) ∙ clear.nobody)),
+      )
+      at false e broken = absurd (uncounted_too d.unclean r broken.0 e (judged.1.first broken.0 broken.1 broken.2.1).clean broken.2.0)
 
-  found_kept : (Is : Request → Type 0) (w : Word) → IsFoundOf d limit l Is w text fs → IsKept d l w Is
+  found_kept : (Is : Request → Type 0) (w : Word) → IsFoundOf d limit l Is w text fs → IsKept d l w (Counted d.unclean Is)
   found_kept Is w is = judged_kept Is w is.0 is.1 is.2
 
   passage_kept : (ls : Labels) (p : Passage) → IsPassage d.decided.policies.now limit l ls p → fs ≡ passage_found d limit l p

@@ -11,6 +11,8 @@ mod Enforcing
 mod There
 mod Naming
 mod Beginning
+mod Counted
 mod Clear
 mod Telling
+mod Quiet
 mod Sound

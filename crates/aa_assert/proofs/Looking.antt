@@ -35,20 +35,22 @@ flat_more : {X : Type 0} (f : AllFound → List X) (found : List AllFound) (fs :
 flat_more f [] fs = append-nil (f fs)
 flat_more f (x ∷ found) fs = ap (λ ys. f x ++ ys) (flat_more f found fs) ∙ sym (append_assoc (f x) (flat_map f found) (f fs))
 
-made : (a b : List Found) (c e : List Untold) (f g : List PlacedFile) → a ≡ b → c ≡ e → f ≡ g
-    → (let x : AllFound = record { list = a; untold = c; doubt = f } in x) ≡ record { list = b; untold = e; doubt = g }
-made a b c e f g same alike like =
-    let first : (x : List Found) → AllFound = λ x. record { list = x; untold = c; doubt = f } in
-    let next : (x : List Untold) → AllFound = λ x. record { list = b; untold = x; doubt = f } in
-    let last : (x : List PlacedFile) → AllFound = λ x. record { list = b; untold = e; doubt = x } in
-    ap first same ∙ (ap next alike ∙ ap last like)
+pub made : (a b h k : List Found) (c e : List Untold) (f g : List PlacedFile) → a ≡ b → h ≡ k → c ≡ e → f ≡ g
+    → (let x : AllFound = record { list = a; apart = h; untold = c; doubt = f } in x) ≡ record { list = b; apart = k; untold = e; doubt = g }
+made a b h k c e f g same beside alike like =
+    let first : (x : List Found) → AllFound = λ x. record { list = x; apart = h; untold = c; doubt = f } in
+    let second : (x : List Found) → AllFound = λ x. record { list = b; apart = x; untold = c; doubt = f } in
+    let next : (x : List Untold) → AllFound = λ x. record { list = b; apart = k; untold = x; doubt = f } in
+    let last : (x : List PlacedFile) → AllFound = λ x. record { list = b; apart = k; untold = e; doubt = x } in
+    ap first same ∙ (ap second beside ∙ (ap next alike ∙ ap last like))
 
 -- one more is added
 pub all_more : (concerned : List PlacedFile) (found : List AllFound) (fs : AllFound)
     → all_of concerned (found ++ fs ∷ []) ≡ and_found (all_of concerned found) fs
 all_more concerned found fs =
-    made _ _ _ _ _ _
+    made _ _ _ _ _ _ _ _
     (flat_more (λ (x : AllFound). x.list) found fs)
+    (flat_more (λ (x : AllFound). x.apart) found fs)
     (flat_more (λ (x : AllFound). x.untold) found fs)
     (ap (or_else concerned) (doubts_more found fs) ∙ sym (else_assoc concerned (first_some (map (λ (x : AllFound). x.doubt) found)) fs.doubt))
 

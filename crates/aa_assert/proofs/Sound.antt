@@ -45,7 +45,8 @@ use Rattle.aa_assert.specs.Passages.{going}
 use Rattle.aa_assert.specs.Scope.{is_about, may_be_about, concerns}
 use Rattle.aa_assert.specs.Findings.{AllFound, files_concerned, files_changing_in, files_changing, files_on_way}
 use Rattle.aa_assert.specs.Answers.{IsAnswerBy}
-use Rattle.aa_assert.specs.Holding.{is_led_to, EndsThere, IsBrokenAt, Holds, IsClear, ClearClaimsHold, AreNamesText, ClaimsHold, FreeClaimsHold, BreakingsStand, EndingsStand, WaysStand, ArrivalsStand, ComesThere}
+use Rattle.aa_assert.specs.Holding.{is_led_to, EndsThere, Counted, IsBrokenAt, Holds, IsClear, ClearClaimsHold, AreNamesText, ClaimsHold, FreeClaimsHold}
+use Rattle.aa_assert.specs.Holding.{BreakingsStand, EndingsStand, WaysStand, ArrivalsStand, ComesThere}
 use Rattle.aa_ask.specs.Told.{is_same}
 use Rattle.aa_assert.proofs.Apart.{itself, differ, same_number}
 use Rattle.aa_assert.proofs.Beginning.{about_begins}
@@ -253,12 +254,17 @@ module _ (each : EachDecides) (d : Part) (read whole : Policy) (place : ℕ → 
     answered_back l against r none answered = ap grants (by_read l r) ∙ (sym (ap grants (sure_by l r none)) ∙ answered)
 
     says_hold : (ws : List ClaimWord) (l : Label) (says : Asked) → AreSaid d.decided.policies.now ws says → AreKept d l says
-        → (says ≡ Enforced → complains_at (whole ∷ []) (moved place l) ≡ false) → IsBrokenAt (whole ∷ []) ws (moved place l) says → ⊥
-    says_hold ws l (Never v) said kept enforced broken = kept_holds l v _ _ (answered_back l true) kept broken
-    says_hold ws l (Always v) said kept enforced broken = kept_holds l v _ _ (answered_back l false) kept broken
+        → (says ≡ Enforced → complains_at (whole ∷ []) (moved place l) ≡ false)
+        → IsBrokenAt d.unclean (whole ∷ []) ws (moved place l) says → ⊥
+    says_hold ws l (Never v) said kept enforced broken =
+        kept_holds l v (Counted d.unclean (IsAnswered d.decided.policies.now l true)) (Counted d.unclean (IsAnswered (whole ∷ []) (moved place l) true))
+        (λ r none h. (h.0, answered_back l true r none h.1)) kept broken
+    says_hold ws l (Always v) said kept enforced broken =
+        kept_holds l v (Counted d.unclean (IsAnswered d.decided.policies.now l false)) (Counted d.unclean (IsAnswered (whole ∷ []) (moved place l) false))
+        (λ r none h. (h.0, answered_back l false r none h.1)) kept broken
     says_hold ws l (Leads v ls) said kept enforced broken =
-        kept_holds l v (IsLedTo d.decided.policies.now l ls) (EndsThere (whole ∷ []) ws (moved place l))
-        (λ r none ends. ends_led d.decided.policies.now ws ls said l r (ends_back ws l r none ends)) kept broken
+        kept_holds l v (Counted d.unclean (IsLedTo d.decided.policies.now l ls)) (Counted d.unclean (EndsThere (whole ∷ []) ws (moved place l)))
+        (λ r none h. (h.0, ends_led d.decided.policies.now ws ls said l r (ends_back ws l r none h.1))) kept broken
     says_hold ws l (Reaches ls) said kept enforced broken = cons_nil w.file w.files (sym w.some ∙ kept.0)
     says_hold ws l Enforced said kept enforced broken = true≢false (sym broken ∙ enforced refl)
 
@@ -295,7 +301,7 @@ module _ (each : EachDecides) (d : Part) (read whole : Policy) (place : ℕ → 
           (kept : (k : ℕ) → k < length read.profiles → (p : Profile) → slice_get read.profiles k ≡ Some p → is_about ws p.name ≡ true → AreKept d
           (Confined 0 k) says) where
         read_holds : (n m : ℕ) (q : Profile) → n < length read.profiles → place n ≡ m → slice_get whole.profiles m ≡ Some q → is_about ws q.name ≡ true
-            → IsBrokenAt (whole ∷ []) ws (Confined 0 m) says → ⊥
+            → IsBrokenAt d.unclean (whole ∷ []) ws (Confined 0 m) says → ⊥
         read_holds n m q lt at got about broken =
             ⊎_elim
             (λ (here : (x : Profile) × (n < length read.profiles) × (slice_get read.profiles n ≡ Some x) × (get_or read.profiles n x ≡ x)). found here.0 here.2)
@@ -315,10 +321,10 @@ module _ (each : EachDecides) (d : Part) (read whole : Policy) (place : ℕ → 
                 says_hold ws (Confined 0 n) says said k
                 (λ e. ap (λ (o : Option Profile). option_map_or (λ (x : Profile). x.complain) o false) there.1 ∙ enforced_here p is
                 (subst (AreKept d (Confined 0 n)) e k))
-                (subst (λ (i : ℕ). IsBrokenAt (whole ∷ []) ws (Confined 0 i) says) (sym at) broken)
+                (subst (λ (i : ℕ). IsBrokenAt d.unclean (whole ∷ []) ws (Confined 0 i) says) (sym at) broken)
 
         pub holds : AreNamesText whole → (m : ℕ) (q : Profile) → slice_get whole.profiles m ≡ Some q → is_about ws q.name ≡ true
-            → IsBrokenAt (whole ∷ []) ws (Confined 0 m) says → ⊥
+            → IsBrokenAt d.unclean (whole ∷ []) ws (Confined 0 m) says → ⊥
         holds texts m q got about broken =
             ⊎_elim
             (λ (old : (n : ℕ) × (n < length read.profiles) × (place n ≡ m)). read_holds old.0 m q old.1 old.2 got about broken)
@@ -350,15 +356,16 @@ module _ (first : Bool) (d : Part) (limit : ℕ) (ws : List ClaimWord) (head ask
         let other = k.holds broken in
         other.2 (closed_files closed d l v k.closed other.0 other.1)
 
-    holds_here : (l : Label) (says : Asked) → AreSaid d.decided.policies.now ws says → AreKept d l says → IsBrokenAt d.decided.policies.now ws l says → ⊥
+    holds_here : (l : Label) (says : Asked) → AreSaid d.decided.policies.now ws says → AreKept d l says
+        → IsBrokenAt d.unclean d.decided.policies.now ws l says → ⊥
     holds_here l (Never v) is k broken = none_broken l v _ k broken
     holds_here l (Always v) is k broken = none_broken l v _ k broken
     holds_here l (Leads v ls) is k broken =
-        none_broken l v _ k (broken.0, broken.1, ends_led d.decided.policies.now ws ls is l broken.0 broken.2)
+        none_broken l v _ k (broken.0, broken.1, (broken.2.0, ends_led d.decided.policies.now ws ls is l broken.0 broken.2.1))
     holds_here l (Reaches ls) is k broken = k.1 broken.0 (comes_way d.decided.policies.now ws ls is l broken.0 broken.1)
     holds_here l Enforced is k broken = true≢false (sym broken ∙ k)
 
-    claim_holds : Holds d.decided.policies.now ws answer.says
+    claim_holds : Holds d.unclean d.decided.policies.now ws answer.says
     claim_holds = record {
       free = λ about broken. holds_here (Unconfined 0) answer.says said (kept.free about) broken;
       each = λ n p e about broken. holds_here (Confined 0 n) answer.says said (kept.each n (within d.decided.policies.now n p e) p e about) broken;

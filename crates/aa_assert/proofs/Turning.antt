@@ -1,4 +1,4 @@
--- A claim is answered by its first two words.
+-- A claim says by its first two words what is claimed.
 use Rattle.std.proofs.Common.{◌≡◌, ℕ, ◌≤◌, List, [], ◌∷◌, length, get_or, codes, Bool, true, false, Option, Some, None, subst, arith}
 use Rattle.std.specs.Prelude.{MatchBool}
 use Rattle.aa_claims.specs.Forms.{is_word, is_reach, keyword_of}
@@ -9,16 +9,17 @@ use Rattle.aa_assert.specs.declared.asked.Asked.{Asked}
 use Rattle.aa_assert.specs.declared.asked.Asked.TheVariants.{Never, Leads, Always, Reaches, Enforced}
 use Rattle.aa_who.specs.Words.{IsRead}
 use Rattle.aa_assert.specs.Asked.{is_enforced, IsLedAsked, IsNeverAskedBy, IsNeverAsked, IsAlwaysAsked, IsAskedOf, IsAskedBy}
-use Rattle.aa_assert.specs.Findings.{AllFound}
-use Rattle.aa_assert.specs.Answers.{IsAnswerBy, IsAnswerOf}
+use Rattle.aa_assert.specs.Stating.{IsStatedBy, IsStatedOf}
 
-pub by_two : (first : Bool) (d : Part) (limit : ℕ) (ws : List ClaimWord) (head asked : ClaimWord) (found : AllFound) → 2 ≤ length ws
-    → head ≡ get_or ws 0 head → asked ≡ get_or ws 1 asked → IsAnswerBy first d limit ws head asked found → IsAnswerOf first d limit ws found
-by_two first d limit [] head asked found long is_head is_asked h = absurd (omega (arith, long))
-by_two first d limit (v ∷ []) head asked found long is_head is_asked h = absurd (omega (arith, long))
-by_two first d limit (v ∷ w ∷ ws) head asked found long is_head is_asked h =
-    subst (λ (x : ClaimWord). IsAnswerBy first d limit (v ∷ w ∷ ws) x w found) is_head
-    (subst (λ (x : ClaimWord). IsAnswerBy first d limit (v ∷ w ∷ ws) head x found) is_asked h)
+pub by_two : (d : Part) (ws : List ClaimWord) (head asked : ClaimWord) (says : Asked) → 2 ≤ length ws
+    → head ≡ get_or ws 0 head → asked ≡ get_or ws 1 asked → IsStatedBy d ws head asked says → IsStatedOf d ws asked says
+by_two d [] head asked says long is_head is_asked h = absurd (omega (arith, long))
+by_two d (v ∷ []) head asked says long is_head is_asked h = absurd (omega (arith, long))
+by_two d (v ∷ w ∷ ws) head asked says long is_head is_asked h = (
+  is_asked,
+  subst (λ (x : ClaimWord). IsStatedBy d (v ∷ w ∷ ws) x w says) is_head
+      (subst (λ (x : ClaimWord). IsStatedBy d (v ∷ w ∷ ws) head x says) is_asked h),
+)
 
 -- a claim on requests says of them what such a claim may
 others : (d : Part) (ws : List ClaimWord) (v : Word) (a : Asked) → (IsNeverAskedBy None d ws v a → ⊥) → (IsLedAsked d ws v a → ⊥) → (IsAlwaysAsked v a → ⊥)

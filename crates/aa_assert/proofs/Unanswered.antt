@@ -14,10 +14,9 @@ use Rattle.aa_claims.specs.Forms.{is_word, is_reach, names_behind, names_within,
 use Rattle.aa_quantifiers.specs.declared.word.Word.{Word}
 use Rattle.aa_assert.specs.declared.asked.Asked.{Asked}
 use Rattle.aa_assert.specs.Asked.{is_enforced, IsAskedBy}
-use Rattle.aa_assert.specs.Scope.{AreSomebody, IsInScope}
+use Rattle.aa_assert.specs.Scope.{AreSomebody}
 use Rattle.aa_assert.specs.Refused.{IsUnread, IsNoLead, IsNoLeadBehind, IsUnsaid, NotRead, NotLeading}
-use Rattle.aa_assert.specs.Refused.{IsUnnamed, IsOutOfScope, NotNamed, NotExcepted, NotLed, AsksNoPath, IsUnanswered, NotSaid, OfOthers, NotAsked}
-use Rattle.aa_assert.specs.Answers.{IsUnansweredOf}
+use Rattle.aa_assert.specs.Refused.{IsUnnamed, IsOutOfScope, NotNamed, NotExcepted, NotLed, IsUnstated, NotSaid, OfOthers, IsUnstatedOf}
 
 pub says_more : (P Q : ℕ → Wrong → Type 0) (e : ClaimFault) → ((at : ℕ) (fault : Wrong) → P at fault → Q at fault) → SaysAt P e → SaysAt Q e
 says_more P Q NoMemory f h = tt
@@ -59,20 +58,17 @@ module _ (d : Part) (ws : List ClaimWord) (head : ClaimWord) (e : ClaimFault) wh
   not_led within excepted = says_more (IsUnnamed d (names_led ws)) (IsOutOfScope d ws head) e (λ at fault h. NotLed within excepted h)
 
 module _ (d : Part) (ws : List ClaimWord) (head asked : ClaimWord) (e : ClaimFault) where
-  pub not_said : SaysAt (IsUnsaid ws head asked) e → SaysAt (IsUnanswered d ws head asked) e
-  not_said = says_more (IsUnsaid ws head asked) (IsUnanswered d ws head asked) e (λ at fault h. NotSaid h)
+  pub not_said : SaysAt (IsUnsaid ws head asked) e → SaysAt (IsUnstated d ws head asked) e
+  not_said = says_more (IsUnsaid ws head asked) (IsUnstated d ws head asked) e (λ at fault h. NotSaid h)
 
-  pub of_others : (a : Asked) → IsAskedBy d ws head asked a → SaysAt (IsOutOfScope d ws head) e → SaysAt (IsUnanswered d ws head asked) e
-  of_others a is = says_more (IsOutOfScope d ws head) (IsUnanswered d ws head asked) e (λ at fault h. OfOthers a is h)
+  pub of_others : (a : Asked) → IsAskedBy d ws head asked a → SaysAt (IsOutOfScope d ws head) e → SaysAt (IsUnstated d ws head asked) e
+  of_others a is = says_more (IsOutOfScope d ws head) (IsUnstated d ws head asked) e (λ at fault h. OfOthers a is h)
 
-  pub not_asked : (a : Asked) → IsAskedBy d ws head asked a → IsInScope d ws → SaysAt (AsksNoPath asked a) e → SaysAt (IsUnanswered d ws head asked) e
-  not_asked a is scope = says_more (AsksNoPath asked a) (IsUnanswered d ws head asked) e (λ at fault h. NotAsked a is scope h)
-
--- a claim of two words at least isn't answered for what is said of its first two
+-- a claim of two words at least states nothing for what is said of its first two
 pub of_two : (d : Part) (ws : List ClaimWord) (head asked : ClaimWord) (at : ℕ) (fault : Wrong) → 2 ≤ length ws → head ≡ get_or ws 0 head
-    → asked ≡ get_or ws 1 asked → IsUnanswered d ws head asked at fault → IsUnansweredOf d ws at fault
+    → asked ≡ get_or ws 1 asked → IsUnstated d ws head asked at fault → IsUnstatedOf d ws at fault
 of_two d [] head asked at fault long is_head is_asked h = absurd (omega (arith, long))
 of_two d (v ∷ []) head asked at fault long is_head is_asked h = absurd (omega (arith, long))
 of_two d (v ∷ w ∷ ws) head asked at fault long is_head is_asked h =
-    subst (λ (x : ClaimWord). IsUnanswered d (v ∷ w ∷ ws) x w at fault) is_head
-    (subst (λ (x : ClaimWord). IsUnanswered d (v ∷ w ∷ ws) head x at fault) is_asked h)
+    subst (λ (x : ClaimWord). IsUnstated d (v ∷ w ∷ ws) x w at fault) is_head
+    (subst (λ (x : ClaimWord). IsUnstated d (v ∷ w ∷ ws) head x at fault) is_asked h)

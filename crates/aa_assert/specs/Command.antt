@@ -1,13 +1,14 @@
 -- What `assert` prints.
 -- Source: own.
-use Rattle.std.specs.Prelude.{◌≡◌, ℕ, ◌==◌, List, [], ◌++◌, length, map, flat_map, count_by, MatchBool, if◌then◌else◌, Err}
+use Rattle.std.specs.Prelude.{◌≡◌, ℕ, ◌==◌, List, [], ◌∷◌, ◌++◌, length, map, flat_map, codes, count_by, MatchBool, if◌then◌else◌, Err}
 use Rattle.aa_base.specs.declared.unread.Unread.{Unread}
+use Rattle.aa_text.specs.Visible.{all_visible}
 use Rattle.aa_files.specs.Texts.{texts}
 use Rattle.aa_files.specs.FilesData.{IsMain, IsMainText}
 use Rattle.aa_load.specs.UnitPolicy.{limit_of}
 use Rattle.aa_command.specs.declared.decided.Decided.{Decided}
 use Rattle.aa_command.specs.Setting.{Setting}
-use Rattle.aa_command.specs.Printed.{Printed}
+use Rattle.aa_command.specs.Printed.{Printed, faults_alone}
 use Rattle.aa_command.specs.Refusals.{SaysFault, SaysUnread}
 use Rattle.aa_command.specs.Policies.{IsPrintedFor}
 use Rattle.aa_skipped.specs.declared.skipped.Skipped.{Skipped}
@@ -66,15 +67,16 @@ pub record SaysWrong (path text : List ℕ) (IsSo : ℕ → Wrong → Type 0) (o
   pub is_so : IsSo at fault
   pub says : SaysFault (IsClaimReport path text at fault) 1 out
 
--- the policy of the files that are read, and those that are skipped
-abbrev pub IsPart : List Skipped → Decided → Part → Type 0
-IsPart skipped d p = (p.decided ≡ d) × (p.skipped.now ≡ skipped)
+-- the policy of the files that are read, those that are skipped, and whether unclean paths count
+abbrev pub IsPart : AssertOptions → List Skipped → Decided → Part → Type 0
+IsPart o skipped d p = (p.decided ≡ d) × (p.skipped.now ≡ skipped) × (p.unclean ≡ o.unclean)
 
 -- what is printed of claims, where these files are skipped and the others are this policy: by whom they are broken, or why one of them
 -- isn't answered
 pub data IsAssertOf (states : ℕ) (o : AssertOptions) (text : List ℕ) (claims : List ClaimLine) (skipped : List Skipped) (d : Decided) (out : Printed) : Type 0 where
-  Unanswered : (p : Part) → IsPart skipped d p → SaysWrong o.claims.now text (IsFirstUnanswered o.is_first p (limit_of states) claims) out → IsAssertOf states o text claims skipped d out
-  Answers : (p : Part) → IsPart skipped d p → (answers : List Answered) → AreAnswers o.is_first p (limit_of states) claims answers
+  Unanswered : (p : Part) → IsPart o skipped d p → SaysWrong o.claims.now text (IsFirstUnanswered o.is_first p (limit_of states) claims) out
+      → IsAssertOf states o text claims skipped d out
+  Answers : (p : Part) → IsPart o skipped d p → (answers : List Answered) → AreAnswers o.is_first p (limit_of states) claims answers
       → out ≡ assert_printed o (passed_in d.policies.now) skipped answers → IsAssertOf states o text claims skipped d out
 
 -- what is printed by the files that are named: by those that aren't refused, where these are to be skipped, and else by all
@@ -82,9 +84,18 @@ abbrev pub IsAssertBy : Setting → AssertOptions → List ℕ → List ClaimLin
 IsAssertBy s o text claims out =
     MatchBool o.skips (IsPrintedOf s (texts o.files.now) (IsAssertOf s.states o text claims) out) (IsPrintedFor s (texts o.files.now) (IsAssertOf s.states o text claims []) out)
 
+-- PATH: no claim stands here
+unfoldable pub empty_text : List ℕ → List ℕ
+empty_text path = all_visible path ++ codes ": no claim stands here\n"
+
+-- what is printed of claims by the files that are named; where there are none that is said, and nothing is answered: 1
+abbrev pub IsAssertSaid : Setting → AssertOptions → List ℕ → List ClaimLine → Printed → Type 0
+IsAssertSaid s o text [] out = out ≡ faults_alone (empty_text o.claims.now) 1
+IsAssertSaid s o text (l ∷ claims) out = IsAssertBy s o text (l ∷ claims) out
+
 -- What `assert` prints: by whom the claims of a file are broken, or why it is none of claims or can't be read.
 pub data IsAssertOutput (s : Setting) (o : AssertOptions) (out : Printed) : Type 0 where
   CantRead : (why : Unread) → IsMain s.files s.input o.claims.now (Err why) → SaysUnread o.claims.now why out → IsAssertOutput s o out
   NoClaims : (text : List ℕ) → IsMainText s.files s.input o.claims.now text → SaysWrong o.claims.now text (IsFirstFault text) out → IsAssertOutput s o out
   Claims : (text : List ℕ) (claims : List ClaimLine) → IsMainText s.files s.input o.claims.now text → AreClaims text claims
-      → IsAssertBy s o text claims out → IsAssertOutput s o out
+      → IsAssertSaid s o text claims out → IsAssertOutput s o out

@@ -12,7 +12,7 @@ use Rattle.aa_compile.specs.Labels.{profile_in}
 use Rattle.aa_skipped.specs.declared.skipped.Skipped.{Skipped}
 use Rattle.aa_ask.specs.Told.{Told, told}
 use Rattle.aa_ask.specs.Verdicts.{profile_at}
-use Rattle.aa_who.specs.Grants.{count_of}
+use Rattle.aa_who.specs.Grants.{count_of, does_count}
 use Rattle.aa_who.specs.Untold.{Untold, untold, untold_at}
 use Rattle.aa_quantifiers.specs.declared.word.Word.{Word}
 use Rattle.aa_claims.specs.declared.words.ClaimWord.{ClaimWord}
@@ -50,15 +50,18 @@ found (finding.ByRequest complains v) = ByRequest complains (told v)
 found (finding.ByWay complains w) = ByWay complains (way_in w)
 found (finding.Complaining name) = Complaining name.items
 
--- by whom a claim is broken, and those of whom that can't be told; and skipped files that could break it
+-- by whom a claim is broken, by whom at unclean paths alone, where these don't count, and those of whom that can't be told; and skipped files
+-- that could break it
 pub record AllFound : Type 0 where
   pub list : List Found
+  pub apart : List Found
   pub untold : List Untold
   pub doubt : List PlacedFile
 
 -- all of them
 abbrev pub all_found : Findings → AllFound
-all_found fs = record { list = map found fs.list.items; untold = map untold fs.untold.items; doubt = placed_all fs.doubt.items }
+all_found fs =
+    record { list = map found fs.list.items; apart = map found fs.apart.items; untold = map untold fs.untold.items; doubt = placed_all fs.doubt.items }
 
 -- ---- at a label
 
@@ -90,14 +93,28 @@ broken_by d l (is.Broken r) =
     told_unless (files_deciding d.decided.policies.now d.skipped.now l r) (ByRequest (complains_at d.decided.policies.now l) (enforced_on d.decided l r))
 broken_by d l _ = []
 
+-- it counts: no request at an unclean path, or such requests count
+abbrev pub counts : Part → Judgement → Bool
+counts d (is.Broken r) = does_count d.unclean r
+counts d _ = true
+
+-- by what it is broken, if that is wanted
+abbrev pub broken_if : Bool → Part → Label → Judgement → List Found
+broken_if wanted d l j = if wanted then broken_by d l j else []
+
 -- that it can't be told there
 abbrev pub untold_by : List Policy → Label → Judgement → List Untold
 untold_by ps l (is.Untold line) = untold_at ps l line.items ∷ []
 untold_by ps l _ = []
 
--- both, and the files that could change what is answered to requests of the word
+-- these, and the files that could change what is answered to requests of the word
 abbrev pub judged_found : Part → Label → Word → Judgement → AllFound
-judged_found d l w j = record { list = broken_by d l j; untold = untold_by d.decided.policies.now l j; doubt = files_changing d l w }
+judged_found d l w j = record {
+  list = broken_if (counts d j) d l j;
+  apart = broken_if (not (counts d j)) d l j;
+  untold = untold_by d.decided.policies.now l j;
+  doubt = files_changing d l w;
+}
 
 -- what is found of the claim that of no request of the word it is so
 abbrev pub IsFoundOf : Part → ℕ → Label → (Request → Type 0) → Word → List ℕ → AllFound → Type 0
@@ -127,7 +144,7 @@ untold_of ps limit l _ = []
 -- both; and each skipped file could lead further
 abbrev pub passage_found : Part → ℕ → Label → Passage → AllFound
 passage_found d limit l p =
-    record { list = passed_by d l p; untold = untold_of d.decided.policies.now limit l p; doubt = map placed d.skipped.now }
+    record { list = passed_by d l p; apart = []; untold = untold_of d.decided.policies.now limit l p; doubt = map placed d.skipped.now }
 
 -- what is found of the claim that a task doesn't come to these labels
 abbrev pub IsFoundOfPassage : Part → ℕ → Label → Labels → AllFound → Type 0
@@ -140,7 +157,7 @@ complaining_in (Some p) = if p.complain then Complaining p.name ∷ [] else []
 
 -- that of a label
 abbrev pub complaining_found : List Policy → Label → AllFound
-complaining_found ps l = record { list = complaining_in (profile_at ps l); untold = []; doubt = [] }
+complaining_found ps l = record { list = complaining_in (profile_at ps l); apart = []; untold = []; doubt = [] }
 
 -- what is found at a label of a claim that says this, whose word has this text
 abbrev pub IsFoundAt : Part → ℕ → Asked → List ℕ → Label → AllFound → Type 0
@@ -172,13 +189,15 @@ abbrev pub all_of : List PlacedFile → List AllFound → AllFound
 all_of concerned found =
     record {
       list = flat_map (λ (fs : AllFound). fs.list) found;
+      apart = flat_map (λ (fs : AllFound). fs.apart) found;
       untold = flat_map (λ (fs : AllFound). fs.untold) found;
       doubt = or_else concerned (first_some (map (λ (fs : AllFound). fs.doubt) found));
     }
 
 -- what is found at one more label
 abbrev pub and_found : AllFound → AllFound → AllFound
-and_found was fs = record { list = was.list ++ fs.list; untold = was.untold ++ fs.untold; doubt = or_else was.doubt fs.doubt }
+and_found was fs =
+    record { list = was.list ++ fs.list; apart = was.apart ++ fs.apart; untold = was.untold ++ fs.untold; doubt = or_else was.doubt fs.doubt }
 
 -- the label of profile n, if a claim of these words is about it
 abbrev pub label_if : List ClaimWord → ℕ → Option Profile → List Label

@@ -11,7 +11,7 @@ use Rattle.aa_undecided.specs.Answers.{PlacedFile}
 use Rattle.aa_assert.specs.declared.kind.Kind.{Kind}
 use Rattle.aa_assert.specs.Findings.{Found, ByRequest, ByWay, Complaining}
 use Rattle.aa_assert.specs.Kinds.{kind_name}
-use Rattle.aa_assert.specs.Outcomes.{Outcome, Broken, Undecided, all_outcomes}
+use Rattle.aa_assert.specs.Outcomes.{Outcome, Broken, Undecided, Apart, all_outcomes}
 use Rattle.aa_assert.specs.Shown.{by_line}
 use Rattle.aa_assert.specs.Answers.{Answered}
 
@@ -41,6 +41,10 @@ deciders_of (Complaining name) = []
 unfoldable pub broken_note : Found → List ℕ
 broken_note f = codes "broken: " ++ by_line f
 
+-- only at unclean paths: by whom and how
+unfoldable pub apart_note : Found → List ℕ
+apart_note f = codes "only at unclean paths: " ++ by_line f
+
 -- [KIND]
 unfoldable pub kind_mark : Kind → List ℕ
 kind_mark kind = codes " [" ++ kind_name kind ++ codes "]\n"
@@ -63,10 +67,16 @@ unfoldable pub gcc_undecided : List ℕ → ℕ → Kind → List PlacedFile →
 gcc_undecided path number kind files =
     where_text path (line_place number) ++ codes ": warning: undecided" ++ kind_mark kind ++ flat_map gcc_file files
 
--- either, for the claims of the file at that path
+-- PLACE: warning: only at unclean paths: BY [KIND], and a note for each rule
+unfoldable pub gcc_apart : List ℕ → ℕ → Kind → Found → List ℕ
+gcc_apart path number kind f =
+    where_text path (line_place number) ++ codes ": warning: " ++ apart_note f ++ kind_mark kind ++ flat_map gcc_rule (deciders_of f)
+
+-- one of these, for the claims of the file at that path
 abbrev pub gcc_outcome : List ℕ → Outcome → List ℕ
 gcc_outcome path (Broken number kind f) = gcc_broken path number kind f
 gcc_outcome path (Undecided number kind files) = gcc_undecided path number kind files
+gcc_outcome path (Apart number kind f) = gcc_apart path number kind f
 
 -- each
 abbrev pub gcc_answers : List ℕ → List Answered → List ℕ

@@ -21,6 +21,7 @@ use Rattle.aa_undecided.specs.Holding.{IsWhole}
 use Rattle.aa_quantifiers.specs.declared.word.Word.{Word}
 use Rattle.aa_quantifiers.specs.Words.{IsOf}
 use Rattle.aa_quantifiers.specs.Quantities.{grants, IsAnswered}
+use Rattle.aa_who.specs.Grants.{does_count}
 use Rattle.aa_claims.specs.declared.words.ClaimWord.{ClaimWord}
 use Rattle.aa_claims.specs.Forms.{names_led}
 use Rattle.aa_assert.specs.declared.asked.Asked.{Asked}
@@ -51,19 +52,23 @@ pub record ComesThere (ps : List Policy) (ws : List ClaimWord) (l : Label) (rs :
   pub leaves : is_same l (led_by (going ps) l rs) ≡ false
   pub arrives : is_led_to ps ws (led_by (going ps) l rs) ≡ true
 
--- a claim of these words that says this is broken at a label: a request of its word is granted, or ends at a label that it names, or isn't
--- granted; or requests come to one; or the profile complains
-abbrev pub IsBrokenAt : List Policy → List ClaimWord → Label → Asked → Type 0
-IsBrokenAt ps ws l (Never w) = IsBroken w (IsAnswered ps l true)
-IsBrokenAt ps ws l (Leads w ls) = IsBroken w (EndsThere ps ws l)
-IsBrokenAt ps ws l (Always w) = IsBroken w (IsAnswered ps l false)
-IsBrokenAt ps ws l (Reaches ls) = (rs : List Request) × ComesThere ps ws l rs
-IsBrokenAt ps ws l Enforced = complains_at ps l ≡ true
+-- it is so of a request that counts: unclean paths do, or it is at none
+abbrev pub Counted : Bool → (Request → Type 0) → Request → Type 0
+Counted unclean Is r = (does_count unclean r ≡ true) × Is r
+
+-- a claim of these words that says this is broken at a label: a request of its word that counts is granted, or ends at a label that it names,
+-- or isn't granted; or requests, at whatever paths, come to one; or the profile complains
+abbrev pub IsBrokenAt : Bool → List Policy → List ClaimWord → Label → Asked → Type 0
+IsBrokenAt unclean ps ws l (Never w) = IsBroken w (Counted unclean (IsAnswered ps l true))
+IsBrokenAt unclean ps ws l (Leads w ls) = IsBroken w (Counted unclean (EndsThere ps ws l))
+IsBrokenAt unclean ps ws l (Always w) = IsBroken w (Counted unclean (IsAnswered ps l false))
+IsBrokenAt unclean ps ws l (Reaches ls) = (rs : List Request) × ComesThere ps ws l rs
+IsBrokenAt unclean ps ws l Enforced = complains_at ps l ≡ true
 
 -- it is broken by nobody whom it is about: neither by tasks without a profile nor by profiles
-pub record Holds (ps : List Policy) (ws : List ClaimWord) (says : Asked) : Type 0 where
-  pub free : is_about_free ws ≡ true → IsBrokenAt ps ws (Unconfined 0) says → ⊥
-  pub each : (n : ℕ) (p : Profile) → profile_in ps 0 n ≡ Some p → is_about ws p.name ≡ true → IsBrokenAt ps ws (Confined 0 n) says → ⊥
+pub record Holds (unclean : Bool) (ps : List Policy) (ws : List ClaimWord) (says : Asked) : Type 0 where
+  pub free : is_about_free ws ≡ true → IsBrokenAt unclean ps ws (Unconfined 0) says → ⊥
+  pub each : (n : ℕ) (p : Profile) → profile_in ps 0 n ≡ Some p → is_about ws p.name ≡ true → IsBrokenAt unclean ps ws (Confined 0 n) says → ⊥
 
 -- ---- what an answer says
 
@@ -73,10 +78,10 @@ pub record IsClear (fs : AllFound) : Type 0 where
   pub told : fs.untold ≡ []
   pub sure : fs.doubt ≡ []
 
--- a claim that is clear holds
+-- a claim that is clear holds, as far as requests count
 abbrev pub ClearClaimsHold : Type 0
 ClearClaimsHold = (first : Bool) (d : Part) (limit : ℕ) (ws : List ClaimWord) (head asked : ClaimWord) (fs : AllFound)
-    → (answer : IsAnswerBy first d limit ws head asked fs) → IsClear fs → Holds d.decided.policies.now ws answer.says
+    → (answer : IsAnswerBy first d limit ws head asked fs) → IsClear fs → Holds d.unclean d.decided.policies.now ws answer.says
 
 -- the label is that of tasks without a profile, or of a profile, and the claim is about these
 abbrev pub IsAbout : List Policy → List ClaimWord → Label → Type 0
@@ -89,9 +94,9 @@ ByRequestOf d l w Is f = (r : Request) × IsOf w r × Is r × (f ≡ ByRequest (
 
 -- what is told shows that a claim of these words, which says this, is broken at the label
 abbrev pub Shows : Part → List ClaimWord → Label → Asked → Found → Type 0
-Shows d ws l (Never w) f = ByRequestOf d l w (IsAnswered d.decided.policies.now l true) f
-Shows d ws l (Leads w ls) f = ByRequestOf d l w (EndsThere d.decided.policies.now ws l) f
-Shows d ws l (Always w) f = ByRequestOf d l w (IsAnswered d.decided.policies.now l false) f
+Shows d ws l (Never w) f = ByRequestOf d l w (Counted d.unclean (IsAnswered d.decided.policies.now l true)) f
+Shows d ws l (Leads w ls) f = ByRequestOf d l w (Counted d.unclean (EndsThere d.decided.policies.now ws l)) f
+Shows d ws l (Always w) f = ByRequestOf d l w (Counted d.unclean (IsAnswered d.decided.policies.now l false)) f
 Shows d ws l (Reaches ls) f =
     (rs : List Request) × ComesThere d.decided.policies.now ws l rs
     × (f ≡ ByWay (complains_at d.decided.policies.now l) (way_told d.decided.policies.now l rs))
@@ -103,10 +108,36 @@ ToldBreak = (first : Bool) (d : Part) (limit : ℕ) (ws : List ClaimWord) (head 
     → (answer : IsAnswerBy first d limit ws head asked fs) → (f : Found) → Contains fs.list f
     → (l : Label) × IsAbout d.decided.policies.now ws l × Shows d ws l answer.says f
 
--- so that it doesn't hold
+-- it is so of a request that doesn't count
+abbrev pub Uncounted : Bool → (Request → Type 0) → Request → Type 0
+Uncounted unclean Is r = (does_count unclean r ≡ false) × Is r
+
+-- what is told shows that the claim is broken at the label, but by requests that don't count
+abbrev pub ShowsApart : Part → List ClaimWord → Label → Asked → Found → Type 0
+ShowsApart d ws l (Never w) f = ByRequestOf d l w (Uncounted d.unclean (IsAnswered d.decided.policies.now l true)) f
+ShowsApart d ws l (Leads w ls) f = ByRequestOf d l w (Uncounted d.unclean (EndsThere d.decided.policies.now ws l)) f
+ShowsApart d ws l (Always w) f = ByRequestOf d l w (Uncounted d.unclean (IsAnswered d.decided.policies.now l false)) f
+ShowsApart d ws l _ f = ⊥
+
+-- each by whom a claim is told to be broken at unclean paths alone is one whom it is about: none of his requests that count breaks it, and
+-- one that doesn't breaks it
+abbrev pub ToldApart : Type 0
+ToldApart = (first : Bool) (d : Part) (limit : ℕ) (ws : List ClaimWord) (head asked : ClaimWord) (fs : AllFound)
+    → (answer : IsAnswerBy first d limit ws head asked fs) → (f : Found) → Contains fs.apart f
+    → (l : Label) × IsAbout d.decided.policies.now ws l × ShowsApart d ws l answer.says f
+    × (IsBrokenAt d.unclean d.decided.policies.now ws l answer.says → ⊥)
+
+-- an answer by which nobody breaks the claim, at unclean paths neither, is the answer where requests at these count as others
+abbrev pub QuietAnswersCountAll : Type 0
+QuietAnswersCountAll = (first : Bool) (d : Part) (limit : ℕ) (ws : List ClaimWord) (head asked : ClaimWord) (fs : AllFound)
+    → IsAnswerBy first d limit ws head asked fs → fs.list ≡ [] → fs.apart ≡ []
+    → IsAnswerBy first (record d { unclean = true }) limit ws head asked fs
+
+-- one by whom a claim is told to be broken so that it counts is such that it doesn't hold
 abbrev pub ToldFail : Type 0
 ToldFail = (first : Bool) (d : Part) (limit : ℕ) (ws : List ClaimWord) (head asked : ClaimWord) (fs : AllFound)
-    → (answer : IsAnswerBy first d limit ws head asked fs) → (f : Found) → Contains fs.list f → Holds d.decided.policies.now ws answer.says → ⊥
+    → (answer : IsAnswerBy first d limit ws head asked fs) → (f : Found) → Contains fs.list f
+    → Holds d.unclean d.decided.policies.now ws answer.says → ⊥
 
 -- ---- beside skipped files
 
@@ -118,13 +149,14 @@ AreNamesText whole = (m : ℕ) (q : Profile) → slice_get whole.profiles m ≡ 
 abbrev pub ClaimsHold : Type 0
 ClaimsHold = (first : Bool) (d : Part) (limit : ℕ) (ws : List ClaimWord) (head asked : ClaimWord) (fs : AllFound) (read whole : Policy) (place : ℕ → ℕ)
     → IsWhole d.decided d.skipped.now read whole place → AreNamesText whole → (answer : IsAnswerBy first d limit ws head asked fs) → IsClear fs
-    → (m : ℕ) (q : Profile) → slice_get whole.profiles m ≡ Some q → is_about ws q.name ≡ true → IsBrokenAt (whole ∷ []) ws (Confined 0 m) answer.says → ⊥
+    → (m : ℕ) (q : Profile) → slice_get whole.profiles m ≡ Some q → is_about ws q.name ≡ true
+    → IsBrokenAt d.unclean (whole ∷ []) ws (Confined 0 m) answer.says → ⊥
 
 -- nor by a task without a profile, where it is about these
 abbrev pub FreeClaimsHold : Type 0
 FreeClaimsHold = (first : Bool) (d : Part) (limit : ℕ) (ws : List ClaimWord) (head asked : ClaimWord) (fs : AllFound) (read whole : Policy) (place : ℕ → ℕ)
     → IsWhole d.decided d.skipped.now read whole place → (answer : IsAnswerBy first d limit ws head asked fs) → IsClear fs
-    → is_about_free ws ≡ true → IsBrokenAt (whole ∷ []) ws (Unconfined 0) answer.says → ⊥
+    → is_about_free ws ≡ true → IsBrokenAt d.unclean (whole ∷ []) ws (Unconfined 0) answer.says → ⊥
 
 -- a request that no skipped file could decide is answered so by that policy: one that breaks a claim breaks it there
 abbrev pub BreakingsStand : Type 0

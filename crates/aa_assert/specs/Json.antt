@@ -1,6 +1,6 @@
 -- Answers as they are printed in JSON.
 -- Source: own.
-use Rattle.std.specs.Prelude.{ℕ, List, ◌++◌, map, codes, decimal, Bool, true, Option, Some}
+use Rattle.std.specs.Prelude.{ℕ, List, [], ◌∷◌, ◌++◌, map, codes, decimal, Bool, true, Option, Some}
 use Rattle.aa_text.specs.Jsons.{key_text, bool_text, json_bytes, member_text, list_text}
 use Rattle.aa_ask.specs.Json.{json_verdict}
 use Rattle.aa_who.specs.Untold.{json_asker, json_untold}
@@ -25,10 +25,16 @@ json_found (Complaining name) = json_whose (Some name) true ++ codes "}"
 unfoldable pub json_broken : Answered → List ℕ
 json_broken a = codes "{" ++ key_text (codes "line") ++ decimal a.number ++ member_text (codes "broken") (list_text (map json_found a.found.list))
 
--- so, of whom that can't be told, and the skipped files that could break it where nobody does
+-- a member with those by whom a claim is broken at unclean paths alone, if there are some
+abbrev pub json_apart : List Found → List ℕ
+json_apart [] = []
+json_apart (f ∷ fs) = member_text (codes "unclean") (list_text (map json_found (f ∷ fs)))
+
+-- so, by whom at unclean paths alone, of whom that can't be told, and the skipped files that could break it where nobody does
 unfoldable pub json_answer : Answered → List ℕ
 json_answer a =
-    json_broken a ++ member_text (codes "untold") (list_text (map json_untold a.found.untold)) ++ member_text (codes "skipped") (list_text (map json_placed (files_open a)))
+    json_broken a ++ json_apart a.found.apart ++ member_text (codes "untold") (list_text (map json_untold a.found.untold))
+    ++ member_text (codes "skipped") (list_text (map json_placed (files_open a)))
     ++ codes "}"
 
 -- one JSON object with the claims, how many rules decide nothing, and the files that are skipped

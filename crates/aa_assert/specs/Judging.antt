@@ -19,8 +19,8 @@ use Rattle.aa_assert.specs.declared.judging.Judgement.TheVariants.{Broken, Holds
 abbrev pub IsBroken : Word → (Request → Type 0) → Type 0
 IsBroken w Is = (r : Request) × IsOf w r × Is r
 
--- a claim that of no request of the word it is so: it is broken by a request, and no such request has a shorter path; or it holds, though
--- the word asks something; or at the label that can't be told
+-- a claim that of no request of the word it is so: it is broken by a request, and no such request comes before it, at a clean path or with a
+-- shorter one; or it holds, though the word asks something; or at the label that can't be told
 abbrev pub IsJudged : List Policy → ℕ → Label → (Request → Type 0) → Word → List ℕ → Judgement → Type 0
 IsJudged ps limit l Is w text (Broken r) = IsBroken w Is × IsShortestOf w Is r
 IsJudged ps limit l Is w text (Holds r) = IsOf w r × (IsBroken w Is → ⊥)

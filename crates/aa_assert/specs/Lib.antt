@@ -7,6 +7,7 @@ pub mod Judging
 pub mod Enforced
 pub mod Refused
 pub mod Findings
+pub mod Stating
 pub mod Kinds
 pub mod Answers
 pub mod Shown

@@ -1,6 +1,6 @@
 -- Why a claim isn't answered.
 -- Source: own.
-use Rattle.std.specs.Prelude.{◌≡◌, ℕ, List, codes, Option, Some, true, false}
+use Rattle.std.specs.Prelude.{◌≡◌, ℕ, List, ◌∷◌, codes, Option, Some, true, false}
 use Rattle.aa_model.specs.declared.request.Request.{Request}
 use Rattle.aa_quantifiers.specs.declared.word.Word.{Word}
 use Rattle.aa_quantifiers.specs.Words.{IsOf}
@@ -19,7 +19,7 @@ use Rattle.aa_assert.specs.declared.part.Part.{Part}
 use Rattle.aa_assert.specs.declared.asked.Asked.{Asked}
 use Rattle.aa_assert.specs.declared.asked.Asked.TheVariants.{Never, Leads, Always, Reaches, Enforced}
 use Rattle.aa_assert.specs.Asked.{is_enforced, IsAskedBy}
-use Rattle.aa_assert.specs.Scope.{is_about_some, AreSomebody, NamesNobody, IsInScope}
+use Rattle.aa_assert.specs.Scope.{is_about_some, AreSomebody, NamesNobody}
 
 -- by why its word isn't answered
 abbrev pub fault_of : ℕ → WhoFault → ClaimFault
@@ -79,9 +79,12 @@ pub data IsOutOfScope (d : Part) (ws : List ClaimWord) (head : ClaimWord) (at : 
   OfNobody : AreSomebody d (names_within ws) → AreSomebody d (names_behind (codes "except") ws)
       → AreSomebody d (names_led ws) → at ≡ head.at → fault ≡ Nobody → is_about_some d ws ≡ false → IsOutOfScope d ws head at fault
 
--- why a claim of these words isn't answered: it doesn't say what is claimed, or else it is about nobody who is there, or else
--- nothing can be asked
-pub data IsUnanswered (d : Part) (ws : List ClaimWord) (head asked : ClaimWord) (at : ℕ) (fault : Wrong) : Type 0 where
-  NotSaid : IsUnsaid ws head asked at fault → IsUnanswered d ws head asked at fault
-  OfOthers : (a : Asked) → IsAskedBy d ws head asked a → IsOutOfScope d ws head at fault → IsUnanswered d ws head asked at fault
-  NotAsked : (a : Asked) → IsAskedBy d ws head asked a → IsInScope d ws → AsksNoPath asked a at fault → IsUnanswered d ws head asked at fault
+-- why a claim of these words states nothing: it doesn't say what is claimed, or else it is about nobody who is there
+pub data IsUnstated (d : Part) (ws : List ClaimWord) (head asked : ClaimWord) (at : ℕ) (fault : Wrong) : Type 0 where
+  NotSaid : IsUnsaid ws head asked at fault → IsUnstated d ws head asked at fault
+  OfOthers : (a : Asked) → IsAskedBy d ws head asked a → IsOutOfScope d ws head at fault → IsUnstated d ws head asked at fault
+
+-- the same of a claim by its words
+abbrev pub IsUnstatedOf : Part → List ClaimWord → ℕ → Wrong → Type 0
+IsUnstatedOf d (head ∷ asked ∷ rest) at fault = IsUnstated d (head ∷ asked ∷ rest) head asked at fault
+IsUnstatedOf d _ at fault = ⊥

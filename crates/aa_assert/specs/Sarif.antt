@@ -11,9 +11,9 @@ use Rattle.aa_who.specs.Untold.{Untold}
 use Rattle.aa_assert.specs.declared.kind.Kind.{Kind}
 use Rattle.aa_assert.specs.Answers.{Answered}
 use Rattle.aa_assert.specs.Findings.{Found}
-use Rattle.aa_assert.specs.Gcc.{line_place, rule_note, file_note, deciders_of, broken_note}
+use Rattle.aa_assert.specs.Gcc.{line_place, rule_note, file_note, deciders_of, broken_note, apart_note}
 use Rattle.aa_assert.specs.Kinds.{kind_name}
-use Rattle.aa_assert.specs.Outcomes.{Outcome, Broken, Undecided, all_outcomes}
+use Rattle.aa_assert.specs.Outcomes.{Outcome, Broken, Undecided, Apart, all_outcomes}
 
 -- a rule that decided, where it stands
 abbrev pub rule_text : Named → List ℕ
@@ -29,10 +29,11 @@ result_members level kind message path number places =
     rule_members level (kind_name kind) ++ member_text (codes "message") (message_text message)
     ++ member_text (codes "locations") (location_text path (Some (line_place number))) ++ member_text (codes "relatedLocations") (list_text places) ++ codes "}"
 
--- a broken claim, with the rules; or an undecided one, with the files
+-- a broken claim, with the rules; or an undecided one, with the files; or one that is broken at unclean paths alone, with the rules
 abbrev pub result_text : List ℕ → Outcome → List ℕ
 result_text path (Broken number kind f) = result_members Error kind (broken_note f) path number (map rule_text (deciders_of f))
 result_text path (Undecided number kind files) = result_members Warning kind (codes "undecided") path number (map file_text files)
+result_text path (Apart number kind f) = result_members Warning kind (apart_note f) path number (map rule_text (deciders_of f))
 
 -- all
 abbrev pub results_member : List ℕ → List Answered → List ℕ

@@ -66,9 +66,18 @@ abbrev pub doubt_text : List ℕ → ℕ → List PlacedFile → List ℕ
 doubt_text path number [] = []
 doubt_text path number (file ∷ files) = undecided_text path number ++ doubt_reason (file ∷ files)
 
--- all by whom a claim is broken, or that it is undecided
+-- PATH:LINE: only at unclean paths:
+unfoldable pub only_text : List ℕ → ℕ → List ℕ
+only_text path number = all_visible path ++ codes ":" ++ decimal number ++ codes ": only at unclean paths: "
+
+-- by whom a claim is broken so
+abbrev pub apart_text : List ℕ → ℕ → Found → List ℕ
+apart_text path number f = only_text path number ++ by_text f
+
+-- all by whom a claim is broken, or that it is undecided; and behind that by whom at unclean paths alone, where these don't count
 abbrev pub answer_text : List ℕ → Answered → List ℕ
-answer_text path a = flat_map (finding_text path a.number) a.found.list ++ doubt_text path a.number (files_open a)
+answer_text path a =
+    flat_map (finding_text path a.number) a.found.list ++ doubt_text path a.number (files_open a) ++ flat_map (apart_text path a.number) a.found.apart
 
 -- how many are undecided, if some are
 abbrev pub undecided_count : ℕ → List ℕ

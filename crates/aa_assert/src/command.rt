@@ -5,11 +5,11 @@ ghost use Rattle.aa_files.specs.FilesData.{IsMainText};
 ghost use Rattle.aa_claims.specs.Reports.{IsClaimReport};
 ghost use Rattle.aa_command.specs.Refusals.{SaysFault};
 ghost use Rattle.aa_command.specs.Setting.{setting_of};
-ghost use Rattle.aa_command.specs.Printed.{printed};
+ghost use Rattle.aa_command.specs.Printed.{printed, faults_alone};
 ghost use Rattle.aa_undecided.specs.Answers.{placed};
 ghost use Rattle.aa_assert.specs.Answers.{answered};
 ghost use Rattle.aa_assert.specs.Json.{json_answers};
-ghost use Rattle.aa_assert.specs.Command.{told_text, wanted_text, status_of, assert_printed, IsAssertOf, IsAssertBy, IsAssertOutput};
+ghost use Rattle.aa_assert.specs.Command.{told_text, wanted_text, status_of, assert_printed, empty_text, IsAssertOf, IsAssertBy, IsAssertSaid, IsAssertOutput};
 
 use crate::answering::{Answer, answers_to};
 use crate::gcc::push_gcc_answers;
@@ -22,7 +22,7 @@ use aa_claims::{ClaimFault, ClaimLine, Wrong, claim_report, read_claims};
 use aa_command::{Decided, Output, Settings, Use, fault_refused, path_refused, with_policy};
 use aa_files::{Tree, main_text};
 use aa_skipped::{Skipped, UsePart, push_skipped_count, with_read_policy};
-use aa_text::NoMemory;
+use aa_text::{NoMemory, push_text, push_visible};
 use aa_undecided::all_placed;
 use aa_who::{passed_in, push_passed};
 use std::alloc::{AllocError, Global};
@@ -36,6 +36,8 @@ pub struct AssertOptions<'a> {
     pub files: &'a [Vec<u8>],
     /// Whether of each claim the first is printed alone by whom it is broken.
     pub is_first: bool,
+    /// Whether requests at unclean paths count as others.
+    pub unclean: bool,
     pub form: Form,
     /// Whether files that are refused are skipped.
     pub skips: bool,
@@ -161,7 +163,11 @@ impl UsePart for Asserting<'_> {
         decided: Decided<'_>,
     ) -> Result<Output, NoMemory> {
         let options = self.options;
-        let part = Part { decided, skipped };
+        let part = Part {
+            decided,
+            skipped,
+            unclean: options.unclean,
+        };
         match answers_to(alloc, part, self.states, options.is_first, self.claims) {
             Ok(answers) => {
                 let passed = passed_in(decided.policies);
@@ -184,8 +190,8 @@ impl Use for Asserting<'_> {
     }
 }
 
-/// Answers these claims, which a text is.
-fn assert_claims<T: Tree>(
+/// Answers these claims, which a text is, by the policy of files.
+fn answer_claims<T: Tree>(
     alloc: Global,
     tree: &T,
     settings: &Settings<'_>,
@@ -207,6 +213,35 @@ fn assert_claims<T: Tree>(
     with_policy(alloc, tree, settings, options.files, &asserting)
 }
 
+/// Says that no claim stands in the file at a path.
+#[tactic(auto, unfolding(crate::specs::Command::empty_text))]
+fn empty_said(alloc: Global, path: &[u8]) -> Result<Output, NoMemory>
+    ensures { IfOk result (λ out. printed out ≡ faults_alone (empty_text path.now) 1) }
+{
+    let mut output = Output::new(alloc);
+    push_visible(&mut output.faults, path)?;
+    push_text(&mut output.faults, ": no claim stands here\n")?;
+    output.status = 1;
+    Ok(output)
+}
+
+/// Answers these claims, which a text is. A file without one is refused: nothing would be looked at.
+fn assert_claims<T: Tree>(
+    alloc: Global,
+    tree: &T,
+    settings: &Settings<'_>,
+    options: &AssertOptions<'_>,
+    text: &[u8],
+    claims: &[ClaimLine],
+) -> Result<Output, NoMemory>
+    ensures { IfOk result (λ out. IsAssertSaid (setting_of (T.files tree.now) (T.taken tree.now) (T.input tree.now) settings.now) options.now text.now claims.now (printed out)) }
+{
+    match claims {
+        [] => empty_said(alloc, options.claims),
+        [_, ..] => answer_claims(alloc, tree, settings, options, text, claims),
+    }
+}
+
 /// Answers the claims that a text is.
 fn assert_text<T: Tree>(
     alloc: Global,
@@ -225,10 +260,12 @@ fn assert_text<T: Tree>(
     }
 }
 
-/// Prints of each claim of a file by which profiles of the one policy that files are it is broken: each with a request that breaks it, none
-/// shorter, and the rules that decide it. A profile of which that can't be told is said, and the others are told. Refused, at its
-/// word, is what is no claim, names nobody, or can't be broken. Where files that are refused are skipped, a claim that nobody breaks whom
-/// is read, and that their profiles could break, is undecided.
+/// Prints of each claim of a file by which profiles of the one policy that files are it is broken: each with a request that breaks it, at a
+/// clean path where there is one and of these with a shortest, and the rules that decide it; behind those by whom at unclean paths alone,
+/// where these don't count. A profile of which that can't be told is said, and the others are told. Refused, at its word, is what is no
+/// claim, then what states nothing of somebody who is there, and then, once those before it are answered, what nothing can break; and a
+/// file without a claim. Where files that are refused are skipped, a claim that nobody breaks whom is read, and that their profiles could
+/// break, is undecided.
 pub fn assert_files<T: Tree>(
     alloc: Global,
     tree: &T,

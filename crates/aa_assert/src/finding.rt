@@ -7,7 +7,7 @@ ghost use Rattle.aa_quantifiers.specs.Aims.{IsMet};
 ghost use Rattle.aa_who.specs.Untold.{untold, untold_at};
 ghost use Rattle.aa_claims.specs.Faults.{SaysAt};
 ghost use Rattle.aa_undecided.specs.Answers.{placed_all};
-ghost use Rattle.aa_assert.specs.Findings.{found, all_found, could_change, files_changing_in, files_changing, or_else, told_unless, broken_by, untold_by, judged_found, IsFoundOf, files_on_way, by_way, passed_by, untold_of, passage_found, IsFoundOfPassage, complaining_in, complaining_found, IsFoundAt};
+ghost use Rattle.aa_assert.specs.Findings.{found, all_found, could_change, files_changing_in, files_changing, or_else, told_unless, broken_by, counts, broken_if, untold_by, judged_found, IsFoundOf, files_on_way, by_way, passed_by, untold_of, passage_found, IsFoundOfPassage, complaining_in, complaining_found, IsFoundAt};
 ghost use Rattle.aa_assert.specs.Refused.{fault_of, IsNoPath, AsksNoPath};
 
 use crate::asked::Asked;
@@ -24,7 +24,7 @@ use aa_quantifiers::{Aim, Labels, Word, word_is_open};
 use aa_reachability::Why;
 use aa_skipped::Skipped;
 use aa_undecided::{SkippedAt, all_placed, files_deciding, push_if};
-use aa_who::{Untold, WhoFault, push_untold};
+use aa_who::{Untold, WhoFault, does_count, push_untold};
 use std::alloc::{AllocError, Global};
 
 /// By what a claim is broken.
@@ -42,6 +42,8 @@ pub(crate) enum Finding {
 #[derive(Drop)]
 pub(crate) struct Findings {
     pub(crate) list: Vec<Finding>,
+    /// By whom it is broken at unclean paths alone, where these don't count.
+    pub(crate) apart: Vec<Finding>,
     /// Those of whom that can't be told.
     pub(crate) untold: Vec<Untold>,
     /// Skipped files that could break it.
@@ -154,6 +156,33 @@ fn broken_by(
     }
 }
 
+/// Whether it counts by what a claim is broken: by no request at an unclean path, or such requests count.
+fn counts(part: Part<'_>, judgement: &Judgement) -> bool
+    ensures { result ≡ counts part.entry judgement.now }
+{
+    match judgement {
+        Judgement::Broken(request) => does_count(part.unclean, request),
+        Judgement::Holds(_) => true,
+        Judgement::Untold(_) => true,
+    }
+}
+
+/// By what a claim is broken at a label, if that is wanted.
+fn broken_if(
+    alloc: Global,
+    is_wanted: bool,
+    part: Part<'_>,
+    label: Label,
+    judgement: &Judgement,
+) -> Result<Vec<Finding>, AllocError>
+    ensures { IfOk result (λ list. map found list.items ≡ broken_if is_wanted part.entry label judgement.now) }
+{
+    if !is_wanted {
+        return Ok(Vec::new(alloc));
+    }
+    broken_by(alloc, part, label, judgement)
+}
+
 /// That it can't be told at a label, with the line on why.
 fn one_untold(
     alloc: Global,
@@ -194,8 +223,10 @@ fn judged_found(
 ) -> Result<Findings, AllocError>
     ensures { IfOk result (λ fs. all_found fs ≡ judged_found part.entry label word.now judgement.now) }
 {
+    let is_counted = counts(part, judgement);
     Ok(Findings {
-        list: broken_by(alloc, part, label, judgement)?,
+        list: broken_if(alloc, is_counted, part, label, judgement)?,
+        apart: broken_if(alloc, !is_counted, part, label, judgement)?,
         untold: untold_by(alloc, part.decided.policies, label, judgement)?,
         doubt: files_changing(alloc, part, label, word)?,
     })
@@ -336,6 +367,7 @@ fn passage_found(
 {
     Ok(Findings {
         list: passed_by(alloc, part, label, passage)?,
+        apart: Vec::new(alloc),
         untold: untold_of(alloc, part.decided.policies, states, label, passage)?,
         doubt: all_placed(alloc, part.skipped)?,
     })
@@ -390,6 +422,7 @@ fn complaining_found(
 {
     Ok(Findings {
         list: complaining_in(alloc, profile_at(policies, label))?,
+        apart: Vec::new(alloc),
         untold: Vec::new(alloc),
         doubt: Vec::new(alloc),
     })

@@ -51,10 +51,12 @@ fn push_found(findings: &mut Findings, found: Findings) -> Result<(), AllocError
 {
     let Findings {
         mut list,
+        mut apart,
         mut untold,
         doubt,
     } = found;
     findings.list.append(&mut list)?;
+    findings.apart.append(&mut apart)?;
     findings.untold.append(&mut untold)?;
     or_else(&mut findings.doubt, doubt);
     Ok(())
@@ -142,6 +144,7 @@ fn nobody(alloc: Global, part: Part<'_>, claim: Claim<'_>) -> Result<Findings, A
 {
     Ok(Findings {
         list: Vec::new(alloc),
+        apart: Vec::new(alloc),
         untold: Vec::new(alloc),
         doubt: files_concerned(alloc, claim.words, part)?,
     })

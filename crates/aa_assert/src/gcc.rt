@@ -9,7 +9,7 @@ ghost use Rattle.aa_undecided.specs.Answers.{placed_data, placed_all};
 ghost use Rattle.aa_assert.specs.Findings.{found};
 ghost use Rattle.aa_assert.specs.Answers.{answered};
 ghost use Rattle.aa_assert.specs.Outcomes.{outcome};
-ghost use Rattle.aa_assert.specs.Gcc.{line_place, verb_of, rule_note, file_note, deciders_of, broken_note, kind_mark, gcc_rule, gcc_file, gcc_broken, gcc_undecided, gcc_outcome, gcc_answers};
+ghost use Rattle.aa_assert.specs.Gcc.{line_place, verb_of, rule_note, file_note, deciders_of, broken_note, apart_note, kind_mark, gcc_rule, gcc_file, gcc_broken, gcc_undecided, gcc_apart, gcc_outcome, gcc_answers};
 
 use crate::answering::Answer;
 use crate::finding::Finding;
@@ -91,6 +91,19 @@ pub(crate) fn push_broken_note(
     ensures { OnOk result (out.new.items ≡ out.old.items ++ broken_note (found finding.now)) }
 {
     push_text(out, "broken: ")?;
+    push_by_line(out, alloc, finding)
+}
+
+/// The same of what breaks it at unclean paths alone.
+#[tactic(auto, unfolding(crate::specs::Gcc::apart_note))]
+pub(crate) fn push_apart_note(
+    out: &mut Vec<u8>,
+    alloc: Global,
+    finding: &Finding,
+) -> Result<(), AllocError>
+    ensures { OnOk result (out.new.items ≡ out.old.items ++ apart_note (found finding.now)) }
+{
+    push_text(out, "only at unclean paths: ")?;
     push_by_line(out, alloc, finding)
 }
 
@@ -187,6 +200,25 @@ fn push_undecided(
     push_files(out, files)
 }
 
+/// Appends that a claim is broken at unclean paths alone, and a note for each rule that decides.
+#[tactic(auto, unfolding(crate::specs::Gcc::gcc_apart))]
+fn push_apart(
+    out: &mut Vec<u8>,
+    alloc: Global,
+    path: &[u8],
+    number: usize,
+    kind: Kind,
+    finding: &Finding,
+) -> Result<(), AllocError>
+    ensures { OnOk result (out.new.items ≡ out.old.items ++ gcc_apart path.now number kind (found finding.now)) }
+{
+    push_where(out, path, line_place(number))?;
+    push_text(out, ": warning: ")?;
+    push_apart_note(out, alloc, finding)?;
+    push_kind(out, kind)?;
+    push_rules(out, deciders_of(finding))
+}
+
 fn push_outcome(
     out: &mut Vec<u8>,
     alloc: Global,
@@ -200,6 +232,9 @@ fn push_outcome(
             push_broken(out, alloc, path, number, kind, finding)
         }
         Outcome::Undecided(number, kind, files) => push_undecided(out, path, number, kind, files),
+        Outcome::Apart(number, kind, finding) => {
+            push_apart(out, alloc, path, number, kind, finding)
+        }
     }
 }
 

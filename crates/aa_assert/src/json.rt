@@ -13,6 +13,7 @@ ghost use Rattle.aa_assert.specs.Json.{json_whose, json_found, json_broken, json
 use crate::answering::Answer;
 use crate::finding::Finding;
 use crate::shown::files_open;
+use crate::unclean::push_apart_member;
 use crate::way::Way;
 use aa_ask::Verdict;
 use aa_text::{
@@ -155,6 +156,7 @@ impl ToJson for Answer {
     #[tactic(auto, unfolding(crate::specs::Json::json_answer))]
     fn push_json(&self, out: &mut Vec<u8>, alloc: Global) -> Result<(), AllocError> {
         push_answer(out, alloc, self)?;
+        push_apart_member(out, alloc, self.findings.apart.as_slice())?;
         push_untold_member(out, alloc, self.findings.untold.as_slice())?;
         push_files_member(out, alloc, files_open(self))?;
         push_text(out, "}")

@@ -1,16 +1,20 @@
 //! What answers say of claims, and what skipped files don't change of that; and what verdicts are where rules are enforced.
 
 ghost use Rattle.aa_assert.specs.Enforced.{EnforcedVerdicts};
-ghost use Rattle.aa_assert.specs.Holding.{ClearClaimsHold, ToldBreak, ToldFail, ClaimsHold, FreeClaimsHold, BreakingsStand, EndingsStand, WaysStand, ArrivalsStand};
+ghost use Rattle.aa_assert.specs.Holding.{ClearClaimsHold, ToldBreak, ToldApart, QuietAnswersCountAll, ToldFail, ClaimsHold, FreeClaimsHold, BreakingsStand, EndingsStand, WaysStand, ArrivalsStand};
 
 use aa_quantifiers::closed_words_are_decided;
 use aa_skipped::each_file_decides;
 
 /// A claim that nobody breaks whom it is about, where that can be told of everybody and no skipped file could break it, holds; and each of
-/// whom it is told that he breaks a claim is one whom it is about, and breaks it. It does nothing: its contract is a law of the definitions.
+/// whom it is told that he breaks a claim is one whom it is about, and breaks it. So far as requests count: those at unclean paths do where
+/// that is wanted; but where nobody is told, apart neither, the answer is as if they did. It does nothing: its contract is a law of the
+/// definitions.
 pub fn answers_tell_what_holds()
     ensures clear { ClearClaimsHold }
     ensures told { ToldBreak }
+    ensures apart { ToldApart }
+    ensures quiet { QuietAnswersCountAll }
     ensures broken { ToldFail }
 {
     closed_words_are_decided()

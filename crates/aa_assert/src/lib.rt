@@ -20,6 +20,8 @@ mod passage;
 mod sarif;
 mod scope;
 mod shown;
+mod stating;
+mod unclean;
 mod way;
 
 pub use command::{AssertOptions, assert_files};

@@ -11,14 +11,16 @@ ghost use Rattle.aa_who.specs.Untold.{untold};
 ghost use Rattle.aa_assert.specs.Findings.{found};
 ghost use Rattle.aa_assert.specs.Answers.{answered};
 ghost use Rattle.aa_assert.specs.Kinds.{kind_name};
-ghost use Rattle.aa_assert.specs.Gcc.{line_place, broken_note, deciders_of};
+ghost use Rattle.aa_assert.specs.Gcc.{line_place, broken_note, apart_note, deciders_of};
 ghost use Rattle.aa_assert.specs.Outcomes.{outcome};
 ghost use Rattle.aa_assert.specs.Sarif.{rule_text, file_text, result_members, result_text, results_member, all_untold, note_text, run_member, sarif_answers};
 ghost use Rattle.aa_assert.specs.Listed.{rules_in, files_in, results_in};
 
 use crate::answering::Answer;
 use crate::finding::Finding;
-use crate::gcc::{deciders_of, line_place, push_broken_note, push_file_note, push_rule_note};
+use crate::gcc::{
+    deciders_of, line_place, push_apart_note, push_broken_note, push_file_note, push_rule_note,
+};
 use crate::kind::{Kind, kind_name};
 use crate::outcomes::{Outcome, all_outcomes};
 use aa_ask::DeciderLine;
@@ -117,6 +119,15 @@ fn push_told(
     push_member(out, alloc, "locations", &Location { path, place })
 }
 
+/// Appends the rules that decided, as the last member of a result, and its end.
+fn push_places(out: &mut Vec<u8>, alloc: Global, finding: &Finding) -> Result<(), AllocError>
+    ensures { OnOk result (out.new.items ≡ out.old.items ++ (member_text (codes "relatedLocations") (list_text (map rule_text (deciders_of (found finding.now)))) ++ codes "}")) }
+{
+    let rules = rules_of(alloc, deciders_of(finding))?;
+    push_list_member(out, alloc, "relatedLocations", rules.as_slice())?;
+    push_text(out, "}")
+}
+
 /// Appends a broken claim, with the rules.
 #[tactic(auto, unfolding(crate::specs::Sarif::result_members))]
 fn push_broken(
@@ -131,11 +142,9 @@ fn push_broken(
 {
     let mut text = Vec::new(alloc);
     push_broken_note(&mut text, alloc, finding)?;
-    let rules = rules_of(alloc, deciders_of(finding))?;
     let bytes = text.as_slice();
     push_told(out, alloc, Level::Error, kind, bytes, path, number)?;
-    push_list_member(out, alloc, "relatedLocations", rules.as_slice())?;
-    push_text(out, "}")
+    push_places(out, alloc, finding)
 }
 
 /// Appends an undecided claim, with the files that could decide it.
@@ -157,6 +166,25 @@ fn push_undecided(
     push_text(out, "}")
 }
 
+/// Appends a claim that is broken at unclean paths alone, with the rules.
+#[tactic(auto, unfolding(crate::specs::Sarif::result_members))]
+fn push_apart(
+    out: &mut Vec<u8>,
+    alloc: Global,
+    path: &[u8],
+    number: usize,
+    kind: Kind,
+    finding: &Finding,
+) -> Result<(), AllocError>
+    ensures { OnOk result (out.new.items ≡ out.old.items ++ result_members Warning kind (apart_note (found finding.now)) path.now number (map rule_text (deciders_of (found finding.now)))) }
+{
+    let mut text = Vec::new(alloc);
+    push_apart_note(&mut text, alloc, finding)?;
+    let bytes = text.as_slice();
+    push_told(out, alloc, Level::Warning, kind, bytes, path, number)?;
+    push_places(out, alloc, finding)
+}
+
 fn push_result(
     out: &mut Vec<u8>,
     alloc: Global,
@@ -171,6 +199,9 @@ fn push_result(
         }
         Outcome::Undecided(number, kind, files) => {
             push_undecided(out, alloc, path, number, kind, files)
+        }
+        Outcome::Apart(number, kind, finding) => {
+            push_apart(out, alloc, path, number, kind, finding)
         }
     }
 }
@@ -264,7 +295,8 @@ fn push_run(out: &mut Vec<u8>, alloc: Global, answers: &[Answer]) -> Result<(), 
 }
 
 /// Appends what is told of the claims of the file at a path, as one SARIF log (version 2.1.0) and a line end: a result for each by whom
-/// one is broken and for each that is undecided, and a notification for each of whom it can't be told.
+/// one is broken, for each that is undecided and for each by whom one is broken at unclean paths alone, and a notification for each of
+/// whom it can't be told.
 pub(crate) fn push_sarif_answers(
     out: &mut Vec<u8>,
     alloc: Global,

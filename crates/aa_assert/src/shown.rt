@@ -10,6 +10,7 @@ ghost use Rattle.aa_assert.specs.Shown.{asker_text, broken_text, word_behind, by
 
 use crate::answering::Answer;
 use crate::finding::Finding;
+use crate::unclean::push_apart;
 use crate::way::Way;
 use aa_ask::{Verdict, push_reasons};
 use aa_text::{push_name, push_number, push_text, push_visible};
@@ -110,7 +111,8 @@ fn push_why(out: &mut Vec<u8>, finding: &Finding) -> Result<(), AllocError>
     }
 }
 
-fn push_by(out: &mut Vec<u8>, alloc: Global, finding: &Finding) -> Result<(), AllocError>
+/// Appends by whom a claim is broken, and the rules.
+pub(crate) fn push_by(out: &mut Vec<u8>, alloc: Global, finding: &Finding) -> Result<(), AllocError>
     ensures { OnOk result (out.new.items ≡ out.old.items ++ by_text (found finding.now)) }
 {
     push_by_line(out, alloc, finding)?;
@@ -201,7 +203,9 @@ fn push_answer(
 {
     let findings = answer.findings.list.as_slice();
     push_findings(out, alloc, path, answer.number, findings)?;
-    push_doubt(out, path, answer.number, files_open(answer))
+    push_doubt(out, path, answer.number, files_open(answer))?;
+    let apart = answer.findings.apart.as_slice();
+    push_apart(out, alloc, path, answer.number, apart)
 }
 
 fn push_all(

@@ -69,7 +69,7 @@ fn can_go(rt: &(impl Abort + AllocGlobal), text: &str, wanted: &str) {
         let own = own_places(rt, &mut next, profile);
         places.push(own).expect(rt, "memory");
     }
-    let redundant = redundant_places(rt.alloc(), profiles, places.as_slice(), next, 4096);
+    let redundant = redundant_places(rt.alloc(), profiles, places.as_slice(), next, &[], 4096);
     let redundant = redundant.ok().expect(rt, text);
     let told = told(rt, &redundant.going);
     equal_in(rt, str::from_utf8(told.as_slice()).ok(), Some(wanted), text);
@@ -123,14 +123,20 @@ fn of_files(rt: &(impl Abort + AllocGlobal), files: &[usize]) -> PlaceNumbers {
     }
 }
 
-/// The first profile has two rules at these places, the second one at place 0; which of the two places can go.
-fn shared_can_go(rt: &(impl Abort + AllocGlobal), text: &str, first: &[usize], wanted: &str) {
+/// The first profile has two rules at these places, the second one at place 0; which of the two places can go, where some are held.
+fn shared_can_go(
+    rt: &(impl Abort + AllocGlobal),
+    text: &str,
+    first: &[usize],
+    held: &[bool],
+    wanted: &str,
+) {
     let list = policies_in(rt, text);
     let profiles = profiles_in(rt, list.as_slice());
     let mut places = Vec::new(rt.alloc());
     places.push(of_files(rt, first)).expect(rt, "memory");
     places.push(of_files(rt, &[0])).expect(rt, "memory");
-    let redundant = redundant_places(rt.alloc(), profiles, places.as_slice(), 2, 4096);
+    let redundant = redundant_places(rt.alloc(), profiles, places.as_slice(), 2, held, 4096);
     let redundant = redundant.ok().expect(rt, text);
     let told = told(rt, &redundant.going);
     equal_in(rt, str::from_utf8(told.as_slice()).ok(), Some(wanted), text);
@@ -139,8 +145,15 @@ fn shared_can_go(rt: &(impl Abort + AllocGlobal), text: &str, first: &[usize], w
 #[test]
 fn a_place_goes_with_all_its_rules(rt: HostRuntime) {
     let text = "profile p { /a r, /a r, } profile q { /a r, }";
-    shared_can_go(&rt, text, &[0, 1], ".g");
-    shared_can_go(&rt, text, &[1, 1], "..");
+    shared_can_go(&rt, text, &[0, 1], &[], ".g");
+    shared_can_go(&rt, text, &[1, 1], &[], "..");
+}
+
+#[test]
+fn a_place_that_is_held_stays(rt: HostRuntime) {
+    let text = "profile p { /a r, /a r, } profile q { /a r, }";
+    shared_can_go(&rt, text, &[0, 1], &[false, true], ".r");
+    shared_can_go(&rt, text, &[0, 1], &[true], ".g");
 }
 
 #[test]
@@ -151,7 +164,7 @@ fn the_profile_is_named_whose_patterns_need_too_many_states(rt: HostRuntime) {
     let mut places = Vec::new(rt.alloc());
     places.push(of_files(&rt, &[])).expect(&rt, "memory");
     places.push(of_files(&rt, &[])).expect(&rt, "memory");
-    let refused = redundant_places(rt.alloc(), profiles, places.as_slice(), 0, 7);
+    let refused = redundant_places(rt.alloc(), profiles, places.as_slice(), 0, &[], 7);
     let is_so = matches!(
         refused,
         Err(PolicyRedundancyFault::OfProfile(1, Excess::States))

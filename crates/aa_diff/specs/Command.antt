@@ -10,15 +10,16 @@ use Rattle.aa_report.specs.Entries.{entries_in}
 use Rattle.aa_report.specs.Markdown.{markdown_of}
 use Rattle.aa_model.specs.declared.policy.Policy.{Policy}
 use Rattle.aa_model.specs.declared.label.Label.{Label}
-use Rattle.aa_representatives.specs.Both.{HaveManyPatterns, HavePlaces}
+use Rattle.aa_representatives.specs.Apart.{HaveManyPatternsAnd}
 use Rattle.aa_differences.specs.declared.at_labels.Difference.{Difference}
 use Rattle.aa_differences.specs.Same.{SamePolicies}
-use Rattle.aa_differences.specs.Differences.{IsDifference, ListAll}
+use Rattle.aa_differences.specs.Differences.{IsDifference, ListAll, HavePlacesClean}
 use Rattle.aa_load.specs.UnitPolicy.{limit_of}
 use Rattle.aa_command.specs.declared.decided.Decided.{Decided}
 use Rattle.aa_command.specs.Setting.{Setting}
 use Rattle.aa_command.specs.Printed.{Printed, faults_alone}
 use Rattle.aa_command.specs.Refusals.{SaysUnread}
+use Rattle.aa_ask.specs.Asked.{no_profile}
 use Rattle.aa_diff.specs.declared.options.DiffOptions.{DiffOptions}
 use Rattle.aa_diff.specs.declared.options.DiffForm.{DiffForm}
 use Rattle.aa_diff.specs.declared.options.DiffForm.TheVariants.{Text, Json, Html, Markdown}
@@ -27,6 +28,8 @@ use Rattle.aa_diff.specs.Changes.{label_word}
 use Rattle.aa_passed_over.specs.Apart.{ApartRule, all_apart}
 use Rattle.aa_diff.specs.Report.{lines_of, report_text}
 use Rattle.aa_diff.specs.Accepted.{findings_left, rules_left, gone_of}
+use Rattle.aa_diff.specs.Order.{in_order}
+use Rattle.aa_diff.specs.Naming.{unnamed}
 use Rattle.aa_diff.specs.Jsons.{json_report}
 use Rattle.aa_diff.specs.Html.{html_report}
 use Rattle.aa_skipped.specs.declared.skipped.Skipped.{Skipped}
@@ -43,33 +46,32 @@ abbrev pub patterns_text : List Policy → Label → List ℕ
 patterns_text ps l = codes "error: at " ++ label_word ps l ++ codes " OLD and NEW have more than 65535 patterns together\n"
 
 -- findings, rules that are passed over, and what isn't told, in a form
-abbrev pub findings_in : DiffForm → DiffOptions → Decided → Decided → List Finding → List ApartRule → AllUntold → List ℕ
-findings_in Text o d e fs rs a = report_text d.policies.now fs rs a
-findings_in Json o d e fs rs a = json_report o d e fs rs a
-findings_in Html o d e fs rs a = html_report o d e fs rs a
-findings_in Markdown o d e fs rs a = markdown_of (report_text d.policies.now fs rs a)
+abbrev pub findings_in : DiffForm → DiffOptions → List Policy → List Finding → List ApartRule → AllUntold → List ℕ
+findings_in Text o ps fs rs a = report_text ps fs rs a
+findings_in Json o ps fs rs a = json_report o ps fs rs a
+findings_in Html o ps fs rs a = html_report o ps fs rs a
+findings_in Markdown o ps fs rs a = markdown_of (report_text ps fs rs a)
 
 -- 4 where there are findings or such rules, else 5 where something isn't told
 abbrev pub status_of : ℕ → ℕ → ℕ → ℕ → ℕ
 status_of findings rules undecided apart = if findings == 0 && rules == 0 then (if undecided == 0 && apart == 0 then 0 else 5) else 4
 
 -- the same with its status, and which accepted findings there aren't
-abbrev pub reported : DiffOptions → Decided → Decided → List Finding → List ApartRule → List ℕ → AllUntold → Printed
-reported o d e fs rs gone a = record {
-  answers = findings_in o.form o d e fs rs a;
+abbrev pub reported : DiffOptions → List Policy → List Finding → List ApartRule → List ℕ → AllUntold → Printed
+reported o ps fs rs gone a = record {
+  answers = findings_in o.form o ps fs rs a;
   faults = gone;
   refusal = [];
   status = status_of (length fs) (length rs) (length a.undecided) (length a.not_compared);
 }
 
 -- those of all findings and of all rules that are passed over which are shown and not accepted, and what isn't told
-abbrev pub reported_but : DiffOptions → List (List ℕ) → Decided → Decided → List Finding → List ApartRule → AllUntold → Printed
-reported_but o accepted d e fs rs a =
-    reported o d e (findings_left d.policies.now o.wanted accepted fs) (rules_left d.policies.now o.wanted accepted rs) (gone_of d.policies.now accepted fs rs) a
+abbrev pub reported_but : DiffOptions → List (List ℕ) → List Policy → List Finding → List ApartRule → AllUntold → Printed
+reported_but o accepted ps fs rs a = reported o ps (in_order (findings_left ps o.wanted accepted fs)) (rules_left ps o.wanted accepted rs) (gone_of ps accepted fs rs) a
 
 -- so the lines of differences, and the rules that are passed over and that one policy alone has
 abbrev pub printed_lines : DiffOptions → Decided → Decided → List Difference → AllUntold → Printed
-printed_lines o d e xs a = reported_but o (texts o.accepted.now) d e (lines_of d e xs) (all_apart d e) a
+printed_lines o d e xs a = reported_but o (texts o.accepted.now) d.policies.now (lines_of d e xs) (all_apart d e) a
 
 -- so of those differences that no skipped file could decide, and with all that isn't told
 abbrev pub compared : DiffOptions → Part → Part → List Difference → Printed
@@ -78,14 +80,19 @@ compared o d e xs = printed_lines o d.decided e.decided (decided_of d e xs) (all
 -- What is printed of two policies: each difference listed is one, each request that is answered differently is listed by one of its
 -- kind with its answers, none is listed exactly where the policies answer alike, and what is printed in the form that is wanted is that of those of
 -- this list that no skipped file could decide and that aren't accepted, of the rules that are passed over, and of what isn't told.
-pub data IsCompared (o : DiffOptions) (states : ℕ) (d e : Part) (out : Printed) : Type 0 where
+pub data AreCompared (o : DiffOptions) (states : ℕ) (d e : Part) (out : Printed) : Type 0 where
   Listed : (xs : List Difference) → ((x : Difference) → Contains xs x → IsDifference d.decided.policies.now e.decided.policies.now x)
       → ListAll d.decided.policies.now e.decided.policies.now xs
-      → ((xs ≡ []) ↔ SamePolicies d.decided.policies.now e.decided.policies.now) → out ≡ compared o d e xs → IsCompared o states d e out
-  ManyPatterns : (l m : Label) → HaveManyPatterns d.decided.policies.now l e.decided.policies.now m → out ≡ faults_alone (patterns_text d.decided.policies.now l) 1
-      → IsCompared o states d e out
-  ManyStates : (l m : Label) → HavePlaces d.decided.policies.now l e.decided.policies.now m (limit_of states + 1)
-      → out ≡ faults_alone (states_text d.decided.policies.now l (limit_of states)) 1 → IsCompared o states d e out
+      → ((xs ≡ []) ↔ SamePolicies d.decided.policies.now e.decided.policies.now) → out ≡ compared o d e xs → AreCompared o states d e out
+  ManyPatterns : (l m : Label) → HaveManyPatternsAnd d.decided.policies.now l e.decided.policies.now m → out ≡ faults_alone (patterns_text d.decided.policies.now l) 1
+      → AreCompared o states d e out
+  ManyStates : (l m : Label) → HavePlacesClean d.decided.policies.now l e.decided.policies.now m (limit_of states + 1)
+      → out ≡ faults_alone (states_text d.decided.policies.now l (limit_of states)) 1 → AreCompared o states d e out
+
+-- what is printed of two policies: that, or that nobody is called by one of the names that are wanted
+pub data IsCompared (o : DiffOptions) (states : ℕ) (d e : Part) (out : Printed) : Type 0 where
+  Unnamed : (name : List ℕ) → unnamed d e (texts o.wanted.names.now) ≡ Some name → out ≡ faults_alone (no_profile name) 1 → IsCompared o states d e out
+  Named : unnamed d e (texts o.wanted.names.now) ≡ None → AreCompared o states d e out → IsCompared o states d e out
 
 -- the policy of the files of a side that are read, and those that are skipped
 abbrev pub IsPart : List Skipped → Decided → Part → Type 0

@@ -15,7 +15,8 @@ use Rattle.aa_diff.specs.declared.finding.Who.TheVariants.{Anybody, Owner, Other
 use Rattle.aa_diff.specs.declared.finding.Finding.{Finding}
 use Rattle.aa_diff.specs.Signs.{is_confined, sign_number, sign_of}
 use Rattle.aa_diff.specs.Changes.{is_same, change_text}
-use Rattle.aa_diff.specs.Rules.{accounting}
+use Rattle.aa_diff.specs.declared.rules.Rule.{Rule}
+use Rattle.aa_diff.specs.Rules.{own_at, told_rules, rules_text}
 
 -- tells apart whose objects there are
 abbrev pub who_number : Who → ℕ
@@ -81,9 +82,13 @@ is_minor sign r = sign_number sign == 2 && is_link r
 abbrev pub told_change : List Policy → List Policy → Bool → Difference → List ℕ
 told_change ps qs minor x = if minor then codes "reported otherwise" else change_text ps qs x
 
--- the rules that are told
-abbrev pub told_rules : Decided → Decided → Bool → Difference → List ℕ
-told_rules d e minor x = if minor then [] else accounting d e x
+-- the rules of the old policy that are told
+abbrev pub old_rules : Decided → Decided → Bool → Difference → List Rule
+old_rules d e minor x = told_rules minor d (own_at d.policies.now e.policies.now x.from x.to) x.from x.request
+
+-- the rules of the new policy that are told
+abbrev pub new_rules : Decided → Decided → Bool → Difference → List Rule
+new_rules d e minor x = told_rules minor e (own_at e.policies.now d.policies.now x.to x.from) x.to x.request
 
 -- the finding that a difference is by itself, with that sign
 abbrev pub finding_with : Decided → Decided → Sign → Difference → Finding
@@ -95,7 +100,9 @@ finding_with d e sign x = record {
   letters = letters_of x.request;
   who = who_of x.request;
   change = told_change d.policies.now e.policies.now (is_minor sign x.request) x;
-  rules = told_rules d e (is_minor sign x.request) x;
+  rules = rules_text (old_rules d e (is_minor sign x.request) x) (new_rules d e (is_minor sign x.request) x);
+  old_rules = old_rules d e (is_minor sign x.request) x;
+  new_rules = new_rules d e (is_minor sign x.request) x;
   more = 0;
 }
 

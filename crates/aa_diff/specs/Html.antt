@@ -13,8 +13,6 @@ use Rattle.aa_page.specs.Pages.{page_start, page_end, section_start, section_end
 use Rattle.aa_page.specs.Lines.{line_start, line_end, rule_line}
 use Rattle.aa_files.specs.Texts.{texts}
 use Rattle.aa_notation.specs.Written.{word_text}
-use Rattle.aa_command.specs.declared.decided.Decided.{Decided}
-use Rattle.aa_ask.specs.Named.{Named}
 use Rattle.aa_passed_over.specs.declared.apart.Side.{Side}
 use Rattle.aa_passed_over.specs.declared.apart.Side.TheVariants.{Old, New}
 use Rattle.aa_passed_over.specs.Apart.{ApartRule}
@@ -22,14 +20,13 @@ use Rattle.aa_diff.specs.declared.options.DiffOptions.{DiffOptions}
 use Rattle.aa_diff.specs.declared.signs.Sign.{Sign}
 use Rattle.aa_diff.specs.declared.signs.Sign.TheVariants.{Gain, Loss, Other}
 use Rattle.aa_diff.specs.declared.finding.Finding.{Finding}
-use Rattle.aa_diff.specs.Rules.{stands_among}
-use Rattle.aa_diff.specs.Findings.{is_minor, is_profile}
+use Rattle.aa_diff.specs.declared.rules.Rule.{Rule}
+use Rattle.aa_diff.specs.Findings.{is_profile}
 use Rattle.aa_diff.specs.Untold.{Untold, AllUntold}
 use Rattle.aa_diff.specs.UntoldShown.{untold_words, skipped_text}
 use Rattle.aa_diff.specs.Lines.{Told, Found, PassedOver, label_of, is_of_profile, lines_with}
 use Rattle.aa_diff.specs.Printed.{asked_of, others_text, more_text, gone_text, name_asked, is_free, is_behind, side_text}
 use Rattle.aa_diff.specs.Report.{profile_counts, line_counts, rules_count}
-use Rattle.aa_diff.specs.Jsons.{rules_told}
 
 -- what the line of a finding is marked with
 abbrev pub mark_of : Sign → page.Mark
@@ -42,22 +39,13 @@ abbrev pub side_mark : Side → page.Mark
 side_mark Old = marked.Old
 side_mark New = marked.New
 
--- a rule with its place, unless one of the other side reads so
-abbrev pub html_rule_if : page.Mark → List Named → Named → List ℕ
-html_rule_if m others n = if stands_among others n.text then [] else rule_line m n.path n.place n.text
-
--- the rules of one side, without those that the other side has
-abbrev pub html_rules : page.Mark → List Named → List Named → List ℕ
-html_rules m others ns = flat_map (html_rule_if m others) ns
-
--- the rules of both sides
-abbrev pub html_sides : List Named → List Named → List ℕ
-html_sides ns ms = html_rules marked.Old ms ns ++ html_rules marked.New ns ms
+-- a rule with its place
+abbrev pub html_rule : page.Mark → Rule → List ℕ
+html_rule m r = rule_line m r.path r.place r.text
 
 -- the rules that account for a line, in a list
-unfoldable pub html_accounting : Decided → Decided → Finding → List ℕ
-html_accounting d e f =
-    list_start ++ html_sides (rules_told (is_minor f.sign f.request) d f.from f.request) (rules_told (is_minor f.sign f.request) e f.to f.request) ++ list_end
+unfoldable pub html_accounting : Finding → List ℕ
+html_accounting f = list_start ++ flat_map (html_rule marked.Old) f.old_rules ++ flat_map (html_rule marked.New) f.new_rules ++ list_end
 
 -- the mark of a line, its first request by all its permissions, and whose objects these are
 unfoldable pub html_asked : Finding → List ℕ
@@ -68,8 +56,8 @@ unfoldable pub html_change : Finding → List ℕ
 html_change f = codes " " ++ shown f.change ++ more_text f.more
 
 -- the line of a finding, with its rules
-unfoldable pub html_line : Decided → Decided → Finding → List ℕ
-html_line d e f = html_asked f ++ html_change f ++ html_accounting d e f ++ line_end
+unfoldable pub html_line : Finding → List ℕ
+html_line f = html_asked f ++ html_change f ++ html_accounting f ++ line_end
 
 -- which policy alone has a rule that is passed over
 unfoldable pub html_only : Side → List ℕ
@@ -84,9 +72,9 @@ unfoldable pub html_passed_over : ApartRule → List ℕ
 html_passed_over r = line_start marked.PassedOver ++ html_only r.side ++ html_rule_alone r ++ line_end
 
 -- a line about a profile
-abbrev pub html_told : Decided → Decided → Told → List ℕ
-html_told d e (Found f) = html_line d e f
-html_told d e (PassedOver r) = html_passed_over r
+abbrev pub html_told : Told → List ℕ
+html_told (Found f) = html_line f
+html_told (PassedOver r) = html_passed_over r
 
 -- what a profile is called, as the title of its section
 abbrev pub profile_title : List Policy → Label → List ℕ
@@ -110,11 +98,10 @@ abbrev pub html_heading : List Policy → Option Label → Label → List ℕ
 html_heading ps before l = if is_behind before l then [] else html_closing before ++ section_open (profile_title ps l)
 
 -- the lines about profiles, those of each profile in a section
-abbrev pub html_confined : Decided → Decided → Option Label → List Told → List ℕ
-html_confined d e before [] = html_closing before
-html_confined d e before (l ∷ ls) =
-    if is_of_profile l then html_heading d.policies.now before (label_of l) ++ html_told d e l ++ html_confined d e (Some (label_of l)) ls
-    else html_confined d e before ls
+abbrev pub html_confined : List Policy → Option Label → List Told → List ℕ
+html_confined ps before [] = html_closing before
+html_confined ps before (l ∷ ls) =
+    if is_of_profile l then html_heading ps before (label_of l) ++ html_told l ++ html_confined ps (Some (label_of l)) ls else html_confined ps before ls
 
 -- a profile that is gone or new: its mark and its name
 unfoldable pub html_gone : Finding → List ℕ
@@ -137,12 +124,12 @@ abbrev pub html_profiles : List Finding → List ℕ
 html_profiles fs = if list_any is_profile fs then profiles_section fs else []
 
 -- a finding about what else unconfined tasks are answered, if it is one
-abbrev pub html_free_if : Decided → Decided → Finding → List ℕ
-html_free_if d e f = if is_free f then html_line d e f else []
+abbrev pub html_free_if : Finding → List ℕ
+html_free_if f = if is_free f then html_line f else []
 
 -- these findings in a section, if there are any
-abbrev pub html_free : Decided → Decided → List Finding → List ℕ
-html_free d e fs = if list_any is_free fs then section_open (codes "unconfined") ++ flat_map (html_free_if d e) fs ++ section_close else []
+abbrev pub html_free : List Finding → List ℕ
+html_free fs = if list_any is_free fs then section_open (codes "unconfined") ++ flat_map html_free_if fs ++ section_close else []
 
 -- a path behind a space
 abbrev pub html_path : List ℕ → List ℕ
@@ -185,10 +172,10 @@ abbrev pub html_known : List Policy → List Told → List Finding → ℕ → A
 html_known ps ls fs rules a = html_counts ps a.left_out ls fs rules ++ html_skipped a ++ html_all_untold a
 
 -- the sections: of each profile, of profiles that are gone or new, and of unconfined tasks
-abbrev pub html_sections : Decided → Decided → List Told → List Finding → List ℕ
-html_sections d e ls fs = html_confined d e None ls ++ html_profiles fs ++ html_free d e fs
+abbrev pub html_sections : List Policy → List Told → List Finding → List ℕ
+html_sections ps ls fs = html_confined ps None ls ++ html_profiles fs ++ html_free fs
 
 -- the page: of the same findings, rules and doubts as the text
-abbrev pub html_report : DiffOptions → Decided → Decided → List Finding → List ApartRule → AllUntold → List ℕ
-html_report o d e fs rs a =
-    html_head o ++ html_known d.policies.now (lines_with fs rs) fs (length rs) a ++ html_sections d e (lines_with fs rs) fs ++ page_end
+abbrev pub html_report : DiffOptions → List Policy → List Finding → List ApartRule → AllUntold → List ℕ
+html_report o ps fs rs a =
+    html_head o ++ html_known ps (lines_with fs rs) fs (length rs) a ++ html_sections ps (lines_with fs rs) fs ++ page_end

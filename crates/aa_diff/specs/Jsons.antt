@@ -6,12 +6,9 @@ use Rattle.std.specs.declared.alloc.Global.{Global}
 use Rattle.aa_model.specs.declared.policy.Policy.{Policy}
 use Rattle.aa_model.specs.declared.label.Label.{Label}
 use Rattle.aa_model.specs.declared.label.Label.TheVariants.{Confined}
-use Rattle.aa_model.specs.declared.request.Request.{Request}
 use Rattle.aa_compile.specs.Labels.{label_name}
 use Rattle.aa_text.specs.Jsons.{json_bytes, json_place, key_text, bool_text, member_text, list_text}
 use Rattle.aa_notation.specs.Written.{word_text}
-use Rattle.aa_command.specs.declared.decided.Decided.{Decided}
-use Rattle.aa_ask.specs.Named.{Named, named_for}
 use Rattle.aa_diff.specs.declared.options.DiffOptions.{DiffOptions}
 use Rattle.aa_diff.specs.declared.signs.Sign.{Sign}
 use Rattle.aa_diff.specs.declared.signs.Sign.TheVariants.{Gain, Loss, Other}
@@ -19,8 +16,8 @@ use Rattle.aa_diff.specs.declared.finding.Who.{Who}
 use Rattle.aa_diff.specs.declared.finding.Who.TheVariants.{Others}
 use Rattle.aa_diff.specs.declared.finding.Finding.{Finding}
 use Rattle.aa_diff.specs.Signs.{is_confined}
-use Rattle.aa_diff.specs.Rules.{stands_among}
-use Rattle.aa_diff.specs.Findings.{is_minor, is_profile, is_counted}
+use Rattle.aa_diff.specs.declared.rules.Rule.{Rule}
+use Rattle.aa_diff.specs.Findings.{is_profile, is_counted}
 use Rattle.aa_passed_over.specs.Apart.{ApartRule}
 use Rattle.aa_diff.specs.Lines.{Told, lines_with}
 use Rattle.aa_diff.specs.Printed.{asked_of, sign_text, side_text, name_asked}
@@ -29,28 +26,13 @@ use Rattle.aa_diff.specs.UntoldShown.{json_all_untold}
 use Rattle.aa_diff.specs.Report.{headed, is_profile_with, profiles_counted}
 
 -- a rule: where it stands, and how it reads
-unfoldable pub json_rule : Named → List ℕ
-json_rule n = codes "{" ++ json_place n.path (Some n.place) ++ member_text (codes "rule") (json_bytes n.text) ++ codes "}"
-
--- no rule of the other side reads so
-abbrev pub stands_alone : List Named → Named → Bool
-stands_alone others n = not (stands_among others n.text)
-
--- the rules of one side, without those that the other side has
-abbrev pub json_rules : List Named → List Named → List ℕ
-json_rules others ns = list_text (map json_rule (filter (stands_alone others) ns))
-
--- the rules of both sides, as members
-abbrev pub json_sides : List Named → List Named → List ℕ
-json_sides ns ms = member_text (codes "old_rules") (json_rules ms ns) ++ member_text (codes "new_rules") (json_rules ns ms)
-
--- the rules that decide a request, where rules are told
-abbrev pub rules_told : Bool → Decided → Label → Request → List Named
-rules_told minor d l r = if minor then [] else named_for d l r
+unfoldable pub json_rule : Rule → List ℕ
+json_rule r = codes "{" ++ json_place r.path (Some r.place) ++ member_text (codes "rule") (json_bytes r.text) ++ codes "}"
 
 -- the rules that account for a line, as members
-abbrev pub json_accounting : Decided → Decided → Finding → List ℕ
-json_accounting d e f = json_sides (rules_told (is_minor f.sign f.request) d f.from f.request) (rules_told (is_minor f.sign f.request) e f.to f.request)
+abbrev pub json_accounting : Finding → List ℕ
+json_accounting f =
+    member_text (codes "old_rules") (list_text (map json_rule f.old_rules)) ++ member_text (codes "new_rules") (list_text (map json_rule f.new_rules))
 
 -- the profile of a line, or null where the task isn't confined
 abbrev pub json_profile : List Policy → Label → List ℕ
@@ -77,16 +59,16 @@ json_told f =
     ++ member_text (codes "more") (decimal f.more)
 
 -- a line with its rules
-abbrev pub json_line : Decided → Decided → Finding → List ℕ
-json_line d e f = json_start d.policies.now f ++ json_told f ++ json_accounting d e f ++ codes "}"
+abbrev pub json_line : List Policy → Finding → List ℕ
+json_line ps f = json_start ps f ++ json_told f ++ json_accounting f ++ codes "}"
 
 -- a finding has a line
 abbrev pub is_line : Finding → Bool
 is_line f = not (is_profile f)
 
 -- the lines
-abbrev pub json_lines : Decided → Decided → List Finding → List ℕ
-json_lines d e fs = list_text (map (json_line d e) (filter is_line fs))
+abbrev pub json_lines : List Policy → List Finding → List ℕ
+json_lines ps fs = list_text (map (json_line ps) (filter is_line fs))
 
 -- the name of a profile that is gone or new
 abbrev pub json_name : Finding → List ℕ
@@ -143,11 +125,11 @@ json_head o =
     ++ member_text (codes "gains_alone") (bool_text o.wanted.gains)
 
 -- the lines, the rules that are passed over, the profiles that are gone and that are new, how many there are, and what isn't told
-abbrev pub json_found : Decided → Decided → List Finding → List ApartRule → AllUntold → List ℕ
-json_found d e fs rs a =
-    member_text (codes "lines") (json_lines d e fs) ++ member_text (codes "passed_over") (json_all_passed_over d.policies.now rs) ++ json_profiles fs
-    ++ member_text (codes "counts") (json_counts d.policies.now a.left_out (lines_with fs rs) fs (length rs)) ++ json_all_untold a
+abbrev pub json_found : List Policy → List Finding → List ApartRule → AllUntold → List ℕ
+json_found ps fs rs a =
+    member_text (codes "lines") (json_lines ps fs) ++ member_text (codes "passed_over") (json_all_passed_over ps rs) ++ json_profiles fs
+    ++ member_text (codes "counts") (json_counts ps a.left_out (lines_with fs rs) fs (length rs)) ++ json_all_untold a
 
 -- the one object, and a line end
-abbrev pub json_report : DiffOptions → Decided → Decided → List Finding → List ApartRule → AllUntold → List ℕ
-json_report o d e fs rs a = json_head o ++ json_found d e fs rs a ++ codes "}\n"
+abbrev pub json_report : DiffOptions → List Policy → List Finding → List ApartRule → AllUntold → List ℕ
+json_report o ps fs rs a = json_head o ++ json_found ps fs rs a ++ codes "}\n"

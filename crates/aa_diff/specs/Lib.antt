@@ -10,6 +10,8 @@ pub mod Printed
 pub mod Untold
 pub mod UntoldShown
 pub mod Report
+pub mod Order
+pub mod Naming
 pub mod Jsons
 pub mod Html
 pub mod Accepted

@@ -81,20 +81,29 @@ profiles_counted ps out fs = min (length (first_profiles ps) - out + count_by (i
 unfoldable pub count_text : ℕ → List ℕ → List ℕ
 count_text n what = decimal n ++ what
 
+-- what a number counts: one, or more
+abbrev pub of_number : ℕ → List ℕ → List ℕ → List ℕ
+of_number n one more = if n == 1 then one else more
+
 -- how many profiles differ, are gone and are new
 abbrev pub profile_counts : List Policy → ℕ → List Told → List Finding → List ℕ
 profile_counts ps out ls fs =
-    count_text (profiles_counted ps out fs) (codes " profiles compared: ") ++ count_text (headed 0 None ls) (codes " differ, ")
+    count_text (profiles_counted ps out fs) (of_number (profiles_counted ps out fs) (codes " profile compared: ") (codes " profiles compared: "))
+    ++ count_text (headed 0 None ls) (of_number (headed 0 None ls) (codes " differs, ") (codes " differ, "))
     ++ count_text (count_by (is_profile_with Loss) fs) (codes " gone, ") ++ count_text (count_by (is_profile_with Gain) fs) (codes " new; ")
 
 -- how many rules that are passed over one policy alone has, if there are any
 abbrev pub rules_count : ℕ → List ℕ
 rules_count n = if n == 0 then codes "\n" else codes ", " ++ count_text n (codes " passed over\n")
 
+-- how many lines have a sign, and what they do
+abbrev pub signed_count : Sign → List Finding → List ℕ → List ℕ → List ℕ
+signed_count sign fs one more = count_text (count_by (is_counted sign) fs) (of_number (count_by (is_counted sign) fs) one more)
+
 -- how many lines have each sign
 abbrev pub line_counts : List Finding → List ℕ
 line_counts fs =
-    codes "lines: " ++ count_text (count_by (is_counted Gain) fs) (codes " gain, ") ++ count_text (count_by (is_counted Loss) fs) (codes " lose, ")
+    codes "lines: " ++ signed_count Gain fs (codes " gains, ") (codes " gain, ") ++ signed_count Loss fs (codes " loses, ") (codes " lose, ")
     ++ count_text (count_by (is_counted Other) fs) (codes " other")
 
 -- the lines of each profile, profiles that are gone or new, and the findings of unconfined tasks

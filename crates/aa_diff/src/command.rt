@@ -2,23 +2,24 @@
 
 ghost use Rattle.std.specs.Prelude.{◌≡◌, ◌++◌, ◌+◌, ◌<◌, ◌≤◌, ◌==◌, ◌&&◌, ◌↔◌, [], Err, map, Contains, IfOk, OnOk, if◌then◌else◌};
 ghost use Rattle.aa_pattern.specs.Limits.{most_states};
-ghost use Rattle.aa_representatives.specs.Both.{HaveManyPatterns, HavePlaces};
+ghost use Rattle.aa_representatives.specs.Apart.{HaveManyPatternsAnd};
 ghost use Rattle.aa_differences.specs.declared.at_labels.Difference.{Difference};
 ghost use Rattle.aa_differences.specs.Same.{SamePolicies};
-ghost use Rattle.aa_differences.specs.Differences.{IsDifference, ListAll};
+ghost use Rattle.aa_differences.specs.Differences.{IsDifference, ListAll, HavePlacesClean};
 ghost use Rattle.aa_model.specs.declared.label.Label.{Label};
 ghost use Rattle.aa_command.specs.Setting.{setting_of};
 ghost use Rattle.aa_command.specs.Printed.{printed, faults_alone};
 ghost use Rattle.aa_load.specs.UnitPolicy.{limit_of};
 ghost use Rattle.aa_files.specs.Texts.{texts};
 ghost use Rattle.aa_files.specs.FilesData.{IsMainText};
+ghost use Rattle.aa_ask.specs.Asked.{no_profile};
 ghost use Rattle.aa_report.specs.Markdown.{markdown_of};
 ghost use Rattle.aa_passed_over.specs.Apart.{apart};
 ghost use Rattle.aa_diff.specs.Report.{report_text};
 ghost use Rattle.aa_diff.specs.Accepted.{gone_of};
 ghost use Rattle.aa_diff.specs.Untold.{doubts_data};
 ghost use Rattle.aa_diff.specs.Sides.{IsMarked};
-ghost use Rattle.aa_diff.specs.Command.{states_text, patterns_text, findings_in, status_of, reported, reported_but, printed_lines, compared, IsCompared, IsComparedBeside, IsNewSide, IsNewBeside, IsDiffBut, accepting, IsDiffBy, IsDiffOutput};
+ghost use Rattle.aa_diff.specs.Command.{states_text, patterns_text, findings_in, status_of, reported, reported_but, printed_lines, compared, AreCompared, IsCompared, IsComparedBeside, IsNewSide, IsNewBeside, IsDiffBut, accepting, IsDiffBy, IsDiffOutput};
 
 use crate::accepted::{findings_left, push_gone, rules_left};
 use crate::change::push_label_name;
@@ -26,7 +27,9 @@ use crate::deciding::decided_of;
 use crate::finding::Finding;
 use crate::html::push_html_report;
 use crate::json::push_json_report;
+use crate::naming::{no_profile, unnamed};
 use crate::options::{DiffForm, DiffOptions};
+use crate::order::in_order;
 use crate::part::Part;
 use crate::report::{lines_of, push_report};
 use crate::sides::{mark, note, of_side};
@@ -136,20 +139,19 @@ fn push_findings(
     out: &mut Vec<u8>,
     alloc: Global,
     options: &DiffOptions<'_>,
-    old: Decided<'_>,
-    new: Decided<'_>,
+    policies: &[Compiled],
     findings: &[Finding],
     rules: &[Apart],
     doubts: &Doubts,
 ) -> Result<(), AllocError>
-    ensures { OnOk result (out.new.items ≡ out.old.items ++ findings_in options.now.form options.now old.entry new.entry findings.now (map apart rules.now) (doubts_data doubts.now)) }
+    ensures { OnOk result (out.new.items ≡ out.old.items ++ findings_in options.now.form options.now policies.now findings.now (map apart rules.now) (doubts_data doubts.now)) }
 {
     match options.form {
-        DiffForm::Text => push_report(out, alloc, old.policies, findings, rules, doubts),
-        DiffForm::Json => push_json_report(out, alloc, options, old, new, findings, rules, doubts),
-        DiffForm::Html => push_html_report(out, alloc, options, old, new, findings, rules, doubts),
+        DiffForm::Text => push_report(out, alloc, policies, findings, rules, doubts),
+        DiffForm::Json => push_json_report(out, alloc, options, policies, findings, rules, doubts),
+        DiffForm::Html => push_html_report(out, alloc, options, policies, findings, rules, doubts),
         DiffForm::Markdown => {
-            push_markdown_report(out, alloc, old.policies, findings, rules, doubts)
+            push_markdown_report(out, alloc, policies, findings, rules, doubts)
         }
     }
 }
@@ -158,14 +160,13 @@ fn push_findings(
 fn print_found(
     alloc: Global,
     options: &DiffOptions<'_>,
-    old: Decided<'_>,
-    new: Decided<'_>,
+    policies: &[Compiled],
     findings: &[Finding],
     rules: &[Apart],
     gone: Vec<u8>,
     doubts: &Doubts,
 ) -> Result<Output, NoMemory>
-    ensures { IfOk result (λ out. printed out ≡ reported options.now old.entry new.entry findings.now (map apart rules.now) gone.items (doubts_data doubts.now)) }
+    ensures { IfOk result (λ out. printed out ≡ reported options.now policies.now findings.now (map apart rules.now) gone.items (doubts_data doubts.now)) }
 {
     let mut output = Output::new(alloc);
     output.faults = gone;
@@ -173,8 +174,7 @@ fn print_found(
         &mut output.answers,
         alloc,
         options,
-        old,
-        new,
+        policies,
         findings,
         rules,
         doubts,
@@ -207,23 +207,22 @@ fn gone_of(
 fn print_but(
     alloc: Global,
     options: &DiffOptions<'_>,
-    old: Decided<'_>,
-    new: Decided<'_>,
+    policies: &[Compiled],
     findings: &[Finding],
     rules: &[Apart],
     doubts: &Doubts,
 ) -> Result<Output, NoMemory>
-    ensures { IfOk result (λ out. printed out ≡ reported_but options.now (texts options.now.accepted.now) old.entry new.entry findings.now (map apart rules.now) (doubts_data doubts.now)) }
+    ensures { IfOk result (λ out. printed out ≡ reported_but options.now (texts options.now.accepted.now) policies.now findings.now (map apart rules.now) (doubts_data doubts.now)) }
 {
     let accepted = options.accepted;
-    let gone = gone_of(alloc, old.policies, accepted, findings, rules)?;
-    let findings = findings_left(alloc, old.policies, options.wanted, accepted, findings)?;
-    let rules = rules_left(alloc, old.policies, options.wanted, accepted, rules)?;
+    let gone = gone_of(alloc, policies, accepted, findings, rules)?;
+    let left = findings_left(alloc, policies, options.wanted, accepted, findings)?;
+    let findings = in_order(alloc, left)?;
+    let rules = rules_left(alloc, policies, options.wanted, accepted, rules)?;
     print_found(
         alloc,
         options,
-        old,
-        new,
+        policies,
         findings.as_slice(),
         rules.as_slice(),
         gone,
@@ -247,8 +246,7 @@ fn print_decided(
     print_but(
         alloc,
         options,
-        old,
-        new,
+        old.policies,
         findings.as_slice(),
         rules.as_slice(),
         doubts,
@@ -290,8 +288,8 @@ fn differences_of(
     ensures each { IfOk result (λ ds. (d : Difference) → Contains ds.items d → IsDifference old.entry.policies.now new.entry.policies.now d) }
     ensures all { IfOk result (λ ds. ListAll old.entry.policies.now new.entry.policies.now ds.items) }
     ensures none { IfOk result (λ ds. (ds.items ≡ []) ↔ SamePolicies old.entry.policies.now new.entry.policies.now) }
-    ensures many_patterns { (l m : Label) → result ≡ Err (DifferencesFault.TooManyPatterns l m) → HaveManyPatterns old.entry.policies.now l new.entry.policies.now m }
-    ensures many_states { (l m : Label) → result ≡ Err (DifferencesFault.TooManyStates l m) → HavePlaces old.entry.policies.now l new.entry.policies.now m (limit + 1) }
+    ensures many_patterns { (l m : Label) → result ≡ Err (DifferencesFault.TooManyPatterns l m) → HaveManyPatternsAnd old.entry.policies.now l new.entry.policies.now m }
+    ensures many_states { (l m : Label) → result ≡ Err (DifferencesFault.TooManyStates l m) → HavePlacesClean old.entry.policies.now l new.entry.policies.now m (limit + 1) }
 {
     if old.policies.len() > 65536 || new.policies.len() > 65536 {
         return Err(DifferencesFault::NoMemory);
@@ -300,14 +298,14 @@ fn differences_of(
 }
 
 /// Prints how two policies differ, or why that can't be told.
-fn compare(
+fn compare_all(
     alloc: Global,
     options: &DiffOptions<'_>,
     states: u32,
     old: Part<'_>,
     new: Part<'_>,
 ) -> Result<Output, NoMemory>
-    ensures compared { IfOk result (λ out. IsCompared options.now states old.entry new.entry (printed out)) }
+    ensures compared { IfOk result (λ out. AreCompared options.now states old.entry new.entry (printed out)) }
     ensures low { IfOk result (λ out. out.status < 128) }
 {
     let limit = limit_of(states);
@@ -322,6 +320,40 @@ fn compare(
         Err(DifferencesFault::TooManyStates(label, _)) => {
             say_states(alloc, old.decided.policies, label, limit)
         }
+    }
+}
+
+/// Says a line in place of what is compared.
+fn say(alloc: Global, line: Vec<u8>) -> Output
+    ensures { printed result ≡ faults_alone line.items 1 }
+{
+    let mut output = Output::new(alloc);
+    output.faults = line;
+    output.status = 1;
+    output
+}
+
+fn say_unnamed(alloc: Global, name: &[u8]) -> Result<Output, NoMemory>
+    ensures { IfOk result (λ out. printed out ≡ faults_alone (no_profile name.now) 1) }
+{
+    let line = no_profile(alloc, name)?;
+    Ok(say(alloc, line))
+}
+
+/// The same, where somebody is called by each of the names that are wanted; else that nobody is by the first of the others.
+fn compare(
+    alloc: Global,
+    options: &DiffOptions<'_>,
+    states: u32,
+    old: Part<'_>,
+    new: Part<'_>,
+) -> Result<Output, NoMemory>
+    ensures compared { IfOk result (λ out. IsCompared options.now states old.entry new.entry (printed out)) }
+    ensures low { IfOk result (λ out. out.status < 128) }
+{
+    match unnamed(alloc, old, new, options.wanted.names)? {
+        Some(name) => say_unnamed(alloc, name),
+        None => compare_all(alloc, options, states, old, new),
     }
 }
 

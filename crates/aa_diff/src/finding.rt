@@ -1,12 +1,13 @@
 //! Findings: requests that are answered differently in the same way, for the same reason.
 
 ghost use Rattle.std.specs.Prelude.{◌≡◌, IfOk};
-ghost use Rattle.aa_diff.specs.Findings.{who_number, whose, who_of, letters_of, kind_number, is_profile, is_change, is_of_class, is_alike, is_link, is_minor, told_change, told_rules, finding_of, is_counted};
+ghost use Rattle.aa_diff.specs.Findings.{who_number, whose, who_of, letters_of, kind_number, is_profile, is_change, is_of_class, is_alike, is_link, is_minor, told_change, finding_of, is_counted};
+ghost use Rattle.aa_diff.specs.Rules.{AreOwn};
 
 use crate::change::{change_text, is_same};
-use crate::rules::accounting;
+use crate::rules::{OwnRules, Rule, copies_of, rules_text, told_rules};
 use crate::signs::{Sign, is_confined, sign_number, sign_of};
-use aa_base::{Perms, Text};
+use aa_base::{Perms, Seq, Text};
 use aa_command::Decided;
 use aa_compile::Compiled;
 use aa_differences::Difference;
@@ -40,6 +41,10 @@ pub struct Finding {
     pub change: Text,
     /// The lines of the rules that account for it.
     pub rules: Text,
+    /// Those of the old policy.
+    pub old_rules: Seq<Rule>,
+    /// Those of the new one.
+    pub new_rules: Seq<Rule>,
     /// How many paths, names or entries there are besides, for each permission.
     pub more: u64,
 }
@@ -165,33 +170,23 @@ fn told_change(
     change_text(alloc, old, new, difference)
 }
 
-fn told_rules(
-    alloc: Global,
-    old: Decided<'_>,
-    new: Decided<'_>,
-    is_minor: bool,
-    difference: &Difference,
-) -> Result<Text, AllocError>
-    ensures { IfOk result (λ text. text ≡ told_rules old.entry new.entry is_minor difference.now) }
-{
-    if is_minor {
-        return Text::copy_of(alloc, &[]);
-    }
-    accounting(alloc, old, new, difference)
-}
-
-/// The finding that a difference is by itself.
+/// The finding that a difference is by itself, where it is known which rules each of the profiles there alone has.
 pub(crate) fn finding_of(
     alloc: Global,
     old: Decided<'_>,
     new: Decided<'_>,
+    own: &OwnRules,
     difference: &Difference,
 ) -> Result<Finding, AllocError>
+    requires { AreOwn old.policies.now new.policies.now difference.now.from difference.now.to own.now }
     ensures { IfOk result (λ finding. finding ≡ finding_of old.entry new.entry difference.now) }
 {
     let sign = sign_of(old.policies, new.policies, difference);
     let is_minor = is_minor(sign, &difference.request);
-    let rules = told_rules(alloc, old, new, is_minor, difference)?;
+    let request = &difference.request;
+    let old_rules = told_rules(alloc, is_minor, old, &own.old, difference.from, request)?;
+    let new_rules = told_rules(alloc, is_minor, new, &own.new, difference.to, request)?;
+    let rules = rules_text(alloc, old_rules.as_slice(), new_rules.as_slice())?;
     let change = told_change(alloc, old.policies, new.policies, is_minor, difference)?;
     Ok(Finding {
         from: difference.from,
@@ -202,6 +197,8 @@ pub(crate) fn finding_of(
         who: who_of(&difference.request),
         change,
         rules,
+        old_rules,
+        new_rules,
         more: 0,
     })
 }
@@ -214,7 +211,7 @@ pub(crate) fn is_counted(sign: Sign, finding: &Finding) -> bool
 }
 
 /// The same finding again.
-pub(crate) fn copy_of(finding: &Finding) -> Result<Finding, AllocError>
+pub(crate) fn copy_of(alloc: Global, finding: &Finding) -> Result<Finding, AllocError>
     ensures { IfOk result (λ copy. copy ≡ finding.now) }
 {
     Ok(Finding {
@@ -226,6 +223,8 @@ pub(crate) fn copy_of(finding: &Finding) -> Result<Finding, AllocError>
         who: finding.who,
         change: finding.change.try_clone()?,
         rules: finding.rules.try_clone()?,
+        old_rules: copies_of(alloc, finding.old_rules.as_slice())?,
+        new_rules: copies_of(alloc, finding.new_rules.as_slice())?,
         more: finding.more,
     })
 }

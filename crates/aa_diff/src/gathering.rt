@@ -5,15 +5,17 @@ ghost use Rattle.std.specs.List.{list_any};
 ghost use Rattle.aa_diff.specs.declared.finding.Finding.{Finding};
 ghost use Rattle.aa_diff.specs.Findings.{is_alike, finding_of};
 ghost use Rattle.aa_diff.specs.Gathered.{is_single, is_mixed, is_part_of, is_part, is_as_well, covers, recent, hides, counted_up, changed_at, added, gathered, gathered_next};
+ghost use Rattle.aa_diff.specs.Rules.{AreOwn};
 
 use crate::change::is_same;
 use crate::finding::{Finding, finding_of, is_alike};
+use crate::rules::{OwnRules, own_beside, own_rules};
 use crate::signs::{Sign, sign_number, sign_of};
 use aa_base::Perms;
 use aa_command::Decided;
 use aa_compile::Compiled;
 use aa_differences::Difference;
-use aa_model::{FileRequest, Request};
+use aa_model::{FileRequest, Label, Request};
 use std::alloc::{AllocError, Global};
 
 /// How many requests there are for one file at most: by each mask that can be asked for, of the owner and of others.
@@ -131,21 +133,44 @@ fn add(findings: &mut Vec<Finding>, finding: Finding) -> Result<(), AllocError>
     Ok(())
 }
 
+/// The rules that each of the profiles of a difference alone has, where they are known of other profiles.
+fn own_of(
+    alloc: Global,
+    old: Decided<'_>,
+    new: Decided<'_>,
+    known: OwnRules,
+    difference: &Difference,
+) -> Result<OwnRules, AllocError>
+    requires { AreOwn old.policies.now new.policies.now known.from known.to known }
+    ensures { IfOk result (λ own. AreOwn old.entry.policies.now new.entry.policies.now difference.now.from difference.now.to own) }
+{
+    own_beside(
+        alloc,
+        old.policies,
+        new.policies,
+        known,
+        difference.from,
+        difference.to,
+    )
+}
+
 /// Adds the finding of a difference, unless one that stands before tells of it.
 fn add_next(
     alloc: Global,
     old: Decided<'_>,
     new: Decided<'_>,
+    own: &OwnRules,
     before: &[Difference],
     difference: &Difference,
     findings: &mut Vec<Finding>,
 ) -> Result<(), AllocError>
+    requires { AreOwn old.policies.now new.policies.now difference.now.from difference.now.to own.now }
     ensures { OnOk result (findings.new.items ≡ gathered_next old.entry new.entry before.now difference.now findings.old.items) }
 {
     if hides(old.policies, new.policies, before, difference) {
         return Ok(());
     }
-    add(findings, finding_of(alloc, old, new, difference)?)
+    add(findings, finding_of(alloc, old, new, own, difference)?)
 }
 
 /// The findings that differences are.
@@ -157,10 +182,14 @@ pub(crate) fn gather(
 ) -> Result<Vec<Finding>, AllocError>
     ensures { IfOk result (λ fs. fs.items ≡ gathered old.entry new.entry [] differences.now []) }
 {
+    let free = Label::Unconfined(0);
     let mut findings = Vec::new(alloc);
+    let mut own = own_rules(alloc, old.policies, new.policies, free, free)?;
     for number in 0..differences.len() {
         let (before, _) = differences.split_at(number);
-        add_next(alloc, old, new, before, &differences[number], &mut findings)?;
+        let difference = &differences[number];
+        own = own_of(alloc, old, new, own, difference)?;
+        add_next(alloc, old, new, &own, before, difference, &mut findings)?;
     }
     Ok(findings)
 }

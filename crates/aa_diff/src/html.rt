@@ -3,28 +3,25 @@
 ghost use Rattle.std.specs.Prelude.{◌≡◌, ◌++◌, None, codes, map, flat_map, OnOk, IfOk};
 ghost use Rattle.std.specs.List.{list_any};
 ghost use Rattle.aa_files.specs.Texts.{texts};
-ghost use Rattle.aa_ask.specs.Named.{named};
 ghost use Rattle.aa_passed_over.specs.Apart.{apart};
 ghost use Rattle.aa_diff.specs.Findings.{is_profile};
 ghost use Rattle.aa_diff.specs.Untold.{untold, doubts_data};
 ghost use Rattle.aa_diff.specs.UntoldShown.{untold_words};
 ghost use Rattle.aa_diff.specs.Lines.{told, lines_with};
-ghost use Rattle.aa_diff.specs.Html.{mark_of, side_mark, html_rule_if, html_rules, html_sides, html_accounting, html_asked, html_change, html_line, html_only, html_rule_alone, html_passed_over, html_told, profile_title, section_open, section_close, html_closing, html_heading, html_confined, html_gone, html_profile, html_profile_if, profiles_section, html_profiles, html_free_if, html_free, html_path, html_paths, html_gains, html_head, html_counts, html_untold, html_all_untold, skipped_paragraph, html_skipped, html_known, html_sections, html_report};
+ghost use Rattle.aa_diff.specs.Html.{mark_of, side_mark, html_rule, html_accounting, html_asked, html_change, html_line, html_only, html_rule_alone, html_passed_over, html_told, profile_title, section_open, section_close, html_closing, html_heading, html_confined, html_gone, html_profile, html_profile_if, profiles_section, html_profiles, html_free_if, html_free, html_path, html_paths, html_gains, html_head, html_counts, html_untold, html_all_untold, skipped_paragraph, html_skipped, html_known, html_sections, html_report};
 
-use crate::finding::{Finding, is_minor, is_profile};
-use crate::json::{asked_word, rules_told};
+use crate::finding::{Finding, is_profile};
+use crate::json::asked_word;
 use crate::lines::{Line, label_of, lines_with};
 use crate::options::DiffOptions;
 use crate::printing::{
     gone_text, is_behind, is_free, is_one_free, name_asked, push_more, push_others, side_text,
 };
 use crate::report::{push_line_counts, push_profile_counts, push_rules_count};
-use crate::rules::stands_among;
+use crate::rules::Rule;
 use crate::signs::{Sign, is_confined};
 use crate::untold::{Doubt, Doubts};
 use crate::untold_shown::{count_of, push_skipped, push_words};
-use aa_ask::DeciderLine;
-use aa_command::Decided;
 use aa_compile::{Compiled, name_of_label};
 use aa_model::Label;
 use aa_notation::push_word;
@@ -55,73 +52,36 @@ fn side_mark(side: Side) -> Mark
     }
 }
 
-/// Appends a rule with its place, unless one of the other side reads so.
-fn push_rule_if(
-    out: &mut Vec<u8>,
-    alloc: Global,
-    mark: Mark,
-    others: &[DeciderLine],
-    line: &DeciderLine,
-) -> Result<(), AllocError>
-    ensures { OnOk result (out.new.items ≡ out.old.items ++ html_rule_if mark (map named others.now) (named line.now)) }
-{
-    if stands_among(others, line.text.as_slice()) {
-        return Ok(());
-    }
-    push_rule(
-        out,
-        alloc,
-        mark,
-        line.path.as_slice(),
-        line.place,
-        line.text.as_slice(),
-    )
-}
-
-/// Appends the rules of one side, without those that the other side has.
+/// Appends the rules of one side.
 fn push_rules(
     out: &mut Vec<u8>,
     alloc: Global,
     mark: Mark,
-    others: &[DeciderLine],
-    lines: &[DeciderLine],
+    rules: &[Rule],
 ) -> Result<(), AllocError>
-    ensures { OnOk result (out.new.items ≡ out.old.items ++ html_rules mark (map named others.now) (map named lines.now)) }
+    ensures { OnOk result (out.new.items ≡ out.old.items ++ flat_map (html_rule mark) rules.now) }
 {
-    for line in lines {
-        push_rule_if(out, alloc, mark, others, line)?;
+    for rule in rules {
+        push_rule(
+            out,
+            alloc,
+            mark,
+            rule.path.as_slice(),
+            rule.place,
+            rule.text.as_slice(),
+        )?;
     }
     Ok(())
 }
 
-fn push_sides(
-    out: &mut Vec<u8>,
-    alloc: Global,
-    before: &[DeciderLine],
-    after: &[DeciderLine],
-) -> Result<(), AllocError>
-    ensures { OnOk result (out.new.items ≡ out.old.items ++ html_sides (map named before.now) (map named after.now)) }
-{
-    push_rules(out, alloc, Mark::Old, after, before)?;
-    push_rules(out, alloc, Mark::New, before, after)
-}
-
 /// Appends the rules that account for a line.
 #[tactic(auto, unfolding(crate::specs::Html::html_accounting))]
-fn push_accounting(
-    out: &mut Vec<u8>,
-    alloc: Global,
-    old: Decided<'_>,
-    new: Decided<'_>,
-    finding: &Finding,
-) -> Result<(), AllocError>
-    ensures { OnOk result (out.new.items ≡ out.old.items ++ html_accounting old.entry new.entry finding.now) }
+fn push_accounting(out: &mut Vec<u8>, alloc: Global, finding: &Finding) -> Result<(), AllocError>
+    ensures { OnOk result (out.new.items ≡ out.old.items ++ html_accounting finding.now) }
 {
-    let is_minor = is_minor(finding.sign, &finding.request);
-    let before = rules_told(alloc, is_minor, old, finding.from, &finding.request)?;
-    let after = rules_told(alloc, is_minor, new, finding.to, &finding.request)?;
     push_list_start(out)?;
-    push_sides(out, alloc, before.as_slice(), after.as_slice())?;
+    push_rules(out, alloc, Mark::Old, finding.old_rules.as_slice())?;
+    push_rules(out, alloc, Mark::New, finding.new_rules.as_slice())?;
     push_list_end(out)
 }
 
@@ -148,18 +108,12 @@ fn push_change(out: &mut Vec<u8>, alloc: Global, finding: &Finding) -> Result<()
 
 /// Appends the line of a finding, with its rules.
 #[tactic(auto, unfolding(crate::specs::Html::html_line))]
-fn push_line(
-    out: &mut Vec<u8>,
-    alloc: Global,
-    old: Decided<'_>,
-    new: Decided<'_>,
-    finding: &Finding,
-) -> Result<(), AllocError>
-    ensures { OnOk result (out.new.items ≡ out.old.items ++ html_line old.entry new.entry finding.now) }
+fn push_line(out: &mut Vec<u8>, alloc: Global, finding: &Finding) -> Result<(), AllocError>
+    ensures { OnOk result (out.new.items ≡ out.old.items ++ html_line finding.now) }
 {
     push_asked(out, alloc, finding)?;
     push_change(out, alloc, finding)?;
-    push_accounting(out, alloc, old, new, finding)?;
+    push_accounting(out, alloc, finding)?;
     push_line_end(out)
 }
 
@@ -200,17 +154,11 @@ fn push_passed_over(out: &mut Vec<u8>, alloc: Global, rule: &Apart) -> Result<()
     push_line_end(out)
 }
 
-fn push_told(
-    out: &mut Vec<u8>,
-    alloc: Global,
-    old: Decided<'_>,
-    new: Decided<'_>,
-    line: Line<'_>,
-) -> Result<(), AllocError>
-    ensures { OnOk result (out.new.items ≡ out.old.items ++ html_told old.entry new.entry (told line.entry)) }
+fn push_told(out: &mut Vec<u8>, alloc: Global, line: Line<'_>) -> Result<(), AllocError>
+    ensures { OnOk result (out.new.items ≡ out.old.items ++ html_told (told line.entry)) }
 {
     match line {
-        Line::Found(finding) => push_line(out, alloc, old, new, finding),
+        Line::Found(finding) => push_line(out, alloc, finding),
         Line::PassedOver(rule) => push_passed_over(out, alloc, rule),
     }
 }
@@ -275,19 +223,18 @@ fn push_heading(
 fn push_confined(
     out: &mut Vec<u8>,
     alloc: Global,
-    old: Decided<'_>,
-    new: Decided<'_>,
+    policies: &[Compiled],
     lines: &[Line<'_>],
 ) -> Result<(), AllocError>
-    ensures { OnOk result (out.new.items ≡ out.old.items ++ html_confined old.entry new.entry None (map told lines.now)) }
+    ensures { OnOk result (out.new.items ≡ out.old.items ++ html_confined policies.now None (map told lines.now)) }
 {
     let mut before: Option<Label> = None;
     let mut rest = lines;
     while let [line, after @ ..] = rest {
         let label = label_of(*line);
         if is_confined(label) {
-            push_heading(out, alloc, old.policies, before, label)?;
-            push_told(out, alloc, old, new, *line)?;
+            push_heading(out, alloc, policies, before, label)?;
+            push_told(out, alloc, *line)?;
             before = Some(label);
         }
         rest = after;
@@ -372,51 +319,33 @@ fn push_profiles(out: &mut Vec<u8>, alloc: Global, findings: &[Finding]) -> Resu
     push_profiles_section(out, alloc, findings)
 }
 
-fn push_free_if(
-    out: &mut Vec<u8>,
-    alloc: Global,
-    old: Decided<'_>,
-    new: Decided<'_>,
-    finding: &Finding,
-) -> Result<(), AllocError>
-    ensures { OnOk result (out.new.items ≡ out.old.items ++ html_free_if old.entry new.entry finding.now) }
+fn push_free_if(out: &mut Vec<u8>, alloc: Global, finding: &Finding) -> Result<(), AllocError>
+    ensures { OnOk result (out.new.items ≡ out.old.items ++ html_free_if finding.now) }
 {
     if !is_free(finding) {
         return Ok(());
     }
-    push_line(out, alloc, old, new, finding)
+    push_line(out, alloc, finding)
 }
 
-fn push_each_free(
-    out: &mut Vec<u8>,
-    alloc: Global,
-    old: Decided<'_>,
-    new: Decided<'_>,
-    findings: &[Finding],
-) -> Result<(), AllocError>
-    ensures { OnOk result (out.new.items ≡ out.old.items ++ flat_map (html_free_if old.entry new.entry) findings.now) }
+fn push_each_free(out: &mut Vec<u8>, alloc: Global, findings: &[Finding]) -> Result<(), AllocError>
+    ensures { OnOk result (out.new.items ≡ out.old.items ++ flat_map html_free_if findings.now) }
 {
     for finding in findings {
-        push_free_if(out, alloc, old, new, finding)?;
+        push_free_if(out, alloc, finding)?;
     }
     Ok(())
 }
 
 /// Appends the findings of unconfined tasks in a section, if there are any.
-fn push_free(
-    out: &mut Vec<u8>,
-    alloc: Global,
-    old: Decided<'_>,
-    new: Decided<'_>,
-    findings: &[Finding],
-) -> Result<(), AllocError>
-    ensures { OnOk result (out.new.items ≡ out.old.items ++ html_free old.entry new.entry findings.now) }
+fn push_free(out: &mut Vec<u8>, alloc: Global, findings: &[Finding]) -> Result<(), AllocError>
+    ensures { OnOk result (out.new.items ≡ out.old.items ++ html_free findings.now) }
 {
     if !is_one_free(findings) {
         return Ok(());
     }
     push_section_open(out, alloc, "unconfined".as_bytes())?;
-    push_each_free(out, alloc, old, new, findings)?;
+    push_each_free(out, alloc, findings)?;
     push_section_close(out)
 }
 
@@ -570,16 +499,15 @@ fn push_known(
 fn push_sections(
     out: &mut Vec<u8>,
     alloc: Global,
-    old: Decided<'_>,
-    new: Decided<'_>,
+    policies: &[Compiled],
     lines: &[Line<'_>],
     findings: &[Finding],
 ) -> Result<(), AllocError>
-    ensures { OnOk result (out.new.items ≡ out.old.items ++ html_sections old.entry new.entry (map told lines.now) findings.now) }
+    ensures { OnOk result (out.new.items ≡ out.old.items ++ html_sections policies.now (map told lines.now) findings.now) }
 {
-    push_confined(out, alloc, old, new, lines)?;
+    push_confined(out, alloc, policies, lines)?;
     push_profiles(out, alloc, findings)?;
-    push_free(out, alloc, old, new, findings)
+    push_free(out, alloc, findings)
 }
 
 /// Appends the page of findings, of rules that are passed over and that one policy alone has, and of what isn't told.
@@ -587,25 +515,24 @@ pub(crate) fn push_html_report(
     out: &mut Vec<u8>,
     alloc: Global,
     options: &DiffOptions<'_>,
-    old: Decided<'_>,
-    new: Decided<'_>,
+    policies: &[Compiled],
     findings: &[Finding],
     rules: &[Apart],
     doubts: &Doubts,
 ) -> Result<(), AllocError>
-    ensures { OnOk result (out.new.items ≡ out.old.items ++ html_report options.now old.entry new.entry findings.now (map apart rules.now) (doubts_data doubts.now)) }
+    ensures { OnOk result (out.new.items ≡ out.old.items ++ html_report options.now policies.now findings.now (map apart rules.now) (doubts_data doubts.now)) }
 {
     let lines = lines_with(alloc, findings, rules)?;
     push_head(out, alloc, options)?;
     push_known(
         out,
         alloc,
-        old.policies,
+        policies,
         lines.as_slice(),
         findings,
         rules.len(),
         doubts,
     )?;
-    push_sections(out, alloc, old, new, lines.as_slice(), findings)?;
+    push_sections(out, alloc, policies, lines.as_slice(), findings)?;
     push_page_end(out)
 }

@@ -76,14 +76,18 @@ fn join_at(findings: &mut Vec<Finding>, number: usize, finding: &Finding)
     join(&mut findings[number], finding);
 }
 
-fn add_joined(findings: &mut Vec<Finding>, finding: &Finding) -> Result<(), AllocError>
+fn add_joined(
+    alloc: Global,
+    findings: &mut Vec<Finding>,
+    finding: &Finding,
+) -> Result<(), AllocError>
     ensures { OnOk result (findings.new.items ≡ joined findings.old.items finding.now) }
 {
     if let Some(number) = place_of(findings.as_slice(), finding) {
         join_at(findings, number, finding);
         return Ok(());
     }
-    findings.push(copy_of(finding)?)?;
+    findings.push(copy_of(alloc, finding)?)?;
     Ok(())
 }
 
@@ -93,7 +97,7 @@ pub(crate) fn join_all(alloc: Global, findings: &[Finding]) -> Result<Vec<Findin
 {
     let mut joined = Vec::new(alloc);
     for finding in findings {
-        add_joined(&mut joined, finding)?;
+        add_joined(alloc, &mut joined, finding)?;
     }
     Ok(joined)
 }

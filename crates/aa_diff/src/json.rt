@@ -3,141 +3,57 @@
 ghost use Rattle.std.specs.Prelude.{◌≡◌, ◌++◌, codes, decimal, map, length, OnOk, IfOk};
 ghost use Rattle.aa_text.specs.Jsons.{key_text, bool_text, member_text, list_text};
 ghost use Rattle.aa_notation.specs.Written.{word_text};
-ghost use Rattle.aa_ask.specs.Named.{named};
 ghost use Rattle.aa_diff.specs.declared.signs.Sign.TheVariants.{Gain, Loss};
 ghost use Rattle.aa_passed_over.specs.Apart.{apart};
 ghost use Rattle.aa_diff.specs.Lines.{told, lines_with};
 ghost use Rattle.aa_diff.specs.Printed.{asked_of};
 ghost use Rattle.aa_diff.specs.Untold.{doubts_data};
-ghost use Rattle.aa_diff.specs.Jsons.{json_rules, json_sides, rules_told, json_accounting, json_profile, json_sign, json_start, is_of_others, json_told, json_line, json_lines, json_names, json_profile_counts, json_line_counts, json_counts, json_paths, json_head, json_rule_side, json_rule_text, json_all_passed_over, json_profiles, json_found, json_report};
+ghost use Rattle.aa_diff.specs.Jsons.{json_accounting, json_profile, json_sign, json_start, is_of_others, json_told, json_line, json_lines, json_names, json_profile_counts, json_line_counts, json_counts, json_paths, json_head, json_rule_side, json_rule_text, json_all_passed_over, json_profiles, json_found, json_report};
 
-use crate::finding::{Finding, Who, is_minor, is_profile};
+use crate::finding::{Finding, Who, is_profile};
 use crate::lines::{Line, lines_with};
 use crate::options::DiffOptions;
 use crate::printing::{asked_of, name_asked, side_text, sign_text};
 use crate::report::{count_lines, count_profiles, headed, is_profile_with, profiles_counted};
-use crate::rules::{rules_at, stands_among};
+use crate::rules::Rule;
 use crate::signs::{Sign, is_confined};
 use crate::untold::Doubts;
 use crate::untold_shown::push_json_untold;
-use aa_ask::DeciderLine;
-use aa_command::Decided;
 use aa_compile::{Compiled, name_of_label};
-use aa_model::{Label, Request};
+use aa_model::Label;
 use aa_notation::push_word;
 use aa_passed_over::Apart;
 use aa_text::{
-    ListItem, push_json_bytes, push_json_place, push_key, push_list, push_list_in, push_member,
-    push_number, push_text,
+    ListItem, ToJson, push_json_bytes, push_json_place, push_key, push_list, push_list_in,
+    push_list_member, push_member, push_number, push_text,
 };
 use std::alloc::{AllocError, Global};
 
-/// The rules of the other side.
-#[derive(Clone, Copy)]
-struct Beside<'a> {
-    rules: &'a [DeciderLine],
-}
+/// A rule: where it stands, and how it reads.
+impl ToJson for Rule {
+    ghost use Rattle.aa_diff.specs.Jsons.{json_rule};
 
-/// A rule stands in the list of its side, unless one of the other side reads so.
-impl<'a> ListItem<Beside<'a>> for DeciderLine {
-    ghost use Rattle.std.specs.Prelude.{map};
-    ghost use Rattle.aa_ask.specs.Named.{named};
-    ghost use Rattle.aa_diff.specs.Jsons.{stands_alone, json_rule};
-
-    ghost stands = { λ beside line. stands_alone (map named beside.rules.now) (named line) };
-
-    ghost item = { λ beside line. json_rule (named line) };
-
-    fn stands(&self, beside: &Beside<'a>) -> bool {
-        !stands_among(beside.rules, self.text.as_slice())
-    }
+    ghost json = { json_rule };
 
     #[tactic(auto, unfolding(crate::specs::Jsons::json_rule))]
-    fn push_item(
-        &self,
-        out: &mut Vec<u8>,
-        alloc: Global,
-        _beside: &Beside<'a>,
-    ) -> Result<(), AllocError> {
+    fn push_json(&self, out: &mut Vec<u8>, alloc: Global) -> Result<(), AllocError> {
         push_text(out, "{")?;
         push_json_place(out, alloc, self.path.as_slice(), Some(self.place))?;
-        push_member(out, alloc, "rule", &self.text)?;
+        push_member(out, alloc, "rule", &self.text.as_slice())?;
         push_text(out, "}")
     }
 }
 
-/// Appends the rules of one side, without those that the other side has.
-fn push_json_rules(
-    out: &mut Vec<u8>,
-    alloc: Global,
-    others: &[DeciderLine],
-    lines: &[DeciderLine],
-) -> Result<(), AllocError>
-    ensures { OnOk result (out.new.items ≡ out.old.items ++ json_rules (map named others.now) (map named lines.now)) }
-{
-    let beside = Beside { rules: others };
-    push_list_in(out, alloc, &beside, lines)?;
-    Ok(())
-}
-
-/// Appends a member whose value are the rules of one side.
-#[tactic(auto, unfolding(aa_text::specs::Jsons::member_text))]
-fn push_rules_member(
-    out: &mut Vec<u8>,
-    alloc: Global,
-    key: &str,
-    others: &[DeciderLine],
-    lines: &[DeciderLine],
-) -> Result<(), AllocError>
-    ensures { OnOk result (out.new.items ≡ out.old.items ++ member_text key.now (json_rules (map named others.now) (map named lines.now))) }
-{
-    push_text(out, ",")?;
-    push_key(out, key)?;
-    push_json_rules(out, alloc, others, lines)
-}
-
-fn push_json_sides(
-    out: &mut Vec<u8>,
-    alloc: Global,
-    before: &[DeciderLine],
-    after: &[DeciderLine],
-) -> Result<(), AllocError>
-    ensures { OnOk result (out.new.items ≡ out.old.items ++ json_sides (map named before.now) (map named after.now)) }
-{
-    push_rules_member(out, alloc, "old_rules", after, before)?;
-    push_rules_member(out, alloc, "new_rules", before, after)
-}
-
-/// The rules that decide a request, where rules are told.
-pub(crate) fn rules_told(
-    alloc: Global,
-    is_minor: bool,
-    decided: Decided<'_>,
-    label: Label,
-    request: &Request,
-) -> Result<Vec<DeciderLine>, AllocError>
-    ensures { IfOk result (λ lines. map named lines.items ≡ rules_told is_minor decided.entry label request.now) }
-{
-    if is_minor {
-        return Ok(Vec::new(alloc));
-    }
-    rules_at(alloc, decided, label, request)
-}
-
-/// Appends the rules that account for a line.
+/// Appends the rules that account for a line, as members.
 fn push_json_accounting(
     out: &mut Vec<u8>,
     alloc: Global,
-    old: Decided<'_>,
-    new: Decided<'_>,
     finding: &Finding,
 ) -> Result<(), AllocError>
-    ensures { OnOk result (out.new.items ≡ out.old.items ++ json_accounting old.entry new.entry finding.now) }
+    ensures { OnOk result (out.new.items ≡ out.old.items ++ json_accounting finding.now) }
 {
-    let is_minor = is_minor(finding.sign, &finding.request);
-    let before = rules_told(alloc, is_minor, old, finding.from, &finding.request)?;
-    let after = rules_told(alloc, is_minor, new, finding.to, &finding.request)?;
-    push_json_sides(out, alloc, before.as_slice(), after.as_slice())
+    push_list_member(out, alloc, "old_rules", finding.old_rules.as_slice())?;
+    push_list_member(out, alloc, "new_rules", finding.new_rules.as_slice())
 }
 
 fn push_json_profile(
@@ -216,34 +132,32 @@ fn push_json_told(out: &mut Vec<u8>, alloc: Global, finding: &Finding) -> Result
 fn push_json_line(
     out: &mut Vec<u8>,
     alloc: Global,
-    old: Decided<'_>,
-    new: Decided<'_>,
+    policies: &[Compiled],
     finding: &Finding,
 ) -> Result<(), AllocError>
-    ensures { OnOk result (out.new.items ≡ out.old.items ++ json_line old.entry new.entry finding.now) }
+    ensures { OnOk result (out.new.items ≡ out.old.items ++ json_line policies.now finding.now) }
 {
-    push_json_start(out, alloc, old.policies, finding)?;
+    push_json_start(out, alloc, policies, finding)?;
     push_json_told(out, alloc, finding)?;
-    push_json_accounting(out, alloc, old, new, finding)?;
+    push_json_accounting(out, alloc, finding)?;
     push_text(out, "}")
 }
 
-/// The policies of both sides.
+/// The policies by which profiles are called.
 #[derive(Clone, Copy)]
-struct Policies<'a> {
-    old: Decided<'a>,
-    new: Decided<'a>,
+struct Naming<'a> {
+    policies: &'a [Compiled],
 }
 
 /// It stands among the lines, unless it is a profile that is gone or new.
-impl<'a> ListItem<Policies<'a>> for Finding {
+impl<'a> ListItem<Naming<'a>> for Finding {
     ghost use Rattle.aa_diff.specs.Jsons.{is_line, json_line};
 
-    ghost stands = { λ policies finding. is_line finding };
+    ghost stands = { λ naming finding. is_line finding };
 
-    ghost item = { λ policies finding. json_line policies.old policies.new finding };
+    ghost item = { λ naming finding. json_line naming.policies.now finding };
 
-    fn stands(&self, _policies: &Policies<'a>) -> bool {
+    fn stands(&self, _naming: &Naming<'a>) -> bool {
         !is_profile(self)
     }
 
@@ -251,9 +165,9 @@ impl<'a> ListItem<Policies<'a>> for Finding {
         &self,
         out: &mut Vec<u8>,
         alloc: Global,
-        policies: &Policies<'a>,
+        naming: &Naming<'a>,
     ) -> Result<(), AllocError> {
-        push_json_line(out, alloc, policies.old, policies.new, self)
+        push_json_line(out, alloc, naming.policies, self)
     }
 }
 
@@ -278,14 +192,13 @@ impl ListItem<Sign> for Finding {
 fn push_json_lines(
     out: &mut Vec<u8>,
     alloc: Global,
-    old: Decided<'_>,
-    new: Decided<'_>,
+    policies: &[Compiled],
     findings: &[Finding],
 ) -> Result<(), AllocError>
-    ensures { OnOk result (out.new.items ≡ out.old.items ++ json_lines old.entry new.entry findings.now) }
+    ensures { OnOk result (out.new.items ≡ out.old.items ++ json_lines policies.now findings.now) }
 {
-    let policies = Policies { old, new };
-    push_list_in(out, alloc, &policies, findings)?;
+    let naming = Naming { policies };
+    push_list_in(out, alloc, &naming, findings)?;
     Ok(())
 }
 
@@ -305,15 +218,14 @@ fn push_json_names(
 fn push_lines_member(
     out: &mut Vec<u8>,
     alloc: Global,
-    old: Decided<'_>,
-    new: Decided<'_>,
+    policies: &[Compiled],
     findings: &[Finding],
 ) -> Result<(), AllocError>
-    ensures { OnOk result (out.new.items ≡ out.old.items ++ member_text (codes "lines") (json_lines old.entry new.entry findings.now)) }
+    ensures { OnOk result (out.new.items ≡ out.old.items ++ member_text (codes "lines") (json_lines policies.now findings.now)) }
 {
     push_text(out, ",")?;
     push_key(out, "lines")?;
-    push_json_lines(out, alloc, old, new, findings)
+    push_json_lines(out, alloc, policies, findings)
 }
 
 #[tactic(auto, unfolding(aa_text::specs::Jsons::member_text))]
@@ -405,12 +317,6 @@ fn push_counts_member(
         findings,
         rules.len(),
     )
-}
-
-/// The policies by which profiles are called.
-#[derive(Clone, Copy)]
-struct Naming<'a> {
-    policies: &'a [Compiled],
 }
 
 /// Appends the profile of a rule that is passed over, and which policy alone has it.
@@ -543,18 +449,17 @@ fn push_json_head(
 fn push_json_found(
     out: &mut Vec<u8>,
     alloc: Global,
-    old: Decided<'_>,
-    new: Decided<'_>,
+    policies: &[Compiled],
     findings: &[Finding],
     rules: &[Apart],
     doubts: &Doubts,
 ) -> Result<(), AllocError>
-    ensures { OnOk result (out.new.items ≡ out.old.items ++ json_found old.entry new.entry findings.now (map apart rules.now) (doubts_data doubts.now)) }
+    ensures { OnOk result (out.new.items ≡ out.old.items ++ json_found policies.now findings.now (map apart rules.now) (doubts_data doubts.now)) }
 {
-    push_lines_member(out, alloc, old, new, findings)?;
-    push_rules_apart(out, alloc, old.policies, rules)?;
+    push_lines_member(out, alloc, policies, findings)?;
+    push_rules_apart(out, alloc, policies, rules)?;
     push_json_profiles(out, alloc, findings)?;
-    push_counts_member(out, alloc, old.policies, doubts.left_out, findings, rules)?;
+    push_counts_member(out, alloc, policies, doubts.left_out, findings, rules)?;
     push_json_untold(out, alloc, doubts)
 }
 
@@ -564,15 +469,14 @@ pub(crate) fn push_json_report(
     out: &mut Vec<u8>,
     alloc: Global,
     options: &DiffOptions<'_>,
-    old: Decided<'_>,
-    new: Decided<'_>,
+    policies: &[Compiled],
     findings: &[Finding],
     rules: &[Apart],
     doubts: &Doubts,
 ) -> Result<(), AllocError>
-    ensures { OnOk result (out.new.items ≡ out.old.items ++ json_report options.now old.entry new.entry findings.now (map apart rules.now) (doubts_data doubts.now)) }
+    ensures { OnOk result (out.new.items ≡ out.old.items ++ json_report options.now policies.now findings.now (map apart rules.now) (doubts_data doubts.now)) }
 {
     push_json_head(out, alloc, options)?;
-    push_json_found(out, alloc, old, new, findings, rules, doubts)?;
+    push_json_found(out, alloc, policies, findings, rules, doubts)?;
     push_text(out, "}\n")
 }

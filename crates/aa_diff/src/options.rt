@@ -7,6 +7,8 @@ pub struct Wanted<'a> {
     pub gains: bool,
     /// The profiles whose findings are, by their full names; of all where there are none.
     pub profiles: &'a [Vec<u8>],
+    /// The names by which they are asked for, each a full name, or one in hexadecimal digits: one by which nobody is called is refused.
+    pub names: &'a [Vec<u8>],
 }
 
 /// How differences are printed.

@@ -10,7 +10,7 @@ ghost use Rattle.aa_passed_over.specs.Apart.{apart};
 ghost use Rattle.aa_diff.specs.Lines.{told};
 ghost use Rattle.aa_diff.specs.Named.{is_named};
 ghost use Rattle.aa_diff.specs.Untold.{doubts_data};
-ghost use Rattle.aa_diff.specs.Report.{called, is_wanted, wanted_of, shown_of, lines_of, headed_next, headed, is_profile_with, profiles_counted, count_text, profile_counts, line_counts, is_rule_wanted, rule_wanted_of, rules_shown, rules_count, lines_text, counts_text, report_of, report_text};
+ghost use Rattle.aa_diff.specs.Report.{called, is_wanted, wanted_of, shown_of, lines_of, headed_next, headed, is_profile_with, profiles_counted, count_text, of_number, profile_counts, signed_count, line_counts, is_rule_wanted, rule_wanted_of, rules_shown, rules_count, lines_text, counts_text, report_of, report_text};
 
 use crate::finding::{Finding, copy_of, is_counted, is_profile};
 use crate::gathering::gather;
@@ -59,6 +59,7 @@ fn is_wanted(policies: &[Compiled], wanted: Wanted<'_>, finding: &Finding) -> bo
 }
 
 fn add_wanted(
+    alloc: Global,
     policies: &[Compiled],
     wanted: Wanted<'_>,
     finding: &Finding,
@@ -67,7 +68,7 @@ fn add_wanted(
     ensures { OnOk result (shown.new.items ≡ shown.old.items ++ wanted_of policies.now wanted.entry finding.now) }
 {
     if is_wanted(policies, wanted, finding) {
-        shown.push(copy_of(finding)?)?;
+        shown.push(copy_of(alloc, finding)?)?;
     }
     Ok(())
 }
@@ -83,7 +84,7 @@ pub(crate) fn shown_of(
 {
     let mut shown = Vec::new(alloc);
     for finding in findings {
-        add_wanted(policies, wanted, finding, &mut shown)?;
+        add_wanted(alloc, policies, wanted, finding, &mut shown)?;
     }
     Ok(shown)
 }
@@ -229,6 +230,13 @@ fn push_count(out: &mut Vec<u8>, count: usize, what: &str) -> Result<(), AllocEr
     push_text(out, what)
 }
 
+/// What a number counts: one, or more.
+fn of_number<'w>(count: usize, one: &'w str, more: &'w str) -> &'w str
+    ensures { result.now ≡ of_number count one.entry.now more.entry.now }
+{
+    if count == 1 { one } else { more }
+}
+
 /// Appends how many profiles are compared.
 #[tactic(auto, unfolding(crate::specs::Report::count_text))]
 fn push_compared(
@@ -237,19 +245,31 @@ fn push_compared(
     left_out: usize,
     findings: &[Finding],
 ) -> Result<(), AllocError>
-    ensures { OnOk result (out.new.items ≡ out.old.items ++ count_text (profiles_counted policies.now left_out findings.now) (codes " profiles compared: ")) }
+    ensures { OnOk result (out.new.items ≡ out.old.items ++ count_text (profiles_counted policies.now left_out findings.now) (of_number (profiles_counted policies.now left_out findings.now) (codes " profile compared: ") (codes " profiles compared: "))) }
 {
-    push_number(out, profiles_counted(policies, left_out, findings))?;
-    push_text(out, " profiles compared: ")
+    let count = profiles_counted(policies, left_out, findings);
+    push_number(out, count)?;
+    push_text(
+        out,
+        of_number(count, " profile compared: ", " profiles compared: "),
+    )
 }
 
 /// Appends how many profiles differ.
 #[tactic(auto, unfolding(crate::specs::Report::count_text))]
 fn push_headed(out: &mut Vec<u8>, lines: &[Line<'_>]) -> Result<(), AllocError>
-    ensures { OnOk result (out.new.items ≡ out.old.items ++ count_text (headed 0 None (map told lines.now)) (codes " differ, ")) }
+    ensures { OnOk result (out.new.items ≡ out.old.items ++ count_text (headed 0 None (map told lines.now)) (of_number (headed 0 None (map told lines.now)) (codes " differs, ") (codes " differ, "))) }
 {
-    push_number(out, headed(lines))?;
-    push_text(out, " differ, ")
+    let count = headed(lines);
+    push_number(out, count)?;
+    push_text(
+        out,
+        if count == 1 {
+            " differs, "
+        } else {
+            " differ, "
+        },
+    )
 }
 
 /// Appends how many profiles differ, are gone and are new.
@@ -268,13 +288,27 @@ pub(crate) fn push_profile_counts(
     push_count(out, count_profiles(Sign::Gain, findings), " new; ")
 }
 
+/// Appends how many lines have a sign, and what they do.
+fn push_signed(
+    out: &mut Vec<u8>,
+    sign: Sign,
+    findings: &[Finding],
+    one: &str,
+    more: &str,
+) -> Result<(), AllocError>
+    ensures { OnOk result (out.new.items ≡ out.old.items ++ signed_count sign findings.now one.now more.now) }
+{
+    let count = count_lines(sign, findings);
+    push_count(out, count, of_number(count, one, more))
+}
+
 /// Appends how many lines have each sign.
 pub(crate) fn push_line_counts(out: &mut Vec<u8>, findings: &[Finding]) -> Result<(), AllocError>
     ensures { OnOk result (out.new.items ≡ out.old.items ++ line_counts findings.now) }
 {
     push_text(out, "lines: ")?;
-    push_count(out, count_lines(Sign::Gain, findings), " gain, ")?;
-    push_count(out, count_lines(Sign::Loss, findings), " lose, ")?;
+    push_signed(out, Sign::Gain, findings, " gains, ", " gain, ")?;
+    push_signed(out, Sign::Loss, findings, " loses, ", " lose, ")?;
     push_count(out, count_lines(Sign::Other, findings), " other")
 }
 

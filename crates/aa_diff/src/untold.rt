@@ -382,7 +382,11 @@ fn files_holding_in(
 
 /// The skipped files of a side that may hold the profile of a name that no read one has.
 #[tactic(auto, unfolding(crate::specs::Untold::files_holding))]
-fn files_holding(alloc: Global, part: Part<'_>, name: &[u8]) -> Result<Vec<SkippedAt>, AllocError>
+pub(crate) fn files_holding(
+    alloc: Global,
+    part: Part<'_>,
+    name: &[u8],
+) -> Result<Vec<SkippedAt>, AllocError>
     ensures { IfOk result (λ files. placed_all files.items ≡ files_holding part.entry name.now) }
 {
     match part.decided.policies.get(0) {

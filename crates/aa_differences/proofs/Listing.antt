@@ -1,5 +1,5 @@
 -- Differences of all labels.
-use Rattle.std.proofs.Common.{◌≡◌, ◌⊎◌, inl, List, [], ◌∷◌, ◌++◌, Contains, refl, sym, subst, arith, ⊎_elim}
+use Rattle.std.proofs.Common.{◌≡◌, ◌⊎◌, inl, List, [], ◌∷◌, ◌++◌, Contains, Result, Err, refl, sym, subst, arith, ⊎_elim}
 use Rattle.std.proofs.lemmas.List.Elements.{Contains-append_left, Contains-append_right, Contains-append_cases}
 use Rattle.aa_model.specs.declared.policy.Policy.{Policy}
 use Rattle.aa_model.specs.declared.label.Label.{Label}
@@ -8,6 +8,8 @@ use Rattle.aa_model.specs.declared.request.Request.{Request}
 use Rattle.aa_mediate.specs.Reply.{reply}
 use Rattle.aa_differences.specs.declared.at_labels.Difference.{Difference}
 use Rattle.aa_differences.specs.declared.labels.Labels.{Labels}
+use Rattle.aa_differences.specs.declared.fault.DifferencesFault.{DifferencesFault}
+use Rattle.aa_differences.specs.declared.fault.DifferencesFault.TheVariants.{TooManyStates}
 use Rattle.aa_differences.specs.Same.{SameLabel, SameAnswer, SamePolicies, AnsweredAlike}
 use Rattle.aa_differences.specs.Differences.{IsDifference, IsEntryOf, ListAllAt, ListAll, AddsAllAt}
 use Rattle.aa_differences.proofs.Adding.{listed_keep}
@@ -48,3 +50,11 @@ module _ (ps qs : List Policy) where
       absurd (is.differ
       (subst (λ (x : Answer). SameAnswer ps qs x d.new) (sym is.old)
       (subst (λ (y : Answer). SameAnswer ps qs (reply ps d.from d.request) y) (sym is.new) (same d.from d.to is.labels d.request is.asked))))
+
+-- equal faults are at equal labels
+pub states_at : {T : Type 0} (P : Label → Label → Type 0) (a b l m : Label)
+    → ◌≡◌ {A = Result T DifferencesFault} (Err (TooManyStates a b)) (Err (TooManyStates l m)) → P a b → P l m
+states_at P a b l m e p =
+    let one : a ≡ l = cc in
+    let other : b ≡ m = cc in
+    subst (λ (x : Label). P x m) one (subst (λ (y : Label). P a y) other p)

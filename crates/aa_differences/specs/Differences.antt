@@ -1,11 +1,16 @@
 -- Requests that two lists of policies answer differently.
 -- Source: own.
-use Rattle.std.specs.Prelude.{◌≡◌, ◌⊎◌, List, Contains}
+use Rattle.std.specs.Prelude.{◌≡◌, ◌⊎◌, ℕ, List, Contains}
+use Rattle.aa_pattern.specs.declared.pattern.Pattern.{Pattern}
 use Rattle.aa_model.specs.declared.policy.Policy.{Policy}
 use Rattle.aa_model.specs.declared.label.Label.{Label}
 use Rattle.aa_model.specs.declared.request.Request.{Request}
 use Rattle.aa_mediate.specs.Reply.{reply}
+use Rattle.aa_unclean_paths.specs.Told.{IsUncleanPattern}
+use Rattle.aa_unclean_paths.specs.Requests.{IsAtUncleanPath}
 use Rattle.aa_representatives.specs.Askable.{IsAskable, SameKind}
+use Rattle.aa_representatives.specs.Both.{HavePlaces}
+use Rattle.aa_representatives.specs.Apart.{HavePlacesAnd}
 use Rattle.aa_differences.specs.declared.at_labels.Difference.{Difference}
 use Rattle.aa_differences.specs.Same.{SameLabel, SameAnswer, AnsweredAlike}
 
@@ -17,11 +22,12 @@ pub record IsDifference (ps qs : List Policy) (d : Difference) : Type 0 where
   pub new : d.new ≡ reply qs d.to d.request
   pub differ : SameAnswer ps qs d.old d.new → ⊥
 
--- one of the differences is of the request's kind and at these labels, and has its answers
+-- one of the differences is of the request's kind and at these labels, and has its answers; it is at an unclean path only where the request is
 pub record IsEntryOf (ps qs : List Policy) (l m : Label) (r : Request) (d : Difference) : Type 0 where
   pub from : d.from ≡ l
   pub to : d.to ≡ m
   pub kind : SameKind r d.request
+  pub clean : IsAtUncleanPath d.request → IsAtUncleanPath r
   pub old : d.old ≡ reply ps l r
   pub new : d.new ≡ reply qs m r
 
@@ -48,3 +54,7 @@ pub record AddsAllAt (ps qs : List Policy) (l m : Label) (was now : List Differe
   pub kept : (d : Difference) → Contains was d → Contains now d
   pub each : ((d : Difference) → Contains was d → IsDifference ps qs d) → (d : Difference) → Contains now d → IsDifference ps qs d
   pub listed : ListAllAt ps qs l m now
+
+-- the patterns on paths or those on names at two labels tell n texts apart, each two of them, or they do with that which tells unclean paths
+abbrev pub HavePlacesClean : List Policy → Label → List Policy → Label → ℕ → Type 0
+HavePlacesClean ps l qs m n = HavePlaces ps l qs m n ⊎ ((p : Pattern) × IsUncleanPattern p × HavePlacesAnd ps l qs m p n)

@@ -1,5 +1,7 @@
 pub use Rattle.aa_quantifiers.specs.Doubts
 pub use Rattle.aa_representatives.specs.Both
+pub use Rattle.aa_representatives.specs.Apart
+pub use Rattle.aa_unclean_paths.specs.Requests
 pub use Rattle.aa_machine.specs.Run
 pub mod Same
 pub mod Differences

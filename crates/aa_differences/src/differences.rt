@@ -3,12 +3,12 @@
 ghost use Rattle.std.specs.Prelude.{◌≡◌, ◌↔◌, ◌+◌, ◌<◌, ◌≤◌, [], true, Err, IfOk, OnOk, Contains, length};
 ghost use Rattle.aa_pattern.specs.Limits.{most_states};
 ghost use Rattle.aa_model.specs.declared.label.Label.{Label};
-ghost use Rattle.aa_representatives.specs.Both.{HaveManyPatterns, HavePlaces};
+ghost use Rattle.aa_representatives.specs.Apart.{HaveManyPatternsAnd};
 ghost use Rattle.aa_differences.specs.declared.at_labels.Difference.{Difference};
 ghost use Rattle.aa_differences.specs.declared.labels.Labels.{Labels};
 ghost use Rattle.aa_differences.specs.Same.{SameLabel, SamePolicies};
 ghost use Rattle.aa_differences.specs.Sameness.{SameHeads};
-ghost use Rattle.aa_differences.specs.Differences.{IsDifference, ListAllAt, ListAll, AddsAllAt};
+ghost use Rattle.aa_differences.specs.Differences.{IsDifference, ListAllAt, ListAll, AddsAllAt, HavePlacesClean};
 
 use crate::at_labels::{Difference, label_differences};
 use crate::fault::DifferencesFault;
@@ -33,8 +33,8 @@ fn differences_at(
     requires limit { limit ≤ most_states }
     ensures each { IfOk result (λ ds. (d : Difference) → Contains ds.items d → IsDifference old.now new.now d) }
     ensures all { IfOk result (λ ds. ListAllAt old.now new.now from to ds.items) }
-    ensures many_patterns { (l m : Label) → result ≡ Err (DifferencesFault.TooManyPatterns l m) → HaveManyPatterns old.now l new.now m }
-    ensures many_states { (l m : Label) → result ≡ Err (DifferencesFault.TooManyStates l m) → HavePlaces old.now l new.now m (limit + 1) }
+    ensures many_patterns { (l m : Label) → result ≡ Err (DifferencesFault.TooManyPatterns l m) → HaveManyPatternsAnd old.now l new.now m }
+    ensures many_states { (l m : Label) → result ≡ Err (DifferencesFault.TooManyStates l m) → HavePlacesClean old.now l new.now m (limit + 1) }
 {
     match label_differences(alloc, old, from, new, to, limit) {
         Ok(found) => Ok(found),
@@ -63,8 +63,8 @@ fn add_differences_at(
     requires some { 0 < limit }
     requires limit { limit ≤ most_states }
     ensures adds { OnOk result (AddsAllAt old.now new.now from to differences.old.items differences.new.items) }
-    ensures many_patterns { (l m : Label) → result ≡ Err (DifferencesFault.TooManyPatterns l m) → HaveManyPatterns old.now l new.now m }
-    ensures many_states { (l m : Label) → result ≡ Err (DifferencesFault.TooManyStates l m) → HavePlaces old.now l new.now m (limit + 1) }
+    ensures many_patterns { (l m : Label) → result ≡ Err (DifferencesFault.TooManyPatterns l m) → HaveManyPatternsAnd old.now l new.now m }
+    ensures many_states { (l m : Label) → result ≡ Err (DifferencesFault.TooManyStates l m) → HavePlacesClean old.now l new.now m (limit + 1) }
 {
     if has_same_heads && same_body_at(old, from, new, to) {
         return Ok(());
@@ -89,8 +89,8 @@ fn differences_of(
     requires limit { limit ≤ most_states }
     ensures each { IfOk result (λ ds. (d : Difference) → Contains ds.items d → IsDifference old.now new.now d) }
     ensures all { IfOk result (λ ds. (x : Labels) → Contains labels.now x → ListAllAt old.now new.now x.from x.to ds.items) }
-    ensures many_patterns { (l m : Label) → result ≡ Err (DifferencesFault.TooManyPatterns l m) → HaveManyPatterns old.now l new.now m }
-    ensures many_states { (l m : Label) → result ≡ Err (DifferencesFault.TooManyStates l m) → HavePlaces old.now l new.now m (limit + 1) }
+    ensures many_patterns { (l m : Label) → result ≡ Err (DifferencesFault.TooManyPatterns l m) → HaveManyPatternsAnd old.now l new.now m }
+    ensures many_states { (l m : Label) → result ≡ Err (DifferencesFault.TooManyStates l m) → HavePlacesClean old.now l new.now m (limit + 1) }
 {
     let mut differences = Vec::new(alloc);
     for at in labels {
@@ -126,8 +126,8 @@ pub fn policy_differences(
     ensures each { IfOk result (λ ds. (d : Difference) → Contains ds.items d → IsDifference old.now new.now d) }
     ensures all { IfOk result (λ ds. ListAll old.now new.now ds.items) }
     ensures none { IfOk result (λ ds. (ds.items ≡ []) ↔ SamePolicies old.now new.now) }
-    ensures many_patterns { (l m : Label) → result ≡ Err (DifferencesFault.TooManyPatterns l m) → HaveManyPatterns old.now l new.now m }
-    ensures many_states { (l m : Label) → result ≡ Err (DifferencesFault.TooManyStates l m) → HavePlaces old.now l new.now m (limit + 1) }
+    ensures many_patterns { (l m : Label) → result ≡ Err (DifferencesFault.TooManyPatterns l m) → HaveManyPatternsAnd old.now l new.now m }
+    ensures many_states { (l m : Label) → result ≡ Err (DifferencesFault.TooManyStates l m) → HavePlacesClean old.now l new.now m (limit + 1) }
 {
     let labels = same_labels(alloc, old, new)?;
     let has_same_heads = same_heads(old, new);

@@ -15,4 +15,4 @@ pub use at_labels::{Difference, label_differences};
 pub use differences::policy_differences;
 pub use fault::DifferencesFault;
 pub use laws::{same_bodies_reply_alike, same_policies_run_alike};
-pub use openings::{closed_labels_are_decided, label_is_open};
+pub use openings::{change_is_open, closed_labels_are_decided, label_is_open, rule_is_open};

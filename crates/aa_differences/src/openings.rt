@@ -38,7 +38,7 @@ fn may_lead(
 }
 
 /// Whether a rule lets programs be executed, and may lead it isn't known where.
-fn rule_is_open(
+pub fn rule_is_open(
     alloc: Global,
     compiled: &Compiled,
     unread: &Unread,
@@ -134,7 +134,8 @@ fn may_have_one(unread: &Unread, pattern: &Option<Pattern>) -> bool
     }
 }
 
-fn change_is_open(unread: &Unread, rule: &ChangeRule) -> bool
+/// Whether a rule lets a task change to a profile that wasn't read, as far as is known.
+pub fn change_is_open(unread: &Unread, rule: &ChangeRule) -> bool
     ensures { result ≡ is_open_change unread.now rule.now }
 {
     !rule.deny && may_have_one(unread, &rule.pattern)

@@ -15,7 +15,6 @@ use Rattle.aa_model.specs.declared.rule.ExecKind.TheVariants.{Inherit, Unconfine
 use Rattle.aa_model.specs.declared.rule.Exec.{Exec}
 use Rattle.aa_model.specs.declared.rule.FileRule.{FileRule}
 use Rattle.aa_model.specs.declared.policy.Profile.{Profile}
-use Rattle.aa_model.specs.declared.label.Label.{Label}
 use Rattle.aa_model.specs.declared.label.Label.TheVariants.{Unconfined, Confined}
 use Rattle.aa_model.specs.declared.request.Request.{Request}
 use Rattle.aa_model.specs.declared.request.Request.TheVariants as asks
@@ -30,10 +29,9 @@ use Rattle.aa_skipping.specs.Searches.{is_rival, has_rival, is_open}
 use Rattle.aa_skipping.specs.Undecided.{is_unsure, is_unsure_way, undecided_exec, undecided_in, undecided}
 use Rattle.aa_skipping.proofs.Elements.{in_filter, any_in}
 use Rattle.aa_quantifiers.proofs.Growing.{fails, left, right, both, or_grows, any_grows}
-use Rattle.aa_quantifiers.specs.declared.word.Word.{Word}
 use Rattle.aa_quantifiers.specs.declared.word.Word.TheVariants.{Files, Execs, One}
-use Rattle.aa_quantifiers.specs.Words.{IsOf}
-use Rattle.aa_quantifiers.specs.Doubts.{byte_of, may_go_on, may_meet, meets, may_attach, is_search, may_be_unsure, is_open_rule, is_open_in, is_nobodys, is_open_word, ClosedWords}
+use Rattle.aa_quantifiers.specs.Doubts.{byte_of, may_go_on, may_meet, meets, may_attach, is_search}
+use Rattle.aa_quantifiers.specs.Doubts.{may_be_unsure, is_open_rule, is_open_in, is_open_word, ClosedWords}
 
 -- ---- two patterns that match one path
 

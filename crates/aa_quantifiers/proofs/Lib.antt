@@ -3,5 +3,6 @@ mod OneText
 mod Standing
 mod Adding
 mod Best
+mod Ordered
 pub mod Growing
 pub mod Closing

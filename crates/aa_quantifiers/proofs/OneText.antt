@@ -1,5 +1,5 @@
 -- A pattern without a wildcard matches no path but its bytes.
-use Rattle.std.proofs.Common.{◌≡◌, ℕ, List, [], ◌∷◌, ◌++◌, Bool, true, ap, ◌∙◌, Contains, subst, refl, sym, arith}
+use Rattle.std.proofs.Common.{◌≡◌, ℕ, List, [], ◌∷◌, ◌++◌, true, ap, ◌∙◌, Contains, subst, refl, sym}
 use Rattle.std.specs.List.{list_all, filter_map}
 use Rattle.aa_pattern.specs.declared.item.Item.{Item, Byte, One, Run, RunOne, Deep, DeepOne, Class, Choice'}
 use Rattle.aa_pattern.specs.declared.pattern.Pattern.{Pattern}
@@ -12,6 +12,7 @@ use Rattle.aa_model.specs.declared.policy.Policy.{Policy}
 use Rattle.aa_model.specs.declared.label.Label.{Label}
 use Rattle.aa_model.specs.declared.request.Request.{Request}
 use Rattle.aa_model.specs.declared.request.Request.TheVariants.{File, Link, Exec, Cap, Net, Change, Reload}
+use Rattle.aa_quantifiers.specs.declared.order.Order.{Order}
 use Rattle.aa_quantifiers.specs.declared.word.FilesWord.{FilesWord}
 use Rattle.aa_quantifiers.specs.declared.word.ExecsWord.{ExecsWord}
 use Rattle.aa_quantifiers.specs.declared.word.Word.{Word}
@@ -20,6 +21,7 @@ use Rattle.aa_quantifiers.specs.Literal.{byte_in}
 use Rattle.aa_quantifiers.specs.Words.{IsOf}
 use Rattle.aa_quantifiers.specs.Candidates.{HasFilesOf, HasExecsOf}
 use Rattle.aa_quantifiers.specs.Quantities.{StandForWord}
+use Rattle.aa_quantifiers.proofs.Ordered.{itself}
 
 one_text : (items : List Item) → list_all is_byte items ≡ true → (s : List ℕ) → Matches items s → s ≡ filter_map byte_in items
 one_text [] all s m = m
@@ -64,5 +66,6 @@ module _ (rs : List Request) (path : List ℕ) where
   all_execs w literal bytes has (Reload m) is = absurd is
 
 -- requests that are all of the word's, and no others, stand for the word
-pub all_stand : (policies : List Policy) (label : Label) (w : Word) (rs : List Request) → ((r : Request) → Contains rs r → IsOf w r) → ((r : Request) → IsOf w r → Contains rs r) → StandForWord policies label w rs
-all_stand policies label w rs each all = record { each = each; all = λ r is. (r, all r is, refl, omega arith) }
+pub all_stand : (policies : List Policy) (label : Label) (order : Order) (w : Word) (rs : List Request) → ((r : Request) → Contains rs r → IsOf w r)
+    → ((r : Request) → IsOf w r → Contains rs r) → StandForWord policies label order w rs
+all_stand policies label order w rs each all = record { each = each; all = λ r is. (r, all r is, refl, itself order r) }

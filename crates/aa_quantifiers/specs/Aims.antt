@@ -7,6 +7,9 @@ use Rattle.aa_model.specs.declared.label.Label.{Label}
 use Rattle.aa_model.specs.declared.label.Label.TheVariants.{Unconfined, Confined}
 use Rattle.aa_model.specs.declared.request.Request.{Request}
 use Rattle.aa_mediate.specs.Reply.{reply}
+use Rattle.aa_unclean_paths.specs.Requests.{IsAtUncleanPath}
+use Rattle.aa_quantifiers.specs.declared.order.Order.{Order}
+use Rattle.aa_quantifiers.specs.declared.order.Order.TheVariants.{Clean}
 use Rattle.aa_quantifiers.specs.declared.aim.Aim.{Aim}
 use Rattle.aa_quantifiers.specs.declared.aim.Aim.TheVariants.{Answered, Led}
 use Rattle.aa_quantifiers.specs.declared.aim.Labels.{Labels}
@@ -14,7 +17,7 @@ use Rattle.aa_quantifiers.specs.declared.aim.First.{First}
 use Rattle.aa_quantifiers.specs.declared.aim.First.TheVariants as first
 use Rattle.aa_quantifiers.specs.declared.word.Word.{Word}
 use Rattle.aa_quantifiers.specs.Words.{IsOf}
-use Rattle.aa_quantifiers.specs.Quantities.{grants, IsShortestOf}
+use Rattle.aa_quantifiers.specs.Quantities.{grants, IsFirstOf}
 
 -- the label is one of these
 abbrev pub has_label : Labels → Label → Bool
@@ -30,10 +33,19 @@ Meets (Led ls) a = (grants a ≡ true) × (has_label ls.now a.label ≡ true)
 abbrev pub IsMet : List Policy → Label → Aim → Request → Type 0
 IsMet ps l aim r = Meets aim (reply ps l r)
 
--- a shortest of the word's requests that are answered so; or none is, and this is one of the word's
+-- of the word's requests that are answered so one that comes first in an order; or none is, and this is one of the word's
+abbrev pub IsFirstBy : Order → List Policy → Label → Word → Aim → First → Type 0
+IsFirstBy order ps l w aim (first.Some r) = IsFirstOf w order (IsMet ps l aim) r
+IsFirstBy order ps l w aim (first.None r) = IsOf w r × ((q : Request) → IsOf w q → IsMet ps l aim q → ⊥)
+
+-- at a clean path where there is one, and of these with a shortest path
 abbrev pub IsFirst : List Policy → Label → Word → Aim → First → Type 0
-IsFirst ps l w aim (first.Some r) = IsShortestOf w (IsMet ps l aim) r
-IsFirst ps l w aim (first.None r) = IsOf w r × ((q : Request) → IsOf w q → IsMet ps l aim q → ⊥)
+IsFirst ps l w aim f = IsFirstBy Clean ps l w aim f
+
+-- the request that is answered so is at a clean path, if there is one
+abbrev pub IsFirstClean : First → Type 0
+IsFirstClean (first.Some r) = IsAtUncleanPath r → ⊥
+IsFirstClean (first.None r) = Unit {0}
 
 -- it says that none is, with one of these
 abbrev pub IsOther : List Request → First → Type 0

@@ -1,9 +1,10 @@
 pub use Rattle.aa_representatives.specs.Alike
+pub use Rattle.aa_unclean_paths.specs.Requests
 pub mod Faults
 pub mod Words
+pub mod Orders
 pub mod Literal
 pub mod Quantities
 pub mod Aims
 pub mod Candidates
-pub mod Shorter
 pub mod Doubts

@@ -1,6 +1,6 @@
 -- The requests of a word.
 -- Source: own.
-use Rattle.std.specs.Prelude.{◌≡◌, ℕ, List, [], ◌∷◌, ◌++◌, Bool, true, not, length, Contains, if◌then◌else◌}
+use Rattle.std.specs.Prelude.{◌≡◌, ◌⊎◌, ℕ, List, [], ◌∷◌, ◌++◌, Bool, true, not, length, Contains, if◌then◌else◌}
 use Rattle.aa_pattern.specs.declared.pattern.Pattern.{Pattern}
 use Rattle.aa_pattern.specs.Matching.{is_match}
 use Rattle.aa_base.specs.declared.perms.Perms.{Perms}
@@ -10,7 +10,9 @@ use Rattle.aa_model.specs.declared.label.Label.{Label}
 use Rattle.aa_model.specs.declared.request.Request.{Request}
 use Rattle.aa_model.specs.declared.request.Request.TheVariants.{File, Exec}
 use Rattle.aa_compile.specs.Patterns.{is_literal}
+use Rattle.aa_auto.specs.Tables.{HasPlaces}
 use Rattle.aa_regions.specs.Regions.{IsAsked}
+use Rattle.aa_unclean_paths.specs.Told.{IsUncleanPattern}
 use Rattle.aa_representatives.specs.Alike.{filing, deciding}
 use Rattle.aa_quantifiers.specs.declared.word.Whose.{Whose}
 use Rattle.aa_quantifiers.specs.declared.word.Whose.TheVariants.{Both, Owner, Others}
@@ -56,8 +58,17 @@ path_length _ = 0
 abbrev pub beside : List Pattern → Pattern → List Pattern
 beside ps p = if is_literal p then [] else ps ++ p ∷ []
 
--- the patterns by which the word's requests are answered at a label, and behind them its own, as far as they have to be told apart
+-- these and the patterns by which the word's requests are answered at a label, and behind them its own, as far as they have to be told apart
+abbrev pub and_patterns_at : List Pattern → List Policy → Label → Word → List Pattern
+and_patterns_at more policies label (Files w) = beside (more ++ filing policies label) w.pattern
+and_patterns_at more policies label (Execs w) = beside (more ++ deciding policies label) w.pattern
+and_patterns_at more policies label (One r) = []
+
+-- those without more
 abbrev pub patterns_at : List Policy → Label → Word → List Pattern
-patterns_at policies label (Files w) = beside (filing policies label) w.pattern
-patterns_at policies label (Execs w) = beside (deciding policies label) w.pattern
-patterns_at policies label (One r) = []
+patterns_at policies label w = and_patterns_at [] policies label w
+
+-- n texts that these tell apart, each two of them, or these with the pattern that tells unclean paths
+abbrev pub HavePlaces : List Policy → Label → Word → ℕ → Type 0
+HavePlaces policies label w n =
+    HasPlaces (patterns_at policies label w) n ⊎ ((p : Pattern) × IsUncleanPattern p × HasPlaces (and_patterns_at (p ∷ []) policies label w) n)

@@ -5,6 +5,7 @@ mod aim;
 mod doubts;
 mod fault;
 mod literal;
+mod order;
 mod quantity;
 mod requests;
 mod shortest;

@@ -1,6 +1,6 @@
 //! Requests of a word that stand for all of them.
 
-ghost use Rattle.std.specs.Prelude.{◌≡◌, ◌≢◌, ◌+◌, ◌++◌, ◌<◌, ◌≤◌, ◌∷◌, [], true, Err, IfOk, OnOk, Contains, length};
+ghost use Rattle.std.specs.Prelude.{◌≡◌, ◌≢◌, ◌+◌, ◌++◌, ◌<◌, ◌≤◌, ◌∷◌, [], true, false, Err, IfOk, OnOk, Contains, length};
 ghost use Rattle.aa_pattern.specs.Limits.{most_patterns, most_states};
 ghost use Rattle.aa_pattern.specs.Matching.{is_match};
 ghost use Rattle.aa_auto.specs.Tables.{HasPlaces};
@@ -13,18 +13,26 @@ ghost use Rattle.aa_representatives.specs.Representatives.{Adds};
 ghost use Rattle.aa_quantifiers.specs.declared.word.Word.{Word};
 ghost use Rattle.aa_compile.specs.Patterns.{is_literal};
 ghost use Rattle.aa_representatives.specs.Alike.{filing, deciding};
-ghost use Rattle.aa_quantifiers.specs.Words.{asks_for, IsOf, patterns_at};
+ghost use Rattle.aa_unclean_paths.specs.Told.{TellsUnclean};
+ghost use Rattle.aa_quantifiers.specs.declared.order.Order.{Order};
+ghost use Rattle.aa_quantifiers.specs.Words.{asks_for, IsOf, patterns_at, HavePlaces};
 ghost use Rattle.aa_quantifiers.specs.Candidates.{HasFilesBy, HasFilesOf, HasExecsOf};
 ghost use Rattle.aa_quantifiers.specs.Quantities.{StandForWord};
 
 use crate::fault::QuantityFault;
 use crate::literal::{is_askable, literal_path};
+use crate::order::Order;
 use crate::word::{ExecsWord, FilesWord, Word};
 use aa_base::Perms;
 use aa_compile::{Compiled, is_matched};
 use aa_model::{Label, Request, RequestFault};
+use aa_pattern::Pattern;
 use aa_regions::Region;
-use aa_representatives::{deciding_regions_within, filing_regions_within};
+use aa_representatives::{
+    deciding_regions_and_within, deciding_regions_within, filing_regions_and_within,
+    filing_regions_within,
+};
+use aa_unclean_paths::unclean_pattern;
 use std::alloc::{AllocError, Global};
 
 /// Adds the request to use a file, where the mask can be asked for.
@@ -241,16 +249,66 @@ fn files_by_regions(
 ) -> Result<Vec<Request>, QuantityFault>
     requires some { 0 < limit }
     requires limit { limit ≤ most_states }
-    ensures stand { IfOk result (λ rs. StandForWord policies.now label (Word.Files word.now) rs.items) }
+    ensures stand { IfOk result (λ rs. StandForWord policies.now label Order.Short (Word.Files word.now) rs.items) }
     ensures many_patterns { result ≡ Err QuantityFault.TooManyPatterns → most_patterns < length (filing policies.now label ++ word.now.pattern ∷ []) }
     ensures few_patterns { IfOk result (λ _. length (filing policies.now label ++ word.now.pattern ∷ []) ≤ most_patterns) }
     ensures many_states { result ≡ Err QuantityFault.TooManyStates → HasPlaces (filing policies.now label ++ word.now.pattern ∷ []) (limit + 1) }
-    ensures few_states { IfOk result (λ _. HasPlaces (filing policies.now label ++ word.now.pattern ∷ []) (limit + 1) → ⊥) }
     ensures made { result ≢ Err QuantityFault.NoRequest }
 {
     let regions = filing_regions_within(alloc, policies, label, &word.pattern, limit)?;
     let requests = files_of(alloc, word, regions.as_slice())?;
     Ok(requests)
+}
+
+/// Those at the paths of the regions of these and a pattern that tells unclean paths.
+fn clean_files_by_regions(
+    alloc: Global,
+    policies: &[Compiled],
+    label: Label,
+    word: &FilesWord,
+    unclean: &Pattern,
+    limit: usize,
+) -> Result<Vec<Request>, QuantityFault>
+    requires unclean { TellsUnclean unclean.now }
+    requires some { 0 < limit }
+    requires limit { limit ≤ most_states }
+    ensures stand { IfOk result (λ rs. StandForWord policies.now label Order.Clean (Word.Files word.now) rs.items) }
+    ensures many_patterns { result ≡ Err QuantityFault.TooManyPatterns → most_patterns < length (unclean.now ∷ filing policies.now label ++ word.now.pattern ∷ []) }
+    ensures few_patterns { IfOk result (λ _. length (unclean.now ∷ filing policies.now label ++ word.now.pattern ∷ []) ≤ most_patterns) }
+    ensures many_states { result ≡ Err QuantityFault.TooManyStates → HasPlaces (unclean.now ∷ filing policies.now label ++ word.now.pattern ∷ []) (limit + 1) }
+    ensures made { result ≢ Err QuantityFault.NoRequest }
+{
+    let pattern = &word.pattern;
+    let regions = filing_regions_and_within(alloc, policies, label, unclean, pattern, limit)?;
+    let requests = files_of(alloc, word, regions.as_slice())?;
+    Ok(requests)
+}
+
+/// Those by the regions that an order needs.
+fn files_in(
+    alloc: Global,
+    policies: &[Compiled],
+    label: Label,
+    word: &FilesWord,
+    order: Order,
+    limit: usize,
+) -> Result<Vec<Request>, QuantityFault>
+    requires pattern { is_literal word.now.pattern ≡ false }
+    requires some { 0 < limit }
+    requires limit { limit ≤ most_states }
+    ensures stand { IfOk result (λ rs. StandForWord policies.now label order (Word.Files word.now) rs.items) }
+    ensures many_patterns { result ≡ Err QuantityFault.TooManyPatterns → most_patterns < length (patterns_at policies.now label (Word.Files word.now)) + 1 }
+    ensures few_patterns { IfOk result (λ _. length (patterns_at policies.now label (Word.Files word.now)) ≤ most_patterns) }
+    ensures many_states { result ≡ Err QuantityFault.TooManyStates → HavePlaces policies.now label (Word.Files word.now) (limit + 1) }
+    ensures made { result ≢ Err QuantityFault.NoRequest }
+{
+    match order {
+        Order::Short => files_by_regions(alloc, policies, label, word, limit),
+        Order::Clean => {
+            let unclean = unclean_pattern(alloc)?;
+            clean_files_by_regions(alloc, policies, label, word, &unclean, limit)
+        }
+    }
 }
 
 /// Requests at a path, if it can be asked for and the word's pattern matches it.
@@ -283,20 +341,21 @@ fn of_files(
     policies: &[Compiled],
     label: Label,
     word: &FilesWord,
+    order: Order,
     limit: usize,
 ) -> Result<Vec<Request>, QuantityFault>
     requires some { 0 < limit }
     requires limit { limit ≤ most_states }
-    ensures stand { IfOk result (λ rs. StandForWord policies.now label (Word.Files word.now) rs.items) }
-    ensures many_patterns { result ≡ Err QuantityFault.TooManyPatterns → most_patterns < length (patterns_at policies.now label (Word.Files word.now)) }
+    ensures stand { IfOk result (λ rs. StandForWord policies.now label order (Word.Files word.now) rs.items) }
+    ensures many_patterns { result ≡ Err QuantityFault.TooManyPatterns → most_patterns < length (patterns_at policies.now label (Word.Files word.now)) + 1 }
     ensures few_patterns { IfOk result (λ _. length (patterns_at policies.now label (Word.Files word.now)) ≤ most_patterns) }
-    ensures many_states { result ≡ Err QuantityFault.TooManyStates → HasPlaces (patterns_at policies.now label (Word.Files word.now)) (limit + 1) }
+    ensures many_states { result ≡ Err QuantityFault.TooManyStates → HavePlaces policies.now label (Word.Files word.now) (limit + 1) }
     ensures made { result ≢ Err QuantityFault.NoRequest }
 {
     if word.pattern.is_literal() {
         return Ok(files_at_literal(alloc, word)?);
     }
-    files_by_regions(alloc, policies, label, word, limit)
+    files_in(alloc, policies, label, word, order, limit)
 }
 
 /// Requests at the paths of the regions of the label's rules and the word's pattern.
@@ -309,16 +368,66 @@ fn execs_by_regions(
 ) -> Result<Vec<Request>, QuantityFault>
     requires some { 0 < limit }
     requires limit { limit ≤ most_states }
-    ensures stand { IfOk result (λ rs. StandForWord policies.now label (Word.Execs word.now) rs.items) }
+    ensures stand { IfOk result (λ rs. StandForWord policies.now label Order.Short (Word.Execs word.now) rs.items) }
     ensures many_patterns { result ≡ Err QuantityFault.TooManyPatterns → most_patterns < length (deciding policies.now label ++ word.now.pattern ∷ []) }
     ensures few_patterns { IfOk result (λ _. length (deciding policies.now label ++ word.now.pattern ∷ []) ≤ most_patterns) }
     ensures many_states { result ≡ Err QuantityFault.TooManyStates → HasPlaces (deciding policies.now label ++ word.now.pattern ∷ []) (limit + 1) }
-    ensures few_states { IfOk result (λ _. HasPlaces (deciding policies.now label ++ word.now.pattern ∷ []) (limit + 1) → ⊥) }
     ensures made { result ≢ Err QuantityFault.NoRequest }
 {
     let regions = deciding_regions_within(alloc, policies, label, &word.pattern, limit)?;
     let requests = execs_of(alloc, word, regions.as_slice())?;
     Ok(requests)
+}
+
+/// Those at the paths of the regions of these and a pattern that tells unclean paths.
+fn clean_execs_by_regions(
+    alloc: Global,
+    policies: &[Compiled],
+    label: Label,
+    word: &ExecsWord,
+    unclean: &Pattern,
+    limit: usize,
+) -> Result<Vec<Request>, QuantityFault>
+    requires unclean { TellsUnclean unclean.now }
+    requires some { 0 < limit }
+    requires limit { limit ≤ most_states }
+    ensures stand { IfOk result (λ rs. StandForWord policies.now label Order.Clean (Word.Execs word.now) rs.items) }
+    ensures many_patterns { result ≡ Err QuantityFault.TooManyPatterns → most_patterns < length (unclean.now ∷ deciding policies.now label ++ word.now.pattern ∷ []) }
+    ensures few_patterns { IfOk result (λ _. length (unclean.now ∷ deciding policies.now label ++ word.now.pattern ∷ []) ≤ most_patterns) }
+    ensures many_states { result ≡ Err QuantityFault.TooManyStates → HasPlaces (unclean.now ∷ deciding policies.now label ++ word.now.pattern ∷ []) (limit + 1) }
+    ensures made { result ≢ Err QuantityFault.NoRequest }
+{
+    let pattern = &word.pattern;
+    let regions = deciding_regions_and_within(alloc, policies, label, unclean, pattern, limit)?;
+    let requests = execs_of(alloc, word, regions.as_slice())?;
+    Ok(requests)
+}
+
+/// Those by the regions that an order needs.
+fn execs_in(
+    alloc: Global,
+    policies: &[Compiled],
+    label: Label,
+    word: &ExecsWord,
+    order: Order,
+    limit: usize,
+) -> Result<Vec<Request>, QuantityFault>
+    requires pattern { is_literal word.now.pattern ≡ false }
+    requires some { 0 < limit }
+    requires limit { limit ≤ most_states }
+    ensures stand { IfOk result (λ rs. StandForWord policies.now label order (Word.Execs word.now) rs.items) }
+    ensures many_patterns { result ≡ Err QuantityFault.TooManyPatterns → most_patterns < length (patterns_at policies.now label (Word.Execs word.now)) + 1 }
+    ensures few_patterns { IfOk result (λ _. length (patterns_at policies.now label (Word.Execs word.now)) ≤ most_patterns) }
+    ensures many_states { result ≡ Err QuantityFault.TooManyStates → HavePlaces policies.now label (Word.Execs word.now) (limit + 1) }
+    ensures made { result ≢ Err QuantityFault.NoRequest }
+{
+    match order {
+        Order::Short => execs_by_regions(alloc, policies, label, word, limit),
+        Order::Clean => {
+            let unclean = unclean_pattern(alloc)?;
+            clean_execs_by_regions(alloc, policies, label, word, &unclean, limit)
+        }
+    }
 }
 
 /// Requests at a path, if it can be asked for and the word's pattern matches it.
@@ -351,20 +460,21 @@ fn of_execs(
     policies: &[Compiled],
     label: Label,
     word: &ExecsWord,
+    order: Order,
     limit: usize,
 ) -> Result<Vec<Request>, QuantityFault>
     requires some { 0 < limit }
     requires limit { limit ≤ most_states }
-    ensures stand { IfOk result (λ rs. StandForWord policies.now label (Word.Execs word.now) rs.items) }
-    ensures many_patterns { result ≡ Err QuantityFault.TooManyPatterns → most_patterns < length (patterns_at policies.now label (Word.Execs word.now)) }
+    ensures stand { IfOk result (λ rs. StandForWord policies.now label order (Word.Execs word.now) rs.items) }
+    ensures many_patterns { result ≡ Err QuantityFault.TooManyPatterns → most_patterns < length (patterns_at policies.now label (Word.Execs word.now)) + 1 }
     ensures few_patterns { IfOk result (λ _. length (patterns_at policies.now label (Word.Execs word.now)) ≤ most_patterns) }
-    ensures many_states { result ≡ Err QuantityFault.TooManyStates → HasPlaces (patterns_at policies.now label (Word.Execs word.now)) (limit + 1) }
+    ensures many_states { result ≡ Err QuantityFault.TooManyStates → HavePlaces policies.now label (Word.Execs word.now) (limit + 1) }
     ensures made { result ≢ Err QuantityFault.NoRequest }
 {
     if word.pattern.is_literal() {
         return Ok(execs_at_literal(alloc, word)?);
     }
-    execs_by_regions(alloc, policies, label, word, limit)
+    execs_in(alloc, policies, label, word, order, limit)
 }
 
 fn of_one(alloc: Global, request: &Request) -> Result<Vec<Request>, AllocError>
@@ -375,25 +485,26 @@ fn of_one(alloc: Global, request: &Request) -> Result<Vec<Request>, AllocError>
     Ok(requests)
 }
 
-/// Requests of the word such that each is answered at the label as one of them whose path is no longer.
+/// Requests of the word such that each is answered at the label as one of them that comes no later in an order.
 pub(crate) fn standing_for(
     alloc: Global,
     policies: &[Compiled],
     label: Label,
     word: &Word,
+    order: Order,
     limit: usize,
 ) -> Result<Vec<Request>, QuantityFault>
     requires some { 0 < limit }
     requires limit { limit ≤ most_states }
-    ensures stand { IfOk result (λ rs. StandForWord policies.now label word.now rs.items) }
-    ensures many_patterns { result ≡ Err QuantityFault.TooManyPatterns → most_patterns < length (patterns_at policies.now label word.now) }
+    ensures stand { IfOk result (λ rs. StandForWord policies.now label order word.now rs.items) }
+    ensures many_patterns { result ≡ Err QuantityFault.TooManyPatterns → most_patterns < length (patterns_at policies.now label word.now) + 1 }
     ensures few_patterns { IfOk result (λ _. length (patterns_at policies.now label word.now) ≤ most_patterns) }
-    ensures many_states { result ≡ Err QuantityFault.TooManyStates → HasPlaces (patterns_at policies.now label word.now) (limit + 1) }
+    ensures many_states { result ≡ Err QuantityFault.TooManyStates → HavePlaces policies.now label word.now (limit + 1) }
     ensures made { result ≢ Err QuantityFault.NoRequest }
 {
     match word {
-        Word::Files(word) => of_files(alloc, policies, label, word, limit),
-        Word::Execs(word) => of_execs(alloc, policies, label, word, limit),
+        Word::Files(word) => of_files(alloc, policies, label, word, order, limit),
+        Word::Execs(word) => of_execs(alloc, policies, label, word, order, limit),
         Word::One(request) => Ok(of_one(alloc, request)?),
     }
 }

@@ -3,12 +3,12 @@
 ghost use Rattle.std.specs.Prelude.{◌≡◌, ◌⊎◌, ◌+◌, ◌<◌, IfOk, OnOk, false, true, length};
 ghost use Rattle.std.specs.Option.{option_map_or};
 ghost use Rattle.aa_mediate.specs.Reply.{reply};
-ghost use Rattle.aa_quantifiers.specs.Words.{path_length};
 ghost use Rattle.aa_quantifiers.specs.Quantities.{is_allowed_anyway, grants, IsBest};
 ghost use Rattle.aa_quantifiers.specs.Aims.{IsMet, Meets};
-ghost use Rattle.aa_quantifiers.specs.Shorter.{is_shorter_than};
+ghost use Rattle.aa_quantifiers.specs.Orders.{Precedes, Follows};
 
 use crate::aim::Aim;
+use crate::order::{Order, is_better};
 use aa_compile::Compiled;
 use aa_machine::Machine;
 use aa_mediate::Mediator;
@@ -38,26 +38,6 @@ fn is_granted(answer: &Answer) -> bool
     ensures { result ≡ grants answer.now }
 {
     answer.granted && !is_by_complain(answer.note)
-}
-
-fn path_length(request: &Request) -> usize
-    ensures { result ≡ path_length request.now }
-{
-    match request {
-        Request::File(file) => file.path().len(),
-        Request::Exec(exec) => exec.path().len(),
-        _ => 0,
-    }
-}
-
-/// Whether its path is shorter than that of the best one, if there is one.
-fn is_shorter(request: &Request, best: &Option<Request>) -> bool
-    ensures { result ≡ is_shorter_than request.now best.now }
-{
-    match best {
-        Some(best) => path_length(request) < path_length(best),
-        None => true,
-    }
 }
 
 /// Whether the rules allow it, or don't, as is wanted.
@@ -91,56 +71,59 @@ fn is_answered(policies: &[Compiled], label: Label, aim: Aim<'_>, request: &Requ
     is_met(aim, &answer)
 }
 
-/// Whether a request is answered otherwise, or not shorter than the best one.
+/// Whether a request is answered otherwise, or doesn't come before the best one.
 fn is_passed(
     best: &Option<Request>,
     policies: &[Compiled],
     label: Label,
     aim: Aim<'_>,
+    order: Order,
     request: &Request,
 ) -> bool
-    ensures passed { result ≡ true → (IsMet policies.now label aim.entry request.now → ⊥) ⊎ (is_shorter_than request.now best.now ≡ false) }
-    ensures better { result ≡ false → IsMet policies.now label aim.entry request.now × (is_shorter_than request.now best.now ≡ true) }
+    ensures passed { result ≡ true → (IsMet policies.now label aim.entry request.now → ⊥) ⊎ Follows order request.now best.now }
+    ensures better { result ≡ false → IsMet policies.now label aim.entry request.now × Precedes order request.now best.now }
 {
     if !is_answered(policies, label, aim, request) {
         return true;
     }
-    !is_shorter(request, best)
+    !is_better(order, request, best)
 }
 
-/// Takes a request for the best one, where it is answered so and shorter.
-fn take_if_shorter(
+/// Takes a request for the best one, where it is answered so and comes before that.
+fn take_if_better(
     best: &mut Option<Request>,
     policies: &[Compiled],
     label: Label,
     aim: Aim<'_>,
+    order: Order,
     requests: &[Request],
     number: usize,
 ) -> Result<(), AllocError>
     requires within { number < length requests.now }
-    requires best { IsBest (IsMet policies.now label aim) requests.now number best.old }
-    ensures { OnOk result (IsBest (IsMet policies.now label aim.entry) requests.now (number + 1) best.new) }
+    requires best { IsBest order (IsMet policies.now label aim) requests.now number best.old }
+    ensures { OnOk result (IsBest order (IsMet policies.now label aim.entry) requests.now (number + 1) best.new) }
 {
     let request = &requests[number];
-    if is_passed(best, policies, label, aim, request) {
+    if is_passed(best, policies, label, aim, order, request) {
         return Ok(());
     }
     *best = Some(request.try_clone()?);
     Ok(())
 }
 
-/// Of the requests that are answered as is wanted, one with a shortest path; none where there are none.
+/// Of the requests that are answered as is wanted, one that comes first; none where there are none.
 pub(crate) fn shortest(
     policies: &[Compiled],
     label: Label,
     aim: Aim<'_>,
+    order: Order,
     requests: &[Request],
 ) -> Result<Option<Request>, AllocError>
-    ensures { IfOk result (λ best. IsBest (IsMet policies.now label aim.entry) requests.now (length requests.now) best) }
+    ensures { IfOk result (λ best. IsBest order (IsMet policies.now label aim.entry) requests.now (length requests.now) best) }
 {
     let mut best = None;
     for number in 0..requests.len() {
-        take_if_shorter(&mut best, policies, label, aim, requests, number)?;
+        take_if_better(&mut best, policies, label, aim, order, requests, number)?;
     }
     Ok(best)
 }

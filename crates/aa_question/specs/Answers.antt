@@ -70,6 +70,7 @@ pub record Compares (q : DiffAsked) (o : DiffOptions) : Type 0 where
   pub new : texts o.new.now ≡ q.new.files.paths
   pub gains : o.wanted.gains ≡ q.gains
   pub profiles : texts o.wanted.profiles.now ≡ q.profiles
+  pub names : texts o.wanted.names.now ≡ q.profiles
   pub json : o.form ≡ diff_form.Json
   pub whole : o.skips ≡ false
   pub accepted : o.accepted.now ≡ []

@@ -134,6 +134,7 @@ fn diff_asked(alloc: Global, question: &DiffQuestion) -> Result<Output, NoMemory
     let wanted = Wanted {
         gains: question.gains,
         profiles: question.profiles.as_slice(),
+        names: question.profiles.as_slice(),
     };
     let options = DiffOptions {
         old: question.old.files.paths.as_slice(),

@@ -14,3 +14,4 @@ mod Sparing
 mod Keeping
 mod Reasoning
 mod Leaving
+mod Silent

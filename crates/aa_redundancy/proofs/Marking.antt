@@ -63,14 +63,14 @@ with_same flags others i behind n = ap (λ (b : Bool). n == i || b) (at (nat_lt 
     at false e = ap (λ (b : Bool). b && marked flags n) e ∙ sym (ap (λ (b : Bool). b && marked others n) e)
 
 -- from a number on each is marked as it should be, and none before
-pub record AreSettled (Same : (ℕ → Bool) → Type 0) (wanted : List Bool) (count from : ℕ) (flags : List Bool) : Type 0 where
+pub record AreSettled (Same : (ℕ → Bool) → Type 0) (wanted : ℕ → Bool) (count from : ℕ) (flags : List Bool) : Type 0 where
   pub below : (n : ℕ) → n < from → marked flags n ≡ false
   pub each : (i : ℕ) → from ≤ i → i < count → (marked flags i ≡ true → GoesWith Same wanted flags i) × (marked flags i ≡ false → GoesWith Same wanted flags i → ⊥)
   pub all : Same (marked flags)
 
-module _ (Same : (ℕ → Bool) → Type 0) (ext : (g h : ℕ → Bool) → ((n : ℕ) → g n ≡ h n) → Same g → Same h) (wanted : List Bool) where
+module _ (Same : (ℕ → Bool) → Type 0) (ext : (g h : ℕ → Bool) → ((n : ℕ) → g n ≡ h n) → Same g → Same h) (wanted : ℕ → Bool) where
   -- a number isn't wanted
-  pub left_mark : (was : List Bool) (i : ℕ) → AreLater was i → Same (marked was) → marked wanted i ≡ false → Settles Same wanted i was was
+  pub left_mark : (was : List Bool) (i : ℕ) → AreLater was i → Same (marked was) → wanted i ≡ false → Settles Same wanted i was was
   left_mark was i later same isnt = record {
     many = refl;
     others = λ n ne. refl;
@@ -80,7 +80,7 @@ module _ (Same : (ℕ → Bool) → Type 0) (ext : (g h : ℕ → Bool) → ((n 
   }
 
   -- a number is marked, and nothing changes; or it would, and the mark is taken away
-  pub kept_mark : (was : List Bool) (i : ℕ) → i < length was → AreLater was i → marked wanted i ≡ true → Same (marked (set was i true)) → Settles Same wanted i was (set was i true)
+  pub kept_mark : (was : List Bool) (i : ℕ) → i < length was → AreLater was i → wanted i ≡ true → Same (marked (set was i true)) → Settles Same wanted i was (set was i true)
   kept_mark was i lt later is same =
       let here = get_or-set_same was i true false lt in record {
         many = length-set was i true;
@@ -134,7 +134,7 @@ module _ (Same : (ℕ → Bool) → Type 0) (ext : (g h : ℕ → Bool) → ((n 
   }
 
 -- before any is settled
-pub none_settled : (ts : List Table) (wanted : List Bool) (count : ℕ) (flags : List Bool) → flags ≡ replicate count false → AreSettled (SameTables ts) wanted count (count - 0) flags
+pub none_settled : (ts : List Table) (wanted : ℕ → Bool) (count : ℕ) (flags : List Bool) → flags ≡ replicate count false → AreSettled (SameTables ts) wanted count (count - 0) flags
 none_settled ts wanted count flags e =
     let none : NoneMarked flags = λ n. ap (λ (fs : List Bool). marked fs n) e ∙ none_of count n in record {
       below = λ n lt. none n;

@@ -213,9 +213,9 @@ pub from_same : (ps : List Profile) (ns : List PlaceNumbers) (n : ℕ) (gone : �
 from_same ps ns n gone h k lt = one_in (slice_get ps k) (slice_get ns k) gone (h k lt)
 
 -- what can go by tables can go
-pub going_by : (ts : List Table) (Same : (ℕ → Bool) → Type 0) (count : ℕ) (g : Going) → ((gone : ℕ → Bool) → SameTables ts gone → Same gone) → ((gone : ℕ → Bool) → Same gone → SameTables ts gone)
-    → AreGoing (SameTables ts) count g → AreGoing Same count g
-going_by ts Same count g to from are = record {
+pub going_by : (ts : List Table) (Same : (ℕ → Bool) → Type 0) (count : ℕ) (held : List Bool) (g : Going) → ((gone : ℕ → Bool) → SameTables ts gone → Same gone) → ((gone : ℕ → Bool) → Same gone → SameTables ts gone)
+    → AreGoing (SameTables ts) count held g → AreGoing Same count held g
+going_by ts Same count held g to from are = record {
   many_alone = are.many_alone;
   many_together = are.many_together;
   alone = λ i lt. let h = are.alone i lt in (λ e. to (only i) (h.0 e), λ e s. h.1 e (from (only i) s));

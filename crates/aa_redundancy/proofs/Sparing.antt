@@ -19,9 +19,9 @@ use Rattle.aa_redundancy.specs.Spared.{CanGo, OnePlace, AllPlaces, IsWithout, Ar
 use Rattle.aa_redundancy.proofs.Replies.{answers_same}
 
 -- what can go changes nothing
-gone_same : (Same : (ℕ → Bool) → Type 0) (count : ℕ) (g : Going) → AreGoing Same count g → (gone : ℕ → Bool) → CanGo count g gone → Same gone
-gone_same Same count g are gone (OnePlace i lt is e) = subst Same (sym e) ((are.alone i lt).0 is)
-gone_same Same count g are gone (AllPlaces e) = subst Same (sym e) are.all
+gone_same : (Same : (ℕ → Bool) → Type 0) (count : ℕ) (held : List Bool) (g : Going) → AreGoing Same count held g → (gone : ℕ → Bool) → CanGo count g gone → Same gone
+gone_same Same count held g are gone (OnePlace i lt is e) = subst Same (sym e) ((are.alone i lt).0 is)
+gone_same Same count held g are gone (AllPlaces e) = subst Same (sym e) are.all
 
 -- so a profile says the same without it
 says_same : (gone : ℕ → Bool) (n : PlaceNumbers) (p q : Profile) → SameProfile p n gone → IsWithout gone n p q → SaySame p q
@@ -47,7 +47,7 @@ all_say_same gone [] (p ∷ ps) qs same left = absurd left
 all_say_same gone (n ∷ ns) [] qs same left = absurd left
 all_say_same gone (n ∷ ns) (p ∷ ps) [] same left = absurd left
 
-pub spared_same : (p q : Policy) (ns : List PlaceNumbers) (count : ℕ) (g : Going) → AreGoing (SameProfiles p.profiles ns (length p.profiles)) count g → (gone : ℕ → Bool) → CanGo count g gone
+pub spared_same : (p q : Policy) (ns : List PlaceNumbers) (count : ℕ) (held : List Bool) (g : Going) → AreGoing (SameProfiles p.profiles ns (length p.profiles)) count held g → (gone : ℕ → Bool) → CanGo count g gone
     → AreWithout gone ns p.profiles q.profiles → (l : Label) (rs : List Request) → All IsAskable rs → answers_to p l rs ≡ answers_to q l rs
-spared_same p q ns count g are gone can left l rs asked =
-    answers_same p q (all_say_same gone ns p.profiles q.profiles (gone_same (SameProfiles p.profiles ns (length p.profiles)) count g are gone can) left) l rs asked
+spared_same p q ns count held g are gone can left l rs asked =
+    answers_same p q (all_say_same gone ns p.profiles q.profiles (gone_same (SameProfiles p.profiles ns (length p.profiles)) count held g are gone can) left) l rs asked

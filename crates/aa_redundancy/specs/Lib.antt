@@ -17,3 +17,4 @@ pub mod Plain
 pub mod Going
 pub mod Places
 pub mod Spared
+pub mod Unmatched

@@ -39,6 +39,6 @@ AreWithout gone _ _ _ = ⊥
 
 -- a policy without the rules of a place that can go by itself, or of all places that can go together, answers every list of requests as the policy
 abbrev pub SparedAnswersSame : Type 0
-SparedAnswersSame = (p q : Policy) (ns : List PlaceNumbers) (count : ℕ) (g : Going) → AreGoing (SameProfiles p.profiles ns (length p.profiles)) count g
+SparedAnswersSame = (p q : Policy) (ns : List PlaceNumbers) (count : ℕ) (held : List Bool) (g : Going) → AreGoing (SameProfiles p.profiles ns (length p.profiles)) count held g
     → (gone : ℕ → Bool) → CanGo count g gone → AreWithout gone ns p.profiles q.profiles
     → (l : Label) (rs : List Request) → All IsAskable rs → answers_to p l rs ≡ answers_to q l rs

@@ -4,7 +4,7 @@ ghost use Rattle.std.specs.Prelude.{◌≡◌, ◌≤◌, ◌<◌, ℕ, IfOk, Al
 ghost use Rattle.aa_redundancy.specs.Without.{only, marked};
 ghost use Rattle.aa_redundancy.specs.Tables.{SameTables};
 ghost use Rattle.aa_redundancy.specs.Mentions.{lists, rows_at, AreListed, SameAt};
-ghost use Rattle.aa_redundancy.specs.Going.{MarksThose, NoneMarked, AreLater, GoesWith, Settles, AreGoing};
+ghost use Rattle.aa_redundancy.specs.Going.{MarksThose, NoneMarked, AreLater, is_free, GoesWith, Settles, AreGoing};
 
 use crate::mentions::{RowNumber, listed_rows};
 use crate::saying::is_marked;
@@ -16,12 +16,12 @@ use std::alloc::{AllocError, Global};
 pub struct Going {
     /// Each by itself.
     pub alone: Vec<bool>,
-    /// All of these together: from the last on, each that can go by itself and with those before.
+    /// All of these together: from the last on, each that can go by itself and with those before, and that isn't held.
     pub together: Vec<bool>,
 }
 
 /// Marks for none of so many places.
-fn no_marks(alloc: Global, count: usize) -> Result<Vec<bool>, AllocError>
+pub(crate) fn no_marks(alloc: Global, count: usize) -> Result<Vec<bool>, AllocError>
     ensures { IfOk result (λ flags. flags.items ≡ replicate count false) }
 {
     vec![in alloc; false; count]
@@ -79,11 +79,19 @@ fn alone(
     Ok(flags)
 }
 
-/// Marks a place, where it is wanted and can go with those that are marked, all of which stand behind it.
+/// Whether a place can go by itself, and isn't held.
+fn is_free(alone: &[bool], held: &[bool], number: usize) -> bool
+    ensures { result ≡ is_free alone.now held.now number }
+{
+    is_marked(alone, number) && !is_marked(held, number)
+}
+
+/// Marks a place, where it is free and can go with those that are marked, all of which stand behind it.
 fn mark_if_goes(
     tables: &[Table],
     listed: &[Vec<RowNumber>],
-    wanted: &[bool],
+    alone: &[bool],
+    held: &[bool],
     gone: &mut Vec<bool>,
     number: usize,
 )
@@ -92,9 +100,9 @@ fn mark_if_goes(
     requires within { number < length gone.old.items }
     requires later { AreLater gone.old.items number }
     requires all { SameTables tables.now (marked gone.old.items) }
-    ensures { Settles (SameTables tables.now) wanted.now number gone.old.items gone.new.items }
+    ensures { Settles (SameTables tables.now) (is_free alone.now held.now) number gone.old.items gone.new.items }
 {
-    let is_wanted = is_marked(wanted, number);
+    let is_wanted = is_free(alone, held, number);
     if !is_wanted {
         return;
     }
@@ -106,34 +114,41 @@ fn mark_if_goes(
     gone[number] = false;
 }
 
-/// The places that can go together: from the last on, each that is wanted and can go with those before.
+/// The places that can go together: from the last on, each that is free and can go with those before.
 fn together(
     alloc: Global,
     tables: &[Table],
     listed: &[Vec<RowNumber>],
-    wanted: &[bool],
+    alone: &[bool],
+    held: &[bool],
     count: usize,
 ) -> Result<Vec<bool>, AllocError>
     requires rows { AreListed tables.now (lists listed.now) }
     requires listed { length listed.now ≡ count }
     ensures many { IfOk result (λ flags. length flags.items ≡ count) }
-    ensures those { IfOk result (λ flags. MarksThose flags.items count (GoesWith (SameTables tables.now) wanted.now flags.items)) }
+    ensures those { IfOk result (λ flags. MarksThose flags.items count (GoesWith (SameTables tables.now) (is_free alone.now held.now) flags.items)) }
     ensures all { IfOk result (λ flags. SameTables tables.now (marked flags.items)) }
 {
     let mut gone = no_marks(alloc, count)?;
     for done in 0..count {
-        mark_if_goes(tables, listed, wanted, &mut gone, count - 1 - done);
+        let number = count - 1 - done;
+        mark_if_goes(tables, listed, alone, held, &mut gone, number);
     }
     Ok(gone)
 }
 
-/// The places that can go, of so many.
-pub(crate) fn going_of(alloc: Global, tables: &[Table], count: usize) -> Result<Going, AllocError>
-    ensures { IfOk result (λ going. AreGoing (SameTables tables.now) count going) }
+/// The places that can go, of so many; together none that is held.
+pub(crate) fn going_of(
+    alloc: Global,
+    tables: &[Table],
+    count: usize,
+    held: &[bool],
+) -> Result<Going, AllocError>
+    ensures { IfOk result (λ going. AreGoing (SameTables tables.now) count held.now going) }
 {
     let listed = listed_rows(alloc, tables, count)?;
     let listed = listed.as_slice();
     let alone = alone(alloc, tables, listed, count)?;
-    let together = together(alloc, tables, listed, alone.as_slice(), count)?;
+    let together = together(alloc, tables, listed, alone.as_slice(), held, count)?;
     Ok(Going { alone, together })
 }

@@ -2,6 +2,7 @@
 
 ghost use Rattle.aa_redundancy.specs.Sameness.{SayingSameAnswersSame};
 ghost use Rattle.aa_redundancy.specs.Spared.{SparedAnswersSame};
+ghost use Rattle.aa_redundancy.specs.Unmatched.{BesideNoneMatchNothing};
 
 /// Where the profiles of two policies say the same of whatever can be asked, both policies answer every list of requests the same,
 /// one after another, at every label. It does nothing: its contract is a law of the definitions.
@@ -13,4 +14,10 @@ pub fn same_sayings_reply_alike()
 /// requests as the policy does, at every label. It does nothing: its contract is a law of the definitions.
 pub fn spared_rules_change_no_reply()
     ensures { SparedAnswersSame }
+{}
+
+/// Rules of a place that are redundant beside no other match nothing that can be asked for. It does nothing: its contract is a law of the
+/// definitions.
+pub fn rules_beside_none_match_nothing()
+    ensures { BesideNoneMatchNothing }
 {}

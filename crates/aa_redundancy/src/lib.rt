@@ -21,7 +21,9 @@ mod tables;
 
 pub use fault::{Excess, PolicyRedundancyFault, RedundancyFault};
 pub use going::Going;
-pub use laws::{same_sayings_reply_alike, spared_rules_change_no_reply};
-pub use places::PlaceNumbers;
+pub use laws::{
+    rules_beside_none_match_nothing, same_sayings_reply_alike, spared_rules_change_no_reply,
+};
+pub use places::{PlaceNumbers, marks_of_places, place_of};
 pub use reasons::Reason;
 pub use redundant::{Redundant, redundant_places};

@@ -1,9 +1,13 @@
 //! Rules by the numbers of their places.
 
-ghost use Rattle.std.specs.Prelude.{◌≡◌, map, IfOk};
+ghost use Rattle.std.specs.Prelude.{◌≡◌, ◌<◌, ℕ, length, map, IfOk};
+ghost use Rattle.aa_redundancy.specs.Without.{marked};
+ghost use Rattle.aa_redundancy.specs.Reasons.{is_one_of};
 ghost use Rattle.aa_redundancy.specs.Places.{place_of, at_place};
 
+use crate::going::no_marks;
 use crate::marks::RuleMark;
+use crate::reasons::mark_all;
 use crate::tables::Table;
 use aa_base::Seq;
 use std::alloc::{AllocError, Global};
@@ -18,7 +22,7 @@ pub struct PlaceNumbers {
 }
 
 /// The place of a rule.
-fn place_of(numbers: &[usize], rule: usize) -> usize
+pub fn place_of(numbers: &[usize], rule: usize) -> usize
     ensures { result ≡ place_of numbers.now rule }
 {
     match numbers.get(rule) {
@@ -58,4 +62,18 @@ pub(crate) fn placed(alloc: Global, table: Table, numbers: &[usize]) -> Result<T
     let Table { marks, rows } = table;
     let marks = all_at_places(alloc, numbers, marks.as_slice())?;
     Ok(Table { marks, rows })
+}
+
+/// Marks for these places, of so many.
+pub fn marks_of_places(
+    alloc: Global,
+    places: &[usize],
+    count: usize,
+) -> Result<Vec<bool>, AllocError>
+    ensures many { IfOk result (λ flags. length flags.items ≡ count) }
+    ensures marks { IfOk result (λ flags. (n : ℕ) → n < count → marked flags.items n ≡ is_one_of places.now n) }
+{
+    let mut flags = no_marks(alloc, count)?;
+    mark_all(&mut flags, places);
+    Ok(flags)
 }

@@ -92,7 +92,7 @@ fn mark_one(flags: &mut Vec<bool>, place: usize)
     flags[place] = true;
 }
 
-fn mark_all(flags: &mut Vec<bool>, places: &[usize])
+pub(crate) fn mark_all(flags: &mut Vec<bool>, places: &[usize])
     ensures many { length flags.new.items ≡ length flags.old.items }
     ensures marks { (n : ℕ) → n < length flags.old.items → marked flags.new.items n ≡ (marked flags.old.items n || is_one_of places.now n) }
 {

@@ -175,24 +175,25 @@ pub struct Redundant {
 }
 
 /// The places that can go with their rules, of so many: by itself each without whose rules every profile says the same of whatever can
-/// be asked, with those places beside whose rules it is so, and together some such that all that are left still do. Of each profile stand
-/// the numbers of its rules' places. An automaton may have at most `limit` states. An error is memory, or of a profile that its rules on
+/// be asked, with those places beside whose rules it is so, and together some such that aren't held and without which all that are left
+/// still do. Of each profile stand the numbers of its rules' places. An automaton may have at most `limit` states. An error is memory, or of a profile that its rules on
 /// files or on changes of the profile have too many patterns or need too many states.
 pub fn redundant_places(
     alloc: Global,
     profiles: &[Profile],
     numbers: &[PlaceNumbers],
     count: usize,
+    held: &[bool],
     limit: usize,
 ) -> Result<Redundant, PolicyRedundancyFault>
     requires some { 0 < limit }
     requires limit { limit ≤ most_states }
-    ensures going { IfOk result (λ r. AreGoing (SameProfiles profiles.now numbers.now (length profiles.now)) count r.going) }
+    ensures going { IfOk result (λ r. AreGoing (SameProfiles profiles.now numbers.now (length profiles.now)) count held.now r.going) }
     ensures reasons { IfOk result (λ r. AreReasons (HoldsOf ProfileAlike profiles.now numbers.now (length profiles.now)) (HoldsOf ProfileWithin profiles.now numbers.now (length profiles.now)) r.going.alone.items r.reasons.items) }
     ensures refused { IfErr result (λ e. IsRefusal profiles.now limit e) }
 {
     let tables = tables_of(alloc, profiles, numbers, limit)?;
-    let going = going_of(alloc, tables.as_slice(), count)?;
+    let going = going_of(alloc, tables.as_slice(), count, held)?;
     let reasons = reasons_of(alloc, tables.as_slice(), going.alone.as_slice())?;
     Ok(Redundant { going, reasons })
 }

@@ -47,6 +47,20 @@ module _ {X : Type 0} (same : X → X → Bool) (congr : (x y z : X) → same y 
         (cases_Bool (list_any (same y) ys)))
         (cases_Bool (same x y))
 
+    -- what is among them is so where each stands once
+    pub distinct_any : (y : X) (xs : List X) → list_any (same y) xs ≡ true → list_any (same y) (distinct same xs) ≡ true
+    distinct_any y [] e = e
+    distinct_any y (x ∷ xs) e = ⊎_elim
+        (λ (is : same x y ≡ true).
+        let back : same y x ≡ true = flip y x ∙ is in
+        ap (λ (b : Bool). b || list_any (same y) (filter (other x) (distinct same xs))) back)
+        (λ (apart : same x y ≡ false).
+        let back : same y x ≡ false = flip y x ∙ apart in
+        let behind : list_any (same y) xs ≡ true = ap (λ (b : Bool). b || list_any (same y) xs) (sym back) ∙ e in
+        ap (λ (b : Bool). b || list_any (same y) (filter (other x) (distinct same xs))) back
+        ∙ kept x y apart (distinct same xs) ∙ distinct_any y xs behind)
+        (cases_Bool (same x y))
+
     pub distinct_push : (xs : List X) (y : X) → distinct same (xs ++ y ∷ []) ≡ with_one y (distinct same xs)
     distinct_push [] y = refl
     distinct_push (x ∷ xs) y = ap (λ l. x ∷ filter (other x) l) (distinct_push xs y) ∙ filtered x y (distinct same xs)
@@ -98,6 +112,10 @@ module _ (us : List unit.Unit) where
   -- the places of a list, each once, one more
   pub places_push : (ps : List RulePlace) (p : RulePlace) → distinct (same_place us) (ps ++ p ∷ []) ≡ with_one (same_place us) place_congr p (distinct (same_place us) ps)
   places_push = distinct_push (same_place us) place_congr place_flip
+
+  pub place_any : (p : RulePlace) (ps : List RulePlace) → list_any (same_place us p) ps ≡ true
+      → list_any (same_place us p) (distinct (same_place us) ps) ≡ true
+  place_any = distinct_any (same_place us) place_congr place_flip
 
   -- ---- keys
 

@@ -1,3 +1,5 @@
 mod Numbering
 mod Knowing
 mod Staying
+mod Among
+mod Standing

@@ -1,10 +1,13 @@
 -- What `redundant` prints.
 -- Source: own.
-use Rattle.std.specs.Prelude.{◌≡◌, ℕ, ◌==◌, List, [], ◌++◌, length, codes, Bool, Some, slice_get, if◌then◌else◌}
+use Rattle.std.specs.Prelude.{◌≡◌, ℕ, ◌==◌, List, [], ◌++◌, length, codes, Bool, Some, slice_get, Option, None, option_map, Err, MatchBool, if◌then◌else◌}
 use Rattle.std.specs.List.{All}
 use Rattle.std.specs.Option.{option_map_or}
+use Rattle.aa_base.specs.declared.unread.Unread.{Unread}
 use Rattle.aa_base.specs.Values.{value}
 use Rattle.aa_files.specs.Texts.{texts}
+use Rattle.aa_files.specs.FilesData.{IsMain, IsMainText}
+use Rattle.aa_report.specs.Lines.{lines_in}
 use Rattle.aa_model.specs.declared.policy.Policy.{Policy}
 use Rattle.aa_model.specs.declared.policy.Profile.{Profile}
 use Rattle.aa_model.specs.declared.label.Label.{Label}
@@ -14,7 +17,13 @@ use Rattle.aa_load.specs.UnitPolicy.{limit_of}
 use Rattle.aa_command.specs.declared.decided.Decided.{Decided}
 use Rattle.aa_command.specs.Setting.{Setting}
 use Rattle.aa_command.specs.Printed.{Printed, faults_alone}
+use Rattle.aa_command.specs.Refusals.{SaysUnread}
 use Rattle.aa_command.specs.Policies.{IsPrintedFor}
+use Rattle.aa_check.specs.declared.form.Form.{Form}
+use Rattle.aa_skipped.specs.declared.skipped.Skipped.{Skipped}
+use Rattle.aa_skipped.specs.Policies.{IsPrintedOf}
+use Rattle.aa_redundancy.specs.declared.places.PlaceNumbers.{PlaceNumbers}
+use Rattle.aa_redundancy.specs.declared.reasons.Reason.{Reason}
 use Rattle.aa_redundancy.specs.declared.redundant.Redundant.{Redundant}
 use Rattle.aa_redundancy.specs.declared.fault.Excess.{Excess}
 use Rattle.aa_redundancy.specs.declared.fault.Excess.TheVariants.{Patterns, States}
@@ -24,11 +33,13 @@ use Rattle.aa_redundancy.specs.Going.{AreGoing}
 use Rattle.aa_redundancy.specs.Reasons.{AreReasons}
 use Rattle.aa_redundancy.specs.Sameness.{answers_to}
 use Rattle.aa_redundancy.specs.Spared.{CanGo, AreWithout}
+use Rattle.aa_redundancy.specs.Unmatched.{MatchNothing}
 use Rattle.aa_redundant.specs.declared.command.RedundantOptions.{RedundantOptions}
 use Rattle.aa_redundant.specs.Places.{all_places, all_numbers}
-use Rattle.aa_redundant.specs.Told.{Telling, Explained, rules_of, all_explained}
-use Rattle.aa_redundant.specs.Shown.{rules_text}
-use Rattle.aa_redundant.specs.Json.{json_rules}
+use Rattle.aa_redundant.specs.Leading.{AreOpen}
+use Rattle.aa_redundant.specs.Told.{Telling, Explained, rules_of, all_explained, all_undecided}
+use Rattle.aa_redundant.specs.Accepted.{held, unknown, gone_among}
+use Rattle.aa_redundant.specs.Forms.{answers_in}
 
 -- the profiles of the first policy
 abbrev pub first_profiles : List Policy → List Profile
@@ -47,29 +58,38 @@ abbrev pub AnswersStay : Decided → Redundant → Type 0
 AnswersStay d r = (p q : Policy) → p.profiles ≡ first_profiles d.policies.now → (gone : ℕ → Bool) → CanGo (length (all_places d)) r.going gone → AreWithout gone (all_numbers d) p.profiles q.profiles
     → (l : Label) (rs : List Request) → All IsAskable rs → answers_to p l rs ≡ answers_to q l rs
 
--- the rules that can go, by themselves and together, and why; without them every answer stays
-pub record AreRedundant (d : Decided) (r : Redundant) : Type 0 where
-  pub going : AreGoing (Spares d) (length (all_places d)) r.going
+-- the rules of a place that is redundant beside no other match nothing that can be asked for, in any profile
+abbrev pub NothingMatches : Decided → Redundant → Type 0
+NothingMatches d r = All (λ (x : Reason). x.beside.items ≡ [] → (k : ℕ) (p : Profile) (m : PlaceNumbers)
+    → slice_get (first_profiles d.policies.now) k ≡ Some p → slice_get (all_numbers d) k ≡ Some m → MatchNothing p m x.place) r.reasons.items
+
+-- the rules that can go, by themselves and together without those that are held, and why; without them every answer stays, and those beside none match
+-- nothing
+pub record AreRedundant (d : Decided) (held : List Bool) (r : Redundant) : Type 0 where
+  pub going : AreGoing (Spares d) (length (all_places d)) held r.going
   pub reasons : AreReasons (OfProfiles ProfileAlike d) (OfProfiles ProfileWithin d) r.going.alone.items r.reasons.items
   pub answers : AnswersStay d r
+  pub silent : NothingMatches d r
 
--- the rules that can go by themselves, and those that can go together
-abbrev pub answers_text : Bool → List Explained → List Telling → List ℕ
-answers_text is_json redundant going = if is_json then json_rules redundant going else rules_text redundant going
+-- 4 where a rule can go, and else 5 where files are skipped, which aren't looked at
+abbrev pub status_of : List Explained → List Skipped → ℕ
+status_of redundant skipped = if length redundant == 0 then (if length skipped == 0 then 0 else 5) else 4
 
--- 4 where a rule can go
-abbrev pub status_of : List Explained → ℕ
-status_of redundant = if length redundant == 0 then 0 else 4
+-- so they are printed: those that aren't accepted, those that may lead to profiles of skipped files, those that can go together, and of which
+-- accepted lines the rule isn't redundant
+abbrev pub rules_printed : Form → List (List ℕ) → List Skipped → List Explained → List Telling → List Telling → Printed
+rules_printed form lines skipped found undecided going = record {
+  answers = answers_in form (length skipped) (unknown lines found) undecided going;
+  faults = gone_among lines found undecided;
+  refusal = [];
+  status = status_of (unknown lines found) skipped;
+}
 
--- so they are printed
-abbrev pub rules_printed : Bool → List Explained → List Telling → Printed
-rules_printed is_json redundant going =
-    record { answers = answers_text is_json redundant going; faults = codes ""; refusal = codes ""; status = status_of redundant }
-
--- the rules of the places that can go
-abbrev pub redundant_printed : Bool → Decided → Redundant → Printed
-redundant_printed is_json d r =
-    rules_printed is_json (all_explained d.units.now (all_places d) r.reasons.items) (rules_of d.units.now r.going.together.items (all_places d))
+-- the rules of the places that can go, but for those that are open
+abbrev pub redundant_printed : Form → List (List ℕ) → List Skipped → List Bool → Decided → Redundant → Printed
+redundant_printed form lines skipped unsure d r =
+    rules_printed form lines skipped (all_explained unsure d.units.now (all_places d) r.reasons.items) (all_undecided unsure d.units.now (all_places d) r.reasons.items)
+    (rules_of d.units.now r.going.together.items (all_places d))
 
 -- why it can't be told
 abbrev pub why_of : Excess → List ℕ
@@ -84,12 +104,30 @@ untold_head name = codes "error: of " ++ value name ++ codes " it can't be told 
 abbrev pub untold_line : List ℕ → Excess → List ℕ
 untold_line name e = untold_head name ++ why_of e ++ codes "\n"
 
--- what is printed of the policy that files are: the rules of the places that can go and why, or of which profile that can't be told
-pub data IsRedundantOf (states : ℕ) (o : RedundantOptions) (d : Decided) (out : Printed) : Type 0 where
-  CanTell : (r : Redundant) → AreRedundant d r → out ≡ redundant_printed o.is_json d r → IsRedundantOf states o d out
+-- what is printed of the policy that files are beside those that are skipped, but for these lines: the rules of the places that can go and why, or
+-- of which profile that can't be told
+pub data IsRedundantOf (states : ℕ) (o : RedundantOptions) (lines : List (List ℕ)) (skipped : List Skipped) (d : Decided) (out : Printed) : Type 0 where
+  CanTell : (unsure : List Bool) → AreOpen d skipped unsure → (r : Redundant) → AreRedundant d (held d.units.now lines unsure (all_places d)) r
+      → out ≡ redundant_printed o.form lines skipped unsure d r → IsRedundantOf states o lines skipped d out
   CantTell : (k : ℕ) (p : Profile) (e : Excess) → slice_get (first_profiles d.policies.now) k ≡ Some p → Exceeds p (limit_of states) e
-      → out ≡ faults_alone (untold_line p.name e) 1 → IsRedundantOf states o d out
+      → out ≡ faults_alone (untold_line p.name e) 1 → IsRedundantOf states o lines skipped d out
+
+-- what is printed of the files that are named, but for the lines of a text: of those that aren't refused, where these are to be skipped, and else
+-- of all
+abbrev pub IsRedundantBut : Setting → RedundantOptions → List (List ℕ) → Printed → Type 0
+IsRedundantBut s o lines out =
+    MatchBool o.skips (IsPrintedOf s (texts o.files.now) (IsRedundantOf s.states o lines) out) (IsPrintedFor s (texts o.files.now) (IsRedundantOf s.states o lines []) out)
+
+-- so by the file with rules that are accepted, or that it can't be read
+pub data IsRedundantBy (s : Setting) (o : RedundantOptions) (path : List ℕ) (out : Printed) : Type 0 where
+  CantRead : (why : Unread) → IsMain s.files s.input path (Err why) → SaysUnread path why out → IsRedundantBy s o path out
+  Accepted : (text : List ℕ) → IsMainText s.files s.input path text → IsRedundantBut s o (lines_in text) out → IsRedundantBy s o path out
+
+-- where there is such a file
+abbrev pub IsRedundantIf : Setting → RedundantOptions → Option (List ℕ) → Printed → Type 0
+IsRedundantIf s o None out = IsRedundantBut s o [] out
+IsRedundantIf s o (Some path) out = IsRedundantBy s o path out
 
 -- what `redundant` prints
 abbrev pub IsRedundantOutput : Setting → RedundantOptions → Printed → Type 0
-IsRedundantOutput s o out = IsPrintedFor s (texts o.files.now) (IsRedundantOf s.states o) out
+IsRedundantOutput s o out = IsRedundantIf s o (option_map (λ path. path.now) o.known) out

@@ -1,6 +1,6 @@
 -- Redundant rules as they are printed in JSON.
 -- Source: own.
-use Rattle.std.specs.Prelude.{ℕ, List, ◌++◌, map, codes, Some, Bool, if◌then◌else◌}
+use Rattle.std.specs.Prelude.{ℕ, List, ◌++◌, map, codes, decimal, Some, Bool, if◌then◌else◌}
 use Rattle.aa_text.specs.Jsons.{json_bytes, json_place, key_text, member_text, list_text}
 use Rattle.aa_redundant.specs.Told.{Telling, Explained}
 
@@ -20,7 +20,9 @@ reason_key is_covered = if is_covered then codes "covered_by" else codes "overru
 unfoldable pub json_explained : Explained → List ℕ
 json_explained e = json_told e.rule ++ member_text (reason_key e.is_covered) (list_text (map json_rule e.others)) ++ codes "}"
 
--- those that can go by themselves, and those that can go together
-unfoldable pub json_rules : List Explained → List Telling → List ℕ
-json_rules redundant going =
-    codes "{" ++ key_text (codes "redundant") ++ list_text (map json_explained redundant) ++ member_text (codes "may_go") (list_text (map json_rule going)) ++ codes "}\n"
+-- those that can go by themselves, and those that can go together; those that may lead to profiles of skipped files, and how many
+-- files these are
+unfoldable pub json_rules : ℕ → List Explained → List Telling → List Telling → List ℕ
+json_rules skipped redundant undecided going =
+    codes "{" ++ key_text (codes "redundant") ++ list_text (map json_explained redundant) ++ member_text (codes "may_go") (list_text (map json_rule going))
+    ++ member_text (codes "undecided") (list_text (map json_rule undecided)) ++ member_text (codes "skipped_files") (decimal skipped) ++ codes "}\n"

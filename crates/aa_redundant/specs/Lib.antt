@@ -1,6 +1,12 @@
 pub mod Places
 pub mod Known
+pub mod Leading
 pub mod Told
 pub mod Shown
 pub mod Json
+pub mod Sarif
+pub mod Listed
+pub mod Accepted
+pub mod Forms
+pub mod Holding
 pub mod Command

@@ -1,6 +1,6 @@
 -- Rules as they are told.
 -- Source: own.
-use Rattle.std.specs.Prelude.{ℕ, List, [], ◌∷◌, map, flat_map, Bool, not, Option, Some, None, slice_get}
+use Rattle.std.specs.Prelude.{ℕ, List, [], ◌∷◌, map, flat_map, Bool, not, Option, Some, None, slice_get, if◌then◌else◌}
 use Rattle.std.specs.Option.{option_map_or}
 use Rattle.aa_base.specs.declared.fault.Spot.{Spot}
 use Rattle.aa_text.specs.Places.{place_in}
@@ -79,6 +79,18 @@ explained_by is_covered others rule = record { rule = rule; is_covered = is_cove
 abbrev pub explained : List unit.Unit → List RulePlace → Reason → List Explained
 explained us ps r = map (explained_by r.is_covered (all_numbered us ps r.beside.items)) (numbered us ps r.place)
 
+-- so, unless its place is open
+abbrev pub explained_if : List Bool → List unit.Unit → List RulePlace → Reason → List Explained
+explained_if unsure us ps r = if marked unsure r.place then [] else explained us ps r
+
 -- those of these reasons
-abbrev pub all_explained : List unit.Unit → List RulePlace → List Reason → List Explained
-all_explained us ps rs = flat_map (explained us ps) rs
+abbrev pub all_explained : List Bool → List unit.Unit → List RulePlace → List Reason → List Explained
+all_explained unsure us ps rs = flat_map (explained_if unsure us ps) rs
+
+-- the rule of the place of a reason, where its place is open
+abbrev pub open_if : List Bool → List unit.Unit → List RulePlace → Reason → List Telling
+open_if unsure us ps r = if marked unsure r.place then numbered us ps r.place else []
+
+-- those of these reasons
+abbrev pub all_undecided : List Bool → List unit.Unit → List RulePlace → List Reason → List Telling
+all_undecided unsure us ps rs = flat_map (open_if unsure us ps) rs

@@ -2,10 +2,10 @@
 
 ghost use Rattle.std.specs.Prelude.{◌≡◌, ◌++◌, [], map, flat_map, option_map, IfOk, OnOk};
 ghost use Rattle.std.specs.Option.{option_map_or};
-ghost use Rattle.aa_redundant.specs.Told.{telling, explaining, rule_in, rule_of, numbered, all_numbered, explained_by, explained, all_explained};
+ghost use Rattle.aa_redundant.specs.Told.{telling, explaining, rule_in, rule_of, numbered, all_numbered, explained_by, explained, explained_if, all_explained, open_if, all_undecided};
 
 use crate::places::RulePlace;
-use crate::told::{ToldRule, push_rule, rule_at};
+use crate::told::{ToldRule, is_marked, push_rule, rule_at};
 use aa_base::Spot;
 use aa_command::PlacedUnit;
 use aa_redundancy::Reason;
@@ -129,18 +129,70 @@ fn push_explained(
     push_at(found, alloc, units, place, reason.is_covered, others)
 }
 
-/// The rules of the places of these reasons.
+/// Adds it, unless its place is open.
+fn push_if_closed(
+    found: &mut Vec<ExplainedRule>,
+    alloc: Global,
+    unsure: &[bool],
+    units: &[PlacedUnit<'_>],
+    places: &[RulePlace],
+    reason: &Reason,
+) -> Result<(), AllocError>
+    ensures { OnOk result (map explaining found.new.items ≡ map explaining found.old.items ++ explained_if unsure.now units.now places.now reason.now) }
+{
+    if is_marked(unsure, reason.place) {
+        return Ok(());
+    }
+    push_explained(found, alloc, units, places, reason)
+}
+
+/// The rules of the places of these reasons that aren't open.
 pub(crate) fn all_explained(
     alloc: Global,
+    unsure: &[bool],
     units: &[PlacedUnit<'_>],
     places: &[RulePlace],
     reasons: &[Reason],
 ) -> Result<Vec<ExplainedRule>, AllocError>
-    ensures { IfOk result (λ found. map explaining found.items ≡ all_explained units.now places.now reasons.now) }
+    ensures { IfOk result (λ found. map explaining found.items ≡ all_explained unsure.now units.now places.now reasons.now) }
 {
     let mut found = Vec::new(alloc);
     for reason in reasons {
-        push_explained(&mut found, alloc, units, places, reason)?;
+        push_if_closed(&mut found, alloc, unsure, units, places, reason)?;
     }
     Ok(found)
+}
+
+/// Adds the rule of the place of a reason, where that is open.
+fn push_if_open(
+    rules: &mut Vec<ToldRule>,
+    alloc: Global,
+    unsure: &[bool],
+    units: &[PlacedUnit<'_>],
+    places: &[RulePlace],
+    reason: &Reason,
+) -> Result<(), AllocError>
+    ensures { OnOk result (map telling rules.new.items ≡ map telling rules.old.items ++ open_if unsure.now units.now places.now reason.now) }
+{
+    if !is_marked(unsure, reason.place) {
+        return Ok(());
+    }
+    push_numbered(rules, alloc, units, places, reason.place)
+}
+
+/// The rules of those places of these reasons that are open.
+pub(crate) fn all_undecided(
+    alloc: Global,
+    unsure: &[bool],
+    units: &[PlacedUnit<'_>],
+    places: &[RulePlace],
+    reasons: &[Reason],
+) -> Result<Vec<ToldRule>, AllocError>
+    ensures { IfOk result (λ rules. map telling rules.items ≡ all_undecided unsure.now units.now places.now reasons.now) }
+{
+    let mut rules = Vec::new(alloc);
+    for reason in reasons {
+        push_if_open(&mut rules, alloc, unsure, units, places, reason)?;
+    }
+    Ok(rules)
 }

@@ -91,18 +91,23 @@ fn push_explained(
     Ok(())
 }
 
-/// Appends the rules that can go by themselves, and those that can go together, as one JSON object and a line end.
+/// Appends the rules that can go by themselves, those that can go together, those that may lead to profiles of skipped files, and how many
+/// files these are, as one JSON object and a line end.
 #[tactic(auto, unfolding(crate::specs::Json::json_rules))]
 pub(crate) fn push_json_rules(
     out: &mut Vec<u8>,
     alloc: Global,
+    skipped: usize,
     redundant: &[ExplainedRule],
+    undecided: &[ToldRule],
     going: &[ToldRule],
 ) -> Result<(), AllocError>
-    ensures { OnOk result (out.new.items ≡ out.old.items ++ json_rules (map explaining redundant.now) (map telling going.now)) }
+    ensures { OnOk result (out.new.items ≡ out.old.items ++ json_rules skipped (map explaining redundant.now) (map telling undecided.now) (map telling going.now)) }
 {
     push_first(out, "redundant")?;
     push_explained(out, alloc, redundant)?;
     push_others(out, alloc, "may_go", going)?;
+    push_others(out, alloc, "undecided", undecided)?;
+    push_member(out, alloc, "skipped_files", &skipped)?;
     push_text(out, "}\n")
 }

@@ -67,7 +67,7 @@ pub(crate) fn push_rule(
     push_rule_in(rules, alloc, units.get(place.unit), place.at)
 }
 
-fn is_marked(flags: &[bool], number: usize) -> bool
+pub(crate) fn is_marked(flags: &[bool], number: usize) -> bool
     ensures { result ≡ marked flags.now number }
 {
     match flags.get(number) {

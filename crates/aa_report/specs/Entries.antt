@@ -18,11 +18,15 @@ abbrev pub holds : List ℕ → List ℕ → Bool
 holds word [] = false
 holds word (b ∷ bs) = starts_with nat_eq (b ∷ bs) word || holds word bs
 
+-- a number counts profiles that were compared, one or more, or files that were skipped
+abbrev pub is_counted : List ℕ → Bool
+is_counted rest =
+    (starts_with nat_eq rest (codes " profiles compared: ") || starts_with nat_eq rest (codes " profile compared: "))
+    || bytes_eq rest (codes " files skipped")
+
 -- a line that says how many profiles were compared, or how many files were skipped
 abbrev pub is_total : List ℕ → Bool
-is_total line =
-    nat_lt (length (after_digits line)) (length line)
-    && (starts_with nat_eq (after_digits line) (codes " profiles compared: ") || bytes_eq (after_digits line) (codes " files skipped"))
+is_total line = nat_lt (length (after_digits line)) (length line) && is_counted (after_digits line)
 
 -- a line that says what isn't told
 abbrev pub is_doubt : List ℕ → Bool

@@ -2,7 +2,7 @@
 
 ghost use Rattle.std.specs.Prelude.{◌≡◌, ◌++◌, [], ◌∷◌, None, filter, OnOk, IfOk};
 ghost use Rattle.aa_files.specs.Texts.{texts, slices};
-ghost use Rattle.aa_report.specs.Entries.{is_read, holds, is_total, is_doubt, is_aside, in_block, entry_by, entry_of, heading_behind, entries_from, entries_in};
+ghost use Rattle.aa_report.specs.Entries.{is_read, holds, is_counted, is_total, is_doubt, is_aside, in_block, entry_by, entry_of, heading_behind, entries_from, entries_in};
 
 use crate::lines::{after_digits, body_of, is_below, is_deep, is_indented, lines_in};
 use aa_text::push_text;
@@ -37,7 +37,7 @@ fn read_of<'t>(alloc: Global, lines: &[&'t [u8]]) -> Result<Vec<&'t [u8]>, Alloc
 }
 
 /// Whether the word stands somewhere in the line.
-fn holds(word: &str, line: &[u8]) -> bool
+pub fn holds(word: &str, line: &[u8]) -> bool
     ensures { result ≡ holds word.now line.now }
 {
     let mut rest = line;
@@ -50,14 +50,21 @@ fn holds(word: &str, line: &[u8]) -> bool
     false
 }
 
+/// Whether a number counts profiles that were compared, one or more, or files that were skipped.
+fn is_counted(rest: &[u8]) -> bool
+    ensures { result ≡ is_counted rest.now }
+{
+    rest.starts_with(" profiles compared: ".as_bytes())
+        || rest.starts_with(" profile compared: ".as_bytes())
+        || rest == " files skipped".as_bytes()
+}
+
 /// Whether a line says how many profiles were compared, or how many files were skipped.
 fn is_total(line: &[u8]) -> bool
     ensures { result ≡ is_total line.now }
 {
     let rest = after_digits(line);
-    rest.len() < line.len()
-        && (rest.starts_with(" profiles compared: ".as_bytes())
-            || rest == " files skipped".as_bytes())
+    rest.len() < line.len() && is_counted(rest)
 }
 
 /// Whether a line says what isn't told.

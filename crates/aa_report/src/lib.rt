@@ -10,7 +10,7 @@ mod sets;
 mod spans;
 
 pub use accepted::push_all_gone;
-pub use entries::entries_in;
+pub use entries::{entries_in, holds};
 pub use laws::spans_end_at_fences;
 pub use lines::{after_digits, lines_in, slices_of};
 pub use markdown::push_markdown;

@@ -1,6 +1,5 @@
 pub mod Matched
 pub mod Replied
-mod BelowLemmas
 pub mod Adding
 pub mod Making
 pub mod Standing

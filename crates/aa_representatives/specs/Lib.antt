@@ -2,7 +2,6 @@ pub use Rattle.aa_base.specs.Tables
 pub use Rattle.aa_mediate.specs.Reply
 pub mod Alike
 pub mod Automata
-pub mod Below
 pub mod Faults
 pub mod Askable
 pub mod Representatives

@@ -20,7 +20,11 @@ use aa_regions::{Region, path_regions_of, path_regions_within};
 use std::alloc::Global;
 
 /// The automaton of one pattern.
-fn of_one(alloc: Global, pattern: &Pattern, limit: usize) -> Result<Automaton, BuildFault>
+pub(crate) fn of_one(
+    alloc: Global,
+    pattern: &Pattern,
+    limit: usize,
+) -> Result<Automaton, BuildFault>
     requires some { 0 < limit }
     requires limit { limit ≤ most_states }
     ensures built { IfOk result (IsBuilt (pattern.now ∷ [])) }

@@ -13,6 +13,7 @@ mod fault;
 mod files;
 mod laws;
 mod links;
+mod more;
 mod names;
 mod paths;
 mod patterns;
@@ -27,7 +28,7 @@ pub use laws::alike_paths_reply_alike;
 pub use links::link_representatives;
 pub use paths::{exec_representatives, file_representatives};
 pub use regions::{
-    deciding_regions, deciding_regions_and, deciding_regions_and_two, deciding_regions_within,
-    filing_regions_and, filing_regions_and_two, filing_regions_within,
+    deciding_regions, deciding_regions_and_within, deciding_regions_within,
+    filing_regions_and_within, filing_regions_within,
 };
 pub use reloads::reload_representatives;

@@ -2,7 +2,6 @@
 
 ghost use Rattle.std.specs.Prelude.{◌≡◌, ◌+◌, ◌<◌, ◌≤◌, ◌++◌, ◌∷◌, [], Err, IfOk, length};
 ghost use Rattle.aa_pattern.specs.Limits.{most_patterns, most_states};
-ghost use Rattle.aa_auto.specs.Nodes.{pointed};
 ghost use Rattle.aa_auto.specs.Tables.{HasPlaces};
 ghost use Rattle.aa_regions.specs.Regions.{ArePathRegions};
 ghost use Rattle.aa_regions.specs.Automata.{ArePathRegionsWithin};
@@ -14,39 +13,18 @@ use crate::automata::{
     deciding_automaton, deciding_count, has_profile, regions_of_one, regions_within,
 };
 use crate::fault::RepresentativesFault;
-use crate::patterns::{
-    deciding_patterns_and, deciding_patterns_and_two, deciding_patterns_of_both_and,
-    filing_patterns_and, filing_patterns_and_two,
+use crate::more::{
+    automaton_of_both_and, deciding_automaton_and, filing_automaton_and, filing_count,
 };
 use aa_auto::Automaton;
 use aa_compile::Compiled;
 use aa_model::Label;
 use aa_pattern::Pattern;
-use aa_regions::{Region, path_regions, path_regions_of};
+use aa_regions::{Region, path_regions_of};
 use std::alloc::Global;
 
 /// How many patterns are matched together, at most.
 pub(crate) const MAX_PATTERNS: usize = 65535;
-
-/// The regions of the paths that can be asked for, by these patterns.
-fn regions_by(
-    alloc: Global,
-    patterns: &[&Pattern],
-    limit: usize,
-) -> Result<Vec<Region>, RepresentativesFault>
-    requires some { 0 < limit }
-    requires limit { limit ≤ most_states }
-    ensures regions { IfOk result (λ rs. ArePathRegions (pointed patterns.now) rs.items) }
-    ensures many_patterns { result ≡ Err RepresentativesFault.TooManyPatterns → most_patterns < length (pointed patterns.now) }
-    ensures few_patterns { IfOk result (λ _. length (pointed patterns.now) ≤ most_patterns) }
-    ensures many_states { result ≡ Err RepresentativesFault.TooManyStates → HasPlaces (pointed patterns.now) (limit + 1) }
-    ensures few_states { IfOk result (λ _. HasPlaces (pointed patterns.now) (limit + 1) → ⊥) }
-{
-    if patterns.len() > MAX_PATTERNS {
-        return Err(RepresentativesFault::TooManyPatterns);
-    }
-    Ok(path_regions(alloc, patterns, limit)?)
-}
 
 /// The regions of the paths that can be asked for, by the patterns that decide at the label: of the file rules of its profile, of
 /// the attachments of the top-level profiles and of its children, in this order. Paths of one region are answered alike. The
@@ -101,47 +79,6 @@ pub(crate) fn deciding_regions_of_both(
     let both = Automaton::beside(alloc, &before, count as u16, &after, limit)?;
     let regions = path_regions_of(alloc, &both)?;
     Ok(regions)
-}
-
-/// The same by these patterns and one more, which matches all paths of a region or none.
-pub fn deciding_regions_and(
-    alloc: Global,
-    policies: &[Compiled],
-    label: Label,
-    pattern: &Pattern,
-    limit: usize,
-) -> Result<Vec<Region>, RepresentativesFault>
-    requires some { 0 < limit }
-    requires limit { limit ≤ most_states }
-    ensures regions { IfOk result (λ rs. ArePathRegions (deciding policies.now label ++ pattern.now ∷ []) rs.items) }
-    ensures many_patterns { result ≡ Err RepresentativesFault.TooManyPatterns → most_patterns < length (deciding policies.now label ++ pattern.now ∷ []) }
-    ensures few_patterns { IfOk result (λ _. length (deciding policies.now label ++ pattern.now ∷ []) ≤ most_patterns) }
-    ensures many_states { result ≡ Err RepresentativesFault.TooManyStates → HasPlaces (deciding policies.now label ++ pattern.now ∷ []) (limit + 1) }
-    ensures few_states { IfOk result (λ _. HasPlaces (deciding policies.now label ++ pattern.now ∷ []) (limit + 1) → ⊥) }
-{
-    let patterns = deciding_patterns_and(alloc, policies, label, pattern)?;
-    regions_by(alloc, patterns.as_slice(), limit)
-}
-
-/// The same by the patterns of the file rules of the label's profile alone, and one more. Requests to use files at paths of one region
-/// are answered alike.
-pub fn filing_regions_and(
-    alloc: Global,
-    policies: &[Compiled],
-    label: Label,
-    pattern: &Pattern,
-    limit: usize,
-) -> Result<Vec<Region>, RepresentativesFault>
-    requires some { 0 < limit }
-    requires limit { limit ≤ most_states }
-    ensures regions { IfOk result (λ rs. ArePathRegions (filing policies.now label ++ pattern.now ∷ []) rs.items) }
-    ensures many_patterns { result ≡ Err RepresentativesFault.TooManyPatterns → most_patterns < length (filing policies.now label ++ pattern.now ∷ []) }
-    ensures few_patterns { IfOk result (λ _. length (filing policies.now label ++ pattern.now ∷ []) ≤ most_patterns) }
-    ensures many_states { result ≡ Err RepresentativesFault.TooManyStates → HasPlaces (filing policies.now label ++ pattern.now ∷ []) (limit + 1) }
-    ensures few_states { IfOk result (λ _. HasPlaces (filing policies.now label ++ pattern.now ∷ []) (limit + 1) → ⊥) }
-{
-    let patterns = filing_patterns_and(alloc, policies, label, pattern)?;
-    regions_by(alloc, patterns.as_slice(), limit)
 }
 
 /// The regions of the paths that the pattern matches by the patterns of the file rules of a profile that is there and this one.
@@ -245,49 +182,60 @@ pub fn deciding_regions_within(
     Ok(regions)
 }
 
-/// Those by the patterns that decide at the label, and two more.
-pub fn deciding_regions_and_two(
+/// The regions of the paths that the last pattern matches by the first, the patterns of the file rules of the label's profile and the last,
+/// and some of other paths.
+pub fn filing_regions_and_within(
     alloc: Global,
     policies: &[Compiled],
     label: Label,
-    one: &Pattern,
-    other: &Pattern,
+    more: &Pattern,
+    pattern: &Pattern,
     limit: usize,
 ) -> Result<Vec<Region>, RepresentativesFault>
     requires some { 0 < limit }
     requires limit { limit ≤ most_states }
-    ensures regions { IfOk result (λ rs. ArePathRegions (deciding policies.now label ++ one.now ∷ other.now ∷ []) rs.items) }
-    ensures many_patterns { result ≡ Err RepresentativesFault.TooManyPatterns → most_patterns < length (deciding policies.now label ++ one.now ∷ other.now ∷ []) }
-    ensures few_patterns { IfOk result (λ _. length (deciding policies.now label ++ one.now ∷ other.now ∷ []) ≤ most_patterns) }
-    ensures many_states { result ≡ Err RepresentativesFault.TooManyStates → HasPlaces (deciding policies.now label ++ one.now ∷ other.now ∷ []) (limit + 1) }
-    ensures few_states { IfOk result (λ _. HasPlaces (deciding policies.now label ++ one.now ∷ other.now ∷ []) (limit + 1) → ⊥) }
+    ensures regions { IfOk result (λ rs. ArePathRegionsWithin (more.now ∷ filing policies.now label) pattern.now rs.items) }
+    ensures many_patterns { result ≡ Err RepresentativesFault.TooManyPatterns → most_patterns < length (more.now ∷ filing policies.now label ++ pattern.now ∷ []) }
+    ensures few_patterns { IfOk result (λ _. length (more.now ∷ filing policies.now label ++ pattern.now ∷ []) ≤ most_patterns) }
+    ensures many_states { result ≡ Err RepresentativesFault.TooManyStates → HasPlaces (more.now ∷ filing policies.now label ++ pattern.now ∷ []) (limit + 1) }
+    ensures few_states { IfOk result (λ _. HasPlaces (more.now ∷ filing policies.now label ++ pattern.now ∷ []) (limit + 1) → ⊥) }
 {
-    let patterns = deciding_patterns_and_two(alloc, policies, label, one, other)?;
-    regions_by(alloc, patterns.as_slice(), limit)
+    let count = filing_count(policies, label);
+    if count >= MAX_PATTERNS - 1 {
+        return Err(RepresentativesFault::TooManyPatterns);
+    }
+    let automaton = filing_automaton_and(alloc, policies, label, more, limit)?;
+    let regions = regions_within(alloc, &automaton, count + 1, pattern, limit)?;
+    Ok(regions)
 }
 
-/// Those by the patterns of the file rules of the label's profile alone, and two more.
-pub fn filing_regions_and_two(
+/// The same by the patterns that decide at the label between the two.
+pub fn deciding_regions_and_within(
     alloc: Global,
     policies: &[Compiled],
     label: Label,
-    one: &Pattern,
-    other: &Pattern,
+    more: &Pattern,
+    pattern: &Pattern,
     limit: usize,
 ) -> Result<Vec<Region>, RepresentativesFault>
     requires some { 0 < limit }
     requires limit { limit ≤ most_states }
-    ensures regions { IfOk result (λ rs. ArePathRegions (filing policies.now label ++ one.now ∷ other.now ∷ []) rs.items) }
-    ensures many_patterns { result ≡ Err RepresentativesFault.TooManyPatterns → most_patterns < length (filing policies.now label ++ one.now ∷ other.now ∷ []) }
-    ensures few_patterns { IfOk result (λ _. length (filing policies.now label ++ one.now ∷ other.now ∷ []) ≤ most_patterns) }
-    ensures many_states { result ≡ Err RepresentativesFault.TooManyStates → HasPlaces (filing policies.now label ++ one.now ∷ other.now ∷ []) (limit + 1) }
-    ensures few_states { IfOk result (λ _. HasPlaces (filing policies.now label ++ one.now ∷ other.now ∷ []) (limit + 1) → ⊥) }
+    ensures regions { IfOk result (λ rs. ArePathRegionsWithin (more.now ∷ deciding policies.now label) pattern.now rs.items) }
+    ensures many_patterns { result ≡ Err RepresentativesFault.TooManyPatterns → most_patterns < length (more.now ∷ deciding policies.now label ++ pattern.now ∷ []) }
+    ensures few_patterns { IfOk result (λ _. length (more.now ∷ deciding policies.now label ++ pattern.now ∷ []) ≤ most_patterns) }
+    ensures many_states { result ≡ Err RepresentativesFault.TooManyStates → HasPlaces (more.now ∷ deciding policies.now label ++ pattern.now ∷ []) (limit + 1) }
+    ensures few_states { IfOk result (λ _. HasPlaces (more.now ∷ deciding policies.now label ++ pattern.now ∷ []) (limit + 1) → ⊥) }
 {
-    let patterns = filing_patterns_and_two(alloc, policies, label, one, other)?;
-    regions_by(alloc, patterns.as_slice(), limit)
+    let count = deciding_count(policies, label);
+    if count >= MAX_PATTERNS - 1 {
+        return Err(RepresentativesFault::TooManyPatterns);
+    }
+    let automaton = deciding_automaton_and(alloc, policies, label, more, limit)?;
+    let regions = regions_within(alloc, &automaton, count + 1, pattern, limit)?;
+    Ok(regions)
 }
 
-/// Those by the patterns that decide at one of two labels, each in policies of its own, and one more.
+/// Those of all paths by the patterns that decide at one of two labels, each in policies of its own, and one more.
 pub(crate) fn deciding_regions_of_both_and(
     alloc: Global,
     one: &[Compiled],
@@ -305,6 +253,13 @@ pub(crate) fn deciding_regions_of_both_and(
     ensures many_states { result ≡ Err RepresentativesFault.TooManyStates → HasPlaces (deciding_both one.now from other.now to ++ pattern.now ∷ []) (limit + 1) }
     ensures few_states { IfOk result (λ _. HasPlaces (deciding_both one.now from other.now to ++ pattern.now ∷ []) (limit + 1) → ⊥) }
 {
-    let patterns = deciding_patterns_of_both_and(alloc, one, from, other, to, pattern)?;
-    regions_by(alloc, patterns.as_slice(), limit)
+    let count = deciding_count(one, from);
+    let more = deciding_count(other, to);
+    if count.saturating_add(more) >= MAX_PATTERNS {
+        return Err(RepresentativesFault::TooManyPatterns);
+    }
+    let count = count + more;
+    let automaton = automaton_of_both_and(alloc, one, from, other, to, count, pattern, limit)?;
+    let regions = path_regions_of(alloc, &automaton)?;
+    Ok(regions)
 }

@@ -191,3 +191,10 @@ pub tells_by : (v w : Vec (Vec Item Global) Global) (e d t n d' t' : Vec Item Gl
     → (p : Pattern) → p.items.items ≡ Deep ∷ Byte 47 ∷ Choice w ∷ [] → TellsUnclean p
 tells_by v w e d t n d' t' v_is e_is d_is t_is w_is n_is d'_is t'_is p p_is =
     tells (Choice v) (λ s. (named v e d t v_is e_is d_is t_is s, of_name v e d t v_is e_is d_is t_is s)) w n d' t' w_is n_is d'_is t'_is p p_is
+
+-- three branches, by their items
+pub three : (v : Vec (Vec Item Global) Global) (a b c : Vec Item Global) (x y z : List Item) → v.items ≡ a ∷ b ∷ c ∷ [] → a.items ≡ x → b.items ≡ y
+    → c.items ≡ z → map (λ (w : Vec Item Global). w.items) v.items ≡ x ∷ y ∷ z ∷ []
+three v a b c x y z branches one two last =
+    let each : a.items ∷ b.items ∷ c.items ∷ [] ≡ x ∷ y ∷ z ∷ [] = cc (one, two, last) in
+    ap (map (λ (w : Vec Item Global). w.items)) branches ∙ each

@@ -1,7 +1,7 @@
 //! The pattern.
 
 ghost use Rattle.std.specs.Prelude.{IfOk};
-ghost use Rattle.aa_unclean_paths.specs.Told.{TellsUnclean};
+ghost use Rattle.aa_unclean_paths.specs.Told.{TellsUnclean, IsUncleanPattern};
 
 use aa_pattern::{Item, Pattern};
 use std::alloc::{AllocError, Global};
@@ -9,7 +9,8 @@ use std::alloc::{AllocError, Global};
 /// A pattern, made by hand as `**/{{,.,..}/**,.,..}`. Of the paths that can be asked for it matches those with a component that is `.` or `..`, or is
 /// empty and not the last. Together with others it at most doubles their regions.
 pub fn unclean_pattern(alloc: Global) -> Result<Pattern, AllocError>
-    ensures { IfOk result TellsUnclean }
+    ensures tells { IfOk result TellsUnclean }
+    ensures is { IfOk result IsUncleanPattern }
 {
     let empty = Vec::new(alloc);
     let dot = Vec::from_array(alloc, [Item::Byte(b'.')])?;

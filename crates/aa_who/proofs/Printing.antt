@@ -21,6 +21,8 @@ any_nobodys [] = refl
 any_nobodys (a ∷ answers) = ap (λ (b : Bool). is_nobodys (answered a) || b) (any_nobodys answers)
 
 pub unanswered_by : (states : ℕ) (o : WhoOptions) (skipped : List Skipped) (d : Decided) (r : Result (Vec WordAnswer Global) WhoFault) (line : Vec ℕ Global) (out : Printed)
-    → r ≡ Err (Refused line) → IfErr r (SaysFirst d (limit_of states) (texts o.words.now)) → out ≡ faults_alone line.items 1 → IsWhoOf states o skipped d out
+    → r ≡ Err (Refused line) → IfErr r (SaysFirst d (limit_of states) o.unclean (texts o.words.now))
+    → out ≡ faults_alone line.items 1 → IsWhoOf states o skipped d out
 unanswered_by states o skipped d r line out e why is =
-    Unanswered line.items (subst (λ (x : Result (Vec WordAnswer Global) WhoFault). IfErr x (SaysFirst d (limit_of states) (texts o.words.now))) e why) is
+    Unanswered line.items
+    (subst (λ (x : Result (Vec WordAnswer Global) WhoFault). IfErr x (SaysFirst d (limit_of states) o.unclean (texts o.words.now))) e why) is

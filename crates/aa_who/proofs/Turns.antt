@@ -1,5 +1,6 @@
 -- Words that are answered one after another.
-use Rattle.std.proofs.Common.{◌≡◌, ℕ, zero, suc, ◌+◌, ◌<◌, ◌≤◌, List, [], ◌∷◌, ◌++◌, length, map, take, drop, get_or, Vec, Result, Ok, Err, ap, sym, subst, ◌∙◌, arith}
+use Rattle.std.proofs.Common.{◌≡◌, ℕ, zero, suc, ◌+◌, ◌<◌, ◌≤◌, List, [], ◌∷◌, ◌++◌, length, map, Bool}
+use Rattle.std.proofs.Common.{take, drop, get_or, Vec, Result, Ok, Err, ap, sym, subst, ◌∙◌, arith}
 use Rattle.std.specs.Prelude.{IfErr}
 use Rattle.std.specs.Result.{IsErrAnd}
 use Rattle.std.specs.declared.alloc.Global.{Global}
@@ -24,17 +25,19 @@ one_more words i word lt item =
 one_answer : (before now : List WordAnswer) (a : WordAnswer) → now ≡ before ++ a ∷ [] → map answered now ≡ map answered before ++ answered a ∷ []
 one_answer before now a more = ap (λ (x : List WordAnswer). map answered x) more ∙ map-append answered before (a ∷ [])
 
-pub answers_next : (d : Decided) (limit : ℕ) (words : List (Vec ℕ Global)) (i : ℕ) (word : Vec ℕ Global) (text : List ℕ) (before now : List WordAnswer) (a : WordAnswer)
-    → i < length words → word ≡ get_or words i word → text ≡ word.items → now ≡ before ++ a ∷ [] → IsAnswerTo d limit text (answered a)
-    → AreAnswers d limit (texts (take i words)) (map answered before) → AreAnswers d limit (texts (take (i + 1) words)) (map answered now)
-answers_next d limit words i word text before now a lt item is_text more is are =
+pub answers_next : (d : Decided) (limit : ℕ) (unclean : Bool) (words : List (Vec ℕ Global)) (i : ℕ) (word : Vec ℕ Global) (text : List ℕ)
+    (before now : List WordAnswer) (a : WordAnswer) → i < length words → word ≡ get_or words i word → text ≡ word.items
+    → now ≡ before ++ a ∷ [] → IsAnswerTo d limit unclean text (answered a)
+    → AreAnswers d limit unclean (texts (take i words)) (map answered before) → AreAnswers d limit unclean (texts (take (i + 1) words)) (map answered now)
+answers_next d limit unclean words i word text before now a lt item is_text more is are =
     rw (one_more words i word lt item, one_answer before now a more)
-    (all_zipped_more (IsAnswerTo d limit) (texts (take i words)) (map answered before) word.items (answered a) are
-    (subst (λ (t : List ℕ). IsAnswerTo d limit t (answered a)) is_text is))
+    (all_zipped_more (IsAnswerTo d limit unclean) (texts (take i words)) (map answered before) word.items (answered a) are
+    (subst (λ (t : List ℕ). IsAnswerTo d limit unclean t (answered a)) is_text is))
 
-pub answers_all : (d : Decided) (limit : ℕ) (words : List (Vec ℕ Global)) (i : ℕ) (answers : List WordAnswer) → length words ≤ i
-    → AreAnswers d limit (texts (take i words)) (map answered answers) → AreAnswers d limit (texts words) (map answered answers)
-answers_all d limit words i answers le are = subst (λ (ws : List (Vec ℕ Global)). AreAnswers d limit (texts ws) (map answered answers)) (take_all i words le) are
+pub answers_all : (d : Decided) (limit : ℕ) (unclean : Bool) (words : List (Vec ℕ Global)) (i : ℕ) (answers : List WordAnswer) → length words ≤ i
+    → AreAnswers d limit unclean (texts (take i words)) (map answered answers) → AreAnswers d limit unclean (texts words) (map answered answers)
+answers_all d limit unclean words i answers le are =
+    subst (λ (ws : List (Vec ℕ Global)). AreAnswers d limit unclean (texts ws) (map answered answers)) (take_all i words le) are
 
 -- the words are those before one, the one, and those behind it
 parted : (words : List (Vec ℕ Global)) (i : ℕ) (word : Vec ℕ Global) → i < length words → word ≡ get_or words i word
@@ -44,11 +47,12 @@ parted (w ∷ ws) zero word lt item = ap (λ (v : Vec ℕ Global). v.items ∷ t
 parted (w ∷ ws) (suc i) word lt item = ap (λ (l : List (List ℕ)). w.items ∷ l) (parted ws i word (omega (arith, lt)) item)
 
 -- what is said of a word is said of the first that isn't answered
-pub said_first : (d : Decided) (limit : ℕ) (words : List (Vec ℕ Global)) (i : ℕ) (word : Vec ℕ Global) (text : List ℕ) (answers : List WordAnswer) (e : WhoFault)
-    → i < length words → word ≡ get_or words i word → text ≡ word.items → AreAnswers d limit (texts (take i words)) (map answered answers) → SaysNoAnswer text e
-    → SaysFirst d limit (texts words) e
-said_first d limit words i word text answers NoMemory lt item is_text before why = tt
-said_first d limit words i word text answers (Refused line) lt item is_text before why = record {
+pub said_first : (d : Decided) (limit : ℕ) (unclean : Bool) (words : List (Vec ℕ Global)) (i : ℕ) (word : Vec ℕ Global) (text : List ℕ)
+    (answers : List WordAnswer) (e : WhoFault) → i < length words → word ≡ get_or words i word → text ≡ word.items
+    → AreAnswers d limit unclean (texts (take i words)) (map answered answers) → SaysNoAnswer text e
+    → SaysFirst d limit unclean (texts words) e
+said_first d limit unclean words i word text answers NoMemory lt item is_text before why = tt
+said_first d limit unclean words i word text answers (Refused line) lt item is_text before why = record {
   earlier = texts (take i words);
   text = word.items;
   later = texts (drop (suc i) words);

@@ -51,8 +51,8 @@ who_printed o passed skipped answers =
 -- answered
 pub data IsWhoOf (states : ℕ) (o : WhoOptions) (skipped : List Skipped) (d : Decided) (out : Printed) : Type 0 where
   NoWord : texts o.words.now ≡ [] → out ≡ faults_alone (codes "error: who takes at least one word\n") 2 → IsWhoOf states o skipped d out
-  Unanswered : (line : List ℕ) → IsFirstUnanswered d (limit_of states) (texts o.words.now) line → out ≡ faults_alone line 1 → IsWhoOf states o skipped d out
-  Answers : (answers : List Answered) → AreAnswers d (limit_of states) (texts o.words.now) answers → out ≡ who_printed o (passed_in d.policies.now) skipped answers
+  Unanswered : (line : List ℕ) → IsFirstUnanswered d (limit_of states) o.unclean (texts o.words.now) line → out ≡ faults_alone line 1 → IsWhoOf states o skipped d out
+  Answers : (answers : List Answered) → AreAnswers d (limit_of states) o.unclean (texts o.words.now) answers → out ≡ who_printed o (passed_in d.policies.now) skipped answers
       → IsWhoOf states o skipped d out
 
 -- what is printed by the files that are named: by those that aren't refused, where these are to be skipped, and else by all

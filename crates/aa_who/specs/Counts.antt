@@ -4,7 +4,6 @@ use Rattle.std.specs.Prelude.{◌≡◌, ◌<◌, ◌+◌, ℕ, List, [], ◌++�
 use Rattle.aa_base.specs.Values.{value}
 use Rattle.aa_text.specs.Visible.{all_visible}
 use Rattle.aa_pattern.specs.Limits.{most_patterns}
-use Rattle.aa_auto.specs.Tables.{HasPlaces}
 use Rattle.aa_model.specs.declared.policy.Policy.{Policy}
 use Rattle.aa_model.specs.declared.label.Label.{Label}
 use Rattle.aa_model.specs.declared.label.Label.TheVariants.{Unconfined, Confined}
@@ -13,7 +12,7 @@ use Rattle.aa_compile.specs.Labels.{label_name}
 use Rattle.aa_quantifiers.specs.declared.word.Word.{Word}
 use Rattle.aa_quantifiers.specs.declared.quantity.Quantity.{Quantity}
 use Rattle.aa_quantifiers.specs.declared.quantity.Quantity.TheVariants.{Every, Partly, Never}
-use Rattle.aa_quantifiers.specs.Words.{IsOf, patterns_at}
+use Rattle.aa_quantifiers.specs.Words.{IsOf, patterns_at, HavePlaces}
 use Rattle.aa_quantifiers.specs.Quantities.{IsQuantity}
 use Rattle.aa_quantifiers.specs.Aims.{IsFirst}
 use Rattle.aa_quantifiers.specs.declared.aim.Aim.{Aim}
@@ -42,10 +41,11 @@ patterns_line policies l text = together policies l text ++ codes " have more th
 abbrev pub states_line : List Policy → Label → List ℕ → ℕ → List ℕ
 states_line policies l text limit = together policies l text ++ codes " need more than " ++ decimal limit ++ codes " states together; --states allows more\n"
 
--- why it can't be told how many of the requests a label is granted: its patterns with the word's are too many, or need too many states
+-- why it can't be told how many of the requests a label is granted: its patterns with the word's, and maybe one that tells unclean paths, are
+-- too many, or need too many states
 pub data CantTell (policies : List Policy) (limit : ℕ) (l : Label) (w : Word) (text line : List ℕ) : Type 0 where
-  ManyPatterns : most_patterns < length (patterns_at policies l w) → line ≡ patterns_line policies l text → CantTell policies limit l w text line
-  ManyStates : HasPlaces (patterns_at policies l w) (limit + 1) → line ≡ states_line policies l text limit → CantTell policies limit l w text line
+  ManyPatterns : most_patterns < length (patterns_at policies l w) + 1 → line ≡ patterns_line policies l text → CantTell policies limit l w text line
+  ManyStates : HavePlaces policies l w (limit + 1) → line ≡ states_line policies l text limit → CantTell policies limit l w text line
 
 -- how many of the requests a label is granted, or why that can't be told
 abbrev pub IsCounted : List Policy → ℕ → Label → Word → List ℕ → Counted → Type 0

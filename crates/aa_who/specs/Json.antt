@@ -1,6 +1,6 @@
 -- Answers as they are printed in JSON.
 -- Source: own.
-use Rattle.std.specs.Prelude.{ℕ, List, ◌++◌, map, codes, decimal, Bool, true, false, Option, Some, None, option_map}
+use Rattle.std.specs.Prelude.{ℕ, List, [], ◌∷◌, ◌++◌, map, codes, decimal, Bool, true, false, Option, Some, None, option_map}
 use Rattle.aa_text.specs.Jsons.{json_bytes, key_text, bool_text, member_text, member_if, list_text}
 use Rattle.aa_ask.specs.Json.{json_verdict}
 use Rattle.aa_undecided.specs.Answers.{PlacedFile}
@@ -22,18 +22,26 @@ json_front g = codes "{" ++ (key_text (codes "profile") ++ json_bytes g.name) ++
 unfoldable pub json_shown : Granted → List ℕ
 json_shown g = member_text (codes "complains") (bool_text g.complains) ++ member_text (codes "as") (json_verdict g.verdict)
 
--- so, and a request that isn't granted
+-- so, and a request that isn't granted, or one at an unclean path, where all others are
 unfoldable pub json_grant : Granted → List ℕ
-json_grant g = json_front g ++ json_shown g ++ member_if (codes "not") (option_map json_bytes g.refused) ++ codes "}"
+json_grant g =
+    json_front g ++ json_shown g ++ member_if (codes "not") (option_map json_bytes g.refused) ++ member_if (codes "not_unclean") (option_map json_bytes g.apart)
+    ++ codes "}"
 
 -- whether all is granted, or null where it can't be told
 abbrev pub json_all : Option Bool → List ℕ
 json_all (Some all) = bool_text all
 json_all None = codes "null"
 
+-- profiles that are granted it at unclean paths alone, if there are some
+abbrev pub json_apart : List Granted → List ℕ
+json_apart [] = []
+json_apart (g ∷ gs) = member_text (codes "unclean") (list_text (map json_grant (g ∷ gs)))
+
 -- a word, and the profiles that are granted it
 unfoldable pub json_granted : Answered → List ℕ
-json_granted a = codes "{" ++ (key_text (codes "word") ++ json_bytes a.word) ++ member_text (codes "granted") (list_text (map json_grant a.grants))
+json_granted a =
+    codes "{" ++ (key_text (codes "word") ++ json_bytes a.word) ++ member_text (codes "granted") (list_text (map json_grant a.grants)) ++ json_apart a.apart
 
 -- so, with the profiles of which it can't be told, how many there are, and whether a task without a profile is granted it
 unfoldable pub json_answer : Answered → List ℕ

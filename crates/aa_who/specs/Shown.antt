@@ -21,6 +21,11 @@ abbrev pub examples_mark : Told → Option (List ℕ) → List ℕ
 examples_mark t None = []
 examples_mark t (Some other) = codes " as " ++ t.word ++ codes ", not " ++ other
 
+-- what isn't granted at unclean paths, where all else is
+abbrev pub apart_mark : Option (List ℕ) → List ℕ
+apart_mark None = []
+apart_mark (Some other) = codes ", only at unclean paths not " ++ other
+
 -- a profile in complain mode
 abbrev pub complains_mark : Bool → List ℕ
 complains_mark complains = if complains then codes " complains" else []
@@ -29,9 +34,29 @@ complains_mark complains = if complains then codes " complains" else []
 unfoldable pub who_text : List ℕ → Granted → List ℕ
 who_text word g = quantity_mark g.refused ++ value g.name ++ codes " " ++ all_visible word
 
+-- which requests show it
+abbrev pub shown_by : Granted → List ℕ
+shown_by g = examples_mark g.verdict g.refused ++ apart_mark g.apart
+
 -- and as WORD, not WORD; and the rules
 unfoldable pub grant_text : List ℕ → Granted → List ℕ
-grant_text word g = who_text word g ++ examples_mark g.verdict g.refused ++ complains_mark g.complains ++ codes "\n" ++ reasons_text g.verdict
+grant_text word g = who_text word g ++ shown_by g ++ complains_mark g.complains ++ codes "\n" ++ reasons_text g.verdict
+
+-- what stands in front of those on unclean paths alone
+unfoldable pub only_mark : List ℕ
+only_mark = codes "only at unclean paths "
+
+-- only at unclean paths NAME WORD
+unfoldable pub apart_who : List ℕ → Granted → List ℕ
+apart_who word g = only_mark ++ value g.name ++ codes " " ++ all_visible word
+
+-- as WORD
+unfoldable pub apart_front : List ℕ → Granted → List ℕ
+apart_front word g = apart_who word g ++ (codes " as " ++ g.verdict.word)
+
+-- and the rules
+unfoldable pub apart_text : List ℕ → Granted → List ℕ
+apart_text word g = apart_front word g ++ complains_mark g.complains ++ codes "\n" ++ reasons_text g.verdict
 
 -- of each profile it is told that its rules allow nothing of a word
 abbrev pub is_nobodys : Answered → Bool
@@ -58,9 +83,9 @@ count_line a = decimal (length a.grants) ++ codes " of " ++ decimal a.profiles +
 abbrev pub untold_text : Answered → List ℕ
 untold_text a = untold_lines a.untold ++ a.free_untold
 
--- the lines of an answer, where these skipped files may hold profiles
+-- the lines of an answer, where these skipped files may hold profiles; those on unclean paths alone stand behind the others
 unfoldable pub answer_text : List PlacedFile → Answered → List ℕ
-answer_text holders a = flat_map (grant_text a.word) a.grants ++ nobody_text holders a ++ count_line a
+answer_text holders a = flat_map (grant_text a.word) a.grants ++ nobody_text holders a ++ count_line a ++ flat_map (apart_text a.word) a.apart
 
 -- how many rules decide nothing, where there are some
 abbrev pub passed_text : ℕ → List ℕ

@@ -34,10 +34,11 @@ fn answer_by(
     alloc: Global,
     decided: Decided<'_>,
     states: u32,
+    unclean: bool,
     word: &Word,
     text: &[u8],
 ) -> Result<WordAnswer, WhoFault>
-    ensures answered { IfOk result (λ a. IsAnswerBy decided.entry (limit_of states) text.now word.now (answered a)) }
+    ensures answered { IfOk result (λ a. IsAnswerBy decided.entry (limit_of states) unclean text.now word.now (answered a)) }
     ensures refused { IfErr result (λ e. SaysNoPath word.now text.now e) }
 {
     let free = count_at(
@@ -48,7 +49,7 @@ fn answer_by(
         word,
         text,
     )?;
-    let grants = grants_of(alloc, decided, states, word, text)?;
+    let grants = grants_of(alloc, decided, states, unclean, word, text)?;
     Ok(WordAnswer {
         word: Vec::from_slice(alloc, text)?,
         grants,
@@ -96,13 +97,14 @@ fn answer_to(
     alloc: Global,
     decided: Decided<'_>,
     states: u32,
+    unclean: bool,
     text: &[u8],
 ) -> Result<WordAnswer, WhoFault>
-    ensures answered { IfOk result (λ a. IsAnswerTo decided.entry (limit_of states) text.now (answered a)) }
+    ensures answered { IfOk result (λ a. IsAnswerTo decided.entry (limit_of states) unclean text.now (answered a)) }
     ensures refused { IfErr result (λ e. SaysNoAnswer text.now e) }
 {
     match read_asked(alloc, text) {
-        Ok(word) => answer_by(alloc, decided, states, &word, text),
+        Ok(word) => answer_by(alloc, decided, states, unclean, &word, text),
         Err(misread) => Err(unread(alloc, text, &misread)),
     }
 }
@@ -112,14 +114,15 @@ pub(crate) fn answers_to(
     alloc: Global,
     decided: Decided<'_>,
     states: u32,
+    unclean: bool,
     words: &[Vec<u8>],
 ) -> Result<Vec<WordAnswer>, WhoFault>
-    ensures answered { IfOk result (λ list. AreAnswers decided.entry (limit_of states) (texts words.now) (map answered list.items)) }
-    ensures refused { IfErr result (λ e. SaysFirst decided.entry (limit_of states) (texts words.now) e) }
+    ensures answered { IfOk result (λ list. AreAnswers decided.entry (limit_of states) unclean (texts words.now) (map answered list.items)) }
+    ensures refused { IfErr result (λ e. SaysFirst decided.entry (limit_of states) unclean (texts words.now) e) }
 {
     let mut answers = Vec::new(alloc);
     for word in words {
-        answers.push(answer_to(alloc, decided, states, word.as_slice())?)?;
+        answers.push(answer_to(alloc, decided, states, unclean, word.as_slice())?)?;
     }
     Ok(answers)
 }

@@ -37,6 +37,8 @@ pub struct WhoOptions<'a> {
     pub is_quiet: bool,
     /// Whether files that are refused are skipped.
     pub skips: bool,
+    /// Whether unclean paths count as others.
+    pub unclean: bool,
 }
 
 /// How many rules of the policy decide nothing.
@@ -178,7 +180,8 @@ impl UsePart for Asking<'_> {
         if self.options.words.is_empty() {
             return refused(alloc, "error: who takes at least one word\n", 2);
         }
-        match answers_to(alloc, decided, self.states, self.options.words) {
+        let unclean = self.options.unclean;
+        match answers_to(alloc, decided, self.states, unclean, self.options.words) {
             Ok(answers) => {
                 let passed = passed_in(decided.policies);
                 let answers = answers.as_slice();

@@ -5,7 +5,7 @@ ghost use Rattle.aa_text.specs.Jsons.{json_bytes, key_text, bool_text, member_te
 ghost use Rattle.aa_undecided.specs.Answers.{placed_all};
 ghost use Rattle.aa_who.specs.Grants.{granted};
 ghost use Rattle.aa_who.specs.Answers.{answered};
-ghost use Rattle.aa_who.specs.Json.{is_none, json_front, json_shown, json_grant, json_granted, json_answer, json_told, json_answers};
+ghost use Rattle.aa_who.specs.Json.{is_none, json_front, json_shown, json_grant, json_apart, json_granted, json_answer, json_told, json_answers};
 
 use crate::answering::WordAnswer;
 use crate::granting::Grant;
@@ -40,6 +40,19 @@ fn push_not(out: &mut Vec<u8>, alloc: Global, refused: &Option<Vec<u8>>) -> Resu
     }
 }
 
+fn push_not_unclean(
+    out: &mut Vec<u8>,
+    alloc: Global,
+    apart: &Option<Vec<u8>>,
+) -> Result<(), AllocError>
+    ensures { OnOk result (out.new.items ≡ out.old.items ++ member_if (codes "not_unclean") (option_map json_bytes (option_map (λ word. word.items) apart.now))) }
+{
+    match apart {
+        Some(word) => push_member(out, alloc, "not_unclean", word),
+        None => Ok(()),
+    }
+}
+
 #[tactic(auto, unfolding(crate::specs::Json::json_front))]
 fn push_front(out: &mut Vec<u8>, alloc: Global, grant: &Grant) -> Result<(), AllocError>
     ensures { OnOk result (out.new.items ≡ out.old.items ++ json_front (granted grant.now)) }
@@ -67,6 +80,7 @@ impl ToJson for Grant {
         push_front(out, alloc, self)?;
         push_shown(out, alloc, self)?;
         push_not(out, alloc, &self.refused)?;
+        push_not_unclean(out, alloc, &self.apart)?;
         push_text(out, "}")
     }
 }
@@ -78,13 +92,31 @@ fn push_grants(out: &mut Vec<u8>, alloc: Global, grants: &[Grant]) -> Result<(),
     Ok(())
 }
 
+fn push_unclean(out: &mut Vec<u8>, alloc: Global, grants: &[Grant]) -> Result<(), AllocError>
+    ensures { OnOk result (out.new.items ≡ out.old.items ++ member_text (codes "unclean") (list_text (map json_grant (map granted grants.now)))) }
+{
+    push_list_member(out, alloc, "unclean", grants)?;
+    Ok(())
+}
+
+/// Appends the profiles that are granted it at unclean paths alone, if there are some.
+fn push_apart(out: &mut Vec<u8>, alloc: Global, grants: &[Grant]) -> Result<(), AllocError>
+    ensures { OnOk result (out.new.items ≡ out.old.items ++ json_apart (map granted grants.now)) }
+{
+    match grants {
+        [] => Ok(()),
+        [_, ..] => push_unclean(out, alloc, grants),
+    }
+}
+
 /// Appends a word, and the profiles that are granted it.
 #[tactic(auto, unfolding(crate::specs::Json::json_granted))]
 fn push_granted(out: &mut Vec<u8>, alloc: Global, answer: &WordAnswer) -> Result<(), AllocError>
     ensures { OnOk result (out.new.items ≡ out.old.items ++ json_granted (answered answer.now)) }
 {
     push_first(out, alloc, "word", answer.word.as_slice())?;
-    push_grants(out, alloc, answer.grants.list.as_slice())
+    push_grants(out, alloc, answer.grants.list.as_slice())?;
+    push_apart(out, alloc, answer.grants.apart.as_slice())
 }
 
 impl ToJson for WordAnswer {

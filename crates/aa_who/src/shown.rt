@@ -7,7 +7,7 @@ ghost use Rattle.aa_ask.specs.Told.{told};
 ghost use Rattle.aa_undecided.specs.Answers.{placed_all};
 ghost use Rattle.aa_who.specs.Grants.{granted};
 ghost use Rattle.aa_who.specs.Answers.{answered};
-ghost use Rattle.aa_who.specs.Shown.{quantity_mark, examples_mark, complains_mark, who_text, grant_text, is_nobodys, none_text, nobody_text, free_mark, count_line, answer_text, untold_text, passed_text};
+ghost use Rattle.aa_who.specs.Shown.{quantity_mark, examples_mark, apart_mark, complains_mark, who_text, shown_by, grant_text, only_mark, apart_who, apart_front, apart_text, is_nobodys, none_text, nobody_text, free_mark, count_line, answer_text, untold_text, passed_text};
 
 use crate::answering::WordAnswer;
 use crate::counting::Counted;
@@ -52,6 +52,33 @@ fn push_examples(
     out.extend_from_slice(other.as_slice())
 }
 
+/// Appends a word behind a text.
+fn push_behind(out: &mut Vec<u8>, text: &str, word: &[u8]) -> Result<(), AllocError>
+    ensures { OnOk result (out.new.items ≡ out.old.items ++ (text.now ++ word.now)) }
+{
+    push_text(out, text)?;
+    out.extend_from_slice(word)?;
+    Ok(())
+}
+
+/// Appends a request at an unclean path that isn't granted, where all others are.
+fn push_apart_mark(out: &mut Vec<u8>, apart: &Option<Vec<u8>>) -> Result<(), AllocError>
+    ensures { OnOk result (out.new.items ≡ out.old.items ++ apart_mark (option_map (λ word. word.items) apart.now)) }
+{
+    let Some(other) = apart else {
+        return Ok(());
+    };
+    push_behind(out, ", only at unclean paths not ", other.as_slice())
+}
+
+/// Appends which requests show it.
+fn push_shown_by(out: &mut Vec<u8>, grant: &Grant) -> Result<(), AllocError>
+    ensures { OnOk result (out.new.items ≡ out.old.items ++ shown_by (granted grant.now)) }
+{
+    push_examples(out, &grant.verdict, &grant.refused)?;
+    push_apart_mark(out, &grant.apart)
+}
+
 /// Appends a mark, where a profile is in complain mode.
 pub fn push_complains(out: &mut Vec<u8>, complains: bool) -> Result<(), AllocError>
     ensures { OnOk result (out.new.items ≡ out.old.items ++ complains_mark complains) }
@@ -70,7 +97,7 @@ fn push_grant(
     ensures { OnOk result (out.new.items ≡ out.old.items ++ grant_text word.now (granted grant.now)) }
 {
     push_who(out, alloc, word, grant)?;
-    push_examples(out, &grant.verdict, &grant.refused)?;
+    push_shown_by(out, grant)?;
     push_complains(out, grant.complains)?;
     push_text(out, "\n")?;
     push_reasons(out, &grant.verdict)
@@ -86,6 +113,73 @@ fn push_grants(
 {
     for grant in grants {
         push_grant(out, alloc, word, grant)?;
+    }
+    Ok(())
+}
+
+#[tactic(auto, unfolding(crate::specs::Shown::only_mark))]
+fn push_only(out: &mut Vec<u8>) -> Result<(), AllocError>
+    ensures { OnOk result (out.new.items ≡ out.old.items ++ only_mark) }
+{
+    push_text(out, "only at unclean paths ")
+}
+
+/// Appends a profile that is granted a word at unclean paths alone.
+#[tactic(auto, unfolding(crate::specs::Shown::apart_who))]
+fn push_apart_who(
+    out: &mut Vec<u8>,
+    alloc: Global,
+    word: &[u8],
+    grant: &Grant,
+) -> Result<(), AllocError>
+    ensures { OnOk result (out.new.items ≡ out.old.items ++ apart_who word.now (granted grant.now)) }
+{
+    push_only(out)?;
+    push_name(out, alloc, grant.name.as_slice())?;
+    push_text(out, " ")?;
+    push_visible(out, word)
+}
+
+/// Appends it, and a request that shows it.
+#[tactic(auto, unfolding(crate::specs::Shown::apart_front))]
+fn push_apart_front(
+    out: &mut Vec<u8>,
+    alloc: Global,
+    word: &[u8],
+    grant: &Grant,
+) -> Result<(), AllocError>
+    ensures { OnOk result (out.new.items ≡ out.old.items ++ apart_front word.now (granted grant.now)) }
+{
+    push_apart_who(out, alloc, word, grant)?;
+    push_behind(out, " as ", grant.verdict.word.as_slice())
+}
+
+/// Appends it, and the rules.
+#[tactic(auto, unfolding(crate::specs::Shown::apart_text))]
+fn push_apart(
+    out: &mut Vec<u8>,
+    alloc: Global,
+    word: &[u8],
+    grant: &Grant,
+) -> Result<(), AllocError>
+    ensures { OnOk result (out.new.items ≡ out.old.items ++ apart_text word.now (granted grant.now)) }
+{
+    push_apart_front(out, alloc, word, grant)?;
+    push_complains(out, grant.complains)?;
+    push_text(out, "\n")?;
+    push_reasons(out, &grant.verdict)
+}
+
+fn push_all_apart(
+    out: &mut Vec<u8>,
+    alloc: Global,
+    word: &[u8],
+    grants: &[Grant],
+) -> Result<(), AllocError>
+    ensures { OnOk result (out.new.items ≡ out.old.items ++ flat_map (apart_text word.now) (map granted grants.now)) }
+{
+    for grant in grants {
+        push_apart(out, alloc, word, grant)?;
     }
     Ok(())
 }
@@ -180,7 +274,13 @@ fn push_answer(
         answer.grants.list.as_slice(),
     )?;
     push_nobody(out, alloc, holders, answer)?;
-    push_count(out, answer)
+    push_count(out, answer)?;
+    push_all_apart(
+        out,
+        alloc,
+        answer.word.as_slice(),
+        answer.grants.apart.as_slice(),
+    )
 }
 
 /// Appends the lines on what can't be told.

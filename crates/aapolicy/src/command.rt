@@ -362,13 +362,36 @@ const REDUNDANT_ARGUMENTS: &[Argument] = &[
         help: "A file with profiles, or a folder of such files, which are one policy together; - is standard input",
     },
     Argument {
+        name: "known",
+        letter: None,
+        form: Form::Value("FILE"),
+        barred: None,
+        help: "Leave out redundant rules whose lines stand in a file, as they are printed; lines that aren't found are told",
+    },
+    Argument {
+        name: "format",
+        letter: None,
+        form: Form::Value("FORM"),
+        barred: Some("json"),
+        help: "How to answer: text, json, gcc (PATH:LINE:COLUMN: warning: SENTENCE [redundant], a line each) or sarif (version 2.1.0) [default: text]",
+    },
+    Argument {
         name: "json",
         letter: None,
         form: Form::Flag,
         barred: None,
-        help: "Answer in JSON",
+        help: "Answer in JSON, as --format json",
     },
 ];
+
+/// Whether unclean paths count.
+const UNCLEAN: Argument = Argument {
+    name: "unclean",
+    letter: None,
+    form: Form::Flag,
+    barred: None,
+    help: "Count paths that no kernel asks for, with a component that is empty, . or .., as others",
+};
 
 /// What `who` takes.
 const WHO_ARGUMENTS: &[Argument] = &[
@@ -393,6 +416,7 @@ const WHO_ARGUMENTS: &[Argument] = &[
         barred: None,
         help: "More files with profiles, whose profiles are there too",
     },
+    UNCLEAN,
     Argument {
         name: "json",
         letter: None,
@@ -432,6 +456,7 @@ const ASSERT_ARGUMENTS: &[Argument] = &[
         barred: None,
         help: "Print of each claim only the first by whom it is broken",
     },
+    UNCLEAN,
     Argument {
         name: "format",
         letter: None,
@@ -779,7 +804,7 @@ const RULE_COMMANDS: &[Named] = &[
         arguments: REDUNDANT_ARGUMENTS,
         more: &[],
         reads_policies: true,
-        skips: false,
+        skips: true,
     },
 ];
 

@@ -152,6 +152,7 @@ fn run_diff(
     let old = files_of(alloc, matches, "OLD")?;
     let new = files_of(alloc, matches, "NEW")?;
     let profiles = profiles_of(alloc, matches)?;
+    let names = copies_of(alloc, matches, "profile")?;
     let base = old_base_of(matches);
     let folders = folders_before(alloc, matches, base)?;
     let before = Settings {
@@ -162,6 +163,7 @@ fn run_diff(
     let wanted = Wanted {
         gains: matches.get_flag("gains"),
         profiles: profiles.as_slice(),
+        names: names.as_slice(),
     };
     let Some(form) = diff_form_of(matches) else {
         return diff_form_refused(alloc);
@@ -193,6 +195,7 @@ fn run_who(
         is_json: matches.get_flag("json"),
         is_quiet: matches.get_flag("quiet"),
         skips: matches.get_flag("skip-refused"),
+        unclean: matches.get_flag("unclean"),
     };
     who_files(alloc, tree, settings, &options)
 }
@@ -212,6 +215,7 @@ fn run_assert(
         claims: file_of(matches, "CLAIMS").unwrap_or("-".as_bytes()),
         files: files.as_slice(),
         is_first: matches.get_flag("first"),
+        unclean: matches.get_flag("unclean"),
         form,
         skips: matches.get_flag("skip-refused"),
     };
@@ -270,9 +274,14 @@ fn run_redundant(
 ) -> Result<Output, NoMemory> {
     let alloc = rt.alloc();
     let files = files_of(alloc, matches, "PROFILE")?;
+    let Some(form) = form_of(matches) else {
+        return form_refused(alloc);
+    };
     let options = RedundantOptions {
         files: files.as_slice(),
-        is_json: matches.get_flag("json"),
+        known: file_of(matches, "known"),
+        form,
+        skips: matches.get_flag("skip-refused"),
     };
     redundant_files(alloc, tree, settings, &options)
 }
@@ -397,7 +406,7 @@ fn file_arguments(name: &str) -> &'static [&'static str] {
         "assert" => &["CLAIMS", "PROFILE"],
         "reach" => &["PROFILE"],
         "lint" => &["PROFILE", "known"],
-        "redundant" => &["PROFILE"],
+        "redundant" => &["PROFILE", "known"],
         "log" => &["FILE", "against"],
         "merge" => &["PART", "parts"],
         _ => &["PROFILE", "log"],

@@ -7,7 +7,7 @@ use Rattle.aa_command.specs.Refusals.{SaysFault}
 use Rattle.aa_claims.specs.declared.lines.ClaimLine.{ClaimLine}
 use Rattle.aa_claims.specs.Lines.{AreClaims, IsFirstFault}
 use Rattle.aa_claims.specs.Reports.{IsClaimReport}
-use Rattle.aa_assert.specs.Command.{IsAssertBy, IsAssertOutput, NoClaims, Claims}
+use Rattle.aa_assert.specs.Command.{IsAssertSaid, IsAssertOutput, NoClaims, Claims}
 use Rattle.aa_assert.proofs.Saying.{said_at}
 use Rattle.aa_assert.proofs.command.assert_text.Goals as goal
 
@@ -16,7 +16,7 @@ returns-in-Ok g c =
     let s = setting_of (g.T.Tree.files c.args.tree.now) (g.T.Tree.taken c.args.tree.now) (g.T.Tree.input c.args.tree.now) c.args.settings.now in
     let o = c.args.options.now in
     IfOk-weaker c.assert_claims.result
-    (λ (out : Output). IsAssertBy s o c.args.text.now c.as_slice.result.now (printed out))
+    (λ (out : Output). IsAssertSaid s o c.args.text.now c.as_slice.result.now (printed out))
     (λ (out : Output). IsAssertOutput s o (printed out))
     (λ out is. Claims c.args.text.now c.as_slice.result.now c.requires
     (subst (λ (cs : List ClaimLine). AreClaims c.args.text.now cs) (sym c.as_slice.ensures.value) c.in-Ok.ensures.claims) is)

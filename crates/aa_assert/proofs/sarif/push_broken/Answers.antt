@@ -7,7 +7,6 @@ use Rattle.aa_assert.specs.Findings.{found}
 use Rattle.aa_assert.specs.Kinds.{kind_name}
 use Rattle.aa_assert.specs.Gcc.{line_place, broken_note, deciders_of}
 use Rattle.aa_assert.specs.Sarif.{rule_text, result_members}
-use Rattle.aa_assert.specs.Listed.{rules_in}
 use Rattle.aa_assert.proofs.sarif.push_broken.Goals as goal
 
 pub returns : goal.returns
@@ -18,15 +17,10 @@ returns c =
     let rules = map rule_text (deciders_of f) in
     let members : List ℕ → List ℕ = λ m. rule_members Error (kind_name c.args.kind) ++ member_text (codes "message") (message_text m)
     ++ member_text (codes "locations") (location_text c.args.path.now (Some (line_place c.args.number))) in
-    let places : List (List ℕ) → List ℕ = λ ps. member_text (codes "relatedLocations") (list_text ps) in
+    let places : List ℕ = member_text (codes "relatedLocations") (list_text rules) in
     let note : c.as_slice-bytes.result.now ≡ broken_note f =
     c.as_slice-bytes.ensures.value ∙ c.in_ok-push_broken_note.ensures ∙ ap (λ x. x ++ broken_note f) c.new-text.ensures.items in
-    let those : rules_in c.as_slice.result.now ≡ rules =
-    ap rules_in c.as_slice.ensures.value ∙ c.in_ok-rules.ensures ∙ ap (map rule_text) c.deciders_of.ensures in
     let told : c.push_told.new.out.items ≡ out ++ members (broken_note f) = c.in_ok-push_told.ensures ∙ ap (λ m. out ++ members m) note in
-    let listed : c.push_list_member.new.out.items ≡ (out ++ members (broken_note f)) ++ places rules =
-    c.in_ok-push_list_member.ensures ∙ ap (λ x. x ++ places (rules_in c.as_slice.result.now)) told
-    ∙ ap (λ ps. (out ++ members (broken_note f)) ++ places ps) those in
-    let joined : ((out ++ members (broken_note f)) ++ places rules) ++ codes "}"
+    let joined : (out ++ members (broken_note f)) ++ (places ++ codes "}")
     ≡ out ++ result_members Error c.args.kind (broken_note f) c.args.path.now c.args.number rules = simp append_assoc in
-    on_ok_weaker c.push_text.result (λ e. e ∙ ap (λ x. x ++ codes "}") listed ∙ joined) c.push_text.ensures
+    on_ok_weaker c.push_places.result (λ e. e ∙ ap (λ x. x ++ (places ++ codes "}")) told ∙ joined) c.push_places.ensures

@@ -6,6 +6,7 @@ use Rattle.aa_command.specs.Printed.{printed}
 use Rattle.aa_passed_over.specs.Apart.{ApartRule, apart}
 use Rattle.aa_diff.specs.declared.finding.Finding.{Finding}
 use Rattle.aa_diff.specs.Accepted.{findings_left, rules_left}
+use Rattle.aa_diff.specs.Order.{in_order}
 use Rattle.aa_diff.specs.Untold.{doubts_data}
 use Rattle.aa_diff.specs.Command.{reported, reported_but}
 use Rattle.aa_diff.proofs.command.print_but.Goals as goal
@@ -14,18 +15,16 @@ pub returns : goal.returns
 returns c =
     let o = c.args.options.now in
     let accepted = texts o.accepted.now in
-    let d = c.args.old in
-    let e = c.args.new in
     let a = doubts_data c.args.doubts.now in
-    let ps = d.policies.now in
+    let ps = c.args.policies.now in
     let all = c.args.findings.now in
     let each = map apart c.args.rules.now in
-    let fs = findings_left ps o.wanted accepted all in
+    let fs = in_order (findings_left ps o.wanted accepted all) in
     let rs = rules_left ps o.wanted accepted each in
     let gone = c.in_ok-gone.gone.items in
-    IfOk-weaker c.print_found.result (λ (out : Output). printed out ≡ reported o d e c.as_slice.result.now (map apart c.as_slice-2.result.now) gone a)
-    (λ (out : Output). printed out ≡ reported_but o accepted d e all each a)
-    (λ out is. is ∙ (ap (λ (xs : List Finding). reported o d e xs (map apart c.as_slice-2.result.now) gone a) (c.as_slice.ensures.value ∙ c.in_ok-findings.ensures)
-    ∙ (ap (λ (xs : List ApartRule). reported o d e fs xs gone a) (ap (map apart) c.as_slice-2.ensures.value ∙ c.in_ok-rules.ensures)
-    ∙ ap (λ (text : List ℕ). reported o d e fs rs text a) c.in_ok-gone.ensures)))
+    IfOk-weaker c.print_found.result (λ (out : Output). printed out ≡ reported o ps c.as_slice.result.now (map apart c.as_slice-2.result.now) gone a)
+    (λ (out : Output). printed out ≡ reported_but o accepted ps all each a)
+    (λ out is. is ∙ (ap (λ (xs : List Finding). reported o ps xs (map apart c.as_slice-2.result.now) gone a) (c.as_slice.ensures.value ∙ (c.in_ok-findings.ensures ∙ ap in_order c.in_ok-left.ensures))
+    ∙ (ap (λ (xs : List ApartRule). reported o ps fs xs gone a) (ap (map apart) c.as_slice-2.ensures.value ∙ c.in_ok-rules.ensures)
+    ∙ ap (λ (text : List ℕ). reported o ps fs rs text a) c.in_ok-gone.ensures)))
     c.print_found.ensures

@@ -18,8 +18,8 @@ returns c =
     let e = c.args.new in
     let a = doubts_data c.args.doubts.now in
     let rs = map apart c.as_slice-2.result.now in
-    IfOk-weaker c.print_but.result (λ (out : Output). printed out ≡ reported_but o accepted d e c.as_slice.result.now rs a)
+    IfOk-weaker c.print_but.result (λ (out : Output). printed out ≡ reported_but o accepted d.policies.now c.as_slice.result.now rs a)
     (λ (out : Output). printed out ≡ printed_lines o d e c.args.differences.now a)
-    (λ out is. is ∙ (ap (λ (fs : List Finding). reported_but o accepted d e fs rs a) (c.as_slice.ensures.value ∙ c.in_ok-findings.ensures)
-    ∙ ap (λ (xs : List ApartRule). reported_but o accepted d e (lines_of d e c.args.differences.now) xs a) (ap (map apart) c.as_slice-2.ensures.value ∙ c.in_ok-rules.ensures)))
+    (λ out is. is ∙ (ap (λ (fs : List Finding). reported_but o accepted d.policies.now fs rs a) (c.as_slice.ensures.value ∙ c.in_ok-findings.ensures)
+    ∙ ap (λ (xs : List ApartRule). reported_but o accepted d.policies.now (lines_of d e c.args.differences.now) xs a) (ap (map apart) c.as_slice-2.ensures.value ∙ c.in_ok-rules.ensures)))
     c.print_but.ensures

@@ -14,4 +14,4 @@ returns-clause-stand c =
     let rs = c.in_ok-requests.requests.items in
     let has = subst (λ (l : List Region). (r : Region) → Contains l r → is_match w.pattern.items.items r.witness ≡ true
     → HasFilesOf w.whose r.witness w.masks rs) c.as_slice.ensures.value c.in_ok-requests.ensures.has in
-    files_stand c.args.policies.now c.args.label c.in_ok-regions.regions.items rs w c.in_ok-regions.ensures.regions has c.in_ok-requests.ensures.each
+    files_stand c.args.policies.now c.args.label c.in_ok-regions.regions.items rs w has c.in_ok-requests.ensures.each c.in_ok-regions.ensures.regions

@@ -4,7 +4,7 @@ use Rattle.std.specs.declared.vec.Vec.{Vec}
 use Rattle.aa_redundancy.specs.declared.mentions.RowNumber.{RowNumber}
 use Rattle.aa_redundancy.specs.Mentions.{lists, AreListed}
 use Rattle.aa_redundancy.specs.Tables.{SameTables}
-use Rattle.aa_redundancy.specs.Going.{MarksThose, GoesWith}
+use Rattle.aa_redundancy.specs.Going.{MarksThose, is_free, GoesWith}
 use Rattle.aa_redundancy.proofs.going.going_of.Goals as goal
 
 pub alone-requires-clause-rows : goal.alone-requires-clause-rows
@@ -19,6 +19,6 @@ returns c =
       many_alone = c.in_ok-alone.ensures.many;
       many_together = c.in_ok-together.ensures.many;
       alone = c.in_ok-alone.ensures.those;
-      together = subst (λ (fs : List Bool). MarksThose marks c.args.count (GoesWith (SameTables c.args.tables.now) fs marks)) c.as_slice.ensures.value c.in_ok-together.ensures.those;
+      together = subst (λ (fs : List Bool). MarksThose marks c.args.count (GoesWith (SameTables c.args.tables.now) (is_free fs c.args.held.now) marks)) c.as_slice.ensures.value c.in_ok-together.ensures.those;
       all = c.in_ok-together.ensures.all;
     }

@@ -2,6 +2,7 @@ use Rattle.std.proofs.Common.{◌≡◌, ℕ, ◌+◌, ◌-◌, ◌∙◌, sym, 
 use Rattle.std.proofs.lemmas.List.{length-replicate}
 use Rattle.std.proofs.Common.{false}
 use Rattle.aa_redundancy.specs.Tables.{SameTables}
+use Rattle.aa_redundancy.specs.Going.{is_free}
 use Rattle.aa_redundancy.proofs.Gone.{tables_same}
 use Rattle.aa_redundancy.proofs.Marking.{AreSettled, settled_more, none_settled}
 use Rattle.aa_redundancy.proofs.going.together.Goals as goal
@@ -9,7 +10,7 @@ use Rattle.aa_redundancy.proofs.going.together.Goals as goal
 pub loop-done-init : goal.loop-done-init
 loop-done-init c = record {
   wide = ap length c.in_ok-gone.ensures ∙ length-replicate c.args.count false;
-  settled = none_settled c.args.tables.now c.args.wanted.now c.args.count c.in_ok-gone.gone.items c.in_ok-gone.ensures;
+  settled = none_settled c.args.tables.now (is_free c.args.alone.now c.args.held.now) c.args.count c.in_ok-gone.gone.items c.in_ok-gone.ensures;
 }
 
 pub mark_if_goes-requires : goal.mark_if_goes-requires
@@ -27,8 +28,8 @@ loop-done-preserved c =
     let from : c.args.count - c.loop-done.done ≡ i + 1 = omega arith in
     let to : i ≡ c.args.count - (c.loop-done.done + 1) = omega arith in record {
       wide = c.mark_if_goes.ensures.many ∙ c.loop-done.invariant.wide;
-      settled = subst (λ (k : ℕ). AreSettled (SameTables c.args.tables.now) c.args.wanted.now c.args.count k c.mark_if_goes.new.gone.items) to
-          (settled_more (SameTables c.args.tables.now) (tables_same c.args.tables.now) c.args.wanted.now c.args.count (c.args.count - c.loop-done.done) i c.loop-done.gone.items c.mark_if_goes.new.gone.items from c.loop-done.invariant.settled c.mark_if_goes.ensures);
+      settled = subst (λ (k : ℕ). AreSettled (SameTables c.args.tables.now) (is_free c.args.alone.now c.args.held.now) c.args.count k c.mark_if_goes.new.gone.items) to
+          (settled_more (SameTables c.args.tables.now) (tables_same c.args.tables.now) (is_free c.args.alone.now c.args.held.now) c.args.count (c.args.count - c.loop-done.done) i c.loop-done.gone.items c.mark_if_goes.new.gone.items from c.loop-done.invariant.settled c.mark_if_goes.ensures);
     }
 
 pub returns-clause-those : goal.returns-clause-those

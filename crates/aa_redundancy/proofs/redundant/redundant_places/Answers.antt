@@ -12,7 +12,7 @@ use Rattle.aa_redundancy.proofs.redundant.redundant_places.Goals as goal
 
 pub reasons_of-requires : goal.reasons_of-requires
 reasons_of-requires c = λ i lt is.
-    let are : AreGoing (SameTables c.as_slice.result.now) c.args.count c.in_ok-going.going = c.in_ok-going.ensures in
+    let are : AreGoing (SameTables c.as_slice.result.now) c.args.count c.args.held.now c.in_ok-going.going = c.in_ok-going.ensures in
     let long = ap length c.as_slice-3.ensures.value in
     subst (λ (ts : List Table). SameTables ts (only i)) (c.as_slice.ensures.value ∙ sym c.as_slice-2.ensures.value)
     ((are.alone i (omega (arith, lt, long, are.many_alone))).0 (ap (λ (fs : List Bool). marked fs i) (sym c.as_slice-3.ensures.value) ∙ is))
@@ -23,9 +23,9 @@ returns-clause-going c =
     let ns = c.args.numbers.now in
     let ts = c.in_ok-tables.tables.items in
     let alike = c.in_ok-tables.ensures.alike in
-    going_by ts (SameProfiles ps ns (length ps)) c.args.count c.in_ok-going.going
+    going_by ts (SameProfiles ps ns (length ps)) c.args.count c.args.held.now c.in_ok-going.going
     (λ gone same. to_same ps ns (length ps) gone (alike.same gone none_gone same)) (λ gone same. alike.told gone none_gone (from_same ps ns (length ps) gone same))
-    (subst (λ (us : List Table). AreGoing (SameTables us) c.args.count c.in_ok-going.going) c.as_slice.ensures.value c.in_ok-going.ensures)
+    (subst (λ (us : List Table). AreGoing (SameTables us) c.args.count c.args.held.now c.in_ok-going.going) c.as_slice.ensures.value c.in_ok-going.ensures)
 
 pub returns-clause-reasons : goal.returns-clause-reasons
 returns-clause-reasons c =

@@ -5,4 +5,4 @@ use Rattle.aa_who.specs.Answers.{AreAnswers, answered}
 use Rattle.aa_who.proofs.answering.answers_to.Given as goal
 
 abbrev pub invariant-loop-word : goal.invariant-loop-word
-invariant-loop-word l = AreAnswers l.decided (limit_of l.states) (texts (take l.word-index l.words)) (map answered l.answers.items)
+invariant-loop-word l = AreAnswers l.decided (limit_of l.states) l.unclean (texts (take l.word-index l.words)) (map answered l.answers.items)

@@ -17,7 +17,8 @@ pub returns-in_ok-output_of-in-Ok : goal.returns-in_ok-output_of-in-Ok
 returns-in_ok-output_of-in-Ok c =
     let o = c.args.self.now.options.now in
     let ks = c.args.skipped.now in
-    Answers (record { decided = c.args.decided; skipped = c.args.skipped }) (refl, refl) (map answered c.in-Ok.answers.items) c.in-Ok.ensures.answered
+    Answers (record { decided = c.args.decided; skipped = c.args.skipped; unclean = c.args.self.now.options.now.unclean }) (refl, refl, refl)
+    (map answered c.in-Ok.answers.items) c.in-Ok.ensures.answered
     (c.in_ok-output_of-in-Ok.ensures
     ∙ ap (λ (n : ℕ). assert_printed o n ks (map answered c.as_slice-answers.result.now)) c.passed_in-passed.ensures
     ∙ ap (λ (l : List Answer). assert_printed o (passed_in c.args.decided.policies.now) ks (map answered l)) c.as_slice-answers.ensures.value)
@@ -25,11 +26,11 @@ returns-in_ok-output_of-in-Ok c =
 pub returns-in-Err-At : goal.returns-in-Err-At
 returns-in-Err-At c =
     let a = c.args.self.now in
-    let part : Part = record { decided = c.args.decided; skipped = c.args.skipped } in
+    let part : Part = record { decided = c.args.decided; skipped = c.args.skipped; unclean = c.args.self.now.options.now.unclean } in
     IfOk-weaker c.wrong_said.result
     (λ (out : Output). SaysFault (IsClaimReport a.options.now.claims.now a.text.now c.in-Err-At.at c.in-Err-At.wrong) 1 (printed out))
     (λ (out : Output). IsAssertOf a.states a.options.now a.text.now a.claims.now c.args.skipped.now c.args.decided (printed out))
-    (λ out says. Unanswered part (refl, refl) (record {
+    (λ out says. Unanswered part (refl, refl, refl) (record {
       at = c.in-Err-At.at;
       fault = c.in-Err-At.wrong;
       is_so = said_at c.answers_to.result (IsFirstUnanswered a.options.now.is_first part (limit_of a.states) a.claims.now) c.in-Err-At.at c.in-Err-At.wrong

@@ -1,0 +1,8 @@
+use Rattle.std.proofs.Common.{◌≡◌, ◌++◌, map, take}
+use Rattle.std.specs.List.{flat_map}
+use Rattle.aa_redundant.specs.Told.{telling}
+use Rattle.aa_redundant.specs.Shown.{further_place}
+use Rattle.aa_redundant.proofs.shown.push_each_further.Given as goal
+
+abbrev pub invariant-loop-rule : goal.invariant-loop-rule
+invariant-loop-rule l = l.out.items ≡ l.fn.out.items ++ flat_map further_place (map telling (take l.rule-index l.rules))
