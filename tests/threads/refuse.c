@@ -21,19 +21,28 @@ static unsigned long number(const char *name) {
     return value;
 }
 
-static void tell(unsigned long descriptor, unsigned long starts) {
+static void write_number(unsigned long descriptor, unsigned long value) {
     char text[LONGEST + 1];
     int at = LONGEST;
     text[at] = '\n';
-    do text[--at] = (char)('0' + starts % 10);
-    while (starts /= 10);
+    do text[--at] = (char)('0' + value % 10);
+    while (value /= 10);
     (void)!pwrite((int)descriptor, text + at, (size)(LONGEST + 1 - at), 0);
+}
+
+/* Threads are started by several at once: who wrote a number that isn't the last by then writes again. */
+static void tell(unsigned long descriptor) {
+    unsigned long told;
+    do {
+        told = __atomic_load_n(&asked, __ATOMIC_SEQ_CST);
+        write_number(descriptor, told);
+    } while (told != __atomic_load_n(&asked, __ATOMIC_SEQ_CST));
 }
 
 int pthread_create(void *thread, const void *attributes, void *(*run)(void *), void *argument) {
     unsigned long nth = __atomic_add_fetch(&asked, 1, __ATOMIC_SEQ_CST);
     unsigned long refused = number("REFUSE"), count = number("COUNT");
-    if (count != ~0ul) tell(count, nth);
+    if (count != ~0ul) tell(count);
     if (refused == 0 || refused == nth) return TRY_AGAIN;
     starter *start = (starter *)dlsym((void *)NEXT_LIBRARY, "pthread_create");
     return start(thread, attributes, run, argument);
