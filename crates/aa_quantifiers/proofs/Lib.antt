@@ -1,4 +1,3 @@
-mod Filing
 mod OneText
 mod Standing
 mod Adding

@@ -16,6 +16,7 @@ use Rattle.aa_regions.specs.Automata.{ArePathRegionsWithin}
 use Rattle.aa_regions.specs.Regions.{IsAsked}
 use Rattle.aa_mediate.specs.Reply.{reply}
 use Rattle.aa_representatives.specs.Alike.{MatchAlike, filing, deciding}
+use Rattle.aa_representatives.proofs.Filing.{files_by_rules}
 use Rattle.aa_representatives.proofs.Standing.{same_list}
 use Rattle.aa_representatives.proofs.Replied.{execs_reply_alike}
 use Rattle.aa_unclean_paths.specs.Components.{IsUnclean}
@@ -31,7 +32,6 @@ use Rattle.aa_quantifiers.specs.Words.{IsOf, beside}
 use Rattle.aa_quantifiers.specs.Orders.{Before}
 use Rattle.aa_quantifiers.specs.Candidates.{HasFilesOf, HasExecsOf}
 use Rattle.aa_quantifiers.specs.Quantities.{StandForWord}
-use Rattle.aa_quantifiers.proofs.Filing.{files_by_rules}
 use Rattle.aa_quantifiers.proofs.Ordered.{itself}
 
 -- the region of a path that one more pattern matches, by that and still more patterns

@@ -28,14 +28,15 @@ alike false false e = refl
 abbrev pub HasClassAt : List Policy → Label → List Policy → Label → List SaidClass → List ℕ → Type 0
 HasClassAt ps l qs m classes path = (c : SaidClass) × Contains classes c × IsSaidAtBoth ps l qs m path c
 
+-- paths that all patterns match alike
+module _ (patterns : List Pattern) (p : Pattern) where
+  pub alike_front : (s u : List ℕ) → MatchAlike (patterns ++ p ∷ []) s u → MatchAlike patterns s u
+  alike_front s u alike q c = alike q (Contains-append_left patterns (p ∷ []) q c)
+
+  pub alike_last : (s u : List ℕ) → MatchAlike (patterns ++ p ∷ []) s u → is_match p.items.items s ≡ is_match p.items.items u
+  alike_last s u alike = alike p (Contains-append_right patterns (p ∷ []) p (0, omega arith, refl))
+
 module _ (ps : List Policy) (l : Label) (qs : List Policy) (m : Label) (p : Pattern) where
-  -- paths that all patterns match alike
-  pub alike_front : (s u : List ℕ) → MatchAlike (deciding_both ps l qs m ++ p ∷ []) s u → MatchAlike (deciding_both ps l qs m) s u
-  alike_front s u alike q c = alike q (Contains-append_left (deciding_both ps l qs m) (p ∷ []) q c)
-
-  pub alike_last : (s u : List ℕ) → MatchAlike (deciding_both ps l qs m ++ p ∷ []) s u → is_match p.items.items s ≡ is_match p.items.items u
-  alike_last s u alike = alike p (Contains-append_right (deciding_both ps l qs m) (p ∷ []) p (0, omega arith, refl))
-
   pub paths_apart : (regions : List Region) (classes : List SaidClass) → ArePathRegions (deciding_both ps l qs m ++ p ∷ []) regions
       → ((c : SaidClass) → Contains classes c → IsSaidClass ps l qs m c)
       → ((r : Region) → Contains regions r → HasClassApart ps l qs m p classes r.witness)
@@ -45,7 +46,7 @@ module _ (ps : List Policy) (l : Label) (qs : List Policy) (m : Label) (p : Patt
     all = λ s asked.
         let r = region_of (deciding_both ps l qs m ++ p ∷ []) regions are s asked in
         let w = r.0.witness in
-        let alike = alike_front s w r.2 in
+        let alike = alike_front (deciding_both ps l qs m) p s w r.2 in
         let has = all r.0 r.1 in
         let c = has.class in
         let own = each c has.there in
@@ -54,7 +55,7 @@ module _ (ps : List Policy) (l : Label) (qs : List Policy) (m : Label) (p : Patt
           image_in (λ (x : SaidClass). x.path) classes c has.there,
           through ps l s w u c.one (one_alike ps l qs m s w alike) has.said.one own.said.one,
           through qs m s w u c.other (other_alike ps l qs m s w alike) has.said.other own.said.other,
-          λ e. alike_last s w r.2 ∙ has.matched e,
+          λ e. alike_last (deciding_both ps l qs m) p s w r.2 ∙ has.matched e,
         );
   }
 

@@ -8,14 +8,15 @@ use Rattle.aa_model.specs.declared.request.Request.TheVariants.{File, Link, Exec
 use Rattle.aa_regions.specs.declared.regions.Region.{Region}
 use Rattle.aa_regions.specs.Regions.{ArePathRegions}
 use Rattle.aa_representatives.specs.Askable.{IsFile, IsLink, IsExec, IsCap, IsNet, IsChange, IsReload, IsAskable, Kind, OfFile, OfLink, OfExec, kind_of}
-use Rattle.aa_representatives.specs.Both.{deciding_both, StandAtBoth}
+use Rattle.aa_representatives.specs.Both.{deciding_both, filing_both, StandAtBoth}
 use Rattle.aa_representatives.specs.Apart.{HasMatched, StandApart, RepresentApart, AreLinkPathsApart}
 use Rattle.aa_representatives.specs.Representatives.{HasFiles, HasExecs, HasLinks}
 use Rattle.aa_representatives.proofs.ApartSaid.{alike_front, alike_last}
 use Rattle.aa_representatives.proofs.BothSaid.{one_alike, other_alike}
+use Rattle.aa_representatives.proofs.Filing.{one_by_rules, other_by_rules}
 use Rattle.aa_representatives.proofs.BothStanding.{of_paths, of_names, of_numbers, each_of}
 use Rattle.aa_representatives.proofs.Linking.{link_at, links_said_alike}
-use Rattle.aa_representatives.proofs.Replied.{files_reply_alike, execs_reply_alike}
+use Rattle.aa_representatives.proofs.Replied.{execs_reply_alike}
 use Rattle.aa_representatives.proofs.Standing.{region_of, mask_small}
 
 -- requests of the kind have no path
@@ -76,18 +77,18 @@ module _ (ps : List Policy) (l : Label) (qs : List Policy) (m : Label) (p : Patt
   apart_keep Wanted was now keep stand r k = let q = stand r k in (q.0, keep q.0 q.1, q.2, q.3, q.4, q.5)
 
   module _ (rs : List Request) where
-    module _ (regions : List Region) (are : ArePathRegions (deciding_both ps l qs m ++ p ∷ []) regions) where
+    module _ (regions : List Region) (are : ArePathRegions (filing_both ps l qs m ++ p ∷ []) regions) where
       pub files_apart : ((r : Region) → Contains regions r → HasFiles r.witness 128 rs) → StandApart ps l qs m p IsFile rs
       files_apart has (File f) asked =
-          let r = region_of (deciding_both ps l qs m ++ p ∷ []) regions are f.path asked.0 in
+          let r = region_of (filing_both ps l qs m ++ p ∷ []) regions are f.path asked.0 in
           let w = r.0.witness in
-          let alike = alike_front ps l qs m p f.path w r.2 in (
+          let alike = alike_front (filing_both ps l qs m) p f.path w r.2 in (
             File (record { path = w; mask = f.mask; owned = f.owned }),
             has r.0 r.1 f.mask.0 f.owned (mask_small f.mask.0 asked.1) asked.1,
             refl,
-            files_reply_alike ps f.path w l (one_alike ps l qs m f.path w alike) f.mask f.owned,
-            files_reply_alike qs f.path w m (other_alike ps l qs m f.path w alike) f.mask f.owned,
-            λ e. alike_last ps l qs m p f.path w r.2 ∙ e,
+            one_by_rules ps l qs m f.path w alike f.mask f.owned,
+            other_by_rules ps l qs m f.path w alike f.mask f.owned,
+            λ e. alike_last (filing_both ps l qs m) p f.path w r.2 ∙ e,
           )
       files_apart has (Link x) asked = absurd asked
       files_apart has (Exec x) asked = absurd asked
@@ -96,17 +97,18 @@ module _ (ps : List Policy) (l : Label) (qs : List Policy) (m : Label) (p : Patt
       files_apart has (Change name) asked = absurd asked
       files_apart has (Reload k) asked = absurd asked
 
+    module _ (regions : List Region) (are : ArePathRegions (deciding_both ps l qs m ++ p ∷ []) regions) where
       pub execs_apart : ((r : Region) → Contains regions r → HasExecs r.witness rs) → StandApart ps l qs m p IsExec rs
       execs_apart has (Exec x) asked =
           let r = region_of (deciding_both ps l qs m ++ p ∷ []) regions are x.path asked in
           let w = r.0.witness in
-          let alike = alike_front ps l qs m p x.path w r.2 in (
+          let alike = alike_front (deciding_both ps l qs m) p x.path w r.2 in (
             Exec (record { path = w; owned = x.owned }),
             has r.0 r.1 x.owned,
             refl,
             execs_reply_alike ps x.path w l (one_alike ps l qs m x.path w alike) x.owned,
             execs_reply_alike qs x.path w m (other_alike ps l qs m x.path w alike) x.owned,
-            λ e. alike_last ps l qs m p x.path w r.2 ∙ e,
+            λ e. alike_last (deciding_both ps l qs m) p x.path w r.2 ∙ e,
           )
       execs_apart has (File f) asked = absurd asked
       execs_apart has (Link x) asked = absurd asked

@@ -11,12 +11,13 @@ use Rattle.aa_model.specs.declared.request.Request.TheVariants.{File, Link, Exec
 use Rattle.aa_regions.specs.declared.regions.Region.{Region}
 use Rattle.aa_regions.specs.Regions.{ArePathRegions}
 use Rattle.aa_representatives.specs.Askable.{IsFile, IsLink, IsExec, IsCap, IsNet, IsChange, IsReload, IsAskable}
-use Rattle.aa_representatives.specs.Both.{deciding_both, StandAtBoth, RepresentBoth, Represent, AreLinkPathsOfBoth}
+use Rattle.aa_representatives.specs.Both.{deciding_both, filing_both, StandAtBoth, RepresentBoth, Represent, AreLinkPathsOfBoth}
 use Rattle.aa_representatives.specs.Representatives.{Adds, HasFiles, HasExecs, HasLinks}
 use Rattle.aa_representatives.proofs.BothSaid.{one_alike, other_alike}
+use Rattle.aa_representatives.proofs.Filing.{one_by_rules, other_by_rules}
 use Rattle.aa_representatives.proofs.Linking.{link_at, links_said_alike}
 use Rattle.aa_representatives.proofs.Reloading.{reloads_reply_alike}
-use Rattle.aa_representatives.proofs.Replied.{files_reply_alike, execs_reply_alike}
+use Rattle.aa_representatives.proofs.Replied.{execs_reply_alike}
 use Rattle.aa_representatives.proofs.Standing.{region_of, mask_small}
 
 -- each kind can be asked
@@ -52,16 +53,16 @@ module _ (ps : List Policy) (l : Label) (qs : List Policy) (m : Label) where
   stand_keep Kind was now keep stand r k = let q = stand r k in (q.0, keep q.0 q.1, q.2, q.3, q.4)
 
   module _ (rs : List Request) where
-    module _ (regions : List Region) (are : ArePathRegions (deciding_both ps l qs m) regions) where
+    module _ (regions : List Region) (are : ArePathRegions (filing_both ps l qs m) regions) where
       pub files_at_both : ((r : Region) → Contains regions r → HasFiles r.witness 128 rs) → StandAtBoth ps l qs m IsFile rs
       files_at_both has (File f) asked =
-          let r = region_of (deciding_both ps l qs m) regions are f.path asked.0 in
+          let r = region_of (filing_both ps l qs m) regions are f.path asked.0 in
           let w = r.0.witness in (
             File (record { path = w; mask = f.mask; owned = f.owned }),
             has r.0 r.1 f.mask.0 f.owned (mask_small f.mask.0 asked.1) asked.1,
             refl,
-            files_reply_alike ps f.path w l (one_alike ps l qs m f.path w r.2) f.mask f.owned,
-            files_reply_alike qs f.path w m (other_alike ps l qs m f.path w r.2) f.mask f.owned,
+            one_by_rules ps l qs m f.path w r.2 f.mask f.owned,
+            other_by_rules ps l qs m f.path w r.2 f.mask f.owned,
           )
       files_at_both has (Link x) asked = absurd asked
       files_at_both has (Exec x) asked = absurd asked
@@ -70,6 +71,7 @@ module _ (ps : List Policy) (l : Label) (qs : List Policy) (m : Label) where
       files_at_both has (Change name) asked = absurd asked
       files_at_both has (Reload k) asked = absurd asked
 
+    module _ (regions : List Region) (are : ArePathRegions (deciding_both ps l qs m) regions) where
       pub execs_at_both : ((r : Region) → Contains regions r → HasExecs r.witness rs) → StandAtBoth ps l qs m IsExec rs
       execs_at_both has (Exec x) asked =
           let r = region_of (deciding_both ps l qs m) regions are x.path asked in

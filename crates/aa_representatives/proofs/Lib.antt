@@ -1,5 +1,6 @@
 pub mod Matched
 pub mod Replied
+pub mod Filing
 pub mod Adding
 pub mod Making
 pub mod Standing

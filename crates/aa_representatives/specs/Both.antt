@@ -19,7 +19,7 @@ use Rattle.aa_regions.specs.Regions.{IsAsked}
 use Rattle.aa_regions.specs.declared.regions.Region.{Region}
 use Rattle.aa_representatives.specs.declared.said.Said.{Said}
 use Rattle.aa_representatives.specs.declared.said.SaidClass.{SaidClass}
-use Rattle.aa_representatives.specs.Alike.{deciding, changing}
+use Rattle.aa_representatives.specs.Alike.{deciding, filing, changing}
 use Rattle.aa_representatives.specs.Askable.{IsAskable, SameKind}
 use Rattle.aa_representatives.specs.Classes.{SayAlikeAt}
 use Rattle.aa_representatives.specs.Names.{profiles_at, told_apart, ArePatternsOf}
@@ -27,6 +27,10 @@ use Rattle.aa_representatives.specs.Names.{profiles_at, told_apart, ArePatternsO
 -- the patterns by which paths are answered at one of the labels
 abbrev pub deciding_both : List Policy → Label → List Policy → Label → List Pattern
 deciding_both ps l qs m = deciding ps l ++ deciding qs m
+
+-- the patterns by which requests to use files are answered at one of the labels
+abbrev pub filing_both : List Policy → Label → List Policy → Label → List Pattern
+filing_both ps l qs m = filing ps l ++ filing qs m
 
 -- the requests that can be asked are answered at both labels as one of these of their kind is
 abbrev pub StandAtBoth : List Policy → Label → List Policy → Label → (Request → Type 0) → List Request → Type 0

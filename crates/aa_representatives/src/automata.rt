@@ -37,7 +37,7 @@ pub(crate) fn of_one(
 }
 
 /// The automaton of no pattern.
-fn of_none(alloc: Global, limit: usize) -> Result<Automaton, BuildFault>
+pub(crate) fn of_none(alloc: Global, limit: usize) -> Result<Automaton, BuildFault>
     requires some { 0 < limit }
     requires limit { limit ≤ most_states }
     ensures built { IfOk result (IsBuilt []) }

@@ -18,7 +18,10 @@ use crate::files::add_files;
 use crate::links::add_links;
 use crate::names::{changing_patterns_of_both, name_patterns};
 use crate::patterns::add_patterns;
-use crate::regions::{deciding_regions_of_both, deciding_regions_of_both_and};
+use crate::regions::{
+    deciding_regions_of_both, deciding_regions_of_both_and, filing_regions_of_both,
+    filing_regions_of_both_and,
+};
 use crate::reloads::{MAX_POLICY, add_reloads};
 use crate::said::paths_to_link;
 use aa_compile::Compiled;
@@ -27,6 +30,7 @@ use aa_pattern::Pattern;
 use std::alloc::{AllocError, Global};
 
 /// Requests for files, executions and links.
+// Files at one path of each region by the file rules: no attachment has a say in them.
 pub(crate) fn at_paths(
     alloc: Global,
     one: &[Compiled],
@@ -47,9 +51,10 @@ pub(crate) fn at_paths(
     ensures few_states { IfOk result (λ _. HasPlaces (deciding_both one.now from other.now to) (limit + 1) → ⊥) }
 {
     let regions = deciding_regions_of_both(alloc, one, from, other, to, limit)?;
+    let filing = filing_regions_of_both(alloc, one, from, other, to, limit)?;
     let paths = paths_to_link(alloc, one, from, other, to, regions.as_slice())?;
     let mut requests = Vec::new(alloc);
-    add_files(alloc, &mut requests, regions.as_slice())?;
+    add_files(alloc, &mut requests, filing.as_slice())?;
     add_execs(alloc, &mut requests, regions.as_slice())?;
     add_links(alloc, &mut requests, paths.as_slice())?;
     Ok(requests)
@@ -76,9 +81,10 @@ pub(crate) fn at_paths_and(
     ensures many_states { result ≡ Err RepresentativesFault.TooManyStates → HasPlaces (deciding_both one.now from other.now to ++ pattern.now ∷ []) (limit + 1) }
 {
     let regions = deciding_regions_of_both_and(alloc, one, from, other, to, pattern, limit)?;
+    let filing = filing_regions_of_both_and(alloc, one, from, other, to, pattern, limit)?;
     let paths = paths_to_link_apart(alloc, one, from, other, to, pattern, regions.as_slice())?;
     let mut requests = Vec::new(alloc);
-    add_files(alloc, &mut requests, regions.as_slice())?;
+    add_files(alloc, &mut requests, filing.as_slice())?;
     add_execs(alloc, &mut requests, regions.as_slice())?;
     add_links(alloc, &mut requests, paths.as_slice())?;
     Ok(requests)

@@ -6,9 +6,9 @@ ghost use Rattle.aa_pattern.specs.Limits.{most_patterns, most_states};
 ghost use Rattle.aa_auto.specs.Pairs.{IsBuilt};
 ghost use Rattle.aa_auto.specs.Tables.{HasPlaces, rows_of};
 ghost use Rattle.aa_representatives.specs.Alike.{deciding, filing, filing_at};
-ghost use Rattle.aa_representatives.specs.Both.{deciding_both};
+ghost use Rattle.aa_representatives.specs.Both.{deciding_both, filing_both};
 
-use crate::automata::{deciding_automaton, deciding_count, has_profile, of_one};
+use crate::automata::{deciding_automaton, deciding_count, has_profile, of_none, of_one};
 use aa_auto::{Automaton, BuildFault};
 use aa_compile::Compiled;
 use aa_model::Label;
@@ -36,6 +36,80 @@ pub(crate) fn filing_count(policies: &[Compiled], label: Label) -> usize
         Some(compiled) => filing_count_in(compiled, number),
         None => 0,
     }
+}
+
+/// The automaton of the file rules of a profile; that of no pattern where the profile isn't there.
+fn filing_in<'a>(compiled: &'a Compiled, number: u16, none: &'a Automaton) -> &'a Automaton
+    requires { IsBuilt [] none.now }
+    ensures { IsBuilt (filing_at (slice_get compiled.now.profiles number)) result.now }
+{
+    if has_profile(compiled, number) {
+        return compiled.file_automaton(number);
+    }
+    none
+}
+
+/// The automaton of the file rules of the label's profile; that of no pattern where there is none.
+fn filing_automaton<'a>(
+    policies: &'a [Compiled],
+    label: Label,
+    none: &'a Automaton,
+) -> &'a Automaton
+    requires { IsBuilt [] none.now }
+    ensures { IsBuilt (filing policies.now label) result.now }
+{
+    let Label::Confined(policy, number) = label else {
+        return none;
+    };
+    match policies.get(policy as usize) {
+        Some(compiled) => filing_in(compiled, number, none),
+        None => none,
+    }
+}
+
+/// The automaton of the file rules of the profiles of two labels, each in policies of its own.
+pub(crate) fn filing_automaton_of_both(
+    alloc: Global,
+    one: &[Compiled],
+    from: Label,
+    other: &[Compiled],
+    to: Label,
+    limit: usize,
+) -> Result<Automaton, BuildFault>
+    requires some { 0 < limit }
+    requires limit { limit ≤ most_states }
+    requires few { length (filing_both one.now from other.now to) ≤ most_patterns }
+    ensures built { IfOk result (IsBuilt (filing_both one.now from other.now to)) }
+    ensures too_many { result ≡ Err BuildFault.TooManyStates → HasPlaces (filing_both one.now from other.now to) (limit + 1) }
+{
+    let none = of_none(alloc, limit)?;
+    let count = filing_count(one, from);
+    let before = filing_automaton(one, from, &none);
+    let after = filing_automaton(other, to, &none);
+    Automaton::beside(alloc, before, count as u16, after, limit)
+}
+
+/// The automaton of these, which are `count`, and one pattern behind them.
+pub(crate) fn filing_automaton_of_both_and(
+    alloc: Global,
+    one: &[Compiled],
+    from: Label,
+    other: &[Compiled],
+    to: Label,
+    count: usize,
+    more: &Pattern,
+    limit: usize,
+) -> Result<Automaton, BuildFault>
+    requires some { 0 < limit }
+    requires limit { limit ≤ most_states }
+    requires count { length (filing_both one.now from other.now to) ≡ count }
+    requires few { count < most_patterns }
+    ensures built { IfOk result (IsBuilt (filing_both one.now from other.now to ++ more.now ∷ [])) }
+    ensures too_many { result ≡ Err BuildFault.TooManyStates → HasPlaces (filing_both one.now from other.now to ++ more.now ∷ []) (limit + 1) }
+{
+    let both = filing_automaton_of_both(alloc, one, from, other, to, limit)?;
+    let last = of_one(alloc, more, limit)?;
+    Automaton::beside(alloc, &both, count as u16, &last, limit)
 }
 
 /// The automaton of a pattern and, behind it, those of the file rules of a profile that is there.

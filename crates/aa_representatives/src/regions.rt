@@ -7,16 +7,17 @@ ghost use Rattle.aa_regions.specs.Regions.{ArePathRegions};
 ghost use Rattle.aa_regions.specs.Automata.{ArePathRegionsWithin};
 ghost use Rattle.std.specs.List.{slice_get};
 ghost use Rattle.aa_representatives.specs.Alike.{deciding, filing, filing_at};
-ghost use Rattle.aa_representatives.specs.Both.{deciding_both};
+ghost use Rattle.aa_representatives.specs.Both.{deciding_both, filing_both};
 
 use crate::automata::{
     deciding_automaton, deciding_count, has_profile, regions_of_one, regions_within,
 };
 use crate::fault::RepresentativesFault;
 use crate::more::{
-    automaton_of_both_and, deciding_automaton_and, filing_automaton_and, filing_count,
+    automaton_of_both_and, deciding_automaton_and, filing_automaton_and, filing_automaton_of_both,
+    filing_automaton_of_both_and, filing_count,
 };
-use aa_auto::Automaton;
+use aa_auto::{Automaton, BuildFault};
 use aa_compile::Compiled;
 use aa_model::Label;
 use aa_pattern::Pattern;
@@ -260,6 +261,52 @@ pub(crate) fn deciding_regions_of_both_and(
     }
     let count = count + more;
     let automaton = automaton_of_both_and(alloc, one, from, other, to, count, pattern, limit)?;
+    let regions = path_regions_of(alloc, &automaton)?;
+    Ok(regions)
+}
+
+/// Those of all paths by the patterns of the file rules at two labels, each in policies of its own. Requests to use files are answered
+/// alike at paths of one region.
+// Far fewer than by the patterns that decide, where there are many profiles.
+pub(crate) fn filing_regions_of_both(
+    alloc: Global,
+    one: &[Compiled],
+    from: Label,
+    other: &[Compiled],
+    to: Label,
+    limit: usize,
+) -> Result<Vec<Region>, BuildFault>
+    requires some { 0 < limit }
+    requires limit { limit ≤ most_states }
+    requires few { length (filing_both one.now from other.now to) ≤ most_patterns }
+    ensures regions { IfOk result (λ rs. ArePathRegions (filing_both one.now from other.now to) rs.items) }
+    ensures many_states { result ≡ Err BuildFault.TooManyStates → HasPlaces (filing_both one.now from other.now to) (limit + 1) }
+{
+    let automaton = filing_automaton_of_both(alloc, one, from, other, to, limit)?;
+    let regions = path_regions_of(alloc, &automaton)?;
+    Ok(regions)
+}
+
+/// The same by these patterns and one more.
+pub(crate) fn filing_regions_of_both_and(
+    alloc: Global,
+    one: &[Compiled],
+    from: Label,
+    other: &[Compiled],
+    to: Label,
+    pattern: &Pattern,
+    limit: usize,
+) -> Result<Vec<Region>, BuildFault>
+    requires some { 0 < limit }
+    requires limit { limit ≤ most_states }
+    requires few { length (filing_both one.now from other.now to) < most_patterns }
+    ensures regions { IfOk result (λ rs. ArePathRegions (filing_both one.now from other.now to ++ pattern.now ∷ []) rs.items) }
+    ensures many_states { result ≡ Err BuildFault.TooManyStates → HasPlaces (filing_both one.now from other.now to ++ pattern.now ∷ []) (limit + 1) }
+{
+    let count = filing_count(one, from);
+    let more = filing_count(other, to);
+    let all = count + more;
+    let automaton = filing_automaton_of_both_and(alloc, one, from, other, to, all, pattern, limit)?;
     let regions = path_regions_of(alloc, &automaton)?;
     Ok(regions)
 }

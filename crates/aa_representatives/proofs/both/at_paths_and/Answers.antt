@@ -1,4 +1,4 @@
-use Rattle.std.proofs.Common.{ℕ, List, Contains, subst}
+use Rattle.std.proofs.Common.{ℕ, ◌+◌, ◌∷◌, [], List, Contains, subst, arith, length-append}
 use Rattle.aa_model.specs.declared.request.Request.{Request}
 use Rattle.aa_regions.specs.declared.regions.Region.{Region}
 use Rattle.aa_representatives.specs.Askable.{IsFile, IsLink, IsExec}
@@ -6,7 +6,29 @@ use Rattle.aa_representatives.specs.Representatives.{HasFiles, HasExecs, HasLink
 use Rattle.aa_representatives.proofs.Adding.{none_in, adds_keep}
 use Rattle.aa_representatives.proofs.ApartStanding.{apart_keep, files_apart, execs_apart, links_apart}
 use Rattle.aa_representatives.proofs.BothStanding.{file_askable, link_askable, exec_askable, askable_more}
+use Rattle.aa_representatives.specs.Both.{deciding_both}
+use Rattle.aa_representatives.proofs.Filing.{filing_few, filing_places_and}
+use Rattle.aa_representatives.proofs.Making.{err_from}
 use Rattle.aa_representatives.proofs.both.at_paths_and.Goals as goal
+
+pub filing_regions_of_both_and-requires-clause-few : goal.filing_regions_of_both_and-requires-clause-few
+filing_regions_of_both_and-requires-clause-few c =
+    let both = deciding_both c.args.one.now c.args.from c.args.other.now c.args.to in
+    omega (
+      arith,
+      filing_few c.args.one.now c.args.from c.args.other.now c.args.to,
+      length-append both (c.args.pattern.now ∷ []),
+      c.in_ok-regions.ensures.few_patterns,
+    )
+
+pub add_files-requires : goal.add_files-requires
+add_files-requires c =
+    λ r d. (c.in_ok-filing.ensures.regions.each r (subst (λ (l : List Region). Contains l r) c.as_slice-2.ensures.value d)).asked
+
+pub returns-in_err-filing-clause-many_states : goal.returns-in_err-filing-clause-many_states
+returns-in_err-filing-clause-many_states c = λ e.
+    filing_places_and c.args.one.now c.args.from c.args.other.now c.args.to c.args.pattern.now (c.args.limit + 1)
+    (c.in_err-filing.ensures.many_states (err_from c.from_residual-in_err-filing.result _ c.from_residual-in_err-filing.ensures.1 e))
 
 pub returns-clause-each : goal.returns-clause-each
 returns-clause-each c =
@@ -31,7 +53,7 @@ returns-clause-files c =
     c.as_slice-2.ensures.value c.in_ok-add_files.ensures.has in
     apart_keep ps c.args.from qs c.args.to p IsFile execs links (adds_keep IsLink execs links c.in_ok-add_links.ensures.adds)
     (apart_keep ps c.args.from qs c.args.to p IsFile files execs (adds_keep IsExec files execs c.in_ok-add_execs.ensures.adds)
-    (files_apart ps c.args.from qs c.args.to p files c.in_ok-regions.regions.items c.in_ok-regions.ensures.regions has))
+    (files_apart ps c.args.from qs c.args.to p files c.in_ok-filing.filing.items c.in_ok-filing.ensures.regions has))
 
 pub returns-clause-execs : goal.returns-clause-execs
 returns-clause-execs c =
