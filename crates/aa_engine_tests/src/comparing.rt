@@ -1,5 +1,6 @@
-//! What tests compare, each in a function without a clause: so a proof pays once for the message of a failure.
+//! What tests compare and write, each in a function without a clause: so a proof pays once for the message of a failure.
 
+use std::alloc::AllocError;
 use std::fmt::Debug;
 use std::process::Abort;
 
@@ -8,22 +9,17 @@ pub(crate) fn equal<T: PartialEq + Debug + Copy>(rt: &impl Abort, found: T, expe
     assert_eq!(rt; found, expected);
 }
 
-/// Both are the same, of this text.
-pub(crate) fn equal_in<T: PartialEq + Debug + Copy>(
-    rt: &impl Abort,
-    found: T,
-    expected: T,
-    text: &str,
-) {
-    assert_eq!(rt; found, expected, "in {text}");
-}
-
 /// It is so.
 pub(crate) fn holds(rt: &impl Abort, it: bool) {
     assert!(rt; it);
 }
 
-/// It is so of this text.
-pub(crate) fn holds_in(rt: &impl Abort, it: bool, text: &str) {
-    assert!(rt; it, "in {text}");
+/// Writes more behind a text.
+pub(crate) fn push(rt: &impl Abort, text: &mut String, more: &str) {
+    text.push_str(more).expect(rt, "memory");
+}
+
+/// The same of what was formatted.
+pub(crate) fn push_part(rt: &impl Abort, text: &mut String, part: Result<String, AllocError>) {
+    push(rt, text, part.expect(rt, "memory").as_str());
 }

@@ -1,55 +1,32 @@
 //! Jobs and policies that break off.
 
 use crate::comparing::holds;
-use crate::jobs::{COMMANDS, Command, MOVING_JOB, answer, gives};
+use crate::jobs::{COMMANDS, Command, FIRST_JOB, MOVING_JOB, answer, gives};
 use aa_engine::RunFault;
 use aa_jobs::JobFault;
-use std::alloc::Global;
 use std::process::Abort;
 use std::sync::Wait;
 use std::thread::Threads;
 
+/// Each command refuses the text.
+fn is_no_json<R: Abort + Threads + Wait + Sync + AllocGlobal>(rt: &R, text: &[u8]) {
+    for (command, _) in COMMANDS {
+        let fault = RunFault::Job(JobFault::NotJson);
+        gives(rt, command, text, Err(fault));
+    }
+}
+
 #[test]
 fn no_front_of_a_job_is_one(rt: HostRuntime) {
-    let no_json = Err(RunFault::Job(JobFault::NotJson));
-    for command in COMMANDS {
-        for end in 0..MOVING_JOB.len() {
-            let front = &MOVING_JOB[..end];
-            gives(&rt, rt.alloc(), command, front, no_json, b"");
+    for job in [FIRST_JOB, MOVING_JOB] {
+        for end in 0..job.len() {
+            is_no_json(&rt, &job[..end]);
         }
     }
 }
 
 /// A policy with each fallback.
-const EXECUTING: &[u8] = b"profile p { /a pix, /b px, /c pux, /d Px -> q, /e PUx, } profile q { }";
-
-fn push(rt: &impl Abort, text: &mut Vec<u8>, bytes: &[u8]) {
-    text.extend_from_slice(bytes).expect(rt, "memory");
-}
-
-/// The job of a policy, without tasks.
-fn job_of(rt: &impl Abort, alloc: Global, policy: &[u8]) -> Vec<u8> {
-    let mut job = Vec::new(alloc);
-    push(rt, &mut job, b"{\"tasks\":[],\"policy\":\"");
-    push(rt, &mut job, policy);
-    push(rt, &mut job, b"\"}");
-    job
-}
-
-/// Whether the policy is accepted; otherwise it is refused as a policy.
-fn is_accepted<R: Abort + Threads + Wait + Sync>(rt: &R, alloc: Global, policy: &[u8]) -> bool {
-    let job = job_of(rt, alloc, policy);
-    let mut reader = job.as_slice();
-    let mut written = Vec::new(alloc);
-    match answer(rt, alloc, Command::Check, &mut reader, &mut written) {
-        Ok(()) => true,
-        Err(fault) => {
-            holds(rt, matches!(fault, RunFault::Policy(_)));
-            holds(rt, written.is_empty());
-            false
-        }
-    }
-}
+const EXECUTING: &str = "profile p { /a pix, /b px, /c pux, /d Px -> q, /e PUx, } profile q { }";
 
 /// Whether a front of it, or nothing, ends with a whole profile.
 fn is_whole(front: &[u8]) -> bool {
@@ -62,8 +39,13 @@ fn is_whole(front: &[u8]) -> bool {
 #[test]
 fn a_front_of_a_policy_is_one_where_it_has_whole_profiles(rt: HostRuntime) {
     for end in 0..=EXECUTING.len() {
-        let front = &EXECUTING[..end];
-        let accepted = is_accepted(&rt, rt.alloc(), front);
-        assert_eq!(rt; accepted, is_whole(front), "at {end}");
+        let front = EXECUTING.get(..end).expect(&rt, "a front");
+        let job = format!(in rt.alloc(); r#"{{"tasks":[],"policy":"{front}"}}"#);
+        let job = job.expect(&rt, "memory");
+        let (mut reader, mut written) = (job.as_bytes(), Vec::new(rt.alloc()));
+        let found = answer(&rt, Command::Check, &mut reader, &mut written);
+        let is_refused = matches!(found, Err(RunFault::Policy(_))) && written.is_empty();
+        assert_eq!(rt; found.is_ok(), is_whole(front.as_bytes()), "at {end}");
+        holds(&rt, found.is_ok() || is_refused);
     }
 }

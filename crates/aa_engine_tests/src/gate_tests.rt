@@ -3,15 +3,12 @@
 ghost use Rattle.aa_mediate.specs.Reply.{reply};
 
 use crate::comparing::equal;
-use crate::jobs::{Requests, a_job, answers, compiled, lent_answers};
+use crate::jobs::{BOTH, Requests, a_job, answers, compiled};
 use aa_compile::Compiled;
 use aa_engine::MediateFault;
-use aa_jobs::Job;
-use aa_lane::Answered;
 use aa_machine::Machine;
 use aa_mediate::Mediator;
 use aa_model::{Answer, Label, Request};
-use std::alloc::Global;
 use std::process::Abort;
 use std::sync::Wait;
 use std::sync::atomic::{AtomicU64, Ordering};
@@ -77,93 +74,34 @@ impl<'p> Machine for Gates<'p> {
 const TWO_TASKS: &[u8] =
     b"{\"policy\":\"profile p { /etc/passwd r, }\",\"tasks\":[{\"label\":\"p\",\"requests\":[{\"file\":\"/etc/passwd\",\"mask\":\"r\"}]},{\"label\":\"unconfined\",\"requests\":[{\"file\":\"/etc/passwd\",\"mask\":\"r\"}]}]}";
 
-/// How many answers of all tasks grant.
-fn grants_of<M: Machine<Answer = Answer>>(rows: &[Vec<Answered<M>>]) -> u64 {
-    let mut grants: u64 = 0;
-    for row in rows {
-        for answered in row.as_slice() {
-            grants = grants.wrapping_add(answered.answer.granted as u64);
-        }
-    }
-    grants
-}
-
-/// How many requests a machine grants.
-fn grants<
-    M: Machine<State = Label, Request = Request, Answer = Answer> + Sync,
-    R: Threads + Wait + Sync,
->(
-    rt: &R,
-    alloc: Global,
-    requests: Requests,
-    job: &Job,
-    policies: &[Compiled],
-    machine: &M,
-    workers: u32,
-) -> Result<u64, MediateFault> {
-    match requests {
-        Requests::Copied => {
-            let rows = answers(rt, alloc, job, policies, machine, workers)?;
-            Ok(grants_of(rows.as_slice()))
-        }
-        Requests::Lent => {
-            let rows = lent_answers(rt, alloc, job, policies, machine, workers)?;
-            Ok(grants_of(rows.as_slice()))
-        }
-    }
-}
-
 /// How many requests are granted by that many workers, and whether a step gave up.
-fn granted_by<R: Abort + Threads + Wait + Sync>(
+fn granted_by<R: Abort + Threads + Wait + Sync + AllocGlobal>(
     rt: &R,
-    alloc: Global,
     requests: Requests,
     workers: u32,
-) -> (Result<u64, MediateFault>, u64) {
-    let job = a_job(rt, alloc, TWO_TASKS);
-    let policies = compiled(rt, alloc, &job);
+) -> (Result<usize, MediateFault>, u64) {
+    let job = a_job(rt, TWO_TASKS);
+    let policies = compiled(rt, &job);
     // (to one worker nobody comes, however long it waits)
     let looks = if workers == 1 { 1_000 } else { 10_000_000 };
     let gates = Gates::new(policies.as_slice(), looks);
-    let granted = grants(
-        rt,
-        alloc,
-        requests,
-        &job,
-        policies.as_slice(),
-        &gates,
-        workers,
-    );
+    let told = answers(rt, requests, (&job, policies.as_slice()), &gates, workers);
+    let granted = told.map(|it| it.as_bytes().iter().filter(|byte| **byte == b'+').count());
     (granted, gates.given_up.load(Ordering::SeqCst))
 }
 
 #[test]
 fn two_workers_decide_two_tasks_at_once(rt: HostRuntime) {
-    for workers in [2, 16] {
-        equal(
-            &rt,
-            granted_by(&rt, rt.alloc(), Requests::Copied, workers),
-            (Ok(2), 0),
-        );
+    for requests in BOTH {
+        for workers in [2, 16] {
+            equal(&rt, granted_by(&rt, requests, workers), (Ok(2), 0));
+        }
     }
 }
 
 #[test]
 fn one_worker_decides_them_one_after_the_other(rt: HostRuntime) {
-    equal(
-        &rt,
-        granted_by(&rt, rt.alloc(), Requests::Copied, 1),
-        (Ok(2), 1),
-    );
-}
-
-#[test]
-fn two_workers_decide_lent_requests_of_two_tasks_at_once(rt: HostRuntime) {
-    for workers in [2, 16] {
-        equal(
-            &rt,
-            granted_by(&rt, rt.alloc(), Requests::Lent, workers),
-            (Ok(2), 0),
-        );
+    for requests in BOTH {
+        equal(&rt, granted_by(&rt, requests, 1), (Ok(2), 1));
     }
 }

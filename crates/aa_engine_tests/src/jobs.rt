@@ -4,15 +4,13 @@ ghost use Rattle.std.specs.Prelude.{◌<◌, ◌≤◌};
 
 use crate::comparing::holds;
 use aa_compile::Compiled;
-use aa_engine::{
-    Lent, MediateFault, RunFault, check_job, mediate, mediate_lent, replay_job, run_job,
-};
-use aa_jobs::{Job, read_job};
+use aa_engine::{MediateFault, RunFault, check_job, mediate, mediate_lent, replay_job, run_job};
+use aa_jobs::{Job, JobFault, read_job};
 use aa_lane::Answered;
 use aa_machine::Machine;
 use aa_model::{Answer, Label, Request};
 use aa_policies::compile_policies;
-use std::alloc::Global;
+use std::alloc::{AllocError, Global};
 use std::io::{Read, Write};
 use std::process::Abort;
 use std::sync::Wait;
@@ -26,14 +24,6 @@ pub enum Command {
     Replay,
 }
 
-/// Each command once, and `run` by several workers too.
-pub const COMMANDS: [Command; 4] = [
-    Command::Check,
-    Command::Run(1),
-    Command::Run(2),
-    Command::Replay,
-];
-
 /// A job that reads and writes a file.
 pub const FIRST_JOB: &[u8] =
     b"{\"policy\":\"profile p { /etc/passwd r, }\",\"tasks\":[{\"label\":\"p\",\"requests\":[{\"file\":\"/etc/passwd\",\"mask\":\"r\"},{\"file\":\"/etc/passwd\",\"mask\":\"w\"}]}],\"events\":[[0,\"send\"],[0,\"send\"],[0,\"take\"],[0,\"shut\"],[0,\"finish\"],[0,\"collect\"],[0,\"send\"],[0,\"take\"],[0,\"collect\"]]}";
@@ -46,14 +36,16 @@ const FIRST_VERDICTS: &[u8] =
 const FIRST_REPLIES: &[u8] =
     b"0 send accepted 0\n0 send full\n0 take 0\n0 shut 1\n0 finish 0\n0 collect 0 granted label=\"p\"\n0 send closed\n0 take settled\n0 collect none\n";
 
-/// What a command writes for the first job.
-pub fn first_text(command: Command) -> &'static [u8] {
-    match command {
-        Command::Check => FIRST_COUNTS,
-        Command::Run(_) => FIRST_VERDICTS,
-        Command::Replay => FIRST_REPLIES,
-    }
-}
+/// Each command once, and `run` by several workers too, and what it writes for the first job.
+pub const COMMANDS: [(Command, &[u8]); 4] = [
+    (Command::Check, FIRST_COUNTS),
+    (Command::Run(1), FIRST_VERDICTS),
+    (Command::Run(2), FIRST_VERDICTS),
+    (Command::Replay, FIRST_REPLIES),
+];
+
+/// That a job is larger than one may be.
+pub const TOO_LARGE: RunFault = RunFault::Job(JobFault::TooLarge);
 
 /// A job of three tasks, of which two move by executions and two exit.
 pub const MOVING_JOB: &[u8] =
@@ -69,20 +61,19 @@ pub fn job_of(alloc: Global, text: &[u8]) -> Option<Job> {
 }
 
 /// The same for a text that is a job.
-pub fn a_job(rt: &impl Abort, alloc: Global, text: &[u8]) -> Job {
-    job_of(alloc, text).expect(rt, "a job")
+pub fn a_job(rt: &(impl Abort + AllocGlobal), text: &[u8]) -> Job {
+    job_of(rt.alloc(), text).expect(rt, "a job")
 }
 
 /// A job's policies, where they compile.
 pub fn policies_of(alloc: Global, job: &Job) -> Option<Vec<Compiled>> {
-    let includes = job.includes.as_slice();
-    let texts = job.policies.as_slice();
+    let (includes, texts) = (job.includes.as_slice(), job.policies.as_slice());
     compile_policies(alloc, includes, texts, job.states).ok()
 }
 
 /// The same for a job whose policies compile.
-pub fn compiled(rt: &impl Abort, alloc: Global, job: &Job) -> Vec<Compiled> {
-    policies_of(alloc, job).expect(rt, "policies")
+pub fn compiled(rt: &(impl Abort + AllocGlobal), job: &Job) -> Vec<Compiled> {
+    policies_of(rt.alloc(), job).expect(rt, "policies")
 }
 
 /// Whether requests are lent to the lanes, or copied.
@@ -92,86 +83,88 @@ pub enum Requests {
     Lent,
 }
 
-/// What a machine answers to the tasks of a job whose requests are copied.
-pub fn answers<
-    M: Machine<State = Label, Request = Request, Answer = Answer> + Sync,
-    R: Threads + Wait + Sync,
->(
-    rt: &R,
+pub const BOTH: [Requests; 2] = [Requests::Copied, Requests::Lent];
+
+/// What a task is answered: of each answer its number, whether it grants, and the label after; `|` behind them.
+fn push_row<M: Machine<Answer = Answer>>(
     alloc: Global,
-    job: &Job,
-    policies: &[Compiled],
-    machine: &M,
-    workers: u32,
-) -> Result<Vec<Vec<Answered<M>>>, MediateFault> {
-    mediate(rt, alloc, job, policies, machine, workers.clamp(1, 16))
+    told: &mut String,
+    row: &[Answered<M>],
+) -> Result<(), AllocError> {
+    for answered in row {
+        let (number, answer) = (answered.number, &answered.answer);
+        let sign = if answer.granted { '+' } else { '-' };
+        let part = match answer.label {
+            Label::Confined(one, of) => format!(in alloc; "{number}{sign}{one}.{of} ")?,
+            Label::Unconfined(one) => format!(in alloc; "{number}{sign}{one} ")?,
+        };
+        told.push_str(part.as_str())?;
+    }
+    told.push_str("|")
 }
 
-/// The same, with requests that are lent.
-pub fn lent_answers<
+/// The same of all tasks.
+fn told<M: Machine<Answer = Answer>>(
+    alloc: Global,
+    rows: &[Vec<Answered<M>>],
+) -> Result<String, AllocError> {
+    let mut told = String::new(alloc);
+    for row in rows {
+        push_row(alloc, &mut told, row.as_slice())?;
+    }
+    Ok(told)
+}
+
+/// What a machine answers to the tasks of a job, by so many workers, as that text.
+pub fn answers<
     'q,
     M: Machine<State = Label, Request = Request, Answer = Answer> + Sync,
-    R: Threads + Wait + Sync,
+    R: Threads + Wait + Sync + AllocGlobal,
 >(
     rt: &R,
-    alloc: Global,
-    job: &'q Job,
-    policies: &[Compiled],
+    requests: Requests,
+    (job, policies): (&'q Job, &[Compiled]),
     machine: &'q M,
     workers: u32,
-) -> Result<Vec<Vec<Answered<Lent<'q, M>>>>, MediateFault> {
-    mediate_lent(rt, alloc, job, policies, machine, workers.clamp(1, 16))
-}
-
-fn check<R: Read, W: Write>(alloc: Global, reader: &mut R, writer: &mut W) -> Result<(), RunFault> {
-    check_job(alloc, reader, writer)
-}
-
-fn run<R: Read, W: Write, H: Threads + Wait + Sync>(
-    rt: &H,
-    alloc: Global,
-    reader: &mut R,
-    writer: &mut W,
-    workers: u32,
-) -> Result<(), RunFault> {
-    run_job(rt, alloc, reader, writer, workers.clamp(1, 16))
-}
-
-fn replay<R: Read, W: Write>(
-    alloc: Global,
-    reader: &mut R,
-    writer: &mut W,
-) -> Result<(), RunFault> {
-    replay_job(alloc, reader, writer)
+) -> Result<String, MediateFault> {
+    let workers = workers.clamp(1, 16);
+    match requests {
+        Requests::Copied => Ok(told(
+            rt.alloc(),
+            mediate(rt, rt.alloc(), job, policies, machine, workers)?.as_slice(),
+        )?),
+        Requests::Lent => Ok(told(
+            rt.alloc(),
+            mediate_lent(rt, rt.alloc(), job, policies, machine, workers)?.as_slice(),
+        )?),
+    }
 }
 
 /// Lets the command answer what the reader gives.
-pub fn answer<R: Read, W: Write, H: Threads + Wait + Sync>(
+pub fn answer<R: Read, W: Write, H: Threads + Wait + Sync + AllocGlobal>(
     rt: &H,
-    alloc: Global,
     command: Command,
     reader: &mut R,
     writer: &mut W,
 ) -> Result<(), RunFault> {
     match command {
-        Command::Check => check(alloc, reader, writer),
-        Command::Run(workers) => run(rt, alloc, reader, writer, workers),
-        Command::Replay => replay(alloc, reader, writer),
+        Command::Check => check_job(rt.alloc(), reader, writer),
+        Command::Run(workers) => run_job(rt, rt.alloc(), reader, writer, workers.clamp(1, 16)),
+        Command::Replay => replay_job(rt.alloc(), reader, writer),
     }
 }
 
-/// The command answers the job so, and writes that text.
-pub fn gives<H: Abort + Threads + Wait + Sync>(
+/// The command writes that text for what the reader gives, or there is that fault and nothing is written.
+pub fn gives<R: Read + Drop, H: Abort + Threads + Wait + Sync + AllocGlobal>(
     rt: &H,
-    alloc: Global,
     command: Command,
-    job: &[u8],
-    wanted: Result<(), RunFault>,
-    text: &[u8],
+    mut reader: R,
+    wanted: Result<&[u8], RunFault>,
 ) {
-    let mut reader = job;
-    let mut written = Vec::new(alloc);
-    let given = answer(rt, alloc, command, &mut reader, &mut written);
-    holds(rt, given == wanted);
-    holds(rt, written.as_slice() == text);
+    let mut written = Vec::new(rt.alloc());
+    let given = answer(rt, command, &mut reader, &mut written);
+    match wanted {
+        Ok(text) => holds(rt, given == Ok(()) && written.as_slice() == text),
+        Err(fault) => holds(rt, given == Err(fault) && written.is_empty()),
+    }
 }

@@ -4,15 +4,11 @@
 #[cfg(test)]
 mod comparing;
 #[cfg(test)]
-mod fault_tests;
-#[cfg(test)]
 mod front_tests;
 #[cfg(test)]
 mod gate_tests;
 #[cfg(test)]
 mod growth_tests;
-#[cfg(test)]
-mod job_reading;
 #[cfg(test)]
 mod jobs;
 #[cfg(test)]
@@ -22,6 +18,6 @@ mod limit_tests;
 #[cfg(test)]
 mod mediate_tests;
 #[cfg(test)]
-mod run_tests;
+mod reading_tests;
 #[cfg(test)]
 mod stream_tests;

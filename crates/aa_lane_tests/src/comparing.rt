@@ -8,22 +8,7 @@ pub(crate) fn equal<T: PartialEq + Debug + Copy>(rt: &impl Abort, found: T, expe
     assert_eq!(rt; found, expected);
 }
 
-/// Both are the same, of this text.
-pub(crate) fn equal_in<T: PartialEq + Debug + Copy>(
-    rt: &impl Abort,
-    found: T,
-    expected: T,
-    text: &str,
-) {
-    assert_eq!(rt; found, expected, "in {text}");
-}
-
 /// It is so.
 pub(crate) fn holds(rt: &impl Abort, it: bool) {
     assert!(rt; it);
-}
-
-/// It is so of this text.
-pub(crate) fn holds_in(rt: &impl Abort, it: bool, text: &str) {
-    assert!(rt; it, "in {text}");
 }

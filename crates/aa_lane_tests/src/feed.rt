@@ -1,7 +1,6 @@
 //! Examples of tasks that are answered through lanes by one worker and by many.
 
 mod answers;
-mod gates;
 mod rests;
-mod sums;
+mod tasks;
 mod turns;

@@ -1,10 +1,10 @@
 //! Tests of lanes and of their worlds, from outside: worked rows, schedules, threads, and growths that are refused.
 
-mod bench;
+pub(crate) mod bench;
 mod generic;
+mod happenings;
 mod lanes;
 mod memory;
 mod scales;
-mod sum;
 mod threads;
 mod worlds;

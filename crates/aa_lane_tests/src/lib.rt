@@ -6,6 +6,12 @@ mod comparing;
 #[cfg(test)]
 mod feed;
 #[cfg(test)]
+mod feeding;
+#[cfg(test)]
 mod lane;
 #[cfg(test)]
+mod pairs;
+#[cfg(test)]
 mod pool;
+#[cfg(test)]
+mod sum;

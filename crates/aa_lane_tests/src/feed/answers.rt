@@ -2,7 +2,8 @@
 ghost use Rattle.std.specs.Prelude.{◌<◌, ◌≤◌};
 
 use crate::comparing::equal;
-use crate::feed::sums::{Sum, rights, tasks_of, unchanged};
+use crate::feed::tasks::{rights, tasks_of, unchanged};
+use crate::sum::Sum;
 use aa_pool::{EngineFault, Outcome, Refusal, answer_all};
 use std::alloc::Global;
 use std::sync::Wait;
@@ -55,11 +56,8 @@ fn all_of(tasks: u64, requests: u64) -> Result<[u64; 5], (EngineFault, u64)> {
 fn answers_are_the_same_by_any_number_of_workers(rt: HostRuntime) {
     for workers in [1, 2, 4, 16] {
         for capacity in [1, 2, 1024] {
-            equal(
-                &rt,
-                answered_by(&rt, rt.alloc(), 5, 1500, capacity, workers),
-                all_of(5, 7500),
-            );
+            let found = answered_by(&rt, rt.alloc(), 5, 1500, capacity, workers);
+            equal(&rt, found, all_of(5, 7500));
         }
     }
 }
@@ -67,26 +65,17 @@ fn answers_are_the_same_by_any_number_of_workers(rt: HostRuntime) {
 #[test]
 fn no_task_and_tasks_without_a_request(rt: HostRuntime) {
     for workers in [1, 2, 4, 16] {
-        equal(
-            &rt,
-            answered_by(&rt, rt.alloc(), 0, 3, 1, workers),
-            all_of(0, 0),
-        );
-        equal(
-            &rt,
-            answered_by(&rt, rt.alloc(), 3, 0, 2, workers),
-            all_of(3, 0),
-        );
+        let found = answered_by(&rt, rt.alloc(), 0, 3, 1, workers);
+        equal(&rt, found, all_of(0, 0));
+        let found = answered_by(&rt, rt.alloc(), 3, 0, 2, workers);
+        equal(&rt, found, all_of(3, 0));
     }
 }
 
 #[test]
 fn as_many_tasks_as_there_may_be(rt: HostRuntime) {
-    equal(
-        &rt,
-        answered_by(&rt, rt.alloc(), 1024, 5, 3, 16),
-        all_of(1024, 5120),
-    );
+    let found = answered_by(&rt, rt.alloc(), 1024, 5, 3, 16);
+    equal(&rt, found, all_of(1024, 5120));
 }
 
 #[test]
@@ -98,11 +87,8 @@ fn tasks_come_back_where_there_are_too_many_or_the_capacity_is_bad(rt: HostRunti
         (2, 1025, EngineFault::BadCapacity),
     ];
     for (tasks, capacity, fault) in rows {
-        equal(
-            &rt,
-            answered_by(&rt, rt.alloc(), tasks, 3, capacity, 2),
-            Err((fault, tasks)),
-        );
+        let found = answered_by(&rt, rt.alloc(), tasks, 3, capacity, 2);
+        equal(&rt, found, Err((fault, tasks)));
     }
 }
 

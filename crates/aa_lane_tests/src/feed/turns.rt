@@ -3,79 +3,16 @@
 ghost use Rattle.std.specs.Prelude.{◌<◌, ◌≤◌};
 
 use crate::comparing::{equal, holds};
-use aa_machine::Machine;
+use crate::pairs::{Numbered, Pairs};
 use aa_pool::{Task, answer_all};
 use std::alloc::Global;
 use std::collections::VecDeque;
 use std::process::Abort;
 use std::sync::Wait;
-use std::sync::atomic::{AtomicU64, Ordering};
-use std::thread;
 use std::thread::Threads;
 
 /// How many requests a task has.
 const REQUESTS: u64 = 1000;
-
-/// A request of one of the two tasks, its number there, and the number of that in the other task which it waits for.
-#[derive(Clone, Copy)]
-struct Numbered {
-    is_first: bool,
-    number: u64,
-    awaited: u64,
-}
-
-/// How many requests of each task have begun. One that the other task keeps waiting for long gives up, as do all after it,
-/// which is noted.
-#[derive(Drop)]
-struct Pairs {
-    first: AtomicU64,
-    second: AtomicU64,
-    given_up: AtomicU64,
-}
-
-impl Pairs {
-    fn new() -> Pairs {
-        Pairs {
-            first: AtomicU64::new(0),
-            second: AtomicU64::new(0),
-            given_up: AtomicU64::new(0),
-        }
-    }
-}
-
-impl Machine for Pairs {
-    type State = ();
-
-    type Request = Numbered;
-
-    type Answer = u64;
-
-    ghost next = { λ _ s q. s };
-
-    ghost reply = { λ _ s q. q.number };
-
-    fn step(&self, _state: &mut (), request: &Numbered) -> u64 {
-        let Numbered {
-            number,
-            awaited,
-            ..
-        } = *request;
-        let (mine, other) = if request.is_first {
-            (&self.first, &self.second)
-        } else {
-            (&self.second, &self.first)
-        };
-        mine.fetch_add(1, Ordering::SeqCst);
-        for _ in 0..10_000_000u32 {
-            if other.load(Ordering::SeqCst) > awaited || self.given_up.load(Ordering::SeqCst) == 1 {
-                return number;
-            }
-            thread::yield_now();
-        }
-        self.given_up.store(1, Ordering::SeqCst);
-        number
-    }
-}
 
 /// One of the two tasks, of so many requests. Each waits for that of its number, or all for the same.
 fn a_task(
@@ -113,10 +50,10 @@ fn both(
     tasks
 }
 
-/// Two of many requests, each of which waits for that of its number.
-fn in_step(rt: &impl Abort, alloc: Global) -> Vec<Task<Pairs>> {
-    let first = a_task(rt, alloc, true, REQUESTS, None);
-    let second = a_task(rt, alloc, false, REQUESTS, None);
+/// Two of so many requests, each of which waits for that of its number.
+fn in_step(rt: &impl Abort, alloc: Global, count: u64) -> Vec<Task<Pairs>> {
+    let first = a_task(rt, alloc, true, count, None);
+    let second = a_task(rt, alloc, false, count, None);
     both(rt, alloc, first, second)
 }
 
@@ -144,19 +81,25 @@ fn answered_by<R: Abort + Threads + Wait + Sync>(
             count = count.wrapping_add(outcome.answers.len());
         }
     }
-    (count, pairs.given_up.load(Ordering::SeqCst))
+    (count, pairs.given_up())
+}
+
+#[test]
+fn two_workers_answer_two_tasks_at_once(rt: HostRuntime) {
+    for workers in [2, 16] {
+        let tasks = in_step(&rt, rt.alloc(), 1);
+        let found = answered_by(&rt, rt.alloc(), tasks, 1, workers);
+        equal(&rt, found, (2, 0));
+    }
 }
 
 #[test]
 fn workers_go_on_as_long_as_there_are_requests(rt: HostRuntime) {
     for capacity in [1, 3, 1024] {
         for workers in [2, 16] {
-            let tasks = in_step(&rt, rt.alloc());
-            equal(
-                &rt,
-                answered_by(&rt, rt.alloc(), tasks, capacity, workers),
-                (2000, 0),
-            );
+            let tasks = in_step(&rt, rt.alloc(), REQUESTS);
+            let found = answered_by(&rt, rt.alloc(), tasks, capacity, workers);
+            equal(&rt, found, (2000, 0));
         }
     }
 }
@@ -166,11 +109,8 @@ fn lanes_are_fed_while_a_request_waits(rt: HostRuntime) {
     for capacity in [1, 3, 1024] {
         for workers in [2, 16] {
             let tasks = far_apart(&rt, rt.alloc());
-            equal(
-                &rt,
-                answered_by(&rt, rt.alloc(), tasks, capacity, workers),
-                (1001, 0),
-            );
+            let found = answered_by(&rt, rt.alloc(), tasks, capacity, workers);
+            equal(&rt, found, (1001, 0));
         }
     }
 }

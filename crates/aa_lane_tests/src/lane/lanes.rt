@@ -4,10 +4,11 @@ ghost use Rattle.aa_lane.specs.Ends.{known};
 
 use crate::comparing::{equal, holds};
 use crate::lane::bench::{Bench, Outcome, Step, closed, open};
-use crate::lane::sum::{Happening, Said, Sum};
+use crate::lane::happenings::{Happening, Said};
 use crate::lane::worlds::{a_world, apply};
+use crate::sum::Sum;
 use aa_lane::SendFault::{Closed, Full};
-use aa_lane::{Ends, Lane, LaneFault, Leaver, Owner, Server, Taken, World};
+use aa_lane::{Ends, Lane, Leaver, Owner, Server, Taken, World};
 use std::alloc::Global;
 use std::process::Abort;
 
@@ -106,29 +107,6 @@ const ONE_PLACE: [(Step, Outcome); 12] = [
 #[test]
 fn one_place_and_all_refusals(rt: HostRuntime) {
     equal(&rt, totals(&rt, rt.alloc(), 1, 0, &ONE_PLACE), [2, 2, 2, 9]);
-}
-
-// Why a lane isn't made.
-fn refused(alloc: Global, capacity: u32) -> Option<LaneFault> {
-    let sum = Sum;
-    match Lane::new(alloc, &sum, 7, capacity, 0) {
-        Ok(_) => None,
-        Err(fault) => Some(fault),
-    }
-}
-
-#[test]
-fn capacities_of_a_lane(rt: HostRuntime) {
-    for capacity in [0, 1025, u32::MAX] {
-        equal(
-            &rt,
-            refused(rt.alloc(), capacity),
-            Some(LaneFault::BadCapacity),
-        );
-    }
-    for capacity in [1, 1024] {
-        equal(&rt, refused(rt.alloc(), capacity), None);
-    }
 }
 
 // The tag of a server that has a request in hand.

@@ -4,9 +4,10 @@ ghost use Rattle.aa_lane.specs.Ends.{known};
 
 use crate::comparing::{equal, holds};
 use crate::lane::bench::{Bench, Outcome, Step, closed, open, served};
+use crate::lane::happenings::{Happening, Said};
 use crate::lane::scales::{Held, Scales, a_parcel, a_thing, collected, owners, plays, sent};
-use crate::lane::sum::{Happening, Said, Sum};
 use crate::lane::worlds::{a_world, apply, are_said, comes, replayed};
+use crate::sum::Sum;
 use aa_lane::SendFault::Full;
 use aa_lane::{
     Event, Lane, LaneFault, NoMemory, Owner, Reply, Server, Shutter, Taken, Unapplied, World,
@@ -212,23 +213,27 @@ fn tried(world: &mut World<Sum>, happening: Happening) -> Result<Said, Event<Sum
     }
 }
 
-// The event that came back is this one, of the kinds that take memory.
-fn came_back(rt: &impl Abort, event: Event<Sum>, happening: Happening) {
+// The happening that the event is of.
+fn is_of(event: &Event<Sum>, happening: Happening) -> bool {
     match (event, happening) {
-        (Event::Send(request), Happening::Send(sent)) => equal(rt, request, sent),
-        (Event::Finish, Happening::Finish) => {}
-        _ => panic!(rt; "another event"),
+        (Event::Send(request), Happening::Send(sent)) => *request == sent,
+        (Event::Take, Happening::Take) => true,
+        (Event::Finish, Happening::Finish) => true,
+        (Event::Collect, Happening::Collect) => true,
+        (Event::Shut, Happening::Shut) => true,
+        _ => false,
     }
 }
 
-// Where a growth is refused the event comes back, the world is as it was, and the event can be tried again.
+// Where a growth is refused the event comes back, of the kinds that take memory, the world is as it was, and it can be tried again.
 fn applies(rt: &impl Abort, world: &mut World<Sum>, happening: Happening, want: Said) {
     let state = world.label();
     match tried(world, happening) {
         Ok(said) => equal(rt, said, want),
         Err(event) => {
             equal(rt, world.label(), state);
-            came_back(rt, event, happening);
+            holds(rt, is_of(&event, happening));
+            holds(rt, matches!(event, Event::Send(_) | Event::Finish));
             equal(rt, apply(world, happening), want);
         }
     }
@@ -253,18 +258,6 @@ fn growths_refused_to_apply(rt: HostRuntime) {
         applies(&rt, &mut world, row.0, row.1);
     }
     equal(&rt, world.label(), 12);
-}
-
-// The happening that the event is of.
-fn is_of(event: &Event<Sum>, happening: Happening) -> bool {
-    match (event, happening) {
-        (Event::Send(request), Happening::Send(sent)) => *request == sent,
-        (Event::Take, Happening::Take) => true,
-        (Event::Finish, Happening::Finish) => true,
-        (Event::Collect, Happening::Collect) => true,
-        (Event::Shut, Happening::Shut) => true,
-        _ => false,
-    }
 }
 
 fn row_at(place: usize) -> (Happening, Said) {

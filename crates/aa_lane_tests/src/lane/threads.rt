@@ -1,84 +1,18 @@
 //! Running lanes whose ends are on threads of their own.
 ghost use Rattle.aa_lane.specs.Ends.{LaneId, known};
-ghost use Rattle.aa_lane_tests.specs.declared.lane.sum.Sum.{Sum};
+ghost use Rattle.aa_lane_tests.specs.declared.sum.Sum.{Sum};
 ghost use Rattle.std.specs.Prelude.{◌≡◌, ℕ};
 
 use crate::comparing::{equal, holds};
+use crate::feeding::{Fed, feed, shut_later};
 use crate::lane::bench::open;
-use crate::lane::sum::Sum;
-use aa_lane::SendFault::Closed;
+use crate::sum::{Sum, sum_up_to};
 use aa_lane::{Ends, Lane, Owner, Served, Server, Shutter, Totals};
 use std::alloc::Global;
 use std::process::Abort;
 use std::sync::Wait;
 use std::thread;
 use std::thread::{Threads, join};
-
-/// How many requests an owner sent, how many answers it has, and whether each was the one that one thread gets.
-#[derive(Clone, Copy, PartialEq, Eq, Debug)]
-pub struct Fed {
-    sent: u64,
-    got: u64,
-    right: bool,
-}
-
-// The sum of the numbers up to `last`, modulo 1,000.
-fn sum_up_to(last: u64) -> u64 {
-    (last % 2000).wrapping_mul(last.wrapping_add(1) % 2000) / 2 % 1000
-}
-
-// One more request is sent, unless the lane is shut. Whether more may be sent later.
-fn sends(lane: &Lane<Sum>, owner: &mut Owner<Sum>, fed: &mut Fed) -> bool
-    requires { owner.old.lane ≡ known lane.now }
-    ensures { owner.new.lane ≡ owner.old.lane }
-{
-    match owner.send(lane, fed.sent) {
-        Ok(number) => {
-            fed.right = fed.right && number == fed.sent;
-            fed.sent = fed.sent.wrapping_add(1);
-            true
-        }
-        Err(unsent) => unsent.fault != Closed,
-    }
-}
-
-// One more answer is collected, if there is one.
-fn collects(lane: &Lane<Sum>, owner: &mut Owner<Sum>, fed: &mut Fed)
-    requires { owner.old.lane ≡ known lane.now }
-    ensures { owner.new.lane ≡ owner.old.lane }
-{
-    match owner.collect(lane) {
-        Some(given) => {
-            let right = given.number == fed.got && given.request == fed.got;
-            fed.right = fed.right && right && given.answer == sum_up_to(fed.got);
-            fed.got = fed.got.wrapping_add(1);
-        }
-        None => thread::yield_now(),
-    }
-}
-
-// Sends the numbers from 0 on until `count` are sent or the lane is shut, and collects the answers to all of them.
-fn feed(rt: &impl Wait, lane: &Lane<Sum>, owner: Owner<Sum>, count: u64) -> (Owner<Sum>, Fed)
-    requires { owner.lane ≡ known lane.now }
-    ensures { result.0.lane ≡ known lane.now }
-{
-    let mut owner = owner;
-    let mut open = true;
-    let mut fed = Fed {
-        sent: 0,
-        got: 0,
-        right: true,
-    };
-    'feeding: for _ in rt.forever() {
-        if open && fed.sent < count {
-            open = sends(lane, &mut owner, &mut fed);
-        } else if fed.got == fed.sent {
-            break;
-        }
-        collects(lane, &mut owner, &mut fed);
-    }
-    (owner, fed)
-}
 
 // Answers requests until `count` are answered, or the lane is settled.
 fn serve(rt: &impl Wait, lane: &Lane<Sum>, server: Server<Sum>, count: u64) -> Server<Sum>
@@ -107,19 +41,6 @@ fn serve(rt: &impl Wait, lane: &Lane<Sum>, server: Server<Sum>, count: u64) -> S
         }
     }
     server
-}
-
-// Shuts the lane after a while.
-fn shut_later(lane: &Lane<Sum>, shutter: Shutter<Sum>) -> (Shutter<Sum>, u64)
-    requires { shutter.lane ≡ known lane.now }
-    ensures { result.0.lane ≡ known lane.now }
-{
-    let mut shutter = shutter;
-    for _ in 0..500 {
-        thread::yield_now();
-    }
-    let count = shutter.shut(lane);
-    (shutter, count)
 }
 
 fn check_totals(rt: &impl Abort, totals: Totals<Sum>, count: u64) {
@@ -211,15 +132,7 @@ fn fed_on_two_threads<R: Threads + Wait + Abort + Sync>(
 fn an_owner_and_a_server_on_two_threads(rt: HostRuntime) {
     for capacity in [1, 3, 1024] {
         let (fed, closed) = fed_on_two_threads(&rt, rt.alloc(), capacity);
-        equal(
-            &rt,
-            fed,
-            Fed {
-                sent: 10000,
-                got: 10000,
-                right: true,
-            },
-        );
+        equal(&rt, fed, Fed::whole(10000));
         equal(&rt, closed, 10000);
     }
 }

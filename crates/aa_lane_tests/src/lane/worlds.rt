@@ -1,8 +1,9 @@
 //! The lane as plain data.
 use crate::comparing::{equal, holds};
-use crate::lane::sum::{Happening, Said, Sum};
+use crate::lane::happenings::{Happening, Said};
+use crate::sum::Sum;
 use aa_lane::SendFault::{Closed, Full};
-use aa_lane::{Event, LaneFault, NoMemory, Reply, World, replay};
+use aa_lane::{Event, Lane, LaneFault, NoMemory, Reply, World, replay};
 use std::alloc::Global;
 use std::collections::VecDeque;
 use std::process::Abort;
@@ -63,23 +64,24 @@ fn the_sum_from_five(rt: HostRuntime) {
     equal(&rt, world.label(), 8);
 }
 
-// Why a world isn't made.
-fn refused(alloc: Global, capacity: u32) -> Option<LaneFault> {
+// Why a world and a lane of that capacity aren't made.
+fn refused(alloc: Global, capacity: u32) -> [Option<LaneFault>; 2] {
     let sum = Sum;
-    World::new(alloc, &sum, capacity, 5).err()
+    let of_world = World::new(alloc, &sum, capacity, 5).err();
+    [of_world, Lane::new(alloc, &sum, 7, capacity, 5).err()]
 }
 
 #[test]
-fn capacities_of_a_world(rt: HostRuntime) {
-    for capacity in [0, 1025, u32::MAX] {
-        equal(
-            &rt,
-            refused(rt.alloc(), capacity),
-            Some(LaneFault::BadCapacity),
-        );
-    }
-    for capacity in [1, 1024] {
-        equal(&rt, refused(rt.alloc(), capacity), None);
+fn capacities_of_a_world_and_of_a_lane(rt: HostRuntime) {
+    const BAD: Option<LaneFault> = Some(LaneFault::BadCapacity);
+    for (capacity, fault) in [
+        (0, BAD),
+        (1, None),
+        (1024, None),
+        (1025, BAD),
+        (u32::MAX, BAD),
+    ] {
+        equal(&rt, refused(rt.alloc(), capacity), [fault, fault]);
     }
 }
 

@@ -4,8 +4,10 @@ ghost use Rattle.std.specs.List.Sorted.{IsPermutation};
 ghost use Rattle.aa_lane.specs.Ends.{known};
 
 use crate::comparing::equal;
-use crate::pool::sums::{Sum, accepts, opened};
-use aa_lane::{Ends, Lane, Owner, Server, Shutter};
+use crate::lane::bench::{Bench, closed};
+use crate::pool::ends::{accepts, opened};
+use crate::sum::Sum;
+use aa_lane::{Lane, Owner, Server, Shutter};
 use aa_pool::{Engine, serve_all};
 use std::alloc::Global;
 use std::process::Abort;
@@ -30,31 +32,6 @@ fn sends(lane: &Lane<Sum>, owner: &mut Owner<Sum>, count: u64)
     for request in 0..count {
         accepts(owner, lane, request);
     }
-}
-
-/// How many requests were accepted, answered and collected, and the state at the end.
-fn closed(
-    lane: Lane<Sum>,
-    owner: Owner<Sum>,
-    server: Server<Sum>,
-    shutter: Shutter<Sum>,
-) -> [u64; 4]
-    requires owner { owner.lane ≡ known lane }
-    requires server { server.lane ≡ known lane }
-    requires shutter { shutter.lane ≡ known lane }
-{
-    let owner = owner.exit(&lane);
-    let totals = lane.close(Ends {
-        owner,
-        server,
-        shutter,
-    });
-    [
-        totals.accepted,
-        totals.answered,
-        totals.collected,
-        totals.state,
-    ]
 }
 
 /// What all servers are once so many workers have settled their lanes.
@@ -128,7 +105,8 @@ fn served_and_closed<R: Abort + Threads + Wait + Sync>(
     let mut shutter = shutter;
     let accepted = sends_and_shuts(&lanes[0], &mut owner, &mut shutter, count);
     let (lane, server) = settled_by(rt, alloc, lanes, servers, workers);
-    let closed = closed(lane, owner, server, shutter);
+    let ends = Bench::of(&lane, owner, server, shutter).leaves();
+    let closed = closed(lane, ends);
     equal(rt, accepted, closed[0]);
     closed
 }
@@ -163,10 +141,7 @@ fn a_served_lane_is_closed_by_its_ends(rt: HostRuntime) {
         (0, 5, 2, [5, 5, 0, 10]),
         (990, 20, 16, [16, 16, 0, 110]),
     ] {
-        equal(
-            &rt,
-            closed_after(&rt, rt.alloc(), start, count, workers),
-            totals,
-        );
+        let found = closed_after(&rt, rt.alloc(), start, count, workers);
+        equal(&rt, found, totals);
     }
 }

@@ -3,9 +3,10 @@ ghost use Rattle.std.specs.Prelude.{◌≡◌, ◌<◌, ◌≤◌, map};
 ghost use Rattle.aa_lane.specs.Ends.{known};
 
 use crate::comparing::equal;
-use crate::pool::sums::{Sum, all_shut, opened};
-use aa_lane::{Lane, Server, Shutter};
-use aa_pool::{Engine, serve_all};
+use crate::pool::ends::{all_shut, opened, served};
+use crate::sum::Sum;
+use aa_lane::{Lane, Shutter};
+use aa_pool::Engine;
 use std::alloc::Global;
 use std::process::Abort;
 use std::sync::Wait;
@@ -19,25 +20,12 @@ fn shut(alloc: Global, lanes: &[Lane<Sum>], shutters: Vec<Shutter<Sum>>) -> bool
     all_shut(alloc, lanes, &mut shutters)
 }
 
-/// How many servers come back where so many workers serve.
-fn served<R: Threads + Wait + Sync>(
+/// Both at once, on two lanes.
+fn both<R: Abort + Threads + Wait + Sync>(
     rt: &R,
     alloc: Global,
-    lanes: &[Lane<Sum>],
-    servers: Vec<Server<Sum>>,
     workers: u32,
-) -> usize
-    requires servers { map (λ s. s.lane) servers.items ≡ map known lanes.now }
-    requires workers { (0 < workers) × (workers ≤ 16) }
-{
-    match serve_all(rt, alloc, lanes, servers, workers) {
-        Ok(served) => served.len(),
-        Err(_) => 0,
-    }
-}
-
-/// Both at once, on two lanes.
-fn both<R: Abort + Threads + Wait + Sync>(rt: &R, alloc: Global, workers: u32) -> (bool, usize)
+) -> (bool, Option<usize>)
     requires { (0 < workers) × (workers ≤ 16) }
 {
     let sum = Sum;
@@ -63,6 +51,6 @@ fn both<R: Abort + Threads + Wait + Sync>(rt: &R, alloc: Global, workers: u32) -
 #[test]
 fn lanes_are_shut_while_workers_wait(rt: HostRuntime) {
     for workers in [1, 2, 16] {
-        equal(&rt, both(&rt, rt.alloc(), workers), (true, 2));
+        equal(&rt, both(&rt, rt.alloc(), workers), (true, Some(2)));
     }
 }

@@ -3,8 +3,9 @@ ghost use Rattle.std.specs.Prelude.{◌≡◌, map};
 ghost use Rattle.aa_lane.specs.Ends.{known};
 
 use crate::comparing::equal;
+use crate::pool::ends::opened;
 use crate::pool::serving::accepts_at;
-use crate::pool::sums::{Sum, opened};
+use crate::sum::Sum;
 use aa_lane::{Lane, Owner, Shutter};
 use aa_pool::{Engine, EngineFault, shut_all};
 use std::alloc::Global;
@@ -30,12 +31,9 @@ fn lanes_and_capacities_of_an_engine(rt: HostRuntime) {
         (1024, 1, Ok(1024)),
     ];
     let starts = [5; 1025];
-    for (count, capacity, found) in rows {
-        equal(
-            &rt,
-            lanes_opened(rt.alloc(), &starts[..count], capacity),
-            found,
-        );
+    for (count, capacity, wanted) in rows {
+        let found = lanes_opened(rt.alloc(), &starts[..count], capacity);
+        equal(&rt, found, wanted);
     }
 }
 

@@ -3,7 +3,8 @@ ghost use Rattle.std.specs.Prelude.{◌≡◌, ◌<◌, ◌≤◌, length, map};
 ghost use Rattle.aa_lane.specs.Ends.{known};
 
 use crate::comparing::equal;
-use crate::pool::sums::{Sum, accepts, all_shut, collected, sum_up_to};
+use crate::pool::ends::{accepts, all_shut, collected};
+use crate::sum::{Sum, sum_up_to};
 use aa_lane::{Lane, Owner, Server, Shutter};
 use aa_machine::Machine;
 use aa_pool::{Engine, EngineFault, serve_all};
@@ -176,11 +177,8 @@ fn each_lane_is_served_once(rt: HostRuntime) {
     ];
     for (lanes, count, workers) in rows {
         let all = count.wrapping_mul(lanes as u64);
-        equal(
-            &rt,
-            served_by(&rt, rt.alloc(), &starts[..lanes], count, workers),
-            Ok((all, lanes, all)),
-        );
+        let found = served_by(&rt, rt.alloc(), &starts[..lanes], count, workers);
+        equal(&rt, found, Ok((all, lanes, all)));
     }
 }
 

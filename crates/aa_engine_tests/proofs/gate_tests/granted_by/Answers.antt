@@ -3,5 +3,5 @@ use Rattle.std.proofs.Crossing.{crosses}
 use Rattle.aa_mediate.proofs.Shared.{mediator_sync}
 use Rattle.aa_engine_tests.proofs.gate_tests.granted_by.Goals as goal
 
-pub grants-granted-requires-sync-M : goal.grants-granted-requires-sync-M
-grants-granted-requires-sync-M g c κs within = search (mediator_sync, sendable, crosses) depth 20
+pub answers-told-requires-sync-M : goal.answers-told-requires-sync-M
+answers-told-requires-sync-M g c κs within = search (mediator_sync, sendable, crosses) depth 20

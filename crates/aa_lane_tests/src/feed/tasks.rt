@@ -1,32 +1,11 @@
-//! A machine that adds up, and tasks for it.
-ghost use Rattle.std.specs.Prelude.{◌≡◌, ◌+◌, ◌%◌};
+//! Tasks for a machine that adds numbers.
+ghost use Rattle.std.specs.Prelude.{◌≡◌};
 
+use crate::sum::Sum;
 use aa_lane::Answered;
-use aa_machine::Machine;
 use aa_pool::Task;
 use std::alloc::{AllocError, Global};
 use std::collections::VecDeque;
-
-/// Adds the request to the state, modulo 1,000, and answers the new state.
-#[derive(Drop)]
-pub struct Sum;
-
-impl Machine for Sum {
-    type State = u64;
-
-    type Request = u64;
-
-    type Answer = u64;
-
-    ghost next = { λ _ s q. (s % 1000 + q % 1000) % 1000 };
-
-    ghost reply = { λ _ s q. (s % 1000 + q % 1000) % 1000 };
-
-    fn step(&self, state: &mut u64, request: &u64) -> u64 {
-        *state = (*state % 1000 + *request % 1000) % 1000;
-        *state
-    }
-}
 
 /// Request k of the task of that number, which begins from its number.
 fn request(number: u64, k: u64) -> u64 {

@@ -1,29 +1,7 @@
-//! A machine that adds numbers, and what happens at its lanes as plain data.
-ghost use Rattle.std.specs.Prelude.{◌+◌, ◌%◌};
+//! What happens at lanes of a machine that adds numbers, as plain data.
 
+use crate::sum::Sum;
 use aa_lane::{Event, Reply, SendFault};
-use aa_machine::Machine;
-
-/// Adds the request to the state, modulo 1,000, and answers the new state.
-#[derive(Drop)]
-pub struct Sum;
-
-impl Machine for Sum {
-    type State = u64;
-
-    type Request = u64;
-
-    type Answer = u64;
-
-    ghost next = { λ _ s q. (s % 1000 + q % 1000) % 1000 };
-
-    ghost reply = { λ _ s q. (s % 1000 + q % 1000) % 1000 };
-
-    fn step(&self, state: &mut u64, request: &u64) -> u64 {
-        *state = (*state % 1000 + *request % 1000) % 1000;
-        *state
-    }
-}
 
 /// An event of a lane of `Sum`, as data that can be compared and copied.
 #[derive(Clone, Copy, PartialEq, Eq, Debug)]

@@ -1,34 +1,15 @@
-//! A machine that adds up, and what tests do at lanes of it.
-ghost use Rattle.std.specs.Prelude.{◌≡◌, ◌+◌, ◌%◌, map};
+//! What tests do at the lanes of an engine.
+ghost use Rattle.std.specs.Prelude.{◌≡◌, ◌<◌, ◌≤◌, map};
 ghost use Rattle.aa_lane.specs.Ends.{known};
 ghost use Rattle.aa_pool.specs.Opened.{AreEndsOf};
 
-use aa_lane::{Lane, Owner, Shutter};
+use aa_lane::{Lane, Owner, Server, Shutter};
 use aa_machine::Machine;
-use aa_pool::{Engine, shut_all};
+use aa_pool::{Engine, serve_all, shut_all};
 use std::alloc::Global;
 use std::process::Abort;
-
-/// Adds the request to the state, modulo 1,000, and answers the new state.
-#[derive(Drop)]
-pub struct Sum;
-
-impl Machine for Sum {
-    type State = u64;
-
-    type Request = u64;
-
-    type Answer = u64;
-
-    ghost next = { λ _ s q. (s % 1000 + q % 1000) % 1000 };
-
-    ghost reply = { λ _ s q. (s % 1000 + q % 1000) % 1000 };
-
-    fn step(&self, state: &mut u64, request: &u64) -> u64 {
-        *state = (*state % 1000 + *request % 1000) % 1000;
-        *state
-    }
-}
+use std::sync::Wait;
+use std::thread::Threads;
 
 /// A lane of that capacity for each opening state, and their ends.
 pub fn opened<'m, M: Machine>(
@@ -56,6 +37,27 @@ pub fn all_shut<M: Machine>(alloc: Global, lanes: &[Lane<M>], shutters: &mut [Sh
     }
 }
 
+/// How many servers come back where so many workers serve.
+pub fn served<M: Machine + Sync, R: Threads + Wait + Sync>(
+    rt: &R,
+    alloc: Global,
+    lanes: &[Lane<M>],
+    servers: Vec<Server<M>>,
+    workers: u32,
+) -> Option<usize>
+where
+    M::State: Send,
+    M::Request: Send,
+    M::Answer: Send,
+    requires servers { map (λ s. s.lane) servers.items ≡ map known lanes.now }
+    requires workers { (0 < workers) × (workers ≤ 16) }
+{
+    match serve_all(rt, alloc, lanes, servers, workers) {
+        Ok(served) => Some(served.len()),
+        Err(_) => None,
+    }
+}
+
 /// Whether the lane accepted the request.
 pub fn accepts<M: Machine>(owner: &mut Owner<M>, lane: &Lane<M>, request: M::Request) -> bool
     requires { owner.old.lane ≡ known lane.now }
@@ -70,9 +72,4 @@ pub fn collected<M: Machine>(owner: &mut Owner<M>, lane: &Lane<M>) -> Option<M::
     ensures { owner.new.lane ≡ owner.old.lane }
 {
     owner.collect(lane).map(|given| given.answer)
-}
-
-/// The sum of the numbers up to `last`, modulo 1,000, without adding them up.
-pub fn sum_up_to(last: u64) -> u64 {
-    (last % 2000).wrapping_mul(last.wrapping_add(1) % 2000) / 2 % 1000
 }
