@@ -1,6 +1,6 @@
 -- Writing the lines of a task's answers, and joining those of task after task.
 use Rattle.std.proofs.Common.{◌≡◌, Bool, ℕ, ◌+◌, ◌<◌, ◌≤◌, List, [], ◌∷◌, ◌++◌, length, take, drop, get_or, map, zero, suc, Option, Some, None, refl, ap, sym, subst, ◌∙◌, arith, append_assoc, add-zero}
-use Rattle.std.specs.Prelude.{Result, Ok, Err, IfOk, String, option_map, option_and_then, is_none}
+use Rattle.std.specs.Prelude.{Result, Ok, Err, IfOk, String, codes, decimal, option_map, option_and_then, is_none}
 use Rattle.std.specs.Global.{Global}
 use Rattle.std.specs.List.{All, position_from}
 use Rattle.std.specs.String.{string_bytes}
@@ -14,7 +14,8 @@ use Rattle.aa_model.specs.declared.answer.Answer.{Answer}
 use Rattle.aa_jobs.specs.declared.job.Task.{Task}
 use Rattle.aa_engine.specs.declared.texts.TaskText.{TaskText}
 use Rattle.aa_engine.specs.Answers.{Answered, answers_by, task_label, job_answers_by, first_unknown}
-use Rattle.aa_engine.specs.Output.{verdict_line, audit_lines, task_lines, lines_from}
+use Rattle.aa_engine.specs.LineEnds.{SayTheSame}
+use Rattle.aa_engine.specs.Output.{outcome_text, verdict_line, audit_lines, task_lines, lines_from}
 use Rattle.aa_engine.specs.Texts.{IsMade, joined_lines}
 
 -- ---- answer after answer
@@ -56,6 +57,30 @@ pub writing_task_end : {M : Type 0} (several : Bool) (policies : List Policy) (t
 writing_task_end {M} several policies task out before answers i all le so_far =
     sym (append-nil out) ∙ ap (λ (x : List ℕ). out ++ x) (sym (task_lines_nil M several policies task before))
     ∙ sym (at_drop_all (λ (x : List (Answered M)). out ++ task_lines several policies task before x) answers i le) ∙ so_far.goes_on
+
+-- a line's front, its number and its end
+pub verdict_is : {M : Type 0} (several : Bool) (policies : List Policy) (task : ℕ) (a : Answered M) (front end : List ℕ)
+    → front ≡ decimal task ++ codes " " → end ≡ outcome_text several policies a.answer ++ codes "\n"
+    → front ++ (decimal a.number ++ end) ≡ verdict_line several policies task a
+unfolding verdict_line
+verdict_is several policies task a front end begins ends =
+    let opens = decimal task ++ codes " " in
+    let outcome = outcome_text several policies a.answer in
+    ap (λ (x : List ℕ). x ++ (decimal a.number ++ end)) begins
+    ∙ ap (λ (x : List ℕ). opens ++ (decimal a.number ++ x)) ends
+    ∙ sym (append_assoc opens (decimal a.number) (outcome ++ codes "\n"))
+    ∙ sym (append_assoc (opens ++ decimal a.number) outcome (codes "\n"))
+
+pub ends_alike : (several : Bool) (policies : List Policy) (one other : Answer) → SayTheSame one other
+    → outcome_text several policies one ≡ outcome_text several policies other
+unfolding outcome_text
+ends_alike several policies one other same = rw (same.0, same.1, same.2) refl
+
+pub nothing_more : {M : Type 0} (several : Bool) (policies : List Policy) (task : ℕ) (out : List ℕ) (before : Label)
+    (answers : List (Answered M)) → length answers ≡ 0 → out ≡ out ++ task_lines several policies task before answers
+nothing_more {M} several policies task out before [] none =
+    sym (append-nil out) ∙ ap (λ (x : List ℕ). out ++ x) (sym (task_lines_nil M several policies task before))
+nothing_more several policies task out before (a ∷ answers) none = absurd (omega arith)
 
 -- ---- text after text
 

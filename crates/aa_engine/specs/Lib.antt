@@ -5,3 +5,4 @@ pub mod Replay
 pub mod Texts
 pub mod Engines
 pub mod Faults
+pub mod LineEnds

@@ -1,8 +1,9 @@
 //! The lines that the commands write.
 
-ghost use Rattle.std.specs.Prelude.{◌≡◌, ◌++◌, ◌^◌, ◌<◌, ◌*◌, OnOk, IfOk, codes, decimal, flat_map, length, map, option_map, sum_by};
+ghost use Rattle.std.specs.Prelude.{◌≡◌, ◌++◌, ◌^◌, ◌<◌, ◌*◌, OnOk, IfOk, true, codes, decimal, flat_map, length, map, option_map, sum_by};
 ghost use Rattle.std.specs.String.{string_bytes};
 ghost use Rattle.aa_compile.specs.Labels.{label_name, policy_number};
+ghost use Rattle.aa_engine.specs.LineEnds.{IsLineEnd, SayTheSame};
 ghost use Rattle.aa_engine.specs.Output.{verdict_word, policy_word, outcome_text, verdict_line, audit_lines, task_lines, keyword_text, profile_name, passed_over_line, counts_line, rules_of, policy_text, number_line, policies_from, check_text};
 
 use crate::lending::Lent;
@@ -90,6 +91,82 @@ pub(crate) fn push_verdict<M: Machine<State = Label, Request = Request, Answer =
     out.push_str("\n")
 }
 
+/// What the lines of a task begin with.
+fn line_front(alloc: Global, task: u64) -> Result<String, AllocError>
+    ensures { IfOk result (λ front. string_bytes front ≡ decimal task ++ codes " ") }
+{
+    let mut front = String::new(alloc);
+    push_integer(&mut front, task)?;
+    front.push_str(" ")?;
+    Ok(front)
+}
+
+/// An answer, and what a line says of it behind its numbers: the same as of each answer that says the same.
+#[derive(Drop)]
+pub(crate) struct LineEnd {
+    answer: Answer,
+    text: String,
+}
+
+/// Whether lines say the same of both answers.
+fn say_the_same(one: &Answer, other: &Answer) -> bool
+    ensures { result ≡ true → SayTheSame one.now other.now }
+{
+    one.granted == other.granted && one.scrub == other.scrub && one.label == other.label
+}
+
+/// The end of a line on an answer.
+fn line_end(
+    alloc: Global,
+    several: bool,
+    policies: &[Compiled],
+    answer: &Answer,
+) -> Result<LineEnd, AllocError>
+    ensures text { IfOk result (λ end. IsLineEnd several policies.now answer.now end) }
+    ensures answer { IfOk result (λ end. end.answer ≡ answer.now) }
+{
+    let mut text = String::new(alloc);
+    push_outcome(&mut text, several, policies, answer)?;
+    text.push_str("\n")?;
+    Ok(LineEnd {
+        answer: *answer,
+        text,
+    })
+}
+
+/// Makes it the end of a line on another answer, unless it is that already.
+fn turn_to(
+    end: &mut LineEnd,
+    alloc: Global,
+    several: bool,
+    policies: &[Compiled],
+    answer: &Answer,
+) -> Result<(), AllocError>
+    requires { IsLineEnd several policies.now end.old.answer end.old }
+    ensures own { OnOk result (IsLineEnd several policies.now end.new.answer end.new) }
+    ensures turned { OnOk result (IsLineEnd several policies.now answer.now end.new) }
+{
+    if say_the_same(&end.answer, answer) {
+        return Ok(());
+    }
+    *end = line_end(alloc, several, policies, answer)?;
+    Ok(())
+}
+
+/// Appends the verdict on the request of that number, of whose line these are the front and the end.
+fn push_numbered(
+    out: &mut String,
+    front: &str,
+    number: u64,
+    end: &LineEnd,
+) -> Result<(), AllocError>
+    ensures { OnOk result (string_bytes out.new ≡ string_bytes out.old ++ (front.now ++ (decimal number ++ string_bytes end.now.text))) }
+{
+    out.push_str(front)?;
+    push_integer(out, number)?;
+    out.push_str(end.text.as_str())
+}
+
 /// Appends the audit line of an answer, if it has one.
 #[tactic(auto, unfolding(crate::specs::Output::audit_lines))]
 pub(crate) fn push_audit<M: Machine<State = Label, Request = Request, Answer = Answer>>(
@@ -112,9 +189,38 @@ pub(crate) fn push_audit<M: Machine<State = Label, Request = Request, Answer = A
     Ok(())
 }
 
+/// Appends the lines of a task's answers, which have that front, from an end of a line on. (The task's number is for the contract.)
+fn push_lines<M: Machine<State = Label, Request = Request, Answer = Answer>>(
+    out: &mut String,
+    alloc: Global,
+    several: bool,
+    policies: &[Compiled],
+    task: u64,
+    opening: Label,
+    answers: &[Answered<Lent<M>>],
+    front: &str,
+    first: LineEnd,
+) -> Result<(), AllocError>
+    requires front { front.now ≡ decimal task ++ codes " " }
+    requires end { IsLineEnd several policies.now first.answer first }
+    ensures { OnOk result (string_bytes out.new ≡ string_bytes out.old ++ task_lines several policies.now task opening answers.now) }
+{
+    let mut end = first;
+    let mut before = opening;
+    for answered in answers {
+        turn_to(&mut end, alloc, several, policies, &answered.answer)?;
+        push_numbered(out, front, answered.number, &end)?;
+        push_audit(out, policies, before, answered)?;
+        before = answered.answer.label;
+    }
+    Ok(())
+}
+
 /// Appends the lines of a task that opened with a label.
+// Mostly the same is said of request after request, so its text is kept.
 pub(crate) fn push_task<M: Machine<State = Label, Request = Request, Answer = Answer>>(
     out: &mut String,
+    alloc: Global,
     several: bool,
     policies: &[Compiled],
     task: u64,
@@ -123,13 +229,22 @@ pub(crate) fn push_task<M: Machine<State = Label, Request = Request, Answer = An
 ) -> Result<(), AllocError>
     ensures { OnOk result (string_bytes out.new ≡ string_bytes out.old ++ task_lines several policies.now task opening answers.now) }
 {
-    let mut before = opening;
-    for answered in answers {
-        push_verdict(out, several, policies, task, answered)?;
-        push_audit(out, policies, before, answered)?;
-        before = answered.answer.label;
+    if answers.is_empty() {
+        return Ok(());
     }
-    Ok(())
+    let front = line_front(alloc, task)?;
+    let first = line_end(alloc, several, policies, &answers[0].answer)?;
+    push_lines(
+        out,
+        alloc,
+        several,
+        policies,
+        task,
+        opening,
+        answers,
+        front.as_str(),
+        first,
+    )
 }
 
 #[tactic(auto, unfolding(crate::specs::Output::keyword_text))]

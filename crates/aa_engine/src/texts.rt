@@ -18,6 +18,9 @@ use std::alloc::{AllocError, Global};
 use std::thread;
 use std::thread::Threads;
 
+/// How many bytes a line on an answer has at least: two digits, the verdict, and a label of one byte.
+const LEAST_LINE: usize = 21;
+
 /// What can be made by itself, whichever thread does it.
 trait Making {
     // What making the item of that number leaves of it.
@@ -125,8 +128,8 @@ fn lines_of<M: Machine<State = Label, Request = Request, Answer = Answer>>(
 ) -> Result<String, AllocError>
     ensures { IfOk result (λ lines. string_bytes lines ≡ task_lines several policies.now task opening answers.now) }
 {
-    let mut lines = String::new(alloc);
-    push_task(&mut lines, several, policies, task, opening, answers)?;
+    let mut lines = String::with_capacity(alloc, answers.len().saturating_mul(LEAST_LINE))?;
+    push_task(&mut lines, alloc, several, policies, task, opening, answers)?;
     Ok(lines)
 }
 

@@ -172,6 +172,15 @@ const CHECK_ARGUMENTS: &[Argument] = &[
     },
 ];
 
+/// Whether unclean paths count.
+const UNCLEAN: Argument = Argument {
+    name: "unclean",
+    letter: None,
+    form: Form::Flag,
+    barred: None,
+    help: "Count paths that no kernel asks for, with a component that is empty, . or .., as others",
+};
+
 /// What `diff` takes.
 const DIFF_ARGUMENTS: &[Argument] = &[
     Argument {
@@ -209,6 +218,7 @@ const DIFF_ARGUMENTS: &[Argument] = &[
         barred: None,
         help: "Print only lines of the profile with this full name, or of unconfined tasks; of each of these, where there are several",
     },
+    UNCLEAN,
     Argument {
         name: "known",
         letter: None,
@@ -384,15 +394,6 @@ const REDUNDANT_ARGUMENTS: &[Argument] = &[
     },
 ];
 
-/// Whether unclean paths count.
-const UNCLEAN: Argument = Argument {
-    name: "unclean",
-    letter: None,
-    form: Form::Flag,
-    barred: None,
-    help: "Count paths that no kernel asks for, with a component that is empty, . or .., as others",
-};
-
 /// What `who` takes.
 const WHO_ARGUMENTS: &[Argument] = &[
     Argument {
@@ -503,6 +504,7 @@ const REACH_ARGUMENTS: &[Argument] = &[
         barred: None,
         help: "Leave out what complain mode alone grants",
     },
+    UNCLEAN,
     Argument {
         name: "dot",
         letter: None,
@@ -832,8 +834,12 @@ fn skipping_arguments(skips: bool) -> &'static [Argument] {
     if skips { SKIPPING_ARGUMENTS } else { &[] }
 }
 
-fn command_of<'a>(alloc: Global, row: &Named) -> Result<Command<'a>, AllocError> {
-    let command = Command::new(alloc, row.name).about(row.about);
+/// The command with all that it takes.
+fn with_all_arguments<'a>(
+    alloc: Global,
+    command: Command<'a>,
+    row: &Named,
+) -> Result<Command<'a>, AllocError> {
     let command = with_arguments(alloc, command, row.arguments)?;
     let command = with_arguments(alloc, command, skipping_arguments(row.skips))?;
     let command = with_arguments(alloc, command, row.more)?;
@@ -853,12 +859,33 @@ fn program<'a>(alloc: Global) -> Command<'a> {
         .after_help(STATUSES)
 }
 
+/// Whether a command's name is one of the words. None is called otherwise, nor is its help asked for.
+fn is_among(words: &[String], name: &str) -> bool {
+    for word in words {
+        if word.as_str() == name {
+            return true;
+        }
+    }
+    false
+}
+
+/// The command with what it takes, where these words may call it, and else by its name alone.
+fn command_of<'a>(alloc: Global, row: &Named, words: &[String]) -> Result<Command<'a>, AllocError> {
+    let command = Command::new(alloc, row.name).about(row.about);
+    if is_among(words, row.name) {
+        with_all_arguments(alloc, command, row)
+    } else {
+        Ok(command)
+    }
+}
+
 fn with_command<'a>(
     alloc: Global,
     program: Command<'a>,
     row: &Named,
+    words: &[String],
 ) -> Result<Command<'a>, AllocError> {
-    program.subcommand(command_of(alloc, row)?)
+    program.subcommand(command_of(alloc, row, words)?)
 }
 
 fn policy_commands() -> &'static [Named] {
@@ -881,25 +908,26 @@ fn with_commands<'a>(
     alloc: Global,
     program: Command<'a>,
     rows: &[Named],
+    words: &[String],
 ) -> Result<Command<'a>, AllocError> {
     let mut program = program;
     for row in rows {
-        program = with_command(alloc, program, row)?;
+        program = with_command(alloc, program, row, words)?;
     }
     Ok(program)
 }
 
-/// The program with its commands, in the order of help.
-fn command_line<'a>(alloc: Global) -> Result<Command<'a>, AllocError> {
-    let program = with_commands(alloc, program(alloc), policy_commands())?;
-    let program = with_commands(alloc, program, request_commands())?;
-    let program = with_commands(alloc, program, rule_commands())?;
-    with_commands(alloc, program, log_commands())
+/// The program with its commands, in the order of help, as these words need it.
+fn command_line<'a>(alloc: Global, words: &[String]) -> Result<Command<'a>, AllocError> {
+    let program = with_commands(alloc, program(alloc), policy_commands(), words)?;
+    let program = with_commands(alloc, program, request_commands(), words)?;
+    let program = with_commands(alloc, program, rule_commands(), words)?;
+    with_commands(alloc, program, log_commands(), words)
 }
 
 /// The words of the command line, read. The first word is the program's name.
 pub(crate) fn matches_of<'a>(alloc: Global, words: &'a [String]) -> Result<ArgMatches<'a>, Error> {
-    command_line(alloc)?.try_get_matches_from(words)
+    command_line(alloc, words)?.try_get_matches_from(words)
 }
 
 /// The folder in which policies lie.

@@ -176,6 +176,7 @@ fn run_diff(
         skips: matches.get_flag("skip-refused"),
         accepted: &[],
         known: file_of(matches, "known"),
+        unclean: matches.get_flag("unclean"),
     };
     diff_files(alloc, tree, tree, &before, settings, &options)
 }
@@ -240,6 +241,7 @@ fn run_reach(
         is_dot: matches.get_flag("dot"),
         is_html: matches.get_flag("html"),
         skips: matches.get_flag("skip-refused"),
+        unclean: matches.get_flag("unclean"),
     };
     reach_files(alloc, tree, settings, &options)
 }
