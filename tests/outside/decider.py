@@ -8,6 +8,8 @@ import re
 BYTES, LONGEST = "ab/", 5
 PATHS = ["/" + "".join(rest) for length in range(LONGEST + 1) for rest in itertools.product(BYTES, repeat=length)]
 KNOWN = set(PATHS)
+# those without a component that is empty, . or ..
+CLEAN = [path for path in PATHS if not re.search(r"/(\.{0,2}/|\.{1,2}$)", path)]
 SPECIAL = re.compile(r"[?*\[{]")
 
 
@@ -164,10 +166,10 @@ class Policy:
         kind, name = rest.split(":", 1)
         return self.executed(label, name, is_owned) if kind == "x" else self.changed(label, name)
 
-    def near(self, label, is_enforced):
+    def near(self, label, is_enforced, paths=PATHS):
         """To each other label to which one request leads, the shortest path of an execution that leads there, or none where a change does."""
         found = {}
-        for path, is_owned in itertools.product(PATHS, (True, False)):
+        for path, is_owned in itertools.product(paths, (True, False)):
             granted, after, by_complaining = self.executed(label, path, is_owned)
             if granted and after != label and not (is_enforced and by_complaining):
                 found.setdefault(after, path)

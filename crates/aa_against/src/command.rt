@@ -1,10 +1,9 @@
 //! What `log --against` prints where files that are refused are skipped.
 
 ghost use Rattle.std.specs.Prelude.{◌≡◌, ◌++◌, ℕ, List, [], map, IfOk};
-ghost use Rattle.aa_files.specs.Texts.{texts, slices};
+ghost use Rattle.aa_files.specs.Texts.{slices};
 ghost use Rattle.aa_command.specs.Setting.{setting_of};
 ghost use Rattle.aa_command.specs.Printed.{printed};
-ghost use Rattle.aa_skipped.specs.Policies.{IsPrintedSkipping};
 ghost use Rattle.aa_logs.specs.declared.counts.Counts.{Counts};
 ghost use Rattle.aa_against.specs.Parted.{OpenData, open_data};
 ghost use Rattle.aa_against.specs.Texts.{IsPartText, IsJsonPart};
@@ -13,13 +12,11 @@ ghost use Rattle.aa_against.specs.Command.{IsPartSaid, open_status, part_status,
 use crate::jsons::push_json_part;
 use crate::parting::{Open, part};
 use crate::printing::push_part;
-use aa_command::{
-    Decided, Logs, Output, Settings, Use, behind_warnings, rooted, unit_refused, with_units,
-};
+use aa_command::{Decided, Logs, Output, Settings};
 use aa_files::Tree;
 use aa_log::{LogOptions, SaidReport, log_refused, push_unclear, read_reports, status_or};
 use aa_logs::Counts;
-use aa_skipped::{Skipped, Sorted, behind_skipped, part_repeated, sort_paths};
+use aa_skipped::{Skipped, UsePart, with_read_policy};
 use aa_text::NoMemory;
 use std::alloc::{AllocError, Global};
 
@@ -118,44 +115,25 @@ fn push_said(
 struct Replaying<'a> {
     options: &'a LogOptions<'a>,
     said: &'a SaidReport<'a>,
-    skipped: &'a [Skipped],
 }
 
-impl Use for Replaying<'_> {
-    ghost gives = { λ r d out. IsPartReplayed r.options.now r.said.now r.skipped.now d out };
+impl UsePart for Replaying<'_> {
+    ghost gives = { λ r skipped d out. IsPartReplayed r.options.now r.said.now skipped d out };
 
-    fn use_policy(&self, alloc: Global, decided: Decided<'_>) -> Result<Output, NoMemory> {
+    fn use_part(
+        &self,
+        alloc: Global,
+        skipped: &[Skipped],
+        decided: Decided<'_>,
+    ) -> Result<Output, NoMemory> {
         let mut output = Output::new(alloc);
         push_unclear(&mut output.faults, self.options.logs, self.said)?;
         let (options, said) = (self.options, self.said);
         let answers = &mut output.answers;
-        let status = push_said(answers, alloc, options, said, self.skipped, decided)?;
+        let status = push_said(answers, alloc, options, said, skipped, decided)?;
         output.status = status_or(self.said, status);
         Ok(output)
     }
-}
-
-fn replay_paths<T: Tree>(
-    alloc: Global,
-    tree: &T,
-    settings: &Settings<'_>,
-    options: &LogOptions<'_>,
-    said: &SaidReport<'_>,
-    paths: &[Vec<u8>],
-) -> Result<Output, NoMemory>
-    ensures { IfOk result (λ out. IsPrintedSkipping (setting_of (T.files tree.now) (T.taken tree.now) (T.input tree.now) settings.now) (texts paths.now)
-        (IsPartReplayed options.now said.now) (printed out)) }
-{
-    let sorted = sort_paths(alloc, tree, settings, paths)?;
-    let parted = part_repeated(alloc, sorted)?;
-    let Sorted { units, skipped } = parted;
-    let replaying = Replaying {
-        options,
-        said,
-        skipped: skipped.as_slice(),
-    };
-    let own = with_units(alloc, settings, units.as_slice(), &replaying)?;
-    Ok(behind_skipped(alloc, skipped.as_slice(), own)?)
 }
 
 fn replay<T: Tree>(
@@ -167,13 +145,8 @@ fn replay<T: Tree>(
 ) -> Result<Output, NoMemory>
     ensures { IfOk result (λ out. IsPartAgainst (setting_of (T.files tree.now) (T.taken tree.now) (T.input tree.now) settings.now) options.now said.now (printed out)) }
 {
-    match rooted(alloc, tree, settings.base, options.against) {
-        Ok(roots) => {
-            let own = replay_paths(alloc, tree, settings, options, said, roots.paths.as_slice())?;
-            Ok(behind_warnings(alloc, roots.warnings.as_slice(), own)?)
-        }
-        Err(fault) => unit_refused(alloc, fault),
-    }
+    let replaying = Replaying { options, said };
+    with_read_policy(alloc, tree, settings, options.against, &replaying)
 }
 
 /// Says how what the lines of logs ask is answered now by the one policy that those of the files are that aren't refused. The others are

@@ -1,8 +1,7 @@
 -- Why no profile is attached to a program.
 -- Source: apparmor.d(5), "Profile Head"; own.
 use Rattle.std.specs.Prelude.{ℕ, List, [], ◌∷◌, ◌++◌, ◌==◌, length, flat_map, codes, Bool, if◌then◌else◌, Option, Some, None, Ok, Err, option_map}
-use Rattle.std.specs.Option.{option_map_or}
-use Rattle.std.specs.List.{list_any, slice_get}
+use Rattle.std.specs.List.{list_any}
 use Rattle.aa_base.specs.Values.{value}
 use Rattle.aa_pattern.specs.declared.pattern.Pattern.{Pattern}
 use Rattle.aa_pattern.specs.Matching.{is_match}
@@ -13,6 +12,7 @@ use Rattle.aa_model.specs.declared.label.Label.TheVariants.{Unconfined, Confined
 use Rattle.aa_model.specs.Lawful.{has_parent}
 use Rattle.aa_compile.specs.declared.attach.Attachment.{Attachment}
 use Rattle.aa_compile.specs.Attached.{attachment_by, is_strong, longest}
+use Rattle.aa_compile.specs.Labels.{first_profiles}
 use Rattle.aa_ask.specs.declared.asking.Manner.{Manner}
 use Rattle.aa_ask.specs.Asked.{Outcome, listed_profile, label_by_program}
 
@@ -53,10 +53,6 @@ abbrev pub tie_text : List ℕ → List Profile → List Attachment → List ℕ
 tie_text path ps as' =
     if length as' == 0 then []
     else tie_words ++ rival_names path ps (list_any (λ (a : Attachment). a.literal) as') (longest as')
-
--- the profiles of the first policy
-abbrev pub first_profiles : List Policy → List Profile
-first_profiles policies = option_map_or (λ (p : Policy). p.profiles) (slice_get policies 0) []
 
 -- no profile is attached to the path, since no attachment matches, or since several are as strong
 abbrev pub unattached_line : List ℕ → List Profile → List ℕ

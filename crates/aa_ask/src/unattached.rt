@@ -4,11 +4,12 @@ ghost use Rattle.std.specs.Prelude.{◌≡◌, ◌++◌, flat_map, if◌then◌e
 ghost use Rattle.std.specs.List.{list_any};
 ghost use Rattle.aa_model.specs.Lawful.{has_parent};
 ghost use Rattle.aa_compile.specs.Attached.{attachment_by, is_strong, longest};
+ghost use Rattle.aa_compile.specs.Labels.{first_profiles};
 ghost use Rattle.aa_ask.specs.Asked.{label_by_program};
-ghost use Rattle.aa_ask.specs.Unattached.{match_of, matches_in, matches_of, all_matches, is_rival, rival_name, rival_names, tie_words, tie_text, first_profiles, unattached_line, program_warning, opening_warning};
+ghost use Rattle.aa_ask.specs.Unattached.{match_of, matches_in, matches_of, all_matches, is_rival, rival_name, rival_names, tie_words, tie_text, unattached_line, program_warning, opening_warning};
 
 use crate::asking::{AskFault, Manner, label_by_program, push_profile};
-use aa_compile::{Attachment, Compiled, is_matched};
+use aa_compile::{Attachment, Compiled, first_profiles, is_matched};
 use aa_model::{Label, Profile};
 use aa_pattern::Pattern;
 use aa_text::{NoMemory, push_name, push_text};
@@ -207,16 +208,6 @@ fn push_reason(
 {
     let matches = all_matches(alloc, path, profiles)?;
     push_tie(out, alloc, path, profiles, matches.as_slice())
-}
-
-/// The profiles of the first policy.
-fn first_profiles(policies: &[Compiled]) -> &[Profile]
-    ensures { result.now ≡ first_profiles policies.now }
-{
-    match policies.get(0) {
-        Some(compiled) => compiled.policy().profiles.as_slice(),
-        None => &[],
-    }
 }
 
 /// Says that no profile is attached to a program, and which tie, if that is why.

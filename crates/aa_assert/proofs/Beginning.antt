@@ -38,7 +38,8 @@ match_begins [] text rest m = refl
 match_begins (c ∷ front) [] rest m = cc
 match_begins (c ∷ front) (b ∷ text) rest m = at (match_begins front text rest) (b == 42) refl m
   where
-    at : (Matches (map name_item text) (front ++ rest) → may_begin front text ≡ true) → (is : Bool) → (b == 42) ≡ is → Matches (cond is Deep (Byte b) ∷ map name_item text) (c ∷ front ++ rest) → (is || (b == c && may_begin front text)) ≡ true
+    at : (Matches (map name_item text) (front ++ rest) → may_begin front text ≡ true) → (is : Bool) → (b == 42) ≡ is
+        → Matches (cond is Deep (Byte b) ∷ map name_item text) (c ∷ front ++ rest) → (is || (b == c && may_begin front text)) ≡ true
     at more true e n = refl
     at more false e n =
         let same = tails c b (front ++ rest) n.1 (n.2 ∙ ap (λ (x : List ℕ). x ++ n.1) n.3.0) in

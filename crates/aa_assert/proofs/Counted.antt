@@ -1,12 +1,12 @@
 -- What counts of a claim at a label.
-use Rattle.std.proofs.Common.{◌≡◌, ◌⊎◌, inl, inr, ⊎_elim, Bool, true, false, true≢false, refl, sym, ap, ◌∙◌}
+use Rattle.std.proofs.Common.{◌≡◌, ◌⊎◌, inl, inr, ⊎_elim, List, [], ◌∷◌, Bool, true, false, true≢false, refl, sym, ap, ◌∙◌}
 use Rattle.std.specs.Prelude.{not, ◌||◌}
 use Rattle.aa_model.specs.declared.request.Request.{Request}
 use Rattle.aa_model.specs.declared.request.Request.TheVariants.{File, Link, Exec, Cap, Net, Change, Reload}
 use Rattle.aa_unclean_paths.specs.Deciding.{is_unclean}
-use Rattle.aa_unclean_paths.specs.Requests.{IsAtUncleanPath, is_at_unclean_path}
+use Rattle.aa_unclean_paths.specs.Requests.{IsAtUncleanPath, is_at_unclean_path, does_request_count}
 use Rattle.aa_unclean_paths.proofs.Decided.{unclean_then, then_unclean}
-use Rattle.aa_who.specs.Grants.{does_count}
+use Rattle.aa_assert.specs.Passages.{do_count, are_clean}
 
 or_cases : (a b : Bool) → (a || b) ≡ true → (a ≡ true) ⊎ (b ≡ true)
 or_cases true b e = inl refl
@@ -40,9 +40,20 @@ request_unclean (Net f s) u = absurd u
 request_unclean (Change name) u = absurd u
 request_unclean (Reload k) u = absurd u
 
+-- all requests count where unclean paths do
+pub all_count : (rs : List Request) → do_count true rs ≡ true
+all_count [] = refl
+all_count (r ∷ rs) = all_count rs
+
+-- where a list doesn't count that is clean if another is, the other doesn't either
+pub none_counted : (unclean : Bool) (way rs : List Request) → (are_clean rs ≡ true → are_clean way ≡ true) → do_count unclean way ≡ false
+    → do_count unclean rs ≡ true → ⊥
+none_counted true way rs clean e count = true≢false (sym (all_count way) ∙ e)
+none_counted false way rs clean e count = true≢false (sym (clean count) ∙ e)
+
 -- where one doesn't count, one that is at an unclean path if that is doesn't either
-pub uncounted_too : (unclean : Bool) (r q : Request) → does_count unclean r ≡ false → (IsAtUncleanPath r → IsAtUncleanPath q)
-    → does_count unclean q ≡ true → ⊥
+pub uncounted_too : (unclean : Bool) (r q : Request) → does_request_count unclean r ≡ false → (IsAtUncleanPath r → IsAtUncleanPath q)
+    → does_request_count unclean q ≡ true → ⊥
 uncounted_too true r q e more c = true≢false e
 uncounted_too false r q e more c = at (is_at_unclean_path r) refl e
   where

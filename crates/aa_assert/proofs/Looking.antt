@@ -1,19 +1,27 @@
 -- What is found at labels one after another.
-use Rattle.std.proofs.Common.{◌≡◌, ℕ, suc, List, [], ◌∷◌, ◌++◌, map, flat_map, Bool, true, false, true≢false, Some, None, refl, sym, ap, subst, ◌∙◌}
+use Rattle.std.proofs.Common.{◌≡◌, ℕ, zero, suc, ◌+◌, ◌<◌, ◌≤◌, List, [], ◌∷◌, ◌++◌, length, map, flat_map, get_or, take, Bool, true, false, true≢false, Option, Some, None}
+use Rattle.std.proofs.Common.{refl, sym, ap, subst, ◌∙◌, ⊎_elim, arith}
 use Rattle.std.specs.Prelude.{not, ◌&&◌, ◌||◌, MatchBool, if◌then◌else◌}
-use Rattle.std.proofs.lemmas.List.{append-nil, append_assoc}
+use Rattle.std.specs.Option.{option_map_or, option_and_then}
+use Rattle.std.specs.List.{slice_get}
+use Rattle.std.proofs.lemmas.Grind.{common_steps}
+use Rattle.std.proofs.lemmas.Option.{slice_get_cases, slice_get_within, get_or_from_slice_get}
+use Rattle.std.proofs.lemmas.List.{append-nil, append_assoc, take_all, take_more}
+use Rattle.aa_model.specs.declared.policy.Policy.{Policy}
 use Rattle.aa_model.specs.declared.policy.Profile.{Profile}
 use Rattle.aa_model.specs.declared.label.Label.{Label}
 use Rattle.aa_model.specs.declared.label.Label.TheVariants.{Unconfined, Confined}
 use Rattle.aa_compile.specs.FileRules.{is_nil}
-use Rattle.aa_compile.specs.Labels.{profile_in}
+use Rattle.aa_compile.specs.Labels.{profile_in, first_profiles}
 use Rattle.aa_claims.specs.declared.words.ClaimWord.{ClaimWord}
 use Rattle.aa_undecided.specs.Answers.{PlacedFile}
 use Rattle.aa_assert.specs.declared.asked.Asked.{Asked}
 use Rattle.aa_assert.specs.declared.part.Part.{Part}
+use Rattle.aa_who.specs.Grants.{count_of}
 use Rattle.aa_who.specs.Untold.{Untold}
 use Rattle.aa_assert.specs.Scope.{is_about, is_about_free}
-use Rattle.aa_assert.specs.Findings.{Found, AllFound, or_else, is_found, AreFoundAt, first_some, all_of, and_found, label_if, labels_about, files_concerned, IsFoundAt, AreFoundOf}
+use Rattle.aa_assert.specs.Findings.{Found, AllFound, or_else, is_found, AreFoundAt, first_some, all_of, labels_from, labels_about, files_concerned}
+use Rattle.aa_assert.specs.Findings.{IsFoundAt, AreFoundOf}
 
 -- ---- lists of files
 
@@ -44,15 +52,30 @@ made a b h k c e f g same beside alike like =
     let last : (x : List PlacedFile) → AllFound = λ x. record { list = b; apart = k; untold = e; doubt = x } in
     ap first same ∙ (ap second beside ∙ (ap next alike ∙ ap last like))
 
+-- all of two
+pub all_two : (was fs : AllFound) → all_of [] (was ∷ fs ∷ []) ≡ record {
+  list = was.list ++ fs.list;
+  apart = was.apart ++ fs.apart;
+  untold = was.untold ++ fs.untold;
+  doubt = or_else was.doubt fs.doubt;
+}
+all_two was fs =
+    made _ _ _ _ _ _ _ _
+    (ap (λ xs. was.list ++ xs) (append-nil fs.list))
+    (ap (λ xs. was.apart ++ xs) (append-nil fs.apart))
+    (ap (λ xs. was.untold ++ xs) (append-nil fs.untold))
+    (ap (or_else was.doubt) (else_nil fs.doubt))
+
 -- one more is added
 pub all_more : (concerned : List PlacedFile) (found : List AllFound) (fs : AllFound)
-    → all_of concerned (found ++ fs ∷ []) ≡ and_found (all_of concerned found) fs
+    → all_of concerned (found ++ fs ∷ []) ≡ all_of [] (all_of concerned found ∷ fs ∷ [])
 all_more concerned found fs =
     made _ _ _ _ _ _ _ _
     (flat_more (λ (x : AllFound). x.list) found fs)
     (flat_more (λ (x : AllFound). x.apart) found fs)
     (flat_more (λ (x : AllFound). x.untold) found fs)
     (ap (or_else concerned) (doubts_more found fs) ∙ sym (else_assoc concerned (first_some (map (λ (x : AllFound). x.doubt) found)) fs.doubt))
+    ∙ sym (all_two (all_of concerned found) fs)
 
 -- ---- where the first is wanted alone
 
@@ -115,70 +138,135 @@ module _ (first : Bool) (At : Label → AllFound → Type 0) where
 
 -- ---- profiles one after another
 
+-- its label, if the claim is about it
+abbrev label_if : List ClaimWord → ℕ → Profile → List Label
+label_if ws n p = if is_about ws p.name then Confined 0 n ∷ [] else []
+
+-- behind one profile more
+from_rest : (ws : List ClaimWord) (k : ℕ) (q : Profile) (ps : List Profile) (p : Profile)
+    → labels_from ws (suc k) (ps ++ p ∷ []) ≡ labels_from ws (suc k) ps ++ label_if ws (suc k + length ps) p
+    → labels_from ws k (q ∷ ps ++ p ∷ []) ≡ labels_from ws k (q ∷ ps) ++ label_if ws (k + length (q ∷ ps)) p
+from_rest ws k q ps p is = on (is_about ws q.name)
+  where
+    rest : labels_from ws (suc k) (ps ++ p ∷ []) ≡ labels_from ws (suc k) ps ++ label_if ws (k + length (q ∷ ps)) p
+    rest =
+        let same : suc k + length ps ≡ k + suc (length ps) = omega arith in
+        is ∙ ap (λ (n : ℕ). labels_from ws (suc k) ps ++ label_if ws n p) same
+
+    on : (b : Bool) → (if b then Confined 0 k ∷ labels_from ws (suc k) (ps ++ p ∷ []) else labels_from ws (suc k) (ps ++ p ∷ []))
+        ≡ (if b then Confined 0 k ∷ labels_from ws (suc k) ps else labels_from ws (suc k) ps) ++ label_if ws (k + length (q ∷ ps)) p
+    on true = ap (λ (ls : List Label). Confined 0 k ∷ ls) rest
+    on false = rest
+
+from_more : (ws : List ClaimWord) (k : ℕ) (ps : List Profile) (p : Profile)
+    → labels_from ws k (ps ++ p ∷ []) ≡ labels_from ws k ps ++ label_if ws (k + length ps) p
+from_more ws k [] p = ap (λ (n : ℕ). label_if ws n p) (let same : k ≡ k + 0 = omega arith in same)
+from_more ws k (q ∷ ps) p = from_rest ws k q ps p (from_more ws (suc k) ps p)
+
+about_more : (ws : List ClaimWord) (ps : List Profile) (p : Profile)
+    → labels_about ws (ps ++ p ∷ []) ≡ labels_about ws ps ++ label_if ws (length ps) p
+about_more ws ps p = on (is_about_free ws)
+  where
+    start : labels_from ws 0 (ps ++ p ∷ []) ≡ labels_from ws 0 ps ++ label_if ws (length ps) p
+    start =
+        let same : 0 + length ps ≡ length ps = omega arith in
+        from_more ws 0 ps p ∙ ap (λ (n : ℕ). labels_from ws 0 ps ++ label_if ws n p) same
+
+    on : (b : Bool) → (if b then Unconfined 0 ∷ labels_from ws 0 (ps ++ p ∷ []) else labels_from ws 0 (ps ++ p ∷ []))
+        ≡ (if b then Unconfined 0 ∷ labels_from ws 0 ps else labels_from ws 0 ps) ++ label_if ws (length ps) p
+    on true = ap (λ (ls : List Label). Unconfined 0 ∷ ls) start
+    on false = start
+
 module _ (first : Bool) (d : Part) (limit : ℕ) (ws : List ClaimWord) (a : Asked) (text : List ℕ) where
   abbrev At : Label → AllFound → Type 0
   At l fs = IsFoundAt d limit a text l fs
 
-  abbrev Of : ℕ → AllFound → Type 0
-  Of n fs = AreFoundOf first d limit ws a text n fs
-
-  same_next : (n : ℕ) (was : AllFound) (more : List Label) → label_if ws n (profile_in d.decided.policies.now 0 n) ≡ more
-      → ((found : List AllFound) → AreFoundAt first At (labels_about d.decided.policies.now ws n) found → was ≡ all_of (files_concerned ws d) found
-      → AreFoundAt first At (labels_about d.decided.policies.now ws n ++ more) found) → Of n was → Of (suc n) was
-  same_next n was more e h of =
-      (of.0, subst (λ (x : List Label). AreFoundAt first At (labels_about d.decided.policies.now ws n ++ x) of.0) (sym e) (h of.0 of.1 of.2), of.2)
-
-  unmoved : (n : ℕ) (was : AllFound) → label_if ws n (profile_in d.decided.policies.now 0 n) ≡ [] → Of n was → Of (suc n) was
-  unmoved n was e of =
-      same_next n was [] e (λ found are all. subst (λ (x : List Label). AreFoundAt first At x found)
-      (sym (append-nil (labels_about d.decided.policies.now ws n))) are) of
-
-  -- there is no such profile
-  pub absent : (n : ℕ) (was : AllFound) → profile_in d.decided.policies.now 0 n ≡ None → Of n was → Of (suc n) was
-  absent n was e of = unmoved n was (ap (label_if ws n) e) of
+  abbrev Of : List Profile → AllFound → Type 0
+  Of ps fs = AreFoundOf first d limit ws a text ps fs
 
   -- it isn't looked at
-  pub passed : (n : ℕ) (p : Profile) (was : AllFound) → profile_in d.decided.policies.now 0 n ≡ Some p
-      → ((first && is_found was) || not (is_about ws p.name)) ≡ true → Of n was → Of (suc n) was
-  passed n p was e so of = at (first && is_found was) (is_about ws p.name) refl refl so
+  pub passed : (ps : List Profile) (p : Profile) (was : AllFound) → ((first && is_found was) || not (is_about ws p.name)) ≡ true → Of ps was
+      → Of (ps ++ p ∷ []) was
+  passed ps p was so of =
+      (of.0, subst (λ (ls : List Label). AreFoundAt first At ls of.0) (sym (about_more ws ps p)) (on (first && is_found was) (is_about ws p.name) refl so), of.2)
     where
-      at : (b c : Bool) → (first && is_found was) ≡ b → is_about ws p.name ≡ c → (b || not c) ≡ true → Of (suc n) was
-      at true c f g h =
-          same_next n was (label_if ws n (profile_in d.decided.policies.now 0 n)) refl
-          (λ found are all. done_at first At (labels_about d.decided.policies.now ws n) (label_if ws n (profile_in d.decided.policies.now 0 n)) found are
-          (ap (λ (x : AllFound). first && is_found x) (sym all) ∙ f)) of
-      at false true f g h = absurd (true≢false (sym h))
-      at false false f g h =
-          unmoved n was (ap (label_if ws n) e ∙ ap (λ (b : Bool). if b then Confined 0 n ∷ [] else []) g) of
+      on : (b c : Bool) → (first && is_found was) ≡ b → (b || not c) ≡ true
+          → AreFoundAt first At (labels_about ws ps ++ (if c then Confined 0 (length ps) ∷ [] else [])) of.0
+      on true c f h =
+          done_at first At (labels_about ws ps) (if c then Confined 0 (length ps) ∷ [] else []) of.0 of.1
+          (ap (λ (x : AllFound). first && is_found x) (sym of.2) ∙ f)
+      on false true f h = absurd (true≢false (sym h))
+      on false false f h = subst (λ (ls : List Label). AreFoundAt first At ls of.0) (sym (append-nil (labels_about ws ps))) of.1
 
   -- it is looked at
-  pub looked : (n : ℕ) (p : Profile) (was now fs : AllFound) → profile_in d.decided.policies.now 0 n ≡ Some p
-      → ((first && is_found was) || not (is_about ws p.name)) ≡ false → At (Confined 0 n) fs → now ≡ and_found was fs → Of n was → Of (suc n) now
-  looked n p was now fs e so is more of = at (first && is_found was) (is_about ws p.name) refl refl so
+  pub looked : (ps : List Profile) (p : Profile) (was now fs : AllFound) → ((first && is_found was) || not (is_about ws p.name)) ≡ false
+      → At (Confined 0 (length ps)) fs → now ≡ all_of [] (was ∷ fs ∷ []) → Of ps was → Of (ps ++ p ∷ []) now
+  looked ps p was now fs so is more of = (
+    of.0 ++ fs ∷ [],
+    subst (λ (ls : List Label). AreFoundAt first At ls (of.0 ++ fs ∷ [])) (sym (about_more ws ps p))
+        (on (first && is_found was) (is_about ws p.name) refl so),
+    more ∙ (ap (λ (x : AllFound). all_of [] (x ∷ fs ∷ [])) of.2 ∙ sym (all_more (files_concerned ws d) of.0 fs)),
+  )
     where
-      at : (b c : Bool) → (first && is_found was) ≡ b → is_about ws p.name ≡ c → (b || not c) ≡ false → Of (suc n) now
-      at true c f g h = absurd (true≢false h)
-      at false false f g h = absurd (true≢false h)
-      at false true f g h =
-          let one : label_if ws n (profile_in d.decided.policies.now 0 n) ≡ Confined 0 n ∷ [] =
-          ap (label_if ws n) e ∙ ap (λ (b : Bool). if b then Confined 0 n ∷ [] else []) g in (
-            of.0 ++ fs ∷ [],
-            subst (λ (x : List Label). AreFoundAt first At (labels_about d.decided.policies.now ws n ++ x) (of.0 ++ fs ∷ [])) (sym one)
-                (more_at first At (labels_about d.decided.policies.now ws n) (Confined 0 n) of.0 fs of.1
-                (ap (λ (x : AllFound). first && is_found x) (sym of.2) ∙ f) is),
-            more ∙ (ap (λ (x : AllFound). and_found x fs) of.2 ∙ sym (all_more (files_concerned ws d) of.0 fs)),
-          )
+      on : (b c : Bool) → (first && is_found was) ≡ b → (b || not c) ≡ false
+          → AreFoundAt first At (labels_about ws ps ++ (if c then Confined 0 (length ps) ∷ [] else [])) (of.0 ++ fs ∷ [])
+      on true c f h = absurd (true≢false h)
+      on false false f h = absurd (true≢false h)
+      on false true f h =
+          more_at first At (labels_about ws ps) (Confined 0 (length ps)) of.0 fs of.1 (ap (λ (x : AllFound). first && is_found x) (sym of.2) ∙ f) is
 
   -- ---- tasks without a profile
 
-  pub none_free : (fs : AllFound) → is_about_free ws ≡ false → fs ≡ all_of (files_concerned ws d) [] → Of 0 fs
+  pub none_free : (fs : AllFound) → is_about_free ws ≡ false → fs ≡ all_of (files_concerned ws d) [] → Of [] fs
   none_free fs e all =
       ([], subst (λ (b : Bool). AreFoundAt first At (if b then Unconfined 0 ∷ [] else []) []) (sym e) refl, all)
 
-  pub one_free : (now fs : AllFound) → is_about_free ws ≡ true → At (Unconfined 0) fs → now ≡ and_found (all_of (files_concerned ws d) []) fs → Of 0 now
+  pub one_free : (now fs : AllFound) → is_about_free ws ≡ true → At (Unconfined 0) fs
+      → now ≡ all_of [] (all_of (files_concerned ws d) [] ∷ fs ∷ []) → Of [] now
   one_free now fs e is all = (
     fs ∷ [],
     subst (λ (b : Bool). AreFoundAt first At (if b then Unconfined 0 ∷ [] else []) (fs ∷ [])) (sym e)
         (more_at first At [] (Unconfined 0) [] fs refl (never first) is),
     all ∙ sym (all_more (files_concerned ws d) [] fs),
   )
+
+-- ---- by their numbers
+
+module _ (policies : List Policy) where
+  pub numbered : (n : ℕ) → profile_in policies 0 n ≡ slice_get (first_profiles policies) n
+  numbered n = on (slice_get policies 0)
+    where
+      on : (o : Option Policy) → option_and_then (λ (p : Policy). slice_get p.profiles n) o
+          ≡ slice_get (option_map_or (λ (p : Policy). p.profiles) o []) n
+      on None = refl
+      on (Some p) = refl
+
+  pub as_many : count_of policies ≡ length (first_profiles policies)
+  as_many = on (slice_get policies 0)
+    where
+      on : (o : Option Policy) → option_map_or (λ (p : Policy). length p.profiles) o 0 ≡ length (option_map_or (λ (p : Policy). p.profiles) o [])
+      on None = refl
+      on (Some p) = refl
+
+  pub all_taken : take (count_of policies) (first_profiles policies) ≡ first_profiles policies
+  all_taken = take_all (count_of policies) (first_profiles policies) (omega (arith, as_many))
+
+taken_length : (ps : List Profile) (n : ℕ) → n ≤ length ps → length (take n ps) ≡ n
+taken_length ps zero le = refl
+taken_length [] (suc n) le = absurd (omega (arith, le))
+taken_length (p ∷ ps) (suc n) le = ap suc (taken_length ps n (grind (arith, common_steps)))
+
+-- the next profile is there
+pub one_taken : (ps : List Profile) (n : ℕ) (p : Profile) → slice_get ps n ≡ Some p
+    → (take (n + 1) ps ≡ take n ps ++ p ∷ []) × (length (take n ps) ≡ n)
+one_taken ps n p e =
+    let lt = slice_get_within ps n p e in
+    (take_more ps n p lt ∙ ap (λ (q : Profile). take n ps ++ q ∷ []) (get_or_from_slice_get ps n p p e), taken_length ps n (omega (arith, lt)))
+
+-- no profile is there
+pub none_taken : (ps : List Profile) (n : ℕ) → slice_get ps n ≡ None → take (n + 1) ps ≡ take n ps
+none_taken ps n e =
+    ⊎_elim
+    (λ (here : (x : Profile) × (n < length ps) × (slice_get ps n ≡ Some x) × (get_or ps n x ≡ x)). absurd (let f : Some here.0 ≡ None = sym here.2 ∙ e in cc))
+    (λ (none : (length ps ≤ n) × (slice_get ps n ≡ None)). take_all (n + 1) ps (omega (arith, none.0)) ∙ sym (take_all n ps none.0))
+    (slice_get_cases ps n).1

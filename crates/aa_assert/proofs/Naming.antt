@@ -9,6 +9,7 @@ use Rattle.aa_model.specs.declared.label.Label.TheVariants.{Unconfined, Confined
 use Rattle.aa_model.specs.declared.request.Request.{Request}
 use Rattle.aa_mediate.specs.Reply.{reply}
 use Rattle.aa_reachability.specs.Reach.{led_by}
+use Rattle.aa_compile.specs.Labels.{first_profiles}
 use Rattle.aa_ask.specs.Told.{is_same}
 use Rattle.aa_quantifiers.specs.declared.aim.Labels.{Labels}
 use Rattle.aa_quantifiers.specs.declared.word.Word.{Word}
@@ -22,7 +23,6 @@ use Rattle.aa_assert.specs.declared.part.Part.{Part}
 use Rattle.aa_assert.specs.Asked.{IsNeverAskedBy, IsNeverAsked, IsAlwaysAsked, IsAskedBy}
 use Rattle.aa_assert.specs.Leading.{is_named_in, AreLabels, IsLedTo}
 use Rattle.aa_assert.specs.Passages.{going, IsWayTo}
-use Rattle.aa_assert.specs.Scope.{profiles_of}
 use Rattle.aa_assert.specs.Holding.{is_led_to, EndsThere, ComesThere}
 
 at_map : {X : Type 0} (f : X → Bool) (xs : List X) (n : ℕ) → slice_index_or (map f xs) n false ≡ option_map_or f (slice_get xs n) false
@@ -54,7 +54,7 @@ are_said d ws head asked (Leads w ls) h = led h.2.0 (is_word (codes "never") hea
 module _ (ps : List Policy) (ws : List ClaimWord) (ls : Labels) (are : AreLabels ps ws ls) where
   named_same : (l : Label) → has_label ls l ≡ is_led_to ps ws l
   named_same (Unconfined k) = are.free
-  named_same (Confined k n) = ap (λ (xs : List Bool). slice_index_or xs n false) are.profiles ∙ at_map (is_named_in (names_led ws)) (profiles_of ps) n
+  named_same (Confined k n) = ap (λ (xs : List Bool). slice_index_or xs n false) are.profiles ∙ at_map (is_named_in (names_led ws)) (first_profiles ps) n
 
   pub led_ends : (l : Label) (r : Request) → IsLedTo ps l ls r → EndsThere ps ws l r
   led_ends l r h = (h.0, sym (named_same (reply ps l r).label) ∙ h.1)

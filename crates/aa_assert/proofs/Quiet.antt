@@ -1,22 +1,27 @@
 -- Answers by which nobody breaks a claim, at unclean paths neither.
-use Rattle.std.proofs.Common.{◌≡◌, ℕ, List, [], ◌∷◌, Bool, true, false, Option, Some, None, refl, sym, ap, ◌∙◌}
-use Rattle.std.specs.Prelude.{not, ◌&&◌, flat_map, codes, MatchBool}
+use Rattle.std.proofs.Common.{◌≡◌, ℕ, List, [], ◌∷◌, ◌++◌, Bool, true, false, Option, Some, None, refl, sym, ap, subst, ◌∙◌}
+use Rattle.std.specs.Prelude.{not, ◌&&◌, flat_map, codes, MatchBool, if◌then◌else◌}
 use Rattle.aa_model.specs.declared.label.Label.{Label}
+use Rattle.aa_compile.specs.Labels.{first_profiles}
 use Rattle.aa_quantifiers.specs.declared.word.Word.{Word}
 use Rattle.aa_assert.specs.declared.asked.Asked.{Asked}
 use Rattle.aa_assert.specs.declared.asked.Asked.TheVariants.{Never, Leads, Always, Reaches, Enforced}
+use Rattle.aa_assert.specs.declared.passage.Passage.{Passage}
+use Rattle.aa_assert.specs.declared.passage.Passage.TheVariants as passage
 use Rattle.aa_assert.specs.declared.judging.Judgement.{Judgement}
 use Rattle.aa_assert.specs.declared.judging.Judgement.TheVariants as is
 use Rattle.aa_assert.specs.declared.part.Part.{Part}
-use Rattle.aa_who.specs.Grants.{count_of}
+use Rattle.aa_who.specs.Untold.{Untold}
 use Rattle.aa_claims.specs.declared.words.ClaimWord.{ClaimWord}
 use Rattle.aa_claims.specs.Forms.{is_word, keyword_of, names_behind, names_within, names_led}
 use Rattle.aa_assert.specs.Asked.{IsNeverAskedBy, IsNeverAsked, IsAlwaysAsked, IsAskedFor, IsAskedBy}
 use Rattle.aa_assert.specs.Scope.{AreSomebody}
-use Rattle.aa_assert.specs.Findings.{Found, AllFound, broken_by, counts, broken_if, judged_found, IsFoundAt, is_found, AreFoundAt, labels_about}
-use Rattle.aa_assert.specs.Holding.{QuietAnswersCountAll}
+use Rattle.aa_assert.specs.Findings.{Found, AllFound, broken_by, counts, broken_if, judged_found, by_way, by_unclean_way, passed_by, way_counts, passed_if}
+use Rattle.aa_assert.specs.Findings.{untold_past, untold_of, passage_found, IsFoundAt, is_found, AreFoundAt, labels_about}
+use Rattle.aa_assert.specs.Holding.{AreWaysTold, QuietAnswersCountAll}
 use Rattle.aa_assert.proofs.Looking.{made}
-use Rattle.aa_assert.proofs.Clear.{nil_parts}
+use Rattle.aa_assert.proofs.Counted.{all_count}
+use Rattle.aa_assert.proofs.Clear.{cons_nil, nil_parts}
 
 abbrev counting_all : Part → Part
 counting_all d = record d { unclean = true }
@@ -41,25 +46,78 @@ module _ (d : Part) (limit : ℕ) (text : List ℕ) (l : Label) (fs : AllFound) 
       (others ∙ sym (ap (λ (c : Bool). broken_if (not c) (counting_all d) l j) (all_counts j)))
       refl refl
 
-  found_all : (says : Asked) → IsFoundAt d limit says text l fs → IsFoundAt (counting_all d) limit says text l fs
-  found_all (Never w) is = (is.0, is.1, judged_all w is.0 is.2)
-  found_all (Leads w ls) is = (is.0, is.1, judged_all w is.0 is.2)
-  found_all (Always w) is = (is.0, is.1, judged_all w is.0 is.2)
-  found_all (Reaches ls) is = is
-  found_all Enforced is = is
+  -- the same of lists of requests
+  all_ways : (p : Passage) → way_counts (counting_all d) p ≡ true
+  all_ways (passage.Through way) = all_count way.items
+  all_ways passage.Nowhere = refl
+  all_ways (passage.Untold at why) = refl
+  all_ways (passage.CleanUntold way at why) = refl
+
+  none_through : (c : Bool) (p : Passage) → passed_if c d l p ≡ [] → passed_if (not c) d l p ≡ [] → passed_by d l p ≡ []
+  none_through true p a b = a
+  none_through false p a b = b
+
+  -- where all is told nothing else can't be told
+  told_same : (p : Passage) → fs ≡ passage_found d limit l p → fs.untold ≡ [] → untold_of d limit l p ≡ untold_of (counting_all d) limit l p
+  told_same (passage.Through way) eq told = refl
+  told_same passage.Nowhere eq told = refl
+  told_same (passage.Untold at why) eq told = refl
+  told_same (passage.CleanUntold way at why) eq told = sym (ap (λ (x : AllFound). x.untold) eq) ∙ told
+
+  counted_same : (p : Passage) → fs ≡ passage_found d limit l p → fs.untold ≡ [] → passed_by d l p ≡ passed_by (counting_all d) l p
+  counted_same (passage.Through way) eq told = refl
+  counted_same passage.Nowhere eq told = refl
+  counted_same (passage.Untold at why) eq told = refl
+  counted_same (passage.CleanUntold way at why) eq told = on d.unclean refl
+    where
+      on : (b : Bool) → d.unclean ≡ b → by_unclean_way d l way.items ≡ by_way d l way.items
+      on true e = ap (λ (u : Bool). if u then by_way d l way.items else []) e
+      on false e =
+          absurd (cons_nil _ _
+          (sym (ap (λ (u : Bool). if u then [] else untold_past d.decided.policies.now limit l at why) e)
+          ∙ (sym (ap (λ (x : AllFound). x.untold) eq) ∙ told)))
+
+  passed_all : (p : Passage) → fs ≡ passage_found d limit l p → fs.untold ≡ [] → fs ≡ passage_found (counting_all d) limit l p
+  passed_all p eq told =
+      let counted : passed_if (way_counts d p) d l p ≡ [] = sym (ap (λ (x : AllFound). x.list) eq) ∙ nobody in
+      let others : passed_if (not (way_counts d p)) d l p ≡ [] = sym (ap (λ (x : AllFound). x.apart) eq) ∙ quiet in
+      let none : passed_by (counting_all d) l p ≡ [] = sym (counted_same p eq told) ∙ none_through (way_counts d p) p counted others in
+      eq ∙ made _ _ _ _ _ _ _ _
+      (counted ∙ sym (ap (λ (c : Bool). passed_if c (counting_all d) l p) (all_ways p) ∙ none))
+      (others ∙ sym (ap (λ (c : Bool). passed_if (not c) (counting_all d) l p) (all_ways p)))
+      (told_same p eq told)
+      refl
+
+  found_all : (says : Asked) → AreWaysTold says fs.untold → IsFoundAt d limit says text l fs → IsFoundAt (counting_all d) limit says text l fs
+  found_all (Never w) told is = (is.0, is.1, judged_all w is.0 is.2)
+  found_all (Leads w ls) told is = (is.0, is.1, judged_all w is.0 is.2)
+  found_all (Always w) told is = (is.0, is.1, judged_all w is.0 is.2)
+  found_all (Reaches ls) told is = (is.0, is.1, passed_all is.0 is.2 told)
+  found_all Enforced told is = is
+
+-- all is told of each part
+ways_parts : (says : Asked) (us vs : List Untold) → AreWaysTold says (us ++ vs) → AreWaysTold says us × AreWaysTold says vs
+ways_parts (Never w) us vs told = (tt, tt)
+ways_parts (Leads w ls) us vs told = (tt, tt)
+ways_parts (Always w) us vs told = (tt, tt)
+ways_parts (Reaches ls) us vs told = nil_parts us vs told
+ways_parts Enforced us vs told = (tt, tt)
 
 module _
     (first : Bool)
+    (says : Asked)
     (At Bt : Label → AllFound → Type 0)
-    (all : (l : Label) (fs : AllFound) → fs.list ≡ [] → fs.apart ≡ [] → At l fs → Bt l fs) where
+    (all : (l : Label) (fs : AllFound) → fs.list ≡ [] → fs.apart ≡ [] → AreWaysTold says fs.untold → At l fs → Bt l fs) where
   each_all : (ls : List Label) (found : List AllFound) → flat_map (λ (fs : AllFound). fs.list) found ≡ []
-      → flat_map (λ (fs : AllFound). fs.apart) found ≡ [] → AreFoundAt first At ls found → AreFoundAt first Bt ls found
-  each_all [] found none quiet are = are
-  each_all (l ∷ ls) [] none quiet are = absurd are
-  each_all (l ∷ ls) (fs ∷ found) none quiet are =
+      → flat_map (λ (fs : AllFound). fs.apart) found ≡ [] → AreWaysTold says (flat_map (λ (fs : AllFound). fs.untold) found)
+      → AreFoundAt first At ls found → AreFoundAt first Bt ls found
+  each_all [] found none quiet told are = are
+  each_all (l ∷ ls) [] none quiet told are = absurd are
+  each_all (l ∷ ls) (fs ∷ found) none quiet told are =
       let a = nil_parts fs.list (flat_map (λ (gs : AllFound). gs.list) found) none in
       let b = nil_parts fs.apart (flat_map (λ (gs : AllFound). gs.apart) found) quiet in
-      (all l fs a.0 b.0 are.0, on (first && is_found fs) are.1 (λ more. each_all ls found a.1 b.1 more))
+      let t = ways_parts says fs.untold (flat_map (λ (gs : AllFound). gs.untold) found) told in
+      (all l fs a.0 b.0 t.0 are.0, on (first && is_found fs) are.1 (λ more. each_all ls found a.1 b.1 t.1 more))
     where
       on : (c : Bool) → MatchBool c (found ≡ []) (AreFoundAt first At ls found) → (AreFoundAt first At ls found → AreFoundAt first Bt ls found)
           → MatchBool c (found ≡ []) (AreFoundAt first Bt ls found)
@@ -101,7 +159,7 @@ somebody_too d None h = h
 somebody_too d (Some ws) h = h
 
 pub quiet_answers_count_all : QuietAnswersCountAll
-quiet_answers_count_all first d limit ws head asked fs answer nobody quiet =
+quiet_answers_count_all first d limit ws head asked fs answer nobody quiet told =
     let are = answer.are in
     let text = asked.text.items in
     record {
@@ -115,10 +173,11 @@ quiet_answers_count_all first d limit ws head asked fs answer nobody quiet =
       };
       are = (
         are.0,
-        each_all first (IsFoundAt d limit answer.says text) (IsFoundAt (counting_all d) limit answer.says text)
-            (λ l gs none none_apart is. found_all d limit text l gs none none_apart answer.says is)
-            (labels_about d.decided.policies.now ws (count_of d.decided.policies.now)) are.0
-            (sym (ap (λ (x : AllFound). x.list) are.2) ∙ nobody) (sym (ap (λ (x : AllFound). x.apart) are.2) ∙ quiet) are.1,
+        each_all first answer.says (IsFoundAt d limit answer.says text) (IsFoundAt (counting_all d) limit answer.says text)
+            (λ l gs none none_apart all_told is. found_all d limit text l gs none none_apart answer.says all_told is)
+            (labels_about ws (first_profiles d.decided.policies.now)) are.0
+            (sym (ap (λ (x : AllFound). x.list) are.2) ∙ nobody) (sym (ap (λ (x : AllFound). x.apart) are.2) ∙ quiet)
+            (subst (λ (x : AllFound). AreWaysTold answer.says x.untold) are.2 told) are.1,
         are.2,
       );
     }

@@ -1,9 +1,9 @@
 -- What isn't undecided of a claim is so by the policy of all files.
 use Rattle.std.proofs.Common.{◌≡◌, ℕ, ◌<◌, ◌≤◌, List, [], ◌∷◌, ◌++◌, length, map, get_or, Bool, true, false, true≢false, Option, Some, None, refl, sym, ap, subst, ◌∙◌, Contains, ⊎_elim, arith}
 use Rattle.std.specs.Prelude.{◌||◌, ◌==◌, filter, codes, is_some, IsTrue, if◌then◌else◌}
-use Rattle.std.specs.Option.{option_map_or, option_and_then}
+use Rattle.std.specs.Option.{option_map_or}
 use Rattle.std.specs.List.{All, list_any, slice_get}
-use Rattle.std.proofs.lemmas.Option.{slice_get_cases, slice_get_within, same_Some}
+use Rattle.std.proofs.lemmas.Option.{slice_get_cases, same_Some}
 use Rattle.std.proofs.lemmas.Bool.{eqb-true, eq-eqb}
 use Rattle.aa_pattern.specs.Globs.{IsNonzeroByte}
 use Rattle.aa_model.specs.declared.policy.Policy.{Policy}
@@ -12,7 +12,7 @@ use Rattle.aa_model.specs.declared.label.Label.{Label}
 use Rattle.aa_model.specs.declared.label.Label.TheVariants.{Unconfined, Confined}
 use Rattle.aa_model.specs.declared.request.Request.{Request}
 use Rattle.aa_model.specs.declared.answer.Answer.{Answer}
-use Rattle.aa_compile.specs.Labels.{profile_in}
+use Rattle.aa_compile.specs.Labels.{profile_in, first_profiles}
 use Rattle.aa_mediate.specs.Reply.{reply}
 use Rattle.aa_quantifiers.specs.declared.word.Word.{Word}
 use Rattle.aa_quantifiers.specs.Words.{IsOf}
@@ -30,7 +30,6 @@ use Rattle.aa_skipped.proofs.Each.{head_each}
 use Rattle.aa_undecided.specs.Answers.{placed, files_among, files_deciding}
 use Rattle.aa_undecided.specs.Holding.{unreads, IsWhole}
 use Rattle.aa_undecided.proofs.Sound.{none_such, has_some}
-use Rattle.aa_who.specs.Grants.{count_of}
 use Rattle.aa_reachability.specs.Moves.{is_by_complain, label_kept}
 use Rattle.aa_reachability.specs.Reach.{led_by}
 use Rattle.aa_claims.specs.declared.words.ClaimWord.{ClaimWord}
@@ -43,14 +42,15 @@ use Rattle.aa_assert.specs.Judging.{IsBroken}
 use Rattle.aa_assert.specs.Leading.{is_named_in, IsLedTo}
 use Rattle.aa_assert.specs.Passages.{going}
 use Rattle.aa_assert.specs.Scope.{is_about, may_be_about, concerns}
-use Rattle.aa_assert.specs.Findings.{AllFound, files_concerned, files_changing_in, files_changing, files_on_way}
+use Rattle.aa_assert.specs.Findings.{AllFound, files_concerned, files_changing_in, files_changing, files_on_way, first_some, labels_about}
+use Rattle.aa_assert.specs.Findings.{IsFoundAt, IsFoundOfPassage}
 use Rattle.aa_assert.specs.Answers.{IsAnswerBy}
 use Rattle.aa_assert.specs.Holding.{is_led_to, EndsThere, Counted, IsBrokenAt, Holds, IsClear, ClearClaimsHold, AreNamesText, ClaimsHold, FreeClaimsHold}
-use Rattle.aa_assert.specs.Holding.{BreakingsStand, EndingsStand, WaysStand, ArrivalsStand, ComesThere}
+use Rattle.aa_assert.specs.Holding.{BreakingsStand, EndingsStand, WaysStand, ArrivalsStand, ComesThere, IsAbout, ToldWaysBreak}
 use Rattle.aa_ask.specs.Told.{is_same}
 use Rattle.aa_assert.proofs.Apart.{itself, differ, same_number}
 use Rattle.aa_assert.proofs.Beginning.{about_begins}
-use Rattle.aa_assert.proofs.Clear.{IsKept, AreKept, AllKept, all_clear, cons_nil, no_else}
+use Rattle.aa_assert.proofs.Clear.{In, IsKept, AreKept, AllKept, all_clear, cons_nil, no_else, none_told, none_of, sure_of, each_looked, about_in, free_in}
 use Rattle.aa_assert.proofs.Naming.{AreSaid, are_said, ends_led, comes_way}
 use Rattle.aa_assert.proofs.There.{leads_there}
 
@@ -298,8 +298,7 @@ module _ (each : EachDecides) (d : Part) (read whole : Policy) (place : ℕ → 
           ∙ (or_none (is_about ws h.0.name) _ h.1).1)
 
       module _
-          (kept : (k : ℕ) → k < length read.profiles → (p : Profile) → slice_get read.profiles k ≡ Some p → is_about ws p.name ≡ true → AreKept d
-          (Confined 0 k) says) where
+          (kept : (k : ℕ) (p : Profile) → slice_get read.profiles k ≡ Some p → is_about ws p.name ≡ true → AreKept d (Confined 0 k) says) where
         read_holds : (n m : ℕ) (q : Profile) → n < length read.profiles → place n ≡ m → slice_get whole.profiles m ≡ Some q → is_about ws q.name ≡ true
             → IsBrokenAt d.unclean (whole ∷ []) ws (Confined 0 m) says → ⊥
         read_holds n m q lt at got about broken =
@@ -317,7 +316,7 @@ module _ (each : EachDecides) (d : Part) (read whole : Policy) (place : ℕ → 
             found p is =
                 let there = w.joined.kept n p is in
                 let same = same_Some _ _ (sym there.1 ∙ (ap (slice_get whole.profiles) at ∙ got)) in
-                let k = kept n lt p is (subst (λ (x : Profile). is_about ws x.name ≡ true) (sym same) about) in
+                let k = kept n p is (subst (λ (x : Profile). is_about ws x.name ≡ true) (sym same) about) in
                 says_hold ws (Confined 0 n) says said k
                 (λ e. ap (λ (o : Option Profile). option_map_or (λ (x : Profile). x.complain) o false) there.1 ∙ enforced_here p is
                 (subst (AreKept d (Confined 0 n)) e k))
@@ -333,13 +332,6 @@ module _ (each : EachDecides) (d : Part) (read whole : Policy) (place : ℕ → 
             (λ (child : IsUnreadChild (together (unreads ks)) (length read.profiles) whole.profiles place q). not_child q child (texts m q got) about) added)
             (w.joined.added m q got)
 
-within : (ps : List Policy) (n : ℕ) (p : Profile) → profile_in ps 0 n ≡ Some p → n < count_of ps
-within ps n p e = at (slice_get ps 0) e
-  where
-    at : (o : Option Policy) → option_and_then (λ (q : Policy). slice_get q.profiles n) o ≡ Some p → n < option_map_or (λ (q : Policy). length q.profiles) o 0
-    at None f = absurd (let g : None ≡ Some p = f in cc)
-    at (Some q) f = slice_get_within q.profiles n p f
-
 -- what is known of a claim that is clear
 module _ (first : Bool) (d : Part) (limit : ℕ) (ws : List ClaimWord) (head asked : ClaimWord) (fs : AllFound)
     (answer : IsAnswerBy first d limit ws head asked fs)
@@ -347,8 +339,8 @@ module _ (first : Bool) (d : Part) (limit : ℕ) (ws : List ClaimWord) (head ask
   said : AreSaid d.decided.policies.now ws answer.says
   said = are_said d ws head asked answer.says answer.is_asked
 
-  kept : AllKept first d limit ws answer.says asked.text.items (count_of d.decided.policies.now)
-  kept = all_clear first d limit ws answer.says asked.text.items (count_of d.decided.policies.now) answer.are.0 answer.are.1 (subst IsClear answer.are.2 clear)
+  kept : AllKept first d limit ws answer.says asked.text.items
+  kept = all_clear first d limit ws answer.says asked.text.items answer.are.0 answer.are.1 (subst IsClear answer.are.2 clear)
 
   module _ (closed : ClosedWords) where
     none_broken : (l : Label) (v : Word) (Is : Request → Type 0) → IsKept d l v Is → IsBroken v Is → ⊥
@@ -362,22 +354,44 @@ module _ (first : Bool) (d : Part) (limit : ℕ) (ws : List ClaimWord) (head ask
     holds_here l (Always v) is k broken = none_broken l v _ k broken
     holds_here l (Leads v ls) is k broken =
         none_broken l v _ k (broken.0, broken.1, (broken.2.0, ends_led d.decided.policies.now ws ls is l broken.0 broken.2.1))
-    holds_here l (Reaches ls) is k broken = k.1 broken.0 (comes_way d.decided.policies.now ws ls is l broken.0 broken.1)
+    holds_here l (Reaches ls) is k broken = k.1 broken.0 broken.1 (comes_way d.decided.policies.now ws ls is l broken.0 broken.2)
     holds_here l Enforced is k broken = true≢false (sym broken ∙ k)
 
     claim_holds : Holds d.unclean d.decided.policies.now ws answer.says
     claim_holds = record {
       free = λ about broken. holds_here (Unconfined 0) answer.says said (kept.free about) broken;
-      each = λ n p e about broken. holds_here (Confined 0 n) answer.says said (kept.each n (within d.decided.policies.now n p e) p e about) broken;
+      each = λ n p e about broken. holds_here (Confined 0 n) answer.says said (kept.each n p e about) broken;
     }
 
 pub clear_claims_hold : ClosedWords → ClearClaimsHold
 clear_claims_hold closed first d limit ws head asked fs answer clear = claim_holds first d limit ws head asked fs answer clear closed
 
+-- each whom a claim is about is one of the labels
+about_label : (policies : List Policy) (ws : List ClaimWord) (l : Label) → IsAbout policies ws l → In l (labels_about ws (first_profiles policies))
+about_label policies ws (Unconfined k) about =
+    subst (λ (i : ℕ). In (Unconfined i) (labels_about ws (first_profiles policies))) (sym about.0) (free_in policies ws about.1)
+about_label policies ws (Confined k n) about =
+    subst (λ (i : ℕ). In (Confined i n) (labels_about ws (first_profiles policies))) (sym about.0)
+    (about_in policies ws n about.1.0 about.1.1 about.1.2)
+
+pub told_ways_break : ToldWaysBreak
+told_ways_break first d limit ws head asked fs answer ls says l about rs comes sure nobody =
+    let policies = d.decided.policies.now in
+    let are = answer.are in
+    let text = asked.text.items in
+    let labels = labels_about ws (first_profiles policies) in
+    let named : AreSaid policies ws (Reaches ls) = subst (AreSaid policies ws) says (are_said d ws head asked answer.says answer.is_asked) in
+    let none = sym (ap (λ (x : AllFound). x.list) are.2) ∙ nobody in
+    let rest = no_else (files_concerned ws d) (first_some (map (λ (x : AllFound). x.doubt) are.0)) (sym (ap (λ (x : AllFound). x.doubt) are.2) ∙ sure) in
+    let t = each_looked first (IsFoundAt d limit answer.says text) labels are.0 are.1 none l (about_label policies ws l about) in
+    let at : IsFoundOfPassage d limit l ls t.0 = subst (λ (a : Asked). IsFoundAt d limit a text l t.0) says t.1 in
+    none_told d limit l t.0 (none_of (λ (x : AllFound). x.list) t.0 are.0 t.2 none) (sure_of t.0 are.0 t.2 rest.1) ls at.0 at.1 at.2 rs
+    comes.counted comes.told (comes_way policies ws ls named l rs comes.comes)
+
 pub claims_hold : EachDecides → ClosedWords → ClaimsHold
 claims_hold each closed first d limit ws head asked fs read whole place w texts answer clear m q got about broken =
     let k = kept first d limit ws head asked fs answer clear in
-    let each_kept = subst (λ (ps : List Policy). (i : ℕ) → i < count_of ps → (p : Profile) → profile_in ps 0 i ≡ Some p → is_about ws p.name ≡ true
+    let each_kept = subst (λ (ps : List Policy). (i : ℕ) (p : Profile) → profile_in ps 0 i ≡ Some p → is_about ws p.name ≡ true
     → AreKept d (Confined 0 i) answer.says) w.one k.each in
     holds each d read whole place w closed ws answer.says (said first d limit ws head asked fs answer clear) k.unconcerned each_kept texts m q got about broken
 

@@ -7,12 +7,13 @@ use Rattle.aa_model.specs.declared.policy.Profile.{Profile}
 use Rattle.aa_model.specs.declared.label.Label.{Label}
 use Rattle.aa_model.specs.declared.label.Label.TheVariants.{Unconfined, Confined}
 use Rattle.aa_model.specs.declared.request.Request.{Request}
+use Rattle.aa_compile.specs.Labels.{first_profiles}
 use Rattle.aa_ask.specs.Verdicts.{profile_at}
 use Rattle.aa_quantifiers.specs.declared.word.Word.{Word}
 use Rattle.aa_quantifiers.specs.Quantities.{IsAnswered}
 use Rattle.aa_quantifiers.specs.declared.aim.Labels.{Labels}
 use Rattle.aa_undecided.specs.Answers.{PlacedFile}
-use Rattle.aa_who.specs.Grants.{count_of, does_count}
+use Rattle.aa_unclean_paths.specs.Requests.{does_request_count}
 use Rattle.aa_claims.specs.declared.words.ClaimWord.{ClaimWord}
 use Rattle.aa_assert.specs.declared.passage.Passage.{Passage}
 use Rattle.aa_assert.specs.declared.passage.Passage.TheVariants as passage
@@ -23,13 +24,13 @@ use Rattle.aa_assert.specs.declared.judging.Judgement.TheVariants as is
 use Rattle.aa_assert.specs.declared.part.Part.{Part}
 use Rattle.aa_assert.specs.Judging.{IsBroken, IsJudged}
 use Rattle.aa_assert.specs.Leading.{IsLedTo}
-use Rattle.aa_assert.specs.Passages.{IsPassage}
-use Rattle.aa_assert.specs.Findings.{Found, AllFound, Complaining, told_unless, counts, broken_if, IsFoundOf, passed_by, complaining_in}
+use Rattle.aa_assert.specs.Passages.{do_count, IsPassage}
+use Rattle.aa_assert.specs.Findings.{Found, AllFound, Complaining, told_unless, counts, broken_if, IsFoundOf, by_way, way_counts, passed_if, complaining_in}
 use Rattle.aa_assert.specs.Findings.{IsFoundAt, is_found, AreFoundAt, labels_about}
-use Rattle.aa_assert.specs.Holding.{Counted, Uncounted, IsBrokenAt, Holds, ToldBreak, ToldApart, ToldFail, IsAbout, ByRequestOf, Shows, ShowsApart}
-use Rattle.aa_assert.proofs.Counted.{uncounted_too}
+use Rattle.aa_assert.specs.Holding.{Counted, Uncounted, IsBrokenAt, Holds, ToldBreak, ToldApart, ToldFail, IsAbout, ByRequestOf, ByWayOf, Shows, ShowsApart}
+use Rattle.aa_assert.proofs.Counted.{all_count, uncounted_too, none_counted}
 use Rattle.aa_assert.proofs.Clear.{In, in_parts, in_about}
-use Rattle.aa_assert.proofs.Naming.{AreSaid, are_said, ends_led, led_ends, way_comes}
+use Rattle.aa_assert.proofs.Naming.{AreSaid, are_said, ends_led, led_ends, way_comes, comes_way}
 
 contains_in : {X : Type 0} (xs : List X) (x : X) (i : ℕ) → i < length xs → get_or xs i x ≡ x → In x xs
 contains_in [] x i lt e = absurd (omega (arith, lt))
@@ -66,9 +67,9 @@ module _ (d : Part) (limit : ℕ) (ws : List ClaimWord) (text : List ℕ) (l : L
 
   by_judgement : (Is : Request → Type 0) (w : Word) (j : Judgement) → IsJudged d.decided.policies.now limit l Is w text j
       → In f (broken_if (counts d j) d l j) → ByRequestOf d l w (Counted d.unclean Is) f
-  by_judgement Is w (is.Broken r) judged i = at (does_count d.unclean r) refl i
+  by_judgement Is w (is.Broken r) judged i = at (does_request_count d.unclean r) refl i
     where
-      at : (b : Bool) → does_count d.unclean r ≡ b → In f (broken_if b d l (is.Broken r)) → ByRequestOf d l w (Counted d.unclean Is) f
+      at : (b : Bool) → does_request_count d.unclean r ≡ b → In f (broken_if b d l (is.Broken r)) → ByRequestOf d l w (Counted d.unclean Is) f
       at true e k = (r, judged.1.is, (e, judged.1.answer), unless_one _ _ k)
       at false e k = absurd k
   by_judgement Is w (is.Holds r) judged i = absurd i
@@ -78,11 +79,24 @@ module _ (d : Part) (limit : ℕ) (ws : List ClaimWord) (text : List ℕ) (l : L
   by_request Is w is = by_judgement Is w is.0 is.1 (subst (λ (x : AllFound). In f x.list) is.2 there)
 
   by_passage : (ls : Labels) → AreSaid d.decided.policies.now ws (Reaches ls) → (p : Passage) → IsPassage d.decided.policies.now limit l ls p
-      → In f (passed_by d l p)
-      → Shows d ws l (Reaches ls) f
-  by_passage ls said (passage.Through way) is i = (way.items, way_comes d.decided.policies.now ws ls said l way.items is.is, unless_one _ _ i)
+      → In f (passed_if (way_counts d p) d l p) → ByWayOf d ws l true f
+  by_passage ls said (passage.Through way) is i = at (do_count d.unclean way.items) refl i
+    where
+      at : (b : Bool) → do_count d.unclean way.items ≡ b → In f (passed_if b d l (passage.Through way)) → ByWayOf d ws l true f
+      at true e k = (way.items, e, way_comes d.decided.policies.now ws ls said l way.items is.shortest.is, unless_one _ _ k)
+      at false e k = absurd k
   by_passage ls said passage.Nowhere is i = absurd i
   by_passage ls said (passage.Untold at why) is i = absurd i
+  by_passage ls said (passage.CleanUntold way at why) is i = on d.unclean refl i
+    where
+      on : (b : Bool) → d.unclean ≡ b → In f (if b then by_way d l way.items else []) → ByWayOf d ws l true f
+      on true e k = (
+        way.items,
+        ap (λ (u : Bool). do_count u way.items) e ∙ all_count way.items,
+        way_comes d.decided.policies.now ws ls said l way.items is.shortest.is,
+        unless_one _ _ k,
+      )
+      on false e k = absurd k
 
   by_complaining : (o : Option Profile) → profile_at d.decided.policies.now l ≡ o → In f (complaining_in o) → Shows d ws l Enforced f
   by_complaining None e i = absurd i
@@ -106,9 +120,9 @@ told_break first d limit ws head asked fs answer f c =
     let are = answer.are in
     let i = subst (λ (x : AllFound). In f x.list) are.2 (contains_in fs.list f c.0 c.1 c.2) in
     let t = told_at first (IsFoundAt d limit answer.says asked.text.items) (λ (x : AllFound). x.list) f
-    (labels_about d.decided.policies.now ws (count_of d.decided.policies.now)) are.0 are.1 i in (
+    (labels_about ws (first_profiles d.decided.policies.now)) are.0 are.1 i in (
       t.0,
-      in_about d.decided.policies.now ws (count_of d.decided.policies.now) t.0 t.1,
+      in_about d.decided.policies.now ws t.0 t.1,
       shown d limit ws asked.text.items t.0 t.2.0 f t.2.2 answer.says (are_said d ws head asked answer.says answer.is_asked) t.2.1,
     )
 
@@ -125,9 +139,9 @@ module _ (d : Part) (limit : ℕ) (ws : List ClaimWord) (text : List ℕ) (l : L
 
   apart_judged : (Is : Request → Type 0) (w : Word) (j : Judgement) → IsJudged d.decided.policies.now limit l Is w text j
       → In f (broken_if (not (counts d j)) d l j) → IsApart w Is
-  apart_judged Is w (is.Broken r) judged i = at (does_count d.unclean r) refl i
+  apart_judged Is w (is.Broken r) judged i = at (does_request_count d.unclean r) refl i
     where
-      at : (b : Bool) → does_count d.unclean r ≡ b → In f (broken_if (not b) d l (is.Broken r)) → IsApart w Is
+      at : (b : Bool) → does_request_count d.unclean r ≡ b → In f (broken_if (not b) d l (is.Broken r)) → IsApart w Is
       at true e k = absurd k
       at false e k = (
         (r, judged.1.is, (e, judged.1.answer), apart_one _ _ k),
@@ -139,6 +153,23 @@ module _ (d : Part) (limit : ℕ) (ws : List ClaimWord) (text : List ℕ) (l : L
   apart_request : (Is : Request → Type 0) (w : Word) → IsFoundOf d limit l Is w text fs → IsApart w Is
   apart_request Is w is = apart_judged Is w is.0 is.1 (subst (λ (x : AllFound). In f x.apart) is.2 there)
 
+  apart_passage : (ls : Labels) → AreSaid d.decided.policies.now ws (Reaches ls) → (p : Passage) → IsPassage d.decided.policies.now limit l ls p
+      → In f (passed_if (not (way_counts d p)) d l p)
+      → ByWayOf d ws l false f × (IsBrokenAt d.unclean d.decided.policies.now ws l (Reaches ls) → ⊥)
+  apart_passage ls said (passage.Through way) is i = at (do_count d.unclean way.items) refl i
+    where
+      at : (b : Bool) → do_count d.unclean way.items ≡ b → In f (passed_if (not b) d l (passage.Through way))
+          → ByWayOf d ws l false f × (IsBrokenAt d.unclean d.decided.policies.now ws l (Reaches ls) → ⊥)
+      at true e k = absurd k
+      at false e k = (
+        (way.items, e, way_comes d.decided.policies.now ws ls said l way.items is.shortest.is, apart_one _ _ k),
+        λ broken. none_counted d.unclean way.items broken.0
+            (λ clean. is.clean broken.0 (comes_way d.decided.policies.now ws ls said l broken.0 broken.2) clean) e broken.1,
+      )
+  apart_passage ls said passage.Nowhere is i = absurd i
+  apart_passage ls said (passage.Untold at why) is i = absurd i
+  apart_passage ls said (passage.CleanUntold way at why) is i = absurd i
+
   shown_apart : (says : Asked) → AreSaid d.decided.policies.now ws says → IsFoundAt d limit says text l fs
       → ShowsApart d ws l says f × (IsBrokenAt d.unclean d.decided.policies.now ws l says → ⊥)
   shown_apart (Never w) said is = apart_request (IsAnswered d.decided.policies.now l true) w is
@@ -148,7 +179,7 @@ module _ (d : Part) (limit : ℕ) (ws : List ClaimWord) (text : List ℕ) (l : L
         (t.0.0, t.0.1, (t.0.2.0, led_ends d.decided.policies.now ws ls said l t.0.0 t.0.2.1), t.0.3),
         λ broken. t.1 (broken.0, broken.1, (broken.2.0, ends_led d.decided.policies.now ws ls said l broken.0 broken.2.1)),
       )
-  shown_apart (Reaches ls) said is = absurd (subst (λ (x : AllFound). In f x.apart) is.2 there)
+  shown_apart (Reaches ls) said is = apart_passage ls said is.0 is.1 (subst (λ (x : AllFound). In f x.apart) is.2 there)
   shown_apart Enforced said is = absurd (subst (λ (x : AllFound). In f x.apart) is there)
 
 pub told_apart : ToldApart
@@ -156,9 +187,9 @@ told_apart first d limit ws head asked fs answer f c =
     let are = answer.are in
     let i = subst (λ (x : AllFound). In f x.apart) are.2 (contains_in fs.apart f c.0 c.1 c.2) in
     let t = told_at first (IsFoundAt d limit answer.says asked.text.items) (λ (x : AllFound). x.apart) f
-    (labels_about d.decided.policies.now ws (count_of d.decided.policies.now)) are.0 are.1 i in
+    (labels_about ws (first_profiles d.decided.policies.now)) are.0 are.1 i in
     let s = shown_apart d limit ws asked.text.items t.0 t.2.0 f t.2.2 answer.says (are_said d ws head asked answer.says answer.is_asked) t.2.1 in
-    (t.0, in_about d.decided.policies.now ws (count_of d.decided.policies.now) t.0 t.1, s.0, s.1)
+    (t.0, in_about d.decided.policies.now ws t.0 t.1, s.0, s.1)
 
 -- ---- so that the claim doesn't hold
 
@@ -167,7 +198,7 @@ module _ (d : Part) (ws : List ClaimWord) (says : Asked) (f : Found) where
   broken_there l (Never w) s = (s.0, s.1, s.2)
   broken_there l (Always w) s = (s.0, s.1, s.2)
   broken_there l (Leads w ls) s = (s.0, s.1, s.2)
-  broken_there l (Reaches ls) s = (s.0, s.1)
+  broken_there l (Reaches ls) s = (s.0, s.1, s.2)
   broken_there (Confined k n) Enforced s = ap (λ (o : Option Profile). option_map_or (λ (p : Profile). p.complain) o false) s.1 ∙ s.2
   broken_there (Unconfined k) Enforced s = absurd (let e : None ≡ Some s.0 = s.1 in cc)
 

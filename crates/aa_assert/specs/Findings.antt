@@ -1,6 +1,6 @@
 -- The profiles against which a claim is broken.
 -- Source: own.
-use Rattle.std.specs.Prelude.{◌≡◌, ℕ, zero, suc, ◌&&◌, not, List, [], ◌∷◌, ◌++◌, map, flat_map, filter, Bool, true, false, Option, Some, None, MatchBool, if◌then◌else◌}
+use Rattle.std.specs.Prelude.{◌≡◌, ℕ, suc, ◌&&◌, not, List, [], ◌∷◌, map, flat_map, filter, Bool, true, false, Option, Some, None, MatchBool, if◌then◌else◌}
 use Rattle.std.specs.Option.{option_map_or}
 use Rattle.std.specs.List.{slice_get}
 use Rattle.aa_model.specs.declared.policy.Policy.{Policy}
@@ -8,11 +8,12 @@ use Rattle.aa_model.specs.declared.policy.Profile.{Profile}
 use Rattle.aa_model.specs.declared.label.Label.{Label}
 use Rattle.aa_model.specs.declared.label.Label.TheVariants.{Unconfined, Confined}
 use Rattle.aa_compile.specs.FileRules.{is_nil}
-use Rattle.aa_compile.specs.Labels.{profile_in}
+use Rattle.aa_reachability.specs.declared.reached.Why.{Why}
 use Rattle.aa_skipped.specs.declared.skipped.Skipped.{Skipped}
+use Rattle.aa_compile.specs.Labels.{first_profiles}
 use Rattle.aa_ask.specs.Told.{Told, told}
 use Rattle.aa_ask.specs.Verdicts.{profile_at}
-use Rattle.aa_who.specs.Grants.{count_of, does_count}
+use Rattle.aa_unclean_paths.specs.Requests.{does_request_count}
 use Rattle.aa_who.specs.Untold.{Untold, untold, untold_at}
 use Rattle.aa_quantifiers.specs.declared.word.Word.{Word}
 use Rattle.aa_claims.specs.declared.words.ClaimWord.{ClaimWord}
@@ -23,7 +24,7 @@ use Rattle.aa_assert.specs.declared.asked.Asked.{Asked}
 use Rattle.aa_assert.specs.declared.asked.Asked.TheVariants.{Never, Leads, Always, Reaches, Enforced}
 use Rattle.aa_assert.specs.declared.passage.Passage.{Passage}
 use Rattle.aa_assert.specs.declared.passage.Passage.TheVariants as passage
-use Rattle.aa_assert.specs.Passages.{going, WayTold, way_told, way_in, untold_line, IsPassage}
+use Rattle.aa_assert.specs.Passages.{going, WayTold, way_told, way_in, untold_line, do_count, IsPassage}
 use Rattle.aa_quantifiers.specs.declared.aim.Labels.{Labels}
 use Rattle.aa_quantifiers.specs.Quantities.{IsAnswered}
 use Rattle.aa_model.specs.declared.request.Request.{Request}
@@ -95,7 +96,7 @@ broken_by d l _ = []
 
 -- it counts: no request at an unclean path, or such requests count
 abbrev pub counts : Part → Judgement → Bool
-counts d (is.Broken r) = does_count d.unclean r
+counts d (is.Broken r) = does_request_count d.unclean r
 counts d _ = true
 
 -- by what it is broken, if that is wanted
@@ -131,20 +132,48 @@ by_way d l way =
     told_unless (files_on_way d.decided.policies.now d.skipped.now l way)
     (ByWay (complains_at d.decided.policies.now l) (way_told d.decided.policies.now l way))
 
--- by what the claim is broken that none leads it there
+-- so, where requests at unclean paths count
+abbrev pub by_unclean_way : Part → Label → List Request → List Found
+by_unclean_way d l way = if d.unclean then by_way d l way else []
+
+-- by what the claim is broken that none leads it there: by a list; or, where it can't be told whether one at clean paths leads there, by one
+-- that has unclean ones, if these count
 abbrev pub passed_by : Part → Label → Passage → List Found
 passed_by d l (passage.Through way) = by_way d l way.items
+passed_by d l (passage.CleanUntold way at why) = by_unclean_way d l way.items
 passed_by d l _ = []
 
--- that it can't be told
-abbrev pub untold_of : List Policy → ℕ → Label → Passage → List Untold
-untold_of ps limit l (passage.Untold at why) = untold_at ps l (untold_line ps limit at why) ∷ []
-untold_of ps limit l _ = []
+-- it counts: each request of the list does
+abbrev pub way_counts : Part → Passage → Bool
+way_counts d (passage.Through way) = do_count d.unclean way.items
+way_counts d _ = true
 
--- both; and each skipped file could lead further
+-- by what it is broken, if that is wanted
+abbrev pub passed_if : Bool → Part → Label → Passage → List Found
+passed_if wanted d l p = if wanted then passed_by d l p else []
+
+-- that it isn't told at that label where requests lead on
+abbrev pub untold_past : List Policy → ℕ → Label → Label → Why → List Untold
+untold_past ps limit l at why = untold_at ps l (untold_line ps limit at why) ∷ []
+
+-- so of requests at clean paths, where those at unclean ones don't count
+abbrev pub clean_untold_past : Part → ℕ → Label → Label → Why → List Untold
+clean_untold_past d limit l at why = if d.unclean then [] else untold_past d.decided.policies.now limit l at why
+
+-- that it can't be told
+abbrev pub untold_of : Part → ℕ → Label → Passage → List Untold
+untold_of d limit l (passage.Untold at why) = untold_past d.decided.policies.now limit l at why
+untold_of d limit l (passage.CleanUntold way at why) = clean_untold_past d limit l at why
+untold_of d limit l _ = []
+
+-- these; and each skipped file could lead further
 abbrev pub passage_found : Part → ℕ → Label → Passage → AllFound
-passage_found d limit l p =
-    record { list = passed_by d l p; apart = []; untold = untold_of d.decided.policies.now limit l p; doubt = map placed d.skipped.now }
+passage_found d limit l p = record {
+  list = passed_if (way_counts d p) d l p;
+  apart = passed_if (not (way_counts d p)) d l p;
+  untold = untold_of d limit l p;
+  doubt = map placed d.skipped.now;
+}
 
 -- what is found of the claim that a task doesn't come to these labels
 abbrev pub IsFoundOfPassage : Part → ℕ → Label → Labels → AllFound → Type 0
@@ -194,31 +223,24 @@ all_of concerned found =
       doubt = or_else concerned (first_some (map (λ (fs : AllFound). fs.doubt) found));
     }
 
--- what is found at one more label
-abbrev pub and_found : AllFound → AllFound → AllFound
-and_found was fs =
-    record { list = was.list ++ fs.list; apart = was.apart ++ fs.apart; untold = was.untold ++ fs.untold; doubt = or_else was.doubt fs.doubt }
+-- the labels of profiles that a claim of these words is about, where the first of them has that number
+abbrev pub labels_from : List ClaimWord → ℕ → List Profile → List Label
+labels_from ws n [] = []
+labels_from ws n (p ∷ ps) = if is_about ws p.name then Confined 0 n ∷ labels_from ws (suc n) ps else labels_from ws (suc n) ps
 
--- the label of profile n, if a claim of these words is about it
-abbrev pub label_if : List ClaimWord → ℕ → Option Profile → List Label
-label_if ws n None = []
-label_if ws n (Some p) = if is_about ws p.name then Confined 0 n ∷ [] else []
-
--- the labels that it is about: of tasks without a profile, and of the first n profiles, in this order
-abbrev pub labels_about : List Policy → List ClaimWord → ℕ → List Label
-labels_about ps ws zero = if is_about_free ws then Unconfined 0 ∷ [] else []
-labels_about ps ws (suc n) = labels_about ps ws n ++ label_if ws n (profile_in ps 0 n)
+-- the labels that it is about, if there are these profiles: of tasks without a profile, and of profiles, in this order
+abbrev pub labels_about : List ClaimWord → List Profile → List Label
+labels_about ws ps = if is_about_free ws then Unconfined 0 ∷ labels_from ws 0 ps else labels_from ws 0 ps
 
 -- the skipped files that may have a profile which it is about
 abbrev pub files_concerned : List ClaimWord → Part → List PlacedFile
 files_concerned ws d = map placed (filter (may_concern ws) d.skipped.now)
 
--- by whom of the tasks without a profile and of the first n profiles a claim of these words is broken, which says this
-abbrev pub AreFoundOf : Bool → Part → ℕ → List ClaimWord → Asked → List ℕ → ℕ → AllFound → Type 0
-AreFoundOf first d limit ws says text n fs =
-    (found : List AllFound) × AreFoundAt first (IsFoundAt d limit says text) (labels_about d.decided.policies.now ws n) found
-    × (fs ≡ all_of (files_concerned ws d) found)
+-- by whom of tasks without a profile and of these profiles a claim of these words is broken, which says this
+abbrev pub AreFoundOf : Bool → Part → ℕ → List ClaimWord → Asked → List ℕ → List Profile → AllFound → Type 0
+AreFoundOf first d limit ws says text ps fs =
+    (found : List AllFound) × AreFoundAt first (IsFoundAt d limit says text) (labels_about ws ps) found × (fs ≡ all_of (files_concerned ws d) found)
 
 -- by whom of all
 abbrev pub AreFound : Bool → Part → ℕ → List ClaimWord → Asked → List ℕ → AllFound → Type 0
-AreFound first d limit ws says text fs = AreFoundOf first d limit ws says text (count_of d.decided.policies.now) fs
+AreFound first d limit ws says text fs = AreFoundOf first d limit ws says text (first_profiles d.decided.policies.now) fs

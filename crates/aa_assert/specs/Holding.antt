@@ -1,6 +1,6 @@
 -- What the answers to a claim say of it: whether it holds, also by the policy of all files, whatever profiles the skipped ones have.
 -- Source: own.
-use Rattle.std.specs.Prelude.{◌≡◌, ℕ, List, [], ◌∷◌, Bool, true, false, Some, Contains}
+use Rattle.std.specs.Prelude.{◌≡◌, ℕ, List, [], ◌∷◌, Bool, true, false, not, Some, Contains}
 use Rattle.std.specs.Option.{option_map_or}
 use Rattle.std.specs.List.{All, slice_get}
 use Rattle.aa_pattern.specs.Globs.{IsNonzeroByte}
@@ -9,19 +9,21 @@ use Rattle.aa_model.specs.declared.policy.Profile.{Profile}
 use Rattle.aa_model.specs.declared.label.Label.{Label}
 use Rattle.aa_model.specs.declared.label.Label.TheVariants.{Unconfined, Confined}
 use Rattle.aa_model.specs.declared.request.Request.{Request}
-use Rattle.aa_compile.specs.Labels.{profile_in}
+use Rattle.aa_compile.specs.Labels.{profile_in, first_profiles}
 use Rattle.aa_mediate.specs.Reply.{reply}
 use Rattle.aa_ask.specs.Told.{is_same}
 use Rattle.aa_ask.specs.Verdicts.{profile_at}
 use Rattle.aa_representatives.specs.Askable.{IsAskable}
-use Rattle.aa_reachability.specs.Reach.{led_by}
+use Rattle.aa_reachability.specs.Reach.{led_by, AreTold}
 use Rattle.aa_skipping.specs.Laws.{moved}
 use Rattle.aa_undecided.specs.Answers.{files_deciding}
 use Rattle.aa_undecided.specs.Holding.{IsWhole}
+use Rattle.aa_quantifiers.specs.declared.aim.Labels.{Labels}
 use Rattle.aa_quantifiers.specs.declared.word.Word.{Word}
 use Rattle.aa_quantifiers.specs.Words.{IsOf}
 use Rattle.aa_quantifiers.specs.Quantities.{grants, IsAnswered}
-use Rattle.aa_who.specs.Grants.{does_count}
+use Rattle.aa_unclean_paths.specs.Requests.{does_request_count}
+use Rattle.aa_who.specs.Untold.{Untold}
 use Rattle.aa_claims.specs.declared.words.ClaimWord.{ClaimWord}
 use Rattle.aa_claims.specs.Forms.{names_led}
 use Rattle.aa_assert.specs.declared.asked.Asked.{Asked}
@@ -30,8 +32,8 @@ use Rattle.aa_assert.specs.declared.part.Part.{Part}
 use Rattle.aa_assert.specs.Enforced.{complains_at, enforced_on}
 use Rattle.aa_assert.specs.Judging.{IsBroken}
 use Rattle.aa_assert.specs.Leading.{is_named_in}
-use Rattle.aa_assert.specs.Passages.{going, way_told}
-use Rattle.aa_assert.specs.Scope.{is_about, is_about_free, names_free, profiles_of}
+use Rattle.aa_assert.specs.Passages.{going, do_count, IsTellable, way_told}
+use Rattle.aa_assert.specs.Scope.{is_about, is_about_free, names_free}
 use Rattle.aa_assert.specs.Findings.{AllFound, Found, ByRequest, ByWay, Complaining, files_on_way}
 use Rattle.aa_assert.specs.Answers.{IsAnswerBy}
 
@@ -40,7 +42,7 @@ use Rattle.aa_assert.specs.Answers.{IsAnswerBy}
 -- `to` or `reach` names tasks without a profile, or the profile of the label
 abbrev pub is_led_to : List Policy → List ClaimWord → Label → Bool
 is_led_to ps ws (Unconfined k) = names_free (names_led ws)
-is_led_to ps ws (Confined k n) = option_map_or (is_named_in (names_led ws)) (slice_get (profiles_of ps) n) false
+is_led_to ps ws (Confined k n) = option_map_or (is_named_in (names_led ws)) (slice_get (first_profiles ps) n) false
 
 -- the rules allow the request at the label, and a label that the claim names is the task's then
 abbrev pub EndsThere : List Policy → List ClaimWord → Label → Request → Type 0
@@ -52,17 +54,17 @@ pub record ComesThere (ps : List Policy) (ws : List ClaimWord) (l : Label) (rs :
   pub leaves : is_same l (led_by (going ps) l rs) ≡ false
   pub arrives : is_led_to ps ws (led_by (going ps) l rs) ≡ true
 
--- it is so of a request that counts: unclean paths do, or it is at none
+-- it is so of a request that counts: it is at no unclean path, or these count
 abbrev pub Counted : Bool → (Request → Type 0) → Request → Type 0
-Counted unclean Is r = (does_count unclean r ≡ true) × Is r
+Counted unclean Is r = (does_request_count unclean r ≡ true) × Is r
 
 -- a claim of these words that says this is broken at a label: a request of its word that counts is granted, or ends at a label that it names,
--- or isn't granted; or requests, at whatever paths, come to one; or the profile complains
+-- or isn't granted; or requests that count come to one; or the profile complains
 abbrev pub IsBrokenAt : Bool → List Policy → List ClaimWord → Label → Asked → Type 0
 IsBrokenAt unclean ps ws l (Never w) = IsBroken w (Counted unclean (IsAnswered ps l true))
 IsBrokenAt unclean ps ws l (Leads w ls) = IsBroken w (Counted unclean (EndsThere ps ws l))
 IsBrokenAt unclean ps ws l (Always w) = IsBroken w (Counted unclean (IsAnswered ps l false))
-IsBrokenAt unclean ps ws l (Reaches ls) = (rs : List Request) × ComesThere ps ws l rs
+IsBrokenAt unclean ps ws l (Reaches ls) = (rs : List Request) × (do_count unclean rs ≡ true) × ComesThere ps ws l rs
 IsBrokenAt unclean ps ws l Enforced = complains_at ps l ≡ true
 
 -- it is broken by nobody whom it is about: neither by tasks without a profile nor by profiles
@@ -92,14 +94,18 @@ IsAbout ps ws (Confined k n) = (k ≡ 0) × ((p : Profile) × (profile_in ps 0 n
 abbrev pub ByRequestOf : Part → Label → Word → (Request → Type 0) → Found → Type 0
 ByRequestOf d l w Is f = (r : Request) × IsOf w r × Is r × (f ≡ ByRequest (complains_at d.decided.policies.now l) (enforced_on d.decided l r))
 
+-- what is told are requests that come to a label which the claim names, and that all count, or don't
+abbrev pub ByWayOf : Part → List ClaimWord → Label → Bool → Found → Type 0
+ByWayOf d ws l counted f =
+    (rs : List Request) × (do_count d.unclean rs ≡ counted) × ComesThere d.decided.policies.now ws l rs
+    × (f ≡ ByWay (complains_at d.decided.policies.now l) (way_told d.decided.policies.now l rs))
+
 -- what is told shows that a claim of these words, which says this, is broken at the label
 abbrev pub Shows : Part → List ClaimWord → Label → Asked → Found → Type 0
 Shows d ws l (Never w) f = ByRequestOf d l w (Counted d.unclean (IsAnswered d.decided.policies.now l true)) f
 Shows d ws l (Leads w ls) f = ByRequestOf d l w (Counted d.unclean (EndsThere d.decided.policies.now ws l)) f
 Shows d ws l (Always w) f = ByRequestOf d l w (Counted d.unclean (IsAnswered d.decided.policies.now l false)) f
-Shows d ws l (Reaches ls) f =
-    (rs : List Request) × ComesThere d.decided.policies.now ws l rs
-    × (f ≡ ByWay (complains_at d.decided.policies.now l) (way_told d.decided.policies.now l rs))
+Shows d ws l (Reaches ls) f = ByWayOf d ws l true f
 Shows d ws l Enforced f = (p : Profile) × (profile_at d.decided.policies.now l ≡ Some p) × (p.complain ≡ true) × (f ≡ Complaining p.name)
 
 -- each by whom a claim is told to be broken is one whom it is about, and breaks it
@@ -110,28 +116,49 @@ ToldBreak = (first : Bool) (d : Part) (limit : ℕ) (ws : List ClaimWord) (head 
 
 -- it is so of a request that doesn't count
 abbrev pub Uncounted : Bool → (Request → Type 0) → Request → Type 0
-Uncounted unclean Is r = (does_count unclean r ≡ false) × Is r
+Uncounted unclean Is r = (does_request_count unclean r ≡ false) × Is r
 
 -- what is told shows that the claim is broken at the label, but by requests that don't count
 abbrev pub ShowsApart : Part → List ClaimWord → Label → Asked → Found → Type 0
 ShowsApart d ws l (Never w) f = ByRequestOf d l w (Uncounted d.unclean (IsAnswered d.decided.policies.now l true)) f
 ShowsApart d ws l (Leads w ls) f = ByRequestOf d l w (Uncounted d.unclean (EndsThere d.decided.policies.now ws l)) f
 ShowsApart d ws l (Always w) f = ByRequestOf d l w (Uncounted d.unclean (IsAnswered d.decided.policies.now l false)) f
-ShowsApart d ws l _ f = ⊥
+ShowsApart d ws l (Reaches ls) f = ByWayOf d ws l false f
+ShowsApart d ws l Enforced f = ⊥
 
--- each by whom a claim is told to be broken at unclean paths alone is one whom it is about: none of his requests that count breaks it, and
--- one that doesn't breaks it
+-- each by whom a claim is told to be broken at unclean paths alone is one whom it is about: none of his requests that count breaks it, nor a
+-- list of such, and one that doesn't breaks it, or a list of which one doesn't
 abbrev pub ToldApart : Type 0
 ToldApart = (first : Bool) (d : Part) (limit : ℕ) (ws : List ClaimWord) (head asked : ClaimWord) (fs : AllFound)
     → (answer : IsAnswerBy first d limit ws head asked fs) → (f : Found) → Contains fs.apart f
     → (l : Label) × IsAbout d.decided.policies.now ws l × ShowsApart d ws l answer.says f
     × (IsBrokenAt d.unclean d.decided.policies.now ws l answer.says → ⊥)
 
--- an answer by which nobody breaks the claim, at unclean paths neither, is the answer where requests at these count as others
+-- all is told of a claim that no list of requests leads to some labels
+abbrev pub AreWaysTold : Asked → List Untold → Type 0
+AreWaysTold (Reaches ls) untold = untold ≡ []
+AreWaysTold _ untold = Unit {0}
+
+-- an answer by which nobody breaks the claim, at unclean paths neither, is the answer where requests at these count as others; of lists that lead
+-- to some labels all is told there
 abbrev pub QuietAnswersCountAll : Type 0
 QuietAnswersCountAll = (first : Bool) (d : Part) (limit : ℕ) (ws : List ClaimWord) (head asked : ClaimWord) (fs : AllFound)
-    → IsAnswerBy first d limit ws head asked fs → fs.list ≡ [] → fs.apart ≡ []
+    → (answer : IsAnswerBy first d limit ws head asked fs) → fs.list ≡ [] → fs.apart ≡ [] → AreWaysTold answer.says fs.untold
     → IsAnswerBy first (record d { unclean = true }) limit ws head asked fs
+
+-- requests that count come to a label that the claim names, and lead on from no label but such of which it can be told where requests lead on: if
+-- those at unclean paths don't count, where those at clean ones do
+pub record ComesToldThere (unclean : Bool) (ps : List Policy) (limit : ℕ) (ws : List ClaimWord) (l : Label) (rs : List Request) : Type 0 where
+  pub comes : ComesThere ps ws l rs
+  pub counted : do_count unclean rs ≡ true
+  pub told : AreTold (going ps) (IsTellable (not unclean) ps limit) l rs
+
+-- where requests come so to a label from one whom it is about, a claim that none does is told to be broken, unless skipped files could break it
+abbrev pub ToldWaysBreak : Type 0
+ToldWaysBreak = (first : Bool) (d : Part) (limit : ℕ) (ws : List ClaimWord) (head asked : ClaimWord) (fs : AllFound)
+    → (answer : IsAnswerBy first d limit ws head asked fs) → (ls : Labels) → answer.says ≡ Reaches ls → (l : Label)
+    → IsAbout d.decided.policies.now ws l → (rs : List Request) → ComesToldThere d.unclean d.decided.policies.now limit ws l rs
+    → fs.doubt ≡ [] → fs.list ≡ [] → ⊥
 
 -- one by whom a claim is told to be broken so that it counts is such that it doesn't hold
 abbrev pub ToldFail : Type 0

@@ -7,6 +7,7 @@ use Rattle.aa_model.specs.declared.label.Label.{Label}
 use Rattle.aa_model.specs.declared.request.Request.{Request}
 use Rattle.aa_model.specs.declared.request.Request.TheVariants.{Change}
 use Rattle.aa_mediate.specs.Reply.{reply}
+use Rattle.aa_compile.specs.Labels.{first_profiles}
 use Rattle.aa_quantifiers.specs.declared.aim.Labels.{Labels}
 use Rattle.aa_quantifiers.specs.declared.word.Word.{Word}
 use Rattle.aa_quantifiers.specs.declared.word.Word.TheVariants.{Files, Execs, One}
@@ -14,7 +15,7 @@ use Rattle.aa_quantifiers.specs.Aims.{has_label}
 use Rattle.aa_quantifiers.specs.Quantities.{grants}
 use Rattle.aa_claims.specs.declared.words.ClaimWord.{ClaimWord}
 use Rattle.aa_claims.specs.Forms.{names_led}
-use Rattle.aa_assert.specs.Scope.{is_among, names_free, profiles_of}
+use Rattle.aa_assert.specs.Scope.{is_among, names_free}
 
 -- a clause names the profile
 abbrev pub is_named_in : Option (List ClaimWord) → Profile → Bool
@@ -23,7 +24,7 @@ is_named_in clause p = is_among false clause p.name
 -- these are the labels that a claim of these words names as such to which nothing leads
 pub record AreLabels (ps : List Policy) (ws : List ClaimWord) (ls : Labels) : Type 0 where
   pub free : ls.free ≡ names_free (names_led ws)
-  pub profiles : ls.profiles.items ≡ map (is_named_in (names_led ws)) (profiles_of ps)
+  pub profiles : ls.profiles.items ≡ map (is_named_in (names_led ws)) (first_profiles ps)
 
 -- a request to change
 abbrev pub is_change : Request → Bool

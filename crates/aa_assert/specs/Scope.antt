@@ -1,10 +1,10 @@
 -- Which tasks a claim is about.
 -- Source: own.
-use Rattle.std.specs.Prelude.{◌≡◌, ℕ, ◌&&◌, ◌||◌, not, List, [], ◌∷◌, ◌++◌, codes, Bool, true, false, Option, Some, None}
+use Rattle.std.specs.Prelude.{◌≡◌, ℕ, ◌&&◌, ◌||◌, not, List, ◌∷◌, ◌++◌, codes, Bool, true, false, Option, Some, None}
 use Rattle.std.specs.Option.{option_map_or}
-use Rattle.std.specs.List.{list_all, list_any, slice_get}
-use Rattle.aa_model.specs.declared.policy.Policy.{Policy}
+use Rattle.std.specs.List.{list_all, list_any}
 use Rattle.aa_model.specs.declared.policy.Profile.{Profile}
+use Rattle.aa_compile.specs.Labels.{first_profiles}
 use Rattle.aa_claims.specs.declared.words.ClaimWord.{ClaimWord}
 use Rattle.aa_claims.specs.Forms.{is_word, names_behind, names_within, names_led}
 use Rattle.aa_skipping.specs.declared.unread.Head.{Head}
@@ -29,10 +29,6 @@ names_free clause = option_map_or (λ (names : List ClaimWord). list_any (λ (w 
 -- a claim of these words is about tasks without a profile: `in` or `from` names them, and `except` doesn't
 abbrev pub is_about_free : List ClaimWord → Bool
 is_about_free ws = names_free (names_within ws) && not (names_free (names_behind (codes "except") ws))
-
--- the profiles of the policy
-abbrev pub profiles_of : List Policy → List Profile
-profiles_of policies = option_map_or (λ (p : Policy). p.profiles) (slice_get policies 0) []
 
 -- a profile with that head, or a child of it, may have a name for which the word stands
 abbrev pub may_be : ClaimWord → Head → Bool
@@ -70,11 +66,11 @@ may_concern ws k = concerns ws k.unread
 
 -- the word names tasks without a profile, or some profile, or a skipped file may have one
 abbrev pub is_somebody : Part → ClaimWord → Bool
-is_somebody d w = is_word (codes "unconfined") w || (list_any (λ (p : Profile). names w p.name) (profiles_of d.decided.policies.now) || list_any (may_have w) d.skipped.now)
+is_somebody d w = is_word (codes "unconfined") w || (list_any (λ (p : Profile). names w p.name) (first_profiles d.decided.policies.now) || list_any (may_have w) d.skipped.now)
 
 -- the claim is about some task, or may be about one of a skipped file
 abbrev pub is_about_some : Part → List ClaimWord → Bool
-is_about_some d ws = is_about_free ws || (list_any (λ (p : Profile). is_about ws p.name) (profiles_of d.decided.policies.now) || list_any (may_concern ws) d.skipped.now)
+is_about_some d ws = is_about_free ws || (list_any (λ (p : Profile). is_about ws p.name) (first_profiles d.decided.policies.now) || list_any (may_concern ws) d.skipped.now)
 
 -- each name of a clause names somebody, if the clause stands there
 abbrev pub AreSomebody : Part → Option (List ClaimWord) → Type 0

@@ -7,14 +7,14 @@ ghost use Rattle.aa_quantifiers.specs.Aims.{IsMet};
 ghost use Rattle.aa_who.specs.Untold.{untold, untold_at};
 ghost use Rattle.aa_claims.specs.Faults.{SaysAt};
 ghost use Rattle.aa_undecided.specs.Answers.{placed_all};
-ghost use Rattle.aa_assert.specs.Findings.{found, all_found, could_change, files_changing_in, files_changing, or_else, told_unless, broken_by, counts, broken_if, untold_by, judged_found, IsFoundOf, files_on_way, by_way, passed_by, untold_of, passage_found, IsFoundOfPassage, complaining_in, complaining_found, IsFoundAt};
+ghost use Rattle.aa_assert.specs.Findings.{found, all_found, could_change, files_changing_in, files_changing, or_else, told_unless, broken_by, counts, broken_if, untold_by, judged_found, IsFoundOf, files_on_way, by_way, by_unclean_way, passed_by, way_counts, passed_if, untold_past, clean_untold_past, untold_of, passage_found, IsFoundOfPassage, complaining_in, complaining_found, IsFoundAt};
 ghost use Rattle.aa_assert.specs.Refused.{fault_of, IsNoPath, AsksNoPath};
 
 use crate::asked::Asked;
 use crate::enforced::{complains_at, verdict_of};
 use crate::judging::{Judgement, judge};
 use crate::part::Part;
-use crate::passage::{Passage, passage_of, untold_line};
+use crate::passage::{Passage, do_count, passage_of, untold_line};
 use crate::way::{Way, next, way_of};
 use aa_ask::Verdict;
 use aa_claims::{ClaimFault, ClaimWord, Wrong};
@@ -23,8 +23,9 @@ use aa_model::{Label, Profile, Request};
 use aa_quantifiers::{Aim, Labels, Word, word_is_open};
 use aa_reachability::Why;
 use aa_skipped::Skipped;
+use aa_unclean_paths::does_request_count;
 use aa_undecided::{SkippedAt, all_placed, files_deciding, push_if};
-use aa_who::{Untold, WhoFault, does_count, push_untold};
+use aa_who::{Untold, WhoFault, push_untold};
 use std::alloc::{AllocError, Global};
 
 /// By what a claim is broken.
@@ -161,7 +162,7 @@ fn counts(part: Part<'_>, judgement: &Judgement) -> bool
     ensures { result ≡ counts part.entry judgement.now }
 {
     match judgement {
-        Judgement::Broken(request) => does_count(part.unclean, request),
+        Judgement::Broken(request) => does_request_count(part.unclean, request),
         Judgement::Holds(_) => true,
         Judgement::Untold(_) => true,
     }
@@ -307,6 +308,21 @@ fn by_way(
     told_unless(alloc, files.as_slice(), finding)
 }
 
+/// The same, where requests at unclean paths count.
+fn by_unclean_way(
+    alloc: Global,
+    part: Part<'_>,
+    label: Label,
+    requests: &[Request],
+) -> Result<Vec<Finding>, AllocError>
+    ensures { IfOk result (λ list. map found list.items ≡ by_unclean_way part.entry label requests.now) }
+{
+    if !part.unclean {
+        return Ok(Vec::new(alloc));
+    }
+    by_way(alloc, part, label, requests)
+}
+
 /// By what the claim is broken that no list of requests leads there.
 fn passed_by(
     alloc: Global,
@@ -320,7 +336,36 @@ fn passed_by(
         Passage::Through(way) => by_way(alloc, part, label, way.as_slice()),
         Passage::Nowhere => Ok(Vec::new(alloc)),
         Passage::Untold(_, _) => Ok(Vec::new(alloc)),
+        Passage::CleanUntold(way, _, _) => by_unclean_way(alloc, part, label, way.as_slice()),
     }
+}
+
+/// Whether it counts by what the claim is broken that no list of requests leads there: each request of the list does.
+fn way_counts(part: Part<'_>, passage: &Passage) -> bool
+    ensures { result ≡ way_counts part.entry passage.now }
+{
+    match passage {
+        Passage::Through(way) => do_count(part.unclean, way.as_slice()),
+        Passage::Nowhere => true,
+        Passage::Untold(_, _) => true,
+        Passage::CleanUntold(_, _, _) => true,
+    }
+}
+
+/// By what it is broken, if that is wanted.
+fn passed_if(
+    alloc: Global,
+    is_wanted: bool,
+    part: Part<'_>,
+    label: Label,
+    passage: &Passage,
+) -> Result<Vec<Finding>, AllocError>
+    ensures { IfOk result (λ list. map found list.items ≡ passed_if is_wanted part.entry label passage.now) }
+{
+    if !is_wanted {
+        return Ok(Vec::new(alloc));
+    }
+    passed_by(alloc, part, label, passage)
 }
 
 /// That it can't be told, since it isn't told at a label where requests lead on.
@@ -332,30 +377,51 @@ fn untold_past(
     at: Label,
     why: Why,
 ) -> Result<Vec<Untold>, AllocError>
-    ensures { IfOk result (λ list. map untold list.items ≡ untold_of policies.now (limit_of states) label (Passage.Untold at why)) }
+    ensures { IfOk result (λ list. map untold list.items ≡ untold_past policies.now (limit_of states) label at why) }
 {
     let line = untold_line(alloc, policies, states, at, why)?;
     one_untold(alloc, policies, label, line.as_slice())
 }
 
+/// The same of requests at clean paths, where those at unclean ones don't count.
+fn clean_untold_past(
+    alloc: Global,
+    part: Part<'_>,
+    states: u32,
+    label: Label,
+    at: Label,
+    why: Why,
+) -> Result<Vec<Untold>, AllocError>
+    ensures { IfOk result (λ list. map untold list.items ≡ clean_untold_past part.entry (limit_of states) label at why) }
+{
+    if part.unclean {
+        return Ok(Vec::new(alloc));
+    }
+    untold_past(alloc, part.decided.policies, states, label, at, why)
+}
+
 /// That it can't be told whether a task comes to some labels, where that is so.
 fn untold_of(
     alloc: Global,
-    policies: &[Compiled],
+    part: Part<'_>,
     states: u32,
     label: Label,
     passage: &Passage,
 ) -> Result<Vec<Untold>, AllocError>
-    ensures { IfOk result (λ list. map untold list.items ≡ untold_of policies.now (limit_of states) label passage.now) }
+    ensures { IfOk result (λ list. map untold list.items ≡ untold_of part.entry (limit_of states) label passage.now) }
 {
+    let policies = part.decided.policies;
     match passage {
         Passage::Through(_) => Ok(Vec::new(alloc)),
         Passage::Nowhere => Ok(Vec::new(alloc)),
         Passage::Untold(at, why) => untold_past(alloc, policies, states, label, *at, *why),
+        Passage::CleanUntold(_, at, why) => {
+            clean_untold_past(alloc, part, states, label, *at, *why)
+        }
     }
 }
 
-/// By what the claim is broken, or that it can't be told; and each skipped file, which could lead the task further.
+/// By what the claim is broken, or at unclean paths alone, or that it can't be told; and each skipped file, which could lead the task further.
 fn passage_found(
     alloc: Global,
     part: Part<'_>,
@@ -365,10 +431,11 @@ fn passage_found(
 ) -> Result<Findings, AllocError>
     ensures { IfOk result (λ fs. all_found fs ≡ passage_found part.entry (limit_of states) label passage.now) }
 {
+    let is_counted = way_counts(part, passage);
     Ok(Findings {
-        list: passed_by(alloc, part, label, passage)?,
-        apart: Vec::new(alloc),
-        untold: untold_of(alloc, part.decided.policies, states, label, passage)?,
+        list: passed_if(alloc, is_counted, part, label, passage)?,
+        apart: passed_if(alloc, !is_counted, part, label, passage)?,
+        untold: untold_of(alloc, part, states, label, passage)?,
         doubt: all_placed(alloc, part.skipped)?,
     })
 }

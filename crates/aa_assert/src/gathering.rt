@@ -1,12 +1,12 @@
 //! By whom a claim is broken, of all whom it is about.
 
-ghost use Rattle.std.specs.Prelude.{◌≡◌, ◌&&◌, ◌||◌, ◌+◌, not, [], zero, Some, IfOk, IfErr, OnOk};
-ghost use Rattle.aa_compile.specs.Labels.{profile_in};
+ghost use Rattle.std.specs.Prelude.{◌≡◌, ◌&&◌, ◌||◌, ◌+◌, ◌∷◌, not, [], take, Some, IfOk, IfErr, OnOk};
+ghost use Rattle.aa_compile.specs.Labels.{profile_in, first_profiles};
 ghost use Rattle.aa_load.specs.UnitPolicy.{limit_of};
 ghost use Rattle.aa_claims.specs.Faults.{SaysAt};
 ghost use Rattle.aa_undecided.specs.Answers.{placed_all};
 ghost use Rattle.aa_assert.specs.Scope.{is_about};
-ghost use Rattle.aa_assert.specs.Findings.{AllFound, all_found, or_else, is_found, all_of, and_found, files_concerned, IsFoundAt, AreFoundOf, AreFound};
+ghost use Rattle.aa_assert.specs.Findings.{AllFound, all_found, or_else, is_found, all_of, files_concerned, IsFoundAt, AreFoundOf, AreFound};
 ghost use Rattle.aa_assert.specs.Refused.{AsksNoPath};
 
 use crate::finding::{Claim, Findings, found_at};
@@ -47,7 +47,7 @@ fn or_else(list: &mut Vec<SkippedAt>, others: Vec<SkippedAt>)
 
 /// Adds what is found at one more label.
 fn push_found(findings: &mut Findings, found: Findings) -> Result<(), AllocError>
-    ensures { OnOk result (all_found findings.new ≡ and_found (all_found findings.old) (all_found found)) }
+    ensures { OnOk result (all_found findings.new ≡ all_of [] (all_found findings.old ∷ all_found found ∷ [])) }
 {
     let Findings {
         mut list,
@@ -70,7 +70,7 @@ fn push_at(
     claim: Claim<'_>,
     label: Label,
 ) -> Result<(), ClaimFault>
-    ensures added { OnOk result ((fs : AllFound) × IsFoundAt part.entry (limit_of claim.entry.states) claim.entry.asked.now claim.entry.word.now.text.items label fs × (all_found findings.new ≡ and_found (all_found findings.old) fs)) }
+    ensures added { OnOk result ((fs : AllFound) × IsFoundAt part.entry (limit_of claim.entry.states) claim.entry.asked.now claim.entry.word.now.text.items label fs × (all_found findings.new ≡ all_of [] (all_found findings.old ∷ fs ∷ []))) }
     ensures refused { IfErr result (λ e. SaysAt (AsksNoPath claim.entry.word.now claim.entry.asked.now) e) }
 {
     let found = found_at(alloc, part, claim, label)?;
@@ -110,8 +110,8 @@ fn push_profile(
     profile: &Profile,
 ) -> Result<(), ClaimFault>
     requires there { profile_in part.decided.policies.now 0 number ≡ Some profile.now }
-    requires before { AreFoundOf claim.is_first part (limit_of claim.states) claim.words.now claim.asked.now claim.word.now.text.items number (all_found findings.old) }
-    ensures found { OnOk result (AreFoundOf claim.entry.is_first part.entry (limit_of claim.entry.states) claim.entry.words.now claim.entry.asked.now claim.entry.word.now.text.items (number + 1) (all_found findings.new)) }
+    requires before { AreFoundOf claim.is_first part (limit_of claim.states) claim.words.now claim.asked.now claim.word.now.text.items (take number (first_profiles part.decided.policies.now)) (all_found findings.old) }
+    ensures found { OnOk result (AreFoundOf claim.entry.is_first part.entry (limit_of claim.entry.states) claim.entry.words.now claim.entry.asked.now claim.entry.word.now.text.items (take (number + 1) (first_profiles part.entry.decided.policies.now)) (all_found findings.new)) }
     ensures refused { IfErr result (λ e. SaysAt (AsksNoPath claim.entry.word.now claim.entry.asked.now) e) }
 {
     if is_passed(alloc, claim, profile, findings)? {
@@ -128,8 +128,8 @@ fn push_number(
     claim: Claim<'_>,
     number: u16,
 ) -> Result<(), ClaimFault>
-    requires { AreFoundOf claim.is_first part (limit_of claim.states) claim.words.now claim.asked.now claim.word.now.text.items number (all_found findings.old) }
-    ensures found { OnOk result (AreFoundOf claim.entry.is_first part.entry (limit_of claim.entry.states) claim.entry.words.now claim.entry.asked.now claim.entry.word.now.text.items (number + 1) (all_found findings.new)) }
+    requires { AreFoundOf claim.is_first part (limit_of claim.states) claim.words.now claim.asked.now claim.word.now.text.items (take number (first_profiles part.decided.policies.now)) (all_found findings.old) }
+    ensures found { OnOk result (AreFoundOf claim.entry.is_first part.entry (limit_of claim.entry.states) claim.entry.words.now claim.entry.asked.now claim.entry.word.now.text.items (take (number + 1) (first_profiles part.entry.decided.policies.now)) (all_found findings.new)) }
     ensures refused { IfErr result (λ e. SaysAt (AsksNoPath claim.entry.word.now claim.entry.asked.now) e) }
 {
     match profile_of(part.decided.policies, 0, number) {
@@ -152,7 +152,7 @@ fn nobody(alloc: Global, part: Part<'_>, claim: Claim<'_>) -> Result<Findings, A
 
 /// Whether a claim is broken by tasks without a profile.
 fn found_free(alloc: Global, part: Part<'_>, claim: Claim<'_>) -> Result<Findings, ClaimFault>
-    ensures found { IfOk result (λ now. (fs : AllFound) × IsFoundAt part.entry (limit_of claim.entry.states) claim.entry.asked.now claim.entry.word.now.text.items (Label.Unconfined 0) fs × (all_found now ≡ and_found (all_of (files_concerned claim.entry.words.now part.entry) []) fs)) }
+    ensures found { IfOk result (λ now. (fs : AllFound) × IsFoundAt part.entry (limit_of claim.entry.states) claim.entry.asked.now claim.entry.word.now.text.items (Label.Unconfined 0) fs × (all_found now ≡ all_of [] (all_of (files_concerned claim.entry.words.now part.entry) [] ∷ fs ∷ []))) }
     ensures refused { IfErr result (λ e. SaysAt (AsksNoPath claim.entry.word.now claim.entry.asked.now) e) }
 {
     let mut findings = nobody(alloc, part, claim)?;
@@ -162,7 +162,7 @@ fn found_free(alloc: Global, part: Part<'_>, claim: Claim<'_>) -> Result<Finding
 
 /// Whether a claim is broken by tasks without a profile, where it is about them.
 fn started(alloc: Global, part: Part<'_>, claim: Claim<'_>) -> Result<Findings, ClaimFault>
-    ensures found { IfOk result (λ fs. AreFoundOf claim.entry.is_first part.entry (limit_of claim.entry.states) claim.entry.words.now claim.entry.asked.now claim.entry.word.now.text.items zero (all_found fs)) }
+    ensures found { IfOk result (λ fs. AreFoundOf claim.entry.is_first part.entry (limit_of claim.entry.states) claim.entry.words.now claim.entry.asked.now claim.entry.word.now.text.items [] (all_found fs)) }
     ensures refused { IfErr result (λ e. SaysAt (AsksNoPath claim.entry.word.now claim.entry.asked.now) e) }
 {
     if is_about_free(claim.words) {

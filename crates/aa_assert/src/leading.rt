@@ -2,12 +2,11 @@
 
 ghost use Rattle.std.specs.Prelude.{◌≡◌, map, option_map, IfOk};
 ghost use Rattle.aa_claims.specs.Forms.{names_led};
-ghost use Rattle.aa_assert.specs.Scope.{profiles_of};
 ghost use Rattle.aa_assert.specs.Leading.{is_named_in, is_change, may_lead, AreLabels};
 
-use crate::scope::{is_among, names_free, profiles_of};
+use crate::scope::{is_among, names_free};
 use aa_claims::{ClaimWord, names_led};
-use aa_compile::Compiled;
+use aa_compile::{Compiled, first_profiles};
 use aa_model::{Profile, Request};
 use aa_quantifiers::{Labels, Word};
 use std::alloc::{AllocError, Global};
@@ -67,6 +66,6 @@ pub(crate) fn labels_of(
 {
     Ok(Labels {
         free: names_free(names_led(words)),
-        profiles: are_named_in(alloc, words, profiles_of(policies))?,
+        profiles: are_named_in(alloc, words, first_profiles(policies))?,
     })
 }

@@ -7,13 +7,13 @@ ghost use Rattle.aa_claims.specs.declared.words.ClaimWord.{ClaimWord};
 ghost use Rattle.aa_claims.specs.Faults.{SaysAt};
 ghost use Rattle.aa_claims.specs.Forms.{is_word, names_behind, names_within};
 ghost use Rattle.aa_assert.specs.Names.{names};
-ghost use Rattle.aa_assert.specs.Scope.{is_among, is_about, names_free, is_about_free, profiles_of, may_be, may_have, may_be_among, are_all_among, may_be_about_behind, may_be_about, may_concern, is_somebody, is_about_some, AreSomebody};
+ghost use Rattle.aa_assert.specs.Scope.{is_among, is_about, names_free, is_about_free, may_be, may_have, may_be_among, are_all_among, may_be_about_behind, may_be_about, may_concern, is_somebody, is_about_some, AreSomebody};
 ghost use Rattle.aa_assert.specs.Refused.{IsUnnamed};
 
 use crate::names::{is_named, is_one_named, may_name, one_covers, one_may_name};
 use crate::part::Part;
 use aa_claims::{ClaimFault, ClaimWord, Wrong, is_word, names_behind, names_within};
-use aa_compile::Compiled;
+use aa_compile::first_profiles;
 use aa_model::Profile;
 use aa_skipped::Skipped;
 use aa_skipping::Head;
@@ -65,16 +65,6 @@ pub(crate) fn is_about_free(words: &[ClaimWord]) -> bool
     ensures { result ≡ is_about_free words.now }
 {
     names_free(names_within(words)) && !names_free(names_behind(words, "except"))
-}
-
-/// The profiles of the policy.
-pub(crate) fn profiles_of(policies: &[Compiled]) -> &[Profile]
-    ensures { result.now ≡ profiles_of policies.now }
-{
-    match policies.get(0) {
-        Some(compiled) => compiled.policy().profiles.as_slice(),
-        None => &[],
-    }
 }
 
 /// Whether a word stands for one of these profiles.
@@ -232,7 +222,7 @@ fn is_somebody(alloc: Global, part: Part<'_>, word: &ClaimWord) -> Result<bool, 
     if is_word(word, "unconfined") {
         return Ok(true);
     }
-    if is_profile(alloc, profiles_of(part.decided.policies), word)? {
+    if is_profile(alloc, first_profiles(part.decided.policies), word)? {
         return Ok(true);
     }
     one_may_have(alloc, part.skipped, word)
@@ -293,7 +283,7 @@ pub(crate) fn is_about_some(
     if is_about_free(words) {
         return Ok(true);
     }
-    if is_about_one(alloc, profiles_of(part.decided.policies), words)? {
+    if is_about_one(alloc, first_profiles(part.decided.policies), words)? {
         return Ok(true);
     }
     one_may_concern(alloc, part.skipped, words)

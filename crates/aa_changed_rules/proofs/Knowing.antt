@@ -1,14 +1,16 @@
 -- What is known, in a set and in a list.
-use Rattle.std.proofs.Common.{◌≡◌, ℕ, ◌+◌, ◌<◌, List, [], ◌∷◌, ◌++◌, map, length, take, drop, get_or, Bool, true, false, cond, refl, sym, ap, subst, ◌∙◌, append_assoc, Bor, Vec, Global}
-use Rattle.std.specs.Prelude.{not, ◌||◌}
+use Rattle.std.proofs.Common.{◌≡◌, ℕ, zero, suc, ◌+◌, ◌<◌, List, [], ◌∷◌, ◌++◌, length, take, get_or, Bool, true, false, cond}
+use Rattle.std.proofs.Common.{refl, sym, ap, subst, ◌∙◌, append_assoc, arith, Bor, Vec, Global}
+use Rattle.std.specs.Prelude.{not, ◌||◌, filter}
 use Rattle.std.specs.Str.{bytes_eq}
-use Rattle.std.specs.List.{list_any}
+use Rattle.std.specs.List.{list_any, range_with_len}
 use Rattle.std.specs.Cmp.Lexicographic.{nat_list_eq_equiv, slice_cmp, texts_ties}
 use Rattle.std.specs.Ordering.{is_eq, nat_cmp}
-use Rattle.std.proofs.lemmas.List.{map_more, drop_more}
+use Rattle.std.proofs.lemmas.List.{length-map, map_more, take_more}
+use Rattle.std.proofs.lemmas.List.Elements.{filter-append}
 use Rattle.std.proofs.lemmas.List.Folds.{list_any-append}
 use Rattle.aa_changed_rules.specs.Forms.{lists}
-use Rattle.aa_changed_rules.specs.Changed.{alone_from, AreKnown, GoesOn}
+use Rattle.aa_changed_rules.specs.Changed.{is_new, AreKnown, AddsNew}
 
 last_any : (o : Bool) (b : Bool) → (o || (b || false)) ≡ cond b true o
 last_any true true = refl
@@ -49,25 +51,20 @@ known_next vs i v old new key h is same puts are =
     subst (AreKnown new) (ap (λ (f : List ℕ). lists (take i vs) ++ f ∷ []) (same ∙ ap (λ (w : Vec ℕ Global). w.items) is) ∙ sym (map_more (λ (w : Vec ℕ Global). w.items) vs i v h))
     (known_more old new (lists (take i vs)) key puts are)
 
--- one rule more
-pub goes_next : (old new : List (Bor (List ℕ))) (before after : List ℕ) (n : ℕ) (key : Bor (List ℕ)) (rest : List (List ℕ)) (whole : List ℕ) (added : Bool)
-    → added ≡ not (list_any (λ k. is_eq (slice_cmp nat_cmp key.now k.now)) old) → Puts old new key → after ≡ before ++ cond added (n ∷ []) []
-    → GoesOn old before n (key.now ∷ rest) whole → GoesOn new after (n + 1) rest whole
-goes_next old new before after n key rest whole added is puts more g = record {
-  known = g.known ++ key.now ∷ [];
-  are_known = known_more old new g.known key puts g.are_known;
-  goes_on =
-      ap (λ (ns : List ℕ). ns ++ later) (more ∙ ap (λ (b : Bool). before ++ cond b (n ∷ []) []) (is ∙ ap not (same_any key.now old ∙ g.are_known key.now)))
-      ∙ append_assoc before (cond (not (list_any (bytes_eq key.now) g.known)) (n ∷ []) []) later
-      ∙ ap (λ (ns : List ℕ). before ++ (ns ++ later)) (turned (list_any (bytes_eq key.now) g.known)) ∙ g.goes_on;
-}
-  where
-    later : List ℕ
-    later = alone_from (n + 1) (g.known ++ key.now ∷ []) rest
+turned : (n : ℕ) (b : Bool) → cond (not b) (n ∷ []) [] ≡ cond b [] (n ∷ [])
+turned n true = refl
+turned n false = refl
 
-    turned : (b : Bool) → cond (not b) (n ∷ []) [] ≡ cond b [] (n ∷ [])
-    turned true = refl
-    turned false = refl
+-- one rule more
+pub adds_new : (old new : List (Bor (List ℕ))) (before after : List ℕ) (n : ℕ) (key : Bor (List ℕ)) (added : Bool)
+    → added ≡ not (list_any (λ k. is_eq (slice_cmp nat_cmp key.now k.now)) old) → Puts old new key → after ≡ before ++ cond added (n ∷ []) []
+    → AddsNew old new before after n key.now
+adds_new old new before after n key added is puts more = record {
+  known = λ known are. known_more old new known key puts are;
+  numbers = λ known are.
+      more ∙ ap (λ (b : Bool). before ++ cond b (n ∷ []) []) (is ∙ ap not (same_any key.now old ∙ are key.now))
+      ∙ ap (λ (ns : List ℕ). before ++ ns) (turned n (list_any (bytes_eq key.now) known));
+}
 
 append_nil : (ns : List ℕ) → ns ++ [] ≡ ns
 append_nil [] = refl
@@ -81,6 +78,52 @@ pub without_it : (b : Bool) (before : List ℕ) (n : ℕ) → b ≡ false → be
 without_it true before n h = absurd cc
 without_it false before n h = sym (append_nil before)
 
--- at the end all are found
-pub goes_end : (keys : List (Bor (List ℕ))) (numbers : List ℕ) (n : ℕ) (whole : List ℕ) → GoesOn keys numbers n [] whole → numbers ≡ whole
-goes_end keys numbers n whole g = sym (append_nil numbers) ∙ g.goes_on
+range_more : (a n j : ℕ) → a + n ≡ j → range_with_len a (suc n) ≡ range_with_len a n ++ j ∷ []
+range_more a zero j e = let same : a ≡ j = omega (arith, e) in ap (λ (k : ℕ). k ∷ []) same
+range_more a (suc n) j e = ap (λ (l : List ℕ). a ∷ l) (range_more (a + 1) n j (omega (arith, e)))
+
+-- n rules have been gone through: their forms are known beside the others', and the numbers are those of the new ones among them
+pub record IsDone (keys : List (Bor (List ℕ))) (found : List ℕ) (others forms : List (List ℕ)) (n : ℕ) : Type 0 where
+  pub known : AreKnown keys (others ++ take n forms)
+  pub numbers : found ≡ filter (is_new others forms) (range_with_len 0 n)
+
+pub none_done : (keys : List (Bor (List ℕ))) (numbers : List ℕ) (others forms : List (List ℕ)) → AreKnown keys others → numbers ≡ []
+    → IsDone keys numbers others forms 0
+none_done keys numbers others forms are e = record {
+  known = λ q. are q ∙ sym (ap (list_any (bytes_eq q)) (all_of others));
+  numbers = e;
+}
+  where
+    all_of : (xs : List (List ℕ)) → xs ++ [] ≡ xs
+    all_of [] = refl
+    all_of (x ∷ xs) = ap (λ (l : List (List ℕ)). x ∷ l) (all_of xs)
+
+done_more : (old new : List (Bor (List ℕ))) (before after : List ℕ) (others forms : List (List ℕ)) (n : ℕ) (form : List ℕ) → n < length forms
+    → get_or forms n [] ≡ form → AddsNew old new before after n form → IsDone old before others forms n → IsDone new after others forms (n + 1)
+done_more old new before after others forms n form lt is adds done =
+    let known = others ++ take n forms in
+    let all : known ++ form ∷ [] ≡ others ++ take (n + 1) forms =
+    append_assoc others (take n forms) (form ∷ []) ∙ ap (λ (f : List ℕ). others ++ (take n forms ++ f ∷ [])) (sym is)
+    ∙ ap (λ (fs : List (List ℕ)). others ++ fs) (sym (take_more forms n [] lt)) in
+    let on : n + 1 ≡ suc n = omega arith in
+    let range : range_with_len 0 (n + 1) ≡ range_with_len 0 n ++ n ∷ [] = ap (range_with_len 0) on ∙ range_more 0 n n (omega arith) in
+    let p = is_new others forms in record {
+      known = subst (AreKnown new) all (adds.known known done.known);
+      numbers =
+          adds.numbers known done.known ∙ ap (λ (ns : List ℕ). ns ++ cond (list_any (bytes_eq form) known) [] (n ∷ [])) done.numbers
+          ∙ ap (λ (f : List ℕ). filter p (range_with_len 0 n) ++ cond (list_any (bytes_eq f) known) [] (n ∷ [])) (sym is)
+          ∙ ap (λ (ns : List ℕ). filter p (range_with_len 0 n) ++ ns) (sym (turned n (list_any (bytes_eq (get_or forms n [])) known)))
+          ∙ sym (filter-append p (range_with_len 0 n) (n ∷ [])) ∙ ap (filter p) (sym range);
+    }
+
+form_at : (vs : List (Vec ℕ Global)) (i : ℕ) (v : Vec ℕ Global) → i < length vs → v ≡ get_or vs i v → get_or (lists vs) i [] ≡ v.items
+form_at [] i v lt is = absurd (omega (arith, lt))
+form_at (w ∷ ws) zero v lt is = ap (λ (u : Vec ℕ Global). u.items) (sym is)
+form_at (w ∷ ws) (suc i) v lt is = form_at ws i v (omega (arith, lt)) is
+
+pub done_next : (old new : List (Bor (List ℕ))) (before after : List ℕ) (others : List (List ℕ)) (vs : List (Vec ℕ Global)) (n : ℕ)
+    (v : Vec ℕ Global) (form : List ℕ) → n < length vs → v ≡ get_or vs n v → form ≡ v.items
+    → AddsNew old new before after n form → IsDone old before others (lists vs) n → IsDone new after others (lists vs) (n + 1)
+done_next old new before after others vs n v form lt is same adds done =
+    done_more old new before after others (lists vs) n form (omega (arith, lt, length-map vs (λ (u : Vec ℕ Global). u.items)))
+    (form_at vs n v lt is ∙ sym same) adds done

@@ -1,3 +1,4 @@
 pub mod Codes
 pub mod Forms
+pub mod Sameness
 pub mod Changed

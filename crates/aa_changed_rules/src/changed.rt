@@ -1,10 +1,8 @@
 //! The rules that another profile hasn't.
 
-ghost use Rattle.std.specs.Prelude.{◌≡◌, ◌+◌, ◌∷◌, List, ℕ, map, OnOk, IfOk};
-ghost use Rattle.std.specs.List.{list_any};
-ghost use Rattle.std.specs.Str.{bytes_eq};
+ghost use Rattle.std.specs.Prelude.{◌≡◌, map, OnOk, IfOk};
 ghost use Rattle.aa_changed_rules.specs.Forms.{lists, file_form, cap_form, net_form, change_form};
-ghost use Rattle.aa_changed_rules.specs.Changed.{AreKnown, GoesOn, alone, changed_data, changed};
+ghost use Rattle.aa_changed_rules.specs.Changed.{AreKnown, AddsNew, AreChanged, alone, changed_data, changed};
 
 use crate::forms::{cap_form, change_form, file_form, net_form};
 use aa_model::{CapRule, ChangeRule, FileRule, NetRule, Profile};
@@ -38,7 +36,7 @@ fn push_new<'f>(
     number: usize,
     form: &'f [u64],
 ) -> Result<(), AllocError>
-    ensures { OnOk result ((rest : List (List ℕ)) (whole : List ℕ) → GoesOn known.old.keys numbers.old.items number (form.entry.now ∷ rest) whole → GoesOn known.new.keys numbers.new.items (number + 1) rest whole) }
+    ensures { OnOk result (AddsNew known.old.keys known.new.keys numbers.old.items numbers.new.items number form.entry.now) }
 {
     let added = known.insert(form)?;
     if added {
@@ -153,7 +151,8 @@ pub fn changed_rules(
     profile: &Profile,
     other: &Profile,
 ) -> Result<ChangedRules, AllocError>
-    ensures { IfOk result (λ rules. changed_data rules ≡ changed profile.now other.now) }
+    ensures forms { IfOk result (λ rules. changed_data rules ≡ changed profile.now other.now) }
+    ensures told { IfOk result (λ rules. AreChanged profile.now other.now (changed_data rules)) }
 {
     Ok(ChangedRules {
         files: changed_files(alloc, profile.files.as_slice(), other.files.as_slice())?,

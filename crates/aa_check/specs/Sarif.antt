@@ -1,6 +1,7 @@
 -- What `check` finds, as a SARIF log.
 -- Source: SARIF 2.1.0, sections 3.4, 3.13, 3.14, 3.20, 3.27, 3.29, 3.30; RFC 3986, section 2; RFC 8089, section 2; own.
-use Rattle.std.specs.Prelude.{ℕ, ◌/◌, ◌%◌, ◌+◌, ◌==◌, ◌&&◌, ◌||◌, nat_lt, nat_le, not, List, [], ◌∷◌, ◌++◌, map, flat_map, codes, decimal, Bool, if◌then◌else◌, Option, Some, None, option_to_list, Vec}
+use Rattle.std.specs.Prelude.{ℕ, ◌/◌, ◌%◌, ◌+◌, ◌==◌, ◌&&◌, ◌||◌, nat_lt, nat_le, not, List, [], ◌∷◌, ◌++◌, map, flat_map, codes, decimal, Bool}
+use Rattle.std.specs.Prelude.{if◌then◌else◌, Option, Some, None, option_to_list, Vec}
 use Rattle.std.specs.Str.{is_utf8}
 use Rattle.std.specs.declared.alloc.Global.{Global}
 use Rattle.aa_text.specs.Jsons.{json_text, json_bytes, key_text, bool_text, member_text, list_text}

@@ -19,6 +19,10 @@ policy_number (Confined k n) = k
 abbrev pub profile_in : List Policy → ℕ → ℕ → Option Profile
 profile_in policies k n = option_and_then (λ (p : Policy). slice_get p.profiles n) (slice_get policies k)
 
+-- the profiles of the first policy
+abbrev pub first_profiles : List Policy → List Profile
+first_profiles policies = option_map_or (λ (p : Policy). p.profiles) (slice_get policies 0) []
+
 -- how a label is called: by the full name of its profile, or unconfined; one that the policies don't have has no name
 unfoldable pub label_name : List Policy → Label → List ℕ
 label_name policies (Unconfined k) = codes "unconfined"

@@ -4,7 +4,7 @@ ghost use Rattle.std.specs.Prelude.{◌≡◌, option_map};
 ghost use Rattle.std.specs.Option.{option_map_or};
 ghost use Rattle.std.specs.List.{slice_get};
 ghost use Rattle.aa_model.specs.declared.policy.Policy.{Policy};
-ghost use Rattle.aa_compile.specs.Labels.{profile_in, label_name, label_in, label_named};
+ghost use Rattle.aa_compile.specs.Labels.{profile_in, first_profiles, label_name, label_in, label_named};
 
 use crate::compiling::Compiled;
 use aa_model::{Label, Profile};
@@ -15,6 +15,16 @@ pub fn profile_of(policies: &[Compiled], policy: u16, profile: u16) -> Option<&P
 {
     let compiled = policies.get(policy as usize)?;
     compiled.policy().profiles.as_slice().get(profile as usize)
+}
+
+/// The profiles of the first policy.
+pub fn first_profiles(policies: &[Compiled]) -> &[Profile]
+    ensures { result.now ≡ first_profiles policies.now }
+{
+    match policies.get(0) {
+        Some(compiled) => compiled.policy().profiles.as_slice(),
+        None => &[],
+    }
 }
 
 /// How a label is called: by the full name of its profile, or `unconfined`. One that the policies don't have has no name.

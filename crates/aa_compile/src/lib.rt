@@ -25,7 +25,7 @@ pub use applying::{
 };
 pub use attach::{AttachRows, Attachment};
 pub use compiling::{CompileRefusal, Compiled, compile};
-pub use labels::{label_of, name_of_label, profile_of};
+pub use labels::{first_profiles, label_of, name_of_label, profile_of};
 pub use mark::{Mark, Way};
 pub use rows::{FileRows, Row, RowsFault};
 pub use sets::RuleSets;

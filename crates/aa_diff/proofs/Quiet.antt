@@ -1,5 +1,6 @@
 -- Where nothing is told of somebody, both policies of all files answer alike.
-use Rattle.std.proofs.Common.{◌≡◌, ℕ, zero, suc, ◌+◌, ◌<◌, ◌≤◌, ◌⊎◌, inl, inr, List, [], ◌∷◌, ◌++◌, length, map, get_or, Bool, true, false, true≢false, cond, Option, Some, None, option_map, refl, sym, ap, subst, ◌∙◌, Contains, ⊎_elim, arith}
+use Rattle.std.proofs.Common.{◌≡◌, ℕ, zero, suc, ◌+◌, ◌<◌, ◌≤◌, ◌⊎◌, inl, inr, List, [], ◌∷◌, ◌++◌, length, map, get_or, Bool, true, false, true≢false, cond}
+use Rattle.std.proofs.Common.{Option, Some, None, option_map, refl, sym, ap, subst, ◌∙◌, Contains, ⊎_elim, arith}
 use Rattle.std.specs.Prelude.{not, ◌&&◌, ◌||◌, nat_lt, flat_map, filter, is_some, codes, if◌then◌else◌}
 use Rattle.std.specs.Option.{option_map_or}
 use Rattle.std.specs.Str.{bytes_eq}
@@ -18,7 +19,7 @@ use Rattle.aa_model.specs.declared.label.Label.TheVariants.{Unconfined, Confined
 use Rattle.aa_model.specs.declared.answer.Answer.{Answer}
 use Rattle.aa_model.specs.declared.request.Request.{Request}
 use Rattle.aa_compile.specs.FileRules.{is_nil}
-use Rattle.aa_compile.specs.Labels.{profile_in}
+use Rattle.aa_compile.specs.Labels.{profile_in, first_profiles}
 use Rattle.aa_compile.specs.Transitions.{named}
 use Rattle.aa_compile.proofs.ConflictLemmas.{got_in, in_head}
 use Rattle.aa_mediate.specs.Reply.{reply}
@@ -33,7 +34,6 @@ use Rattle.aa_skipping.proofs.Elements.{none_in, flat_map_in}
 use Rattle.aa_skipped.specs.declared.skipped.Skipped.{Skipped}
 use Rattle.aa_skipped.specs.Together.{together, one_decides, has_label, EachDecides}
 use Rattle.aa_skipped.proofs.Each.{head_each}
-use Rattle.aa_ask.specs.Unattached.{first_profiles}
 use Rattle.aa_undecided.specs.Answers.{PlacedFile, placed, files_deciding}
 use Rattle.aa_undecided.specs.Holding.{unreads}
 use Rattle.aa_undecided.proofs.Sound.{none_such}
@@ -53,9 +53,12 @@ use Rattle.aa_diff.specs.Gathered.{is_part, is_as_well}
 use Rattle.aa_diff.specs.Signs.{sign_of}
 use Rattle.aa_diff.specs.Named.{is_named}
 use Rattle.aa_diff.specs.Telling.{IsTold, Itself, ByPart, LinesTellEntries}
-use Rattle.aa_diff.specs.Untold.{About, Free, Named, Others, Untold, is_shown, is_some_file, untold_if, files_opening, undecided_at, undecided_by, undecided_of, all_undecided, untold_of, untold_head, untold_others, untold_file, untold_missing, all_not_compared, is_decided, decided_if, decided_of}
-use Rattle.aa_diff.specs.Holding.{called_at, is_free, covers_name, is_untold, is_apart, lines_told, IsQuiet, IsQuietFree, AreBeside, ProfilesHold, FreeHold}
+use Rattle.aa_diff.specs.Untold.{About, Free, Named, Others, Untold, is_shown, is_some_file, untold_if, files_opening, undecided_at, undecided_by, undecided_of, all_undecided, untold_of, untold_head}
+use Rattle.aa_diff.specs.Untold.{untold_others, untold_file, untold_missing, all_not_compared, is_decided, decided_if, decided_of}
+use Rattle.aa_unclean_paths.specs.Requests.{is_at_unclean_path, does_request_count}
+use Rattle.aa_diff.specs.Holding.{DoesCount, called_at, is_free, covers_name, is_untold, is_apart, lines_told, IsQuiet, IsQuietFree, AreBeside, ProfilesHold, FreeHold}
 use Rattle.aa_diff.proofs.Telling.{label_same}
+use Rattle.aa_diff.proofs.Counting.{part_unclean, counts_too}
 
 -- ---- tests of lists
 
@@ -348,23 +351,26 @@ module _ (stand : NamesStand) (each : EachDecides) (closed : ClosedLabels) where
     abbrev g' : ℕ → ℕ
     g' = pinned (length read'.profiles) (length whole'.profiles) place'
 
-    -- one of the lines is at the label of a difference that no file could decide
-    line_of : (x : Difference) → Contains (decided_of d e xs) x → (f : Finding) × Contains (lines_told d e xs) f × (f.from ≡ x.from)
+    -- one of the lines is at the label of a difference that no file could decide, and at an unclean path only where that is
+    line_of : (x : Difference) → Contains (decided_of d e xs) x
+        → (f : Finding) × Contains (lines_told d e xs) f × (f.from ≡ x.from) × (is_at_unclean_path f.request ≡ true → is_at_unclean_path x.request ≡ true)
     line_of x c = by ((lines.lines d.decided e.decided (decided_of d e xs)).told x c)
       where
-        by : IsTold d.decided e.decided (decided_of d e xs) (lines_told d e xs) x → (f : Finding) × Contains (lines_told d e xs) f × (f.from ≡ x.from)
-        by (Itself t) = (t.0, t.1, t.2.label)
+        by : IsTold d.decided e.decided (decided_of d e xs) (lines_told d e xs) x
+            → (f : Finding) × Contains (lines_told d e xs) f × (f.from ≡ x.from) × (is_at_unclean_path f.request ≡ true → is_at_unclean_path x.request ≡ true)
+        by (Itself t) = (t.0, t.1, t.2.label, t.2.clean)
         by (ByPart y among covered t) =
             let signs = and_parts (is_same y.from x.from && is_part y.request x.request)
             (is_as_well (sign_of d.decided.policies.now e.decided.policies.now y) (sign_of d.decided.policies.now e.decided.policies.now x)) covered in
             let part = and_parts (is_same y.from x.from) (is_part y.request x.request) signs.0 in
-            (t.0, t.1, t.2.label ∙ label_same y.from x.from part.0)
+            (t.0, t.1, t.2.label ∙ label_same y.from x.from part.0, λ u. part_unclean y.request x.request part.1 (t.2.clean u))
 
-    -- at labels at which nothing is undecided and no line is
-    quiet_at : (l m : Label) → has_label read.profiles l ≡ true → has_label read'.profiles m ≡ true → SameLabel d.decided.policies.now e.decided.policies.now l m
-        → files_opening d l ≡ [] → files_opening e m ≡ [] → ((f : Finding) → Contains (lines_told d e xs) f → f.from ≡ l → ⊥) → (r : Request) → IsAskable r
+    -- at labels at which nothing is undecided and no line that counts is
+    quiet_at : (unclean : Bool) (l m : Label) → has_label read.profiles l ≡ true → has_label read'.profiles m ≡ true → SameLabel d.decided.policies.now e.decided.policies.now l m
+        → files_opening d l ≡ [] → files_opening e m ≡ [] → ((f : Finding) → Contains (lines_told d e xs) f → DoesCount unclean f → f.from ≡ l → ⊥) → (r : Request) → IsAskable r
+        → does_request_count unclean r ≡ true
         → AnsweredAlike (whole ∷ []) (whole' ∷ []) (moved f' l) (moved g' m) r
-    quiet_at l m here there same none none' never_so r askable =
+    quiet_at unclean l m here there same none none' never_so r askable counts =
         ⊎_elim
         (λ (alike : AnsweredAlike d.decided.policies.now e.decided.policies.now l m r). stands (subst (λ (qs : List Policy). AnsweredAlike (read ∷ []) qs l m r) b.new.one
         (subst (λ (ps : List Policy). AnsweredAlike ps e.decided.policies.now l m r) b.old.one alike)))
@@ -390,16 +396,17 @@ module _ (stand : NamesStand) (each : EachDecides) (closed : ClosedLabels) where
             (ap (λ (a : Label). files_deciding d.decided.policies.now d.skipped.now a x.request) is.from ∙ first)
             ∙ ap is_nil (ap (λ (a : Label). files_deciding e.decided.policies.now e.skipped.now a x.request) is.to ∙ second) in
             let line = line_of x (flat_map_in (decided_if d e) xs x x c (subst (λ (own : Bool). Contains (cond own (x ∷ []) []) x) (sym decided) (in_head x []))) in
-            never_so line.0 line.1 (line.2 ∙ is.from)
+            never_so line.0 line.1 (counts_too unclean line.0.request x.request r line.3 is.clean counts) (line.2 ∙ is.from)
 
-    free_quiet : IsQuietFree w d e xs → (r : Request) → IsAskable r → AnsweredAlike (whole ∷ []) (whole' ∷ []) (Unconfined 0) (Unconfined 0) r
-    free_quiet quiet r askable =
+    free_quiet : (unclean : Bool) → IsQuietFree unclean w d e xs → (r : Request) → IsAskable r → does_request_count unclean r ≡ true → AnsweredAlike (whole ∷ []) (whole' ∷ []) (Unconfined 0) (Unconfined 0) r
+    free_quiet unclean quiet r askable counts =
         let none = free_none w b.all d e quiet.decided in
-        quiet_at (Unconfined 0) (Unconfined 0) refl refl refl none.0 none.1 quiet.lines r askable
+        quiet_at unclean (Unconfined 0) (Unconfined 0) refl refl refl none.0 none.1 quiet.lines r askable counts
 
-    profile_quiet : (name : List ℕ) → IsQuiet w d e xs name → (m n : ℕ) (p q : Profile) → slice_get whole.profiles m ≡ Some p → p.name ≡ name → slice_get whole'.profiles n ≡ Some q → q.name ≡ name
-        → (r : Request) → IsAskable r → AnsweredAlike (whole ∷ []) (whole' ∷ []) (Confined 0 m) (Confined 0 n) r
-    profile_quiet name quiet m n p q got called got' called' r askable =
+    profile_quiet : (unclean : Bool) (name : List ℕ) → IsQuiet unclean w d e xs name → (m n : ℕ) (p q : Profile) → slice_get whole.profiles m ≡ Some p
+        → p.name ≡ name → slice_get whole'.profiles n ≡ Some q → q.name ≡ name
+        → (r : Request) → IsAskable r → does_request_count unclean r ≡ true → AnsweredAlike (whole ∷ []) (whole' ∷ []) (Confined 0 m) (Confined 0 n) r
+    profile_quiet unclean name quiet m n p q got called got' called' r askable counts =
         let apart = none_apart w b.all name d e quiet.compared in
         let old = found stand (together us) read whole place b.old.joined name m p got called apart.0 in
         let new = found stand (together vs) read' whole' place' b.new.joined name n q got' called' apart.1 in
@@ -408,8 +415,8 @@ module _ (stand : NamesStand) (each : EachDecides) (closed : ClosedLabels) where
         let there' : profile_in e.decided.policies.now 0 new.0 ≡ Some new.1 = ap (λ (ps : List Policy). profile_in ps 0 new.0) b.new.one ∙ new.2 in
         let same : SameLabel d.decided.policies.now e.decided.policies.now (Confined 0 old.0) (Confined 0 new.0) =
         (refl, ap name_of there ∙ (ap Some (old.3 ∙ sym new.3) ∙ sym (ap name_of there'))) in
-        let alike = quiet_at (Confined 0 old.0) (Confined 0 new.0) (held read.profiles old.0 old.1 old.2) (held read'.profiles new.0 new.1 new.2) same none.0 none.1
-        (λ f c at. quiet.lines f c (ap (called_at d.decided.policies.now) at ∙ (ap name_of there ∙ ap Some old.3))) r askable in
+        let alike = quiet_at unclean (Confined 0 old.0) (Confined 0 new.0) (held read.profiles old.0 old.1 old.2) (held read'.profiles new.0 new.1 new.2) same none.0 none.1
+        (λ f c own at. quiet.lines f c own (ap (called_at d.decided.policies.now) at ∙ (ap name_of there ∙ ap Some old.3))) r askable counts in
         let first : f' old.0 ≡ m = pinned_is (length read.profiles) (length whole.profiles) place old.0 (slice_get_within read.profiles old.0 old.1 old.2) ∙ old.4 in
         let second : g' new.0 ≡ n = pinned_is (length read'.profiles) (length whole'.profiles) place' new.0 (slice_get_within read'.profiles new.0 new.1 new.2) ∙ new.4 in
         subst (λ (i : ℕ). AnsweredAlike (whole ∷ []) (whole' ∷ []) (Confined 0 m) (Confined 0 i) r) second
@@ -419,9 +426,9 @@ module _ (stand : NamesStand) (each : EachDecides) (closed : ClosedLabels) where
         held ps k x e = ap (λ (o : Option Profile). is_some o) e
 
 pub profiles_hold : NamesStand → EachDecides → ClosedLabels → LinesTellEntries → ProfilesHold
-profiles_hold stand each closed lines w d e xs read whole read' whole' place place' b name quiet m n p q got called got' called' r askable =
-    profile_quiet stand each closed lines w d e xs read whole read' whole' place place' b name quiet m n p q got called got' called' r askable
+profiles_hold stand each closed lines unclean w d e xs read whole read' whole' place place' b name quiet m n p q got called got' called' r askable counts =
+    profile_quiet stand each closed lines w d e xs read whole read' whole' place place' b unclean name quiet m n p q got called got' called' r askable counts
 
 pub free_hold : NamesStand → EachDecides → ClosedLabels → LinesTellEntries → FreeHold
-free_hold stand each closed lines w d e xs read whole read' whole' place place' b quiet r askable =
-    free_quiet stand each closed lines w d e xs read whole read' whole' place place' b quiet r askable
+free_hold stand each closed lines unclean w d e xs read whole read' whole' place place' b quiet r askable counts =
+    free_quiet stand each closed lines w d e xs read whole read' whole' place place' b unclean quiet r askable counts

@@ -2,7 +2,7 @@
 use Rattle.std.proofs.Common.{◌≡◌, ℕ, ◌+◌, ◌<◌, List, [], ◌∷◌, ◌++◌, length, take, drop, get_or, refl, sym, ap, ◌∙◌}
 use Rattle.aa_model.specs.declared.policy.Policy.{Policy}
 use Rattle.aa_model.specs.declared.label.Label.{Label}
-use Rattle.std.proofs.lemmas.List.{take_more, drop_more, append-nil}
+use Rattle.std.proofs.lemmas.List.{take_more, drop_more}
 use Rattle.aa_command.specs.declared.decided.Decided.{Decided}
 use Rattle.aa_differences.specs.declared.at_labels.Difference.{Difference}
 use Rattle.aa_diff.specs.declared.finding.Finding.{Finding}
@@ -10,7 +10,6 @@ use Rattle.aa_diff.specs.Gathered.{gathered, gathered_next}
 use Rattle.aa_diff.specs.Joined.{joined, joined_all}
 use Rattle.aa_diff.specs.declared.rules.OwnRules.{OwnRules}
 use Rattle.aa_diff.specs.Rules.{own_at, AreOwn}
-use Rattle.aa_diff.specs.Order.{ranked, ordered, in_order}
 
 -- a difference is taken from those that are left, and put behind those before
 pub gathered_step : (d e : Decided) (xs : List Difference) (n : ℕ) (x : Difference) (fs : List Finding) → n < length xs → x ≡ get_or xs n x
@@ -39,7 +38,3 @@ own_itself ps qs l m own a = record {
   old = a.old ∙ sym (ap (λ (k : Label). own_at ps qs k own.to) a.from ∙ ap (own_at ps qs l) a.to);
   new = a.new ∙ sym (ap (λ (k : Label). own_at qs ps k own.from) a.to ∙ ap (own_at qs ps m) a.from);
 }
-
--- all findings are in order at the end
-pub order_end : (out run ys fs all : List Finding) → ((rest : List Finding) → out ++ ordered run rest ≡ in_order (ys ++ rest)) → all ≡ out ++ ranked run → ys ≡ fs → all ≡ in_order fs
-order_end out run ys fs all goes is end = is ∙ (goes [] ∙ ap in_order (append-nil ys ∙ end))

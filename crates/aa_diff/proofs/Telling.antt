@@ -1,9 +1,10 @@
 -- The lines of a list tell of all entries, and of nothing else.
 use Rattle.std.proofs.Common.{◌≡◌, ℕ, zero, suc, ◌<◌, List, [], ◌∷◌, ◌++◌, length, get_or, drop, min, Bool}
-use Rattle.std.proofs.Common.{true, false, not, Option, Some, None, ◌⊎◌, inl, inr, ⊎_elim}
+use Rattle.std.proofs.Common.{true, false, true≢false, not, ◌+◌, ◌≤◌, Option, Some, None, ◌⊎◌, inl, inr, ⊎_elim}
 use Rattle.std.proofs.Common.{refl, sym, ap, ◌∙◌, subst, arith, append_assoc}
 use Rattle.std.specs.Prelude.{⊤, ◌==◌, ◌&&◌, ◌||◌, ◌-◌, ◌↔◌, Contains, position, bit_and, if◌then◌else◌}
 use Rattle.std.specs.Bool.{beq}
+use Rattle.std.specs.Int.{bit_at}
 use Rattle.std.specs.List.{list_any}
 use Rattle.std.specs.Str.{bytes_eq}
 use Rattle.std.proofs.lemmas.Bool.{eqb-true, and_parts, or_cases, and_from}
@@ -16,6 +17,8 @@ use Rattle.aa_model.specs.declared.label.Label.{Label}
 use Rattle.aa_model.specs.declared.label.Label.TheVariants.{Unconfined, Confined}
 use Rattle.aa_model.specs.declared.request.Request.{Request}
 use Rattle.aa_model.specs.declared.request.Request.TheVariants.{File, Link, Exec, Cap, Net, Change, Reload}
+use Rattle.aa_unclean_paths.specs.Deciding.{is_unclean}
+use Rattle.aa_unclean_paths.specs.Requests.{is_at_unclean_path}
 use Rattle.aa_command.specs.declared.decided.Decided.{Decided}
 use Rattle.aa_differences.specs.declared.at_labels.Difference.{Difference}
 use Rattle.aa_diff.specs.declared.options.Wanted.{Wanted}
@@ -27,7 +30,7 @@ use Rattle.aa_diff.specs.declared.finding.Finding.{Finding}
 use Rattle.aa_diff.specs.Signs.{sign_of, sign_number}
 use Rattle.aa_diff.specs.Changes.{is_same}
 use Rattle.aa_diff.specs.Findings.{who_number, kind_number, is_of_class, is_alike, is_profile, finding_of}
-use Rattle.aa_diff.specs.Gathered.{is_single, is_mixed, is_part, is_as_well, covers, recent, hides, counted_up, changed_at, added_at, added, gathered}
+use Rattle.aa_diff.specs.Gathered.{is_single, is_mixed, is_part, is_as_well, covers, recent, hides, is_cleaner, with_more, counted_up, changed_at, added_at, added, gathered}
 use Rattle.aa_diff.specs.Gathered.{gathered_next}
 use Rattle.aa_diff.specs.Joined.{is_one_object, joins, both_of, joined_at, joined, joined_all}
 use Rattle.aa_diff.specs.Named.{is_named}
@@ -54,6 +57,15 @@ has_dropped : {X : Type 0} (P : X → Type 0) (n : ℕ) (xs : List X) → Has P 
 has_dropped P zero xs h = h
 has_dropped P (suc n) [] h = absurd h
 has_dropped P (suc n) (x ∷ xs) h = inr (has_dropped P n xs h)
+
+-- such a one stays where what is changed stays so
+has_kept_at : (P : Finding → Type 0) (change : Finding → Finding) (fs : List Finding) (n : ℕ) (d : Finding) → (P (get_or fs n d) → P (change (get_or fs n d)))
+    → Has P fs → Has P (changed_at change fs n)
+has_kept_at P change [] n d keep h = absurd h
+has_kept_at P change (f ∷ fs) zero d keep (inl p) = inl (keep p)
+has_kept_at P change (f ∷ fs) zero d keep (inr h) = inr h
+has_kept_at P change (f ∷ fs) (suc n) d keep (inl p) = inl p
+has_kept_at P change (f ∷ fs) (suc n) d keep (inr h) = inr (has_kept_at P change fs n d keep h)
 
 has_kept : (P : Finding → Type 0) (change : Finding → Finding) → ((f : Finding) → P f → P (change f)) → (fs : List Finding) (n : ℕ)
     → Has P fs → Has P (changed_at change fs n)
@@ -132,7 +144,7 @@ who_same Others Anybody e = absurd cc
 who_same Others Owner e = absurd cc
 who_same Others Others e = refl
 
-text_same : (a b : List ℕ) → bytes_eq a b ≡ true → a ≡ b
+pub text_same : (a b : List ℕ) → bytes_eq a b ≡ true → a ≡ b
 text_same a b e = (bytes_eq-Decides a b).0 e
 
 holds_through : (a b c : Who) → HoldsOf a b → HoldsOf b c → HoldsOf a c
@@ -149,15 +161,28 @@ tells_through f g h a b = record {
   rules = a.rules ∙ b.rules;
   letters = λ k. omega (arith, a.letters k, b.letters k);
   who = holds_through f.who g.who h.who a.who b.who;
+  clean = λ e. b.clean (a.clean e);
 }
 
 tells_itself : (f : Finding) → TellsOf f f
-tells_itself f = record { label = refl; sign = refl; kind = refl; change = refl; rules = refl; letters = λ k. omega arith; who = OfSame refl }
+tells_itself f = record { label = refl; sign = refl; kind = refl; change = refl; rules = refl; letters = λ k. omega arith; who = OfSame refl; clean = λ e. e }
 
--- a line of the same class tells of it, where it has its permissions and its objects
-of_class : (f g : Finding) → is_of_class f g ≡ true → AreAmong g.letters.0 f.letters.0 → HoldsOf f.who g.who → TellsOf f g
-of_class f g e letters who =
-    let rules = and_parts _ (bytes_eq f.rules g.rules) e in
+-- findings of one line but for their paths
+record AreOne (f g : Finding) : Type 0 where
+  label : f.from ≡ g.from
+  sign : f.sign ≡ g.sign
+  kind : kind_number f.request ≡ kind_number g.request
+  change : f.change ≡ g.change
+  rules : f.rules ≡ g.rules
+  letters : f.letters.0 ≡ g.letters.0
+  who : f.who ≡ g.who
+
+alike_one : (f g : Finding) → is_alike f g ≡ true → AreOne f g
+alike_one f g e =
+    let other = and_parts _ (not (is_profile f)) e in
+    let who = and_parts _ (who_number f.who == who_number g.who) other.0 in
+    let letters = and_parts (is_of_class f g) (f.letters.0 == g.letters.0) who.0 in
+    let rules = and_parts _ (bytes_eq f.rules g.rules) letters.0 in
     let change = and_parts _ (bytes_eq f.change g.change) rules.0 in
     let kind = and_parts _ (kind_number f.request == kind_number g.request) change.0 in
     let sign = and_parts (is_same f.from g.from) (sign_number f.sign == sign_number g.sign) kind.0 in
@@ -167,36 +192,77 @@ of_class f g e letters who =
       kind = eqb-true (kind_number f.request) (kind_number g.request) kind.1;
       change = text_same f.change g.change change.1;
       rules = text_same f.rules g.rules rules.1;
-      letters = letters;
-      who = who;
+      letters = eqb-true f.letters.0 g.letters.0 letters.1;
+      who = who_same f.who g.who who.1;
     }
 
 -- ---- a difference more
 
-alike_tells : (f g : Finding) → is_alike f g ≡ true → TellsOf (counted_up f) g
-alike_tells f g e =
-    let other = and_parts _ (not (is_profile f)) e in
-    let who = and_parts _ (who_number f.who == who_number g.who) other.0 in
-    let letters = and_parts (is_of_class f g) (f.letters.0 == g.letters.0) who.0 in
-    let same : f.letters.0 ≡ g.letters.0 = eqb-true f.letters.0 g.letters.0 letters.1 in
-    let tells : TellsOf f g = of_class f g letters.0 (λ k. rw same (omega arith)) (OfSame (who_same f.who g.who who.1)) in
-    record { label = tells.label; sign = tells.sign; kind = tells.kind; change = tells.change; rules = tells.rules; letters = tells.letters; who = tells.who }
+abbrev unclean : Finding → Bool
+unclean f = is_at_unclean_path f.request
 
-counted_tells : (g f : Finding) → TellsOf f g → TellsOf (counted_up f) g
-counted_tells g f t = record { label = t.label; sign = t.sign; kind = t.kind; change = t.change; rules = t.rules; letters = t.letters; who = t.who }
+abbrev one_more : Finding → ℕ
+one_more f = min (f.more + 1) 18446744073709551615
+
+not_true : (b : Bool) → not b ≡ true → b ≡ true → ⊥
+not_true true e is = true≢false (sym e)
+not_true false e is = true≢false (sym is)
+
+not_and : (a b : Bool) → (a && not b) ≡ false → a ≡ true → b ≡ true
+not_and true true e is = refl
+not_and true false e is = absurd (true≢false e)
+not_and false b e is = absurd (true≢false (sym is))
+
+-- what stands for two findings of one line tells of the latter
+counted_tells_at : (b : Bool) (f g : Finding) → is_cleaner g f ≡ b → AreOne f g → TellsOf (with_more (one_more f) (if b then g else f)) g
+counted_tells_at true f g cleaner same =
+    record { label = refl; sign = refl; kind = refl; change = refl; rules = refl; letters = λ k. omega arith; who = OfSame refl; clean = λ e. e }
+counted_tells_at false f g cleaner same = record {
+  label = same.label;
+  sign = same.sign;
+  kind = same.kind;
+  change = same.change;
+  rules = same.rules;
+  letters = λ k. rw same.letters (omega arith);
+  who = OfSame same.who;
+  clean = λ e. not_and (unclean f) (unclean g) cleaner e;
+}
+
+alike_tells : (f g : Finding) → is_alike f g ≡ true → TellsOf (counted_up g f) g
+alike_tells f g e = counted_tells_at (is_cleaner g f) f g refl (alike_one f g e)
+
+-- and of what the former tells of
+counted_keeps_at : (b : Bool) (f g h : Finding) → is_cleaner g f ≡ b → AreOne f g → TellsOf f h → TellsOf (with_more (one_more f) (if b then g else f)) h
+counted_keeps_at true f g h cleaner same t = record {
+  label = sym same.label ∙ t.label;
+  sign = sym same.sign ∙ t.sign;
+  kind = sym same.kind ∙ t.kind;
+  change = sym same.change ∙ t.change;
+  rules = sym same.rules ∙ t.rules;
+  letters = λ k. subst (λ (n : ℕ). bit_at h.letters.0 k ≤ bit_at n k) same.letters (t.letters k);
+  who = subst (λ (w : Who). HoldsOf w h.who) same.who t.who;
+  clean = λ e. absurd (not_true (unclean g) (and_parts (unclean f) (not (unclean g)) cleaner).1 e);
+}
+counted_keeps_at false f g h cleaner same t =
+    record { label = t.label; sign = t.sign; kind = t.kind; change = t.change; rules = t.rules; letters = t.letters; who = t.who; clean = t.clean }
+
+alike_keeps : (f g h : Finding) → is_alike f g ≡ true → TellsOf f h → TellsOf (counted_up g f) h
+alike_keeps f g h e t = counted_keeps_at (is_cleaner g f) f g h refl (alike_one f g e) t
 
 abbrev Tellers : Finding → List Finding → Type 0
 Tellers g fs = Has (λ (f : Finding). TellsOf f g) fs
 
-added_keeps_at : (o : Option ℕ) (fs : List Finding) (f g : Finding) → Tellers g fs → Tellers g (added_at o fs f)
-added_keeps_at None fs f g h = has_front (λ (x : Finding). TellsOf x g) fs (f ∷ []) h
-added_keeps_at (Some n) fs f g h = has_kept (λ (x : Finding). TellsOf x g) counted_up (counted_tells g) fs n h
+added_keeps_at : (o : Option ℕ) (fs : List Finding) (f g : Finding) → position (λ x. is_alike x f) fs ≡ o → Tellers g fs → Tellers g (added_at o fs f)
+added_keeps_at None fs f g is h = has_front (λ (x : Finding). TellsOf x g) fs (f ∷ []) h
+added_keeps_at (Some n) fs f g is h =
+    let found = position-Some (λ x. is_alike x f) fs n f is in
+    has_kept_at (λ (x : Finding). TellsOf x g) (counted_up f) fs n f (alike_keeps (get_or fs n f) f g found.1) h
 
 added_tells_at : (o : Option ℕ) (fs : List Finding) (f : Finding) → position (λ g. is_alike g f) fs ≡ o → Tellers f (added_at o fs f)
 added_tells_at None fs f is = has_back (λ (x : Finding). TellsOf x f) fs (f ∷ []) (inl (tells_itself f))
 added_tells_at (Some n) fs f is =
     let found = position-Some (λ g. is_alike g f) fs n f is in
-    has_changed (λ (x : Finding). TellsOf x f) counted_up fs n f found.0 (alike_tells (get_or fs n f) f found.1)
+    has_changed (λ (x : Finding). TellsOf x f) (counted_up f) fs n f found.0 (alike_tells (get_or fs n f) f found.1)
 
 module _ (d e : Decided) where
   abbrev own : Difference → Finding
@@ -207,7 +273,7 @@ module _ (d e : Decided) where
 
   next_keeps_at : (b : Bool) (fs : List Finding) (y : Difference) (g : Finding) → Tellers g fs → Tellers g (if b then fs else added fs (own y))
   next_keeps_at true fs y g h = h
-  next_keeps_at false fs y g h = added_keeps_at (position (λ f. is_alike f (own y)) fs) fs (own y) g h
+  next_keeps_at false fs y g h = added_keeps_at (position (λ f. is_alike f (own y)) fs) fs (own y) g refl h
 
   next_tells_at : (b : Bool) (fs : List Finding) (y : Difference) → b ≡ false → Tellers (own y) (if b then fs else added fs (own y))
   next_tells_at true fs y shown = absurd cc
@@ -285,7 +351,39 @@ both_former f g = record {
   rules = refl;
   letters = joined_letters f g;
   who = joined_holds_at (who_number f.who == who_number g.who) f;
+  clean = λ e. e;
 }
+
+-- requests for one object are at one path
+one_object_unclean : (q r : Request) → is_one_object q r ≡ true → is_at_unclean_path q ≡ true → is_at_unclean_path r ≡ true
+one_object_unclean (File q) (File r) is e = sym (ap is_unclean (text_same q.path r.path is)) ∙ e
+one_object_unclean (File q) (Link r) is e = absurd cc
+one_object_unclean (File q) (Exec r) is e = absurd cc
+one_object_unclean (File q) (Cap n) is e = absurd cc
+one_object_unclean (File q) (Net f k) is e = absurd cc
+one_object_unclean (File q) (Change n) is e = absurd cc
+one_object_unclean (File q) (Reload m) is e = absurd cc
+one_object_unclean (Link q) (File r) is e = absurd cc
+one_object_unclean (Link q) (Link r) is e =
+    let parts = and_parts (bytes_eq q.link r.link) (bytes_eq q.target r.target) is in
+    sym (ap (λ (s : List ℕ). is_unclean s || is_unclean q.target) (text_same q.link r.link parts.0)
+    ∙ ap (λ (s : List ℕ). is_unclean r.link || is_unclean s) (text_same q.target r.target parts.1)) ∙ e
+one_object_unclean (Link q) (Exec r) is e = absurd cc
+one_object_unclean (Link q) (Cap n) is e = absurd cc
+one_object_unclean (Link q) (Net f k) is e = absurd cc
+one_object_unclean (Link q) (Change n) is e = absurd cc
+one_object_unclean (Link q) (Reload m) is e = absurd cc
+one_object_unclean (Exec q) (File r) is e = absurd cc
+one_object_unclean (Exec q) (Link r) is e = absurd cc
+one_object_unclean (Exec q) (Exec r) is e = sym (ap is_unclean (text_same q.path r.path is)) ∙ e
+one_object_unclean (Exec q) (Cap n) is e = absurd cc
+one_object_unclean (Exec q) (Net f k) is e = absurd cc
+one_object_unclean (Exec q) (Change n) is e = absurd cc
+one_object_unclean (Exec q) (Reload m) is e = absurd cc
+one_object_unclean (Cap n) r is e = absurd cc
+one_object_unclean (Net f k) r is e = absurd cc
+one_object_unclean (Change n) r is e = absurd cc
+one_object_unclean (Reload m) r is e = absurd cc
 
 -- and of the latter
 both_latter : (f g : Finding) → joins f g ≡ true → TellsOf (both_of g f) g
@@ -306,6 +404,7 @@ both_latter f g e =
       rules = text_same f.rules g.rules rules.1;
       letters = joined_letters_too f g;
       who = joined_holds_too_at (who_number f.who == who_number g.who) f g refl;
+      clean = one_object_unclean f.request g.request object.1;
     }
 
 joined_keeps_at : (o : Option ℕ) (fs : List Finding) (f g : Finding) → Tellers g fs → Tellers g (joined_at o fs f)
@@ -331,9 +430,13 @@ joined_all_tells fs (f ∷ gs) g (inr h) = joined_all_tells (joined fs f) gs g h
 -- ---- nothing else is told
 
 module _ (P : Finding → Type 0) (same : (f g : Finding) → bare f ≡ bare g → P f → P g) where
+  counted_each_at : (b : Bool) (n : ℕ) (f g : Finding) → P f → P g → P (with_more n (if b then g else f))
+  counted_each_at true n f g p q = same g (with_more n g) refl q
+  counted_each_at false n f g p q = same f (with_more n f) refl p
+
   added_each_at : (o : Option ℕ) (fs : List Finding) (f : Finding) → Each P fs → P f → Each P (added_at o fs f)
   added_each_at None fs f all p = each_more P fs f all p
-  added_each_at (Some n) fs f all p = each_kept P counted_up (λ x q. same x (counted_up x) refl q) fs n all
+  added_each_at (Some n) fs f all p = each_kept P (counted_up f) (λ x q. counted_each_at (is_cleaner f x) (one_more x) x f q p) fs n all
 
   joined_each_at : (o : Option ℕ) (fs : List Finding) (f : Finding) → Each P fs → P f → Each P (joined_at o fs f)
   joined_each_at None fs f all p = each_more P fs f all p

@@ -1,7 +1,8 @@
 -- What `diff` prints.
 -- Source: own.
-use Rattle.std.specs.Prelude.{ℕ, ◌≡◌, ◌↔◌, ◌+◌, ◌==◌, ◌&&◌, List, [], ◌++◌, Contains, length, codes, decimal, Option, Some, None, option_map, Err, Vec, if◌then◌else◌}
+use Rattle.std.specs.Prelude.{ℕ, ◌≡◌, ◌↔◌, ◌+◌, ◌==◌, ◌&&◌, List, [], ◌++◌, Contains, length, Bool, not, codes, decimal, Option, Some, None, option_map, Err, Vec, if◌then◌else◌}
 use Rattle.std.specs.Borrow.{Bor}
+use Rattle.std.specs.List.{list_any}
 use Rattle.std.specs.declared.alloc.Global.{Global}
 use Rattle.aa_base.specs.declared.unread.Unread.{Unread}
 use Rattle.aa_files.specs.Texts.{texts}
@@ -26,6 +27,8 @@ use Rattle.aa_diff.specs.declared.options.DiffForm.TheVariants.{Text, Json, Html
 use Rattle.aa_diff.specs.declared.finding.Finding.{Finding}
 use Rattle.aa_diff.specs.Changes.{label_word}
 use Rattle.aa_passed_over.specs.Apart.{ApartRule, all_apart}
+use Rattle.aa_diff.specs.Findings.{does_count}
+use Rattle.aa_diff.specs.Unclean.{all_told_unclean}
 use Rattle.aa_diff.specs.Report.{lines_of, report_text}
 use Rattle.aa_diff.specs.Accepted.{findings_left, rules_left, gone_of}
 use Rattle.aa_diff.specs.Order.{in_order}
@@ -52,9 +55,9 @@ findings_in Json o ps fs rs a = json_report o ps fs rs a
 findings_in Html o ps fs rs a = html_report o ps fs rs a
 findings_in Markdown o ps fs rs a = markdown_of (report_text ps fs rs a)
 
--- 4 where there are findings or such rules, else 5 where something isn't told
-abbrev pub status_of : ℕ → ℕ → ℕ → ℕ → ℕ
-status_of findings rules undecided apart = if findings == 0 && rules == 0 then (if undecided == 0 && apart == 0 then 0 else 5) else 4
+-- 4 where a finding counts or there are such rules, else 5 where something isn't told
+abbrev pub status_of : Bool → ℕ → ℕ → ℕ → ℕ
+status_of counts rules undecided apart = if not counts && rules == 0 then (if undecided == 0 && apart == 0 then 0 else 5) else 4
 
 -- the same with its status, and which accepted findings there aren't
 abbrev pub reported : DiffOptions → List Policy → List Finding → List ApartRule → List ℕ → AllUntold → Printed
@@ -62,16 +65,16 @@ reported o ps fs rs gone a = record {
   answers = findings_in o.form o ps fs rs a;
   faults = gone;
   refusal = [];
-  status = status_of (length fs) (length rs) (length a.undecided) (length a.not_compared);
+  status = status_of (list_any does_count fs) (length rs) (length a.undecided) (length a.not_compared);
 }
 
 -- those of all findings and of all rules that are passed over which are shown and not accepted, and what isn't told
 abbrev pub reported_but : DiffOptions → List (List ℕ) → List Policy → List Finding → List ApartRule → AllUntold → Printed
 reported_but o accepted ps fs rs a = reported o ps (in_order (findings_left ps o.wanted accepted fs)) (rules_left ps o.wanted accepted rs) (gone_of ps accepted fs rs) a
 
--- so the lines of differences, and the rules that are passed over and that one policy alone has
+-- so the lines of differences, those at unclean paths alone as such, and the rules that are passed over and that one policy alone has
 abbrev pub printed_lines : DiffOptions → Decided → Decided → List Difference → AllUntold → Printed
-printed_lines o d e xs a = reported_but o (texts o.accepted.now) d.policies.now (lines_of d e xs) (all_apart d e) a
+printed_lines o d e xs a = reported_but o (texts o.accepted.now) d.policies.now (all_told_unclean o.unclean (lines_of d e xs)) (all_apart d e) a
 
 -- so of those differences that no skipped file could decide, and with all that isn't told
 abbrev pub compared : DiffOptions → Part → Part → List Difference → Printed
@@ -124,7 +127,8 @@ IsDiffBut s t o out = IsSide o.skips (codes "OLD") s (texts o.old.now) (IsNewBes
 
 -- the same is asked, and these findings are accepted
 abbrev pub accepting : DiffOptions → Bor (List (Vec ℕ Global)) → DiffOptions
-accepting o accepted = record { old = o.old; new = o.new; wanted = o.wanted; form = o.form; skips = o.skips; accepted = accepted; known = o.known }
+accepting o accepted =
+    record { old = o.old; new = o.new; wanted = o.wanted; form = o.form; skips = o.skips; accepted = accepted; known = o.known; unclean = o.unclean }
 
 -- what is printed where the findings of a file of the new side are accepted: that, or that the file can't be read
 pub data IsDiffBy (s t : Setting) (o : DiffOptions) (path : List ℕ) (out : Printed) : Type 0 where

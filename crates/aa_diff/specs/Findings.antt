@@ -104,12 +104,21 @@ finding_with d e sign x = record {
   old_rules = old_rules d e (is_minor sign x.request) x;
   new_rules = new_rules d e (is_minor sign x.request) x;
   more = 0;
+  unclean = false;
 }
 
 -- the finding that a difference is by itself
 abbrev pub finding_of : Decided → Decided → Difference → Finding
 finding_of d e x = finding_with d e (sign_of d.policies.now e.policies.now x) x
 
--- a finding has a line with that sign
+-- it is told as one at unclean paths alone, and doesn't count
+abbrev pub is_uncounted : Finding → Bool
+is_uncounted f = f.unclean
+
+-- it counts
+abbrev pub does_count : Finding → Bool
+does_count f = not (is_uncounted f)
+
+-- a finding has a line with that sign, and counts
 abbrev pub is_counted : Sign → Finding → Bool
-is_counted sign f = sign_number f.sign == sign_number sign && not (is_profile f)
+is_counted sign f = sign_number f.sign == sign_number sign && not (is_profile f) && does_count f

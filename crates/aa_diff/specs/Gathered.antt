@@ -8,6 +8,7 @@ use Rattle.aa_model.specs.declared.policy.Policy.{Policy}
 use Rattle.aa_model.specs.declared.request.Request.{Request}
 use Rattle.aa_model.specs.declared.request.Request.TheVariants.{File}
 use Rattle.aa_model.specs.Requests.{RequestedFile}
+use Rattle.aa_unclean_paths.specs.Requests.{is_at_unclean_path}
 use Rattle.aa_command.specs.declared.decided.Decided.{Decided}
 use Rattle.aa_differences.specs.declared.at_labels.Difference.{Difference}
 use Rattle.aa_diff.specs.declared.signs.Sign.{Sign}
@@ -50,9 +51,21 @@ recent before = drop (length before - min (length before) 62) before
 abbrev pub hides : List Policy → List Policy → List Difference → Difference → Bool
 hides ps qs before y = is_mixed y.request && list_any (λ x. covers ps qs x y) (recent before)
 
--- one more is counted at a finding
-abbrev pub counted_up : Finding → Finding
-counted_up f = record f { more = min (f.more + 1) 18446744073709551615 }
+-- of two findings the latter's request alone is at an unclean path
+abbrev pub is_cleaner : Finding → Finding → Bool
+is_cleaner g f = is_at_unclean_path f.request && not (is_at_unclean_path g.request)
+
+-- of two findings of one line the one that stands for both: the latter, unless its request alone is at an unclean path
+abbrev pub standing : Finding → Finding → Finding
+standing g f = if is_cleaner g f then g else f
+
+-- a finding of which there are so many besides
+abbrev pub with_more : ℕ → Finding → Finding
+with_more n f = record f { more = n }
+
+-- one more is counted at a finding of its line
+abbrev pub counted_up : Finding → Finding → Finding
+counted_up g f = with_more (min (f.more + 1) 18446744073709551615) (standing g f)
 
 -- the finding with that number is changed
 abbrev pub changed_at : (Finding → Finding) → List Finding → ℕ → List Finding
@@ -62,7 +75,7 @@ changed_at change (f ∷ fs) (suc n) = f ∷ changed_at change fs n
 
 -- at the first of one line
 abbrev pub added_at : Option ℕ → List Finding → Finding → List Finding
-added_at (Some n) fs f = changed_at counted_up fs n
+added_at (Some n) fs f = changed_at (counted_up f) fs n
 added_at None fs f = fs ++ f ∷ []
 
 -- a finding is counted at the first of one line, or stands behind the others

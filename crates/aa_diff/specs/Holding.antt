@@ -1,4 +1,4 @@
--- Where nothing is told of somebody, both policies answer alike, whatever profiles the skipped files have.
+-- Where nothing that counts is told of somebody, both policies answer alike what counts, whatever profiles the skipped files have.
 -- Source: own.
 use Rattle.std.specs.Prelude.{◌≡◌, ℕ, List, [], ◌∷◌, Bool, true, false, Option, Some, None, Contains}
 use Rattle.std.specs.List.{list_any, slice_get}
@@ -21,6 +21,7 @@ use Rattle.aa_differences.specs.Differences.{ListAll}
 use Rattle.aa_diff.specs.declared.options.Wanted.{Wanted}
 use Rattle.aa_diff.specs.declared.part.Part.{Part}
 use Rattle.aa_diff.specs.declared.finding.Finding.{Finding}
+use Rattle.aa_unclean_paths.specs.Requests.{does_request_count}
 use Rattle.aa_diff.specs.Report.{lines_of}
 use Rattle.aa_diff.specs.Untold.{About, Free, Named, Others, Untold, all_untold, decided_of}
 
@@ -68,15 +69,19 @@ is_apart name u = covers_name name u.who
 abbrev pub lines_told : Part → Part → List Difference → List Finding
 lines_told d e xs = lines_of d.decided e.decided (decided_of d e xs)
 
--- of all that is told of these differences, no line is about the profile of that name, nothing is undecided there, and it is compared
-pub record IsQuiet (w : Wanted) (d e : Part) (xs : List Difference) (name : List ℕ) : Type 0 where
-  pub lines : (f : Finding) → Contains (lines_told d e xs) f → called_at d.decided.policies.now f.from ≡ Some name → ⊥
+-- a line counts, where unclean paths do or don't
+abbrev pub DoesCount : Bool → Finding → Type 0
+DoesCount unclean f = does_request_count unclean f.request ≡ true
+
+-- of all that is told of these differences, no line that counts is about the profile of that name, nothing is undecided there, and it is compared
+pub record IsQuiet (unclean : Bool) (w : Wanted) (d e : Part) (xs : List Difference) (name : List ℕ) : Type 0 where
+  pub lines : (f : Finding) → Contains (lines_told d e xs) f → DoesCount unclean f → called_at d.decided.policies.now f.from ≡ Some name → ⊥
   pub decided : list_any (is_untold name) ((all_untold w d e).undecided) ≡ false
   pub compared : list_any (is_apart name) ((all_untold w d e).not_compared) ≡ false
 
 -- so of tasks without a profile
-pub record IsQuietFree (w : Wanted) (d e : Part) (xs : List Difference) : Type 0 where
-  pub lines : (f : Finding) → Contains (lines_told d e xs) f → f.from ≡ Unconfined 0 → ⊥
+pub record IsQuietFree (unclean : Bool) (w : Wanted) (d e : Part) (xs : List Difference) : Type 0 where
+  pub lines : (f : Finding) → Contains (lines_told d e xs) f → DoesCount unclean f → f.from ≡ Unconfined 0 → ⊥
   pub decided : list_any is_free ((all_untold w d e).undecided) ≡ false
 
 -- two policies of all files of each side, and all differences of those that are read
@@ -86,13 +91,14 @@ pub record AreBeside (w : Wanted) (d e : Part) (xs : List Difference) (read whol
   pub old : IsWholeOf d read whole place
   pub new : IsWholeOf e read' whole' place'
 
--- where nothing is told of a profile, both policies of all files answer each request alike there
+-- where nothing that counts is told of a profile, both policies of all files answer each request that counts alike there: where unclean paths
+-- count, each request, and where they don't, each at a clean path
 abbrev pub ProfilesHold : Type 0
-ProfilesHold = (w : Wanted) (d e : Part) (xs : List Difference) (read whole read' whole' : Policy) (place place' : ℕ → ℕ) → AreBeside w d e xs read whole read' whole' place place'
-    → (name : List ℕ) → IsQuiet w d e xs name → (m n : ℕ) (p q : Profile) → slice_get whole.profiles m ≡ Some p → p.name ≡ name → slice_get whole'.profiles n ≡ Some q → q.name ≡ name
-    → (r : Request) → IsAskable r → AnsweredAlike (whole ∷ []) (whole' ∷ []) (Confined 0 m) (Confined 0 n) r
+ProfilesHold = (unclean : Bool) (w : Wanted) (d e : Part) (xs : List Difference) (read whole read' whole' : Policy) (place place' : ℕ → ℕ) → AreBeside w d e xs read whole read' whole' place place'
+    → (name : List ℕ) → IsQuiet unclean w d e xs name → (m n : ℕ) (p q : Profile) → slice_get whole.profiles m ≡ Some p → p.name ≡ name → slice_get whole'.profiles n ≡ Some q → q.name ≡ name
+    → (r : Request) → IsAskable r → does_request_count unclean r ≡ true → AnsweredAlike (whole ∷ []) (whole' ∷ []) (Confined 0 m) (Confined 0 n) r
 
--- so do they where nothing is told of tasks without a profile
+-- so do they where nothing that counts is told of tasks without a profile
 abbrev pub FreeHold : Type 0
-FreeHold = (w : Wanted) (d e : Part) (xs : List Difference) (read whole read' whole' : Policy) (place place' : ℕ → ℕ) → AreBeside w d e xs read whole read' whole' place place'
-    → IsQuietFree w d e xs → (r : Request) → IsAskable r → AnsweredAlike (whole ∷ []) (whole' ∷ []) (Unconfined 0) (Unconfined 0) r
+FreeHold = (unclean : Bool) (w : Wanted) (d e : Part) (xs : List Difference) (read whole read' whole' : Policy) (place place' : ℕ → ℕ) → AreBeside w d e xs read whole read' whole' place place'
+    → IsQuietFree unclean w d e xs → (r : Request) → IsAskable r → does_request_count unclean r ≡ true → AnsweredAlike (whole ∷ []) (whole' ∷ []) (Unconfined 0) (Unconfined 0) r

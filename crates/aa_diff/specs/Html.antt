@@ -25,7 +25,7 @@ use Rattle.aa_diff.specs.Findings.{is_profile}
 use Rattle.aa_diff.specs.Untold.{Untold, AllUntold}
 use Rattle.aa_diff.specs.UntoldShown.{untold_words, skipped_text}
 use Rattle.aa_diff.specs.Lines.{Told, Found, PassedOver, label_of, is_of_profile, lines_with}
-use Rattle.aa_diff.specs.Printed.{asked_of, others_text, more_text, gone_text, name_asked, is_free, is_behind, side_text}
+use Rattle.aa_diff.specs.Printed.{asked_of, others_text, only_text, more_text, gone_text, name_asked, is_free, is_behind, side_text}
 use Rattle.aa_diff.specs.Report.{profile_counts, line_counts, rules_count}
 
 -- what the line of a finding is marked with
@@ -47,9 +47,9 @@ html_rule m r = rule_line m r.path r.place r.text
 unfoldable pub html_accounting : Finding → List ℕ
 html_accounting f = list_start ++ flat_map (html_rule marked.Old) f.old_rules ++ flat_map (html_rule marked.New) f.new_rules ++ list_end
 
--- the mark of a line, its first request by all its permissions, and whose objects these are
+-- the mark of a line, that it is about unclean paths alone, its first request by all its permissions, and whose objects these are
 unfoldable pub html_asked : Finding → List ℕ
-html_asked f = line_start (mark_of f.sign) ++ code_text (word_text (asked_of f)) ++ others_text f.who
+html_asked f = line_start (mark_of f.sign) ++ only_text f.unclean ++ code_text (word_text (asked_of f)) ++ others_text f.who
 
 -- how it was answered and is, and how many there are besides
 unfoldable pub html_change : Finding → List ℕ

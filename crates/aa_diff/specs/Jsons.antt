@@ -1,7 +1,7 @@
 -- The report of the differences of two policies, as one JSON object.
 -- Source: own.
-use Rattle.std.specs.Prelude.{ℕ, List, [], ◌++◌, map, length, codes, decimal, count_by, Bool, true, false, not, Some, None, if◌then◌else◌, Vec}
-use Rattle.std.specs.List.{filter}
+use Rattle.std.specs.Prelude.{ℕ, List, [], ◌++◌, ◌&&◌, map, length, codes, decimal, count_by, Bool, true, false, not, Some, None, if◌then◌else◌, Vec}
+use Rattle.std.specs.List.{filter, list_any}
 use Rattle.std.specs.declared.alloc.Global.{Global}
 use Rattle.aa_model.specs.declared.policy.Policy.{Policy}
 use Rattle.aa_model.specs.declared.label.Label.{Label}
@@ -17,7 +17,7 @@ use Rattle.aa_diff.specs.declared.finding.Who.TheVariants.{Others}
 use Rattle.aa_diff.specs.declared.finding.Finding.{Finding}
 use Rattle.aa_diff.specs.Signs.{is_confined}
 use Rattle.aa_diff.specs.declared.rules.Rule.{Rule}
-use Rattle.aa_diff.specs.Findings.{is_profile, is_counted}
+use Rattle.aa_diff.specs.Findings.{is_profile, is_uncounted, does_count, is_counted}
 use Rattle.aa_passed_over.specs.Apart.{ApartRule}
 use Rattle.aa_diff.specs.Lines.{Told, lines_with}
 use Rattle.aa_diff.specs.Printed.{asked_of, sign_text, side_text, name_asked}
@@ -62,13 +62,21 @@ json_told f =
 abbrev pub json_line : List Policy → Finding → List ℕ
 json_line ps f = json_start ps f ++ json_told f ++ json_accounting f ++ codes "}"
 
--- a finding has a line
+-- a finding has a line, and counts
 abbrev pub is_line : Finding → Bool
-is_line f = not (is_profile f)
+is_line f = not (is_profile f) && does_count f
 
 -- the lines
 abbrev pub json_lines : List Policy → List Finding → List ℕ
 json_lines ps fs = list_text (map (json_line ps) (filter is_line fs))
+
+-- those about unclean paths alone
+abbrev pub json_unclean_lines : List Policy → List Finding → List ℕ
+json_unclean_lines ps fs = list_text (map (json_line ps) (filter is_uncounted fs))
+
+-- a member with these, if there are some
+abbrev pub json_unclean : List Policy → List Finding → List ℕ
+json_unclean ps fs = if list_any is_uncounted fs then member_text (codes "unclean") (json_unclean_lines ps fs) else []
 
 -- the name of a profile that is gone or new
 abbrev pub json_name : Finding → List ℕ
@@ -84,7 +92,7 @@ json_profile_counts ps out ls fs =
     key_text (codes "compared") ++ decimal (profiles_counted ps out fs) ++ member_text (codes "differ") (decimal (headed 0 None ls))
     ++ member_text (codes "gone") (decimal (count_by (is_profile_with Loss) fs)) ++ member_text (codes "new") (decimal (count_by (is_profile_with Gain) fs))
 
--- how many lines have each sign, and how many rules are passed over
+-- how many lines that count have each sign, and how many rules are passed over
 unfoldable pub json_line_counts : List Finding → ℕ → List ℕ
 json_line_counts fs rules =
     member_text (codes "gain") (decimal (count_by (is_counted Gain) fs)) ++ member_text (codes "lose") (decimal (count_by (is_counted Loss) fs))
@@ -124,10 +132,10 @@ json_head o =
     codes "{" ++ key_text (codes "old") ++ json_paths o.old.now ++ member_text (codes "new") (json_paths o.new.now)
     ++ member_text (codes "gains_alone") (bool_text o.wanted.gains)
 
--- the lines, the rules that are passed over, the profiles that are gone and that are new, how many there are, and what isn't told
+-- the lines, those about unclean paths alone, the rules that are passed over, the profiles that are gone and that are new, how many there are, and what isn't told
 abbrev pub json_found : List Policy → List Finding → List ApartRule → AllUntold → List ℕ
 json_found ps fs rs a =
-    member_text (codes "lines") (json_lines ps fs) ++ member_text (codes "passed_over") (json_all_passed_over ps rs) ++ json_profiles fs
+    member_text (codes "lines") (json_lines ps fs) ++ json_unclean ps fs ++ member_text (codes "passed_over") (json_all_passed_over ps rs) ++ json_profiles fs
     ++ member_text (codes "counts") (json_counts ps a.left_out (lines_with fs rs) fs (length rs)) ++ json_all_untold a
 
 -- the one object, and a line end

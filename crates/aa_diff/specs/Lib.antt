@@ -5,11 +5,14 @@ pub mod Rules
 pub mod Findings
 pub mod Gathered
 pub mod Joined
+pub mod Unclean
 pub mod Lines
 pub mod Printed
 pub mod Untold
 pub mod UntoldShown
 pub mod Report
+pub mod Sorted
+pub mod Places
 pub mod Order
 pub mod Naming
 pub mod Jsons

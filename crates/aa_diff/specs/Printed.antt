@@ -56,9 +56,13 @@ sign_text Other = codes "~"
 abbrev pub more_text : ℕ → List ℕ
 more_text n = if n == 0 then [] else codes ", and " ++ decimal n ++ codes " more"
 
--- the sign and the request of a line
+-- a line is about unclean paths alone
+abbrev pub only_text : Bool → List ℕ
+only_text unclean = if unclean then codes "only at unclean paths " else []
+
+-- the sign of a line, that it is about unclean paths alone, and the request
 unfoldable pub asked_part : Finding → List ℕ
-asked_part f = sign_text f.sign ++ codes " " ++ word_text (asked_of f) ++ others_text f.who
+asked_part f = sign_text f.sign ++ codes " " ++ only_text f.unclean ++ word_text (asked_of f) ++ others_text f.who
 
 -- how it was answered and is, and how many there are besides
 unfoldable pub change_part : Finding → List ℕ

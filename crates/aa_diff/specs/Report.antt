@@ -4,10 +4,9 @@ use Rattle.std.specs.Prelude.{ℕ, List, [], ◌∷◌, ◌++◌, ◌+◌, ◌-�
 use Rattle.aa_model.specs.declared.policy.Policy.{Policy}
 use Rattle.aa_model.specs.declared.label.Label.{Label}
 use Rattle.aa_model.specs.declared.label.Label.TheVariants.{Confined}
-use Rattle.aa_compile.specs.Labels.{label_name}
+use Rattle.aa_compile.specs.Labels.{label_name, first_profiles}
 use Rattle.aa_files.specs.Texts.{texts}
 use Rattle.aa_command.specs.declared.decided.Decided.{Decided}
-use Rattle.aa_ask.specs.Unattached.{first_profiles}
 use Rattle.aa_passed_over.specs.Apart.{ApartRule}
 use Rattle.aa_differences.specs.declared.at_labels.Difference.{Difference}
 use Rattle.aa_diff.specs.declared.signs.Sign.{Sign}
@@ -21,7 +20,7 @@ use Rattle.aa_diff.specs.Joined.{joined_all}
 use Rattle.aa_diff.specs.Named.{is_named}
 use Rattle.aa_diff.specs.Untold.{AllUntold}
 use Rattle.aa_diff.specs.UntoldShown.{untold_text, skipped_text}
-use Rattle.aa_diff.specs.Lines.{Told, label_of, is_of_profile, lines_with}
+use Rattle.aa_diff.specs.Lines.{Told, label_of, is_of_profile, does_line_count, lines_with}
 use Rattle.aa_diff.specs.Printed.{name_asked, profile_if, free_text, is_behind, confined_text}
 
 -- the name of the profile that a finding is about, or unconfined
@@ -64,10 +63,14 @@ one_more n = min (n + 1) 18446744073709551615
 abbrev pub headed_next : ℕ → Option Label → Label → ℕ
 headed_next n before l = if is_behind before l then n else one_more n
 
--- how many profiles have a heading, and n before
+-- a line is about a profile, and counts
+abbrev pub is_of_different : Told → Bool
+is_of_different l = is_of_profile l && does_line_count l
+
+-- how many profiles have lines that count behind a heading, and n before
 abbrev pub headed : ℕ → Option Label → List Told → ℕ
 headed n before [] = n
-headed n before (l ∷ ls) = if is_of_profile l then headed (headed_next n before (label_of l)) (Some (label_of l)) ls else headed n before ls
+headed n before (l ∷ ls) = if is_of_different l then headed (headed_next n before (label_of l)) (Some (label_of l)) ls else headed n before ls
 
 -- a profile that is gone, or one that is new
 abbrev pub is_profile_with : Sign → Finding → Bool
@@ -96,11 +99,11 @@ profile_counts ps out ls fs =
 abbrev pub rules_count : ℕ → List ℕ
 rules_count n = if n == 0 then codes "\n" else codes ", " ++ count_text n (codes " passed over\n")
 
--- how many lines have a sign, and what they do
+-- how many lines that count have a sign, and what they do
 abbrev pub signed_count : Sign → List Finding → List ℕ → List ℕ → List ℕ
 signed_count sign fs one more = count_text (count_by (is_counted sign) fs) (of_number (count_by (is_counted sign) fs) one more)
 
--- how many lines have each sign
+-- how many lines that count have each sign
 abbrev pub line_counts : List Finding → List ℕ
 line_counts fs =
     codes "lines: " ++ signed_count Gain fs (codes " gains, ") (codes " gain, ") ++ signed_count Loss fs (codes " loses, ") (codes " lose, ")

@@ -4,7 +4,9 @@ use Rattle.std.specs.Prelude.{ℕ, ◌≡◌, ◌≤◌, ◌↔◌, List, [], Co
 use Rattle.std.specs.Int.{bit_at}
 use Rattle.aa_files.specs.Texts.{texts}
 use Rattle.aa_model.specs.declared.policy.Policy.{Policy}
+use Rattle.aa_model.specs.declared.request.Request.{Request}
 use Rattle.aa_compile.specs.Said.{perms_of}
+use Rattle.aa_unclean_paths.specs.Requests.{is_at_unclean_path}
 use Rattle.aa_command.specs.declared.decided.Decided.{Decided}
 use Rattle.aa_differences.specs.declared.at_labels.Difference.{Difference}
 use Rattle.aa_diff.specs.declared.options.Wanted.{Wanted}
@@ -26,7 +28,12 @@ pub data HoldsOf (held who : Who) : Type 0 where
   OfAll : held ≡ Anybody → HoldsOf held who
   OfSame : held ≡ who → HoldsOf held who
 
--- a line tells of a finding: at its label, with its sign, of its kind, with its change and its rules, its permissions and its objects
+-- a line's request is at an unclean path only where a finding's is
+abbrev pub IsAsClean : Request → Request → Type 0
+IsAsClean asked r = is_at_unclean_path asked ≡ true → is_at_unclean_path r ≡ true
+
+-- a line tells of a finding: at its label, with its sign, of its kind, with its change and its rules, its permissions and its objects, at a clean
+-- path where the finding is at one
 pub record TellsOf (f g : Finding) : Type 0 where
   pub label : f.from ≡ g.from
   pub sign : f.sign ≡ g.sign
@@ -35,6 +42,7 @@ pub record TellsOf (f g : Finding) : Type 0 where
   pub rules : f.rules ≡ g.rules
   pub letters : AreAmong g.letters.0 f.letters.0
   pub who : HoldsOf f.who g.who
+  pub clean : IsAsClean f.request g.request
 
 -- one of the lines tells of an entry
 abbrev pub IsToldBy : Decided → Decided → List Finding → Difference → Type 0

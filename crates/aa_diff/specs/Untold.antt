@@ -13,7 +13,7 @@ use Rattle.aa_files.specs.Texts.{texts}
 use Rattle.aa_skipping.specs.declared.unread.Head.{Head}
 use Rattle.aa_skipping.specs.Names.{is_doubtful}
 use Rattle.aa_skipped.specs.declared.skipped.Skipped.{Skipped}
-use Rattle.aa_ask.specs.Unattached.{first_profiles}
+use Rattle.aa_compile.specs.Labels.{first_profiles}
 use Rattle.aa_undecided.specs.Answers.{PlacedFile, placed, placed_all, files_deciding}
 use Rattle.aa_differences.specs.declared.at_labels.Difference.{Difference}
 use Rattle.aa_differences.specs.Openings.{is_open_label}

@@ -24,7 +24,7 @@ ghost use Rattle.aa_diff.specs.Command.{states_text, patterns_text, findings_in,
 use crate::accepted::{findings_left, push_gone, rules_left};
 use crate::change::push_label_name;
 use crate::deciding::decided_of;
-use crate::finding::Finding;
+use crate::finding::{Finding, is_one_counted};
 use crate::html::push_html_report;
 use crate::json::push_json_report;
 use crate::naming::{no_profile, unnamed};
@@ -33,6 +33,7 @@ use crate::order::in_order;
 use crate::part::Part;
 use crate::report::{lines_of, push_report};
 use crate::sides::{mark, note, of_side};
+use crate::unclean::all_told_unclean;
 use crate::untold::{Doubts, all_untold};
 use aa_command::{Decided, Output, Settings, Use, path_refused, with_policy};
 use aa_compile::Compiled;
@@ -108,11 +109,11 @@ fn say_patterns(alloc: Global, policies: &[Compiled], label: Label) -> Result<Ou
     Ok(output)
 }
 
-/// 4 where there are findings or rules that are passed over, else 5 where something isn't told.
-fn status_of(findings: usize, rules: usize, undecided: usize, apart: usize) -> u8
-    ensures { result ≡ status_of findings rules undecided apart }
+/// 4 where a finding counts or rules are passed over, else 5 where something isn't told.
+fn status_of(counts: bool, rules: usize, undecided: usize, apart: usize) -> u8
+    ensures { result ≡ status_of counts rules undecided apart }
 {
-    if findings != 0 || rules != 0 {
+    if counts || rules != 0 {
         return 4;
     }
     if undecided == 0 && apart == 0 { 0 } else { 5 }
@@ -180,7 +181,7 @@ fn print_found(
         doubts,
     )?;
     output.status = status_of(
-        findings.len(),
+        is_one_counted(findings),
         rules.len(),
         doubts.undecided.len(),
         doubts.not_compared.len(),
@@ -241,7 +242,8 @@ fn print_decided(
 ) -> Result<Output, NoMemory>
     ensures { IfOk result (λ out. printed out ≡ printed_lines options.now old.entry new.entry differences.now (doubts_data doubts.now)) }
 {
-    let findings = lines_of(alloc, old, new, differences)?;
+    let lines = lines_of(alloc, old, new, differences)?;
+    let findings = all_told_unclean(alloc, options.unclean, lines)?;
     let rules = rules_apart(alloc, old, new)?;
     print_but(
         alloc,
@@ -527,6 +529,7 @@ fn diff_accepting<T: Tree>(
         skips: options.skips,
         accepted,
         known: options.known,
+        unclean: options.unclean,
     };
     diff_but(alloc, before, after, old, new, &options)
 }

@@ -1,7 +1,8 @@
 //! Findings: requests that are answered differently in the same way, for the same reason.
 
 ghost use Rattle.std.specs.Prelude.{◌≡◌, IfOk};
-ghost use Rattle.aa_diff.specs.Findings.{who_number, whose, who_of, letters_of, kind_number, is_profile, is_change, is_of_class, is_alike, is_link, is_minor, told_change, finding_of, is_counted};
+ghost use Rattle.std.specs.List.{list_any};
+ghost use Rattle.aa_diff.specs.Findings.{who_number, whose, who_of, letters_of, kind_number, is_profile, is_change, is_of_class, is_alike, is_link, is_minor, told_change, finding_of, is_uncounted, does_count, is_counted};
 ghost use Rattle.aa_diff.specs.Rules.{AreOwn};
 
 use crate::change::{change_text, is_same};
@@ -32,7 +33,7 @@ pub struct Finding {
     /// The label of the new policy at which the first of them is answered.
     pub to: Label,
     pub sign: Sign,
-    /// The first of them.
+    /// The first of them at a clean path, or the first where all are at unclean ones.
     pub request: Request,
     /// All permissions of which it holds, where the request is for a file.
     pub letters: Perms,
@@ -47,6 +48,8 @@ pub struct Finding {
     pub new_rules: Seq<Rule>,
     /// How many paths, names or entries there are besides, for each permission.
     pub more: u64,
+    /// Whether it is told as one at unclean paths alone, which doesn't count.
+    pub unclean: bool,
 }
 
 /// Tells apart whose objects there are.
@@ -200,14 +203,35 @@ pub(crate) fn finding_of(
         old_rules,
         new_rules,
         more: 0,
+        unclean: false,
     })
 }
 
-/// Whether a finding has a line with that sign.
+/// Whether a finding is told as one at unclean paths alone, and doesn't count.
+pub(crate) fn is_uncounted(finding: &Finding) -> bool
+    ensures { result ≡ is_uncounted finding.now }
+{
+    finding.unclean
+}
+
+pub(crate) fn does_count(finding: &Finding) -> bool
+    ensures { result ≡ does_count finding.now }
+{
+    !is_uncounted(finding)
+}
+
+/// Whether a finding counts.
+pub(crate) fn is_one_counted(findings: &[Finding]) -> bool
+    ensures { result ≡ list_any does_count findings.now }
+{
+    findings.iter().any(|finding| does_count(finding))
+}
+
+/// Whether a finding has a line with that sign, and counts.
 pub(crate) fn is_counted(sign: Sign, finding: &Finding) -> bool
     ensures { result ≡ is_counted sign finding.now }
 {
-    sign_number(finding.sign) == sign_number(sign) && !is_profile(finding)
+    sign_number(finding.sign) == sign_number(sign) && !is_profile(finding) && does_count(finding)
 }
 
 /// The same finding again.
@@ -226,5 +250,6 @@ pub(crate) fn copy_of(alloc: Global, finding: &Finding) -> Result<Finding, Alloc
         old_rules: copies_of(alloc, finding.old_rules.as_slice())?,
         new_rules: copies_of(alloc, finding.new_rules.as_slice())?,
         more: finding.more,
+        unclean: finding.unclean,
     })
 }

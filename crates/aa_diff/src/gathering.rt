@@ -4,7 +4,7 @@ ghost use Rattle.std.specs.Prelude.{◌≡◌, ◌++◌, ◌<◌, ◌∷◌, [],
 ghost use Rattle.std.specs.List.{list_any};
 ghost use Rattle.aa_diff.specs.declared.finding.Finding.{Finding};
 ghost use Rattle.aa_diff.specs.Findings.{is_alike, finding_of};
-ghost use Rattle.aa_diff.specs.Gathered.{is_single, is_mixed, is_part_of, is_part, is_as_well, covers, recent, hides, counted_up, changed_at, added, gathered, gathered_next};
+ghost use Rattle.aa_diff.specs.Gathered.{is_single, is_mixed, is_part_of, is_part, is_as_well, covers, recent, hides, is_cleaner, counted_up, changed_at, added, gathered, gathered_next};
 ghost use Rattle.aa_diff.specs.Rules.{AreOwn};
 
 use crate::change::is_same;
@@ -16,6 +16,7 @@ use aa_command::Decided;
 use aa_compile::Compiled;
 use aa_differences::Difference;
 use aa_model::{FileRequest, Label, Request};
+use aa_unclean_paths::is_at_unclean_path;
 use std::alloc::{AllocError, Global};
 
 /// How many requests there are for one file at most: by each mask that can be asked for, of the owner and of others.
@@ -106,19 +107,30 @@ fn place_of(findings: &[Finding], finding: &Finding) -> Option<usize>
     findings.iter().position(|known| is_alike(known, finding))
 }
 
-/// Counts one more at a finding.
-fn count_up(known: &mut Finding)
-    ensures { known.new ≡ counted_up known.old }
+/// Whether the request of a known finding alone is at an unclean path.
+fn is_cleaner(finding: &Finding, known: &Finding) -> bool
+    ensures { result ≡ is_cleaner finding.now known.now }
 {
-    known.more = known.more.saturating_add(1);
+    is_at_unclean_path(&known.request) && !is_at_unclean_path(&finding.request)
+}
+
+/// Counts one more at a finding of its line, which stands for both if the request of the known one alone is at an unclean path.
+fn count_up(known: &mut Finding, finding: Finding)
+    ensures { known.new ≡ counted_up finding known.old }
+{
+    let more = known.more.saturating_add(1);
+    if is_cleaner(&finding, known) {
+        *known = finding;
+    }
+    known.more = more;
 }
 
 /// Counts one more at the finding with that number.
-fn raise(findings: &mut Vec<Finding>, number: usize)
+fn raise(findings: &mut Vec<Finding>, number: usize, finding: Finding)
     requires { number < length findings.old.items }
-    ensures { findings.new.items ≡ changed_at counted_up findings.old.items number }
+    ensures { findings.new.items ≡ changed_at (counted_up finding) findings.old.items number }
 {
-    count_up(&mut findings[number]);
+    count_up(&mut findings[number], finding);
 }
 
 /// Counts a finding at the line that it is of, or adds a line.
@@ -126,7 +138,7 @@ fn add(findings: &mut Vec<Finding>, finding: Finding) -> Result<(), AllocError>
     ensures { OnOk result (findings.new.items ≡ added findings.old.items finding) }
 {
     if let Some(number) = place_of(findings.as_slice(), &finding) {
-        raise(findings, number);
+        raise(findings, number, finding);
         return Ok(());
     }
     findings.push(finding)?;

@@ -15,7 +15,8 @@ use crate::json::asked_word;
 use crate::lines::{Line, label_of, lines_with};
 use crate::options::DiffOptions;
 use crate::printing::{
-    gone_text, is_behind, is_free, is_one_free, name_asked, push_more, push_others, side_text,
+    gone_text, is_behind, is_free, is_one_free, name_asked, push_more, push_only as push_unclean,
+    push_others, side_text,
 };
 use crate::report::{push_line_counts, push_profile_counts, push_rules_count};
 use crate::rules::Rule;
@@ -85,13 +86,14 @@ fn push_accounting(out: &mut Vec<u8>, alloc: Global, finding: &Finding) -> Resul
     push_list_end(out)
 }
 
-/// Begins the line of a finding, and appends its first request.
+/// Begins the line of a finding, and appends that it is about unclean paths alone, if so it is, and its first request.
 #[tactic(auto, unfolding(crate::specs::Html::html_asked))]
 fn push_asked(out: &mut Vec<u8>, alloc: Global, finding: &Finding) -> Result<(), AllocError>
     ensures { OnOk result (out.new.items ≡ out.old.items ++ html_asked finding.now) }
 {
     let word = asked_word(alloc, finding)?;
     push_line_start(out, mark_of(finding.sign))?;
+    push_unclean(out, finding.unclean)?;
     push_code(out, alloc, word.as_slice())?;
     push_others(out, finding.who)
 }

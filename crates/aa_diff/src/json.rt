@@ -2,15 +2,17 @@
 
 ghost use Rattle.std.specs.Prelude.{◌≡◌, ◌++◌, codes, decimal, map, length, OnOk, IfOk};
 ghost use Rattle.aa_text.specs.Jsons.{key_text, bool_text, member_text, list_text};
+ghost use Rattle.std.specs.List.{list_any};
 ghost use Rattle.aa_notation.specs.Written.{word_text};
 ghost use Rattle.aa_diff.specs.declared.signs.Sign.TheVariants.{Gain, Loss};
 ghost use Rattle.aa_passed_over.specs.Apart.{apart};
+ghost use Rattle.aa_diff.specs.Findings.{is_uncounted};
 ghost use Rattle.aa_diff.specs.Lines.{told, lines_with};
 ghost use Rattle.aa_diff.specs.Printed.{asked_of};
 ghost use Rattle.aa_diff.specs.Untold.{doubts_data};
-ghost use Rattle.aa_diff.specs.Jsons.{json_accounting, json_profile, json_sign, json_start, is_of_others, json_told, json_line, json_lines, json_names, json_profile_counts, json_line_counts, json_counts, json_paths, json_head, json_rule_side, json_rule_text, json_all_passed_over, json_profiles, json_found, json_report};
+ghost use Rattle.aa_diff.specs.Jsons.{json_accounting, json_profile, json_sign, json_start, is_of_others, json_told, json_line, json_lines, json_unclean_lines, json_unclean, json_names, json_profile_counts, json_line_counts, json_counts, json_paths, json_head, json_rule_side, json_rule_text, json_all_passed_over, json_profiles, json_found, json_report};
 
-use crate::finding::{Finding, Who, is_profile};
+use crate::finding::{Finding, Who, does_count, is_profile, is_uncounted};
 use crate::lines::{Line, lines_with};
 use crate::options::DiffOptions;
 use crate::printing::{asked_of, name_asked, side_text, sign_text};
@@ -149,7 +151,7 @@ struct Naming<'a> {
     policies: &'a [Compiled],
 }
 
-/// It stands among the lines, unless it is a profile that is gone or new.
+/// It stands among the lines, unless it is a profile that is gone or new, or doesn't count.
 impl<'a> ListItem<Naming<'a>> for Finding {
     ghost use Rattle.aa_diff.specs.Jsons.{is_line, json_line};
 
@@ -158,7 +160,7 @@ impl<'a> ListItem<Naming<'a>> for Finding {
     ghost item = { λ naming finding. json_line naming.policies.now finding };
 
     fn stands(&self, _naming: &Naming<'a>) -> bool {
-        !is_profile(self)
+        !is_profile(self) && does_count(self)
     }
 
     fn push_item(
@@ -166,6 +168,35 @@ impl<'a> ListItem<Naming<'a>> for Finding {
         out: &mut Vec<u8>,
         alloc: Global,
         naming: &Naming<'a>,
+    ) -> Result<(), AllocError> {
+        push_json_line(out, alloc, naming.policies, self)
+    }
+}
+
+/// The policies by which profiles are called, where lines about unclean paths alone are listed.
+#[derive(Clone, Copy)]
+struct NamingUnclean<'a> {
+    policies: &'a [Compiled],
+}
+
+/// It stands among these lines, if it is about such paths alone.
+impl<'a> ListItem<NamingUnclean<'a>> for Finding {
+    ghost use Rattle.aa_diff.specs.Findings.{is_uncounted};
+    ghost use Rattle.aa_diff.specs.Jsons.{json_line};
+
+    ghost stands = { λ naming finding. is_uncounted finding };
+
+    ghost item = { λ naming finding. json_line naming.policies.now finding };
+
+    fn stands(&self, _naming: &NamingUnclean<'a>) -> bool {
+        is_uncounted(self)
+    }
+
+    fn push_item(
+        &self,
+        out: &mut Vec<u8>,
+        alloc: Global,
+        naming: &NamingUnclean<'a>,
     ) -> Result<(), AllocError> {
         push_json_line(out, alloc, naming.policies, self)
     }
@@ -202,6 +233,19 @@ fn push_json_lines(
     Ok(())
 }
 
+fn push_unclean_lines(
+    out: &mut Vec<u8>,
+    alloc: Global,
+    policies: &[Compiled],
+    findings: &[Finding],
+) -> Result<(), AllocError>
+    ensures { OnOk result (out.new.items ≡ out.old.items ++ json_unclean_lines policies.now findings.now) }
+{
+    let naming = NamingUnclean { policies };
+    push_list_in(out, alloc, &naming, findings)?;
+    Ok(())
+}
+
 fn push_json_names(
     out: &mut Vec<u8>,
     alloc: Global,
@@ -226,6 +270,41 @@ fn push_lines_member(
     push_text(out, ",")?;
     push_key(out, "lines")?;
     push_json_lines(out, alloc, policies, findings)
+}
+
+#[tactic(auto, unfolding(aa_text::specs::Jsons::member_text))]
+fn push_unclean_member(
+    out: &mut Vec<u8>,
+    alloc: Global,
+    policies: &[Compiled],
+    findings: &[Finding],
+) -> Result<(), AllocError>
+    ensures { OnOk result (out.new.items ≡ out.old.items ++ member_text (codes "unclean") (json_unclean_lines policies.now findings.now)) }
+{
+    push_text(out, ",")?;
+    push_key(out, "unclean")?;
+    push_unclean_lines(out, alloc, policies, findings)
+}
+
+fn is_one_unclean(findings: &[Finding]) -> bool
+    ensures { result ≡ list_any is_uncounted findings.now }
+{
+    findings.iter().any(|finding| is_uncounted(finding))
+}
+
+/// Appends the lines about unclean paths alone, as a member, if there are some.
+fn push_unclean(
+    out: &mut Vec<u8>,
+    alloc: Global,
+    policies: &[Compiled],
+    findings: &[Finding],
+) -> Result<(), AllocError>
+    ensures { OnOk result (out.new.items ≡ out.old.items ++ json_unclean policies.now findings.now) }
+{
+    if !is_one_unclean(findings) {
+        return Ok(());
+    }
+    push_unclean_member(out, alloc, policies, findings)
 }
 
 #[tactic(auto, unfolding(aa_text::specs::Jsons::member_text))]
@@ -445,7 +524,7 @@ fn push_json_head(
     push_member(out, alloc, "gains_alone", &options.wanted.gains)
 }
 
-/// Appends the lines, the rules that are passed over, the profiles that are gone and that are new, how many there are, and what isn't told.
+/// Appends the lines, those about unclean paths alone, the rules that are passed over, the profiles that are gone and that are new, how many there are, and what isn't told.
 fn push_json_found(
     out: &mut Vec<u8>,
     alloc: Global,
@@ -457,13 +536,14 @@ fn push_json_found(
     ensures { OnOk result (out.new.items ≡ out.old.items ++ json_found policies.now findings.now (map apart rules.now) (doubts_data doubts.now)) }
 {
     push_lines_member(out, alloc, policies, findings)?;
+    push_unclean(out, alloc, policies, findings)?;
     push_rules_apart(out, alloc, policies, rules)?;
     push_json_profiles(out, alloc, findings)?;
     push_counts_member(out, alloc, policies, doubts.left_out, findings, rules)?;
     push_json_untold(out, alloc, doubts)
 }
 
-/// Appends findings and rules that are passed over as one JSON object and a line end: what is compared, the lines, these rules, the profiles
+/// Appends findings and rules that are passed over as one JSON object and a line end: what is compared, the lines, those about unclean paths alone, these rules, the profiles
 /// that are gone and that are new, how many there are, and what isn't told.
 pub(crate) fn push_json_report(
     out: &mut Vec<u8>,

@@ -7,15 +7,15 @@ use aa_differences::closed_labels_are_decided;
 use aa_skipped::each_file_decides;
 use aa_skipping::skipping_is_sound;
 
-/// A law and no work: each entry of a list of differences has a line that tells of it, or one by a single permission has that tells of
-/// it; each line is that of an entry; and of all profiles gains are shown exactly where an entry is one.
+/// A law and no work: each entry of a list of differences has a line that tells of it, at a clean path where the entry is at one, or one by
+/// a single permission has that tells of it; each line is that of an entry; and of all profiles gains are shown exactly where an entry is one.
 pub fn lines_tell_entries()
     ensures { LinesTellEntries }
 {}
 
 /// A law and no work: where no line is about a profile, nothing is undecided there, and it is compared, the policies of all files of both
 /// sides answer each request alike there, whatever profiles the skipped files have, as long as they have the heads that are known and
-/// these policies are lawful; so of tasks without a profile.
+/// these policies are lawful; where no line at a clean path is, each request at one; so of tasks without a profile.
 pub fn differences_are_sound()
     ensures profiles { ProfilesHold }
     ensures free { FreeHold }

@@ -16,11 +16,13 @@ mod naming;
 mod options;
 mod order;
 mod part;
+mod places;
 mod printing;
 mod report;
 mod rules;
 mod sides;
 mod signs;
+mod unclean;
 mod untold;
 mod untold_shown;
 

@@ -3,9 +3,9 @@
 ghost use Rattle.std.specs.Prelude.{◌≡◌, ◌++◌, map, OnOk, IfOk};
 ghost use Rattle.std.specs.List.{take_while};
 ghost use Rattle.aa_passed_over.specs.Apart.{apart};
-ghost use Rattle.aa_diff.specs.Lines.{PassedOver, told, number_of, is_ahead, past, lines_with, label_of};
+ghost use Rattle.aa_diff.specs.Lines.{PassedOver, told, number_at, number_of, is_ahead, past, lines_with, label_of, does_line_count};
 
-use crate::finding::Finding;
+use crate::finding::{Finding, does_count};
 use aa_model::Label;
 use aa_passed_over::Apart;
 use std::alloc::{AllocError, Global};
@@ -17,14 +17,27 @@ pub(crate) enum Line<'a> {
     PassedOver(&'a Apart),
 }
 
-/// The number of a label's profile in its policy.
-fn number_of(label: Label) -> usize
-    ensures { result ≡ number_of label }
+/// The number before which all profiles are whose rules stand before a finding at a label: those before the label's, and where the finding
+/// doesn't count the label's too.
+fn number_at(counts: bool, label: Label) -> usize
+    ensures { result ≡ number_at counts label }
 {
     match label {
         Label::Unconfined(_) => 0,
-        Label::Confined(_, number) => number as usize,
+        Label::Confined(_, number) => {
+            if counts {
+                number as usize
+            } else {
+                number as usize + 1
+            }
+        }
     }
+}
+
+fn number_of(finding: &Finding) -> usize
+    ensures { result ≡ number_of finding.now }
+{
+    number_at(does_count(finding), finding.from)
 }
 
 /// The label that a line is about.
@@ -34,6 +47,16 @@ pub(crate) fn label_of(line: Line<'_>) -> Label
     match line {
         Line::Found(finding) => finding.from,
         Line::PassedOver(rule) => Label::Confined(0, rule.profile),
+    }
+}
+
+/// Whether a line is a finding that counts, or a rule.
+pub(crate) fn does_line_count(line: Line<'_>) -> bool
+    ensures { result ≡ does_line_count (told line.entry) }
+{
+    match line {
+        Line::Found(finding) => does_count(finding),
+        Line::PassedOver(_) => true,
     }
 }
 
@@ -74,7 +97,7 @@ fn push_all<'a>(lines: &mut Vec<Line<'a>>, rules: &'a [Apart]) -> Result<(), All
     Ok(())
 }
 
-/// Findings, and each rule behind those of its profile.
+/// Findings, and each rule behind those of its profile that count.
 pub(crate) fn lines_with<'a>(
     alloc: Global,
     findings: &'a [Finding],
@@ -86,7 +109,7 @@ pub(crate) fn lines_with<'a>(
     let mut rest = findings;
     let mut rules = rules;
     while let [finding, after @ ..] = rest {
-        rules = push_ahead(&mut lines, rules, number_of(finding.from))?;
+        rules = push_ahead(&mut lines, rules, number_of(finding))?;
         lines.push(Line::Found(finding))?;
         rest = after;
     }

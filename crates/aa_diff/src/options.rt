@@ -39,4 +39,6 @@ pub struct DiffOptions<'a> {
     pub accepted: &'a [Vec<u8>],
     /// A file of the new side with findings that are accepted in place of these, as they are printed.
     pub known: Option<&'a [u8]>,
+    /// Whether requests at unclean paths count as others.
+    pub unclean: bool,
 }

@@ -5,7 +5,7 @@ ghost use Rattle.std.specs.List.{list_any};
 ghost use Rattle.aa_base.specs.Values.{value};
 ghost use Rattle.aa_notation.specs.Written.{word_text};
 ghost use Rattle.aa_diff.specs.declared.finding.Finding.{Finding};
-ghost use Rattle.aa_diff.specs.Printed.{is_owner, asked_by, asked_of, others_text, sign_text, more_text, asked_part, change_part, finding_part, line_start, line_end, line_text, gone_text, name_asked, profile_part, profile_text, profile_if, free_if, is_free, is_behind, heading, side_text, rule_part, passed_over_text, told_text, confined_text, free_text};
+ghost use Rattle.aa_diff.specs.Printed.{is_owner, asked_by, asked_of, others_text, sign_text, more_text, only_text, asked_part, change_part, finding_part, line_start, line_end, line_text, gone_text, name_asked, profile_part, profile_text, profile_if, free_if, is_free, is_behind, heading, side_text, rule_part, passed_over_text, told_text, confined_text, free_text};
 ghost use Rattle.aa_passed_over.specs.Apart.{apart};
 ghost use Rattle.aa_diff.specs.Lines.{told};
 
@@ -95,13 +95,28 @@ pub(crate) fn push_more(out: &mut Vec<u8>, more: u64) -> Result<(), AllocError>
     push_text(out, " more")
 }
 
-/// Appends the sign and the request of a line.
+/// Appends that a line is about unclean paths alone, if so it is.
+pub(crate) fn push_only(out: &mut Vec<u8>, unclean: bool) -> Result<(), AllocError>
+    ensures { OnOk result (out.new.items ≡ out.old.items ++ only_text unclean) }
+{
+    push_text(
+        out,
+        if unclean {
+            "only at unclean paths "
+        } else {
+            ""
+        },
+    )
+}
+
+/// Appends the sign of a line, that it is about unclean paths alone, and the request.
 #[tactic(auto, unfolding(crate::specs::Printed::asked_part))]
 fn push_asked_part(out: &mut Vec<u8>, alloc: Global, finding: &Finding) -> Result<(), AllocError>
     ensures { OnOk result (out.new.items ≡ out.old.items ++ asked_part finding.now) }
 {
     push_text(out, sign_text(finding.sign))?;
     push_text(out, " ")?;
+    push_only(out, finding.unclean)?;
     push_asked(out, alloc, finding)?;
     push_others(out, finding.who)
 }

@@ -4,25 +4,25 @@ ghost use Rattle.std.specs.Prelude.{◌≡◌, ◌++◌, ◌==◌, [], None, cod
 ghost use Rattle.std.specs.List.{list_any};
 ghost use Rattle.std.specs.Str.{bytes_eq};
 ghost use Rattle.aa_files.specs.Texts.{texts};
-ghost use Rattle.aa_ask.specs.Unattached.{first_profiles};
+ghost use Rattle.aa_compile.specs.Labels.{first_profiles};
 ghost use Rattle.aa_diff.specs.Findings.{is_counted};
 ghost use Rattle.aa_passed_over.specs.Apart.{apart};
 ghost use Rattle.aa_diff.specs.Lines.{told};
 ghost use Rattle.aa_diff.specs.Named.{is_named};
 ghost use Rattle.aa_diff.specs.Untold.{doubts_data};
-ghost use Rattle.aa_diff.specs.Report.{called, is_wanted, wanted_of, shown_of, lines_of, headed_next, headed, is_profile_with, profiles_counted, count_text, of_number, profile_counts, signed_count, line_counts, is_rule_wanted, rule_wanted_of, rules_shown, rules_count, lines_text, counts_text, report_of, report_text};
+ghost use Rattle.aa_diff.specs.Report.{called, is_wanted, wanted_of, shown_of, lines_of, headed_next, is_of_different, headed, is_profile_with, profiles_counted, count_text, of_number, profile_counts, signed_count, line_counts, is_rule_wanted, rule_wanted_of, rules_shown, rules_count, lines_text, counts_text, report_of, report_text};
 
 use crate::finding::{Finding, copy_of, is_counted, is_profile};
 use crate::gathering::gather;
 use crate::joining::join_all;
-use crate::lines::{Line, label_of, lines_with};
+use crate::lines::{Line, does_line_count, label_of, lines_with};
 use crate::options::Wanted;
 use crate::printing::{is_behind, name_asked, push_confined, push_free, push_profiles};
 use crate::signs::{Sign, is_confined, sign_number};
 use crate::untold::Doubts;
 use crate::untold_shown::{push_skipped, push_untold};
 use aa_command::Decided;
-use aa_compile::{Compiled, name_of_label};
+use aa_compile::{Compiled, first_profiles, name_of_label};
 use aa_differences::Difference;
 use aa_model::Label;
 use aa_passed_over::{Apart, copy_of as copy_apart};
@@ -153,7 +153,14 @@ fn headed_next(count: u64, before: Option<Label>, label: Label) -> u64
     count.saturating_add(1)
 }
 
-/// How many profiles have a heading.
+/// Whether a line is about a profile, and counts.
+fn is_of_different(line: Line<'_>) -> bool
+    ensures { result ≡ is_of_different (told line.entry) }
+{
+    is_confined(label_of(line)) && does_line_count(line)
+}
+
+/// How many profiles have lines that count.
 pub(crate) fn headed(lines: &[Line<'_>]) -> u64
     ensures { result ≡ headed 0 None (map told lines.now) }
 {
@@ -161,10 +168,9 @@ pub(crate) fn headed(lines: &[Line<'_>]) -> u64
     let mut before: Option<Label> = None;
     let mut rest = lines;
     while let [line, after @ ..] = rest {
-        let label = label_of(*line);
-        if is_confined(label) {
-            count = headed_next(count, before, label);
-            before = Some(label);
+        if is_of_different(*line) {
+            count = headed_next(count, before, label_of(*line));
+            before = Some(label_of(*line));
         }
         rest = after;
     }
@@ -188,7 +194,7 @@ pub(crate) fn count_profiles(sign: Sign, findings: &[Finding]) -> usize
         .count()
 }
 
-/// How many lines have a sign.
+/// How many lines that count have a sign.
 pub(crate) fn count_lines(sign: Sign, findings: &[Finding]) -> usize
     ensures { result ≡ count_by (is_counted sign) findings.now }
 {
@@ -196,16 +202,6 @@ pub(crate) fn count_lines(sign: Sign, findings: &[Finding]) -> usize
         .iter()
         .filter(|finding| is_counted(sign, finding))
         .count()
-}
-
-/// How many profiles the first policy has.
-fn profiles_of(policies: &[Compiled]) -> usize
-    ensures { result ≡ length (first_profiles policies.now) }
-{
-    match policies.get(0) {
-        Some(compiled) => compiled.policy().profiles.as_slice().len(),
-        None => 0,
-    }
 }
 
 /// How many profiles are in one policy or the other, without so many of the first that aren't compared.
@@ -216,7 +212,8 @@ pub(crate) fn profiles_counted(
 ) -> usize
     ensures { result ≡ profiles_counted policies.now left_out findings.now }
 {
-    profiles_of(policies)
+    first_profiles(policies)
+        .len()
         .saturating_sub(left_out)
         .saturating_add(count_profiles(Sign::Gain, findings))
 }
@@ -288,7 +285,7 @@ pub(crate) fn push_profile_counts(
     push_count(out, count_profiles(Sign::Gain, findings), " new; ")
 }
 
-/// Appends how many lines have a sign, and what they do.
+/// Appends how many lines that count have a sign, and what they do.
 fn push_signed(
     out: &mut Vec<u8>,
     sign: Sign,
@@ -302,7 +299,7 @@ fn push_signed(
     push_count(out, count, of_number(count, one, more))
 }
 
-/// Appends how many lines have each sign.
+/// Appends how many lines that count have each sign.
 pub(crate) fn push_line_counts(out: &mut Vec<u8>, findings: &[Finding]) -> Result<(), AllocError>
     ensures { OnOk result (out.new.items ≡ out.old.items ++ line_counts findings.now) }
 {

@@ -2,7 +2,7 @@
 
 ghost use Rattle.std.specs.Prelude.{◌≡◌, ◌++◌, ◌∷◌, [], map, filter, flat_map, count_by, OnOk, IfOk, if◌then◌else◌};
 ghost use Rattle.std.specs.List.{list_any};
-ghost use Rattle.aa_ask.specs.Unattached.{first_profiles};
+ghost use Rattle.aa_compile.specs.Labels.{first_profiles};
 ghost use Rattle.aa_passed_over.specs.Apart.{number_named};
 ghost use Rattle.aa_passed_over.specs.declared.apart.Side.TheVariants.{Old, New};
 ghost use Rattle.aa_skipping.specs.declared.unread.Head.{Head};
@@ -12,10 +12,10 @@ ghost use Rattle.aa_diff.specs.Untold.{About, Free, Named, Others, about, untold
 use crate::options::Wanted;
 use crate::part::Part;
 use crate::report::is_named;
-use aa_compile::Compiled;
+use aa_compile::{Compiled, first_profiles};
 use aa_differences::label_is_open;
 use aa_model::{Label, Profile};
-use aa_passed_over::{Side, first_profiles, number_named};
+use aa_passed_over::{Side, number_named};
 use aa_skipped::Skipped;
 use aa_skipping::{Head, name_is_doubtful};
 use aa_undecided::{SkippedAt, all_placed, push_if};

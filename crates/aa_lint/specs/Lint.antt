@@ -5,7 +5,7 @@ use Rattle.std.specs.List.{slice_get}
 use Rattle.std.specs.Option.{option_map_or}
 use Rattle.aa_model.specs.declared.policy.Policy.{Policy}
 use Rattle.aa_model.specs.declared.policy.Profile.{Profile}
-use Rattle.aa_compile.specs.Labels.{profile_in}
+use Rattle.aa_compile.specs.Labels.{profile_in, first_profiles}
 use Rattle.aa_findings.specs.declared.fault.FindingsFault.{FindingsFault}
 use Rattle.aa_findings.specs.declared.fault.FindingsFault.TheVariants.{NoMemory, TooManyPatterns, TooManyStates}
 use Rattle.aa_findings.specs.declared.finding.Finding.{Finding}
@@ -24,13 +24,9 @@ pub record AllTold : Type 0 where
 abbrev pub lint_data : Lint → AllTold
 lint_data l = record { told = map telling l.told.items; untold = map untelling l.untold.items }
 
--- the profiles of the first policy
-abbrev pub profiles_in : List Policy → List Profile
-profiles_in policies = option_map_or (λ (p : Policy). p.profiles) (slice_get policies 0) []
-
 -- what is found of profile n, which is p, is added, but for what is left out
 abbrev pub with_found : Decided → List (List ℕ) → ℕ → Profile → List Finding → AllTold → AllTold
-with_found d except n p found was = record { told = was.told ++ all_told d except (profiles_in d.policies.now) n p found; untold = was.untold }
+with_found d except n p found was = record { told = was.told ++ all_told d except (first_profiles d.policies.now) n p found; untold = was.untold }
 
 -- that nothing can be found of a profile is added, and why
 abbrev pub with_untold : Profile → List ℕ → AllTold → AllTold

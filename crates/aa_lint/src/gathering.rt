@@ -5,13 +5,13 @@ ghost use Rattle.aa_pattern.specs.Limits.{most_states};
 ghost use Rattle.aa_files.specs.Texts.{texts};
 ghost use Rattle.aa_load.specs.UnitPolicy.{limit_of};
 ghost use Rattle.aa_findings.specs.Below.{AreAttached};
-ghost use Rattle.aa_lint.specs.Lint.{lint_data, profiles_in, count_of, with_found, with_untold, AddsWhy, AddsOf, AddsLint, AreTold};
+ghost use Rattle.aa_lint.specs.Lint.{lint_data, count_of, with_found, with_untold, AddsWhy, AddsOf, AddsLint, AreTold};
 
 use crate::telling::push_all_told;
 use crate::told::Told;
 use crate::untold::{Untold, untold_of};
 use aa_command::Decided;
-use aa_compile::{Compiled, profile_of};
+use aa_compile::{Compiled, first_profiles, profile_of};
 use aa_findings::{Attached, Finding, FindingsFault, attached_of, findings_of};
 use aa_model::Profile;
 use std::alloc::{AllocError, Global};
@@ -23,16 +23,6 @@ fn limit_of(states: u32) -> usize
     ensures bounded { result ≤ most_states }
 {
     states.max(1).min(1_000_000) as usize
-}
-
-/// The profiles of the first policy.
-fn profiles_of(policies: &[Compiled]) -> &[Profile]
-    ensures { result.now ≡ profiles_in policies.now }
-{
-    match policies.get(0) {
-        Some(compiled) => compiled.policy().profiles.as_slice(),
-        None => &[],
-    }
 }
 
 /// What is found of all profiles, and those of which nothing can be.
@@ -54,7 +44,7 @@ fn push_found(
 ) -> Result<(), AllocError>
     ensures { OnOk result (lint_data lint.new ≡ with_found decided.entry (texts except.now) number profile.now findings.now (lint_data lint.old)) }
 {
-    let profiles = profiles_of(decided.policies);
+    let profiles = first_profiles(decided.policies);
     let number = number as usize;
     push_all_told(
         &mut lint.told,

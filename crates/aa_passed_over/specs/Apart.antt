@@ -10,9 +10,9 @@ use Rattle.std.specs.Cmp.Lexicographic.{slice_cmp}
 use Rattle.std.specs.Str.{bytes_eq}
 use Rattle.aa_model.specs.declared.policy.Policy.{Policy}
 use Rattle.aa_model.specs.declared.policy.Profile.{Profile}
+use Rattle.aa_compile.specs.Labels.{first_profiles}
 use Rattle.aa_compile.specs.Transitions.{named}
 use Rattle.aa_command.specs.declared.decided.Decided.{Decided}
-use Rattle.aa_ask.specs.Unattached.{first_profiles}
 use Rattle.aa_passed_over.specs.declared.apart.Side.{Side}
 use Rattle.aa_passed_over.specs.declared.apart.Side.TheVariants.{Old, New}
 use Rattle.aa_passed_over.specs.declared.apart.Apart.{Apart}

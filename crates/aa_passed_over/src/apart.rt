@@ -1,13 +1,12 @@
 //! The rules that are passed over and that one of two policies alone has.
 
 ghost use Rattle.std.specs.Prelude.{◌≡◌, ◌++◌, ◌∷◌, List, ℕ, map, flat_map, OnOk, IfOk};
-ghost use Rattle.aa_ask.specs.Unattached.{first_profiles};
 ghost use Rattle.aa_passed_over.specs.Listed.{Listed, listed};
 ghost use Rattle.aa_passed_over.specs.Apart.{text_of, is_among, new_among, alone, apart, aside, number_named, apart_in, apart_by, apart_of, all_apart, is_seen, AreSeen, ApartRule, GoesOn};
 
 use crate::listed::{ListedRule, listed_of};
 use aa_command::Decided;
-use aa_compile::Compiled;
+use aa_compile::{Compiled, first_profiles};
 use aa_model::Profile;
 use std::alloc::{AllocError, Global};
 use std::collections::BTreeMap;
@@ -176,16 +175,6 @@ fn push_apart_of(
     let from = number_named(old.policies, name);
     let to = number_named(new.policies, name);
     push_apart_by(alloc, old, new, from, to, found)
-}
-
-/// The profiles of the first policy.
-pub fn first_profiles(policies: &[Compiled]) -> &[Profile]
-    ensures { result.now ≡ first_profiles policies.now }
-{
-    match policies.get(0) {
-        Some(compiled) => compiled.policy().profiles.as_slice(),
-        None => &[],
-    }
 }
 
 /// The rules that are passed over and that one policy alone has, of all profiles that both have: profile by profile, those of the old policy

@@ -4,5 +4,5 @@
 mod apart;
 mod listed;
 
-pub use apart::{Apart, Side, copy_of, first_profiles, number_named, rules_apart};
+pub use apart::{Apart, Side, copy_of, number_named, rules_apart};
 pub use listed::{ListedRule, listed_of};

@@ -75,6 +75,7 @@ pub record Compares (q : DiffAsked) (o : DiffOptions) : Type 0 where
   pub whole : o.skips ≡ false
   pub accepted : o.accepted.now ≡ []
   pub known : o.known ≡ None
+  pub clean : o.unclean ≡ false
 
 -- what `diff --json` prints of the two sides of a question
 pub record IsDiffOf (q : DiffAsked) (out : Printed) : Type 0 where

@@ -144,6 +144,7 @@ fn diff_asked(alloc: Global, question: &DiffQuestion) -> Result<Output, NoMemory
         skips: false,
         accepted: &[],
         known: None,
+        unclean: false,
     };
     diff_files(
         alloc,

@@ -1,6 +1,7 @@
 pub mod Names
 pub mod Zipped
 pub mod Telling
+pub mod Apart
 pub mod Leading
 pub mod Asking
 pub mod Drawing

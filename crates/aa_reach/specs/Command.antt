@@ -119,7 +119,7 @@ pub record IsAsked (policies : List Policy) (skipped : List Skipped) (o : ReachO
 pub record AreAllAnswers (limit : ℕ) (o : ReachOptions) (policies : List Policy) (skipped : List Skipped) (a : Asked) (answers : List Answer) : Type 0 where
   pub told : List Answer
   pub others : List Answer
-  pub are : AreAnswers o.as_enforced policies skipped limit (option_map (λ ts. ts.items) a.targets) (texts a.sought.items) a.labels.items told
+  pub are : AreAnswers o.unclean o.as_enforced policies skipped limit (option_map (λ ts. ts.items) a.targets) (texts a.sought.items) a.labels.items told
   pub left : AllZip (IsOpenAnswer skipped) (texts a.opens.items) others
   pub all : answers ≡ told ++ others
 
@@ -142,7 +142,7 @@ graph_printed limit passed skipped opens vertices =
 -- the graph of all labels is printed
 pub record IsGraphed (limit : ℕ) (o : ReachOptions) (policies : List Policy) (skipped : List Skipped) (a : Asked) (out : Printed) : Type 0 where
   pub vertices : List Vertex
-  pub are : AreVertices o.as_enforced policies skipped limit vertices
+  pub are : AreVertices o.unclean o.as_enforced policies skipped limit vertices
   pub out_is : out ≡ graph_printed limit (passed_in policies) (length skipped) (leaves_open a) vertices
 
 -- the page, and what can't be told; what the answers don't tell is among it, since the graph has all labels
@@ -160,7 +160,7 @@ pub record IsPaged (limit : ℕ) (o : ReachOptions) (policies : List Policy) (sk
   pub answers : List Answer
   pub are : AreAllAnswers limit o policies skipped a answers
   pub vertices : List Vertex
-  pub drawn : AreVertices o.as_enforced policies skipped limit vertices
+  pub drawn : AreVertices o.unclean o.as_enforced policies skipped limit vertices
   pub out_is : out ≡ page_printed o (manner_of policies o (beginnings a) limit) (passed_in policies) (length skipped) answers vertices
 
 -- no label is named where a task begins, and no graph is wanted

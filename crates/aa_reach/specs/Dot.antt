@@ -1,6 +1,6 @@
 -- The graph of all labels, in the language of Graphviz.
 -- Source: Graphviz, "DOT Language"; own.
-use Rattle.std.specs.Prelude.{ℕ, ◌==◌, ◌||◌, List, [], ◌∷◌, ◌++◌, map, flat_map, codes, decimal, Bool, if◌then◌else◌}
+use Rattle.std.specs.Prelude.{ℕ, ◌==◌, ◌||◌, List, [], ◌∷◌, ◌++◌, map, flat_map, codes, decimal, Bool, true, false, if◌then◌else◌}
 use Rattle.aa_ask.specs.Shown.{complain_mark}
 use Rattle.aa_reach.specs.declared.graph.Vertex.{Vertex}
 use Rattle.aa_reach.specs.Names.{Name, name_in, called}
@@ -32,15 +32,25 @@ node_line v = codes "  " ++ dot_string (called (name_in v.edges.from)) ++ style_
 abbrev pub edge_word : Turned → List ℕ
 edge_word t = t.word ++ complain_mark t.complains
 
+-- an edge that only unclean paths make is dotted
+abbrev pub dotted_mark : Bool → List ℕ
+dotted_mark dotted = if dotted then codes " [style=dotted]" else []
+
+-- what ends an edge
+unfoldable pub edge_end : Bool → List ℕ
+edge_end dotted = codes "]" ++ dotted_mark dotted ++ codes ";\n"
+
 -- an edge, with a request that leads on by it
-unfoldable pub edge_line : Name → Routed → List ℕ
-edge_line from r =
+unfoldable pub edge_line : Bool → Name → Routed → List ℕ
+edge_line dotted from r =
     codes "  " ++ dot_string (called from) ++ codes " -> " ++ dot_string (called r.to) ++ codes " [label="
-    ++ dot_string (flat_map edge_word r.turns) ++ codes "];\n"
+    ++ dot_string (flat_map edge_word r.turns) ++ edge_end dotted
 
 -- the edges from a node
 abbrev pub node_edges : Vertex → List ℕ
-node_edges v = flat_map (edge_line (name_in v.edges.from)) (map routed v.edges.routes.items)
+node_edges v =
+    flat_map (edge_line false (name_in v.edges.from)) (map routed v.edges.routes.items)
+    ++ flat_map (edge_line true (name_in v.edges.from)) (map routed v.edges.unclean.routes.items)
 
 -- how many rules decide nothing, in a comment, where there are some
 abbrev pub passed_comment : ℕ → List ℕ

@@ -1,7 +1,7 @@
 -- Labels at which an execution or a change could lead into skipped files.
 -- Source: own.
 use Rattle.std.specs.Prelude.{◌≡◌, ◌+◌, ◌<◌, ℕ, zero, suc, List, [], ◌∷◌, ◌++◌, map, filter, flat_map, length, slice_index_or, Bool}
-use Rattle.std.specs.Prelude.{true, false}
+use Rattle.std.specs.Prelude.{true, false, if◌then◌else◌}
 use Rattle.std.specs.Option.{option_map_or}
 use Rattle.std.specs.List.{list_any, slice_get}
 use Rattle.aa_model.specs.declared.policy.Policy.{Policy}
@@ -12,9 +12,11 @@ use Rattle.aa_model.specs.declared.request.Request.{Request}
 use Rattle.aa_differences.specs.Openings.{is_open_label}
 use Rattle.aa_skipped.specs.declared.skipped.Skipped.{Skipped}
 use Rattle.aa_ask.specs.Naming.{count_of}
+use Rattle.aa_ask.specs.Told.{is_same}
 use Rattle.aa_undecided.specs.Answers.{PlacedFile, placed, placed_all}
 use Rattle.aa_undecided.specs.Holding.{unreads}
 use Rattle.aa_reachability.specs.declared.trail.Arrival.{Arrival}
+use Rattle.aa_reachability.specs.Moves.{is_left_out}
 use Rattle.aa_reachability.specs.Beside.{is_doubted, AreOpenings}
 use Rattle.aa_reachability.specs.Course.{unreads_of, HasOpenings, IsSureOn}
 use Rattle.aa_reach.specs.declared.beside.Beside.{Beside}
@@ -50,6 +52,10 @@ IsShut ps skipped l = is_opened ps skipped l ≡ false
 abbrev pub IsDecided : List Policy → List Skipped → Label → Request → Type 0
 IsDecided ps skipped l r = is_doubted ps (unreads skipped) l r ≡ false
 
+-- nor is it left out
+abbrev pub IsTaken : Bool → List Policy → List Skipped → Label → Request → Type 0
+IsTaken clean ps skipped l r = IsDecided ps skipped l r × (is_left_out clean r ≡ false)
+
 -- a label at which an execution or a change could lead into skipped files, and these
 pub record Doubted : Type 0 where
   pub at : Name
@@ -71,6 +77,14 @@ doubted_at ps skipped l = doubted_if (name_of ps l) (files_opening ps skipped l)
 -- of those of arrivals
 abbrev pub doubted_of : List Policy → List Skipped → Arrival → List Doubted
 doubted_of ps skipped a = doubted_at ps skipped a.label
+
+-- one of the arrivals is at the label
+abbrev pub is_reached_by : List Arrival → Label → Bool
+is_reached_by arrivals l = list_any (λ (a : Arrival). is_same l a.label) arrivals
+
+-- of those of arrivals at whose labels none of these is
+abbrev pub doubted_but : List Policy → List Skipped → List Arrival → Arrival → List Doubted
+doubted_but ps skipped but a = if is_reached_by but a.label then [] else doubted_of ps skipped a
 
 -- of a text that names no label of these policies: the skipped files that may hold a profile which it names
 abbrev pub doubted_name : List Skipped → List ℕ → Doubted

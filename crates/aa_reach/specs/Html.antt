@@ -10,6 +10,7 @@ use Rattle.aa_page.specs.Pages.{page_start, page_end, section_start, section_end
 use Rattle.aa_page.specs.Lines.{plain_start, line_end}
 use Rattle.aa_page.specs.Drawing.{drawing_start, drawing_end, node_text, edge_text}
 use Rattle.aa_ask.specs.Shown.{complain_mark}
+use Rattle.aa_reach.specs.declared.parts.Told.{Told}
 use Rattle.aa_reach.specs.declared.answering.Answer.{Answer}
 use Rattle.aa_reach.specs.declared.graph.Vertex.{Vertex}
 use Rattle.aa_reach.specs.declared.shown.Manner.{Manner}
@@ -18,7 +19,7 @@ use Rattle.aa_reach.specs.Names.{Name, name_in, called}
 use Rattle.aa_reach.specs.Routes.{Turned, Routed, routed, Barred, barred}
 use Rattle.aa_skipped.specs.Telling.{count_text}
 use Rattle.aa_reach.specs.Doubts.{Doubted, doubted}
-use Rattle.aa_reach.specs.Shown.{turn_text, is_known, is_undecided, at_least, passed_text}
+use Rattle.aa_reach.specs.Shown.{turn_text, apart_words, not_told_words, is_known, is_undecided, at_least, passed_text}
 
 -- a request, and a mark where complain mode alone grants it
 unfoldable pub html_turn : Turned → List ℕ
@@ -28,13 +29,17 @@ html_turn t = codes " " ++ code_text t.word ++ complain_mark t.complains
 unfoldable pub html_route : Routed → List ℕ
 html_route r = plain_start ++ code_text (called r.to) ++ flat_map html_turn r.turns ++ line_end
 
--- what is said of a label from which it isn't told where requests lead on
-unfoldable pub not_told_words : List ℕ
-not_told_words = codes "not told from "
+-- a label to which only such lead
+unfoldable pub html_apart : Routed → List ℕ
+html_apart r = plain_start ++ apart_words ++ code_text (called r.to) ++ flat_map html_turn r.turns ++ line_end
 
--- such a label
+-- a label from which it isn't told where requests lead on
 unfoldable pub html_bar : Barred → List ℕ
 html_bar b = plain_start ++ not_told_words ++ code_text (called b.at) ++ line_end
+
+-- one to which only requests lead of which some are at unclean paths
+unfoldable pub html_apart_bar : Barred → List ℕ
+html_apart_bar b = plain_start ++ apart_words ++ not_told_words ++ code_text (called b.at) ++ line_end
 
 -- what is said of a label at which an execution or a change could lead into skipped files
 unfoldable pub undecided_words : List ℕ
@@ -43,6 +48,10 @@ undecided_words = codes "undecided from "
 -- such a label
 unfoldable pub html_doubt : Doubted → List ℕ
 html_doubt d = plain_start ++ undecided_words ++ code_text (called d.at) ++ line_end
+
+-- one to which only such requests lead
+unfoldable pub html_apart_doubt : Doubted → List ℕ
+html_apart_doubt d = plain_start ++ apart_words ++ undecided_words ++ code_text (called d.at) ++ line_end
 
 -- to how many labels, or at least how many
 unfoldable pub html_labels : Manner → Answer → List ℕ
@@ -64,9 +73,15 @@ answer_title m a = codes "from " ++ called (name_in a.from) ++ html_end m a
 abbrev pub html_untold : Answer → List ℕ
 html_untold a = flat_map html_bar (map barred a.bars.items) ++ flat_map html_doubt (map doubted a.doubts.items)
 
+-- what is told of requests of which some are at unclean paths, where these don't count
+abbrev pub html_unclean : Told → List ℕ
+html_unclean t =
+    flat_map html_apart (map routed t.routes.items) ++ flat_map html_apart_bar (map barred t.bars.items)
+    ++ flat_map html_apart_doubt (map doubted t.doubts.items)
+
 -- what an answer tells, and what it doesn't, in a list
 unfoldable pub html_told : Answer → List ℕ
-html_told a = list_start ++ flat_map html_route (map routed a.routes.items) ++ html_untold a ++ list_end
+html_told a = list_start ++ flat_map html_route (map routed a.routes.items) ++ html_untold a ++ html_unclean a.unclean ++ list_end
 
 -- an answer, in a section
 unfoldable pub html_answer : Manner → Answer → List ℕ
@@ -89,13 +104,23 @@ html_node count v = node_text count (number_of (name_in v.edges.from).label) (no
 unfoldable pub edge_title : Name → Routed → List ℕ
 edge_title from r = called from ++ codes " to " ++ called r.to ++ codes ":" ++ flat_map turn_text r.turns
 
+-- so of one that only unclean paths make
+unfoldable pub apart_title : Name → Routed → List ℕ
+apart_title from r = apart_words ++ edge_title from r
+
 -- an edge, of a graph of so many nodes
 abbrev pub html_edge : ℕ → Name → Routed → List ℕ
 html_edge count from r = edge_text count (number_of from.label) (number_of r.to.label) (edge_title from r)
 
+-- one that only unclean paths make
+abbrev pub html_apart_edge : ℕ → Name → Routed → List ℕ
+html_apart_edge count from r = edge_text count (number_of from.label) (number_of r.to.label) (apart_title from r)
+
 -- the edges from a node
 abbrev pub html_edges : ℕ → Vertex → List ℕ
-html_edges count v = flat_map (html_edge count (name_in v.edges.from)) (map routed v.edges.routes.items)
+html_edges count v =
+    flat_map (html_edge count (name_in v.edges.from)) (map routed v.edges.routes.items)
+    ++ flat_map (html_apart_edge count (name_in v.edges.from)) (map routed v.edges.unclean.routes.items)
 
 -- how many bytes the longest name has, and n at least
 abbrev pub widest : ℕ → List Vertex → ℕ
@@ -119,9 +144,15 @@ step_labels from to = code_text (called from) ++ codes " to " ++ code_text (call
 unfoldable pub html_step : Name → Routed → List ℕ
 html_step from r = plain_start ++ step_labels from r.to ++ flat_map html_turn r.turns ++ line_end
 
+-- so of one that only unclean paths make
+unfoldable pub html_apart_step : Name → Routed → List ℕ
+html_apart_step from r = plain_start ++ apart_words ++ step_labels from r.to ++ flat_map html_turn r.turns ++ line_end
+
 -- the edges from a node as lines, or that they aren't told
 abbrev pub html_steps : Vertex → List ℕ
-html_steps v = flat_map (html_step (name_in v.edges.from)) (map routed v.edges.routes.items) ++ html_untold v.edges
+html_steps v =
+    flat_map (html_step (name_in v.edges.from)) (map routed v.edges.routes.items) ++ html_untold v.edges
+    ++ flat_map (html_apart_step (name_in v.edges.from)) (map routed v.edges.unclean.routes.items)
 
 -- all edges, in a section that is folded at first
 unfoldable pub html_all_steps : List Vertex → List ℕ

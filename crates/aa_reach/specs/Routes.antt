@@ -1,6 +1,6 @@
 -- The labels that a task can get to, each with a shortest list of requests, as they are told.
 -- Source: own.
-use Rattle.std.specs.Prelude.{◌≡◌, ◌<◌, ℕ, zero, suc, List, [], ◌∷◌, ◌++◌, map, flat_map, length, Bool, false, not, ◌&&◌}
+use Rattle.std.specs.Prelude.{◌≡◌, ◌<◌, ℕ, List, [], ◌∷◌, ◌++◌, map, flat_map, length, Bool, true, false, not, ◌&&◌}
 use Rattle.std.specs.Prelude.{if◌then◌else◌, Option, Some, None}
 use Rattle.std.specs.List.{list_any, slice_get}
 use Rattle.aa_model.specs.declared.policy.Policy.{Policy}
@@ -15,16 +15,18 @@ use Rattle.aa_reachability.specs.declared.trail.Step.{Step}
 use Rattle.aa_reachability.specs.declared.trail.Arrival.{Arrival}
 use Rattle.aa_reachability.specs.declared.reached.Untold.{Untold}
 use Rattle.aa_reachability.specs.declared.reached.Why.{Why}
-use Rattle.aa_reachability.specs.Moves.{is_by_complain, label_going, HaveManyPatternsAt, IsWhy}
-use Rattle.aa_reachability.specs.Reach.{IsOpen, AreWays, AreUntold, led_by, way_at}
-use Rattle.aa_reachability.specs.Beside.{label_decided, IsSure, AreArrivalsBeside, AreNearBeside}
+use Rattle.aa_reachability.specs.Moves.{is_by_complain, label_going, HaveManyPatternsAt, IsWhyFor}
+use Rattle.aa_reachability.specs.Reach.{IsOpen, AreWays, AreUntoldFor, led_by, way_at}
+use Rattle.aa_reachability.specs.Beside.{label_taken, IsSure, AreArrivalsBeside, AreNearBeside}
 use Rattle.aa_skipped.specs.declared.skipped.Skipped.{Skipped}
 use Rattle.aa_undecided.specs.Holding.{unreads}
 use Rattle.aa_reach.specs.declared.routes.Turn.{Turn}
 use Rattle.aa_reach.specs.declared.routes.Route.{Route}
-use Rattle.aa_reach.specs.declared.answering.Bar.{Bar}
+use Rattle.aa_reach.specs.declared.parts.Bar.{Bar}
 use Rattle.aa_reach.specs.Names.{Name, name_in, name_of}
-use Rattle.aa_reach.specs.Doubts.{IsShut, IsDecided, Doubted, doubted_of}
+use Rattle.aa_reach.specs.declared.searching.Near.{Near}
+use Rattle.aa_reach.specs.declared.searching.Near.TheVariants.{Told, NotTold}
+use Rattle.aa_reach.specs.Doubts.{IsShut, IsTaken, Doubted, is_reached_by, doubted_but}
 
 -- a request as one word, and whether it is granted by complain mode alone
 pub record Turned : Type 0 where
@@ -90,30 +92,31 @@ pub record Routed : Type 0 where
 abbrev pub routed : Route → Routed
 routed r = record { to = name_in r.to; turns = map turned r.turns.items }
 
--- the label is wanted: it is one of those that are asked for, or where none are, another than that where the task begins
-abbrev pub is_wanted : Label → Option (List Label) → Label → Bool
-is_wanted from None l = not (is_same from l)
-is_wanted from (Some targets) l = list_any (is_same l) targets
+-- the label is sought: it is one of those that are asked for, or where none are, another than that where the task begins
+abbrev pub is_sought : Label → Option (List Label) → Label → Bool
+is_sought from None l = not (is_same from l)
+is_sought from (Some targets) l = list_any (is_same l) targets
+
+-- it is wanted: it is sought, and none of these arrivals is there
+abbrev pub is_wanted : Label → Option (List Label) → List Arrival → Label → Bool
+is_wanted from targets but l = is_sought from targets l && not (is_reached_by but l)
 
 -- the route to an arrival that is wanted
-abbrev pub route_to : Bool → List Policy → Label → Option (List Label) → Arrival → List Request → List Routed
-route_to enforced ps from targets a way =
-    if is_wanted from targets a.label then record { to = name_of ps a.label; turns = turns_by enforced ps from way } ∷ [] else []
+abbrev pub route_to : Bool → List Policy → Label → Option (List Label) → List Arrival → Arrival → List Request → List Routed
+route_to enforced ps from targets but a way =
+    if is_wanted from targets but a.label then record { to = name_of ps a.label; turns = turns_by enforced ps from way } ∷ [] else []
 
 -- so to that one, if it is there
-abbrev pub route_if : Bool → List Policy → Label → Option (List Label) → Option Arrival → List Request → List Routed
-route_if enforced ps from targets None way = []
-route_if enforced ps from targets (Some a) way = route_to enforced ps from targets a way
+abbrev pub route_if : Bool → List Policy → Label → Option (List Label) → List Arrival → Option Arrival → List Request → List Routed
+route_if enforced ps from targets but None way = []
+route_if enforced ps from targets but (Some a) way = route_to enforced ps from targets but a way
 
--- those to the first n arrivals
-abbrev pub first_routes : Bool → List Policy → Label → Option (List Label) → List Arrival → List (List Request) → ℕ → List Routed
-first_routes enforced ps from targets arrivals ways zero = []
-first_routes enforced ps from targets arrivals ways (suc n) =
-    first_routes enforced ps from targets arrivals ways n ++ route_if enforced ps from targets (slice_get arrivals n) (way_at ways n)
-
--- those to all of them
-abbrev pub all_routes : Bool → List Policy → Label → Option (List Label) → List Arrival → List (List Request) → List Routed
-all_routes enforced ps from targets arrivals ways = first_routes enforced ps from targets arrivals ways (length arrivals)
+-- those to all that are wanted, each by the list beside it
+abbrev pub all_routes : Bool → List Policy → Label → Option (List Label) → List Arrival → List Arrival → List (List Request) → List Routed
+all_routes enforced ps from targets but [] ways = []
+all_routes enforced ps from targets but (a ∷ arrivals) [] = []
+all_routes enforced ps from targets but (a ∷ arrivals) (way ∷ ways) =
+    route_to enforced ps from targets but a way ++ all_routes enforced ps from targets but arrivals ways
 
 -- a label from which it isn't told where requests lead on, and why
 pub record Barred : Type 0 where
@@ -128,36 +131,68 @@ barred b = record { at = name_in b.at; why = b.why }
 abbrev pub barred_by : List Policy → Untold → Barred
 barred_by ps u = record { at = name_of ps u.label; why = u.why }
 
--- beside files that are skipped a request that they could decide leads nowhere; arrivals are at all labels to which requests lead on from
--- labels at which they could change nothing and of which it is told where requests lead on
-abbrev pub AreFound : Bool → List Policy → List Skipped → List Untold → Label → List Arrival → Type 0
-AreFound enforced ps skipped untold from arrivals =
-    AreArrivalsBeside (label_decided enforced ps (unreads skipped)) (IsOpen untold) (IsSure untold (IsShut ps skipped)) (IsDecided ps skipped) from arrivals
+-- it isn't told from that label
+abbrev pub is_untold_by : List Untold → Label → Bool
+is_untold_by untold l = list_any (λ (u : Untold). is_same l u.label) untold
 
--- the routes to all labels that are wanted and to which requests lead from that label that no skipped file could decide, one each, with
--- as few requests as lead there (past labels that are named no more), those with fewer first: by the policies as they are, or where what
--- complain mode alone grants moves no task; the labels from which it isn't told where requests lead on; and those at which an execution
--- or a change could lead into skipped files. So none is left out to which requests lead on from labels that aren't named so
-pub record AreRoutes (enforced : Bool) (ps : List Policy) (skipped : List Skipped) (limit : ℕ) (from : Label) (targets : Option (List Label))
-    (routes : List Routed) (bars : List Barred) (doubts : List Doubted) : Type 0 where
+-- so of what was found, unless one of these is at that label
+abbrev pub barred_but : List Policy → List Untold → Untold → List Barred
+barred_but ps but u = if is_untold_by but u.label then [] else barred_by ps u ∷ []
+
+-- beside files that are skipped a request that they could decide leads nowhere, and where clean paths alone count, one at an unclean path;
+-- arrivals are at all labels to which requests lead on from labels at which such files could change nothing and of which it is told where
+-- requests lead on
+abbrev pub AreFound : Bool → Bool → List Policy → List Skipped → List Untold → Label → List Arrival → Type 0
+AreFound clean enforced ps skipped untold from arrivals =
+    AreArrivalsBeside (label_taken clean enforced ps (unreads skipped)) (IsOpen untold) (IsSure untold (IsShut ps skipped)) (IsTaken clean ps skipped) from
+    arrivals
+
+-- what a search finds: arrivals, and those from which it isn't told where requests lead on
+pub record IsSearched (clean enforced : Bool) (ps : List Policy) (skipped : List Skipped) (limit : ℕ) (from : Label) : Type 0 where
   pub arrivals : List Arrival
   pub untold : List Untold
-  pub are : AreFound enforced ps skipped untold from arrivals
-  pub are_untold : AreUntold ps limit arrivals untold
-  pub told : routes ≡ all_routes enforced ps from targets arrivals are.ways
-  pub bars_are : bars ≡ map (barred_by ps) untold
-  pub doubts_are : doubts ≡ flat_map (doubted_of ps skipped) arrivals
+  pub are : AreFound clean enforced ps skipped untold from arrivals
+  pub are_untold : AreUntoldFor clean ps limit arrivals untold
 
--- arrivals at labels to which one request leads that no skipped file could decide: at all, each by a request before which none comes that
--- leads there, where they could change nothing at that label
-abbrev pub AreFoundNear : Bool → List Policy → List Skipped → Label → List Arrival → Type 0
-AreFoundNear enforced ps skipped from arrivals =
-    AreNearBeside (label_decided enforced ps (unreads skipped)) (IsShut ps skipped) (IsDecided ps skipped) from arrivals
+-- The routes to all labels that are wanted and to which requests at clean paths lead from that label that no skipped file could decide, one
+-- each, with as few requests as lead there so (past labels that are named no more), those with fewer first: by the policies as they are, or
+-- where what complain mode alone grants moves no task; the labels from which it isn't told where requests lead on; and those at which an
+-- execution or a change could lead into skipped files. So none is left out to which requests at clean paths lead on from labels that aren't
+-- named so. The routes to all others to which requests lead, some at unclean paths, stand behind them with what isn't told of these, where
+-- unclean paths count, and else both stand apart.
+pub record AreRoutes (counts enforced : Bool) (ps : List Policy) (skipped : List Skipped) (limit : ℕ) (from : Label) (targets : Option (List Label))
+    (routes : List Routed) (bars : List Barred) (doubts : List Doubted) (apart : List Routed) (apart_bars : List Barred) (apart_doubts : List Doubted)
+    : Type 0 where
+  pub clean : IsSearched true enforced ps skipped limit from
+  pub all : IsSearched false enforced ps skipped limit from
+  pub told : routes
+      ≡ all_routes enforced ps from targets [] clean.arrivals clean.are.ways
+      ++ (if counts then all_routes enforced ps from targets clean.arrivals all.arrivals all.are.ways else [])
+  pub apart_are : apart ≡ (if counts then [] else all_routes enforced ps from targets clean.arrivals all.arrivals all.are.ways)
+  pub bars_are : bars ≡ flat_map (barred_but ps []) clean.untold ++ (if counts then flat_map (barred_but ps clean.untold) all.untold else [])
+  pub doubts_are : doubts
+      ≡ flat_map (doubted_but ps skipped []) clean.arrivals ++ (if counts then flat_map (doubted_but ps skipped clean.arrivals) all.arrivals else [])
+  pub apart_bars_are : apart_bars ≡ (if counts then [] else flat_map (barred_but ps clean.untold) all.untold)
+  pub apart_doubts_are : apart_doubts ≡ (if counts then [] else flat_map (doubted_but ps skipped clean.arrivals) all.arrivals)
 
--- the routes of one request to all other labels to which one leads so; or it isn't told where one leads, and there are none
-pub data AreEdges (enforced : Bool) (ps : List Policy) (skipped : List Skipped) (limit : ℕ) (from : Label) (routes : List Routed)
-    (bars : List Barred) : Type 0 where
-  Edges : (arrivals : List Arrival) → (are : AreFoundNear enforced ps skipped from arrivals) → (HaveManyPatternsAt ps from → ⊥)
-      → routes ≡ all_routes enforced ps from None arrivals are.ways → bars ≡ [] → AreEdges enforced ps skipped limit from routes bars
-  NoEdges : (why : Why) → IsWhy ps limit from why → routes ≡ [] → bars ≡ record { at = name_of ps from; why = why } ∷ []
-      → AreEdges enforced ps skipped limit from routes bars
+-- arrivals at labels to which one request leads that counts and that no skipped file could decide: at all, each by a request before which
+-- none such comes that leads there, where they could change nothing at that label
+abbrev pub AreFoundNear : Bool → Bool → List Policy → List Skipped → Label → List Arrival → Type 0
+AreFoundNear clean enforced ps skipped from arrivals =
+    AreNearBeside (label_taken clean enforced ps (unreads skipped)) (IsShut ps skipped) (IsTaken clean ps skipped) from arrivals
+
+-- it is found where one request leads, or isn't told
+abbrev pub IsNearBy : Bool → Bool → List Policy → List Skipped → ℕ → Label → Near → Type 0
+IsNearBy clean enforced ps skipped limit from (Told arrivals) = AreFoundNear clean enforced ps skipped from arrivals.items × (HaveManyPatternsAt ps from → ⊥)
+IsNearBy clean enforced ps skipped limit from (NotTold why) = IsWhyFor clean ps limit from why
+
+-- the routes of one request at a clean path to all other labels to which one leads so, and, where unclean paths count, apart those of one at
+-- an unclean path to all others to which one leads; or it isn't told where one leads, and there are none
+pub data AreEdges (counts enforced : Bool) (ps : List Policy) (skipped : List Skipped) (limit : ℕ) (from : Label) (routes : List Routed)
+    (bars : List Barred) (apart : List Routed) : Type 0 where
+  Edges : (clean all : List Arrival) → (are : AreFoundNear true enforced ps skipped from clean) → (others : AreFoundNear false enforced ps skipped from all)
+      → (HaveManyPatternsAt ps from → ⊥) → routes ≡ all_routes enforced ps from None [] clean are.ways
+      → apart ≡ (if counts then all_routes enforced ps from None clean all others.ways else []) → bars ≡ []
+      → AreEdges counts enforced ps skipped limit from routes bars apart
+  NoEdges : (why : Why) → IsWhyFor true ps limit from why → routes ≡ [] → apart ≡ []
+      → bars ≡ record { at = name_of ps from; why = why } ∷ [] → AreEdges counts enforced ps skipped limit from routes bars apart

@@ -23,9 +23,43 @@ from_mark has_fronts from = if has_fronts then codes "from " ++ called from ++ c
 unfoldable pub route_line : Manner → Name → Routed → List ℕ
 route_line m from r = from_mark m.has_fronts from ++ called r.to ++ flat_map turn_text r.turns ++ codes "\n"
 
+-- what is said of requests of which some are at unclean paths, where only such lead there
+unfoldable pub apart_words : List ℕ
+apart_words = codes "only at unclean paths "
+
+-- what is said of a label from which it isn't told where requests lead on
+unfoldable pub not_told_words : List ℕ
+not_told_words = codes "not told from "
+
+-- only at unclean paths LABEL WORD WORD..: so of one to which requests at clean paths alone don't lead
+unfoldable pub apart_line : Manner → Name → Routed → List ℕ
+apart_line m from r =
+    from_mark m.has_fronts from ++ apart_words ++ called r.to ++ flat_map turn_text r.turns ++ codes "\n"
+
 -- undecided LABEL: an execution or a change could lead into skipped files there, of which the first is named
 unfoldable pub doubt_lines : Manner → Name → Doubted → List ℕ
 doubt_lines m from d = from_mark m.has_fronts from ++ doubt_text (record { word = called d.at; files = d.files })
+
+-- why it isn't told where requests lead on
+abbrev pub why_text : ℕ → Why → List ℕ
+why_text limit TooManyPatterns = codes "have more than 65535 patterns together\n"
+why_text limit TooManyStates = codes "need more than " ++ decimal limit ++ codes " states together; --states allows more\n"
+
+-- only at unclean paths not told from LABEL: the rules ..: so of one from which it isn't told where requests lead on, and why
+unfoldable pub apart_bar_line : Manner → Name → Barred → List ℕ
+apart_bar_line m from b =
+    from_mark m.has_fronts from ++ apart_words ++ not_told_words ++ called b.at ++ codes ": the rules " ++ why_text m.limit b.why
+
+-- only at unclean paths undecided LABEL: so of one at which an execution or a change could lead into skipped files
+unfoldable pub apart_doubt_lines : Manner → Name → Doubted → List ℕ
+apart_doubt_lines m from d = from_mark m.has_fronts from ++ apart_words ++ doubt_text (record { word = called d.at; files = d.files })
+
+-- what is told of requests of which some are at unclean paths, where these don't count
+abbrev pub apart_text : Manner → Answer → List ℕ
+apart_text m a =
+    flat_map (apart_line m (name_in a.from)) (map routed a.unclean.routes.items)
+    ++ flat_map (apart_bar_line m (name_in a.from)) (map barred a.unclean.bars.items)
+    ++ flat_map (apart_doubt_lines m (name_in a.from)) (map doubted a.unclean.doubts.items)
 
 -- it is known which labels are reached
 abbrev pub is_known : Answer → Bool
@@ -57,16 +91,11 @@ end_line m a = if m.is_sought then none_line m a else count_line m a
 abbrev pub answer_text : Manner → Answer → List ℕ
 answer_text m a =
     flat_map (route_line m (name_in a.from)) (map routed a.routes.items) ++ flat_map (doubt_lines m (name_in a.from)) (map doubted a.doubts.items)
-    ++ end_line m a
+    ++ end_line m a ++ apart_text m a
 
 -- how many rules decide nothing, where there are some
 abbrev pub passed_text : ℕ → List ℕ
 passed_text n = if n == 0 then [] else decimal n ++ codes " rules passed over\n"
-
--- why it isn't told where requests lead on
-abbrev pub why_text : ℕ → Why → List ℕ
-why_text limit TooManyPatterns = codes "have more than 65535 patterns together\n"
-why_text limit TooManyStates = codes "need more than " ++ decimal limit ++ codes " states together; --states allows more\n"
 
 -- from which label it isn't told
 unfoldable pub bar_line : ℕ → Barred → List ℕ

@@ -51,6 +51,8 @@ pub struct ReachOptions<'a> {
     pub is_html: bool,
     /// Whether files that are refused are skipped.
     pub skips: bool,
+    /// Whether unclean paths count as others.
+    pub unclean: bool,
 }
 
 /// The labels where a task begins, and those that it should get to, if some are asked for; and the texts that are left open, since they name
@@ -313,7 +315,9 @@ fn all_answers(
 {
     let labels = asked.labels.as_slice();
     let sought = asked.sought.as_slice();
-    let mut answers = answers_from(alloc, beside, limit, targets_in(asked), sought, labels)?;
+    let unclean = options.unclean;
+    let targets = targets_in(asked);
+    let mut answers = answers_from(alloc, beside, limit, unclean, targets, sought, labels)?;
     let mut others = open_answers(alloc, beside.skipped, asked.opens.as_slice())?;
     answers.append(&mut others)?;
     Ok(answers)
@@ -378,7 +382,7 @@ fn graphed(
     requires enforced { beside.course.going.as_enforced ≡ options.now.as_enforced }
     ensures { IfOk result (λ out. IsGraphed limit options.now beside.entry.course.going.policies.now beside.entry.skipped.now asked.now (printed out)) }
 {
-    let vertices = vertices_of(alloc, beside, limit)?;
+    let vertices = vertices_of(alloc, beside, limit, options.unclean)?;
     let passed = passed_in(beside.course.going.policies);
     let opens = leaves_open(asked);
     graph_of(
@@ -436,7 +440,7 @@ fn paged(
 {
     let policies = beside.course.going.policies;
     let answers = all_answers(alloc, limit, options, beside, asked)?;
-    let vertices = vertices_of(alloc, beside, limit)?;
+    let vertices = vertices_of(alloc, beside, limit, options.unclean)?;
     let manner = manner_of(policies, options, beginnings(asked), limit);
     page_of(
         alloc,
@@ -522,6 +526,7 @@ fn wanted_beside(
         going,
         unreads: unreads.as_slice(),
         openings: openings.as_slice(),
+        only_clean: false,
     };
     let beside = Beside { course, skipped };
     let output = wanted(alloc, states, options, decided, beside, asked)?;

@@ -1,10 +1,10 @@
 //! The graph of all labels, in the language of Graphviz.
 
-ghost use Rattle.std.specs.Prelude.{◌≡◌, ◌++◌, codes, map, flat_map, OnOk, IfOk};
+ghost use Rattle.std.specs.Prelude.{◌≡◌, ◌++◌, true, false, codes, map, flat_map, OnOk, IfOk};
 ghost use Rattle.aa_ask.specs.Shown.{complain_mark};
 ghost use Rattle.aa_reach.specs.Names.{name_in, called};
 ghost use Rattle.aa_reach.specs.Routes.{turned, routed};
-ghost use Rattle.aa_reach.specs.Dot.{dot_byte, dot_string, style_mark, border_mark, node_line, edge_word, edge_line, node_edges, passed_comment, skipped_comment, dot_comments, dot_text, untold_edges};
+ghost use Rattle.aa_reach.specs.Dot.{dot_byte, dot_string, style_mark, border_mark, node_line, edge_word, dotted_mark, edge_end, edge_line, node_edges, passed_comment, skipped_comment, dot_comments, dot_text, untold_edges};
 
 use crate::graph::Vertex;
 use crate::naming::{Named, push_called};
@@ -103,14 +103,30 @@ fn words_of(alloc: Global, turns: &[Turn]) -> Result<Vec<u8>, AllocError>
     Ok(text)
 }
 
+fn push_dotted(out: &mut Vec<u8>, dotted: bool) -> Result<(), AllocError>
+    ensures { OnOk result (out.new.items ≡ out.old.items ++ dotted_mark dotted) }
+{
+    push_text(out, if dotted { " [style=dotted]" } else { "" })
+}
+
+#[tactic(auto, unfolding(crate::specs::Dot::edge_end))]
+fn push_edge_end(out: &mut Vec<u8>, dotted: bool) -> Result<(), AllocError>
+    ensures { OnOk result (out.new.items ≡ out.old.items ++ edge_end dotted) }
+{
+    push_text(out, "]")?;
+    push_dotted(out, dotted)?;
+    push_text(out, ";\n")
+}
+
 #[tactic(auto, unfolding(crate::specs::Dot::edge_line))]
 fn push_edge(
     out: &mut Vec<u8>,
     alloc: Global,
+    dotted: bool,
     from: &Named,
     route: &Route,
 ) -> Result<(), AllocError>
-    ensures { OnOk result (out.new.items ≡ out.old.items ++ edge_line (name_in from.now) (routed route.now)) }
+    ensures { OnOk result (out.new.items ≡ out.old.items ++ edge_line dotted (name_in from.now) (routed route.now)) }
 {
     push_text(out, "  ")?;
     push_label(out, alloc, from)?;
@@ -118,19 +134,20 @@ fn push_edge(
     push_label(out, alloc, &route.to)?;
     push_text(out, " [label=")?;
     push_string(out, words_of(alloc, route.turns.as_slice())?.as_slice())?;
-    push_text(out, "];\n")
+    push_edge_end(out, dotted)
 }
 
 fn push_edges(
     out: &mut Vec<u8>,
     alloc: Global,
+    dotted: bool,
     from: &Named,
     routes: &[Route],
 ) -> Result<(), AllocError>
-    ensures { OnOk result (out.new.items ≡ out.old.items ++ flat_map (edge_line (name_in from.now)) (map routed routes.now)) }
+    ensures { OnOk result (out.new.items ≡ out.old.items ++ flat_map (edge_line dotted (name_in from.now)) (map routed routes.now)) }
 {
     for route in routes {
-        push_edge(out, alloc, from, route)?;
+        push_edge(out, alloc, dotted, from, route)?;
     }
     Ok(())
 }
@@ -138,12 +155,10 @@ fn push_edges(
 fn push_node_edges(out: &mut Vec<u8>, alloc: Global, vertex: &Vertex) -> Result<(), AllocError>
     ensures { OnOk result (out.new.items ≡ out.old.items ++ node_edges vertex.now) }
 {
-    push_edges(
-        out,
-        alloc,
-        &vertex.edges.from,
-        vertex.edges.routes.as_slice(),
-    )
+    let edges = &vertex.edges;
+    push_edges(out, alloc, false, &edges.from, edges.routes.as_slice())?;
+    let apart = edges.unclean.routes.as_slice();
+    push_edges(out, alloc, true, &edges.from, apart)
 }
 
 fn push_all_edges(out: &mut Vec<u8>, alloc: Global, vertices: &[Vertex]) -> Result<(), AllocError>

@@ -1,14 +1,15 @@
 //! Labels at which an execution or a change could lead into skipped files.
 
-ghost use Rattle.std.specs.Prelude.{◌≡◌, ◌++◌, map, filter, flat_map, OnOk, IfOk};
+ghost use Rattle.std.specs.Prelude.{◌≡◌, ◌++◌, map, filter, flat_map, OnOk, IfOk, if◌then◌else◌, []};
 ghost use Rattle.aa_undecided.specs.Answers.{placed, placed_all};
 ghost use Rattle.aa_files.specs.Texts.{texts};
 ghost use Rattle.aa_reach.specs.Heads.{may_hold};
 ghost use Rattle.aa_reach.specs.Names.{name_of};
-ghost use Rattle.aa_reach.specs.Doubts.{opens, files_opening_in, files_opening, doubted, doubted_if, doubted_at, doubted_of, doubted_name};
+ghost use Rattle.aa_reach.specs.Doubts.{opens, files_opening_in, files_opening, doubted, doubted_if, doubted_at, doubted_of, is_reached_by, doubted_but, doubted_name};
 
 use crate::heads::may_hold;
 use crate::naming::{Named, name_left_open, name_of};
+use aa_ask::is_same;
 use aa_compile::Compiled;
 use aa_differences::label_is_open;
 use aa_model::Label;
@@ -102,18 +103,43 @@ pub(crate) fn doubts_at(
     Ok(doubts)
 }
 
-/// Those of the labels of arrivals, one after another.
+/// Whether one of the arrivals is at a label.
+pub(crate) fn is_reached_by(arrivals: &[Arrival], label: Label) -> bool
+    ensures { result ≡ is_reached_by arrivals.now label }
+{
+    arrivals.iter().any(|arrival| is_same(label, arrival.label))
+}
+
+/// Adds a label so, unless one of the arrivals is there.
+fn push_but(
+    doubts: &mut Vec<Doubt>,
+    alloc: Global,
+    policies: &[Compiled],
+    skipped: &[Skipped],
+    but: &[Arrival],
+    arrival: &Arrival,
+) -> Result<(), AllocError>
+    ensures { OnOk result (map doubted doubts.new.items ≡ map doubted doubts.old.items ++ doubted_but policies.now skipped.now but.now arrival.now) }
+{
+    if is_reached_by(but, arrival.label) {
+        return Ok(());
+    }
+    push_at(doubts, alloc, policies, skipped, arrival.label)
+}
+
+/// Those of the labels of arrivals at which none of others is, one after another.
 pub(crate) fn doubts_of(
     alloc: Global,
     policies: &[Compiled],
     skipped: &[Skipped],
+    but: &[Arrival],
     arrivals: &[Arrival],
 ) -> Result<Vec<Doubt>, AllocError>
-    ensures { IfOk result (λ doubts. map doubted doubts.items ≡ flat_map (doubted_of policies.now skipped.now) arrivals.now) }
+    ensures { IfOk result (λ doubts. map doubted doubts.items ≡ flat_map (doubted_but policies.now skipped.now but.now) arrivals.now) }
 {
     let mut doubts = Vec::new(alloc);
     for arrival in arrivals {
-        push_at(&mut doubts, alloc, policies, skipped, arrival.label)?;
+        push_but(&mut doubts, alloc, policies, skipped, but, arrival)?;
     }
     Ok(doubts)
 }

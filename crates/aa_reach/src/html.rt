@@ -7,16 +7,18 @@ ghost use Rattle.aa_reach.specs.Routes.{turned, routed, barred};
 ghost use Rattle.aa_reach.specs.Doubts.{doubted};
 ghost use Rattle.aa_page.specs.Escaped.{code_text};
 ghost use Rattle.aa_page.specs.Pages.{page_start};
-ghost use Rattle.aa_reach.specs.Html.{html_turn, html_route, not_told_words, html_bar, undecided_words, html_doubt, html_labels, html_none, html_end, answer_title, html_untold, html_told, html_answer, number_of, node_name, html_node, edge_title, html_edge, html_edges, widest, html_drawing, html_graph, step_labels, html_step, html_steps, html_all_steps, html_path, enforced_mark, files_words, html_files, html_passed, html_skipped, html_counts, page_title, html_head, html_labels_all, html_foot, html_page};
+ghost use Rattle.aa_reach.specs.Html.{html_turn, html_route, html_apart, html_bar, html_apart_bar, undecided_words, html_doubt, html_apart_doubt, html_unclean, html_labels, html_none, html_end, answer_title, html_untold, html_told, html_answer, number_of, node_name, html_node, edge_title, apart_title, html_edge, html_apart_edge, html_edges, widest, html_drawing, html_graph, step_labels, html_step, html_apart_step, html_steps, html_all_steps, html_path, enforced_mark, files_words, html_files, html_passed, html_skipped, html_counts, page_title, html_head, html_labels_all, html_foot, html_page};
 
-use crate::answering::{Answer, Bar};
+use crate::answering::Answer;
 use crate::command::ReachOptions;
 use crate::doubts::Doubt;
 use crate::graph::Vertex;
 use crate::naming::{Named, called, push_called};
+use crate::parts::{Bar, Told};
 use crate::routes::{Route, Turn};
 use crate::shown::{
-    Manner, is_known, is_undecided, push_at_least, push_complain, push_passed, push_turns,
+    Manner, is_known, is_undecided, push_apart_words, push_at_least, push_complain, push_not_told,
+    push_passed, push_turns,
 };
 use aa_model::Label;
 use aa_page::{
@@ -74,11 +76,25 @@ fn push_routes(out: &mut Vec<u8>, alloc: Global, routes: &[Route]) -> Result<(),
     Ok(())
 }
 
-#[tactic(auto, unfolding(crate::specs::Html::not_told_words))]
-fn push_not_told(out: &mut Vec<u8>) -> Result<(), AllocError>
-    ensures { OnOk result (out.new.items ≡ out.old.items ++ not_told_words) }
+/// Appends a label to which requests at clean paths alone don't lead.
+#[tactic(auto, unfolding(crate::specs::Html::html_apart))]
+fn push_apart(out: &mut Vec<u8>, alloc: Global, route: &Route) -> Result<(), AllocError>
+    ensures { OnOk result (out.new.items ≡ out.old.items ++ html_apart (routed route.now)) }
 {
-    push_text(out, "not told from ")
+    push_plain_start(out)?;
+    push_apart_words(out)?;
+    push_label(out, alloc, &route.to)?;
+    push_words(out, alloc, route.turns.as_slice())?;
+    push_line_end(out)
+}
+
+fn push_each_apart(out: &mut Vec<u8>, alloc: Global, routes: &[Route]) -> Result<(), AllocError>
+    ensures { OnOk result (out.new.items ≡ out.old.items ++ flat_map html_apart (map routed routes.now)) }
+{
+    for route in routes {
+        push_apart(out, alloc, route)?;
+    }
+    Ok(())
 }
 
 /// Appends a label from which it isn't told where requests lead on.
@@ -97,6 +113,27 @@ fn push_bars(out: &mut Vec<u8>, alloc: Global, bars: &[Bar]) -> Result<(), Alloc
 {
     for bar in bars {
         push_bar(out, alloc, bar)?;
+    }
+    Ok(())
+}
+
+/// Appends one to which requests at clean paths alone don't lead.
+#[tactic(auto, unfolding(crate::specs::Html::html_apart_bar))]
+fn push_apart_bar(out: &mut Vec<u8>, alloc: Global, bar: &Bar) -> Result<(), AllocError>
+    ensures { OnOk result (out.new.items ≡ out.old.items ++ html_apart_bar (barred bar.now)) }
+{
+    push_plain_start(out)?;
+    push_apart_words(out)?;
+    push_not_told(out)?;
+    push_label(out, alloc, &bar.at)?;
+    push_line_end(out)
+}
+
+fn push_apart_bars(out: &mut Vec<u8>, alloc: Global, bars: &[Bar]) -> Result<(), AllocError>
+    ensures { OnOk result (out.new.items ≡ out.old.items ++ flat_map html_apart_bar (map barred bars.now)) }
+{
+    for bar in bars {
+        push_apart_bar(out, alloc, bar)?;
     }
     Ok(())
 }
@@ -126,6 +163,36 @@ fn push_doubts(out: &mut Vec<u8>, alloc: Global, doubts: &[Doubt]) -> Result<(),
         push_doubt(out, alloc, doubt)?;
     }
     Ok(())
+}
+
+/// Appends one to which requests at clean paths alone don't lead.
+#[tactic(auto, unfolding(crate::specs::Html::html_apart_doubt))]
+fn push_apart_doubt(out: &mut Vec<u8>, alloc: Global, doubt: &Doubt) -> Result<(), AllocError>
+    ensures { OnOk result (out.new.items ≡ out.old.items ++ html_apart_doubt (doubted doubt.now)) }
+{
+    push_plain_start(out)?;
+    push_apart_words(out)?;
+    push_undecided(out)?;
+    push_label(out, alloc, &doubt.at)?;
+    push_line_end(out)
+}
+
+fn push_apart_doubts(out: &mut Vec<u8>, alloc: Global, doubts: &[Doubt]) -> Result<(), AllocError>
+    ensures { OnOk result (out.new.items ≡ out.old.items ++ flat_map html_apart_doubt (map doubted doubts.now)) }
+{
+    for doubt in doubts {
+        push_apart_doubt(out, alloc, doubt)?;
+    }
+    Ok(())
+}
+
+/// Appends what is told of requests of which some are at unclean paths, where these don't count.
+fn push_unclean(out: &mut Vec<u8>, alloc: Global, unclean: &Told) -> Result<(), AllocError>
+    ensures { OnOk result (out.new.items ≡ out.old.items ++ html_unclean unclean.now) }
+{
+    push_each_apart(out, alloc, unclean.routes.as_slice())?;
+    push_apart_bars(out, alloc, unclean.bars.as_slice())?;
+    push_apart_doubts(out, alloc, unclean.doubts.as_slice())
 }
 
 /// Appends what an answer doesn't tell.
@@ -188,6 +255,7 @@ fn push_told(out: &mut Vec<u8>, alloc: Global, answer: &Answer) -> Result<(), Al
     push_list_start(out)?;
     push_routes(out, alloc, answer.routes.as_slice())?;
     push_untold(out, alloc, answer)?;
+    push_unclean(out, alloc, &answer.unclean)?;
     push_list_end(out)
 }
 
@@ -315,6 +383,46 @@ fn push_arrows(
     Ok(())
 }
 
+/// What is told of an edge that only unclean paths make.
+#[tactic(auto, unfolding(crate::specs::Html::apart_title))]
+fn apart_title(alloc: Global, from: &Named, route: &Route) -> Result<Vec<u8>, AllocError>
+    ensures { IfOk result (λ title. title.items ≡ apart_title (name_in from.now) (routed route.now)) }
+{
+    let mut title = Vec::new(alloc);
+    push_apart_words(&mut title)?;
+    title.extend_from_slice(edge_title(alloc, from, route)?.as_slice())?;
+    Ok(title)
+}
+
+fn push_apart_arrow(
+    out: &mut Vec<u8>,
+    alloc: Global,
+    count: usize,
+    from: &Named,
+    route: &Route,
+) -> Result<(), AllocError>
+    ensures { OnOk result (out.new.items ≡ out.old.items ++ html_apart_edge count (name_in from.now) (routed route.now)) }
+{
+    let title = apart_title(alloc, from, route)?;
+    let ends = (number_of(from.label), number_of(route.to.label));
+    push_edge(out, alloc, count, ends.0, ends.1, title.as_slice())
+}
+
+fn push_apart_arrows(
+    out: &mut Vec<u8>,
+    alloc: Global,
+    count: usize,
+    from: &Named,
+    routes: &[Route],
+) -> Result<(), AllocError>
+    ensures { OnOk result (out.new.items ≡ out.old.items ++ flat_map (html_apart_edge count (name_in from.now)) (map routed routes.now)) }
+{
+    for route in routes {
+        push_apart_arrow(out, alloc, count, from, route)?;
+    }
+    Ok(())
+}
+
 fn push_edges_from(
     out: &mut Vec<u8>,
     alloc: Global,
@@ -324,7 +432,9 @@ fn push_edges_from(
     ensures { OnOk result (out.new.items ≡ out.old.items ++ html_edges count vertex.now) }
 {
     let edges = &vertex.edges;
-    push_arrows(out, alloc, count, &edges.from, edges.routes.as_slice())
+    push_arrows(out, alloc, count, &edges.from, edges.routes.as_slice())?;
+    let apart = edges.unclean.routes.as_slice();
+    push_apart_arrows(out, alloc, count, &edges.from, apart)
 }
 
 fn push_all_edges(
@@ -422,12 +532,45 @@ fn push_steps(
     Ok(())
 }
 
+/// Appends an edge that only unclean paths make as a line.
+#[tactic(auto, unfolding(crate::specs::Html::html_apart_step))]
+fn push_apart_step(
+    out: &mut Vec<u8>,
+    alloc: Global,
+    from: &Named,
+    route: &Route,
+) -> Result<(), AllocError>
+    ensures { OnOk result (out.new.items ≡ out.old.items ++ html_apart_step (name_in from.now) (routed route.now)) }
+{
+    push_plain_start(out)?;
+    push_apart_words(out)?;
+    let to = &route.to;
+    push_step_labels(out, alloc, from, to)?;
+    push_words(out, alloc, route.turns.as_slice())?;
+    push_line_end(out)
+}
+
+fn push_apart_steps(
+    out: &mut Vec<u8>,
+    alloc: Global,
+    from: &Named,
+    routes: &[Route],
+) -> Result<(), AllocError>
+    ensures { OnOk result (out.new.items ≡ out.old.items ++ flat_map (html_apart_step (name_in from.now)) (map routed routes.now)) }
+{
+    for route in routes {
+        push_apart_step(out, alloc, from, route)?;
+    }
+    Ok(())
+}
+
 fn push_steps_from(out: &mut Vec<u8>, alloc: Global, vertex: &Vertex) -> Result<(), AllocError>
     ensures { OnOk result (out.new.items ≡ out.old.items ++ html_steps vertex.now) }
 {
     let edges = &vertex.edges;
     push_steps(out, alloc, &edges.from, edges.routes.as_slice())?;
-    push_untold(out, alloc, edges)
+    push_untold(out, alloc, edges)?;
+    push_apart_steps(out, alloc, &edges.from, edges.unclean.routes.as_slice())
 }
 
 fn push_each_step(out: &mut Vec<u8>, alloc: Global, vertices: &[Vertex]) -> Result<(), AllocError>

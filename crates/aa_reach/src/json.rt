@@ -6,11 +6,12 @@ ghost use Rattle.aa_reach.specs.Names.{name_in};
 ghost use Rattle.aa_undecided.specs.Answers.{placed_all};
 ghost use Rattle.aa_reach.specs.Routes.{turned, routed, barred};
 ghost use Rattle.aa_reach.specs.Doubts.{doubted};
-ghost use Rattle.aa_reach.specs.Json.{json_name, json_turn, json_route, json_bar, json_doubt, json_doubts, json_answer, json_skipped, json_answers};
+ghost use Rattle.aa_reach.specs.Json.{json_name, json_turn, json_route, json_apart, json_bar, json_apart_bars, json_doubt, json_doubts, json_apart_doubts, json_unclean, json_beside, json_answer, json_skipped, json_answers};
 
-use crate::answering::{Answer, Bar};
+use crate::answering::Answer;
 use crate::doubts::Doubt;
 use crate::naming::Named;
+use crate::parts::{Bar, Told};
 use crate::routes::{Route, Turn};
 use aa_text::{
     ToJson, push_json_bytes, push_key, push_list, push_list_member, push_member, push_text,
@@ -89,11 +90,22 @@ impl ToJson for Bar {
     }
 }
 
-fn push_bars(out: &mut Vec<u8>, alloc: Global, bars: &[Bar]) -> Result<(), AllocError>
-    ensures { OnOk result (out.new.items ≡ out.old.items ++ member_text (codes "untold") (list_text (map json_bar (map barred bars.now)))) }
+fn push_bars(out: &mut Vec<u8>, alloc: Global, key: &str, bars: &[Bar]) -> Result<(), AllocError>
+    ensures { OnOk result (out.new.items ≡ out.old.items ++ member_text key.now (list_text (map json_bar (map barred bars.now)))) }
 {
-    push_list_member(out, alloc, "untold", bars)?;
+    push_list_member(out, alloc, key, bars)?;
     Ok(())
+}
+
+/// Appends a comma and the member of labels that are got to only at unclean paths and from which it isn't told where requests lead on, where
+/// there are some.
+fn push_apart_bars(out: &mut Vec<u8>, alloc: Global, bars: &[Bar]) -> Result<(), AllocError>
+    ensures { OnOk result (out.new.items ≡ out.old.items ++ json_apart_bars (map barred bars.now)) }
+{
+    if bars.is_empty() {
+        return Ok(());
+    }
+    push_bars(out, alloc, "unclean_untold", bars)
 }
 
 impl ToJson for Doubt {
@@ -111,10 +123,15 @@ impl ToJson for Doubt {
     }
 }
 
-fn push_each_doubt(out: &mut Vec<u8>, alloc: Global, doubts: &[Doubt]) -> Result<(), AllocError>
-    ensures { OnOk result (out.new.items ≡ out.old.items ++ member_text (codes "undecided") (list_text (map json_doubt (map doubted doubts.now)))) }
+fn push_each_doubt(
+    out: &mut Vec<u8>,
+    alloc: Global,
+    key: &str,
+    doubts: &[Doubt],
+) -> Result<(), AllocError>
+    ensures { OnOk result (out.new.items ≡ out.old.items ++ member_text key.now (list_text (map json_doubt (map doubted doubts.now)))) }
 {
-    push_list_member(out, alloc, "undecided", doubts)?;
+    push_list_member(out, alloc, key, doubts)?;
     Ok(())
 }
 
@@ -125,7 +142,17 @@ fn push_doubts(out: &mut Vec<u8>, alloc: Global, doubts: &[Doubt]) -> Result<(),
     if doubts.is_empty() {
         return Ok(());
     }
-    push_each_doubt(out, alloc, doubts)
+    push_each_doubt(out, alloc, "undecided", doubts)
+}
+
+/// Appends a comma and the member of those of them that are got to only at unclean paths, where there are some.
+fn push_apart_doubts(out: &mut Vec<u8>, alloc: Global, doubts: &[Doubt]) -> Result<(), AllocError>
+    ensures { OnOk result (out.new.items ≡ out.old.items ++ json_apart_doubts (map doubted doubts.now)) }
+{
+    if doubts.is_empty() {
+        return Ok(());
+    }
+    push_each_doubt(out, alloc, "unclean_undecided", doubts)
 }
 
 /// Appends a comma and the member of the files that are skipped, where there are some.
@@ -145,6 +172,43 @@ fn push_routes(out: &mut Vec<u8>, alloc: Global, routes: &[Route]) -> Result<(),
     Ok(())
 }
 
+fn push_apart_routes(out: &mut Vec<u8>, alloc: Global, routes: &[Route]) -> Result<(), AllocError>
+    ensures { OnOk result (out.new.items ≡ out.old.items ++ member_text (codes "unclean") (list_text (map json_route (map routed routes.now)))) }
+{
+    push_list_member(out, alloc, "unclean", routes)?;
+    Ok(())
+}
+
+/// Appends a comma and the member of labels that are got to only at unclean paths, where there are some.
+fn push_apart(out: &mut Vec<u8>, alloc: Global, routes: &[Route]) -> Result<(), AllocError>
+    ensures { OnOk result (out.new.items ≡ out.old.items ++ json_apart (map routed routes.now)) }
+{
+    if routes.is_empty() {
+        return Ok(());
+    }
+    push_apart_routes(out, alloc, routes)
+}
+
+/// Appends what is told of requests of which some are at unclean paths, where these don't count.
+#[tactic(auto, unfolding(crate::specs::Json::json_unclean))]
+fn push_unclean(out: &mut Vec<u8>, alloc: Global, unclean: &Told) -> Result<(), AllocError>
+    ensures { OnOk result (out.new.items ≡ out.old.items ++ json_unclean unclean.now) }
+{
+    push_apart(out, alloc, unclean.routes.as_slice())?;
+    push_apart_bars(out, alloc, unclean.bars.as_slice())?;
+    push_apart_doubts(out, alloc, unclean.doubts.as_slice())
+}
+
+/// Appends what an answer tells behind the labels that are reached.
+#[tactic(auto, unfolding(crate::specs::Json::json_beside))]
+fn push_beside(out: &mut Vec<u8>, alloc: Global, answer: &Answer) -> Result<(), AllocError>
+    ensures { OnOk result (out.new.items ≡ out.old.items ++ json_beside answer.now) }
+{
+    push_unclean(out, alloc, &answer.unclean)?;
+    push_bars(out, alloc, "untold", answer.bars.as_slice())?;
+    push_doubts(out, alloc, answer.doubts.as_slice())
+}
+
 impl ToJson for Answer {
     ghost use Rattle.aa_reach.specs.Json.{json_answer};
 
@@ -155,8 +219,7 @@ impl ToJson for Answer {
         push_first(out, "from")?;
         self.from.push_json(out, alloc)?;
         push_routes(out, alloc, self.routes.as_slice())?;
-        push_bars(out, alloc, self.bars.as_slice())?;
-        push_doubts(out, alloc, self.doubts.as_slice())?;
+        push_beside(out, alloc, self)?;
         push_text(out, "}")
     }
 }

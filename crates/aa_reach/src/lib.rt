@@ -13,7 +13,9 @@ mod html;
 mod json;
 mod laws;
 mod naming;
+mod parts;
 mod routes;
+mod searching;
 mod shown;
 
 pub use command::{ReachOptions, reach_files};

@@ -8,8 +8,10 @@ ghost use Rattle.aa_notation.specs.Written.{word_text};
 ghost use Rattle.aa_ask.specs.Told.{is_same};
 ghost use Rattle.aa_reachability.specs.Reach.{HaveWays, way_at};
 ghost use Rattle.aa_reach.specs.Names.{name_of};
-ghost use Rattle.aa_reach.specs.Routes.{turned, as_others, is_granted_alike, is_alike, plain, turn_by, turns_by, IsStepWithin, IsLast, AreLasts, LeadThere, routed, is_wanted, route_to, route_if, first_routes, all_routes};
+ghost use Rattle.aa_reach.specs.Doubts.{is_reached_by};
+ghost use Rattle.aa_reach.specs.Routes.{turned, as_others, is_granted_alike, is_alike, plain, turn_by, turns_by, IsStepWithin, IsLast, AreLasts, LeadThere, routed, is_sought, is_wanted, route_to, route_if, all_routes};
 
+use crate::doubts::is_reached_by;
 use crate::naming::{Named, name_of};
 use aa_ask::is_same;
 use aa_compile::Compiled;
@@ -223,14 +225,21 @@ fn is_among(label: Label, targets: &[Label]) -> bool
     targets.iter().any(|target| is_same(label, *target))
 }
 
-/// Whether a label is wanted: one of those that are asked for, or where none are, another than that where the task begins.
-fn is_wanted(from: Label, targets: Option<&[Label]>, label: Label) -> bool
-    ensures { result ≡ is_wanted from (option_map (λ ts. ts.now) targets.entry) label }
+/// Whether a label is sought: one of those that are asked for, or where none are, another than that where the task begins.
+fn is_sought(from: Label, targets: Option<&[Label]>, label: Label) -> bool
+    ensures { result ≡ is_sought from (option_map (λ ts. ts.now) targets.entry) label }
 {
     match targets {
         Some(targets) => is_among(label, targets),
         None => !is_same(from, label),
     }
+}
+
+/// Whether a label is wanted: it is sought, and none of these arrivals is there.
+fn is_wanted(from: Label, targets: Option<&[Label]>, but: &[Arrival], label: Label) -> bool
+    ensures { result ≡ is_wanted from (option_map (λ ts. ts.now) targets.entry) but.now label }
+{
+    is_sought(from, targets, label) && !is_reached_by(but, label)
 }
 
 /// Adds the route to the arrival of that number, where its label is wanted.
@@ -240,6 +249,7 @@ fn push_route(
     going: Going<'_>,
     from: Label,
     targets: Option<&[Label]>,
+    but: &[Arrival],
     arrivals: &[Arrival],
     lasts: &[Turn],
     number: usize,
@@ -247,12 +257,12 @@ fn push_route(
     requires ways { HaveWays arrivals.now }
     requires lasts { AreLasts going.policies.now arrivals.now lasts.now }
     ensures { OnOk result ((ways : List (List Request)) → LeadThere going.entry.as_enforced going.entry.policies.now from arrivals.now ways
-        → map routed routes.new.items ≡ map routed routes.old.items ++ route_if going.entry.as_enforced going.entry.policies.now from (option_map (λ ts. ts.now) targets.entry) (slice_get arrivals.now number) (way_at ways number)) }
+        → map routed routes.new.items ≡ map routed routes.old.items ++ route_if going.entry.as_enforced going.entry.policies.now from (option_map (λ ts. ts.now) targets.entry) but.now (slice_get arrivals.now number) (way_at ways number)) }
 {
     let Some(arrival) = arrivals.get(number) else {
         return Ok(());
     };
-    if !is_wanted(from, targets, arrival.label) {
+    if !is_wanted(from, targets, but, arrival.label) {
         return Ok(());
     }
     let to = name_of(alloc, going.policies, arrival.label)?;
@@ -261,17 +271,18 @@ fn push_route(
     Ok(())
 }
 
-/// The routes to the arrivals whose labels are wanted.
+/// The routes to the arrivals whose labels are wanted, but where others are.
 pub(crate) fn routes_to(
     alloc: Global,
     going: Going<'_>,
     from: Label,
     targets: Option<&[Label]>,
+    but: &[Arrival],
     arrivals: &[Arrival],
 ) -> Result<Vec<Route>, AllocError>
     requires { HaveWays arrivals.now }
     ensures { IfOk result (λ routes. (ways : List (List Request)) → LeadThere going.entry.as_enforced going.entry.policies.now from arrivals.now ways
-        → map routed routes.items ≡ all_routes going.entry.as_enforced going.entry.policies.now from (option_map (λ ts. ts.now) targets.entry) arrivals.now ways) }
+        → map routed routes.items ≡ all_routes going.entry.as_enforced going.entry.policies.now from (option_map (λ ts. ts.now) targets.entry) but.now arrivals.now ways) }
 {
     let found = lasts_of(alloc, going.policies, arrivals)?;
     let lasts = found.as_slice();
@@ -283,6 +294,7 @@ pub(crate) fn routes_to(
             going,
             from,
             targets,
+            but,
             arrivals,
             lasts,
             number,

@@ -5,11 +5,12 @@ ghost use Rattle.aa_ask.specs.Shown.{complain_mark};
 ghost use Rattle.aa_reach.specs.Names.{name_in, called};
 ghost use Rattle.aa_reach.specs.Routes.{turned, routed, barred};
 ghost use Rattle.aa_reach.specs.Doubts.{doubted};
-ghost use Rattle.aa_reach.specs.Shown.{turn_text, from_mark, route_line, doubt_lines, is_known, is_undecided, none_line, at_least, labels_line, count_line, end_line, answer_text, passed_text, why_text, bar_line, untold_text, is_reached};
+ghost use Rattle.aa_reach.specs.Shown.{turn_text, from_mark, route_line, apart_words, not_told_words, apart_line, doubt_lines, why_text, apart_bar_line, apart_doubt_lines, apart_text, is_known, is_undecided, none_line, at_least, labels_line, count_line, end_line, answer_text, passed_text, bar_line, untold_text, is_reached};
 
-use crate::answering::{Answer, Bar};
+use crate::answering::Answer;
 use crate::doubts::Doubt;
 use crate::naming::{Named, called, push_called};
+use crate::parts::Bar;
 use crate::routes::{Route, Turn};
 use aa_reachability::Why;
 use aa_text::{push_number, push_text};
@@ -103,6 +104,47 @@ fn push_each(
     Ok(())
 }
 
+/// Appends what is said of requests of which some are at unclean paths, where only such lead to a label.
+#[tactic(auto, unfolding(crate::specs::Shown::apart_words))]
+pub(crate) fn push_apart_words(out: &mut Vec<u8>) -> Result<(), AllocError>
+    ensures { OnOk result (out.new.items ≡ out.old.items ++ apart_words) }
+{
+    push_text(out, "only at unclean paths ")
+}
+
+/// Appends the line of a label to which requests at clean paths alone don't lead.
+#[tactic(auto, unfolding(crate::specs::Shown::apart_line))]
+fn push_apart(
+    out: &mut Vec<u8>,
+    alloc: Global,
+    manner: Manner,
+    from: &Named,
+    route: &Route,
+) -> Result<(), AllocError>
+    ensures { OnOk result (out.new.items ≡ out.old.items ++ apart_line manner (name_in from.now) (routed route.now)) }
+{
+    push_from(out, alloc, manner.has_fronts, from)?;
+    push_apart_words(out)?;
+    push_called(out, alloc, &route.to)?;
+    push_turns(out, route.turns.as_slice())?;
+    push_text(out, "\n")
+}
+
+fn push_each_apart(
+    out: &mut Vec<u8>,
+    alloc: Global,
+    manner: Manner,
+    from: &Named,
+    routes: &[Route],
+) -> Result<(), AllocError>
+    ensures { OnOk result (out.new.items ≡ out.old.items ++ flat_map (apart_line manner (name_in from.now)) (map routed routes.now)) }
+{
+    for route in routes {
+        push_apart(out, alloc, manner, from, route)?;
+    }
+    Ok(())
+}
+
 /// Appends that an execution or a change could lead into skipped files at a label, and the first of them.
 #[tactic(auto, unfolding(crate::specs::Shown::doubt_lines))]
 fn push_doubt(
@@ -132,6 +174,122 @@ fn push_doubts(
         push_doubt(out, alloc, manner, from, doubt)?;
     }
     Ok(())
+}
+
+/// Appends that more states are needed than there may be.
+fn push_states(out: &mut Vec<u8>, limit: usize) -> Result<(), AllocError>
+    ensures { OnOk result (out.new.items ≡ out.old.items ++ codes "need more than " ++ decimal limit ++ codes " states together; --states allows more\n") }
+{
+    push_text(out, "need more than ")?;
+    push_number(out, limit)?;
+    push_text(out, " states together; --states allows more\n")
+}
+
+/// Appends why it isn't told where requests lead on.
+fn push_why(out: &mut Vec<u8>, limit: usize, why: Why) -> Result<(), AllocError>
+    ensures { OnOk result (out.new.items ≡ out.old.items ++ why_text limit why) }
+{
+    match why {
+        Why::TooManyPatterns => push_text(out, "have more than 65535 patterns together\n"),
+        Why::TooManyStates => push_states(out, limit),
+    }
+}
+
+/// Appends what is said of a label from which it isn't told where requests lead on.
+#[tactic(auto, unfolding(crate::specs::Shown::not_told_words))]
+pub(crate) fn push_not_told(out: &mut Vec<u8>) -> Result<(), AllocError>
+    ensures { OnOk result (out.new.items ≡ out.old.items ++ not_told_words) }
+{
+    push_text(out, "not told from ")
+}
+
+/// Appends a label and why it isn't told where requests lead on from there.
+fn push_bar_at(out: &mut Vec<u8>, alloc: Global, limit: usize, bar: &Bar) -> Result<(), AllocError>
+    ensures { OnOk result (out.new.items ≡ out.old.items ++ called (name_in bar.now.at) ++ codes ": the rules " ++ why_text limit bar.now.why) }
+{
+    push_called(out, alloc, &bar.at)?;
+    push_text(out, ": the rules ")?;
+    push_why(out, limit, bar.why)
+}
+
+/// Appends from which label, to which requests at clean paths alone don't lead, it isn't told where others lead on, and why.
+#[tactic(auto, unfolding(crate::specs::Shown::apart_bar_line))]
+fn push_apart_bar(
+    out: &mut Vec<u8>,
+    alloc: Global,
+    manner: Manner,
+    from: &Named,
+    bar: &Bar,
+) -> Result<(), AllocError>
+    ensures { OnOk result (out.new.items ≡ out.old.items ++ apart_bar_line manner (name_in from.now) (barred bar.now)) }
+{
+    push_from(out, alloc, manner.has_fronts, from)?;
+    push_apart_words(out)?;
+    push_not_told(out)?;
+    push_bar_at(out, alloc, manner.limit, bar)
+}
+
+fn push_apart_bars(
+    out: &mut Vec<u8>,
+    alloc: Global,
+    manner: Manner,
+    from: &Named,
+    bars: &[Bar],
+) -> Result<(), AllocError>
+    ensures { OnOk result (out.new.items ≡ out.old.items ++ flat_map (apart_bar_line manner (name_in from.now)) (map barred bars.now)) }
+{
+    for bar in bars {
+        push_apart_bar(out, alloc, manner, from, bar)?;
+    }
+    Ok(())
+}
+
+/// Appends at which label, to which requests at clean paths alone don't lead, an execution or a change could lead into skipped files, and the
+/// first of them.
+#[tactic(auto, unfolding(crate::specs::Shown::apart_doubt_lines))]
+fn push_apart_doubt(
+    out: &mut Vec<u8>,
+    alloc: Global,
+    manner: Manner,
+    from: &Named,
+    doubt: &Doubt,
+) -> Result<(), AllocError>
+    ensures { OnOk result (out.new.items ≡ out.old.items ++ apart_doubt_lines manner (name_in from.now) (doubted doubt.now)) }
+{
+    let name = called(alloc, &doubt.at)?;
+    push_from(out, alloc, manner.has_fronts, from)?;
+    push_apart_words(out)?;
+    push_undecided(out, name.as_slice(), doubt.files.as_slice())
+}
+
+fn push_apart_doubts(
+    out: &mut Vec<u8>,
+    alloc: Global,
+    manner: Manner,
+    from: &Named,
+    doubts: &[Doubt],
+) -> Result<(), AllocError>
+    ensures { OnOk result (out.new.items ≡ out.old.items ++ flat_map (apart_doubt_lines manner (name_in from.now)) (map doubted doubts.now)) }
+{
+    for doubt in doubts {
+        push_apart_doubt(out, alloc, manner, from, doubt)?;
+    }
+    Ok(())
+}
+
+/// Appends what is told of requests of which some are at unclean paths, where these don't count.
+fn push_unclean(
+    out: &mut Vec<u8>,
+    alloc: Global,
+    manner: Manner,
+    answer: &Answer,
+) -> Result<(), AllocError>
+    ensures { OnOk result (out.new.items ≡ out.old.items ++ apart_text manner answer.now) }
+{
+    let unclean = &answer.unclean;
+    push_each_apart(out, alloc, manner, &answer.from, unclean.routes.as_slice())?;
+    push_apart_bars(out, alloc, manner, &answer.from, unclean.bars.as_slice())?;
+    push_apart_doubts(out, alloc, manner, &answer.from, unclean.doubts.as_slice())
 }
 
 /// Whether it is known which labels are reached.
@@ -230,7 +388,8 @@ fn push_answer(
 {
     push_each(out, alloc, manner, &answer.from, answer.routes.as_slice())?;
     push_doubts(out, alloc, manner, &answer.from, answer.doubts.as_slice())?;
-    push_end(out, alloc, manner, answer)
+    push_end(out, alloc, manner, answer)?;
+    push_unclean(out, alloc, manner, answer)
 }
 
 /// Appends the answers.
@@ -257,25 +416,6 @@ pub(crate) fn push_passed(out: &mut Vec<u8>, count: usize) -> Result<(), AllocEr
     }
     push_number(out, count)?;
     push_text(out, " rules passed over\n")
-}
-
-/// Appends that more states are needed than there may be.
-fn push_states(out: &mut Vec<u8>, limit: usize) -> Result<(), AllocError>
-    ensures { OnOk result (out.new.items ≡ out.old.items ++ codes "need more than " ++ decimal limit ++ codes " states together; --states allows more\n") }
-{
-    push_text(out, "need more than ")?;
-    push_number(out, limit)?;
-    push_text(out, " states together; --states allows more\n")
-}
-
-/// Appends why it isn't told where requests lead on.
-fn push_why(out: &mut Vec<u8>, limit: usize, why: Why) -> Result<(), AllocError>
-    ensures { OnOk result (out.new.items ≡ out.old.items ++ why_text limit why) }
-{
-    match why {
-        Why::TooManyPatterns => push_text(out, "have more than 65535 patterns together\n"),
-        Why::TooManyStates => push_states(out, limit),
-    }
 }
 
 /// Appends from which label it isn't told where requests lead on.

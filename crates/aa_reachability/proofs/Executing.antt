@@ -1,10 +1,11 @@
 -- Executions of the files that rules name one by one, and of those that stand for all.
-use Rattle.std.proofs.Common.{◌≡◌, ◌⊎◌, ℕ, Bool, true, false, cond, List, [], ◌∷◌, Option, Some, None, Contains, inl, inr, refl, sym, ap, ◌∙◌, subst, ⊎_elim, Vec}
+use Rattle.std.proofs.Common.{◌≡◌, ◌⊎◌, ℕ, ◌≤◌, Bool, true, false, cond, List, [], ◌∷◌, ◌++◌, length, arith, Option, Some, None, Contains, inl, inr, refl, sym, ap, ◌∙◌, subst, ⊎_elim, Vec}
 use Rattle.std.specs.Prelude.{◌&&◌, ◌||◌, ◌==◌, not, IfSome}
 use Rattle.std.specs.declared.alloc.Global.{Global}
 use Rattle.std.specs.List.{slice_get, list_any}
 use Rattle.std.specs.Option.{option_map_or}
 use Rattle.std.proofs.lemmas.Bool.{and_parts}
+use Rattle.std.proofs.lemmas.List.Elements.{Contains-append_left, Contains-append_right}
 use Rattle.aa_pattern.specs.declared.pattern.Pattern.{Pattern}
 use Rattle.aa_pattern.specs.Matching.{is_match}
 use Rattle.aa_model.specs.Lawful.{has_exec}
@@ -31,13 +32,17 @@ use Rattle.aa_representatives.specs.Representatives.{AreRepresentatives}
 use Rattle.aa_auto.specs.Tables.{ListsMatching}
 use Rattle.aa_regions.specs.declared.regions.Region.{Region}
 use Rattle.aa_regions.specs.Regions.{IsAsked, ArePathRegions}
-use Rattle.aa_representatives.specs.Alike.{deciding}
+use Rattle.aa_regions.specs.Automata.{ArePathRegionsWithin}
+use Rattle.aa_unclean_paths.specs.Told.{TellsUnclean}
+use Rattle.aa_unclean_paths.specs.Deciding.{is_unclean}
+use Rattle.aa_unclean_paths.proofs.Decided.{unclean_then, then_unclean}
+use Rattle.aa_representatives.specs.Alike.{MatchAlike, deciding}
 use Rattle.aa_representatives.specs.Representatives.{HasExecs}
 use Rattle.aa_representatives.proofs.Standing.{same_list}
 use Rattle.aa_representatives.proofs.Replied.{execs_reply_alike}
 use Rattle.aa_reachability.specs.Extents.{IsProfileAt}
 use Rattle.aa_reachability.specs.Order.{IsNoLater}
-use Rattle.aa_reachability.specs.Moves.{label_next, LeadAllOf}
+use Rattle.aa_reachability.specs.Moves.{label_next, IsLeftOutAs, MatchesAll, LeadAllOf, LeadExecs}
 use Rattle.aa_reachability.specs.Single.{HasExecsOfRule}
 use Rattle.aa_reachability.proofs.Counting.{in_policy}
 use Rattle.aa_reachability.proofs.Elements.{head_in, kept_in, some_in}
@@ -58,7 +63,7 @@ of_representatives ps l Kind rs level stand = record {
 module _ (ps : List Policy) (l : Label) (regions : List Region) (are : ArePathRegions (deciding ps l) regions) (rs : List Request)
     (has : (r : Region) → Contains regions r → HasExecs r.witness rs) where
   by_region : (r : Request) → IsExec r
-      → (label_next ps l r ≡ l) ⊎ ((q : Request) × Contains rs q × (reply ps l r ≡ reply ps l q) × IsNoLater q r)
+      → (label_next ps l r ≡ l) ⊎ ((q : Request) × Contains rs q × (reply ps l r ≡ reply ps l q) × IsNoLater q r × IsLeftOutAs false q r)
   by_region (Exec x) asked =
       let r = are.all x.path asked in
       let is = are.each r.0 r.1 in
@@ -68,6 +73,7 @@ module _ (ps : List Policy) (l : Label) (regions : List Region) (are : ArePathRe
         has r.0 r.1 x.owned,
         execs_reply_alike ps x.path r.0.witness l alike x.owned,
         inr (refl, is.shortest x.path asked r.2),
+        λ counts. refl,
       )
   by_region (File f) asked = absurd asked
   by_region (Link k) asked = absurd asked
@@ -76,8 +82,48 @@ module _ (ps : List Policy) (l : Label) (regions : List Region) (are : ArePathRe
   by_region (Change name) asked = absurd asked
   by_region (Reload m) asked = absurd asked
 
-  pub regions_lead : ((r : Request) → Contains rs r → IsExec r) → LeadAllOf ps l IsExec rs
+  pub regions_lead : ((r : Request) → Contains rs r → IsExec r) → LeadExecs false ps l rs
   regions_lead each = record { each = each; all = by_region }
+
+-- a pattern that tells unclean paths matches two paths alike: the one is clean where the other is
+clean_alike : (p : Pattern) → TellsUnclean p → (s u : List ℕ) → IsAsked s → IsAsked u → is_match p.items.items s ≡ is_match p.items.items u
+    → is_unclean s ≡ false → is_unclean u ≡ false
+clean_alike p tells s u s_asked u_asked alike clean = at (is_unclean u) refl
+  where
+    at : (b : Bool) → is_unclean u ≡ b → is_unclean u ≡ false
+    at false e = e
+    at true e =
+        let matched : is_match p.items.items s ≡ true = alike ∙ (tells u u_asked).1 (unclean_then u e) in
+        absurd (let f : true ≡ false = sym (then_unclean s ((tells s s_asked).0 matched)) ∙ clean in cc)
+
+-- those at a shortest path of each region of these patterns, of one that tells unclean paths, and of one that matches all
+module _ (ps : List Policy) (l : Label) (p q : Pattern) (tells : TellsUnclean p) (any : MatchesAll q) (regions : List Region)
+    (are : ArePathRegionsWithin (p ∷ deciding ps l) q regions) (rs : List Request) (has : (r : Region) → Contains regions r → HasExecs r.witness rs) where
+  by_clean_region : (r : Request) → IsExec r
+      → (label_next ps l r ≡ l) ⊎ ((q : Request) × Contains rs q × (reply ps l r ≡ reply ps l q) × IsNoLater q r × IsLeftOutAs true q r)
+  by_clean_region (Exec x) asked =
+      let r = are.all x.path asked (any x.path asked) in
+      let is = are.each r.0 r.1 r.2 in
+      let alike = same_list ((p ∷ deciding ps l) ++ q ∷ []) x.path r.0.witness r.0.numbers r.3 is.lists in
+      let decided : MatchAlike (deciding ps l) x.path r.0.witness =
+      (λ o c. alike o (Contains-append_left (p ∷ deciding ps l) (q ∷ []) o (Contains-append_right (p ∷ []) (deciding ps l) o c))) in
+      inr (
+        Exec (record { path = r.0.witness; owned = x.owned }),
+        has r.0 r.1 x.owned,
+        execs_reply_alike ps x.path r.0.witness l decided x.owned,
+        inr (refl, is.shortest x.path asked r.3),
+        clean_alike p tells x.path r.0.witness asked is.asked
+            (alike p (Contains-append_left (p ∷ deciding ps l) (q ∷ []) p (head_in p (deciding ps l)))),
+      )
+  by_clean_region (File f) asked = absurd asked
+  by_clean_region (Link k) asked = absurd asked
+  by_clean_region (Cap c) asked = absurd asked
+  by_clean_region (Net f s) asked = absurd asked
+  by_clean_region (Change name) asked = absurd asked
+  by_clean_region (Reload m) asked = absurd asked
+
+  pub clean_regions_lead : ((r : Request) → Contains rs r → IsExec r) → LeadExecs true ps l rs
+  clean_regions_lead each = record { each = each; all = by_clean_region }
 
 -- a rule says how, and one of its patterns matches the path
 record Names (rules : List FileRule) (path : List ℕ) : Type 0 where
@@ -138,16 +184,17 @@ module _ (ps : List Policy) (k n : ℕ) (p : Profile) (at : profile_in ps k n �
       ∙ label_of_either (blocked p (exec_bits p.files r (transition profiles n p r.path r.owned)) == 0) _ _ (Confined k n)
       (nowhere profiles r.path (has_exec (file_verdict p.files r.path r.owned).deny) (way_of (chosen p.files r.path r.owned)) none) refl
 
-  module _ (rs : List Request) (each : (r : Request) → Contains rs r → IsExec r) (has : (r : FileRule) → Contains p.files r → HasExecsOfRule rs r) where
+  module _ (clean : Bool) (rs : List Request) (each : (r : Request) → Contains rs r → IsExec r)
+      (has : (r : FileRule) → Contains p.files r → HasExecsOfRule rs r) where
     leads : (r : Request) → IsExec r
         → (label_next ps (Confined k n) r ≡ Confined k n)
-        ⊎ ((q : Request) × Contains rs q × (reply ps (Confined k n) r ≡ reply ps (Confined k n) q) × IsNoLater q r)
+        ⊎ ((q : Request) × Contains rs q × (reply ps (Confined k n) r ≡ reply ps (Confined k n) q) × IsNoLater q r × IsLeftOutAs clean q r)
     leads (Exec r) asked =
         ⊎_elim
         (λ (none : way_of (chosen p.files r.path r.owned) ≡ None). inl (stays r none))
         (λ (some : (x : FileRule) × Contains (chosen p.files r.path r.owned) x).
         let it = chosen_names p.files r.path r.owned some.0 some.1 in
-        inr (Exec r, has it.rule it.within it.how it.pattern it.among r.path it.match asked r.owned, refl, no_later_same (Exec r)))
+        inr (Exec r, has it.rule it.within it.how it.pattern it.among r.path it.match asked r.owned, refl, no_later_same (Exec r), λ counts. counts))
         (no_way (chosen p.files r.path r.owned))
     leads (File r) asked = absurd asked
     leads (Link r) asked = absurd asked
@@ -156,17 +203,18 @@ module _ (ps : List Policy) (k n : ℕ) (p : Profile) (at : profile_in ps k n �
     leads (Change name) asked = absurd asked
     leads (Reload m) asked = absurd asked
 
-    execs_lead : LeadAllOf ps (Confined k n) IsExec rs
+    execs_lead : LeadExecs clean ps (Confined k n) rs
     execs_lead = record { each = each; all = leads }
 
 pub execs_lead_at : (ps : List Policy) (l : Label) (p : Profile) → IsProfileAt ps l p → (rs : List Request)
-    → ((r : Request) → Contains rs r → IsExec r) → ((r : FileRule) → Contains p.files r → HasExecsOfRule rs r) → LeadAllOf ps l IsExec rs
-execs_lead_at ps (Confined k n) p at rs each has = execs_lead ps k n p at rs each has
-execs_lead_at ps (Unconfined k) p at rs each has = absurd at
+    → ((r : Request) → Contains rs r → IsExec r) → ((r : FileRule) → Contains p.files r → HasExecsOfRule rs r)
+    → (clean : Bool) → LeadExecs clean ps l rs
+execs_lead_at ps (Confined k n) p at rs each has clean = execs_lead ps k n p at clean rs each has
+execs_lead_at ps (Unconfined k) p at rs each has clean = absurd at
 
 -- so where there are such
 pub execs_lead_some : (ps : List Policy) (l : Label) (p : Profile) → IsProfileAt ps l p → (o : Option (Vec Request Global))
     → IfSome o (λ rs. (r : Request) → Contains rs.items r → IsExec r) → IfSome o (λ rs. (r : FileRule) → Contains p.files r → HasExecsOfRule rs.items r)
-    → IfSome o (λ rs. LeadAllOf ps l IsExec rs.items)
+    → IfSome o (λ rs. (clean : Bool) → LeadExecs clean ps l rs.items)
 execs_lead_some ps l p at None each has = tt
 execs_lead_some ps l p at (Some rs) each has = execs_lead_at ps l p at rs.items each has

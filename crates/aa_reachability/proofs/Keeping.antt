@@ -1,7 +1,7 @@
 -- Requests that leave the label, and those that move it.
 use Rattle.std.proofs.Common.{◌≡◌, ◌⊎◌, ℕ, Bool, true, false, cond, List, ◌++◌, Option, Some, None, Contains, inl, inr, refl, sym, ◌∙◌}
 use Rattle.std.proofs.Common.{ap, subst, ⊎_elim}
-use Rattle.std.specs.Prelude.{IsPermutation, ◌==◌}
+use Rattle.std.specs.Prelude.{IsPermutation, ◌==◌, ◌&&◌}
 use Rattle.std.specs.List.{slice_get}
 use Rattle.std.proofs.lemmas.List.Sorted.{Contains-permutation, IsPermutation-sym}
 use Rattle.std.proofs.lemmas.List.Elements.{Contains-append_left, Contains-append_right, Contains-append_cases}
@@ -20,7 +20,7 @@ use Rattle.aa_representatives.specs.Askable.{IsFile, IsExec, IsLink, IsCap, IsNe
 use Rattle.aa_reachability.specs.declared.going.Going.{Going}
 use Rattle.aa_reachability.specs.Granted.{IsGranted}
 use Rattle.aa_reachability.specs.Order.{IsNoLater}
-use Rattle.aa_reachability.specs.Moves.{is_by_complain, label_kept, label_next, label_in, LeadAllOf, LeadAll, LeadAllBy}
+use Rattle.aa_reachability.specs.Moves.{is_by_complain, label_kept, label_next, label_in, is_left_out, IsLeftOutAs, LeadAllOf, LeadExecs, LeadAll, LeadAllBy}
 
 pub label_of_either : (b : Bool) (x y : Answer) (l : Label) → x.label ≡ l → y.label ≡ l → (cond b x y).label ≡ l
 label_of_either true x y l e f = e
@@ -100,22 +100,54 @@ net_stays (Cap c) is = absurd is
 net_stays (Change name) is = absurd is
 net_stays (Reload m) is = absurd is
 
+no_path : (clean : Bool) → (clean && false) ≡ false
+no_path true = refl
+no_path false = refl
+
+-- changes and reloads have no path
+change_counts : (clean : Bool) (q : Request) → IsChange q → is_left_out clean q ≡ false
+change_counts clean (Change s) is = no_path clean
+change_counts clean (File r) is = absurd is
+change_counts clean (Link r) is = absurd is
+change_counts clean (Exec r) is = absurd is
+change_counts clean (Cap c) is = absurd is
+change_counts clean (Net f s) is = absurd is
+change_counts clean (Reload m) is = absurd is
+
+reload_counts : (clean : Bool) (q : Request) → IsReload q → is_left_out clean q ≡ false
+reload_counts clean (Reload m) is = no_path clean
+reload_counts clean (File r) is = absurd is
+reload_counts clean (Link r) is = absurd is
+reload_counts clean (Exec r) is = absurd is
+reload_counts clean (Cap c) is = absurd is
+reload_counts clean (Net f s) is = absurd is
+reload_counts clean (Change s) is = absurd is
+
 -- those that stand for executions, changes and reloads, put together, lead to all labels
 module _ (ps : List Policy) (l : Label) (execs changes reloads rs : List Request) (are : rs ≡ (execs ++ changes) ++ reloads)
-    (of_execs : LeadAllOf ps l IsExec execs) (of_changes : LeadAllOf ps l IsChange changes) (of_reloads : LeadAllOf ps l IsReload reloads) where
+    (clean : Bool) (of_execs : LeadExecs clean ps l execs) (of_changes : LeadAllOf ps l IsChange changes) (of_reloads : LeadAllOf ps l IsReload reloads) where
   abbrev Leads : Request → Type 0
-  Leads r = (label_next ps l r ≡ l) ⊎ ((q : Request) × Contains rs q × (reply ps l r ≡ reply ps l q) × IsNoLater q r)
+  Leads r = (label_next ps l r ≡ l) ⊎ ((q : Request) × Contains rs q × (reply ps l r ≡ reply ps l q) × IsNoLater q r × IsLeftOutAs clean q r)
 
   among : (q : Request) → Contains ((execs ++ changes) ++ reloads) q → Contains rs q
   among q c = subst (λ xs. Contains xs q) (sym are) c
 
   leads_by : (Kind : Request → Type 0) (some : List Request) → LeadAllOf ps l Kind some → ((q : Request) → Contains some q → Contains rs q)
-      → (r : Request) → Kind r → Leads r
-  leads_by Kind some lead within r is =
+      → ((q : Request) → Kind q → is_left_out clean q ≡ false) → (r : Request) → Kind r → Leads r
+  leads_by Kind some lead within counts r is =
       ⊎_elim
       (λ (stays : label_next ps l r ≡ l). inl stays)
-      (λ (s : (q : Request) × Contains some q × (reply ps l r ≡ reply ps l q) × IsNoLater q r). inr (s.0, within s.0 s.1, s.2, s.3))
+      (λ (s : (q : Request) × Contains some q × (reply ps l r ≡ reply ps l q) × IsNoLater q r).
+      inr (s.0, within s.0 s.1, s.2, s.3, λ other. counts s.0 (lead.each s.0 s.1)))
       (lead.all r is)
+
+  leads_exec : (r : Request) → IsExec r → Leads r
+  leads_exec r is =
+      ⊎_elim
+      (λ (stays : label_next ps l r ≡ l). inl stays)
+      (λ (s : (q : Request) × Contains execs q × (reply ps l r ≡ reply ps l q) × IsNoLater q r × IsLeftOutAs clean q r).
+      inr (s.0, among s.0 (Contains-append_left (execs ++ changes) reloads s.0 (Contains-append_left execs changes s.0 s.1)), s.2, s.3, s.4))
+      (of_execs.all r is)
 
   stayed : (r : Request) → Stays r → Leads r
   stayed r is = inl (stays ps l r is)
@@ -134,18 +166,16 @@ module _ (ps : List Policy) (l : Label) (execs changes reloads rs : List Request
   leads : (r : Request) → IsAskable r → Leads r
   leads r (inl is) = stayed r (file_stays r is)
   leads r (inr (inl is)) = stayed r (link_stays r is)
-  leads r (inr (inr (inl is))) =
-      leads_by IsExec execs of_execs
-      (λ q c. among q (Contains-append_left (execs ++ changes) reloads q (Contains-append_left execs changes q c))) r is
+  leads r (inr (inr (inl is))) = leads_exec r is
   leads r (inr (inr (inr (inl is)))) = stayed r (cap_stays r is)
   leads r (inr (inr (inr (inr (inl is))))) = stayed r (net_stays r is)
   leads r (inr (inr (inr (inr (inr (inl is)))))) =
       leads_by IsChange changes of_changes
-      (λ q c. among q (Contains-append_left (execs ++ changes) reloads q (Contains-append_right execs changes q c))) r is
+      (λ q c. among q (Contains-append_left (execs ++ changes) reloads q (Contains-append_right execs changes q c))) (change_counts clean) r is
   leads r (inr (inr (inr (inr (inr (inr is)))))) =
-      leads_by IsReload reloads of_reloads (λ q c. among q (Contains-append_right (execs ++ changes) reloads q c)) r is
+      leads_by IsReload reloads of_reloads (λ q c. among q (Contains-append_right (execs ++ changes) reloads q c)) (reload_counts clean) r is
 
-  pub lead_all : LeadAll ps l rs
+  pub lead_all : LeadAll clean ps l rs
   lead_all = record { each = λ r c. each_of r (subst (λ xs. Contains xs r) are c); all = leads }
 
 kept_or : (b c : Bool) (l m : Label) → m ≡ l → cond b (cond c l m) m ≡ l
@@ -162,14 +192,14 @@ unfolding label_in
 moves_so g l r q e = ap (λ (a : Answer). cond g.as_enforced (label_kept l a) a.label) e
 
 -- whether complain mode counts or doesn't
-pub lead_by : (g : Going) (l : Label) (rs : List Request) → LeadAll g.policies.now l rs → LeadAllBy g l rs
-lead_by g l rs lead = record {
+pub lead_by : (clean : Bool) (g : Going) (l : Label) (rs : List Request) → LeadAll clean g.policies.now l rs → LeadAllBy clean g l rs
+lead_by clean g l rs lead = record {
   each = lead.each;
   all = λ r asked.
       ⊎_elim
       (λ (stays : label_next g.policies.now l r ≡ l). inl (stays_so g l r stays))
-      (λ (found : (q : Request) × Contains rs q × (reply g.policies.now l r ≡ reply g.policies.now l q) × IsNoLater q r).
-      inr (found.0, found.1, moves_so g l r found.0 found.2, found.3))
+      (λ (found : (q : Request) × Contains rs q × (reply g.policies.now l r ≡ reply g.policies.now l q) × IsNoLater q r × IsLeftOutAs clean q r).
+      inr (found.0, found.1, moves_so g l r found.0 found.2, found.3, found.4))
       (lead.all r asked);
 }
 
@@ -196,4 +226,15 @@ lead_permuted ps l Kind xs ys same lead = record {
       (λ (s : (q : Request) × Contains xs q × (reply ps l r ≡ reply ps l q) × IsNoLater q r).
       inr (s.0, Contains-permutation xs ys s.0 same s.1, s.2, s.3))
       (lead.all r kind);
+}
+
+pub execs_permuted : (clean : Bool) (ps : List Policy) (l : Label) (xs ys : List Request) → IsPermutation xs ys → LeadExecs clean ps l xs → LeadExecs clean ps l ys
+execs_permuted clean ps l xs ys same lead = record {
+  each = λ r c. lead.each r (Contains-permutation ys xs r (IsPermutation-sym xs ys same) c);
+  all = λ r is.
+      ⊎_elim
+      (λ (stays : label_next ps l r ≡ l). inl stays)
+      (λ (s : (q : Request) × Contains xs q × (reply ps l r ≡ reply ps l q) × IsNoLater q r × IsLeftOutAs clean q r).
+      inr (s.0, Contains-permutation xs ys s.0 same s.1, s.2, s.3, s.4))
+      (lead.all r is);
 }

@@ -192,6 +192,7 @@ module _ (go : Label → Request → Label) (from : Label) (known : List ℕ) (a
   are_near Sure Holds holds level followed shortest = record {
     ways = trail.ways;
     are = are_ways;
+    first = (arrival_at arrivals 0, slice_get-get_or arrivals 0 no_arrival trail.some, trail.start);
     each = λ i a e.
         let h = here go from known arrivals trail i a e in
         let led = trail.each i h.0 in

@@ -1,5 +1,5 @@
 -- Arrivals that are followed one after another, but for those from which it isn't told where requests lead on.
-use Rattle.std.proofs.Common.{◌≡◌, ℕ, zero, suc, ◌+◌, ◌<◌, ◌≤◌, List, [], ◌∷◌, ◌++◌, Option, Some, None, All, Contains, length}
+use Rattle.std.proofs.Common.{◌≡◌, ℕ, zero, suc, ◌+◌, ◌<◌, ◌≤◌, List, [], ◌∷◌, ◌++◌, Bool, Option, Some, None, All, Contains, length}
 use Rattle.std.proofs.Common.{refl, sym, ap, ◌∙◌, subst, arith, ⊎_elim}
 use Rattle.std.specs.Prelude.{slice_index_or}
 use Rattle.std.specs.List.{slice_get}
@@ -15,8 +15,8 @@ use Rattle.aa_reachability.specs.declared.trail.Step.{Step}
 use Rattle.aa_reachability.specs.declared.trail.Arrival.{Arrival}
 use Rattle.aa_reachability.specs.declared.reached.Untold.{Untold}
 use Rattle.aa_reachability.specs.declared.reached.Why.{Why}
-use Rattle.aa_reachability.specs.Moves.{HaveManyPatternsAt, IsWhy}
-use Rattle.aa_reachability.specs.Reach.{IsWay, IsOpen, PassBy, AreTold, AreUntold, led_by, way_at}
+use Rattle.aa_reachability.specs.Moves.{HaveManyPatternsAt, IsWhyFor}
+use Rattle.aa_reachability.specs.Reach.{IsWay, IsOpen, PassBy, AreTold, AreUntoldFor, led_by, way_at}
 use Rattle.aa_reachability.specs.Beside.{IsSure, IsShortestBeside, AreArrivalsBeside}
 use Rattle.aa_reachability.specs.Trail.{no_arrival, arrival_at, IsTrail, IsWithin, AreFollowedBy, IsStepFrom, Extends, IsFollowed}
 use Rattle.aa_reachability.specs.Trail.{IsStepBehind, IsUntoldBelow, no_untold, number_at, AreFollowed, ReachAll}
@@ -27,11 +27,11 @@ first_step None ways way is = tt
 first_step (Some s) ways way is = absurd (omega (arith, is.0))
 
 -- where the task begins nothing is followed yet
-pub first_followed : (go : Label → Request → Label) (Sure : Label → Type 0) (ps : List Policy) (from : Label) (known : List ℕ) (limit : ℕ) (arrivals : List Arrival) (untold : List Untold)
+pub first_followed : (go : Label → Request → Label) (Sure : Label → Type 0) (clean : Bool) (ps : List Policy) (from : Label) (known : List ℕ) (limit : ℕ) (arrivals : List Arrival) (untold : List Untold)
     → IsTrail go from known arrivals
-    → length arrivals ≡ 1 → untold ≡ [] → AreFollowed go Sure ps limit arrivals untold 0
-first_followed go Sure ps from known limit arrivals untold trail one none =
-    subst (λ (us : List Untold). AreFollowed go Sure ps limit arrivals us 0) (sym none)
+    → length arrivals ≡ 1 → untold ≡ [] → AreFollowed go Sure clean ps limit arrivals untold 0
+first_followed go Sure clean ps from known limit arrivals untold trail one none =
+    subst (λ (us : List Untold). AreFollowed go Sure clean ps limit arrivals us 0) (sym none)
     (record {
       within = omega arith;
       told = λ k lt f s. absurd (omega (arith, lt));
@@ -53,11 +53,11 @@ step_new n untold None is f = absurd is
 step_new n untold (Some s) is f = (omega (arith, is), subst (IsFollowed untold) (sym is) f)
 
 -- one arrival more is followed
-pub told_next : (go : Label → Request → Label) (Sure : Label → Type 0) (ps : List Policy) (limit : ℕ) (was now : List Arrival) (untold : List Untold) (n : ℕ)
+pub told_next : (go : Label → Request → Label) (Sure : Label → Type 0) (clean : Bool) (ps : List Policy) (limit : ℕ) (was now : List Arrival) (untold : List Untold) (n : ℕ)
     → Extends n was now → n < length was
-    → AreFollowed go Sure ps limit was untold n → (Sure (arrival_at was n).label → AreFollowedBy go now n IsAskable)
-    → (HaveManyPatternsAt ps (arrival_at was n).label → ⊥) → AreFollowed go Sure ps limit now untold (n + 1)
-told_next go Sure ps limit was now untold n ext lt old followed few =
+    → AreFollowed go Sure clean ps limit was untold n → (Sure (arrival_at was n).label → AreFollowedBy go now n IsAskable)
+    → (HaveManyPatternsAt ps (arrival_at was n).label → ⊥) → AreFollowed go Sure clean ps limit now untold (n + 1)
+told_next go Sure clean ps limit was now untold n ext lt old followed few =
     let Few : Label → Type 0 = λ l. HaveManyPatternsAt ps l → ⊥ in
     let here : IsFollowed untold n = λ u c e. absurd (omega (arith, (old.each u c).below, e)) in
     record {
@@ -96,8 +96,8 @@ told_next go Sure ps limit was now untold n ext lt old followed few =
     }
 
 -- of the next arrival it isn't told
-module _ (go : Label → Request → Label) (Sure : Label → Type 0) (ps : List Policy) (limit : ℕ) (arrivals : List Arrival) (untold : List Untold) (n : ℕ)
-    (why : Why) (lt : n < length arrivals) (old : AreFollowed go Sure ps limit arrivals untold n) (is_why : IsWhy ps limit (arrival_at arrivals n).label why) where
+module _ (go : Label → Request → Label) (Sure : Label → Type 0) (clean : Bool) (ps : List Policy) (limit : ℕ) (arrivals : List Arrival) (untold : List Untold) (n : ℕ)
+    (why : Why) (lt : n < length arrivals) (old : AreFollowed go Sure clean ps limit arrivals untold n) (is_why : IsWhyFor clean ps limit (arrival_at arrivals n).label why) where
   abbrev one : Untold
   one = record { number = n; label = (arrival_at arrivals n).label; why = why }
 
@@ -149,9 +149,9 @@ module _ (go : Label → Request → Label) (Sure : Label → Type 0) (ps : List
       subst (λ m. number_at more i < number_at more m) e (omega (arith, number_old i li, number_new, number_below i li)))
       (cases_lt j (length untold))
 
-  pub untold_next : (now : List Untold) → now ≡ more → AreFollowed go Sure ps limit arrivals now (n + 1)
+  pub untold_next : (now : List Untold) → now ≡ more → AreFollowed go Sure clean ps limit arrivals now (n + 1)
   untold_next now is =
-      subst (λ (us : List Untold). AreFollowed go Sure ps limit arrivals us (n + 1)) (sym is)
+      subst (λ (us : List Untold). AreFollowed go Sure clean ps limit arrivals us (n + 1)) (sym is)
       (record {
         within = omega (arith, lt);
         told = λ k below f s. old.told k (earlier k below f) (before k f) s;
@@ -161,10 +161,10 @@ module _ (go : Label → Request → Label) (Sure : Label → Type 0) (ps : List
             ⊎_elim
             (λ (x : Contains untold u).
             let v = old.each u x in
-            let it : IsUntoldBelow ps limit arrivals (n + 1) u = record { below = omega (arith, v.below); label = v.label; why = v.why } in
+            let it : IsUntoldBelow clean ps limit arrivals (n + 1) u = record { below = omega (arith, v.below); label = v.label; why = v.why } in
             it)
             (λ (x : Contains (one ∷ []) u).
-            subst (IsUntoldBelow ps limit arrivals (n + 1)) (is_one u x)
+            subst (IsUntoldBelow clean ps limit arrivals (n + 1)) (is_one u x)
             (record { below = omega arith; label = refl; why = is_why }))
             (Contains-append_cases untold (one ∷ []) u c);
         rising = rising_more;
@@ -177,9 +177,9 @@ pass_more go Open l [] r pass free = (free, tt)
 pass_more go Open l (q ∷ rs) r pass free = (pass.0, pass_more go Open (go l q) rs r pass.1 free)
 
 -- where all arrivals are followed that can be, and what holds of each request that leads to another label
-module _ (go : Label → Request → Label) (Sure : Label → Type 0) (Holds : Label → Request → Type 0) (ps : List Policy) (from : Label) (known : List ℕ)
+module _ (go : Label → Request → Label) (Sure : Label → Type 0) (Holds : Label → Request → Type 0) (clean : Bool) (ps : List Policy) (from : Label) (known : List ℕ)
     (arrivals : List Arrival) (trail : IsTrail go from known arrivals) (limit : ℕ) (untold : List Untold)
-    (followed : AreFollowed go Sure ps limit arrivals untold (length arrivals))
+    (followed : AreFollowed go Sure clean ps limit arrivals untold (length arrivals))
     (holds : (l : Label) (r : Request) → (go l r ≡ l → ⊥) → Holds l r) where
   number_within : (u : Untold) → Contains untold u → u.number < length arrivals
   number_within u c = (followed.each u c).below
@@ -255,7 +255,7 @@ module _ (go : Label → Request → Label) (Sure : Label → Type 0) (Holds : L
         omega (arith, less, ap (λ (x : Arrival). x.length) h.1, ap (λ (x : Arrival). x.length) k.1);
   }
 
-  pub are_untold : AreUntold ps limit arrivals untold
+  pub are_untold : AreUntoldFor clean ps limit arrivals untold
   are_untold = record {
     each = λ u c.
         let x = followed.each u c in

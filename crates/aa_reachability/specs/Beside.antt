@@ -15,7 +15,7 @@ use Rattle.aa_reachability.specs.declared.trail.Step.{Step}
 use Rattle.aa_reachability.specs.declared.trail.Arrival.{Arrival}
 use Rattle.aa_reachability.specs.declared.reached.Untold.{Untold}
 use Rattle.aa_reachability.specs.Order.{IsNoLater}
-use Rattle.aa_reachability.specs.Moves.{label_going}
+use Rattle.aa_reachability.specs.Moves.{label_going, is_left_out}
 use Rattle.aa_reachability.specs.Reach.{AreWays, AreTold, IsNear, IsOpen, led_by, way_at}
 
 -- ---- which requests are doubted
@@ -31,6 +31,10 @@ is_doubted ps unreads l r = option_map_or (one_doubts unreads l r) (slice_get ps
 -- the label after a request, which leads nowhere where such profiles could change what is answered
 abbrev pub label_decided : Bool → List Policy → List Unread → Label → Request → Label
 label_decided enforced ps unreads l r = if is_doubted ps unreads l r then l else label_going enforced ps l r
+
+-- so where clean paths alone count or all: one that is left out leads nowhere
+abbrev pub label_taken : Bool → Bool → List Policy → List Unread → Label → Request → Label
+label_taken clean enforced ps unreads l r = if is_left_out clean r then l else label_decided enforced ps unreads l r
 
 -- the number of a label: that of tasks without a profile is the first
 abbrev pub number_of : Label → ℕ
@@ -82,12 +86,13 @@ pub record AreArrivalsBeside (go : Label → Request → Label) (Open Sure : Lab
   pub once : (i j : ℕ) (a b : Arrival) → slice_get arrivals i ≡ Some a → slice_get arrivals j ≡ Some b → a.label ≡ b.label → i ≡ j
   pub rising : (i j : ℕ) (a b : Arrival) → slice_get arrivals i ≡ Some a → slice_get arrivals j ≡ Some b → i ≤ j → a.length ≤ b.length
 
--- arrivals at different labels, each by at most one request that can be asked, of which that holds; from a sure label one for each label to
--- which a request leads, and none that leads there comes before its own
+-- arrivals at different labels, the label itself first, each by at most one request that can be asked, of which that holds; from a sure label
+-- one for each label to which a request leads, and none that leads there comes before its own
 pub record AreNearBeside (go : Label → Request → Label) (Sure : Label → Type 0) (Holds : Label → Request → Type 0) (from : Label)
     (arrivals : List Arrival) : Type 0 where
   pub ways : List (List Request)
   pub are : AreWays arrivals ways
+  pub first : (a : Arrival) × (slice_get arrivals 0 ≡ Some a) × (a.label ≡ from)
   pub each : (i : ℕ) (a : Arrival) → slice_get arrivals i ≡ Some a → IsNear go from a (way_at ways i)
   pub kept : (i : ℕ) (a : Arrival) → slice_get arrivals i ≡ Some a → HoldAlong go Holds from (way_at ways i)
   pub all : Sure from → (r : Request) → IsAskable r → (i : ℕ) × (a : Arrival) × (slice_get arrivals i ≡ Some a) × (a.label ≡ go from r)

@@ -1,5 +1,6 @@
 pub use Rattle.aa_representatives.specs.Alike
 pub use Rattle.aa_representatives.specs.Names
+pub use Rattle.aa_unclean_paths.specs.Requests
 pub mod Changes
 pub mod Codes
 pub mod Extents
@@ -10,4 +11,5 @@ pub mod Single
 pub mod Reach
 pub mod Beside
 pub mod Course
+pub mod Clean
 pub mod Trail

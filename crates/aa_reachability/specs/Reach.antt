@@ -1,6 +1,6 @@
 -- The labels that a task can get to.
 -- Source: breadth-first search; own.
-use Rattle.std.specs.Prelude.{◌≡◌, ◌<◌, ◌≤◌, ◌++◌, ◌∷◌, [], ℕ, List, Option, Some, None, All, Contains, length, slice_index_or}
+use Rattle.std.specs.Prelude.{◌≡◌, ◌<◌, ◌≤◌, ◌++◌, ◌∷◌, [], ℕ, List, Bool, false, Option, Some, None, All, Contains, length, slice_index_or}
 use Rattle.std.specs.List.{slice_get}
 use Rattle.aa_model.specs.declared.policy.Policy.{Policy}
 use Rattle.aa_model.specs.declared.label.Label.{Label}
@@ -10,7 +10,7 @@ use Rattle.aa_reachability.specs.declared.trail.Step.{Step}
 use Rattle.aa_reachability.specs.declared.trail.Arrival.{Arrival}
 use Rattle.aa_reachability.specs.declared.reached.Untold.{Untold}
 use Rattle.aa_reachability.specs.Order.{IsNoLater}
-use Rattle.aa_reachability.specs.Moves.{HaveManyPatternsAt, IsWhy}
+use Rattle.aa_reachability.specs.Moves.{HaveManyPatternsAt, IsWhyFor}
 
 -- the label after requests, one after another, where each leads on so
 abbrev pub led_by : (Label → Request → Label) → Label → List Request → Label
@@ -67,17 +67,21 @@ pub record AreArrivals (go : Label → Request → Label) (Open : Label → Type
   pub rising : (i j : ℕ) (a b : Arrival) → slice_get arrivals i ≡ Some a → slice_get arrivals j ≡ Some b → i ≤ j → a.length ≤ b.length
 
 -- it isn't told where requests lead on from that arrival: the patterns at its label are too many, or need too many states
-pub record IsUntold (ps : List Policy) (limit : ℕ) (arrivals : List Arrival) (u : Untold) : Type 0 where
+pub record IsUntold (clean : Bool) (ps : List Policy) (limit : ℕ) (arrivals : List Arrival) (u : Untold) : Type 0 where
   pub arrival : Arrival
   pub there : slice_get arrivals u.number ≡ Some arrival
   pub label : arrival.label ≡ u.label
-  pub why : IsWhy ps limit u.label u.why
+  pub why : IsWhyFor clean ps limit u.label u.why
 
 -- so it is of these, in the order of the arrivals; from each other the patterns aren't too many
-pub record AreUntold (ps : List Policy) (limit : ℕ) (arrivals : List Arrival) (untold : List Untold) : Type 0 where
-  pub each : (u : Untold) → Contains untold u → IsUntold ps limit arrivals u
+pub record AreUntoldFor (clean : Bool) (ps : List Policy) (limit : ℕ) (arrivals : List Arrival) (untold : List Untold) : Type 0 where
+  pub each : (u : Untold) → Contains untold u → IsUntold clean ps limit arrivals u
   pub few : (i : ℕ) (a : Arrival) → slice_get arrivals i ≡ Some a → IsOpen untold a.label → HaveManyPatternsAt ps a.label → ⊥
   pub rising : (i j : ℕ) (u v : Untold) → slice_get untold i ≡ Some u → slice_get untold j ≡ Some v → i < j → u.number < v.number
+
+-- where all paths count
+abbrev pub AreUntold : List Policy → ℕ → List Arrival → List Untold → Type 0
+AreUntold ps limit arrivals untold = AreUntoldFor false ps limit arrivals untold
 
 -- at most one request that can be asked leads so to the label
 pub record IsNear (go : Label → Request → Label) (from : Label) (a : Arrival) (way : List Request) : Type 0 where

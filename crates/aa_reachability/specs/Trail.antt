@@ -1,6 +1,6 @@
 -- The search, on its way: arrivals, shorter lists of requests first.
 -- Source: breadth-first search; own.
-use Rattle.std.specs.Prelude.{◌≡◌, ◌+◌, ◌<◌, ◌≤◌, ◌++◌, ℕ, List, Option, Some, None, All, Contains, length, map, nat_eq, slice_index_or}
+use Rattle.std.specs.Prelude.{◌≡◌, ◌+◌, ◌<◌, ◌≤◌, ◌++◌, ℕ, List, Bool, Option, Some, None, All, Contains, length, map, nat_eq, slice_index_or}
 use Rattle.std.specs.List.{IsDistinct}
 use Rattle.aa_model.specs.declared.policy.Policy.{Policy}
 use Rattle.aa_model.specs.declared.label.Label.{Label}
@@ -12,7 +12,7 @@ use Rattle.aa_reachability.specs.declared.trail.Arrival.{Arrival}
 use Rattle.aa_reachability.specs.declared.reached.Untold.{Untold}
 use Rattle.aa_reachability.specs.declared.reached.Why.TheVariants.{TooManyPatterns}
 use Rattle.aa_reachability.specs.Codes.{code, IsFit}
-use Rattle.aa_reachability.specs.Moves.{HaveManyPatternsAt, IsWhy}
+use Rattle.aa_reachability.specs.Moves.{HaveManyPatternsAt, IsWhyFor}
 use Rattle.aa_reachability.specs.Reach.{IsWay, AreTold, led_by, way_at}
 
 -- an arrival that stands for none
@@ -81,10 +81,10 @@ IsStepBehind n untold None = Unit {0}
 IsStepBehind n untold (Some step) = (step.from < n) × IsFollowed untold step.from
 
 -- from one of the first n arrivals it isn't told where requests lead on
-pub record IsUntoldBelow (ps : List Policy) (limit : ℕ) (arrivals : List Arrival) (n : ℕ) (u : Untold) : Type 0 where
+pub record IsUntoldBelow (clean : Bool) (ps : List Policy) (limit : ℕ) (arrivals : List Arrival) (n : ℕ) (u : Untold) : Type 0 where
   pub below : u.number < n
   pub label : (arrival_at arrivals u.number).label ≡ u.label
-  pub why : IsWhy ps limit u.label u.why
+  pub why : IsWhyFor clean ps limit u.label u.why
 
 -- one that stands for none
 abbrev pub no_untold : Untold
@@ -121,12 +121,13 @@ AreFirst go l rs n arrivals =
     (i : ℕ) → n ≤ i → i < length arrivals → IsFirstStep go l rs (arrival_at arrivals i).label (arrival_at arrivals i).step
 
 -- the first n arrivals are followed, but for those that are untold; those at labels of that kind by all requests that can be asked
-pub record AreFollowed (go : Label → Request → Label) (Sure : Label → Type 0) (ps : List Policy) (limit : ℕ) (arrivals : List Arrival) (untold : List Untold) (n : ℕ) : Type 0 where
+pub record AreFollowed (go : Label → Request → Label) (Sure : Label → Type 0) (clean : Bool) (ps : List Policy) (limit : ℕ) (arrivals : List Arrival) (untold : List Untold)
+    (n : ℕ) : Type 0 where
   pub within : n ≤ length arrivals
   pub told : (k : ℕ) → k < n → IsFollowed untold k → Sure (arrival_at arrivals k).label → AreFollowedBy go arrivals k IsAskable
   pub few : (k : ℕ) → k < n → IsFollowed untold k → HaveManyPatternsAt ps (arrival_at arrivals k).label → ⊥
   pub steps : (i : ℕ) → i < length arrivals → IsStepBehind n untold (arrival_at arrivals i).step
-  pub each : (u : Untold) → Contains untold u → IsUntoldBelow ps limit arrivals n u
+  pub each : (u : Untold) → Contains untold u → IsUntoldBelow clean ps limit arrivals n u
   pub rising : (i j : ℕ) → i < j → j < length untold → number_at untold i < number_at untold j
 
 -- each list of requests that can be asked, and that leads on from such labels alone, leads to the label of an arrival, which takes no more

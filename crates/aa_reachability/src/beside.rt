@@ -6,6 +6,7 @@ ghost use Rattle.std.specs.List.{list_any};
 ghost use Rattle.aa_skipping.specs.declared.unread.Unread.{Unread};
 ghost use Rattle.aa_skipping.specs.Undecided.{undecided};
 ghost use Rattle.aa_reachability.specs.Granted.{IsGranted};
+ghost use Rattle.aa_reachability.specs.Moves.{is_left_out};
 ghost use Rattle.aa_reachability.specs.Beside.{one_doubts, is_doubted, number_of, is_sure};
 ghost use Rattle.aa_reachability.specs.Course.{unreads_of, label_on};
 
@@ -13,6 +14,7 @@ use crate::going::{Going, label_at};
 use aa_compile::Compiled;
 use aa_model::{Label, Request};
 use aa_skipping::{Unread, is_undecided};
+use aa_unclean_paths::is_at_unclean_path;
 use std::alloc::{AllocError, Global};
 
 /// How a task goes on, and what isn't known of the policies: a request of which that could change the answer leads nowhere.
@@ -23,6 +25,8 @@ pub struct Course<'p> {
     pub unreads: &'p [&'p Unread],
     /// Whether they could change an answer at a label: first at that of tasks without a profile, then at that of each profile.
     pub openings: &'p [bool],
+    /// Whether requests at unclean paths lead nowhere too.
+    pub only_clean: bool,
 }
 
 /// Whether profiles of one of the files could change what is answered to a request.
@@ -97,8 +101,15 @@ fn is_doubted_there(
     is_doubted(alloc, course, label, request)
 }
 
-/// The label of a task after a request: this one, where profiles that weren't read could change what is answered. It may be known that
-/// they couldn't, and that rules grant the change that is asked for.
+/// Whether a request is at an unclean path, and clean ones alone count.
+fn is_left_out(only_clean: bool, request: &Request) -> bool
+    ensures { result ≡ is_left_out only_clean request.now }
+{
+    only_clean && is_at_unclean_path(request)
+}
+
+/// The label of a task after a request: this one, where profiles that weren't read could change what is answered, or where clean paths alone
+/// count and it is at an unclean one. It may be known that they couldn't, and that rules grant the change that is asked for.
 pub(crate) fn label_on(
     alloc: Global,
     course: Course<'_>,
@@ -111,6 +122,9 @@ pub(crate) fn label_on(
     requires sure { are_sure ≡ true → is_doubted course.going.policies.now (unreads_of course.unreads.now) label request.now ≡ false }
     ensures { IfOk result (λ l. l ≡ label_on course.entry label request.now) }
 {
+    if is_left_out(course.only_clean, request) {
+        return Ok(label);
+    }
     if is_doubted_there(alloc, course, label, request, are_sure)? {
         Ok(label)
     } else {

@@ -1,6 +1,6 @@
 //! Executions that lead to each label to which one leads.
 
-ghost use Rattle.std.specs.Prelude.{◌≡◌, ◌+◌, ◌<◌, ◌≤◌, true, Err, IfOk, IfSome, OnOk, IsSome, Contains, length};
+ghost use Rattle.std.specs.Prelude.{◌≡◌, ◌+◌, ◌<◌, ◌≤◌, ◌∷◌, ◌++◌, [], true, false, Bool, Err, IfOk, IfSome, OnOk, IsSome, Contains, length};
 ghost use Rattle.aa_pattern.specs.declared.pattern.Pattern.{Pattern};
 ghost use Rattle.aa_pattern.specs.Limits.{most_patterns, most_states};
 ghost use Rattle.aa_auto.specs.Tables.{IsText, HasPlaces};
@@ -14,8 +14,9 @@ ghost use Rattle.aa_representatives.specs.Alike.{deciding};
 ghost use Rattle.aa_representatives.specs.Askable.{IsExec};
 ghost use Rattle.aa_representatives.specs.Representatives.{Adds, HasExecs};
 ghost use Rattle.aa_representatives.specs.Names.{literal_of, items_of};
+ghost use Rattle.aa_unclean_paths.specs.Told.{TellsUnclean};
 ghost use Rattle.aa_reachability.specs.Extents.{IsExtent};
-ghost use Rattle.aa_reachability.specs.Moves.{LeadAllOf};
+ghost use Rattle.aa_reachability.specs.Moves.{LeadExecs, MatchesAll, HaveManyPathsFor, HavePathPlacesFor};
 ghost use Rattle.aa_reachability.specs.Single.{HasExecsOf, HasExecsOfRule};
 
 use crate::extent::{Extent, profile_with_few};
@@ -23,7 +24,8 @@ use aa_compile::Compiled;
 use aa_model::{FileRule, Label, Profile, Request, RequestFault};
 use aa_pattern::{Item, Pattern};
 use aa_regions::Region;
-use aa_representatives::{RepresentativesFault, deciding_regions};
+use aa_representatives::{RepresentativesFault, deciding_regions, deciding_regions_and_within};
+use aa_unclean_paths::unclean_pattern;
 use std::alloc::{AllocError, Global};
 
 /// The one text that a pattern of bytes alone matches.
@@ -169,7 +171,7 @@ fn few_execs(
     label: Label,
 ) -> Result<Option<Vec<Request>>, AllocError>
     requires { IsExtent policies.now extent }
-    ensures lead { IfOk result (λ o. IfSome o (λ rs. LeadAllOf policies.now label IsExec rs.items)) }
+    ensures lead { IfOk result (λ o. IfSome o (λ rs. (clean : Bool) → LeadExecs clean policies.now label rs.items)) }
     ensures few { IfOk result (λ o. IfSome o (λ _. length (deciding policies.now label) ≤ most_patterns)) }
 {
     let Some(profile) = profile_with_few(policies, extent, label) else {
@@ -195,6 +197,17 @@ fn add_execs_of_regions(
     Ok(())
 }
 
+/// Those at the paths of regions.
+fn execs_of_regions(alloc: Global, regions: &[Region]) -> Result<Vec<Request>, AllocError>
+    requires { (r : Region) → Contains regions.now r → IsAsked r.witness }
+    ensures each { IfOk result (λ rs. (r : Request) → Contains rs.items r → IsExec r) }
+    ensures has { IfOk result (λ rs. (r : Region) → Contains regions.now r → HasExecs r.witness rs.items) }
+{
+    let mut requests = Vec::new(alloc);
+    add_execs_of_regions(alloc, &mut requests, regions)?;
+    Ok(requests)
+}
+
 /// The same at a label: those at a shortest path of each region of paths that are answered alike.
 fn region_execs(
     alloc: Global,
@@ -204,37 +217,91 @@ fn region_execs(
 ) -> Result<Vec<Request>, RepresentativesFault>
     requires some { 0 < limit }
     requires limit { limit ≤ most_states }
-    ensures lead { IfOk result (λ rs. LeadAllOf policies.now label IsExec rs.items) }
+    ensures lead { IfOk result (λ rs. LeadExecs false policies.now label rs.items) }
     ensures many_patterns { result ≡ Err RepresentativesFault.TooManyPatterns → most_patterns < length (deciding policies.now label) }
     ensures few_patterns { IfOk result (λ _. length (deciding policies.now label) ≤ most_patterns) }
     ensures many_states { result ≡ Err RepresentativesFault.TooManyStates → HasPlaces (deciding policies.now label) (limit + 1) }
 {
     let regions = deciding_regions(alloc, policies, label, limit)?;
-    let mut requests = Vec::new(alloc);
-    add_execs_of_regions(alloc, &mut requests, regions.as_slice())?;
+    let requests = execs_of_regions(alloc, regions.as_slice())?;
     Ok(requests)
 }
 
-/// Executions that can be asked, such that each that moves a task is answered as one of them with no longer a path. The errors are
-/// `TooManyPatterns`, `TooManyStates` and `NoMemory`.
+/// A pattern, made by hand as `**`, that matches each path.
+fn any_path(alloc: Global) -> Result<Pattern, AllocError>
+    ensures { IfOk result MatchesAll }
+{
+    let items = Vec::from_array(alloc, [Item::Deep])?;
+    Ok(Pattern { items })
+}
+
+/// The same where unclean paths are told apart: the path of a region with clean ones is clean.
+fn clean_region_execs(
+    alloc: Global,
+    policies: &[Compiled],
+    label: Label,
+    unclean: &Pattern,
+    any: &Pattern,
+    limit: usize,
+) -> Result<Vec<Request>, RepresentativesFault>
+    requires unclean { TellsUnclean unclean.now }
+    requires any { MatchesAll any.now }
+    requires some { 0 < limit }
+    requires limit { limit ≤ most_states }
+    ensures lead { IfOk result (λ rs. LeadExecs true policies.now label rs.items) }
+    ensures many_patterns { result ≡ Err RepresentativesFault.TooManyPatterns → most_patterns < length (deciding policies.now label) + 2 }
+    ensures few_patterns { IfOk result (λ _. length (deciding policies.now label) ≤ most_patterns) }
+    ensures many_states { result ≡ Err RepresentativesFault.TooManyStates → HasPlaces (unclean.now ∷ deciding policies.now label ++ any.now ∷ []) (limit + 1) }
+{
+    let regions = deciding_regions_and_within(alloc, policies, label, unclean, any, limit)?;
+    let requests = execs_of_regions(alloc, regions.as_slice())?;
+    Ok(requests)
+}
+
+/// Those of the regions that are needed where clean paths alone count or all.
+fn execs_by_regions(
+    alloc: Global,
+    policies: &[Compiled],
+    label: Label,
+    only_clean: bool,
+    limit: usize,
+) -> Result<Vec<Request>, RepresentativesFault>
+    requires some { 0 < limit }
+    requires limit { limit ≤ most_states }
+    ensures lead { IfOk result (λ rs. LeadExecs only_clean policies.now label rs.items) }
+    ensures many_patterns { result ≡ Err RepresentativesFault.TooManyPatterns → HaveManyPathsFor only_clean policies.now label }
+    ensures few_patterns { IfOk result (λ _. length (deciding policies.now label) ≤ most_patterns) }
+    ensures many_states { result ≡ Err RepresentativesFault.TooManyStates → HavePathPlacesFor only_clean policies.now label (limit + 1) }
+{
+    if !only_clean {
+        return region_execs(alloc, policies, label, limit);
+    }
+    let unclean = unclean_pattern(alloc)?;
+    let any = any_path(alloc)?;
+    clean_region_execs(alloc, policies, label, &unclean, &any, limit)
+}
+
+/// Executions that can be asked, such that each that moves a task is answered as one of them with no longer a path; where clean paths alone
+/// count, one at a clean path as one at such. The errors are `TooManyPatterns`, `TooManyStates` and `NoMemory`.
 pub(crate) fn execs_at(
     alloc: Global,
     policies: &[Compiled],
     extent: Extent,
     label: Label,
+    only_clean: bool,
     limit: usize,
 ) -> Result<Vec<Request>, RepresentativesFault>
     requires some { 0 < limit }
     requires limit { limit ≤ most_states }
     requires extent { IsExtent policies.now extent }
-    ensures lead { IfOk result (λ rs. LeadAllOf policies.now label IsExec rs.items) }
-    ensures many_patterns { result ≡ Err RepresentativesFault.TooManyPatterns → most_patterns < length (deciding policies.now label) }
+    ensures lead { IfOk result (λ rs. LeadExecs only_clean policies.now label rs.items) }
+    ensures many_patterns { result ≡ Err RepresentativesFault.TooManyPatterns → HaveManyPathsFor only_clean policies.now label }
     ensures few_patterns { IfOk result (λ _. length (deciding policies.now label) ≤ most_patterns) }
-    ensures many_states { result ≡ Err RepresentativesFault.TooManyStates → HasPlaces (deciding policies.now label) (limit + 1) }
+    ensures many_states { result ≡ Err RepresentativesFault.TooManyStates → HavePathPlacesFor only_clean policies.now label (limit + 1) }
 {
     if let Some(requests) = few_execs(alloc, policies, extent, label)? {
         return Ok(requests);
     }
-    let requests = region_execs(alloc, policies, label, limit)?;
+    let requests = execs_by_regions(alloc, policies, label, only_clean, limit)?;
     Ok(requests)
 }

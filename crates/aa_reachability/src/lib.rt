@@ -3,6 +3,7 @@
 
 mod beside;
 mod changes;
+mod clean;
 mod codes;
 mod execs;
 mod extent;
@@ -15,6 +16,7 @@ mod trail;
 mod ways;
 
 pub use beside::{Course, is_doubted, is_sure};
+pub use clean::are_clean;
 pub use going::{Going, answer_of, complains_by, is_by_complain, label_after};
 pub use reached::{Reached, Untold, Why};
 pub use search::{arrivals_beside, arrivals_from, near_arrivals, near_beside};

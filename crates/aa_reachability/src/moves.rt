@@ -5,7 +5,7 @@ ghost use Rattle.aa_pattern.specs.Limits.{most_states};
 ghost use Rattle.aa_reachability.specs.Extents.{IsExtent};
 ghost use Rattle.aa_reachability.specs.Granted.{AreGranted};
 ghost use Rattle.aa_reachability.specs.Order.{IsInOrder};
-ghost use Rattle.aa_reachability.specs.Moves.{LeadAll, HaveManyPatternsAt, HavePlacesAt};
+ghost use Rattle.aa_reachability.specs.Moves.{LeadAll, HaveManyPatternsAt, HaveManyPatternsFor, HavePlacesFor};
 
 use crate::changes::{Changes, changes_at};
 use crate::execs::execs_at;
@@ -24,25 +24,26 @@ pub(crate) struct Moves {
 }
 
 /// Requests that can be asked, such that to each label to which some request leads, one of them does that comes no later, but for the label
-/// itself: executions first, then changes, those with shorter paths or names before others. The errors are `TooManyPatterns`, `TooManyStates` and `NoMemory`.
+/// itself: executions first, then changes, those with shorter paths or names before others. Where clean paths alone count, so of requests at such. The errors are `TooManyPatterns`, `TooManyStates` and `NoMemory`.
 pub(crate) fn moves_at(
     alloc: Global,
     policies: &[Compiled],
     extent: Extent,
     label: Label,
+    only_clean: bool,
     limit: usize,
 ) -> Result<Moves, RepresentativesFault>
     requires some { 0 < limit }
     requires limit { limit ≤ most_states }
     requires extent { IsExtent policies.now extent }
-    ensures lead { IfOk result (λ ms. LeadAll policies.now label ms.requests.items) }
+    ensures lead { IfOk result (λ ms. LeadAll only_clean policies.now label ms.requests.items) }
     ensures ordered { IfOk result (λ ms. IsInOrder ms.requests.items) }
     ensures granted { IfOk result (λ ms. AreGranted policies.now label ms.are_granted ms.requests.items) }
-    ensures many_patterns { result ≡ Err RepresentativesFault.TooManyPatterns → HaveManyPatternsAt policies.now label }
+    ensures many_patterns { result ≡ Err RepresentativesFault.TooManyPatterns → HaveManyPatternsFor only_clean policies.now label }
     ensures few_patterns { IfOk result (λ _. HaveManyPatternsAt policies.now label → ⊥) }
-    ensures many_states { result ≡ Err RepresentativesFault.TooManyStates → HavePlacesAt policies.now label (limit + 1) }
+    ensures many_states { result ≡ Err RepresentativesFault.TooManyStates → HavePlacesFor only_clean policies.now label (limit + 1) }
 {
-    let execs = execs_at(alloc, policies, extent, label, limit)?;
+    let execs = execs_at(alloc, policies, extent, label, only_clean, limit)?;
     let found = changes_at(alloc, policies, label)?;
     let Changes {
         requests: changes,

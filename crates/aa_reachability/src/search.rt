@@ -7,10 +7,10 @@ ghost use Rattle.aa_representatives.specs.Askable.{IsAskable};
 ghost use Rattle.aa_reachability.specs.Extents.{IsExtent};
 ghost use Rattle.aa_reachability.specs.Granted.{AreGranted};
 ghost use Rattle.aa_reachability.specs.Order.{IsInOrder};
-ghost use Rattle.aa_reachability.specs.Moves.{label_going, label_in, LeadAllBy, HaveManyPatternsAt, HavePlacesAt, IsWhy};
-ghost use Rattle.aa_reachability.specs.Reach.{IsOpen, AreArrivals, AreUntold, AreNear};
+ghost use Rattle.aa_reachability.specs.Moves.{label_going, label_in, LeadAllBy, HaveManyPatternsAt, HaveManyPatternsFor, HavePlacesAt, HavePlacesFor, IsWhyFor};
+ghost use Rattle.aa_reachability.specs.Reach.{IsOpen, AreArrivals, AreUntold, AreUntoldFor, AreNear};
 ghost use Rattle.aa_reachability.specs.Beside.{IsSure, LeadAllOn, AreArrivalsBeside, AreNearBeside};
-ghost use Rattle.aa_reachability.specs.Course.{label_on, IsSureOn, IsDecidedOn, HasOpenings};
+ghost use Rattle.aa_reachability.specs.Course.{label_on, IsSureOn, IsDecidedOn, IsTakenOn, HasOpenings};
 ghost use Rattle.aa_reachability.specs.Trail.{arrival_at, IsTrail, IsLevel, Extends, AreFollowedBy, AreFirst, AreFollowed};
 
 use crate::beside::{Course, is_sure};
@@ -28,22 +28,23 @@ use std::alloc::{AllocError, Global};
 /// Requests that lead from a label to each that one request leads to, or why there are none.
 fn moves_of(
     alloc: Global,
-    going: Going<'_>,
+    course: Course<'_>,
     extent: Extent,
     label: Label,
     limit: usize,
 ) -> Result<Moves, RepresentativesFault>
     requires some { 0 < limit }
     requires limit { limit ≤ most_states }
-    requires extent { IsExtent going.policies.now extent }
-    ensures lead { IfOk result (λ ms. LeadAllBy going.entry label ms.requests.items) }
+    requires extent { IsExtent course.going.policies.now extent }
+    ensures lead { IfOk result (λ ms. LeadAllBy course.entry.only_clean course.entry.going label ms.requests.items) }
     ensures ordered { IfOk result (λ ms. IsInOrder ms.requests.items) }
-    ensures granted { IfOk result (λ ms. AreGranted going.entry.policies.now label ms.are_granted ms.requests.items) }
-    ensures many_patterns { result ≡ Err RepresentativesFault.TooManyPatterns → HaveManyPatternsAt going.entry.policies.now label }
-    ensures few_patterns { IfOk result (λ _. HaveManyPatternsAt going.entry.policies.now label → ⊥) }
-    ensures many_states { result ≡ Err RepresentativesFault.TooManyStates → HavePlacesAt going.entry.policies.now label (limit + 1) }
+    ensures granted { IfOk result (λ ms. AreGranted course.entry.going.policies.now label ms.are_granted ms.requests.items) }
+    ensures many_patterns { result ≡ Err RepresentativesFault.TooManyPatterns → HaveManyPatternsFor course.entry.only_clean course.entry.going.policies.now label }
+    ensures few_patterns { IfOk result (λ _. HaveManyPatternsAt course.entry.going.policies.now label → ⊥) }
+    ensures many_states { result ≡ Err RepresentativesFault.TooManyStates → HavePlacesFor course.entry.only_clean course.entry.going.policies.now label (limit + 1) }
 {
-    let moves = moves_at(alloc, going.policies, extent, label, limit)?;
+    let policies = course.going.policies;
+    let moves = moves_at(alloc, policies, extent, label, course.only_clean, limit)?;
     Ok(moves)
 }
 
@@ -90,7 +91,7 @@ fn follow_all(
     requires trail { IsTrail (label_on course) from trail.old.known.keys trail.old.arrivals.items }
     requires within { number < length trail.old.arrivals.items }
     requires level { IsLevel trail.old.arrivals.items number }
-    requires lead { LeadAllBy course.going (arrival_at trail.old.arrivals.items number).label requests.now }
+    requires lead { LeadAllBy course.only_clean course.going (arrival_at trail.old.arrivals.items number).label requests.now }
     requires granted { AreGranted course.going.policies.now (arrival_at trail.old.arrivals.items number).label are_granted requests.now }
     requires sure { are_sure ≡ true → (r : Request) → IsDecidedOn course (arrival_at trail.old.arrivals.items number).label r }
     ensures trail { OnOk result (IsTrail (label_on course.entry) from trail.new.known.keys trail.new.arrivals.items) }
@@ -130,13 +131,13 @@ fn follow_next(
     requires trail { IsTrail (label_on course) from trail.old.known.keys trail.old.arrivals.items }
     requires within { number < length trail.old.arrivals.items }
     requires level { IsLevel trail.old.arrivals.items number }
-    requires followed { AreFollowed (label_on course) (IsSureOn course) course.going.policies.now limit trail.old.arrivals.items untold.old.items number }
+    requires followed { AreFollowed (label_on course) (IsSureOn course) course.only_clean course.going.policies.now limit trail.old.arrivals.items untold.old.items number }
     ensures trail { OnOk result (IsTrail (label_on course.entry) from trail.new.known.keys trail.new.arrivals.items) }
     ensures level { OnOk result (IsLevel trail.new.arrivals.items (number + 1)) }
-    ensures followed { OnOk result (AreFollowed (label_on course.entry) (IsSureOn course.entry) course.entry.going.policies.now limit trail.new.arrivals.items untold.new.items (number + 1)) }
+    ensures followed { OnOk result (AreFollowed (label_on course.entry) (IsSureOn course.entry) course.entry.only_clean course.entry.going.policies.now limit trail.new.arrivals.items untold.new.items (number + 1)) }
 {
     let label = trail.arrivals[number].label;
-    match moves_of(alloc, course.going, extent, label, limit) {
+    match moves_of(alloc, course, extent, label, limit) {
         Ok(moves) => {
             let are_sure = is_sure(course, label);
             let requests = moves.requests.as_slice();
@@ -184,7 +185,7 @@ fn found_from(
     requires limit { limit ≤ most_states }
     requires openings { HasOpenings course }
     ensures trail { IfOk result (λ f. IsTrail (label_on course.entry) from f.trail.known.keys f.trail.arrivals.items) }
-    ensures followed { IfOk result (λ f. AreFollowed (label_on course.entry) (IsSureOn course.entry) course.entry.going.policies.now limit f.trail.arrivals.items f.untold.items (length f.trail.arrivals.items)) }
+    ensures followed { IfOk result (λ f. AreFollowed (label_on course.entry) (IsSureOn course.entry) course.entry.only_clean course.entry.going.policies.now limit f.trail.arrivals.items f.untold.items (length f.trail.arrivals.items)) }
 {
     let extent = extent_at(course.going.policies, from);
     let mut trail = Trail::started(alloc, course, from)?;
@@ -210,7 +211,8 @@ fn found_from(
 /// The labels that a task can get to from this one by requests that can be asked and that no profile which wasn't read could decide, itself
 /// first, each once, with such a list of requests; those with shorter lists first. From labels at which no request may be doubted
 /// each request is gone on by, so that no shorter list leads there that leads on from such labels alone. Where the patterns on paths
-/// or those on names that decide at a label are too many, or need more than `limit` states, it isn't told where requests lead on.
+/// or those on names that decide at a label are too many, or need more than `limit` states, it isn't told where requests lead on. Where
+/// clean paths alone count, requests at such are meant, and two patterns more are matched, of which one tells unclean paths.
 pub fn arrivals_beside(
     alloc: Global,
     course: Course<'_>,
@@ -220,8 +222,8 @@ pub fn arrivals_beside(
     requires some { 0 < limit }
     requires limit { limit ≤ most_states }
     requires openings { HasOpenings course }
-    ensures arrivals { IfOk result (λ r. AreArrivalsBeside (label_on course.entry) (IsOpen r.untold.items) (IsSure r.untold.items (IsSureOn course.entry)) (IsDecidedOn course.entry) from r.arrivals.items) }
-    ensures untold { IfOk result (λ r. AreUntold course.entry.going.policies.now limit r.arrivals.items r.untold.items) }
+    ensures arrivals { IfOk result (λ r. AreArrivalsBeside (label_on course.entry) (IsOpen r.untold.items) (IsSure r.untold.items (IsSureOn course.entry)) (IsTakenOn course.entry) from r.arrivals.items) }
+    ensures untold { IfOk result (λ r. AreUntoldFor course.entry.only_clean course.entry.going.policies.now limit r.arrivals.items r.untold.items) }
 {
     let found = found_from(alloc, course, from, limit)?;
     Ok(Reached {
@@ -249,6 +251,7 @@ pub fn arrivals_from(
         going,
         unreads: &[],
         openings: &[],
+        only_clean: false,
     };
     let reached = arrivals_beside(alloc, course, from, limit)?;
     Ok(reached)
@@ -268,13 +271,13 @@ pub fn near_beside(
     requires some { 0 < limit }
     requires limit { limit ≤ most_states }
     requires openings { HasOpenings course }
-    ensures near { IfOk result (λ found. AreNearBeside (label_on course.entry) (IsSureOn course.entry) (IsDecidedOn course.entry) from found.items) }
-    ensures many_patterns { result ≡ Err RepresentativesFault.TooManyPatterns → HaveManyPatternsAt course.entry.going.policies.now from }
+    ensures near { IfOk result (λ found. AreNearBeside (label_on course.entry) (IsSureOn course.entry) (IsTakenOn course.entry) from found.items) }
+    ensures many_patterns { result ≡ Err RepresentativesFault.TooManyPatterns → HaveManyPatternsFor course.entry.only_clean course.entry.going.policies.now from }
     ensures few_patterns { IfOk result (λ _. HaveManyPatternsAt course.entry.going.policies.now from → ⊥) }
-    ensures many_states { result ≡ Err RepresentativesFault.TooManyStates → HavePlacesAt course.entry.going.policies.now from (limit + 1) }
+    ensures many_states { result ≡ Err RepresentativesFault.TooManyStates → HavePlacesFor course.entry.only_clean course.entry.going.policies.now from (limit + 1) }
 {
     let extent = extent_at(course.going.policies, from);
-    let moves = moves_of(alloc, course.going, extent, from, limit)?;
+    let moves = moves_of(alloc, course, extent, from, limit)?;
     let are_sure = is_sure(course, from);
     let mut trail = Trail::started(alloc, course, from)?;
     let requests = moves.requests.as_slice();
@@ -312,6 +315,7 @@ pub fn near_arrivals(
         going,
         unreads: &[],
         openings: &[],
+        only_clean: false,
     };
     let near = near_beside(alloc, course, from, limit)?;
     Ok(near)

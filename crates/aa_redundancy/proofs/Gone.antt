@@ -43,15 +43,20 @@ module _ (gone others : ℕ → Bool) (marks : List RuleMark) where
       ap (λ (b : Bool). let c : Chosen =
       cond (is_sort literal m) (cond (owned || not m.mark.owner) (cond (not m.mark.deny && is_some m.mark.way) (cond (not b) (record { way = m.mark.way; audited = m.mark.audit }) no_choice) no_choice) no_choice) no_choice in c) e
 
+  -- what sets of rules say, and the rule that is chosen
+  abbrev saying : RuleSets → Chosen → Saying
+  saying v c = record { rights = rights v; chosen = led (has_exec v.deny) c }
+
   -- say the same of it
   pub said_same : (row : List ℕ) → Agree row → (owned : Bool) → said_by gone owned (picked marks row) ≡ said_by others owned (picked marks row)
   said_same row agree owned =
       let sets = gathered both nothing (sets_of gone owned) (sets_of others owned) (sets_same owned) row agree in
       let literal = gathered earlier no_choice (choice_of gone true owned) (choice_of others true owned) (choice_same true owned) row agree in
       let any = gathered earlier no_choice (choice_of gone false owned) (choice_of others false owned) (choice_same false owned) row agree in
-      ap (λ (v : RuleSets). let s : Saying = record { rights = rights v; chosen = led (has_exec v.deny) (chosen_by gone owned (picked marks row)) } in s) sets
-      ∙ ap (λ (l : Chosen). let s : Saying = record { rights = rights (sets_by others owned (picked marks row)); chosen = led (has_exec (sets_by others owned (picked marks row)).deny) (choose l (choice_by gone false owned (picked marks row))) } in s) literal
-      ∙ ap (λ (a : Chosen). let s : Saying = record { rights = rights (sets_by others owned (picked marks row)); chosen = led (has_exec (sets_by others owned (picked marks row)).deny) (choose (choice_by others true owned (picked marks row)) a) } in s) any
+      let ms = picked marks row in
+      ap (λ (v : RuleSets). saying v (chosen_by gone owned ms)) sets
+      ∙ ap (λ (l : Chosen). saying (sets_by others owned ms) (choose l (choice_by gone false owned ms))) literal
+      ∙ ap (λ (a : Chosen). saying (sets_by others owned ms) (choose (choice_by others true owned ms) a)) any
 
   pub agree_all : ((n : ℕ) → gone n ≡ others n) → (row : List ℕ) → Agree row
   agree_all same [] = tt

@@ -56,7 +56,8 @@ module _ (A : (ℕ → Bool) → (ℕ → Bool) → Type 0) (i : ℕ) (first : L
     left_more some left now e old f s n = subst (λ (b : Bool). LeftOut A i first kept count (done + 1) b next) (sym e) (at some left old f s n)
 
   -- all were looked at
-  pub all_needed : (done : ℕ) (some : Bool) (gone : List Bool) → length kept ≡ count → count ≤ done → LeftOut A i first kept count done some gone → some ≡ false → (n : ℕ) → is_one_of kept n ≡ true → IsNeeded A i gone n
+  pub all_needed : (done : ℕ) (some : Bool) (gone : List Bool) → length kept ≡ count → count ≤ done → LeftOut A i first kept count done some gone
+      → some ≡ false → (n : ℕ) → is_one_of kept n ≡ true → IsNeeded A i gone n
   all_needed done some gone many le out e n is =
       let c = Contains-from_any eqb-true n kept is in
       subst (λ (fs : List Bool). IsNeeded A i fs n) (sym (out.same e))

@@ -1,5 +1,6 @@
 -- Marks of rules that go, one after another.
-use Rattle.std.proofs.Common.{◌≡◌, ◌≢◌, ℕ, ◌+◌, ◌-◌, ◌<◌, ◌≤◌, List, [], ◌∷◌, ◌++◌, length, replicate, set, Bool, true, false, true≢false, refl, sym, ap, ◌∙◌, subst, arith, ⊎_elim, length-append}
+use Rattle.std.proofs.Common.{◌≡◌, ◌≢◌, ℕ, ◌+◌, ◌-◌, ◌<◌, ◌≤◌, List, [], ◌∷◌, ◌++◌, length, replicate}
+use Rattle.std.proofs.Common.{set, Bool, true, false, true≢false, refl, sym, ap, ◌∙◌, subst, arith, ⊎_elim, length-append}
 use Rattle.std.specs.Prelude.{◌==◌, ◌&&◌, ◌||◌, nat_lt}
 use Rattle.std.proofs.lemmas.Bool.{cases_lt, ltb-true, lt-ltb}
 use Rattle.std.proofs.lemmas.Bool.Decides.{eqb_tells}
@@ -143,7 +144,8 @@ none_settled ts wanted count flags e =
     }
 
 -- one more is marked alone, or isn't
-pub those_more : (P : ℕ → Type 0) (flags now : List Bool) (n : ℕ) (b : Bool) → length flags ≡ n → now ≡ flags ++ b ∷ [] → (b ≡ true → P n) → (b ≡ false → P n → ⊥) → MarksThose flags n P → MarksThose now (n + 1) P
+pub those_more : (P : ℕ → Type 0) (flags now : List Bool) (n : ℕ) (b : Bool) → length flags ≡ n → now ≡ flags ++ b ∷ []
+    → (b ≡ true → P n) → (b ≡ false → P n → ⊥) → MarksThose flags n P → MarksThose now (n + 1) P
 those_more P flags now n b many e holds fails those i lt =
     ⊎_elim
     (λ (l : i < n).

@@ -213,7 +213,8 @@ pub from_same : (ps : List Profile) (ns : List PlaceNumbers) (n : ℕ) (gone : �
 from_same ps ns n gone h k lt = one_in (slice_get ps k) (slice_get ns k) gone (h k lt)
 
 -- what can go by tables can go
-pub going_by : (ts : List Table) (Same : (ℕ → Bool) → Type 0) (count : ℕ) (held : List Bool) (g : Going) → ((gone : ℕ → Bool) → SameTables ts gone → Same gone) → ((gone : ℕ → Bool) → Same gone → SameTables ts gone)
+pub going_by : (ts : List Table) (Same : (ℕ → Bool) → Type 0) (count : ℕ) (held : List Bool) (g : Going)
+    → ((gone : ℕ → Bool) → SameTables ts gone → Same gone) → ((gone : ℕ → Bool) → Same gone → SameTables ts gone)
     → AreGoing (SameTables ts) count held g → AreGoing Same count held g
 going_by ts Same count held g to from are = record {
   many_alone = are.many_alone;

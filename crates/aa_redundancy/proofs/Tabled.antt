@@ -1,5 +1,6 @@
 -- Tables decide whether rules can go.
-use Rattle.std.proofs.Common.{◌≡◌, ℕ, suc, ◌<◌, ◌+◌, ◌*◌, ◌/◌, ◌%◌, List, [], ◌∷◌, map, length, Bool, true, false, cond, Option, Some, None, option_map, refl, sym, ap, ◌∙◌, subst, Contains, arith, ⊎_elim, inl, inr}
+use Rattle.std.proofs.Common.{◌≡◌, ℕ, suc, ◌<◌, ◌+◌, ◌*◌, ◌/◌, ◌%◌, List, [], ◌∷◌, map, length, Bool, true, false}
+use Rattle.std.proofs.Common.{cond, Option, Some, None, option_map, refl, sym, ap, ◌∙◌, subst, Contains, arith, ⊎_elim, inl, inr}
 use Rattle.std.proofs.lemmas.List.Elements.{Contains-append_left, Contains-append_right, Contains-append_cases}
 use Rattle.aa_pattern.specs.declared.pattern.Pattern.{Pattern}
 use Rattle.aa_model.specs.declared.rule.Exec.{Exec}
@@ -105,18 +106,24 @@ module _ (rules : List FileRule) where
     abbrev left_lead : (ℕ → Bool) → Lead
     left_lead g = lead (without g rules) path owned
 
-    from_same : left_saying gone ≡ left_saying others → (left_rights gone ≡ left_rights others) × (left_lead gone ≡ left_lead others)
+    abbrev IsSameLeft : Type 0
+    IsSameLeft = (left_rights gone ≡ left_rights others) × (left_lead gone ≡ left_lead others)
+
+    abbrev IsWithinLeft : Type 0
+    IsWithinLeft = IsWithin (left_rights gone) (left_rights others) × LeadsAlike (left_lead gone).way (left_lead others).way
+
+    from_same : left_saying gone ≡ left_saying others → IsSameLeft
     from_same e = (
       ap (λ (s : Saying). s.rights) e,
       leads_same (left_lead gone) (left_lead others) (left_says gone path owned) (left_says others path owned) (ap (λ (s : Saying). s.chosen) e),
     )
 
-    to_same : (left_rights gone ≡ left_rights others) × (left_lead gone ≡ left_lead others) → left_saying gone ≡ left_saying others
+    to_same : IsSameLeft → left_saying gone ≡ left_saying others
     to_same e =
         ap (λ (r : Rights). let s : Saying = record { rights = r; chosen = number (left_lead gone) } in s) e.0
         ∙ ap (λ (l : Lead). let s : Saying = record { rights = left_rights others; chosen = number l } in s) e.1
 
-    from_within : Within (left_saying gone) (left_saying others) → IsWithin (left_rights gone) (left_rights others) × LeadsAlike (left_lead gone).way (left_lead others).way
+    from_within : Within (left_saying gone) (left_saying others) → IsWithinLeft
     from_within e = (
       e.0,
       ⊎_elim (λ (h : option_map (way_by rules) (left_lead gone).way ≡ None). inl (no_way (left_lead gone).way h))
@@ -124,7 +131,7 @@ module _ (rules : List FileRule) where
           inr (ways_same (left_lead gone).way (left_lead others).way (left_says gone path owned) (left_says others path owned) h)) e.1,
     )
 
-    to_within : IsWithin (left_rights gone) (left_rights others) × LeadsAlike (left_lead gone).way (left_lead others).way → Within (left_saying gone) (left_saying others)
+    to_within : IsWithinLeft → Within (left_saying gone) (left_saying others)
     to_within e = (
       e.0,
       ⊎_elim (λ (h : (left_lead gone).way ≡ None). inl (ap (option_map (way_by rules)) h))
@@ -160,14 +167,10 @@ module _ (rules : List FileRule) where
       }
 
     pub files_decide : Decides Equal t (λ gone others. SameFiles (without gone rules) (without others rules))
-    files_decide =
-        decide_by Equal (λ gone others path owned. (left_rights gone others path owned gone ≡ left_rights gone others path owned others) × (left_lead gone others path owned gone ≡ left_lead gone others path owned others))
-        from_same to_same
+    files_decide = decide_by Equal IsSameLeft from_same to_same
 
     pub files_within : Decides Within t (λ gone others. FilesWithin (without gone rules) (without others rules))
-    files_within =
-        decide_by Within (λ gone others path owned. IsWithin (left_rights gone others path owned gone) (left_rights gone others path owned others) × LeadsAlike (left_lead gone others path owned gone).way (left_lead gone others path owned others).way)
-        from_within to_within
+    files_within = decide_by Within IsWithinLeft from_within to_within
 
 -- how many entries the tables have
 many_caps : length capability_names ≡ 41
@@ -204,7 +207,8 @@ pub within_rights : IsOfRights Within IsWithin
 within_rights = record { from = λ v w e. e.0; to = λ v w e. (e, inl refl) }
 
 -- what is said of one thing is what a verdict says, without rules and without others
-module _ (R : Relation) (T : Rights → Rights → Type 0) (of : IsOfRights R T) (said : (ℕ → Bool) → Bool → Saying) (verdict : (ℕ → Bool) → RuleSets) (is : (g : ℕ → Bool) (owned : Bool) → said g owned ≡ plain_saying (verdict g)) where
+module _ (R : Relation) (T : Rights → Rights → Type 0) (of : IsOfRights R T) (said : (ℕ → Bool) → Bool → Saying) (verdict : (ℕ → Bool) → RuleSets)
+    (is : (g : ℕ → Bool) (owned : Bool) → said g owned ≡ plain_saying (verdict g)) where
   to_rights : (gone others : ℕ → Bool) → ((owned : Bool) → R (said gone owned) (said others owned)) → T (rights (verdict gone)) (rights (verdict others))
   to_rights gone others related =
       of.from (verdict gone) (verdict others)
@@ -270,7 +274,8 @@ left_patterns : (gone : ℕ → Bool) (k : ℕ) (rules : List ChangeRule) (p : P
 left_patterns gone k [] p c = c
 left_patterns gone k (r ∷ rs) p c = at (gone k) (left_patterns gone (suc k) rs p) c
   where
-    at : (g : Bool) → (Contains (change_patterns (without_from gone (suc k) rs)) p → Contains (change_patterns rs) p) → Contains (change_patterns (cond g (without_from gone (suc k) rs) (r ∷ without_from gone (suc k) rs))) p → Contains (change_patterns (r ∷ rs)) p
+    at : (g : Bool) → (Contains (change_patterns (without_from gone (suc k) rs)) p → Contains (change_patterns rs) p)
+        → Contains (change_patterns (cond g (without_from gone (suc k) rs) (r ∷ without_from gone (suc k) rs))) p → Contains (change_patterns (r ∷ rs)) p
     at true so d = Contains-append_right (patterns_in r.pattern) (change_patterns rs) p (so d)
     at false so d =
         ⊎_elim (λ (h : Contains (patterns_in r.pattern) p). Contains-append_left (patterns_in r.pattern) (change_patterns rs) p h)

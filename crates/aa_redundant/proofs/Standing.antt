@@ -13,6 +13,7 @@ use Rattle.aa_base.specs.declared.fault.Spot.{Spot}
 use Rattle.aa_model.specs.declared.policy.Profile.{Profile}
 use Rattle.aa_explain.specs.declared.places.ProfilePlaces.{ProfilePlaces}
 use Rattle.aa_command.specs.declared.decided.Decided.{Decided}
+use Rattle.aa_compile.specs.Labels.{first_profiles}
 use Rattle.aa_redundancy.specs.declared.places.PlaceNumbers.{PlaceNumbers}
 use Rattle.aa_redundancy.specs.declared.reasons.Reason.{Reason}
 use Rattle.aa_redundancy.specs.declared.redundant.Redundant.{Redundant}
@@ -24,7 +25,7 @@ use Rattle.aa_redundancy.specs.Unmatched.{StandWithin, MatchNothing, BesideNoneM
 use Rattle.aa_redundant.specs.declared.places.RulePlace.{RulePlace}
 use Rattle.aa_redundant.specs.Places.{path_at, same_place, place_in, spots_of, places_of, first_places, all_places}
 use Rattle.aa_redundant.specs.Places.{number_in, numbers_known, first_numbers, all_numbers}
-use Rattle.aa_redundant.specs.Command.{first_profiles, Spares, OfProfiles, NothingMatches}
+use Rattle.aa_redundant.specs.Command.{Spares, OfProfiles, NothingMatches}
 use Rattle.aa_redundant.proofs.Knowing.{place_any}
 
 later : (a b : Bool) → b ≡ true → (a || b) ≡ true

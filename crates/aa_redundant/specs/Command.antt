@@ -2,7 +2,6 @@
 -- Source: own.
 use Rattle.std.specs.Prelude.{◌≡◌, ℕ, ◌==◌, List, [], ◌++◌, length, codes, Bool, Some, slice_get, Option, None, option_map, Err, MatchBool, if◌then◌else◌}
 use Rattle.std.specs.List.{All}
-use Rattle.std.specs.Option.{option_map_or}
 use Rattle.aa_base.specs.declared.unread.Unread.{Unread}
 use Rattle.aa_base.specs.Values.{value}
 use Rattle.aa_files.specs.Texts.{texts}
@@ -13,6 +12,7 @@ use Rattle.aa_model.specs.declared.policy.Profile.{Profile}
 use Rattle.aa_model.specs.declared.label.Label.{Label}
 use Rattle.aa_model.specs.declared.request.Request.{Request}
 use Rattle.aa_representatives.specs.Askable.{IsAskable}
+use Rattle.aa_compile.specs.Labels.{first_profiles}
 use Rattle.aa_load.specs.UnitPolicy.{limit_of}
 use Rattle.aa_command.specs.declared.decided.Decided.{Decided}
 use Rattle.aa_command.specs.Setting.{Setting}
@@ -40,10 +40,6 @@ use Rattle.aa_redundant.specs.Leading.{AreOpen}
 use Rattle.aa_redundant.specs.Told.{Telling, Explained, rules_of, all_explained, all_undecided}
 use Rattle.aa_redundant.specs.Accepted.{held, unknown, gone_among}
 use Rattle.aa_redundant.specs.Forms.{answers_in}
-
--- the profiles of the first policy
-abbrev pub first_profiles : List Policy → List Profile
-first_profiles policies = option_map_or (λ (p : Policy). p.profiles) (slice_get policies 0) []
 
 -- nothing changes for any profile when the rules of some places go
 abbrev pub Spares : Decided → (ℕ → Bool) → Type 0

@@ -4,6 +4,7 @@ ghost use Rattle.std.specs.Prelude.{◌≡◌, ◌++◌, ◌<◌, ◌≤◌, [],
 ghost use Rattle.aa_files.specs.Texts.{slices};
 ghost use Rattle.aa_model.specs.declared.policy.Profile.{Profile};
 ghost use Rattle.aa_pattern.specs.Limits.{most_states};
+ghost use Rattle.aa_compile.specs.Labels.{first_profiles};
 ghost use Rattle.aa_load.specs.UnitPolicy.{limit_of};
 ghost use Rattle.aa_command.specs.Setting.{setting_of};
 ghost use Rattle.aa_command.specs.Printed.{printed, faults_alone};
@@ -15,7 +16,7 @@ ghost use Rattle.aa_redundant.specs.Places.{all_places, all_numbers};
 ghost use Rattle.aa_redundant.specs.Leading.{AreOpen};
 ghost use Rattle.aa_redundant.specs.Told.{telling, explaining};
 ghost use Rattle.aa_report.specs.Lines.{lines_in};
-ghost use Rattle.aa_redundant.specs.Command.{first_profiles, Spares, OfProfiles, status_of, rules_printed, redundant_printed, why_of, untold_head, untold_line, IsRedundantOf, IsRedundantBut, IsRedundantBy, IsRedundantOutput};
+ghost use Rattle.aa_redundant.specs.Command.{Spares, OfProfiles, status_of, rules_printed, redundant_printed, why_of, untold_head, untold_line, IsRedundantOf, IsRedundantBut, IsRedundantBy, IsRedundantOutput};
 
 use crate::accepted::{held, push_gone_among, unknown_of};
 use crate::explained::{ExplainedRule, all_explained, all_undecided};
@@ -27,7 +28,7 @@ use crate::places::{RulePlace, rule_places};
 use crate::told::{ToldRule, rules_of};
 use aa_check::Form;
 use aa_command::{Decided, Output, Settings, Use, path_refused, with_policy};
-use aa_compile::Compiled;
+use aa_compile::first_profiles;
 use aa_files::{Tree, main_text};
 use aa_model::Profile;
 use aa_redundancy::{
@@ -58,16 +59,6 @@ fn limit_of(states: u32) -> usize
     ensures bounded { result ≤ most_states }
 {
     states.max(1).min(1_000_000) as usize
-}
-
-/// The profiles of the first policy.
-fn first_profiles(policies: &[Compiled]) -> &[Profile]
-    ensures { result.now ≡ first_profiles policies.now }
-{
-    match policies.get(0) {
-        Some(compiled) => compiled.policy().profiles.as_slice(),
-        None => &[],
-    }
 }
 
 /// The places that can go, and why.

@@ -1,6 +1,6 @@
 -- Requests at unclean paths.
 -- Source: own.
-use Rattle.std.specs.Prelude.{◌⊎◌, Bool, false, ◌||◌}
+use Rattle.std.specs.Prelude.{◌⊎◌, Bool, false, not, ◌||◌}
 use Rattle.aa_model.specs.declared.request.Request.{Request}
 use Rattle.aa_model.specs.declared.request.Request.TheVariants.{File, Link, Exec}
 use Rattle.aa_unclean_paths.specs.Components.{IsUnclean}
@@ -19,3 +19,7 @@ is_at_unclean_path (File r) = is_unclean r.path
 is_at_unclean_path (Link r) = is_unclean r.link || is_unclean r.target
 is_at_unclean_path (Exec r) = is_unclean r.path
 is_at_unclean_path _ = false
+
+-- a request counts: it is at a clean path, or unclean ones count as others
+abbrev pub does_request_count : Bool → Request → Bool
+does_request_count unclean r = unclean || not (is_at_unclean_path r)

@@ -7,4 +7,4 @@ mod requests;
 
 pub use paths::is_unclean;
 pub use pattern::unclean_pattern;
-pub use requests::is_at_unclean_path;
+pub use requests::{does_request_count, is_at_unclean_path};

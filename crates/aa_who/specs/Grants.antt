@@ -1,13 +1,13 @@
 -- The profiles that are granted what a word asks.
 -- Source: own.
-use Rattle.std.specs.Prelude.{◌≡◌, ℕ, zero, suc, List, [], ◌∷◌, ◌++◌, length, map, Bool, not, ◌||◌, Option, Some, None, option_map, if◌then◌else◌}
+use Rattle.std.specs.Prelude.{◌≡◌, ℕ, zero, suc, List, [], ◌∷◌, ◌++◌, length, map, Bool, not, Option, Some, None, option_map, if◌then◌else◌}
 use Rattle.std.specs.List.{slice_get}
 use Rattle.std.specs.Option.{option_map_or}
 use Rattle.aa_model.specs.declared.policy.Policy.{Policy}
 use Rattle.aa_model.specs.declared.policy.Profile.{Profile}
 use Rattle.aa_model.specs.declared.label.Label.TheVariants.{Confined}
 use Rattle.aa_model.specs.declared.request.Request.{Request}
-use Rattle.aa_unclean_paths.specs.Requests.{is_at_unclean_path}
+use Rattle.aa_unclean_paths.specs.Requests.{does_request_count}
 use Rattle.aa_compile.specs.Labels.{profile_in}
 use Rattle.aa_notation.specs.Written.{word_text}
 use Rattle.aa_command.specs.declared.decided.Decided.{Decided}
@@ -51,10 +51,6 @@ granted g = record {
 abbrev pub all_granted : Grants → AllGranted
 all_granted gs = record { list = map granted gs.list.items; apart = map granted gs.apart.items; untold = map untold gs.untold.items }
 
--- a request counts: it is at a clean path, or unclean ones count as others
-abbrev pub does_count : Bool → Request → Bool
-does_count unclean r = unclean || not (is_at_unclean_path r)
-
 -- the word of a request, if that is asked for
 abbrev pub word_if : Bool → Request → Option (List ℕ)
 word_if is r = if is then Some (word_text r) else None
@@ -71,10 +67,10 @@ with_granted counts gs g =
 
 -- by how many of the requests it is granted; the one that shows it is at an unclean path where none at a clean one shows it
 abbrev pub with_quantity : Bool → Decided → ℕ → Profile → AllGranted → Quantity → AllGranted
-with_quantity unclean d n p gs (Every one) = with_granted (does_count unclean one) gs (granted_by d n p one None None)
+with_quantity unclean d n p gs (Every one) = with_granted (does_request_count unclean one) gs (granted_by d n p one None None)
 with_quantity unclean d n p gs (Partly one other) =
-    with_granted (does_count unclean one) gs
-    (granted_by d n p one (word_if (does_count unclean other) other) (word_if (not (does_count unclean other)) other))
+    with_granted (does_request_count unclean one) gs
+    (granted_by d n p one (word_if (does_request_count unclean other) other) (word_if (not (does_request_count unclean other)) other))
 with_quantity unclean d n p gs (Never other) = gs
 
 -- and what is told of it is added

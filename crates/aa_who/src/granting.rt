@@ -6,7 +6,8 @@ ghost use Rattle.aa_notation.specs.Written.{word_text};
 ghost use Rattle.aa_ask.specs.Told.{verdict_on, told};
 ghost use Rattle.aa_load.specs.UnitPolicy.{limit_of};
 ghost use Rattle.aa_who.specs.Counts.{SaysNoPath};
-ghost use Rattle.aa_who.specs.Grants.{granted, granted_by, all_granted, does_count, word_if, with_granted, with_quantity, with_count, count_of, AddsGrants, AreGrants};
+ghost use Rattle.aa_unclean_paths.specs.Requests.{does_request_count};
+ghost use Rattle.aa_who.specs.Grants.{granted, granted_by, all_granted, word_if, with_granted, with_quantity, with_count, count_of, AddsGrants, AreGrants};
 
 use crate::counting::{Counted, count_at};
 use crate::fault::WhoFault;
@@ -17,7 +18,7 @@ use aa_compile::{Compiled, profile_of};
 use aa_model::{Label, Profile, Request};
 use aa_notation::push_word;
 use aa_quantifiers::{Quantity, Word};
-use aa_unclean_paths::is_at_unclean_path;
+use aa_unclean_paths::does_request_count;
 use std::alloc::{AllocError, Global};
 
 /// A profile whose rules allow some of the requests of a word.
@@ -98,13 +99,6 @@ fn grant_of(
     })
 }
 
-/// Whether a request counts: it is at a clean path, or unclean ones count as others.
-pub fn does_count(unclean: bool, request: &Request) -> bool
-    ensures { result ≡ does_count unclean request.now }
-{
-    unclean || !is_at_unclean_path(request)
-}
-
 /// Adds a profile to those that are granted some, or to those that are so at unclean paths alone.
 fn push_granted(grants: &mut Grants, counts: bool, grant: Grant) -> Result<(), AllocError>
     ensures { OnOk result (all_granted grants.new ≡ with_granted counts (all_granted grants.old) (granted grant)) }
@@ -127,9 +121,9 @@ fn partly_of(
     one: &Request,
     other: &Request,
 ) -> Result<Grant, AllocError>
-    ensures { IfOk result (λ g. granted g ≡ granted_by decided.entry number profile.now one.now (word_if (does_count unclean other.now) other.now) (word_if (not (does_count unclean other.now)) other.now)) }
+    ensures { IfOk result (λ g. granted g ≡ granted_by decided.entry number profile.now one.now (word_if (does_request_count unclean other.now) other.now) (word_if (not (does_request_count unclean other.now)) other.now)) }
 {
-    if does_count(unclean, other) {
+    if does_request_count(unclean, other) {
         return grant_of(alloc, decided, number, profile, one, Some(other), None);
     }
     grant_of(alloc, decided, number, profile, one, None, Some(other))
@@ -150,11 +144,11 @@ fn push_grant(
     match quantity {
         Quantity::Every(one) => {
             let grant = grant_of(alloc, decided, number, profile, one, None, None)?;
-            push_granted(grants, does_count(unclean, one), grant)
+            push_granted(grants, does_request_count(unclean, one), grant)
         }
         Quantity::Partly(one, other) => {
             let grant = partly_of(alloc, decided, unclean, number, profile, one, other)?;
-            push_granted(grants, does_count(unclean, one), grant)
+            push_granted(grants, does_request_count(unclean, one), grant)
         }
         Quantity::Never(_) => Ok(()),
     }

@@ -14,7 +14,7 @@ mod telling;
 pub use command::{WhoOptions, passed_in, who_files};
 pub use counting::{Sought, first_at};
 pub use fault::{Misread, WhoFault};
-pub use granting::{count_of, does_count};
+pub use granting::count_of;
 pub use reading::read_asked;
 pub use shown::{push_complains, push_passed};
 pub use telling::{Untold, asker_of, push_untold, push_untold_lines, push_untold_member};

@@ -15,15 +15,23 @@ returns-then-options g c =
     let s = setting_of (g.T.Tree.files c.args.tree.now) (g.T.Tree.taken c.args.tree.now) (g.T.Tree.input c.args.tree.now) c.args.settings.now in
     let o = c.args.options.now in
     let files = texts o.files.now in
-    IfOk-weaker c.with_read_policy.result (λ (out : Output). IsPrintedOf s files (IsAssertOf s.states o c.args.text.now c.args.claims.now) (printed out)) (λ (out : Output). IsAssertBy s o c.args.text.now c.args.claims.now (printed out))
-    (λ out is. subst (λ (b : Bool). MatchBool b (IsPrintedOf s files (IsAssertOf s.states o c.args.text.now c.args.claims.now) (printed out)) (IsPrintedFor s files (IsAssertOf s.states o c.args.text.now c.args.claims.now []) (printed out)))
-    (sym c.if-options.true) is) c.with_read_policy.ensures
+    IfOk-weaker c.with_read_policy.result (λ (out : Output). IsPrintedOf s files (IsAssertOf s.states o c.args.text.now c.args.claims.now) (printed out))
+    (λ (out : Output). IsAssertBy s o c.args.text.now c.args.claims.now (printed out))
+    (λ out is. subst
+    (λ (b : Bool). MatchBool b (IsPrintedOf s files (IsAssertOf s.states o c.args.text.now c.args.claims.now) (printed out))
+    (IsPrintedFor s files (IsAssertOf s.states o c.args.text.now c.args.claims.now []) (printed out)))
+    (sym c.if-options.true) is)
+    c.with_read_policy.ensures
 
 pub returns : goal.returns
 returns g c =
     let s = setting_of (g.T.Tree.files c.args.tree.now) (g.T.Tree.taken c.args.tree.now) (g.T.Tree.input c.args.tree.now) c.args.settings.now in
     let o = c.args.options.now in
     let files = texts o.files.now in
-    IfOk-weaker c.with_policy.result (λ (out : Output). IsPrintedFor s files (IsAssertOf s.states o c.args.text.now c.args.claims.now []) (printed out)) (λ (out : Output). IsAssertBy s o c.args.text.now c.args.claims.now (printed out))
-    (λ out is. subst (λ (b : Bool). MatchBool b (IsPrintedOf s files (IsAssertOf s.states o c.args.text.now c.args.claims.now) (printed out)) (IsPrintedFor s files (IsAssertOf s.states o c.args.text.now c.args.claims.now []) (printed out)))
-    (sym c.if-options.false) is) c.with_policy.ensures
+    IfOk-weaker c.with_policy.result (λ (out : Output). IsPrintedFor s files (IsAssertOf s.states o c.args.text.now c.args.claims.now []) (printed out))
+    (λ (out : Output). IsAssertBy s o c.args.text.now c.args.claims.now (printed out))
+    (λ out is. subst
+    (λ (b : Bool). MatchBool b (IsPrintedOf s files (IsAssertOf s.states o c.args.text.now c.args.claims.now) (printed out))
+    (IsPrintedFor s files (IsAssertOf s.states o c.args.text.now c.args.claims.now []) (printed out)))
+    (sym c.if-options.false) is)
+    c.with_policy.ensures

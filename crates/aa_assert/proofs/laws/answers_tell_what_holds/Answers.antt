@@ -1,4 +1,4 @@
-use Rattle.aa_assert.proofs.Sound.{clear_claims_hold}
+use Rattle.aa_assert.proofs.Sound.{clear_claims_hold, told_ways_break}
 use Rattle.aa_assert.proofs.Quiet.{quiet_answers_count_all}
 use Rattle.aa_assert.proofs.Telling.{told_break, told_apart, told_fail}
 use Rattle.aa_assert.proofs.laws.answers_tell_what_holds.Goals as goal
@@ -10,4 +10,5 @@ returns c = record {
   apart = told_apart;
   quiet = quiet_answers_count_all;
   broken = told_fail;
+  ways = told_ways_break;
 }

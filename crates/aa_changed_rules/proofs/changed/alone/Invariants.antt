@@ -1,7 +1,6 @@
-use Rattle.std.proofs.Common.{drop}
 use Rattle.aa_changed_rules.specs.Forms.{lists}
-use Rattle.aa_changed_rules.specs.Changed.{GoesOn, alone}
+use Rattle.aa_changed_rules.proofs.Knowing.{IsDone}
 use Rattle.aa_changed_rules.proofs.changed.alone.Given as goal
 
 abbrev pub invariant-loop-number : goal.invariant-loop-number
-invariant-loop-number l = GoesOn l.known.keys l.numbers.items l.number (lists (drop l.number l.forms)) (alone (lists l.others) (lists l.forms))
+invariant-loop-number l = IsDone l.known.keys l.numbers.items (lists l.others) (lists l.forms) l.number

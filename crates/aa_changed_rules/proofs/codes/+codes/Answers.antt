@@ -1,8 +1,7 @@
 use Rattle.std.proofs.lemmas.Grind.{common_steps}
-use Rattle.std.proofs.Common.{arith, ◌≡◌, List, ℕ, sym, ap}
+use Rattle.std.proofs.Common.{arith}
 use Rattle.aa_pattern.proofs.Rows.{weight-Choice}
 use Rattle.aa_pattern.proofs.FlagSteps.{weight_at, weight_of_at}
-use Rattle.aa_changed_rules.specs.Codes.{item_code, branches_code}
 use Rattle.aa_changed_rules.proofs.Rows.{choice_code}
 use Rattle.aa_changed_rules.proofs.codes.+codes.Goals as goal
 

@@ -1,10 +1,23 @@
-use Rattle.std.proofs.Common.{Err, ◌≡◌, ℕ, ◌+◌, ap, ◌∙◌, subst}
+use Rattle.std.proofs.Common.{Err, ◌≡◌, ℕ, ◌+◌, ◌<◌, Bool, true, false, sym, ap, ◌∙◌, subst, arith}
+use Rattle.std.specs.Prelude.{if◌then◌else◌}
 use Rattle.std.proofs.lemmas.Result.{IfOk-weaker}
 use Rattle.aa_differences.specs.Differences.{HavePlacesClean}
 use Rattle.aa_command.specs.declared.output.Output.{Output}
-use Rattle.aa_command.specs.Printed.{printed, faults_alone}
+use Rattle.aa_command.specs.Printed.{Printed, printed, faults_alone}
 use Rattle.aa_diff.specs.Command.{states_text, patterns_text, compared, AreCompared, Listed, ManyPatterns, ManyStates}
 use Rattle.aa_diff.proofs.command.compare_all.Goals as goal
+
+-- whether something counts, and whether something isn't told, the status is low
+low : (none told : Bool) → (if none then (if told then 0 else 5) else 4) < 128
+low true true = omega arith
+low true false = omega arith
+low false told = omega arith
+
+pub returns-in-Ok-clause-low : goal.returns-in-Ok-clause-low
+returns-in-Ok-clause-low c =
+    IfOk-weaker c.print_differences.result (λ (out : Output). printed out ≡ compared c.args.options.now c.args.old c.args.new c.in-Ok.found.items)
+    (λ (out : Output). out.status < 128)
+    (λ out is. subst (λ (n : ℕ). n < 128) (sym (ap (λ (p : Printed). p.status) is)) (low _ _)) c.print_differences.ensures
 
 pub returns-in-Ok-clause-compared : goal.returns-in-Ok-clause-compared
 returns-in-Ok-clause-compared c =

@@ -7,5 +7,5 @@ use Rattle.aa_diff.proofs.gathering.raise.Goals as goal
 
 pub returns : goal.returns
 returns c =
-    ap (λ (x : Finding). slice_set c.args.findings.now.items c.args.number x) (c.count_up.ensures ∙ ap counted_up c.index_mut.ensures.value)
-    ∙ changed_set counted_up c.args.findings.now.items c.args.number c.index_mut.result.now c.requires
+    ap (λ (x : Finding). slice_set c.args.findings.now.items c.args.number x) (c.count_up.ensures ∙ ap (counted_up c.args.finding) c.index_mut.ensures.value)
+    ∙ changed_set (counted_up c.args.finding) c.args.findings.now.items c.args.number c.index_mut.result.now c.requires

@@ -1,11 +1,10 @@
-use Rattle.std.proofs.Common.{◌≡◌, ◌++◌}
-use Rattle.std.specs.Prelude.{flat_map}
-use Rattle.aa_diff.specs.Order.{of_rank}
+use Rattle.std.proofs.Common.{◌≡◌}
+use Rattle.std.specs.Prelude.{filter}
+use Rattle.aa_diff.specs.Findings.{is_uncounted, does_count}
 use Rattle.aa_diff.proofs.order.push_ranked.Given as goal
 
 abbrev pub invariant-loop-finding : goal.invariant-loop-finding
 invariant-loop-finding l = record {
-  gains : l.out.items ≡ l.initial.out.items ++ flat_map (of_rank 0) l.yielded;
-  losses : l.losses.items ≡ flat_map (of_rank 1) l.yielded;
-  others : l.others.items ≡ flat_map (of_rank 2) l.yielded;
+  counted : l.counted.items ≡ filter does_count l.yielded;
+  uncounted : l.uncounted.items ≡ filter is_uncounted l.yielded;
 }

@@ -17,5 +17,6 @@ returns c =
       whole = refl;
       accepted = refl;
       known = refl;
+      clean = refl;
     })
     c.diff_files.ensures

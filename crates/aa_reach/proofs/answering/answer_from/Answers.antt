@@ -1,23 +1,65 @@
-use Rattle.std.proofs.Common.{List, map, option_map, refl, ◌∙◌, ap}
-use Rattle.std.specs.Prelude.{flat_map}
+use Rattle.std.proofs.Common.{◌≡◌, List, [], ◌++◌, true, false, map, option_map, sym, ap, ◌∙◌, subst}
+use Rattle.std.specs.Prelude.{flat_map, if◌then◌else◌}
+use Rattle.std.specs.List.{list_all}
+use Rattle.aa_model.specs.declared.request.Request.{Request}
+use Rattle.aa_reachability.specs.declared.trail.Arrival.{Arrival}
 use Rattle.aa_reachability.specs.declared.reached.Untold.{Untold}
-use Rattle.aa_reach.specs.Doubts.{doubted_of}
-use Rattle.aa_reach.specs.Routes.{routed, barred, barred_by}
-use Rattle.aa_reach.proofs.Telling.{routes_told}
+use Rattle.aa_reachability.specs.Clean.{has_clean_step}
+use Rattle.aa_reach.specs.Doubts.{doubted, doubted_but}
+use Rattle.aa_reach.specs.Routes.{routed, barred, LeadThere, all_routes, barred_but, IsSearched}
+use Rattle.aa_reachability.proofs.Cleaning.{untold_clean}
+use Rattle.aa_reach.proofs.Telling.{found_clean}
+use Rattle.aa_reach.proofs.Apart.{told_by, no_more_routes, no_more_bars, no_more_doubts}
 use Rattle.aa_reach.proofs.answering.answer_from.Goals as goal
 
 pub returns : goal.returns
 returns c =
     let b = c.args.beside in
+    let e = b.course.going.as_enforced in
     let ps = b.course.going.policies.now in
-    let found = c.in_ok-found.found in
-    let arrivals = c.as_slice-arrivals.result.now in
+    let sk = b.skipped.now in
+    let counts = c.args.unclean in
+    let from = c.args.from in
+    let targets = option_map (λ ts. ts.now) c.args.targets in
+    let no = c.none_reached-none.ensures in
+    let nothing = c.none_told-others.ensures in
+    let found = c.in_ok-all.all in
+    let told = c.in_ok-told.told in
+    let others = c.none_told-others.result in
+    let a = c.in_ok-answer.answer in
+    let is = c.in_ok-answer.ensures in
+    let are_clean : list_all has_clean_step found.arrivals.items ≡ true =
+    ap (list_all has_clean_step) (sym c.as_slice.ensures.value) ∙ sym c.are_clean.ensures ∙ c.if-not-are_clean.false in
+    let all : IsSearched false e ps sk c.args.limit from = record {
+      arrivals = found.arrivals.items;
+      untold = found.untold.items;
+      are = c.in_ok-all.ensures.found;
+      are_untold = c.in_ok-all.ensures.untold;
+    } in
+    let clean : IsSearched true e ps sk c.args.limit from = record {
+      arrivals = found.arrivals.items;
+      untold = found.untold.items;
+      are = found_clean e ps sk from found.arrivals.items are_clean found.untold.items c.in_ok-all.ensures.found;
+      are_untold = untold_clean ps c.args.limit found.arrivals.items found.untold.items c.in_ok-all.ensures.untold;
+    } in
+    let first : (ways : List (List Request)) → LeadThere e ps from found.arrivals.items ways
+    → map routed told.routes.items ≡ all_routes e ps from targets [] found.arrivals.items ways =
+    subst
+    (λ (xs : List Arrival). (ways : List (List Request)) → LeadThere e ps from found.arrivals.items ways
+    → map routed told.routes.items ≡ all_routes e ps from targets xs found.arrivals.items ways)
+    no.arrivals c.in_ok-told.ensures.routes in
     record {
-      from_is = c.in_ok-from.ensures;
-      doubts = flat_map (doubted_of ps b.skipped.now) arrivals;
-      told = routes_told b c.requires.beside c.args.limit c.args.from (option_map (λ ts. ts.now) c.args.targets) found.arrivals.items
-          arrivals found.untold.items (map routed c.in_ok-routes.routes.items) (map barred c.in_ok-bars.bars.items)
-          (flat_map (doubted_of ps b.skipped.now) arrivals) c.in_ok-found.ensures.arrivals c.in_ok-found.ensures.untold c.as_slice-arrivals.ensures.value
-          c.in_ok-routes.ensures (c.in_ok-bars.ensures ∙ ap (λ (us : List Untold). map (barred_by ps) us) c.as_slice.ensures.value) refl;
-      doubts_are = c.in_ok-doubts.ensures;
+      from_is = is.from;
+      doubts = map doubted told.doubts.items ++ (if counts then map doubted others.doubts.items else []);
+      told = told_by counts e ps sk c.args.limit from targets clean all (map routed told.routes.items) (map routed others.routes.items)
+          (map barred told.bars.items) (map barred others.bars.items) (map doubted told.doubts.items) (map doubted others.doubts.items)
+          (map routed a.routes.items) (map barred a.bars.items) (map routed a.unclean.routes.items) (map barred a.unclean.bars.items)
+          (map doubted a.unclean.doubts.items)
+          first (ap (map routed) nothing.routes ∙ sym (no_more_routes ps e from targets found.arrivals.items all.are.ways))
+          (c.in_ok-told.ensures.bars ∙ ap (λ (us : List Untold). flat_map (barred_but ps us) found.untold.items) no.untold)
+          (ap (map barred) nothing.bars ∙ sym (no_more_bars ps found.untold.items))
+          (c.in_ok-told.ensures.doubts ∙ ap (λ (xs : List Arrival). flat_map (doubted_but ps sk xs) found.arrivals.items) no.arrivals)
+          (ap (map doubted) nothing.doubts ∙ sym (no_more_doubts ps sk found.arrivals.items))
+          is.routes is.bars is.apart is.apart_bars is.apart_doubts;
+      doubts_are = is.doubts;
     }

@@ -8,6 +8,6 @@ pub loop-label-preserved : goal.loop-label-preserved
 loop-label-preserved c =
     let b = c.args.beside in
     let targets = option_map (λ ts. ts.now) c.args.targets in
-    let Is = IsAnswer b.course.going.as_enforced b.course.going.policies.now b.skipped.now c.args.limit targets (texts c.args.sought.now) in
+    let Is = IsAnswer c.args.unclean b.course.going.as_enforced b.course.going.policies.now b.skipped.now c.args.limit targets (texts c.args.sought.now) in
     zipped_next Is c.args.labels.now c.loop-label.label-index _ _ c.loop-label.answers.items c.push.new.self.items c.in_ok-answer_from.field-0
     c.loop-label-test.true refl c.in_ok-push.ensures.items c.in_ok-answer_from.ensures c.loop-label.invariant

@@ -5,4 +5,4 @@ use Rattle.aa_reach.specs.Dot.{edge_line}
 use Rattle.aa_reach.proofs.dot.push_edges.Given as goal
 
 abbrev pub invariant-loop-route : goal.invariant-loop-route
-invariant-loop-route l = l.out.items ≡ l.initial.out.items ++ flat_map (edge_line (name_in l.from)) (map routed (take l.route-index l.routes))
+invariant-loop-route l = l.out.items ≡ l.initial.out.items ++ flat_map (edge_line l.dotted (name_in l.from)) (map routed (take l.route-index l.routes))

@@ -1,25 +1,28 @@
-use Rattle.std.proofs.Common.{map, Err, ap}
-use Rattle.aa_reachability.specs.declared.reached.Why.TheVariants as why
-use Rattle.aa_reach.specs.Routes.{routed, barred}
-use Rattle.aa_reach.proofs.Telling.{edges_told, no_edges_told}
+use Rattle.std.proofs.Common.{List, false, sym, subst}
+use Rattle.aa_reachability.specs.declared.trail.Arrival.{Arrival}
+use Rattle.aa_reach.specs.Routes.{AreFoundNear, IsNearBy}
+use Rattle.aa_reach.proofs.Apart.{why_clean, no_edges_told}
 use Rattle.aa_reach.proofs.graph.edges_by.Goals as goal
 
-pub returns-in_ok-from-in-Ok-clause-edges : goal.returns-in_ok-from-in-Ok-clause-edges
-returns-in_ok-from-in-Ok-clause-edges c =
-    edges_told c.args.beside c.requires.beside c.args.limit c.args.label c.in-Ok.arrivals.items c.as_slice.result.now
-    (map routed c.in_ok-routes-in-Ok.routes.items) (map barred c.new-bars.result.items) c.in-Ok.ensures.near c.in-Ok.ensures.few_patterns
-    c.as_slice.ensures.value c.in_ok-routes-in-Ok.ensures (ap (map barred) c.new-bars.ensures.items)
-
-pub returns-in-Err-TooManyPatterns-clause-edges : goal.returns-in-Err-TooManyPatterns-clause-edges
-returns-in-Err-TooManyPatterns-clause-edges c =
+pub edges_among-requires-clause-found : goal.edges_among-requires-clause-found
+edges_among-requires-clause-found c =
     let b = c.args.beside in
-    no_edges_told b.course.going.as_enforced b.course.going.policies.now b.skipped.now c.args.limit c.args.label why.TooManyPatterns c.no_edges.result
-    (c.in-Err-TooManyPatterns.ensures.many_patterns (ap Err c.in-Err-TooManyPatterns.field-0-is)) c.no_edges.ensures.none c.no_edges.ensures.bars
+    let e = b.course.going.as_enforced in
+    let ps = b.course.going.policies.now in
+    let near = subst (IsNearBy false e ps b.skipped.now c.args.limit c.args.label) c.in-Told.is c.in_ok-all.ensures in
+    subst (λ (xs : List Arrival). AreFoundNear false e ps b.skipped.now c.args.label xs) (sym c.as_slice-found.ensures.value) near.0
 
-pub returns-in-Err-TooManyStates-clause-edges : goal.returns-in-Err-TooManyStates-clause-edges
-returns-in-Err-TooManyStates-clause-edges c =
+pub edges_among-requires-clause-few : goal.edges_among-requires-clause-few
+edges_among-requires-clause-few c =
     let b = c.args.beside in
-    no_edges_told b.course.going.as_enforced b.course.going.policies.now b.skipped.now c.args.limit c.args.label why.TooManyStates
-    c.no_edges-in-Err-TooManyStates.result
-    (c.in-Err-TooManyStates.ensures.many_states (ap Err c.in-Err-TooManyStates.field-0-is)) c.no_edges-in-Err-TooManyStates.ensures.none
-    c.no_edges-in-Err-TooManyStates.ensures.bars
+    let going = b.course.going in
+    (subst (IsNearBy false going.as_enforced going.policies.now b.skipped.now c.args.limit c.args.label) c.in-Told.is c.in_ok-all.ensures).1
+
+pub returns-in-NotTold-clause-edges : goal.returns-in-NotTold-clause-edges
+returns-in-NotTold-clause-edges c =
+    let b = c.args.beside in
+    let e = b.course.going.as_enforced in
+    let ps = b.course.going.policies.now in
+    let near = subst (IsNearBy false e ps b.skipped.now c.args.limit c.args.label) c.in-NotTold.is c.in_ok-all.ensures in
+    no_edges_told c.args.unclean e ps b.skipped.now c.args.limit c.args.label c.in-NotTold.why c.no_edges.result
+    (why_clean ps c.args.limit c.args.label c.in-NotTold.why near) c.no_edges.ensures.none c.no_edges.ensures.apart c.no_edges.ensures.bars

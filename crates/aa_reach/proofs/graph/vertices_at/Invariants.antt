@@ -5,5 +5,5 @@ use Rattle.aa_reach.proofs.graph.vertices_at.Given as goal
 
 abbrev pub invariant-loop-label : goal.invariant-loop-label
 invariant-loop-label l =
-    AllZip (IsVertex l.beside.course.going.as_enforced l.beside.course.going.policies.now l.beside.skipped.now l.limit) (take l.label-index l.labels)
+    AllZip (IsVertex l.unclean l.beside.course.going.as_enforced l.beside.course.going.policies.now l.beside.skipped.now l.limit) (take l.label-index l.labels)
     l.vertices.items

@@ -12,7 +12,7 @@ returns c =
     let b = c.args.beside in
     let e = b.course.going.as_enforced in
     let ps = b.course.going.policies.now in
-    let Is = IsVertex e ps b.skipped.now c.args.limit in
+    let Is = IsVertex c.args.unclean e ps b.skipped.now c.args.limit in
     IfOk-weaker c.vertices_at.result (λ (list : Vec Vertex Global). AllZip Is c.as_slice.result.now list.items)
-    (λ (list : Vec Vertex Global). AreVertices e ps b.skipped.now c.args.limit list.items)
+    (λ (list : Vec Vertex Global). AreVertices c.args.unclean e ps b.skipped.now c.args.limit list.items)
     (λ list are. subst (λ (ls : List Label). AllZip Is ls list.items) (c.as_slice.ensures.value ∙ c.in_ok-labels.ensures) are) c.vertices_at.ensures

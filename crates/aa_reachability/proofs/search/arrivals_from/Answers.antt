@@ -8,4 +8,4 @@ arrivals_beside-requires-clause-openings c = whole_openings c.args.going.policie
 pub returns-clause-arrivals : goal.returns-clause-arrivals
 returns-clause-arrivals c =
     let reached = c.in_ok-reached.reached in
-    whole_arrivals _ refl reached.untold.items c.args.from reached.arrivals.items c.in_ok-reached.ensures.arrivals
+    whole_arrivals _ refl refl reached.untold.items c.args.from reached.arrivals.items c.in_ok-reached.ensures.arrivals

@@ -9,11 +9,12 @@ pub loop-number-init : goal.loop-number-init
 loop-number-init c =
     let trail = c.in_ok-trail.trail in
     let made = c.in_ok-trail.ensures in
+    let course = c.args.course in
     record {
       trail = made.trail;
       level = made.level;
-      followed = first_followed (label_on c.args.course) (IsSureOn c.args.course) c.args.course.going.policies.now c.args.from trail.known.keys c.args.limit trail.arrivals.items c.new-untold.result.items made.trail made.one
-          c.new-untold.ensures.items;
+      followed = first_followed (label_on course) (IsSureOn course) course.only_clean course.going.policies.now c.args.from trail.known.keys c.args.limit
+          trail.arrivals.items c.new-untold.result.items made.trail made.one c.new-untold.ensures.items;
       within = omega (arith, made.one);
     }
 
@@ -26,11 +27,11 @@ pub returns-then-number-len-clause-followed : goal.returns-then-number-len-claus
 returns-then-number-len-clause-followed c =
     let trail = c.loop-number.trail in
     let e : c.loop-number.number ≡ length trail.arrivals.items = omega (arith, c.if-number-len.true, c.len.ensures) in
-    subst (λ n. AreFollowed (label_on c.args.course) (IsSureOn c.args.course) c.args.course.going.policies.now c.args.limit trail.arrivals.items c.loop-number.untold.items n) e c.loop-number.invariant.followed
+    subst (λ n. AreFollowed (label_on c.args.course) (IsSureOn c.args.course) c.args.course.only_clean c.args.course.going.policies.now c.args.limit trail.arrivals.items c.loop-number.untold.items n) e c.loop-number.invariant.followed
 
 pub returns-clause-followed : goal.returns-clause-followed
 returns-clause-followed c =
     let trail = c.loop-number.trail in
     let few = few_arrivals (label_on c.args.course) c.args.from trail.known.keys trail.arrivals.items c.loop-number.invariant.trail in
     let e : c.loop-number.number ≡ length trail.arrivals.items = omega (arith, few, c.loop-number-test.false, c.loop-number.invariant.within) in
-    subst (λ n. AreFollowed (label_on c.args.course) (IsSureOn c.args.course) c.args.course.going.policies.now c.args.limit trail.arrivals.items c.loop-number.untold.items n) e c.loop-number.invariant.followed
+    subst (λ n. AreFollowed (label_on c.args.course) (IsSureOn c.args.course) c.args.course.only_clean c.args.course.going.policies.now c.args.limit trail.arrivals.items c.loop-number.untold.items n) e c.loop-number.invariant.followed

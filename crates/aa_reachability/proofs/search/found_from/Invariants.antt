@@ -7,6 +7,6 @@ abbrev pub invariant-loop-number : goal.invariant-loop-number
 invariant-loop-number l = record {
   trail : IsTrail (label_on l.course) l.from l.trail.known.keys l.trail.arrivals.items;
   level : IsLevel l.trail.arrivals.items l.number;
-  followed : AreFollowed (label_on l.course) (IsSureOn l.course) l.course.going.policies.now l.limit l.trail.arrivals.items l.untold.items l.number;
+  followed : AreFollowed (label_on l.course) (IsSureOn l.course) l.course.only_clean l.course.going.policies.now l.limit l.trail.arrivals.items l.untold.items l.number;
   within : l.number ≤ length l.trail.arrivals.items;
 }

@@ -6,4 +6,4 @@ pub near_beside-requires-clause-openings : goal.near_beside-requires-clause-open
 near_beside-requires-clause-openings c = whole_openings c.args.going.policies.now [] [] refl
 
 pub returns-clause-near : goal.returns-clause-near
-returns-clause-near c = whole_near _ refl c.args.from c.in_ok-near.near.items c.in_ok-near.ensures.near
+returns-clause-near c = whole_near _ refl refl c.args.from c.in_ok-near.near.items c.in_ok-near.ensures.near

@@ -11,10 +11,15 @@ returns-clause-still c = none_again c.args.gone.now.items c.args.number c.requir
 
 pub returns-clause-same : goal.returns-clause-same
 returns-clause-same c = λ e.
-    tables_same c.args.tables.now (marked c.as_slice.result.now) (only c.args.number)
-    (λ n. subst (λ (fs : List Bool). marked fs n ≡ only c.args.number n) (sym c.as_slice.ensures.value) (one_marked c.args.gone.now.items c.args.number c.requires.none c.requires.within n))
-    (rest_goes c.args.tables.now (lists c.args.listed.now) c.args.gone.now.items c.as_slice.result.now c.args.number c.requires.rows (within_lists c.args.listed.now c.args.gone.now.items c.args.number c.requires.many c.requires.within) c.as_slice.ensures.value
-    (none_changes c.args.tables.now c.args.gone.now.items c.requires.none) (c.same_without-goes.ensures.same e))
+    let tables = c.args.tables.now in
+    let was = c.args.gone.now.items in
+    let now = c.as_slice.result.now in
+    let i = c.args.number in
+    tables_same tables (marked now) (only i)
+    (λ n. subst (λ (fs : List Bool). marked fs n ≡ only i n) (sym c.as_slice.ensures.value) (one_marked was i c.requires.none c.requires.within n))
+    (rest_goes tables (lists c.args.listed.now) was now i c.requires.rows
+    (within_lists c.args.listed.now was i c.requires.many c.requires.within) c.as_slice.ensures.value
+    (none_changes tables was c.requires.none) (c.same_without-goes.ensures.same e))
 
 pub returns-clause-differs : goal.returns-clause-differs
 returns-clause-differs c = λ e s.

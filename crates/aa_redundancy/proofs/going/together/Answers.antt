@@ -25,11 +25,16 @@ mark_if_goes-requires c = record {
 pub loop-done-preserved : goal.loop-done-preserved
 loop-done-preserved c =
     let i = c.args.count - 1 - c.loop-done.done in
+    let Same = SameTables c.args.tables.now in
+    let is_wanted = is_free c.args.alone.now c.args.held.now in
+    let was = c.loop-done.gone.items in
+    let now = c.mark_if_goes.new.gone.items in
     let from : c.args.count - c.loop-done.done ≡ i + 1 = omega arith in
     let to : i ≡ c.args.count - (c.loop-done.done + 1) = omega arith in record {
       wide = c.mark_if_goes.ensures.many ∙ c.loop-done.invariant.wide;
-      settled = subst (λ (k : ℕ). AreSettled (SameTables c.args.tables.now) (is_free c.args.alone.now c.args.held.now) c.args.count k c.mark_if_goes.new.gone.items) to
-          (settled_more (SameTables c.args.tables.now) (tables_same c.args.tables.now) (is_free c.args.alone.now c.args.held.now) c.args.count (c.args.count - c.loop-done.done) i c.loop-done.gone.items c.mark_if_goes.new.gone.items from c.loop-done.invariant.settled c.mark_if_goes.ensures);
+      settled = subst (λ (k : ℕ). AreSettled Same is_wanted c.args.count k now) to
+          (settled_more Same (tables_same c.args.tables.now) is_wanted c.args.count (c.args.count - c.loop-done.done) i was now
+          from c.loop-done.invariant.settled c.mark_if_goes.ensures);
     }
 
 pub returns-clause-those : goal.returns-clause-those

@@ -1,4 +1,4 @@
-use Rattle.std.proofs.Common.{◌≡◌, ◌∙◌, ℕ, ◌-◌, List, length, get_or, true, refl, sym, ap, subst, arith}
+use Rattle.std.proofs.Common.{◌≡◌, ◌∙◌, ◌<◌, ℕ, ◌-◌, List, length, get_or, true, refl, sym, ap, subst, arith}
 use Rattle.std.proofs.lemmas.List.{get_or_default}
 use Rattle.aa_redundancy.specs.Reasons.{is_one_of}
 use Rattle.aa_redundancy.specs.Tables.{Equal, TablesRelated}
@@ -28,7 +28,10 @@ loop-done-preserved c =
     let inv = c.loop-done.invariant in
     let many : count ≡ length b.kept.items = ap length c.as_slice-count.ensures.value in
     let h = c.leave_out_kept-left.ensures in
-    let place : c.index-place.result.now ≡ get_or b.kept.items (count - 1 - k) 0 = c.index-place.ensures ∙ get_or_default old.kept.items (count - 1 - k) c.index-place.result.now 0 (omega (arith, c.loop-done-test.true, many, ap length inv.kept)) ∙ ap (λ (ns : List ℕ). get_or ns (count - 1 - k) 0) inv.kept in record {
+    let at = count - 1 - k in
+    let within : at < length old.kept.items = omega (arith, c.loop-done-test.true, many, ap length inv.kept) in
+    let place : c.index-place.result.now ≡ get_or b.kept.items at 0 =
+    c.index-place.ensures ∙ get_or_default old.kept.items at c.index-place.result.now 0 within ∙ ap (λ (ns : List ℕ). get_or ns at 0) inv.kept in record {
       keeps = of_length (length b.gone.items) i old new inv.keeps h.keeps;
       kept = h.kept ∙ inv.kept;
       enough = h.enough;
@@ -40,5 +43,8 @@ pub returns-clause-needed : goal.returns-clause-needed
 returns-clause-needed c = λ e n is.
     let A = TablesRelated Equal c.args.tables.now in
     let b = c.args.beside.now in
-    all_needed A c.args.number b.gone.items b.kept.items (length c.as_slice-count.result.now) c.loop-done.done c.loop-done.some c.loop-done.beside.gone.items (sym (ap length c.as_slice-count.ensures.value)) c.loop-done-test.false c.loop-done.invariant.out e n
+    let count = length c.as_slice-count.result.now in
+    let many = sym (ap length c.as_slice-count.ensures.value) in
+    all_needed A c.args.number b.gone.items b.kept.items count c.loop-done.done c.loop-done.some c.loop-done.beside.gone.items
+    many c.loop-done-test.false c.loop-done.invariant.out e n
     (subst (λ (ns : List ℕ). is_one_of ns n ≡ true) c.loop-done.invariant.kept is)

@@ -8,8 +8,11 @@ use Rattle.aa_redundancy.proofs.saying.choice_by.Goals as goal
 
 pub loop-number-preserved : goal.loop-number-preserved
 loop-number-preserved c =
-    gather_next earlier no_choice earlier_joins (choice_of (gone_by c.args.gone c.args.flags.now) c.args.literal c.args.owned) c.args.marks.now c.args.row.now c.loop-number.number-index c.loop-number.choice _ _ c.loop-number-test.true
+    let chosen = choice_of (gone_by c.args.gone c.args.flags.now) c.args.literal c.args.owned in
+    gather_next earlier no_choice earlier_joins chosen c.args.marks.now c.args.row.now c.loop-number.number-index c.loop-number.choice _ _ c.loop-number-test.true
     (c.earlier-choice.ensures ∙ ap (earlier c.loop-number.choice) c.choice_at.ensures) c.loop-number.invariant
 
 pub returns : goal.returns
-returns c = gather_all earlier no_choice earlier_joins (choice_of (gone_by c.args.gone c.args.flags.now) c.args.literal c.args.owned) c.args.marks.now c.args.row.now c.loop-number.number-index _ _ c.loop-number-test.false c.loop-number.invariant
+returns c =
+    let chosen = choice_of (gone_by c.args.gone c.args.flags.now) c.args.literal c.args.owned in
+    gather_all earlier no_choice earlier_joins chosen c.args.marks.now c.args.row.now c.loop-number.number-index _ _ c.loop-number-test.false c.loop-number.invariant

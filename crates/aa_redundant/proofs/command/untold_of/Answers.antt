@@ -6,10 +6,11 @@ use Rattle.aa_files.specs.Texts.{slices}
 use Rattle.aa_load.specs.UnitPolicy.{limit_of}
 use Rattle.aa_command.specs.declared.output.Output.{Output}
 use Rattle.aa_command.specs.Printed.{printed, faults_alone}
+use Rattle.aa_compile.specs.Labels.{first_profiles}
 use Rattle.aa_redundancy.specs.declared.fault.Excess.{Excess}
 use Rattle.aa_redundancy.specs.declared.fault.PolicyRedundancyFault.{PolicyRedundancyFault}
 use Rattle.aa_redundancy.specs.Faults.{Exceeds, IsRefusal}
-use Rattle.aa_redundant.specs.Command.{first_profiles, untold_line, IsRedundantOf, CantTell}
+use Rattle.aa_redundant.specs.Command.{untold_line, IsRedundantOf, CantTell}
 use Rattle.aa_redundant.proofs.command.untold_of.Goals as goal
 
 fault_of_one : (ps : List Profile) (k limit : ℕ) (e : Excess) (p q : Profile) → slice_get ps k ≡ Some p → slice_get ps k ≡ Some q → Exceeds q limit e → Exceeds p limit e
