@@ -15,7 +15,7 @@ use aa_log::{
     push_word_member,
 };
 use aa_logs::Counts;
-use aa_text::{ListItem, push_key, push_list_in, push_text};
+use aa_text::{ListItem, push_comma, push_list_in, push_next_key, push_text};
 use aa_undecided::push_files_member;
 use std::alloc::{AllocError, Global};
 
@@ -42,7 +42,7 @@ impl<'l> ListItem<&'l [&'l [u8]]> for Open<'_> {
     ) -> Result<(), AllocError> {
         push_text(out, "{")?;
         push_entry_members(out, alloc, *logs, self.entry)?;
-        push_text(out, ",")?;
+        push_comma(out, true)?;
         push_word_member(out, "now", "UNDECIDED")?;
         push_files_member(out, alloc, self.files.as_slice())?;
         push_text(out, "}")
@@ -71,8 +71,7 @@ fn push_opens(
 ) -> Result<(), AllocError>
     ensures { OnOk result (out.new.items ≡ out.old.items ++ json_opens (map (λ log. log.now) logs.now) (map open_data opens.now)) }
 {
-    push_text(out, ",")?;
-    push_key(out, "undecided")?;
+    push_next_key(out, "undecided")?;
     push_open_list(out, alloc, logs, opens)
 }
 

@@ -1,12 +1,11 @@
 //! The rules that decided a request, as they are shown.
 
-ghost use Rattle.std.specs.Prelude.{ℕ, List, ◌≡◌, ◌++◌, map, flat_map, option_map, option_to_list, slice_get, OnOk, IfOk};
-ghost use Rattle.aa_base.specs.Values.{quoted};
+ghost use Rattle.std.specs.Prelude.{◌≡◌, ◌++◌, map, flat_map, option_map, option_to_list, slice_get, OnOk, IfOk};
 ghost use Rattle.aa_explain.specs.Deciders.{reasons};
 ghost use Rattle.aa_ask.specs.Verdicts.{number_in, spots_of};
 ghost use Rattle.aa_ask.specs.Named.{named, lacked, letters_for, named_at, named_by, names_in, names_of, names_at, lacks_in, lacks_of, unit_in, why_here, why_target, named_for, lacked_for};
 
-use aa_base::{Perms, Spot, push_mask};
+use aa_base::{Perms, Spot, push_letters};
 use aa_command::{Decided, PlacedUnit};
 use aa_compile::Compiled;
 use aa_explain::{Decider, Deciders, Listed, ProfilePlaces, deciders_of, target_deciders};
@@ -60,16 +59,6 @@ struct How {
     denies: bool,
 }
 
-/// What stands between a text's quotes.
-fn unquoted(text: &[u8]) -> &[u8]
-    ensures { (inner : List ℕ) → text.now ≡ quoted inner → result.now ≡ inner }
-{
-    match text {
-        [_, inner @ .., _] => inner,
-        _ => &[],
-    }
-}
-
 /// The letters of permissions, where a file is asked for.
 fn letters_of(alloc: Global, listed: Listed, perms: Perms) -> Result<Vec<u8>, AllocError>
     ensures { IfOk result (λ text. text.items ≡ letters_for listed perms.0) }
@@ -77,9 +66,9 @@ fn letters_of(alloc: Global, listed: Listed, perms: Perms) -> Result<Vec<u8>, Al
     if listed != Listed::Files {
         return Ok(Vec::new(alloc));
     }
-    let mut text = String::new(alloc);
-    push_mask(&mut text, perms)?;
-    Vec::from_slice(alloc, unquoted(text.as_bytes()))
+    let mut text = Vec::new(alloc);
+    push_letters(&mut text, perms)?;
+    Ok(text)
 }
 
 /// Where the rule of that number in that list stands.

@@ -10,8 +10,8 @@ ghost use Rattle.aa_ask.specs.Json.{decider_end, deciders_key, json_each, json_d
 use crate::explained::{DeciderLine, Lack};
 use crate::verdict::Verdict;
 use aa_text::{
-    ListItem, ToJson, push_json_bytes, push_json_place, push_key, push_list, push_list_in,
-    push_member, push_text,
+    ListItem, ToJson, push_comma, push_json_bytes, push_json_place, push_key, push_list,
+    push_list_in, push_member, push_next_key, push_text,
 };
 use std::alloc::{AllocError, Global};
 
@@ -76,7 +76,7 @@ fn push_json_deciders(
 ) -> Result<(), AllocError>
     ensures { OnOk result (out.new.items ≡ out.old.items ++ json_deciders denies (map named lines.now)) }
 {
-    push_text(out, ",")?;
+    push_comma(out, true)?;
     push_deciders_key(out, denies)?;
     push_json_each(out, alloc, lines, denies)
 }
@@ -169,7 +169,7 @@ fn push_json_lacking(
 ) -> Result<(), AllocError>
     ensures { OnOk result (out.new.items ≡ out.old.items ++ json_lacking is_target (map lacked lacking.now)) }
 {
-    push_text(out, ",")?;
+    push_comma(out, true)?;
     push_lacking_key(out, is_target)?;
     push_json_letters(out, alloc, lack_at(lacking, is_target))
 }
@@ -193,8 +193,7 @@ fn push_target_lacking(
 fn push_missing(out: &mut Vec<u8>, what: &str) -> Result<(), AllocError>
     ensures { OnOk result (out.new.items ≡ out.old.items ++ (codes "," ++ (key_text (codes "missing") ++ (codes "\"" ++ (what.now ++ codes "\""))))) }
 {
-    push_text(out, ",")?;
-    push_key(out, "missing")?;
+    push_next_key(out, "missing")?;
     push_text(out, "\"")?;
     push_text(out, what)?;
     push_text(out, "\"")
@@ -225,8 +224,7 @@ fn push_request(out: &mut Vec<u8>, alloc: Global, word: &[u8]) -> Result<(), All
 fn push_no_asker(out: &mut Vec<u8>) -> Result<(), AllocError>
     ensures { OnOk result (out.new.items ≡ out.old.items ++ member_text (codes "profile") (codes "null")) }
 {
-    push_text(out, ",")?;
-    push_key(out, "profile")?;
+    push_next_key(out, "profile")?;
     push_text(out, "null")
 }
 

@@ -22,7 +22,7 @@ pub use json::push_json_verdicts;
 pub use naming::{count_of, profiles_named};
 pub use reason_laws::reasons_tell_answers;
 pub use refused::{many_refused, words_refused};
-pub use shown::{push_reasons, push_verdict, push_verdicts};
+pub use shown::{push_behind_space, push_reasons, push_verdict, push_verdicts};
 pub use unattached::opening_warning;
 pub use verdict::{Verdict, decide, is_same};
 pub use words::{MAX_WORDS, push_words};

@@ -33,7 +33,7 @@ fn push_verb(out: &mut Vec<u8>, denies: bool) -> Result<(), AllocError>
 }
 
 /// Appends a space and letters, where there are some.
-fn push_letters(out: &mut Vec<u8>, letters: &[u8]) -> Result<(), AllocError>
+pub fn push_behind_space(out: &mut Vec<u8>, letters: &[u8]) -> Result<(), AllocError>
     ensures { OnOk result (out.new.items ≡ out.old.items ++ behind_space letters.now) }
 {
     if letters.is_empty() {
@@ -57,7 +57,7 @@ fn push_decider_place(out: &mut Vec<u8>, line: &DeciderLine) -> Result<(), Alloc
 fn push_rule(out: &mut Vec<u8>, letters: &[u8], text: &[u8]) -> Result<(), AllocError>
     ensures { OnOk result (out.new.items ≡ out.old.items ++ (behind_space letters.now ++ (codes ": " ++ (all_visible text.now ++ codes "\n")))) }
 {
-    push_letters(out, letters)?;
+    push_behind_space(out, letters)?;
     push_text(out, ": ")?;
     push_visible(out, text)?;
     push_text(out, "\n")

@@ -4,7 +4,6 @@ ghost use Rattle.std.specs.Prelude.{◌≡◌, ◌++◌, codes, map, flat_map, O
 ghost use Rattle.aa_text.specs.Texts.{where_text};
 ghost use Rattle.aa_text.specs.Faults.{where_if};
 ghost use Rattle.aa_ask.specs.Named.{named};
-ghost use Rattle.aa_ask.specs.Shown.{behind_space};
 ghost use Rattle.aa_undecided.specs.Answers.{placed_data, placed_all};
 ghost use Rattle.aa_assert.specs.Findings.{found};
 ghost use Rattle.aa_assert.specs.Answers.{answered};
@@ -16,7 +15,7 @@ use crate::finding::Finding;
 use crate::kind::{Kind, kind_name};
 use crate::outcomes::{Outcome, all_outcomes};
 use crate::shown::push_by_line;
-use aa_ask::DeciderLine;
+use aa_ask::{DeciderLine, push_behind_space};
 use aa_text::{PlaceAt, push_text, push_visible, push_where};
 use aa_undecided::SkippedAt;
 use std::alloc::{AllocError, Global};
@@ -38,24 +37,13 @@ fn push_verb(out: &mut Vec<u8>, denies: bool) -> Result<(), AllocError>
     push_text(out, if denies { "denies" } else { "allows" })
 }
 
-/// Appends a space and letters, where there are some.
-fn push_letters(out: &mut Vec<u8>, letters: &[u8]) -> Result<(), AllocError>
-    ensures { OnOk result (out.new.items ≡ out.old.items ++ behind_space letters.now) }
-{
-    if letters.is_empty() {
-        return Ok(());
-    }
-    push_text(out, " ")?;
-    out.extend_from_slice(letters)
-}
-
 /// Appends what a rule did: `allows LETTERS: RULE`.
 #[tactic(auto, unfolding(crate::specs::Gcc::rule_note))]
 pub(crate) fn push_rule_note(out: &mut Vec<u8>, line: &DeciderLine) -> Result<(), AllocError>
     ensures { OnOk result (out.new.items ≡ out.old.items ++ rule_note (named line.now)) }
 {
     push_verb(out, line.denies)?;
-    push_letters(out, line.letters.as_slice())?;
+    push_behind_space(out, line.letters.as_slice())?;
     push_text(out, ": ")?;
     push_visible(out, line.text.as_slice())
 }

@@ -17,8 +17,8 @@ use crate::unclean::push_apart_member;
 use crate::way::Way;
 use aa_ask::Verdict;
 use aa_text::{
-    ToJson, push_json_bytes, push_key, push_list, push_list_member, push_member, push_number,
-    push_text,
+    ToJson, push_json_bytes, push_key, push_list, push_list_member, push_member, push_next_key,
+    push_number, push_text,
 };
 use aa_undecided::{SkippedAt, push_files_member};
 use aa_who::push_untold_member;
@@ -85,8 +85,7 @@ fn push_words(out: &mut Vec<u8>, alloc: Global, words: &[Vec<u8>]) -> Result<(),
 fn push_to(out: &mut Vec<u8>, alloc: Global, to: Option<&[u8]>) -> Result<(), AllocError>
     ensures { OnOk result (out.new.items ≡ out.old.items ++ member_text (codes "reaches") (json_asker (option_map (λ n. n.now) to.entry))) }
 {
-    push_text(out, ",")?;
-    push_key(out, "reaches")?;
+    push_next_key(out, "reaches")?;
     push_asker(out, alloc, to)
 }
 

@@ -1,6 +1,6 @@
 -- The sets that were found make an automaton.
-use Rattle.std.proofs.Common.{◌≡◌, ℕ, ◌+◌, ◌*◌, ◌<◌, ◌≤◌, List, [], ◌∷◌, ◌++◌, length, get_or, drop, drop-cons, suc, refl, sym, ap, ◌∙◌, subst, arith, append_assoc}
-use Rattle.std.proofs.lemmas.List.{append-nil, get_or_default}
+use Rattle.std.proofs.Common.{◌≡◌, ℕ, ◌+◌, ◌*◌, ◌<◌, ◌≤◌, List, [], ◌∷◌, ◌++◌, length, map, get_or, drop, drop-cons, suc, refl, sym, ap, ◌∙◌, subst, arith, append_assoc}
+use Rattle.std.proofs.lemmas.List.{append-nil, get_or-map, get_or_default}
 use Rattle.std.proofs.lemmas.List.Elements.{All-head, All-tail}
 use Rattle.aa_pattern.specs.Limits.{most_states}
 use Rattle.aa_auto.specs.declared.net.Net.{Net}
@@ -145,3 +145,16 @@ row_on t text k row class next is lt few within of_byte of_cell before =
     let step : row_after t next (drop (k + 1) text) ≡ row_after t row (drop k text) =
     ap (λ n. row_after t n (drop (k + 1) text)) (next_is ∙ ap (λ c. get_or t.cells (t.width * row + c) 0) class_is) ∙ sym (ap (row_after t row) cut) in
     (step ∙ before, subst (λ n. n < rows_of t) (sym next_is) (is.within row class within small))
+
+-- the cell of a row at a byte stands among the cells
+pub cell_at : (t : Table) (row byte class : ℕ) → IsTable t → row < rows_of t → byte < 256 → class ≡ get_or t.classes byte class →
+    t.width * row + class < length t.cells
+cell_at t row byte class is lt few e =
+    let class_is : class ≡ get_or t.classes byte 0 = e ∙ get_or_default t.classes byte class 0 (omega (arith, is.bytes, few)) in
+    let small : class < t.width = subst (λ n. n < t.width) (sym class_is) (is.classed byte few) in
+    subst (λ n. t.width * row + class < n) (sym is.whole) (cell_below t.width row (rows_of t) class lt small)
+
+-- what is kept of a number stands where the number does
+pub number_at : {A : Type 0} (number : A → ℕ) (kept : List A) (numbers : List ℕ) (k : ℕ) (x : A) → map number kept ≡ numbers →
+    k < length kept → x ≡ get_or kept k x → number x ≡ get_or numbers k (number x)
+number_at number kept numbers k x e lt at = ap number at ∙ sym (get_or-map number kept k x (number x) lt) ∙ ap (λ l. get_or l k (number x)) e

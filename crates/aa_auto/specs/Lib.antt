@@ -13,6 +13,7 @@ pub mod Merged
 pub mod Nets
 pub mod Nodes
 pub mod Noted
+pub mod Numbers
 pub mod Pairs
 pub mod Positions
 pub mod Sorted

@@ -13,6 +13,7 @@ ghost use Rattle.aa_auto.specs.Tables.{IsAutomaton, IsTable, BytesLeadAlike, Has
 use crate::build::{BuildFault, Found, explore};
 use crate::classes::Classes;
 use crate::net::{Net, net_of};
+use crate::numbers::{Kept, Numbers, Width};
 use aa_pattern::Pattern;
 use std::alloc::Global;
 use std::marker::Model;
@@ -20,7 +21,8 @@ use std::marker::Model;
 /// A deterministic automaton that says which patterns match a text.
 // Contracts see a record of plain lists (`Table`). Callers cite what `IsAutomaton` says of it, and don't rest on the order of
 // classes, rows or lists. A million rows may have five different lists, each of them some text's, so what callers answer is
-// made once for each list. Rows aren't minimized: each is one set of places.
+// made once for each list. Rows aren't minimized: each is one set of places. A cell takes one byte where there are at most 256
+// rows, and two where there are at most 65,536: thousands of automata are kept at a time.
 #[derive(Drop)]
 pub struct Automaton {
     /// The class of each byte.
@@ -28,9 +30,9 @@ pub struct Automaton {
     /// How many classes there are.
     width: usize,
     /// The row after a byte of each class, row by row.
-    cells: Vec<u32>,
+    cells: Numbers,
     /// Of each row, the number of its list.
-    listed: Vec<u32>,
+    listed: Numbers,
     /// Lists of the patterns that match where a text leads to a row; rows with equal ones share it.
     lists: Vec<Vec<u16>>,
 }
@@ -41,9 +43,9 @@ impl Model for Automaton {
 
     ghost Value = { Table };
 
-    ghost view = { λ a. record { classes = a.classes.items; width = a.width; cells = a.cells.items; listed = a.listed.items; lists = map (λ v. v.items) a.lists.items } };
+    ghost view = { λ a. record { classes = a.classes.items; width = a.width; cells = a.cells; listed = a.listed; lists = map (λ v. v.items) a.lists.items } };
 
-    ghost invariant = { λ a. IsTable (record { classes = a.classes.items; width = a.width; cells = a.cells.items; listed = a.listed.items; lists = map (λ v. v.items) a.lists.items }) };
+    ghost invariant = { λ a. IsTable (record { classes = a.classes.items; width = a.width; cells = a.cells; listed = a.listed; lists = map (λ v. v.items) a.lists.items }) };
 }
 
 impl Automaton {
@@ -110,11 +112,11 @@ impl Automaton {
         net: &Net,
         classes: Classes,
         found: Found,
-        mut cells: Vec<u32>,
+        mut cells: Numbers,
     ) -> Result<Automaton, BuildFault>
         requires net { IsNetOf net.now }
         requires classes { AreClassesOf (patterns_of net.now) classes.of.items classes.bytes.items }
-        requires explored { IsExplored net.now found.sets classes.bytes.items cells.items found.lists }
+        requires explored { IsExplored net.now found.sets classes.bytes.items cells found.lists }
         requires few { length found.sets ≤ most_states }
         ensures automaton { IfOk result (IsAutomaton (patterns_of net.now)) }
         ensures bytes { IfOk result (TellsBytes (patterns_of net.now)) }
@@ -145,12 +147,12 @@ impl Automaton {
     pub(crate) fn of_tables(
         classes: Vec<u8>,
         width: usize,
-        cells: Vec<u32>,
-        listed: Vec<u32>,
+        cells: Numbers,
+        listed: Numbers,
         lists: Vec<Vec<u16>>,
     ) -> Automaton
-        requires { IsTable (record { classes = classes.items; width = width; cells = cells.items; listed = listed.items; lists = map (λ v. v.items) lists.items }) }
-        ensures { result ≡ record { classes = classes.items; width = width; cells = cells.items; listed = listed.items; lists = map (λ v. v.items) lists.items } }
+        requires { IsTable (record { classes = classes.items; width = width; cells = cells; listed = listed; lists = map (λ v. v.items) lists.items }) }
+        ensures { result ≡ record { classes = classes.items; width = width; cells = cells; listed = listed; lists = map (λ v. v.items) lists.items } }
     {
         Automaton {
             classes,
@@ -173,10 +175,23 @@ impl Automaton {
         ensures place { result ≡ place_of self.now text.now }
         ensures within { result < rows_of self.now }
     {
+        match self.cells.kept() {
+            Kept::One(cells) => self.walk(cells.as_slice(), text),
+            Kept::Two(cells) => self.walk(cells.as_slice(), text),
+            Kept::Four(cells) => self.walk(cells.as_slice(), text),
+        }
+    }
+
+    /// The same by the cells as they are kept: by how many bytes each takes is asked once, and not at each byte of the text.
+    fn walk<W: Width>(&self, cells: &[W], text: &[u8]) -> usize
+        requires { map W.number cells.now ≡ self.now.cells }
+        ensures place { result ≡ place_of self.now text.now }
+        ensures within { result < rows_of self.now }
+    {
         let mut row = 0;
         for byte in text {
-            let class = self.classes[*byte as usize] as usize;
-            row = self.cells[self.width * row + class] as usize;
+            let at = self.width * row + self.classes[*byte as usize] as usize;
+            row = cells[at].number() as usize;
         }
         row
     }
@@ -196,7 +211,8 @@ impl Automaton {
         ensures next { result ≡ row_after self.now row (byte ∷ []) }
         ensures within { result < rows_of self.now }
     {
-        self.cells[self.width * row + self.class_of(byte)]
+        let at = self.width * row + self.class_of(byte);
+        self.cells.get(at)
     }
 
     /// The class of the byte. Bytes of one class lead from each row to the same one.
@@ -230,7 +246,7 @@ impl Automaton {
         ensures number { result ≡ list_number self.now row }
         ensures within { result < length self.now.lists }
     {
-        self.listed[row]
+        self.listed.get(row)
     }
 
     /// How many different lists `matching` gives.

@@ -12,6 +12,7 @@ ghost use Rattle.aa_auto.specs.Tables.{HasPlaces};
 use crate::lists::Lists;
 use crate::net::{Net, Scratch};
 use crate::noted::Noted;
+use crate::numbers::Numbers;
 use crate::sets::Sets;
 use std::alloc::{AllocError, AllocFailed, Global};
 use thiserror::Error;
@@ -199,7 +200,7 @@ fn fill_row(
     row: usize,
     noted: &mut Noted,
     found: &mut Found,
-    cells: &mut Vec<u32>,
+    cells: &mut Numbers,
 ) -> Result<(), BuildFault>
     requires net { IsNetOf net.now }
     requires reached { AreReached net.now found.old.sets }
@@ -207,13 +208,13 @@ fn fill_row(
     requires row { row < length found.old.sets }
     requires few { length found.old.sets ≤ limit }
     requires limit { limit ≤ most_states }
-    requires filled { AreFilled net.now found.old.sets bytes.now cells.old.items }
-    requires cells { length cells.old.items ≡ length bytes.now * row }
+    requires filled { AreFilled net.now found.old.sets bytes.now cells.old }
+    requires cells { length cells.old ≡ length bytes.now * row }
     requires noted { length noted.old.named.items ≡ 256 }
     ensures reached { OnOk result (AreReached net.now found.new.sets) }
     ensures listed { OnOk result (AreListed net.now found.new.sets found.new.lists) }
-    ensures filled { OnOk result (AreFilled net.now found.new.sets bytes.now cells.new.items) }
-    ensures cells { OnOk result (length cells.new.items ≡ length bytes.now * (row + 1)) }
+    ensures filled { OnOk result (AreFilled net.now found.new.sets bytes.now cells.new) }
+    ensures cells { OnOk result (length cells.new ≡ length bytes.now * (row + 1)) }
     ensures row { OnOk result (row < length found.new.sets) }
     ensures noted { OnOk result (length noted.new.named.items ≡ 256) }
     ensures few { OnOk result (length found.new.sets ≤ limit) }
@@ -223,7 +224,7 @@ fn fill_row(
     note_row(net, row, &found.sets, noted)?;
     for byte in bytes {
         let next = cell_of(alloc, net, limit, row, *byte, usual, noted, found)?;
-        cells.push(next as u32)?;
+        cells.push(alloc, next as u32)?;
     }
     Ok(())
 }
@@ -235,18 +236,18 @@ fn fill_rows(
     bytes: &[u8],
     limit: usize,
     found: &mut Found,
-) -> Result<Vec<u32>, BuildFault>
+) -> Result<Numbers, BuildFault>
     requires net { IsNetOf net.now }
     requires some { 0 < limit }
     requires limit { limit ≤ most_states }
     requires reached { AreReached net.now found.old.sets }
     requires listed { AreListed net.now found.old.sets found.old.lists }
     requires few { length found.old.sets ≤ limit }
-    ensures explored { IfOk result (λ cells. IsExplored net.now found.new.sets bytes.now cells.items found.new.lists) }
+    ensures explored { IfOk result (λ cells. IsExplored net.now found.new.sets bytes.now cells found.new.lists) }
     ensures few { OnOk result (length found.new.sets ≤ limit) }
     ensures too_many { result ≡ Err BuildFault.TooManyStates → HasPlaces (patterns_of net.now) (limit + 1) }
 {
-    let mut cells = Vec::new(alloc);
+    let mut cells = Numbers::new(alloc);
     let mut noted = Noted::new(alloc)?;
     for row in 0..limit {
         if row == found.sets.len() {
@@ -263,11 +264,11 @@ pub(crate) fn explore(
     net: &Net,
     bytes: &[u8],
     limit: usize,
-) -> Result<(Found, Vec<u32>), BuildFault>
+) -> Result<(Found, Numbers), BuildFault>
     requires net { IsNetOf net.now }
     requires some { 0 < limit }
     requires limit { limit ≤ most_states }
-    ensures explored { IfOk result (λ r. IsExplored net.now r.0.sets bytes.now r.1.items r.0.lists) }
+    ensures explored { IfOk result (λ r. IsExplored net.now r.0.sets bytes.now r.1 r.0.lists) }
     ensures few { IfOk result (λ r. length r.0.sets ≤ limit) }
     ensures too_many { result ≡ Err BuildFault.TooManyStates → HasPlaces (patterns_of net.now) (limit + 1) }
 {

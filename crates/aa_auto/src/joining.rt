@@ -6,6 +6,7 @@ ghost use Rattle.aa_auto.specs.Pairs.{joined, list_of_pair, list_pair, AreListPa
 
 use crate::automaton::Automaton;
 use crate::keys::Keys;
+use crate::numbers::Numbers;
 use crate::pairs::{first, pair, second};
 use std::alloc::{AllocError, Global};
 
@@ -23,17 +24,18 @@ pub(crate) fn list_pairs(
     one: &Automaton,
     other: &Automaton,
     keys: &[u64],
-) -> Result<(Keys, Vec<u32>), AllocError>
+) -> Result<(Keys, Numbers), AllocError>
     requires pairs { ArePairsIn one.now other.now keys.now }
     requires few { length keys.now ≤ most_states }
-    ensures { IfOk result (λ r. AreListPairs one.now other.now keys.now (length keys.now) r.0 r.1.items) }
+    ensures { IfOk result (λ r. AreListPairs one.now other.now keys.now (length keys.now) r.0 r.1) }
 {
     let mut numbers = Keys::new(alloc);
-    let mut listed = Vec::with_capacity(alloc, keys.len())?;
+    let mut listed = Numbers::new(alloc);
     for key in keys {
         let number = numbers.add(list_pair(one, other, *key))?;
-        listed.push(number as u32)?;
+        listed.push(alloc, number as u32)?;
     }
+    listed.shrink_to_fit();
     Ok((numbers, listed))
 }
 

@@ -16,6 +16,7 @@ mod moves;
 mod net;
 mod nodes;
 mod noted;
+mod numbers;
 mod pairs;
 mod positions;
 mod sets;

@@ -4,6 +4,7 @@ ghost use Rattle.std.specs.Prelude.{◌≡◌, ◌<◌, ◌++◌, ◌∷◌, [],
 ghost use Rattle.aa_auto.specs.Apart.{IsApart};
 ghost use Rattle.aa_auto.specs.Listed.{AddsRow, IsListing};
 
+use crate::numbers::Numbers;
 use indexmap::IndexSet;
 use std::alloc::{AllocError, Global};
 use std::marker::Model;
@@ -14,7 +15,7 @@ use std::marker::Model;
 #[derive(Drop)]
 pub(crate) struct Lists {
     keys: IndexSet<Vec<u16>>,
-    listed: Vec<u32>,
+    listed: Numbers,
 }
 
 impl Model for Lists {
@@ -23,7 +24,7 @@ impl Model for Lists {
 
     ghost Value = { Listing };
 
-    ghost view = { λ l. record { lists = map (λ v. v.items) l.keys.keys; listed = l.listed.items } };
+    ghost view = { λ l. record { lists = map (λ v. v.items) l.keys.keys; listed = l.listed } };
 }
 
 impl Lists {
@@ -32,7 +33,7 @@ impl Lists {
     {
         Lists {
             keys: IndexSet::new(alloc),
-            listed: Vec::new(alloc),
+            listed: Numbers::new(alloc),
         }
     }
 
@@ -59,14 +60,14 @@ impl Lists {
         ensures { OnOk result (AddsRow self.old self.new numbers.now) }
     {
         let (number, _) = self.insert(alloc, numbers)?;
-        self.listed.push(number as u32)?;
+        self.listed.push(alloc, number as u32)?;
         Ok(())
     }
 
     /// The lists, and of each row the number of its list, without spare room.
-    pub(crate) fn into_parts(self, alloc: Global) -> Result<(Vec<Vec<u16>>, Vec<u32>), AllocError>
+    pub(crate) fn into_parts(self, alloc: Global) -> Result<(Vec<Vec<u16>>, Numbers), AllocError>
         ensures lists { IfOk result (λ r. map (λ v. v.items) r.0.items ≡ self.lists) }
-        ensures listed { IfOk result (λ r. r.1.items ≡ self.listed) }
+        ensures listed { IfOk result (λ r. r.1 ≡ self.listed) }
     {
         let Lists { keys, mut listed } = self;
         let mut lists = Vec::with_capacity(alloc, keys.len())?;

@@ -7,6 +7,7 @@ ghost use Rattle.aa_auto.specs.Pairs.{pair, first, second, settled, pair_after, 
 use crate::automaton::Automaton;
 use crate::build::BuildFault;
 use crate::keys::Keys;
+use crate::numbers::Numbers;
 use std::alloc::{AllocError, Global};
 
 /// What tells the pairs of numbers apart.
@@ -159,6 +160,7 @@ fn cell_of(
 
 /// Adds the cells of a row, one for each class of bytes.
 fn fill_row(
+    alloc: Global,
     one: &Automaton,
     other: &Automaton,
     dead: Option<u32>,
@@ -166,18 +168,18 @@ fn fill_row(
     limit: usize,
     row: usize,
     keys: &mut Keys,
-    cells: &mut Vec<u32>,
+    cells: &mut Numbers,
 ) -> Result<(), BuildFault>
     requires sides { AreSides dead one.now other.now }
     requires met { AreMet dead one.now other.now keys.old }
     requires row { row < length keys.old }
     requires few { length keys.old ≤ limit }
     requires limit { limit ≤ most_states }
-    requires filled { AreCells dead one.now other.now keys.old bytes.now cells.old.items }
-    requires cells { length cells.old.items ≡ length bytes.now * row }
+    requires filled { AreCells dead one.now other.now keys.old bytes.now cells.old }
+    requires cells { length cells.old ≡ length bytes.now * row }
     ensures met { OnOk result (AreMet dead one.now other.now keys.new) }
-    ensures filled { OnOk result (AreCells dead one.now other.now keys.new bytes.now cells.new.items) }
-    ensures cells { OnOk result (length cells.new.items ≡ length bytes.now * (row + 1)) }
+    ensures filled { OnOk result (AreCells dead one.now other.now keys.new bytes.now cells.new) }
+    ensures cells { OnOk result (length cells.new ≡ length bytes.now * (row + 1)) }
     ensures row { OnOk result (row < length keys.new) }
     ensures few { OnOk result (length keys.new ≤ limit) }
     ensures too_many { result ≡ Err BuildFault.TooManyStates → HasPairs dead one.now other.now (limit + 1) }
@@ -189,7 +191,7 @@ fn fill_row(
         let next = cell_of(
             one, other, dead, limit, row, *byte, key, usual, number, keys,
         )?;
-        cells.push(next as u32)?;
+        cells.push(alloc, next as u32)?;
     }
     Ok(())
 }
@@ -203,22 +205,22 @@ fn fill_rows(
     bytes: &[u8],
     limit: usize,
     keys: &mut Keys,
-) -> Result<Vec<u32>, BuildFault>
+) -> Result<Numbers, BuildFault>
     requires some { 0 < limit }
     requires limit { limit ≤ most_states }
     requires sides { AreSides dead one.now other.now }
     requires met { AreMet dead one.now other.now keys.old }
     requires few { length keys.old ≤ limit }
-    ensures pairs { IfOk result (λ cells. ArePairs dead one.now other.now keys.new bytes.now cells.items) }
+    ensures pairs { IfOk result (λ cells. ArePairs dead one.now other.now keys.new bytes.now cells) }
     ensures few { OnOk result (length keys.new ≤ limit) }
     ensures too_many { result ≡ Err BuildFault.TooManyStates → HasPairs dead one.now other.now (limit + 1) }
 {
-    let mut cells = Vec::new(alloc);
+    let mut cells = Numbers::new(alloc);
     for row in 0..limit {
         if row == keys.len() {
             return Ok(cells);
         }
-        fill_row(one, other, dead, bytes, limit, row, keys, &mut cells)?;
+        fill_row(alloc, one, other, dead, bytes, limit, row, keys, &mut cells)?;
     }
     Ok(cells)
 }
@@ -231,11 +233,11 @@ pub(crate) fn pairs_of(
     dead: Option<u32>,
     bytes: &[u8],
     limit: usize,
-) -> Result<(Keys, Vec<u32>), BuildFault>
+) -> Result<(Keys, Numbers), BuildFault>
     requires some { 0 < limit }
     requires limit { limit ≤ most_states }
     requires sides { AreSides dead one.now other.now }
-    ensures pairs { IfOk result (λ r. ArePairs dead one.now other.now r.0 bytes.now r.1.items) }
+    ensures pairs { IfOk result (λ r. ArePairs dead one.now other.now r.0 bytes.now r.1) }
     ensures few { IfOk result (λ r. length r.0 ≤ limit) }
     ensures too_many { result ≡ Err BuildFault.TooManyStates → HasPairs dead one.now other.now (limit + 1) }
 {

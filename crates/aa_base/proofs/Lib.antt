@@ -1,3 +1,4 @@
 mod Entries
+pub mod Digits
 pub mod FirstNumbers
 pub mod Shown

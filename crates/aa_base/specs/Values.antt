@@ -1,19 +1,12 @@
 -- How names and sets of permissions are written in a line.
 -- Source: apparmor.d(5), "Access Modes"; own.
-use Rattle.std.specs.Prelude.{ℕ, ◌+◌, ◌-◌, ◌/◌, ◌%◌, List, [], ◌∷◌, ◌++◌, Bool, not, ◌==◌, ◌&&◌, nat_le, nat_lt, if◌then◌else◌, flat_map, bit_and}
+use Rattle.std.specs.Prelude.{ℕ, List, [], ◌∷◌, ◌++◌, Bool, not, ◌==◌, ◌&&◌, nat_le, if◌then◌else◌, flat_map, bit_and}
 use Rattle.std.specs.List.{list_all}
+use Rattle.aa_base.specs.Hex.{hex_pair}
 
 -- a byte that stands for itself between quotes: ! to ~ without the quote
 abbrev pub is_shown : ℕ → Bool
 is_shown b = nat_le 33 b && nat_le b 126 && not (b == 34)
-
--- 0 to 9, A to F
-abbrev pub hex_digit : ℕ → ℕ
-hex_digit n = if nat_lt n 10 then 48 + n else 65 + (n - 10)
-
--- a byte as two hexadecimal digits
-abbrev pub hex_pair : ℕ → List ℕ
-hex_pair b = hex_digit (b / 16) ∷ hex_digit (b % 16) ∷ []
 
 -- a text between quotes
 unfoldable pub quoted : List ℕ → List ℕ

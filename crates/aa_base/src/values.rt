@@ -1,11 +1,12 @@
 //! How names and sets of permissions are written in a line.
 
-ghost use Rattle.std.specs.Prelude.{◌≡◌, ◌<◌, ◌++◌, [], ◌∷◌, ◌==◌, bit_and, flat_map, if◌then◌else◌, OnOk, IfSome, IsNone, ◌↔◌, false, true};
-ghost use Rattle.std.specs.String.{string_bytes};
+ghost use Rattle.std.specs.Prelude.{◌≡◌, ◌<◌, ◌++◌, [], ◌∷◌, ◌==◌, bit_and, if◌then◌else◌, OnOk, IfSome, IsNone, false, true};
 ghost use Rattle.std.specs.List.{list_all};
-ghost use Rattle.aa_base.specs.Values.{is_shown, hex_digit, hex_pair, quoted, value, letter, letters, mask};
+ghost use Rattle.aa_base.specs.Values.{is_shown, quoted, value, letter, letters, mask};
 
+use crate::hex::push_hex;
 use crate::perms::Perms;
+use crate::sink::Sink;
 use bitflags::Flags;
 use std::alloc::AllocError;
 
@@ -29,39 +30,21 @@ pub fn plain_text(bytes: &[u8]) -> Option<&str>
     }
 }
 
-fn digit(n: u8) -> char
-    requires { n < 16 }
-    ensures value { result ≡ hex_digit n }
-    ensures ascii { result < 128 }
-{
-    char::from(if n < 10 { b'0' + n } else { b'A' + (n - 10) })
-}
-
-fn push_hex(out: &mut String, bytes: &[u8]) -> Result<(), AllocError>
-    ensures { OnOk result (string_bytes out.new ≡ string_bytes out.old ++ flat_map hex_pair bytes.now) }
-{
-    for b in bytes {
-        out.push(digit(*b / 16))?;
-        out.push(digit(*b % 16))?;
-    }
-    Ok(())
-}
-
 /// Appends a text between quotes. After an error `out` has a part of it, and is to be thrown away.
 #[tactic(auto, unfolding(crate::specs::Values::quoted))]
-pub fn push_quoted(out: &mut String, text: &str) -> Result<(), AllocError>
-    ensures { OnOk result (string_bytes out.new ≡ string_bytes out.old ++ quoted text.now) }
+pub fn push_quoted<S: Sink>(out: &mut S, text: &str) -> Result<(), AllocError>
+    ensures { OnOk result (S.bytes out.new ≡ S.bytes out.old ++ quoted text.now) }
 {
-    out.push('"')?;
-    out.push_str(text)?;
-    out.push('"')
+    out.push_ascii(b'"')?;
+    out.push_all(text)?;
+    out.push_ascii(b'"')
 }
 
 /// Appends a name: between quotes where each of its bytes is visible in ASCII and no quote, else in
 /// upper-case hexadecimal without quotes. After an error `out` has a part of it, and is to be thrown away.
 #[tactic(auto, unfolding(crate::specs::Values::value))]
-pub fn push_value(out: &mut String, bytes: &[u8]) -> Result<(), AllocError>
-    ensures { OnOk result (string_bytes out.new ≡ string_bytes out.old ++ value bytes.now) }
+pub fn push_value<S: Sink>(out: &mut S, bytes: &[u8]) -> Result<(), AllocError>
+    ensures { OnOk result (S.bytes out.new ≡ S.bytes out.old ++ value bytes.now) }
 {
     match plain_text(bytes) {
         Some(text) => push_quoted(out, text),
@@ -69,36 +52,37 @@ pub fn push_value(out: &mut String, bytes: &[u8]) -> Result<(), AllocError>
     }
 }
 
-fn push_letter(out: &mut String, mask: Perms, perm: Perms, c: char) -> Result<(), AllocError>
+fn push_letter<S: Sink>(out: &mut S, mask: Perms, perm: Perms, c: u8) -> Result<(), AllocError>
     requires { c < 128 }
-    ensures { OnOk result (string_bytes out.new ≡ string_bytes out.old ++ letter mask.0 perm.0 c) }
+    ensures { OnOk result (S.bytes out.new ≡ S.bytes out.old ++ letter mask.0 perm.0 c) }
 {
     if mask.contains(perm) {
-        out.push(c)?;
+        out.push_ascii(c)?;
     }
     Ok(())
 }
 
+/// Appends the letters of a set of permissions, in the order `rwalkmx`. After an error `out` has a part of them, and is to be thrown away.
 #[tactic(auto, unfolding(crate::specs::Values::letters))]
-fn push_letters(out: &mut String, mask: Perms) -> Result<(), AllocError>
-    ensures { OnOk result (string_bytes out.new ≡ string_bytes out.old ++ letters mask.0) }
+pub fn push_letters<S: Sink>(out: &mut S, mask: Perms) -> Result<(), AllocError>
+    ensures { OnOk result (S.bytes out.new ≡ S.bytes out.old ++ letters mask.0) }
 {
-    push_letter(out, mask, Perms::READ, 'r')?;
-    push_letter(out, mask, Perms::WRITE, 'w')?;
-    push_letter(out, mask, Perms::APPEND, 'a')?;
-    push_letter(out, mask, Perms::LINK, 'l')?;
-    push_letter(out, mask, Perms::LOCK, 'k')?;
-    push_letter(out, mask, Perms::MMAP, 'm')?;
-    push_letter(out, mask, Perms::EXEC, 'x')
+    push_letter(out, mask, Perms::READ, b'r')?;
+    push_letter(out, mask, Perms::WRITE, b'w')?;
+    push_letter(out, mask, Perms::APPEND, b'a')?;
+    push_letter(out, mask, Perms::LINK, b'l')?;
+    push_letter(out, mask, Perms::LOCK, b'k')?;
+    push_letter(out, mask, Perms::MMAP, b'm')?;
+    push_letter(out, mask, Perms::EXEC, b'x')
 }
 
 /// Appends the letters of a set of permissions between quotes, in the order `rwalkmx`. After an error
 /// `out` has a part of them, and is to be thrown away.
 #[tactic(auto, unfolding(crate::specs::Values::quoted))]
-pub fn push_mask(out: &mut String, perms: Perms) -> Result<(), AllocError>
-    ensures { OnOk result (string_bytes out.new ≡ string_bytes out.old ++ mask perms.0) }
+pub fn push_mask<S: Sink>(out: &mut S, perms: Perms) -> Result<(), AllocError>
+    ensures { OnOk result (S.bytes out.new ≡ S.bytes out.old ++ mask perms.0) }
 {
-    out.push('"')?;
+    out.push_ascii(b'"')?;
     push_letters(out, perms)?;
-    out.push('"')
+    out.push_ascii(b'"')
 }

@@ -1,9 +1,10 @@
 -- What `check` finds, as a SARIF log.
 -- Source: SARIF 2.1.0, sections 3.4, 3.13, 3.14, 3.20, 3.27, 3.29, 3.30; RFC 3986, section 2; RFC 8089, section 2; own.
-use Rattle.std.specs.Prelude.{ℕ, ◌/◌, ◌%◌, ◌+◌, ◌==◌, ◌&&◌, ◌||◌, nat_lt, nat_le, not, List, [], ◌∷◌, ◌++◌, map, flat_map, codes, decimal, Bool}
+use Rattle.std.specs.Prelude.{ℕ, ◌==◌, ◌&&◌, ◌||◌, nat_lt, nat_le, not, List, [], ◌∷◌, ◌++◌, map, flat_map, codes, decimal, Bool}
 use Rattle.std.specs.Prelude.{if◌then◌else◌, Option, Some, None, option_to_list, Vec}
 use Rattle.std.specs.Str.{is_utf8}
 use Rattle.std.specs.declared.alloc.Global.{Global}
+use Rattle.aa_base.specs.Hex.{hex_pair}
 use Rattle.aa_text.specs.Jsons.{json_text, json_bytes, key_text, bool_text, member_text, list_text}
 use Rattle.aa_text.specs.declared.position.PlaceAt.{PlaceAt}
 use Rattle.aa_text.specs.declared.fault.Link.{Link}
@@ -21,13 +22,9 @@ is_alphanumeric b = (nat_le 48 b && nat_le b 57) || (nat_le 65 b && nat_le b 90)
 abbrev pub is_plain : ℕ → Bool
 is_plain b = is_alphanumeric b || b == 45 || b == 46 || b == 95 || b == 126 || b == 47
 
--- a hexadecimal digit, a letter as a capital
-abbrev pub capital_digit : ℕ → ℕ
-capital_digit n = if nat_lt n 10 then n + 48 else n + 55
-
 -- a byte in the path of a URI: itself, or two digits behind a percent sign
 abbrev pub uri_byte : ℕ → List ℕ
-uri_byte b = if is_plain b then b ∷ [] else 37 ∷ capital_digit (b / 16) ∷ capital_digit (b % 16) ∷ []
+uri_byte b = if is_plain b then b ∷ [] else 37 ∷ hex_pair b
 
 -- what stands before an absolute path
 abbrev pub scheme_of : List ℕ → List ℕ

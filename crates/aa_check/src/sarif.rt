@@ -2,13 +2,14 @@
 
 ghost use Rattle.std.specs.Prelude.{◌≡◌, ◌++◌, ◌<◌, not, map, flat_map, option_to_list, codes, OnOk, IfOk};
 ghost use Rattle.aa_text.specs.Jsons.{json_bytes, member_text};
-ghost use Rattle.aa_check.specs.Sarif.{is_alphanumeric, is_plain, capital_digit, uri_byte, scheme_of, uri_text, ascii_of, as_text, message_text, start_line, region_text, region_member, place_member, location_text, related_text, link_text, links_member, level_text, rule_members, fault_members, result_text, results_of, notification_text, notifications, all_notifications, results_member, notifications_member, invocations_text, sarif_head, sarif_report};
+ghost use Rattle.aa_check.specs.Sarif.{is_alphanumeric, is_plain, uri_byte, scheme_of, uri_text, ascii_of, as_text, message_text, start_line, region_text, region_member, place_member, location_text, related_text, link_text, links_member, level_text, rule_members, fault_members, result_text, results_of, notification_text, notifications, all_notifications, results_member, notifications_member, invocations_text, sarif_head, sarif_report};
 ghost use Rattle.aa_check.specs.Notified.{notified, related, found};
 
 use crate::report::{CheckReport, FileReport};
+use aa_base::push_hex;
 use aa_text::{
     FaultReport, Link, PlaceAt, ToJson, is_text, push_json_bytes, push_json_text, push_key,
-    push_list, push_list_member, push_member, push_number, push_text,
+    push_list, push_list_member, push_member, push_next_key, push_number, push_text,
 };
 use std::alloc::{AllocError, Global};
 
@@ -25,13 +26,6 @@ fn is_plain(b: u8) -> bool
     is_alphanumeric(b) || b == b'-' || b == b'.' || b == b'_' || b == b'~' || b == b'/'
 }
 
-fn capital_digit(n: u8) -> u8
-    requires { n < 16 }
-    ensures { result ≡ capital_digit n }
-{
-    if n < 10 { n + b'0' } else { n + (b'A' - 10) }
-}
-
 fn push_uri_byte(out: &mut Vec<u8>, b: u8) -> Result<(), AllocError>
     ensures { OnOk result (out.new.items ≡ out.old.items ++ uri_byte b) }
 {
@@ -40,9 +34,7 @@ fn push_uri_byte(out: &mut Vec<u8>, b: u8) -> Result<(), AllocError>
         return Ok(());
     }
     out.push(b'%')?;
-    out.push(capital_digit(b / 16))?;
-    out.push(capital_digit(b % 16))?;
-    Ok(())
+    push_hex(out, &[b])
 }
 
 fn push_uri_bytes(out: &mut Vec<u8>, path: &[u8]) -> Result<(), AllocError>
@@ -304,8 +296,7 @@ fn level_text(level: Level) -> &'static str
 fn push_level(out: &mut Vec<u8>, level: Level) -> Result<(), AllocError>
     ensures { OnOk result (out.new.items ≡ out.old.items ++ member_text (codes "level") (level_text level)) }
 {
-    push_text(out, ",")?;
-    push_key(out, "level")?;
+    push_next_key(out, "level")?;
     push_text(out, level_text(level))
 }
 

@@ -121,17 +121,15 @@ fn note_word(note: Option<Note>) -> &'static str
 }
 
 /// Appends a space and the letters of permissions between quotes.
-fn push_perms(out: &mut Vec<u8>, alloc: Global, perms: Perms) -> Result<(), AllocError>
+fn push_perms(out: &mut Vec<u8>, perms: Perms) -> Result<(), AllocError>
     ensures { OnOk result (out.new.items ≡ out.old.items ++ (codes " " ++ mask perms.0)) }
 {
-    let mut text = String::new(alloc);
-    push_mask(&mut text, perms)?;
     push_text(out, " ")?;
-    out.extend_from_slice(text.as_bytes())
+    push_mask(out, perms)
 }
 
 /// Appends the permissions that are reported, if there are any.
-fn push_note_letters(out: &mut Vec<u8>, alloc: Global, note: Option<Note>) -> Result<(), AllocError>
+fn push_note_letters(out: &mut Vec<u8>, note: Option<Note>) -> Result<(), AllocError>
     ensures { OnOk result (out.new.items ≡ out.old.items ++ note_letters note) }
 {
     let Some(note) = note else {
@@ -140,13 +138,12 @@ fn push_note_letters(out: &mut Vec<u8>, alloc: Global, note: Option<Note>) -> Re
     if note.perms.0 == 0 {
         return Ok(());
     }
-    push_perms(out, alloc, note.perms)
+    push_perms(out, note.perms)
 }
 
 /// Appends what is reported of each answer, told apart by the permissions where both are reported alike.
 fn push_notes(
     out: &mut Vec<u8>,
-    alloc: Global,
     before: Option<Note>,
     after: Option<Note>,
 ) -> Result<(), AllocError>
@@ -159,10 +156,10 @@ fn push_notes(
         push_text(out, " -> ")?;
         return push_text(out, other);
     }
-    push_note_letters(out, alloc, before)?;
+    push_note_letters(out, before)?;
     push_text(out, " -> ")?;
     push_text(out, other)?;
-    push_note_letters(out, alloc, after)
+    push_note_letters(out, after)
 }
 
 fn push_both(out: &mut Vec<u8>, before: &[u8], after: &[u8]) -> Result<(), AllocError>
@@ -176,7 +173,6 @@ fn push_both(out: &mut Vec<u8>, before: &[u8], after: &[u8]) -> Result<(), Alloc
 /// Appends what each answer says, or where both say the same what is reported of each.
 fn push_change(
     out: &mut Vec<u8>,
-    alloc: Global,
     difference: &Difference,
     before: &[u8],
     after: &[u8],
@@ -184,7 +180,7 @@ fn push_change(
     ensures { OnOk result (out.new.items ≡ out.old.items ++ change_by difference.now before.now after.now) }
 {
     if before == after {
-        return push_notes(out, alloc, difference.old.note, difference.new.note);
+        return push_notes(out, difference.old.note, difference.new.note);
     }
     push_both(out, before, after)
 }
@@ -202,12 +198,6 @@ pub(crate) fn change_text(
     let before = answer_word(alloc, old, tells, &difference.old)?;
     let after = answer_word(alloc, new, tells, &difference.new)?;
     let mut out = Vec::new(alloc);
-    push_change(
-        &mut out,
-        alloc,
-        difference,
-        before.as_slice(),
-        after.as_slice(),
-    )?;
+    push_change(&mut out, difference, before.as_slice(), after.as_slice())?;
     Ok(Text::from_vec(out))
 }

@@ -26,8 +26,8 @@ use aa_model::Label;
 use aa_notation::push_word;
 use aa_passed_over::Apart;
 use aa_text::{
-    ListItem, ToJson, push_json_bytes, push_json_place, push_key, push_list, push_list_in,
-    push_list_member, push_member, push_number, push_text,
+    ListItem, ToJson, push_comma, push_json_bytes, push_json_place, push_key, push_list,
+    push_list_in, push_list_member, push_member, push_next_key, push_number, push_text,
 };
 use std::alloc::{AllocError, Global};
 
@@ -76,8 +76,7 @@ fn push_json_profile(
 fn push_json_sign(out: &mut Vec<u8>, sign: Sign) -> Result<(), AllocError>
     ensures { OnOk result (out.new.items ≡ out.old.items ++ json_sign sign) }
 {
-    push_text(out, ",")?;
-    push_key(out, "sign")?;
+    push_next_key(out, "sign")?;
     push_text(out, "\"")?;
     push_text(out, sign_text(sign))?;
     push_text(out, "\"")
@@ -267,8 +266,7 @@ fn push_lines_member(
 ) -> Result<(), AllocError>
     ensures { OnOk result (out.new.items ≡ out.old.items ++ member_text (codes "lines") (json_lines policies.now findings.now)) }
 {
-    push_text(out, ",")?;
-    push_key(out, "lines")?;
+    push_next_key(out, "lines")?;
     push_json_lines(out, alloc, policies, findings)
 }
 
@@ -281,8 +279,7 @@ fn push_unclean_member(
 ) -> Result<(), AllocError>
     ensures { OnOk result (out.new.items ≡ out.old.items ++ member_text (codes "unclean") (json_unclean_lines policies.now findings.now)) }
 {
-    push_text(out, ",")?;
-    push_key(out, "unclean")?;
+    push_next_key(out, "unclean")?;
     push_unclean_lines(out, alloc, policies, findings)
 }
 
@@ -317,8 +314,7 @@ fn push_names_member(
 ) -> Result<(), AllocError>
     ensures { OnOk result (out.new.items ≡ out.old.items ++ member_text key.now (json_names sign findings.now)) }
 {
-    push_text(out, ",")?;
-    push_key(out, key)?;
+    push_next_key(out, key)?;
     push_json_names(out, alloc, sign, findings)
 }
 
@@ -385,8 +381,7 @@ fn push_counts_member(
     ensures { OnOk result (out.new.items ≡ out.old.items ++ member_text (codes "counts") (json_counts policies.now left_out (lines_with findings.now (map apart rules.now)) findings.now (length (map apart rules.now)))) }
 {
     let lines = lines_with(alloc, findings, rules)?;
-    push_text(out, ",")?;
-    push_key(out, "counts")?;
+    push_next_key(out, "counts")?;
     push_counts(
         out,
         alloc,
@@ -445,7 +440,7 @@ impl<'a> ListItem<Naming<'a>> for Apart {
     ) -> Result<(), AllocError> {
         push_text(out, "{")?;
         push_rule_side(out, alloc, naming.policies, self)?;
-        push_text(out, ",")?;
+        push_comma(out, true)?;
         push_rule_text(out, alloc, self)?;
         push_text(out, "}")
     }
@@ -473,8 +468,7 @@ fn push_rules_apart(
 ) -> Result<(), AllocError>
     ensures { OnOk result (out.new.items ≡ out.old.items ++ member_text (codes "passed_over") (json_all_passed_over policies.now (map apart rules.now))) }
 {
-    push_text(out, ",")?;
-    push_key(out, "passed_over")?;
+    push_next_key(out, "passed_over")?;
     push_json_passed_over(out, alloc, policies, rules)
 }
 
@@ -503,8 +497,7 @@ fn push_json_paths(out: &mut Vec<u8>, alloc: Global, paths: &[Vec<u8>]) -> Resul
 fn push_new_paths(out: &mut Vec<u8>, alloc: Global, paths: &[Vec<u8>]) -> Result<(), AllocError>
     ensures { OnOk result (out.new.items ≡ out.old.items ++ member_text (codes "new") (json_paths paths.now)) }
 {
-    push_text(out, ",")?;
-    push_key(out, "new")?;
+    push_next_key(out, "new")?;
     push_json_paths(out, alloc, paths)
 }
 

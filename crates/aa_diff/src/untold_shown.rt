@@ -15,8 +15,8 @@ use crate::untold::{Doubt, Doubts, Subject};
 use aa_passed_over::Side;
 use aa_skipped::push_skipped_count;
 use aa_text::{
-    PlaceAt, ToJson, push_json_bytes, push_key, push_list, push_list_member, push_name, push_text,
-    push_visible, push_where,
+    PlaceAt, ToJson, push_json_bytes, push_key, push_list, push_list_member, push_name,
+    push_next_key, push_text, push_visible, push_where,
 };
 use aa_undecided::SkippedAt;
 use std::alloc::{AllocError, Global};
@@ -249,8 +249,7 @@ fn push_skipped_member(
 ) -> Result<(), AllocError>
     ensures { OnOk result (out.new.items ≡ out.old.items ++ member_text (codes "skipped") (json_skipped (placed_all old.now) (placed_all new.now))) }
 {
-    push_text(out, ",")?;
-    push_key(out, "skipped")?;
+    push_next_key(out, "skipped")?;
     push_json_skipped(out, alloc, old, new)
 }
 

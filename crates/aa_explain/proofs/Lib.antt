@@ -6,5 +6,4 @@ pub mod Placing
 mod Plain
 pub mod Conflicting
 pub mod Owning
-pub mod Leading
 pub mod Searching

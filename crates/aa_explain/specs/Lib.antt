@@ -6,4 +6,3 @@ pub mod Sayings
 pub mod Told
 pub mod Places
 pub mod Clashes
-pub mod Texts

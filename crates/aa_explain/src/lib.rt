@@ -5,7 +5,6 @@ mod deciders;
 mod pairs;
 mod places;
 mod search;
-mod texts;
 mod told;
 mod ways;
 

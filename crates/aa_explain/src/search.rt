@@ -3,16 +3,16 @@
 ghost use Rattle.std.specs.Prelude.{◌≡◌, ◌+◌, ◌<◌, ◌≤◌, ◌↔◌, ℕ, List, Contains, IfOk, IfSome, IfNone, IsTrue, Some, Err, sum_by, length};
 ghost use Rattle.std.specs.List.{slice_get};
 ghost use Rattle.aa_pattern.specs.Limits.{most_patterns, most_states};
-ghost use Rattle.aa_auto.specs.Tables.{HasPlaces, list_at, place_of};
+ghost use Rattle.aa_auto.specs.Tables.{HasPlaces};
 ghost use Rattle.aa_compile.specs.FileRules.{Conflicts};
+ghost use Rattle.aa_regions.specs.declared.regions.Region.{Region};
 ghost use Rattle.aa_explain.specs.Clashes.{Conflict, ConflictsLater, OwnerConflicts, SomeConflict, executing};
 
 use crate::pairs::clash_at;
-use crate::texts::texts_of_rows;
 use crate::ways::ways_of;
 use aa_auto::{Automaton, BuildFault};
-use aa_base::Text;
 use aa_model::FileRule;
+use aa_regions::{Region, text_regions_of};
 use std::alloc::{AllocError, Global};
 
 /// Two rules of a profile that conflict, by their numbers, and a text at which they do.
@@ -106,21 +106,20 @@ fn among(
     None
 }
 
-/// The rules of the first of these texts at which two conflict, with the text.
+/// The rules of the first of these regions in which two conflict, with its text.
 fn clash_among(
     alloc: Global,
     rules: &[FileRule],
     owners: &[usize],
-    automaton: &Automaton,
-    texts: &[Text],
+    regions: &[Region],
 ) -> Result<Option<Clash>, AllocError>
     ensures found { IfOk result (λ found. IfSome found (λ c. (c.first < c.second) × Conflict rules.now c.first c.second c.text.items)) }
-    ensures none { IfOk result (λ found. IfNone found ((u : List ℕ) → Contains texts.now u → SomeConflict rules.now owners.now (list_at automaton.now (place_of automaton.now u)) u → ⊥)) }
+    ensures none { IfOk result (λ found. IfNone found ((r : Region) → Contains regions.now r → SomeConflict rules.now owners.now r.numbers r.witness → ⊥)) }
 {
-    for text in texts {
-        let bytes = text.as_slice();
-        if let Some((first, second)) = among(rules, owners, automaton.matching(bytes), bytes) {
-            let text = Vec::from_slice(alloc, bytes)?;
+    for region in regions {
+        let text = region.witness.as_slice();
+        if let Some((first, second)) = among(rules, owners, region.numbers.as_slice(), text) {
+            let text = Vec::from_slice(alloc, text)?;
             return Ok(Some(Clash {
                 first,
                 second,
@@ -148,8 +147,7 @@ pub fn clash_of(
 {
     let ways = ways_of(alloc, rules)?;
     let automaton = Automaton::of(alloc, ways.patterns.as_slice(), limit)?;
-    let texts = texts_of_rows(alloc, &automaton)?;
-    let owners = ways.owners.as_slice();
-    let found = clash_among(alloc, rules, owners, &automaton, texts.as_slice())?;
+    let regions = text_regions_of(alloc, &automaton)?;
+    let found = clash_among(alloc, rules, ways.owners.as_slice(), regions.as_slice())?;
     Ok(found)
 }

@@ -11,8 +11,8 @@ use crate::shown::push_why;
 use crate::told::{Site, Told};
 use crate::untold::Untold;
 use aa_text::{
-    ToJson, push_json_place, push_json_text, push_key, push_list, push_list_member, push_member,
-    push_text,
+    ToJson, push_comma, push_json_place, push_json_text, push_key, push_list, push_list_member,
+    push_member, push_text,
 };
 use std::alloc::{AllocError, Global};
 
@@ -38,7 +38,7 @@ fn push_named(out: &mut Vec<u8>, alloc: Global, told: &Told) -> Result<(), Alloc
     push_text(out, "{")?;
     push_key(out, "name")?;
     push_json_text(out, alloc, name_of(told.kind))?;
-    push_text(out, ",")?;
+    push_comma(out, true)?;
     push_json_place(out, alloc, told.at.path.as_slice(), Some(told.at.place))
 }
 

@@ -5,7 +5,7 @@ use Rattle.std.specs.List.{list_any}
 use Rattle.std.proofs.lemmas.List.{take_more, map-append}
 use Rattle.std.proofs.lemmas.List.Sums.{sum_by_push}
 use Rattle.std.proofs.lemmas.List.Concat.{flat_map-append}
-use Rattle.aa_text.specs.Jsons.{with_commas}
+use Rattle.aa_text.specs.Jsons.{with_commas, more_of}
 use Rattle.aa_logs.specs.declared.answer.Now.{Now}
 use Rattle.aa_logs.specs.declared.counts.Counts.{Counts}
 use Rattle.aa_logs.specs.Answers.{row_of, column_of, changes, is_newly_denied}
@@ -13,7 +13,7 @@ use Rattle.aa_logs.specs.Counts.{count_in, is_so, AreNone, HasOneMore}
 use Rattle.aa_command.specs.declared.decided.Decided.{Decided}
 use Rattle.aa_log.specs.declared.logging.Entry.{Entry}
 use Rattle.aa_log.specs.Counted.{greatest}
-use Rattle.aa_log.specs.Commas.{more_of, is_some_of}
+use Rattle.aa_log.specs.Commas.{is_some_of}
 use Rattle.aa_log.proofs.Listing.{two_parts, two_later}
 use Rattle.aa_log.specs.Against.{now_of, IsNewlyDenied, AreCounted, is_shown, shown_text, changes_text, json_shown, json_changes}
 

@@ -1,5 +1,5 @@
 -- What is printed of a request, read back.
-use Rattle.std.proofs.Common.{◌≡◌, ℕ, ◌+◌, ◌-◌, ◌/◌, ◌%◌, ◌≤◌, Bool, true, false, not, ◌&&◌, ◌==◌, nat_lt, nat_le, List}
+use Rattle.std.proofs.Common.{◌≡◌, ℕ, ◌+◌, ◌-◌, ◌/◌, ◌%◌, ◌≤◌, Bool, true, false, not, ◌&&◌, ◌==◌, nat_le, List}
 use Rattle.std.proofs.Common.{[], ◌∷◌, ◌++◌, length, take, cond, codes, flat_map, Option, Some, refl, sym, ap, ◌∙◌, arith, append_assoc, inl}
 use Rattle.std.proofs.Common.{inr, true≢false}
 use Rattle.std.specs.List.{list_all}
@@ -9,13 +9,14 @@ use Rattle.std.proofs.lemmas.List.{take_at, length-append}
 use Rattle.aa_logs.specs.declared.line.Then.{Then}
 use Rattle.aa_logs.specs.declared.line.Then.TheVariants as was
 use Rattle.aa_logs.specs.Answers.{then_name}
-use Rattle.aa_base.specs.Values.{is_shown, hex_digit, hex_pair, quoted, value}
+use Rattle.aa_base.specs.Hex.{hex_digit, hex_pair, digits_in}
+use Rattle.aa_base.specs.Values.{is_shown, quoted, value}
 use Rattle.aa_notation.specs.Parts.{split_in}
 use Rattle.aa_notation.specs.Written.{word_text}
-use Rattle.aa_notation.specs.Read.{bytes_in, request_in}
+use Rattle.aa_notation.specs.Read.{request_in}
 use Rattle.aa_notation.specs.Again.{are_bytes, is_askable}
 use Rattle.aa_notation.proofs.Splits.{split_byte}
-use Rattle.aa_notation.proofs.Paths.{bytes_back, digit_from_48}
+use Rattle.aa_base.proofs.Digits.{bytes_back, digit_from_48}
 use Rattle.aa_notation.proofs.Reading.{words_are_read}
 use Rattle.aa_log.specs.Printed.{key_text}
 use Rattle.aa_log.specs.Found.{Asked, asked_key}
@@ -65,8 +66,8 @@ value_plain bytes = elim (cases_Bool (list_all is_shown bytes)) [
 
 -- the bytes of a value: those between quotes, or those that digits are
 value_of : List ℕ → Option (List ℕ)
-value_of [] = bytes_in []
-value_of (b ∷ bs) = cond (34 == b) (Some (take (length bs - 1) bs)) (bytes_in (b ∷ bs))
+value_of [] = digits_in []
+value_of (b ∷ bs) = cond (34 == b) (Some (take (length bs - 1) bs)) (digits_in (b ∷ bs))
 
 quoted_back : (bytes : List ℕ) → value_of (quoted bytes) ≡ Some bytes
 unfolding value_of quoted
@@ -77,7 +78,7 @@ unfolding value_of
 digits_back [] none h = absurd (true≢false none)
 digits_back (b ∷ bs) some h =
     ap (λ (t : Bool). cond t (Some (take (length (hex_digit (b % 16) ∷ flat_map hex_pair bs) - 1) (hex_digit (b % 16) ∷ flat_map hex_pair bs)))
-    (bytes_in (flat_map hex_pair (b ∷ bs)))) (apart_from 34 (hex_digit (b / 16)) (omega (arith, digit_from_48 (b / 16)))) ∙ bytes_back (b ∷ bs) h
+    (digits_in (flat_map hex_pair (b ∷ bs)))) (apart_from 34 (hex_digit (b / 16)) (omega (arith, digit_from_48 (b / 16)))) ∙ bytes_back (b ∷ bs) h
 
 value_back : (bytes : List ℕ) → are_bytes bytes ≡ true → value_of (value bytes) ≡ Some bytes
 unfolding value

@@ -22,7 +22,8 @@ use Rattle.aa_logs.specs.declared.line.Then.{Then}
 use Rattle.aa_logs.specs.declared.line.Then.TheVariants as was
 use Rattle.aa_logs.specs.declared.line.Reason.TheVariants.{Namespace, Stacked}
 use Rattle.aa_logs.specs.Words.{WordData, is_separator, run_len, key_len, plain_piece, quoted_piece, field_piece, run_piece, keyed_piece, first_piece, words_behind, words_of}
-use Rattle.aa_logs.specs.Values.{is_hex_digit, digit_of, bytes_of_hex, is_even, is_hex, is_plain, name_in}
+use Rattle.aa_base.specs.Hex.{is_hex_digit, digit_of, bytes_of_hex, is_even, is_hex}
+use Rattle.aa_logs.specs.Values.{is_plain, name_in}
 use Rattle.aa_logs.specs.Fields.{field_in, raw_in, text_in}
 use Rattle.aa_logs.specs.Asked.{Cause, Keyword, Because, cap_by, cap_in, exec_by, exec_in, link_by, link_in, change_by, change_in, socket_by, net_by}
 use Rattle.aa_logs.specs.Asked.{masked_file, file_by, requested_by, object_by, object_in, by_operation, unless_over, of_operation, asked_in, owned_in}

@@ -1,7 +1,7 @@
 -- Lists whose items stand with a comma between two of them.
 use Rattle.std.proofs.Common.{◌≡◌, ◌∙◌, ℕ, List, [], ◌∷◌, ◌++◌, ◌||◌, Bool, true, false, refl, sym, ap, append_assoc}
-use Rattle.aa_text.specs.Jsons.{behind_commas}
-use Rattle.aa_log.specs.Commas.{more_of, is_some_of}
+use Rattle.aa_text.specs.Jsons.{behind_commas, more_of}
+use Rattle.aa_log.specs.Commas.{is_some_of}
 
 behind_both : (xs ys : List (List ℕ)) → behind_commas (xs ++ ys) ≡ behind_commas xs ++ behind_commas ys
 behind_both [] ys = refl

@@ -1,13 +1,13 @@
 //! How a policy answers now what logs say.
 
 ghost use Rattle.std.specs.Prelude.{ℕ, ◌≡◌, ◌++◌, ◌||◌, true, false, List, [], map, option_map, OnOk, IfOk};
-ghost use Rattle.aa_text.specs.Jsons.{with_commas};
+ghost use Rattle.aa_text.specs.Jsons.{with_commas, more_of};
 ghost use Rattle.aa_logs.specs.Answers.{changes};
 ghost use Rattle.aa_ask.specs.Told.{told};
 ghost use Rattle.aa_log.specs.declared.logging.Entry.{Entry};
 ghost use Rattle.aa_log.specs.Orders.{profile_of, IsInOrder};
 ghost use Rattle.aa_log.specs.Printed.{arrow_text, each_skipped_text};
-ghost use Rattle.aa_log.specs.Commas.{more_of, is_some_of};
+ghost use Rattle.aa_log.specs.Commas.{is_some_of};
 ghost use Rattle.aa_log.specs.Against.{now_of, verdict_of, IsNewlyDenied, AreCounted, reasons_if, change_text, shown_text, changes_text, IsAgainstText, cell_line, row_text, rows_text, json_count, json_cell, json_row, json_cells, json_why, json_change, json_shown, json_changes, json_answers, IsJsonAgainst};
 
 use crate::listed::{push_entry_members, push_json_rest, push_word_member};
@@ -222,7 +222,7 @@ fn push_json_change(
 {
     push_text(out, "{")?;
     push_entry_members(out, alloc, logs, entry)?;
-    push_text(out, ",")?;
+    push_comma(out, true)?;
     push_word_member(out, "now", now_name(now))?;
     push_json_why(out, alloc, verdict)?;
     push_text(out, "}")
@@ -284,7 +284,7 @@ fn push_json_number(
 {
     push_text(out, "{")?;
     push_word_member(out, "then", then_name(then))?;
-    push_text(out, ",")?;
+    push_comma(out, true)?;
     push_word_member(out, "now", now_name(now))?;
     push_member(out, alloc, "count", &count)?;
     push_text(out, "}")

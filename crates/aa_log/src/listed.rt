@@ -10,7 +10,8 @@ use crate::printing::push_reason;
 use crate::said::SaidReport;
 use aa_logs::then_name;
 use aa_text::{
-    ListItem, push_key, push_list_in, push_member, push_member_if, push_number, push_text,
+    ListItem, push_key, push_list_in, push_member, push_member_if, push_next_key, push_number,
+    push_text,
 };
 use std::alloc::{AllocError, Global};
 
@@ -166,8 +167,7 @@ fn push_by_reason(
 ) -> Result<(), AllocError>
     ensures { OnOk result (out.new.items ≡ out.old.items ++ json_by_reason (map (λ log. log.now) logs.now) (map (λ s. s.now) reasons.now)) }
 {
-    push_text(out, ",")?;
-    push_key(out, "skipped")?;
+    push_next_key(out, "skipped")?;
     push_all_listed(out, alloc, logs, reasons)
 }
 
@@ -181,8 +181,7 @@ fn push_each_of(
 ) -> Result<(), AllocError>
     ensures { OnOk result (out.new.items ≡ out.old.items ++ json_each_of (map (λ log. log.now) logs.now) each.now) }
 {
-    push_text(out, ",")?;
-    push_key(out, "skipped_lines")?;
+    push_next_key(out, "skipped_lines")?;
     push_each_listed(out, alloc, logs, each)
 }
 
@@ -230,8 +229,7 @@ fn push_unclear_of(
 ) -> Result<(), AllocError>
     ensures { OnOk result (out.new.items ≡ out.old.items ++ member_text (codes "unclear") (json_unclear (map (λ log. log.now) logs.now) count first.now)) }
 {
-    push_text(out, ",")?;
-    push_key(out, "unclear")?;
+    push_next_key(out, "unclear")?;
     push_json_unclear(out, alloc, logs, count, first)
 }
 

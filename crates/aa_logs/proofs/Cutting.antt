@@ -409,3 +409,8 @@ first_end bytes (Some n) there =
 
 pub end_within : (bytes : List ℕ) (n : ℕ) → n ≡ prefix_len is_in_line bytes → n ≤ length bytes
 end_within bytes n e = omega (arith, e, prefix_len-le-length is_in_line bytes)
+
+-- a line of which nothing is held yet is kept whole
+pub kept_alone : (held bytes : List ℕ) → length held ≡ 0 → length bytes ≤ 65537 → kept (held ++ bytes) ≡ bytes
+kept_alone [] bytes none le = kept_whole bytes le
+kept_alone (x ∷ held) bytes none le = absurd (omega (arith, none))

@@ -12,3 +12,4 @@ pub mod Cells
 pub mod Cutting
 pub mod ByKeys
 pub mod KeyBytes
+pub mod Fronts

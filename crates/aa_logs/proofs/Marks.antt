@@ -3,7 +3,7 @@ use Rattle.std.proofs.Common.{◌≡◌, ℕ, zero, suc, ◌+◌, ◌-◌, ◌<�
 use Rattle.std.proofs.Common.{◌++◌, length, drop, get_or, cond, refl, sym, ◌∙◌, ap, subst, arith, inl, inr, Option, Some, None}
 use Rattle.std.specs.Prelude.{codes, nat_eq, nat_le, is_some, option_map}
 use Rattle.std.specs.List.{starts_with}
-use Rattle.std.proofs.lemmas.Bool.{cases_lt, le-leb}
+use Rattle.std.proofs.lemmas.Bool.{cases_lt, le-leb, and_parts}
 use Rattle.std.proofs.lemmas.Bool.Decides.{Decides-eqb}
 use Rattle.std.proofs.lemmas.List.{length-drop, length-append, get_or_append_left, get_or-drop}
 use Rattle.std.proofs.lemmas.Slice.Eq.{starts_is}
@@ -11,7 +11,6 @@ use Rattle.memchr.specs.Find.{Nowhere, NoneBefore, Passes, is_byte}
 use Rattle.aa_logs.specs.Fields.{place_of}
 use Rattle.aa_logs.specs.Records.{holds_part, is_mark_at, has_mark_at, is_record}
 use Rattle.aa_logs.proofs.Cutting.{not_true}
-use Rattle.aa_logs.proofs.Hex.{right_of}
 
 -- a part that stands nowhere, and one that stands somewhere
 place_none : (part t : List ℕ) → ((k : ℕ) → starts_with nat_eq (drop k t) part ≡ false) → place_of part t ≡ None
@@ -100,7 +99,7 @@ all_missed mark sign line from lt is none so_far =
 
 found : (mark : List ℕ) (sign : ℕ) (line : List ℕ) (at : ℕ) → at < length line → is_mark_at mark sign line at ≡ true
     → holds_part mark line ≡ true
-found mark sign line at lt holds = place_some mark line (at - sign) (omega arith) (right_of (nat_le sign at) _ holds)
+found mark sign line at lt holds = place_some mark line (at - sign) (omega arith) (and_parts (nat_le sign at) _ holds).1
 
 -- tests of which none holds, and one does
 none_of : (p q r s : Bool) → (p || q || r || s) ≡ false → (p ≡ false) × (q ≡ false) × (r ≡ false) × (s ≡ false)

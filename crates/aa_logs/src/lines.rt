@@ -81,6 +81,42 @@ fn line_len(bytes: &[u8]) -> usize
     memchr(b'\n', bytes).unwrap_or(bytes.len())
 }
 
+/// Hands a line on that is held as far as it is kept.
+fn hand_held<L: Lines>(
+    alloc: Global,
+    held: &mut OpenLine,
+    bytes: &[u8],
+    lines: &mut L,
+) -> Result<(), Unread>
+    requires { length held.old.bytes.items ≤ 65537 }
+    ensures number { OnOk result (held.new.number ≡ held.old.number) }
+    ensures log { OnOk result (L.log lines.new ≡ L.log lines.old) }
+    ensures keeps { OnOk result ((first : L) → L.keeps first lines.old → L.keeps first lines.new) }
+    ensures taken { OnOk result ((before : List LogLine) → L.has_taken lines.old before → L.has_taken lines.new (before ++ log_line (L.log lines.old) held.old.number (kept (held.old.bytes.items ++ bytes.now)) ∷ [])) }
+{
+    keep(&mut held.bytes, bytes)?;
+    lines.take_line(alloc, held.bytes.as_slice(), held.number)
+}
+
+/// Hands a line on whose last bytes these are: as it stands where nothing of it is held and there is room for it.
+fn hand_on<L: Lines>(
+    alloc: Global,
+    held: &mut OpenLine,
+    bytes: &[u8],
+    lines: &mut L,
+) -> Result<(), Unread>
+    requires { length held.old.bytes.items ≤ 65537 }
+    ensures number { OnOk result (held.new.number ≡ held.old.number) }
+    ensures log { OnOk result (L.log lines.new ≡ L.log lines.old) }
+    ensures keeps { OnOk result ((first : L) → L.keeps first lines.old → L.keeps first lines.new) }
+    ensures taken { OnOk result ((before : List LogLine) → L.has_taken lines.old before → L.has_taken lines.new (before ++ log_line (L.log lines.old) held.old.number (kept (held.old.bytes.items ++ bytes.now)) ∷ [])) }
+{
+    if held.bytes.as_slice().is_empty() && bytes.len() <= MOST {
+        return lines.take_line(alloc, bytes, held.number);
+    }
+    hand_held(alloc, held, bytes, lines)
+}
+
 /// Hands a line on whose last bytes these are, and begins the next.
 fn end_line<L: Lines>(
     alloc: Global,
@@ -95,8 +131,7 @@ fn end_line<L: Lines>(
     ensures keeps { OnOk result ((first : L) → L.keeps first lines.old → L.keeps first lines.new) }
     ensures taken { OnOk result ((before : List LogLine) → L.has_taken lines.old before → L.has_taken lines.new (before ++ log_line (L.log lines.old) held.old.number (kept (held.old.bytes.items ++ bytes.now)) ∷ [])) }
 {
-    keep(&mut held.bytes, bytes)?;
-    lines.take_line(alloc, held.bytes.as_slice(), held.number)?;
+    hand_on(alloc, held, bytes, lines)?;
     let Some(number) = held.number.checked_add(1) else {
         return Err(Unread::TooLarge);
     };

@@ -1,11 +1,14 @@
 //! What stands first in a line.
 
-ghost use Rattle.std.specs.Prelude.{◌≡◌, ◌≤◌, ◌<◌, ◌+◌, ◌^◌, ◌==◌, not, length, take, drop, option_map, Some, IfSome, position};
+ghost use Rattle.std.specs.Prelude.{◌≡◌, ◌≤◌, ◌<◌, ◌+◌, ◌^◌, ◌==◌, not, length, min, take, drop, option_map, Some, IfSome, position};
 ghost use Rattle.std.specs.List.{prefix_len};
 ghost use Rattle.aa_logs.specs.Words.{is_separator, is_letter, begins_key, goes_on_key, run_len, key_len, plain_piece, quoted_piece, field_piece, run_piece, keyed_piece, first_piece, word_data};
 
 use crate::word::{Form, LogWord};
 use memchr::memchr;
+
+/// A quote is looked for among so many bytes before a search is begun.
+const NEAR: usize = 8;
 
 /// What stands first in a line, and the word that it is, if it is one.
 #[derive(Clone, Copy, Debug)]
@@ -87,12 +90,31 @@ fn plain_piece<'s>(form: Form, key: &'s [u8], value: &'s [u8]) -> Piece<'s>
     }
 }
 
-/// How far the next quote is.
-fn quote_at(text: &[u8]) -> Option<usize>
+/// How far the next quote is, where it is among the first bytes.
+fn near_quote(text: &[u8]) -> Option<usize>
+    ensures value { result ≡ position (λ c. c == 34) (take (min 8 (length text.now)) text.now) }
+{
+    text[..NEAR.min(text.len())].iter().position(|b| *b == b'"')
+}
+
+/// How far the next quote is, by a search.
+fn far_quote(text: &[u8]) -> Option<usize>
     ensures value { result ≡ position (λ c. c == 34) text.now }
     ensures within { IfSome result (λ n. n < length text.now) }
 {
     memchr(b'"', text)
+}
+
+/// How far the next quote is; most are near.
+#[tactic(auto, using(crate::proofs::Quotes::near_found, crate::proofs::Quotes::near_within))]
+fn quote_at(text: &[u8]) -> Option<usize>
+    ensures value { result ≡ position (λ c. c == 34) text.now }
+    ensures within { IfSome result (λ n. n < length text.now) }
+{
+    match near_quote(text) {
+        Some(at) => Some(at),
+        None => far_quote(text),
+    }
 }
 
 /// `KEY="TEXT"` with so long a text, or where no quote closes it, what a run would be.

@@ -10,7 +10,7 @@ use Rattle.serde_json.specs.Read.{number_of}
 use Rattle.serde_json.specs.Find.{as_u64}
 use Rattle.aa_logs.specs.declared.line.Then.{Then}
 use Rattle.aa_logs.specs.declared.line.Then.TheVariants.{Denied, Allowed, Granted}
-use Rattle.aa_logs.specs.Values.{is_hex, bytes_of_hex}
+use Rattle.aa_base.specs.Hex.{digits_in}
 use Rattle.aa_model.specs.declared.request.Request.{Request}
 use Rattle.aa_notation.specs.Read.{request_in}
 use Rattle.aa_log.specs.Counted.{Counted}
@@ -26,10 +26,6 @@ use Rattle.aa_merge.specs.Steps.{◌>>=◌, needed, each}
 abbrev pub json_list : Items → List Json
 json_list no_items = []
 json_list (item j js) = j ∷ json_list js
-
--- the bytes that hexadecimal digits are
-abbrev pub digits_in : List ℕ → Option (List ℕ)
-digits_in text = if is_hex text then Some (bytes_of_hex text) else None
 
 -- bytes as a text, or as an object with their hexadecimal digits
 abbrev pub bytes_in : Json → Option (List ℕ)

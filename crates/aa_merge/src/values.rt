@@ -1,16 +1,14 @@
 //! Values of a report's members.
 
 ghost use Rattle.std.specs.Prelude.{◌≡◌, codes, map, true, false, length, slice_index, ◌==◌, ◌<◌, option_map, option_and_then, IfOk};
-ghost use Rattle.std.specs.List.{list_all};
 ghost use Rattle.json.specs.Value.{value_view};
 ghost use Rattle.json.specs.Find.{get, as_str, as_number};
 ghost use Rattle.serde_json.specs.Find.{as_u64};
 ghost use Rattle.serde_json.specs.Read.{number_from, number_of};
-ghost use Rattle.aa_logs.specs.Values.{is_hex, is_even, is_hex_digit};
 ghost use Rattle.aa_notation.specs.Read.{request_in};
-ghost use Rattle.aa_merge.specs.Reading.{bytes_in, digits_in, list_in, number_in, request_of};
+ghost use Rattle.aa_merge.specs.Reading.{bytes_in, list_in, number_in, request_of};
 
-use aa_logs::{Form, LogWord, name_of};
+use aa_base::from_hex;
 use aa_model::Request;
 use aa_notation::{WordFault, read_word};
 use fast_float::Numeral;
@@ -19,49 +17,6 @@ use std::alloc::{AllocError, Global};
 
 /// A JSON value whose texts are borrowed.
 pub(crate) type Tree<'t> = Value<'t>;
-
-fn is_hex_digit(b: u8) -> bool
-    ensures { result ≡ is_hex_digit b }
-{
-    (b >= b'0' && b <= b'9') || (b >= b'A' && b <= b'F') || (b >= b'a' && b <= b'f')
-}
-
-fn is_even(text: &[u8]) -> bool
-    ensures { result ≡ is_even text.now }
-{
-    let mut rest = text;
-    while let [_, _, after @ ..] = rest {
-        rest = after;
-    }
-    rest.is_empty()
-}
-
-fn has_hex_digits_alone(text: &[u8]) -> bool
-    ensures { result ≡ list_all is_hex_digit text.now }
-{
-    text.iter().all(|b| is_hex_digit(*b))
-}
-
-fn is_hex(text: &[u8]) -> bool
-    ensures { result ≡ is_hex text.now }
-{
-    is_even(text) && has_hex_digits_alone(text)
-}
-
-/// The bytes that hexadecimal digits are.
-fn bytes_of_digits(alloc: Global, text: &[u8]) -> Result<Option<Vec<u8>>, AllocError>
-    ensures { IfOk result (λ bytes. option_map (λ b. b.items) bytes ≡ digits_in text.now) }
-{
-    if !is_hex(text) {
-        return Ok(None);
-    }
-    let word = LogWord {
-        form: Form::Plain,
-        key: &[],
-        text,
-    };
-    Ok(Some(name_of(alloc, &word)?))
-}
 
 /// The digits of an object that has bytes in them.
 fn digits_of<'t>(value: &Tree<'t>) -> Option<&'t str>
@@ -81,7 +36,7 @@ pub(crate) fn bytes_of(alloc: Global, value: &Tree<'_>) -> Result<Option<Vec<u8>
         return Ok(Some(Vec::from_slice(alloc, text.as_bytes())?));
     }
     match digits_of(value) {
-        Some(digits) => bytes_of_digits(alloc, digits.as_bytes()),
+        Some(digits) => from_hex(alloc, digits.as_bytes()),
         None => Ok(None),
     }
 }

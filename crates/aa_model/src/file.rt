@@ -51,7 +51,7 @@ impl FileRequest {
         ensures bad_mask { IsErrOf result RequestFault.BadMask ↔ ((is_path path.now ≡ true) × (is_mask mask.0 ≡ false)) }
         ensures no_name { IsErrOf result RequestFault.BadName → ⊥ }
     {
-        if is_good_path(path) && !is_good_mask(mask) {
+        if !is_good_mask(mask) && is_good_path(path) {
             return Err(RequestFault::BadMask);
         }
         let path = FilePath::copy_of(alloc, path)?;

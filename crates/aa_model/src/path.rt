@@ -42,7 +42,7 @@ fn begins_with_slash(path: &[u8]) -> bool
 pub(crate) fn holds_zero(text: &[u8]) -> bool
     ensures { result ≡ list_any (λ b. b == 0) text.now }
 {
-    text.iter().any(|b| *b == 0)
+    text.contains(&0)
 }
 
 /// Whether it can be a path.

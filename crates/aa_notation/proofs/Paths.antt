@@ -1,14 +1,15 @@
 -- A path as it is written in a word, read back.
-use Rattle.std.proofs.Common.{◌≡◌, ℕ, ◌+◌, ◌-◌, ◌/◌, ◌%◌, ◌<◌, ◌≤◌, Bool, true, false, not, ◌&&◌, ◌==◌, List, []}
-use Rattle.std.proofs.Common.{◌∷◌, length, cond, refl, sym, ◌∙◌, ap, arith, codes, flat_map, nat_lt, nat_le, is_some, option_map, option_and_then}
+use Rattle.std.proofs.Common.{◌≡◌, ℕ, ◌-◌, ◌/◌, ◌%◌, ◌<◌, Bool, true, false, not, ◌&&◌, ◌==◌, List, []}
+use Rattle.std.proofs.Common.{◌∷◌, length, cond, refl, sym, ◌∙◌, ap, arith, codes, flat_map, nat_lt, nat_le, is_some}
 use Rattle.std.proofs.Common.{Option, Some, None, true≢false}
 use Rattle.std.specs.List.{list_all, list_any}
-use Rattle.std.proofs.lemmas.Bool.{and_parts, and_from, agree_below_at, eqb-true, ltb-true, false_from_ne_true}
+use Rattle.std.proofs.lemmas.Bool.{and_parts, and_from, agree_below_at, eqb-true, ltb-true, false_from_ne_true, not_from_false, ne_eqb}
 use Rattle.aa_model.specs.Requests.{begins_with, is_path}
-use Rattle.aa_base.specs.Values.{hex_digit, hex_pair}
+use Rattle.aa_base.specs.Hex.{hex_digit, hex_pair, digits_in}
+use Rattle.aa_base.proofs.Digits.{bytes_back, digit_from_48}
 use Rattle.aa_notation.specs.Parts.{place_of}
 use Rattle.aa_notation.specs.Written.{is_visible, has_arrow, path_text}
-use Rattle.aa_notation.specs.Read.{byte_in, bytes_in, hex_in, path_in}
+use Rattle.aa_notation.specs.Read.{hex_in, path_in}
 use Rattle.aa_notation.specs.Again.{are_bytes, is_path_of_bytes}
 use Rattle.aa_notation.proofs.Splits.{not_true, no_arrow}
 
@@ -20,27 +21,22 @@ pub found_back : (o : Option ℕ) (n : ℕ) → is_found o n ≡ true → o ≡ 
 found_back None n h = absurd (true≢false (sym h))
 found_back (Some m) n h = ap (λ (k : ℕ). Some k) (eqb-true m n h)
 
-byte_back : (b : ℕ) → nat_lt b 256 ≡ true → byte_in (hex_digit (b / 16)) (hex_digit (b % 16)) ≡ Some b
-byte_back b h = found_back (byte_in (hex_digit (b / 16)) (hex_digit (b % 16))) b (agree_below_at (λ c. is_found (byte_in (hex_digit (c / 16)) (hex_digit (c % 16))) c) (λ c. true) 256 b refl (ltb-true b 256 h))
+capital_pair : (b : ℕ) → nat_lt b 256 ≡ true → (nat_lt (hex_digit (b / 16)) 97 && nat_lt (hex_digit (b % 16)) 97) ≡ true
+capital_pair b h = agree_below_at (λ c. nat_lt (hex_digit (c / 16)) 97 && nat_lt (hex_digit (c % 16)) 97) (λ c. true) 256 b refl (ltb-true b 256 h)
 
-pub bytes_back : (bytes : List ℕ) → are_bytes bytes ≡ true → bytes_in (flat_map hex_pair bytes) ≡ Some bytes
-unfolding bytes_in
-bytes_back [] h = refl
-bytes_back (b ∷ bs) h =
+capitals : (bytes : List ℕ) → are_bytes bytes ≡ true → list_all (λ c. nat_lt c 97) (flat_map hex_pair bytes) ≡ true
+capitals [] h = refl
+capitals (b ∷ bs) h =
     let both = and_parts (nat_lt b 256) (are_bytes bs) h in
-    ap (λ (o : Option ℕ). option_and_then (λ byte. option_map (λ bytes. byte ∷ bytes) (bytes_in (flat_map hex_pair bs))) o) (byte_back b both.0)
-    ∙ ap (λ (o : Option (List ℕ)). option_map (λ bytes. b ∷ bytes) o) (bytes_back bs both.1)
+    let two = and_parts (nat_lt (hex_digit (b / 16)) 97) (nat_lt (hex_digit (b % 16)) 97) (capital_pair b both.0) in
+    let rest = list_all (λ (c : ℕ). nat_lt c 97) (flat_map hex_pair bs) in
+    and_from (nat_lt (hex_digit (b / 16)) 97) (nat_lt (hex_digit (b % 16)) 97 && rest) two.0
+    (and_from (nat_lt (hex_digit (b % 16)) 97) rest two.1 (capitals bs both.1))
 
 pub hex_back : (bytes : List ℕ) → not (length bytes == 0) ≡ true → are_bytes bytes ≡ true → hex_in (flat_map hex_pair bytes) ≡ Some bytes
 hex_back [] some h = absurd (true≢false (sym some))
-hex_back (b ∷ bs) some h = bytes_back (b ∷ bs) h
-
-pub digit_from_48 : (n : ℕ) → 48 ≤ hex_digit n
-digit_from_48 n = low (nat_lt n 10)
-  where
-    low : (t : Bool) → 48 ≤ cond t (48 + n) (65 + (n - 10))
-    low true = omega arith
-    low false = omega arith
+hex_back (b ∷ bs) some h =
+    ap (λ (t : Bool). cond t (digits_in (flat_map hex_pair (b ∷ bs))) None) (capitals (b ∷ bs) h) ∙ bytes_back (b ∷ bs) h
 
 digit_is_no : (c n : ℕ) → c < 48 → (c == hex_digit n) ≡ false
 digit_is_no c n h = false_from_ne_true (c == hex_digit n) (λ e. let same : c ≡ hex_digit n = eqb-true c (hex_digit n) e in omega (arith, digit_from_48 n))
@@ -52,7 +48,7 @@ hex_path : (path : List ℕ) → begins_with 47 path ≡ true → are_bytes path
 hex_path [] b h = absurd (true≢false (sym b))
 hex_path (b ∷ bs) begins h =
     ap (λ (t : Bool). cond t (Some (flat_map hex_pair (b ∷ bs))) (hex_in (flat_map hex_pair (b ∷ bs)))) (no_slash (b / 16))
-    ∙ bytes_back (b ∷ bs) h
+    ∙ hex_back (b ∷ bs) (not_from_false (length (b ∷ bs) == 0) (ne_eqb (length (b ∷ bs)) 0 (λ e. omega (arith, e)))) h
 
 path_begins : (path : List ℕ) → is_path path ≡ true → begins_with 47 path ≡ true
 path_begins path h =

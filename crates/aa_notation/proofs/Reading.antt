@@ -9,7 +9,8 @@ use Rattle.aa_base.specs.Tables.{number_in, capability_names, family_names, sock
 use Rattle.aa_model.specs.Requests.{is_path, is_mask, is_wanted_name}
 use Rattle.aa_model.specs.declared.request.Request.{Request}
 use Rattle.aa_model.specs.declared.request.Request.TheVariants.{File, Link, Exec, Cap, Net, Change, Reload}
-use Rattle.aa_base.specs.Values.{hex_pair, letters}
+use Rattle.aa_base.specs.Hex.{hex_pair}
+use Rattle.aa_base.specs.Values.{letters}
 use Rattle.aa_base.specs.Tables.{entry}
 use Rattle.aa_notation.specs.Parts.{place_of, behind}
 use Rattle.aa_notation.specs.Written.{is_visible, path_text, file_word, exec_word, link_word, cap_word, net_word}
@@ -27,11 +28,13 @@ object_else b rest o c n =
     let fourth = or_else (behind (codes "change:") word) change_in fifth in
     let third = or_else (behind (codes "net:") word) net_in fourth in
     let second = or_else (behind (codes "cap:") word) cap_in third in
-    ap (λ (t : Option (List ℕ)). or_else t (object_in true) second) (not_behind 111 (codes "wned:") b rest o)
+    let other = or_else (behind (codes "other:") word) (object_in false) second in
+    ap (λ (t : Option (List ℕ)). or_else t (object_in true) other) (not_behind 111 (codes "wned:") b rest o)
+    ∙ (ap (λ (t : Option (List ℕ)). or_else t (object_in false) second) (not_behind 111 (codes "ther:") b rest o)
     ∙ (ap (λ (t : Option (List ℕ)). or_else t cap_in third) (not_behind 99 (codes "ap:") b rest c)
     ∙ (ap (λ (t : Option (List ℕ)). or_else t net_in fourth) (not_behind 110 (codes "et:") b rest n)
     ∙ (ap (λ (t : Option (List ℕ)). or_else t change_in fifth) (not_behind 99 (codes "hange:") b rest c)
-    ∙ ap (λ (t : Option (List ℕ)). or_else t (λ text. option_and_then change_in (hex_in text)) (object_in false word)) (not_behind 99 (codes "hange=") b rest c))))
+    ∙ ap (λ (t : Option (List ℕ)). or_else t (λ text. option_and_then change_in (hex_in text)) (object_in false word)) (not_behind 99 (codes "hange=") b rest c)))))
 
 -- letters that begin no other word
 abbrev begins_object : List ℕ → Bool

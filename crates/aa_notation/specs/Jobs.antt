@@ -4,15 +4,11 @@ use Rattle.std.specs.Prelude.{ℕ, nat_le, List, [], ◌∷◌, ◌++◌, ◌&&�
 use Rattle.std.specs.List.{list_all, list_any, position}
 use Rattle.std.specs.Str.{is_utf8, bytes_eq}
 use Rattle.aa_model.specs.declared.request.Request.{Request}
-use Rattle.aa_text.specs.Jsons.{json_bytes, key_text}
+use Rattle.aa_text.specs.Jsons.{comma_if, json_bytes, key_text}
 use Rattle.aa_logs.specs.declared.task.LogTask.{LogTask}
 use Rattle.aa_notation.specs.declared.job.Include.{Include}
 use Rattle.aa_notation.specs.declared.job.JobPolicy.{JobPolicy}
 use Rattle.aa_notation.specs.Requests.{member, request_text, has_text}
-
--- a comma before all but the first
-abbrev pub comma_if : Bool → List ℕ
-comma_if later = if later then codes "," else []
 
 -- the text of a request that a job can have, a comma before it
 unfoldable pub if_text : Bool → Request → List ℕ

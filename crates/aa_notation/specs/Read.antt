@@ -1,8 +1,10 @@
 -- Which request a word is.
 -- Source: apparmor.d(5), "Access Modes"; own.
-use Rattle.std.specs.Prelude.{◌≡◌, ℕ, ◌+◌, ◌-◌, ◌*◌, ◌==◌, ◌&&◌, nat_le, List, [], ◌∷◌, Bool, true, if◌then◌else◌}
+use Rattle.std.specs.Prelude.{◌≡◌, ℕ, ◌==◌, ◌&&◌, nat_lt, List, [], ◌∷◌, Bool, true, false, if◌then◌else◌}
 use Rattle.std.specs.Prelude.{codes, Option, Some, None, option_map, option_and_then, bit_or, Result, Ok, Err, MatchResult}
+use Rattle.std.specs.List.{list_all}
 use Rattle.std.specs.Str.{bytes_eq}
+use Rattle.aa_base.specs.Hex.{digits_in}
 use Rattle.aa_base.specs.Tables.{number_in, capability_names, family_names, sock_type_names}
 use Rattle.aa_model.specs.Requests.{begins_with, is_path, is_mask, is_wanted_name}
 use Rattle.aa_model.specs.declared.request.Request.{Request}
@@ -13,24 +15,10 @@ use Rattle.aa_notation.specs.Parts.{split_in, behind}
 use Rattle.aa_notation.specs.declared.read.WordFault.{WordFault}
 use Rattle.aa_notation.specs.declared.read.WordFault.TheVariants.{NoMemory, NoRequest}
 
--- the value of an upper-case hexadecimal digit
-abbrev pub digit_in : ℕ → Option ℕ
-digit_in b = if nat_le 48 b && nat_le b 57 then Some (b - 48) else (if nat_le 65 b && nat_le b 70 then Some (b - 55) else None)
-
--- the byte that two hexadecimal digits are
-abbrev pub byte_in : ℕ → ℕ → Option ℕ
-byte_in a b = option_and_then (λ high. option_map (λ low. 16 * high + low) (digit_in b)) (digit_in a)
-
--- the bytes that digits are, two for each
-unfoldable pub bytes_in : List ℕ → Option (List ℕ)
-bytes_in [] = Some []
-bytes_in (a ∷ []) = None
-bytes_in (a ∷ b ∷ rest) = option_and_then (λ byte. option_map (λ bytes. byte ∷ bytes) (bytes_in rest)) (byte_in a b)
-
--- some bytes at least
+-- the bytes that some upper-case hexadecimal digits are
 abbrev pub hex_in : List ℕ → Option (List ℕ)
 hex_in [] = None
-hex_in (b ∷ bs) = bytes_in (b ∷ bs)
+hex_in (b ∷ bs) = if list_all (λ c. nat_lt c 97) (b ∷ bs) then digits_in (b ∷ bs) else None
 
 -- a path stands as it is where it begins with /, else in digits
 abbrev pub path_in : List ℕ → Option (List ℕ)
@@ -113,15 +101,16 @@ abbrev pub or_else : Option (List ℕ) → (List ℕ → Option Request) → Opt
 or_else None read other = other
 or_else (Some text) read other = read text
 
--- the request of a word; an object is the task's user's where the word says so, or where all are
+-- the request of a word; an object is the task's user's where the word says so, or where all are whose word says nothing
 unfoldable pub request_in : Bool → List ℕ → Option Request
 request_in owned word =
     or_else (behind (codes "owned:") word) (object_in true)
+    (or_else (behind (codes "other:") word) (object_in false)
     (or_else (behind (codes "cap:") word) cap_in
     (or_else (behind (codes "net:") word) net_in
     (or_else (behind (codes "change:") word) change_in
     (or_else (behind (codes "change=") word) (λ text. option_and_then change_in (hex_in text))
-    (object_in owned word)))))
+    (object_in owned word))))))
 
 -- why a word is no request, by why its request is refused
 abbrev pub fault_of : RequestFault → WordFault

@@ -42,9 +42,9 @@ why_socket None = codes "behind net: stand a family and a type, as inet/stream"
 why_socket (Some s) =
     if is_some (number_in family_names s.0) then codes "no type of sockets has this name" else codes "no family of sockets has this name"
 
--- a word behind owned: is one for an object, as without it
+-- a word behind owned: or other: is one for an object, as without it
 abbrev pub object_of : List ℕ → List ℕ
-object_of word = unwrap_or (behind (codes "owned:") word) word
+object_of word = unwrap_or (behind (codes "owned:") word) (unwrap_or (behind (codes "other:") word) word)
 
 -- what is said of a word that is no request
 abbrev pub why : List ℕ → List ℕ
@@ -140,7 +140,9 @@ meant_object front object (Some s) = meant_letters front s.0 s.1
 
 -- the front of a word that says whose the object is
 abbrev pub owner_front : List ℕ → List ℕ
-owner_front word = if is_some (behind (codes "owned:") word) then codes "owned:" else []
+owner_front word =
+    if is_some (behind (codes "owned:") word) then codes "owned:"
+    else (if is_some (behind (codes "other:") word) then codes "other:" else [])
 
 -- what is said of the words that may have been meant by one that is no request
 abbrev pub meant : List ℕ → List ℕ

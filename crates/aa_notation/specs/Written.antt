@@ -6,7 +6,8 @@ use Rattle.aa_base.specs.Tables.{capability_names, family_names, sock_type_names
 use Rattle.aa_model.specs.Requests.{RequestedFile, RequestedLink, RequestedExec}
 use Rattle.aa_model.specs.declared.request.Request.{Request}
 use Rattle.aa_model.specs.declared.request.Request.TheVariants.{File, Link, Exec, Cap, Net, Change, Reload}
-use Rattle.aa_base.specs.Values.{hex_pair, letters}
+use Rattle.aa_base.specs.Hex.{hex_pair}
+use Rattle.aa_base.specs.Values.{letters}
 use Rattle.aa_base.specs.Tables.{entry}
 use Rattle.aa_notation.specs.Parts.{place_of}
 

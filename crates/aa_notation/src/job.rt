@@ -4,12 +4,14 @@ ghost use Rattle.std.specs.Prelude.{◌≡◌, ◌++◌, ◌&&◌, ◌||◌, not
 ghost use Rattle.std.specs.List.{list_all, list_any, position};
 ghost use Rattle.std.specs.Str.{is_utf8, bytes_eq};
 ghost use Rattle.aa_notation.specs.Requests.{has_text};
-ghost use Rattle.aa_notation.specs.Jobs.{left_out, comma_if, if_text, requests_text, has_profile, policy_of, decider_text, task_text, tasks_text, include_text, includes_text, texts_text, policies_text, given_text, asked_text, job_text, is_policy_count, is_job_text};
+ghost use Rattle.aa_notation.specs.Jobs.{left_out, if_text, requests_text, has_profile, policy_of, decider_text, task_text, tasks_text, include_text, includes_text, texts_text, policies_text, given_text, asked_text, job_text, is_policy_count, is_job_text};
 
-use crate::request::{has_text, push_member, push_request};
+use crate::request::{has_text, push_first, push_request};
 use aa_logs::LogTask;
 use aa_model::Request;
-use aa_text::{is_text, push_json_bytes, push_key, push_number, push_text};
+use aa_text::{
+    is_text, push_comma, push_json_bytes, push_key, push_next_key, push_number, push_text,
+};
 use std::alloc::{AllocError, Global};
 
 /// The most policies of a job.
@@ -28,12 +30,6 @@ pub struct JobPolicy<'a> {
 pub struct Include<'a> {
     pub name: &'a [u8],
     pub text: &'a [u8],
-}
-
-fn push_comma(out: &mut Vec<u8>, is_later: bool) -> Result<(), AllocError>
-    ensures { OnOk result (out.new.items ≡ out.old.items ++ comma_if is_later) }
-{
-    push_text(out, if is_later { "," } else { "" })
 }
 
 /// Appends a request, unless it is no UTF-8, behind a comma where one stands before.
@@ -106,8 +102,7 @@ fn push_decider(
     let Some(number) = policy_of(policies, label) else {
         return Ok(());
     };
-    push_text(out, ",")?;
-    push_key(out, "policy")?;
+    push_next_key(out, "policy")?;
     push_number(out, number)
 }
 
@@ -121,9 +116,8 @@ fn push_task(
     ensures { OnOk result (out.new.items ≡ out.old.items ++ task_text policies.now task.now) }
 {
     push_text(out, "{")?;
-    push_member(out, alloc, "label", task.label.as_slice())?;
-    push_text(out, ",")?;
-    push_key(out, "requests")?;
+    push_first(out, alloc, "label", task.label.as_slice())?;
+    push_next_key(out, "requests")?;
     push_text(out, "[")?;
     push_requests(out, alloc, task.requests.as_slice())?;
     push_text(out, "]")?;
@@ -207,7 +201,7 @@ fn push_policies(
     ensures { OnOk result (out.new.items ≡ out.old.items ++ policies_text policies.now) }
 {
     if let [policy] = policies {
-        return push_member(out, alloc, "policy", policy.text);
+        return push_first(out, alloc, "policy", policy.text);
     }
     push_key(out, "policies")?;
     push_text(out, "[")?;
@@ -227,8 +221,7 @@ fn push_given(
 {
     push_text(out, "{")?;
     push_policies(out, alloc, policies)?;
-    push_text(out, ",")?;
-    push_key(out, "includes")?;
+    push_next_key(out, "includes")?;
     push_text(out, "{")?;
     push_includes(out, alloc, includes)?;
     push_text(out, "},")

@@ -179,7 +179,7 @@ fn read_by(alloc: Global, letters: &[u8], text: &[u8], owned: bool) -> Result<Re
     read_file(alloc, letters, text, owned)
 }
 
-/// A request for a file, behind `owned:`.
+/// A request for a file, behind `owned:` or `other:`.
 fn read_object(alloc: Global, word: &[u8], owned: bool) -> Result<Request, WordFault>
     ensures { Reads (λ r. r) result (object_in owned word.now) }
 {
@@ -191,16 +191,19 @@ fn read_object(alloc: Global, word: &[u8], owned: bool) -> Result<Request, WordF
 
 /// The request that a word is:
 ///
-/// `[owned:]LETTERS:PATH` asks to use a file, each letter of `rwakm` its one permission; `[owned:]x:PATH` to execute it;
-/// `[owned:]l:PATH->PATH` to link the first to the second; `cap:NAME`, `net:FAMILY/TYPE` and `change:NAME` a capability, a socket
-/// and another profile. A path begins with `/`, else it stands in upper-case hexadecimal digits, as the name behind `change=` does.
-/// With `owned` an object is the task's user's without the word's saying so.
+/// `[owned:|other:]LETTERS:PATH` asks to use a file, each letter of `rwakm` its one permission; `[owned:|other:]x:PATH` to execute it;
+/// `[owned:|other:]l:PATH->PATH` to link the first to the second; `cap:NAME`, `net:FAMILY/TYPE` and `change:NAME` a capability, a
+/// socket and another profile. A path begins with `/`, else it stands in upper-case hexadecimal digits, as the name behind `change=`
+/// does. An object is the task's user's behind `owned:`, another's behind `other:`, and without a front as `owned` says.
 #[tactic(auto, unfolding(crate::specs::Read::request_in))]
 pub fn read_word(alloc: Global, word: &[u8], owned: bool) -> Result<Request, WordFault>
     ensures { Reads (λ r. r) result (request_in owned word.now) }
 {
     if let Some(object) = behind(word, "owned:") {
         return read_object(alloc, object, true);
+    }
+    if let Some(object) = behind(word, "other:") {
+        return read_object(alloc, object, false);
     }
     if let Some(name) = behind(word, "cap:") {
         return read_cap(name);

@@ -101,7 +101,10 @@ fn why_socket(text: &[u8]) -> &'static str
 fn object_of(word: &[u8]) -> &[u8]
     ensures { result.now ≡ object_of word.now }
 {
-    behind(word, "owned:").unwrap_or(word)
+    match behind(word, "owned:") {
+        Some(object) => object,
+        None => behind(word, "other:").unwrap_or(word),
+    }
 }
 
 fn begins(word: &[u8], front: &str) -> bool
@@ -417,7 +420,10 @@ fn push_meant_net(out: &mut Vec<u8>, alloc: Global, text: &[u8]) -> Result<(), A
 fn owner_front(word: &[u8]) -> &'static str
     ensures { result.now ≡ owner_front word.now }
 {
-    if begins(word, "owned:") { "owned:" } else { "" }
+    if begins(word, "owned:") {
+        return "owned:";
+    }
+    if begins(word, "other:") { "other:" } else { "" }
 }
 
 fn push_meant(out: &mut Vec<u8>, alloc: Global, word: &[u8]) -> Result<(), AllocError>

@@ -6,12 +6,14 @@ ghost use Rattle.aa_notation.specs.Requests.{member, owned_end, mask_member, fil
 
 use aa_base::{Cap, Family, Perms, SockType, push_mask};
 use aa_model::{ExecRequest, FileRequest, LinkRequest, Request};
-use aa_text::{is_text, push_json_bytes, push_key, push_number, push_text};
+use aa_text::{
+    is_text, push_json_bytes, push_key, push_member, push_next_key, push_number, push_text,
+};
 use std::alloc::{AllocError, Global};
 
-/// Appends a member whose value is a text.
+/// Appends the first member of an object, whose value is a text.
 #[tactic(auto, unfolding(crate::specs::Requests::member))]
-pub(crate) fn push_member(
+pub(crate) fn push_first(
     out: &mut Vec<u8>,
     alloc: Global,
     key: &str,
@@ -32,14 +34,11 @@ fn push_owned(out: &mut Vec<u8>, owned: bool) -> Result<(), AllocError>
 }
 
 #[tactic(auto, unfolding(crate::specs::Requests::mask_member))]
-fn push_letters(out: &mut Vec<u8>, alloc: Global, mask: Perms) -> Result<(), AllocError>
+fn push_mask_member(out: &mut Vec<u8>, mask: Perms) -> Result<(), AllocError>
     ensures { OnOk result (out.new.items ≡ out.old.items ++ mask_member mask.0) }
 {
-    let mut letters = String::new(alloc);
-    push_mask(&mut letters, mask)?;
-    push_text(out, ",")?;
-    push_key(out, "mask")?;
-    push_text(out, letters.as_str())
+    push_next_key(out, "mask")?;
+    push_mask(out, mask)
 }
 
 #[tactic(auto, unfolding(crate::specs::Requests::file_text))]
@@ -47,19 +46,18 @@ fn push_file(out: &mut Vec<u8>, alloc: Global, file: &FileRequest) -> Result<(),
     ensures { OnOk result (out.new.items ≡ out.old.items ++ file_text file.now) }
 {
     push_text(out, "{")?;
-    push_member(out, alloc, "file", file.path())?;
-    push_letters(out, alloc, file.mask())?;
+    push_first(out, alloc, "file", file.path())?;
+    push_mask_member(out, file.mask())?;
     push_owned(out, file.owned())
 }
 
-#[tactic(auto, unfolding(crate::specs::Requests::link_text))]
+#[tactic(auto, unfolding(crate::specs::Requests::link_text, crate::specs::Requests::member, aa_text::specs::Jsons::member_text))]
 fn push_link(out: &mut Vec<u8>, alloc: Global, link: &LinkRequest) -> Result<(), AllocError>
     ensures { OnOk result (out.new.items ≡ out.old.items ++ link_text link.now) }
 {
     push_text(out, "{")?;
-    push_member(out, alloc, "link", link.link())?;
-    push_text(out, ",")?;
-    push_member(out, alloc, "to", link.target())?;
+    push_first(out, alloc, "link", link.link())?;
+    push_member(out, alloc, "to", &link.target())?;
     push_owned(out, link.owned())
 }
 
@@ -68,7 +66,7 @@ fn push_exec(out: &mut Vec<u8>, alloc: Global, exec: &ExecRequest) -> Result<(),
     ensures { OnOk result (out.new.items ≡ out.old.items ++ exec_text exec.now) }
 {
     push_text(out, "{")?;
-    push_member(out, alloc, "exec", exec.path())?;
+    push_first(out, alloc, "exec", exec.path())?;
     push_owned(out, exec.owned())
 }
 
@@ -78,7 +76,7 @@ fn push_single(out: &mut Vec<u8>, alloc: Global, key: &str, bytes: &[u8]) -> Res
     ensures { OnOk result (out.new.items ≡ out.old.items ++ single key.now bytes.now) }
 {
     push_text(out, "{")?;
-    push_member(out, alloc, key, bytes)?;
+    push_first(out, alloc, key, bytes)?;
     push_text(out, "}")
 }
 
@@ -100,7 +98,7 @@ fn kind_name(kind: SockType) -> &'static [u8]
     kind.name().as_bytes()
 }
 
-#[tactic(auto, unfolding(crate::specs::Requests::net_text))]
+#[tactic(auto, unfolding(crate::specs::Requests::net_text, crate::specs::Requests::member, aa_text::specs::Jsons::member_text))]
 fn push_net(
     out: &mut Vec<u8>,
     alloc: Global,
@@ -110,9 +108,8 @@ fn push_net(
     ensures { OnOk result (out.new.items ≡ out.old.items ++ net_text family kind) }
 {
     push_text(out, "{")?;
-    push_member(out, alloc, "net", family_name(family))?;
-    push_text(out, ",")?;
-    push_member(out, alloc, "type", kind_name(kind))?;
+    push_first(out, alloc, "net", family_name(family))?;
+    push_member(out, alloc, "type", &kind_name(kind))?;
     push_text(out, "}")
 }
 

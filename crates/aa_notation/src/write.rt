@@ -1,39 +1,14 @@
 //! Writes a request in one word.
 
-ghost use Rattle.std.specs.Prelude.{◌≡◌, ◌<◌, ◌++◌, ◌==◌, ◌∷◌, [], codes, flat_map, take, bit_and, is_some, if◌then◌else◌, OnOk};
+ghost use Rattle.std.specs.Prelude.{◌≡◌, ◌++◌, OnOk};
 ghost use Rattle.std.specs.List.{list_all};
-ghost use Rattle.aa_base.specs.Values.{hex_digit, hex_pair, letter, letters};
-ghost use Rattle.aa_notation.specs.Parts.{place_of};
 ghost use Rattle.aa_notation.specs.Written.{is_visible, has_arrow, path_text, owned_text, file_word, exec_word, link_word, cap_word, net_word, change_word, word_text};
 
 use crate::split::place_of;
-use aa_base::{Cap, Family, Perms, SockType};
+use aa_base::{Cap, Family, SockType, push_hex, push_letters};
 use aa_model::{ChangeRequest, ExecRequest, FileRequest, LinkRequest, Request};
-use bitflags::Flags;
+use aa_text::push_text;
 use std::alloc::AllocError;
-
-fn push_text(out: &mut Vec<u8>, text: &str) -> Result<(), AllocError>
-    ensures { OnOk result (out.new.items ≡ out.old.items ++ text.now) }
-{
-    out.extend_from_slice(text.as_bytes())
-}
-
-fn digit(n: u8) -> u8
-    requires { n < 16 }
-    ensures { result ≡ hex_digit n }
-{
-    if n < 10 { b'0' + n } else { b'A' + (n - 10) }
-}
-
-fn push_hex(out: &mut Vec<u8>, bytes: &[u8]) -> Result<(), AllocError>
-    ensures { OnOk result (out.new.items ≡ out.old.items ++ flat_map hex_pair bytes.now) }
-{
-    for b in bytes {
-        out.push(digit(*b / 16))?;
-        out.push(digit(*b % 16))?;
-    }
-    Ok(())
-}
 
 fn is_visible(bytes: &[u8]) -> bool
     ensures { result ≡ list_all is_visible bytes.now }
@@ -65,29 +40,6 @@ fn push_owned(out: &mut Vec<u8>, owned: bool) -> Result<(), AllocError>
         push_text(out, "owned:")?;
     }
     Ok(())
-}
-
-fn push_letter(out: &mut Vec<u8>, mask: Perms, perm: Perms, c: u8) -> Result<(), AllocError>
-    ensures { OnOk result (out.new.items ≡ out.old.items ++ letter mask.0 perm.0 c) }
-{
-    if mask.contains(perm) {
-        out.push(c)?;
-    }
-    Ok(())
-}
-
-/// Appends the letters of a set of permissions, in the order `rwalkmx`.
-#[tactic(auto, unfolding(aa_base::specs::Values::letters))]
-fn push_letters(out: &mut Vec<u8>, mask: Perms) -> Result<(), AllocError>
-    ensures { OnOk result (out.new.items ≡ out.old.items ++ letters mask.0) }
-{
-    push_letter(out, mask, Perms::READ, b'r')?;
-    push_letter(out, mask, Perms::WRITE, b'w')?;
-    push_letter(out, mask, Perms::APPEND, b'a')?;
-    push_letter(out, mask, Perms::LINK, b'l')?;
-    push_letter(out, mask, Perms::LOCK, b'k')?;
-    push_letter(out, mask, Perms::MMAP, b'm')?;
-    push_letter(out, mask, Perms::EXEC, b'x')
 }
 
 fn push_file(out: &mut Vec<u8>, file: &FileRequest) -> Result<(), AllocError>

@@ -1,10 +1,10 @@
 -- What JSON values stand for in a question.
 -- Source: own; RFC 4648, section 8.
-use Rattle.std.specs.Prelude.{ℕ, ◌&&◌, List, [], ◌∷◌, codes, Bool, nat_le, if◌then◌else◌, Option, Some, None, option_map, Result, Ok, Err}
+use Rattle.std.specs.Prelude.{ℕ, ◌&&◌, List, [], ◌∷◌, codes, Bool, nat_le, if◌then◌else◌, Option, Some, None, option_map}
 use Rattle.std.specs.Option.{option_and_then}
 use Rattle.std.specs.List.{list_any}
 use Rattle.std.specs.Str.{bytes_eq}
-use Rattle.hex.specs.Hex.{decode_of}
+use Rattle.aa_base.specs.Hex.{digits_in}
 use Rattle.serde_json.specs.Data.{Data, Items, no_items, item, Members, no_members, member}
 use Rattle.serde_json.specs.Find.{get, as_str, as_number, as_u64, as_array, as_object}
 use Rattle.aa_question.specs.Memory.{Row}
@@ -32,15 +32,10 @@ abbrev pub data_list : Items → List Data
 data_list no_items = []
 data_list (item d ds) = d ∷ data_list ds
 
--- what was made, if nothing failed
-abbrev pub made : {A E : Type 0} → Result A E → Option A
-made (Ok a) = Some a
-made (Err e) = None
-
 -- the bytes of an object that has their hexadecimal digits alone
 abbrev pub hex_in : Data → Option (List ℕ)
 hex_in d =
-    option_and_then (λ (_ : Members). option_and_then (λ digits. made (decode_of digits)) (option_and_then as_str (get (codes "hex") d))) (only (codes "hex" ∷ []) d)
+    option_and_then (λ (_ : Members). option_and_then digits_in (option_and_then as_str (get (codes "hex") d))) (only (codes "hex" ∷ []) d)
 
 -- a text, or else such an object
 abbrev pub bytes_or : Option (List ℕ) → Data → Option (List ℕ)

@@ -8,11 +8,10 @@ ghost use Rattle.serde_json.specs.View.{view, members_view};
 ghost use Rattle.serde_json.specs.Find.{get, as_object};
 ghost use Rattle.aa_files.specs.Texts.{texts, slices};
 ghost use Rattle.aa_question.specs.Memory.{row_of};
-ghost use Rattle.aa_question.specs.Values.{is_among, unknown_in, only, made, hex_in, bytes_in, row_in, all_of, list_in, or_else, states_in, some_bytes, data_list};
-ghost use Rattle.hex.specs.Hex.{decode_of};
+ghost use Rattle.aa_question.specs.Values.{is_among, unknown_in, only, hex_in, bytes_in, row_in, all_of, list_in, or_else, states_in, some_bytes, data_list};
 ghost use Rattle.serde_json.specs.Find.{as_str, as_bool, as_array};
 
-use hex::FromHexError;
+use aa_base::from_hex;
 use serde_json::{Map, Value};
 use std::alloc::{AllocError, Global};
 
@@ -56,17 +55,6 @@ fn has_only(value: &Value, names: &[&str]) -> bool
     }
 }
 
-/// The bytes that hexadecimal digits stand for, if they do for some.
-fn decoded(alloc: Global, digits: &[u8]) -> Result<Option<Vec<u8>>, AllocError>
-    ensures { IfOk result (λ bytes. option_map (λ b. b.items) bytes ≡ made (decode_of digits.now)) }
-{
-    match hex::decode(alloc, digits) {
-        Ok(bytes) => Ok(Some(bytes)),
-        Err(FromHexError::OutOfMemory) => Err(AllocError),
-        Err(_) => Ok(None),
-    }
-}
-
 /// The text of a member, if it is one.
 fn text_of<'v>(value: &'v Value, key: &str) -> Option<&'v str>
     ensures { option_map (λ t. t.now) result ≡ option_and_then as_str (get key.now (view value.entry.now)) }
@@ -85,7 +73,7 @@ fn hex_in(alloc: Global, value: &Value) -> Result<Option<Vec<u8>>, AllocError>
         return Ok(None);
     }
     match text_of(value, "hex") {
-        Some(digits) => decoded(alloc, digits.as_bytes()),
+        Some(digits) => from_hex(alloc, digits.as_bytes()),
         None => Ok(None),
     }
 }

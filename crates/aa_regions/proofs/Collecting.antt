@@ -1,10 +1,10 @@
 -- The regions of the steps are those of the patterns.
 use Rattle.std.proofs.Common.{◌≡◌, ℕ, ◌+◌, ◌<◌, ◌≤◌, List, [], ◌∷◌, ◌++◌, Bool, true, false, true≢false, Some, length, map, get_or, slice_get, set, Fits, w8}
-use Rattle.std.proofs.Common.{Contains, refl, sym, ap, ◌∙◌, subst, arith, ⊎_elim}
+use Rattle.std.proofs.Common.{All, Contains, refl, sym, ap, ◌∙◌, subst, arith, ⊎_elim}
 use Rattle.std.proofs.lemmas.Bool.{cases_eq, cases_lt}
 use Rattle.std.proofs.lemmas.Option.{slice_get-get_or}
 use Rattle.std.proofs.lemmas.List.{length-set, length_push, length-map, get_or-set_same, get_or-set_other, get_or_append_left, get_or_push, get_or_default, get_or-map, map_push}
-use Rattle.std.proofs.lemmas.List.Elements.{All-append, All-from_get_or, All-weaker, Contains-get_or, Contains-push, Contains-push_cases, Contains-append_left}
+use Rattle.std.proofs.lemmas.List.Elements.{All-append, All-nil, All-from_get_or, All-weaker, Contains-get_or, Contains-push, Contains-push_cases, Contains-append_left}
 use Rattle.aa_pattern.specs.declared.pattern.Pattern.{Pattern}
 use Rattle.aa_auto.specs.Apart.{IsApart}
 use Rattle.aa_pattern.specs.Globs.{Matches}
@@ -15,8 +15,8 @@ use Rattle.aa_regions.specs.declared.steps.Step.{Step}
 use Rattle.aa_regions.specs.declared.regions.Region.{Region}
 use Rattle.aa_regions.specs.Wanted.{IsWanted, IsFrom}
 use Rattle.aa_regions.specs.Steps.{step_at, text_at, IsRising, IsTrail, AreSpelled, AreEarlier, AreNumbered, ReachAll}
-use Rattle.aa_regions.specs.Regions.{IsRegion, AreRegions, IsTaken, IsTakenOf, AreCollected}
-use Rattle.aa_regions.specs.Automata.{HasLists, AreRegionsBy}
+use Rattle.aa_regions.specs.Regions.{IsRegion, AreRegions, AreTextRegions, IsTaken, IsTakenOf, AreCollected}
+use Rattle.aa_regions.specs.Automata.{HasLists, HaveShort, AreRegionsBy}
 
 abbrev pub numbers_of : Region → List ℕ
 numbers_of r = r.numbers
@@ -225,6 +225,35 @@ are_regions ps t head low max rs bytes a by = record {
   all = λ s w. let f = by.all s w in (f.0, f.1, subst (ListsMatching ps s) f.2 (a.matching s (wanted_text head low max s bytes w)));
   apart = by.apart;
 }
+
+module _ (ps : List Pattern) (t : Table) (max : ℕ) (rs : List Region) (a : IsAutomaton ps t) (by : AreRegionsBy t [] 0 max rs) (short : HaveShort t [] 0 max) where
+  any_text : (s : List ℕ) → IsText s → All (IsFrom 0) s
+  any_text s text = All-weaker (λ b. b < 256) (IsFrom 0) (λ b lt. (omega arith, lt)) s text
+
+  text : (r : Region) → Contains rs r → IsText r.witness
+  text r in' = wanted_text [] 0 max r.witness (All-nil (λ b. b < 256)) (by.wanted r in')
+
+  listed : (r : Region) (in' : Contains rs r) → ListsMatching ps r.witness r.numbers
+  listed r in' = subst (ListsMatching ps r.witness) (by.lists r in') (a.matching r.witness (text r in'))
+
+  -- a text that isn't too long is a wanted one
+  shortest : (r : Region) → Contains rs r → (s : List ℕ) → IsText s → ListsMatching ps s r.numbers → length r.witness ≤ length s
+  shortest r in' s of l =
+      ⊎_elim
+      (λ (long : max < length s). omega (arith, long, (by.wanted r in').short))
+      (λ (le : length s ≤ max). (region_is ps t [] 0 max rs (All-nil (λ b. b < 256)) (automaton_lists ps t a) by r in' (a.matching r.witness (text r in')) (λ u bytes m. a.matching u bytes)).shortest s
+      (record { rest = s; whole = refl; bytes = any_text s of; short = le }) l)
+      (cases_lt max (length s))
+
+  pub text_regions : AreTextRegions ps rs
+  text_regions = record {
+    each = λ r in'. record { text = text r in'; lists = listed r in'; shortest = shortest r in' };
+    all = λ s of.
+        let u = short s (any_text s of) in
+        let f = by.all u.0 u.1 in
+        (f.0, f.1, subst (ListsMatching ps s) (ap (list_at t) (sym u.2) ∙ f.2) (a.matching s of));
+    apart = by.apart;
+  }
 
 -- the last pattern is listed just where it matches
 pub last_in : (ps : List Pattern) (q : Pattern) (s numbers : List ℕ) → ListsMatching (ps ++ q ∷ []) s numbers → Matches q.items.items s → Contains numbers (length ps)

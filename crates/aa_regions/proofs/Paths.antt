@@ -1,5 +1,5 @@
 -- Paths that can be asked for are texts of a kind.
-use Rattle.std.proofs.Common.{◌≡◌, ℕ, ◌<◌, ◌≤◌, List, [], ◌∷◌, ◌++◌, true, false, length, Result, Ok, Err, IfOk, All, refl, sym, ap, subst, arith}
+use Rattle.std.proofs.Common.{◌≡◌, ℕ, ◌<◌, ◌≤◌, List, [], ◌∷◌, ◌++◌, true, false, length, Result, Ok, Err, IfOk, OnOk, All, refl, sym, ap, subst, arith}
 use Rattle.std.specs.Prelude.{not, ◌&&◌, ◌==◌, nat_le}
 use Rattle.std.specs.List.{list_any}
 use Rattle.std.proofs.lemmas.Bool.{and_parts, and_from, or_parts, or_from, not-true, not_from_false, eqb-true, ne_eqb, eqb-false, leb-true, le-leb}
@@ -97,3 +97,7 @@ all_within ps q rs are = record {
 pub ok_then : {X E : Type 0} (r : Result X E) {P Q : X → Type 0} → IfOk r P → ((x : X) → P x → Q x) → IfOk r Q
 ok_then (Ok x) p f = f x p
 ok_then (Err e) p f = p
+
+pub ok_both : {X E : Type 0} (r : Result X E) {P Q : X → Type 0} {R : Type 0} → IfOk r P → OnOk r R → ((x : X) → P x → R → Q x) → IfOk r Q
+ok_both (Ok x) p q f = f x p q
+ok_both (Err e) p q f = p

@@ -1,14 +1,15 @@
 -- Where all steps are followed, each text leads to the row of one.
-use Rattle.std.proofs.Common.{◌≡◌, ℕ, suc, ◌+◌, ◌*◌, ◌<◌, ◌≤◌, List, [], ◌∷◌, ◌++◌, Bool, length, All, refl, sym, ap, ◌∙◌, subst, arith, ⊎_elim, append_assoc, append-nil}
+use Rattle.std.proofs.Common.{◌≡◌, ℕ, zero, suc, ◌+◌, ◌*◌, ◌<◌, ◌≤◌, List, [], ◌∷◌, ◌++◌, Bool, length, All, refl, sym, ap, ◌∙◌, subst, arith, ⊎_elim, append_assoc, append-nil}
 use Rattle.std.specs.Prelude.{slice_index}
 use Rattle.std.proofs.lemmas.Bool.{cases_lt}
 use Rattle.std.proofs.lemmas.List.{length_push, length-append}
 use Rattle.std.proofs.lemmas.List.Elements.{All-head, All-tail}
-use Rattle.aa_auto.specs.Tables.{Table, place_of, row_after}
+use Rattle.aa_auto.specs.Tables.{Table, place_of, row_after, rows_of}
 use Rattle.aa_regions.specs.declared.steps.Step.{Step}
 use Rattle.aa_regions.specs.Wanted.{IsFrom}
+use Rattle.aa_regions.specs.Automata.{HaveShort}
 use Rattle.aa_regions.specs.Steps.{step_at, text_at, IsTrail, IsLevel, IsWithin, IsFollowed, AreFollowed, Extends, ReachAll}
-use Rattle.aa_regions.proofs.Stepping.{row_more, step_old}
+use Rattle.aa_regions.proofs.Stepping.{row_more, step_old, wanted_more}
 
 pub extends_none : (steps : List Step) → Extends steps steps
 extends_none steps = record { more = []; are = sym (append-nil steps) }
@@ -89,3 +90,55 @@ module _ (t : Table) (head : List ℕ) (low max : ℕ) (seen : List Bool) (steps
   reach_all s w =
       subst (λ x. IsWithin steps (place_of t x) (length x)) (sym w.whole)
       (on w.rest head w.bytes (subst (λ x. length x ≤ max) w.whole w.short) begin)
+
+-- where texts may be as long as there are rows, none needs to be longer
+module _ (t : Table) (head : List ℕ) (low max : ℕ) (seen : List Bool) (steps : List Step) (trail : IsTrail t head low max seen steps)
+    (reach : ReachAll t head low max steps) (room : length head + rows_of t ≤ max) where
+  -- the text of step i has at most i bytes more than the head
+  few_bytes : (n i : ℕ) → i ≤ n → i < length steps → (step_at steps i).length ≤ length head + i
+  few_bytes zero i le lt =
+      let at = trail.each i lt in
+      ⊎_elim
+      (λ (p : (i ≡ 0) × (text_at trail.texts i ≡ head)). omega (arith, at.long, ap length p.1))
+      (λ (p : ((step_at steps i).from < i) × (text_at trail.texts i ≡ text_at trail.texts (step_at steps i).from ++ (step_at steps i).byte ∷ [])). absurd (omega (arith, le, p.0)))
+      at.spelled
+  few_bytes (suc n) i le lt =
+      let at = trail.each i lt in
+      let from = (step_at steps i).from in
+      let before = text_at trail.texts from in
+      ⊎_elim
+      (λ (p : (i ≡ 0) × (text_at trail.texts i ≡ head)). omega (arith, at.long, ap length p.1))
+      (λ (p : (from < i) × (text_at trail.texts i ≡ before ++ (step_at steps i).byte ∷ [])).
+      let there : from < length steps = omega (arith, p.0, lt) in
+      omega (
+        arith,
+        few_bytes n from (omega (arith, le, p.0)) there,
+        p.0,
+        (trail.each from there).long,
+        at.long,
+        ap length p.1,
+        length_push before (step_at steps i).byte,
+      ))
+      at.spelled
+
+  -- a step leads to the row of the text
+  abbrev IsMet : List ℕ → Type 0
+  IsMet s = (j : ℕ) × (j < length steps) × ((step_at steps j).row ≡ place_of t s)
+
+  met_on : (u s : List ℕ) → All (IsFrom low) u → IsMet s → IsMet (s ++ u)
+  met_on [] s bytes m = subst IsMet (sym (append-nil s)) m
+  met_on (b ∷ u) s bytes m =
+      let at = trail.each m.0 m.1 in
+      let text = text_at trail.texts m.0 in
+      let short : length text < max = omega (arith, at.long, few_bytes m.0 m.0 (omega arith) m.1, m.1, trail.count, room) in
+      let longer = wanted_more head low max text b at.wanted short (All-head (IsFrom low) b u bytes) in
+      let next = reach (text ++ b ∷ []) longer in
+      let row : place_of t (text ++ b ∷ []) ≡ place_of t (s ++ b ∷ []) =
+      row_more t text (b ∷ []) 0 ∙ ap (λ r. row_after t r (b ∷ [])) (at.place ∙ m.2) ∙ sym (row_more t s (b ∷ []) 0) in
+      subst IsMet (append_assoc s (b ∷ []) u) (met_on u (s ++ b ∷ []) (All-tail (IsFrom low) b u bytes) (next.0, next.1, next.2 ∙ row))
+
+  pub have_short : HaveShort t head low max
+  have_short rest bytes =
+      let m = met_on rest head bytes (0, trail.some, trail.start) in
+      let at = trail.each m.0 m.1 in
+      (text_at trail.texts m.0, at.wanted, at.place ∙ m.2)

@@ -1,12 +1,12 @@
 -- Regions by the lists of an automaton.
 -- Source: own.
-use Rattle.std.specs.Prelude.{◌≡◌, ℕ, ◌<◌, ◌≤◌, List, [], ◌∷◌, ◌++◌, map, length, Contains}
+use Rattle.std.specs.Prelude.{◌≡◌, ℕ, ◌<◌, ◌≤◌, List, [], ◌∷◌, ◌++◌, All, map, length, Contains}
 use Rattle.aa_pattern.specs.declared.pattern.Pattern.{Pattern}
 use Rattle.aa_pattern.specs.Globs.{Matches}
 use Rattle.aa_auto.specs.Apart.{IsApart}
 use Rattle.aa_auto.specs.Tables.{Table, IsText, ListsMatching, list_at, list_number, place_of}
 use Rattle.aa_regions.specs.declared.regions.Region.{Region}
-use Rattle.aa_regions.specs.Wanted.{IsWanted}
+use Rattle.aa_regions.specs.Wanted.{IsFrom, IsWanted}
 use Rattle.aa_regions.specs.Regions.{IsAsked, IsPathRegion}
 
 -- each text's row has one of the lists, and no two of these are equal
@@ -22,6 +22,10 @@ pub record AreRegionsBy (t : Table) (head : List ℕ) (low max : ℕ) (rs : List
       → length r.witness ≤ length s
   pub all : (s : List ℕ) → IsWanted head low max s → (r : Region) × Contains rs r × (list_at t (place_of t s) ≡ r.numbers)
   pub apart : IsApart (map (λ r. r.numbers) rs)
+
+-- each text that begins with the head and goes on with bytes of at least `low` has the row of one that isn't too long
+abbrev pub HaveShort : Table → List ℕ → ℕ → ℕ → Type 0
+HaveShort t head low max = (rest : List ℕ) → All (IsFrom low) rest → (u : List ℕ) × IsWanted head low max u × (place_of t u ≡ place_of t (head ++ rest))
 
 -- the regions of the paths that the last pattern matches, among others of paths that it doesn't match: of those nothing is said but that they can be asked for
 pub record ArePathRegionsWithin (ps : List Pattern) (q : Pattern) (rs : List Region) : Type 0 where

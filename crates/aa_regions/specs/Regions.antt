@@ -22,6 +22,18 @@ pub record AreRegions (ps : List Pattern) (head : List ℕ) (low max : ℕ) (rs 
   pub all : (s : List ℕ) → IsWanted head low max s → (r : Region) × Contains rs r × ListsMatching ps s r.numbers
   pub apart : IsApart (map (λ r. r.numbers) rs)
 
+-- exactly these patterns match the witness, and no shorter text has the same
+pub record IsTextRegion (ps : List Pattern) (r : Region) : Type 0 where
+  pub text : IsText r.witness
+  pub lists : ListsMatching ps r.witness r.numbers
+  pub shortest : (s : List ℕ) → IsText s → ListsMatching ps s r.numbers → length r.witness ≤ length s
+
+-- each text is of a region, and no two regions have the same patterns
+pub record AreTextRegions (ps : List Pattern) (rs : List Region) : Type 0 where
+  pub each : (r : Region) → Contains rs r → IsTextRegion ps r
+  pub all : (s : List ℕ) → IsText s → (r : Region) × Contains rs r × ListsMatching ps s r.numbers
+  pub apart : IsApart (map (λ r. r.numbers) rs)
+
 -- a path that can be asked for, of bytes
 abbrev pub IsAsked : List ℕ → Type 0
 IsAsked s = IsText s × (is_path s ≡ true)

@@ -5,11 +5,11 @@ ghost use Rattle.aa_pattern.specs.Limits.{most_patterns, most_states};
 ghost use Rattle.aa_auto.specs.Apart.{IsApart};
 ghost use Rattle.aa_auto.specs.Nodes.{pointed};
 ghost use Rattle.aa_auto.specs.Pairs.{IsNarrowed};
-ghost use Rattle.aa_auto.specs.Tables.{HasPlaces, IsAutomaton, list_at, list_number};
+ghost use Rattle.aa_auto.specs.Tables.{HasPlaces, IsAutomaton, list_at, list_number, rows_of};
 ghost use Rattle.aa_pattern.specs.declared.pattern.Pattern.{Pattern};
-ghost use Rattle.aa_regions.specs.Automata.{AreRegionsBy, ArePathRegionsWithin, HasLists};
+ghost use Rattle.aa_regions.specs.Automata.{AreRegionsBy, ArePathRegionsWithin, HasLists, HaveShort};
 ghost use Rattle.aa_regions.specs.Steps.{step_at, text_at, AreSpelled, AreEarlier, AreNumbered, AreRowsIn, IsRising};
-ghost use Rattle.aa_regions.specs.Regions.{AreRegions, ArePathRegions, AreCollected};
+ghost use Rattle.aa_regions.specs.Regions.{AreRegions, AreTextRegions, ArePathRegions, AreCollected};
 
 use crate::search::trail_of;
 use crate::spelling::spelled;
@@ -120,7 +120,8 @@ fn regions_by(
     requires lists { HasLists automaton.now }
     requires head { length head.now ≤ max }
     requires low { low ≤ 97 }
-    ensures { IfOk result (λ rs. AreRegionsBy automaton.now head.now low max rs.items) }
+    ensures regions { IfOk result (λ rs. AreRegionsBy automaton.now head.now low max rs.items) }
+    ensures short { OnOk result (length head.now + rows_of automaton.now ≤ max → HaveShort automaton.now head.now low max) }
 {
     let trail = trail_of(alloc, automaton, head, low, max)?;
     let found = collect_all(alloc, automaton, head, trail.steps.as_slice())?;
@@ -186,6 +187,15 @@ pub fn path_regions_of(alloc: Global, automaton: &Automaton) -> Result<Vec<Regio
     ensures { IfOk result (λ rs. (ps : List Pattern) → IsAutomaton ps automaton.now → ArePathRegions ps rs.items) }
 {
     path_regions_by(alloc, automaton)
+}
+
+/// The regions of all texts, by the patterns of the automaton, in the order of their shortest texts.
+pub fn text_regions_of(alloc: Global, automaton: &Automaton) -> Result<Vec<Region>, AllocError>
+    requires { HasLists automaton.now }
+    ensures { IfOk result (λ rs. (ps : List Pattern) → IsAutomaton ps automaton.now → AreTextRegions ps rs.items) }
+{
+    // (no text needs more bytes than there are rows)
+    regions_by(alloc, automaton, b"", 0, automaton.rows())
 }
 
 /// The regions of the paths that can be asked for and that the last pattern of the narrowed automaton matches, and some of others.

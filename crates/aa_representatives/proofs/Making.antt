@@ -22,7 +22,7 @@ use Rattle.aa_compile.specs.Checks.{attached_patterns}
 use Rattle.aa_compile.specs.Transitions.{tops, children}
 use Rattle.aa_auto.specs.declared.build.BuildFault.TheVariants.{NoMemory as NoRowMemory, TooManyStates as TooManyRows}
 use Rattle.aa_representatives.specs.declared.fault.RepresentativesFault.{RepresentativesFault}
-use Rattle.aa_representatives.specs.declared.fault.RepresentativesFault.TheVariants.{TooManyStates}
+use Rattle.aa_representatives.specs.declared.fault.RepresentativesFault.TheVariants.{TooManyStates, TooManyPatterns}
 use Rattle.aa_representatives.specs.Alike.{deciding_at, filing, filing_at}
 use Rattle.aa_representatives.specs.Faults.{fault_of}
 
@@ -71,6 +71,12 @@ pub err_from : {T U : Type 0} (r : Result T RepresentativesFault) (f : BuildFaul
 err_from (Ok t) f a e = absurd a
 err_from (Err y) NoRowMemory a e = absurd (cc (sym a, e))
 err_from (Err y) TooManyRows a e = refl
+
+-- what an automaton is refused for isn't that there are too many patterns
+pub not_many : {T : Type 0} (r : Result T RepresentativesFault) (f : BuildFault) → IsErrAnd r (λ y. y ≡ fault_of f) → r ≡ Err TooManyPatterns → ⊥
+not_many (Ok t) f a e = a
+not_many (Err y) NoRowMemory a e = cc (sym a, e)
+not_many (Err y) TooManyRows a e = cc (sym a, e)
 
 -- the patterns of a profile that is there
 pub filing_is : (profiles : List Profile) (n : ℕ) (p : Profile) → slice_get profiles n ≡ Some p

@@ -13,11 +13,11 @@ use Rattle.json.specs.Print.{quoted, escape_byte}
 use Rattle.serde_json.specs.Data.{unsigned, Data, number, string, array, object, Items, no_items, item, Members, no_members, member, put, items_depth, members_depth}
 use Rattle.serde_json.specs.Written.{compact_text, items_text, members_text}
 use Rattle.aa_logs.specs.declared.task.LogTask.{LogTask}
-use Rattle.aa_text.specs.Jsons.{json_bytes, key_text}
+use Rattle.aa_text.specs.Jsons.{comma_if, json_bytes, key_text}
 use Rattle.aa_notation.specs.declared.job.Include.{Include}
 use Rattle.aa_notation.specs.declared.job.JobPolicy.{JobPolicy}
 use Rattle.aa_notation.specs.Requests.{member as member_text, has_text}
-use Rattle.aa_notation.specs.Jobs.{comma_if, tasks_text, include_text, includes_text, texts_text, policies_text, given_text, asked_text, job_text}
+use Rattle.aa_notation.specs.Jobs.{tasks_text, include_text, includes_text, texts_text, policies_text, given_text, asked_text, job_text}
 use Rattle.aa_words.specs.declared.include.Include as jobs
 use Rattle.aa_jobs.specs.declared.job.Job.{Job}
 use Rattle.aa_jobs.specs.declared.job.Work.TheVariants.{Ask}

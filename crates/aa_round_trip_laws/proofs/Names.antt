@@ -1,16 +1,17 @@
 -- A name between quotes or in hexadecimal digits, read back.
-use Rattle.std.proofs.Common.{◌≡◌, ℕ, ◌+◌, ◌-◌, ◌*◌, ◌/◌, ◌%◌, ◌≤◌, Bool, true, false, not, ◌&&◌, ◌||◌, ◌==◌}
-use Rattle.std.proofs.Common.{List, [], ◌∷◌, cond, refl, ◌∙◌, ap, arith, flat_map, nat_eq, nat_lt, nat_le, true≢false}
+use Rattle.std.proofs.Common.{◌≡◌, ℕ, ◌-◌, ◌/◌, ◌%◌, ◌≤◌, Bool, true, false, not, ◌&&◌, ◌||◌, ◌==◌}
+use Rattle.std.proofs.Common.{List, [], ◌∷◌, cond, refl, ◌∙◌, ap, flat_map, nat_le, true≢false}
 use Rattle.std.specs.List.{list_all}
-use Rattle.std.proofs.lemmas.Bool.{and_parts, and_from, or_from, agree_below_at, eqb-true, ltb-true, le-leb}
-use Rattle.aa_base.specs.Values.{is_shown, hex_digit, hex_pair, quoted, value}
+use Rattle.std.proofs.lemmas.Bool.{and_parts, and_from, or_from, le-leb}
+use Rattle.aa_base.specs.Hex.{hex_digit, hex_pair, bytes_of_hex}
+use Rattle.aa_base.specs.Values.{is_shown, quoted, value}
+use Rattle.aa_base.proofs.Digits.{digit_from_48, pairs_hex, made_back}
 use Rattle.aa_audit.specs.Keys.{key}
 use Rattle.aa_logs.specs.declared.word.Form.TheVariants.{Quoted, Plain}
 use Rattle.aa_logs.specs.Words.{WordData}
-use Rattle.aa_logs.specs.Values.{is_hex_digit, digit_of, bytes_of_hex, is_even, name_in}
+use Rattle.aa_logs.specs.Values.{name_in}
 use Rattle.aa_round_trip_laws.specs.OwnLines.{are_bytes}
 use Rattle.aa_round_trip_laws.proofs.Fields.{apart, all_by, is_bare, is_unquoted, is_key, Reads, reads_quoted, reads_bare}
-use Rattle.aa_notation.proofs.Paths.{digit_from_48}
 
 -- a name as a field: between quotes where all its bytes show, else in digits
 abbrev pub named : List ℕ → List ℕ → WordData
@@ -46,39 +47,11 @@ pub reads_named : (k name : List ℕ) → is_key k ≡ true → Reads (key k (va
 unfolding value
 reads_named k name h = reads_shown (list_all is_shown name) k name refl h
 
--- two digits are the byte that they were made of
-byte_back : (b : ℕ) → nat_lt b 256 ≡ true → 16 * digit_of (hex_digit (b / 16)) + digit_of (hex_digit (b % 16)) ≡ b
-byte_back b h =
-    eqb-true (16 * digit_of (hex_digit (b / 16)) + digit_of (hex_digit (b % 16))) b
-    (agree_below_at (λ c. nat_eq (16 * digit_of (hex_digit (c / 16)) + digit_of (hex_digit (c % 16))) c) (λ c. true) 256 b refl (ltb-true b 256 h))
-
-digits_are : (b : ℕ) → nat_lt b 256 ≡ true → (is_hex_digit (hex_digit (b / 16)) && is_hex_digit (hex_digit (b % 16))) ≡ true
-digits_are b h = agree_below_at (λ c. is_hex_digit (hex_digit (c / 16)) && is_hex_digit (hex_digit (c % 16))) (λ c. true) 256 b refl (ltb-true b 256 h)
-
-bytes_back : (bytes : List ℕ) → are_bytes bytes ≡ true → bytes_of_hex (flat_map hex_pair bytes) ≡ bytes
-unfolding bytes_of_hex
-bytes_back [] h = refl
-bytes_back (b ∷ bs) h =
-    let both = and_parts (nat_lt b 256) (are_bytes bs) h in
-    ap (λ (n : ℕ). n ∷ bytes_of_hex (flat_map hex_pair bs)) (byte_back b both.0) ∙ ap (λ (t : List ℕ). b ∷ t) (bytes_back bs both.1)
-
-pairs_even : (bytes : List ℕ) → is_even (flat_map hex_pair bytes) ≡ true
-pairs_even [] = refl
-pairs_even (b ∷ bs) = pairs_even bs
-
-pairs_digits : (bytes : List ℕ) → are_bytes bytes ≡ true → list_all is_hex_digit (flat_map hex_pair bytes) ≡ true
-pairs_digits [] h = refl
-pairs_digits (b ∷ bs) h =
-    let both = and_parts (nat_lt b 256) (are_bytes bs) h in
-    let two = and_parts (is_hex_digit (hex_digit (b / 16))) (is_hex_digit (hex_digit (b % 16))) (digits_are b both.0) in
-    and_from (is_hex_digit (hex_digit (b / 16))) (is_hex_digit (hex_digit (b % 16)) && list_all is_hex_digit (flat_map hex_pair bs)) two.0
-    (and_from (is_hex_digit (hex_digit (b % 16))) (list_all is_hex_digit (flat_map hex_pair bs)) two.1 (pairs_digits bs both.1))
-
 name_shown : (t : Bool) (k name : List ℕ) → are_bytes name ≡ true → name_in (record { form = cond t Quoted Plain; key = k; text = cond t name (flat_map hex_pair name) }) ≡ name
 name_shown true k name h = refl
 name_shown false k name h =
-    ap (λ (b : Bool). cond b (bytes_of_hex (flat_map hex_pair name)) (flat_map hex_pair name)) (and_from (is_even (flat_map hex_pair name)) (list_all is_hex_digit (flat_map hex_pair name)) (pairs_even name) (pairs_digits name h))
-    ∙ bytes_back name h
+    ap (λ (b : Bool). cond b (bytes_of_hex (flat_map hex_pair name)) (flat_map hex_pair name)) (pairs_hex name h)
+    ∙ made_back name h
 
 -- the name is read from its field
 pub name_named : (k name : List ℕ) → are_bytes name ≡ true → name_in (named k name) ≡ name

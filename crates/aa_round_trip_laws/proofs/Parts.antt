@@ -4,13 +4,14 @@ use Rattle.std.specs.List.{list_all}
 use Rattle.std.proofs.lemmas.Bool.{and_parts, and_from, le-leb}
 use Rattle.aa_model.specs.declared.answer.NoteWord.{NoteWord}
 use Rattle.aa_model.specs.declared.answer.NoteWord.TheVariants.{Denied, Allowed, Audit}
-use Rattle.aa_base.specs.Values.{is_shown, hex_digit, hex_pair, quoted, value, letter, letters, mask}
+use Rattle.aa_base.specs.Hex.{hex_digit, hex_pair}
+use Rattle.aa_base.specs.Values.{is_shown, quoted, value, letter, letters, mask}
 use Rattle.aa_audit.specs.Keys.{key, denied_key}
 use Rattle.aa_audit.specs.Lines.{word_text, head_text}
 use Rattle.aa_logs.specs.Words.{WordData}
 use Rattle.aa_round_trip_laws.proofs.Fields.{apart, all_append, all_by, ends, is_key, is_bare, is_unquoted, Reads, Stands, joined, nothing, key_stands, reads_first, reads_quoted, reads_bare, word_field, bare_field}
 use Rattle.aa_round_trip_laws.proofs.Names.{named, reads_named}
-use Rattle.aa_notation.proofs.Paths.{digit_from_48}
+use Rattle.aa_base.proofs.Digits.{digit_from_48}
 
 -- a byte that is no return
 abbrev pub stays : ℕ → Bool

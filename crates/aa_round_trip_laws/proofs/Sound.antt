@@ -5,7 +5,8 @@ use Rattle.std.proofs.Common.{None, Ok, Err, slice_get, true≢false, option_and
 use Rattle.std.specs.List.{list_all, list_any, fold, starts_with}
 use Rattle.std.specs.Str.{bytes_eq}
 use Rattle.std.proofs.lemmas.Bool.{and_parts, and_from, or_from, false_from_ne_true, ltb-true}
-use Rattle.aa_base.specs.Values.{is_shown, hex_pair}
+use Rattle.aa_base.specs.Hex.{hex_pair}
+use Rattle.aa_base.specs.Values.{is_shown}
 use Rattle.aa_model.specs.declared.request.Request.{Request}
 use Rattle.aa_logs.specs.declared.word.Form.TheVariants.{Quoted, Plain}
 use Rattle.aa_logs.specs.declared.line.Then.{Then}

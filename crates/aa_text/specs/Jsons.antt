@@ -1,26 +1,19 @@
 -- Texts as JSON has them.
 -- Source: JSON; own.
-use Rattle.std.specs.Prelude.{ℕ, ◌+◌, ◌/◌, ◌%◌, nat_lt, List, [], ◌∷◌, ◌++◌, flat_map, codes, decimal, Bool, if◌then◌else◌, Option, Some, None}
+use Rattle.std.specs.Prelude.{ℕ, List, [], ◌∷◌, ◌++◌, flat_map, codes, decimal, Bool, if◌then◌else◌, Option, Some, None}
 use Rattle.std.specs.Str.{is_utf8}
 use Rattle.serde_json.specs.Data.{string}
 use Rattle.serde_json.specs.Written.{compact_text}
+use Rattle.aa_base.specs.Hex.{small_pair}
 use Rattle.aa_text.specs.declared.position.PlaceAt.{PlaceAt}
 
 -- a text between quotes, with what JSON wants to be escaped
 unfoldable pub json_text : List ℕ → List ℕ
 json_text text = compact_text (string text)
 
--- the byte of a hexadecimal digit
-abbrev pub hex_digit : ℕ → ℕ
-hex_digit n = if nat_lt n 10 then n + 48 else n + 87
-
--- a byte in two hexadecimal digits, the higher first
-abbrev pub hex_pair : ℕ → List ℕ
-hex_pair b = hex_digit (b / 16) ∷ hex_digit (b % 16) ∷ []
-
 -- bytes in an object, as their hexadecimal digits
 unfoldable pub in_digits : List ℕ → List ℕ
-in_digits bytes = codes "{\"hex\":\"" ++ flat_map hex_pair bytes ++ codes "\"}"
+in_digits bytes = codes "{\"hex\":\"" ++ flat_map small_pair bytes ++ codes "\"}"
 
 -- bytes as a JSON text, or where they are no UTF-8, as an object with their hexadecimal digits
 unfoldable pub json_bytes : List ℕ → List ℕ

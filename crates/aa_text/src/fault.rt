@@ -7,7 +7,7 @@ ghost use Rattle.aa_text.specs.Faults.{where_if, head_line, included_from, link_
 use crate::json_text::{push_json_text, push_key};
 use crate::position::{PlaceAt, push_json_place, push_where};
 use crate::text::push_text;
-use crate::to_json::{ToJson, push_list, push_member};
+use crate::to_json::{ToJson, push_comma, push_list, push_member};
 use crate::visible::push_visible;
 use std::alloc::{AllocError, Global};
 
@@ -150,7 +150,7 @@ fn push_json_message(out: &mut Vec<u8>, alloc: Global, message: &Vec<u8>) -> Res
     ensures { OnOk result (out.new.items ≡ out.old.items ++ json_message message.now.items) }
 {
     push_member(out, alloc, "message", message)?;
-    push_text(out, ",")
+    push_comma(out, true)
 }
 
 /// Opens the object of a fault, and appends the member `kind` and a comma.
@@ -161,7 +161,7 @@ fn push_json_kind(out: &mut Vec<u8>, alloc: Global, kind: &str) -> Result<(), Al
     push_text(out, "{")?;
     push_key(out, "kind")?;
     push_json_text(out, alloc, kind)?;
-    push_text(out, ",")
+    push_comma(out, true)
 }
 
 impl ToJson for FaultReport {

@@ -1,10 +1,11 @@
 //! JSON texts.
 
-ghost use Rattle.std.specs.Prelude.{◌≡◌, ◌<◌, ◌++◌, flat_map, OnOk};
+ghost use Rattle.std.specs.Prelude.{◌≡◌, ◌++◌, OnOk};
 ghost use Rattle.std.specs.Str.{is_utf8};
-ghost use Rattle.aa_text.specs.Jsons.{json_text, hex_digit, hex_pair, in_digits, json_bytes, key_text, bool_text};
+ghost use Rattle.aa_text.specs.Jsons.{json_text, in_digits, json_bytes, key_text, bool_text};
 
 use crate::text::push_text;
+use aa_base::push_small_hex;
 use serde_json::Value;
 use std::alloc::{AllocError, Global};
 
@@ -16,23 +17,6 @@ pub fn push_json_text(out: &mut Vec<u8>, alloc: Global, text: &str) -> Result<()
     let value = Value::String(String::from_str(alloc, text)?);
     let bytes = value.to_vec(alloc)?;
     out.extend_from_slice(bytes.as_slice())
-}
-
-fn digit(n: u8) -> u8
-    requires { n < 16 }
-    ensures { result ≡ hex_digit n }
-{
-    if n < 10 { n + b'0' } else { n + (b'a' - 10) }
-}
-
-fn push_hex(out: &mut Vec<u8>, bytes: &[u8]) -> Result<(), AllocError>
-    ensures { OnOk result (out.new.items ≡ out.old.items ++ flat_map hex_pair bytes.now) }
-{
-    for b in bytes {
-        out.push(digit(*b / 16))?;
-        out.push(digit(*b % 16))?;
-    }
-    Ok(())
 }
 
 /// Whether bytes are UTF-8.
@@ -52,7 +36,7 @@ fn push_digits(out: &mut Vec<u8>, bytes: &[u8]) -> Result<(), AllocError>
     ensures { OnOk result (out.new.items ≡ out.old.items ++ in_digits bytes.now) }
 {
     push_text(out, "{\"hex\":\"")?;
-    push_hex(out, bytes)?;
+    push_small_hex(out, bytes)?;
     push_text(out, "\"}")
 }
 

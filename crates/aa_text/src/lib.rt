@@ -33,6 +33,6 @@ pub use shown::excerpt;
 pub use text::{push_number, push_text};
 pub use to_json::{
     ListItem, ToJson, push_comma, push_list, push_list_in, push_list_member, push_member,
-    push_member_if,
+    push_member_if, push_next_key,
 };
 pub use visible::push_visible;

@@ -1,22 +1,11 @@
 //! How names are printed.
 
 ghost use Rattle.std.specs.Prelude.{◌≡◌, ◌++◌, OnOk};
-ghost use Rattle.aa_base.specs.Values.{quoted, value};
+ghost use Rattle.aa_base.specs.Values.{value};
 
 use crate::text::push_text;
-use aa_base::{plain_text, push_value};
+use aa_base::{plain_text, push_quoted, push_value};
 use std::alloc::{AllocError, Global};
-
-/// Appends a text between quotes.
-#[tactic(auto, unfolding(aa_base::specs::Values::quoted))]
-fn push_quoted(out: &mut Vec<u8>, text: &str) -> Result<(), AllocError>
-    ensures { OnOk result (out.new.items ≡ out.old.items ++ quoted text.now) }
-{
-    out.push(b'"')?;
-    push_text(out, text)?;
-    out.push(b'"')?;
-    Ok(())
-}
 
 /// Appends a name as audit lines have it.
 #[tactic(auto, unfolding(aa_base::specs::Values::value))]

@@ -1,8 +1,8 @@
 //! Values that are printed as JSON, members and lists of them.
 
-ghost use Rattle.std.specs.Prelude.{◌≡◌, ◌++◌, ℕ, List, [], Bool, map, option_map, OnOk, if◌then◌else◌};
+ghost use Rattle.std.specs.Prelude.{◌≡◌, ◌++◌, ℕ, List, [], Bool, codes, map, option_map, OnOk, if◌then◌else◌};
 ghost use Rattle.std.specs.List.{filter};
-ghost use Rattle.aa_text.specs.Jsons.{member_text, member_if, behind_commas, with_commas, comma_if, list_text};
+ghost use Rattle.aa_text.specs.Jsons.{key_text, member_text, member_if, behind_commas, with_commas, comma_if, list_text};
 
 use crate::json_text::{push_bool, push_json_bytes, push_key};
 use crate::text::{push_number, push_text};
@@ -73,6 +73,21 @@ impl ToJson for u64 {
     }
 }
 
+/// Appends a comma, unless nothing stands before.
+pub fn push_comma(out: &mut Vec<u8>, is_later: bool) -> Result<(), AllocError>
+    ensures { OnOk result (out.new.items ≡ out.old.items ++ comma_if is_later) }
+{
+    push_text(out, if is_later { "," } else { "" })
+}
+
+/// Appends the key of a later member: a comma, the key and its colon.
+pub fn push_next_key(out: &mut Vec<u8>, key: &str) -> Result<(), AllocError>
+    ensures { OnOk result (out.new.items ≡ out.old.items ++ (codes "," ++ key_text key.now)) }
+{
+    push_comma(out, true)?;
+    push_key(out, key)
+}
+
 /// Appends a comma, and a member.
 #[tactic(auto, unfolding(crate::specs::Jsons::member_text))]
 pub fn push_member<T: ToJson>(
@@ -83,8 +98,7 @@ pub fn push_member<T: ToJson>(
 ) -> Result<(), AllocError>
     ensures { OnOk result (out.new.items ≡ out.old.items ++ member_text key.now (T.json value.now)) }
 {
-    push_text(out, ",")?;
-    push_key(out, key)?;
+    push_next_key(out, key)?;
     value.push_json(out, alloc)
 }
 
@@ -93,7 +107,7 @@ fn push_later<T: ToJson>(out: &mut Vec<u8>, alloc: Global, values: &[T]) -> Resu
     ensures { OnOk result (out.new.items ≡ out.old.items ++ behind_commas (map T.json values.now)) }
 {
     for value in values {
-        push_text(out, ",")?;
+        push_comma(out, true)?;
         value.push_json(out, alloc)?;
     }
     Ok(())
@@ -149,8 +163,7 @@ pub fn push_list_member<T: ToJson>(
 ) -> Result<(), AllocError>
     ensures { OnOk result (out.new.items ≡ out.old.items ++ member_text key.now (list_text (map T.json values.now))) }
 {
-    push_text(out, ",")?;
-    push_key(out, key)?;
+    push_next_key(out, key)?;
     push_list(out, alloc, values)
 }
 
@@ -183,13 +196,6 @@ impl<C, T: ListItem<C>> ListItem<C> for &T {
     fn push_item(&self, out: &mut Vec<u8>, alloc: Global, context: &C) -> Result<(), AllocError> {
         T::push_item(*self, out, alloc, context)
     }
-}
-
-/// Appends a comma, unless nothing stands before.
-pub fn push_comma(out: &mut Vec<u8>, is_later: bool) -> Result<(), AllocError>
-    ensures { OnOk result (out.new.items ≡ out.old.items ++ comma_if is_later) }
-{
-    push_text(out, if is_later { "," } else { "" })
 }
 
 /// Appends a value where it stands in the list, behind a comma where one stands before.

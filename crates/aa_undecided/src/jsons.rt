@@ -7,7 +7,8 @@ ghost use Rattle.aa_undecided.specs.Jsons.{json_placed, json_doubt, json_of, jso
 
 use crate::answered::{Answered, Doubt, SkippedAt};
 use aa_text::{
-    ToJson, push_json_bytes, push_json_place, push_key, push_list, push_list_member, push_text,
+    ToJson, push_comma, push_json_bytes, push_json_place, push_key, push_list, push_list_member,
+    push_next_key, push_text,
 };
 use std::alloc::{AllocError, Global};
 
@@ -23,8 +24,7 @@ fn push_request(out: &mut Vec<u8>, alloc: Global, word: &[u8]) -> Result<(), All
 fn push_not_known(out: &mut Vec<u8>) -> Result<(), AllocError>
     ensures { OnOk result (out.new.items ≡ out.old.items ++ member_text (codes "granted") (codes "null")) }
 {
-    push_text(out, ",")?;
-    push_key(out, "granted")?;
+    push_next_key(out, "granted")?;
     push_text(out, "null")
 }
 
@@ -39,7 +39,7 @@ impl ToJson for SkippedAt {
         push_text(out, "{")?;
         push_key(out, "file")?;
         push_json_bytes(out, alloc, self.path.as_slice())?;
-        push_text(out, ",")?;
+        push_comma(out, true)?;
         push_json_place(out, alloc, self.at.as_slice(), self.place)?;
         push_text(out, "}")
     }

@@ -19,9 +19,9 @@ joined_lists-requires-clause-pairs c =
     let other = c.args.other.now in
     let keys = c.in_ok-pairs.pairs in
     subst (AreListsIn one other) (sym c.as_slice-4.ensures)
-    (lists_in one other keys (length keys) c.in_ok-numbers.numbers c.in_ok-numbers.listed.items c.law.ensures c.law-2.ensures (omega arith)
+    (lists_in one other keys (length keys) c.in_ok-numbers.numbers c.in_ok-numbers.listed c.law.ensures c.law-2.ensures (omega arith)
     (key_in c.args.dead one other (record { first_is = c.law.ensures; second_is = c.law-2.ensures; dead_is = c.requires.dead }) keys c.in_ok-pairs.ensures.pairs.met)
-    (subst (λ ks. AreListPairs one other ks (length ks) c.in_ok-numbers.numbers c.in_ok-numbers.listed.items) c.as_slice-3.ensures c.in_ok-numbers.ensures))
+    (subst (λ ks. AreListPairs one other ks (length ks) c.in_ok-numbers.numbers c.in_ok-numbers.listed) c.as_slice-3.ensures c.in_ok-numbers.ensures))
 
 pub of_tables-requires : goal.of_tables-requires
 of_tables-requires c =
@@ -34,11 +34,11 @@ of_tables-requires c =
     let width : c.len.result ≡ length bytes = omega (arith, c.len.ensures, c.in_ok-of.field-0.bytes.ok) in
     let few : length keys ≤ most_states = omega (arith, c.in_ok-pairs.ensures.few, c.requires.limit) in
     (made_product c.args.dead one other (record { first_is = c.law.ensures; second_is = c.law-2.ensures; dead_is = c.requires.dead }) c.as_slice.result.now of bytes keys
-    c.in_ok-pairs.cells.items (λ b lt. ap (λ l. get_or l b 0) c.as_slice.ensures.value ∙ c.in_ok-keys.ensures.each b lt) c.in_ok-of.ensures
-    (subst (λ bs. ArePairs c.args.dead one other keys bs c.in_ok-pairs.cells.items) c.as_slice-2.ensures.value c.in_ok-pairs.ensures.pairs)
-    c.args.moved c.in_ok-numbers.numbers c.in_ok-numbers.listed.items lists
-    (subst (λ ks. AreListPairs one other ks (length ks) c.in_ok-numbers.numbers c.in_ok-numbers.listed.items) c.as_slice-3.ensures c.in_ok-numbers.ensures)
-    (c.in_ok-lists.ensures ∙ ap (map (list_of_pair c.args.moved one other)) c.as_slice-4.ensures) few c.len.result c.shrink_to_fit.new.self.items width c.shrink_to_fit.ensures.items).0
+    c.in_ok-pairs.cells (λ b lt. ap (λ l. get_or l b 0) c.as_slice.ensures.value ∙ c.in_ok-keys.ensures.each b lt) c.in_ok-of.ensures
+    (subst (λ bs. ArePairs c.args.dead one other keys bs c.in_ok-pairs.cells) c.as_slice-2.ensures.value c.in_ok-pairs.ensures.pairs)
+    c.args.moved c.in_ok-numbers.numbers c.in_ok-numbers.listed lists
+    (subst (λ ks. AreListPairs one other ks (length ks) c.in_ok-numbers.numbers c.in_ok-numbers.listed) c.as_slice-3.ensures c.in_ok-numbers.ensures)
+    (c.in_ok-lists.ensures ∙ ap (map (list_of_pair c.args.moved one other)) c.as_slice-4.ensures) few c.len.result c.shrink_to_fit.new.self width c.shrink_to_fit.ensures).0
 
 pub returns-clause-product : goal.returns-clause-product
 returns-clause-product c =
@@ -52,8 +52,8 @@ returns-clause-product c =
     let few : length keys ≤ most_states = omega (arith, c.in_ok-pairs.ensures.few, c.requires.limit) in
     subst (IsProduct c.args.dead c.args.moved one other) (sym c.of_tables.ensures)
     (made_product c.args.dead one other (record { first_is = c.law.ensures; second_is = c.law-2.ensures; dead_is = c.requires.dead }) c.as_slice.result.now of bytes keys
-    c.in_ok-pairs.cells.items (λ b lt. ap (λ l. get_or l b 0) c.as_slice.ensures.value ∙ c.in_ok-keys.ensures.each b lt) c.in_ok-of.ensures
-    (subst (λ bs. ArePairs c.args.dead one other keys bs c.in_ok-pairs.cells.items) c.as_slice-2.ensures.value c.in_ok-pairs.ensures.pairs)
-    c.args.moved c.in_ok-numbers.numbers c.in_ok-numbers.listed.items lists
-    (subst (λ ks. AreListPairs one other ks (length ks) c.in_ok-numbers.numbers c.in_ok-numbers.listed.items) c.as_slice-3.ensures c.in_ok-numbers.ensures)
-    (c.in_ok-lists.ensures ∙ ap (map (list_of_pair c.args.moved one other)) c.as_slice-4.ensures) few c.len.result c.shrink_to_fit.new.self.items width c.shrink_to_fit.ensures.items).1
+    c.in_ok-pairs.cells (λ b lt. ap (λ l. get_or l b 0) c.as_slice.ensures.value ∙ c.in_ok-keys.ensures.each b lt) c.in_ok-of.ensures
+    (subst (λ bs. ArePairs c.args.dead one other keys bs c.in_ok-pairs.cells) c.as_slice-2.ensures.value c.in_ok-pairs.ensures.pairs)
+    c.args.moved c.in_ok-numbers.numbers c.in_ok-numbers.listed lists
+    (subst (λ ks. AreListPairs one other ks (length ks) c.in_ok-numbers.numbers c.in_ok-numbers.listed) c.as_slice-3.ensures c.in_ok-numbers.ensures)
+    (c.in_ok-lists.ensures ∙ ap (map (list_of_pair c.args.moved one other)) c.as_slice-4.ensures) few c.len.result c.shrink_to_fit.new.self width c.shrink_to_fit.ensures).1

@@ -7,10 +7,10 @@ abbrev pub invariant-loop-byte : goal.invariant-loop-byte
 invariant-loop-byte l = record {
   reached : AreReached l.net l.found.sets;
   listed : AreListed l.net l.found.sets l.found.lists;
-  filled : AreFilled l.net l.found.sets l.bytes l.cells.items;
+  filled : AreFilled l.net l.found.sets l.bytes l.cells;
   usual : Goes l.net l.found.sets l.row 255 l.usual;
   noted : AreNoted l.net.nodes.items (get_or l.found.sets l.row []) l.row l.noted.named.items l.noted.asked.items;
-  many : length l.cells.items ≡ length l.bytes * l.row + l.byte-index;
+  many : length l.cells ≡ length l.bytes * l.row + l.byte-index;
   row : l.row < length l.found.sets;
   few : length l.found.sets ≤ l.limit;
 }

@@ -6,8 +6,8 @@ pub loop-row-init : goal.loop-row-init
 loop-row-init c = record {
   reached = c.requires.reached;
   listed = c.requires.listed;
-  filled = λ row class few lt. absurd (omega (arith, lt, ap length c.new-cells.ensures.items));
-  many = ap length c.new-cells.ensures.items ∙ sym (mul-zero (length c.args.bytes.now));
+  filled = λ row class few lt. absurd (omega (arith, lt, ap length c.new-cells.ensures));
+  many = ap length c.new-cells.ensures ∙ sym (mul-zero (length c.args.bytes.now));
   row = omega arith;
   few = c.requires.few;
   noted = c.in_ok-noted.ensures;

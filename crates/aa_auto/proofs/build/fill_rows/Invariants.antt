@@ -6,8 +6,8 @@ abbrev pub invariant-loop-row : goal.invariant-loop-row
 invariant-loop-row l = record {
   reached : AreReached l.net l.found.sets;
   listed : AreListed l.net l.found.sets l.found.lists;
-  filled : AreFilled l.net l.found.sets l.bytes l.cells.items;
-  many : length l.cells.items ≡ length l.bytes * l.row;
+  filled : AreFilled l.net l.found.sets l.bytes l.cells;
+  many : length l.cells ≡ length l.bytes * l.row;
   row : l.row ≤ length l.found.sets;
   few : length l.found.sets ≤ l.limit;
   noted : length l.noted.named.items ≡ 256;

@@ -1,4 +1,4 @@
-use Rattle.std.proofs.Common.{◌≡◌, get_or, refl, sym, ap, ◌∙◌, subst, arith}
+use Rattle.std.proofs.Common.{◌≡◌, ℕ, get_or, refl, sym, ap, ◌∙◌, subst, arith, length, length-append}
 use Rattle.aa_auto.specs.Pairs.{pair_after, AreCells, GoesTo, IsPair}
 use Rattle.aa_auto.proofs.CellLemmas.{cells_on, cells_more}
 use Rattle.aa_auto.proofs.PairLemmas.{goes_on, kept, key_in, no_shorter}
@@ -20,7 +20,7 @@ loop-byte-init c =
     let key : get_or c.as_slice.result.now c.args.row 0 ≡ get_or new c.args.row 0 = ap (λ l. get_or l c.args.row 0) c.as_slice.ensures ∙ sym (kept old new made.extends c.args.row c.requires.row) in
     record {
       met = made.met;
-      filled = cells_on (GoesTo dead one other old) (GoesTo dead one other new) c.args.bytes.now c.args.cells.now.items c.args.row c.requires.cells
+      filled = cells_on (GoesTo dead one other old) (GoesTo dead one other new) c.args.bytes.now c.args.cells.now c.args.row c.requires.cells
           (λ r b n le goes. goes_on old new made.extends dead one other r b n (omega (arith, le, c.requires.row)) goes) c.requires.filled;
       key = key;
       at = made.goes.step ∙ ap (λ z. pair_after dead one other z 255) (sym key) ∙ sym c.pair_after-usual.ensures;
@@ -41,13 +41,13 @@ loop-byte-preserved c =
     let inv = c.loop-byte.invariant in
     record {
       met = made.met;
-      filled = subst (λ z. AreCells dead one other new c.args.bytes.now z) (sym c.in_ok-push.ensures.items)
-          (cells_more (GoesTo dead one other old) (GoesTo dead one other new) c.args.bytes.now c.loop-byte.cells.items c.args.row c.loop-byte.byte-index _ c.in_ok-next.next
+      filled = subst (λ z. AreCells dead one other new c.args.bytes.now z) (sym c.in_ok-push.ensures)
+          (cells_more (GoesTo dead one other old) (GoesTo dead one other new) c.args.bytes.now c.loop-byte.cells c.args.row c.loop-byte.byte-index _ c.in_ok-next.next
           inv.many c.loop-byte-test.true refl (λ r b n le goes. goes_on old new made.extends dead one other r b n (omega (arith, le, inv.row)) goes) inv.filled made.goes);
       key = inv.key ∙ sym (kept old new made.extends c.args.row inv.row);
       at = kept old new made.extends c.in_ok-number.number inv.within ∙ inv.at;
       within = omega (arith, inv.within, no_shorter old new made.extends);
-      many = omega (arith, inv.many, c.in_ok-push.ensures.len, c.push.new.self.ok, c.loop-byte.cells.ok);
+      many = omega (arith, inv.many, length-append {A = ℕ}, ap length c.in_ok-push.ensures);
       row = omega (arith, inv.row, no_shorter old new made.extends);
       few = made.few;
     }

@@ -9,7 +9,7 @@ regions_by-requires-clause-lists c = automaton_lists (pointed c.args.patterns.no
 pub returns-clause-regions : goal.returns-clause-regions
 returns-clause-regions c =
     are_regions (pointed c.args.patterns.now) c.in_ok-automaton.automaton c.args.head.now c.args.low c.args.max c.in_ok-regions.regions.items (text_of c.args.head.now c.type_inv.head)
-    c.in_ok-automaton.ensures.automaton c.in_ok-regions.ensures
+    c.in_ok-automaton.ensures.automaton c.in_ok-regions.ensures.regions
 
 pub returns-clause-fits : goal.returns-clause-fits
 returns-clause-fits c =

@@ -2,7 +2,7 @@ use Rattle.std.proofs.Common.{◌++◌, ◌+◌, sym, arith, length-append}
 use Rattle.aa_auto.proofs.FewLemmas.{few_rows, places_left, places_right}
 use Rattle.aa_regions.proofs.Collecting.{automaton_lists}
 use Rattle.aa_representatives.specs.Alike.{deciding}
-use Rattle.aa_representatives.proofs.Making.{can_move_by, err_from}
+use Rattle.aa_representatives.proofs.Making.{can_move_by, err_from, not_many}
 use Rattle.aa_representatives.proofs.regions.deciding_regions_of_both.Goals as goal
 
 pub beside-requires-clause-moved : goal.beside-requires-clause-moved
@@ -56,3 +56,6 @@ returns-in_err-both-clause-many_states c = λ e.
     c.in_err-both.ensures.too_many (err_from c.from_residual-in_err-both.result _ c.from_residual-in_err-both.ensures.1 e)
     (deciding c.args.one.now c.args.from) (deciding c.args.other.now c.args.to)
     c.in_ok-before.ensures.built c.in_ok-after.ensures.built
+
+pub returns-in_err-both-clause-many_patterns : goal.returns-in_err-both-clause-many_patterns
+returns-in_err-both-clause-many_patterns c = λ e. absurd (not_many c.from_residual-in_err-both.result _ c.from_residual-in_err-both.ensures.1 e)

@@ -3,7 +3,4 @@ use Rattle.aa_auto.proofs.JumpLemmas.{lists}
 use Rattle.aa_auto.proofs.lists.Lists.into_parts.Given as goal
 
 abbrev pub invariant-loop-list : goal.invariant-loop-list
-invariant-loop-list l = record {
-  listed : l.listed.items ≡ l.initial.listed.items;
-  lists : lists l.lists.items ++ lists l.list-iterator ≡ lists l.initial.list-iterator;
-}
+invariant-loop-list l = lists l.lists.items ++ lists l.list-iterator ≡ lists l.initial.list-iterator
